@@ -1,0 +1,14 @@
+pub mod Bytes
+pub mod Varint
+pub mod ValueType
+pub mod Key
+pub mod Entry
+pub mod Order
+pub mod SharedPrefix
+pub mod Reading
+pub mod BlockType
+pub mod Header
+pub mod BytesLaws
+pub mod VarintLaws
+pub mod ReadingLaws
+pub mod SharedPrefixLaws

@@ -1,0 +1,193 @@
+-- Laws of varints: each number has one spelling, no spelling begins another, and what is read was spelled.
+use Rattle.std.proofs.Common.{◌≡◌, ℕ, ◌+◌, ◌*◌, ◌/◌, ◌%◌, ◌<◌, ◌≤◌, ◌-◌, ◌^◌, zero, suc, List, [], ◌∷◌, ◌++◌, length, take, drop, refl, arith, sym, ◌∙◌, ap, subst, inl, inr, append_assoc, set, Option, Some, None, lit<}
+use Rattle.std.proofs.lemmas.Bool.{cases_lt, cases_eq}
+use Rattle.std.proofs.Math.Nat.{pow-succ', pow-le-pow_right}
+use Rattle.std.proofs.lemmas.Nat.{div_below, pow-add, pow_pos}
+use Rattle.std.proofs.lemmas.List.{take-append-drop, take_more_set}
+use Rattle.std.proofs.lemmas.Bool.Decides.{nat_tests}
+use Rattle.sst_base.specs.Bytes.{IsBytes}
+use Rattle.sst_base.specs.Varint.{IsVarint, varint_within, varint, varint_up_to, varint_at, with_digit}
+
+-- one more digit at the front
+pub IsVarint-more : (digit high : ℕ) (bs : List ℕ) → digit < 128 → 0 < high → IsVarint bs high → IsVarint ((digit + 128) ∷ bs) (digit + 128 * high)
+IsVarint-more digit high [] d h v = absurd v
+IsVarint-more digit high (c ∷ bs) d h v = (omega arith, omega arith, high, h, omega arith, v)
+
+pub varint_within_small : (k n : ℕ) → n < 128 → varint_within k n ≡ n ∷ []
+unfolding varint_within
+varint_within_small zero n h = refl
+varint_within_small (suc k) n h = search (arith, nat_tests)
+
+pub varint_within_more : (k n : ℕ) → 128 ≤ n → varint_within (suc k) n ≡ (n % 128 + 128) ∷ varint_within k (n / 128)
+unfolding varint_within
+varint_within_more k n h = search (arith, nat_tests)
+
+pub IsVarint-varint_within : (k n : ℕ) → n < 128 ^ (suc k) → IsVarint (varint_within k n) n
+unfolding varint_within
+IsVarint-varint_within zero n h = (h, refl)
+IsVarint-varint_within (suc k) n h =
+    elim (cases_lt n 128) [
+      | inl small ↦ rw (varint_within_small (suc k) n small) (small, refl)
+      | inr large ↦ rw (varint_within_more k n large)
+          (let below : n / 128 < 128 ^ suc k = div_below n 128 (128 ^ suc k) (omega arith) (omega (arith, h, pow-succ' 128 (suc k))) in
+          let some : 0 < n / 128 = omega arith in
+          let digit : n % 128 < 128 = omega arith in
+          let whole : n % 128 + 128 * (n / 128) ≡ n = omega arith in
+          subst (λ m. IsVarint ((n % 128 + 128) ∷ varint_within k (n / 128)) m) whole (IsVarint-more (n % 128) (n / 128) (varint_within k (n / 128)) digit some (IsVarint-varint_within k (n / 128) below)))
+    ]
+
+-- where the first byte isn't the last, the others spell the rest
+pub rest_of : (b : ℕ) (bs : List ℕ) (n : ℕ) → 128 ≤ b → IsVarint (b ∷ bs) n → (high : ℕ) × (0 < high) × (n + 128 ≡ b + 128 * high) × IsVarint bs high
+rest_of b [] n h v = absurd (omega arith)
+rest_of b (c ∷ bs) n h v = (v.2, v.3, v.4, v.5)
+
+pub none_longer : (b d : ℕ) (bs : List ℕ) (max : ℕ) → d ≡ b → 128 ≤ b → ((n len : ℕ) → n ≤ (max - (d - 128)) / 128 → IsVarint (take len bs) n → ⊥) → (n len : ℕ) → n ≤ max → IsVarint (take len (b ∷ bs)) n → ⊥
+none_longer b d bs max e h none n zero le v = v
+none_longer b d bs max e h none n (suc len) le v =
+    let r = rest_of b (take len bs) n h v in
+    none r.0 len (omega arith) r.3
+
+pub one_form_lem : (a b x y : List ℕ) (m n : ℕ) → IsVarint a m → IsVarint b n → a ++ x ≡ b ++ y → (a ≡ b) × (m ≡ n)
+one_form_lem [] b x y m n v w e = absurd v
+one_form_lem (c ∷ a) [] x y m n v w e = absurd w
+one_form_lem (c ∷ []) (d ∷ []) x y m n v w e = (let h : c ≡ d = cc in ap (λ z. z ∷ []) h, cc)
+one_form_lem (c ∷ []) (d ∷ d' ∷ b) x y m n v w e = absurd (let h : c ≡ d = cc in omega arith)
+one_form_lem (c ∷ c' ∷ a) (d ∷ []) x y m n v w e = absurd (let h : c ≡ d = cc in omega arith)
+one_form_lem (c ∷ c' ∷ a) (d ∷ d' ∷ b) x y m n v w e =
+    let t = one_form_lem (c' ∷ a) (d' ∷ b) x y v.2 w.2 v.5 w.5 cc in
+    let h : c ≡ d = cc in
+    (cc (t.0), omega (arith, t.1))
+
+-- two fronts of one list that are spellings spell one number
+pub same_number : (bs : List ℕ) (i j m n : ℕ) → IsVarint (take i bs) m → IsVarint (take j bs) n → m ≡ n
+same_number bs i j m n v w = (one_form_lem (take i bs) (take j bs) (drop i bs) (drop j bs) m n v w (take-append-drop i bs ∙ sym (take-append-drop j bs))).1
+
+-- room for seven bits less
+pub less_room : (n i : ℕ) → i < 9 → n < 2 ^ (64 - 7 * i) → n / 128 < 2 ^ (64 - 7 * (i + 1))
+less_room n i h l = div_below n 128 (2 ^ (64 - 7 * (i + 1))) (omega arith)
+    (let e : 64 - 7 * i ≡ (64 - 7 * (i + 1)) + 7 = omega arith in
+    let p = pow-add 2 (64 - 7 * (i + 1)) 7 in
+    omega (arith, ap (λ k. 2 ^ k) e, p))
+
+pub none_spelled : (bs : List ℕ) (max len : ℕ) → IsVarint (take len bs) 0 → (n i : ℕ) → 0 < n → IsVarint (take i bs) n → ⊥
+none_spelled bs max len z n i h v = absurd (let e : 0 ≡ n = same_number bs len i 0 n z v in omega arith)
+
+-- nor is there one where the rest is 0
+pub none_by_zero : (b : ℕ) (bs : List ℕ) (len : ℕ) → 128 ≤ b → IsVarint (take len bs) 0 → (n i : ℕ) → IsVarint (take i (b ∷ bs)) n → ⊥
+none_by_zero b bs len h z n zero v = v
+none_by_zero b bs len h z n (suc i) v =
+    let r = rest_of b (take i bs) n h v in
+    none_spelled bs 0 len z r.0 i r.1 r.3
+
+-- a digit is stored, and others follow
+pub step : (bytes : List ℕ) (i rest k j : ℕ) (whole : List ℕ) → i < length bytes → k ≡ suc j → 128 ≤ rest → take i bytes ++ varint_within k rest ≡ whole → take (i + 1) (set bytes i (rest % 128 + 128)) ++ varint_within j (rest / 128) ≡ whole
+step bytes i rest k j whole h e large so_far =
+    ap (λ xs. xs ++ varint_within j (rest / 128)) (take_more_set bytes i (rest % 128 + 128) h)
+    ∙ append_assoc (take i bytes) ((rest % 128 + 128) ∷ []) (varint_within j (rest / 128))
+    ∙ ap (λ xs. take i bytes ++ xs) (sym (varint_within_more j rest large))
+    ∙ ap (λ m. take i bytes ++ varint_within m rest) (sym e)
+    ∙ so_far
+
+-- the last digit is stored
+pub last : (bytes : List ℕ) (i rest k : ℕ) (whole : List ℕ) → i < length bytes → rest < 128 → take i bytes ++ varint_within k rest ≡ whole → take (i + 1) (set bytes i rest) ≡ whole
+last bytes i rest k whole h small so_far =
+    take_more_set bytes i rest h ∙ ap (λ xs. take i bytes ++ xs) (sym (varint_within_small k rest small)) ∙ so_far
+
+pub one_spelling_lem : (a b : List ℕ) (n : ℕ) → IsVarint a n → IsVarint b n → a ≡ b
+one_spelling_lem [] b n v w = absurd v
+one_spelling_lem (c ∷ a) [] n v w = absurd w
+one_spelling_lem (c ∷ []) (d ∷ []) n v w = let e : c ≡ d = omega arith in ap (λ z. z ∷ []) e
+one_spelling_lem (c ∷ []) (d ∷ d' ∷ b) n v w = absurd (omega arith)
+one_spelling_lem (c ∷ c' ∷ a) (d ∷ []) n v w = absurd (omega arith)
+one_spelling_lem (c ∷ c' ∷ a) (d ∷ d' ∷ b) n v w =
+    let h : v.2 ≡ w.2 = omega arith in
+    let e : c ≡ d = omega arith in
+    let t = one_spelling_lem (c' ∷ a) (d' ∷ b) v.2 v.5 (subst (IsVarint (d' ∷ b)) (sym h) w.5) in
+    cc (t, e)
+
+at_small : (max b : ℕ) (bs : List ℕ) → b < 128 → b ≤ max → varint_up_to max (b ∷ bs) ≡ Some (b, 1)
+unfolding varint_up_to
+at_small max b bs h k = search (arith, nat_tests)
+
+at_wide : (max b : ℕ) (bs : List ℕ) → b < 128 → max < b → varint_up_to max (b ∷ bs) ≡ None
+unfolding varint_up_to
+at_wide max b bs h k = search (arith, nat_tests)
+
+at_full : (max b : ℕ) (bs : List ℕ) → 128 ≤ b → max < 128 → varint_up_to max (b ∷ bs) ≡ None
+unfolding varint_up_to
+at_full max b bs h k = search (arith, nat_tests)
+
+at_more : (max b : ℕ) (bs : List ℕ) → 128 ≤ b → 128 ≤ max → varint_up_to max (b ∷ bs) ≡ with_digit (b - 128) (varint_up_to ((max - (b - 128)) / 128) bs)
+unfolding varint_up_to
+at_more max b bs h k = search (arith, nat_tests)
+
+with_digit_some : (d : ℕ) (o : Option (ℕ × ℕ)) (n len : ℕ) → with_digit d o ≡ Some (n, len) → (high : ℕ) × (l : ℕ) × (o ≡ Some (high, l)) × (0 < high) × (n ≡ d + 128 * high) × (len ≡ l + 1)
+with_digit_some d None n len e = cc
+with_digit_some d (Some p) n len e = elim (cases_eq p.0 0) [
+  | inl zero' ↦ (let f : with_digit d (Some p) ≡ None = search (arith, nat_tests) in cc)
+  | inr some ↦ (let f : with_digit d (Some p) ≡ Some (d + 128 * p.0, p.1 + 1) = search (arith, nat_tests) in
+      let q : (n, len) ≡ (d + 128 * p.0, p.1 + 1) = cc in
+      (p.0, p.1, refl, omega arith, ap (λ (t : ℕ × ℕ). t.0) q, ap (λ (t : ℕ × ℕ). t.1) q))
+]
+
+some_digit : (d high l : ℕ) → 0 < high → with_digit d (Some (high, l)) ≡ Some (d + 128 * high, l + 1)
+some_digit d high l h = search (arith, nat_tests)
+
+larger : (b high n : ℕ) (xs : List ℕ) → b < 256 → 128 ≤ b → n ≡ (b - 128) + 128 * high → 0 < high → IsVarint xs high → IsVarint (b ∷ xs) n
+larger b high n [] l h e p v = absurd v
+larger b high n (c ∷ xs) l h e p v = (h, l, high, p, omega arith, v)
+
+pub read_takes : (bs : List ℕ) (max n len : ℕ) → IsBytes bs → varint_up_to max bs ≡ Some (n, len) → IsVarint (take len bs) n × (n ≤ max) × (len ≤ length bs)
+unfolding varint_up_to
+read_takes [] max n len bytes e = cc
+read_takes (b ∷ bs) max n len bytes e = elim (cases_lt b 128) [
+  | inl small ↦ elim (cases_lt max b) [
+    | inl wide ↦ (let f = at_wide max b bs small wide in cc)
+    | inr fits ↦
+        (let f = at_small max b bs small fits in
+        let q : (b, 1) ≡ (n, len) = cc in
+        let n_is : b ≡ n = ap (λ (t : ℕ × ℕ). t.0) q in
+        let len_is : 1 ≡ len = ap (λ (t : ℕ × ℕ). t.1) q in
+        subst (λ l. IsVarint (take l (b ∷ bs)) n × (n ≤ max) × (l ≤ length (b ∷ bs))) len_is ((small, sym n_is), omega arith, omega arith))
+  ]
+  | inr large ↦ elim (cases_lt max 128) [
+    | inl full ↦ (let f = at_full max b bs large full in cc)
+    | inr room ↦
+        (let f = at_more max b bs large room in
+        let g = with_digit_some (b - 128) (varint_up_to ((max - (b - 128)) / 128) bs) n len (sym f ∙ e) in
+        let r = read_takes bs ((max - (b - 128)) / 128) g.0 g.1 (λ i. bytes (suc i)) g.2 in
+        let len_is : suc g.1 ≡ len = omega arith in
+        let v : IsVarint (b ∷ take g.1 bs) n = larger b g.0 n (take g.1 bs) (bytes 0) large g.4 g.3 r.0 in
+        subst (λ l. IsVarint (take l (b ∷ bs)) n × (n ≤ max) × (l ≤ length (b ∷ bs))) len_is (v, omega (arith, g.4, r.1), omega (arith, r.2)))
+  ]
+]
+
+-- a spelling is read, whatever follows
+pub reads_again : (bs rest : List ℕ) (max n : ℕ) → IsVarint bs n → n ≤ max → varint_up_to max (bs ++ rest) ≡ Some (n, length bs)
+reads_again [] rest max n v h = absurd v
+reads_again (b ∷ []) rest max n v h = at_small max b rest v.0 (omega arith) ∙ ap (λ m. Some (m, 1)) (sym v.1)
+reads_again (b ∷ c ∷ bs) rest max n v h =
+    let r = reads_again (c ∷ bs) rest ((max - (b - 128)) / 128) v.2 v.5 (omega arith) in
+    at_more max b ((c ∷ bs) ++ rest) v.0 (omega arith)
+    ∙ ap (with_digit (b - 128)) r
+    ∙ some_digit (b - 128) v.2 (length (c ∷ bs)) v.3
+    ∙ ap (λ (t : ℕ × ℕ). Some t) (let e : (b - 128) + 128 * v.2 ≡ n = omega arith in let f : length (c ∷ bs) + 1 ≡ length (b ∷ c ∷ bs) = omega arith in ap (λ m. (m, length (c ∷ bs) + 1)) e ∙ ap (λ l. (n, l)) f)
+
+-- the spelling of a number meets the grammar
+pub IsVarint-varint : (n : ℕ) → n < 2 ^ 64 → IsVarint (varint n) n
+unfolding varint
+IsVarint-varint n h = IsVarint-varint_within 9 n (omega arith)
+
+-- what was spelled is read again, whatever follows, at each width that holds it
+pub varint_at-varint : (bits n : ℕ) (rest : List ℕ) → n < 2 ^ bits → n < 2 ^ 64 → varint_at bits (varint n ++ rest) ≡ Some (n, length (varint n))
+unfolding varint_at
+varint_at-varint bits n rest h k = reads_again (varint n) rest (2 ^ bits - 1) n (IsVarint-varint n k) (omega arith)
+
+-- what is read was spelled so
+pub varint_at_takes : (bytes : List ℕ) (bits n len : ℕ) → IsBytes bytes → bits ≤ 64 → varint_at bits bytes ≡ Some (n, len) → (take len bytes ≡ varint n) × (n < 2 ^ bits) × (len ≤ length bytes)
+unfolding varint_at
+varint_at_takes bytes bits n len b h e =
+    let r = read_takes bytes (2 ^ bits - 1) n len b e in
+    let below : n < 2 ^ bits = omega (arith, pow_pos bits) in
+    let most : 2 ^ bits ≤ 2 ^ 64 = pow-le-pow_right (lit< tt) h in
+    (one_spelling_lem (take len bytes) (varint n) n r.0 (IsVarint-varint n (omega arith)), below, r.2)

@@ -1,0 +1,34 @@
+//! Checksums of 128 bits.
+ghost use Rattle.std.specs.Prelude.{◌≡◌, ℕ};
+
+use std::marker::Model;
+
+/// A checksum: a number of 128 bits, which clauses see as that number.
+#[derive(Clone, Copy, Debug, PartialEq, Eq)]
+pub struct Checksum(u128);
+
+impl Model for Checksum {
+    ghost use Rattle.std.specs.Prelude.{ℕ};
+
+    ghost Value = { ℕ };
+
+    ghost view = { λ c. c.0 };
+
+    ghost inverse = { λ n. record { 0 = n } };
+}
+
+impl Checksum {
+    /// The checksum with this number.
+    pub fn from_raw(value: u128) -> Checksum
+        ensures { result ≡ value }
+    {
+        Checksum(value)
+    }
+
+    /// Its number.
+    pub fn into_u128(self) -> u128
+        ensures { result ≡ self }
+    {
+        self.0
+    }
+}

@@ -1,0 +1,57 @@
+//! What an entry says of its key.
+ghost use Rattle.std.specs.Prelude.{◌≡◌, ◌↔◌, IsTrue};
+ghost use Rattle.std.specs.Option.{ok_or};
+ghost use Rattle.sst_base.specs.ValueType.{IsTombstone, value_type_byte, value_type_of};
+
+/// What an entry says of its key.
+#[derive(Clone, Copy, Debug, PartialEq, Eq)]
+pub enum ValueType {
+    /// The key has this value. Byte 0.
+    Value,
+    /// The key is deleted. Byte 1.
+    Tombstone,
+    /// The newest value of the key is deleted. Byte 2.
+    WeakTombstone,
+    /// The value says where the key's value is. Byte 4.
+    Indirection,
+}
+
+impl ValueType {
+    /// Whether an entry of this type deletes its key, and so has no value.
+    pub fn is_tombstone(self) -> bool
+        ensures { IsTrue result ↔ IsTombstone self }
+    {
+        matches!(self, ValueType::Tombstone | ValueType::WeakTombstone)
+    }
+}
+
+/// The type that a byte stands for: 0, 1, 2 or 4.
+impl TryFrom<u8> for ValueType {
+    type Error = ();
+
+    ghost try_from_gives = { λ byte r. r ≡ ok_or (value_type_of byte) tt };
+
+    fn try_from(byte: u8) -> Result<ValueType, ()> {
+        match byte {
+            0 => Ok(ValueType::Value),
+            1 => Ok(ValueType::Tombstone),
+            2 => Ok(ValueType::WeakTombstone),
+            4 => Ok(ValueType::Indirection),
+            _ => Err(()),
+        }
+    }
+}
+
+/// The byte that stands for a type.
+impl From<ValueType> for u8 {
+    ghost from_gives = { λ value_type byte. byte ≡ value_type_byte value_type };
+
+    fn from(value_type: ValueType) -> u8 {
+        match value_type {
+            ValueType::Value => 0,
+            ValueType::Tombstone => 1,
+            ValueType::WeakTombstone => 2,
+            ValueType::Indirection => 4,
+        }
+    }
+}
