@@ -1,0 +1,10 @@
+pub mod Kind
+pub mod Body
+pub mod Trailer
+pub mod Pointers
+pub mod Buckets
+pub mod Payload
+pub mod Stages
+pub mod Entries
+pub mod Handles
+pub mod Window
