@@ -1,0 +1,9 @@
+mod Places
+mod Forms
+mod Offsets
+mod Plain
+mod Trailers
+mod Splits
+mod Tables
+mod BucketLaws
+mod Canonical

@@ -1,0 +1,65 @@
+-- Where forms begin.
+use Rattle.std.proofs.Common.{◌≡◌, ℕ, ◌+◌, ◌-◌, ◌%◌, ◌<◌, ◌≤◌, suc, cond, eqb, List, [], ◌∷◌, ◌++◌, length, take, drop, refl, sym, ap, ◌∙◌, arith, append_assoc, length-append, map}
+use Rattle.std.proofs.lemmas.List.{get_or_append_left, take-append-drop, take-take, take-map}
+use Rattle.sst_block_core.specs.Kind.{Kind, IsKind}
+use Rattle.sst_block_core.specs.Body.{truncated_against, form, forms, body, place_offset}
+use Rattle.sst_block_core.proofs.Forms.{body-plain, cond_has}
+
+module _ {X : Type 0} (kind : Kind X) (r : ℕ) (pos : 0 < r) where
+  -- what follows an item changes nothing of its form
+  form-append : (items more : List X) (i : ℕ) (x : X) → i < length items → form kind r (items ++ more) i x ≡ form kind r items i x
+  form-append items more i x h =
+      ap (λ head. cond (eqb (i % r) 0) (kind.full x) (truncated_against kind head x)) (get_or_append_left items more x (i - i % r) (omega arith))
+
+  forms-append : (items : List X) (i : ℕ) (xs ys : List X) → forms kind r items i (xs ++ ys) ≡ forms kind r items i xs ++ forms kind r items (length xs + i) ys
+  forms-append items i [] ys = ap (λ n. forms kind r items n ys) (omega arith)
+  forms-append items i (x ∷ xs) ys =
+      let e : length xs + (i + 1) ≡ suc (length xs) + i = omega arith in
+      rw (forms-append items (i + 1) xs ys, e) (sym (append_assoc (form kind r items i x) (forms kind r items (i + 1) xs) (forms kind r items (suc (length xs) + i) ys)))
+
+  forms-more : (items more : List X) (i : ℕ) (xs : List X) → i + length xs ≤ length items → forms kind r (items ++ more) i xs ≡ forms kind r items i xs
+  forms-more items more i [] h = refl
+  forms-more items more i (x ∷ xs) h =
+      let one = form-append items more i x (omega arith) in
+      let rest = forms-more items more (i + 1) xs (omega arith) in
+      cc
+
+  -- the body of a list is that of a front and the forms of the rest
+  pub body-append : (xs ys : List X) → body kind r (xs ++ ys) ≡ body kind r xs ++ forms kind r (xs ++ ys) (length xs) ys
+  unfolding body
+  body-append xs ys =
+      forms-append (xs ++ ys) 0 xs ys
+      ∙ ap (λ front. front ++ forms kind r (xs ++ ys) (length xs + 0) ys) (forms-more xs ys 0 xs (omega arith))
+      ∙ ap (λ n. forms kind r xs 0 xs ++ forms kind r (xs ++ ys) n ys) (omega arith)
+
+  front_le : (xs ys : List X) → length (body kind r xs) ≤ length (body kind r (xs ++ ys))
+  front_le xs ys = let e = ap length (body-append xs ys) in let l = length-append (body kind r xs) (forms kind r (xs ++ ys) (length xs) ys) in omega (arith, e, l)
+
+  take_le : (n : ℕ) (xs : List X) → length (body kind r (take n xs)) ≤ length (body kind r xs)
+  take_le n xs = let h = front_le (take n xs) (drop n xs) in let e = ap (λ ys. length (body kind r ys)) (take-append-drop n xs) in omega (arith, h, e)
+
+  pub place_inside : (items : List X) (i : ℕ) → place_offset kind r items i ≤ length (body kind r items)
+  place_inside items i = take_le i items
+
+  pub place_rises : (items : List X) (i j : ℕ) → i ≤ j → place_offset kind r items i ≤ place_offset kind r items j
+  place_rises items i j h =
+      let k = take_le i (take j items) in
+      let e = ap (λ ys. length (body kind r ys)) (take-take i j items h) in
+      omega (arith, k, e)
+
+  module _ (valid : X → Type 0) (laws : IsKind kind valid) where
+    pub place_plain : (items : List X) (i : ℕ) → place_offset kind r (map kind.plain items) i ≡ place_offset kind r items i
+    place_plain items i = ap (λ ys. length (body kind r ys)) (take-map kind.plain i items) ∙ ap length (body-plain kind r pos valid laws (take i items))
+
+    length-forms : (items xs : List X) (i : ℕ) → length xs ≤ length (forms kind r items i xs)
+    length-forms items [] i = omega arith
+    length-forms items (x ∷ xs) i =
+        let rest = length-forms items xs (i + 1) in
+        let l = length-append (form kind r items i x) (forms kind r items (i + 1) xs) in
+        let has : 0 < length (form kind r items i x) = cond_has (eqb (i % r) 0) _ _ (laws.full_some x) (laws.truncated_some x _) in
+        omega (arith, rest, l, has)
+
+    -- no form is empty
+    pub body_long : (items : List X) → length items ≤ length (body kind r items)
+    unfolding body
+    body_long items = length-forms items items 0
