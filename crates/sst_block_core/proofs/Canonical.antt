@@ -196,3 +196,22 @@ module _ {X : Type 0} (kind : Kind X) (valid : X → Type 0) (laws : IsKind kind
       let found = body_takes kind t.interval s2.interval valid laws (items_in kind p) t.item_count (body_in t p) [] (IsBytes-take (t.index_offset - 1) p b) s3 in
       let after = index_in t p ++ (buckets_in t p ++ trailer t) in
       ((after, s.whole ∙ ap (λ text. text ++ (255 ∷ after)) (found.0 ∙ append-nil (body kind t.interval (items_in kind p)))), found.1, found.2)
+
+module _ {X : Type 0} (kind : Kind X) (valid : X → Type 0) (laws : IsKind kind valid) where
+  -- bytes pass exactly if they are a block
+  pub exact_from : (hash : List ℕ → ℕ) (p : List ℕ) → IsBytes p → length p < 2 ^ 32
+      → (Passes kind hash p → (items : List X) × (r : ℕ) × (b : ℕ) × IsBlock kind valid hash p items r b)
+      × (((items : List X) × (r : ℕ) × (b : ℕ) × IsBlock kind valid hash p items r b) → Passes kind hash p)
+  exact_from hash p b room = (
+    (λ pass. (items_in kind p, (trailer_in p).interval, (trailer_in p).hash_len, block_from kind valid laws hash p b pass)),
+    (λ some. (passes_from kind valid laws hash p some.0 some.1 some.2 some.3 room).0),
+  )
+
+  -- two blocks with one payload
+  pub unique_from : (hash : List ℕ → ℕ) (p : List ℕ) (xs ys : List X) (q r a b : ℕ) → length p < 2 ^ 32
+      → IsBlock kind valid hash p xs q a → IsBlock kind valid hash p ys r b
+      → (map kind.plain xs ≡ map kind.plain ys) × (q ≡ r) × (stored_count q (length xs) a ≡ stored_count r (length ys) b)
+  unique_from hash p xs ys q r a b room x y =
+      let f = passes_from kind valid laws hash p xs q a x room in
+      let g = passes_from kind valid laws hash p ys r b y room in
+      (sym f.1 ∙ g.1, sym f.2 ∙ g.2, sym f.3 ∙ g.3)

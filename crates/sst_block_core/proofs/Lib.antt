@@ -7,3 +7,4 @@ mod Splits
 mod Tables
 mod BucketLaws
 mod Canonical
+mod IndexBlocks

@@ -8,3 +8,5 @@ pub mod Stages
 pub mod Entries
 pub mod Handles
 pub mod Window
+pub mod EntryLaws
+pub mod HandleLaws

@@ -1,6 +1,7 @@
 //! Blocks: their encoder, decoder, entries and handles.
 #![tactic(auto)]
 
-ghost use Rattle.std.specs.Prelude.{◌≡◌};
-ghost use Rattle.sst_block_core.specs.Window.{whole};
+pub mod kind;
+pub mod laws;
 
+pub use kind::Spelled;
