@@ -10,3 +10,4 @@ pub mod Handles
 pub mod Window
 pub mod EntryLaws
 pub mod HandleLaws
+pub mod Vectors

@@ -3,5 +3,6 @@
 
 pub mod kind;
 pub mod laws;
+pub mod vectors;
 
 pub use kind::Spelled;
