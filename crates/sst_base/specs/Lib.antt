@@ -16,3 +16,4 @@ pub mod Answer
 pub mod Counted
 pub mod Hashes
 pub mod Block
+pub mod OrderLaws

@@ -1,6 +1,6 @@
 //! Hash functions of byte strings.
 ghost use Rattle.std.specs.Prelude.{◌≡◌, ℕ, List};
-ghost use Rattle.sst_base.specs.Hashes.{poly31};
+ghost use Rattle.sst_base.specs.Hashes.{poly31, poly31_from};
 
 /// A hash function that is handed in.
 pub trait BlockHash {
@@ -16,12 +16,19 @@ pub trait BlockHash {
 #[derive(Clone, Copy, Debug, PartialEq, Eq)]
 pub struct Poly31;
 
+// Goes on from what was so far, a byte a step.
+fn poly31_from(so_far: u64, bytes: &[u8]) -> u64
+    ensures { result ≡ poly31_from 64 so_far bytes.now }
+{
+    bytes.iter().fold(so_far, |hash, byte| {
+        hash.wrapping_mul(31).wrapping_add(u64::from(*byte))
+    })
+}
+
 impl BlockHash for Poly31 {
     ghost hash64 = { poly31 64 };
 
     fn hash64(bytes: &[u8]) -> u64 {
-        bytes.iter().fold(0u64, |hash, byte| {
-            hash.wrapping_mul(31).wrapping_add(u64::from(*byte))
-        })
+        poly31_from(0, bytes)
     }
 }

@@ -141,6 +141,10 @@ impl Clone for InternalKey {
 
 impl fmt::Debug for InternalKey {
     fn fmt<W: fmt::Write>(&self, f: &mut fmt::Formatter<W>) -> fmt::Result {
-        write!(f, "{:?}:{}:{:?}", self.user_key, self.seqno, self.value_type)
+        write!(
+            f,
+            "{:?}:{}:{:?}",
+            self.user_key, self.seqno, self.value_type
+        )
     }
 }

@@ -1,11 +1,11 @@
-// A counter that only clauses read.
+//! Counters of what is looked at in a block.
 ghost use Rattle.std.specs.Prelude.{◌≡◌, ◌+◌};
 ghost use Rattle.sst_base.specs.Counted.{Counted};
 
 use crate::count::Count;
 use std::marker::Model;
 
-// How many heads and entries were looked at. It has no bytes.
+/// How many heads and how many entries were looked at. Only clauses read it, and it has no bytes.
 #[derive(Drop)]
 pub struct Steps {
     heads: Count,
@@ -19,7 +19,7 @@ impl Model for Steps {
 }
 
 impl Steps {
-    // A counter at zero.
+    /// A counter at zero.
     pub fn new() -> Steps
         ensures heads { result.heads ≡ 0 }
         ensures entries { result.entries ≡ 0 }
@@ -30,7 +30,7 @@ impl Steps {
         }
     }
 
-    // One more head.
+    /// One more head.
     pub fn count_head(&mut self)
         ensures heads { self.new.heads ≡ self.old.heads + 1 }
         ensures entries { self.new.entries ≡ self.old.entries }
@@ -38,7 +38,7 @@ impl Steps {
         self.heads.add_one();
     }
 
-    // One more entry.
+    /// One more entry.
     pub fn count_entry(&mut self)
         ensures heads { self.new.heads ≡ self.old.heads }
         ensures entries { self.new.entries ≡ self.old.entries + 1 }
@@ -46,7 +46,7 @@ impl Steps {
         self.entries.add_one();
     }
 
-    // Adds what another counter counted.
+    /// Adds what another counter counted.
     pub fn add(&mut self, other: &Steps)
         ensures heads { self.new.heads ≡ self.old.heads + other.now.heads }
         ensures entries { self.new.entries ≡ self.old.entries + other.now.entries }

@@ -42,13 +42,18 @@ impl InternalValue {
     }
 
     /// The entry of these parts. The user key has 1 to 65535 bytes, and the value at most 2^32 - 1.
-    pub fn from_components(user_key: UserKey, value: UserValue, seqno: SeqNo, value_type: ValueType) -> InternalValue
+    pub fn from_components(
+        user_key: UserKey,
+        value: UserValue,
+        seqno: SeqNo,
+        value_type: ValueType,
+    ) -> InternalValue
         requires some { 1 ≤ length user_key }
         requires key { length user_key ≤ 65535 }
         requires value { length value < 2 ^ 32 }
         ensures { result ≡ record {
-            key = record { user_key = user_key; seqno = seqno; value_type = value_type };
-            value = value
+          key = record { user_key = user_key; seqno = seqno; value_type = value_type };
+          value = value;
         } }
     {
         InternalValue::new(InternalKey::new(user_key, seqno, value_type), value)
@@ -59,8 +64,8 @@ impl InternalValue {
         requires some { 1 ≤ length user_key }
         requires key { length user_key ≤ 65535 }
         ensures { result ≡ record {
-            key = record { user_key = user_key; seqno = seqno; value_type = ValueType.Tombstone };
-            value = []
+          key = record { user_key = user_key; seqno = seqno; value_type = ValueType.Tombstone };
+          value = [];
         } }
     {
         InternalValue::from_components(user_key, Slice::empty(alloc), seqno, ValueType::Tombstone)
@@ -71,11 +76,16 @@ impl InternalValue {
         requires some { 1 ≤ length user_key }
         requires key { length user_key ≤ 65535 }
         ensures { result ≡ record {
-            key = record { user_key = user_key; seqno = seqno; value_type = ValueType.WeakTombstone };
-            value = []
+          key = record { user_key = user_key; seqno = seqno; value_type = ValueType.WeakTombstone };
+          value = [];
         } }
     {
-        InternalValue::from_components(user_key, Slice::empty(alloc), seqno, ValueType::WeakTombstone)
+        InternalValue::from_components(
+            user_key,
+            Slice::empty(alloc),
+            seqno,
+            ValueType::WeakTombstone,
+        )
     }
 
     /// Its key.

@@ -17,18 +17,25 @@ pub fn compare_bytes(a: &[u8], b: &[u8]) -> Ordering
     a.cmp(b)
 }
 
+// The same as `longest_shared_prefix_length`, a byte a step.
+#[tactic(auto, using(crate::proofs::Shared::shared_step, crate::proofs::Shared::shared_stop, crate::proofs::Shared::shared_end))]
+fn shared_bytes(a: &[u8], b: &[u8]) -> usize
+    ensures { result ≡ shared_prefix_length a.now b.now }
+{
+    let end = a.len().min(b.len());
+    for i in 0..end {
+        if a[i] != b[i] {
+            return i;
+        }
+    }
+    end
+}
+
 /// The greatest length at which the fronts of two byte strings agree.
 pub fn longest_shared_prefix_length(a: &[u8], b: &[u8]) -> usize
     ensures { result ≡ shared_prefix_length a.now b.now }
 {
-    let mut length = 0;
-    for (x, y) in a.iter().zip(b) {
-        if *x != *y {
-            return length;
-        }
-        length += 1;
-    }
-    length
+    shared_bytes(a, b)
 }
 
 /// The order of a prefix followed by a suffix against a needle. The two are not joined, and no memory is taken.
@@ -37,15 +44,12 @@ pub fn compare_prefixed_slice(prefix: &[u8], suffix: &[u8], needle: &[u8]) -> Or
 {
     if needle.len() <= prefix.len() {
         let (front, rest) = prefix.split_at(needle.len());
-        return match compare_bytes(front, needle) {
-            Ordering::Equal if rest.is_empty() && suffix.is_empty() => Ordering::Equal,
-            Ordering::Equal => Ordering::Greater,
-            other => other,
-        };
+        let longer = rest.len() + suffix.len();
+        return compare_bytes(front, needle).then(longer.cmp(&0));
     }
     let (front, rest) = needle.split_at(prefix.len());
     match compare_bytes(prefix, front) {
         Ordering::Equal => compare_bytes(suffix, rest),
-        other => other,
+        decided => decided,
     }
 }

@@ -5,10 +5,9 @@ ghost use Rattle.sst_base.specs.Block.{BlockParts};
 pub mod block_type;
 pub mod header;
 
+use crate::slice::Slice;
 pub use block_type::BlockType;
 pub use header::Header;
-
-use crate::slice::Slice;
 use std::marker::Model;
 
 /// A block in memory: a header, and a payload of at most 2^32 - 1 bytes.
