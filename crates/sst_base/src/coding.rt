@@ -74,3 +74,33 @@ pub fn decode_varint(bytes: &[u8], bits: u32) -> Option<(u64, usize)>
 {
     decode_up_to(bytes, u64::MAX >> (64 - bits))
 }
+
+/// The byte at an offset, which lies inside the bytes.
+#[inline(always)]
+#[tactic(auto, using(crate::proofs::Words::byte_is))]
+pub fn u8_at(bytes: &[u8], at: usize) -> u8
+    requires { at + 1 ≤ length bytes.now }
+    ensures { result ≡ le_number_at at 1 bytes.now }
+{
+    bytes[at]
+}
+
+/// The number of two bytes at an offset, the lowest first. They lie inside the bytes.
+#[inline(always)]
+#[tactic(auto, using(crate::proofs::Words::pair_is))]
+pub fn u16_at(bytes: &[u8], at: usize) -> u16
+    requires { at + 2 ≤ length bytes.now }
+    ensures { result ≡ le_number_at at 2 bytes.now }
+{
+    u16::from_le_bytes([bytes[at], bytes[at + 1]])
+}
+
+/// The number of four bytes at an offset, the lowest first. They lie inside the bytes.
+#[inline(always)]
+#[tactic(auto, using(crate::proofs::Words::word_is))]
+pub fn u32_at(bytes: &[u8], at: usize) -> u32
+    requires { at + 4 ≤ length bytes.now }
+    ensures { result ≡ le_number_at at 4 bytes.now }
+{
+    u32::from_le_bytes([bytes[at], bytes[at + 1], bytes[at + 2], bytes[at + 3]])
+}

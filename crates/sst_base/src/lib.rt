@@ -3,6 +3,7 @@
 
 pub mod checksum;
 pub mod coding;
+pub mod config;
 pub mod count;
 pub mod error;
 pub mod hash;
@@ -17,6 +18,7 @@ pub mod value_type;
 
 pub use checksum::Checksum;
 pub use coding::{decode_varint, encode_varint};
+pub use config::HashRatio;
 pub use count::Count;
 pub use error::{Error, HeaderName, Result, TagName};
 pub use hash::{BlockHash, Poly31};
