@@ -1,8 +1,9 @@
 -- Laws of byte strings and of the numbers in them.
 use Rattle.std.proofs.Common.{◌≡◌, ℕ, ◌+◌, ◌*◌, ◌/◌, ◌%◌, ◌<◌, ◌≤◌, ◌^◌, zero, suc, List, [], ◌∷◌, ◌++◌, length, take, drop, refl, arith, sym, ◌∙◌, ap, subst, length-drop}
-use Rattle.std.proofs.Math.Nat.{pow-succ'}
+use Rattle.std.proofs.Math.Nat.{pow-succ', div-div-eq-div-mul}
 use Rattle.std.proofs.lemmas.Nat.{div_below}
 use Rattle.std.proofs.lemmas.List.{take-append-drop, drop-drop, length-take-le}
+use Rattle.std.specs.Int.{w16, w32, w64, w128, to_le_bytes, bytes_low_first, byte_at}
 use Rattle.sst_base.specs.Bytes.{IsBytes, le_bytes, le_number, le_number_at}
 
 -- the front of bytes is bytes
@@ -60,3 +61,28 @@ le_number_at_below at width xs b h =
 -- a piece of bytes and what follows it
 pub take-drop-more : (at width : ℕ) (xs : List ℕ) → take width (drop at xs) ++ drop (at + width) xs ≡ drop at xs
 take-drop-more at width xs = ap (λ ys. take width (drop at xs) ++ ys) (sym (drop-drop width at xs)) ∙ take-append-drop width (drop at xs)
+
+byte_at-div : (i n : ℕ) → byte_at i n ≡ (n / 256 ^ i) % 256
+byte_at-div zero n = omega arith
+byte_at-div (suc i) n = refl
+
+-- std's lowest bytes of a number, from the one at a place on
+bytes_low_first-le_bytes : (width i n : ℕ) → bytes_low_first i width n ≡ le_bytes width (n / 256 ^ i)
+bytes_low_first-le_bytes zero i n = refl
+bytes_low_first-le_bytes (suc width) i n =
+    let high : n / 256 ^ suc i ≡ (n / 256 ^ i) / 256 = ap (λ k. n / k) (let e : 256 ^ suc i ≡ 256 ^ i * 256 = omega (arith, pow-succ' 256 i) in e) ∙ sym (div-div-eq-div-mul n (256 ^ i) 256) in
+    ap (λ b. b ∷ bytes_low_first (suc i) width n) (byte_at-div i n)
+    ∙ ap (λ bs. ((n / 256 ^ i) % 256) ∷ bs) (bytes_low_first-le_bytes width (suc i) n ∙ ap (le_bytes width) high)
+
+-- std's bytes of a number
+pub to_le_bytes_16 : (n : ℕ) → to_le_bytes w16 n ≡ le_bytes 2 n
+to_le_bytes_16 n = bytes_low_first-le_bytes 2 0 n ∙ ap (le_bytes 2) (omega arith)
+
+pub to_le_bytes_32 : (n : ℕ) → to_le_bytes w32 n ≡ le_bytes 4 n
+to_le_bytes_32 n = bytes_low_first-le_bytes 4 0 n ∙ ap (le_bytes 4) (omega arith)
+
+pub to_le_bytes_64 : (n : ℕ) → to_le_bytes w64 n ≡ le_bytes 8 n
+to_le_bytes_64 n = bytes_low_first-le_bytes 8 0 n ∙ ap (le_bytes 8) (omega arith)
+
+pub to_le_bytes_128 : (n : ℕ) → to_le_bytes w128 n ≡ le_bytes 16 n
+to_le_bytes_128 n = bytes_low_first-le_bytes 16 0 n ∙ ap (le_bytes 16) (omega arith)

@@ -2,10 +2,29 @@
 #![tactic(auto)]
 
 pub mod checksum;
+pub mod coding;
+pub mod config;
+pub mod count;
 pub mod error;
+pub mod hash;
+pub mod history;
+pub mod key;
+mod note;
+pub mod slice;
+pub mod steps;
 pub mod table;
+pub mod value;
 pub mod value_type;
 
 pub use checksum::Checksum;
+pub use coding::{decode_varint, encode_varint};
+pub use config::HashRatio;
+pub use count::Count;
 pub use error::{Error, HeaderName, Result, TagName};
+pub use hash::{BlockHash, Poly31};
+pub use history::History;
+pub use key::{InternalKey, SeqNo, UserKey};
+pub use slice::Slice;
+pub use steps::Steps;
+pub use value::{InternalValue, UserValue};
 pub use value_type::ValueType;

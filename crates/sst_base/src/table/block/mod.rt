@@ -1,6 +1,62 @@
 //! Blocks: a header and a payload.
+ghost use Rattle.std.specs.Prelude.{◌≡◌, ◌^◌, ◌<◌, length};
+ghost use Rattle.sst_base.specs.Block.{BlockParts};
+
 pub mod block_type;
 pub mod header;
 
+use crate::slice::Slice;
 pub use block_type::BlockType;
 pub use header::Header;
+use std::marker::Model;
+
+/// A block in memory: a header, and a payload of at most 2^32 - 1 bytes.
+#[derive(Drop)]
+pub struct Block {
+    header: Header,
+    payload: Slice,
+}
+
+impl Model for Block {
+    ghost use Rattle.std.specs.Prelude.{◌^◌, ◌<◌, length};
+    ghost use Rattle.sst_base.specs.Block.{BlockParts};
+
+    ghost Value = { BlockParts };
+
+    ghost view = { λ b. record { header = b.header; payload = b.payload } };
+
+    ghost invariant = { λ b. length b.payload < 2 ^ 32 };
+}
+
+impl Block {
+    /// The block of these parts. The payload has at most 2^32 - 1 bytes.
+    pub fn from_parts(header: Header, payload: Slice) -> Block
+        requires { length payload < 2 ^ 32 }
+        ensures { result ≡ record { header = header; payload = payload } }
+    {
+        Block { header, payload }
+    }
+
+    /// The length of the payload in bytes.
+    pub fn size(&self) -> u32
+        ensures value { result ≡ length self.now.payload }
+        ensures fits { length self.now.payload < 2 ^ 32 }
+    {
+        self.payload.len() as u32
+    }
+
+    /// The header.
+    pub fn header(&self) -> &Header
+        ensures { result.now ≡ self.now.header }
+    {
+        &self.header
+    }
+
+    /// The payload.
+    pub fn data(&self) -> &Slice
+        ensures value { result.now ≡ self.now.payload }
+        ensures fits { length self.now.payload < 2 ^ 32 }
+    {
+        &self.payload
+    }
+}

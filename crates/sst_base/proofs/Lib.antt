@@ -1,0 +1,4 @@
+pub mod Shared
+pub mod Joined
+pub mod Polynomials
+pub mod Words

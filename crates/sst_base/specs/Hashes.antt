@@ -1,0 +1,14 @@
+-- The plain hash functions.
+use Rattle.std.specs.Prelude.{ℕ, ◌+◌, ◌*◌, ◌%◌, ◌^◌, List, fold}
+
+-- one byte more: what was so far times 31, and the byte
+abbrev pub times31 : ℕ → ℕ → ℕ
+times31 so_far byte = so_far * 31 + byte
+
+-- bytes behind what was so far, modulo 2 ^ bits
+abbrev pub poly31_from : ℕ → ℕ → List ℕ → ℕ
+poly31_from bits so_far bytes = fold times31 so_far bytes % 2 ^ bits
+
+-- from 0, times 31 plus each byte in turn, modulo 2 ^ bits
+abbrev pub poly31 : ℕ → List ℕ → ℕ
+poly31 bits bytes = poly31_from bits 0 bytes

@@ -1,0 +1,106 @@
+//! Varints and numbers of a fixed width.
+ghost use Rattle.std.specs.Prelude.{◌≡◌, ℕ, ◌+◌, ◌*◌, ◌^◌, ◌<◌, ◌≤◌, ◌++◌, length, take, OnOk, OnErr, IsOkUnless, IfSome, IfNone};
+ghost use Rattle.sst_base.specs.Bytes.{le_number_at};
+ghost use Rattle.sst_base.specs.Varint.{IsVarint, IsWidth, varint, varint_up_to, varint_at};
+
+use crate::error::{Error, Result};
+
+// The digits of a number, and how many there are.
+fn digits_of(n: u64) -> ([u8; 10], usize)
+    ensures len { result.1 ≤ 10 }
+    ensures bytes { take result.1 result.0 ≡ varint n }
+{
+    let mut bytes = [0u8; 10];
+    let mut rest = n;
+    for i in 0..9usize {
+        if rest < 128 {
+            bytes[i] = rest as u8;
+            return (bytes, i + 1);
+        }
+        bytes[i] = (rest % 128) as u8 + 128;
+        rest /= 128;
+    }
+    bytes[9] = rest as u8;
+    (bytes, 10)
+}
+
+/// Writes the varint of a number at the end of a vector. The only error is E15, and then the vector is unchanged.
+pub fn encode_varint(out: &mut Vec<u8>, n: u64) -> Result<()>
+    ensures ok { OnOk result (out.new.items ≡ out.old.items ++ varint n) }
+    ensures memory { IsOkUnless result Error.Memory }
+    ensures unchanged { OnErr result (out.new.items ≡ out.old.items) }
+{
+    let (bytes, len) = digits_of(n);
+    out.extend_from_slice(&bytes[..len])?;
+    Ok(())
+}
+
+// The number of at most `max` that a front of the bytes spells, and the length of that front.
+#[tactic(auto, unfolding(crate::specs::Varint::varint_up_to))]
+fn decode_up_to(bytes: &[u8], max: u64) -> Option<(u64, usize)>
+    ensures exact { result ≡ varint_up_to max bytes.now }
+    ensures length { IfSome result (λ found. found.1 ≤ length bytes.now) }
+    ensures max { IfSome result (λ found. found.0 ≤ max) }
+    ensures found { IfSome result (λ found. IsVarint (take found.1 bytes.now) found.0) }
+    ensures none { IfNone result ((n len : ℕ) → n ≤ max → IsVarint (take len bytes.now) n → ⊥) }
+{
+    let (first, rest) = bytes.split_first()?;
+    let digit = u64::from(*first);
+    if digit < 128 {
+        return if digit <= max { Some((digit, 1)) } else { None };
+    }
+    if max < 128 {
+        return None;
+    }
+    let (high, len) = decode_up_to(rest, (max - (digit - 128)) / 128)?;
+    if high == 0 {
+        return None;
+    }
+    Some((digit - 128 + 128 * high, len + 1))
+}
+
+/// Reads the varint at the front of bytes: its number, and how many bytes it takes. Bytes may follow it.
+///
+/// The width is 16, 32 or 64 bits. `None` says that no front of the bytes is a shortest spelling of a number within
+/// the width.
+#[tactic(auto, unfolding(crate::specs::Varint::varint_at))]
+pub fn decode_varint(bytes: &[u8], bits: u32) -> Option<(u64, usize)>
+    requires { IsWidth bits }
+    ensures exact { result ≡ varint_at bits bytes.now }
+    ensures length { IfSome result (λ found. found.1 ≤ length bytes.now) }
+    ensures width { IfSome result (λ found. found.0 < 2 ^ bits) }
+    ensures found { IfSome result (λ found. IsVarint (take found.1 bytes.now) found.0) }
+    ensures none { IfNone result ((n len : ℕ) → n < 2 ^ bits → IsVarint (take len bytes.now) n → ⊥) }
+{
+    decode_up_to(bytes, u64::MAX >> (64 - bits))
+}
+
+/// The byte at an offset, which lies inside the bytes.
+#[inline(always)]
+#[tactic(auto, using(crate::proofs::Words::byte_is))]
+pub fn u8_at(bytes: &[u8], at: usize) -> u8
+    requires { at + 1 ≤ length bytes.now }
+    ensures { result ≡ le_number_at at 1 bytes.now }
+{
+    bytes[at]
+}
+
+/// The number of two bytes at an offset, the lowest first. They lie inside the bytes.
+#[inline(always)]
+#[tactic(auto, using(crate::proofs::Words::pair_is))]
+pub fn u16_at(bytes: &[u8], at: usize) -> u16
+    requires { at + 2 ≤ length bytes.now }
+    ensures { result ≡ le_number_at at 2 bytes.now }
+{
+    u16::from_le_bytes([bytes[at], bytes[at + 1]])
+}
+
+/// The number of four bytes at an offset, the lowest first. They lie inside the bytes.
+#[inline(always)]
+#[tactic(auto, using(crate::proofs::Words::word_is))]
+pub fn u32_at(bytes: &[u8], at: usize) -> u32
+    requires { at + 4 ≤ length bytes.now }
+    ensures { result ≡ le_number_at at 4 bytes.now }
+{
+    u32::from_le_bytes([bytes[at], bytes[at + 1], bytes[at + 2], bytes[at + 3]])
+}
