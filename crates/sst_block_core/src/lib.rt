@@ -3,6 +3,7 @@
 
 pub mod kind;
 pub mod laws;
+pub mod table;
 pub mod vectors;
 
 pub use kind::Spelled;

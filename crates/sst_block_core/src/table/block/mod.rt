@@ -1,0 +1,4 @@
+//! Blocks: what writes and reads the items of one.
+pub mod encoder;
+
+pub use encoder::Encodable;

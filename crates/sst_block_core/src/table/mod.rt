@@ -1,0 +1,2 @@
+//! What tables are made of.
+pub mod block;
