@@ -8,3 +8,6 @@ mod Tables
 mod BucketLaws
 mod Canonical
 mod IndexBlocks
+mod Ends
+mod PlaceReads
+mod Openings

@@ -11,3 +11,5 @@ pub mod Window
 pub mod EntryLaws
 pub mod HandleLaws
 pub mod Vectors
+pub mod Found
+pub mod Scan

@@ -1,0 +1,233 @@
+//! The decoder of blocks.
+ghost use Rattle.std.specs.Prelude.{◌≡◌, ◌≢◌, ℕ, ◌+◌, ◌-◌, ◌%◌, ◌*◌, ◌^◌, ◌<◌, ◌≤◌, List, length, drop, slice_get, Some, IfSome, IfOk, IsSomeAnd, IsOkUnless};
+ghost use Rattle.std.specs.Ordering.{nat_cmp};
+ghost use Rattle.std.specs.Cmp.Lexicographic.{slice_cmp};
+ghost use Rattle.std.specs.Iterator.{at_most};
+ghost use Rattle.sst_base.specs.Counted.{found_item};
+ghost use Rattle.sst_block_core.specs.Found.{Finds, StandsAt};
+ghost use Rattle.sst_block_core.specs.Payload.{IsBlock};
+ghost use Rattle.sst_block_core.specs.Stages.{items_in};
+ghost use Rattle.sst_block_core.specs.Window.{whole};
+ghost use Rattle.sst_block_core.specs.Scan.{Scan, IsPlace, IsScan, GivesNext};
+
+use crate::kind::Spelled;
+use sst_base::coding::{u8_at, u32_at};
+use sst_base::table::block::Block;
+use sst_base::{Error, Result, Slice, Steps};
+use std::alloc::Global;
+use std::cmp::Ordering;
+use std::marker::{Model, PhantomData};
+
+/// What a parser answers: an item by its ranges of a payload.
+pub trait ParsedItem<Item: Spelled> {
+    /// The item that it stands for in a payload.
+    ghost item_of: { List ℕ → Self → Item };
+
+    /// It was found in a payload: its ranges lie there, and the item is valid.
+    ghost is_found: { List ℕ → Self → Type 0 };
+
+    /// Where its key begins, if it is a head.
+    ghost key_start: { Self → ℕ };
+
+    /// The order of its key against a needle. Nothing is joined.
+    fn compare_key(&self, needle: &[u8], payload: &[u8]) -> Ordering
+        requires { is_found payload.now self.now }
+        ensures { result ≡ slice_cmp nat_cmp (Item.kind.key (item_of payload.now self.now)) needle.now };
+
+    /// Its sequence number.
+    fn seqno(&self) -> u64
+        ensures { (payload : List ℕ) → result ≡ Item.kind.seqno (item_of payload self.now) };
+
+    /// Where its key begins, if it is a head.
+    fn key_offset(&self) -> usize
+        ensures { result ≡ key_start self.now };
+
+    /// The item, whose key alone may be joined and copied. The only error is E15.
+    fn materialize(&self, alloc: Global, payload: &Slice) -> Result<Item>
+        requires { is_found payload.now self.now }
+        ensures ok { IfOk result (λ x. x ≡ item_of payload.now self.now) }
+        ensures memory { IsOkUnless result Error.Memory };
+}
+
+/// Items that can be read from a block.
+pub trait Decodable<Parsed: ParsedItem<Self>>: Spelled + Sized {
+    /// The key and the sequence number of the head at an offset. It counts one head.
+    fn parse_restart_key<'a>(
+        payload: &'a [u8],
+        offset: usize,
+        steps: &mut Steps,
+    ) -> Option<(&'a [u8], u64)>
+        requires { offset ≤ length payload.now }
+        ensures head { (x : Self) (rest : List ℕ) → Self.kind.full_at (drop offset payload.now) ≡ Some (x, rest)
+            → IsSomeAnd result (λ f. (f.0.now ≡ Self.kind.key x) × (f.1 ≡ Self.kind.seqno x)) }
+        ensures heads { steps.new.heads ≡ steps.old.heads + 1 }
+        ensures entries { steps.new.entries ≡ steps.old.entries };
+
+    /// The item in full form at an offset, and where the form ends. It counts an entry where it answers an item.
+    fn parse_full(payload: &[u8], offset: usize, steps: &mut Steps) -> Option<(Parsed, usize)>
+        requires { offset ≤ length payload.now }
+        ensures exact { Finds (Parsed.item_of payload.now) payload.now result (Self.kind.full_at (drop offset payload.now)) }
+        ensures found { IfSome result (λ f. Parsed.is_found payload.now f.0) }
+        ensures key { IfSome result (λ f. StandsAt payload.now (Parsed.key_start f.0) (Self.kind.key (Parsed.item_of payload.now f.0))) }
+        ensures heads { steps.new.heads ≡ steps.old.heads }
+        ensures entries { steps.new.entries ≡ steps.old.entries + found_item result };
+
+    /// The item in truncated form at an offset, behind a head whose key begins at `base_key_offset`, and where the
+    /// form ends. It counts an entry where it answers an item.
+    fn parse_truncated(
+        payload: &[u8],
+        offset: usize,
+        base_key_offset: usize,
+        steps: &mut Steps,
+    ) -> Option<(Parsed, usize)>
+        requires { offset ≤ length payload.now }
+        ensures item { (base : List ℕ) → StandsAt payload.now base_key_offset base
+            → (x : Self) (rest : List ℕ) → Self.kind.truncated_at base (drop offset payload.now) ≡ Some (x, rest)
+            → IsSomeAnd result (λ f. (f.1 ≤ length payload.now) × (Parsed.item_of payload.now f.0 ≡ x) × (drop f.1 payload.now ≡ rest)) }
+        ensures found { IfSome result (λ f. Parsed.is_found payload.now f.0) }
+        ensures heads { steps.new.heads ≡ steps.old.heads }
+        ensures entries { steps.new.entries ≡ steps.old.entries + found_item result };
+}
+
+/// A place of a block's list: where its form begins, and where the key of its interval's head does.
+#[derive(Clone, Copy)]
+pub(crate) struct Place {
+    pub(crate) place: usize,
+    pub(crate) offset: usize,
+    pub(crate) base: usize,
+}
+
+/// The item at a place, and the next place.
+#[inline(always)]
+pub(crate) fn parse_at<Item: Decodable<Parsed>, Parsed: ParsedItem<Item>>(
+    payload: &[u8],
+    restart_interval: u8,
+    at: &Place,
+    steps: &mut Steps,
+) -> Option<(Parsed, Place)>
+    requires some { 0 < restart_interval }
+    requires inside { at.now.offset ≤ length payload.now }
+    requires room { at.now.place + 1 < 2 ^ 64 }
+    ensures item { (items : List Item) → IsPlace Item.kind restart_interval payload.now items at.now.place at.now.offset at.now.base
+        → at.now.place < length items
+        → IsSomeAnd result (λ f. (slice_get items at.now.place ≡ Some (Parsed.item_of payload.now f.0))
+        × (f.1.place ≡ at.now.place + 1)
+        × IsPlace Item.kind restart_interval payload.now items f.1.place f.1.offset f.1.base) }
+    ensures found { IfSome result (λ f. Parsed.is_found payload.now f.0) }
+    ensures heads { steps.new.heads ≡ steps.old.heads }
+    ensures entries { steps.new.entries ≡ steps.old.entries + found_item result }
+{
+    let place = at.place + 1;
+    if at.place % usize::from(restart_interval) == 0 {
+        let (item, offset) = Item::parse_full(payload, at.offset, steps)?;
+        let base = item.key_offset();
+        Some((
+            item,
+            Place {
+                place,
+                offset,
+                base,
+            },
+        ))
+    } else {
+        let (item, offset) = Item::parse_truncated(payload, at.offset, at.base, steps)?;
+        Some((
+            item,
+            Place {
+                place,
+                offset,
+                base: at.base,
+            },
+        ))
+    }
+}
+
+/// Goes over the items of a block. Clauses see it as the payload, a window over its items, and its counters.
+pub struct Decoder<'a, Item: Decodable<Parsed>, Parsed: ParsedItem<Item>> {
+    kinds: PhantomData<(Item, Parsed)>,
+    payload: &'a [u8],
+    restart_interval: u8,
+    front: Place,
+    hi: usize,
+    steps: Steps,
+}
+
+impl<'a, Item: Decodable<Parsed>, Parsed: ParsedItem<Item>> Model for Decoder<'a, Item, Parsed> {
+    ghost use Rattle.sst_block_core.specs.Stages.{items_in};
+    ghost use Rattle.sst_block_core.specs.Scan.{Scan, IsScan};
+
+    ghost Value = { Scan Item };
+
+    ghost view = { λ d. record {
+      payload = d.payload.now;
+      window = record { list = items_in Item.kind d.payload.now; lo = d.front.place; hi = d.hi };
+      steps = d.steps;
+    } };
+
+    ghost invariant = { λ d. IsScan Item.kind d.payload.now d.restart_interval d.front.place d.front.offset d.front.base d.hi };
+}
+
+impl<'a, Item: Decodable<Parsed>, Parsed: ParsedItem<Item>> Decoder<'a, Item, Parsed> {
+    /// Goes over the items of a block, whose payload is that of some list. It takes no memory.
+    pub fn new(block: &'a Block) -> Decoder<'a, Item, Parsed>
+        requires { (hash : List ℕ → ℕ) × (items : List Item) × (r : ℕ) × (b : ℕ) × IsBlock Item.kind Item.valid hash block.now.payload items r b }
+        ensures payload { result.payload ≡ block.now.payload }
+        ensures window { result.window ≡ whole (items_in Item.kind block.now.payload) }
+        ensures heads { result.steps.heads ≡ 0 }
+        ensures entries { result.steps.entries ≡ 0 }
+    {
+        let payload = block.data().as_slice();
+        let trailer = payload.len() - 31;
+        Decoder {
+            kinds: PhantomData,
+            payload,
+            restart_interval: u8_at(payload, trailer),
+            front: Place {
+                place: 0,
+                offset: 0,
+                base: 0,
+            },
+            hi: u32_at(payload, trailer + 27) as usize,
+            steps: Steps::new(),
+        }
+    }
+}
+
+/// The next item, if one is left. It counts an entry for an item and takes no memory.
+impl<'a, Item: Decodable<Parsed>, Parsed: ParsedItem<Item> + Drop> Iterator
+    for Decoder<'a, Item, Parsed> {
+    type Item = Parsed;
+
+    ghost next_gives = { λ s r t. GivesNext Parsed.item_of Parsed.is_found s r t };
+
+    ghost remaining = { λ s. at_most (s.window.hi - s.window.lo) };
+
+    fn next(&mut self) -> Option<Parsed> {
+        if self.front.place >= self.hi {
+            return None;
+        }
+        let Some((item, next)) = parse_at::<Item, Parsed>(
+            self.payload,
+            self.restart_interval,
+            &self.front,
+            &mut self.steps,
+        ) else {
+            unreachable!()
+        };
+        self.front = next;
+        Some(item)
+    }
+}
+
+impl<'a, Item: Decodable<Parsed>, Parsed: ParsedItem<Item>> Drop for Decoder<'a, Item, Parsed> {
+    fn drop(self) {
+        let Self {
+            kinds: _,
+            payload: _,
+            restart_interval: _,
+            front: _,
+            hi: _,
+            steps: _,
+        } = self;
+    }
+}
