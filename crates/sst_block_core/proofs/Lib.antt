@@ -11,3 +11,4 @@ mod IndexBlocks
 mod Ends
 mod PlaceReads
 mod Openings
+mod EntryReads

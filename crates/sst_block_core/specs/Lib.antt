@@ -13,3 +13,4 @@ pub mod HandleLaws
 pub mod Vectors
 pub mod Found
 pub mod Scan
+pub mod ParsedEntry

@@ -1,7 +1,8 @@
 //! Blocks: what writes and reads the items of one.
 pub mod decoder;
 pub mod encoder;
-mod reading;
+pub(crate) mod reading;
+pub(crate) mod writing;
 
 pub use decoder::{Decodable, ParsedItem};
 pub use encoder::Encodable;

@@ -1,0 +1,273 @@
+//! Data blocks: blocks of entries.
+ghost use Rattle.std.specs.Prelude.{◌≡◌, ◌≢◌, ◌↔◌, ℕ, ◌+◌, ◌-◌, ◌^◌, ◌<◌, ◌≤◌, ◌++◌, List, length, drop, IsTrue, Some, OnOk, IfOk, IfSome, IfNone, IsOkUnless};
+ghost use Rattle.sst_base.specs.ValueType.{IsTombstone};
+ghost use Rattle.sst_base.specs.Entry.{Entry, IsEntry};
+ghost use Rattle.sst_block_core.specs.Found.{Finds, IsRange, IsOptionalRange, StandsAt, range_of, optional_range};
+ghost use Rattle.sst_block_core.specs.Entries.{entries, value_part, value_at, full_at, truncated_form_at};
+ghost use Rattle.sst_block_core.specs.ParsedEntry.{entry_of, IsParsedEntry, truncated_of, IsKeyLength};
+
+use crate::kind::Spelled;
+use crate::table::block::reading::{number_from, text_from, type_from};
+use crate::table::block::writing::write_text;
+use crate::table::block::{Decodable, Encodable, ParsedItem};
+use sst_base::table::util::{SliceIndexes, compare_bytes, compare_prefixed_slice};
+use sst_base::{
+    Error, InternalKey, InternalValue, Result, SeqNo, Slice, Steps, ValueType, encode_varint,
+};
+use std::alloc::Global;
+use std::cmp::Ordering;
+
+impl Spelled for InternalValue {
+    ghost use Rattle.sst_base.specs.Entry.{IsEntry};
+    ghost use Rattle.sst_block_core.specs.Entries.{entries};
+    ghost use Rattle.sst_block_core.specs.EntryLaws.{IsKind-entries};
+
+    ghost kind = { entries };
+
+    ghost valid = { IsEntry };
+
+    ghost is_kind = { IsKind-entries };
+}
+
+// Writes the value part of an entry: nothing for a tombstone.
+fn write_value(writer: &mut Vec<u8>, item: &InternalValue) -> Result<()>
+    ensures ok { OnOk result (writer.new.items ≡ writer.old.items ++ value_part item.now.key.value_type item.now.value) }
+    ensures memory { IsOkUnless result Error.Memory }
+{
+    match item.key().value_type() {
+        ValueType::Tombstone | ValueType::WeakTombstone => Ok(()),
+        ValueType::Value | ValueType::Indirection => write_text(writer, item.value().as_slice()),
+    }
+}
+
+/// Entries are written by type, sequence number, key and value: see the definitions of the two forms.
+impl Encodable for InternalValue {
+    fn key(&self) -> &[u8] {
+        InternalValue::key(self).user_key().as_slice()
+    }
+
+    #[tactic(auto, unfolding(crate::specs::Entries::full))]
+    fn encode_full_into(&self, writer: &mut Vec<u8>) -> Result<()> {
+        let key = InternalValue::key(self);
+        writer.push(u8::from(key.value_type()))?;
+        encode_varint(writer, key.seqno())?;
+        write_text(writer, key.user_key().as_slice())?;
+        write_value(writer, self)
+    }
+
+    #[tactic(auto, unfolding(crate::specs::Entries::truncated))]
+    fn encode_truncated_into(&self, writer: &mut Vec<u8>, shared_len: usize) -> Result<()> {
+        let key = InternalValue::key(self);
+        writer.push(u8::from(key.value_type()))?;
+        encode_varint(writer, key.seqno())?;
+        encode_varint(writer, shared_len as u64)?;
+        let (_, rest) = key.user_key().as_slice().split_at(shared_len);
+        write_text(writer, rest)?;
+        write_value(writer, self)
+    }
+}
+
+/// An entry by its ranges of a payload: the key is the prefix, if there is one, and the key's own bytes behind it.
+#[derive(Clone, Copy, Debug, PartialEq, Eq)]
+pub struct DataBlockParsedItem {
+    /// The type.
+    pub value_type: ValueType,
+    /// The sequence number.
+    pub seqno: SeqNo,
+    /// Where the bytes are that the key shares with its head's. `None` in a full form.
+    pub prefix: Option<SliceIndexes>,
+    /// Where the key's own bytes are.
+    pub key: SliceIndexes,
+    /// Where the value is. `None` for a tombstone.
+    pub value: Option<SliceIndexes>,
+}
+
+// The bytes of a range.
+#[inline(always)]
+fn bytes_of<'a>(payload: &'a [u8], range: &SliceIndexes) -> &'a [u8]
+    requires { IsRange payload.now range.now }
+    ensures { result.now ≡ range_of payload.now range.now }
+{
+    &payload[range.0..range.1]
+}
+
+impl ParsedItem<InternalValue> for DataBlockParsedItem {
+    ghost use Rattle.sst_block_core.specs.ParsedEntry.{entry_of, IsParsedEntry};
+
+    ghost item_of = { entry_of };
+
+    ghost is_found = { IsParsedEntry };
+
+    ghost key_start = { λ p. p.key.0 };
+
+    fn compare_key(&self, needle: &[u8], payload: &[u8]) -> Ordering {
+        let key = bytes_of(payload, &self.key);
+        match &self.prefix {
+            Some(prefix) => compare_prefixed_slice(bytes_of(payload, prefix), key, needle),
+            None => compare_bytes(key, needle),
+        }
+    }
+
+    fn seqno(&self) -> u64 {
+        self.seqno
+    }
+
+    fn key_offset(&self) -> usize {
+        self.key.0
+    }
+
+    fn materialize(&self, alloc: Global, payload: &Slice) -> Result<InternalValue> {
+        let user_key = match &self.prefix {
+            Some(prefix) => Slice::fused(
+                alloc,
+                bytes_of(payload.as_slice(), prefix),
+                bytes_of(payload.as_slice(), &self.key),
+            )?,
+            None => payload.slice(self.key.0..self.key.1)?,
+        };
+        let value = match &self.value {
+            Some(value) => payload.slice(value.0..value.1)?,
+            None => Slice::empty(alloc),
+        };
+        let key = InternalKey::new(user_key, self.seqno, self.value_type);
+        Ok(InternalValue::new(key, value))
+    }
+}
+
+// The range of a value at an offset, which a tombstone has not, and where it ends.
+#[inline(always)]
+fn value_from(
+    payload: &[u8],
+    at: usize,
+    value_type: ValueType,
+) -> Option<(Option<SliceIndexes>, usize)>
+    requires { at ≤ length payload.now }
+    ensures exact { Finds (optional_range payload.now) payload.now result (value_at value_type (drop at payload.now)) }
+    ensures range { IfSome result (λ f. IsOptionalRange payload.now f.0) }
+    ensures bound { IfSome result (λ f. length (optional_range payload.now f.0) < 2 ^ 32) }
+{
+    match value_type {
+        ValueType::Tombstone | ValueType::WeakTombstone => Some((None, at)),
+        ValueType::Value | ValueType::Indirection => {
+            let (range, end) = text_from(payload, at, 32)?;
+            Some((Some(range), end))
+        }
+    }
+}
+
+// What a truncated form says, by its ranges.
+#[derive(Clone, Copy)]
+struct TruncatedForm {
+    value_type: ValueType,
+    seqno: u64,
+    shared: u64,
+    key: SliceIndexes,
+    value: Option<SliceIndexes>,
+}
+
+// The truncated form at an offset, whatever its head, and where it ends.
+#[inline(always)]
+#[tactic(auto, unfolding(crate::specs::Entries::truncated_form_at))]
+fn truncated_form_from(payload: &[u8], offset: usize) -> Option<(TruncatedForm, usize)>
+    requires { offset ≤ length payload.now }
+    ensures exact { Finds (truncated_of payload.now) payload.now result (truncated_form_at (drop offset payload.now)) }
+    ensures key { IfSome result (λ f. IsRange payload.now f.0.key) }
+    ensures value { IfSome result (λ f. IsOptionalRange payload.now f.0.value) }
+    ensures bound { IfSome result (λ f. length (optional_range payload.now f.0.value) < 2 ^ 32) }
+{
+    let (value_type, at) = type_from(payload, offset)?;
+    let (seqno, at) = number_from(payload, at, 64)?;
+    let (shared, at) = number_from(payload, at, 16)?;
+    let (key, at) = text_from(payload, at, 16)?;
+    let (value, end) = value_from(payload, at, value_type)?;
+    Some((
+        TruncatedForm {
+            value_type,
+            seqno,
+            shared,
+            key,
+            value,
+        },
+        end,
+    ))
+}
+
+// The range of a prefix of this length where a head's key begins, if it lies in the payload and the whole key has 1
+// to 65535 bytes.
+#[inline(always)]
+fn prefix_from(payload: &[u8], base: usize, shared: u64, rest: usize) -> Option<SliceIndexes>
+    ensures found { IfSome result (λ p. (p ≡ record { 0 = base; 1 = base + shared }) × IsRange payload.now p × IsKeyLength (shared + rest)) }
+    ensures none { IfNone result (base + shared ≤ length payload.now → IsKeyLength (shared + rest) → ⊥) }
+{
+    if base > payload.len() || shared > (payload.len() - base) as u64 {
+        return None;
+    }
+    if shared > 65535 || rest > 65535 {
+        return None;
+    }
+    let shared = shared as usize;
+    let whole = shared + rest;
+    if whole == 0 || whole > 65535 {
+        return None;
+    }
+    Some(SliceIndexes(base, base + shared))
+}
+
+/// Entries are read by their ranges: see the definitions of the two forms.
+impl Decodable<DataBlockParsedItem> for InternalValue {
+    fn parse_restart_key<'a>(
+        payload: &'a [u8],
+        offset: usize,
+        steps: &mut Steps,
+    ) -> Option<(&'a [u8], u64)> {
+        steps.count_head();
+        let (_, at) = type_from(payload, offset)?;
+        let (seqno, at) = number_from(payload, at, 64)?;
+        let (key, _) = text_from(payload, at, 16)?;
+        Some((bytes_of(payload, &key), seqno))
+    }
+
+    #[tactic(auto, using(crate::proofs::Ends::range_some, crate::proofs::Ends::range_stands), unfolding(crate::specs::Entries::full_at))]
+    fn parse_full(
+        payload: &[u8],
+        offset: usize,
+        steps: &mut Steps,
+    ) -> Option<(DataBlockParsedItem, usize)> {
+        let (value_type, at) = type_from(payload, offset)?;
+        let (seqno, at) = number_from(payload, at, 64)?;
+        let (key, at) = text_from(payload, at, 16)?;
+        let (value, end) = value_from(payload, at, value_type)?;
+        if key.0 == key.1 {
+            return None;
+        }
+        steps.count_entry();
+        let item = DataBlockParsedItem {
+            value_type,
+            seqno,
+            prefix: None,
+            key,
+            value,
+        };
+        Some((item, end))
+    }
+
+    fn parse_truncated(
+        payload: &[u8],
+        offset: usize,
+        base_key_offset: usize,
+        steps: &mut Steps,
+    ) -> Option<(DataBlockParsedItem, usize)> {
+        let (form, end) = truncated_form_from(payload, offset)?;
+        let rest = form.key.1 - form.key.0;
+        let prefix = prefix_from(payload, base_key_offset, form.shared, rest)?;
+        steps.count_entry();
+        let item = DataBlockParsedItem {
+            value_type: form.value_type,
+            seqno: form.seqno,
+            prefix: Some(prefix),
+            key: form.key,
+            value: form.value,
+        };
+        Some((item, end))
+    }
+}
