@@ -12,3 +12,6 @@ mod Ends
 mod PlaceReads
 mod Openings
 mod EntryReads
+mod OrderedSteps
+mod WindowSteps
+mod PlainEntries

@@ -14,3 +14,4 @@ pub mod Vectors
 pub mod Found
 pub mod Scan
 pub mod ParsedEntry
+pub mod DataBlock

@@ -191,6 +191,13 @@ impl<'a, Item: Decodable<Parsed>, Parsed: ParsedItem<Item>> Decoder<'a, Item, Pa
             steps: Steps::new(),
         }
     }
+
+    /// What it has counted since it was made.
+    pub fn steps(&self) -> &Steps
+        ensures { result.now ≡ self.now.steps }
+    {
+        &self.steps
+    }
 }
 
 /// The next item, if one is left. It counts an entry for an item and takes no memory.

@@ -4,5 +4,5 @@ pub mod encoder;
 pub(crate) mod reading;
 pub(crate) mod writing;
 
-pub use decoder::{Decodable, ParsedItem};
+pub use decoder::{Decodable, Decoder, ParsedItem};
 pub use encoder::Encodable;

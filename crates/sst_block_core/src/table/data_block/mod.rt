@@ -4,18 +4,34 @@ ghost use Rattle.sst_base.specs.ValueType.{IsTombstone};
 ghost use Rattle.sst_base.specs.Entry.{Entry, IsEntry};
 ghost use Rattle.sst_block_core.specs.Found.{Finds, IsRange, IsOptionalRange, StandsAt, range_of, optional_range};
 ghost use Rattle.sst_block_core.specs.Entries.{entries, value_part, value_at, full_at, truncated_form_at};
+ghost use Rattle.std.specs.Prelude.{map, IsSome, OnErr, slice_get, filter};
+ghost use Rattle.std.specs.Option.{option_map};
+ghost use Rattle.sst_base.specs.Entry.{plain};
+ghost use Rattle.sst_block_core.specs.Kind.{IsOrdered};
+ghost use Rattle.sst_block_core.specs.Buckets.{stored_count};
+ghost use Rattle.sst_block_core.specs.Payload.{IsBlock};
+ghost use Rattle.sst_block_core.specs.Window.{whole, first_match, Window, items_left, is_version};
+ghost use Rattle.sst_block_core.specs.Scan.{Scan};
+ghost use Rattle.sst_block_core.specs.DataBlock.{data_block_of};
 ghost use Rattle.sst_block_core.specs.ParsedEntry.{entry_of, IsParsedEntry, truncated_of, IsKeyLength};
+
+mod iter;
 
 use crate::kind::Spelled;
 use crate::table::block::reading::{number_from, text_from, type_from};
 use crate::table::block::writing::write_text;
-use crate::table::block::{Decodable, Encodable, ParsedItem};
+use crate::table::block::{Decodable, Decoder, Encodable, ParsedItem};
+pub use iter::Iter;
+use sst_base::coding::u32_at;
+use sst_base::table::block::Block;
 use sst_base::table::util::{SliceIndexes, compare_bytes, compare_prefixed_slice};
 use sst_base::{
-    Error, InternalKey, InternalValue, Result, SeqNo, Slice, Steps, ValueType, encode_varint,
+    BlockHash, Error, InternalKey, InternalValue, Result, SeqNo, Slice, Steps, ValueType,
+    encode_varint,
 };
 use std::alloc::Global;
 use std::cmp::Ordering;
+use std::marker::{Model, PhantomData};
 
 impl Spelled for InternalValue {
     ghost use Rattle.sst_base.specs.Entry.{IsEntry};
@@ -270,4 +286,131 @@ impl Decodable<DataBlockParsedItem> for InternalValue {
         };
         Some((item, end))
     }
+}
+
+/// A block of entries, whose hash index, if it has one, is made by `H`. Clauses see its payload, its entries, its
+/// restart interval and how many buckets it has.
+#[derive(Drop)]
+pub struct DataBlock<H: BlockHash> {
+    hash: PhantomData<H>,
+    inner: Block,
+}
+
+impl<H: BlockHash> Model for DataBlock<H> {
+    ghost use Rattle.std.specs.Prelude.{ℕ, List};
+    ghost use Rattle.sst_base.specs.Entry.{Entry, IsEntry};
+    ghost use Rattle.sst_block_core.specs.Entries.{entries};
+    ghost use Rattle.sst_block_core.specs.Payload.{IsBlock};
+    ghost use Rattle.sst_block_core.specs.DataBlock.{DataBlockParts, data_block_of};
+
+    ghost Value = { DataBlockParts };
+
+    ghost view = { λ d. data_block_of d.inner.payload };
+
+    ghost invariant = { λ d. (items : List Entry) × (r : ℕ) × (b : ℕ) × IsBlock entries IsEntry H.hash64 d.inner.payload items r b };
+}
+
+impl<H: BlockHash> DataBlock<H> {
+    /// Whether no entry stands before its predecessor: by user key rising, then by sequence number falling.
+    pub fn is_ordered(items: &[InternalValue]) -> bool
+        ensures { IsTrue result ↔ IsOrdered entries items.now }
+    {
+        for i in 1..items.len() {
+            if InternalValue::key(&items[i]) < InternalValue::key(&items[i - 1]) {
+                return false;
+            }
+        }
+        true
+    }
+
+    /// Takes a block whose payload is that of some ordered, non-empty list of entries.
+    pub fn new(block: Block) -> DataBlock<H>
+        requires { (items : List Entry) × (r : ℕ) × (b : ℕ) × IsBlock entries IsEntry H.hash64 block.payload items r b }
+        ensures payload { result.payload ≡ block.payload }
+        ensures read { (items : List Entry) (r b : ℕ) → IsBlock entries IsEntry H.hash64 block.payload items r b
+            → (result.items ≡ map plain items) × (result.interval ≡ r) × (result.stored ≡ stored_count r (length items) b) }
+    {
+        let _fits = block.size();
+        DataBlock {
+            hash: PhantomData,
+            inner: block,
+        }
+    }
+
+    /// The payload.
+    pub fn as_slice(&self) -> &Slice
+        ensures { result.now ≡ self.now.payload }
+    {
+        self.inner.data()
+    }
+
+    /// The block.
+    pub fn inner(&self) -> &Block
+        ensures { result.now.payload ≡ self.now.payload }
+    {
+        &self.inner
+    }
+
+    /// Goes over the entries.
+    pub fn iter(&self) -> Iter<'_>
+        ensures payload { result.payload ≡ self.now.payload }
+        ensures window { result.window ≡ whole self.now.items }
+        ensures plain { map plain self.now.items ≡ self.now.items }
+        ensures heads { result.steps.heads ≡ 0 }
+        ensures entries { result.steps.entries ≡ 0 }
+    {
+        let _fits = self.inner.size();
+        Iter::new(Decoder::new(&self.inner))
+    }
+
+    /// The first entry with this key whose sequence number is strictly below `seqno`, without a tombstone's value. The
+    /// only error is E15, and only where there is such an entry. What was looked at is added to `steps`.
+    pub fn point_read(
+        &self,
+        alloc: Global,
+        needle: &[u8],
+        seqno: SeqNo,
+        steps: &mut Steps,
+    ) -> Result<Option<InternalValue>>
+        ensures found { IfOk result (λ item. item ≡ first_match entries needle.now seqno self.now.items) }
+        ensures memory { IsOkUnless result Error.Memory }
+        ensures only_found { OnErr result (IsSome (first_match entries needle.now seqno self.now.items)) }
+    {
+        let payload = self.as_slice();
+        let mut iter = self.iter();
+        let found = find_version(&mut iter, payload.as_slice(), needle, seqno);
+        steps.add(iter.steps());
+        match found {
+            Some(item) => Ok(Some(item.materialize(alloc, payload)?)),
+            None => Ok(None),
+        }
+    }
+}
+
+// Whether an entry has this key and a sequence number below another.
+#[inline(always)]
+fn is_version(item: &DataBlockParsedItem, payload: &[u8], needle: &[u8], seqno: SeqNo) -> bool
+    requires { IsParsedEntry payload.now item.now }
+    ensures { result ≡ is_version entries needle.now seqno (entry_of payload.now item.now) }
+{
+    item.seqno < seqno && item.compare_key(needle, payload).is_eq()
+}
+
+// The first entry left with this key and a sequence number below another.
+fn find_version(
+    iter: &mut Iter<'_>,
+    payload: &[u8],
+    needle: &[u8],
+    seqno: SeqNo,
+) -> Option<DataBlockParsedItem>
+    requires { iter.old.payload ≡ payload.now }
+    ensures item { option_map (entry_of payload.now) result ≡ slice_get (filter (is_version entries needle.now seqno) (items_left iter.old.window)) 0 }
+    ensures found { IfSome result (IsParsedEntry payload.now) }
+{
+    while let Some(item) = iter.next() {
+        if is_version(&item, payload, needle, seqno) {
+            return Some(item);
+        }
+    }
+    None
 }

@@ -1,0 +1,10 @@
+use Rattle.std.proofs.Common.{◌≡◌, sym, subst, map}
+use Rattle.sst_base.specs.Entry.{plain}
+use Rattle.sst_block_core.specs.DataBlock.{DataBlockParts}
+use Rattle.sst_block_core.proofs.PlainEntries.{plain-items_in}
+use Rattle.sst_block_core.proofs.table.data_block.DataBlock.iter.Goals as goal
+
+pub returns-clause-plain : goal.returns-clause-plain
+returns-clause-plain g c =
+    let P : DataBlockParts → Type 0 = λ d. map plain d.items ≡ d.items in
+    subst P c.self.view_is (plain-items_in g.H.BlockHash.hash64 c.self.inside.inner.payload c.size-fits.ensures.fits c.self.invariant)
