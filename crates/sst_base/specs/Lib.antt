@@ -17,3 +17,4 @@ pub mod Counted
 pub mod Hashes
 pub mod Block
 pub mod OrderLaws
+pub mod HeaderLaws
