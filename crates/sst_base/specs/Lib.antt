@@ -18,3 +18,4 @@ pub mod Hashes
 pub mod Block
 pub mod OrderLaws
 pub mod HeaderLaws
+pub mod KeyOrderLaws

@@ -9,6 +9,7 @@ pub mod error;
 pub mod hash;
 pub mod history;
 pub mod key;
+pub mod laws;
 mod note;
 pub mod slice;
 pub mod steps;
