@@ -27,7 +27,7 @@ pub fn varints_are_prefix_free()
 {
 }
 
-/// A number has one spelling only.
+/// A number has one spelling.
 pub fn varints_are_unique()
     ensures { (a b : List ℕ) (n : ℕ) → IsVarint a n → IsVarint b n → a ≡ b }
 {
