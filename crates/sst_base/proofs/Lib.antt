@@ -2,3 +2,4 @@ pub mod Shared
 pub mod Joined
 pub mod Polynomials
 pub mod Words
+pub mod Orders

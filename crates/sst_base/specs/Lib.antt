@@ -17,3 +17,5 @@ pub mod Counted
 pub mod Hashes
 pub mod Block
 pub mod OrderLaws
+pub mod HeaderLaws
+pub mod KeyOrderLaws

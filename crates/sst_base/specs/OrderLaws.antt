@@ -1,11 +1,14 @@
 -- Laws of the bytewise order, of strings that are joined or cut.
-use Rattle.std.proofs.Common.{◌≡◌, ℕ, ◌+◌, ◌≤◌, List, [], ◌∷◌, ◌++◌, length, take, drop, refl, arith, sym, ◌∙◌, ap, append_assoc, length-append}
+use Rattle.std.proofs.Common.{◌≡◌, ℕ, ◌+◌, ◌*◌, ◌^◌, ◌<◌, ◌≤◌, suc, inl, inr, List, [], ◌∷◌, ◌++◌, length, take, drop, refl, arith, sym, ◌∙◌, ap, append_assoc, length-append}
+use Rattle.std.proofs.Math.Nat.{pow-succ', mul-le-mul_right}
+use Rattle.std.proofs.lemmas.Bool.{cases_lt}
 use Rattle.std.proofs.lemmas.List.{take-append-drop, length-take-le, append-nil}
 use Rattle.std.specs.Cmp.{nat_cmp_is}
 use Rattle.std.specs.Cmp.Lexicographic.{slice_cmp}
 use Rattle.std.specs.Ordering.{nat_cmp, ordering_then}
 use Rattle.std.specs.declared.cmp.Ordering.{Ordering}
 use Rattle.std.specs.declared.cmp.Ordering.TheVariants.{Less, Equal, Greater}
+use Rattle.sst_base.specs.Bytes.{IsBytes, be_number}
 
 pub ordering_then_assoc : (a b c : Ordering) → ordering_then a (ordering_then b c) ≡ ordering_then (ordering_then a b) c
 ordering_then_assoc Less b c = refl
@@ -43,3 +46,52 @@ slice_cmp-needle p s n h =
     ∙ ap (slice_cmp nat_cmp (take (length n) p ++ (drop (length n) p ++ s))) (sym (append-nil n))
     ∙ slice_cmp-append (take (length n) p) n (drop (length n) p ++ s) [] l
     ∙ ap (ordering_then (slice_cmp nat_cmp (take (length n) p) n)) (slice_cmp-nil (drop (length n) p ++ s) ∙ ap (λ k. nat_cmp k 0) (length-append (drop (length n) p) s))
+
+-- so many more decides nothing
+pub nat_cmp-add_left : (c m n : ℕ) → nat_cmp (c + m) (c + n) ≡ nat_cmp m n
+nat_cmp-add_left c m n = elim (cases_lt m n) [
+  | inl less ↦ sym (nat_cmp_is (c + m) (c + n) Less (omega arith)) ∙ nat_cmp_is m n Less less
+  | inr more ↦ elim (cases_lt n m) [
+    | inl greater ↦ sym (nat_cmp_is (c + m) (c + n) Greater (omega arith)) ∙ nat_cmp_is m n Greater greater
+    | inr most ↦ sym (nat_cmp_is (c + m) (c + n) Equal (omega arith)) ∙ nat_cmp_is m n Equal (omega arith)
+  ]
+]
+
+pub be_number_below : (bs : List ℕ) → IsBytes bs → be_number bs < 256 ^ length bs
+be_number_below [] small = omega arith
+be_number_below (b ∷ bs) small =
+    let h = be_number_below bs (λ i. small (suc i)) in
+    let b' : b ≤ 255 = let c = small 0 in omega arith in
+    let m : b * 256 ^ length bs ≤ 255 * 256 ^ length bs = mul-le-mul_right (256 ^ length bs) b' in
+    omega (arith, pow-succ' 256 (length bs))
+
+-- a greater first byte outweighs all others
+first_decides : (x y p r s : ℕ) → x < y → r < p → x * p + r < y * p + s
+first_decides x y p r s h k = let m : (x + 1) * p ≤ y * p = mul-le-mul_right p (omega arith) in omega arith
+
+-- byte strings of one length are in the order of the numbers that they are, the highest byte first
+pub slice_cmp-be_number : (xs ys : List ℕ) → IsBytes xs → IsBytes ys → length xs ≡ length ys → slice_cmp nat_cmp xs ys ≡ nat_cmp (be_number xs) (be_number ys)
+slice_cmp-be_number [] [] b c h = refl
+slice_cmp-be_number [] (y ∷ ys) b c h = absurd (omega arith)
+slice_cmp-be_number (x ∷ xs) [] b c h = absurd (omega arith)
+slice_cmp-be_number (x ∷ xs) (y ∷ ys) b c h =
+    let l : length xs ≡ length ys = omega arith in
+    let r = be_number_below xs (λ i. b (suc i)) in
+    let s : be_number ys < 256 ^ length xs = rw l (be_number_below ys (λ i. c (suc i))) in
+    let same : y * 256 ^ length xs + be_number ys ≡ be_number (y ∷ ys) = ap (λ n. y * 256 ^ n + be_number ys) l in
+    elim (cases_lt x y) [
+      | inl less ↦
+          ap (λ o. ordering_then o (slice_cmp nat_cmp xs ys)) (sym (nat_cmp_is x y Less less))
+          ∙ nat_cmp_is (be_number (x ∷ xs)) (be_number (y ∷ ys)) Less (rw (sym same) (first_decides x y (256 ^ length xs) (be_number xs) (be_number ys) less r))
+      | inr more ↦ elim (cases_lt y x) [
+        | inl greater ↦
+            ap (λ o. ordering_then o (slice_cmp nat_cmp xs ys)) (sym (nat_cmp_is x y Greater greater))
+            ∙ nat_cmp_is (be_number (x ∷ xs)) (be_number (y ∷ ys)) Greater (rw (sym same) (first_decides y x (256 ^ length xs) (be_number ys) (be_number xs) greater s))
+        | inr most ↦
+            (let e : x ≡ y = omega arith in
+            ap (λ o. ordering_then o (slice_cmp nat_cmp xs ys)) (sym (nat_cmp_is x y Equal e))
+            ∙ slice_cmp-be_number xs ys (λ i. b (suc i)) (λ i. c (suc i)) l
+            ∙ sym (nat_cmp-add_left (x * 256 ^ length xs) (be_number xs) (be_number ys))
+            ∙ ap (nat_cmp (be_number (x ∷ xs))) (ap (λ z. z * 256 ^ length xs + be_number ys) e ∙ same))
+      ]
+    ]

@@ -1,5 +1,5 @@
 -- Laws of shared prefixes.
-use Rattle.std.proofs.Common.{◌≡◌, ℕ, ◌≤◌, List, [], ◌∷◌, ◌++◌, length, take, drop, refl, arith, inl, inr}
+use Rattle.std.proofs.Common.{◌≡◌, ℕ, zero, suc, ◌+◌, ◌≤◌, List, [], ◌∷◌, ◌++◌, length, take, drop, refl, arith, inl, inr}
 use Rattle.std.proofs.lemmas.Bool.{eq-eqb, ne_eqb, cases_eq}
 use Rattle.sst_base.specs.SharedPrefix.{shared_prefix_length}
 
@@ -19,3 +19,14 @@ shared_prefix_joins (x ∷ a) (y ∷ b) = elim (cases_eq x y) [
   | inl e ↦ rw (eq-eqb x y e) (let h = shared_prefix_joins a b in cc)
   | inr n ↦ rw (ne_eqb x y n) refl
 ]
+
+-- fronts that agree, and what is shared behind them
+pub shared_prefix_behind : (n : ℕ) (a b : List ℕ) → n ≤ length a → n ≤ length b → take n a ≡ take n b → n + shared_prefix_length (drop n a) (drop n b) ≡ shared_prefix_length a b
+shared_prefix_behind zero a b h k e = omega arith
+shared_prefix_behind (suc n) [] b h k e = absurd (omega arith)
+shared_prefix_behind (suc n) (x ∷ a) [] h k e = absurd (omega arith)
+shared_prefix_behind (suc n) (x ∷ a) (y ∷ b) h k e =
+    let first : x ≡ y = cc in
+    let rest : take n a ≡ take n b = cc in
+    let r = shared_prefix_behind n a b (omega arith) (omega arith) rest in
+    rw (eq-eqb x y first) (omega (arith, r))

@@ -6,7 +6,7 @@ use Rattle.std.proofs.lemmas.Nat.{div_below, pow-add, pow_pos}
 use Rattle.std.proofs.lemmas.List.{take-append-drop, take_more_set}
 use Rattle.std.proofs.lemmas.Bool.Decides.{nat_tests}
 use Rattle.sst_base.specs.Bytes.{IsBytes}
-use Rattle.sst_base.specs.Varint.{IsVarint, varint_within, varint, varint_up_to, varint_at, with_digit}
+use Rattle.sst_base.specs.Varint.{IsVarint, IsWidth, varint_within, varint, varint_up_to, varint_at, with_digit}
 
 -- one more digit at the front
 pub IsVarint-more : (digit high : ℕ) (bs : List ℕ) → digit < 128 → 0 < high → IsVarint bs high → IsVarint ((digit + 128) ∷ bs) (digit + 128 * high)
@@ -191,3 +191,19 @@ varint_at_takes bytes bits n len b h e =
     let below : n < 2 ^ bits = omega (arith, pow_pos bits) in
     let most : 2 ^ bits ≤ 2 ^ 64 = pow-le-pow_right (lit< tt) h in
     (one_spelling_lem (take len bytes) (varint n) n r.0 (IsVarint-varint n (omega arith)), below, r.2)
+
+-- one byte spells a number below 128
+pub varint_small : (n : ℕ) → n < 128 → varint n ≡ n ∷ []
+unfolding varint
+varint_small n h = varint_within_small 9 n h
+
+-- and is read at every width
+pub varint_at_small : (bits b : ℕ) (bs : List ℕ) → IsWidth bits → b < 128 → varint_at bits (b ∷ bs) ≡ Some (b, 1)
+unfolding varint_at
+varint_at_small bits b bs w h = elim w [
+  | inl e ↦ rw e (at_small (2 ^ 16 - 1) b bs h (omega arith))
+  | inr w ↦ elim w [
+    | inl e ↦ rw e (at_small (2 ^ 32 - 1) b bs h (omega arith))
+    | inr e ↦ rw e (at_small (2 ^ 64 - 1) b bs h (omega arith))
+  ]
+]

@@ -1,6 +1,7 @@
 //! Checksums of 128 bits.
 ghost use Rattle.std.specs.Prelude.{◌≡◌, ℕ};
 
+use std::fmt;
 use std::marker::Model;
 
 /// A checksum: a number of 128 bits, which clauses see as that number.
@@ -30,5 +31,12 @@ impl Checksum {
         ensures { result ≡ self }
     {
         self.0
+    }
+}
+
+/// As `Checksum(5)`.
+impl fmt::Display for Checksum {
+    fn fmt<W: fmt::Write>(&self, f: &mut fmt::Formatter<W>) -> fmt::Result {
+        write!(f, "Checksum({})", self.0)
     }
 }

@@ -24,8 +24,8 @@ fn digits_of(n: u64) -> ([u8; 10], usize)
     (bytes, 10)
 }
 
-/// Writes the varint of a number at the end of a vector. The only error is E15, and then the vector is unchanged.
-pub fn encode_varint(out: &mut Vec<u8>, n: u64) -> Result<()>
+// Writes a varint of any length.
+fn encode_long(out: &mut Vec<u8>, n: u64) -> Result<()>
     ensures ok { OnOk result (out.new.items ≡ out.old.items ++ varint n) }
     ensures memory { IsOkUnless result Error.Memory }
     ensures unchanged { OnErr result (out.new.items ≡ out.old.items) }
@@ -33,6 +33,21 @@ pub fn encode_varint(out: &mut Vec<u8>, n: u64) -> Result<()>
     let (bytes, len) = digits_of(n);
     out.extend_from_slice(&bytes[..len])?;
     Ok(())
+}
+
+/// Writes the varint of a number at the end of a vector. The only error is E15, and then the vector is unchanged.
+#[inline(always)]
+#[tactic(auto, using(crate::specs::VarintLaws::varint_small))]
+pub fn encode_varint(out: &mut Vec<u8>, n: u64) -> Result<()>
+    ensures ok { OnOk result (out.new.items ≡ out.old.items ++ varint n) }
+    ensures memory { IsOkUnless result Error.Memory }
+    ensures unchanged { OnErr result (out.new.items ≡ out.old.items) }
+{
+    if n < 128 {
+        out.push(n as u8)?;
+        return Ok(());
+    }
+    encode_long(out, n)
 }
 
 // The number of at most `max` that a front of the bytes spells, and the length of that front.
@@ -59,12 +74,9 @@ fn decode_up_to(bytes: &[u8], max: u64) -> Option<(u64, usize)>
     Some((digit - 128 + 128 * high, len + 1))
 }
 
-/// Reads the varint at the front of bytes: its number, and how many bytes it takes. Bytes may follow it.
-///
-/// The width is 16, 32 or 64 bits. `None` says that no front of the bytes is a shortest spelling of a number within
-/// the width.
+// Reads a varint of any length.
 #[tactic(auto, unfolding(crate::specs::Varint::varint_at))]
-pub fn decode_varint(bytes: &[u8], bits: u32) -> Option<(u64, usize)>
+fn decode_long(bytes: &[u8], bits: u32) -> Option<(u64, usize)>
     requires { IsWidth bits }
     ensures exact { result ≡ varint_at bits bytes.now }
     ensures length { IfSome result (λ found. found.1 ≤ length bytes.now) }
@@ -73,6 +85,26 @@ pub fn decode_varint(bytes: &[u8], bits: u32) -> Option<(u64, usize)>
     ensures none { IfNone result ((n len : ℕ) → n < 2 ^ bits → IsVarint (take len bytes.now) n → ⊥) }
 {
     decode_up_to(bytes, u64::MAX >> (64 - bits))
+}
+
+/// Reads the varint at the front of bytes: its number, and how many bytes it takes. Bytes may follow it.
+///
+/// The width is 16, 32 or 64 bits. `None` says that no front of the bytes is a shortest spelling of a number within
+/// the width.
+#[inline(always)]
+#[tactic(auto, using(crate::specs::VarintLaws::varint_at_small))]
+pub fn decode_varint(bytes: &[u8], bits: u32) -> Option<(u64, usize)>
+    requires { IsWidth bits }
+    ensures exact { result ≡ varint_at bits bytes.now }
+    ensures length { IfSome result (λ found. found.1 ≤ length bytes.now) }
+    ensures width { IfSome result (λ found. found.0 < 2 ^ bits) }
+    ensures found { IfSome result (λ found. IsVarint (take found.1 bytes.now) found.0) }
+    ensures none { IfNone result ((n len : ℕ) → n < 2 ^ bits → IsVarint (take len bytes.now) n → ⊥) }
+{
+    match bytes.split_first() {
+        Some((first, _)) if *first < 128 => Some((u64::from(*first), 1)),
+        _ => decode_long(bytes, bits),
+    }
 }
 
 /// The byte at an offset, which lies inside the bytes.

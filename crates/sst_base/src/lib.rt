@@ -9,15 +9,19 @@ pub mod error;
 pub mod hash;
 pub mod history;
 pub mod key;
+pub mod laws;
 mod note;
 pub mod slice;
 pub mod steps;
 pub mod table;
+#[cfg(test)]
+mod tests;
 pub mod value;
 pub mod value_type;
+pub mod vectors;
 
 pub use checksum::Checksum;
-pub use coding::{decode_varint, encode_varint};
+pub use coding::{decode_varint, encode_varint, u8_at, u16_at, u32_at};
 pub use config::HashRatio;
 pub use count::Count;
 pub use error::{Error, HeaderName, Result, TagName};
@@ -26,5 +30,7 @@ pub use history::History;
 pub use key::{InternalKey, SeqNo, UserKey};
 pub use slice::Slice;
 pub use steps::Steps;
+pub use table::block::{Block, BlockType, Header};
+pub use table::util::{SliceIndexes, compare_bytes, compare_prefixed_slice, longest_shared_prefix_length};
 pub use value::{InternalValue, UserValue};
 pub use value_type::ValueType;

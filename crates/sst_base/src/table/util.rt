@@ -1,7 +1,8 @@
 //! Comparisons of byte strings.
-ghost use Rattle.std.specs.Prelude.{◌≡◌, ◌++◌};
+ghost use Rattle.std.specs.Prelude.{◌≡◌, ◌+◌, ◌≤◌, ◌++◌, length, take, drop};
 ghost use Rattle.std.specs.Ordering.{nat_cmp};
 ghost use Rattle.std.specs.Cmp.Lexicographic.{slice_cmp};
+ghost use Rattle.sst_base.specs.Bytes.{be_number};
 ghost use Rattle.sst_base.specs.SharedPrefix.{shared_prefix_length};
 
 use std::cmp::Ordering;
@@ -10,17 +11,68 @@ use std::cmp::Ordering;
 #[derive(Clone, Copy, Debug, PartialEq, Eq)]
 pub struct SliceIndexes(pub usize, pub usize);
 
+// Eight bytes at an offset as a number, the highest first.
+#[inline(always)]
+#[tactic(auto, using(crate::proofs::Orders::be_word))]
+fn word_at(bytes: &[u8], at: usize) -> u64
+    requires { at + 8 ≤ length bytes.now }
+    ensures { result ≡ be_number (take 8 (drop at bytes.now)) }
+{
+    let (_, rest) = bytes.split_at(at);
+    u64::from_be_bytes(*rest.first_chunk().unwrap())
+}
+
+// The same as `compare_bytes`, a byte a step.
+#[tactic(auto, using(crate::proofs::Orders::tails_same, crate::proofs::Orders::tails_differ, crate::proofs::Orders::tails_end))]
+fn compare_tails(a: &[u8], b: &[u8]) -> Ordering
+    ensures { result ≡ slice_cmp nat_cmp a.now b.now }
+{
+    let end = a.len().min(b.len());
+    for i in 0..end {
+        if a[i] != b[i] {
+            return a[i].cmp(&b[i]);
+        }
+    }
+    a.len().cmp(&b.len())
+}
+
 /// The bytewise order of two byte strings: by the first byte in which they differ, or else the shorter is less.
 pub fn compare_bytes(a: &[u8], b: &[u8]) -> Ordering
     ensures { result ≡ slice_cmp nat_cmp a.now b.now }
 {
-    a.cmp(b)
+    let words = a.len().min(b.len()) / 8;
+    for i in 0..words {
+        let x = word_at(a, 8 * i);
+        let y = word_at(b, 8 * i);
+        if x != y {
+            return x.cmp(&y);
+        }
+    }
+    let (_, left) = a.split_at(8 * words);
+    let (_, right) = b.split_at(8 * words);
+    compare_tails(left, right)
+}
+
+// How many bytes at the front agree, as far as whole words go.
+fn shared_words(a: &[u8], b: &[u8]) -> usize
+    ensures left { result ≤ length a.now }
+    ensures right { result ≤ length b.now }
+    ensures same { take result a.now ≡ take result b.now }
+{
+    let words = a.len().min(b.len()) / 8;
+    for i in 0..words {
+        if word_at(a, 8 * i) != word_at(b, 8 * i) {
+            return 8 * i;
+        }
+    }
+    8 * words
 }
 
 // The same as `longest_shared_prefix_length`, a byte a step.
 #[tactic(auto, using(crate::proofs::Shared::shared_step, crate::proofs::Shared::shared_stop, crate::proofs::Shared::shared_end))]
 fn shared_bytes(a: &[u8], b: &[u8]) -> usize
-    ensures { result ≡ shared_prefix_length a.now b.now }
+    ensures value { result ≡ shared_prefix_length a.now b.now }
+    ensures inside { result ≤ length a.now }
 {
     let end = a.len().min(b.len());
     for i in 0..end {
@@ -32,10 +84,14 @@ fn shared_bytes(a: &[u8], b: &[u8]) -> usize
 }
 
 /// The greatest length at which the fronts of two byte strings agree.
+#[tactic(auto, using(crate::specs::SharedPrefixLaws::shared_prefix_behind))]
 pub fn longest_shared_prefix_length(a: &[u8], b: &[u8]) -> usize
     ensures { result ≡ shared_prefix_length a.now b.now }
 {
-    shared_bytes(a, b)
+    let words = shared_words(a, b);
+    let (_, left) = a.split_at(words);
+    let (_, right) = b.split_at(words);
+    words + shared_bytes(left, right)
 }
 
 /// The order of a prefix followed by a suffix against a needle. The two are not joined, and no memory is taken.

@@ -1,0 +1,103 @@
+-- The bytewise order, a word or a byte a step.
+use Rattle.std.proofs.Common.{◌≡◌, ◌≢◌, ℕ, ◌+◌, ◌*◌, ◌-◌, ◌/◌, ◌<◌, ◌≤◌, zero, suc, List, [], ◌∷◌, ◌++◌, length, get_or, take, drop, min, refl, arith, sym, ◌∙◌, ap, subst, drop-cons, length-drop, add-one, take-add}
+use Rattle.std.proofs.lemmas.List.{take-append-drop, drop-drop, length-take-le, take_more}
+use Rattle.std.proofs.lemmas.Cmp.{ranked}
+use Rattle.std.specs.Cmp.{nat_cmp_is}
+use Rattle.std.specs.Cmp.Lexicographic.{slice_cmp}
+use Rattle.std.specs.Int.{w64, from_be_bytes}
+use Rattle.std.specs.Ordering.{nat_cmp, ordering_then}
+use Rattle.std.specs.declared.cmp.Ordering.{Ordering}
+use Rattle.std.specs.declared.cmp.Ordering.TheVariants.{Less, Equal, Greater}
+use Rattle.sst_base.specs.Bytes.{IsBytes, be_number}
+use Rattle.sst_base.specs.BytesLaws.{IsBytes-take, IsBytes-drop, take-drop-more}
+use Rattle.sst_base.specs.KeyOrderLaws.{slice_cmp-equal}
+use Rattle.sst_base.specs.OrderLaws.{nat_cmp-add_left, slice_cmp-append, slice_cmp-be_number}
+
+-- std's number of eight bytes
+pub be_word : (w : List ℕ) → length w ≡ 8 → from_be_bytes w64 w ≡ be_number w
+be_word [] h = absurd (omega arith)
+be_word (a ∷ []) h = absurd (omega arith)
+be_word (a ∷ b ∷ []) h = absurd (omega arith)
+be_word (a ∷ b ∷ c ∷ []) h = absurd (omega arith)
+be_word (a ∷ b ∷ c ∷ d ∷ []) h = absurd (omega arith)
+be_word (a ∷ b ∷ c ∷ d ∷ e ∷ []) h = absurd (omega arith)
+be_word (a ∷ b ∷ c ∷ d ∷ e ∷ f ∷ []) h = absurd (omega arith)
+be_word (a ∷ b ∷ c ∷ d ∷ e ∷ f ∷ g ∷ []) h = absurd (omega arith)
+be_word (a ∷ b ∷ c ∷ d ∷ e ∷ f ∷ g ∷ i ∷ []) h = omega arith
+be_word (a ∷ b ∷ c ∷ d ∷ e ∷ f ∷ g ∷ i ∷ j ∷ w) h = absurd (omega arith)
+
+-- where one string has ended, the lengths decide
+one_ended : (x y : List ℕ) → min (length x) (length y) ≡ 0 → slice_cmp nat_cmp x y ≡ nat_cmp (length x) (length y)
+one_ended [] [] h = refl
+one_ended [] (y ∷ ys) h = nat_cmp_is 0 (length (y ∷ ys)) Less (omega arith)
+one_ended (x ∷ xs) [] h = nat_cmp_is (length (x ∷ xs)) 0 Greater (omega arith)
+one_ended (x ∷ xs) (y ∷ ys) h = absurd (omega arith)
+
+-- a byte at a place, and what is behind it
+at_place : (a b : List ℕ) (i : ℕ) → i < length a → i < length b → slice_cmp nat_cmp (drop i a) (drop i b) ≡ ordering_then (nat_cmp (get_or a i 0) (get_or b i 0)) (slice_cmp nat_cmp (drop (suc i) a) (drop (suc i) b))
+at_place a b i h k = ap (λ x. slice_cmp nat_cmp x (drop i b)) (drop-cons a i 0 h) ∙ ap (slice_cmp nat_cmp (get_or a i 0 ∷ drop (suc i) a)) (drop-cons b i 0 k)
+
+pub tails_same : (a b : List ℕ) (i : ℕ) (whole : Ordering) → i < length a → i < length b → get_or a i 0 ≡ get_or b i 0 → slice_cmp nat_cmp (drop i a) (drop i b) ≡ whole → slice_cmp nat_cmp (drop (i + 1) a) (drop (i + 1) b) ≡ whole
+tails_same a b i whole h k e s =
+    rw add-one
+    (ap (λ o. ordering_then o (slice_cmp nat_cmp (drop (suc i) a) (drop (suc i) b))) (nat_cmp_is (get_or a i 0) (get_or b i 0) Equal e) ∙ sym (at_place a b i h k) ∙ s)
+
+decided : (o w : Ordering) → o ≢ Equal → ordering_then o w ≡ o
+decided Less w n = refl
+decided Equal w n = absurd (n refl)
+decided Greater w n = refl
+
+differ : (m n : ℕ) → m ≢ n → nat_cmp m n ≢ Equal
+differ m n ne e = ne (ranked m n Equal (sym e))
+
+pub tails_differ : (a b : List ℕ) (i : ℕ) (whole : Ordering) → i < length a → i < length b → get_or a i 0 ≢ get_or b i 0 → slice_cmp nat_cmp (drop i a) (drop i b) ≡ whole → nat_cmp (get_or a i 0) (get_or b i 0) ≡ whole
+tails_differ a b i whole h k ne s =
+    sym (decided (nat_cmp (get_or a i 0) (get_or b i 0)) (slice_cmp nat_cmp (drop (suc i) a) (drop (suc i) b)) (differ _ _ ne))
+    ∙ sym (at_place a b i h k) ∙ s
+
+pub tails_end : (a b : List ℕ) (i : ℕ) (whole : Ordering) → i ≡ min (length a) (length b) → slice_cmp nat_cmp (drop i a) (drop i b) ≡ whole → nat_cmp (length a) (length b) ≡ whole
+tails_end a b i whole e s =
+    let la : i + length (drop i a) ≡ length a = omega (arith, length-drop i a) in
+    let lb : i + length (drop i b) ≡ length b = omega (arith, length-drop i b) in
+    let none : min (length (drop i a)) (length (drop i b)) ≡ 0 = omega (arith, length-drop i a, length-drop i b) in
+    ap (λ n. nat_cmp n (length b)) (sym la) ∙ ap (nat_cmp (i + length (drop i a))) (sym lb)
+    ∙ nat_cmp-add_left i (length (drop i a)) (length (drop i b))
+    ∙ sym (one_ended (drop i a) (drop i b) none) ∙ s
+
+-- the word at a place, and what is behind it
+at_word : (a b : List ℕ) (i : ℕ) → i + 8 ≤ length a → i + 8 ≤ length b → slice_cmp nat_cmp (drop i a) (drop i b) ≡ ordering_then (slice_cmp nat_cmp (take 8 (drop i a)) (take 8 (drop i b))) (slice_cmp nat_cmp (drop (i + 8) a) (drop (i + 8) b))
+at_word a b i h k =
+    let la : length (take 8 (drop i a)) ≡ 8 = length-take-le 8 (drop i a) (omega (arith, length-drop i a)) in
+    let lb : length (take 8 (drop i b)) ≡ 8 = length-take-le 8 (drop i b) (omega (arith, length-drop i b)) in
+    ap (λ x. slice_cmp nat_cmp x (drop i b)) (sym (take-drop-more i 8 a))
+    ∙ ap (slice_cmp nat_cmp (take 8 (drop i a) ++ drop (i + 8) a)) (sym (take-drop-more i 8 b))
+    ∙ slice_cmp-append (take 8 (drop i a)) (take 8 (drop i b)) (drop (i + 8) a) (drop (i + 8) b) (la ∙ sym lb)
+
+-- words are in the order of their numbers
+word_cmp : (a b : List ℕ) (i : ℕ) → IsBytes a → IsBytes b → i + 8 ≤ length a → i + 8 ≤ length b → slice_cmp nat_cmp (take 8 (drop i a)) (take 8 (drop i b)) ≡ nat_cmp (be_number (take 8 (drop i a))) (be_number (take 8 (drop i b)))
+word_cmp a b i c d h k =
+    let la : length (take 8 (drop i a)) ≡ 8 = length-take-le 8 (drop i a) (omega (arith, length-drop i a)) in
+    let lb : length (take 8 (drop i b)) ≡ 8 = length-take-le 8 (drop i b) (omega (arith, length-drop i b)) in
+    slice_cmp-be_number (take 8 (drop i a)) (take 8 (drop i b)) (IsBytes-take 8 (drop i a) (IsBytes-drop i a c)) (IsBytes-take 8 (drop i b) (IsBytes-drop i b d)) (la ∙ sym lb)
+
+pub words_same : (a b : List ℕ) (i x y : ℕ) (whole : Ordering) → IsBytes a → IsBytes b → 8 * i + 8 ≤ length a → 8 * i + 8 ≤ length b → x ≡ be_number (take 8 (drop (8 * i) a)) → y ≡ be_number (take 8 (drop (8 * i) b)) → x ≡ y → slice_cmp nat_cmp (drop (8 * i) a) (drop (8 * i) b) ≡ whole → slice_cmp nat_cmp (drop (8 * (i + 1)) a) (drop (8 * (i + 1)) b) ≡ whole
+words_same a b i x y whole c d h k p q e s =
+    let n : 8 * (i + 1) ≡ 8 * i + 8 = omega arith in
+    let same : slice_cmp nat_cmp (take 8 (drop (8 * i) a)) (take 8 (drop (8 * i) b)) ≡ Equal = word_cmp a b (8 * i) c d h k ∙ sym (nat_cmp_is _ _ Equal (sym p ∙ e ∙ q)) in
+    ap (λ m. slice_cmp nat_cmp (drop m a) (drop m b)) n
+    ∙ ap (λ o. ordering_then o (slice_cmp nat_cmp (drop (8 * i + 8) a) (drop (8 * i + 8) b))) (sym same)
+    ∙ sym (at_word a b (8 * i) h k) ∙ s
+
+pub words_differ : (a b : List ℕ) (i x y : ℕ) (whole : Ordering) → IsBytes a → IsBytes b → 8 * i + 8 ≤ length a → 8 * i + 8 ≤ length b → x ≡ be_number (take 8 (drop (8 * i) a)) → y ≡ be_number (take 8 (drop (8 * i) b)) → x ≢ y → slice_cmp nat_cmp (drop (8 * i) a) (drop (8 * i) b) ≡ whole → nat_cmp x y ≡ whole
+words_differ a b i x y whole c d h k p q ne s =
+    let cmp : nat_cmp x y ≡ slice_cmp nat_cmp (take 8 (drop (8 * i) a)) (take 8 (drop (8 * i) b)) = ap (λ m. nat_cmp m y) p ∙ ap (nat_cmp _) q ∙ sym (word_cmp a b (8 * i) c d h k) in
+    sym (decided (nat_cmp x y) (slice_cmp nat_cmp (drop (8 * i + 8) a) (drop (8 * i + 8) b)) (differ x y ne))
+    ∙ ap (λ o. ordering_then o (slice_cmp nat_cmp (drop (8 * i + 8) a) (drop (8 * i + 8) b))) cmp
+    ∙ sym (at_word a b (8 * i) h k) ∙ s
+
+-- one more word agrees
+pub words_agree : (a b : List ℕ) (i x y : ℕ) → IsBytes a → IsBytes b → 8 * i + 8 ≤ length a → 8 * i + 8 ≤ length b → x ≡ be_number (take 8 (drop (8 * i) a)) → y ≡ be_number (take 8 (drop (8 * i) b)) → x ≡ y → take (8 * i) a ≡ take (8 * i) b → take (8 * (i + 1)) a ≡ take (8 * (i + 1)) b
+words_agree a b i x y c d h k p q e s =
+    let n : 8 * (i + 1) ≡ 8 * i + 8 = omega arith in
+    let same : take 8 (drop (8 * i) a) ≡ take 8 (drop (8 * i) b) = (slice_cmp-equal _ _).0 (word_cmp a b (8 * i) c d h k ∙ sym (nat_cmp_is _ _ Equal (sym p ∙ e ∙ q))) in
+    ap (λ m. take m a) n ∙ take-add (8 * i) 8 a ∙ (λ j. s j ++ same j) ∙ sym (take-add (8 * i) 8 b) ∙ ap (λ m. take m b) (sym n)

@@ -1,0 +1,5 @@
+use Rattle.std.proofs.Common.{◌≡◌, ◌*◌, take}
+use Rattle.sst_base.proofs.table.util.shared_words.Given as goal
+
+abbrev pub invariant-loop-i : goal.invariant-loop-i
+invariant-loop-i l = take (8 * l.i) l.a ≡ take (8 * l.i) l.b

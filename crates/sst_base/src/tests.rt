@@ -1,0 +1,229 @@
+// What no clause says: values from outside, that a call succeeds where memory is ample, and that a refused growth
+// gives E15 and no other answer.
+use crate::hash::{BlockHash, Poly31};
+use crate::{
+    Block, BlockType, Checksum, Error, Header, History, InternalKey, InternalValue, Result, Slice, Steps, ValueType,
+    compare_bytes, compare_prefixed_slice, decode_varint, encode_varint, longest_shared_prefix_length, u8_at, u16_at,
+    u32_at,
+};
+use std::alloc::Global;
+use std::cmp::Ordering;
+use std::mem::size_of;
+use std::process::Abort;
+use std::test::Fail;
+
+// Where memory was refused the answer is E15, and else the bytes are these.
+fn check_slice(rt: &impl Abort, slice: Result<Slice>, bytes: &[u8]) {
+    match slice {
+        Ok(slice) => assert!(rt; slice.eq_bytes(bytes)),
+        Err(error) => assert_eq!(rt; error, Error::Memory),
+    }
+}
+
+fn check_order(rt: &impl Abort, prefix: &[u8], suffix: &[u8], needle: &[u8], order: Ordering) {
+    assert_eq!(rt; compare_prefixed_slice(prefix, suffix, needle), order, "{prefix:?} {suffix:?} {needle:?}");
+}
+
+#[test]
+fn constructors_give_the_bytes(rt: HostRuntime) {
+    let alloc = rt.alloc();
+    check_slice(&rt, Slice::new(alloc, b"ab"), b"ab");
+    check_slice(&rt, Slice::from_text(alloc, "ab"), b"ab");
+    check_slice(&rt, Slice::from_array(alloc, *b"ab"), b"ab");
+    check_slice(&rt, Slice::fused(alloc, b"a", b"b"), b"ab");
+    check_slice(&rt, Slice::collect_bytes(alloc, b"ab".iter().copied()), b"ab");
+    check_slice(&rt, Ok(Slice::empty(alloc)), b"");
+    assert!(&rt; Slice::empty(alloc).is_empty());
+}
+
+#[test]
+fn owned_bytes_are_taken_over(rt: HostRuntime) {
+    let alloc = rt.alloc();
+    if let Ok(bytes) = b"ab".to_vec(alloc) {
+        check_slice(&rt, Slice::from_vec(bytes), b"ab");
+    }
+    if let Ok(text) = String::from_str(alloc, "ab") {
+        check_slice(&rt, Slice::from_string(text), b"ab");
+    }
+    if let Ok(whole) = Slice::new(alloc, b"xaby") {
+        check_slice(&rt, whole.slice(1..3), b"ab");
+        check_slice(&rt, whole.slice(..), b"xaby");
+    }
+}
+
+#[test]
+fn allocating_calls_succeed(rt: HostRuntime) -> std::result::Result<(), Fail> {
+    let alloc = rt.alloc();
+    let whole = Slice::new(alloc, b"xaby")?;
+    assert!(rt; whole.slice(1..3)?.eq_bytes(b"ab"));
+    assert!(rt; Slice::from_vec(b"ab".to_vec(alloc)?)?.eq_bytes(b"ab"));
+    assert!(rt; Slice::from_string(String::from_str(alloc, "ab")?)?.eq_bytes(b"ab"));
+    assert!(rt; Slice::from_text(alloc, "ab")?.eq_bytes(b"ab"));
+    assert!(rt; Slice::from_array(alloc, *b"ab")?.eq_bytes(b"ab"));
+    assert!(rt; Slice::fused(alloc, b"a", b"b")?.eq_bytes(b"ab"));
+    assert!(rt; Slice::collect_bytes(alloc, b"ab".iter().copied())?.eq_bytes(b"ab"));
+    assert!(rt; whole.clone()? == whole);
+    let mut out = Vec::new(alloc);
+    encode_varint(&mut out, 5)?;
+    encode_varint(&mut out, 300)?;
+    assert_eq!(rt; out.as_slice(), [5, 0xac, 2].as_slice());
+    Ok(())
+}
+
+#[test]
+fn a_refused_growth_leaves_the_vector(rt: HostRuntime) {
+    for n in [7, 300, u64::MAX] {
+        let mut out = Vec::new(rt.alloc());
+        match encode_varint(&mut out, n) {
+            Ok(()) => assert_eq!(rt; decode_varint(out.as_slice(), 64), Some((n, out.len()))),
+            Err(error) => {
+                assert_eq!(rt; error, Error::Memory);
+                assert!(rt; out.is_empty());
+            }
+        }
+    }
+}
+
+#[test]
+fn prefixed_slices_compare(rt: HostRuntime) {
+    check_order(&rt, b"abcd", b"zz", b"abc", Ordering::Greater);
+    check_order(&rt, b"\x00\xa1", b"", b"\x00", Ordering::Greater);
+    check_order(&rt, b"yyyy", b"a", b"yyyyb", Ordering::Less);
+    check_order(&rt, b"", b"", b"", Ordering::Equal);
+    check_order(&rt, b"", b"a", b"", Ordering::Greater);
+    check_order(&rt, b"a", b"", b"", Ordering::Greater);
+    check_order(&rt, b"", b"", b"a", Ordering::Less);
+    check_order(&rt, b"", b"abc", b"abc", Ordering::Equal);
+    check_order(&rt, b"abc", b"", b"abc", Ordering::Equal);
+    check_order(&rt, b"ab", b"c", b"abc", Ordering::Equal);
+    check_order(&rt, b"ab", b"c", b"abd", Ordering::Less);
+    check_order(&rt, b"ab", b"d", b"abc", Ordering::Greater);
+}
+
+#[test]
+fn longer_slices_compare(rt: HostRuntime) {
+    check_order(&rt, b"ab", b"c", b"abcd", Ordering::Less);
+    check_order(&rt, b"ab", b"cd", b"abc", Ordering::Greater);
+    check_order(&rt, b"ab", b"c", b"b", Ordering::Less);
+    check_order(&rt, b"b", b"c", b"ab", Ordering::Greater);
+    check_order(&rt, b"abc", b"d", b"ab", Ordering::Greater);
+    check_order(&rt, b"abc", b"d", b"b", Ordering::Less);
+    check_order(&rt, b"\x80", b"\xff", b"\x7f", Ordering::Greater);
+    check_order(&rt, b"\x7f", b"\xff", b"\x80", Ordering::Less);
+    check_order(&rt, b"abcdefgh", b"ijklmnopq", b"abcdefghijklmnopr", Ordering::Less);
+    check_order(&rt, b"abcdefghijklmnop", b"q", b"abcdefghijklmnop", Ordering::Greater);
+    check_order(&rt, b"abcdefgh", b"\xc8", b"abcdefgh\x7f", Ordering::Greater);
+    check_order(&rt, b"abcdefg", b"hi", b"abcdefgh", Ordering::Greater);
+}
+
+#[test]
+fn words_and_tails_compare(rt: HostRuntime) {
+    assert_eq!(rt; compare_bytes(b"abcdefgh", b"abcdefgh"), Ordering::Equal);
+    assert_eq!(rt; compare_bytes(b"abcdefg\x80", b"abcdefg\x7f"), Ordering::Greater);
+    assert_eq!(rt; compare_bytes(b"\x01bcdefgh", b"\x00\xffcdefgh"), Ordering::Greater);
+    assert_eq!(rt; compare_bytes(b"abcdefghi", b"abcdefgh"), Ordering::Greater);
+    assert_eq!(rt; compare_bytes(b"abcdefghijklmnop", b"abcdefghijklmnoq"), Ordering::Less);
+    assert_eq!(rt; longest_shared_prefix_length(b"", b"abc"), 0);
+    assert_eq!(rt; longest_shared_prefix_length(b"abc", b"abd"), 2);
+    assert_eq!(rt; longest_shared_prefix_length(b"abcdefghijk", b"abcdefghijxk"), 10);
+    assert_eq!(rt; longest_shared_prefix_length(b"abcdefghijklmnop", b"abcdefghijklmnop"), 16);
+}
+
+#[test]
+fn varints_are_read(rt: HostRuntime) {
+    let rows = [
+        (b"\x00".as_slice(), 16, Some((0, 1))),
+        (b"\x7f\xff".as_slice(), 16, Some((127, 1))),
+        (b"\x80\x01".as_slice(), 16, Some((128, 2))),
+        (b"\xf8\xff\x03\x00".as_slice(), 16, Some((65528, 3))),
+        (b"\xff\xff\xff\xff\xff\xff\xff\xff\xff\x01".as_slice(), 64, Some((u64::MAX, 10))),
+        (b"\x80\x80\x04".as_slice(), 16, None),
+        (b"\x80\x80\x04".as_slice(), 32, Some((65536, 3))),
+        (b"\x80\x80\x80\x80\x10".as_slice(), 32, None),
+        (b"\xff\xff\xff\xff\xff\xff\xff\xff\xff\x02".as_slice(), 64, None),
+        (b"\x80\x00".as_slice(), 64, None),
+        (b"\x80".as_slice(), 64, None),
+        (b"".as_slice(), 64, None),
+    ];
+    for (bytes, bits, want) in rows {
+        if bits == 16 || bits == 32 || bits == 64 {
+            assert_eq!(rt; decode_varint(bytes, bits), want, "{bytes:?} {bits}");
+        }
+    }
+}
+
+#[test]
+fn fixed_numbers_are_read(rt: HostRuntime) {
+    let bytes = b"\x00\x01\x02\x03\x84".as_slice();
+    assert_eq!(rt; u8_at(bytes, 4), 0x84);
+    assert_eq!(rt; u16_at(bytes, 1), 0x0201);
+    assert_eq!(rt; u32_at(bytes, 1), 0x8403_0201);
+}
+
+#[test]
+fn hashes_are_known(rt: HostRuntime) {
+    assert_eq!(rt; Poly31::hash64(b""), 0);
+    assert_eq!(rt; Poly31::hash64(b"a"), 97);
+    assert_eq!(rt; Poly31::hash64(b"ab"), 3105);
+    assert_eq!(rt; Poly31::hash64(b"abcdefgh"), 2758628677764);
+    assert_eq!(rt; Poly31::hash64(b"abcdefghijklmnopqrstuvwxyz"), 7250214665611535789);
+    assert_eq!(rt; Poly31::hash64(&[255; 9]), 224736788365695);
+}
+
+#[test]
+fn keys_and_values(rt: HostRuntime) -> std::result::Result<(), Fail> {
+    let alloc = rt.alloc();
+    let newer = InternalKey::new(Slice::new(alloc, b"a")?, 2, ValueType::Value);
+    let older = InternalKey::new(Slice::new(alloc, b"a")?, 1, ValueType::Value);
+    let deleted = InternalKey::new(Slice::new(alloc, b"a")?, 1, ValueType::Tombstone);
+    assert_eq!(rt; newer.cmp(&older), Ordering::Less);
+    assert!(rt; older == deleted);
+    assert!(rt; deleted.is_tombstone() && !older.is_tombstone());
+    let entry = InternalValue::new(newer, Slice::new(alloc, b"x")?);
+    assert!(rt; !entry.is_tombstone() && entry.value().eq_bytes(b"x"));
+    let tombstone = InternalValue::new_tombstone(alloc, Slice::new(alloc, b"a")?, 3);
+    assert!(rt; tombstone.is_tombstone() && tombstone.value().is_empty());
+    let weak = InternalValue::new_weak_tombstone(alloc, Slice::new(alloc, b"a")?, 4);
+    assert_eq!(rt; weak.clone()?.key().value_type(), ValueType::WeakTombstone);
+    assert_eq!(rt; weak.key().seqno(), 4);
+    Ok(())
+}
+
+#[test]
+fn values_print(rt: HostRuntime) -> std::result::Result<(), Fail> {
+    let alloc = rt.alloc();
+    let entry = InternalValue::new_tombstone(alloc, Slice::new(alloc, b"a")?, 3);
+    assert_eq!(rt; format!(in alloc; "{entry:?}")?.as_str(), "b\"a\":3:Tombstone = b\"\"");
+    assert_eq!(rt; format!(in alloc; "{}", Checksum::from_raw(5))?.as_str(), "Checksum(5)");
+    assert_eq!(rt; Checksum::from_raw(u128::MAX).into_u128(), u128::MAX);
+    Ok(())
+}
+
+#[test]
+fn a_block_has_its_payload(rt: HostRuntime) -> std::result::Result<(), Fail> {
+    let header = Header {
+        block_type: BlockType::Data,
+        checksum: Checksum::from_raw(294),
+        data_length: 3,
+        uncompressed_length: 3,
+    };
+    let block = Block::from_parts(header, Slice::new(rt.alloc(), b"abc")?);
+    assert_eq!(rt; block.size(), 3);
+    assert!(rt; block.data().eq_bytes(b"abc"));
+    assert_eq!(rt; *block.header(), header);
+    Ok(())
+}
+
+#[test]
+fn ghost_state_takes_no_bytes(rt: HostRuntime) {
+    assert_eq!(rt; size_of::<Steps>(), 0);
+    assert_eq!(rt; size_of::<History<u64>>(), 0);
+    let mut steps = Steps::new();
+    steps.count_head();
+    steps.count_entry();
+    let mut both = Steps::new();
+    both.add(&steps);
+    let mut seen = History::new();
+    seen.push(&7u8);
+    seen.extend_from_slice(&[8, 9]);
+}
