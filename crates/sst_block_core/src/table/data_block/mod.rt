@@ -351,6 +351,16 @@ impl<H: BlockHash> DataBlock<H> {
         &self.inner
     }
 
+    /// How many entries it has: at least one.
+    #[allow(clippy::len_without_is_empty)]
+    pub fn len(&self) -> usize
+        ensures count { result ≡ length self.now.items }
+        ensures some { 1 ≤ result }
+    {
+        let payload = self.inner.data().as_slice();
+        u32_at(payload, payload.len() - 31 + 27) as usize
+    }
+
     /// Goes over the entries.
     pub fn iter(&self) -> Iter<'_>
         ensures payload { result.payload ≡ self.now.payload }
