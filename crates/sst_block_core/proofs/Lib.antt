@@ -8,3 +8,5 @@ mod Tables
 mod BucketLaws
 mod Canonical
 mod IndexBlocks
+pub mod Indexes
+pub mod TrailerBytes

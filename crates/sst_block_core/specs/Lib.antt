@@ -11,3 +11,4 @@ pub mod Window
 pub mod EntryLaws
 pub mod HandleLaws
 pub mod Vectors
+pub mod Index
