@@ -10,3 +10,5 @@ mod Canonical
 mod IndexBlocks
 pub mod Indexes
 pub mod TrailerBytes
+pub mod Written
+pub mod Endings

@@ -12,3 +12,4 @@ pub mod EntryLaws
 pub mod HandleLaws
 pub mod Vectors
 pub mod Index
+pub mod Encoders
