@@ -298,3 +298,38 @@ fn end(
         }
     }
 }
+
+/// Writes the block of a list of items, which is not empty, into an empty vector: its items in intervals of at least
+/// one, the byte 255, the pointers, the buckets that the ratio gives, and the trailer. The ratio is 0 for now. The
+/// items may stand in any order.
+///
+/// E6 is answered only where the block has 2^32 bytes or more; the only other error is E15. Then the vector is empty.
+pub(crate) fn encode_all<Item: Encodable, H: BlockHash>(
+    writer: &mut Vec<u8>,
+    list: &[Item],
+    restart_interval: u8,
+    ratio: HashRatio,
+) -> Result<()>
+    requires empty { writer.old.items ≡ [] }
+    requires some { 1 ≤ length list.now }
+    requires interval { 1 ≤ restart_interval }
+    requires den { 1 ≤ ratio.den }
+    requires no_hash { ratio.num ≡ 0 }
+    ensures ok { OnOk result (writer.new.items
+        ≡ payload Item.kind H.hash64 restart_interval list.now (bucket_count ratio.num ratio.den (length list.now))) }
+    ensures valid { OnOk result (AllByRecursion Item.valid list.now) }
+    ensures err { OnErr result (writer.new.items ≡ []) }
+    ensures cause { IfErr result (IsRefusal None
+        (2 ^ 32 ≤ length (payload Item.kind H.hash64 restart_interval list.now (bucket_count ratio.num ratio.den (length list.now))))) }
+{
+    let mut encoder: Encoder<'_, '_, Item, H> = Encoder::new(
+        writer,
+        list.len(),
+        restart_interval,
+        ratio,
+    );
+    for item in list {
+        encoder.write(item)?;
+    }
+    encoder.finish()
+}
