@@ -15,3 +15,7 @@ mod EntryReads
 mod OrderedSteps
 mod WindowSteps
 mod PlainEntries
+pub mod Indexes
+pub mod TrailerBytes
+pub mod Written
+pub mod Endings

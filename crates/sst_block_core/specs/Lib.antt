@@ -15,3 +15,5 @@ pub mod Found
 pub mod Scan
 pub mod ParsedEntry
 pub mod DataBlock
+pub mod Index
+pub mod Encoders

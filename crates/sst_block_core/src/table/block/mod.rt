@@ -1,8 +1,11 @@
 //! Blocks: what writes and reads the items of one.
+pub mod binary_index;
 pub mod decoder;
 pub mod encoder;
 pub(crate) mod reading;
+pub mod trailer;
 pub(crate) mod writing;
 
 pub use decoder::{Decodable, Decoder, ParsedItem};
-pub use encoder::Encodable;
+pub use encoder::{Encodable, Encoder};
+pub use trailer::Trailer;

@@ -3,13 +3,15 @@ ghost use Rattle.std.specs.Prelude.{◌≡◌, ◌≢◌, ◌↔◌, ℕ, ◌+�
 ghost use Rattle.sst_base.specs.ValueType.{IsTombstone};
 ghost use Rattle.sst_base.specs.Entry.{Entry, IsEntry};
 ghost use Rattle.sst_block_core.specs.Found.{Finds, IsRange, IsOptionalRange, StandsAt, range_of, optional_range};
-ghost use Rattle.sst_block_core.specs.Entries.{entries, value_part, value_at, full_at, truncated_form_at};
-ghost use Rattle.std.specs.Prelude.{map, IsSome, OnErr, slice_get, filter};
+ghost use Rattle.sst_block_core.specs.Entries.{entries, data_payload, value_part, value_at, full_at, truncated_form_at};
+ghost use Rattle.std.specs.Prelude.{map, [], None, IfErr, IsSome, OnErr, slice_get, filter};
 ghost use Rattle.std.specs.Option.{option_map};
 ghost use Rattle.sst_base.specs.Entry.{plain};
 ghost use Rattle.sst_block_core.specs.Kind.{IsOrdered};
-ghost use Rattle.sst_block_core.specs.Buckets.{stored_count};
+ghost use Rattle.sst_block_core.specs.Buckets.{bucket_count, stored_count};
 ghost use Rattle.sst_block_core.specs.Payload.{IsBlock};
+ghost use Rattle.sst_block_core.specs.Trailer.{trailer_in};
+ghost use Rattle.sst_block_core.specs.Encoders.{IsRefusal};
 ghost use Rattle.sst_block_core.specs.Window.{whole, first_match, Window, items_left, is_version};
 ghost use Rattle.sst_block_core.specs.Scan.{Scan};
 ghost use Rattle.sst_block_core.specs.DataBlock.{data_block_of};
@@ -18,16 +20,16 @@ ghost use Rattle.sst_block_core.specs.ParsedEntry.{entry_of, IsParsedEntry, trun
 mod iter;
 
 use crate::kind::Spelled;
+use crate::table::block::encoder::encode_all;
 use crate::table::block::reading::{number_from, text_from, type_from};
 use crate::table::block::writing::write_text;
-use crate::table::block::{Decodable, Decoder, Encodable, ParsedItem};
+use crate::table::block::{Decodable, Decoder, Encodable, ParsedItem, Trailer};
 pub use iter::Iter;
-use sst_base::coding::u32_at;
 use sst_base::table::block::Block;
 use sst_base::table::util::{SliceIndexes, compare_bytes, compare_prefixed_slice};
 use sst_base::{
-    BlockHash, Error, InternalKey, InternalValue, Result, SeqNo, Slice, Steps, ValueType,
-    encode_varint,
+    BlockHash, Error, HashRatio, InternalKey, InternalValue, Result, SeqNo, Slice, Steps,
+    ValueType, encode_varint,
 };
 use std::alloc::Global;
 use std::cmp::Ordering;
@@ -323,6 +325,58 @@ impl<H: BlockHash> DataBlock<H> {
         true
     }
 
+    /// Writes the block of a non-empty ordered list of entries into an empty vector: in restart intervals of at least
+    /// one entry, with as many buckets as the ratio gives. The denominator is at least 1, and the ratio is 0 for now.
+    ///
+    /// E6 is answered only where the block has 2^32 bytes or more; the only other error is E15. Then the vector is
+    /// empty.
+    pub fn encode_into(
+        writer: &mut Vec<u8>,
+        items: &[InternalValue],
+        restart_interval: u8,
+        ratio: HashRatio,
+    ) -> Result<()>
+        requires empty { writer.old.items ≡ [] }
+        requires some { 1 ≤ length items.now }
+        requires ordered { IsOrdered entries items.now }
+        requires interval { 1 ≤ restart_interval }
+        requires den { 1 ≤ ratio.den }
+        requires no_hash { ratio.num ≡ 0 }
+        ensures payload { OnOk result (writer.new.items
+            ≡ data_payload H.hash64 items.now restart_interval (bucket_count ratio.num ratio.den (length items.now))) }
+        ensures block { OnOk result (IsBlock entries IsEntry H.hash64 writer.new.items items.now restart_interval
+            (bucket_count ratio.num ratio.den (length items.now))) }
+        ensures empty { OnErr result (writer.new.items ≡ []) }
+        ensures cause { IfErr result (IsRefusal None
+            (2 ^ 32 ≤ length (data_payload H.hash64 items.now restart_interval (bucket_count ratio.num ratio.den (length items.now))))) }
+    {
+        encode_all::<InternalValue, H>(writer, items, restart_interval, ratio)
+    }
+
+    /// The same, as a vector.
+    pub fn encode_into_vec(
+        alloc: Global,
+        items: &[InternalValue],
+        restart_interval: u8,
+        ratio: HashRatio,
+    ) -> Result<Vec<u8>>
+        requires some { 1 ≤ length items.now }
+        requires ordered { IsOrdered entries items.now }
+        requires interval { 1 ≤ restart_interval }
+        requires den { 1 ≤ ratio.den }
+        requires no_hash { ratio.num ≡ 0 }
+        ensures payload { IfOk result (λ v. v.items
+            ≡ data_payload H.hash64 items.now restart_interval (bucket_count ratio.num ratio.den (length items.now))) }
+        ensures block { IfOk result (λ v. IsBlock entries IsEntry H.hash64 v.items items.now restart_interval
+            (bucket_count ratio.num ratio.den (length items.now))) }
+        ensures cause { IfErr result (IsRefusal None
+            (2 ^ 32 ≤ length (data_payload H.hash64 items.now restart_interval (bucket_count ratio.num ratio.den (length items.now))))) }
+    {
+        let mut writer = Vec::new(alloc);
+        DataBlock::<H>::encode_into(&mut writer, items, restart_interval, ratio)?;
+        Ok(writer)
+    }
+
     /// Takes a block whose payload is that of some ordered, non-empty list of entries.
     pub fn new(block: Block) -> DataBlock<H>
         requires { (items : List Entry) × (r : ℕ) × (b : ℕ) × IsBlock entries IsEntry H.hash64 block.payload items r b }
@@ -351,14 +405,23 @@ impl<H: BlockHash> DataBlock<H> {
         &self.inner
     }
 
+    // The block, and what its trailer says.
+    fn opened(&self) -> &Block
+        ensures payload { result.now.payload ≡ self.now.payload }
+        ensures trailer { 31 ≤ length self.now.payload }
+        ensures count { (trailer_in self.now.payload).item_count ≡ length self.now.items }
+        ensures some { 1 ≤ length self.now.items }
+    {
+        let _fits = self.inner.size();
+        &self.inner
+    }
+
     /// How many entries it has: at least one.
-    #[allow(clippy::len_without_is_empty)]
     pub fn len(&self) -> usize
         ensures count { result ≡ length self.now.items }
         ensures some { 1 ≤ result }
     {
-        let payload = self.inner.data().as_slice();
-        u32_at(payload, payload.len() - 31 + 27) as usize
+        Trailer::new(self.opened()).item_count() as usize
     }
 
     /// Goes over the entries.
