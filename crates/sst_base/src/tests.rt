@@ -51,19 +51,38 @@ fn owned_bytes_are_taken_over(rt: HostRuntime) {
     }
 }
 
+// With ample memory there is an answer, and it has these bytes.
+fn check_made(rt: &impl Abort, slice: Result<Slice>, bytes: &[u8]) {
+    match slice {
+        Ok(slice) => assert!(rt; slice.eq_bytes(bytes)),
+        Err(_) => assert!(rt; false, "memory was ample"),
+    }
+}
+
 #[test]
-fn allocating_calls_succeed(rt: HostRuntime) -> std::result::Result<(), Fail> {
+fn ample_memory_suffices(rt: HostRuntime) {
     let alloc = rt.alloc();
+    check_made(&rt, Slice::new(alloc, b"ab"), b"ab");
+    check_made(&rt, Slice::from_text(alloc, "ab"), b"ab");
+    check_made(&rt, Slice::from_array(alloc, *b"ab"), b"ab");
+    check_made(&rt, Slice::fused(alloc, b"a", b"b"), b"ab");
+    check_made(&rt, Slice::collect_bytes(alloc, b"ab".iter().copied()), b"ab");
+}
+
+#[test]
+fn ample_memory_suffices_for_owned_bytes(rt: HostRuntime) -> std::result::Result<(), Fail> {
+    let alloc = rt.alloc();
+    check_made(&rt, Slice::from_vec(b"ab".to_vec(alloc)?), b"ab");
+    check_made(&rt, Slice::from_string(String::from_str(alloc, "ab")?), b"ab");
     let whole = Slice::new(alloc, b"xaby")?;
-    assert!(rt; whole.slice(1..3)?.eq_bytes(b"ab"));
-    assert!(rt; Slice::from_vec(b"ab".to_vec(alloc)?)?.eq_bytes(b"ab"));
-    assert!(rt; Slice::from_string(String::from_str(alloc, "ab")?)?.eq_bytes(b"ab"));
-    assert!(rt; Slice::from_text(alloc, "ab")?.eq_bytes(b"ab"));
-    assert!(rt; Slice::from_array(alloc, *b"ab")?.eq_bytes(b"ab"));
-    assert!(rt; Slice::fused(alloc, b"a", b"b")?.eq_bytes(b"ab"));
-    assert!(rt; Slice::collect_bytes(alloc, b"ab".iter().copied())?.eq_bytes(b"ab"));
+    check_made(&rt, whole.slice(1..3), b"ab");
     assert!(rt; whole.clone()? == whole);
-    let mut out = Vec::new(alloc);
+    Ok(())
+}
+
+#[test]
+fn varints_are_written(rt: HostRuntime) -> std::result::Result<(), Fail> {
+    let mut out = Vec::new(rt.alloc());
     encode_varint(&mut out, 5)?;
     encode_varint(&mut out, 300)?;
     assert_eq!(rt; out.as_slice(), [5, 0xac, 2].as_slice());
@@ -171,7 +190,7 @@ fn hashes_are_known(rt: HostRuntime) {
 }
 
 #[test]
-fn keys_and_values(rt: HostRuntime) -> std::result::Result<(), Fail> {
+fn keys_compare(rt: HostRuntime) -> std::result::Result<(), Fail> {
     let alloc = rt.alloc();
     let newer = InternalKey::new(Slice::new(alloc, b"a")?, 2, ValueType::Value);
     let older = InternalKey::new(Slice::new(alloc, b"a")?, 1, ValueType::Value);
@@ -179,8 +198,22 @@ fn keys_and_values(rt: HostRuntime) -> std::result::Result<(), Fail> {
     assert_eq!(rt; newer.cmp(&older), Ordering::Less);
     assert!(rt; older == deleted);
     assert!(rt; deleted.is_tombstone() && !older.is_tombstone());
-    let entry = InternalValue::new(newer, Slice::new(alloc, b"x")?);
+    Ok(())
+}
+
+#[test]
+fn entries_have_their_parts(rt: HostRuntime) -> std::result::Result<(), Fail> {
+    let alloc = rt.alloc();
+    let key = InternalKey::new(Slice::new(alloc, b"a")?, 2, ValueType::Value);
+    let entry = InternalValue::new(key, Slice::new(alloc, b"x")?);
     assert!(rt; !entry.is_tombstone() && entry.value().eq_bytes(b"x"));
+    assert!(rt; entry.key().user_key().eq_bytes(b"a"));
+    Ok(())
+}
+
+#[test]
+fn tombstones_have_no_value(rt: HostRuntime) -> std::result::Result<(), Fail> {
+    let alloc = rt.alloc();
     let tombstone = InternalValue::new_tombstone(alloc, Slice::new(alloc, b"a")?, 3);
     assert!(rt; tombstone.is_tombstone() && tombstone.value().is_empty());
     let weak = InternalValue::new_weak_tombstone(alloc, Slice::new(alloc, b"a")?, 4);
