@@ -1,0 +1,5 @@
+//! A plain program for the definitions, and tests that cross crates.
+#![tactic(auto)]
+
+pub mod plain;
+
