@@ -1,10 +1,10 @@
 mod Places
 mod Forms
-mod Offsets
+pub mod Offsets
 mod Plain
 mod Trailers
 mod Splits
-mod Tables
+pub mod Tables
 mod BucketLaws
 mod Canonical
 mod IndexBlocks

@@ -11,7 +11,7 @@ module _ {X : Type 0} (kind : Kind X) (r : ℕ) (pos : 0 < r) where
   form-append items more i x h =
       ap (λ head. cond (eqb (i % r) 0) (kind.full x) (truncated_against kind head x)) (get_or_append_left items more x (i - i % r) (omega arith))
 
-  forms-append : (items : List X) (i : ℕ) (xs ys : List X) → forms kind r items i (xs ++ ys) ≡ forms kind r items i xs ++ forms kind r items (length xs + i) ys
+  pub forms-append : (items : List X) (i : ℕ) (xs ys : List X) → forms kind r items i (xs ++ ys) ≡ forms kind r items i xs ++ forms kind r items (length xs + i) ys
   forms-append items i [] ys = ap (λ n. forms kind r items n ys) (omega arith)
   forms-append items i (x ∷ xs) ys =
       let e : length xs + (i + 1) ≡ suc (length xs) + i = omega arith in

@@ -3,3 +3,6 @@
 
 pub mod plain;
 
+
+#[cfg(test)]
+mod blocks;

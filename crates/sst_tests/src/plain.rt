@@ -1,46 +1,58 @@
 //! The plain program: data blocks written as the definitions say, place by place, with no thought of speed. Each
 //! contract is a definition. What the library writes is compared with it.
-ghost use Rattle.std.specs.Prelude.{◌≡◌, ◌+◌, ◌*◌, ◌-◌, ◌/◌, ◌^◌, ◌<◌, ◌≤◌, ◌++◌, [], ◌∷◌, OnOk, IfOk, IsOkUnless, length, take, sum};
+ghost use Rattle.std.specs.Prelude.{◌≡◌, ℕ, List, ◌+◌, ◌*◌, ◌-◌, ◌/◌, ◌^◌, ◌<◌, ◌≤◌, ◌++◌, [], ◌∷◌, OnOk, IfOk, IsOkUnless, length, take, sum};
 ghost use Rattle.sst_tests.specs.Plain.{form_at};
 ghost use Rattle.sst_base.specs.Bytes.{le_bytes};
-ghost use Rattle.sst_base.specs.Varint.{varint};
+ghost use Rattle.sst_base.specs.Varint.{varint, varint_within};
 ghost use Rattle.sst_base.specs.Reading.{text};
 ghost use Rattle.sst_base.specs.SharedPrefix.{shared_prefix_length};
 ghost use Rattle.sst_block_core.specs.Body.{body, form, forms, place_offset};
 ghost use Rattle.sst_block_core.specs.Pointers.{head_count, pointer_width, pointers};
+ghost use Rattle.sst_block_core.specs.Trailer.{trailer};
+ghost use Rattle.sst_block_core.specs.Payload.{trailer_of};
 ghost use Rattle.sst_block_core.specs.Entries.{entries, value_part, full, truncated, data_payload};
 
 use sst_base::{Error, InternalValue, Result, ValueType};
 use std::alloc::Global;
 
+// Writes the varint of a number that has at most so many digits behind the first.
+#[tactic(auto, using(crate::proofs::PlainLaws::small_varint, crate::proofs::PlainLaws::more_varint, crate::proofs::PlainLaws::fewer_digits))]
+fn plain_varint_within(out: &mut Vec<u8>, more: u32, n: u64) -> Result<()>
+    requires { n < 128 ^ (more + 1) }
+    ensures ok { OnOk result (out.new.items ≡ out.old.items ++ varint_within more n) }
+    ensures memory { IsOkUnless result Error.Memory }
+{
+    if n < 128 {
+        out.push(n as u8)?;
+        return Ok(());
+    }
+    if more == 0 {
+        unreachable!();
+    }
+    out.push((n % 128) as u8 + 128)?;
+    plain_varint_within(out, more - 1, n / 128)
+}
+
 /// Writes the varint of a number.
+#[tactic(auto, unfolding(sst_base::specs::Varint::varint))]
 pub fn plain_varint(out: &mut Vec<u8>, n: u64) -> Result<()>
     ensures ok { OnOk result (out.new.items ≡ out.old.items ++ varint n) }
     ensures memory { IsOkUnless result Error.Memory }
 {
-    let mut rest = n;
-    for _ in 0..9 {
-        if rest < 128 {
-            break;
-        }
-        out.push((rest % 128) as u8 + 128)?;
-        rest /= 128;
-    }
-    out.push(rest as u8)?;
-    Ok(())
+    plain_varint_within(out, 9, n)
 }
 
 /// Writes the lowest bytes of a number, so many.
-pub fn plain_number(out: &mut Vec<u8>, width: usize, n: u64) -> Result<()>
+#[tactic(auto, using(crate::proofs::PlainLaws::more_bytes))]
+pub fn plain_number(out: &mut Vec<u8>, width: u32, n: u64) -> Result<()>
     ensures ok { OnOk result (out.new.items ≡ out.old.items ++ le_bytes width n) }
     ensures memory { IsOkUnless result Error.Memory }
 {
-    let mut rest = n;
-    for _ in 0..width {
-        out.push((rest % 256) as u8)?;
-        rest /= 256;
+    if width == 0 {
+        return Ok(());
     }
-    Ok(())
+    out.push((n % 256) as u8)?;
+    plain_number(out, width - 1, n / 256)
 }
 
 /// Writes a byte string with its length in front.
@@ -128,4 +140,129 @@ pub fn plain_form(
     let head = &items[place - place % restart_interval];
     let shared = plain_shared(head.key().user_key().as_slice(), item.key().user_key().as_slice());
     plain_truncated(out, item, shared)
+}
+
+/// The body of the first entries of a list, so many.
+pub fn plain_body(
+    alloc: Global,
+    items: &[InternalValue],
+    restart_interval: usize,
+    count: usize,
+) -> Result<Vec<u8>>
+    requires some { 0 < restart_interval }
+    requires inside { count ≤ length items.now }
+    ensures body { IfOk result (λ v. v.items ≡ body entries restart_interval (take count items.now)) }
+    ensures memory { IsOkUnless result Error.Memory }
+{
+    let mut out = Vec::new(alloc);
+    for place in 0..count {
+        plain_form(&mut out, items, restart_interval, place)?;
+    }
+    Ok(out)
+}
+
+/// Where the form of a place begins: behind the body of the entries before it.
+pub fn plain_offset(
+    alloc: Global,
+    items: &[InternalValue],
+    restart_interval: usize,
+    place: usize,
+) -> Result<u64>
+    requires some { 0 < restart_interval }
+    requires inside { place ≤ length items.now }
+    ensures offset { IfOk result (λ offset. offset ≡ place_offset entries restart_interval items.now place) }
+    ensures room { IfOk result (λ offset. offset < 2 ^ 63) }
+    ensures memory { IsOkUnless result Error.Memory }
+{
+    Ok(plain_body(alloc, items, restart_interval, place)?.len() as u64)
+}
+
+/// How many intervals the entries of a list stand in.
+pub fn plain_heads(restart_interval: usize, count: usize) -> usize
+    requires some { 0 < restart_interval }
+    requires room { count + restart_interval < 2 ^ 64 }
+    ensures { result ≡ head_count restart_interval count }
+{
+    (count + (restart_interval - 1)) / restart_interval
+}
+
+/// How many bytes a pointer of a list has.
+pub fn plain_width(alloc: Global, items: &[InternalValue], restart_interval: usize) -> Result<u32>
+    requires some { 0 < restart_interval }
+    requires small { restart_interval ≤ 255 }
+    requires list { 0 < length items.now }
+    ensures width { IfOk result (λ width. width ≡ pointer_width entries restart_interval items.now) }
+    ensures memory { IsOkUnless result Error.Memory }
+{
+    let last = plain_heads(restart_interval, items.len()) - 1;
+    let offset = plain_offset(alloc, items, restart_interval, last * restart_interval)?;
+    Ok(if offset <= 65535 { 2 } else { 4 })
+}
+
+/// Writes the pointers of a list.
+pub fn plain_pointers(
+    out: &mut Vec<u8>,
+    alloc: Global,
+    items: &[InternalValue],
+    restart_interval: usize,
+) -> Result<()>
+    requires some { 0 < restart_interval }
+    requires small { restart_interval ≤ 255 }
+    requires list { 0 < length items.now }
+    ensures ok { OnOk result (out.new.items ≡ out.old.items ++ pointers entries restart_interval items.now) }
+    ensures memory { IsOkUnless result Error.Memory }
+{
+    let width = plain_width(alloc, items, restart_interval)?;
+    for j in 0..plain_heads(restart_interval, items.len()) {
+        let offset = plain_offset(alloc, items, restart_interval, j * restart_interval)?;
+        plain_number(out, width, offset)?;
+    }
+    Ok(())
+}
+
+/// Writes the trailer of a list without hash index.
+pub fn plain_trailer(
+    out: &mut Vec<u8>,
+    alloc: Global,
+    items: &[InternalValue],
+    restart_interval: usize,
+) -> Result<()>
+    requires some { 0 < restart_interval }
+    requires small { restart_interval ≤ 255 }
+    requires list { 0 < length items.now }
+    ensures ok { OnOk result (out.new.items ≡ out.old.items ++ trailer (trailer_of entries restart_interval items.now 0)) }
+    ensures memory { IsOkUnless result Error.Memory }
+{
+    let width = plain_width(alloc, items, restart_interval)?;
+    let heads = plain_heads(restart_interval, items.len());
+    let index_offset = plain_offset(alloc, items, restart_interval, items.len())?;
+    plain_number(out, 1, restart_interval as u64)?;
+    plain_number(out, 1, u64::from(width))?;
+    plain_number(out, 4, heads as u64)?;
+    plain_number(out, 4, index_offset + 1)?;
+    plain_number(out, 4, 0)?;
+    plain_number(out, 4, 0)?;
+    plain_number(out, 1, 1)?;
+    plain_number(out, 8, 0)?;
+    plain_number(out, 4, items.len() as u64)?;
+    Ok(())
+}
+
+/// The payload of a data block of a non-empty list, in intervals of 1 to 255 entries, without hash index.
+pub fn plain_payload(
+    alloc: Global,
+    items: &[InternalValue],
+    restart_interval: usize,
+) -> Result<Vec<u8>>
+    requires some { 0 < restart_interval }
+    requires small { restart_interval ≤ 255 }
+    requires list { 0 < length items.now }
+    ensures payload { IfOk result (λ v. (hash : List ℕ → ℕ) → v.items ≡ data_payload hash items.now restart_interval 0) }
+    ensures memory { IsOkUnless result Error.Memory }
+{
+    let mut out = plain_body(alloc, items, restart_interval, items.len())?;
+    out.push(255)?;
+    plain_pointers(&mut out, alloc, items, restart_interval)?;
+    plain_trailer(&mut out, alloc, items, restart_interval)?;
+    Ok(out)
 }
