@@ -25,5 +25,5 @@ pair_is bytes at a b h p q = rw (two bytes at a b h p q) (omega arith)
 pub word_is : (bytes : List ℕ) (at a b c d : ℕ) → at + 4 ≤ length bytes → a ≡ get_or bytes at a → b ≡ get_or bytes (at + 1) b → c ≡ get_or bytes (at + 2) c → d ≡ get_or bytes (at + 3) d → from_le_bytes w32 (a ∷ b ∷ c ∷ d ∷ []) ≡ le_number_at at 4 bytes
 word_is bytes at a b c d h p q r s =
     let e : drop at bytes ≡ a ∷ b ∷ c ∷ d ∷ drop (at + 4) bytes =
-        two bytes at a b (omega arith) p q ∙ ap (λ xs. a ∷ b ∷ xs) (cell bytes at 2 c (omega arith) r) ∙ ap (λ xs. a ∷ b ∷ c ∷ xs) (cell bytes at 3 d (omega arith) s) in
+    two bytes at a b (omega arith) p q ∙ ap (λ xs. a ∷ b ∷ xs) (cell bytes at 2 c (omega arith) r) ∙ ap (λ xs. a ∷ b ∷ c ∷ xs) (cell bytes at 3 d (omega arith) s) in
     rw e (omega arith)
