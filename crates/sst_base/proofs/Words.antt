@@ -1,7 +1,7 @@
 -- Numbers of a fixed width at an offset, by their bytes.
-use Rattle.std.proofs.Common.{◌≡◌, ◌<◌, ◌≤◌, ℕ, ◌+◌, ◌-◌, ◌*◌, zero, suc, List, [], ◌∷◌, take, drop, length, get_or, refl, sym, ap, ◌∙◌, arith, drop-cons, add-one}
+use Rattle.std.proofs.Common.{◌≡◌, ◌<◌, ◌≤◌, ℕ, ◌+◌, suc, List, [], ◌∷◌, drop, length, get_or, sym, ap, ◌∙◌, arith, drop-cons}
 use Rattle.std.specs.Int.{w16, w32, from_le_bytes}
-use Rattle.sst_base.specs.Bytes.{le_number, le_number_at}
+use Rattle.sst_base.specs.Bytes.{le_number_at}
 
 -- the cells from an offset on
 cell : (bytes : List ℕ) (at k x : ℕ) → at + k < length bytes → x ≡ get_or bytes (at + k) x → drop (at + k) bytes ≡ x ∷ drop (at + suc k) bytes

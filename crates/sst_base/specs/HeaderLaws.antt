@@ -1,12 +1,12 @@
 -- Laws of headers: what was written is read again, whatever follows, and what is read was written so.
-use Rattle.std.proofs.Common.{◌≡◌, ℕ, ◌+◌, ◌%◌, ◌<◌, ◌≤◌, ◌^◌, ◌⊎◌, inl, inr, List, [], ◌∷◌, ◌++◌, length, get_or, take, drop, refl, arith, sym, ◌∙◌, ap, subst, Result, Ok, Err, Bool, true, false, nat_eq, ltb, eqb, length-append, length-drop, append_assoc, if◌then◌else◌, lit<}
+use Rattle.std.proofs.Common.{◌≡◌, ℕ, ◌%◌, ◌≤◌, ◌^◌, ◌⊎◌, inl, inr, List, [], ◌∷◌, ◌++◌, length, get_or, take, drop, refl, arith, sym, ◌∙◌, ap, subst, Result, Ok, Err, Bool, true, false, nat_eq, ltb, eqb, length-append, length-drop, append_assoc, if◌then◌else◌}
 use Rattle.std.proofs.lemmas.Bool.Decides.{nat_tests}
 use Rattle.std.proofs.lemmas.Bool.{eqb-true, ltb-false}
 use Rattle.std.proofs.lemmas.List.{take_at, drop_at, take-append-drop, length-take-le, take_all, append-nil}
 use Rattle.std.proofs.lemmas.Nat.{mod_below}
 use Rattle.std.specs.Cmp.Lexicographic.{pointwise, same_text}
 use Rattle.sst_base.specs.Bytes.{IsBytes, le_bytes, le_number, le_number_at}
-use Rattle.sst_base.specs.BytesLaws.{IsBytes-front, IsBytes-back, IsBytes-take, length-le_bytes, le_number-le_bytes, le_bytes-le_number_at, take-drop-more}
+use Rattle.sst_base.specs.BytesLaws.{IsBytes-front, IsBytes-back, IsBytes-take, le_number-le_bytes, le_bytes-le_number_at, take-drop-more}
 use Rattle.sst_base.specs.BlockType.{block_type_byte, block_type_of}
 use Rattle.sst_base.specs.Header.{◌>>=◌, magic, header_front, header, IsHeader, bytes_at, magic_at, block_type_at, header_with, header_of, header_at}
 use Rattle.sst_base.specs.declared.error.Error.{Error}

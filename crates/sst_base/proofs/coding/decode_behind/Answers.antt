@@ -1,4 +1,4 @@
-use Rattle.std.proofs.Common.{arith, ◌≡◌, ◌<◌}
+use Rattle.std.proofs.Common.{arith, ◌<◌}
 use Rattle.sst_base.specs.VarintLaws.{digits_end, digits_last, digits_zero, digits_wide, digits_full, digits_more, less_left}
 use Rattle.sst_base.proofs.coding.decode_behind.Goals as goal
 use Rattle.sst_base.proofs.coding.decode_behind.Goals.{then-byte-eq0-via-then-byte-eq0, then-byte-eq0-via-else-byte-eq0+then-room-byte}
