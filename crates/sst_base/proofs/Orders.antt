@@ -1,6 +1,6 @@
 -- The bytewise order, a word or a byte a step.
-use Rattle.std.proofs.Common.{◌≡◌, ◌≢◌, ℕ, ◌+◌, ◌*◌, ◌-◌, ◌/◌, ◌<◌, ◌≤◌, zero, suc, List, [], ◌∷◌, ◌++◌, length, get_or, take, drop, min, refl, arith, sym, ◌∙◌, ap, subst, drop-cons, length-drop, add-one, take-add}
-use Rattle.std.proofs.lemmas.List.{take-append-drop, drop-drop, length-take-le, take_more}
+use Rattle.std.proofs.Common.{◌≡◌, ◌≢◌, ℕ, ◌+◌, ◌*◌, ◌<◌, ◌≤◌, suc, List, [], ◌∷◌, ◌++◌, length, get_or, take, drop, min, refl, arith, sym, ◌∙◌, ap, drop-cons, length-drop, add-one, take-add}
+use Rattle.std.proofs.lemmas.List.{length-take-le}
 use Rattle.std.proofs.lemmas.Cmp.{ranked}
 use Rattle.std.specs.Cmp.{nat_cmp_is}
 use Rattle.std.specs.Cmp.Lexicographic.{slice_cmp}

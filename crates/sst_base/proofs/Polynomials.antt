@@ -52,14 +52,14 @@ pub eight_powers : (bytes : List ℕ) (at a b c d e f g i : ℕ) → at + 8 ≤ 
     → a * 27512614111 + b * 887503681 + c * 28629151 + d * 923521 + e * 29791 + f * 961 + g * 31 + i ≡ fold times31 0 (take 8 (drop at bytes))
 eight_powers bytes at a b c d e f g i h p q r s t u v w =
     let cells : drop at bytes ≡ a ∷ b ∷ c ∷ d ∷ e ∷ f ∷ g ∷ i ∷ drop (at + 8) bytes =
-        first_cell bytes at a (omega arith) p
-        ∙ ap (λ xs. a ∷ xs) (cell bytes at 1 b (omega arith) q
-        ∙ ap (λ xs. b ∷ xs) (cell bytes at 2 c (omega arith) r
-        ∙ ap (λ xs. c ∷ xs) (cell bytes at 3 d (omega arith) s
-        ∙ ap (λ xs. d ∷ xs) (cell bytes at 4 e (omega arith) t
-        ∙ ap (λ xs. e ∷ xs) (cell bytes at 5 f (omega arith) u
-        ∙ ap (λ xs. f ∷ xs) (cell bytes at 6 g (omega arith) v
-        ∙ ap (λ xs. g ∷ xs) (cell bytes at 7 i (omega arith) w))))))) in
+    first_cell bytes at a (omega arith) p
+    ∙ ap (λ xs. a ∷ xs) (cell bytes at 1 b (omega arith) q
+    ∙ ap (λ xs. b ∷ xs) (cell bytes at 2 c (omega arith) r
+    ∙ ap (λ xs. c ∷ xs) (cell bytes at 3 d (omega arith) s
+    ∙ ap (λ xs. d ∷ xs) (cell bytes at 4 e (omega arith) t
+    ∙ ap (λ xs. e ∷ xs) (cell bytes at 5 f (omega arith) u
+    ∙ ap (λ xs. f ∷ xs) (cell bytes at 6 g (omega arith) v
+    ∙ ap (λ xs. g ∷ xs) (cell bytes at 7 i (omega arith) w))))))) in
     rw cells (omega arith)
 
 pub fold-append : (h : ℕ) (xs ys : List ℕ) → fold times31 h (xs ++ ys) ≡ fold times31 (fold times31 h xs) ys
@@ -74,7 +74,7 @@ eight_more bytes i hash product next v h e p q r =
     let n : 8 * (i + 1) ≡ 8 * i + 8 = omega arith in
     let l : length w ≡ 8 = length-take-le 8 (drop (8 * i) bytes) (omega (arith, length-drop (8 * i) bytes)) in
     let longer : fold times31 0 (take (8 * (i + 1)) bytes) ≡ plain * 852891037441 + v =
-        ap (λ k. fold times31 0 (take k bytes)) n ∙ ap (fold times31 0) (take-add (8 * i) 8 bytes) ∙ fold-append 0 (take (8 * i) bytes) w ∙ eight_steps plain w l ∙ ap (λ k. plain * 852891037441 + k) (sym q) in
+    ap (λ k. fold times31 0 (take k bytes)) n ∙ ap (fold times31 0) (take-add (8 * i) 8 bytes) ∙ fold-append 0 (take (8 * i) bytes) w ∙ eight_steps plain w l ∙ ap (λ k. plain * 852891037441 + k) (sym q) in
     r ∙ ap (λ k. (k + v) % 2 ^ 64) (p ∙ ap (λ k. (k * 852891037441) % 2 ^ 64) e ∙ mul-mod_first plain 852891037441 (2 ^ 64)) ∙ add-mod_first (plain * 852891037441) v (2 ^ 64) ∙ ap (λ k. k % 2 ^ 64) (sym longer)
 
 -- the bytes behind the last eight

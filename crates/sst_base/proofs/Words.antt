@@ -1,7 +1,7 @@
 -- Numbers of a fixed width at an offset, by their bytes.
-use Rattle.std.proofs.Common.{◌≡◌, ◌<◌, ◌≤◌, ℕ, ◌+◌, ◌-◌, ◌*◌, zero, suc, List, [], ◌∷◌, take, drop, length, get_or, refl, sym, ap, ◌∙◌, arith, drop-cons, add-one}
+use Rattle.std.proofs.Common.{◌≡◌, ◌<◌, ◌≤◌, ℕ, ◌+◌, suc, List, [], ◌∷◌, drop, length, get_or, sym, ap, ◌∙◌, arith, drop-cons}
 use Rattle.std.specs.Int.{w16, w32, from_le_bytes}
-use Rattle.sst_base.specs.Bytes.{le_number, le_number_at}
+use Rattle.sst_base.specs.Bytes.{le_number_at}
 
 -- the cells from an offset on
 cell : (bytes : List ℕ) (at k x : ℕ) → at + k < length bytes → x ≡ get_or bytes (at + k) x → drop (at + k) bytes ≡ x ∷ drop (at + suc k) bytes
@@ -25,5 +25,5 @@ pair_is bytes at a b h p q = rw (two bytes at a b h p q) (omega arith)
 pub word_is : (bytes : List ℕ) (at a b c d : ℕ) → at + 4 ≤ length bytes → a ≡ get_or bytes at a → b ≡ get_or bytes (at + 1) b → c ≡ get_or bytes (at + 2) c → d ≡ get_or bytes (at + 3) d → from_le_bytes w32 (a ∷ b ∷ c ∷ d ∷ []) ≡ le_number_at at 4 bytes
 word_is bytes at a b c d h p q r s =
     let e : drop at bytes ≡ a ∷ b ∷ c ∷ d ∷ drop (at + 4) bytes =
-        two bytes at a b (omega arith) p q ∙ ap (λ xs. a ∷ b ∷ xs) (cell bytes at 2 c (omega arith) r) ∙ ap (λ xs. a ∷ b ∷ c ∷ xs) (cell bytes at 3 d (omega arith) s) in
+    two bytes at a b (omega arith) p q ∙ ap (λ xs. a ∷ b ∷ xs) (cell bytes at 2 c (omega arith) r) ∙ ap (λ xs. a ∷ b ∷ c ∷ xs) (cell bytes at 3 d (omega arith) s) in
     rw e (omega arith)

@@ -1,12 +1,12 @@
 -- Laws of headers: what was written is read again, whatever follows, and what is read was written so.
-use Rattle.std.proofs.Common.{◌≡◌, ℕ, ◌+◌, ◌%◌, ◌<◌, ◌≤◌, ◌^◌, ◌⊎◌, inl, inr, List, [], ◌∷◌, ◌++◌, length, get_or, take, drop, refl, arith, sym, ◌∙◌, ap, subst, Result, Ok, Err, Bool, true, false, nat_eq, ltb, eqb, length-append, length-drop, append_assoc, if◌then◌else◌, lit<}
+use Rattle.std.proofs.Common.{◌≡◌, ℕ, ◌%◌, ◌≤◌, ◌^◌, ◌⊎◌, inl, inr, List, [], ◌∷◌, ◌++◌, length, get_or, take, drop, refl, arith, sym, ◌∙◌, ap, subst, Result, Ok, Err, Bool, true, false, nat_eq, ltb, eqb, length-append, length-drop, append_assoc, if◌then◌else◌}
 use Rattle.std.proofs.lemmas.Bool.Decides.{nat_tests}
 use Rattle.std.proofs.lemmas.Bool.{eqb-true, ltb-false}
 use Rattle.std.proofs.lemmas.List.{take_at, drop_at, take-append-drop, length-take-le, take_all, append-nil}
 use Rattle.std.proofs.lemmas.Nat.{mod_below}
 use Rattle.std.specs.Cmp.Lexicographic.{pointwise, same_text}
 use Rattle.sst_base.specs.Bytes.{IsBytes, le_bytes, le_number, le_number_at}
-use Rattle.sst_base.specs.BytesLaws.{IsBytes-front, IsBytes-back, IsBytes-take, length-le_bytes, le_number-le_bytes, le_bytes-le_number_at, take-drop-more}
+use Rattle.sst_base.specs.BytesLaws.{IsBytes-front, IsBytes-back, IsBytes-take, le_number-le_bytes, le_bytes-le_number_at, take-drop-more}
 use Rattle.sst_base.specs.BlockType.{block_type_byte, block_type_of}
 use Rattle.sst_base.specs.Header.{◌>>=◌, magic, header_front, header, IsHeader, bytes_at, magic_at, block_type_at, header_with, header_of, header_at}
 use Rattle.sst_base.specs.declared.error.Error.{Error}
@@ -180,7 +180,7 @@ header-header_with : (hash128 : List ℕ → ℕ) (t : BlockType) (fields sum re
 unfolding header
 header-header_with hash128 t fields sum rest b l e =
     let front : header_front (header_with t fields) ≡ magic ++ (block_type_byte t ∷ fields) =
-        header_front-fields_of (header_with t fields) ∙ ap (λ xs. magic ++ (block_type_byte t ∷ xs)) (fields_of-header_with t fields b l) in
+    header_front-fields_of (header_with t fields) ∙ ap (λ xs. magic ++ (block_type_byte t ∷ xs)) (fields_of-header_with t fields b l) in
     ap (λ xs. (xs ++ le_bytes 4 (hash128 xs % 2 ^ 32)) ++ rest) front
     ∙ ap (λ xs. ((magic ++ (block_type_byte t ∷ fields)) ++ xs) ++ rest) e
 
@@ -195,12 +195,12 @@ header_at_takes hash128 bytes h rest small e =
     let o = bind_ok (header_of hash128 t.0.0 (take 24 tail) (le_number_at 24 4 tail)) _ _ f.2 in
     let cut = bytes_at_takes 28 t.0.1 f.0 f.1 in
     let all : bytes ≡ magic ++ (block_type_byte t.0.0 ∷ (tail ++ f.0.1)) =
-        magic_at_takes bytes m.0 m.1 ∙ ap (λ ys. magic ++ ys) (block_type_at_takes m.0.1 t.0 t.1 ∙ ap (λ ys. block_type_byte t.0.0 ∷ ys) cut.0) in
+    magic_at_takes bytes m.0 m.1 ∙ ap (λ ys. magic ++ ys) (block_type_at_takes m.0.1 t.0 t.1 ∙ ap (λ ys. block_type_byte t.0.0 ∷ ys) cut.0) in
     let b : IsBytes tail = IsBytes-front tail f.0.1 (IsBytes-back (magic ++ (block_type_byte t.0.0 ∷ [])) (tail ++ f.0.1) (subst IsBytes all small)) in
     let found = header_of_takes hash128 t.0.0 (take 24 tail) (le_number_at 24 4 tail) o.0 o.1 in
     let l : length (take 24 tail) ≡ 24 = length-take-le 24 tail (omega (arith, cut.1)) in
     let sum : le_bytes 4 (hash128 (magic ++ (block_type_byte t.0.0 ∷ take 24 tail)) % 2 ^ 32) ≡ drop 24 tail =
-        ap (le_bytes 4) found.0 ∙ le_bytes-le_number_at 24 4 tail b (omega (arith, cut.1)) ∙ take_all 4 (drop 24 tail) (omega (arith, cut.1, length-drop 24 tail)) in
+    ap (le_bytes 4) found.0 ∙ le_bytes-le_number_at 24 4 tail b (omega (arith, cut.1)) ∙ take_all 4 (drop 24 tail) (omega (arith, cut.1, length-drop 24 tail)) in
     let same : (o.0, f.0.1) ≡ (h, rest) = cc (o.2) in
     all
     ∙ ap (λ ys. magic ++ (block_type_byte t.0.0 ∷ (ys ++ f.0.1))) (sym (take-append-drop 24 tail))

@@ -38,13 +38,13 @@ module _ {X : Type 0} (key : X → List ℕ) (seqno : X → ℕ) where
     (λ h. elim h [
       | inl less ↦ ap (λ o. ordering_then o (nat_cmp (seqno b) (seqno a))) less
       | inr same ↦ ap (λ o. ordering_then o (nat_cmp (seqno b) (seqno a))) ((slice_cmp-equal (key a) (key b)).1 same.0) ∙ sym (nat_cmp_is (seqno b) (seqno a) Less same.1)
-    ])
+    ]),
   )
 
   -- equal ones have one key and one sequence number
   pub versions_cmp-equal : (a b : X) → (versions_cmp key seqno a b ≡ Equal) ↔ ((key a ≡ key b) × (seqno a ≡ seqno b))
   versions_cmp-equal a b = (
     (λ h. let p = then_equal (slice_cmp nat_cmp (key a) (key b)) (nat_cmp (seqno b) (seqno a)) h in
-      ((slice_cmp-equal (key a) (key b)).0 p.0, sym (ranked (seqno b) (seqno a) Equal (sym p.1)))),
-    (λ h. ap (λ o. ordering_then o (nat_cmp (seqno b) (seqno a))) ((slice_cmp-equal (key a) (key b)).1 h.0) ∙ sym (nat_cmp_is (seqno b) (seqno a) Equal (sym h.1)))
+        ((slice_cmp-equal (key a) (key b)).0 p.0, sym (ranked (seqno b) (seqno a) Equal (sym p.1)))),
+    (λ h. ap (λ o. ordering_then o (nat_cmp (seqno b) (seqno a))) ((slice_cmp-equal (key a) (key b)).1 h.0) ∙ sym (nat_cmp_is (seqno b) (seqno a) Equal (sym h.1))),
   )

@@ -1,5 +1,5 @@
 -- What stands at the front of bytes: a value, and the bytes behind it.
-use Rattle.std.specs.Prelude.{ℕ, ◌+◌, ◌∷◌, [], ◌++◌, List, length, take, drop, nat_le, if◌then◌else◌, Option, Some, None}
+use Rattle.std.specs.Prelude.{ℕ, ◌∷◌, [], ◌++◌, List, length, take, drop, nat_le, if◌then◌else◌, Option, Some, None}
 use Rattle.sst_base.specs.Varint.{varint, varint_at}
 use Rattle.sst_base.specs.declared.value_type.ValueType.{ValueType}
 use Rattle.sst_base.specs.ValueType.{value_type_of}

@@ -26,6 +26,11 @@ abbrev pub with_digit : ℕ → Option (ℕ × ℕ) → Option (ℕ × ℕ)
 with_digit digit None = None
 with_digit digit (Some high) = if nat_eq high.0 0 then None else Some (digit + 128 * high.0, high.1 + 1)
 
+-- the same for digits that stand for `sum` and take `len` bytes, before one that counts `scale`
+abbrev pub with_digits : ℕ → ℕ → ℕ → Option (ℕ × ℕ) → Option (ℕ × ℕ)
+with_digits len sum scale None = None
+with_digits len sum scale (Some high) = if nat_eq high.0 0 then None else Some (sum + scale * high.0, len + high.1)
+
 -- the number of at most `max` that a front of the bytes spells, and the length of that front
 unfoldable pub varint_up_to : ℕ → List ℕ → Option (ℕ × ℕ)
 varint_up_to max [] = None

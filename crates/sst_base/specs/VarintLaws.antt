@@ -1,12 +1,12 @@
 -- Laws of varints: each number has one spelling, no spelling begins another, and what is read was spelled.
-use Rattle.std.proofs.Common.{◌≡◌, ℕ, ◌+◌, ◌*◌, ◌/◌, ◌%◌, ◌<◌, ◌≤◌, ◌-◌, ◌^◌, zero, suc, List, [], ◌∷◌, ◌++◌, length, take, drop, refl, arith, sym, ◌∙◌, ap, subst, inl, inr, append_assoc, set, Option, Some, None, lit<}
+use Rattle.std.proofs.Common.{◌≡◌, ℕ, ◌+◌, ◌*◌, ◌/◌, ◌%◌, ◌<◌, ◌≤◌, ◌-◌, ◌^◌, zero, suc, List, [], ◌∷◌, ◌++◌, length, take, drop, get_or, drop-cons, nat_eq, if◌then◌else◌, IfSome, IfNone, refl, arith, sym, ◌∙◌, ap, subst, inl, inr, append_assoc, set, Option, Some, None, lit<}
 use Rattle.std.proofs.lemmas.Bool.{cases_lt, cases_eq}
-use Rattle.std.proofs.Math.Nat.{pow-succ', pow-le-pow_right}
+use Rattle.std.proofs.Math.Nat.{pow-succ', pow-le-pow_right, mul-le-mul_left}
 use Rattle.std.proofs.lemmas.Nat.{div_below, pow-add, pow_pos}
-use Rattle.std.proofs.lemmas.List.{take-append-drop, take_more_set}
+use Rattle.std.proofs.lemmas.List.{take-append-drop, take_more_set, drop_all}
 use Rattle.std.proofs.lemmas.Bool.Decides.{nat_tests}
 use Rattle.sst_base.specs.Bytes.{IsBytes}
-use Rattle.sst_base.specs.Varint.{IsVarint, IsWidth, varint_within, varint, varint_up_to, varint_at, with_digit}
+use Rattle.sst_base.specs.Varint.{IsVarint, IsWidth, varint_within, varint, varint_up_to, varint_at, with_digit, with_digits}
 
 -- one more digit at the front
 pub IsVarint-more : (digit high : ℕ) (bs : List ℕ) → digit < 128 → 0 < high → IsVarint bs high → IsVarint ((digit + 128) ∷ bs) (digit + 128 * high)
@@ -207,3 +207,88 @@ varint_at_small bits b bs w h = elim w [
     | inr e ↦ rw e (at_small (2 ^ 64 - 1) b bs h (omega arith))
   ]
 ]
+
+with_digits_some : (len sum scale high l : ℕ) → 0 < high → with_digits len sum scale (Some (high, l)) ≡ Some (sum + scale * high, len + l)
+with_digits_some len sum scale high l h = search (arith, nat_tests)
+
+with_digits_none : (len sum scale l : ℕ) → with_digits len sum scale (Some (0, l)) ≡ None
+with_digits_none len sum scale l = refl
+
+-- one digit more
+with_digits_more : (len sum scale d : ℕ) (o : Option (ℕ × ℕ)) → with_digits len sum scale (with_digit d o) ≡ with_digits (len + 1) (sum + scale * d) (scale * 128) o
+with_digits_more len sum scale d None = refl
+with_digits_more len sum scale d (Some p) = elim (cases_eq p.0 0) [
+  | inl zero' ↦
+      (let f : with_digit d (Some p) ≡ None = search (arith, nat_tests) in
+      let g : with_digits (len + 1) (sum + scale * d) (scale * 128) (Some p) ≡ None = search (arith, nat_tests) in
+      ap (with_digits len sum scale) f ∙ sym g)
+  | inr some ↦
+      (let f : with_digit d (Some p) ≡ Some (d + 128 * p.0, p.1 + 1) = search (arith, nat_tests) in
+      let g : with_digits (len + 1) (sum + scale * d) (scale * 128) (Some p) ≡ Some ((sum + scale * d) + (scale * 128) * p.0, (len + 1) + p.1) = search (arith, nat_tests) in
+      let a : sum + scale * (d + 128 * p.0) ≡ (sum + scale * d) + (scale * 128) * p.0 = omega arith in
+      let b : len + (p.1 + 1) ≡ (len + 1) + p.1 = omega arith in
+      ap (with_digits len sum scale) f ∙ with_digits_some len sum scale (d + 128 * p.0) (p.1 + 1) (omega arith)
+      ∙ ap (λ m. Some (m, len + (p.1 + 1))) a ∙ ap (λ l. Some ((sum + scale * d) + (scale * 128) * p.0, l)) b ∙ sym g)
+]
+
+-- a digit is digits
+pub with_digit-with_digits : (d : ℕ) (o : Option (ℕ × ℕ)) → with_digit d o ≡ with_digits 1 d 128 o
+with_digit-with_digits d None = refl
+with_digit-with_digits d (Some p) = ap (λ l. if nat_eq p.0 0 then None else Some (d + 128 * p.0, l)) (let e : p.1 + 1 ≡ 1 + p.1 = omega arith in e)
+
+byte_at : (bytes : List ℕ) (i b : ℕ) → i < length bytes → b ≡ get_or bytes i 0 → drop i bytes ≡ b ∷ drop (i + 1) bytes
+byte_at bytes i b h e = drop-cons bytes i 0 h ∙ ap (λ y. y ∷ drop (suc i) bytes) (sym e) ∙ (let f : suc i ≡ i + 1 = omega arith in ap (λ n. b ∷ drop n bytes) f)
+
+module _ (bytes : List ℕ) (i sum scale room : ℕ) (whole : Option (ℕ × ℕ)) (so_far : with_digits i sum scale (varint_up_to room (drop i bytes)) ≡ whole) where
+  pub digits_end : length bytes ≤ i → None ≡ whole
+  unfolding varint_up_to
+  digits_end h = ap (λ xs. with_digits i sum scale (varint_up_to room xs)) (sym (drop_all i bytes h)) ∙ so_far
+
+  module _ (b : ℕ) (h : i < length bytes) (e : b ≡ get_or bytes i 0) where
+    here : with_digits i sum scale (varint_up_to room (b ∷ drop (i + 1) bytes)) ≡ whole
+    here = ap (λ xs. with_digits i sum scale (varint_up_to room xs)) (sym (byte_at bytes i b h e)) ∙ so_far
+
+    pub digits_last : b < 128 → 0 < b → b ≤ room → Some (sum + scale * b, i + 1) ≡ whole
+    digits_last s p l = sym (with_digits_some i sum scale b 1 p) ∙ ap (with_digits i sum scale) (sym (at_small room b (drop (i + 1) bytes) s l)) ∙ here
+
+    pub digits_zero : b ≡ 0 → None ≡ whole
+    digits_zero z =
+        let s : b < 128 = omega arith in
+        let none : with_digits i sum scale (Some (b, 1)) ≡ None = ap (λ n. with_digits i sum scale (Some (n, 1))) z in
+        sym none ∙ ap (with_digits i sum scale) (sym (at_small room b (drop (i + 1) bytes) s (omega arith))) ∙ here
+
+    pub digits_wide : b < 128 → room < b → None ≡ whole
+    digits_wide s w = ap (with_digits i sum scale) (sym (at_wide room b (drop (i + 1) bytes) s w)) ∙ here
+
+    pub digits_full : 128 ≤ b → room < 128 → None ≡ whole
+    digits_full l f = ap (with_digits i sum scale) (sym (at_full room b (drop (i + 1) bytes) l f)) ∙ here
+
+    pub digits_more : 128 ≤ b → 128 ≤ room → with_digits (i + 1) (sum + scale * (b - 128)) (scale * 128) (varint_up_to ((room - (b - 128)) / 128) (drop (i + 1) bytes)) ≡ whole
+    digits_more l r =
+        sym (with_digits_more i sum scale (b - 128) (varint_up_to ((room - (b - 128)) / 128) (drop (i + 1) bytes)))
+        ∙ ap (with_digits i sum scale) (sym (at_more room b (drop (i + 1) bytes) l r)) ∙ here
+
+-- what is left of the room
+pub less_left : (sum scale room d max : ℕ) → d ≤ room → sum + scale * room ≤ max → (sum + scale * d) + (scale * 128) * ((room - d) / 128) ≤ max
+less_left sum scale room d max h fits =
+    let q : d + 128 * ((room - d) / 128) ≤ room = omega arith in
+    let m : scale * (d + 128 * ((room - d) / 128)) ≤ scale * room = mul-le-mul_left scale q in
+    omega arith
+
+-- what is answered is a varint
+pub varint_at_found : (bits : ℕ) (bytes : List ℕ) (o : Option (ℕ × ℕ)) → IsBytes bytes → bits ≤ 64 → o ≡ varint_at bits bytes
+    → IfSome o (λ f. f.1 ≤ length bytes) × IfSome o (λ f. f.0 < 2 ^ bits) × IfSome o (λ f. IsVarint (take f.1 bytes) f.0)
+varint_at_found bits bytes None b h e = (tt, tt, tt)
+varint_at_found bits bytes (Some p) b h e =
+    let r = varint_at_takes bytes bits p.0 p.1 b h (sym e) in
+    let most : 2 ^ bits ≤ 2 ^ 64 = pow-le-pow_right (lit< tt) h in
+    (r.2, r.1, subst (λ xs. IsVarint xs p.0) (sym r.0) (IsVarint-varint p.0 (omega (arith, r.1))))
+
+-- what is refused has no front that is one
+pub varint_at_none : (bits : ℕ) (bytes : List ℕ) (o : Option (ℕ × ℕ)) → o ≡ varint_at bits bytes → IfNone o ((n len : ℕ) → n < 2 ^ bits → IsVarint (take len bytes) n → ⊥)
+unfolding varint_at
+varint_at_none bits bytes None e = λ n len h v.
+    let r = reads_again (take len bytes) (drop len bytes) (2 ^ bits - 1) n v (omega arith) in
+    let again : None ≡ Some (n, length (take len bytes)) = e ∙ ap (varint_up_to (2 ^ bits - 1)) (sym (take-append-drop len bytes)) ∙ r in
+    cc (again)
+varint_at_none bits bytes (Some p) e = tt

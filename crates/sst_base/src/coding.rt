@@ -1,7 +1,7 @@
 //! Varints and numbers of a fixed width.
-ghost use Rattle.std.specs.Prelude.{◌≡◌, ℕ, ◌+◌, ◌*◌, ◌^◌, ◌<◌, ◌≤◌, ◌++◌, length, take, OnOk, OnErr, IsOkUnless, IfSome, IfNone};
+ghost use Rattle.std.specs.Prelude.{◌≡◌, ℕ, ◌+◌, ◌-◌, ◌*◌, ◌/◌, ◌^◌, ◌<◌, ◌≤◌, ◌++◌, length, take, drop, OnOk, OnErr, IsOkUnless, IfSome, IfNone};
 ghost use Rattle.sst_base.specs.Bytes.{le_number_at};
-ghost use Rattle.sst_base.specs.Varint.{IsVarint, IsWidth, varint, varint_up_to, varint_at};
+ghost use Rattle.sst_base.specs.Varint.{IsVarint, IsWidth, varint, with_digits, varint_up_to, varint_at};
 
 use crate::error::{Error, Result};
 
@@ -50,16 +50,40 @@ pub fn encode_varint(out: &mut Vec<u8>, n: u64) -> Result<()>
     encode_long(out, n)
 }
 
+// Goes on behind the first byte, a digit a step.
+fn decode_behind(bytes: &[u8], first: u64, max: u64) -> Option<(u64, usize)>
+    requires first { first < 128 }
+    requires max { 128 ≤ max }
+    ensures { result ≡ with_digits 1 first 128 (varint_up_to ((max - first) / 128) (drop 1 bytes.now)) }
+{
+    let mut sum = first;
+    let mut scale = 128;
+    let mut room = (max - first) / 128;
+    for i in 1..bytes.len() {
+        let byte = u64::from(bytes[i]);
+        if byte < 128 {
+            if byte == 0 || room < byte {
+                return None;
+            }
+            return Some((sum + scale * byte, i + 1));
+        }
+        if room < 128 {
+            return None;
+        }
+        let digit = byte - 128;
+        sum += scale * digit;
+        scale *= 128;
+        room = (room - digit) / 128;
+    }
+    None
+}
+
 // The number of at most `max` that a front of the bytes spells, and the length of that front.
 #[tactic(auto, unfolding(crate::specs::Varint::varint_up_to))]
 fn decode_up_to(bytes: &[u8], max: u64) -> Option<(u64, usize)>
-    ensures exact { result ≡ varint_up_to max bytes.now }
-    ensures length { IfSome result (λ found. found.1 ≤ length bytes.now) }
-    ensures max { IfSome result (λ found. found.0 ≤ max) }
-    ensures found { IfSome result (λ found. IsVarint (take found.1 bytes.now) found.0) }
-    ensures none { IfNone result ((n len : ℕ) → n ≤ max → IsVarint (take len bytes.now) n → ⊥) }
+    ensures { result ≡ varint_up_to max bytes.now }
 {
-    let (first, rest) = bytes.split_first()?;
+    let (first, _) = bytes.split_first()?;
     let digit = u64::from(*first);
     if digit < 128 {
         return if digit <= max { Some((digit, 1)) } else { None };
@@ -67,15 +91,19 @@ fn decode_up_to(bytes: &[u8], max: u64) -> Option<(u64, usize)>
     if max < 128 {
         return None;
     }
-    let (high, len) = decode_up_to(rest, (max - (digit - 128)) / 128)?;
-    if high == 0 {
-        return None;
-    }
-    Some((digit - 128 + 128 * high, len + 1))
+    decode_behind(bytes, digit - 128, max)
+}
+
+// The number within the width that a front of the bytes spells, and the length of that front.
+#[tactic(auto, unfolding(crate::specs::Varint::varint_at))]
+fn decode_within(bytes: &[u8], bits: u32) -> Option<(u64, usize)>
+    requires { IsWidth bits }
+    ensures { result ≡ varint_at bits bytes.now }
+{
+    decode_up_to(bytes, u64::MAX >> (64 - bits))
 }
 
 // Reads a varint of any length.
-#[tactic(auto, unfolding(crate::specs::Varint::varint_at))]
 fn decode_long(bytes: &[u8], bits: u32) -> Option<(u64, usize)>
     requires { IsWidth bits }
     ensures exact { result ≡ varint_at bits bytes.now }
@@ -84,7 +112,7 @@ fn decode_long(bytes: &[u8], bits: u32) -> Option<(u64, usize)>
     ensures found { IfSome result (λ found. IsVarint (take found.1 bytes.now) found.0) }
     ensures none { IfNone result ((n len : ℕ) → n < 2 ^ bits → IsVarint (take len bytes.now) n → ⊥) }
 {
-    decode_up_to(bytes, u64::MAX >> (64 - bits))
+    decode_within(bytes, bits)
 }
 
 /// Reads the varint at the front of bytes: its number, and how many bytes it takes. Bytes may follow it.

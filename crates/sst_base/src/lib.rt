@@ -31,6 +31,8 @@ pub use key::{InternalKey, SeqNo, UserKey};
 pub use slice::Slice;
 pub use steps::Steps;
 pub use table::block::{Block, BlockType, Header};
-pub use table::util::{SliceIndexes, compare_bytes, compare_prefixed_slice, longest_shared_prefix_length};
+pub use table::util::{
+    SliceIndexes, compare_bytes, compare_prefixed_slice, longest_shared_prefix_length,
+};
 pub use value::{InternalValue, UserValue};
 pub use value_type::ValueType;

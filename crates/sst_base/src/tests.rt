@@ -2,9 +2,9 @@
 // gives E15 and no other answer.
 use crate::hash::{BlockHash, Poly31};
 use crate::{
-    Block, BlockType, Checksum, Error, Header, History, InternalKey, InternalValue, Result, Slice, Steps, ValueType,
-    compare_bytes, compare_prefixed_slice, decode_varint, encode_varint, longest_shared_prefix_length, u8_at, u16_at,
-    u32_at,
+    Block, BlockType, Checksum, Error, Header, History, InternalKey, InternalValue, Result, Slice,
+    Steps, ValueType, compare_bytes, compare_prefixed_slice, decode_varint, encode_varint,
+    longest_shared_prefix_length, u8_at, u16_at, u32_at,
 };
 use std::alloc::Global;
 use std::cmp::Ordering;
@@ -21,7 +21,11 @@ fn check_slice(rt: &impl Abort, slice: Result<Slice>, bytes: &[u8]) {
 }
 
 fn check_order(rt: &impl Abort, prefix: &[u8], suffix: &[u8], needle: &[u8], order: Ordering) {
-    assert_eq!(rt; compare_prefixed_slice(prefix, suffix, needle), order, "{prefix:?} {suffix:?} {needle:?}");
+    assert_eq!(rt;
+        compare_prefixed_slice(prefix, suffix, needle),
+        order,
+        "{prefix:?} {suffix:?} {needle:?}"
+    );
 }
 
 #[test]
@@ -31,7 +35,11 @@ fn constructors_give_the_bytes(rt: HostRuntime) {
     check_slice(&rt, Slice::from_text(alloc, "ab"), b"ab");
     check_slice(&rt, Slice::from_array(alloc, *b"ab"), b"ab");
     check_slice(&rt, Slice::fused(alloc, b"a", b"b"), b"ab");
-    check_slice(&rt, Slice::collect_bytes(alloc, b"ab".iter().copied()), b"ab");
+    check_slice(
+        &rt,
+        Slice::collect_bytes(alloc, b"ab".iter().copied()),
+        b"ab",
+    );
     check_slice(&rt, Ok(Slice::empty(alloc)), b"");
     assert!(&rt; Slice::empty(alloc).is_empty());
 }
@@ -66,14 +74,22 @@ fn ample_memory_suffices(rt: HostRuntime) {
     check_made(&rt, Slice::from_text(alloc, "ab"), b"ab");
     check_made(&rt, Slice::from_array(alloc, *b"ab"), b"ab");
     check_made(&rt, Slice::fused(alloc, b"a", b"b"), b"ab");
-    check_made(&rt, Slice::collect_bytes(alloc, b"ab".iter().copied()), b"ab");
+    check_made(
+        &rt,
+        Slice::collect_bytes(alloc, b"ab".iter().copied()),
+        b"ab",
+    );
 }
 
 #[test]
 fn ample_memory_suffices_for_owned_bytes(rt: HostRuntime) -> std::result::Result<(), Fail> {
     let alloc = rt.alloc();
     check_made(&rt, Slice::from_vec(b"ab".to_vec(alloc)?), b"ab");
-    check_made(&rt, Slice::from_string(String::from_str(alloc, "ab")?), b"ab");
+    check_made(
+        &rt,
+        Slice::from_string(String::from_str(alloc, "ab")?),
+        b"ab",
+    );
     let whole = Slice::new(alloc, b"xaby")?;
     check_made(&rt, whole.slice(1..3), b"ab");
     assert!(rt; whole.clone()? == whole);
@@ -129,23 +145,56 @@ fn longer_slices_compare(rt: HostRuntime) {
     check_order(&rt, b"abc", b"d", b"b", Ordering::Less);
     check_order(&rt, b"\x80", b"\xff", b"\x7f", Ordering::Greater);
     check_order(&rt, b"\x7f", b"\xff", b"\x80", Ordering::Less);
-    check_order(&rt, b"abcdefgh", b"ijklmnopq", b"abcdefghijklmnopr", Ordering::Less);
-    check_order(&rt, b"abcdefghijklmnop", b"q", b"abcdefghijklmnop", Ordering::Greater);
-    check_order(&rt, b"abcdefgh", b"\xc8", b"abcdefgh\x7f", Ordering::Greater);
+    check_order(
+        &rt,
+        b"abcdefgh",
+        b"ijklmnopq",
+        b"abcdefghijklmnopr",
+        Ordering::Less,
+    );
+    check_order(
+        &rt,
+        b"abcdefghijklmnop",
+        b"q",
+        b"abcdefghijklmnop",
+        Ordering::Greater,
+    );
+    check_order(
+        &rt,
+        b"abcdefgh",
+        b"\xc8",
+        b"abcdefgh\x7f",
+        Ordering::Greater,
+    );
     check_order(&rt, b"abcdefg", b"hi", b"abcdefgh", Ordering::Greater);
 }
 
 #[test]
 fn words_and_tails_compare(rt: HostRuntime) {
     assert_eq!(rt; compare_bytes(b"abcdefgh", b"abcdefgh"), Ordering::Equal);
-    assert_eq!(rt; compare_bytes(b"abcdefg\x80", b"abcdefg\x7f"), Ordering::Greater);
-    assert_eq!(rt; compare_bytes(b"\x01bcdefgh", b"\x00\xffcdefgh"), Ordering::Greater);
+    assert_eq!(rt;
+        compare_bytes(b"abcdefg\x80", b"abcdefg\x7f"),
+        Ordering::Greater
+    );
+    assert_eq!(rt;
+        compare_bytes(b"\x01bcdefgh", b"\x00\xffcdefgh"),
+        Ordering::Greater
+    );
     assert_eq!(rt; compare_bytes(b"abcdefghi", b"abcdefgh"), Ordering::Greater);
-    assert_eq!(rt; compare_bytes(b"abcdefghijklmnop", b"abcdefghijklmnoq"), Ordering::Less);
+    assert_eq!(rt;
+        compare_bytes(b"abcdefghijklmnop", b"abcdefghijklmnoq"),
+        Ordering::Less
+    );
     assert_eq!(rt; longest_shared_prefix_length(b"", b"abc"), 0);
     assert_eq!(rt; longest_shared_prefix_length(b"abc", b"abd"), 2);
-    assert_eq!(rt; longest_shared_prefix_length(b"abcdefghijk", b"abcdefghijxk"), 10);
-    assert_eq!(rt; longest_shared_prefix_length(b"abcdefghijklmnop", b"abcdefghijklmnop"), 16);
+    assert_eq!(rt;
+        longest_shared_prefix_length(b"abcdefghijk", b"abcdefghijxk"),
+        10
+    );
+    assert_eq!(rt;
+        longest_shared_prefix_length(b"abcdefghijklmnop", b"abcdefghijklmnop"),
+        16
+    );
 }
 
 #[test]
@@ -155,11 +204,19 @@ fn varints_are_read(rt: HostRuntime) {
         (b"\x7f\xff".as_slice(), 16, Some((127, 1))),
         (b"\x80\x01".as_slice(), 16, Some((128, 2))),
         (b"\xf8\xff\x03\x00".as_slice(), 16, Some((65528, 3))),
-        (b"\xff\xff\xff\xff\xff\xff\xff\xff\xff\x01".as_slice(), 64, Some((u64::MAX, 10))),
+        (
+            b"\xff\xff\xff\xff\xff\xff\xff\xff\xff\x01".as_slice(),
+            64,
+            Some((u64::MAX, 10)),
+        ),
         (b"\x80\x80\x04".as_slice(), 16, None),
         (b"\x80\x80\x04".as_slice(), 32, Some((65536, 3))),
         (b"\x80\x80\x80\x80\x10".as_slice(), 32, None),
-        (b"\xff\xff\xff\xff\xff\xff\xff\xff\xff\x02".as_slice(), 64, None),
+        (
+            b"\xff\xff\xff\xff\xff\xff\xff\xff\xff\x02".as_slice(),
+            64,
+            None,
+        ),
         (b"\x80\x00".as_slice(), 64, None),
         (b"\x80".as_slice(), 64, None),
         (b"".as_slice(), 64, None),
@@ -185,7 +242,10 @@ fn hashes_are_known(rt: HostRuntime) {
     assert_eq!(rt; Poly31::hash64(b"a"), 97);
     assert_eq!(rt; Poly31::hash64(b"ab"), 3105);
     assert_eq!(rt; Poly31::hash64(b"abcdefgh"), 2758628677764);
-    assert_eq!(rt; Poly31::hash64(b"abcdefghijklmnopqrstuvwxyz"), 7250214665611535789);
+    assert_eq!(rt;
+        Poly31::hash64(b"abcdefghijklmnopqrstuvwxyz"),
+        7250214665611535789
+    );
     assert_eq!(rt; Poly31::hash64(&[255; 9]), 224736788365695);
 }
 
@@ -226,8 +286,14 @@ fn tombstones_have_no_value(rt: HostRuntime) -> std::result::Result<(), Fail> {
 fn values_print(rt: HostRuntime) -> std::result::Result<(), Fail> {
     let alloc = rt.alloc();
     let entry = InternalValue::new_tombstone(alloc, Slice::new(alloc, b"a")?, 3);
-    assert_eq!(rt; format!(in alloc; "{entry:?}")?.as_str(), "b\"a\":3:Tombstone = b\"\"");
-    assert_eq!(rt; format!(in alloc; "{}", Checksum::from_raw(5))?.as_str(), "Checksum(5)");
+    assert_eq!(rt;
+        format!(in alloc; "{entry:?}")?.as_str(),
+        "b\"a\":3:Tombstone = b\"\""
+    );
+    assert_eq!(rt;
+        format!(in alloc; "{}", Checksum::from_raw(5))?.as_str(),
+        "Checksum(5)"
+    );
     assert_eq!(rt; Checksum::from_raw(u128::MAX).into_u128(), u128::MAX);
     Ok(())
 }

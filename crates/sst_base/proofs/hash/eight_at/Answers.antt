@@ -1,4 +1,3 @@
-use Rattle.std.proofs.Common.{arith, ◌≡◌, ◌≤◌, ◌+◌, ◌*◌, length}
 use Rattle.sst_base.proofs.Polynomials.{eight_powers}
 use Rattle.sst_base.proofs.hash.eight_at.Goals as goal
 

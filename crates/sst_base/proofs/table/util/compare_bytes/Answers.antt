@@ -1,4 +1,4 @@
-use Rattle.std.proofs.Common.{arith, ◌≡◌, ◌≤◌, ◌+◌, ◌*◌, ◌∙◌, length}
+use Rattle.std.proofs.Common.{arith, ◌≤◌, ◌+◌, ◌*◌, ◌∙◌, length}
 use Rattle.sst_base.proofs.Orders.{words_same, words_differ}
 use Rattle.sst_base.proofs.table.util.compare_bytes.Goals as goal
 

@@ -1,4 +1,4 @@
-use Rattle.std.proofs.Common.{arith, ◌≡◌, ◌++◌, length}
+use Rattle.std.proofs.Common.{arith}
 use Rattle.sst_base.proofs.Joined.{needle_inside, prefix_equal, prefix_differs}
 use Rattle.sst_base.proofs.table.util.compare_prefixed_slice.Goals as goal
 

@@ -1,4 +1,4 @@
-use Rattle.std.proofs.Common.{arith, ◌≡◌, ◌≤◌, ◌+◌, ◌*◌, length}
+use Rattle.std.proofs.Common.{arith, ◌≤◌, ◌+◌, ◌*◌, length}
 use Rattle.sst_base.proofs.Orders.{words_agree}
 use Rattle.sst_base.proofs.table.util.shared_words.Goals as goal
 
