@@ -133,11 +133,13 @@ impl<'w, 'a, Item: Encodable, H: BlockHash> EncoderOver<'w, 'a, Item, H, Builder
         requires sound { IsSound Item.kind Item.valid self }
         requires some { refusal self ≡ None → 1 ≤ length (items self) }
         ensures ok { OnOk result (self.exit.0.now.items
-            ≡ payload Item.kind H.hash64 (interval self.entry) (items self.entry) (wanted_buckets self.entry)) }
+            ≡ payload Item.kind H.hash64 (interval self.entry) (items self.entry)
+            (wanted_buckets self.entry)) }
         ensures valid { OnOk result (AllByRecursion Item.valid (items self.entry)) }
         ensures err { OnErr result (self.exit.0.now.items ≡ []) }
         ensures cause { IfErr result (IsRefusal (refusal self.entry)
-            (2 ^ 32 ≤ length (payload Item.kind H.hash64 (interval self.entry) (items self.entry) (wanted_buckets self.entry)))) }
+            (2 ^ 32 ≤ length (payload Item.kind H.hash64 (interval self.entry) (items self.entry)
+            (wanted_buckets self.entry)))) }
         ensures repeated { IfSome (refusal self.entry) (λ e. result ≡ Err e) }
     {
         let EncoderOver {
@@ -203,8 +205,8 @@ fn add_head<Item: Encodable>(
 // Writes an item without what its key shares with a base key.
 #[tactic(auto, using(crate::proofs::Written::shared_inside))]
 fn add_rest<Item: Encodable>(writer: &mut Vec<u8>, base_key: &[u8], item: &Item) -> Result<()>
-    ensures ok { OnOk result (writer.new.items
-        ≡ writer.old.items ++ Item.kind.truncated item.now (shared_prefix_length base_key.now (Item.kind.key item.now))) }
+    ensures ok { OnOk result (writer.new.items ≡ writer.old.items
+        ++ Item.kind.truncated item.now (shared_prefix_length base_key.now (Item.kind.key item.now))) }
     ensures memory { IsOkUnless result Error.Memory }
 {
     let shared_len = longest_shared_prefix_length(base_key, item.key());
@@ -221,9 +223,11 @@ fn add<Item: Encodable>(
 ) -> Result<()>
     requires room { length writer.old.items < 2 ^ 32 }
     requires pointers { last_pointer pointers.old ≤ length writer.old.items }
-    ensures ok { OnOk result (writer.new.items ≡ writer.old.items ++ form_by Item.kind is_head base_key.now item.now) }
+    ensures ok { OnOk result (writer.new.items
+        ≡ writer.old.items ++ form_by Item.kind is_head base_key.now item.now) }
     ensures room { OnOk result (length writer.new.items < 2 ^ 32) }
-    ensures pointers { OnOk result (pointers.new ≡ (if is_head then pointers.old ++ length writer.old.items ∷ [] else pointers.old)) }
+    ensures pointers { OnOk result (pointers.new
+        ≡ (if is_head then pointers.old ++ length writer.old.items ∷ [] else pointers.old)) }
     ensures err { OnErr result (writer.new.items ≡ []) }
     ensures cause { IfErr result (IsRefusal None
         (2 ^ 32 ≤ length (writer.old.items ++ form_by Item.kind is_head base_key.now item.now))) }
@@ -254,8 +258,10 @@ fn write_end(
     requires room { length writer.old.items < 2 ^ 32 }
     requires some { 1 ≤ length pointers.now }
     requires heads { length pointers.now < 2 ^ 32 }
-    ensures ok { OnOk result (writer.new.items ≡ ended writer.old.items pointers.now restart_interval item_count) }
-    ensures cause { IfErr result (IsRefusal None (2 ^ 32 ≤ length (ended writer.old.items pointers.now restart_interval item_count))) }
+    ensures ok { OnOk result (writer.new.items
+        ≡ ended writer.old.items pointers.now restart_interval item_count) }
+    ensures cause { IfErr result (IsRefusal None
+        (2 ^ 32 ≤ length (ended writer.old.items pointers.now restart_interval item_count))) }
 {
     let size = writer.len() + 1 + pointers.len() * usize::from(pointers.width()) + TRAILER_SIZE;
     if size > u32::MAX as usize {
@@ -286,9 +292,11 @@ fn end(
     requires room { length writer.old.items < 2 ^ 32 }
     requires some { 1 ≤ length pointers.now }
     requires heads { length pointers.now < 2 ^ 32 }
-    ensures ok { OnOk result (writer.new.items ≡ ended writer.old.items pointers.now restart_interval item_count) }
+    ensures ok { OnOk result (writer.new.items
+        ≡ ended writer.old.items pointers.now restart_interval item_count) }
     ensures err { OnErr result (writer.new.items ≡ []) }
-    ensures cause { IfErr result (IsRefusal None (2 ^ 32 ≤ length (ended writer.old.items pointers.now restart_interval item_count))) }
+    ensures cause { IfErr result (IsRefusal None
+        (2 ^ 32 ≤ length (ended writer.old.items pointers.now restart_interval item_count))) }
 {
     match write_end(writer, pointers, restart_interval, item_count) {
         Ok(()) => Ok(()),
@@ -316,11 +324,13 @@ pub(crate) fn encode_all<Item: Encodable, H: BlockHash>(
     requires den { 1 ≤ ratio.den }
     requires no_hash { ratio.num ≡ 0 }
     ensures ok { OnOk result (writer.new.items
-        ≡ payload Item.kind H.hash64 restart_interval list.now (bucket_count ratio.num ratio.den (length list.now))) }
+        ≡ payload Item.kind H.hash64 restart_interval list.now
+        (bucket_count ratio.num ratio.den (length list.now))) }
     ensures valid { OnOk result (AllByRecursion Item.valid list.now) }
     ensures err { OnErr result (writer.new.items ≡ []) }
     ensures cause { IfErr result (IsRefusal None
-        (2 ^ 32 ≤ length (payload Item.kind H.hash64 restart_interval list.now (bucket_count ratio.num ratio.den (length list.now))))) }
+        (2 ^ 32 ≤ length (payload Item.kind H.hash64 restart_interval list.now
+        (bucket_count ratio.num ratio.den (length list.now))))) }
 {
     let mut encoder: Encoder<'_, '_, Item, H> = Encoder::new(
         writer,
