@@ -1,5 +1,5 @@
 //! The encoder of blocks.
-ghost use Rattle.std.specs.Prelude.{◌≡◌, ◌≤◌, ◌<◌, ◌^◌, ◌++◌, [], ◌∷◌, if◌then◌else◌, OnOk, OnErr, IfErr, IfSome, IsOkUnless, length, Some, None, Err, List, Result, Option};
+ghost use Rattle.std.specs.Prelude.{◌≡◌, ◌≤◌, ◌<◌, ◌^◌, ◌++◌, [], ◌∷◌, if◌then◌else◌, OnOk, OnErr, IfErr, IfSome, IsOkUnless, length, Some, None, Err};
 ghost use Rattle.std.specs.List.{AllByRecursion};
 ghost use Rattle.sst_base.specs.SharedPrefix.{shared_prefix_length};
 ghost use Rattle.sst_block_core.specs.Body.{body};
