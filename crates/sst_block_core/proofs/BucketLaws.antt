@@ -1,13 +1,13 @@
 -- Buckets: what one item more does to them, and that they see keys alone.
-use Rattle.std.proofs.Common.{◌≡◌, ℕ, ◌+◌, ◌-◌, ◌/◌, ◌%◌, ◌<◌, ◌≤◌, ◌&&◌, suc, cond, eqb, Bool, true, false, List, [], ◌∷◌, ◌++◌, length, map, filter, refl, sym, ap, ◌∙◌, arith, inl, inr}
+use Rattle.std.proofs.Common.{◌≡◌, ℕ, ◌+◌, ◌-◌, ◌/◌, ◌%◌, ◌<◌, ◌≤◌, ◌&&◌, ◌^◌, ◌*◌, min, max, suc, cond, eqb, Bool, true, false, List, [], ◌∷◌, ◌++◌, length, map, filter, refl, sym, ap, ◌∙◌, arith, inl, inr}
 use Rattle.std.specs.List.{AllByRecursion, enumerate_from, list_all}
-use Rattle.std.proofs.lemmas.Bool.{eq-eqb, ne_eqb, cases_eq, cases_Bool}
+use Rattle.std.proofs.lemmas.Bool.{eq-eqb, ne_eqb, cases_eq, cases_lt, cases_Bool}
 use Rattle.std.proofs.lemmas.Nat.{le-div}
 use Rattle.std.proofs.lemmas.List.{append-nil}
-use Rattle.std.proofs.Math.Nat.{div-mul-le_self, add-div_right}
+use Rattle.std.proofs.Math.Nat.{div-mul-le_self, add-div_right, mul-div_cancel_left}
 use Rattle.sst_block_core.specs.Kind.{Kind, IsKind}
 use Rattle.sst_block_core.specs.Pointers.{head_count}
-use Rattle.sst_block_core.specs.Buckets.{bucket_byte, bucket, bucket_byte_with}
+use Rattle.sst_block_core.specs.Buckets.{bucket_byte, bucket, bucket_byte_with, bucket_count}
 
 -- does what an item of a choice is mapped to follow the choice?
 map_cond : {X Y : Type 0} (f : X → Y) (t : Bool) (x : X) (xs : List X) → map f (cond t (x ∷ xs) xs) ≡ cond t (f x ∷ map f xs) (map f xs)
@@ -97,3 +97,13 @@ module _ {X : Type 0} (kind : Kind X) (hash : List ℕ → ℕ) (r b q : ℕ) wh
     -- how items come back changes no bucket
     pub bucket-plain : (items : List X) → bucket kind hash r (map kind.plain items) b q ≡ bucket kind hash r items b q
     bucket-plain items = ap bucket_byte (intervals-plain 0 items)
+
+own : (b : ℕ) → 0 < b → b < 2 ^ 32 → min (2 ^ 32 - 1) (max 1 b) ≡ b
+own b some most = omega arith
+
+-- as many buckets as items times so many, for each item
+pub bucket_count-own : (n b : ℕ) → 1 ≤ n → b < 2 ^ 32 → bucket_count b n n ≡ b
+bucket_count-own n b pos most = elim (cases_lt 0 b) [
+  | inl some ↦ rw (ne_eqb b 0 (λ z. omega (arith, z, some))) (ap (λ q. min (2 ^ 32 - 1) (max 1 q)) (mul-div_cancel_left b pos) ∙ own b some most)
+  | inr none ↦ let z : b ≡ 0 = omega arith in rw z refl
+]
