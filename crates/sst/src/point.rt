@@ -1,7 +1,10 @@
 //! `point`: one data block of all entries, and one look-up in it.
-ghost use Rattle.std.specs.Prelude.{◌≤◌, length};
+ghost use Rattle.std.specs.Prelude.{◌≡◌, ◌≤◌, ◌<◌, ◌^◌, length, string_bytes, map, IfOk, IfErr, IsOkUnless};
 ghost use Rattle.sst_block_core.specs.Kind.{IsOrdered};
 ghost use Rattle.sst_block_core.specs.Entries.{entries};
+ghost use Rattle.sst_block_core.specs.Encoders.{IsRefusal};
+ghost use Rattle.sst_base.specs.Entry.{plain};
+ghost use Rattle.sst.specs.Point.{point_payload, point_text_of, answer_line_of};
 
 use crate::fault::Fault;
 use crate::input::read_all;
@@ -27,7 +30,10 @@ fn first_disorder(items: &[InternalValue]) -> usize {
 }
 
 // The block with this payload.
-fn block_of(bytes: Vec<u8>) -> Result<Block> {
+fn block_of(bytes: Vec<u8>) -> Result<Block>
+    ensures payload { IfOk result (λ block. block.payload ≡ bytes.items) }
+    ensures cause { IfErr result (IsRefusal None (2 ^ 32 ≤ length bytes.items)) }
+{
     let len = u32::try_from(bytes.len()).map_err(|_| Error::TooLong)?;
     let header = Header {
         block_type: BlockType::Data,
@@ -39,14 +45,36 @@ fn block_of(bytes: Vec<u8>) -> Result<Block> {
 }
 
 // The line of the entry that is found, or `none`.
-fn answer_line(alloc: Global, found: Option<InternalValue>) -> Result<String> {
+fn answer_line(alloc: Global, found: Option<InternalValue>) -> Result<String>
+    ensures ok { IfOk result (λ line. string_bytes line ≡ answer_line_of found) }
+    ensures memory { IsOkUnless result Error.Memory }
+{
     match found {
         Some(item) => entry_line(alloc, &item),
         None => Ok(String::from_str(alloc, "none")?),
     }
 }
 
-/// The two lines that `point` prints for these entries.
+// The block of these entries, without buckets.
+fn block_with(
+    alloc: Global,
+    items: &[InternalValue],
+    interval: u8,
+) -> Result<DataBlock<Poly31>>
+    requires some { 1 ≤ length items.now }
+    requires ordered { IsOrdered entries items.now }
+    requires interval { 1 ≤ interval }
+    ensures payload { IfOk result (λ block. block.payload ≡ point_payload items.now interval) }
+    ensures items { IfOk result (λ block. block.items ≡ map plain items.now) }
+    ensures cause { IfErr result (IsRefusal None (2 ^ 32 ≤ length (point_payload items.now interval))) }
+{
+    let ratio = HashRatio { num: 0, den: 1 };
+    let bytes = DataBlock::<Poly31>::encode_into_vec(alloc, items, interval, ratio)?;
+    Ok(DataBlock::new(block_of(bytes)?))
+}
+
+/// The two lines that `point` prints for these entries. E6 comes only where the block has 2^32 bytes or more, and the
+/// only other error is E15.
 pub fn point_text(
     alloc: Global,
     items: &[InternalValue],
@@ -57,12 +85,12 @@ pub fn point_text(
     requires some { 1 ≤ length items.now }
     requires ordered { IsOrdered entries items.now }
     requires interval { 1 ≤ interval }
+    ensures ok { IfOk result (λ text. string_bytes text ≡ point_text_of items.now interval needle.now seqno) }
+    ensures cause { IfErr result (IsRefusal None (2 ^ 32 ≤ length (point_payload items.now interval))) }
 {
-    let ratio = HashRatio { num: 0, den: 1 };
-    let bytes = DataBlock::<Poly31>::encode_into_vec(alloc, items, interval, ratio)?;
-    let block_text = hex::encode(alloc, bytes.as_slice())?;
-    let block = DataBlock::<Poly31>::new(block_of(bytes)?);
+    let block = block_with(alloc, items, interval)?;
     let found = block.point_read(alloc, needle, seqno, &mut Steps::new())?;
+    let block_text = hex::encode(alloc, block.as_slice().as_slice())?;
     let answer = answer_line(alloc, found)?;
     Ok(format!(in alloc; "{block_text}\n{answer}\n")?)
 }
