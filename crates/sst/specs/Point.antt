@@ -20,4 +20,4 @@ answer_line_of (Some e) = entry_line_of e
 abbrev pub point_text_of : List Entry → ℕ → List ℕ → ℕ → List ℕ
 point_text_of items interval needle seqno =
     encode_lower (point_payload items interval) ++ (10 ∷ [])
-        ++ answer_line_of (first_match entries needle seqno (map plain items)) ++ (10 ∷ [])
+    ++ answer_line_of (first_match entries needle seqno (map plain items)) ++ (10 ∷ [])

@@ -5,16 +5,15 @@ pub mod fault;
 pub mod input;
 pub mod lines;
 pub mod point;
-pub mod text;
 #[cfg(test)]
 mod tests;
+pub mod text;
 pub mod words;
 
 ghost use Rattle.std.specs.Prelude.{◌≡◌, ◌≤◌, is_ok, if◌then◌else◌};
 
-pub use lines::entry_line;
-
 use fault::Fault;
+pub use lines::entry_line;
 use point::point;
 use std::alloc::Global;
 use std::convert::AsSlice;

@@ -1,5 +1,6 @@
 //! `point`: one data block of all entries, and one look-up in it.
-ghost use Rattle.std.specs.Prelude.{◌≡◌, ◌≤◌, ◌<◌, ◌^◌, length, string_bytes, map, IfOk, IfErr, IsOkUnless};
+ghost use Rattle.std.specs.Prelude.{◌≡◌, ◌≤◌, ◌<◌, ◌^◌, length, string_bytes, map, IfOk, IfErr, OnOk, IsOkUnless};
+ghost use Rattle.std.specs.Io.KnownBytes.{Appends};
 ghost use Rattle.sst_block_core.specs.Kind.{IsOrdered};
 ghost use Rattle.sst_block_core.specs.Entries.{entries};
 ghost use Rattle.sst_block_core.specs.Encoders.{IsRefusal};
@@ -56,11 +57,7 @@ fn answer_line(alloc: Global, found: Option<InternalValue>) -> Result<String>
 }
 
 // The block of these entries, without buckets.
-fn block_with(
-    alloc: Global,
-    items: &[InternalValue],
-    interval: u8,
-) -> Result<DataBlock<Poly31>>
+fn block_with(alloc: Global, items: &[InternalValue], interval: u8) -> Result<DataBlock<Poly31>>
     requires some { 1 ≤ length items.now }
     requires ordered { IsOrdered entries items.now }
     requires interval { 1 ≤ interval }
@@ -109,7 +106,13 @@ fn text_for<I: Read>(
     if !DataBlock::<Poly31>::is_ordered(items.as_slice()) {
         return Err(Fault::Order(first_disorder(items.as_slice())));
     }
-    Ok(point_text(alloc, items.as_slice(), words.interval, needle.as_slice(), words.seqno)?)
+    Ok(point_text(
+        alloc,
+        items.as_slice(),
+        words.interval,
+        needle.as_slice(),
+        words.seqno,
+    )?)
 }
 
 /// Reads entries, and prints their block and what is found in it. Where it refuses, nothing is printed, or a beginning
@@ -126,7 +129,10 @@ pub fn point<I: Read, O: Write>(
 }
 
 // E1 where the output fails.
-fn print_text<O: Write>(output: &mut O, text: &str) -> Result<()> {
+fn print_text<O: Write>(output: &mut O, text: &str) -> Result<()>
+    ensures printed { OnOk result (Appends (O.contents output.old) (O.contents output.new) text.now) }
+    ensures cause { IsOkUnless result Error.Io }
+{
     output.write_all(text.as_bytes())?;
     output.flush()?;
     Ok(())

@@ -52,43 +52,61 @@ fn check_prints<R: Files + Abort>(
     if let (Ok(run), Ok(printed)) = (make_run(rt, alloc, words, input), printed) {
         let faults = run.faults.as_slice();
         if run.status == 0 {
-            assert_eq!(rt; std::str::from_utf8(run.output.as_slice()), Ok(printed.as_str()));
+            assert_eq!(rt;
+                std::str::from_utf8(run.output.as_slice()),
+                Ok(printed.as_str())
+            );
             assert!(rt; faults.is_empty());
         } else {
             assert_eq!(rt; run.status, 1);
             assert!(rt; printed.as_bytes().starts_with(run.output.as_slice()));
-            assert!(rt; faults == b"sst: E15 Memory\n".as_slice() || faults == b"sst: E1 Io\n".as_slice());
+            assert!(rt;
+                faults == b"sst: E15 Memory\n".as_slice() || faults == b"sst: E1 Io\n".as_slice()
+            );
         }
     }
 }
 
 // A run prints nothing, its status is 1, and it tells this fault, or E15 where memory is refused.
-fn check_fault<R: Files + Abort>(
-    rt: &R,
-    alloc: Global,
-    words: &[&str],
-    input: &[u8],
-    fault: &str,
-) {
+fn check_fault<R: Files + Abort>(rt: &R, alloc: Global, words: &[&str], input: &[u8], fault: &str) {
     if let Ok(run) = make_run(rt, alloc, words, input) {
         assert_eq!(rt; run.status, 1, "{words:?}");
         assert!(rt; run.output.is_empty());
         if run.faults.as_slice() != b"sst: E15 Memory\n".as_slice() {
-            assert_eq!(rt; std::str::from_utf8(run.faults.as_slice()), Ok(fault), "{words:?}");
+            assert_eq!(rt;
+                std::str::from_utf8(run.faults.as_slice()),
+                Ok(fault),
+                "{words:?}"
+            );
         }
     }
 }
 
-const ONE_ENTRY: &str = "000001620162ff000001020100000007000000000000000000000001000000000000000001000000";
+const ONE_ENTRY: &str =
+    "000001620162ff000001020100000007000000000000000000000001000000000000000001000000";
 
 #[test]
 fn one_entry_is_printed_and_found(rt: HostRuntime) {
     let alloc = rt.alloc();
-    check_prints(&rt, alloc, &["point", "1", "62", "1"], b"V 0 62 62\n", ONE_ENTRY, "V 0 62 62");
+    check_prints(
+        &rt,
+        alloc,
+        &["point", "1", "62", "1"],
+        b"V 0 62 62\n",
+        ONE_ENTRY,
+        "V 0 62 62",
+    );
     let zeros = ["point", "001", "62", "0000000000000000000000001"];
     check_prints(&rt, alloc, &zeros, b"V 000 62 62", ONE_ENTRY, "V 0 62 62");
     let block = "000001620162ff000010020100000007000000000000000000000001000000000000000001000000";
-    check_prints(&rt, alloc, &["point", "16", "62", "1"], b"V 0 62 62\n", block, "V 0 62 62");
+    check_prints(
+        &rt,
+        alloc,
+        &["point", "16", "62", "1"],
+        b"V 0 62 62\n",
+        block,
+        "V 0 62 62",
+    );
 }
 
 #[test]
@@ -102,7 +120,14 @@ fn ample_memory_suffices(rt: HostRuntime) -> Result<(), Fail> {
 #[test]
 fn none_is_an_answer(rt: HostRuntime) {
     for key in ["62", "-", "61", "6262", "00"] {
-        check_prints(&rt, rt.alloc(), &["point", "1", key, "0"], b"V 0 62 62\n", ONE_ENTRY, "none");
+        check_prints(
+            &rt,
+            rt.alloc(),
+            &["point", "1", key, "0"],
+            b"V 0 62 62\n",
+            ONE_ENTRY,
+            "none",
+        );
     }
     for key in ["-", "61", "6262", "00"] {
         let words = ["point", "1", key, "18446744073709551615"];
@@ -113,33 +138,91 @@ fn none_is_an_answer(rt: HostRuntime) {
 #[test]
 fn the_largest_seqno_is_never_found(rt: HostRuntime) {
     let words = ["point", "1", "61", "18446744073709551615"];
-    let block = "00ffffffffffffffffff0101610178ff000001020100000010000000000000000000000001000000000000000001000000";
-    check_prints(&rt, rt.alloc(), &words, b"V 18446744073709551615 61 78\n", block, "none");
+    let block =
+        "00ffffffffffffffffff0101610178ff000001020100000010000000000000000000000001000000000000000001000000";
+    check_prints(
+        &rt,
+        rt.alloc(),
+        &words,
+        b"V 18446744073709551615 61 78\n",
+        block,
+        "none",
+    );
 }
 
 #[test]
 fn versions_of_a_key_are_told_apart(rt: HostRuntime) {
     let alloc = rt.alloc();
     let input = b"V 2 6162 78\nT 1 6162 7A7a\nV 300 6163 79\n";
-    let block = "000202616201780101020000ac020261630179ff00000b0002020200000014000000000000000000000001000000000000000003000000";
-    check_prints(&rt, alloc, &["point", "2", "6162", "3"], input, block, "V 2 6162 78");
-    check_prints(&rt, alloc, &["point", "2", "6162", "2"], input, block, "T 1 6162 -");
-    check_prints(&rt, alloc, &["point", "2", "6162", "1"], input, block, "none");
-    check_prints(&rt, alloc, &["point", "2", "6163", "301"], input, block, "V 300 6163 79");
+    let block =
+        "000202616201780101020000ac020261630179ff00000b0002020200000014000000000000000000000001000000000000000003000000";
+    check_prints(
+        &rt,
+        alloc,
+        &["point", "2", "6162", "3"],
+        input,
+        block,
+        "V 2 6162 78",
+    );
+    check_prints(
+        &rt,
+        alloc,
+        &["point", "2", "6162", "2"],
+        input,
+        block,
+        "T 1 6162 -",
+    );
+    check_prints(
+        &rt,
+        alloc,
+        &["point", "2", "6162", "1"],
+        input,
+        block,
+        "none",
+    );
+    check_prints(
+        &rt,
+        alloc,
+        &["point", "2", "6163", "301"],
+        input,
+        block,
+        "V 300 6163 79",
+    );
 }
 
 #[test]
 fn a_tombstone_has_no_value(rt: HostRuntime) {
     let block = "01070161ff000001020100000005000000000000000000000001000000000000000001000000";
-    check_prints(&rt, rt.alloc(), &["point", "1", "61", "8"], b"T 7 61 7878", block, "T 7 61 -");
-    check_fault(&rt, rt.alloc(), &["point", "1", "61", "8"], b"T 7 61 zz\n", "sst: line 1: entry\n");
+    check_prints(
+        &rt,
+        rt.alloc(),
+        &["point", "1", "61", "8"],
+        b"T 7 61 7878",
+        block,
+        "T 7 61 -",
+    );
+    check_fault(
+        &rt,
+        rt.alloc(),
+        &["point", "1", "61", "8"],
+        b"T 7 61 zz\n",
+        "sst: line 1: entry\n",
+    );
 }
 
 #[test]
 fn shared_keys_are_cut(rt: HostRuntime) {
     let words = ["point", "16", "616263", "1"];
-    let block = "00000161017800000101620000000102626300ff000010020100000014000000000000000000000001000000000000000003000000";
-    check_prints(&rt, rt.alloc(), &words, b"V 0 61 78\nV 0 6162 -\nV 0 616263 -\n", block, "V 0 616263 -");
+    let block =
+        "00000161017800000101620000000102626300ff000010020100000014000000000000000000000001000000000000000003000000";
+    check_prints(
+        &rt,
+        rt.alloc(),
+        &words,
+        b"V 0 61 78\nV 0 6162 -\nV 0 616263 -\n",
+        block,
+        "V 0 616263 -",
+    );
 }
 
 #[test]
@@ -165,7 +248,13 @@ fn lines_that_are_no_entries_are_named(rt: HostRuntime) {
         b"V 0 62 \xff\xfe\n",
     ];
     for input in inputs {
-        check_fault(&rt, rt.alloc(), &["point", "1", "62", "1"], input, "sst: line 1: entry\n");
+        check_fault(
+            &rt,
+            rt.alloc(),
+            &["point", "1", "62", "1"],
+            input,
+            "sst: line 1: entry\n",
+        );
     }
 }
 
@@ -175,8 +264,20 @@ fn the_first_line_that_is_no_entry_is_named(rt: HostRuntime) {
     let words = ["point", "1", "62", "1"];
     check_fault(&rt, alloc, &words, b"\n", "sst: line 1: entry\n");
     check_fault(&rt, alloc, &words, b"V 0 62 62\n\n", "sst: line 2: entry\n");
-    check_fault(&rt, alloc, &words, b"V 0 62 62\n\nV 0 63 62\n", "sst: line 2: entry\n");
-    check_fault(&rt, alloc, &words, b"V 0 62 -\nV 0 61 -\nV 0 zz -\n", "sst: line 3: entry\n");
+    check_fault(
+        &rt,
+        alloc,
+        &words,
+        b"V 0 62 62\n\nV 0 63 62\n",
+        "sst: line 2: entry\n",
+    );
+    check_fault(
+        &rt,
+        alloc,
+        &words,
+        b"V 0 62 -\nV 0 61 -\nV 0 zz -\n",
+        "sst: line 3: entry\n",
+    );
     check_fault(&rt, alloc, &words, b"", "sst: no entries\n");
 }
 
@@ -184,8 +285,20 @@ fn the_first_line_that_is_no_entry_is_named(rt: HostRuntime) {
 fn disorder_is_named(rt: HostRuntime) {
     let alloc = rt.alloc();
     let words = ["point", "1", "62", "1"];
-    check_fault(&rt, alloc, &words, b"V 0 62 -\nV 0 61 -\n", "sst: line 2: order\n");
-    check_fault(&rt, alloc, &words, b"V 0 61 -\nV 0 61 -\nV 1 61 -\nV 0 60 -\n", "sst: line 3: order\n");
+    check_fault(
+        &rt,
+        alloc,
+        &words,
+        b"V 0 62 -\nV 0 61 -\n",
+        "sst: line 2: order\n",
+    );
+    check_fault(
+        &rt,
+        alloc,
+        &words,
+        b"V 0 61 -\nV 0 61 -\nV 1 61 -\nV 0 60 -\n",
+        "sst: line 3: order\n",
+    );
 }
 
 #[test]
@@ -216,7 +329,13 @@ fn words_are_checked_first(rt: HostRuntime) {
 }
 
 // A text, a hex byte so many times, and another text.
-fn long_line(alloc: Global, front: &str, byte: &str, count: usize, back: &str) -> Result<Vec<u8>, AllocError> {
+fn long_line(
+    alloc: Global,
+    front: &str,
+    byte: &str,
+    count: usize,
+    back: &str,
+) -> Result<Vec<u8>, AllocError> {
     let mut line = Vec::new(alloc);
     line.extend_from_slice(front.as_bytes())?;
     for _ in 0..count {
@@ -230,13 +349,21 @@ fn long_line(alloc: Global, front: &str, byte: &str, count: usize, back: &str) -
 fn pointers_grow_with_the_offsets(rt: HostRuntime) {
     for (count, len) in [(65528, 65576), (65529, 65581)] {
         if let Ok(input) = long_line(rt.alloc(), "V 0 61 ", "76", count, "\nV 0 62 -\n") {
-            if let Ok(run) = make_run(&rt, rt.alloc(), &["point", "1", "62", "1"], input.as_slice()) {
+            if let Ok(run) = make_run(
+                &rt,
+                rt.alloc(),
+                &["point", "1", "62", "1"],
+                input.as_slice(),
+            ) {
                 if run.status == 0 {
                     let line = run.output.iter().position(|byte| *byte == b'\n');
                     assert_eq!(rt; line, Some(2 * len));
                     assert!(rt; run.output.as_slice().ends_with(b"\nV 0 62 -\n"));
                 } else {
-                    assert!(rt; run.faults.as_slice().ends_with(b" Memory\n") || run.faults.as_slice().ends_with(b" Io\n"));
+                    assert!(rt;
+                        run.faults.as_slice().ends_with(b" Memory\n")
+                            || run.faults.as_slice().ends_with(b" Io\n")
+                    );
                 }
             }
         }
@@ -247,7 +374,13 @@ fn pointers_grow_with_the_offsets(rt: HostRuntime) {
 fn keys_have_a_limit(rt: HostRuntime) {
     let words = ["point", "1", "-", "1"];
     if let Ok(input) = long_line(rt.alloc(), "V 0 ", "61", 65536, " -\n") {
-        check_fault(&rt, rt.alloc(), &words, input.as_slice(), "sst: line 1: entry\n");
+        check_fault(
+            &rt,
+            rt.alloc(),
+            &words,
+            input.as_slice(),
+            "sst: line 1: entry\n",
+        );
     }
     if let Ok(input) = long_line(rt.alloc(), "V 0 ", "61", 65535, " -\n") {
         if let Ok(run) = make_run(&rt, rt.alloc(), &words, input.as_slice()) {
@@ -261,7 +394,14 @@ fn keys_have_a_limit(rt: HostRuntime) {
 fn nobody_has_a_key_that_is_too_long(rt: HostRuntime) {
     if let Ok(key) = long_line(rt.alloc(), "", "61", 65536, "") {
         if let Ok(key) = std::str::from_utf8(key.as_slice()) {
-            check_prints(&rt, rt.alloc(), &["point", "1", key, "1"], b"V 0 62 62\n", ONE_ENTRY, "none");
+            check_prints(
+                &rt,
+                rt.alloc(),
+                &["point", "1", key, "1"],
+                b"V 0 62 62\n",
+                ONE_ENTRY,
+                "none",
+            );
         }
     }
 }
@@ -319,7 +459,9 @@ fn a_reader_may_be_slow_or_fail(rt: HostRuntime) {
         let faults = run.faults.as_slice();
         assert_eq!(rt; run.status, 1);
         assert!(rt; run.output.is_empty());
-        assert!(rt; faults == b"sst: E1 Io\n".as_slice() || faults == b"sst: E15 Memory\n".as_slice());
+        assert!(rt;
+            faults == b"sst: E1 Io\n".as_slice() || faults == b"sst: E15 Memory\n".as_slice()
+        );
     }
 }
 
@@ -352,7 +494,14 @@ fn a_writer_may_fail(rt: HostRuntime) {
         let mut place = [0u8; 32];
         let mut faults: &mut [u8] = &mut place;
         let words = ["point", "1", "62", "1"];
-        let status = sst_main(&rt, rt.alloc(), &words, &mut input, &mut output, &mut faults);
+        let status = sst_main(
+            &rt,
+            rt.alloc(),
+            &words,
+            &mut input,
+            &mut output,
+            &mut faults,
+        );
         assert_eq!(rt; status, 1, "{room}");
         assert!(rt; place.starts_with(b"sst: E1 Io\n") || place.starts_with(b"sst: E15 Memory\n"));
     }
@@ -364,7 +513,14 @@ fn faults_that_cannot_be_told_leave_the_status(rt: HostRuntime) {
     let mut output = Narrow { room: 0 };
     let mut faults = Narrow { room: 3 };
     let words = ["point", "1", "62", "1"];
-    let status = sst_main(&rt, rt.alloc(), &words, &mut input, &mut output, &mut faults);
+    let status = sst_main(
+        &rt,
+        rt.alloc(),
+        &words,
+        &mut input,
+        &mut output,
+        &mut faults,
+    );
     assert_eq!(rt; status, 1);
 }
 
@@ -375,7 +531,13 @@ fn refusals_have_numbers_and_names(rt: HostRuntime) {
         (Error::Io, "E1 Io"),
         (Error::InvalidHeader(HeaderName::Block), "E2 InvalidHeader"),
         (Error::InvalidTag(TagName::BlockType, 4), "E3 InvalidTag"),
-        (Error::ChecksumMismatch { got: checksum, expected: checksum }, "E4 ChecksumMismatch"),
+        (
+            Error::ChecksumMismatch {
+                got: checksum,
+                expected: checksum,
+            },
+            "E4 ChecksumMismatch",
+        ),
         (Error::LengthMismatch, "E5 LengthMismatch"),
         (Error::TooLong, "E6 TooLong"),
         (Error::Truncated, "E7 Truncated"),
@@ -468,6 +630,16 @@ fn a_word_that_is_no_text_is_usage(rt: HostRuntime) {
     let mut faults: &mut [u8] = &mut place;
     let mut input: &[u8] = b"V 0 62 62\n";
     let mut output = Narrow { room: 0 };
-    assert_eq!(rt; sst_main(&rt, rt.alloc(), &words, &mut input, &mut output, &mut faults), 1);
+    assert_eq!(rt;
+        sst_main(
+            &rt,
+            rt.alloc(),
+            &words,
+            &mut input,
+            &mut output,
+            &mut faults
+        ),
+        1
+    );
     assert!(rt; place.starts_with(b"sst: usage\n"));
 }
