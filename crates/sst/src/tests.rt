@@ -1,6 +1,6 @@
 // What the clauses do not say: whole runs, whose expected lines come from outside, and that refused memory gives no
 // other answer.
-use crate::fault::{Fault, refusal_name};
+use crate::fault::Fault;
 use crate::lines::{entry_in, entry_line};
 use crate::sst_main;
 use crate::words::words_of;
@@ -524,38 +524,41 @@ fn faults_that_cannot_be_told_leave_the_status(rt: HostRuntime) {
     assert_eq!(rt; status, 1);
 }
 
+// The line of a refusal is the program's name, a colon, a space, and this number and name.
+fn check_name(rt: &impl Abort, alloc: Global, error: Error, name: &str) {
+    let fault = Fault::from(error);
+    if let Ok(line) = format!(in alloc; "{fault}") {
+        assert!(rt; line.as_str().starts_with("sst: E"));
+        assert!(rt; line.as_str().ends_with(name));
+        assert_eq!(rt; line.len(), name.len().saturating_add(5));
+    }
+}
+
 #[test]
 fn refusals_have_numbers_and_names(rt: HostRuntime) {
+    let alloc = rt.alloc();
     let checksum = Checksum::from_raw(7);
-    let names = [
-        (Error::Io, "E1 Io"),
-        (Error::InvalidHeader(HeaderName::Block), "E2 InvalidHeader"),
-        (Error::InvalidTag(TagName::BlockType, 4), "E3 InvalidTag"),
-        (
-            Error::ChecksumMismatch {
-                got: checksum,
-                expected: checksum,
-            },
-            "E4 ChecksumMismatch",
-        ),
-        (Error::LengthMismatch, "E5 LengthMismatch"),
-        (Error::TooLong, "E6 TooLong"),
-        (Error::Truncated, "E7 Truncated"),
-        (Error::BadTrailer, "E8 BadTrailer"),
-        (Error::BadEntry, "E9 BadEntry"),
-        (Error::OutOfOrder, "E10 OutOfOrder"),
-        (Error::BadIndex, "E11 BadIndex"),
-        (Error::BadHashIndex, "E12 BadHashIndex"),
-        (Error::BadFilter, "E13 BadFilter"),
-        (Error::BadHandle, "E14 BadHandle"),
-        (Error::Memory, "E15 Memory"),
-    ];
-    for (error, name) in names {
-        assert_eq!(rt; refusal_name(error), name);
-        if let Ok(line) = format!(in rt.alloc(); "{}", Fault::Refused(error)) {
-            assert_eq!(rt; line.as_str().strip_prefix("sst: "), Some(name));
-        }
-    }
+    check_name(&rt, alloc, Error::Io, "E1 Io");
+    let header = Error::InvalidHeader(HeaderName::Block);
+    check_name(&rt, alloc, header, "E2 InvalidHeader");
+    let tag = Error::InvalidTag(TagName::BlockType, 4);
+    check_name(&rt, alloc, tag, "E3 InvalidTag");
+    let mismatch = Error::ChecksumMismatch {
+        got: checksum,
+        expected: checksum,
+    };
+    check_name(&rt, alloc, mismatch, "E4 ChecksumMismatch");
+    check_name(&rt, alloc, Error::LengthMismatch, "E5 LengthMismatch");
+    check_name(&rt, alloc, Error::TooLong, "E6 TooLong");
+    check_name(&rt, alloc, Error::Truncated, "E7 Truncated");
+    check_name(&rt, alloc, Error::BadTrailer, "E8 BadTrailer");
+    check_name(&rt, alloc, Error::BadEntry, "E9 BadEntry");
+    check_name(&rt, alloc, Error::OutOfOrder, "E10 OutOfOrder");
+    check_name(&rt, alloc, Error::BadIndex, "E11 BadIndex");
+    check_name(&rt, alloc, Error::BadHashIndex, "E12 BadHashIndex");
+    check_name(&rt, alloc, Error::BadFilter, "E13 BadFilter");
+    check_name(&rt, alloc, Error::BadHandle, "E14 BadHandle");
+    check_name(&rt, alloc, Error::Memory, "E15 Memory");
 }
 
 // A printed line, read and printed again, is the same.
