@@ -1,5 +1,5 @@
 //! Why a run ends without an answer, and the line that says so.
-use sst_base::Error;
+use sstable_blocks::Error;
 use std::alloc::{AllocError, AllocFailed};
 use std::fmt;
 

@@ -1,7 +1,7 @@
 //! Reading all of an input.
 ghost use Rattle.std.specs.Prelude.{◌≡◌, IfOk, IfSome};
 
-use sst_base::{Error, Result};
+use sstable_blocks::{Error, Result};
 use std::alloc::Global;
 use std::io::{ErrorKind, Read};
 

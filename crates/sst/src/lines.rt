@@ -5,7 +5,7 @@ ghost use Rattle.sst.specs.Line.{entry_line_of, letter_of, byte_text_of, joined_
 
 use crate::fault::Fault;
 use crate::text::{bytes_in, number_in};
-use sst_base::{Error, InternalValue, Result, Slice, ValueType};
+use sstable_blocks::{Error, InternalValue, Result, Slice, ValueType};
 use std::alloc::Global;
 
 // The letter of a type.

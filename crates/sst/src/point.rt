@@ -12,11 +12,10 @@ use crate::input::read_all;
 use crate::lines::{entries_in, entry_line};
 use crate::text::bytes_in;
 use crate::words::PointWords;
-use sst_base::{
-    Block, BlockHash, BlockType, Checksum, Error, HashRatio, Header, InternalValue, Poly31, Result,
-    SeqNo, Slice, Steps,
+use sstable_blocks::{
+    Block, BlockHash, BlockType, Checksum, DataBlock, Error, HashRatio, Header, InternalValue,
+    Poly31, Result, SeqNo, Slice, Steps,
 };
-use sst_block_core::DataBlock;
 use std::alloc::Global;
 use std::io::{Read, Write};
 

@@ -4,7 +4,7 @@ use crate::fault::Fault;
 use crate::lines::{entry_in, entry_line};
 use crate::sst_main;
 use crate::words::words_of;
-use sst_base::{Checksum, Error, HeaderName, TagName};
+use sstable_blocks::{Checksum, Error, HeaderName, TagName};
 use std::alloc::{AllocError, Global};
 use std::env::{Env, FillError};
 use std::io;
@@ -562,7 +562,7 @@ fn refusals_have_numbers_and_names(rt: HostRuntime) {
 }
 
 // A printed line, read and printed again, is the same.
-fn check_line(rt: &impl Abort, alloc: Global, line: &str) -> sst_base::Result<()> {
+fn check_line(rt: &impl Abort, alloc: Global, line: &str) -> sstable_blocks::Result<()> {
     match entry_in(alloc, line.as_bytes())? {
         Some(item) => assert_eq!(rt; entry_line(alloc, &item)?.as_str(), line),
         None => assert!(rt; false, "{line}"),

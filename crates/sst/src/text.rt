@@ -4,7 +4,7 @@ ghost use Rattle.std.specs.Option.{option_map};
 ghost use Rattle.std.specs.Str.Parse.{digits_value};
 ghost use Rattle.sst.specs.Text.{IsNumberText, bytes_spelled};
 
-use sst_base::{Error, Result};
+use sstable_blocks::{Error, Result};
 use std::alloc::Global;
 
 /// The number that decimal digits spell: at least one digit, with any count of leading zeros, and nothing else.

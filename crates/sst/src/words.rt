@@ -2,7 +2,7 @@
 ghost use Rattle.std.specs.Prelude.{◌≤◌};
 
 use crate::text::{is_byte_text, number_in};
-use sst_base::{Error, Result};
+use sstable_blocks::{Error, Result};
 use std::alloc::Global;
 use std::convert::AsSlice;
 use std::env::{Env, FillError};
