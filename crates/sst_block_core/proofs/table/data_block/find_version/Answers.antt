@@ -1,4 +1,4 @@
-use Rattle.std.proofs.Common.{◌∙◌, sym}
+use Rattle.std.proofs.Common.{◌∙◌}
 use Rattle.sst_block_core.specs.Entries.{entries}
 use Rattle.sst_block_core.specs.ParsedEntry.{entry_of, IsParsedEntry}
 use Rattle.sst_block_core.specs.Window.{is_version}

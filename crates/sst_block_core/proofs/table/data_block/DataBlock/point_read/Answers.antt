@@ -1,4 +1,4 @@
-use Rattle.std.proofs.Common.{◌≡◌, ◌∙◌, Option, Result, Ok, Err, Some, None, OnErr, ap, refl, sym, subst, filter, slice_get}
+use Rattle.std.proofs.Common.{◌∙◌, Option, Result, Ok, Err, Some, None, OnErr, ap, refl, sym, subst, filter, slice_get}
 use Rattle.std.specs.Option.{IsSome}
 use Rattle.sst_base.specs.Entry.{Entry}
 use Rattle.sst_block_core.specs.Entries.{entries}
