@@ -1,5 +1,5 @@
 pub mod Shared
 pub mod Joined
 pub mod Polynomials
-pub mod Words
 pub mod Orders
+pub mod ShortVarints

@@ -4,27 +4,15 @@ use Rattle.std.proofs.lemmas.List.{length-take-le}
 use Rattle.std.proofs.lemmas.Cmp.{ranked}
 use Rattle.std.specs.Cmp.{nat_cmp_is}
 use Rattle.std.specs.Cmp.Lexicographic.{slice_cmp}
-use Rattle.std.specs.Int.{w64, from_be_bytes}
 use Rattle.std.specs.Ordering.{nat_cmp, ordering_then}
 use Rattle.std.specs.declared.cmp.Ordering.{Ordering}
 use Rattle.std.specs.declared.cmp.Ordering.TheVariants.{Less, Equal, Greater}
-use Rattle.sst_base.specs.Bytes.{IsBytes, be_number}
+use Rattle.byteorder.specs.Endian.{big_number}
+use Rattle.byteorder.specs.Numbers.{big_from-take}
+use Rattle.sst_base.specs.Bytes.{IsBytes}
 use Rattle.sst_base.specs.BytesLaws.{IsBytes-take, IsBytes-drop, take-drop-more}
 use Rattle.sst_base.specs.KeyOrderLaws.{slice_cmp-equal}
-use Rattle.sst_base.specs.OrderLaws.{nat_cmp-add_left, slice_cmp-append, slice_cmp-be_number}
-
--- std's number of eight bytes
-pub be_word : (w : List ℕ) → length w ≡ 8 → from_be_bytes w64 w ≡ be_number w
-be_word [] h = absurd (omega arith)
-be_word (a ∷ []) h = absurd (omega arith)
-be_word (a ∷ b ∷ []) h = absurd (omega arith)
-be_word (a ∷ b ∷ c ∷ []) h = absurd (omega arith)
-be_word (a ∷ b ∷ c ∷ d ∷ []) h = absurd (omega arith)
-be_word (a ∷ b ∷ c ∷ d ∷ e ∷ []) h = absurd (omega arith)
-be_word (a ∷ b ∷ c ∷ d ∷ e ∷ f ∷ []) h = absurd (omega arith)
-be_word (a ∷ b ∷ c ∷ d ∷ e ∷ f ∷ g ∷ []) h = absurd (omega arith)
-be_word (a ∷ b ∷ c ∷ d ∷ e ∷ f ∷ g ∷ i ∷ []) h = omega arith
-be_word (a ∷ b ∷ c ∷ d ∷ e ∷ f ∷ g ∷ i ∷ j ∷ w) h = absurd (omega arith)
+use Rattle.sst_base.specs.OrderLaws.{nat_cmp-add_left, slice_cmp-append, slice_cmp-big_number}
 
 -- where one string has ended, the lengths decide
 one_ended : (x y : List ℕ) → min (length x) (length y) ≡ 0 → slice_cmp nat_cmp x y ≡ nat_cmp (length x) (length y)
@@ -74,13 +62,14 @@ at_word a b i h k =
     ∙ slice_cmp-append (take 8 (drop i a)) (take 8 (drop i b)) (drop (i + 8) a) (drop (i + 8) b) (la ∙ sym lb)
 
 -- words are in the order of their numbers
-word_cmp : (a b : List ℕ) (i : ℕ) → IsBytes a → IsBytes b → i + 8 ≤ length a → i + 8 ≤ length b → slice_cmp nat_cmp (take 8 (drop i a)) (take 8 (drop i b)) ≡ nat_cmp (be_number (take 8 (drop i a))) (be_number (take 8 (drop i b)))
+word_cmp : (a b : List ℕ) (i : ℕ) → IsBytes a → IsBytes b → i + 8 ≤ length a → i + 8 ≤ length b → slice_cmp nat_cmp (take 8 (drop i a)) (take 8 (drop i b)) ≡ nat_cmp (big_number 8 (drop i a)) (big_number 8 (drop i b))
 word_cmp a b i c d h k =
     let la : length (take 8 (drop i a)) ≡ 8 = length-take-le 8 (drop i a) (omega (arith, length-drop i a)) in
     let lb : length (take 8 (drop i b)) ≡ 8 = length-take-le 8 (drop i b) (omega (arith, length-drop i b)) in
-    slice_cmp-be_number (take 8 (drop i a)) (take 8 (drop i b)) (IsBytes-take 8 (drop i a) (IsBytes-drop i a c)) (IsBytes-take 8 (drop i b) (IsBytes-drop i b d)) (la ∙ sym lb)
+    slice_cmp-big_number 8 (take 8 (drop i a)) (take 8 (drop i b)) (IsBytes-take 8 (drop i a) (IsBytes-drop i a c)) (IsBytes-take 8 (drop i b) (IsBytes-drop i b d)) la lb
+    ∙ (λ j. nat_cmp (big_from-take 0 8 8 (drop i a) (omega arith) j) (big_from-take 0 8 8 (drop i b) (omega arith) j))
 
-pub words_same : (a b : List ℕ) (i x y : ℕ) (whole : Ordering) → IsBytes a → IsBytes b → 8 * i + 8 ≤ length a → 8 * i + 8 ≤ length b → x ≡ be_number (take 8 (drop (8 * i) a)) → y ≡ be_number (take 8 (drop (8 * i) b)) → x ≡ y → slice_cmp nat_cmp (drop (8 * i) a) (drop (8 * i) b) ≡ whole → slice_cmp nat_cmp (drop (8 * (i + 1)) a) (drop (8 * (i + 1)) b) ≡ whole
+pub words_same : (a b : List ℕ) (i x y : ℕ) (whole : Ordering) → IsBytes a → IsBytes b → 8 * i + 8 ≤ length a → 8 * i + 8 ≤ length b → x ≡ big_number 8 (drop (8 * i) a) → y ≡ big_number 8 (drop (8 * i) b) → x ≡ y → slice_cmp nat_cmp (drop (8 * i) a) (drop (8 * i) b) ≡ whole → slice_cmp nat_cmp (drop (8 * (i + 1)) a) (drop (8 * (i + 1)) b) ≡ whole
 words_same a b i x y whole c d h k p q e s =
     let n : 8 * (i + 1) ≡ 8 * i + 8 = omega arith in
     let same : slice_cmp nat_cmp (take 8 (drop (8 * i) a)) (take 8 (drop (8 * i) b)) ≡ Equal = word_cmp a b (8 * i) c d h k ∙ sym (nat_cmp_is _ _ Equal (sym p ∙ e ∙ q)) in
@@ -88,7 +77,7 @@ words_same a b i x y whole c d h k p q e s =
     ∙ ap (λ o. ordering_then o (slice_cmp nat_cmp (drop (8 * i + 8) a) (drop (8 * i + 8) b))) (sym same)
     ∙ sym (at_word a b (8 * i) h k) ∙ s
 
-pub words_differ : (a b : List ℕ) (i x y : ℕ) (whole : Ordering) → IsBytes a → IsBytes b → 8 * i + 8 ≤ length a → 8 * i + 8 ≤ length b → x ≡ be_number (take 8 (drop (8 * i) a)) → y ≡ be_number (take 8 (drop (8 * i) b)) → x ≢ y → slice_cmp nat_cmp (drop (8 * i) a) (drop (8 * i) b) ≡ whole → nat_cmp x y ≡ whole
+pub words_differ : (a b : List ℕ) (i x y : ℕ) (whole : Ordering) → IsBytes a → IsBytes b → 8 * i + 8 ≤ length a → 8 * i + 8 ≤ length b → x ≡ big_number 8 (drop (8 * i) a) → y ≡ big_number 8 (drop (8 * i) b) → x ≢ y → slice_cmp nat_cmp (drop (8 * i) a) (drop (8 * i) b) ≡ whole → nat_cmp x y ≡ whole
 words_differ a b i x y whole c d h k p q ne s =
     let cmp : nat_cmp x y ≡ slice_cmp nat_cmp (take 8 (drop (8 * i) a)) (take 8 (drop (8 * i) b)) = ap (λ m. nat_cmp m y) p ∙ ap (nat_cmp _) q ∙ sym (word_cmp a b (8 * i) c d h k) in
     sym (decided (nat_cmp x y) (slice_cmp nat_cmp (drop (8 * i + 8) a) (drop (8 * i + 8) b)) (differ x y ne))
@@ -96,7 +85,7 @@ words_differ a b i x y whole c d h k p q ne s =
     ∙ sym (at_word a b (8 * i) h k) ∙ s
 
 -- one more word agrees
-pub words_agree : (a b : List ℕ) (i x y : ℕ) → IsBytes a → IsBytes b → 8 * i + 8 ≤ length a → 8 * i + 8 ≤ length b → x ≡ be_number (take 8 (drop (8 * i) a)) → y ≡ be_number (take 8 (drop (8 * i) b)) → x ≡ y → take (8 * i) a ≡ take (8 * i) b → take (8 * (i + 1)) a ≡ take (8 * (i + 1)) b
+pub words_agree : (a b : List ℕ) (i x y : ℕ) → IsBytes a → IsBytes b → 8 * i + 8 ≤ length a → 8 * i + 8 ≤ length b → x ≡ big_number 8 (drop (8 * i) a) → y ≡ big_number 8 (drop (8 * i) b) → x ≡ y → take (8 * i) a ≡ take (8 * i) b → take (8 * (i + 1)) a ≡ take (8 * (i + 1)) b
 words_agree a b i x y c d h k p q e s =
     let n : 8 * (i + 1) ≡ 8 * i + 8 = omega arith in
     let same : take 8 (drop (8 * i) a) ≡ take 8 (drop (8 * i) b) = (slice_cmp-equal _ _).0 (word_cmp a b (8 * i) c d h k ∙ sym (nat_cmp_is _ _ Equal (sym p ∙ e ∙ q))) in

@@ -1,7 +1,7 @@
 -- The header of a block: magic, type, checksum of the payload, two lengths, checksum of the 29 bytes before.
 use Rattle.std.specs.Prelude.{ℕ, ◌%◌, ◌^◌, ◌<◌, List, [], ◌∷◌, ◌++◌, length, take, drop, nat_lt, nat_eq, slice_index, if◌then◌else◌, Result, Ok, Err}
 use Rattle.std.specs.Cmp.Lexicographic.{pointwise}
-use Rattle.sst_base.specs.Bytes.{le_bytes, le_number_at}
+use Rattle.byteorder.specs.Endian.{little_bytes, little_number}
 use Rattle.sst_base.specs.BlockType.{block_type_byte, block_type_of}
 use Rattle.sst_base.specs.declared.error.Error.{Error}
 use Rattle.sst_base.specs.declared.error.Error.TheVariants.{Io, InvalidHeader, ChecksumMismatch}
@@ -15,11 +15,11 @@ magic = 76 ∷ 83 ∷ 77 ∷ 3 ∷ []
 
 -- the 29 bytes that the header's own checksum covers
 unfoldable pub header_front : Header → List ℕ
-header_front h = magic ++ (block_type_byte h.block_type ∷ (le_bytes 16 h.checksum ++ (le_bytes 4 h.data_length ++ le_bytes 4 h.uncompressed_length)))
+header_front h = magic ++ (block_type_byte h.block_type ∷ (little_bytes 16 h.checksum ++ (little_bytes 4 h.data_length ++ little_bytes 4 h.uncompressed_length)))
 
 -- the 33 bytes of a header
 unfoldable pub header : (List ℕ → ℕ) → Header → List ℕ
-header hash128 h = header_front h ++ le_bytes 4 (hash128 (header_front h) % 2 ^ 32)
+header hash128 h = header_front h ++ little_bytes 4 (hash128 (header_front h) % 2 ^ 32)
 
 -- the numbers of a header fit their fields
 pub record IsHeader (h : Header) : Type 0 where
@@ -54,9 +54,9 @@ block_type_at bytes = do
 abbrev pub header_with : BlockType → List ℕ → Header
 header_with block_type fields = record {
   block_type = block_type;
-  checksum = le_number_at 0 16 fields;
-  data_length = le_number_at 16 4 fields;
-  uncompressed_length = le_number_at 20 4 fields;
+  checksum = little_number 16 fields;
+  data_length = little_number 4 (drop 16 fields);
+  uncompressed_length = little_number 4 (drop 20 fields);
 }
 
 -- the same, where the computed and the stored checksum of the header agree
@@ -71,5 +71,5 @@ header_at hash128 bytes = do
   m ← magic_at bytes
   t ← block_type_at m.1
   tail ← bytes_at 28 t.1
-  h ← header_of hash128 t.0 (take 24 tail.0) (le_number_at 24 4 tail.0)
+  h ← header_of hash128 t.0 (take 24 tail.0) (little_number 4 (drop 24 tail.0))
   Ok (h, tail.1)

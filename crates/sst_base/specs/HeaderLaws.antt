@@ -5,8 +5,10 @@ use Rattle.std.proofs.lemmas.Bool.{eqb-true, ltb-false}
 use Rattle.std.proofs.lemmas.List.{take_at, drop_at, take-append-drop, length-take-le, take_all, append-nil}
 use Rattle.std.proofs.lemmas.Nat.{mod_below}
 use Rattle.std.specs.Cmp.Lexicographic.{pointwise, same_text}
-use Rattle.sst_base.specs.Bytes.{IsBytes, le_bytes, le_number, le_number_at}
-use Rattle.sst_base.specs.BytesLaws.{IsBytes-front, IsBytes-back, IsBytes-take, le_number-le_bytes, le_bytes-le_number_at, take-drop-more}
+use Rattle.byteorder.specs.Endian.{little_bytes, little_number}
+use Rattle.byteorder.specs.Numbers.{little_number-reads_back}
+use Rattle.sst_base.specs.Bytes.{IsBytes}
+use Rattle.sst_base.specs.BytesLaws.{IsBytes-front, IsBytes-back, IsBytes-take, little_bytes-little_number_at, little_number-between, take-drop-more}
 use Rattle.sst_base.specs.BlockType.{block_type_byte, block_type_of}
 use Rattle.sst_base.specs.Header.{◌>>=◌, magic, header_front, header, IsHeader, bytes_at, magic_at, block_type_at, header_with, header_of, header_at}
 use Rattle.sst_base.specs.declared.error.Error.{Error}
@@ -95,42 +97,37 @@ block_type_at_takes bytes t e =
     let one : b.0.0 ++ b.0.1 ≡ block_type_byte k.0 ∷ b.0.1 = ap (λ ys. ys ++ b.0.1) (single b.0.0 f.1 ∙ ap (λ z. z ∷ []) (block_type_of_takes _ k.0 k.1)) in
     f.0 ∙ one ∙ ap (λ (p : BlockType × List ℕ). block_type_byte p.0 ∷ p.1) q
 
--- the number between two pieces
-le_number_at-between : (before behind bytes : List ℕ) (at width : ℕ) → length before ≡ at → length bytes ≡ width → le_number_at at width (before ++ (bytes ++ behind)) ≡ le_number bytes
-le_number_at-between before behind bytes at width h l =
-    ap (λ xs. le_number (take width xs)) (drop_at before (bytes ++ behind) at h) ∙ ap le_number (take_at bytes behind width l)
-
 -- the fields behind the type
 fields_of : Header → List ℕ
-fields_of h = le_bytes 16 h.checksum ++ (le_bytes 4 h.data_length ++ le_bytes 4 h.uncompressed_length)
+fields_of h = little_bytes 16 h.checksum ++ (little_bytes 4 h.data_length ++ little_bytes 4 h.uncompressed_length)
 
 length-fields_of : (h : Header) → length (fields_of h) ≡ 24
 unfolding fields_of
 length-fields_of h = refl
 
-header_with-pieces : (t : BlockType) (c d u : List ℕ) → length c ≡ 16 → length d ≡ 4 → length u ≡ 4 → header_with t (c ++ (d ++ u)) ≡ record { block_type = t; checksum = le_number c; data_length = le_number d; uncompressed_length = le_number u }
+header_with-pieces : (t : BlockType) (c d u : List ℕ) → length c ≡ 16 → length d ≡ 4 → length u ≡ 4 → header_with t (c ++ (d ++ u)) ≡ record { block_type = t; checksum = little_number 16 c; data_length = little_number 4 d; uncompressed_length = little_number 4 u }
 header_with-pieces t c d u p q r =
-    let a : le_number_at 0 16 (c ++ (d ++ u)) ≡ le_number c = le_number_at-between [] (d ++ u) c 0 16 refl p in
-    let b : le_number_at 16 4 (c ++ (d ++ u)) ≡ le_number d = le_number_at-between c u d 16 4 p q in
+    let a : little_number 16 (c ++ (d ++ u)) ≡ little_number 16 c = little_number-between [] (d ++ u) c 0 16 refl p in
+    let b : little_number 4 (drop 16 (c ++ (d ++ u))) ≡ little_number 4 d = little_number-between c u d 16 4 p q in
     let regroup : c ++ (d ++ u) ≡ (c ++ d) ++ (u ++ []) = sym (append_assoc c d u) ∙ ap (λ xs. (c ++ d) ++ xs) (sym (append-nil u)) in
-    let e : le_number_at 20 4 (c ++ (d ++ u)) ≡ le_number u = ap (le_number_at 20 4) regroup ∙ le_number_at-between (c ++ d) [] u 20 4 (omega (arith, length-append c d)) r in
+    let e : little_number 4 (drop 20 (c ++ (d ++ u))) ≡ little_number 4 u = ap (λ xs. little_number 4 (drop 20 xs)) regroup ∙ little_number-between (c ++ d) [] u 20 4 (omega (arith, length-append c d)) r in
     λ i. record { block_type = t; checksum = a i; data_length = b i; uncompressed_length = e i }
 
 header_with-fields_of : (h : Header) → IsHeader h → header_with h.block_type (fields_of h) ≡ h
 unfolding fields_of
 header_with-fields_of h fits =
-    let c = le_number-le_bytes 16 h.checksum fits.checksum in
-    let d = le_number-le_bytes 4 h.data_length fits.data_length in
-    let u = le_number-le_bytes 4 h.uncompressed_length fits.uncompressed_length in
-    header_with-pieces h.block_type (le_bytes 16 h.checksum) (le_bytes 4 h.data_length) (le_bytes 4 h.uncompressed_length) refl refl refl
+    let c = little_number-reads_back 16 h.checksum [] fits.checksum in
+    let d = little_number-reads_back 4 h.data_length [] fits.data_length in
+    let u = little_number-reads_back 4 h.uncompressed_length [] fits.uncompressed_length in
+    header_with-pieces h.block_type (little_bytes 16 h.checksum) (little_bytes 4 h.data_length) (little_bytes 4 h.uncompressed_length) refl refl refl
     ∙ (λ i. record { block_type = h.block_type; checksum = c i; data_length = d i; uncompressed_length = u i })
 
 fields_of-header_with : (t : BlockType) (fields : List ℕ) → IsBytes fields → length fields ≡ 24 → fields_of (header_with t fields) ≡ fields
 unfolding fields_of
 fields_of-header_with t fields b l =
-    let c = le_bytes-le_number_at 0 16 fields b (omega arith) in
-    let d = le_bytes-le_number_at 16 4 fields b (omega arith) in
-    let u = le_bytes-le_number_at 20 4 fields b (omega arith) in
+    let c = little_bytes-little_number_at 0 16 fields b (omega arith) in
+    let d = little_bytes-little_number_at 16 4 fields b (omega arith) in
+    let u = little_bytes-little_number_at 20 4 fields b (omega arith) in
     let last : take 4 (drop 20 fields) ≡ drop 20 fields = take_all 4 (drop 20 fields) (omega (arith, length-drop 20 fields)) in
     (λ i. c i ++ (d i ++ (u ∙ last) i))
     ∙ ap (λ xs. take 16 fields ++ xs) (take-drop-more 16 4 fields)
@@ -152,18 +149,13 @@ header_front-fields_of : (h : Header) → header_front h ≡ magic ++ (block_typ
 unfolding header_front fields_of
 header_front-fields_of h = refl
 
--- the number behind a piece
-le_number_at-behind : (before bytes : List ℕ) (at width : ℕ) → length before ≡ at → length bytes ≡ width → le_number_at at width (before ++ bytes) ≡ le_number bytes
-le_number_at-behind before bytes at width h l =
-    ap (λ xs. le_number (take width xs)) (drop_at before bytes at h) ∙ ap le_number (take_all width bytes (omega arith))
-
-header_at-pieces : (hash128 : List ℕ → ℕ) (t : BlockType) (fields sum rest : List ℕ) → length fields ≡ 24 → length sum ≡ 4 → hash128 (magic ++ (block_type_byte t ∷ fields)) % 2 ^ 32 ≡ le_number sum → header_at hash128 (((magic ++ (block_type_byte t ∷ fields)) ++ sum) ++ rest) ≡ Ok (header_with t fields, rest)
+header_at-pieces : (hash128 : List ℕ → ℕ) (t : BlockType) (fields sum rest : List ℕ) → length fields ≡ 24 → length sum ≡ 4 → hash128 (magic ++ (block_type_byte t ∷ fields)) % 2 ^ 32 ≡ little_number 4 sum → header_at hash128 (((magic ++ (block_type_byte t ∷ fields)) ++ sum) ++ rest) ≡ Ok (header_with t fields, rest)
 unfolding header_at
 header_at-pieces hash128 t fields sum rest l k e =
     let m = magic_at-magic (block_type_byte t ∷ ((fields ++ sum) ++ rest)) in
     let b = block_type_at-byte t ((fields ++ sum) ++ rest) in
     let f = bytes_at-append 28 (fields ++ sum) rest (omega (arith, length-append fields sum)) in
-    rw (m, b, f, take_at fields sum 24 l, le_number_at-behind fields sum 24 4 l k, header_of-equal hash128 t fields (le_number sum) e) refl
+    rw (m, b, f, take_at fields sum 24 l, ap (little_number 4) (drop_at fields sum 24 l), header_of-equal hash128 t fields (little_number 4 sum) e) refl
 
 -- what was written is read again, whatever follows
 pub header_at-header : (hash128 : List ℕ → ℕ) (h : Header) (rest : List ℕ) → IsHeader h → header_at hash128 (header hash128 h ++ rest) ≡ Ok (h, rest)
@@ -171,17 +163,17 @@ unfolding header
 header_at-header hash128 h rest fits =
     let front = header_front-fields_of h in
     let sum = hash128 (header_front h) % 2 ^ 32 in
-    let number : le_number (le_bytes 4 sum) ≡ sum = le_number-le_bytes 4 sum (mod_below (hash128 (header_front h)) (2 ^ 32) (omega arith)) in
-    ap (λ xs. header_at hash128 ((xs ++ le_bytes 4 sum) ++ rest)) front
-    ∙ header_at-pieces hash128 h.block_type (fields_of h) (le_bytes 4 sum) rest (length-fields_of h) refl (ap (λ xs. hash128 xs % 2 ^ 32) (sym front) ∙ sym number)
+    let number : little_number 4 (little_bytes 4 sum) ≡ sum = little_number-reads_back 4 sum [] (mod_below (hash128 (header_front h)) (2 ^ 32) (omega arith)) in
+    ap (λ xs. header_at hash128 ((xs ++ little_bytes 4 sum) ++ rest)) front
+    ∙ header_at-pieces hash128 h.block_type (fields_of h) (little_bytes 4 sum) rest (length-fields_of h) refl (ap (λ xs. hash128 xs % 2 ^ 32) (sym front) ∙ sym number)
     ∙ ap (λ k. Ok (k, rest)) (header_with-fields_of h fits)
 
-header-header_with : (hash128 : List ℕ → ℕ) (t : BlockType) (fields sum rest : List ℕ) → IsBytes fields → length fields ≡ 24 → le_bytes 4 (hash128 (magic ++ (block_type_byte t ∷ fields)) % 2 ^ 32) ≡ sum → header hash128 (header_with t fields) ++ rest ≡ magic ++ (block_type_byte t ∷ ((fields ++ sum) ++ rest))
+header-header_with : (hash128 : List ℕ → ℕ) (t : BlockType) (fields sum rest : List ℕ) → IsBytes fields → length fields ≡ 24 → little_bytes 4 (hash128 (magic ++ (block_type_byte t ∷ fields)) % 2 ^ 32) ≡ sum → header hash128 (header_with t fields) ++ rest ≡ magic ++ (block_type_byte t ∷ ((fields ++ sum) ++ rest))
 unfolding header
 header-header_with hash128 t fields sum rest b l e =
     let front : header_front (header_with t fields) ≡ magic ++ (block_type_byte t ∷ fields) =
     header_front-fields_of (header_with t fields) ∙ ap (λ xs. magic ++ (block_type_byte t ∷ xs)) (fields_of-header_with t fields b l) in
-    ap (λ xs. (xs ++ le_bytes 4 (hash128 xs % 2 ^ 32)) ++ rest) front
+    ap (λ xs. (xs ++ little_bytes 4 (hash128 xs % 2 ^ 32)) ++ rest) front
     ∙ ap (λ xs. ((magic ++ (block_type_byte t ∷ fields)) ++ xs) ++ rest) e
 
 -- what is read was written so
@@ -192,15 +184,15 @@ header_at_takes hash128 bytes h rest small e =
     let t = bind_ok (block_type_at m.0.1) _ _ m.2 in
     let f = bind_ok (bytes_at 28 t.0.1) _ _ t.2 in
     let tail = f.0.0 in
-    let o = bind_ok (header_of hash128 t.0.0 (take 24 tail) (le_number_at 24 4 tail)) _ _ f.2 in
+    let o = bind_ok (header_of hash128 t.0.0 (take 24 tail) (little_number 4 (drop 24 tail))) _ _ f.2 in
     let cut = bytes_at_takes 28 t.0.1 f.0 f.1 in
     let all : bytes ≡ magic ++ (block_type_byte t.0.0 ∷ (tail ++ f.0.1)) =
     magic_at_takes bytes m.0 m.1 ∙ ap (λ ys. magic ++ ys) (block_type_at_takes m.0.1 t.0 t.1 ∙ ap (λ ys. block_type_byte t.0.0 ∷ ys) cut.0) in
     let b : IsBytes tail = IsBytes-front tail f.0.1 (IsBytes-back (magic ++ (block_type_byte t.0.0 ∷ [])) (tail ++ f.0.1) (subst IsBytes all small)) in
-    let found = header_of_takes hash128 t.0.0 (take 24 tail) (le_number_at 24 4 tail) o.0 o.1 in
+    let found = header_of_takes hash128 t.0.0 (take 24 tail) (little_number 4 (drop 24 tail)) o.0 o.1 in
     let l : length (take 24 tail) ≡ 24 = length-take-le 24 tail (omega (arith, cut.1)) in
-    let sum : le_bytes 4 (hash128 (magic ++ (block_type_byte t.0.0 ∷ take 24 tail)) % 2 ^ 32) ≡ drop 24 tail =
-    ap (le_bytes 4) found.0 ∙ le_bytes-le_number_at 24 4 tail b (omega (arith, cut.1)) ∙ take_all 4 (drop 24 tail) (omega (arith, cut.1, length-drop 24 tail)) in
+    let sum : little_bytes 4 (hash128 (magic ++ (block_type_byte t.0.0 ∷ take 24 tail)) % 2 ^ 32) ≡ drop 24 tail =
+    ap (little_bytes 4) found.0 ∙ little_bytes-little_number_at 24 4 tail b (omega (arith, cut.1)) ∙ take_all 4 (drop 24 tail) (omega (arith, cut.1, length-drop 24 tail)) in
     let same : (o.0, f.0.1) ≡ (h, rest) = cc (o.2) in
     all
     ∙ ap (λ ys. magic ++ (block_type_byte t.0.0 ∷ (ys ++ f.0.1))) (sym (take-append-drop 24 tail))

@@ -11,13 +11,13 @@ abbrev pub ◌>>=◌ : {A B : Type 0} → Option A → (A → Option B) → Opti
 None >>= f = None
 
 -- a byte string with its length in front
-abbrev pub text : List ℕ → List ℕ
-text bytes = varint (length bytes) ++ bytes
+abbrev pub length_prefixed : List ℕ → List ℕ
+length_prefixed bytes = varint (length bytes) ++ bytes
 
 -- a value type
-abbrev pub type_at : List ℕ → Option (ValueType × List ℕ)
-type_at [] = None
-type_at (b ∷ bs) = do
+abbrev pub value_type_at : List ℕ → Option (ValueType × List ℕ)
+value_type_at [] = None
+value_type_at (b ∷ bs) = do
   value_type ← value_type_of b
   Some (value_type, bs)
 
@@ -28,7 +28,7 @@ number_at bits bytes = do
   Some (n.0, drop n.1 bytes)
 
 -- a length below 2 ^ bits, and so many bytes
-unfoldable pub text_at : ℕ → List ℕ → Option (List ℕ × List ℕ)
-text_at bits bytes = do
+unfoldable pub length_prefixed_at : ℕ → List ℕ → Option (List ℕ × List ℕ)
+length_prefixed_at bits bytes = do
   n ← number_at bits bytes
   if nat_le n.0 (length n.1) then Some (take n.0 n.1, drop n.0 n.1) else None

@@ -5,7 +5,7 @@ use Rattle.std.proofs.lemmas.List.{take_at, drop_at, take-append-drop, length-ta
 use Rattle.std.proofs.lemmas.Option.{cond_some}
 use Rattle.sst_base.specs.Bytes.{IsBytes}
 use Rattle.sst_base.specs.Varint.{varint, varint_at}
-use Rattle.sst_base.specs.Reading.{◌>>=◌, text, type_at, number_at, text_at}
+use Rattle.sst_base.specs.Reading.{◌>>=◌, length_prefixed, value_type_at, number_at, length_prefixed_at}
 use Rattle.sst_base.specs.ValueType.{value_type_byte, value_type_of}
 use Rattle.sst_base.specs.declared.value_type.ValueType.{ValueType}
 use Rattle.sst_base.specs.declared.value_type.ValueType.TheVariants.{Value, Tombstone, WeakTombstone, Indirection}
@@ -45,9 +45,9 @@ value_type_of_takes b t e = elim (chosen (eqb b 0) _ _ _ e) [
   ]
 ]
 
-pub type_at_takes : (bytes : List ℕ) (t : ValueType) (rest : List ℕ) → type_at bytes ≡ Some (t, rest) → bytes ≡ value_type_byte t ∷ rest
-type_at_takes [] t rest e = cc
-type_at_takes (b ∷ bs) t rest e =
+pub value_type_at_takes : (bytes : List ℕ) (t : ValueType) (rest : List ℕ) → value_type_at bytes ≡ Some (t, rest) → bytes ≡ value_type_byte t ∷ rest
+value_type_at_takes [] t rest e = cc
+value_type_at_takes (b ∷ bs) t rest e =
     let f = bind_some (value_type_of b) _ (t, rest) e in
     let s : (f.0, bs) ≡ (t, rest) = cc (f.2) in
     let p = pair_parts f.0 t bs rest s in
@@ -68,20 +68,20 @@ number_at_takes bits bytes n rest b h e =
     let r = varint_at_takes bytes bits f.0.0 f.0.1 b h f.1 in
     subst (λ (q : ℕ × List ℕ). (bytes ≡ varint q.0 ++ q.1) × (q.0 < 2 ^ bits)) s (sym (take-append-drop f.0.1 bytes) ∙ ap (λ xs. xs ++ drop f.0.1 bytes) r.0, r.1)
 
-pub text_at-text : (bits : ℕ) (t rest : List ℕ) → length t < 2 ^ bits → length t < 2 ^ 64 → text_at bits (text t ++ rest) ≡ Some (t, rest)
-unfolding text_at
-text_at-text bits t rest h k =
+pub length_prefixed_at-length_prefixed : (bits : ℕ) (t rest : List ℕ) → length t < 2 ^ bits → length t < 2 ^ 64 → length_prefixed_at bits (length_prefixed t ++ rest) ≡ Some (t, rest)
+unfolding length_prefixed_at
+length_prefixed_at-length_prefixed bits t rest h k =
     let fits : leb (length t) (length (t ++ rest)) ≡ true = le-leb _ _ (omega (arith, length-append t rest)) in
     rw (append_assoc (varint (length t)) t rest, number_at-varint bits (length t) (t ++ rest) h k, fits, take_at t rest (length t) refl, drop_at t rest (length t) refl) refl
 
-pub text_at_takes : (bits : ℕ) (bytes : List ℕ) (t : List ℕ) (rest : List ℕ) → IsBytes bytes → bits ≤ 64 → text_at bits bytes ≡ Some (t, rest) → (bytes ≡ text t ++ rest) × (length t < 2 ^ bits)
-unfolding text_at
-text_at_takes bits bytes t rest b h e =
+pub length_prefixed_at_takes : (bits : ℕ) (bytes : List ℕ) (t : List ℕ) (rest : List ℕ) → IsBytes bytes → bits ≤ 64 → length_prefixed_at bits bytes ≡ Some (t, rest) → (bytes ≡ length_prefixed t ++ rest) × (length t < 2 ^ bits)
+unfolding length_prefixed_at
+length_prefixed_at_takes bits bytes t rest b h e =
     let f = bind_some (number_at bits bytes) _ (t, rest) e in
     let n = number_at_takes bits bytes f.0.0 f.0.1 b h f.1 in
     let g = cond_some (leb f.0.0 (length f.0.1)) (take f.0.0 f.0.1, drop f.0.0 f.0.1) (t, rest) f.2 in
     let l : length (take f.0.0 f.0.1) ≡ f.0.0 = length-take-le f.0.0 f.0.1 (leb-true _ _ g.0) in
-    let whole : bytes ≡ text (take f.0.0 f.0.1) ++ drop f.0.0 f.0.1 =
+    let whole : bytes ≡ length_prefixed (take f.0.0 f.0.1) ++ drop f.0.0 f.0.1 =
     n.0 ∙ ap (λ xs. varint f.0.0 ++ xs) (sym (take-append-drop f.0.0 f.0.1)) ∙ sym (append_assoc (varint f.0.0) (take f.0.0 f.0.1) (drop f.0.0 f.0.1))
     ∙ ap (λ k. (varint k ++ take f.0.0 f.0.1) ++ drop f.0.0 f.0.1) (sym l) in
-    subst (λ (q : List ℕ × List ℕ). (bytes ≡ text q.0 ++ q.1) × (length q.0 < 2 ^ bits)) g.1 (whole, rw l (n.1))
+    subst (λ (q : List ℕ × List ℕ). (bytes ≡ length_prefixed q.0 ++ q.1) × (length q.0 < 2 ^ bits)) g.1 (whole, rw l (n.1))

@@ -22,6 +22,18 @@ pub varint_within_more : (k n : ℕ) → 128 ≤ n → varint_within (suc k) n �
 unfolding varint_within
 varint_within_more k n h = search (arith, nat_tests)
 
+-- a digit more, and the rest of the encoding behind it
+pub digit_pushed : (encoded xs : List ℕ) (rest more less : ℕ) → more ≡ suc less → 128 ≤ rest → xs ++ varint_within more rest ≡ encoded
+    → (xs ++ (rest % 128 + 128) ∷ []) ++ varint_within less (rest / 128) ≡ encoded
+digit_pushed encoded xs rest more less e h so_far =
+    append_assoc xs ((rest % 128 + 128) ∷ []) (varint_within less (rest / 128))
+    ∙ ap (λ ys. xs ++ ys) (sym (varint_within_more less rest h) ∙ ap (λ k. varint_within k rest) (sym e))
+    ∙ so_far
+
+-- the last digit
+pub last_pushed : (encoded xs : List ℕ) (rest more : ℕ) → rest < 128 → xs ++ varint_within more rest ≡ encoded → xs ++ rest ∷ [] ≡ encoded
+last_pushed encoded xs rest more h so_far = ap (λ ys. xs ++ ys) (sym (varint_within_small more rest h)) ∙ so_far
+
 pub IsVarint-varint_within : (k n : ℕ) → n < 128 ^ (suc k) → IsVarint (varint_within k n) n
 unfolding varint_within
 IsVarint-varint_within zero n h = (h, refl)
@@ -78,20 +90,6 @@ none_by_zero b bs len h z n zero v = v
 none_by_zero b bs len h z n (suc i) v =
     let r = rest_of b (take i bs) n h v in
     none_spelled bs 0 len z r.0 i r.1 r.3
-
--- a digit is stored, and others follow
-pub step : (bytes : List ℕ) (i rest k j : ℕ) (whole : List ℕ) → i < length bytes → k ≡ suc j → 128 ≤ rest → take i bytes ++ varint_within k rest ≡ whole → take (i + 1) (set bytes i (rest % 128 + 128)) ++ varint_within j (rest / 128) ≡ whole
-step bytes i rest k j whole h e large so_far =
-    ap (λ xs. xs ++ varint_within j (rest / 128)) (take_more_set bytes i (rest % 128 + 128) h)
-    ∙ append_assoc (take i bytes) ((rest % 128 + 128) ∷ []) (varint_within j (rest / 128))
-    ∙ ap (λ xs. take i bytes ++ xs) (sym (varint_within_more j rest large))
-    ∙ ap (λ m. take i bytes ++ varint_within m rest) (sym e)
-    ∙ so_far
-
--- the last digit is stored
-pub last : (bytes : List ℕ) (i rest k : ℕ) (whole : List ℕ) → i < length bytes → rest < 128 → take i bytes ++ varint_within k rest ≡ whole → take (i + 1) (set bytes i rest) ≡ whole
-last bytes i rest k whole h small so_far =
-    take_more_set bytes i rest h ∙ ap (λ xs. take i bytes ++ xs) (sym (varint_within_small k rest small)) ∙ so_far
 
 pub one_spelling_lem : (a b : List ℕ) (n : ℕ) → IsVarint a n → IsVarint b n → a ≡ b
 one_spelling_lem [] b n v w = absurd v
@@ -207,6 +205,44 @@ varint_at_small bits b bs w h = elim w [
     | inr e ↦ rw e (at_small (2 ^ 64 - 1) b bs h (omega arith))
   ]
 ]
+
+-- each width has at least 16 bits
+width_some : (bits : ℕ) → IsWidth bits → 16 ≤ bits
+width_some bits w = elim w [
+  | inl e ↦ omega (arith, e)
+  | inr w ↦ elim w [
+    | inl e ↦ omega (arith, e)
+    | inr e ↦ omega (arith, e)
+  ]
+]
+
+-- a number below a lesser power of two fits a greater
+power_fits : (least bits : ℕ) → least ≤ bits → 2 ^ least - 1 ≤ 2 ^ bits - 1
+power_fits least bits h = let p : 2 ^ least ≤ 2 ^ bits = pow-le-pow_right (lit< tt) h in omega (arith, p)
+
+-- two bytes encode a number that fits each width
+pub varint_at_two : (bits a b : ℕ) (bs : List ℕ) → IsWidth bits → 128 ≤ a → a < 256 → 0 < b → b < 128 → varint_at bits (a ∷ b ∷ bs) ≡ Some ((a - 128) + 128 * b, 2)
+unfolding varint_at
+varint_at_two bits a b bs w h k p q =
+    let more : (max : ℕ) → 2 ^ 16 - 1 ≤ max → varint_up_to max (a ∷ b ∷ bs) ≡ Some ((a - 128) + 128 * b, 2) = λ max l.
+    at_more max a (b ∷ bs) h (omega arith)
+    ∙ ap (with_digit (a - 128)) (at_small ((max - (a - 128)) / 128) b bs q (omega arith))
+    ∙ some_digit (a - 128) b 1 p in
+    more (2 ^ bits - 1) (power_fits 16 bits (width_some bits w))
+
+-- three bytes encode a number that fits each width but the least
+pub varint_at_three : (bits a b c : ℕ) (bs : List ℕ) → IsWidth bits → 32 ≤ bits → 128 ≤ a → a < 256 → 128 ≤ b → b < 256 → 0 < c → c < 128 → varint_at bits (a ∷ b ∷ c ∷ bs) ≡ Some ((a - 128) + 128 * (b - 128) + 16384 * c, 3)
+unfolding varint_at
+varint_at_three bits a b c bs w wide h k i l p q =
+    let more : (max : ℕ) → 2 ^ 32 - 1 ≤ max → varint_up_to max (a ∷ b ∷ c ∷ bs) ≡ Some ((a - 128) + 128 * (b - 128) + 16384 * c, 3) = λ max m.
+    let sum : (a - 128) + 128 * ((b - 128) + 128 * c) ≡ (a - 128) + 128 * (b - 128) + 16384 * c = omega arith in
+    at_more max a (b ∷ c ∷ bs) h (omega arith)
+    ∙ ap (with_digit (a - 128)) (at_more ((max - (a - 128)) / 128) b (c ∷ bs) i (omega arith)
+    ∙ ap (with_digit (b - 128)) (at_small ((((max - (a - 128)) / 128) - (b - 128)) / 128) c bs q (omega arith))
+    ∙ some_digit (b - 128) c 1 p)
+    ∙ some_digit (a - 128) ((b - 128) + 128 * c) 2 (omega arith)
+    ∙ ap (λ n. Some (n, 3)) sum in
+    more (2 ^ bits - 1) (power_fits 32 bits wide)
 
 with_digits_some : (len sum scale high l : ℕ) → 0 < high → with_digits len sum scale (Some (high, l)) ≡ Some (sum + scale * high, len + l)
 with_digits_some len sum scale high l h = search (arith, nat_tests)

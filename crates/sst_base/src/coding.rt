@@ -1,56 +1,68 @@
-//! Varints and numbers of a fixed width.
+//! Varints: numbers in base 128, least significant digit first.
 ghost use Rattle.std.specs.Prelude.{◌≡◌, ℕ, ◌+◌, ◌-◌, ◌*◌, ◌/◌, ◌^◌, ◌<◌, ◌≤◌, ◌++◌, length, take, drop, OnOk, OnErr, IsOkUnless, IfSome, IfNone};
-ghost use Rattle.sst_base.specs.Bytes.{le_number_at};
 ghost use Rattle.sst_base.specs.Varint.{IsVarint, IsWidth, varint, with_digits, varint_up_to, varint_at};
 
 use crate::error::{Error, Result};
+use std::alloc::AllocError;
 
-// The digits of a number, and how many there are.
-fn digits_of(n: u64) -> ([u8; 10], usize)
-    ensures len { result.1 ≤ 10 }
-    ensures bytes { take result.1 result.0 ≡ varint n }
+/// The greatest number of bytes that a varint takes.
+pub const MAX_VARINT_LEN: usize = 10;
+
+// Appends a varint of any length. On an error the vector is unchanged.
+#[inline(always)]
+fn push_long(out: &mut Vec<u8>, n: u64) -> std::result::Result<(), AllocError>
+    ensures ok { OnOk result (out.new.items ≡ out.old.items ++ varint n) }
+    ensures unchanged { OnErr result (out.new.items ≡ out.old.items) }
 {
-    let mut bytes = [0u8; 10];
+    out.reserve(MAX_VARINT_LEN)?;
     let mut rest = n;
     for i in 0..9usize {
         if rest < 128 {
-            bytes[i] = rest as u8;
-            return (bytes, i + 1);
+            out.push_reserved(rest as u8);
+            return Ok(());
         }
-        bytes[i] = (rest % 128) as u8 + 128;
+        out.push_reserved((rest % 128) as u8 + 128);
         rest /= 128;
     }
-    bytes[9] = rest as u8;
-    (bytes, 10)
-}
-
-// Writes a varint of any length.
-fn encode_long(out: &mut Vec<u8>, n: u64) -> Result<()>
-    ensures ok { OnOk result (out.new.items ≡ out.old.items ++ varint n) }
-    ensures memory { IsOkUnless result Error.Memory }
-    ensures unchanged { OnErr result (out.new.items ≡ out.old.items) }
-{
-    let (bytes, len) = digits_of(n);
-    out.extend_from_slice(&bytes[..len])?;
+    out.push_reserved(rest as u8);
     Ok(())
 }
 
-/// Writes the varint of a number at the end of a vector. The only error is E15, and then the vector is unchanged.
+/// Appends the minimal encoding of a number as a varint. On an error the vector is unchanged.
+///
+/// This is [`encode_varint`] with the error of the allocator, for callers that write many varints.
+///
+/// # Errors
+///
+/// `AllocError` if an allocation fails.
 #[inline(always)]
 #[tactic(auto, using(crate::specs::VarintLaws::varint_small))]
-pub fn encode_varint(out: &mut Vec<u8>, n: u64) -> Result<()>
+pub fn push_varint(out: &mut Vec<u8>, n: u64) -> std::result::Result<(), AllocError>
     ensures ok { OnOk result (out.new.items ≡ out.old.items ++ varint n) }
-    ensures memory { IsOkUnless result Error.Memory }
     ensures unchanged { OnErr result (out.new.items ≡ out.old.items) }
 {
     if n < 128 {
         out.push(n as u8)?;
         return Ok(());
     }
-    encode_long(out, n)
+    push_long(out, n)
 }
 
-// Goes on behind the first byte, a digit a step.
+/// Appends the minimal encoding of a number as a varint. On an error the vector is unchanged.
+///
+/// # Errors
+///
+/// `Error::Memory` if an allocation fails.
+pub fn encode_varint(out: &mut Vec<u8>, n: u64) -> Result<()>
+    ensures ok { OnOk result (out.new.items ≡ out.old.items ++ varint n) }
+    ensures memory { IsOkUnless result Error.Memory }
+    ensures unchanged { OnErr result (out.new.items ≡ out.old.items) }
+{
+    push_varint(out, n)?;
+    Ok(())
+}
+
+// Reads what follows the first digit, a digit a step.
 fn decode_behind(bytes: &[u8], first: u64, max: u64) -> Option<(u64, usize)>
     requires first { first < 128 }
     requires max { 128 ≤ max }
@@ -78,7 +90,7 @@ fn decode_behind(bytes: &[u8], first: u64, max: u64) -> Option<(u64, usize)>
     None
 }
 
-// The number of at most `max` that a front of the bytes spells, and the length of that front.
+// Reads the number of at most `max` that a front of the bytes encodes, and the length of that front.
 #[tactic(auto, unfolding(crate::specs::Varint::varint_up_to))]
 fn decode_up_to(bytes: &[u8], max: u64) -> Option<(u64, usize)>
     ensures { result ≡ varint_up_to max bytes.now }
@@ -94,7 +106,7 @@ fn decode_up_to(bytes: &[u8], max: u64) -> Option<(u64, usize)>
     decode_behind(bytes, digit - 128, max)
 }
 
-// The number within the width that a front of the bytes spells, and the length of that front.
+// Reads the number within the width that a front of the bytes encodes, and the length of that front.
 #[tactic(auto, unfolding(crate::specs::Varint::varint_at))]
 fn decode_within(bytes: &[u8], bits: u32) -> Option<(u64, usize)>
     requires { IsWidth bits }
@@ -103,7 +115,8 @@ fn decode_within(bytes: &[u8], bits: u32) -> Option<(u64, usize)>
     decode_up_to(bytes, u64::MAX >> (64 - bits))
 }
 
-// Reads a varint of any length.
+// Reads a varint of more than one byte.
+#[inline(always)]
 fn decode_long(bytes: &[u8], bits: u32) -> Option<(u64, usize)>
     requires { IsWidth bits }
     ensures exact { result ≡ varint_at bits bytes.now }
@@ -112,13 +125,31 @@ fn decode_long(bytes: &[u8], bits: u32) -> Option<(u64, usize)>
     ensures found { IfSome result (λ found. IsVarint (take found.1 bytes.now) found.0) }
     ensures none { IfNone result ((n len : ℕ) → n < 2 ^ bits → IsVarint (take len bytes.now) n → ⊥) }
 {
-    decode_within(bytes, bits)
+    decode_some(bytes, bits)
 }
 
-/// Reads the varint at the front of bytes: its number, and how many bytes it takes. Bytes may follow it.
+// Reads a varint of two or three bytes, or of any length.
+#[inline(always)]
+fn decode_some(bytes: &[u8], bits: u32) -> Option<(u64, usize)>
+    requires { IsWidth bits }
+    ensures { result ≡ varint_at bits bytes.now }
+{
+    match bytes {
+        [a, b, ..] if *a >= 128 && 0 < *b && *b < 128 => {
+            Some((u64::from(*a - 128) + 128 * u64::from(*b), 2))
+        }
+        [a, b, c, ..] if bits > 16 && *a >= 128 && *b >= 128 && 0 < *c && *c < 128 => {
+            let low = u64::from(*a - 128) + 128 * u64::from(*b - 128);
+            Some((low + 16384 * u64::from(*c), 3))
+        }
+        _ => decode_within(bytes, bits),
+    }
+}
+
+/// Decodes the varint at the front of `bytes`: returns its number and how many bytes it takes. Bytes may follow it.
 ///
-/// The width is 16, 32 or 64 bits. `None` says that no front of the bytes is a shortest spelling of a number within
-/// the width.
+/// `bits` is the width: 16, 32 or 64. Returns `None` exactly if no front of the bytes is the minimal encoding of a
+/// number below 2^`bits`.
 #[inline(always)]
 #[tactic(auto, using(crate::specs::VarintLaws::varint_at_small))]
 pub fn decode_varint(bytes: &[u8], bits: u32) -> Option<(u64, usize)>
@@ -133,34 +164,4 @@ pub fn decode_varint(bytes: &[u8], bits: u32) -> Option<(u64, usize)>
         Some((first, _)) if *first < 128 => Some((u64::from(*first), 1)),
         _ => decode_long(bytes, bits),
     }
-}
-
-/// The byte at an offset, which lies inside the bytes.
-#[inline(always)]
-#[tactic(auto, using(crate::proofs::Words::byte_is))]
-pub fn u8_at(bytes: &[u8], at: usize) -> u8
-    requires { at + 1 ≤ length bytes.now }
-    ensures { result ≡ le_number_at at 1 bytes.now }
-{
-    bytes[at]
-}
-
-/// The number of two bytes at an offset, the lowest first. They lie inside the bytes.
-#[inline(always)]
-#[tactic(auto, using(crate::proofs::Words::pair_is))]
-pub fn u16_at(bytes: &[u8], at: usize) -> u16
-    requires { at + 2 ≤ length bytes.now }
-    ensures { result ≡ le_number_at at 2 bytes.now }
-{
-    u16::from_le_bytes([bytes[at], bytes[at + 1]])
-}
-
-/// The number of four bytes at an offset, the lowest first. They lie inside the bytes.
-#[inline(always)]
-#[tactic(auto, using(crate::proofs::Words::word_is))]
-pub fn u32_at(bytes: &[u8], at: usize) -> u32
-    requires { at + 4 ≤ length bytes.now }
-    ensures { result ≡ le_number_at at 4 bytes.now }
-{
-    u32::from_le_bytes([bytes[at], bytes[at + 1], bytes[at + 2], bytes[at + 3]])
 }

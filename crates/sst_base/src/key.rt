@@ -16,15 +16,18 @@ use std::cmp::Ordering;
 use std::fmt;
 use std::marker::Model;
 
-/// A key as users see it.
+/// A user key.
 pub type UserKey = Slice;
 
 /// A sequence number: the greater, the newer.
 pub type SeqNo = u64;
 
-/// A user key of at most 65535 bytes at a sequence number, and what is said of it.
+/// The greatest length of a user key in bytes.
+pub const MAX_KEY_LEN: usize = 65535;
+
+/// An internal key: a user key of at most 65535 bytes, a sequence number and a value type.
 ///
-/// Keys compare by user key rising, then by sequence number falling. The value type plays no part.
+/// Internal keys compare by user key rising, then by sequence number falling. The value type plays no part.
 #[derive(Drop)]
 pub struct InternalKey {
     user_key: UserKey,

@@ -3,7 +3,8 @@ ghost use Rattle.std.specs.Prelude.{◌≡◌, ◌↔◌, ◌⊎◌, ℕ, ◌<�
 ghost use Rattle.std.specs.Ordering.{nat_cmp, ordering_reverse};
 ghost use Rattle.std.specs.Cmp.Lexicographic.{pointwise, slice_cmp};
 ghost use Rattle.std.specs.declared.cmp.Ordering.TheVariants.{Less, Equal};
-ghost use Rattle.sst_base.specs.Bytes.{IsBytes, le_bytes, le_number};
+ghost use Rattle.byteorder.specs.Endian.{little_bytes, little_number};
+ghost use Rattle.sst_base.specs.Bytes.{IsBytes};
 ghost use Rattle.sst_base.specs.Varint.{IsVarint, varint, varint_at};
 ghost use Rattle.sst_base.specs.ValueType.{value_type_byte, value_type_of};
 ghost use Rattle.sst_base.specs.BlockType.{block_type_byte, block_type_of};
@@ -43,14 +44,10 @@ pub fn varint_was_written()
         → (take len bytes ≡ varint n) × (n < 2 ^ bits) × (len ≤ length bytes) }
 {}
 
-/// A number of so many bytes is the number that its bytes are.
-pub fn fixed_number_is_read_again()
-    ensures { (width n : ℕ) → n < 256 ^ width → le_number (le_bytes width n) ≡ n }
-{}
-
-/// Bytes are those of the number that they are.
+/// Bytes are those of the number that they encode.
 pub fn fixed_number_was_written()
-    ensures { (bytes : List ℕ) → IsBytes bytes → le_bytes (length bytes) (le_number bytes) ≡ bytes }
+    ensures { (width : ℕ) (bytes : List ℕ) → IsBytes bytes → width ≤ length bytes
+        → little_bytes width (little_number width bytes) ≡ take width bytes }
 {}
 
 /// The byte of a value type stands for it.

@@ -21,7 +21,7 @@ pub mod value_type;
 pub mod vectors;
 
 pub use checksum::Checksum;
-pub use coding::{decode_varint, encode_varint, u8_at, u16_at, u32_at};
+pub use coding::{decode_varint, encode_varint, push_varint};
 pub use config::HashRatio;
 pub use count::Count;
 pub use error::{Error, HeaderName, Result, TagName};

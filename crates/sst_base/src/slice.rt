@@ -123,7 +123,7 @@ impl Slice {
         ensures ok { IfOk result (λ s. s ≡ left.now ++ right.now) }
         ensures memory { IsOkUnless result Error.Memory }
     {
-        let mut both = Vec::new(alloc);
+        let mut both = Vec::with_capacity(alloc, left.len() + right.len())?;
         both.extend_from_slice(left)?;
         both.extend_from_slice(right)?;
         Slice::from_vec(both)

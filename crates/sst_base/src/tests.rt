@@ -4,7 +4,7 @@ use crate::hash::{BlockHash, Poly31};
 use crate::{
     Block, BlockType, Checksum, Error, Header, History, InternalKey, InternalValue, Result, Slice,
     Steps, ValueType, compare_bytes, compare_prefixed_slice, decode_varint, encode_varint,
-    longest_shared_prefix_length, u8_at, u16_at, u32_at,
+    longest_shared_prefix_length,
 };
 use std::alloc::Global;
 use std::cmp::Ordering;
@@ -226,14 +226,6 @@ fn varints_are_read(rt: HostRuntime) {
             assert_eq!(rt; decode_varint(bytes, bits), want, "{bytes:?} {bits}");
         }
     }
-}
-
-#[test]
-fn fixed_numbers_are_read(rt: HostRuntime) {
-    let bytes = b"\x00\x01\x02\x03\x84".as_slice();
-    assert_eq!(rt; u8_at(bytes, 4), 0x84);
-    assert_eq!(rt; u16_at(bytes, 1), 0x0201);
-    assert_eq!(rt; u32_at(bytes, 1), 0x8403_0201);
 }
 
 #[test]

@@ -5,6 +5,7 @@ mod Plain
 mod Trailers
 mod Splits
 pub mod Tables
+mod LastHeads
 mod BucketLaws
 mod Canonical
 mod IndexBlocks
@@ -16,6 +17,5 @@ mod OrderedSteps
 mod WindowSteps
 mod PlainEntries
 pub mod Indexes
-pub mod TrailerBytes
 pub mod Written
 pub mod Endings

@@ -15,5 +15,6 @@ pub mod Found
 pub mod Scan
 pub mod ParsedEntry
 pub mod DataBlock
-pub mod Index
 pub mod Encoders
+pub mod PointerLaws
+pub mod WindowLaws

@@ -11,4 +11,4 @@ pub use sst_block_core::table::block::{
     Decodable, Decoder, Encodable, Encoder, ParsedItem, Trailer,
 };
 pub use sst_block_core::table::{block, data_block};
-pub use sst_block_core::{DataBlock, DataBlockParsedItem, Spelled};
+pub use sst_block_core::{DataBlock, DataBlockParsedItem, BlockItem};

@@ -2,24 +2,24 @@
 ghost use Rattle.std.specs.Prelude.{◌≡◌, ◌+◌, ◌≤◌, ◌++◌, length, take, drop};
 ghost use Rattle.std.specs.Ordering.{nat_cmp};
 ghost use Rattle.std.specs.Cmp.Lexicographic.{slice_cmp};
-ghost use Rattle.sst_base.specs.Bytes.{be_number};
+ghost use Rattle.byteorder.specs.Endian.{big_number};
 ghost use Rattle.sst_base.specs.SharedPrefix.{shared_prefix_length};
 
+use byteorder::{BigEndian, ByteOrder};
 use std::cmp::Ordering;
 
 /// The start and the end of a part of a byte string.
 #[derive(Clone, Copy, Debug, PartialEq, Eq)]
 pub struct SliceIndexes(pub usize, pub usize);
 
-// Eight bytes at an offset as a number, the highest first.
+// The eight bytes at an offset as a big-endian number.
 #[inline(always)]
-#[tactic(auto, using(crate::proofs::Orders::be_word))]
 fn word_at(bytes: &[u8], at: usize) -> u64
     requires { at + 8 ≤ length bytes.now }
-    ensures { result ≡ be_number (take 8 (drop at bytes.now)) }
+    ensures { result ≡ big_number 8 (drop at bytes.now) }
 {
     let (_, rest) = bytes.split_at(at);
-    u64::from_be_bytes(*rest.first_chunk().unwrap())
+    BigEndian::read_u64(rest)
 }
 
 // The same as `compare_bytes`, a byte a step.

@@ -8,6 +8,8 @@ pub mod header;
 use crate::slice::Slice;
 pub use block_type::BlockType;
 pub use header::Header;
+use std::alloc::AllocError;
+use std::fmt;
 use std::marker::Model;
 
 /// A block in memory: a header, and a payload of at most 2^32 - 1 bytes.
@@ -58,5 +60,22 @@ impl Block {
         ensures fits { length self.now.payload < 2 ^ 32 }
     {
         &self.payload
+    }
+}
+
+impl Clone for Block {
+    ghost is_clone = { λ b copy. copy ≡ b };
+
+    fn clone(&self) -> Result<Block, AllocError> {
+        Ok(Block {
+            header: self.header,
+            payload: self.payload.clone()?,
+        })
+    }
+}
+
+impl fmt::Debug for Block {
+    fn fmt<W: fmt::Write>(&self, f: &mut fmt::Formatter<W>) -> fmt::Result {
+        write!(f, "{:?} {:?}", self.header, self.payload)
     }
 }

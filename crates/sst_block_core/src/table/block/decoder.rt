@@ -1,57 +1,65 @@
-//! The decoder of blocks.
-ghost use Rattle.std.specs.Prelude.{◌≡◌, ◌≢◌, ℕ, ◌+◌, ◌-◌, ◌%◌, ◌*◌, ◌^◌, ◌<◌, ◌≤◌, List, length, drop, slice_get, Some, IfSome, IfOk, IsSomeAnd, IsOkUnless};
+//! The block decoder.
+ghost use Rattle.std.specs.Prelude.{◌≡◌, ◌≢◌, ℕ, ◌+◌, ◌-◌, ◌%◌, ◌*◌, ◌^◌, ◌<◌, ◌≤◌, List, [], ◌∷◌, length, drop, slice_get, Some, None, IfSome, IfOk, IsSomeAnd, IsOkUnless};
 ghost use Rattle.std.specs.Ordering.{nat_cmp};
 ghost use Rattle.std.specs.Cmp.Lexicographic.{slice_cmp};
 ghost use Rattle.std.specs.Iterator.{at_most};
 ghost use Rattle.sst_base.specs.Counted.{found_item};
+ghost use Rattle.sst_base.specs.SharedPrefix.{shared_prefix_length};
 ghost use Rattle.sst_block_core.specs.Found.{Finds, StandsAt};
-ghost use Rattle.sst_block_core.specs.Payload.{IsBlock};
+ghost use Rattle.sst_block_core.specs.Payload.{IsEncoding};
 ghost use Rattle.sst_block_core.specs.Stages.{items_in};
 ghost use Rattle.sst_block_core.specs.Window.{whole};
 ghost use Rattle.sst_block_core.specs.Scan.{Scan, IsPlace, IsScan, GivesNext};
 
-use crate::kind::Spelled;
-use sst_base::coding::{u8_at, u32_at};
+use crate::block_item::BlockItem;
+use crate::table::block::trailer::Trailer;
 use sst_base::table::block::Block;
 use sst_base::{Error, Result, Slice, Steps};
 use std::alloc::Global;
 use std::cmp::Ordering;
 use std::marker::{Model, PhantomData};
 
-/// What a parser answers: an item by its ranges of a payload.
-pub trait ParsedItem<Item: Spelled> {
+/// The answer of a parser: an item by its ranges of a payload.
+pub trait ParsedItem<Item: BlockItem> {
     /// The item that it stands for in a payload.
     ghost item_of: { List ℕ → Self → Item };
 
     /// It was found in a payload: its ranges lie there, and the item is valid.
     ghost is_found: { List ℕ → Self → Type 0 };
 
-    /// Where its key begins, if it is a head.
+    /// The offset of its key, if it is a head.
     ghost key_start: { Self → ℕ };
 
-    /// The order of its key against a needle. Nothing is joined.
+    /// The length of the shared prefix; 0 in a full form.
+    ghost shared_len: { Self → ℕ };
+
+    /// Compares its key with a needle, without joining prefix and rest.
     fn compare_key(&self, needle: &[u8], payload: &[u8]) -> Ordering
         requires { is_found payload.now self.now }
         ensures { result ≡ slice_cmp nat_cmp (Item.kind.key (item_of payload.now self.now)) needle.now };
 
-    /// Its sequence number.
+    /// Returns its sequence number.
     fn seqno(&self) -> u64
         ensures { (payload : List ℕ) → result ≡ Item.kind.seqno (item_of payload self.now) };
 
-    /// Where its key begins, if it is a head.
+    /// Returns the offset of its key, if it is a head.
     fn key_offset(&self) -> usize
         ensures { result ≡ key_start self.now };
 
-    /// The item, whose key alone may be joined and copied. The only error is E15.
+    /// Makes the item. Only a truncated key is joined and copied.
+    ///
+    /// # Errors
+    ///
+    /// `Error::Memory` if an allocation fails.
     fn materialize(&self, alloc: Global, payload: &Slice) -> Result<Item>
         requires { is_found payload.now self.now }
         ensures ok { IfOk result (λ x. x ≡ item_of payload.now self.now) }
         ensures memory { IsOkUnless result Error.Memory };
 }
 
-/// Items that can be read from a block.
-pub trait Decodable<Parsed: ParsedItem<Self>>: Spelled + Sized {
-    /// The key and the sequence number of the head at an offset. It counts one head.
+/// Items that can be read from a block. These parsers take any bytes.
+pub trait Decodable<Parsed: ParsedItem<Self>>: BlockItem + Sized {
+    /// Decodes the key and the sequence number of the head at an offset. Returns `None` at the marker. Counts a head.
     fn parse_restart_key<'a>(
         payload: &'a [u8],
         offset: usize,
@@ -60,20 +68,24 @@ pub trait Decodable<Parsed: ParsedItem<Self>>: Spelled + Sized {
         requires { offset ≤ length payload.now }
         ensures head { (x : Self) (rest : List ℕ) → Self.kind.full_at (drop offset payload.now) ≡ Some (x, rest)
             → IsSomeAnd result (λ f. (f.0.now ≡ Self.kind.key x) × (f.1 ≡ Self.kind.seqno x)) }
+        ensures marker { StandsAt payload.now offset (255 ∷ []) → result ≡ None }
         ensures heads { steps.new.heads ≡ steps.old.heads + 1 }
         ensures entries { steps.new.entries ≡ steps.old.entries };
 
-    /// The item in full form at an offset, and where the form ends. It counts an entry where it answers an item.
+    /// Decodes the item in full form at an offset; the second answer is where the form ends. Returns `None` at the
+    /// marker, and wherever no full form stands. Counts an entry where it answers an item.
     fn parse_full(payload: &[u8], offset: usize, steps: &mut Steps) -> Option<(Parsed, usize)>
         requires { offset ≤ length payload.now }
         ensures exact { Finds (Parsed.item_of payload.now) payload.now result (Self.kind.full_at (drop offset payload.now)) }
         ensures found { IfSome result (λ f. Parsed.is_found payload.now f.0) }
         ensures key { IfSome result (λ f. StandsAt payload.now (Parsed.key_start f.0) (Self.kind.key (Parsed.item_of payload.now f.0))) }
+        ensures marker { StandsAt payload.now offset (255 ∷ []) → result ≡ None }
         ensures heads { steps.new.heads ≡ steps.old.heads }
         ensures entries { steps.new.entries ≡ steps.old.entries + found_item result };
 
-    /// The item in truncated form at an offset, behind a head whose key begins at `base_key_offset`, and where the
-    /// form ends. It counts an entry where it answers an item.
+    /// Decodes the item in truncated form at an offset, behind a head whose key begins at `base_key_offset`; the
+    /// second answer is where the form ends. Returns `None` at the marker. Whether the shared prefix is the longest
+    /// is not tested: where it is, the answer is the item. Counts an entry where it answers an item.
     fn parse_truncated(
         payload: &[u8],
         offset: usize,
@@ -84,12 +96,17 @@ pub trait Decodable<Parsed: ParsedItem<Self>>: Spelled + Sized {
         ensures item { (base : List ℕ) → StandsAt payload.now base_key_offset base
             → (x : Self) (rest : List ℕ) → Self.kind.truncated_at base (drop offset payload.now) ≡ Some (x, rest)
             → IsSomeAnd result (λ f. (f.1 ≤ length payload.now) × (Parsed.item_of payload.now f.0 ≡ x) × (drop f.1 payload.now ≡ rest)) }
+        ensures read { (base : List ℕ) → StandsAt payload.now base_key_offset base
+            → IfSome result (λ f. Parsed.shared_len f.0 ≡ shared_prefix_length base (Self.kind.key (Parsed.item_of payload.now f.0))
+            → Self.kind.truncated_at base (drop offset payload.now) ≡ Some (Parsed.item_of payload.now f.0, drop f.1 payload.now)) }
+        ensures within { IfSome result (λ f. f.1 ≤ length payload.now) }
         ensures found { IfSome result (λ f. Parsed.is_found payload.now f.0) }
+        ensures marker { StandsAt payload.now offset (255 ∷ []) → result ≡ None }
         ensures heads { steps.new.heads ≡ steps.old.heads }
         ensures entries { steps.new.entries ≡ steps.old.entries + found_item result };
 }
 
-/// A place of a block's list: where its form begins, and where the key of its interval's head does.
+/// An index into a block's items: the offset of its form, and the offset of its interval's base key.
 #[derive(Clone, Copy)]
 pub(crate) struct Place {
     pub(crate) place: usize,
@@ -97,7 +114,7 @@ pub(crate) struct Place {
     pub(crate) base: usize,
 }
 
-/// The item at a place, and the next place.
+/// The item at an index, and the next index.
 #[inline(always)]
 pub(crate) fn parse_at<Item: Decodable<Parsed>, Parsed: ParsedItem<Item>>(
     payload: &[u8],
@@ -142,7 +159,9 @@ pub(crate) fn parse_at<Item: Decodable<Parsed>, Parsed: ParsedItem<Item>>(
     }
 }
 
-/// Goes over the items of a block. Clauses see it as the payload, a window over its items, and its counters.
+/// The block decoder: an iterator over the items of a block, as ranges of its payload.
+///
+/// Clauses see the payload, a window over the items, and the counters. No step takes memory.
 pub struct Decoder<'a, Item: Decodable<Parsed>, Parsed: ParsedItem<Item>> {
     kinds: PhantomData<(Item, Parsed)>,
     payload: &'a [u8],
@@ -168,31 +187,32 @@ impl<'a, Item: Decodable<Parsed>, Parsed: ParsedItem<Item>> Model for Decoder<'a
 }
 
 impl<'a, Item: Decodable<Parsed>, Parsed: ParsedItem<Item>> Decoder<'a, Item, Parsed> {
-    /// Goes over the items of a block, whose payload is that of some list. It takes no memory.
+    /// Makes a decoder of a block, whose payload is the encoding of some list of items, ordered or not. Takes no
+    /// memory.
     pub fn new(block: &'a Block) -> Decoder<'a, Item, Parsed>
-        requires { (hash : List ℕ → ℕ) × (items : List Item) × (r : ℕ) × (b : ℕ) × IsBlock Item.kind Item.valid hash block.now.payload items r b }
+        requires { (hash : List ℕ → ℕ) × (items : List Item) × (r : ℕ) × (b : ℕ) × IsEncoding Item.kind Item.valid hash block.now.payload items r b }
         ensures payload { result.payload ≡ block.now.payload }
         ensures window { result.window ≡ whole (items_in Item.kind block.now.payload) }
         ensures heads { result.steps.heads ≡ 0 }
         ensures entries { result.steps.entries ≡ 0 }
     {
         let payload = block.data().as_slice();
-        let trailer = payload.len() - 31;
+        let trailer = Trailer::new(block);
         Decoder {
             kinds: PhantomData,
             payload,
-            restart_interval: u8_at(payload, trailer),
+            restart_interval: trailer.interval(),
             front: Place {
                 place: 0,
                 offset: 0,
                 base: 0,
             },
-            hi: u32_at(payload, trailer + 27) as usize,
+            hi: trailer.item_count(),
             steps: Steps::new(),
         }
     }
 
-    /// What it has counted since it was made.
+    /// Returns what was counted since the decoder was made.
     pub fn steps(&self) -> &Steps
         ensures { result.now ≡ self.now.steps }
     {
@@ -200,7 +220,7 @@ impl<'a, Item: Decodable<Parsed>, Parsed: ParsedItem<Item>> Decoder<'a, Item, Pa
     }
 }
 
-/// The next item, if one is left. It counts an entry for an item and takes no memory.
+/// Returns the next item, if one is left. Counts an entry for an item.
 impl<'a, Item: Decodable<Parsed>, Parsed: ParsedItem<Item> + Drop> Iterator
     for Decoder<'a, Item, Parsed> {
     type Item = Parsed;
@@ -209,6 +229,7 @@ impl<'a, Item: Decodable<Parsed>, Parsed: ParsedItem<Item> + Drop> Iterator
 
     ghost remaining = { λ s. at_most (s.window.hi - s.window.lo) };
 
+    #[inline(always)]
     fn next(&mut self) -> Option<Parsed> {
         if self.front.place >= self.hi {
             return None;

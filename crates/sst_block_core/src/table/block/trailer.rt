@@ -1,10 +1,11 @@
 //! The trailer of a block: the 31 bytes at its end that say where its parts are.
 #![tactic(auto, unfolding(crate::specs::Trailer::trailer_from))]
 
-ghost use Rattle.std.specs.Prelude.{◌≡◌, ◌+◌, ◌-◌, ◌≤◌, ◌++◌, length, OnOk, IsOkUnless};
+ghost use Rattle.std.specs.Prelude.{◌≡◌, ◌+◌, ◌-◌, ◌≤◌, ◌++◌, drop, length, OnOk, IsOkUnless};
+ghost use Rattle.byteorder.specs.Endian.{little_number};
 ghost use Rattle.sst_block_core.specs.Trailer.{trailer, trailer_bytes, trailer_in};
 
-use sst_base::coding::{u8_at, u32_at};
+use byteorder::{ByteOrder, LittleEndian};
 use sst_base::table::block::Block;
 use sst_base::{Error, Result};
 use std::marker::Model;
@@ -12,21 +13,23 @@ use std::marker::Model;
 /// The byte behind the items of a block. No item begins with it.
 pub const TRAILER_START_MARKER: u8 = 255;
 
-/// How many bytes a trailer has.
+/// The length of a trailer in bytes.
 pub const TRAILER_SIZE: usize = 31;
 
-/// The trailer of a block, read where it stands.
+/// A view of the trailer of a block.
 ///
 /// | At | Bytes | Content |
 /// |---|---|---|
 /// | 0 | 1 | restart interval |
-/// | 1 | 1 | bytes of a pointer |
+/// | 1 | 1 | pointer width in bytes |
 /// | 2 | 4 | number of heads |
 /// | 6 | 4 | offset of the binary index |
 /// | 10 | 4 | length of the hash index |
 /// | 14 | 4 | offset of the hash index |
 /// | 18 | 9 | 01 00 0000 00 00000000 |
 /// | 27 | 4 | number of items |
+///
+/// Numbers are little-endian. Clauses see the payload of the block.
 #[derive(Drop)]
 pub struct Trailer<'a> {
     payload: &'a [u8],
@@ -45,24 +48,24 @@ impl<'a> Model for Trailer<'a> {
 /// The numbers of a trailer.
 #[derive(Clone, Copy, Debug, PartialEq, Eq)]
 pub struct TrailerNumbers {
-    /// How many items stand in an interval, but for the last.
+    /// Items per restart interval; the last may hold fewer.
     pub interval: u8,
-    /// How many bytes a pointer has.
+    /// The width of a pointer in bytes.
     pub width: u8,
-    /// How many heads there are.
+    /// The number of heads.
     pub heads: u32,
-    /// Where the binary index begins.
+    /// The offset of the binary index.
     pub index_offset: u32,
-    /// How many buckets the hash index has.
+    /// The number of buckets in the hash index, 0 where there is none.
     pub hash_len: u32,
-    /// Where the hash index begins, or 0 where there is none.
+    /// The offset of the hash index, 0 where there is none.
     pub hash_offset: u32,
-    /// How many items there are.
+    /// The number of items.
     pub item_count: u32,
 }
 
 impl<'a> Trailer<'a> {
-    /// The trailer of a block. The block's payload has at least 31 bytes.
+    /// Returns a view of the trailer of a block, whose payload has at least 31 bytes.
     pub fn new(block: &'a Block) -> Trailer<'a>
         requires { 31 ≤ length block.now.payload }
         ensures { result ≡ block.now.payload }
@@ -72,7 +75,7 @@ impl<'a> Trailer<'a> {
         }
     }
 
-    /// Where the trailer begins in the payload.
+    /// Returns the offset of the trailer in the payload.
     pub fn trailer_offset(&self) -> usize
         ensures value { result ≡ length self.now - 31 }
         ensures inside { result + 31 ≡ length self.now }
@@ -80,7 +83,7 @@ impl<'a> Trailer<'a> {
         self.payload.len() - TRAILER_SIZE
     }
 
-    /// The bytes of the trailer.
+    /// Returns the bytes of the trailer.
     pub fn as_slice(&self) -> &[u8]
         ensures value { result.now ≡ trailer_bytes self.now }
         ensures len { length result.now ≡ 31 }
@@ -88,57 +91,69 @@ impl<'a> Trailer<'a> {
         &self.payload[self.trailer_offset()..]
     }
 
-    /// How many items stand in an interval, but for the last.
+    // The four bytes at an offset of the trailer, as a number.
+    fn number_at(&self, at: usize) -> u32
+        requires { at + 4 ≤ 31 }
+        ensures { result ≡ little_number 4 (drop at (trailer_bytes self.now)) }
+    {
+        let (_, rest) = self.as_slice().split_at(at);
+        LittleEndian::read_u32(rest)
+    }
+
+    /// Returns the number of items per restart interval; the last may hold fewer.
     pub fn interval(&self) -> u8
         ensures { result ≡ (trailer_in self.now).interval }
     {
-        u8_at(self.as_slice(), 0)
+        self.as_slice()[0]
     }
 
-    /// How many bytes a pointer has.
+    /// Returns the width of a pointer in bytes.
     pub fn width(&self) -> u8
         ensures { result ≡ (trailer_in self.now).width }
     {
-        u8_at(self.as_slice(), 1)
+        self.as_slice()[1]
     }
 
-    /// How many heads there are.
+    /// Returns the number of heads.
     pub fn heads(&self) -> u32
         ensures { result ≡ (trailer_in self.now).heads }
     {
-        u32_at(self.as_slice(), 2)
+        self.number_at(2)
     }
 
-    /// Where the binary index begins.
+    /// Returns the offset of the binary index.
     pub fn index_offset(&self) -> u32
         ensures { result ≡ (trailer_in self.now).index_offset }
     {
-        u32_at(self.as_slice(), 6)
+        self.number_at(6)
     }
 
-    /// How many buckets the hash index has.
+    /// Returns the number of buckets in the hash index.
     pub fn hash_len(&self) -> u32
         ensures { result ≡ (trailer_in self.now).hash_len }
     {
-        u32_at(self.as_slice(), 10)
+        self.number_at(10)
     }
 
-    /// Where the hash index begins.
+    /// Returns the offset of the hash index.
     pub fn hash_offset(&self) -> u32
         ensures { result ≡ (trailer_in self.now).hash_offset }
     {
-        u32_at(self.as_slice(), 14)
+        self.number_at(14)
     }
 
-    /// How many items there are.
+    /// Returns the number of items.
     pub fn item_count(&self) -> usize
         ensures { result ≡ (trailer_in self.now).item_count }
     {
-        u32_at(self.as_slice(), 27) as usize
+        self.number_at(27) as usize
     }
 
-    /// Writes the trailer with these numbers behind what a vector has: 31 bytes. The only error is E15, and then the
-    /// vector may have some of it.
+    /// Appends the trailer with these numbers, 31 bytes.
+    ///
+    /// # Errors
+    ///
+    /// `Error::Memory` if an allocation fails. The vector may then hold a partial write.
     pub fn write(writer: &mut Vec<u8>, numbers: TrailerNumbers) -> Result<()>
         ensures ok { OnOk result (writer.new.items ≡ writer.old.items ++ trailer (record {
           interval = numbers.interval;
@@ -151,13 +166,33 @@ impl<'a> Trailer<'a> {
         })) }
         ensures memory { IsOkUnless result Error.Memory }
     {
-        writer.extend_from_slice(&[numbers.interval, numbers.width])?;
-        writer.extend_from_slice(&numbers.heads.to_le_bytes())?;
-        writer.extend_from_slice(&numbers.index_offset.to_le_bytes())?;
-        writer.extend_from_slice(&numbers.hash_len.to_le_bytes())?;
-        writer.extend_from_slice(&numbers.hash_offset.to_le_bytes())?;
-        writer.extend_from_slice(&[1, 0, 0, 0, 0, 0, 0, 0, 0])?;
-        writer.extend_from_slice(&numbers.item_count.to_le_bytes())?;
+        let bytes = trailer_of(numbers);
+        writer.extend_from_slice(&bytes)?;
         Ok(())
     }
+}
+
+// The bytes of a trailer with these numbers.
+#[tactic(auto, unfolding(crate::specs::Trailer::trailer))]
+fn trailer_of(numbers: TrailerNumbers) -> [u8; TRAILER_SIZE]
+    ensures { result ≡ trailer (record {
+      interval = numbers.interval;
+      width = numbers.width;
+      heads = numbers.heads;
+      index_offset = numbers.index_offset;
+      hash_len = numbers.hash_len;
+      hash_offset = numbers.hash_offset;
+      item_count = numbers.item_count;
+    }) }
+{
+    let mut bytes = [0u8; TRAILER_SIZE];
+    bytes[0] = numbers.interval;
+    bytes[1] = numbers.width;
+    LittleEndian::write_u32(&mut bytes[2..], numbers.heads);
+    LittleEndian::write_u32(&mut bytes[6..], numbers.index_offset);
+    LittleEndian::write_u32(&mut bytes[10..], numbers.hash_len);
+    LittleEndian::write_u32(&mut bytes[14..], numbers.hash_offset);
+    bytes[18] = 1;
+    LittleEndian::write_u32(&mut bytes[27..], numbers.item_count);
+    bytes
 }

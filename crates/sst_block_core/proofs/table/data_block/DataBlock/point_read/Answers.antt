@@ -1,4 +1,4 @@
-use Rattle.std.proofs.Common.{◌∙◌, Option, Result, Ok, Err, Some, None, OnErr, ap, refl, sym, subst, filter, slice_get}
+use Rattle.std.proofs.Common.{◌+◌, ◌≤◌, ◌∙◌, Option, Result, Ok, Err, Some, None, OnErr, ap, refl, sym, subst, filter, slice_get}
 use Rattle.std.specs.Option.{IsSome}
 use Rattle.sst_base.specs.Entry.{Entry}
 use Rattle.sst_block_core.specs.Entries.{entries}
@@ -28,3 +28,10 @@ pub returns-clause-found : goal.returns-clause-found
 returns-clause-found g c =
     let search = c.in-None.ensures.item ∙ ap (λ w. slice_get (filter (is_version entries c.args.needle.now c.args.seqno) (items_left w)) 0) c.iter-iter.ensures.window in
     first_match-search c.args.needle.now c.args.seqno c.args.self.now.items None c.iter-iter.ensures.plain search
+
+pub returns-clause-counted : goal.returns-clause-counted
+returns-clause-counted g c =
+    let search = c.in-None.ensures.item ∙ ap (λ w. slice_get (filter (is_version entries c.args.needle.now c.args.seqno) (items_left w)) 0) c.iter-iter.ensures.window in
+    let none = first_match-search c.args.needle.now c.args.seqno c.args.self.now.items None c.iter-iter.ensures.plain search in
+    let P : Option Entry → Type 0 = λ o. IsSome o → c.args.steps.now.entries + 1 ≤ c.add.new.self.entries in
+    subst P none (λ some. cc)

@@ -1,0 +1,23 @@
+-- Varints of two and three bytes, by the bytes that stand at the front.
+use Rattle.std.proofs.Common.{◌≡◌, ℕ, ◌+◌, ◌*◌, ◌-◌, ◌<◌, ◌≤◌, List, [], ◌∷◌, length, get_or, arith, sym, ap, ◌∙◌, Option, Some}
+use Rattle.sst_base.specs.Bytes.{IsBytes}
+use Rattle.sst_base.specs.Varint.{IsWidth, varint_at}
+use Rattle.sst_base.specs.VarintLaws.{varint_at_two, varint_at_three}
+
+pub two_bytes : (bits : ℕ) (bytes : List ℕ) (x y : ℕ) → IsWidth bits → IsBytes bytes → 2 ≤ length bytes
+    → 128 ≤ get_or bytes 0 0 → 0 < get_or bytes 1 0 → get_or bytes 1 0 < 128
+    → x ≡ get_or bytes 0 0 - 128 → y ≡ get_or bytes 1 0 → Some (x + 128 * y, 2) ≡ varint_at bits bytes
+two_bytes bits [] x y w small h p q r e f = absurd (omega arith)
+two_bytes bits (a ∷ []) x y w small h p q r e f = absurd (omega arith)
+two_bytes bits (a ∷ b ∷ bs) x y w small h p q r e f =
+    ap (λ n. Some (n, 2)) (λ i. e i + 128 * f i) ∙ sym (varint_at_two bits a b bs w p (small 0) q r)
+
+pub three_bytes : (bits : ℕ) (bytes : List ℕ) (x y z : ℕ) → IsWidth bits → 16 < bits → IsBytes bytes → 3 ≤ length bytes
+    → 128 ≤ get_or bytes 0 0 → 128 ≤ get_or bytes 1 0 → 0 < get_or bytes 2 0 → get_or bytes 2 0 < 128
+    → x ≡ get_or bytes 0 0 - 128 → y ≡ get_or bytes 1 0 - 128 → z ≡ get_or bytes 2 0
+    → Some ((x + 128 * y) + 16384 * z, 3) ≡ varint_at bits bytes
+three_bytes bits [] x y z w wide small h p q r s e f g = absurd (omega arith)
+three_bytes bits (a ∷ []) x y z w wide small h p q r s e f g = absurd (omega arith)
+three_bytes bits (a ∷ b ∷ []) x y z w wide small h p q r s e f g = absurd (omega arith)
+three_bytes bits (a ∷ b ∷ c ∷ bs) x y z w wide small h p q r s e f g =
+    ap (λ n. Some (n, 3)) (λ i. (e i + 128 * f i) + 16384 * g i) ∙ sym (varint_at_three bits a b c bs w (omega arith) p (small 0) q (small 1) r s)

@@ -1,0 +1,152 @@
+//! Entries as items of a block: how they are decoded.
+ghost use Rattle.std.specs.Prelude.{◌≡◌, ◌+◌, ◌-◌, ◌^◌, ◌<◌, ◌≤◌, length, drop, IfSome, IfNone};
+ghost use Rattle.sst_block_core.specs.Found.{Finds, IsRange, IsOptionalRange, optional_range};
+ghost use Rattle.sst_block_core.specs.Entries.{value_at, truncated_form_at};
+ghost use Rattle.sst_block_core.specs.ParsedEntry.{truncated_of, IsKeyLength};
+
+use crate::table::block::Decodable;
+use crate::table::block::reading::{length_prefixed_from, number_from, value_type_from};
+use crate::table::data_block::parsed_item::{DataBlockParsedItem, bytes_of};
+use sst_base::key::MAX_KEY_LEN;
+use sst_base::table::util::SliceIndexes;
+use sst_base::{InternalValue, Steps, ValueType};
+
+// The range of a value at an offset, which a tombstone has not, and where it ends.
+#[inline(always)]
+fn value_from(
+    payload: &[u8],
+    at: usize,
+    value_type: ValueType,
+) -> Option<(Option<SliceIndexes>, usize)>
+    requires { at ≤ length payload.now }
+    ensures exact { Finds (optional_range payload.now) payload.now result (value_at value_type (drop at payload.now)) }
+    ensures range { IfSome result (λ f. IsOptionalRange payload.now f.0) }
+    ensures bound { IfSome result (λ f. length (optional_range payload.now f.0) < 2 ^ 32) }
+{
+    match value_type {
+        ValueType::Tombstone | ValueType::WeakTombstone => Some((None, at)),
+        ValueType::Value | ValueType::Indirection => {
+            let (range, end) = length_prefixed_from(payload, at, 32)?;
+            Some((Some(range), end))
+        }
+    }
+}
+
+// The parts of a truncated form, by their ranges.
+#[derive(Clone, Copy)]
+struct TruncatedForm {
+    value_type: ValueType,
+    seqno: u64,
+    shared: u64,
+    key: SliceIndexes,
+    value: Option<SliceIndexes>,
+}
+
+// The truncated form at an offset, whatever its head, and where it ends.
+#[inline(always)]
+#[tactic(auto, unfolding(crate::specs::Entries::truncated_form_at))]
+fn truncated_form_from(payload: &[u8], offset: usize) -> Option<(TruncatedForm, usize)>
+    requires { offset ≤ length payload.now }
+    ensures exact { Finds (truncated_of payload.now) payload.now result (truncated_form_at (drop offset payload.now)) }
+    ensures key { IfSome result (λ f. IsRange payload.now f.0.key) }
+    ensures value { IfSome result (λ f. IsOptionalRange payload.now f.0.value) }
+    ensures bound { IfSome result (λ f. length (optional_range payload.now f.0.value) < 2 ^ 32) }
+{
+    let (value_type, at) = value_type_from(payload, offset)?;
+    let (seqno, at) = number_from(payload, at, 64)?;
+    let (shared, at) = number_from(payload, at, 16)?;
+    let (key, at) = length_prefixed_from(payload, at, 16)?;
+    let (value, end) = value_from(payload, at, value_type)?;
+    Some((
+        TruncatedForm {
+            value_type,
+            seqno,
+            shared,
+            key,
+            value,
+        },
+        end,
+    ))
+}
+
+// The range of a prefix of this length at the offset of a head's key, if it lies in the payload and the whole key
+// has 1 to 65535 bytes.
+#[inline(always)]
+fn prefix_from(payload: &[u8], base: usize, shared: u64, rest: usize) -> Option<SliceIndexes>
+    ensures found { IfSome result (λ p. (p ≡ record { 0 = base; 1 = base + shared }) × IsRange payload.now p × IsKeyLength (shared + rest)) }
+    ensures none { IfNone result (base + shared ≤ length payload.now → IsKeyLength (shared + rest) → ⊥) }
+{
+    if base > payload.len() || shared > (payload.len() - base) as u64 {
+        return None;
+    }
+    if shared > MAX_KEY_LEN as u64 || rest > MAX_KEY_LEN {
+        return None;
+    }
+    let shared = shared as usize;
+    let whole = shared + rest;
+    if whole == 0 || whole > MAX_KEY_LEN {
+        return None;
+    }
+    Some(SliceIndexes(base, base + shared))
+}
+
+/// Decodes the two forms of an entry as ranges of the payload.
+impl Decodable<DataBlockParsedItem> for InternalValue {
+    fn parse_restart_key<'a>(
+        payload: &'a [u8],
+        offset: usize,
+        steps: &mut Steps,
+    ) -> Option<(&'a [u8], u64)> {
+        steps.count_head();
+        let (_, at) = value_type_from(payload, offset)?;
+        let (seqno, at) = number_from(payload, at, 64)?;
+        let (key, _) = length_prefixed_from(payload, at, 16)?;
+        Some((bytes_of(payload, &key), seqno))
+    }
+
+    #[inline(always)]
+    #[tactic(auto, using(crate::proofs::Ends::range_some, crate::proofs::Ends::range_stands), unfolding(crate::specs::Entries::full_at))]
+    fn parse_full(
+        payload: &[u8],
+        offset: usize,
+        steps: &mut Steps,
+    ) -> Option<(DataBlockParsedItem, usize)> {
+        let (value_type, at) = value_type_from(payload, offset)?;
+        let (seqno, at) = number_from(payload, at, 64)?;
+        let (key, at) = length_prefixed_from(payload, at, 16)?;
+        let (value, end) = value_from(payload, at, value_type)?;
+        if key.0 == key.1 {
+            return None;
+        }
+        steps.count_entry();
+        let item = DataBlockParsedItem {
+            value_type,
+            seqno,
+            prefix: None,
+            key,
+            value,
+        };
+        Some((item, end))
+    }
+
+    #[inline(always)]
+    fn parse_truncated(
+        payload: &[u8],
+        offset: usize,
+        base_key_offset: usize,
+        steps: &mut Steps,
+    ) -> Option<(DataBlockParsedItem, usize)> {
+        let (form, end) = truncated_form_from(payload, offset)?;
+        let rest = form.key.1 - form.key.0;
+        let prefix = prefix_from(payload, base_key_offset, form.shared, rest)?;
+        steps.count_entry();
+        let item = DataBlockParsedItem {
+            value_type: form.value_type,
+            seqno: form.seqno,
+            prefix: Some(prefix),
+            key: form.key,
+            value: form.value,
+        };
+        Some((item, end))
+    }
+}
