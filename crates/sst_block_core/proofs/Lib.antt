@@ -5,7 +5,7 @@ mod Plain
 mod Trailers
 mod Splits
 pub mod Tables
-mod LastHeads
+pub mod LastHeads
 mod BucketLaws
 mod Canonical
 mod IndexBlocks
