@@ -1,6 +1,7 @@
 //! Comparisons and hashes of keys, and varints.
-ghost use Rattle.std.specs.Prelude.{◌≡◌, ◌+◌, ◌*◌, ◌%◌, ◌^◌, ℕ, List, fold, map};
-ghost use Rattle.sst_base.specs.Hashes.{poly31};
+ghost use Rattle.std.specs.Prelude.{◌≡◌, ℕ, List, map, IfSome};
+ghost use Rattle.sst_bench.specs.Keys.{AreKeys, add_rising, add_shared, add_hashes};
+ghost use Rattle.sst_bench.specs.Turns.{OrRefused, repeated};
 
 use crate::REFUSED;
 use sst_base::{BlockHash, Poly31, compare_bytes, decode_varint, longest_shared_prefix_length};
@@ -8,7 +9,9 @@ use std::alloc::Global;
 
 /// Keys of one length, one behind the other: at least one, and none is empty. `None` if the bytes are not such keys or
 /// an allocation fails.
-pub fn keys_in(alloc: Global, bytes: &[u8], key_len: usize) -> Option<Vec<&[u8]>> {
+pub fn keys_in(alloc: Global, bytes: &[u8], key_len: usize) -> Option<Vec<&[u8]>>
+    ensures { IfSome result (λ keys. AreKeys bytes.now key_len (map (λ key. key.now) keys.items)) }
+{
     if key_len == 0 || bytes.is_empty() {
         return None;
     }
@@ -30,18 +33,25 @@ pub fn keys_in(alloc: Global, bytes: &[u8], key_len: usize) -> Option<Vec<&[u8]>
 
 // Adds 1 for each key that sorts before the next one.
 #[inline(never)]
-fn add_rising(so_far: u64, keys: &[&[u8]]) -> u64 {
-    let mut sum = so_far;
-    for i in 1..keys.len() {
-        let less = compare_bytes(keys[i - 1], keys[i]).is_lt();
-        sum = sum.wrapping_add(u64::from(less));
+fn add_rising(so_far: u64, keys: &[&[u8]]) -> u64
+    ensures { result ≡ add_rising (map (λ key. key.now) keys.now) so_far }
+{
+    let Some((first, rest)) = keys.split_first() else {
+        return so_far;
+    };
+    let (mut sum, mut key) = (so_far, *first);
+    for next in rest {
+        sum = sum.wrapping_add(u64::from(compare_bytes(key, next).is_lt()));
+        key = next;
     }
     sum
 }
 
 /// Counts the keys that sort before the next one.
 #[unsafe(no_mangle)]
-pub extern "C" fn sst_compare(bytes: &[u8], key_len: usize, times: u64, alloc: Global) -> u64 {
+pub extern "C" fn sst_compare(bytes: &[u8], key_len: usize, times: u64, alloc: Global) -> u64
+    ensures { OrRefused result ((keys : List (List ℕ)) × AreKeys bytes.now key_len keys × (result ≡ repeated (add_rising keys) times 0)) }
+{
     let Some(keys) = keys_in(alloc, bytes, key_len) else {
         return REFUSED;
     };
@@ -54,18 +64,25 @@ pub extern "C" fn sst_compare(bytes: &[u8], key_len: usize, times: u64, alloc: G
 
 // Adds the longest shared prefix length of each key and the next one.
 #[inline(never)]
-fn add_shared(so_far: u64, keys: &[&[u8]]) -> u64 {
-    let mut sum = so_far;
-    for i in 1..keys.len() {
-        let shared = longest_shared_prefix_length(keys[i - 1], keys[i]);
-        sum = sum.wrapping_add(shared as u64);
+fn add_shared(so_far: u64, keys: &[&[u8]]) -> u64
+    ensures { result ≡ add_shared (map (λ key. key.now) keys.now) so_far }
+{
+    let Some((first, rest)) = keys.split_first() else {
+        return so_far;
+    };
+    let (mut sum, mut key) = (so_far, *first);
+    for next in rest {
+        sum = sum.wrapping_add(longest_shared_prefix_length(key, next) as u64);
+        key = next;
     }
     sum
 }
 
 /// Adds the longest shared prefix length of each key and the next one.
 #[unsafe(no_mangle)]
-pub extern "C" fn sst_shared(bytes: &[u8], key_len: usize, times: u64, alloc: Global) -> u64 {
+pub extern "C" fn sst_shared(bytes: &[u8], key_len: usize, times: u64, alloc: Global) -> u64
+    ensures { OrRefused result ((keys : List (List ℕ)) × AreKeys bytes.now key_len keys × (result ≡ repeated (add_shared keys) times 0)) }
+{
     let Some(keys) = keys_in(alloc, bytes, key_len) else {
         return REFUSED;
     };
@@ -79,7 +96,7 @@ pub extern "C" fn sst_shared(bytes: &[u8], key_len: usize, times: u64, alloc: Gl
 // Takes 3 times the sum plus the hash of each key in turn.
 #[inline(never)]
 fn add_hashes(so_far: u64, keys: &[&[u8]]) -> u64
-    ensures { result ≡ fold (λ sum key. (sum * 3 % 2 ^ 64 + poly31 64 key) % 2 ^ 64) so_far (map (λ key. key.now) keys.now) }
+    ensures { result ≡ add_hashes (map (λ key. key.now) keys.now) so_far }
 {
     keys.iter().fold(so_far, |sum, key| {
         sum.wrapping_mul(3).wrapping_add(Poly31::hash64(key))
@@ -88,7 +105,9 @@ fn add_hashes(so_far: u64, keys: &[&[u8]]) -> u64
 
 /// Takes 3 times the sum plus the `Poly31` hash of each key in turn, from 0.
 #[unsafe(no_mangle)]
-pub extern "C" fn sst_hash(bytes: &[u8], key_len: usize, times: u64, alloc: Global) -> u64 {
+pub extern "C" fn sst_hash(bytes: &[u8], key_len: usize, times: u64, alloc: Global) -> u64
+    ensures { OrRefused result ((keys : List (List ℕ)) × AreKeys bytes.now key_len keys × (result ≡ repeated (add_hashes keys) times 0)) }
+{
     let Some(keys) = keys_in(alloc, bytes, key_len) else {
         return REFUSED;
     };
