@@ -28,3 +28,9 @@ pub from_more : (f : List ℕ → List ℕ → ℕ) (rest : List (Bor (List ℕ)
 from_more f rest i x key sum h e =
     ap (λ xs. add_from f key (now_of xs) sum) (drop-cons rest i x h ∙ ap (λ y. y ∷ drop (suc i) rest) (sym e))
     ∙ (let q : suc i ≡ i + 1 = omega arith in ap (λ n. add_from f x.now (now_of (drop n rest)) ((sum + f key x.now) % 2 ^ 64)) q)
+
+-- the keys from one on
+pub keys_from : (keys : List (Bor (List ℕ))) (i : ℕ) (x : Bor (List ℕ)) → i < length keys → x ≡ get_or keys i x → now_of (drop i keys) ≡ x.now ∷ now_of (drop (i + 1) keys)
+keys_from keys i x h e =
+    ap now_of (drop-cons keys i x h ∙ ap (λ y. y ∷ drop (suc i) keys) (sym e))
+    ∙ (let q : suc i ≡ i + 1 = omega arith in ap (λ n. x.now ∷ now_of (drop n keys)) q)

@@ -2,9 +2,14 @@
 //!
 //! Each call takes entries as bytes, a restart interval and a hash ratio `num / den`. It refuses entries that are not
 //! ordered, no entries, an interval of 0, and for now each ratio but 0.
-ghost use Rattle.std.specs.Prelude.{◌≡◌, ◌≤◌, length, OnSome, IfSome};
+ghost use Rattle.std.specs.Prelude.{◌≡◌, ℕ, ◌<◌, ◌≤◌, List, length, map, OnSome, IfSome};
+ghost use Rattle.sst_base.specs.Entry.{Entry, plain};
 ghost use Rattle.sst_block_core.specs.Kind.{IsOrdered};
 ghost use Rattle.sst_block_core.specs.Entries.{entries};
+ghost use Rattle.sst_bench.specs.Blocks.{block_payload, BeginAlike, Copied, add_found};
+ghost use Rattle.sst_bench.specs.Inputs.{AreEntries};
+ghost use Rattle.sst_bench.specs.Keys.{AreKeys};
+ghost use Rattle.sst_bench.specs.Turns.{OrRefused, repeated};
 
 use crate::REFUSED;
 use crate::entries::entries_in;
@@ -28,6 +33,7 @@ fn items_in(
     interval: u8,
     ratio: HashRatio,
 ) -> Option<Vec<InternalValue>>
+    ensures read { IfSome result (λ items. AreEntries bytes.now count items.items) }
     ensures some { IfSome result (λ items. 1 ≤ length items.items) }
     ensures ordered { IfSome result (λ items. IsOrdered entries items.items) }
     ensures interval { OnSome result (1 ≤ interval) }
@@ -51,7 +57,9 @@ fn block_in(
     count: usize,
     interval: u8,
     ratio: HashRatio,
-) -> Option<DataBlock<Poly31>> {
+) -> Option<DataBlock<Poly31>>
+    ensures { IfSome result (λ block. (items : List Entry) × AreEntries bytes.now count items × (block.items ≡ map plain items)) }
+{
     let items = items_in(alloc, bytes, count, interval, ratio)?;
     let payload = DataBlock::<Poly31>::encode_into_vec(
         alloc,
@@ -70,7 +78,9 @@ fn block_in(
 }
 
 // Copies as many bytes as fit.
-fn copy_front(out: &mut [u8], bytes: &[u8]) {
+fn copy_front(out: &mut [u8], bytes: &[u8])
+    ensures { BeginAlike out.new bytes.now }
+{
     let len = out.len().min(bytes.len());
     out[..len].copy_from_slice(&bytes[..len]);
 }
@@ -88,6 +98,7 @@ fn encode(
     requires interval { 1 ≤ interval }
     requires den { 1 ≤ ratio.den }
     requires no_hash { ratio.num ≡ 0 }
+    ensures { OnSome result (0 < times → writer.new.items ≡ block_payload items.now interval) }
 {
     for _ in 0..times {
         writer.clear();
@@ -107,7 +118,10 @@ pub extern "C" fn sst_encode(
     times: u64,
     out: &mut [u8],
     alloc: Global,
-) -> u64 {
+) -> u64
+    ensures { OrRefused result ((items : List Entry) × AreEntries bytes.now count items
+        × (0 < times → Copied result out.new (block_payload items interval))) }
+{
     let ratio = HashRatio { num, den };
     let Some(items) = items_in(alloc, bytes, count, interval, ratio) else {
         return REFUSED;
@@ -225,12 +239,30 @@ fn add_found(
     block: &DataBlock<Poly31>,
     needles: &[&[u8]],
     alloc: Global,
-) -> Option<u64> {
+) -> Option<u64>
+    ensures { IfSome result (λ sum. sum ≡ add_found block.now.items (map (λ needle. needle.now) needles.now) so_far) }
+{
     let mut sum = so_far;
     for needle in needles {
         let mut steps = Steps::new();
         let found = block.point_read(alloc, needle, NEWEST, &mut steps).ok()?;
         sum = sum.wrapping_add(found.map_or(1, |entry| entry_sum(&entry)));
+    }
+    Some(sum)
+}
+
+// The same, so many times.
+fn add_found_often(
+    block: &DataBlock<Poly31>,
+    needles: &[&[u8]],
+    times: u64,
+    alloc: Global,
+) -> Option<u64>
+    ensures { IfSome result (λ sum. sum ≡ repeated (add_found block.now.items (map (λ needle. needle.now) needles.now)) times 0) }
+{
+    let mut sum = 0;
+    for _ in 0..times {
+        sum = add_found(sum, block, needles, alloc)?;
     }
     Some(sum)
 }
@@ -247,19 +279,15 @@ pub extern "C" fn sst_get(
     needles: &[u8],
     key_len: usize,
     alloc: Global,
-) -> u64 {
+) -> u64
+    ensures { OrRefused result ((items : List Entry) × (keys : List (List ℕ)) × AreEntries bytes.now count items
+        × AreKeys needles.now key_len keys × (result ≡ repeated (add_found (map plain items) keys) times 0)) }
+{
     let Some(block) = block_in(alloc, bytes, count, interval, HashRatio { num, den }) else {
         return REFUSED;
     };
     let Some(needles) = keys_in(alloc, needles, key_len) else {
         return REFUSED;
     };
-    let mut sum = 0;
-    for _ in 0..times {
-        match add_found(sum, &block, needles.as_slice(), alloc) {
-            Some(more) => sum = more,
-            None => return REFUSED,
-        }
-    }
-    sum
+    add_found_often(&block, needles.as_slice(), times, alloc).unwrap_or(REFUSED)
 }

@@ -1,4 +1,6 @@
 //! What a call adds of what it reads, modulo 2^64, so that every part is looked at.
+ghost use Rattle.std.specs.Prelude.{◌≡◌, ◌-◌, length, slice_index};
+ghost use Rattle.sst_bench.specs.Blocks.{entry_sum};
 
 use sst_base::InternalValue;
 use sst_base::table::util::SliceIndexes;
@@ -30,13 +32,18 @@ pub fn item_sum(item: &DataBlockParsedItem) -> u64 {
 
 // The last byte, or 0 for none.
 #[inline(always)]
-fn last_byte(bytes: &[u8]) -> u64 {
+fn last_byte(bytes: &[u8]) -> u64
+    ensures { result ≡ slice_index bytes.now (length bytes.now - 1) }
+{
     bytes.last().map_or(0, |byte| u64::from(*byte))
 }
 
 /// Sequence number, lengths and last bytes of an entry.
 #[inline(always)]
-pub fn entry_sum(entry: &InternalValue) -> u64 {
+#[tactic(auto, unfolding(crate::specs::Blocks::entry_sum))]
+pub fn entry_sum(entry: &InternalValue) -> u64
+    ensures { result ≡ entry_sum entry.now }
+{
     let (key, value) = (entry.key().user_key().as_slice(), entry.value().as_slice());
     entry
         .key()
