@@ -1,5 +1,5 @@
 -- What calls over data blocks write and return.
-use Rattle.std.specs.Prelude.{◌≡◌, ℕ, ◌+◌, ◌-◌, ◌%◌, ◌^◌, ◌<◌, min, List, length, take, fold, slice_index, Option, Some, None}
+use Rattle.std.specs.Prelude.{◌≡◌, ℕ, ◌+◌, ◌-◌, ◌%◌, ◌^◌, min, List, length, take, fold, slice_index, Option, Some, None}
 use Rattle.sst_base.specs.Entry.{Entry}
 use Rattle.sst_base.specs.Hashes.{poly31}
 use Rattle.sst_block_core.specs.Entries.{entries, data_payload}
