@@ -1,0 +1,60 @@
+// The inputs: entries, keys that are there and keys that are not, and varints, from a fixed generator.
+#pragma once
+
+#include <cstddef>
+#include <cstdint>
+#include <string>
+#include <vector>
+
+namespace bench {
+
+// splitmix64
+class Generator {
+ public:
+  explicit Generator(uint64_t seed) : state_(seed) {}
+  uint64_t Next();
+
+ private:
+  uint64_t state_;
+};
+
+struct Entry {
+  std::string key;
+  std::string value;
+  uint64_t seqno;
+};
+
+// What one data block is made of.
+struct BlockShape {
+  size_t key_len;
+  size_t value_len;
+  size_t kib;
+  int interval;
+
+  size_t Count() const { return kib * 1024 / (key_len + value_len + 4); }
+  std::string Name() const;
+};
+
+// Entries in order, and keys of the same length that are among them or between them.
+struct Entries {
+  std::vector<Entry> list;
+  std::string hits;    // keys that are there, one behind the other
+  std::string misses;  // keys that are not
+  size_t key_len;
+
+  Entries(size_t count, size_t key_len, size_t value_len);
+  std::string Bytes() const;  // as the library's calls take them
+  std::string Keys() const;   // the keys alone, one behind the other
+};
+
+constexpr size_t kNeedles = 1024;
+
+// How long the varints are.
+enum class Lengths { kOne, kThree, kMixed };
+
+std::string Varints(Lengths lengths, size_t count);
+
+std::vector<BlockShape> QuickBlocks();
+std::vector<BlockShape> AllBlocks();
+
+}  // namespace bench

@@ -1,0 +1,33 @@
+// The calls of crates/sst_bench. Bytes go in as an address and a length, and are borrowed for the call.
+#pragma once
+
+#include <cstddef>
+#include <cstdint>
+
+extern "C" {
+
+uint64_t sst_compare(const uint8_t* keys, size_t keys_len, size_t key_len, uint64_t times);
+uint64_t sst_shared(const uint8_t* keys, size_t keys_len, size_t key_len, uint64_t times);
+uint64_t sst_hash(const uint8_t* keys, size_t keys_len, size_t key_len, uint64_t times);
+uint64_t sst_varint(const uint8_t* bytes, size_t len, uint64_t times);
+
+uint64_t sst_encode(const uint8_t* entries, size_t entries_len, size_t count, uint8_t interval,
+                    uint32_t num, uint32_t den, uint64_t times, uint8_t* out, size_t out_len);
+uint64_t sst_walk(const uint8_t* entries, size_t entries_len, size_t count, uint8_t interval,
+                  uint32_t num, uint32_t den, uint64_t times);
+uint64_t sst_materialize(const uint8_t* entries, size_t entries_len, size_t count,
+                         uint8_t interval, uint32_t num, uint32_t den, uint64_t times);
+uint64_t sst_iter(const uint8_t* entries, size_t entries_len, size_t count, uint8_t interval,
+                  uint32_t num, uint32_t den, uint64_t times);
+uint64_t sst_get(const uint8_t* entries, size_t entries_len, size_t count, uint8_t interval,
+                 uint32_t num, uint32_t den, uint64_t times, const uint8_t* needles,
+                 size_t needles_len, size_t key_len);
+
+}  // extern "C"
+
+namespace bench {
+
+// What a call answers that does not take its input.
+constexpr uint64_t kRefused = UINT64_MAX;
+
+}  // namespace bench

@@ -1,0 +1,43 @@
+// Times of two sides of a measure, in turn, by the processor time of the thread.
+#pragma once
+
+#include <cstdint>
+#include <functional>
+#include <string>
+
+namespace bench {
+
+// Takes a value as used, so that the work behind it is not left out.
+template <class T>
+inline void Keep(T const& value) {
+  asm volatile("" : : "r,m"(value) : "memory");
+}
+
+// An operation repeated so many times; what it answers is a sum.
+using Repeated = std::function<uint64_t(uint64_t times)>;
+
+// One measure: how many operations a turn has, and both sides. The other side may be absent.
+struct Measure {
+  std::string name;
+  size_t operations;
+  Repeated ours;
+  Repeated other;
+};
+
+struct Sampling {
+  double sample_seconds = 0.003;
+  int samples = 9;
+};
+
+// Nanoseconds an operation of each side, the median of the samples; below 0 for an absent side.
+struct Times {
+  double ours;
+  double other;
+};
+
+Times TimesOf(const Measure& measure, const Sampling& sampling);
+
+// Runs on this core alone from now on, or on the last one allowed for a negative number. Answers the core.
+int PinToCore(int core);
+
+}  // namespace bench

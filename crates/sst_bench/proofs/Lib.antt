@@ -1,0 +1,3 @@
+pub mod KeyLists
+pub mod Numbers
+pub mod Parts

@@ -1,0 +1,4 @@
+pub mod Keys
+pub mod Turns
+pub mod Inputs
+pub mod Blocks

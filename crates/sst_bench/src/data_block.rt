@@ -1,0 +1,293 @@
+//! Data blocks: written, walked, and read by key.
+//!
+//! Each call takes entries as bytes, a restart interval and a hash ratio `num / den`. It refuses entries that are not
+//! ordered, no entries, an interval of 0, and for now each ratio but 0.
+ghost use Rattle.std.specs.Prelude.{◌≡◌, ℕ, ◌<◌, ◌≤◌, List, length, map, OnSome, IfSome};
+ghost use Rattle.sst_base.specs.Entry.{Entry, plain};
+ghost use Rattle.sst_block_core.specs.Kind.{IsOrdered};
+ghost use Rattle.sst_block_core.specs.Entries.{entries};
+ghost use Rattle.sst_bench.specs.Blocks.{block_payload, BeginAlike, Copied, add_found};
+ghost use Rattle.sst_bench.specs.Inputs.{AreEntries};
+ghost use Rattle.sst_bench.specs.Keys.{AreKeys};
+ghost use Rattle.sst_bench.specs.Turns.{OrRefused, repeated};
+
+use crate::REFUSED;
+use crate::entries::entries_in;
+use crate::keys::keys_in;
+use crate::sums::{entry_sum, item_sum};
+use sst_base::{
+    Block, BlockHash, BlockType, Checksum, HashRatio, Header, InternalValue, Poly31, SeqNo, Slice,
+    Steps,
+};
+use sst_block_core::{DataBlock, ParsedItem};
+use std::alloc::Global;
+
+// Above the sequence number of each entry that is read here, so that every version is visible.
+const NEWEST: SeqNo = u64::MAX;
+
+// The entries, if they can be written so.
+fn items_in(
+    alloc: Global,
+    bytes: &[u8],
+    count: usize,
+    interval: u8,
+    ratio: HashRatio,
+) -> Option<Vec<InternalValue>>
+    ensures read { IfSome result (λ items. AreEntries bytes.now count items.items) }
+    ensures some { IfSome result (λ items. 1 ≤ length items.items) }
+    ensures ordered { IfSome result (λ items. IsOrdered entries items.items) }
+    ensures interval { OnSome result (1 ≤ interval) }
+    ensures den { OnSome result (1 ≤ ratio.den) }
+    ensures no_hash { OnSome result (ratio.num ≡ 0) }
+{
+    if interval == 0 || ratio.num != 0 || ratio.den == 0 {
+        return None;
+    }
+    let items = entries_in(alloc, bytes, count)?;
+    if items.is_empty() || !DataBlock::<Poly31>::is_ordered(items.as_slice()) {
+        return None;
+    }
+    Some(items)
+}
+
+// The block of the entries, if they can be written so.
+fn block_in(
+    alloc: Global,
+    bytes: &[u8],
+    count: usize,
+    interval: u8,
+    ratio: HashRatio,
+) -> Option<DataBlock<Poly31>>
+    ensures { IfSome result (λ block. (items : List Entry) × AreEntries bytes.now count items × (block.items ≡ map plain items)) }
+{
+    let items = items_in(alloc, bytes, count, interval, ratio)?;
+    let payload = DataBlock::<Poly31>::encode_into_vec(
+        alloc,
+        items.as_slice(),
+        interval,
+        ratio,
+    ).ok()?;
+    let len = u32::try_from(payload.len()).ok()?;
+    let header = Header {
+        block_type: BlockType::Data,
+        checksum: Checksum::from_raw(u128::from(Poly31::hash64(payload.as_slice()))),
+        data_length: len,
+        uncompressed_length: len,
+    };
+    Some(DataBlock::new(Block::from_parts(header, Slice::from_vec(payload).ok()?)))
+}
+
+// Copies as many bytes as fit.
+fn copy_front(out: &mut [u8], bytes: &[u8])
+    ensures { BeginAlike out.new bytes.now }
+{
+    let len = out.len().min(bytes.len());
+    out[..len].copy_from_slice(&bytes[..len]);
+}
+
+// Writes the block so many times, each time into the same emptied vector.
+fn encode(
+    writer: &mut Vec<u8>,
+    items: &[InternalValue],
+    interval: u8,
+    ratio: HashRatio,
+    times: u64,
+) -> Option<()>
+    requires some { 1 ≤ length items.now }
+    requires ordered { IsOrdered entries items.now }
+    requires interval { 1 ≤ interval }
+    requires den { 1 ≤ ratio.den }
+    requires no_hash { ratio.num ≡ 0 }
+    ensures { OnSome result (0 < times → writer.new.items ≡ block_payload items.now interval) }
+{
+    for _ in 0..times {
+        writer.clear();
+        DataBlock::<Poly31>::encode_into(writer, items, interval, ratio).ok()?;
+    }
+    Some(())
+}
+
+/// Writes the block of the entries, and copies as much of it into `out` as fits.
+#[unsafe(no_mangle)]
+pub extern "C" fn sst_encode(
+    bytes: &[u8],
+    count: usize,
+    interval: u8,
+    num: u32,
+    den: u32,
+    times: u64,
+    out: &mut [u8],
+    alloc: Global,
+) -> u64
+    ensures { OrRefused result ((items : List Entry) × AreEntries bytes.now count items
+        × (0 < times → Copied result out.new (block_payload items interval))) }
+{
+    let ratio = HashRatio { num, den };
+    let Some(items) = items_in(alloc, bytes, count, interval, ratio) else {
+        return REFUSED;
+    };
+    let mut writer = Vec::new(alloc);
+    match encode(&mut writer, items.as_slice(), interval, ratio, times) {
+        Some(()) => {
+            copy_front(out, writer.as_slice());
+            writer.len() as u64
+        }
+        None => REFUSED,
+    }
+}
+
+// Adds each parsed item of a block.
+#[inline(never)]
+fn add_items(so_far: u64, block: &DataBlock<Poly31>) -> u64 {
+    let mut sum = so_far;
+    for item in block.iter() {
+        sum = sum.wrapping_add(item_sum(&item));
+    }
+    sum
+}
+
+/// Goes over the items of the block from the front, and adds each parsed item.
+#[unsafe(no_mangle)]
+pub extern "C" fn sst_walk(
+    bytes: &[u8],
+    count: usize,
+    interval: u8,
+    num: u32,
+    den: u32,
+    times: u64,
+    alloc: Global,
+) -> u64 {
+    let Some(block) = block_in(alloc, bytes, count, interval, HashRatio { num, den }) else {
+        return REFUSED;
+    };
+    let mut sum = 0;
+    for _ in 0..times {
+        sum = add_items(sum, &block);
+    }
+    sum
+}
+
+// Makes each entry of a block and adds it.
+#[inline(never)]
+fn add_entries(so_far: u64, block: &DataBlock<Poly31>, alloc: Global) -> Option<u64> {
+    let payload = block.as_slice();
+    let mut sum = so_far;
+    let mut iter = block.iter();
+    while let Some(item) = iter.next() {
+        let entry = item.materialize(alloc, payload).ok()?;
+        sum = sum.wrapping_add(entry_sum(&entry));
+    }
+    Some(sum)
+}
+
+/// Goes over the items of the block from the front, makes each entry, and adds it.
+#[unsafe(no_mangle)]
+pub extern "C" fn sst_materialize(
+    bytes: &[u8],
+    count: usize,
+    interval: u8,
+    num: u32,
+    den: u32,
+    times: u64,
+    alloc: Global,
+) -> u64 {
+    let Some(block) = block_in(alloc, bytes, count, interval, HashRatio { num, den }) else {
+        return REFUSED;
+    };
+    let mut sum = 0;
+    for _ in 0..times {
+        match add_entries(sum, &block, alloc) {
+            Some(more) => sum = more,
+            None => return REFUSED,
+        }
+    }
+    sum
+}
+
+// Adds the first parsed item of a block.
+#[inline(never)]
+fn add_first(so_far: u64, block: &DataBlock<Poly31>) -> u64 {
+    let first = block.iter().next();
+    so_far.wrapping_add(first.map_or(0, |item| item_sum(&item)))
+}
+
+/// Makes an iterator over the block, takes one item, and adds it.
+#[unsafe(no_mangle)]
+pub extern "C" fn sst_iter(
+    bytes: &[u8],
+    count: usize,
+    interval: u8,
+    num: u32,
+    den: u32,
+    times: u64,
+    alloc: Global,
+) -> u64 {
+    let Some(block) = block_in(alloc, bytes, count, interval, HashRatio { num, den }) else {
+        return REFUSED;
+    };
+    let mut sum = 0;
+    for _ in 0..times {
+        sum = add_first(sum, &block);
+    }
+    sum
+}
+
+// Adds the entry that is read for each needle, or 1 for none.
+#[inline(never)]
+fn add_found(
+    so_far: u64,
+    block: &DataBlock<Poly31>,
+    needles: &[&[u8]],
+    alloc: Global,
+) -> Option<u64>
+    ensures { IfSome result (λ sum. sum ≡ add_found block.now.items (map (λ needle. needle.now) needles.now) so_far) }
+{
+    let mut sum = so_far;
+    for needle in needles {
+        let mut steps = Steps::new();
+        let found = block.point_read(alloc, needle, NEWEST, &mut steps).ok()?;
+        sum = sum.wrapping_add(found.map_or(1, |entry| entry_sum(&entry)));
+    }
+    Some(sum)
+}
+
+// The same, so many times.
+fn add_found_often(
+    block: &DataBlock<Poly31>,
+    needles: &[&[u8]],
+    times: u64,
+    alloc: Global,
+) -> Option<u64>
+    ensures { IfSome result (λ sum. sum ≡ repeated (add_found block.now.items (map (λ needle. needle.now) needles.now)) times 0) }
+{
+    let mut sum = 0;
+    for _ in 0..times {
+        sum = add_found(sum, block, needles, alloc)?;
+    }
+    Some(sum)
+}
+
+/// Reads the block at each needle, and adds the entry that is found, or 1 for none.
+#[unsafe(no_mangle)]
+pub extern "C" fn sst_get(
+    bytes: &[u8],
+    count: usize,
+    interval: u8,
+    num: u32,
+    den: u32,
+    times: u64,
+    needles: &[u8],
+    key_len: usize,
+    alloc: Global,
+) -> u64
+    ensures { OrRefused result ((items : List Entry) × (keys : List (List ℕ)) × AreEntries bytes.now count items
+        × AreKeys needles.now key_len keys × (result ≡ repeated (add_found (map plain items) keys) times 0)) }
+{
+    let Some(block) = block_in(alloc, bytes, count, interval, HashRatio { num, den }) else {
+        return REFUSED;
+    };
+    let Some(needles) = keys_in(alloc, needles, key_len) else {
+        return REFUSED;
+    };
+    add_found_often(&block, needles.as_slice(), times, alloc).unwrap_or(REFUSED)
+}

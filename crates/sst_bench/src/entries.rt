@@ -1,0 +1,104 @@
+//! Entries as bytes.
+//!
+//! | Part | Bytes |
+//! |---|---|
+//! | value type | 1 |
+//! | sequence number | 8 |
+//! | key length | 2 |
+//! | value length | 4 |
+//! | key | as many as its length says |
+//! | value | as many as its length says |
+//!
+//! Numbers have their lowest byte first.
+ghost use Rattle.std.specs.Prelude.{◌≡◌, ◌∷◌, ◌++◌, length, IfSome};
+ghost use Rattle.sst_base.specs.Bytes.{le_bytes};
+ghost use Rattle.sst_base.specs.ValueType.{value_type_byte};
+ghost use Rattle.sst_bench.specs.Inputs.{entry_bytes, AreEntries};
+
+use sst_base::{InternalValue, Slice, ValueType};
+use std::alloc::Global;
+
+// The value type at the front, and the bytes after it.
+#[tactic(auto, using(sst_base::specs::ReadingLaws::value_type_of_takes))]
+fn type_in(bytes: &[u8]) -> Option<(ValueType, &[u8])>
+    ensures { IfSome result (λ p. bytes.now ≡ value_type_byte p.0 ∷ p.1.now) }
+{
+    let (byte, rest) = bytes.split_first()?;
+    Some((ValueType::try_from(*byte).ok()?, rest))
+}
+
+// The number of two bytes at the front, and the bytes after it.
+#[tactic(auto, using(crate::proofs::Numbers::front_2))]
+fn u16_in(bytes: &[u8]) -> Option<(u16, &[u8])>
+    ensures { IfSome result (λ p. bytes.now ≡ le_bytes 2 p.0 ++ p.1.now) }
+{
+    let (front, rest) = bytes.split_first_chunk::<2>()?;
+    Some((u16::from_le_bytes(*front), rest))
+}
+
+// The number of four bytes at the front, and the bytes after it.
+#[tactic(auto, using(crate::proofs::Numbers::front_4))]
+fn u32_in(bytes: &[u8]) -> Option<(u32, &[u8])>
+    ensures { IfSome result (λ p. bytes.now ≡ le_bytes 4 p.0 ++ p.1.now) }
+{
+    let (front, rest) = bytes.split_first_chunk::<4>()?;
+    Some((u32::from_le_bytes(*front), rest))
+}
+
+// The number of eight bytes at the front, and the bytes after it.
+#[tactic(auto, using(crate::proofs::Numbers::front_8))]
+fn u64_in(bytes: &[u8]) -> Option<(u64, &[u8])>
+    ensures { IfSome result (λ p. bytes.now ≡ le_bytes 8 p.0 ++ p.1.now) }
+{
+    let (front, rest) = bytes.split_first_chunk::<8>()?;
+    Some((u64::from_le_bytes(*front), rest))
+}
+
+// So many bytes at the front, and the bytes after them.
+fn bytes_in(bytes: &[u8], len: usize) -> Option<(&[u8], &[u8])>
+    ensures joined { IfSome result (λ p. bytes.now ≡ p.0.now ++ p.1.now) }
+    ensures length { IfSome result (λ p. length p.0.now ≡ len) }
+{
+    if bytes.len() < len {
+        return None;
+    }
+    Some(bytes.split_at(len))
+}
+
+// The entry at the front of bytes, and the bytes after it.
+#[tactic(auto, using(crate::proofs::Parts::six_parts), unfolding(crate::specs::Inputs::entry_bytes))]
+fn entry_in(alloc: Global, bytes: &[u8]) -> Option<(InternalValue, &[u8])>
+    ensures { IfSome result (λ p. bytes.now ≡ entry_bytes p.0 ++ p.1.now) }
+{
+    let (value_type, rest) = type_in(bytes)?;
+    let (seqno, rest) = u64_in(rest)?;
+    let (key_len, rest) = u16_in(rest)?;
+    let (value_len, rest) = u32_in(rest)?;
+    let (key, rest) = bytes_in(rest, usize::from(key_len))?;
+    let (value, rest) = bytes_in(rest, value_len as usize)?;
+    if key.is_empty() {
+        return None;
+    }
+    let key = Slice::new(alloc, key).ok()?;
+    let value = Slice::new(alloc, value).ok()?;
+    let entry = InternalValue::from_components(key, value, seqno, value_type);
+    Some((entry, rest))
+}
+
+/// Reads `count` entries, which are all of the bytes. `None` if the bytes are not such entries or an allocation fails.
+#[tactic(auto, using(crate::proofs::Parts::entries_more))]
+pub fn entries_in(alloc: Global, bytes: &[u8], count: usize) -> Option<Vec<InternalValue>>
+    ensures { IfSome result (λ items. AreEntries bytes.now count items.items) }
+{
+    let mut entries = Vec::new(alloc);
+    let mut rest = bytes;
+    for _ in 0..count {
+        let (entry, after) = entry_in(alloc, rest)?;
+        entries.push(entry).ok()?;
+        rest = after;
+    }
+    if !rest.is_empty() {
+        return None;
+    }
+    Some(entries)
+}

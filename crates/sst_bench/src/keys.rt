@@ -1,0 +1,146 @@
+//! Comparisons and hashes of keys, and varints.
+ghost use Rattle.std.specs.Prelude.{◌≡◌, ℕ, List, map, IfSome};
+ghost use Rattle.sst_bench.specs.Keys.{AreKeys, add_rising, add_shared, add_hashes};
+ghost use Rattle.sst_bench.specs.Turns.{OrRefused, repeated};
+
+use crate::REFUSED;
+use sst_base::{BlockHash, Poly31, compare_bytes, decode_varint, longest_shared_prefix_length};
+use std::alloc::Global;
+
+/// Keys of one length, one behind the other: at least one, and none is empty. `None` if the bytes are not such keys or
+/// an allocation fails.
+pub fn keys_in(alloc: Global, bytes: &[u8], key_len: usize) -> Option<Vec<&[u8]>>
+    ensures { IfSome result (λ keys. AreKeys bytes.now key_len (map (λ key. key.now) keys.items)) }
+{
+    if key_len == 0 || bytes.is_empty() {
+        return None;
+    }
+    let mut keys = Vec::new(alloc);
+    let mut rest = bytes;
+    for _ in 0..bytes.len() / key_len {
+        if rest.len() < key_len {
+            return None;
+        }
+        let (key, after) = rest.split_at(key_len);
+        keys.push(key).ok()?;
+        rest = after;
+    }
+    if !rest.is_empty() {
+        return None;
+    }
+    Some(keys)
+}
+
+// Adds 1 for each key that sorts before the next one.
+#[inline(never)]
+fn add_rising(so_far: u64, keys: &[&[u8]]) -> u64
+    ensures { result ≡ add_rising (map (λ key. key.now) keys.now) so_far }
+{
+    let Some((first, rest)) = keys.split_first() else {
+        return so_far;
+    };
+    let (mut sum, mut key) = (so_far, *first);
+    for next in rest {
+        sum = sum.wrapping_add(u64::from(compare_bytes(key, next).is_lt()));
+        key = next;
+    }
+    sum
+}
+
+/// Counts the keys that sort before the next one.
+#[unsafe(no_mangle)]
+pub extern "C" fn sst_compare(bytes: &[u8], key_len: usize, times: u64, alloc: Global) -> u64
+    ensures { OrRefused result ((keys : List (List ℕ)) × AreKeys bytes.now key_len keys × (result ≡ repeated (add_rising keys) times 0)) }
+{
+    let Some(keys) = keys_in(alloc, bytes, key_len) else {
+        return REFUSED;
+    };
+    let mut sum = 0;
+    for _ in 0..times {
+        sum = add_rising(sum, keys.as_slice());
+    }
+    sum
+}
+
+// Adds the longest shared prefix length of each key and the next one.
+#[inline(never)]
+fn add_shared(so_far: u64, keys: &[&[u8]]) -> u64
+    ensures { result ≡ add_shared (map (λ key. key.now) keys.now) so_far }
+{
+    let Some((first, rest)) = keys.split_first() else {
+        return so_far;
+    };
+    let (mut sum, mut key) = (so_far, *first);
+    for next in rest {
+        sum = sum.wrapping_add(longest_shared_prefix_length(key, next) as u64);
+        key = next;
+    }
+    sum
+}
+
+/// Adds the longest shared prefix length of each key and the next one.
+#[unsafe(no_mangle)]
+pub extern "C" fn sst_shared(bytes: &[u8], key_len: usize, times: u64, alloc: Global) -> u64
+    ensures { OrRefused result ((keys : List (List ℕ)) × AreKeys bytes.now key_len keys × (result ≡ repeated (add_shared keys) times 0)) }
+{
+    let Some(keys) = keys_in(alloc, bytes, key_len) else {
+        return REFUSED;
+    };
+    let mut sum = 0;
+    for _ in 0..times {
+        sum = add_shared(sum, keys.as_slice());
+    }
+    sum
+}
+
+// Takes 3 times the sum plus the hash of each key in turn.
+#[inline(never)]
+fn add_hashes(so_far: u64, keys: &[&[u8]]) -> u64
+    ensures { result ≡ add_hashes (map (λ key. key.now) keys.now) so_far }
+{
+    keys.iter().fold(so_far, |sum, key| {
+        sum.wrapping_mul(3).wrapping_add(Poly31::hash64(key))
+    })
+}
+
+/// Takes 3 times the sum plus the `Poly31` hash of each key in turn, from 0.
+#[unsafe(no_mangle)]
+pub extern "C" fn sst_hash(bytes: &[u8], key_len: usize, times: u64, alloc: Global) -> u64
+    ensures { OrRefused result ((keys : List (List ℕ)) × AreKeys bytes.now key_len keys × (result ≡ repeated (add_hashes keys) times 0)) }
+{
+    let Some(keys) = keys_in(alloc, bytes, key_len) else {
+        return REFUSED;
+    };
+    let mut sum = 0;
+    for _ in 0..times {
+        sum = add_hashes(sum, keys.as_slice());
+    }
+    sum
+}
+
+// Adds the varints of 64 bits that the bytes are, if they are.
+#[inline(never)]
+fn add_varints(so_far: u64, bytes: &[u8]) -> Option<u64> {
+    let mut sum = so_far;
+    let mut rest = bytes;
+    while !rest.is_empty() {
+        let (number, len) = decode_varint(rest, 64)?;
+        let (_, after) = rest.split_at(len);
+        sum = sum.wrapping_add(number);
+        rest = after;
+    }
+    Some(sum)
+}
+
+/// Adds the varints of 64 bits that the bytes are.
+#[unsafe(no_mangle)]
+pub extern "C" fn sst_varint(bytes: &[u8], times: u64) -> u64 {
+    let mut sum = 0;
+    for _ in 0..times {
+        match add_varints(sum, bytes) {
+            Some(more) => sum = more,
+            None => return REFUSED,
+        }
+    }
+    sum
+}

@@ -1,0 +1,55 @@
+//! What a call adds of what it reads, modulo 2^64, so that every part is looked at.
+ghost use Rattle.std.specs.Prelude.{◌≡◌, ◌-◌, length, slice_index};
+ghost use Rattle.sst_bench.specs.Blocks.{entry_sum};
+
+use sst_base::InternalValue;
+use sst_base::table::util::SliceIndexes;
+use sst_block_core::DataBlockParsedItem;
+
+// A start and an end, each times a factor.
+#[inline(always)]
+fn range_sum(range: &SliceIndexes, of_start: u64, of_end: u64) -> u64 {
+    (range.0 as u64)
+        .wrapping_mul(of_start)
+        .wrapping_add((range.1 as u64).wrapping_mul(of_end))
+}
+
+/// Sequence number, value type's byte and ranges of a parsed item, each times a factor of its own.
+#[inline(always)]
+pub fn item_sum(item: &DataBlockParsedItem) -> u64 {
+    let mut sum = item
+        .seqno
+        .wrapping_add(u64::from(u8::from(item.value_type)))
+        .wrapping_add(range_sum(&item.key, 1, 3));
+    if let Some(prefix) = &item.prefix {
+        sum = sum.wrapping_add(range_sum(prefix, 5, 7));
+    }
+    if let Some(value) = &item.value {
+        sum = sum.wrapping_add(range_sum(value, 9, 11));
+    }
+    sum
+}
+
+// The last byte, or 0 for none.
+#[inline(always)]
+fn last_byte(bytes: &[u8]) -> u64
+    ensures { result ≡ slice_index bytes.now (length bytes.now - 1) }
+{
+    bytes.last().map_or(0, |byte| u64::from(*byte))
+}
+
+/// Sequence number, lengths and last bytes of an entry.
+#[inline(always)]
+#[tactic(auto, unfolding(crate::specs::Blocks::entry_sum))]
+pub fn entry_sum(entry: &InternalValue) -> u64
+    ensures { result ≡ entry_sum entry.now }
+{
+    let (key, value) = (entry.key().user_key().as_slice(), entry.value().as_slice());
+    entry
+        .key()
+        .seqno()
+        .wrapping_add(key.len() as u64)
+        .wrapping_add(value.len() as u64)
+        .wrapping_add(last_byte(key))
+        .wrapping_add(last_byte(value))
+}
