@@ -3,3 +3,4 @@ pub mod Joined
 pub mod Polynomials
 pub mod Orders
 pub mod ShortVarints
+pub mod ShortSlices

@@ -19,3 +19,4 @@ pub mod Block
 pub mod OrderLaws
 pub mod HeaderLaws
 pub mod KeyOrderLaws
+pub mod SliceBytes

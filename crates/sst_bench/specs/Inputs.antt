@@ -1,7 +1,7 @@
 -- Entries as the bytes that come in.
 use Rattle.std.specs.Prelude.{◌≡◌, ℕ, List, ◌∷◌, ◌++◌, length}
 use Rattle.std.specs.List.{flat_map}
-use Rattle.sst_base.specs.Bytes.{le_bytes}
+use Rattle.byteorder.specs.Endian.{little_bytes}
 use Rattle.sst_base.specs.Entry.{Entry}
 use Rattle.sst_base.specs.ValueType.{value_type_byte}
 
@@ -9,7 +9,7 @@ use Rattle.sst_base.specs.ValueType.{value_type_byte}
 unfoldable pub entry_bytes : Entry → List ℕ
 entry_bytes e =
     value_type_byte e.key.value_type
-    ∷ (le_bytes 8 e.key.seqno ++ (le_bytes 2 (length e.key.user_key) ++ (le_bytes 4 (length e.value) ++ (e.key.user_key ++ e.value))))
+    ∷ (little_bytes 8 e.key.seqno ++ (little_bytes 2 (length e.key.user_key) ++ (little_bytes 4 (length e.value) ++ (e.key.user_key ++ e.value))))
 
 -- bytes are these entries, one behind the other, and there are so many
 pub record AreEntries (bytes : List ℕ) (count : ℕ) (items : List Entry) : Type 0 where

@@ -11,10 +11,11 @@
 //!
 //! Numbers have their lowest byte first.
 ghost use Rattle.std.specs.Prelude.{◌≡◌, ◌∷◌, ◌++◌, length, IfSome};
-ghost use Rattle.sst_base.specs.Bytes.{le_bytes};
+ghost use Rattle.byteorder.specs.Endian.{little_bytes};
 ghost use Rattle.sst_base.specs.ValueType.{value_type_byte};
 ghost use Rattle.sst_bench.specs.Inputs.{entry_bytes, AreEntries};
 
+use byteorder::{ByteOrder, LittleEndian};
 use sst_base::{InternalValue, Slice, ValueType};
 use std::alloc::Global;
 
@@ -28,30 +29,36 @@ fn type_in(bytes: &[u8]) -> Option<(ValueType, &[u8])>
 }
 
 // The number of two bytes at the front, and the bytes after it.
-#[tactic(auto, using(crate::proofs::Numbers::front_2))]
 fn u16_in(bytes: &[u8]) -> Option<(u16, &[u8])>
-    ensures { IfSome result (λ p. bytes.now ≡ le_bytes 2 p.0 ++ p.1.now) }
+    ensures { IfSome result (λ p. bytes.now ≡ little_bytes 2 p.0 ++ p.1.now) }
 {
-    let (front, rest) = bytes.split_first_chunk::<2>()?;
-    Some((u16::from_le_bytes(*front), rest))
+    if bytes.len() < 2 {
+        return None;
+    }
+    let (_, rest) = bytes.split_at(2);
+    Some((LittleEndian::read_u16(bytes), rest))
 }
 
 // The number of four bytes at the front, and the bytes after it.
-#[tactic(auto, using(crate::proofs::Numbers::front_4))]
 fn u32_in(bytes: &[u8]) -> Option<(u32, &[u8])>
-    ensures { IfSome result (λ p. bytes.now ≡ le_bytes 4 p.0 ++ p.1.now) }
+    ensures { IfSome result (λ p. bytes.now ≡ little_bytes 4 p.0 ++ p.1.now) }
 {
-    let (front, rest) = bytes.split_first_chunk::<4>()?;
-    Some((u32::from_le_bytes(*front), rest))
+    if bytes.len() < 4 {
+        return None;
+    }
+    let (_, rest) = bytes.split_at(4);
+    Some((LittleEndian::read_u32(bytes), rest))
 }
 
 // The number of eight bytes at the front, and the bytes after it.
-#[tactic(auto, using(crate::proofs::Numbers::front_8))]
 fn u64_in(bytes: &[u8]) -> Option<(u64, &[u8])>
-    ensures { IfSome result (λ p. bytes.now ≡ le_bytes 8 p.0 ++ p.1.now) }
+    ensures { IfSome result (λ p. bytes.now ≡ little_bytes 8 p.0 ++ p.1.now) }
 {
-    let (front, rest) = bytes.split_first_chunk::<8>()?;
-    Some((u64::from_le_bytes(*front), rest))
+    if bytes.len() < 8 {
+        return None;
+    }
+    let (_, rest) = bytes.split_at(8);
+    Some((LittleEndian::read_u64(bytes), rest))
 }
 
 // So many bytes at the front, and the bytes after them.

@@ -1,4 +1,4 @@
-//! Byte strings that are cheap to cut and to share.
+//! Immutable byte strings.
 ghost use Rattle.std.specs.Prelude.{◌≡◌, ◌+◌, ◌^◌, ◌<◌, ◌≤◌, ◌==◌, ◌++◌, [], length, slice_range, string_bytes, nat_eq, refl, Some, IfOk, IsOkUnless, IsTrue, ◌↔◌, ℕ, List};
 ghost use Rattle.std.specs.Iterator.{IsFinite, Drains};
 ghost use Rattle.std.specs.Ordering.{nat_cmp};
@@ -9,75 +9,119 @@ ghost use Rattle.std.specs.Cmp.{partial_equiv_from_equiv};
 ghost use Rattle.std.specs.Cmp.Rules.{hashing};
 ghost use Rattle.std.proofs.Common.{rules};
 
+mod short;
+
 use crate::error::{Error, Result};
 use crate::table::util::compare_bytes;
 use bytes::Bytes;
+use short::{SHORT_LEN, ShortBytes};
 use std::alloc::{AllocError, Global};
 use std::cmp::Ordering;
-use std::fmt;
 use std::hash::{Hash, Hasher};
 use std::marker::Model;
-use std::ops::RangeBounds;
+use std::ops::{Range, RangeBounds};
+use std::{fmt, slice};
 
-/// A byte string that never changes. A clause sees it as its list of bytes.
+// Where the bytes of a slice are.
+#[derive(Drop)]
+enum Held {
+    Short(ShortBytes),
+    Shared(Bytes<Global>),
+}
+
+/// An immutable byte string. Clauses see its list of bytes.
 ///
-/// A clone and a cut share the bytes and copy none of them.
+/// A short one, of up to 22 bytes, holds them itself: it is copied, and takes no memory. The bytes of a longer one are
+/// shared: a clone or sub-slice copies none of them.
 #[derive(Drop)]
 pub struct Slice {
-    bytes: Bytes<Global>,
+    held: Held,
 }
 
 impl Model for Slice {
     ghost use Rattle.std.specs.Prelude.{ℕ, List};
+    ghost use Rattle.sst_base.specs.SliceBytes.{held_bytes};
 
     ghost Value = { List ℕ };
 
-    ghost view = { λ s. s.bytes };
-
-    ghost inverse = { λ xs. record { bytes = xs } };
+    ghost view = { λ s. held_bytes s.held };
 }
 
 impl Slice {
-    /// A copy of these bytes. The only error is E15.
+    // A short byte string.
+    #[inline(always)]
+    fn short(bytes: ShortBytes) -> Slice
+        ensures { result ≡ bytes }
+    {
+        Slice {
+            held: Held::Short(bytes),
+        }
+    }
+
+    // A byte string that shares its bytes.
+    #[inline(always)]
+    fn shared(bytes: Bytes<Global>) -> Slice
+        ensures { result ≡ bytes }
+    {
+        Slice {
+            held: Held::Shared(bytes),
+        }
+    }
+
+    /// Copies the bytes.
+    ///
+    /// # Errors
+    ///
+    /// `Error::Memory` if an allocation fails.
     pub fn new(alloc: Global, bytes: &[u8]) -> Result<Slice>
         ensures ok { IfOk result (λ s. s ≡ bytes.now) }
         ensures memory { IsOkUnless result Error.Memory }
     {
-        Ok(Slice {
-            bytes: Bytes::copy_from_slice(alloc, bytes)?,
-        })
+        if bytes.len() <= SHORT_LEN {
+            return Ok(Slice::short(ShortBytes::new(bytes)));
+        }
+        Ok(Slice::shared(Bytes::copy_from_slice(alloc, bytes)?))
     }
 
-    /// No bytes. It takes no memory.
+    /// Returns the empty byte string. Takes no memory.
     pub fn empty(_alloc: Global) -> Slice
         ensures { result ≡ [] }
     {
-        Slice {
-            bytes: Bytes::new(),
-        }
+        Slice::short(ShortBytes::new(&[]))
     }
 
-    /// The bytes of a vector, which are not copied. The only error is E15.
+    /// Takes the bytes of a vector.
+    ///
+    /// # Errors
+    ///
+    /// `Error::Memory` if an allocation fails.
     pub fn from_vec(bytes: Vec<u8>) -> Result<Slice>
         ensures ok { IfOk result (λ s. s ≡ bytes.items) }
         ensures memory { IsOkUnless result Error.Memory }
     {
-        Ok(Slice {
-            bytes: Bytes::from_vec(bytes)?,
-        })
+        if bytes.len() <= SHORT_LEN {
+            return Ok(Slice::short(ShortBytes::new(bytes.as_slice())));
+        }
+        Ok(Slice::shared(Bytes::from_vec(bytes)?))
     }
 
-    /// The bytes of a text, which are not copied. The only error is E15.
+    /// Takes the bytes of a text.
+    ///
+    /// # Errors
+    ///
+    /// `Error::Memory` if an allocation fails.
     pub fn from_string(text: String) -> Result<Slice>
         ensures ok { IfOk result (λ s. s ≡ string_bytes text) }
         ensures memory { IsOkUnless result Error.Memory }
     {
-        Ok(Slice {
-            bytes: Bytes::from_string(text)?,
-        })
+        Ok(Slice::shared(Bytes::from_string(text)?))
     }
 
-    /// A copy of the bytes of a text. The only error is E15.
+    /// Copies the bytes of a text.
+    ///
+    /// # Errors
+    ///
+    /// `Error::Memory` if an allocation fails.
     pub fn from_text(alloc: Global, text: &str) -> Result<Slice>
         ensures ok { IfOk result (λ s. s ≡ text.now) }
         ensures memory { IsOkUnless result Error.Memory }
@@ -85,7 +129,11 @@ impl Slice {
         Slice::new(alloc, text.as_bytes())
     }
 
-    /// A copy of the bytes of an array. The only error is E15.
+    /// Copies the bytes of an array.
+    ///
+    /// # Errors
+    ///
+    /// `Error::Memory` if an allocation fails.
     pub fn from_array<const N: usize>(alloc: Global, bytes: [u8; N]) -> Result<Slice>
         ensures ok { IfOk result (λ s. s ≡ bytes.entry) }
         ensures memory { IsOkUnless result Error.Memory }
@@ -93,7 +141,11 @@ impl Slice {
         Slice::new(alloc, &bytes)
     }
 
-    /// The bytes that an iterator gives until it ends, which it has to do. The only error is E15.
+    /// Collects the bytes of an iterator, which has to end.
+    ///
+    /// # Errors
+    ///
+    /// `Error::Memory` if an allocation fails.
     pub fn collect_bytes<I: IntoIterator<Item = u8>>(alloc: Global, iter: I) -> Result<Slice>
         requires { (it : I.IntoIter) → I.into_iter_gives iter it → I.IntoIter.can_next it × IsFinite (I.IntoIter.remaining it) }
         ensures ok { IfOk result (λ s. (it : I.IntoIter) × (xs : List ℕ) × I.into_iter_gives iter it
@@ -103,7 +155,12 @@ impl Slice {
         Slice::from_vec(Vec::from_iter(alloc, iter)?)
     }
 
-    /// The bytes in a range, which lies inside the bytes. They are shared and not copied. The only error is E15.
+    /// Returns the bytes in a range, which lies inside the bytes. Up to 22 bytes are copied, more are shared.
+    ///
+    /// # Errors
+    ///
+    /// `Error::Memory` if an allocation fails.
+    #[inline(always)]
     pub fn slice<R: RangeBounds<usize>>(&self, range: R) -> Result<Slice>
         requires known { R.has_bounds range }
         requires start_le_end { start_index (R.start_bound range)
@@ -113,57 +170,91 @@ impl Slice {
             (end_index (R.end_bound range) (length self.now))) }
         ensures memory { IsOkUnless result Error.Memory }
     {
-        Ok(Slice {
-            bytes: self.bytes.slice(range)?,
-        })
+        self.part(slice::range(range, ..self.len()))
     }
 
-    /// A copy of two byte strings, the second behind the first. The only error is E15.
+    // The bytes in a range.
+    #[inline(always)]
+    #[tactic(auto, using(crate::proofs::ShortSlices::length_part))]
+    fn part(&self, range: Range<usize>) -> Result<Slice>
+        requires start_le_end { range.start ≤ range.end }
+        requires in_bounds { range.end ≤ length self.now }
+        ensures ok { IfOk result (λ s. s ≡ slice_range self.now range.start range.end) }
+        ensures memory { IsOkUnless result Error.Memory }
+    {
+        match &self.held {
+            Held::Shared(bytes) if range.end - range.start > SHORT_LEN => {
+                Ok(Slice::shared(bytes.slice(range.start..range.end)?))
+            }
+            Held::Shared(bytes) => {
+                let part = &bytes.as_slice()[range.start..range.end];
+                Ok(Slice::short(ShortBytes::new(part)))
+            }
+            Held::Short(bytes) => {
+                let part = &bytes.as_slice()[range.start..range.end];
+                Ok(Slice::short(ShortBytes::new(part)))
+            }
+        }
+    }
+
+    /// Copies two byte strings, the second behind the first.
+    ///
+    /// # Errors
+    ///
+    /// `Error::Memory` if an allocation fails.
     pub fn fused(alloc: Global, left: &[u8], right: &[u8]) -> Result<Slice>
         ensures ok { IfOk result (λ s. s ≡ left.now ++ right.now) }
         ensures memory { IsOkUnless result Error.Memory }
     {
-        let mut both = Vec::with_capacity(alloc, left.len() + right.len())?;
+        let len = left.len() + right.len();
+        if len <= SHORT_LEN {
+            return Ok(Slice::short(ShortBytes::joined(left, right)));
+        }
+        let mut both = Vec::with_capacity(alloc, len)?;
         both.extend_from_slice(left)?;
         both.extend_from_slice(right)?;
-        Slice::from_vec(both)
+        Ok(Slice::shared(Bytes::from_vec(both)?))
     }
 
-    /// Its bytes.
+    /// Returns the bytes.
+    #[inline(always)]
     pub fn as_slice(&self) -> &[u8]
         ensures { result.now ≡ self.now }
     {
-        self.bytes.as_slice()
+        match &self.held {
+            Held::Short(bytes) => bytes.as_slice(),
+            Held::Shared(bytes) => bytes.as_slice(),
+        }
     }
 
-    /// How many bytes it has.
+    /// Returns the number of bytes.
     pub fn len(&self) -> usize
         ensures value { result ≡ length self.now }
         ensures bound { result < 2 ^ 63 }
     {
-        self.bytes.len()
+        self.as_slice().len()
     }
 
-    /// Whether it has no bytes.
+    /// Returns whether there is no byte.
     pub fn is_empty(&self) -> bool
         ensures { result ≡ (length self.now == 0) }
     {
-        self.bytes.is_empty()
+        self.as_slice().is_empty()
     }
 
-    /// Whether its bytes are these.
+    /// Returns whether the bytes are these.
     pub fn eq_bytes(&self, other: &[u8]) -> bool
         ensures computed { result ≡ pointwise nat_eq self.now other.now }
         ensures same { IsTrue result ↔ (self.now ≡ other.now) }
     {
-        self.bytes.as_slice() == other
+        self.as_slice() == other
     }
 
-    /// The bytewise order of its bytes against these.
+    /// Compares the bytes with these, bytewise.
     pub fn cmp_bytes(&self, other: &[u8]) -> Ordering
         ensures { result ≡ slice_cmp nat_cmp self.now other.now }
     {
-        compare_bytes(self.bytes.as_slice(), other)
+        compare_bytes(self.as_slice(), other)
     }
 }
 
@@ -171,9 +262,10 @@ impl Clone for Slice {
     ghost is_clone = { λ s copy. copy ≡ s };
 
     fn clone(&self) -> std::result::Result<Slice, AllocError> {
-        Ok(Slice {
-            bytes: self.bytes.clone()?,
-        })
+        match &self.held {
+            Held::Short(bytes) => Ok(Slice::short(bytes.again())),
+            Held::Shared(bytes) => Ok(Slice::shared(bytes.clone()?)),
+        }
     }
 }
 
@@ -183,7 +275,7 @@ impl PartialEq for Slice {
     ghost laws = { partial_equiv_from_equiv nat_list_eq_equiv };
 
     fn eq(&self, other: &Slice) -> bool {
-        self.bytes == other.bytes
+        self.as_slice() == other.as_slice()
     }
 }
 
@@ -211,7 +303,7 @@ impl Ord for Slice {
     ghost matches_eq = { texts_ties };
 
     fn cmp(&self, other: &Slice) -> Ordering {
-        compare_bytes(self.bytes.as_slice(), other.bytes.as_slice())
+        compare_bytes(self.as_slice(), other.as_slice())
     }
 }
 
@@ -221,12 +313,12 @@ impl Hash for Slice {
     ghost respects_eq = { Prim.search (hashing, rules) };
 
     fn hash<H: Hasher>(&self, state: &mut H) {
-        self.bytes.hash(state);
+        self.as_slice().hash(state);
     }
 }
 
 impl fmt::Debug for Slice {
     fn fmt<W: fmt::Write>(&self, f: &mut fmt::Formatter<W>) -> fmt::Result {
-        self.bytes.fmt(f)
+        fmt::Debug::fmt(self.as_slice(), f)
     }
 }

@@ -1,0 +1,16 @@
+-- Bytes that are copied in place.
+use Rattle.std.proofs.Common.{◌≡◌, ℕ, ◌+◌, ◌-◌, ◌≤◌, List, ◌++◌, length, take, drop, refl, sym, ap, ◌∙◌, arith, append_assoc, length-append, length-drop}
+use Rattle.std.proofs.lemmas.List.{take_at, length-take-le}
+
+-- two byte strings, copied one behind the other into the front of an array
+pub joined_front : (left right l r z post : List ℕ) → l ≡ left → r ≡ right
+    → take (length left + length right) (take (length left) (l ++ z) ++ (r ++ post)) ≡ left ++ right
+joined_front left right l r z post e f =
+    (λ i. take (length left + length right) (take (length left) (e i ++ z) ++ (f i ++ post)))
+    ∙ ap (λ xs. take (length left + length right) (xs ++ (right ++ post))) (take_at left z (length left) refl)
+    ∙ ap (take (length left + length right)) (sym (append_assoc left right post))
+    ∙ take_at (left ++ right) post (length left + length right) (length-append left right)
+
+-- the length of a part
+pub length_part : (xs : List ℕ) (start end : ℕ) → end ≤ length xs → length (take (end - start) (drop start xs)) ≡ end - start
+length_part xs start end h = length-take-le (end - start) (drop start xs) (omega (arith, length-drop start xs))
