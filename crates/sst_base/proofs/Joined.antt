@@ -1,10 +1,11 @@
 -- A prefix and a suffix against a needle, as the parts of either are compared.
-use Rattle.std.proofs.Common.{◌≡◌, ◌≢◌, ℕ, ◌+◌, ◌≤◌, List, ◌++◌, length, take, drop, refl, sym, ◌∙◌, ap}
+use Rattle.std.proofs.Common.{◌≡◌, ◌≢◌, ℕ, ◌+◌, ◌≤◌, List, ◌++◌, length, take, drop, sym, ◌∙◌, ap}
 use Rattle.std.specs.Cmp.Lexicographic.{slice_cmp}
 use Rattle.std.specs.Ordering.{nat_cmp, ordering_then}
 use Rattle.std.specs.declared.cmp.Ordering.{Ordering}
-use Rattle.std.specs.declared.cmp.Ordering.TheVariants.{Less, Equal, Greater}
+use Rattle.std.specs.declared.cmp.Ordering.TheVariants.{Equal}
 use Rattle.sst_base.specs.OrderLaws.{slice_cmp-prefix, slice_cmp-needle}
+use Rattle.sst_base.proofs.Orders.{decided}
 
 -- the needle ends inside the prefix
 pub needle_inside : (p s n front rest : List ℕ) (o w t : Ordering) → length n ≤ length p → front ≡ take (length n) p → rest ≡ drop (length n) p → o ≡ slice_cmp nat_cmp front n → w ≡ nat_cmp (length rest + length s) 0 → t ≡ ordering_then o w → t ≡ slice_cmp nat_cmp (p ++ s) n
@@ -20,14 +21,9 @@ prefix_equal p s n front rest o t h f r co e ct =
     ∙ ap (λ x. ordering_then x (slice_cmp nat_cmp s (drop (length p) n))) (sym e ∙ co ∙ ap (slice_cmp nat_cmp p) f)
     ∙ sym (slice_cmp-prefix p s n h)
 
-decided : (o w : Ordering) → o ≢ Equal → o ≡ ordering_then o w
-decided Less w n = refl
-decided Equal w n = absurd (n refl)
-decided Greater w n = refl
-
 -- it does not
 pub prefix_differs : (p s n front : List ℕ) (o : Ordering) → length p ≤ length n → front ≡ take (length p) n → o ≡ slice_cmp nat_cmp p front → o ≢ Equal → o ≡ slice_cmp nat_cmp (p ++ s) n
 prefix_differs p s n front o h f co ne =
-    decided o (slice_cmp nat_cmp s (drop (length p) n)) ne
+    sym (decided o (slice_cmp nat_cmp s (drop (length p) n)) ne)
     ∙ ap (λ x. ordering_then x (slice_cmp nat_cmp s (drop (length p) n))) (co ∙ ap (slice_cmp nat_cmp p) f)
     ∙ sym (slice_cmp-prefix p s n h)

@@ -30,7 +30,8 @@ tails_same a b i whole h k e s =
     rw add-one
     (ap (λ o. ordering_then o (slice_cmp nat_cmp (drop (suc i) a) (drop (suc i) b))) (nat_cmp_is (get_or a i 0) (get_or b i 0) Equal e) ∙ sym (at_place a b i h k) ∙ s)
 
-decided : (o w : Ordering) → o ≢ Equal → ordering_then o w ≡ o
+-- the first of two orders decides where it is not equal
+pub decided : (o w : Ordering) → o ≢ Equal → ordering_then o w ≡ o
 decided Less w n = refl
 decided Equal w n = absurd (n refl)
 decided Greater w n = refl

@@ -1,14 +1,15 @@
 -- Laws of headers: what was written is read again, whatever follows, and what is read was written so.
-use Rattle.std.proofs.Common.{◌≡◌, ℕ, ◌%◌, ◌≤◌, ◌^◌, ◌⊎◌, inl, inr, List, [], ◌∷◌, ◌++◌, length, get_or, take, drop, refl, arith, sym, ◌∙◌, ap, subst, Result, Ok, Err, Bool, true, false, nat_eq, ltb, eqb, length-append, length-drop, append_assoc, if◌then◌else◌}
+use Rattle.std.proofs.Common.{◌≡◌, ℕ, ◌%◌, ◌≤◌, ◌^◌, inl, inr, List, [], ◌∷◌, ◌++◌, length, get_or, take, drop, refl, arith, sym, ◌∙◌, ap, subst, Result, Ok, Err, Bool, true, false, nat_eq, ltb, eqb, length-append, length-drop, append_assoc, if◌then◌else◌}
 use Rattle.std.proofs.lemmas.Bool.Decides.{nat_tests}
 use Rattle.std.proofs.lemmas.Bool.{eqb-true, ltb-false}
 use Rattle.std.proofs.lemmas.List.{take_at, drop_at, take-append-drop, length-take-le, take_all, append-nil}
 use Rattle.std.proofs.lemmas.Nat.{mod_below}
 use Rattle.std.specs.Cmp.Lexicographic.{pointwise, same_text}
 use Rattle.byteorder.specs.Endian.{little_bytes, little_number}
-use Rattle.byteorder.specs.Numbers.{little_number-reads_back}
+use Rattle.byteorder.specs.Numbers.{little_number-reads_back, little_from-lt}
 use Rattle.sst_base.specs.Bytes.{IsBytes}
-use Rattle.sst_base.specs.BytesLaws.{IsBytes-front, IsBytes-back, IsBytes-take, little_bytes-little_number_at, little_number-between, take-drop-more}
+use Rattle.sst_base.specs.BytesLaws.{IsBytes-front, IsBytes-back, IsBytes-take, IsBytes-drop, little_bytes-little_number_at, little_number-between, take-drop-more}
+use Rattle.sst_base.specs.ReadingLaws.{chosen}
 use Rattle.sst_base.specs.BlockType.{block_type_byte, block_type_of}
 use Rattle.sst_base.specs.Header.{◌>>=◌, magic, header_front, header, IsHeader, bytes_at, magic_at, block_type_at, header_with, header_of, header_at}
 use Rattle.sst_base.specs.declared.error.Error.{Error}
@@ -29,11 +30,6 @@ guard_ok false x y d e = cc
 pub refuse_ok : {A : Type 0} (b : Bool) (x y : A) (d : Error) → (if b then Err d else Ok x) ≡ Ok y → (b ≡ false) × (x ≡ y)
 refuse_ok true x y d e = cc
 refuse_ok false x y d e = (refl, cc)
-
--- which side of a choice was taken
-chosen : {A : Type 0} (b : Bool) (x y z : A) → (if b then x else y) ≡ z → ((b ≡ true) × (x ≡ z)) ⊎ ((b ≡ false) × (y ≡ z))
-chosen true x y z e = inl (refl, e)
-chosen false x y z e = inr (refl, e)
 
 -- a front of known length is read
 pub bytes_at-append : (n : ℕ) (xs rest : List ℕ) → length xs ≡ n → bytes_at n (xs ++ rest) ≡ Ok (xs, rest)
@@ -176,8 +172,16 @@ header-header_with hash128 t fields sum rest b l e =
     ap (λ xs. (xs ++ little_bytes 4 (hash128 xs % 2 ^ 32)) ++ rest) front
     ∙ ap (λ xs. ((magic ++ (block_type_byte t ∷ fields)) ++ xs) ++ rest) e
 
--- what is read was written so
-pub header_at_takes : (hash128 : List ℕ → ℕ) (bytes : List ℕ) (h : Header) (rest : List ℕ) → IsBytes bytes → header_at hash128 bytes ≡ Ok (h, rest) → bytes ≡ header hash128 h ++ rest
+-- the numbers that fields encode fit them
+IsHeader-header_with : (t : BlockType) (fields : List ℕ) → IsBytes fields → IsHeader (header_with t fields)
+IsHeader-header_with t fields b = record {
+  checksum = little_from-lt 0 16 fields b;
+  data_length = little_from-lt 0 4 (drop 16 fields) (IsBytes-drop 16 fields b);
+  uncompressed_length = little_from-lt 0 4 (drop 20 fields) (IsBytes-drop 20 fields b);
+}
+
+-- what is decoded was encoded so
+pub header_at_takes : (hash128 : List ℕ → ℕ) (bytes : List ℕ) (h : Header) (rest : List ℕ) → IsBytes bytes → header_at hash128 bytes ≡ Ok (h, rest) → IsHeader h × (bytes ≡ header hash128 h ++ rest)
 unfolding header_at
 header_at_takes hash128 bytes h rest small e =
     let m = bind_ok (magic_at bytes) _ _ e in
@@ -193,9 +197,11 @@ header_at_takes hash128 bytes h rest small e =
     let l : length (take 24 tail) ≡ 24 = length-take-le 24 tail (omega (arith, cut.1)) in
     let sum : little_bytes 4 (hash128 (magic ++ (block_type_byte t.0.0 ∷ take 24 tail)) % 2 ^ 32) ≡ drop 24 tail =
     ap (little_bytes 4) found.0 ∙ little_bytes-little_number_at 24 4 tail b (omega (arith, cut.1)) ∙ take_all 4 (drop 24 tail) (omega (arith, cut.1, length-drop 24 tail)) in
-    let same : (o.0, f.0.1) ≡ (h, rest) = cc (o.2) in
-    all
-    ∙ ap (λ ys. magic ++ (block_type_byte t.0.0 ∷ (ys ++ f.0.1))) (sym (take-append-drop 24 tail))
-    ∙ sym (header-header_with hash128 t.0.0 (take 24 tail) (drop 24 tail) f.0.1 (IsBytes-take 24 tail b) l sum)
-    ∙ ap (λ k. header hash128 k ++ f.0.1) found.1
-    ∙ ap (λ (y : Header × List ℕ). header hash128 y.0 ++ y.1) same
+    let same : (o.0, f.0.1) ≡ (h, rest) = cc (o.2) in (
+      subst IsHeader (found.1 ∙ ap (λ (y : Header × List ℕ). y.0) same) (IsHeader-header_with t.0.0 (take 24 tail) (IsBytes-take 24 tail b)),
+      all
+          ∙ ap (λ ys. magic ++ (block_type_byte t.0.0 ∷ (ys ++ f.0.1))) (sym (take-append-drop 24 tail))
+          ∙ sym (header-header_with hash128 t.0.0 (take 24 tail) (drop 24 tail) f.0.1 (IsBytes-take 24 tail b) l sum)
+          ∙ ap (λ k. header hash128 k ++ f.0.1) found.1
+          ∙ ap (λ (y : Header × List ℕ). header hash128 y.0 ++ y.1) same,
+    )

@@ -12,7 +12,6 @@ pub mod BytesLaws
 pub mod VarintLaws
 pub mod ReadingLaws
 pub mod SharedPrefixLaws
-pub mod Answer
 pub mod Counted
 pub mod Hashes
 pub mod Block

@@ -1,6 +1,6 @@
 -- Laws of the bytewise order, of strings that are joined or cut.
 use Rattle.std.proofs.Common.{zero, ◌≡◌, ℕ, ◌+◌, ◌*◌, ◌^◌, ◌<◌, ◌≤◌, suc, inl, inr, List, [], ◌∷◌, ◌++◌, length, take, drop, refl, arith, sym, ◌∙◌, ap, append_assoc, length-append}
-use Rattle.std.proofs.Math.Nat.{pow-succ', mul-le-mul_right}
+use Rattle.std.proofs.Math.Nat.{mul-le-mul_right}
 use Rattle.std.proofs.lemmas.Bool.{cases_lt}
 use Rattle.std.proofs.lemmas.List.{take-append-drop, length-take-le, append-nil}
 use Rattle.std.specs.Cmp.{nat_cmp_is}

@@ -1,9 +1,9 @@
 -- Laws of varints: each number has one spelling, no spelling begins another, and what is read was spelled.
-use Rattle.std.proofs.Common.{◌≡◌, ℕ, ◌+◌, ◌*◌, ◌/◌, ◌%◌, ◌<◌, ◌≤◌, ◌-◌, ◌^◌, zero, suc, List, [], ◌∷◌, ◌++◌, length, take, drop, get_or, drop-cons, nat_eq, if◌then◌else◌, IfSome, IfNone, refl, arith, sym, ◌∙◌, ap, subst, inl, inr, append_assoc, set, Option, Some, None, lit<}
+use Rattle.std.proofs.Common.{◌≡◌, ℕ, ◌+◌, ◌*◌, ◌/◌, ◌%◌, ◌<◌, ◌≤◌, ◌-◌, ◌^◌, zero, suc, List, [], ◌∷◌, ◌++◌, length, take, drop, get_or, drop-cons, nat_eq, if◌then◌else◌, IfSome, IfNone, refl, arith, sym, ◌∙◌, ap, subst, inl, inr, append_assoc, Option, Some, None, lit<}
 use Rattle.std.proofs.lemmas.Bool.{cases_lt, cases_eq}
 use Rattle.std.proofs.Math.Nat.{pow-succ', pow-le-pow_right, mul-le-mul_left}
 use Rattle.std.proofs.lemmas.Nat.{div_below, pow-add, pow_pos}
-use Rattle.std.proofs.lemmas.List.{take-append-drop, take_more_set, drop_all}
+use Rattle.std.proofs.lemmas.List.{take-append-drop, drop_all}
 use Rattle.std.proofs.lemmas.Bool.Decides.{nat_tests}
 use Rattle.sst_base.specs.Bytes.{IsBytes}
 use Rattle.sst_base.specs.Varint.{IsVarint, IsWidth, varint_within, varint, varint_up_to, varint_at, with_digit, with_digits}
@@ -246,9 +246,6 @@ varint_at_three bits a b c bs w wide h k i l p q =
 
 with_digits_some : (len sum scale high l : ℕ) → 0 < high → with_digits len sum scale (Some (high, l)) ≡ Some (sum + scale * high, len + l)
 with_digits_some len sum scale high l h = search (arith, nat_tests)
-
-with_digits_none : (len sum scale l : ℕ) → with_digits len sum scale (Some (0, l)) ≡ None
-with_digits_none len sum scale l = refl
 
 -- one digit more
 with_digits_more : (len sum scale d : ℕ) (o : Option (ℕ × ℕ)) → with_digits len sum scale (with_digit d o) ≡ with_digits (len + 1) (sum + scale * d) (scale * 128) o

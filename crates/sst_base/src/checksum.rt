@@ -4,7 +4,7 @@ ghost use Rattle.std.specs.Prelude.{◌≡◌, ℕ};
 use std::fmt;
 use std::marker::Model;
 
-/// A checksum: a number of 128 bits, which clauses see as that number.
+/// A checksum of 128 bits. Clauses see the number.
 #[derive(Clone, Copy, Debug, PartialEq, Eq)]
 pub struct Checksum(u128);
 
@@ -19,14 +19,14 @@ impl Model for Checksum {
 }
 
 impl Checksum {
-    /// The checksum with this number.
+    /// Makes the checksum of a number.
     pub fn from_raw(value: u128) -> Checksum
         ensures { result ≡ value }
     {
         Checksum(value)
     }
 
-    /// Its number.
+    /// Returns the number.
     pub fn into_u128(self) -> u128
         ensures { result ≡ self }
     {
@@ -34,7 +34,7 @@ impl Checksum {
     }
 }
 
-/// As `Checksum(5)`.
+/// Writes `Checksum(5)` for 5.
 impl fmt::Display for Checksum {
     fn fmt<W: fmt::Write>(&self, f: &mut fmt::Formatter<W>) -> fmt::Result {
         write!(f, "Checksum({})", self.0)

@@ -1,51 +1,47 @@
 //! Varints: numbers in base 128, least significant digit first.
 ghost use Rattle.std.specs.Prelude.{◌≡◌, ℕ, ◌+◌, ◌-◌, ◌*◌, ◌/◌, ◌^◌, ◌<◌, ◌≤◌, ◌++◌, length, take, drop, OnOk, OnErr, IsOkUnless, IfSome, IfNone};
+ghost use Rattle.std.specs.Vec.{vec_len, vec_capacity};
 ghost use Rattle.sst_base.specs.Varint.{IsVarint, IsWidth, varint, with_digits, varint_up_to, varint_at};
 
 use crate::error::{Error, Result};
-use std::alloc::AllocError;
 
 /// The greatest number of bytes that a varint takes.
 pub const MAX_VARINT_LEN: usize = 10;
 
-// Appends a varint of any length. On an error the vector is unchanged.
+// Appends a varint of any length to a vector with room for the longest.
 #[inline(always)]
-fn push_long(out: &mut Vec<u8>, n: u64) -> std::result::Result<(), AllocError>
-    ensures ok { OnOk result (out.new.items ≡ out.old.items ++ varint n) }
-    ensures unchanged { OnErr result (out.new.items ≡ out.old.items) }
+fn push_digits(out: &mut Vec<u8>, n: u64)
+    requires { vec_len out.old + 10 ≤ vec_capacity out.old }
+    ensures ok { out.new.items ≡ out.old.items ++ varint n }
+    ensures len { vec_len out.new ≤ vec_len out.old + 10 }
+    ensures capacity { vec_capacity out.new ≡ vec_capacity out.old }
 {
-    out.reserve(MAX_VARINT_LEN)?;
     let mut rest = n;
     for i in 0..9usize {
         if rest < 128 {
             out.push_reserved(rest as u8);
-            return Ok(());
+            return;
         }
         out.push_reserved((rest % 128) as u8 + 128);
         rest /= 128;
     }
     out.push_reserved(rest as u8);
-    Ok(())
 }
 
-/// Appends the minimal encoding of a number as a varint. On an error the vector is unchanged.
-///
-/// This is [`encode_varint`] with the error of the allocator, for callers that write many varints.
-///
-/// # Errors
-///
-/// `AllocError` if an allocation fails.
+/// Appends the minimal encoding of a number as a varint to a vector with room for 10 more bytes.
 #[inline(always)]
 #[tactic(auto, using(crate::specs::VarintLaws::varint_small))]
-pub fn push_varint(out: &mut Vec<u8>, n: u64) -> std::result::Result<(), AllocError>
-    ensures ok { OnOk result (out.new.items ≡ out.old.items ++ varint n) }
-    ensures unchanged { OnErr result (out.new.items ≡ out.old.items) }
+pub fn push_varint_reserved(out: &mut Vec<u8>, n: u64)
+    requires { vec_len out.old + 10 ≤ vec_capacity out.old }
+    ensures ok { out.new.items ≡ out.old.items ++ varint n }
+    ensures len { vec_len out.new ≤ vec_len out.old + 10 }
+    ensures capacity { vec_capacity out.new ≡ vec_capacity out.old }
 {
     if n < 128 {
-        out.push(n as u8)?;
-        return Ok(());
+        out.push_reserved(n as u8);
+    } else {
+        push_digits(out, n);
     }
-    push_long(out, n)
 }
 
 /// Appends the minimal encoding of a number as a varint. On an error the vector is unchanged.
@@ -58,7 +54,8 @@ pub fn encode_varint(out: &mut Vec<u8>, n: u64) -> Result<()>
     ensures memory { IsOkUnless result Error.Memory }
     ensures unchanged { OnErr result (out.new.items ≡ out.old.items) }
 {
-    push_varint(out, n)?;
+    out.reserve(MAX_VARINT_LEN)?;
+    push_varint_reserved(out, n);
     Ok(())
 }
 

@@ -1,12 +1,12 @@
-//! How blocks are written.
+//! Configuration of blocks.
 
-/// How many buckets a hash index has for each item: `num / den`. No buckets are stored where `num` is 0.
+/// The hash ratio: the number of buckets per item, as a fraction `num / den`. With `num` 0 there is no hash index.
 ///
 /// `den` is at least 1.
 #[derive(Clone, Copy, Debug, PartialEq, Eq)]
 pub struct HashRatio {
-    /// So many buckets
+    /// Numerator: buckets.
     pub num: u32,
-    /// for so many items.
+    /// Denominator: items.
     pub den: u32,
 }

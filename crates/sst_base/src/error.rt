@@ -1,4 +1,4 @@
-//! The refusals: why a call of this project gives no result.
+//! The error type.
 ghost use Rattle.std.specs.Prelude.{◌≡◌};
 ghost use Rattle.sst_base.specs.declared.error.Error.TheVariants.{Memory, Io};
 
@@ -7,27 +7,27 @@ use std::alloc::{AllocError, AllocFailed};
 use std::io;
 use thiserror::Error;
 
-/// What a header that was refused should have been a header of.
+/// The kind of header that was expected.
 #[derive(Clone, Copy, Debug, PartialEq, Eq)]
 pub enum HeaderName {
-    /// A block's frame.
+    /// The header of a block's frame.
     Block,
-    /// A Bloom filter.
+    /// The header of a Bloom filter.
     BloomFilter,
 }
 
-/// What a tag that was refused should have named.
+/// The kind of tag that was expected.
 #[derive(Clone, Copy, Debug, PartialEq, Eq)]
 pub enum TagName {
-    /// The type of a block.
+    /// A block type.
     BlockType,
-    /// The type of a filter.
+    /// A filter type.
     FilterType,
-    /// The hash function of a filter.
+    /// A hash function of a filter.
     HashType,
 }
 
-/// A refusal. There are fifteen, and no other error leaves this project.
+/// The errors of the block layer. Each has a number, which programs print beside its name.
 #[derive(Clone, Copy, Debug, PartialEq, Eq, Error)]
 pub enum Error {
     /// E1: the reader, writer, file or source failed, or an input ended before the bytes asked for.
@@ -47,7 +47,7 @@ pub enum Error {
         /// The stored checksum.
         expected: Checksum,
     },
-    /// E5: the lengths of a header, or of a frame and its header, do not agree.
+    /// E5: the two lengths of a header, or the length of a frame and its data length, differ.
     #[error("lengths differ")]
     LengthMismatch,
     /// E6: a length passes its limit.
@@ -56,33 +56,33 @@ pub enum Error {
     /// E7: bytes in memory are shorter than a header, trailer, filter or footer.
     #[error("truncated")]
     Truncated,
-    /// E8: the trailer of a block does not fit the block.
+    /// E8: the trailer does not fit the block.
     #[error("bad trailer")]
     BadTrailer,
-    /// E9: the entries of a block are not spelled as they must be.
+    /// E9: the bytes in front of the end marker are not the forms of items.
     #[error("bad entry")]
     BadEntry,
-    /// E10: an entry stands before its predecessor.
+    /// E10: an item sorts before its predecessor.
     #[error("out of order")]
     OutOfOrder,
-    /// E11: the binary index or its pointer width differs from the entries.
+    /// E11: a pointer of the binary index, or the pointer width, is not that of the items.
     #[error("bad binary index")]
     BadIndex,
-    /// E12: a bucket of the hash index differs from the entries.
+    /// E12: a bucket of the hash index is not that of the items.
     #[error("bad hash index")]
     BadHashIndex,
-    /// E13: the bit or probe count of a filter does not fit it.
+    /// E13: the number of bits or of probes does not fit the filter.
     #[error("bad filter")]
     BadFilter,
-    /// E14: a handle is not spelled as it must be, or names no range of bytes there.
+    /// E14: a handle is not minimally encoded, or names no range of bytes of its source.
     #[error("bad handle")]
     BadHandle,
-    /// E15: a growth was refused.
+    /// E15: an allocation failed.
     #[error("out of memory")]
     Memory,
 }
 
-/// A result, or a refusal.
+/// A result of the block layer.
 pub type Result<T> = std::result::Result<T, Error>;
 
 impl From<AllocError> for Error {

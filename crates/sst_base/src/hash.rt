@@ -2,21 +2,21 @@
 ghost use Rattle.std.specs.Prelude.{◌≡◌, ◌+◌, ◌≤◌, ℕ, List, length, take, drop, fold};
 ghost use Rattle.sst_base.specs.Hashes.{times31, poly31, poly31_from};
 
-/// A hash function that is handed in.
+/// The hash function of hash index and checksums.
 pub trait BlockHash {
     // the hash of 64 bits
     ghost hash64: { List ℕ → ℕ };
 
-    /// The hash of these bytes, in 64 bits.
+    /// Returns the hash of the bytes in 64 bits.
     fn hash64(bytes: &[u8]) -> u64
         ensures { result ≡ hash64 bytes.now };
 }
 
-/// From 0, times 31 plus each byte in turn, modulo 2^64. Of no strength.
+/// The polynomial hash: from 0, times 31 plus each byte in turn, modulo 2^64. Not collision-resistant.
 #[derive(Clone, Copy, Debug, PartialEq, Eq)]
 pub struct Poly31;
 
-// Goes on from what was so far, a byte a step.
+// Continues a hash, a byte a step.
 fn poly31_from(so_far: u64, bytes: &[u8]) -> u64
     ensures { result ≡ poly31_from 64 so_far bytes.now }
 {
@@ -25,7 +25,7 @@ fn poly31_from(so_far: u64, bytes: &[u8]) -> u64
     })
 }
 
-// What eight bytes add behind the hash of what was so far.
+// The hash of eight bytes alone.
 #[inline(always)]
 fn eight_at(bytes: &[u8], at: usize) -> u64
     requires { at + 8 ≤ length bytes.now }

@@ -47,7 +47,7 @@ impl Model for InternalKey {
 }
 
 impl InternalKey {
-    /// The key of these parts. The user key has at most 65535 bytes.
+    /// Makes an internal key. The user key has at most [`MAX_KEY_LEN`] bytes.
     pub fn new(user_key: UserKey, seqno: SeqNo, value_type: ValueType) -> InternalKey
         requires { length user_key ≤ 65535 }
         ensures { result ≡ record { user_key = user_key; seqno = seqno; value_type = value_type } }
@@ -59,30 +59,31 @@ impl InternalKey {
         }
     }
 
-    /// Its user key.
+    /// Returns the user key.
     pub fn user_key(&self) -> &UserKey
         ensures value { result.now ≡ self.now.user_key }
         ensures fits { IsKey self.now }
     {
-        let _value = self.seqno;
+        // The proof needs the range of the sequence number.
+        let _range = self.seqno;
         &self.user_key
     }
 
-    /// Its sequence number.
+    /// Returns the sequence number.
     pub fn seqno(&self) -> SeqNo
         ensures { result ≡ self.now.seqno }
     {
         self.seqno
     }
 
-    /// What is said of it.
+    /// Returns the value type.
     pub fn value_type(&self) -> ValueType
         ensures { result ≡ self.now.value_type }
     {
         self.value_type
     }
 
-    /// Whether it is deleted there.
+    /// Returns whether the value type is a tombstone.
     pub fn is_tombstone(&self) -> bool
         ensures { IsTrue result ↔ IsTombstone self.now.value_type }
     {

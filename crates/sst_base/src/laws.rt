@@ -20,24 +20,24 @@ pub fn varint_meets_grammar()
     ensures { (n : ℕ) → n < 2 ^ 64 → IsVarint (varint n) n }
 {}
 
-/// No spelling of a number begins another.
+/// No encoding of a number is a proper prefix of another.
 pub fn varints_are_prefix_free()
     ensures { (a b x y : List ℕ) (m n : ℕ) → IsVarint a m → IsVarint b n → a ++ x ≡ b ++ y
         → (a ≡ b) × (m ≡ n) }
 {}
 
-/// A number has one spelling.
+/// A number has one encoding.
 pub fn varints_are_unique()
     ensures { (a b : List ℕ) (n : ℕ) → IsVarint a n → IsVarint b n → a ≡ b }
 {}
 
-/// A varint is read again at each width that holds its number, whatever follows it.
+/// A varint is decoded again at each width that holds its number, whatever follows it.
 pub fn varint_is_read_again()
     ensures { (bits n : ℕ) (rest : List ℕ) → n < 2 ^ bits → n < 2 ^ 64
         → varint_at bits (varint n ++ rest) ≡ Some (n, length (varint n)) }
 {}
 
-/// Where a varint is read, the bytes begin with it, and the width holds its number.
+/// Where a varint is decoded, the bytes begin with it, and the width holds its number.
 pub fn varint_was_written()
     ensures { (bytes : List ℕ) (bits n len : ℕ) → IsBytes bytes → bits ≤ 64
         → varint_at bits bytes ≡ Some (n, len)
@@ -50,71 +50,71 @@ pub fn fixed_number_was_written()
         → little_bytes width (little_number width bytes) ≡ take width bytes }
 {}
 
-/// The byte of a value type stands for it.
+/// The value type of a value type's byte is that type.
 pub fn value_type_is_read_again()
     ensures { (t : ValueType) → value_type_of (value_type_byte t) ≡ Some t }
 {}
 
-/// A byte that stands for a value type is its byte.
+/// A byte that has a value type is that type's byte.
 pub fn value_type_was_written()
     ensures { (byte : ℕ) (t : ValueType) → value_type_of byte ≡ Some t → byte ≡ value_type_byte t }
 {}
 
-/// The byte of a block type stands for it.
+/// The block type of a block type's byte is that type.
 pub fn block_type_is_read_again()
     ensures { (t : BlockType) → block_type_of (block_type_byte t) ≡ Ok t }
 {}
 
-/// A byte that stands for a block type is its byte.
+/// A byte that has a block type is that type's byte.
 pub fn block_type_was_written()
     ensures { (byte : ℕ) (t : BlockType) → block_type_of byte ≡ Ok t → byte ≡ block_type_byte t }
 {}
 
-/// A header is read again, whatever follows it.
+/// A header is decoded again, whatever follows it.
 pub fn header_is_read_again()
     ensures { (hash128 : List ℕ → ℕ) (h : Header) (rest : List ℕ) → IsHeader h
         → header_at hash128 (header hash128 h ++ rest) ≡ Ok (h, rest) }
 {}
 
-/// Where a header is read, the bytes begin with it.
+/// Where a header is decoded, it is within its limits, and the bytes begin with it.
 pub fn header_was_written()
     ensures { (hash128 : List ℕ → ℕ) (bytes : List ℕ) (h : Header) (rest : List ℕ) → IsBytes bytes
-        → header_at hash128 bytes ≡ Ok (h, rest) → bytes ≡ header hash128 h ++ rest }
+        → header_at hash128 bytes ≡ Ok (h, rest) → IsHeader h × (bytes ≡ header hash128 h ++ rest) }
 {}
 
-/// A key stands before another if its user key is less, or the same and its sequence number greater.
-pub fn key_stands_before()
+/// An internal key sorts before another exactly if its user key is less, or the same and its sequence number greater.
+pub fn key_sorts_before()
     ensures { (a b : Key) → (key_cmp a b ≡ Less)
         ↔ ((slice_cmp nat_cmp a.user_key b.user_key ≡ Less)
         ⊎ ((a.user_key ≡ b.user_key) × (b.seqno < a.seqno))) }
 {}
 
-/// Two keys are equal if they have one user key and one sequence number, whatever their value types.
+/// Two internal keys are equal exactly if their user keys and sequence numbers are, whatever their value types.
 pub fn keys_are_equal()
     ensures { (a b : Key) → (key_cmp a b ≡ Equal) ↔ ((a.user_key ≡ b.user_key) × (a.seqno ≡ b.seqno)) }
 {}
 
-/// Of two keys, turned round, the order answers the reverse.
+/// The order of internal keys is antisymmetric.
 pub fn key_order_is_antisymmetric()
     ensures { (a b : Key) → key_cmp a b ≡ ordering_reverse (key_cmp b a) }
 {}
 
-/// A key that stands before one that stands before a third stands before the third.
+/// The order of internal keys is transitive.
 pub fn key_order_is_transitive()
     ensures { (a b c : Key) → key_cmp a b ≡ Less → key_cmp b c ≡ Less → key_cmp a c ≡ Less }
 {}
 
-/// Equal keys stand alike to every other.
-pub fn equal_keys_stand_alike()
+/// Equal internal keys compare alike with every other.
+pub fn equal_keys_compare_alike()
     ensures { (a b c : Key) → key_cmp a b ≡ Equal → key_cmp a c ≡ key_cmp b c }
 {}
 
-/// Byte strings that the order finds equal are one byte string.
+/// Byte strings that compare equal are the same.
 pub fn bytes_are_equal_in_order()
     ensures { (a b : List ℕ) → (slice_cmp nat_cmp a b ≡ Equal) ↔ (a ≡ b) }
 {}
 
-/// Byte strings that `==` finds equal are one byte string.
+/// Byte strings that `==` finds equal are the same.
 pub fn bytes_are_equal()
     ensures { (a b : List ℕ) → (pointwise nat_eq a b ≡ true) ↔ (a ≡ b) }
 {}

@@ -1,4 +1,4 @@
-//! Byte strings, keys, values, hashes, varints and refusals: what every layer above speaks of.
+//! Byte strings, keys, values, hashes, varints, block headers and errors: the base of the block layer.
 #![tactic(auto)]
 
 pub mod checksum;
@@ -21,7 +21,7 @@ pub mod value_type;
 pub mod vectors;
 
 pub use checksum::Checksum;
-pub use coding::{decode_varint, encode_varint, push_varint};
+pub use coding::{decode_varint, encode_varint, push_varint_reserved};
 pub use config::HashRatio;
 pub use count::Count;
 pub use error::{Error, HeaderName, Result, TagName};

@@ -1,11 +1,11 @@
-//! Counters of what is looked at in a block.
+//! Counters of heads and entries.
 ghost use Rattle.std.specs.Prelude.{◌≡◌, ◌+◌};
 ghost use Rattle.sst_base.specs.Counted.{Counted};
 
 use crate::count::Count;
 use std::marker::Model;
 
-/// How many heads and how many entries were looked at. Only clauses read it, and it has no bytes.
+/// The numbers of heads and of entries that were looked at in blocks. Ghost state, zero-sized: only clauses read it.
 #[derive(Drop)]
 pub struct Steps {
     heads: Count,
@@ -19,7 +19,7 @@ impl Model for Steps {
 }
 
 impl Steps {
-    /// A counter at zero.
+    /// Makes counters at zero.
     pub fn new() -> Steps
         ensures heads { result.heads ≡ 0 }
         ensures entries { result.entries ≡ 0 }
@@ -30,7 +30,7 @@ impl Steps {
         }
     }
 
-    /// One more head.
+    /// Counts a head.
     pub fn count_head(&mut self)
         ensures heads { self.new.heads ≡ self.old.heads + 1 }
         ensures entries { self.new.entries ≡ self.old.entries }
@@ -38,7 +38,7 @@ impl Steps {
         self.heads.add_one();
     }
 
-    /// One more entry.
+    /// Counts an entry.
     pub fn count_entry(&mut self)
         ensures heads { self.new.heads ≡ self.old.heads }
         ensures entries { self.new.entries ≡ self.old.entries + 1 }
@@ -46,12 +46,21 @@ impl Steps {
         self.entries.add_one();
     }
 
-    /// Adds what another counter counted.
+    /// Adds other counters.
     pub fn add(&mut self, other: &Steps)
         ensures heads { self.new.heads ≡ self.old.heads + other.now.heads }
         ensures entries { self.new.entries ≡ self.old.entries + other.now.entries }
     {
         self.heads.add(&other.heads);
         self.entries.add(&other.entries);
+    }
+}
+
+/// Counters at zero.
+impl Default for Steps {
+    ghost is_default = { λ s. (s.heads ≡ 0) × (s.entries ≡ 0) };
+
+    fn default() -> Steps {
+        Steps::new()
     }
 }

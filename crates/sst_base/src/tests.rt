@@ -318,3 +318,8 @@ fn ghost_state_takes_no_bytes(rt: HostRuntime) {
     seen.push(&7u8);
     seen.extend_from_slice(&[8, 9]);
 }
+
+#[test]
+fn sizes_are_known(rt: HostRuntime) {
+    assert_eq!(rt; size_of::<Slice>(), 48);
+}

@@ -10,10 +10,10 @@ use std::alloc::{AllocError, Global};
 use std::fmt;
 use std::marker::Model;
 
-/// A value as users see it.
+/// A user value.
 pub type UserValue = Slice;
 
-/// An entry: an internal key with a user key of 1 to 65535 bytes, and a value of at most 2^32 - 1 bytes.
+/// An entry: an internal key, whose user key has 1 to 65535 bytes, and a value of at most 2^32 - 1 bytes.
 #[derive(Drop)]
 pub struct InternalValue {
     key: InternalKey,
@@ -31,17 +31,18 @@ impl Model for InternalValue {
 }
 
 impl InternalValue {
-    /// The entry of these parts. The user key has at least 1 byte, and the value at most 2^32 - 1.
+    /// Makes an entry. The user key has at least 1 byte, and the value at most 2^32 - 1.
     pub fn new(key: InternalKey, value: UserValue) -> InternalValue
         requires some { 1 ≤ length key.user_key }
         requires value { length value < 2 ^ 32 }
         ensures { result ≡ record { key = key; value = value } }
     {
+        // The proof needs the limits of the key.
         let _fits = key.user_key();
         InternalValue { key, value }
     }
 
-    /// The entry of these parts. The user key has 1 to 65535 bytes, and the value at most 2^32 - 1.
+    /// Makes an entry of its parts. The user key has 1 to 65535 bytes, and the value at most 2^32 - 1.
     pub fn from_components(
         user_key: UserKey,
         value: UserValue,
@@ -59,7 +60,7 @@ impl InternalValue {
         InternalValue::new(InternalKey::new(user_key, seqno, value_type), value)
     }
 
-    /// The entry that deletes a key of 1 to 65535 bytes. It takes no memory.
+    /// Makes a tombstone for a user key of 1 to 65535 bytes. Takes no memory.
     pub fn new_tombstone(alloc: Global, user_key: UserKey, seqno: SeqNo) -> InternalValue
         requires some { 1 ≤ length user_key }
         requires key { length user_key ≤ 65535 }
@@ -71,7 +72,7 @@ impl InternalValue {
         InternalValue::from_components(user_key, Slice::empty(alloc), seqno, ValueType::Tombstone)
     }
 
-    /// The entry that deletes the newest value of a key of 1 to 65535 bytes. It takes no memory.
+    /// Makes a weak tombstone for a user key of 1 to 65535 bytes. Takes no memory.
     pub fn new_weak_tombstone(alloc: Global, user_key: UserKey, seqno: SeqNo) -> InternalValue
         requires some { 1 ≤ length user_key }
         requires key { length user_key ≤ 65535 }
@@ -88,7 +89,7 @@ impl InternalValue {
         )
     }
 
-    /// Its key.
+    /// Returns the internal key.
     pub fn key(&self) -> &InternalKey
         ensures value { result.now ≡ self.now.key }
         ensures fits { IsEntry self.now }
@@ -96,14 +97,14 @@ impl InternalValue {
         &self.key
     }
 
-    /// Its value.
+    /// Returns the value.
     pub fn value(&self) -> &UserValue
         ensures { result.now ≡ self.now.value }
     {
         &self.value
     }
 
-    /// Whether it deletes its key.
+    /// Returns whether the entry is a tombstone.
     pub fn is_tombstone(&self) -> bool
         ensures { IsTrue result ↔ IsTombstone self.now.key.value_type }
     {

@@ -1,23 +1,23 @@
-//! What an entry says of its key.
+//! Value types.
 ghost use Rattle.std.specs.Prelude.{◌≡◌, ◌↔◌, IsTrue};
 ghost use Rattle.std.specs.Option.{ok_or};
 ghost use Rattle.sst_base.specs.ValueType.{IsTombstone, value_type_byte, value_type_of};
 
-/// What an entry says of its key.
+/// The value type of an entry. Its byte in a block is given beside each.
 #[derive(Clone, Copy, Debug, PartialEq, Eq)]
 pub enum ValueType {
-    /// The key has this value. Byte 0.
+    /// A value. Byte 0.
     Value,
-    /// The key is deleted. Byte 1.
+    /// The key is deleted, with all older versions. Byte 1.
     Tombstone,
-    /// The newest value of the key is deleted. Byte 2.
+    /// The newest older version of the key is deleted. Byte 2.
     WeakTombstone,
-    /// The value says where the key's value is. Byte 4.
+    /// The value is an indirection: it names the place of the key's value. Byte 4.
     Indirection,
 }
 
 impl ValueType {
-    /// Whether an entry of this type deletes its key, and so has no value.
+    /// Returns whether an entry of this type is a tombstone of either kind, and so has no value.
     pub fn is_tombstone(self) -> bool
         ensures { IsTrue result ↔ IsTombstone self }
     {
@@ -25,7 +25,7 @@ impl ValueType {
     }
 }
 
-/// The type that a byte stands for: 0, 1, 2 or 4.
+/// The value type of a byte: 0, 1, 2 or 4.
 impl TryFrom<u8> for ValueType {
     type Error = ();
 
@@ -42,7 +42,7 @@ impl TryFrom<u8> for ValueType {
     }
 }
 
-/// The byte that stands for a type.
+/// The byte of a value type.
 impl From<ValueType> for u8 {
     ghost from_gives = { λ value_type byte. byte ≡ value_type_byte value_type };
 

@@ -1,14 +1,14 @@
-//! Blocks of sorted entries for storage engines: what users name, from the crates that it stands in.
+//! The block layer of a log-structured storage engine: sorted entries in blocks with restart intervals, prefix
+//! truncation and a binary index.
+//!
+//! This crate names what users need of the crates below it, in the modules of the Rust crate that it ports.
 #![tactic(auto)]
 
-pub use sst_base::table::block::{Block, BlockType, Header};
+pub mod table;
+
 pub use sst_base::{
-    BlockHash, Checksum, Error, HashRatio, HeaderName, InternalKey, InternalValue, Poly31, Result,
-    SeqNo, Slice, Steps, TagName, UserKey, UserValue, ValueType, decode_varint, encode_varint,
-    table,
+    Block, BlockHash, BlockType, Checksum, Error, HashRatio, Header, HeaderName, InternalKey,
+    InternalValue, Poly31, Result, SeqNo, Slice, Steps, TagName, UserKey, UserValue, ValueType,
 };
-pub use sst_block_core::table::block::{
-    Decodable, Decoder, Encodable, Encoder, ParsedItem, Trailer,
-};
-pub use sst_block_core::table::{block, data_block};
-pub use sst_block_core::{DataBlock, DataBlockParsedItem, BlockItem};
+pub use sst_base::{checksum, coding, hash, key, slice, value, value_type};
+pub use sst_block_core::DataBlock;

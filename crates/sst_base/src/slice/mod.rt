@@ -31,7 +31,7 @@ enum Held {
 
 /// An immutable byte string. Clauses see its list of bytes.
 ///
-/// A short one, of up to 22 bytes, holds them itself: it is copied, and takes no memory. The bytes of a longer one are
+/// A short one, of up to 39 bytes, holds them itself: it is copied, and takes no memory. The bytes of a longer one are
 /// shared: a clone or sub-slice copies none of them.
 #[derive(Drop)]
 pub struct Slice {
@@ -155,7 +155,7 @@ impl Slice {
         Slice::from_vec(Vec::from_iter(alloc, iter)?)
     }
 
-    /// Returns the bytes in a range, which lies inside the bytes. Up to 22 bytes are copied, more are shared.
+    /// Returns the bytes in a range, which lies inside the bytes. Up to 39 bytes are copied, more are shared.
     ///
     /// # Errors
     ///
@@ -319,6 +319,6 @@ impl Hash for Slice {
 
 impl fmt::Debug for Slice {
     fn fmt<W: fmt::Write>(&self, f: &mut fmt::Formatter<W>) -> fmt::Result {
-        fmt::Debug::fmt(self.as_slice(), f)
+        write!(f, "b\"{}\"", self.as_slice().escape_ascii())
     }
 }

@@ -4,7 +4,7 @@ ghost use Rattle.std.specs.Prelude.{◌≡◌, ◌+◌, ◌≤◌, ◌++◌, len
 use std::marker::Model;
 
 /// The greatest number of bytes that are held in place.
-pub(crate) const SHORT_LEN: usize = 22;
+pub(crate) const SHORT_LEN: usize = 39;
 
 /// At most [`SHORT_LEN`] bytes, held in place. Clauses see the list of bytes.
 #[derive(Drop)]
@@ -20,14 +20,14 @@ impl Model for ShortBytes {
 
     ghost view = { λ s. take s.len s.bytes };
 
-    ghost invariant = { λ s. s.len ≤ 22 };
+    ghost invariant = { λ s. s.len ≤ 39 };
 }
 
 impl ShortBytes {
     /// Copies the bytes.
     #[inline(always)]
     pub(crate) fn new(bytes: &[u8]) -> ShortBytes
-        requires { length bytes.now ≤ 22 }
+        requires { length bytes.now ≤ 39 }
         ensures { result ≡ bytes.now }
     {
         ShortBytes::joined(bytes, &[])
@@ -36,7 +36,7 @@ impl ShortBytes {
     /// Copies two byte strings, the second behind the first.
     #[inline(always)]
     pub(crate) fn joined(left: &[u8], right: &[u8]) -> ShortBytes
-        requires { length left.now + length right.now ≤ 22 }
+        requires { length left.now + length right.now ≤ 39 }
         ensures { result ≡ left.now ++ right.now }
     {
         let mut bytes = [0u8; SHORT_LEN];
@@ -53,7 +53,7 @@ impl ShortBytes {
     #[inline(always)]
     pub(crate) fn as_slice(&self) -> &[u8]
         ensures value { result.now ≡ self.now }
-        ensures fits { length result.now ≤ 22 }
+        ensures fits { length result.now ≤ 39 }
     {
         &self.bytes[..usize::from(self.len)]
     }

@@ -8,7 +8,7 @@ ghost use Rattle.sst_base.specs.SharedPrefix.{shared_prefix_length};
 use byteorder::{BigEndian, ByteOrder};
 use std::cmp::Ordering;
 
-/// The start and the end of a part of a byte string.
+/// A range of a byte string: its start and its end, the end not included.
 #[derive(Clone, Copy, Debug, PartialEq, Eq)]
 pub struct SliceIndexes(pub usize, pub usize);
 
@@ -36,7 +36,7 @@ fn compare_tails(a: &[u8], b: &[u8]) -> Ordering
     a.len().cmp(&b.len())
 }
 
-/// The bytewise order of two byte strings: by the first byte in which they differ, or else the shorter is less.
+/// Compares two byte strings bytewise: by the first byte in which they differ, else by length.
 pub fn compare_bytes(a: &[u8], b: &[u8]) -> Ordering
     ensures { result ≡ slice_cmp nat_cmp a.now b.now }
 {
@@ -53,7 +53,7 @@ pub fn compare_bytes(a: &[u8], b: &[u8]) -> Ordering
     compare_tails(left, right)
 }
 
-// How many bytes at the front agree, as far as whole words go.
+// The length of the longest shared prefix, in whole words.
 fn shared_words(a: &[u8], b: &[u8]) -> usize
     ensures left { result ≤ length a.now }
     ensures right { result ≤ length b.now }
@@ -83,7 +83,7 @@ fn shared_bytes(a: &[u8], b: &[u8]) -> usize
     end
 }
 
-/// The greatest length at which the fronts of two byte strings agree.
+/// Returns the length of the longest shared prefix of two byte strings.
 #[tactic(auto, using(crate::specs::SharedPrefixLaws::shared_prefix_behind))]
 pub fn longest_shared_prefix_length(a: &[u8], b: &[u8]) -> usize
     ensures { result ≡ shared_prefix_length a.now b.now }
@@ -94,7 +94,7 @@ pub fn longest_shared_prefix_length(a: &[u8], b: &[u8]) -> usize
     words + shared_bytes(left, right)
 }
 
-/// The order of a prefix followed by a suffix against a needle. The two are not joined, and no memory is taken.
+/// Compares a prefix followed by a suffix with a needle, bytewise, without joining the two. Takes no memory.
 pub fn compare_prefixed_slice(prefix: &[u8], suffix: &[u8], needle: &[u8]) -> Ordering
     ensures { result ≡ slice_cmp nat_cmp (prefix.now ++ suffix.now) needle.now }
 {

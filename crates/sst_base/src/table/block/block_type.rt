@@ -1,15 +1,15 @@
-//! The types of blocks.
+//! Block types.
 ghost use Rattle.std.specs.Prelude.{◌≡◌};
 ghost use Rattle.sst_base.specs.BlockType.{block_type_byte, block_type_of};
 
 use crate::error::{Error, TagName};
 
-/// What the payload of a block is.
+/// The type of a block. Its byte in a header is given beside each.
 #[derive(Clone, Copy, Debug, PartialEq, Eq)]
 pub enum BlockType {
-    /// Entries. Byte 0.
+    /// A data block: entries. Byte 0.
     Data,
-    /// Handles of blocks. Byte 1.
+    /// An index block: handles. Byte 1.
     Index,
     /// A filter. Byte 2.
     Filter,
@@ -17,7 +17,7 @@ pub enum BlockType {
     Meta,
 }
 
-/// The type that a byte stands for: 0 to 3, else E3 with that byte.
+/// The block type of a byte: 0 to 3, else `Error::InvalidTag` with that byte.
 impl TryFrom<u8> for BlockType {
     type Error = Error;
 
@@ -34,7 +34,7 @@ impl TryFrom<u8> for BlockType {
     }
 }
 
-/// The byte that stands for a type.
+/// The byte of a block type.
 impl From<BlockType> for u8 {
     ghost from_gives = { λ block_type byte. byte ≡ block_type_byte block_type };
 

@@ -1,11 +1,11 @@
-//! The header in front of a block's payload.
+//! Block headers.
 use crate::checksum::Checksum;
 use crate::table::block::block_type::BlockType;
 
-/// The header of a block: 33 bytes in front of its payload.
+/// The header of a block, 33 bytes in front of its payload.
 #[derive(Clone, Copy, Debug, PartialEq, Eq)]
 pub struct Header {
-    /// What the payload is.
+    /// The type of the payload.
     pub block_type: BlockType,
     /// The checksum of the payload.
     pub checksum: Checksum,

@@ -31,7 +31,7 @@ impl Model for Block {
 }
 
 impl Block {
-    /// The block of these parts. The payload has at most 2^32 - 1 bytes.
+    /// Makes a block. The payload has at most 2^32 - 1 bytes.
     pub fn from_parts(header: Header, payload: Slice) -> Block
         requires { length payload < 2 ^ 32 }
         ensures { result ≡ record { header = header; payload = payload } }
@@ -39,7 +39,7 @@ impl Block {
         Block { header, payload }
     }
 
-    /// The length of the payload in bytes.
+    /// Returns the length of the payload in bytes.
     pub fn size(&self) -> u32
         ensures value { result ≡ length self.now.payload }
         ensures fits { length self.now.payload < 2 ^ 32 }
@@ -47,14 +47,14 @@ impl Block {
         self.payload.len() as u32
     }
 
-    /// The header.
+    /// Returns the header.
     pub fn header(&self) -> &Header
         ensures { result.now ≡ self.now.header }
     {
         &self.header
     }
 
-    /// The payload.
+    /// Returns the payload.
     pub fn data(&self) -> &Slice
         ensures value { result.now ≡ self.now.payload }
         ensures fits { length self.now.payload < 2 ^ 32 }

@@ -5,8 +5,12 @@ ghost use Rattle.sst_block_core.specs.Entries.{value_part};
 use crate::block_item::BlockItem;
 use crate::table::block::Encodable;
 use crate::table::block::writing::push_length_prefixed;
-use sst_base::{InternalValue, ValueType, push_varint};
+use sst_base::coding::MAX_VARINT_LEN;
+use sst_base::{InternalValue, ValueType, push_varint_reserved};
 use std::alloc::AllocError;
+
+// The greatest length of what stands in front of a key: the type, and up to three numbers.
+const MAX_FRONT_LEN: usize = 31;
 
 impl BlockItem for InternalValue {
     ghost use Rattle.sst_base.specs.Entry.{IsEntry};
@@ -28,7 +32,9 @@ fn push_value(writer: &mut Vec<u8>, item: &InternalValue) -> Result<(), AllocErr
     match item.key().value_type() {
         ValueType::Tombstone | ValueType::WeakTombstone => Ok(()),
         ValueType::Value | ValueType::Indirection => {
-            push_length_prefixed(writer, item.value().as_slice())
+            let value = item.value().as_slice();
+            writer.reserve(MAX_VARINT_LEN + value.len())?;
+            push_length_prefixed(writer, value)
         }
     }
 }
@@ -49,19 +55,22 @@ impl Encodable for InternalValue {
     #[tactic(auto, unfolding(crate::specs::Entries::full))]
     fn push_full(&self, writer: &mut Vec<u8>) -> Result<(), AllocError> {
         let key = InternalValue::key(self);
-        writer.push(u8::from(key.value_type()))?;
-        push_varint(writer, key.seqno())?;
-        push_length_prefixed(writer, key.user_key().as_slice())?;
+        let user_key = key.user_key().as_slice();
+        writer.reserve(MAX_FRONT_LEN + user_key.len())?;
+        writer.push_reserved(u8::from(key.value_type()));
+        push_varint_reserved(writer, key.seqno());
+        push_length_prefixed(writer, user_key)?;
         push_value(writer, self)
     }
 
     #[tactic(auto, unfolding(crate::specs::Entries::truncated))]
     fn push_truncated(&self, writer: &mut Vec<u8>, shared_len: usize) -> Result<(), AllocError> {
         let key = InternalValue::key(self);
-        writer.push(u8::from(key.value_type()))?;
-        push_varint(writer, key.seqno())?;
-        push_varint(writer, shared_len as u64)?;
         let (_, rest) = key.user_key().as_slice().split_at(shared_len);
+        writer.reserve(MAX_FRONT_LEN + rest.len())?;
+        writer.push_reserved(u8::from(key.value_type()));
+        push_varint_reserved(writer, key.seqno());
+        push_varint_reserved(writer, shared_len as u64);
         push_length_prefixed(writer, rest)?;
         push_value(writer, self)
     }

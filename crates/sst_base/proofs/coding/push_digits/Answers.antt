@@ -1,7 +1,7 @@
 use Rattle.std.proofs.Common.{◌≡◌, ◌+◌, ◌-◌, ◌/◌, ◌<◌, ◌∙◌, ◌++◌, arith, ap}
 use Rattle.sst_base.specs.Varint.{varint, varint_within}
 use Rattle.sst_base.specs.VarintLaws.{less_room, digit_pushed, last_pushed}
-use Rattle.sst_base.proofs.coding.push_long.Goals as goal
+use Rattle.sst_base.proofs.coding.push_digits.Goals as goal
 
 pub returns-then-rest-lt128-clause-ok : goal.returns-then-rest-lt128-clause-ok
 unfolding varint
@@ -12,7 +12,8 @@ loop-i-preserved c = record {
   room = less_room c.loop-i.rest c.loop-i.i (omega arith) c.loop-i.invariant.room;
   so_far = ap (λ xs. xs ++ varint_within (9 - (c.loop-i.i + 1)) (c.loop-i.rest / 128)) c.push_reserved-in-loop-i.ensures.items
       ∙ digit_pushed _ _ c.loop-i.rest (9 - c.loop-i.i) (9 - (c.loop-i.i + 1)) (omega arith) c.if-rest-lt128.false c.loop-i.invariant.so_far;
-  space = let l = c.push_reserved-in-loop-i.ensures.len in let k = c.push_reserved-in-loop-i.ensures.capacity in omega (arith, l, k, c.loop-i.invariant.space);
+  len = let l = c.push_reserved-in-loop-i.ensures.len in let k = c.loop-i.invariant.len in omega (arith, l, k);
+  capacity = c.push_reserved-in-loop-i.ensures.capacity ∙ c.loop-i.invariant.capacity;
 }
 
 pub returns-clause-ok : goal.returns-clause-ok

@@ -1,0 +1,85 @@
+//! Ten lines that use the library, proved: a block is encoded, its entries are counted and made, one is read by key.
+#![tactic(auto)]
+
+ghost use Rattle.std.specs.Prelude.{◌≡◌, ◌≤◌, ◌++◌, ◌<◌, ◌^◌, length, map, nat_lt, count_by, IfOk, IfErr, None, IsOkUnless};
+ghost use Rattle.sst_base.specs.Entry.{plain};
+ghost use Rattle.sst_block_core.specs.Entries.{entries};
+ghost use Rattle.sst_block_core.specs.Kind.{IsOrdered};
+ghost use Rattle.sst_block_core.specs.Window.{first_match};
+
+use sstable_blocks::{
+    Block, BlockType, Checksum, DataBlock, Error, HashRatio, Header, InternalValue, Poly31,
+    Result, SeqNo, Slice, Steps,
+};
+use std::alloc::Global;
+
+#[cfg(test)]
+mod tests;
+
+/// Items per restart interval.
+const INTERVAL: u8 = 16;
+
+/// No hash index.
+const NO_BUCKETS: HashRatio = HashRatio { num: 0, den: 1 };
+
+/// Encodes a non-empty, ordered list of entries, and opens the block.
+///
+/// # Errors
+///
+/// `Error::TooLong` if the block would have 2^32 bytes or more; `Error::Memory` if an allocation fails.
+pub fn open_block(alloc: Global, items: &[InternalValue]) -> Result<DataBlock<Poly31>>
+    requires some { 1 ≤ length items.now }
+    requires ordered { IsOrdered entries items.now }
+    ensures { IfOk result (λ block. block.items ≡ map plain items.now) }
+{
+    let payload = DataBlock::<Poly31>::encode_into_vec(alloc, items, INTERVAL, NO_BUCKETS)?;
+    let header = Header {
+        block_type: BlockType::Data,
+        checksum: Checksum::from_raw(0),
+        data_length: payload.len() as u32,
+        uncompressed_length: payload.len() as u32,
+    };
+    Ok(DataBlock::new(Block::from_parts(header, Slice::from_vec(payload)?)))
+}
+
+/// Counts the entries of a block with a sequence number below another.
+pub fn count_below(block: &DataBlock<Poly31>, seqno: SeqNo) -> usize
+    ensures { result ≡ count_by (λ entry. nat_lt entry.key.seqno seqno) block.now.items }
+{
+    block.entries().filter(|entry| entry.seqno() < seqno).count()
+}
+
+/// Appends the entries of a block to a vector.
+///
+/// # Errors
+///
+/// `Error::Memory` if an allocation fails.
+pub fn append_entries(
+    alloc: Global,
+    block: &DataBlock<Poly31>,
+    out: &mut Vec<InternalValue>,
+) -> Result<()>
+    ensures ok { IfOk result (λ _. out.new.items ≡ out.old.items ++ block.now.items) }
+    ensures memory { IsOkUnless result Error.Memory }
+{
+    for entry in block.entries() {
+        out.push(entry.materialize(alloc)?)?;
+    }
+    Ok(())
+}
+
+/// Reads the newest version of a key below a sequence number.
+///
+/// # Errors
+///
+/// `Error::Memory` if an allocation fails.
+pub fn read(
+    alloc: Global,
+    block: &DataBlock<Poly31>,
+    key: &[u8],
+    seqno: SeqNo,
+) -> Result<Option<InternalValue>>
+    ensures { IfOk result (λ found. found ≡ first_match entries key.now seqno block.now.items) }
+{
+    block.point_read(alloc, key, seqno, &mut Steps::new())
+}

@@ -1,0 +1,7 @@
+//! Blocks: header and payload, encoder and decoder, binary index and trailer.
+pub use sst_base::table::block::{Block, BlockType, Header};
+pub use sst_block_core::BlockItem;
+pub use sst_block_core::table::block::{
+    Decodable, Decoder, Encodable, Encoder, ParsedItem, Trailer,
+};
+pub use sst_block_core::table::block::{binary_index, decoder, encoder, trailer};

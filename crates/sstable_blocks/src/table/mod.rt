@@ -1,0 +1,5 @@
+//! Table modules.
+pub mod block;
+
+pub use sst_base::table::util;
+pub use sst_block_core::table::data_block;
