@@ -38,13 +38,13 @@ struct BlockShape {
 // Entries in order, and keys of the same length that are among them or between them.
 struct Entries {
   std::vector<Entry> list;
-  std::string hits;    // keys that are there, one behind the other
+  std::string hits;    // keys that are there, concatenated
   std::string misses;  // keys that are not
   size_t key_len;
 
   Entries(size_t count, size_t key_len, size_t value_len);
   std::string Bytes() const;  // as the library's calls take them
-  std::string Keys() const;   // the keys alone, one behind the other
+  std::string Keys() const;   // the keys alone, concatenated
 };
 
 constexpr size_t kNeedles = 1024;

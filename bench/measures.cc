@@ -5,7 +5,7 @@
 #include <memory>
 #include <string>
 
-#include "beside.h"
+#include "leveldb_table.h"
 #include "inputs.h"
 #include "library.h"
 #include "reading.h"

@@ -1,4 +1,4 @@
-// Prints the tables: `table TIMES ALLOCATIONS`. TIMES has the lines of all processes one behind the other.
+// Prints the tables: `table TIMES ALLOCATIONS`. TIMES has the lines of all processes.
 #include <algorithm>
 #include <cmath>
 #include <cstdio>
@@ -139,15 +139,30 @@ void PrintMeans(std::vector<Group> groups) {
   }
 }
 
+// What allocations are counted of.
+const std::map<std::string, std::string> kUnits = {
+    {"encode", "encode, a block"},
+    {"walk", "walk, a block"},
+    {"materialize", "make entries, an entry"},
+    {"iter", "make an iterator, take one item"},
+    {"get_hit", "read a key that is there"},
+    {"get_miss", "read a key that is not"},
+};
+
+// Three blocks that differ in interval or size.
+bool IsShown(const std::string& block) {
+  return block == "k16.v32.4K.r1" || block == "k16.v32.4K.r16" || block == "k16.v32.64K.r16";
+}
+
 void PrintAllocations(const char* path) {
   printf("| Block | Operation | Library, first turn | Later turns | Bytes | LevelDB, later turns | Bytes |\n");
   printf("|---|---|---|---|---|---|---|\n");
   std::ifstream file(path);
   std::string block, operation, first, later, bytes, other, other_bytes;
   while (file >> block >> operation >> first >> later >> bytes >> other >> other_bytes) {
-    if (block.rfind("k16.v32.", 0) != 0) continue;
-    printf("| %s | %s | %s | %s | %s | %s | %s |\n", block.c_str(), operation.c_str(), first.c_str(),
-           later.c_str(), bytes.c_str(), other.c_str(), other_bytes.c_str());
+    if (!IsShown(block)) continue;
+    printf("| %s | %s | %s | %s | %s | %s | %s |\n", block.c_str(), kUnits.at(operation).c_str(),
+           first.c_str(), later.c_str(), bytes.c_str(), other.c_str(), other_bytes.c_str());
   }
 }
 

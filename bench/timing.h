@@ -13,7 +13,7 @@ inline void Keep(T const& value) {
   asm volatile("" : : "r,m"(value) : "memory");
 }
 
-// An operation repeated so many times; what it answers is a sum.
+// An operation, repeated; returns a sum of what it read or the length of what it wrote.
 using Repeated = std::function<uint64_t(uint64_t times)>;
 
 // One measure: how many operations a turn has, and both sides. The other side may be absent.

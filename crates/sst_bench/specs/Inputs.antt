@@ -11,7 +11,7 @@ entry_bytes e =
     value_type_byte e.key.value_type
     ∷ (little_bytes 8 e.key.seqno ++ (little_bytes 2 (length e.key.user_key) ++ (little_bytes 4 (length e.value) ++ (e.key.user_key ++ e.value))))
 
--- bytes are these entries, one behind the other, and there are so many
+-- bytes are the concatenated forms of these entries, `count` of them
 pub record AreEntries (bytes : List ℕ) (count : ℕ) (items : List Entry) : Type 0 where
   pub count_is : length items ≡ count
   pub joined : flat_map entry_bytes items ≡ bytes

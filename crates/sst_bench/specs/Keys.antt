@@ -6,7 +6,7 @@ use Rattle.std.specs.Cmp.Lexicographic.{slice_cmp}
 use Rattle.sst_base.specs.SharedPrefix.{shared_prefix_length}
 use Rattle.sst_base.specs.Hashes.{poly31}
 
--- bytes are one or more keys of one length, which is not 0
+-- bytes are concatenated keys of one length, which is not 0
 pub record AreKeys (bytes : List ℕ) (len : ℕ) (keys : List (List ℕ)) : Type 0 where
   pub some : 1 ≤ len
   pub joined : concat keys ≡ bytes

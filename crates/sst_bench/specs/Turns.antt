@@ -2,7 +2,7 @@
 use Rattle.std.specs.Prelude.{◌≡◌, ℕ, zero, suc, ◌⊎◌}
 use Rattle.sst_bench.specs.declared.TheConstants.{REFUSED}
 
--- a step, done so many times
+-- a step, repeated
 abbrev pub repeated : {X : Type 0} → (X → X) → ℕ → X → X
 repeated step zero x = x
 repeated step (suc n) x = step (repeated step n x)

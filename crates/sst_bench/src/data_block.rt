@@ -1,7 +1,7 @@
-//! Data blocks: written, walked, and read by key.
+//! Data blocks: encoding, forward walks, and point reads.
 //!
-//! Each call takes entries as bytes, a restart interval and a hash ratio `num / den`. It refuses entries that are not
-//! ordered, no entries, an interval of 0, and for now each ratio but 0.
+//! Each call takes entries as bytes (see `entries`), a restart interval and a hash ratio `num / den`. It refuses an
+//! empty list, entries out of order, an interval of 0, a denominator of 0, and for now every ratio but 0.
 ghost use Rattle.std.specs.Prelude.{◌≡◌, ℕ, ◌<◌, ◌≤◌, List, length, map, OnSome, IfSome};
 ghost use Rattle.sst_base.specs.Entry.{Entry, plain};
 ghost use Rattle.sst_block_core.specs.Kind.{IsOrdered};
@@ -25,7 +25,7 @@ use std::alloc::Global;
 // Above the sequence number of each entry that is read here, so that every version is visible.
 const NEWEST: SeqNo = u64::MAX;
 
-// The entries, if they can be written so.
+// The entries, if a block can be encoded from them.
 fn items_in(
     alloc: Global,
     bytes: &[u8],
@@ -50,7 +50,7 @@ fn items_in(
     Some(items)
 }
 
-// The block of the entries, if they can be written so.
+// The block of the entries, if it can be encoded.
 fn block_in(
     alloc: Global,
     bytes: &[u8],
@@ -85,7 +85,7 @@ fn copy_front(out: &mut [u8], bytes: &[u8])
     out[..len].copy_from_slice(&bytes[..len]);
 }
 
-// Writes the block so many times, each time into the same emptied vector.
+// Encodes the block `times` times, each time into the same vector, emptied first.
 fn encode(
     writer: &mut Vec<u8>,
     items: &[InternalValue],
@@ -107,7 +107,7 @@ fn encode(
     Some(())
 }
 
-/// Writes the block of the entries, and copies as much of it into `out` as fits.
+/// Encodes the block of the entries, and copies as much of it into `out` as fits.
 #[unsafe(no_mangle)]
 pub extern "C" fn sst_encode(
     bytes: &[u8],
@@ -146,7 +146,7 @@ fn add_items(so_far: u64, block: &DataBlock<Poly31>) -> u64 {
     sum
 }
 
-/// Goes over the items of the block from the front, and adds each parsed item.
+/// Iterates over the block from the front, and adds each parsed item.
 #[unsafe(no_mangle)]
 pub extern "C" fn sst_walk(
     bytes: &[u8],
@@ -167,7 +167,7 @@ pub extern "C" fn sst_walk(
     sum
 }
 
-// Makes each entry of a block and adds it.
+// Materializes each entry of a block, and adds it.
 #[inline(never)]
 fn add_entries(so_far: u64, block: &DataBlock<Poly31>, alloc: Global) -> Option<u64> {
     let payload = block.as_slice();
@@ -180,7 +180,7 @@ fn add_entries(so_far: u64, block: &DataBlock<Poly31>, alloc: Global) -> Option<
     Some(sum)
 }
 
-/// Goes over the items of the block from the front, makes each entry, and adds it.
+/// Iterates over the block from the front, materializes each entry, and adds it.
 #[unsafe(no_mangle)]
 pub extern "C" fn sst_materialize(
     bytes: &[u8],
@@ -232,7 +232,7 @@ pub extern "C" fn sst_iter(
     sum
 }
 
-// Adds the entry that is read for each needle, or 1 for none.
+// Does a point read of each needle, and adds the entry that is found, or 1 for none.
 #[inline(never)]
 fn add_found(
     so_far: u64,
@@ -251,7 +251,7 @@ fn add_found(
     Some(sum)
 }
 
-// The same, so many times.
+// Does the point reads of all needles `times` times, from 0.
 fn add_found_often(
     block: &DataBlock<Poly31>,
     needles: &[&[u8]],
@@ -267,7 +267,7 @@ fn add_found_often(
     Some(sum)
 }
 
-/// Reads the block at each needle, and adds the entry that is found, or 1 for none.
+/// Does a point read of each needle, and adds the entry that is found, or 1 for none.
 #[unsafe(no_mangle)]
 pub extern "C" fn sst_get(
     bytes: &[u8],

@@ -6,10 +6,10 @@
 //! | sequence number | 8 |
 //! | key length | 2 |
 //! | value length | 4 |
-//! | key | as many as its length says |
-//! | value | as many as its length says |
+//! | key | key length |
+//! | value | value length |
 //!
-//! Numbers have their lowest byte first.
+//! Numbers are little-endian. Entries are concatenated.
 ghost use Rattle.std.specs.Prelude.{◌≡◌, ◌∷◌, ◌++◌, length, IfSome};
 ghost use Rattle.byteorder.specs.Endian.{little_bytes};
 ghost use Rattle.sst_base.specs.ValueType.{value_type_byte};
@@ -61,7 +61,7 @@ fn u64_in(bytes: &[u8]) -> Option<(u64, &[u8])>
     Some((LittleEndian::read_u64(bytes), rest))
 }
 
-// So many bytes at the front, and the bytes after them.
+// The first `len` bytes, and the bytes after them.
 fn bytes_in(bytes: &[u8], len: usize) -> Option<(&[u8], &[u8])>
     ensures joined { IfSome result (λ p. bytes.now ≡ p.0.now ++ p.1.now) }
     ensures length { IfSome result (λ p. length p.0.now ≡ len) }
@@ -92,7 +92,7 @@ fn entry_in(alloc: Global, bytes: &[u8]) -> Option<(InternalValue, &[u8])>
     Some((entry, rest))
 }
 
-/// Reads `count` entries, which are all of the bytes. `None` if the bytes are not such entries or an allocation fails.
+/// Reads `count` entries. `None` if the bytes are not that many entries and nothing else, or an allocation fails.
 #[tactic(auto, using(crate::proofs::Parts::entries_more))]
 pub fn entries_in(alloc: Global, bytes: &[u8], count: usize) -> Option<Vec<InternalValue>>
     ensures { IfSome result (λ items. AreEntries bytes.now count items.items) }

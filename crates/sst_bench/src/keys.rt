@@ -7,8 +7,8 @@ use crate::REFUSED;
 use sst_base::{BlockHash, Poly31, compare_bytes, decode_varint, longest_shared_prefix_length};
 use std::alloc::Global;
 
-/// Keys of one length, one behind the other: at least one, and none is empty. `None` if the bytes are not such keys or
-/// an allocation fails.
+/// Splits concatenated keys of one length. `None` if there is no key, the length is 0, the bytes are not a multiple of
+/// it, or an allocation fails.
 pub fn keys_in(alloc: Global, bytes: &[u8], key_len: usize) -> Option<Vec<&[u8]>>
     ensures { IfSome result (λ keys. AreKeys bytes.now key_len (map (λ key. key.now) keys.items)) }
 {
@@ -118,7 +118,7 @@ pub extern "C" fn sst_hash(bytes: &[u8], key_len: usize, times: u64, alloc: Glob
     sum
 }
 
-// Adds the varints of 64 bits that the bytes are, if they are.
+// Adds concatenated varints of 64 bits. `None` if the bytes are not such varints.
 #[inline(never)]
 fn add_varints(so_far: u64, bytes: &[u8]) -> Option<u64> {
     let mut sum = so_far;
@@ -132,7 +132,7 @@ fn add_varints(so_far: u64, bytes: &[u8]) -> Option<u64> {
     Some(sum)
 }
 
-/// Adds the varints of 64 bits that the bytes are.
+/// Decodes concatenated varints of 64 bits, and adds them.
 #[unsafe(no_mangle)]
 pub extern "C" fn sst_varint(bytes: &[u8], times: u64) -> u64 {
     let mut sum = 0;

@@ -1,4 +1,4 @@
-//! What a call adds of what it reads, modulo 2^64, so that every part is looked at.
+//! Sums of the parts of items and entries, modulo 2^64: what calls that read return.
 ghost use Rattle.std.specs.Prelude.{◌≡◌, ◌-◌, length, slice_index};
 ghost use Rattle.sst_bench.specs.Blocks.{entry_sum};
 
@@ -6,7 +6,7 @@ use sst_base::InternalValue;
 use sst_base::table::util::SliceIndexes;
 use sst_block_core::DataBlockParsedItem;
 
-// A start and an end, each times a factor.
+// Start and end of a range, each times a factor.
 #[inline(always)]
 fn range_sum(range: &SliceIndexes, of_start: u64, of_end: u64) -> u64 {
     (range.0 as u64)
@@ -14,7 +14,7 @@ fn range_sum(range: &SliceIndexes, of_start: u64, of_end: u64) -> u64 {
         .wrapping_add((range.1 as u64).wrapping_mul(of_end))
 }
 
-/// Sequence number, value type's byte and ranges of a parsed item, each times a factor of its own.
+/// Sequence number, byte of the value type, and start and end of each range of a parsed item, each times a factor.
 #[inline(always)]
 pub fn item_sum(item: &DataBlockParsedItem) -> u64 {
     let mut sum = item
@@ -38,7 +38,7 @@ fn last_byte(bytes: &[u8]) -> u64
     bytes.last().map_or(0, |byte| u64::from(*byte))
 }
 
-/// Sequence number, lengths and last bytes of an entry.
+/// Sequence number, lengths of key and value, and their last bytes, of an entry.
 #[inline(always)]
 #[tactic(auto, unfolding(crate::specs::Blocks::entry_sum))]
 pub fn entry_sum(entry: &InternalValue) -> u64

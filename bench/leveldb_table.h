@@ -40,7 +40,7 @@ class LevelTable {
  public:
   LevelTable(const Entries& entries, int interval);
 
-  // Each does its operation so many times, and answers something of all that it read.
+  // Each repeats its operation, and returns a sum of what it read or the length of what it wrote.
   uint64_t Encode(uint64_t times);
   uint64_t Walk(uint64_t times) const;
   uint64_t Materialize(uint64_t times) const;

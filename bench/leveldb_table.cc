@@ -1,4 +1,4 @@
-#include "beside.h"
+#include "leveldb_table.h"
 
 #include <cstdio>
 #include <cstdlib>
