@@ -1,6 +1,7 @@
 -- What `point` prints, by what is found of its input.
 use Rattle.std.proofs.Common.{◌≡◌, ℕ, ◌+◌, ◌<◌, ◌≤◌, ◌^◌, List, [], ◌∷◌, length, arith, refl, true, false, sym, ◌∙◌, ap, inl, inr, ◌⊎◌}
 use Rattle.std.specs.Prelude.{Option, Some, None, Result, Ok, Err, nat_lt, nat_eq, IfSome, IfOk, IfErr, OnOk}
+use Rattle.std.specs.Io.KnownBytes.{Keeps}
 use Rattle.std.proofs.lemmas.Bool.Decides.{nat_tests}
 use Rattle.sst_base.specs.declared.error.Error.{Error}
 use Rattle.sst_base.specs.declared.error.Error.TheVariants.{TooLong, Memory}
@@ -124,3 +125,8 @@ pub fault-by_words : {O : Type 0} (r : Result O Fault) (words : List (List ℕ))
     → IfErr r (IsFaultOf (outcome_of_query query) known) → IfErr r (IsFaultOf (outcome_of words) known)
 fault-by_words (Ok t) words known query e h = tt
 fault-by_words (Err fault) words known query e h = fault-of_words words known query fault e h
+
+-- what is known stays
+pub keeps_same : (known : Option (List ℕ)) → Keeps known known
+keeps_same None = tt
+keeps_same (Some bytes) = refl

@@ -1,5 +1,6 @@
 -- What a run prints, or the fault that it tells.
 use Rattle.std.specs.Prelude.{◌≡◌, ℕ, ◌+◌, ◌^◌, ◌⊎◌, nat_lt, if◌then◌else◌, List, [], ◌∷◌, length, Option, Some, None, Result, Ok, Err, IfSome}
+use Rattle.std.specs.Io.KnownBytes.{Keeps}
 use Rattle.std.specs.Ordering.{is_lt}
 use Rattle.sst_base.specs.declared.error.Error.TheVariants.{Memory, Io, TooLong}
 use Rattle.sst_base.specs.Entry.{Entry}
@@ -65,3 +66,7 @@ IsTextOf outcome known text = (bytes : List ℕ) × Gave known bytes × (outcome
 -- the run failed, or for the bytes that the input gave the outcome is this fault
 abbrev pub IsFaultOf : (List ℕ → Result (List ℕ) Fault) → Option (List ℕ) → Fault → Type 0
 IsFaultOf outcome known fault = IsFailure fault ⊎ ((bytes : List ℕ) × Gave known bytes × (outcome bytes ≡ Err fault))
+
+-- what is known of the output stays, unless the input or the output failed
+abbrev pub PrintsNothing : Option (List ℕ) → Option (List ℕ) → Fault → Type 0
+PrintsNothing old new fault = (fault ≡ Refused Io) ⊎ Keeps old new

@@ -5,12 +5,14 @@ pub mod fault;
 pub mod input;
 pub mod lines;
 pub mod point;
+#[cfg(test)]
+mod tests;
 pub mod text;
 pub mod words;
 
 ghost use Rattle.std.specs.Prelude.{◌≡◌, ℕ, ◌≤◌, List, map, OnOk, IfErr, is_ok, if◌then◌else◌};
 ghost use Rattle.std.specs.Io.KnownBytes.{Appends};
-ghost use Rattle.sst.specs.Outcome.{outcome_of, IsTextOf, IsFaultOf};
+ghost use Rattle.sst.specs.Outcome.{outcome_of, IsTextOf, IsFaultOf, PrintsNothing};
 
 use fault::Fault;
 pub use lines::entry_line;
@@ -52,6 +54,7 @@ pub fn run<W: AsSlice<u8>, I: Read, O: Write>(
 ) -> Result<(), Fault>
     ensures printed { OnOk result ((text : List ℕ) × IsTextOf (outcome_of (map W.items words.now)) (I.remaining input.old) text × Appends (O.contents output.old) (O.contents output.new) text) }
     ensures err { IfErr result (IsFaultOf (outcome_of (map W.items words.now)) (I.remaining input.old)) }
+    ensures kept { IfErr result (PrintsNothing (O.contents output.old) (O.contents output.new)) }
 {
     match command_in(alloc, words)? {
         Some(words) => point(alloc, &words, input, output),

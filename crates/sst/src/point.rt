@@ -6,7 +6,7 @@ ghost use Rattle.sst_block_core.specs.Entries.{entries};
 ghost use Rattle.sst_block_core.specs.Encoders.{IsRefusal};
 ghost use Rattle.sst_base.specs.Entry.{plain};
 ghost use Rattle.sst.specs.Point.{point_payload, point_text_of, answer_line_of};
-ghost use Rattle.sst.specs.Outcome.{disorder_from, outcome_of_items, outcome_of_query, IsFailure, IsTextOf, IsFaultOf};
+ghost use Rattle.sst.specs.Outcome.{disorder_from, outcome_of_items, outcome_of_query, IsFailure, IsTextOf, IsFaultOf, PrintsNothing};
 
 use crate::fault::Fault;
 use crate::input::read_all;
@@ -160,6 +160,7 @@ pub fn point<I: Read, O: Write>(
 ) -> std::result::Result<(), Fault>
     ensures printed { OnOk result ((text : List ℕ) × IsTextOf (outcome_of_query words.now) (I.remaining input.old) text × Appends (O.contents output.old) (O.contents output.new) text) }
     ensures err { IfErr result (IsFaultOf (outcome_of_query words.now) (I.remaining input.old)) }
+    ensures kept { IfErr result (PrintsNothing (O.contents output.old) (O.contents output.new)) }
 {
     let text = text_for(alloc, words, input)?;
     print_text(output, text.as_str())?;
