@@ -1,10 +1,11 @@
 //! `point`: one data block of all entries, and one look-up in it.
-ghost use Rattle.std.specs.Prelude.{◌≡◌, ℕ, ◌⊎◌, ◌↔◌, ◌≤◌, ◌<◌, ◌+◌, ◌^◌, List, length, take, string_bytes, map, IsNone, IfSome, IfOk, IfErr, OnOk, IsOkUnless};
+ghost use Rattle.std.specs.Prelude.{◌≡◌, ℕ, ◌⊎◌, ◌↔◌, ◌≤◌, ◌<◌, ◌+◌, ◌^◌, List, [], ◌∷◌, ◌++◌, length, take, string_bytes, map, IsNone, IfSome, IfOk, IfErr, OnOk, IsOkUnless};
 ghost use Rattle.std.specs.Io.KnownBytes.{Appends};
 ghost use Rattle.sst_block_core.specs.Kind.{IsOrdered};
 ghost use Rattle.sst_block_core.specs.Entries.{entries};
 ghost use Rattle.sst_block_core.specs.Encoders.{IsRefusal};
 ghost use Rattle.sst_base.specs.Entry.{plain};
+ghost use Rattle.hex.specs.Hex.{encode_lower};
 ghost use Rattle.sst.specs.Point.{point_payload, point_text_of, answer_line_of};
 ghost use Rattle.sst.specs.Outcome.{disorder_from, outcome_of_items, outcome_of_query, IsFailure, IsTextOf, IsFaultOf, PrintsNothing};
 
@@ -78,6 +79,24 @@ fn block_with(alloc: Global, items: &[InternalValue], interval: u8) -> Result<Da
     Ok(DataBlock::new(block_of(bytes)?))
 }
 
+// Bytes in lower-case hex, and an answer, a line each. The hex digits are written in place.
+fn two_lines(alloc: Global, bytes: &[u8], answer: &str) -> Result<Vec<u8>>
+    ensures ok { IfOk result (λ text. text.items ≡ encode_lower bytes.now ++ (10 ∷ []) ++ answer.now ++ (10 ∷ [])) }
+    ensures memory { IsOkUnless result Error.Memory }
+{
+    let hex_len = 2 * bytes.len();
+    let len = hex_len.saturating_add(answer.len()).saturating_add(2);
+    let mut text = Vec::with_capacity(alloc, len)?;
+    text.resize(hex_len, 0u8)?;
+    if hex::encode_to_slice(bytes, text.as_mut_slice()).is_err() {
+        unreachable!()
+    }
+    text.push(b'\n')?;
+    text.extend_from_slice(answer.as_bytes())?;
+    text.push(b'\n')?;
+    Ok(text)
+}
+
 /// Returns the two lines that `point` prints for these entries.
 ///
 /// # Errors
@@ -89,22 +108,18 @@ pub fn point_text(
     interval: u8,
     needle: &[u8],
     seqno: SeqNo,
-) -> Result<String>
+) -> Result<Vec<u8>>
     requires some { 1 ≤ length items.now }
     requires ordered { IsOrdered entries items.now }
     requires interval { 1 ≤ interval }
-    ensures ok { IfOk result (λ text. string_bytes text ≡ point_text_of items.now interval needle.now seqno) }
+    ensures ok { IfOk result (λ text. text.items ≡ point_text_of items.now interval needle.now seqno) }
     ensures fits { OnOk result (length (point_payload items.now interval) < 2 ^ 32) }
     ensures cause { IfErr result (IsRefusal None (2 ^ 32 ≤ length (point_payload items.now interval))) }
 {
     let block = block_with(alloc, items, interval)?;
     let found = block.point_read(alloc, needle, seqno, &mut Steps::new())?;
     let answer = answer_line(alloc, found)?;
-    let mut text = hex::encode(alloc, block.as_slice().as_slice())?;
-    text.push_str("\n")?;
-    text.push_str(answer.as_str())?;
-    text.push_str("\n")?;
-    Ok(text)
+    two_lines(alloc, block.as_slice().as_slice(), answer.as_str())
 }
 
 // What `point` prints for these entries.
@@ -112,8 +127,8 @@ fn text_of(
     alloc: Global,
     words: &PointWords,
     items: &[InternalValue],
-) -> std::result::Result<String, Fault>
-    ensures ok { IfOk result (λ text. outcome_of_items words.now items.now ≡ Ok (string_bytes text)) }
+) -> std::result::Result<Vec<u8>, Fault>
+    ensures ok { IfOk result (λ text. outcome_of_items words.now items.now ≡ Ok text.items) }
     ensures err { IfErr result (λ fault. IsFailure fault ⊎ (outcome_of_items words.now items.now ≡ Err fault)) }
 {
     if items.is_empty() {
@@ -136,8 +151,8 @@ fn text_for<I: Read>(
     alloc: Global,
     words: &PointWords,
     input: &mut I,
-) -> std::result::Result<String, Fault>
-    ensures ok { IfOk result (λ text. IsTextOf (outcome_of_query words.now) (I.remaining input.old) (string_bytes text)) }
+) -> std::result::Result<Vec<u8>, Fault>
+    ensures ok { IfOk result (λ text. IsTextOf (outcome_of_query words.now) (I.remaining input.old) text.items) }
     ensures err { IfErr result (IsFaultOf (outcome_of_query words.now) (I.remaining input.old)) }
 {
     let bytes = read_all(alloc, input)?;
@@ -163,16 +178,16 @@ pub fn point<I: Read, O: Write>(
     ensures kept { IfErr result (PrintsNothing (O.contents output.old) (O.contents output.new)) }
 {
     let text = text_for(alloc, words, input)?;
-    print_text(output, text.as_str())?;
+    print_text(output, text.as_slice())?;
     Ok(())
 }
 
 // `Error::Io` if the output fails.
-fn print_text<O: Write>(output: &mut O, text: &str) -> Result<()>
+fn print_text<O: Write>(output: &mut O, text: &[u8]) -> Result<()>
     ensures printed { OnOk result (Appends (O.contents output.old) (O.contents output.new) text.now) }
     ensures cause { IsOkUnless result Error.Io }
 {
-    output.write_all(text.as_bytes())?;
+    output.write_all(text)?;
     output.flush()?;
     Ok(())
 }

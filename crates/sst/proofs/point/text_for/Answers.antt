@@ -1,5 +1,4 @@
-use Rattle.std.proofs.Common.{arith}
-use Rattle.std.specs.Prelude.{string_bytes}
+use Rattle.std.proofs.Common.{ℕ, Vec, Global}
 use Rattle.std.proofs.lemmas.Result.{err_from_is_err_and}
 use Rattle.sst.proofs.Outcomes.{text-along, fault-along, fault-of_line}
 use Rattle.sst.proofs.point.text_for.Goals as goal
@@ -13,7 +12,7 @@ returns-in_err-items-clause-err g c =
 
 pub returns-clause-ok : goal.returns-clause-ok
 returns-clause-ok g c =
-    text-along string_bytes c.text_of.result c.args.words.now (g.I.Read.remaining c.args.input.now) c.in_ok-bytes.bytes.items c.as_slice.result.now c.in_ok-items.items.items c.as_slice-2.result.now
+    text-along (λ (t : Vec ℕ Global). t.items) c.text_of.result c.args.words.now (g.I.Read.remaining c.args.input.now) c.in_ok-bytes.bytes.items c.as_slice.result.now c.in_ok-items.items.items c.as_slice-2.result.now
     c.in_ok-bytes.ensures.bytes c.as_slice.ensures.value c.in_ok-items.ensures.ok c.as_slice-2.ensures.value c.text_of.ensures.ok
 
 pub returns-clause-err : goal.returns-clause-err
