@@ -1,1 +1,9 @@
+pub mod Cuts
+pub mod EntryLaw
+pub mod EntryLines
+pub mod EntryParts
 pub mod NumberText
+pub mod Numbers
+pub mod Order
+pub mod Outcomes
+pub mod QueryWords

@@ -1,3 +1,6 @@
 pub mod Line
-pub mod Text
+pub mod Lines
+pub mod Outcome
 pub mod Point
+pub mod Query
+pub mod Text

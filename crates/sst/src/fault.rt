@@ -1,24 +1,32 @@
 //! Why a run ends without an answer, and the line that says so.
+ghost use Rattle.std.specs.Prelude.{◌≡◌};
+ghost use Rattle.sst_base.specs.declared.error.Error.TheVariants.{Memory};
+ghost use Rattle.sst.specs.declared.fault.Fault.TheVariants.{Refused};
+
 use sstable_blocks::Error;
 use std::alloc::{AllocError, AllocFailed};
-use std::fmt;
 
-/// Why a run ends without an answer.
-#[derive(Clone, Copy, Debug, PartialEq, Eq)]
+/// Why a run ends without an answer. It is displayed as its line without the line feed, as in `sst: line 2: order`.
+#[derive(Clone, Copy, Debug, PartialEq, Eq, thiserror::Error)]
 pub enum Fault {
     /// The words after the program's name are not a command.
+    #[error("sst: usage")]
     Usage,
     /// The input is empty.
+    #[error("sst: no entries")]
     NoEntries,
     /// The line with this number, counted from 1, is not an entry. It is the first such line.
+    #[error("sst: line {0}: entry")]
     Entry(usize),
-    /// The entry on this line stands before the one on the line above it. It is the first such entry.
+    /// The entry on this line sorts before the one on the line above it. It is the first such entry.
+    #[error("sst: line {0}: order")]
     Order(usize),
     /// The library, the input or the output refused.
+    #[error("sst: {}", refusal_name(*.0))]
     Refused(Error),
 }
 
-/// The number and the bare name of a refusal, as in `E15 Memory`.
+/// Returns the number and the bare name of a refusal, as in `E15 Memory`.
 pub fn refusal_name(error: Error) -> &'static str {
     match error {
         Error::Io => "E1 Io",
@@ -39,32 +47,25 @@ pub fn refusal_name(error: Error) -> &'static str {
     }
 }
 
-/// The line without its line feed, as in `sst: line 2: order`.
-impl fmt::Display for Fault {
-    fn fmt<W: fmt::Write>(&self, f: &mut fmt::Formatter<W>) -> fmt::Result {
-        match self {
-            Fault::Usage => write!(f, "sst: usage"),
-            Fault::NoEntries => write!(f, "sst: no entries"),
-            Fault::Entry(line) => write!(f, "sst: line {line}: entry"),
-            Fault::Order(line) => write!(f, "sst: line {line}: order"),
-            Fault::Refused(error) => write!(f, "sst: {}", refusal_name(*error)),
-        }
-    }
-}
-
 impl From<Error> for Fault {
+    ghost from_gives = { λ error fault. fault ≡ Refused error };
+
     fn from(error: Error) -> Fault {
         Fault::Refused(error)
     }
 }
 
 impl From<AllocError> for Fault {
+    ghost from_gives = { λ _ fault. fault ≡ Refused Memory };
+
     fn from(_error: AllocError) -> Fault {
         Fault::Refused(Error::Memory)
     }
 }
 
 impl<T: Drop> From<AllocFailed<T>> for Fault {
+    ghost from_gives = { λ _ fault. fault ≡ Refused Memory };
+
     fn from(_error: AllocFailed<T>) -> Fault {
         Fault::Refused(Error::Memory)
     }

@@ -10,7 +10,9 @@ mod tests;
 pub mod text;
 pub mod words;
 
-ghost use Rattle.std.specs.Prelude.{◌≡◌, ◌≤◌, is_ok, if◌then◌else◌};
+ghost use Rattle.std.specs.Prelude.{◌≡◌, ℕ, ◌≤◌, List, map, OnOk, IfErr, is_ok, if◌then◌else◌};
+ghost use Rattle.std.specs.Io.KnownBytes.{Appends};
+ghost use Rattle.sst.specs.Outcome.{outcome_of, IsTextOf, IsFaultOf, PrintsNothing};
 
 use fault::Fault;
 pub use lines::entry_line;
@@ -20,9 +22,9 @@ use std::convert::AsSlice;
 use std::io::{Read, Write};
 use std::process::ExitCode;
 use std::rt::Files;
-use words::{Command, command_in, words_of};
+use words::{command_in, words_of};
 
-/// Runs the program on these words, which are those after its name, and answers its status: 0, or 1 after one line on
+/// Runs the program on these words, which are those after its name, and returns its status: 0, or 1 after one line on
 /// `faults`.
 pub fn sst_main<R: Files, W: AsSlice<u8>, I: Read, O: Write, F: Write>(
     _rt: &R,
@@ -32,13 +34,32 @@ pub fn sst_main<R: Files, W: AsSlice<u8>, I: Read, O: Write, F: Write>(
     output: &mut O,
     faults: &mut F,
 ) -> u8
-    ensures { result ≤ 1 }
+    ensures status { result ≤ 1 }
+    ensures printed { result ≡ 0 → (text : List ℕ) × IsTextOf (outcome_of (map W.items words.now)) (I.remaining input.old) text × Appends (O.contents output.old) (O.contents output.new) text }
 {
-    let outcome = match command_in(words) {
-        Some(Command::Point(words)) => point(alloc, &words, input, output),
-        None => Err(Fault::Usage),
-    };
+    let outcome = run(alloc, words, input, output);
     status_of(outcome, faults)
+}
+
+/// Runs the program on these words, which are those after its name.
+///
+/// # Errors
+///
+/// `Fault::Usage` if the words are no command, then those of the command, and `Error::Memory` if an allocation fails.
+pub fn run<W: AsSlice<u8>, I: Read, O: Write>(
+    alloc: Global,
+    words: &[W],
+    input: &mut I,
+    output: &mut O,
+) -> Result<(), Fault>
+    ensures printed { OnOk result ((text : List ℕ) × IsTextOf (outcome_of (map W.items words.now)) (I.remaining input.old) text × Appends (O.contents output.old) (O.contents output.new) text) }
+    ensures err { IfErr result (IsFaultOf (outcome_of (map W.items words.now)) (I.remaining input.old)) }
+    ensures kept { IfErr result (PrintsNothing (O.contents output.old) (O.contents output.new)) }
+{
+    match command_in(alloc, words)? {
+        Some(words) => point(alloc, &words, input, output),
+        None => Err(Fault::Usage),
+    }
 }
 
 // The status of a run, after the line of its fault.
@@ -56,7 +77,7 @@ fn status_of<F: Write>(outcome: Result<(), Fault>, faults: &mut F) -> u8
 
 fn main(rt: HostRuntime) -> ExitCode {
     let (mut output, mut faults) = (rt.stdout(), rt.stderr());
-    let status = match words_of(&rt, rt.alloc()) {
+    let status = match words_of(&rt) {
         Ok(words) => sst_main(
             &rt,
             rt.alloc(),
@@ -65,7 +86,7 @@ fn main(rt: HostRuntime) -> ExitCode {
             &mut output,
             &mut faults,
         ),
-        Err(error) => status_of(Err(Fault::Refused(error)), &mut faults),
+        Err(fault) => status_of(Err(fault), &mut faults),
     };
     ExitCode::from(status)
 }

@@ -1,16 +1,17 @@
 //! `point`: one data block of all entries, and one look-up in it.
-ghost use Rattle.std.specs.Prelude.{◌≡◌, ◌≤◌, ◌<◌, ◌^◌, length, string_bytes, map, IfOk, IfErr, OnOk, IsOkUnless};
+ghost use Rattle.std.specs.Prelude.{◌≡◌, ℕ, ◌⊎◌, ◌↔◌, ◌≤◌, ◌<◌, ◌+◌, ◌^◌, List, [], ◌∷◌, ◌++◌, length, take, string_bytes, map, IsNone, IfSome, IfOk, IfErr, OnOk, IsOkUnless};
 ghost use Rattle.std.specs.Io.KnownBytes.{Appends};
 ghost use Rattle.sst_block_core.specs.Kind.{IsOrdered};
 ghost use Rattle.sst_block_core.specs.Entries.{entries};
 ghost use Rattle.sst_block_core.specs.Encoders.{IsRefusal};
 ghost use Rattle.sst_base.specs.Entry.{plain};
+ghost use Rattle.hex.specs.Hex.{encode_lower};
 ghost use Rattle.sst.specs.Point.{point_payload, point_text_of, answer_line_of};
+ghost use Rattle.sst.specs.Outcome.{disorder_from, outcome_of_items, outcome_of_query, IsFailure, IsTextOf, IsFaultOf, PrintsNothing};
 
 use crate::fault::Fault;
 use crate::input::read_all;
 use crate::lines::{entries_in, entry_line};
-use crate::text::bytes_in;
 use crate::words::PointWords;
 use sstable_blocks::{
     Block, BlockHash, BlockType, Checksum, DataBlock, Error, HashRatio, Header, InternalValue,
@@ -19,19 +20,27 @@ use sstable_blocks::{
 use std::alloc::Global;
 use std::io::{Read, Write};
 
-// The line of the first entry that stands before its predecessor.
-fn first_disorder(items: &[InternalValue]) -> usize {
+/// Returns the index of the first entry that sorts before its predecessor, by user key rising and then by sequence number
+/// falling, or `None` if the entries are ordered.
+pub fn first_disorder(items: &[InternalValue]) -> Option<usize>
+    ensures index { result ≡ disorder_from 0 items.now }
+    ensures none { IsNone result ↔ IsOrdered entries items.now }
+    ensures range { IfSome result (λ i. (1 ≤ i) × (i < length items.now)) }
+    ensures before { IfSome result (λ i. IsOrdered entries (take i items.now)) }
+    ensures at { IfSome result (λ i. IsOrdered entries (take (i + 1) items.now) → ⊥) }
+{
     for i in 1..items.len() {
         if items[i].key() < items[i - 1].key() {
-            return i + 1;
+            return Some(i);
         }
     }
-    items.len()
+    None
 }
 
 // The block with this payload.
 fn block_of(bytes: Vec<u8>) -> Result<Block>
     ensures payload { IfOk result (λ block. block.payload ≡ bytes.items) }
+    ensures fits { OnOk result (length bytes.items < 2 ^ 32) }
     ensures cause { IfErr result (IsRefusal None (2 ^ 32 ≤ length bytes.items)) }
 {
     let len = u32::try_from(bytes.len()).map_err(|_| Error::TooLong)?;
@@ -62,6 +71,7 @@ fn block_with(alloc: Global, items: &[InternalValue], interval: u8) -> Result<Da
     requires interval { 1 ≤ interval }
     ensures payload { IfOk result (λ block. block.payload ≡ point_payload items.now interval) }
     ensures items { IfOk result (λ block. block.items ≡ map plain items.now) }
+    ensures fits { OnOk result (length (point_payload items.now interval) < 2 ^ 32) }
     ensures cause { IfErr result (IsRefusal None (2 ^ 32 ≤ length (point_payload items.now interval))) }
 {
     let ratio = HashRatio { num: 0, den: 1 };
@@ -69,70 +79,115 @@ fn block_with(alloc: Global, items: &[InternalValue], interval: u8) -> Result<Da
     Ok(DataBlock::new(block_of(bytes)?))
 }
 
-/// The two lines that `point` prints for these entries. E6 comes only where the block has 2^32 bytes or more, and the
-/// only other error is E15.
+// Bytes in lower-case hex, and an answer, a line each. The hex digits are written in place.
+fn two_lines(alloc: Global, bytes: &[u8], answer: &str) -> Result<Vec<u8>>
+    ensures ok { IfOk result (λ text. text.items ≡ encode_lower bytes.now ++ (10 ∷ []) ++ answer.now ++ (10 ∷ [])) }
+    ensures memory { IsOkUnless result Error.Memory }
+{
+    let hex_len = 2 * bytes.len();
+    let len = hex_len.saturating_add(answer.len()).saturating_add(2);
+    let mut text = Vec::with_capacity(alloc, len)?;
+    text.resize(hex_len, 0u8)?;
+    if hex::encode_to_slice(bytes, text.as_mut_slice()).is_err() {
+        unreachable!()
+    }
+    text.push(b'\n')?;
+    text.extend_from_slice(answer.as_bytes())?;
+    text.push(b'\n')?;
+    Ok(text)
+}
+
+/// Returns the two lines that `point` prints for these entries.
+///
+/// # Errors
+///
+/// `Error::TooLong` if the block has 2^32 bytes or more, and `Error::Memory` if an allocation fails.
 pub fn point_text(
     alloc: Global,
     items: &[InternalValue],
     interval: u8,
     needle: &[u8],
     seqno: SeqNo,
-) -> Result<String>
+) -> Result<Vec<u8>>
     requires some { 1 ≤ length items.now }
     requires ordered { IsOrdered entries items.now }
     requires interval { 1 ≤ interval }
-    ensures ok { IfOk result (λ text. string_bytes text ≡ point_text_of items.now interval needle.now seqno) }
+    ensures ok { IfOk result (λ text. text.items ≡ point_text_of items.now interval needle.now seqno) }
+    ensures fits { OnOk result (length (point_payload items.now interval) < 2 ^ 32) }
     ensures cause { IfErr result (IsRefusal None (2 ^ 32 ≤ length (point_payload items.now interval))) }
 {
     let block = block_with(alloc, items, interval)?;
     let found = block.point_read(alloc, needle, seqno, &mut Steps::new())?;
-    let block_text = hex::encode(alloc, block.as_slice().as_slice())?;
     let answer = answer_line(alloc, found)?;
-    Ok(format!(in alloc; "{block_text}\n{answer}\n")?)
+    two_lines(alloc, block.as_slice().as_slice(), answer.as_str())
 }
 
-// The text that `point` prints for this input.
-fn text_for<I: Read>(
+// What `point` prints for these entries.
+fn text_of(
     alloc: Global,
-    words: &PointWords<'_>,
-    input: &mut I,
-) -> std::result::Result<String, Fault> {
-    let needle = bytes_in(alloc, words.key)?.ok_or(Fault::Usage)?;
-    let items = entries_in(alloc, read_all(alloc, input)?.as_slice())?;
+    words: &PointWords,
+    items: &[InternalValue],
+) -> std::result::Result<Vec<u8>, Fault>
+    ensures ok { IfOk result (λ text. outcome_of_items words.now items.now ≡ Ok text.items) }
+    ensures err { IfErr result (λ fault. IsFailure fault ⊎ (outcome_of_items words.now items.now ≡ Err fault)) }
+{
     if items.is_empty() {
         return Err(Fault::NoEntries);
     }
-    if !DataBlock::<Poly31>::is_ordered(items.as_slice()) {
-        return Err(Fault::Order(first_disorder(items.as_slice())));
+    if let Some(index) = first_disorder(items) {
+        return Err(Fault::Order(index + 1));
     }
     Ok(point_text(
         alloc,
-        items.as_slice(),
-        words.interval,
-        needle.as_slice(),
-        words.seqno,
+        items,
+        words.interval(),
+        words.needle(),
+        words.seqno(),
     )?)
 }
 
-/// Reads entries, and prints their block and what is found in it. Where it refuses, nothing is printed, or a beginning
-/// where the output refused.
+// What `point` prints for this input.
+fn text_for<I: Read>(
+    alloc: Global,
+    words: &PointWords,
+    input: &mut I,
+) -> std::result::Result<Vec<u8>, Fault>
+    ensures ok { IfOk result (λ text. IsTextOf (outcome_of_query words.now) (I.remaining input.old) text.items) }
+    ensures err { IfErr result (IsFaultOf (outcome_of_query words.now) (I.remaining input.old)) }
+{
+    let bytes = read_all(alloc, input)?;
+    let items = entries_in(alloc, bytes.as_slice())?;
+    text_of(alloc, words, items.as_slice())
+}
+
+/// Reads entries, and prints their block and the entry that is found in it.
+///
+/// # Errors
+///
+/// `Fault::NoEntries`, `Fault::Entry` and `Fault::Order` as the input demands, `Error::TooLong` if the block has 2^32
+/// bytes or more, `Error::Memory` if an allocation fails, and `Error::Io` if the input or the output fails. Nothing is
+/// printed then, or a beginning if the output failed.
 pub fn point<I: Read, O: Write>(
     alloc: Global,
-    words: &PointWords<'_>,
+    words: &PointWords,
     input: &mut I,
     output: &mut O,
-) -> std::result::Result<(), Fault> {
+) -> std::result::Result<(), Fault>
+    ensures printed { OnOk result ((text : List ℕ) × IsTextOf (outcome_of_query words.now) (I.remaining input.old) text × Appends (O.contents output.old) (O.contents output.new) text) }
+    ensures err { IfErr result (IsFaultOf (outcome_of_query words.now) (I.remaining input.old)) }
+    ensures kept { IfErr result (PrintsNothing (O.contents output.old) (O.contents output.new)) }
+{
     let text = text_for(alloc, words, input)?;
-    print_text(output, text.as_str())?;
+    print_text(output, text.as_slice())?;
     Ok(())
 }
 
-// E1 where the output fails.
-fn print_text<O: Write>(output: &mut O, text: &str) -> Result<()>
+// `Error::Io` if the output fails.
+fn print_text<O: Write>(output: &mut O, text: &[u8]) -> Result<()>
     ensures printed { OnOk result (Appends (O.contents output.old) (O.contents output.new) text.now) }
     ensures cause { IsOkUnless result Error.Io }
 {
-    output.write_all(text.as_bytes())?;
+    output.write_all(text)?;
     output.flush()?;
     Ok(())
 }

@@ -1,83 +1,113 @@
 //! The words after the program's name.
-ghost use Rattle.std.specs.Prelude.{◌≤◌};
+ghost use Rattle.std.specs.Prelude.{◌≡◌, ◌≤◌, IfOk, IsOkUnless, map};
+ghost use Rattle.sst.specs.Query.{query_of, query_of_words};
 
-use crate::text::{is_byte_text, number_in};
+use crate::fault::Fault;
+use crate::text::{bytes_in, number_in};
 use sstable_blocks::{Error, Result};
 use std::alloc::Global;
 use std::convert::AsSlice;
-use std::env::{Env, FillError};
+use std::env;
+use std::env::Env;
+use std::io::ErrorKind;
+use std::marker::Model;
 
-/// What the program is asked to do.
+/// What `point` is asked.
 #[derive(Drop)]
-pub enum Command<'a> {
-    /// To write one data block and to look a key up in it.
-    Point(PointWords<'a>),
+pub struct PointWords {
+    interval: u8,
+    needle: Vec<u8>,
+    seqno: u64,
 }
 
-/// The words of `point`.
-#[derive(Drop)]
-pub struct PointWords<'a> {
-    /// The restart interval.
-    pub interval: u8,
-    /// The key to look up, in hex.
-    pub key: &'a [u8],
-    /// The sequence number to stay below.
-    pub seqno: u64,
-    ghost some: { 1 ≤ interval },
+impl Model for PointWords {
+    ghost use Rattle.std.specs.Prelude.{◌≤◌};
+    ghost use Rattle.sst.specs.Query.{Query};
+
+    ghost Value = { Query };
+
+    ghost view = { λ w. record { interval = w.interval; needle = w.needle.items; seqno = w.seqno } };
+
+    ghost invariant = { λ w. 1 ≤ w.interval };
 }
 
-/// The command that these words give. A word is any byte string.
-pub fn command_in<W: AsSlice<u8>>(words: &[W]) -> Option<Command<'_>> {
-    let (name, rest) = words.split_first()?;
-    match name.as_slice() {
-        b"point" => Some(Command::Point(point_words(rest)?)),
-        _ => None,
+impl PointWords {
+    /// Returns the restart interval, at least 1.
+    pub fn interval(&self) -> u8
+        ensures value { result ≡ self.now.interval }
+        ensures some { 1 ≤ result }
+    {
+        self.interval
     }
+
+    /// Returns the key to look up.
+    pub fn needle(&self) -> &[u8]
+        ensures { result.now ≡ self.now.needle }
+    {
+        self.needle.as_slice()
+    }
+
+    /// Returns the exclusive upper bound of sequence numbers.
+    pub fn seqno(&self) -> u64
+        ensures { result ≡ self.now.seqno }
+    {
+        self.seqno
+    }
+}
+
+/// Returns what `point` is asked by these words, or `None` if they are no command. A word is any byte string.
+///
+/// # Errors
+///
+/// `Error::Memory` if an allocation fails.
+pub fn command_in<W: AsSlice<u8>>(alloc: Global, words: &[W]) -> Result<Option<PointWords>>
+    ensures ok { IfOk result (λ found. found ≡ query_of_words (map W.items words.now)) }
+    ensures memory { IsOkUnless result Error.Memory }
+{
+    let [name, interval, key, seqno] = words else {
+        return Ok(None);
+    };
+    if name.as_slice() != b"point".as_slice() {
+        return Ok(None);
+    }
+    point_words(alloc, interval.as_slice(), key.as_slice(), seqno.as_slice())
 }
 
 // INTERVAL KEYHEX SEQNO
-fn point_words<W: AsSlice<u8>>(words: &[W]) -> Option<PointWords<'_>> {
-    let [interval, key, seqno] = words else {
-        return None;
+fn point_words(
+    alloc: Global,
+    interval: &[u8],
+    key: &[u8],
+    seqno: &[u8],
+) -> Result<Option<PointWords>>
+    ensures ok { IfOk result (λ found. found ≡ query_of interval.now key.now seqno.now) }
+    ensures memory { IsOkUnless result Error.Memory }
+{
+    let (Some(interval), Some(seqno)) = (number_in(interval), number_in(seqno)) else {
+        return Ok(None);
     };
-    let interval = u8::try_from(number_in(interval.as_slice())?).ok()?;
-    let seqno = number_in(seqno.as_slice())?;
-    let key = key.as_slice();
-    if interval == 0 || !is_byte_text(key) {
-        return None;
+    let Some(needle) = bytes_in(alloc, key)? else {
+        return Ok(None);
+    };
+    match u8::try_from(interval) {
+        Ok(interval) if interval != 0 => Ok(Some(PointWords {
+            interval,
+            needle,
+            seqno,
+        })),
+        _ => Ok(None),
     }
-    Some(PointWords {
-        interval,
-        key,
-        seqno,
-    })
 }
 
-// The argument at a place, if there is one.
-fn argument_at<R: Env>(rt: &R, alloc: Global, place: usize) -> Result<Option<Vec<u8>>> {
-    let mut room = 256usize;
-    for _ in 0..usize::BITS {
-        let mut bytes = vec![in alloc; 0u8; room]?;
-        match rt.arg(place, bytes.as_mut_slice()) {
-            Ok(len) => {
-                bytes.truncate(len);
-                return Ok(Some(bytes));
-            }
-            Err(FillError::NotPresent) => return Ok(None),
-            Err(FillError::TooLong) => room = room.saturating_mul(2),
-        }
+/// Returns the program's arguments without its name.
+///
+/// # Errors
+///
+/// `Fault::Usage` if an argument is not UTF-8, and `Error::Memory` if an allocation fails.
+pub fn words_of<R: Env + Alloc>(rt: &R) -> std::result::Result<Vec<String<R::A>, R::A>, Fault> {
+    match env::args(rt) {
+        Ok(words) => Ok(words.skip(1).collect(rt.alloc())?),
+        Err(error) if error.kind() == ErrorKind::InvalidData => Err(Fault::Usage),
+        Err(_) => Err(Fault::Refused(Error::Memory)),
     }
-    Err(Error::Memory)
-}
-
-/// The program's arguments without its name, as the bytes that they are. The only error is E15.
-pub fn words_of<R: Env>(rt: &R, alloc: Global) -> Result<Vec<Vec<u8>>> {
-    let mut words = Vec::new(alloc);
-    for place in 1..usize::MAX {
-        match argument_at(rt, alloc, place)? {
-            Some(word) => words.push(word)?,
-            None => break,
-        }
-    }
-    Ok(words)
 }

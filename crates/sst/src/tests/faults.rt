@@ -1,0 +1,132 @@
+// Runs that are refused: each tells exactly its fault, and prints nothing.
+use super::runs::check_fault;
+use crate::fault::Fault;
+use sstable_blocks::{Checksum, Error, HeaderName, TagName};
+use std::alloc::Global;
+use std::process::Abort;
+use std::test::Fail;
+
+#[test]
+fn lines_that_are_no_entries(rt: HostRuntime) -> Result<(), Fail> {
+    let inputs: [&[u8]; 20] = [
+        b"X 0 62 -",
+        b"V 0 - 62",
+        b"V 0 62 ",
+        b"V 0 62",
+        b"V 0 62 62 ",
+        b"V  0 62 62",
+        b" V 0 62 62",
+        b"VV 0 62 62",
+        b"v 0 62 62",
+        b"V +5 62 62",
+        b"V -5 62 62",
+        b"V  62 62",
+        b"V 1_0 62 62",
+        b"V 18446744073709551616 62 62",
+        b"V 0 62 62\r\n",
+        b"V 0 6 62\n",
+        b"V 0 62 --\n",
+        b"V 0 62 \xff\xfe\n",
+        b"T 7 61 zz\n",
+        b"\n",
+    ];
+    for input in inputs {
+        check_fault(
+            &rt,
+            rt.alloc(),
+            &["point", "1", "62", "1"],
+            input,
+            "sst: line 1: entry",
+        )?;
+    }
+    Ok(())
+}
+
+#[test]
+fn the_first_fault_is_told(rt: HostRuntime) -> Result<(), Fail> {
+    let faults: [(&str, &str); 7] = [
+        ("", "sst: no entries"),
+        ("V 0 62 62\n\n", "sst: line 2: entry"),
+        ("V 0 62 62\n\nV 0 63 62\n", "sst: line 2: entry"),
+        ("V 0 62 -\nV 0 61 -\nV 0 zz -\n", "sst: line 3: entry"),
+        ("V 0 62 -\nV 0 61 -\n", "sst: line 2: order"),
+        (
+            "V 0 61 -\nV 0 61 -\nV 1 61 -\nV 0 60 -\n",
+            "sst: line 3: order",
+        ),
+        ("V 0 61 -\nV 0 61 -\nV 0 60 -", "sst: line 3: order"),
+    ];
+    for (input, fault) in faults {
+        check_fault(
+            &rt,
+            rt.alloc(),
+            &["point", "1", "62", "1"],
+            input.as_bytes(),
+            fault,
+        )?;
+    }
+    Ok(())
+}
+
+#[test]
+fn words_that_are_no_command(rt: HostRuntime) -> Result<(), Fail> {
+    let bad: [&[&str]; 17] = [
+        &[],
+        &["point"],
+        &["point", "1", "62"],
+        &["point", "1", "62", "1", "1"],
+        &["points", "1", "62", "1"],
+        &["Point", "1", "62", "1"],
+        &["", "1", "62", "1"],
+        &["point", "0", "62", "1"],
+        &["point", "256", "62", "1"],
+        &["point", "", "62", "1"],
+        &["point", "+1", "62", "1"],
+        &["point", "1", "", "1"],
+        &["point", "1", "6", "1"],
+        &["point", "1", "zz", "1"],
+        &["point", "1", "é", "1"],
+        &["point", "1", "62", "18446744073709551616"],
+        &["point", "1", "62", "-1"],
+    ];
+    for words in bad {
+        check_fault(&rt, rt.alloc(), words, b"\n", "sst: usage")?;
+    }
+    Ok(())
+}
+
+// The line of a refusal is the program's name, a colon, a space, and this number and name.
+fn check_name(rt: &impl Abort, alloc: Global, error: Error, name: &str) -> Result<(), Fail> {
+    let fault = Fault::from(error);
+    let line = format!(in alloc; "{fault}")?;
+    let expected = format!(in alloc; "sst: {name}")?;
+    assert_eq!(rt; line.as_str(), expected.as_str());
+    Ok(())
+}
+
+#[test]
+fn refusals_have_numbers_and_names(rt: HostRuntime) -> Result<(), Fail> {
+    let alloc = rt.alloc();
+    let checksum = Checksum::from_raw(7);
+    check_name(&rt, alloc, Error::Io, "E1 Io")?;
+    let header = Error::InvalidHeader(HeaderName::Block);
+    check_name(&rt, alloc, header, "E2 InvalidHeader")?;
+    let tag = Error::InvalidTag(TagName::BlockType, 4);
+    check_name(&rt, alloc, tag, "E3 InvalidTag")?;
+    let mismatch = Error::ChecksumMismatch {
+        got: checksum,
+        expected: checksum,
+    };
+    check_name(&rt, alloc, mismatch, "E4 ChecksumMismatch")?;
+    check_name(&rt, alloc, Error::LengthMismatch, "E5 LengthMismatch")?;
+    check_name(&rt, alloc, Error::TooLong, "E6 TooLong")?;
+    check_name(&rt, alloc, Error::Truncated, "E7 Truncated")?;
+    check_name(&rt, alloc, Error::BadTrailer, "E8 BadTrailer")?;
+    check_name(&rt, alloc, Error::BadEntry, "E9 BadEntry")?;
+    check_name(&rt, alloc, Error::OutOfOrder, "E10 OutOfOrder")?;
+    check_name(&rt, alloc, Error::BadIndex, "E11 BadIndex")?;
+    check_name(&rt, alloc, Error::BadHashIndex, "E12 BadHashIndex")?;
+    check_name(&rt, alloc, Error::BadFilter, "E13 BadFilter")?;
+    check_name(&rt, alloc, Error::BadHandle, "E14 BadHandle")?;
+    check_name(&rt, alloc, Error::Memory, "E15 Memory")
+}

@@ -1,0 +1,51 @@
+// A refused allocation: the run ends whole, or with `E15` or `E1` and nothing or a beginning of what it should print.
+// These are the tests to run with each allocation failing in turn; the others may fail there.
+use super::runs::make_run;
+use std::alloc::Global;
+use std::process::Abort;
+use std::rt::Files;
+
+fn check_whole_or_refused<R: Files + Abort>(
+    rt: &R,
+    alloc: Global,
+    words: &[&str],
+    input: &[u8],
+    printed: &[u8],
+) {
+    if let Ok(run) = make_run(rt, alloc, words, input) {
+        let faults = run.faults.as_slice();
+        if run.status == 0 {
+            assert!(rt; run.output.as_slice() == printed);
+            assert!(rt; faults.is_empty());
+        } else {
+            assert_eq!(rt; run.status, 1);
+            assert!(rt; printed.starts_with(run.output.as_slice()));
+            assert!(rt;
+                faults == b"sst: E15 Memory\n".as_slice() || faults == b"sst: E1 Io\n".as_slice()
+            );
+        }
+    }
+}
+
+#[test]
+fn refused_memory_changes_no_answer(rt: HostRuntime) {
+    let printed =
+        b"000202616201780101020000ac020261630179ff00000b0002020200000014000000000000000000000001000000000000000003000000\nT 1 6162 -\n";
+    let input = b"V 2 6162 78\nT 1 6162 7A7a\nV 300 6163 79\n";
+    check_whole_or_refused(
+        &rt,
+        rt.alloc(),
+        &["point", "2", "6162", "2"],
+        input,
+        printed,
+    );
+    let printed =
+        b"000001620162ff000001020100000007000000000000000000000001000000000000000001000000\nnone\n";
+    check_whole_or_refused(
+        &rt,
+        rt.alloc(),
+        &["point", "1", "-", "2"],
+        b"V 0 62 62",
+        printed,
+    );
+}

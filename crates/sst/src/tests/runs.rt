@@ -1,0 +1,91 @@
+// A run of the program, and what it writes.
+use crate::sst_main;
+use std::alloc::{AllocError, Global};
+use std::process::Abort;
+use std::rt::Files;
+use std::test::Fail;
+
+// The status of a run, and what it writes.
+#[derive(Drop)]
+pub struct Run {
+    pub status: u8,
+    pub output: Vec<u8>,
+    pub faults: Vec<u8>,
+}
+
+// Runs the program. The writer of faults has room before it starts.
+pub fn make_run<R: Files>(
+    rt: &R,
+    alloc: Global,
+    words: &[&str],
+    mut input: &[u8],
+) -> Result<Run, AllocError> {
+    let mut output = Vec::new(alloc);
+    let mut faults = Vec::with_capacity(alloc, 256)?;
+    let status = sst_main(rt, alloc, words, &mut input, &mut output, &mut faults);
+    Ok(Run {
+        status,
+        output,
+        faults,
+    })
+}
+
+// The run prints this text, tells no fault, and its status is 0.
+pub fn check_prints<R: Files + Abort>(
+    rt: &R,
+    alloc: Global,
+    name: &str,
+    words: &[&str],
+    input: &[u8],
+    printed: &str,
+) -> Result<(), Fail> {
+    let run = make_run(rt, alloc, words, input)?;
+    assert_eq!(rt;
+        std::str::from_utf8(run.faults.as_slice()),
+        Ok(""),
+        "{name}"
+    );
+    assert_eq!(rt;
+        std::str::from_utf8(run.output.as_slice()),
+        Ok(printed),
+        "{name}"
+    );
+    assert_eq!(rt; run.status, 0, "{name}");
+    Ok(())
+}
+
+// The run prints nothing, tells this fault on one line, and its status is 1.
+pub fn check_fault<R: Files + Abort>(
+    rt: &R,
+    alloc: Global,
+    words: &[&str],
+    input: &[u8],
+    fault: &str,
+) -> Result<(), Fail> {
+    let run = make_run(rt, alloc, words, input)?;
+    let line = format!(in alloc; "{fault}\n")?;
+    assert_eq!(rt;
+        std::str::from_utf8(run.faults.as_slice()),
+        Ok(line.as_str()),
+        "{words:?}"
+    );
+    assert_eq!(rt; run.status, 1, "{words:?}");
+    assert!(rt; run.output.is_empty(), "{words:?}");
+    Ok(())
+}
+
+// Some text, a text so many times, and another.
+pub fn long_text(
+    alloc: Global,
+    front: &str,
+    part: &str,
+    count: usize,
+    back: &str,
+) -> Result<String, AllocError> {
+    let mut text = String::from_str(alloc, front)?;
+    for _ in 0..count {
+        text.push_str(part)?;
+    }
+    text.push_str(back)?;
+    Ok(text)
+}
