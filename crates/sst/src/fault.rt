@@ -6,7 +6,8 @@ ghost use Rattle.sst.specs.declared.fault.Fault.TheVariants.{Refused};
 use sstable_blocks::Error;
 use std::alloc::{AllocError, AllocFailed};
 
-/// Why a run ends without an answer. It is displayed as its line without the line feed, as in `sst: line 2: order`.
+/// Why a run ends without an answer. It is displayed as its line without the line feed, as in `sst:
+/// line 2: order`.
 #[derive(Clone, Copy, Debug, PartialEq, Eq, thiserror::Error)]
 pub enum Fault {
     /// The words after the program's name are not a command.
@@ -18,7 +19,8 @@ pub enum Fault {
     /// The line with this number, counted from 1, is not an entry. It is the first such line.
     #[error("sst: line {0}: entry")]
     Entry(usize),
-    /// The entry on this line sorts before the one on the line above it. It is the first such entry.
+    /// The entry on this line sorts before the one on the line above it. It is the first such
+    /// entry.
     #[error("sst: line {0}: order")]
     Order(usize),
     /// The library, the input or the output refused.

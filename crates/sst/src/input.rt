@@ -11,8 +11,8 @@ use std::io::{ErrorKind, Read};
 ///
 /// # Errors
 ///
-/// `Error::Memory` if an allocation fails or the reader answers `ErrorKind::OutOfMemory`, and `Error::Io` if the reader
-/// fails in another way.
+/// `Error::Memory` if an allocation fails or the reader answers `ErrorKind::OutOfMemory`, and
+/// `Error::Io` if the reader fails in another way.
 pub fn read_all<I: Read>(alloc: Global, input: &mut I) -> Result<Vec<u8>>
     ensures bytes { IfOk result (λ all. Gave (I.remaining input.old) all.items) }
     ensures cause { IfErr result (λ e. (e ≡ Memory) ⊎ (e ≡ Io)) }

@@ -1,16 +1,16 @@
 //! Entry lines: `C S K V`, the letter of the type, the sequence number, the key and the value.
-ghost use Rattle.std.specs.Prelude.{◌≡◌, ◌⊎◌, ◌↔◌, ◌<◌, ◌≤◌, [], ◌∷◌, ◌++◌, length, IfSome, IfNone, IfOk, IfErr, IsOkUnless, Some, string_bytes};
+ghost use Rattle.std.specs.Prelude.{◌≡◌, ◌⊎◌, ◌↔◌, ◌<◌, ◌≤◌, [], ◌∷◌, ◌++◌, length, IfSome, IfNone};
+ghost use Rattle.std.specs.Prelude.{IfOk, IfErr, IsOkUnless, Some, string_bytes};
 ghost use Rattle.sst_base.specs.Entry.{Entry, plain_value};
-ghost use Rattle.sst.specs.Line.{entry_line_of, letter_of, byte_text_of, joined_by_spaces, Encodes, Lacks, type_of_letters, entry_of_parts, entry_of_line};
+ghost use Rattle.sst.specs.Line.{entry_line_of, letter_of, byte_text_of, joined_by_spaces, Encodes};
+ghost use Rattle.sst.specs.Line.{Lacks, type_of_letters, entry_of_parts, entry_of_line};
 ghost use Rattle.sst.specs.Lines.{lines_of, entries_of_input};
 
 use crate::fault::Fault;
 use crate::text::{bytes_in, number_in};
+use sstable_blocks::key::MAX_KEY_LEN;
 use sstable_blocks::{Error, InternalValue, Result, Slice, ValueType};
 use std::alloc::Global;
-
-// The greatest length of a key.
-const MAX_KEY_LEN: usize = 65535;
 
 // The greatest length of a value.
 const MAX_VALUE_LEN: usize = u32::MAX as usize;
@@ -90,8 +90,10 @@ fn cut_at(bytes: &[u8], byte: u8) -> Option<(&[u8], &[u8])>
 
 // The parts of a line. The last has what is behind the third space.
 fn parts_of(line: &[u8]) -> Option<Parts<'_>>
-    ensures joined { IfSome result (λ p. line.now ≡ joined_by_spaces p.letter.now p.seqno.now p.key.now p.value.now) }
-    ensures some { IfSome result (λ p. entry_of_line line.now ≡ entry_of_parts p.letter.now p.seqno.now p.key.now p.value.now) }
+    ensures joined { IfSome result (λ p. line.now
+        ≡ joined_by_spaces p.letter.now p.seqno.now p.key.now p.value.now) }
+    ensures some { IfSome result (λ p. entry_of_line line.now
+        ≡ entry_of_parts p.letter.now p.seqno.now p.key.now p.value.now) }
     ensures none { IfNone result (entry_of_line line.now ≡ None) }
 {
     let (letter, rest) = cut_at(line, b' ')?;
@@ -119,7 +121,8 @@ fn value_of(alloc: Global, value_type: ValueType, bytes: Vec<u8>) -> Result<Slic
 
 // The entry that these parts encode, if they encode one.
 fn entry_from(alloc: Global, parts: Parts<'_>) -> Result<Option<InternalValue>>
-    ensures ok { IfOk result (λ found. found ≡ entry_of_parts parts.entry.letter.now parts.entry.seqno.now parts.entry.key.now parts.entry.value.now) }
+    ensures ok { IfOk result (λ found. found
+        ≡ entry_of_parts parts.entry.letter.now parts.entry.seqno.now parts.entry.key.now parts.entry.value.now) }
     ensures memory { IsOkUnless result Error.Memory }
 {
     let (Some(value_type), Some(seqno)) = (value_type_in(parts.letter), number_in(parts.seqno))
@@ -140,8 +143,8 @@ fn entry_from(alloc: Global, parts: Parts<'_>) -> Result<Option<InternalValue>>
     Ok(Some(InternalValue::from_components(key, value, seqno, value_type)))
 }
 
-/// Returns the entry that a line without its line feed encodes, or `None` if it encodes none. A tombstone's value is left
-/// out.
+/// Returns the entry that a line without its line feed encodes, or `None` if it encodes none. A
+/// tombstone's value is left out.
 ///
 /// # Errors
 ///
@@ -161,7 +164,8 @@ pub fn entry_in(alloc: Global, line: &[u8]) -> Result<Option<InternalValue>>
 fn cut_line(bytes: &[u8]) -> (&[u8], &[u8])
     requires some { 0 < length bytes.now }
     ensures line { Lacks 10 result.0.now }
-    ensures joined { (bytes.now ≡ result.0.now ++ (10 ∷ result.1.now)) ⊎ ((bytes.now ≡ result.0.now) × (result.1.now ≡ [])) }
+    ensures joined { (bytes.now ≡ result.0.now ++ (10 ∷ result.1.now))
+        ⊎ ((bytes.now ≡ result.0.now) × (result.1.now ≡ [])) }
     ensures lines { lines_of bytes.now ≡ result.0.now ∷ lines_of result.1.now }
     ensures shorter { length result.1.now < length bytes.now }
 {
@@ -175,10 +179,12 @@ fn cut_line(bytes: &[u8]) -> (&[u8], &[u8])
 ///
 /// # Errors
 ///
-/// `Fault::Entry` with the number of the first line that is no entry, and `Error::Memory` if an allocation fails.
+/// `Fault::Entry` with the number of the first line that is no entry, and `Error::Memory` if an
+/// allocation fails.
 pub fn entries_in(alloc: Global, bytes: &[u8]) -> std::result::Result<Vec<InternalValue>, Fault>
     ensures ok { IfOk result (λ items. entries_of_input bytes.now ≡ Ok items.items) }
-    ensures err { IfErr result (λ fault. (fault ≡ Fault.Refused Error.Memory) ⊎ (entries_of_input bytes.now ≡ Err fault)) }
+    ensures err { IfErr result (λ fault. (fault ≡ Fault.Refused Error.Memory)
+        ⊎ (entries_of_input bytes.now ≡ Err fault)) }
 {
     let mut items = Vec::new(alloc);
     let mut rest = bytes;

@@ -24,8 +24,8 @@ use std::process::ExitCode;
 use std::rt::Files;
 use words::{command_in, words_of};
 
-/// Runs the program on these words, which are those after its name, and returns its status: 0, or 1 after one line on
-/// `faults`.
+/// Runs the program on these words, which are those after its name, and returns its status: 0, or 1
+/// after one line on `faults`.
 pub fn sst_main<R: Files, W: AsSlice<u8>, I: Read, O: Write, F: Write>(
     _rt: &R,
     alloc: Global,
@@ -35,7 +35,9 @@ pub fn sst_main<R: Files, W: AsSlice<u8>, I: Read, O: Write, F: Write>(
     faults: &mut F,
 ) -> u8
     ensures status { result ≤ 1 }
-    ensures printed { result ≡ 0 → (text : List ℕ) × IsTextOf (outcome_of (map W.items words.now)) (I.remaining input.old) text × Appends (O.contents output.old) (O.contents output.new) text }
+    ensures printed { result ≡ 0 → (text : List ℕ)
+        × IsTextOf (outcome_of (map W.items words.now)) (I.remaining input.old) text
+        × Appends (O.contents output.old) (O.contents output.new) text }
 {
     let outcome = run(alloc, words, input, output);
     status_of(outcome, faults)
@@ -45,14 +47,17 @@ pub fn sst_main<R: Files, W: AsSlice<u8>, I: Read, O: Write, F: Write>(
 ///
 /// # Errors
 ///
-/// `Fault::Usage` if the words are no command, then those of the command, and `Error::Memory` if an allocation fails.
+/// `Fault::Usage` if the words are no command, then those of the command, and `Error::Memory` if an
+/// allocation fails.
 pub fn run<W: AsSlice<u8>, I: Read, O: Write>(
     alloc: Global,
     words: &[W],
     input: &mut I,
     output: &mut O,
 ) -> Result<(), Fault>
-    ensures printed { OnOk result ((text : List ℕ) × IsTextOf (outcome_of (map W.items words.now)) (I.remaining input.old) text × Appends (O.contents output.old) (O.contents output.new) text) }
+    ensures printed { OnOk result ((text : List ℕ)
+        × IsTextOf (outcome_of (map W.items words.now)) (I.remaining input.old) text
+        × Appends (O.contents output.old) (O.contents output.new) text) }
     ensures err { IfErr result (IsFaultOf (outcome_of (map W.items words.now)) (I.remaining input.old)) }
     ensures kept { IfErr result (PrintsNothing (O.contents output.old) (O.contents output.new)) }
 {

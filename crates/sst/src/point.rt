@@ -1,5 +1,7 @@
 //! `point`: one data block of all entries, and one look-up in it.
-ghost use Rattle.std.specs.Prelude.{◌≡◌, ℕ, ◌⊎◌, ◌↔◌, ◌≤◌, ◌<◌, ◌+◌, ◌^◌, List, [], ◌∷◌, ◌++◌, length, take, string_bytes, map, IsNone, IfSome, IfOk, IfErr, OnOk, IsOkUnless};
+ghost use Rattle.std.specs.Prelude.{◌≡◌, ℕ, ◌⊎◌, ◌↔◌, ◌≤◌, ◌<◌, ◌+◌, ◌^◌, List, [], ◌∷◌, ◌++◌};
+ghost use Rattle.std.specs.Prelude.{length, take, string_bytes, map, IsNone, IfSome, IfOk, IfErr};
+ghost use Rattle.std.specs.Prelude.{OnOk, IsOkUnless};
 ghost use Rattle.std.specs.Io.KnownBytes.{Appends};
 ghost use Rattle.sst_block_core.specs.Kind.{IsOrdered};
 ghost use Rattle.sst_block_core.specs.Entries.{entries};
@@ -7,7 +9,8 @@ ghost use Rattle.sst_block_core.specs.Encoders.{IsRefusal};
 ghost use Rattle.sst_base.specs.Entry.{plain};
 ghost use Rattle.hex.specs.Hex.{encode_lower};
 ghost use Rattle.sst.specs.Point.{point_payload, point_text_of, answer_line_of};
-ghost use Rattle.sst.specs.Outcome.{disorder_from, outcome_of_items, outcome_of_query, IsFailure, IsTextOf, IsFaultOf, PrintsNothing};
+ghost use Rattle.sst.specs.Outcome.{disorder_from, outcome_of_items, outcome_of_query, IsFailure};
+ghost use Rattle.sst.specs.Outcome.{IsTextOf, IsFaultOf, PrintsNothing};
 
 use crate::fault::Fault;
 use crate::input::read_all;
@@ -20,8 +23,8 @@ use sstable_blocks::{
 use std::alloc::Global;
 use std::io::{Read, Write};
 
-/// Returns the index of the first entry that sorts before its predecessor, by user key rising and then by sequence number
-/// falling, or `None` if the entries are ordered.
+/// Returns the index of the first entry that sorts before its predecessor, by user key rising and
+/// then by sequence number falling, or `None` if the entries are ordered.
 pub fn first_disorder(items: &[InternalValue]) -> Option<usize>
     ensures index { result ≡ disorder_from 0 items.now }
     ensures none { IsNone result ↔ IsOrdered entries items.now }
@@ -39,11 +42,11 @@ pub fn first_disorder(items: &[InternalValue]) -> Option<usize>
 
 // The block with this payload.
 fn block_of(bytes: Vec<u8>) -> Result<Block>
+    requires fits { length bytes.items < 2 ^ 32 }
     ensures payload { IfOk result (λ block. block.payload ≡ bytes.items) }
-    ensures fits { OnOk result (length bytes.items < 2 ^ 32) }
-    ensures cause { IfErr result (IsRefusal None (2 ^ 32 ≤ length bytes.items)) }
+    ensures memory { IsOkUnless result Error.Memory }
 {
-    let len = u32::try_from(bytes.len()).map_err(|_| Error::TooLong)?;
+    let len = bytes.len() as u32;
     let header = Header {
         block_type: BlockType::Data,
         checksum: Checksum::from_raw(u128::from(Poly31::hash64(bytes.as_slice()))),
@@ -81,7 +84,8 @@ fn block_with(alloc: Global, items: &[InternalValue], interval: u8) -> Result<Da
 
 // Bytes in lower-case hex, and an answer, a line each. The hex digits are written in place.
 fn two_lines(alloc: Global, bytes: &[u8], answer: &str) -> Result<Vec<u8>>
-    ensures ok { IfOk result (λ text. text.items ≡ encode_lower bytes.now ++ (10 ∷ []) ++ answer.now ++ (10 ∷ [])) }
+    ensures ok { IfOk result (λ text. text.items ≡ encode_lower bytes.now ++ (10 ∷ []) ++ answer.now
+        ++ (10 ∷ [])) }
     ensures memory { IsOkUnless result Error.Memory }
 {
     let hex_len = 2 * bytes.len();
@@ -101,7 +105,8 @@ fn two_lines(alloc: Global, bytes: &[u8], answer: &str) -> Result<Vec<u8>>
 ///
 /// # Errors
 ///
-/// `Error::TooLong` if the block has 2^32 bytes or more, and `Error::Memory` if an allocation fails.
+/// `Error::TooLong` if the block has 2^32 bytes or more, and `Error::Memory` if an allocation
+/// fails.
 pub fn point_text(
     alloc: Global,
     items: &[InternalValue],
@@ -164,16 +169,18 @@ fn text_for<I: Read>(
 ///
 /// # Errors
 ///
-/// `Fault::NoEntries`, `Fault::Entry` and `Fault::Order` as the input demands, `Error::TooLong` if the block has 2^32
-/// bytes or more, `Error::Memory` if an allocation fails, and `Error::Io` if the input or the output fails. Nothing is
-/// printed then, or a beginning if the output failed.
+/// `Fault::NoEntries`, `Fault::Entry` and `Fault::Order` as the input demands, `Error::TooLong` if
+/// the block has 2^32 bytes or more, `Error::Memory` if an allocation fails, and `Error::Io` if the
+/// input or the output fails. Nothing is printed then, or a beginning if the output failed.
 pub fn point<I: Read, O: Write>(
     alloc: Global,
     words: &PointWords,
     input: &mut I,
     output: &mut O,
 ) -> std::result::Result<(), Fault>
-    ensures printed { OnOk result ((text : List ℕ) × IsTextOf (outcome_of_query words.now) (I.remaining input.old) text × Appends (O.contents output.old) (O.contents output.new) text) }
+    ensures printed { OnOk result ((text : List ℕ)
+        × IsTextOf (outcome_of_query words.now) (I.remaining input.old) text
+        × Appends (O.contents output.old) (O.contents output.new) text) }
     ensures err { IfErr result (IsFaultOf (outcome_of_query words.now) (I.remaining input.old)) }
     ensures kept { IfErr result (PrintsNothing (O.contents output.old) (O.contents output.new)) }
 {

@@ -1,5 +1,5 @@
-// What the clauses do not say: the printed text, whose expected lines come from outside; that a run with ample memory
-// ends well; and that a stream that fails, or an allocation, changes no answer.
+// What the clauses do not say: the printed text, whose expected lines come from outside; that a run
+// with ample memory ends well; and that a stream that fails, or an allocation, changes no answer.
 mod faults;
 mod lines;
 mod long;

@@ -7,8 +7,8 @@ ghost use Rattle.sst.specs.Text.{IsNumberText, hex_bytes};
 use sstable_blocks::{Error, Result};
 use std::alloc::Global;
 
-/// Returns the number that decimal digits encode: at least one digit, with any count of leading zeros, and nothing
-/// else. `None` too if it is 2^64 or more.
+/// Returns the number that decimal digits encode: at least one digit, with any count of leading
+/// zeros, and nothing else. `None` too if it is 2^64 or more.
 pub fn number_in(digits: &[u8]) -> Option<u64>
     ensures some { IsSome result ↔ IsNumberText digits.now }
     ensures value { IfSome result (λ n. n ≡ digits_value 10 digits.now) }
@@ -19,8 +19,8 @@ pub fn number_in(digits: &[u8]) -> Option<u64>
     std::str::from_utf8(digits).ok()?.parse::<u64>().ok()
 }
 
-/// Returns the byte string that pairs of hex digits in either case encode, or the empty one for `-`. `None` if there are
-/// no digits, or anything else.
+/// Returns the byte string that pairs of hex digits in either case encode, or the empty one for
+/// `-`. `None` if there are no digits, or anything else.
 ///
 /// # Errors
 ///

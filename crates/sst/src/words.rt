@@ -55,7 +55,8 @@ impl PointWords {
     }
 }
 
-/// Returns what `point` is asked by these words, or `None` if they are no command. A word is any byte string.
+/// Returns what `point` is asked by these words, or `None` if they are no command. A word is any
+/// byte string.
 ///
 /// # Errors
 ///

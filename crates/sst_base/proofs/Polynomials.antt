@@ -26,7 +26,7 @@ poly31_from_steps so_far bytes h =
     let e : so_far % 2 ^ 64 ≡ so_far = omega arith in
     ap (λ s. fold wrapped31 s bytes) (sym e) ∙ steps_mod so_far bytes
 
--- eight bytes behind what was so far
+-- eight bytes more
 pub eight_steps : (h : ℕ) (w : List ℕ) → length w ≡ 8 → fold times31 h w ≡ h * 852891037441 + fold times31 0 w
 eight_steps h [] l = absurd (omega arith)
 eight_steps h (a ∷ []) l = absurd (omega arith)

@@ -22,6 +22,6 @@ plain_value Tombstone value = []
 plain_value WeakTombstone value = []
 plain_value Indirection value = value
 
--- the entry without a tombstone's value, as it comes back
+-- the entry as decoded: without a tombstone's value
 abbrev pub plain : Entry → Entry
 plain e = record { key = e.key; value = plain_value e.key.value_type e.value }

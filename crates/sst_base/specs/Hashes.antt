@@ -5,7 +5,7 @@ use Rattle.std.specs.Prelude.{ℕ, ◌+◌, ◌*◌, ◌%◌, ◌^◌, List, fol
 abbrev pub times31 : ℕ → ℕ → ℕ
 times31 so_far byte = so_far * 31 + byte
 
--- bytes behind what was so far, modulo 2 ^ bits
+-- a hash value continued by bytes, modulo 2 ^ bits
 abbrev pub poly31_from : ℕ → ℕ → List ℕ → ℕ
 poly31_from bits so_far bytes = fold times31 so_far bytes % 2 ^ bits
 

@@ -14,7 +14,7 @@ versions_cmp key seqno = then_cmp (on key (slice_cmp nat_cmp)) (flip_args (on se
 abbrev pub key_cmp : Key → Key → Ordering
 key_cmp = versions_cmp (λ k. k.user_key) (λ k. k.seqno)
 
--- no member stands before its predecessor; equal ones may repeat
+-- no member sorts before its predecessor; equal ones may repeat
 abbrev pub IsInOrder : {X : Type 0} → (X → X → Ordering) → List X → Type 0
 IsInOrder cmp [] = Unit {0}
 IsInOrder cmp (x ∷ []) = Unit {0}

@@ -1,4 +1,4 @@
--- Laws of varints: each number has one spelling, no spelling begins another, and what is read was spelled.
+-- Laws of varints: each number has one encoding, none is a prefix of another, and what is decoded was encoded.
 use Rattle.std.proofs.Common.{◌≡◌, ℕ, ◌+◌, ◌*◌, ◌/◌, ◌%◌, ◌<◌, ◌≤◌, ◌-◌, ◌^◌, zero, suc, List, [], ◌∷◌, ◌++◌, length, take, drop, get_or, drop-cons, nat_eq, if◌then◌else◌, IfSome, IfNone, refl, arith, sym, ◌∙◌, ap, subst, inl, inr, append_assoc, Option, Some, None, lit<}
 use Rattle.std.proofs.lemmas.Bool.{cases_lt, cases_eq}
 use Rattle.std.proofs.Math.Nat.{pow-succ', pow-le-pow_right, mul-le-mul_left}
@@ -48,7 +48,7 @@ IsVarint-varint_within (suc k) n h =
           subst (λ m. IsVarint ((n % 128 + 128) ∷ varint_within k (n / 128)) m) whole (IsVarint-more (n % 128) (n / 128) (varint_within k (n / 128)) digit some (IsVarint-varint_within k (n / 128) below)))
     ]
 
--- where the first byte isn't the last, the others spell the rest
+-- where the first byte isn't the last, the others encode the rest
 pub rest_of : (b : ℕ) (bs : List ℕ) (n : ℕ) → 128 ≤ b → IsVarint (b ∷ bs) n → (high : ℕ) × (0 < high) × (n + 128 ≡ b + 128 * high) × IsVarint bs high
 rest_of b [] n h v = absurd (omega arith)
 rest_of b (c ∷ bs) n h v = (v.2, v.3, v.4, v.5)
@@ -70,7 +70,7 @@ one_form_lem (c ∷ c' ∷ a) (d ∷ d' ∷ b) x y m n v w e =
     let h : c ≡ d = cc in
     (cc (t.0), omega (arith, t.1))
 
--- two fronts of one list that are spellings spell one number
+-- two fronts of one list that are encodings encode one number
 pub same_number : (bs : List ℕ) (i j m n : ℕ) → IsVarint (take i bs) m → IsVarint (take j bs) n → m ≡ n
 same_number bs i j m n v w = (one_form_lem (take i bs) (take j bs) (drop i bs) (drop j bs) m n v w (take-append-drop i bs ∙ sym (take-append-drop j bs))).1
 
@@ -81,26 +81,26 @@ less_room n i h l = div_below n 128 (2 ^ (64 - 7 * (i + 1))) (omega arith)
     let p = pow-add 2 (64 - 7 * (i + 1)) 7 in
     omega (arith, ap (λ k. 2 ^ k) e, p))
 
-pub none_spelled : (bs : List ℕ) (max len : ℕ) → IsVarint (take len bs) 0 → (n i : ℕ) → 0 < n → IsVarint (take i bs) n → ⊥
-none_spelled bs max len z n i h v = absurd (let e : 0 ≡ n = same_number bs len i 0 n z v in omega arith)
+pub no_other_front : (bs : List ℕ) (max len : ℕ) → IsVarint (take len bs) 0 → (n i : ℕ) → 0 < n → IsVarint (take i bs) n → ⊥
+no_other_front bs max len z n i h v = absurd (let e : 0 ≡ n = same_number bs len i 0 n z v in omega arith)
 
 -- nor is there one where the rest is 0
 pub none_by_zero : (b : ℕ) (bs : List ℕ) (len : ℕ) → 128 ≤ b → IsVarint (take len bs) 0 → (n i : ℕ) → IsVarint (take i (b ∷ bs)) n → ⊥
 none_by_zero b bs len h z n zero v = v
 none_by_zero b bs len h z n (suc i) v =
     let r = rest_of b (take i bs) n h v in
-    none_spelled bs 0 len z r.0 i r.1 r.3
+    no_other_front bs 0 len z r.0 i r.1 r.3
 
-pub one_spelling_lem : (a b : List ℕ) (n : ℕ) → IsVarint a n → IsVarint b n → a ≡ b
-one_spelling_lem [] b n v w = absurd v
-one_spelling_lem (c ∷ a) [] n v w = absurd w
-one_spelling_lem (c ∷ []) (d ∷ []) n v w = let e : c ≡ d = omega arith in ap (λ z. z ∷ []) e
-one_spelling_lem (c ∷ []) (d ∷ d' ∷ b) n v w = absurd (omega arith)
-one_spelling_lem (c ∷ c' ∷ a) (d ∷ []) n v w = absurd (omega arith)
-one_spelling_lem (c ∷ c' ∷ a) (d ∷ d' ∷ b) n v w =
+pub one_encoding : (a b : List ℕ) (n : ℕ) → IsVarint a n → IsVarint b n → a ≡ b
+one_encoding [] b n v w = absurd v
+one_encoding (c ∷ a) [] n v w = absurd w
+one_encoding (c ∷ []) (d ∷ []) n v w = let e : c ≡ d = omega arith in ap (λ z. z ∷ []) e
+one_encoding (c ∷ []) (d ∷ d' ∷ b) n v w = absurd (omega arith)
+one_encoding (c ∷ c' ∷ a) (d ∷ []) n v w = absurd (omega arith)
+one_encoding (c ∷ c' ∷ a) (d ∷ d' ∷ b) n v w =
     let h : v.2 ≡ w.2 = omega arith in
     let e : c ≡ d = omega arith in
-    let t = one_spelling_lem (c' ∷ a) (d' ∷ b) v.2 v.5 (subst (IsVarint (d' ∷ b)) (sym h) w.5) in
+    let t = one_encoding (c' ∷ a) (d' ∷ b) v.2 v.5 (subst (IsVarint (d' ∷ b)) (sym h) w.5) in
     cc (t, e)
 
 at_small : (max b : ℕ) (bs : List ℕ) → b < 128 → b ≤ max → varint_up_to max (b ∷ bs) ≡ Some (b, 1)
@@ -160,7 +160,7 @@ read_takes (b ∷ bs) max n len bytes e = elim (cases_lt b 128) [
   ]
 ]
 
--- a spelling is read, whatever follows
+-- an encoding is decoded, whatever follows
 pub reads_again : (bs rest : List ℕ) (max n : ℕ) → IsVarint bs n → n ≤ max → varint_up_to max (bs ++ rest) ≡ Some (n, length bs)
 reads_again [] rest max n v h = absurd v
 reads_again (b ∷ []) rest max n v h = at_small max b rest v.0 (omega arith) ∙ ap (λ m. Some (m, 1)) (sym v.1)
@@ -171,26 +171,26 @@ reads_again (b ∷ c ∷ bs) rest max n v h =
     ∙ some_digit (b - 128) v.2 (length (c ∷ bs)) v.3
     ∙ ap (λ (t : ℕ × ℕ). Some t) (let e : (b - 128) + 128 * v.2 ≡ n = omega arith in let f : length (c ∷ bs) + 1 ≡ length (b ∷ c ∷ bs) = omega arith in ap (λ m. (m, length (c ∷ bs) + 1)) e ∙ ap (λ l. (n, l)) f)
 
--- the spelling of a number meets the grammar
+-- the encoding of a number meets the grammar
 pub IsVarint-varint : (n : ℕ) → n < 2 ^ 64 → IsVarint (varint n) n
 unfolding varint
 IsVarint-varint n h = IsVarint-varint_within 9 n (omega arith)
 
--- what was spelled is read again, whatever follows, at each width that holds it
+-- an encoded number is decoded, whatever follows, at each width that holds it
 pub varint_at-varint : (bits n : ℕ) (rest : List ℕ) → n < 2 ^ bits → n < 2 ^ 64 → varint_at bits (varint n ++ rest) ≡ Some (n, length (varint n))
 unfolding varint_at
 varint_at-varint bits n rest h k = reads_again (varint n) rest (2 ^ bits - 1) n (IsVarint-varint n k) (omega arith)
 
--- what is read was spelled so
+-- what is decoded was encoded so
 pub varint_at_takes : (bytes : List ℕ) (bits n len : ℕ) → IsBytes bytes → bits ≤ 64 → varint_at bits bytes ≡ Some (n, len) → (take len bytes ≡ varint n) × (n < 2 ^ bits) × (len ≤ length bytes)
 unfolding varint_at
 varint_at_takes bytes bits n len b h e =
     let r = read_takes bytes (2 ^ bits - 1) n len b e in
     let below : n < 2 ^ bits = omega (arith, pow_pos bits) in
     let most : 2 ^ bits ≤ 2 ^ 64 = pow-le-pow_right (lit< tt) h in
-    (one_spelling_lem (take len bytes) (varint n) n r.0 (IsVarint-varint n (omega arith)), below, r.2)
+    (one_encoding (take len bytes) (varint n) n r.0 (IsVarint-varint n (omega arith)), below, r.2)
 
--- one byte spells a number below 128
+-- one byte encodes a number below 128
 pub varint_small : (n : ℕ) → n < 128 → varint n ≡ n ∷ []
 unfolding varint
 varint_small n h = varint_within_small 9 n h

@@ -1,7 +1,9 @@
 //! Varints: numbers in base 128, least significant digit first.
-ghost use Rattle.std.specs.Prelude.{◌≡◌, ℕ, ◌+◌, ◌-◌, ◌*◌, ◌/◌, ◌^◌, ◌<◌, ◌≤◌, ◌++◌, length, take, drop, OnOk, OnErr, IsOkUnless, IfSome, IfNone};
+ghost use Rattle.std.specs.Prelude.{◌≡◌, ℕ, ◌+◌, ◌-◌, ◌*◌, ◌/◌, ◌^◌, ◌<◌, ◌≤◌, ◌++◌, length, take};
+ghost use Rattle.std.specs.Prelude.{drop, OnOk, OnErr, IsOkUnless, IfSome, IfNone};
 ghost use Rattle.std.specs.Vec.{vec_len, vec_capacity};
-ghost use Rattle.sst_base.specs.Varint.{IsVarint, IsWidth, varint, with_digits, varint_up_to, varint_at};
+ghost use Rattle.sst_base.specs.Varint.{IsVarint, IsWidth, varint, with_digits, varint_up_to};
+ghost use Rattle.sst_base.specs.Varint.{varint_at};
 
 use crate::error::{Error, Result};
 
@@ -87,7 +89,8 @@ fn decode_behind(bytes: &[u8], first: u64, max: u64) -> Option<(u64, usize)>
     None
 }
 
-// Reads the number of at most `max` that a front of the bytes encodes, and the length of that front.
+// Reads the number of at most `max` that a front of the bytes encodes, and the length of that
+// front.
 #[tactic(auto, unfolding(crate::specs::Varint::varint_up_to))]
 fn decode_up_to(bytes: &[u8], max: u64) -> Option<(u64, usize)>
     ensures { result ≡ varint_up_to max bytes.now }
@@ -103,7 +106,8 @@ fn decode_up_to(bytes: &[u8], max: u64) -> Option<(u64, usize)>
     decode_behind(bytes, digit - 128, max)
 }
 
-// Reads the number within the width that a front of the bytes encodes, and the length of that front.
+// Reads the number within the width that a front of the bytes encodes, and the length of that
+// front.
 #[tactic(auto, unfolding(crate::specs::Varint::varint_at))]
 fn decode_within(bytes: &[u8], bits: u32) -> Option<(u64, usize)>
     requires { IsWidth bits }
@@ -143,10 +147,11 @@ fn decode_some(bytes: &[u8], bits: u32) -> Option<(u64, usize)>
     }
 }
 
-/// Decodes the varint at the front of `bytes`: returns its number and how many bytes it takes. Bytes may follow it.
+/// Decodes the varint at the front of `bytes`: returns its number and how many bytes it takes.
+/// Bytes may follow it.
 ///
-/// `bits` is the width: 16, 32 or 64. Returns `None` exactly if no front of the bytes is the minimal encoding of a
-/// number below 2^`bits`.
+/// `bits` is the width: 16, 32 or 64. Returns `None` exactly if no front of the bytes is the
+/// minimal encoding of a number below 2^`bits`.
 #[inline(always)]
 #[tactic(auto, using(crate::specs::VarintLaws::varint_at_small))]
 pub fn decode_varint(bytes: &[u8], bits: u32) -> Option<(u64, usize)>

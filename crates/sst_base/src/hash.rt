@@ -12,7 +12,8 @@ pub trait BlockHash {
         ensures { result ≡ hash64 bytes.now };
 }
 
-/// The polynomial hash: from 0, times 31 plus each byte in turn, modulo 2^64. Not collision-resistant.
+/// The polynomial hash: from 0, times 31 plus each byte in turn, modulo 2^64. Not
+/// collision-resistant.
 #[derive(Clone, Copy, Debug, PartialEq, Eq)]
 pub struct Poly31;
 

@@ -27,7 +27,8 @@ pub const MAX_KEY_LEN: usize = 65535;
 
 /// An internal key: a user key of at most 65535 bytes, a sequence number and a value type.
 ///
-/// Internal keys compare by user key rising, then by sequence number falling. The value type plays no part.
+/// Internal keys compare by user key rising, then by sequence number falling. The value type plays
+/// no part.
 #[derive(Drop)]
 pub struct InternalKey {
     user_key: UserKey,

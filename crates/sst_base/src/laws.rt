@@ -1,5 +1,6 @@
 //! Laws of the definitions that contracts cite. Each function states one law, and does nothing.
-ghost use Rattle.std.specs.Prelude.{◌≡◌, ◌↔◌, ◌⊎◌, ℕ, ◌<◌, ◌≤◌, ◌^◌, List, ◌++◌, length, take, nat_eq, true, Some, Ok};
+ghost use Rattle.std.specs.Prelude.{◌≡◌, ◌↔◌, ◌⊎◌, ℕ, ◌<◌, ◌≤◌, ◌^◌, List, ◌++◌, length, take};
+ghost use Rattle.std.specs.Prelude.{nat_eq, true, Some, Ok};
 ghost use Rattle.std.specs.Ordering.{nat_cmp, ordering_reverse};
 ghost use Rattle.std.specs.Cmp.Lexicographic.{pointwise, slice_cmp};
 ghost use Rattle.std.specs.declared.cmp.Ordering.TheVariants.{Less, Equal};
@@ -82,14 +83,16 @@ pub fn header_was_written()
         → header_at hash128 bytes ≡ Ok (h, rest) → IsHeader h × (bytes ≡ header hash128 h ++ rest) }
 {}
 
-/// An internal key sorts before another exactly if its user key is less, or the same and its sequence number greater.
+/// An internal key sorts before another exactly if its user key is less, or the same and its
+/// sequence number greater.
 pub fn key_sorts_before()
     ensures { (a b : Key) → (key_cmp a b ≡ Less)
         ↔ ((slice_cmp nat_cmp a.user_key b.user_key ≡ Less)
         ⊎ ((a.user_key ≡ b.user_key) × (b.seqno < a.seqno))) }
 {}
 
-/// Two internal keys are equal exactly if their user keys and sequence numbers are, whatever their value types.
+/// Two internal keys are equal exactly if their user keys and sequence numbers are, whatever their
+/// value types.
 pub fn keys_are_equal()
     ensures { (a b : Key) → (key_cmp a b ≡ Equal) ↔ ((a.user_key ≡ b.user_key) × (a.seqno ≡ b.seqno)) }
 {}

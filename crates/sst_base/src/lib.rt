@@ -1,4 +1,5 @@
-//! Byte strings, keys, values, hashes, varints, block headers and errors: the base of the block layer.
+//! Byte strings, keys, values, hashes, varints, block headers and errors: the base of the block
+//! layer.
 #![tactic(auto)]
 
 pub mod checksum;

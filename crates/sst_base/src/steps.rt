@@ -5,7 +5,8 @@ ghost use Rattle.sst_base.specs.Counted.{Counted};
 use crate::count::Count;
 use std::marker::Model;
 
-/// The numbers of heads and of entries that were looked at in blocks. Ghost state, zero-sized: only clauses read it.
+/// The numbers of heads and of entries that were looked at in blocks. Ghost state, zero-sized: only
+/// clauses read it.
 #[derive(Drop)]
 pub struct Steps {
     heads: Count,

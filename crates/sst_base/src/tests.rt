@@ -1,5 +1,5 @@
-// What no clause says: values from outside, that a call succeeds where memory is ample, and that a refused growth
-// gives E15 and no other answer.
+// What no clause says: values from outside, that a call succeeds where memory is ample, and that a
+// refused growth gives E15 and no other answer.
 use crate::hash::{BlockHash, Poly31};
 use crate::{
     Block, BlockType, Checksum, Error, Header, History, InternalKey, InternalValue, Result, Slice,

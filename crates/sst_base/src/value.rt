@@ -13,7 +13,8 @@ use std::marker::Model;
 /// A user value.
 pub type UserValue = Slice;
 
-/// An entry: an internal key, whose user key has 1 to 65535 bytes, and a value of at most 2^32 - 1 bytes.
+/// An entry: an internal key, whose user key has 1 to 65535 bytes, and a value of at most 2^32 - 1
+/// bytes.
 #[derive(Drop)]
 pub struct InternalValue {
     key: InternalKey,
@@ -42,7 +43,8 @@ impl InternalValue {
         InternalValue { key, value }
     }
 
-    /// Makes an entry of its parts. The user key has 1 to 65535 bytes, and the value at most 2^32 - 1.
+    /// Makes an entry of its parts. The user key has 1 to 65535 bytes, and the value at most 2^32 -
+    /// 1.
     pub fn from_components(
         user_key: UserKey,
         value: UserValue,

@@ -1,4 +1,5 @@
-//! Worked values of the definitions that contracts cite. Each function states some, and does nothing.
+//! Worked values of the definitions that contracts cite. Each function states some, and does
+//! nothing.
 ghost use Rattle.std.specs.Prelude.{◌≡◌, ◌-◌, ◌^◌, [], ◌∷◌, sum};
 ghost use Rattle.sst_base.specs.Varint.{varint};
 ghost use Rattle.sst_base.specs.Hashes.{poly31};

@@ -1,7 +1,8 @@
 //! Data blocks: encoding, forward walks, and point reads.
 //!
-//! Each call takes entries as bytes (see `entries`), a restart interval and a hash ratio `num / den`. It refuses an
-//! empty list, entries out of order, an interval of 0, a denominator of 0, and for now every ratio but 0.
+//! Each call takes entries as bytes (see `entries`), a restart interval and a hash ratio `num /
+//! den`. It refuses an empty list, entries out of order, an interval of 0, a denominator of 0, and
+//! for now every ratio but 0.
 ghost use Rattle.std.specs.Prelude.{◌≡◌, ℕ, ◌<◌, ◌≤◌, List, length, map, OnSome, IfSome};
 ghost use Rattle.sst_base.specs.Entry.{Entry, plain};
 ghost use Rattle.sst_block_core.specs.Kind.{IsOrdered};
@@ -58,7 +59,8 @@ fn block_in(
     interval: u8,
     ratio: HashRatio,
 ) -> Option<DataBlock<Poly31>>
-    ensures { IfSome result (λ block. (items : List Entry) × AreEntries bytes.now count items × (block.items ≡ map plain items)) }
+    ensures { IfSome result (λ block. (items : List Entry) × AreEntries bytes.now count items
+        × (block.items ≡ map plain items)) }
 {
     let items = items_in(alloc, bytes, count, interval, ratio)?;
     let payload = DataBlock::<Poly31>::encode_into_vec(
@@ -240,7 +242,8 @@ fn add_found(
     needles: &[&[u8]],
     alloc: Global,
 ) -> Option<u64>
-    ensures { IfSome result (λ sum. sum ≡ add_found block.now.items (map (λ needle. needle.now) needles.now) so_far) }
+    ensures { IfSome result (λ sum. sum
+        ≡ add_found block.now.items (map (λ needle. needle.now) needles.now) so_far) }
 {
     let mut sum = so_far;
     for needle in needles {
@@ -258,7 +261,8 @@ fn add_found_often(
     times: u64,
     alloc: Global,
 ) -> Option<u64>
-    ensures { IfSome result (λ sum. sum ≡ repeated (add_found block.now.items (map (λ needle. needle.now) needles.now)) times 0) }
+    ensures { IfSome result (λ sum. sum
+        ≡ repeated (add_found block.now.items (map (λ needle. needle.now) needles.now)) times 0) }
 {
     let mut sum = 0;
     for _ in 0..times {

@@ -92,7 +92,8 @@ fn entry_in(alloc: Global, bytes: &[u8]) -> Option<(InternalValue, &[u8])>
     Some((entry, rest))
 }
 
-/// Reads `count` entries. `None` if the bytes are not that many entries and nothing else, or an allocation fails.
+/// Reads `count` entries. `None` if the bytes are not that many entries and nothing else, or an
+/// allocation fails.
 #[tactic(auto, using(crate::proofs::Parts::entries_more))]
 pub fn entries_in(alloc: Global, bytes: &[u8], count: usize) -> Option<Vec<InternalValue>>
     ensures { IfSome result (λ items. AreEntries bytes.now count items.items) }

@@ -7,8 +7,8 @@ use crate::REFUSED;
 use sst_base::{BlockHash, Poly31, compare_bytes, decode_varint, longest_shared_prefix_length};
 use std::alloc::Global;
 
-/// Splits concatenated keys of one length. `None` if there is no key, the length is 0, the bytes are not a multiple of
-/// it, or an allocation fails.
+/// Splits concatenated keys of one length. `None` if there is no key, the length is 0, the bytes
+/// are not a multiple of it, or an allocation fails.
 pub fn keys_in(alloc: Global, bytes: &[u8], key_len: usize) -> Option<Vec<&[u8]>>
     ensures { IfSome result (λ keys. AreKeys bytes.now key_len (map (λ key. key.now) keys.items)) }
 {
@@ -50,7 +50,8 @@ fn add_rising(so_far: u64, keys: &[&[u8]]) -> u64
 /// Counts the keys that sort before the next one.
 #[unsafe(no_mangle)]
 pub extern "C" fn sst_compare(bytes: &[u8], key_len: usize, times: u64, alloc: Global) -> u64
-    ensures { OrRefused result ((keys : List (List ℕ)) × AreKeys bytes.now key_len keys × (result ≡ repeated (add_rising keys) times 0)) }
+    ensures { OrRefused result ((keys : List (List ℕ)) × AreKeys bytes.now key_len keys
+        × (result ≡ repeated (add_rising keys) times 0)) }
 {
     let Some(keys) = keys_in(alloc, bytes, key_len) else {
         return REFUSED;
@@ -81,7 +82,8 @@ fn add_shared(so_far: u64, keys: &[&[u8]]) -> u64
 /// Adds the longest shared prefix length of each key and the next one.
 #[unsafe(no_mangle)]
 pub extern "C" fn sst_shared(bytes: &[u8], key_len: usize, times: u64, alloc: Global) -> u64
-    ensures { OrRefused result ((keys : List (List ℕ)) × AreKeys bytes.now key_len keys × (result ≡ repeated (add_shared keys) times 0)) }
+    ensures { OrRefused result ((keys : List (List ℕ)) × AreKeys bytes.now key_len keys
+        × (result ≡ repeated (add_shared keys) times 0)) }
 {
     let Some(keys) = keys_in(alloc, bytes, key_len) else {
         return REFUSED;
@@ -106,7 +108,8 @@ fn add_hashes(so_far: u64, keys: &[&[u8]]) -> u64
 /// Takes 3 times the sum plus the `Poly31` hash of each key in turn, from 0.
 #[unsafe(no_mangle)]
 pub extern "C" fn sst_hash(bytes: &[u8], key_len: usize, times: u64, alloc: Global) -> u64
-    ensures { OrRefused result ((keys : List (List ℕ)) × AreKeys bytes.now key_len keys × (result ≡ repeated (add_hashes keys) times 0)) }
+    ensures { OrRefused result ((keys : List (List ℕ)) × AreKeys bytes.now key_len keys
+        × (result ≡ repeated (add_hashes keys) times 0)) }
 {
     let Some(keys) = keys_in(alloc, bytes, key_len) else {
         return REFUSED;

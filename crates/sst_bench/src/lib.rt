@@ -1,9 +1,9 @@
 //! The block layer behind calls from C, each a whole operation repeated, for measuring its speed.
 //!
-//! Byte strings cross as an address and a length, borrowed for the call. A call makes its input first, then does its
-//! operation `times` times. A call that reads returns a sum over all turns modulo 2^64; a call that writes returns the
-//! length of what the last turn wrote. `REFUSED` is returned where the input is not one that the call takes or an
-//! allocation fails.
+//! Byte strings cross as an address and a length, borrowed for the call. A call makes its input
+//! first, then does its operation `times` times. A call that reads returns a sum over all turns
+//! modulo 2^64; a call that writes returns the length of what the last turn wrote. `REFUSED` is
+//! returned where the input is not one that the call takes or an allocation fails.
 #![tactic(auto)]
 
 pub mod data_block;

@@ -14,7 +14,8 @@ fn range_sum(range: &SliceIndexes, of_start: u64, of_end: u64) -> u64 {
         .wrapping_add((range.1 as u64).wrapping_mul(of_end))
 }
 
-/// Sequence number, byte of the value type, and start and end of each range of a parsed item, each times a factor.
+/// Sequence number, byte of the value type, and start and end of each range of a parsed item, each
+/// times a factor.
 #[inline(always)]
 pub fn item_sum(item: &DataBlockParsedItem) -> u64 {
     let mut sum = item

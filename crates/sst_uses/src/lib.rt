@@ -1,15 +1,17 @@
-//! Ten lines that use the library, proved: a block is encoded, its entries are counted and made, one is read by key.
+//! Ten lines that use the library, proved: a block is encoded, its entries are counted and made,
+//! one is read by key.
 #![tactic(auto)]
 
-ghost use Rattle.std.specs.Prelude.{◌≡◌, ◌≤◌, ◌++◌, ◌<◌, ◌^◌, length, map, nat_lt, count_by, IfOk, IfErr, None, IsOkUnless};
+ghost use Rattle.std.specs.Prelude.{◌≡◌, ◌≤◌, ◌++◌, ◌<◌, ◌^◌, length, map, nat_lt, count_by, IfOk};
+ghost use Rattle.std.specs.Prelude.{IfErr, None, IsOkUnless};
 ghost use Rattle.sst_base.specs.Entry.{plain};
 ghost use Rattle.sst_block_core.specs.Entries.{entries};
 ghost use Rattle.sst_block_core.specs.Kind.{IsOrdered};
 ghost use Rattle.sst_block_core.specs.Window.{first_match};
 
 use sstable_blocks::{
-    Block, BlockType, Checksum, DataBlock, Error, HashRatio, Header, InternalValue, Poly31,
-    Result, SeqNo, Slice, Steps,
+    Block, BlockType, Checksum, DataBlock, Error, HashRatio, Header, InternalValue, Poly31, Result,
+    SeqNo, Slice, Steps,
 };
 use std::alloc::Global;
 
@@ -26,7 +28,8 @@ const NO_BUCKETS: HashRatio = HashRatio { num: 0, den: 1 };
 ///
 /// # Errors
 ///
-/// `Error::TooLong` if the block would have 2^32 bytes or more; `Error::Memory` if an allocation fails.
+/// `Error::TooLong` if the block would have 2^32 bytes or more; `Error::Memory` if an allocation
+/// fails.
 pub fn open_block(alloc: Global, items: &[InternalValue]) -> Result<DataBlock<Poly31>>
     requires some { 1 ≤ length items.now }
     requires ordered { IsOrdered entries items.now }
@@ -46,7 +49,10 @@ pub fn open_block(alloc: Global, items: &[InternalValue]) -> Result<DataBlock<Po
 pub fn count_below(block: &DataBlock<Poly31>, seqno: SeqNo) -> usize
     ensures { result ≡ count_by (λ entry. nat_lt entry.key.seqno seqno) block.now.items }
 {
-    block.entries().filter(|entry| entry.seqno() < seqno).count()
+    block
+        .entries()
+        .filter(|entry| entry.seqno() < seqno)
+        .count()
 }
 
 /// Appends the entries of a block to a vector.

@@ -22,7 +22,7 @@ fn a_block_is_written_and_read(rt: HostRuntime) -> Result<(), Fail> {
     let items = vec![in alloc;
         entry(alloc, b"apple", b"red", 7)?,
         entry(alloc, b"apple", b"green", 3)?,
-        entry(alloc, b"pear", b"yellow", 5)?
+        entry(alloc, b"pear", b"yellow", 5)?,
     ]?;
     assert!(rt; DataBlock::<Poly31>::is_ordered(items.as_slice()));
     let block = open_block(alloc, items.as_slice())?;

@@ -1,7 +1,8 @@
-//! The block layer of a log-structured storage engine: sorted entries in blocks with restart intervals, prefix
-//! truncation and a binary index.
+//! The block layer of a log-structured storage engine: sorted entries in blocks with restart
+//! intervals, prefix truncation and a binary index.
 //!
-//! This crate names what users need of the crates below it, in the modules of the Rust crate that it ports.
+//! This crate names what users need of the crates below it, in the modules of the Rust crate that
+//! it ports.
 #![tactic(auto)]
 
 pub mod table;
@@ -9,6 +10,6 @@ pub mod table;
 pub use sst_base::{
     Block, BlockHash, BlockType, Checksum, Error, HashRatio, Header, HeaderName, InternalKey,
     InternalValue, Poly31, Result, SeqNo, Slice, Steps, TagName, UserKey, UserValue, ValueType,
+    checksum, coding, hash, key, slice, value, value_type,
 };
-pub use sst_base::{checksum, coding, hash, key, slice, value, value_type};
 pub use sst_block_core::DataBlock;

@@ -1,5 +1,5 @@
-// Long keys, long values and long lists. What is printed is compared by its length and its hash, which come from
-// outside.
+// Long keys, long values and long lists. What is printed is compared by its length and its hash,
+// which come from outside.
 use super::runs::{check_fault, long_text, make_run};
 use sstable_blocks::{BlockHash, Poly31};
 use std::alloc::{AllocError, Global};

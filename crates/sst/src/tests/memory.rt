@@ -1,5 +1,6 @@
-// A refused allocation: the run ends whole, or with `E15` or `E1` and nothing or a beginning of what it should print.
-// These are the tests to run with each allocation failing in turn; the others may fail there.
+// A refused allocation: the run ends whole, or with `E15` or `E1` and nothing or a beginning of
+// what it should print. These are the tests to run with each allocation failing in turn; the others
+// may fail there.
 use super::runs::make_run;
 use std::alloc::Global;
 use std::process::Abort;

@@ -1,10 +1,13 @@
 //! Immutable byte strings.
-ghost use Rattle.std.specs.Prelude.{◌≡◌, ◌+◌, ◌^◌, ◌<◌, ◌≤◌, ◌==◌, ◌++◌, [], length, slice_range, string_bytes, nat_eq, refl, Some, IfOk, IsOkUnless, IsTrue, ◌↔◌, ℕ, List};
+ghost use Rattle.std.specs.Prelude.{◌≡◌, ◌+◌, ◌^◌, ◌<◌, ◌≤◌, ◌==◌, ◌++◌, [], length, slice_range};
+ghost use Rattle.std.specs.Prelude.{string_bytes, nat_eq, refl, Some, IfOk, IsOkUnless, IsTrue};
+ghost use Rattle.std.specs.Prelude.{◌↔◌, ℕ, List};
 ghost use Rattle.std.specs.Iterator.{IsFinite, Drains};
 ghost use Rattle.std.specs.Ordering.{nat_cmp};
 ghost use Rattle.std.specs.Range.Bound.{start_index, end_index};
 ghost use Rattle.std.specs.Hash as fed;
-ghost use Rattle.std.specs.Cmp.Lexicographic.{pointwise, slice_cmp, nat_list_eq_equiv, nat_list_cmp_total, texts_ties, texts_po};
+ghost use Rattle.std.specs.Cmp.Lexicographic.{pointwise, slice_cmp, nat_list_eq_equiv};
+ghost use Rattle.std.specs.Cmp.Lexicographic.{nat_list_cmp_total, texts_ties, texts_po};
 ghost use Rattle.std.specs.Cmp.{partial_equiv_from_equiv};
 ghost use Rattle.std.specs.Cmp.Rules.{hashing};
 ghost use Rattle.std.proofs.Common.{rules};
@@ -31,8 +34,8 @@ enum Held {
 
 /// An immutable byte string. Clauses see its list of bytes.
 ///
-/// A short one, of up to 39 bytes, holds them itself: it is copied, and takes no memory. The bytes of a longer one are
-/// shared: a clone or sub-slice copies none of them.
+/// A short one, of up to 39 bytes, holds them itself: it is copied, and takes no memory. The bytes
+/// of a longer one are shared: a clone or sub-slice copies none of them.
 #[derive(Drop)]
 pub struct Slice {
     held: Held,
@@ -147,7 +150,8 @@ impl Slice {
     ///
     /// `Error::Memory` if an allocation fails.
     pub fn collect_bytes<I: IntoIterator<Item = u8>>(alloc: Global, iter: I) -> Result<Slice>
-        requires { (it : I.IntoIter) → I.into_iter_gives iter it → I.IntoIter.can_next it × IsFinite (I.IntoIter.remaining it) }
+        requires { (it : I.IntoIter) → I.into_iter_gives iter it → I.IntoIter.can_next it
+            × IsFinite (I.IntoIter.remaining it) }
         ensures ok { IfOk result (λ s. (it : I.IntoIter) × (xs : List ℕ) × I.into_iter_gives iter it
             × Drains I.IntoIter.next_gives it xs × (s ≡ xs)) }
         ensures memory { IsOkUnless result Error.Memory }
@@ -155,7 +159,8 @@ impl Slice {
         Slice::from_vec(Vec::from_iter(alloc, iter)?)
     }
 
-    /// Returns the bytes in a range, which lies inside the bytes. Up to 39 bytes are copied, more are shared.
+    /// Returns the bytes in a range, which lies inside the bytes. Up to 39 bytes are copied, more
+    /// are shared.
     ///
     /// # Errors
     ///

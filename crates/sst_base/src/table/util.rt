@@ -94,7 +94,8 @@ pub fn longest_shared_prefix_length(a: &[u8], b: &[u8]) -> usize
     words + shared_bytes(left, right)
 }
 
-/// Compares a prefix followed by a suffix with a needle, bytewise, without joining the two. Takes no memory.
+/// Compares a prefix followed by a suffix with a needle, bytewise, without joining the two. Takes
+/// no memory.
 pub fn compare_prefixed_slice(prefix: &[u8], suffix: &[u8], needle: &[u8]) -> Ordering
     ensures { result ≡ slice_cmp nat_cmp (prefix.now ++ suffix.now) needle.now }
 {

@@ -2,6 +2,6 @@
 pub use sst_base::table::block::{Block, BlockType, Header};
 pub use sst_block_core::BlockItem;
 pub use sst_block_core::table::block::{
-    Decodable, Decoder, Encodable, Encoder, ParsedItem, Trailer,
+    Decodable, Decoder, Encodable, Encoder, ParsedItem, Trailer, binary_index, decoder, encoder,
+    trailer,
 };
-pub use sst_block_core::table::block::{binary_index, decoder, encoder, trailer};

@@ -1,5 +1,5 @@
-use Rattle.sst_base.specs.VarintLaws.{one_spelling_lem}
+use Rattle.sst_base.specs.VarintLaws.{one_encoding}
 use Rattle.sst_base.proofs.laws.varints_are_unique.Goals as goal
 
 pub returns : goal.returns
-returns c = one_spelling_lem
+returns c = one_encoding

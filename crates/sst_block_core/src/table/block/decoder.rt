@@ -1,5 +1,7 @@
 //! The block decoder.
-ghost use Rattle.std.specs.Prelude.{◌≡◌, ◌≢◌, ℕ, ◌+◌, ◌-◌, ◌%◌, ◌*◌, ◌^◌, ◌<◌, ◌≤◌, List, [], ◌∷◌, length, drop, slice_get, Some, None, IfSome, IfOk, IsSomeAnd, IsOkUnless};
+ghost use Rattle.std.specs.Prelude.{◌≡◌, ◌≢◌, ℕ, ◌+◌, ◌-◌, ◌%◌, ◌*◌, ◌^◌, ◌<◌, ◌≤◌, List, [], ◌∷◌};
+ghost use Rattle.std.specs.Prelude.{length, drop, slice_get, Some, None, IfSome, IfOk, IsSomeAnd};
+ghost use Rattle.std.specs.Prelude.{IsOkUnless};
 ghost use Rattle.std.specs.Ordering.{nat_cmp};
 ghost use Rattle.std.specs.Cmp.Lexicographic.{slice_cmp};
 ghost use Rattle.std.specs.Iterator.{at_most};
@@ -59,7 +61,8 @@ pub trait ParsedItem<Item: BlockItem> {
 
 /// Items that can be read from a block. These parsers take any bytes.
 pub trait Decodable<Parsed: ParsedItem<Self>>: BlockItem + Sized {
-    /// Decodes the key and the sequence number of the head at an offset. Returns `None` at the marker. Counts a head.
+    /// Decodes the key and the sequence number of the head at an offset. Returns `None` at the
+    /// marker. Counts a head.
     fn parse_restart_key<'a>(
         payload: &'a [u8],
         offset: usize,
@@ -72,20 +75,23 @@ pub trait Decodable<Parsed: ParsedItem<Self>>: BlockItem + Sized {
         ensures heads { steps.new.heads ≡ steps.old.heads + 1 }
         ensures entries { steps.new.entries ≡ steps.old.entries };
 
-    /// Decodes the item in full form at an offset; the second answer is where the form ends. Returns `None` at the
-    /// marker, and wherever no full form stands. Counts an entry where it answers an item.
+    /// Decodes the item in full form at an offset; the second answer is where the form ends.
+    /// Returns `None` at the marker, and wherever no full form stands. Counts an entry where it
+    /// answers an item.
     fn parse_full(payload: &[u8], offset: usize, steps: &mut Steps) -> Option<(Parsed, usize)>
         requires { offset ≤ length payload.now }
         ensures exact { Finds (Parsed.item_of payload.now) payload.now result (Self.kind.full_at (drop offset payload.now)) }
         ensures found { IfSome result (λ f. Parsed.is_found payload.now f.0) }
-        ensures key { IfSome result (λ f. StandsAt payload.now (Parsed.key_start f.0) (Self.kind.key (Parsed.item_of payload.now f.0))) }
+        ensures key { IfSome result
+            (λ f. StandsAt payload.now (Parsed.key_start f.0) (Self.kind.key (Parsed.item_of payload.now f.0))) }
         ensures marker { StandsAt payload.now offset (255 ∷ []) → result ≡ None }
         ensures heads { steps.new.heads ≡ steps.old.heads }
         ensures entries { steps.new.entries ≡ steps.old.entries + found_item result };
 
-    /// Decodes the item in truncated form at an offset, behind a head whose key begins at `base_key_offset`; the
-    /// second answer is where the form ends. Returns `None` at the marker. Whether the shared prefix is the longest
-    /// is not tested: where it is, the answer is the item. Counts an entry where it answers an item.
+    /// Decodes the item in truncated form at an offset, behind a head whose key begins at
+    /// `base_key_offset`; the second answer is where the form ends. Returns `None` at the marker.
+    /// Whether the shared prefix is the longest is not tested: where it is, the answer is the item.
+    /// Counts an entry where it answers an item.
     fn parse_truncated(
         payload: &[u8],
         offset: usize,
@@ -106,7 +112,8 @@ pub trait Decodable<Parsed: ParsedItem<Self>>: BlockItem + Sized {
         ensures entries { steps.new.entries ≡ steps.old.entries + found_item result };
 }
 
-/// An index into a block's items: the offset of its form, and the offset of its interval's base key.
+/// An index into a block's items: the offset of its form, and the offset of its interval's base
+/// key.
 #[derive(Clone, Copy)]
 pub(crate) struct Place {
     pub(crate) place: usize,
@@ -187,10 +194,11 @@ impl<'a, Item: Decodable<Parsed>, Parsed: ParsedItem<Item>> Model for Decoder<'a
 }
 
 impl<'a, Item: Decodable<Parsed>, Parsed: ParsedItem<Item>> Decoder<'a, Item, Parsed> {
-    /// Makes a decoder of a block, whose payload is the encoding of some list of items, ordered or not. Takes no
-    /// memory.
+    /// Makes a decoder of a block, whose payload is the encoding of some list of items, ordered or
+    /// not. Takes no memory.
     pub fn new(block: &'a Block) -> Decoder<'a, Item, Parsed>
-        requires { (hash : List ℕ → ℕ) × (items : List Item) × (r : ℕ) × (b : ℕ) × IsEncoding Item.kind Item.valid hash block.now.payload items r b }
+        requires { (hash : List ℕ → ℕ) × (items : List Item) × (r : ℕ) × (b : ℕ)
+            × IsEncoding Item.kind Item.valid hash block.now.payload items r b }
         ensures payload { result.payload ≡ block.now.payload }
         ensures window { result.window ≡ whole (items_in Item.kind block.now.payload) }
         ensures heads { result.steps.heads ≡ 0 }

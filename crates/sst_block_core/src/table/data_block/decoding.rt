@@ -69,11 +69,12 @@ fn truncated_form_from(payload: &[u8], offset: usize) -> Option<(TruncatedForm, 
     ))
 }
 
-// The range of a prefix of this length at the offset of a head's key, if it lies in the payload and the whole key
-// has 1 to 65535 bytes.
+// The range of a prefix of this length at the offset of a head's key, if it lies in the payload and
+// the whole key has 1 to 65535 bytes.
 #[inline(always)]
 fn prefix_from(payload: &[u8], base: usize, shared: u64, rest: usize) -> Option<SliceIndexes>
-    ensures found { IfSome result (λ p. (p ≡ record { 0 = base; 1 = base + shared }) × IsRange payload.now p × IsKeyLength (shared + rest)) }
+    ensures found { IfSome result (λ p. (p ≡ record { 0 = base; 1 = base + shared }) × IsRange payload.now p
+        × IsKeyLength (shared + rest)) }
     ensures none { IfNone result (base + shared ≤ length payload.now → IsKeyLength (shared + rest) → ⊥) }
 {
     if base > payload.len() || shared > (payload.len() - base) as u64 {

@@ -27,7 +27,8 @@ impl BlockItem for InternalValue {
 // Appends the value part of an entry: nothing for a tombstone.
 #[inline(always)]
 fn push_value(writer: &mut Vec<u8>, item: &InternalValue) -> Result<(), AllocError>
-    ensures { OnOk result (writer.new.items ≡ writer.old.items ++ value_part item.now.key.value_type item.now.value) }
+    ensures { OnOk result (writer.new.items ≡ writer.old.items
+        ++ value_part item.now.key.value_type item.now.value) }
 {
     match item.key().value_type() {
         ValueType::Tombstone | ValueType::WeakTombstone => Ok(()),
@@ -44,7 +45,8 @@ fn push_value(writer: &mut Vec<u8>, item: &InternalValue) -> Result<(), AllocErr
 /// | Form | Parts in order |
 /// |---|---|
 /// | full | type (1), sequence number (varint 64), key length (varint 16), key, value part |
-/// | truncated | type (1), sequence number (varint 64), shared length (varint 16), rest length (varint 16), rest of the key, value part |
+/// | truncated | type (1), sequence number (varint 64), shared length (varint 16), rest length
+/// (varint 16), rest of the key, value part |
 ///
 /// The value part is the value's length (varint 32) and the value; a tombstone has none.
 impl Encodable for InternalValue {

@@ -74,7 +74,8 @@ impl<'a> EntryRef<'a> {
     }
 }
 
-/// An iterator over the entries of a data block. Clauses see the list of the entries left. No step takes memory.
+/// An iterator over the entries of a data block. Clauses see the list of the entries left. No step
+/// takes memory.
 #[derive(Drop)]
 pub struct Entries<'a> {
     iter: Iter<'a>,

@@ -1,5 +1,6 @@
 //! Data blocks: blocks of entries.
-ghost use Rattle.std.specs.Prelude.{◌≡◌, ◌↔◌, ℕ, ◌+◌, ◌^◌, ◌<◌, ◌≤◌, List, length, map, [], IsTrue, IsSome, OnOk, OnErr, IfOk, IfErr, IsOkUnless, None};
+ghost use Rattle.std.specs.Prelude.{◌≡◌, ◌↔◌, ℕ, ◌+◌, ◌^◌, ◌<◌, ◌≤◌, List, length, map, [], IsTrue};
+ghost use Rattle.std.specs.Prelude.{IsSome, OnOk, OnErr, IfOk, IfErr, IsOkUnless, None};
 ghost use Rattle.sst_base.specs.Bytes.{IsBytes};
 ghost use Rattle.sst_base.specs.Entry.{Entry, IsEntry, plain};
 ghost use Rattle.sst_block_core.specs.Kind.{IsOrdered};
@@ -32,8 +33,9 @@ use std::marker::{Model, PhantomData};
 
 /// A block of entries, whose hash index, if it has one, is made by `H`.
 ///
-/// Clauses see its header and payload, its entries (those of tombstones without values), its restart interval and
-/// its number of stored buckets. The payload is always the encoding of these entries: see [`DataBlock::as_slice`].
+/// Clauses see its header and payload, its entries (those of tombstones without values), its
+/// restart interval and its number of stored buckets. The payload is always the encoding of these
+/// entries: see [`DataBlock::as_slice`].
 #[derive(Drop)]
 pub struct DataBlock<H: BlockHash> {
     hash: PhantomData<H>,
@@ -51,11 +53,13 @@ impl<H: BlockHash> Model for DataBlock<H> {
 
     ghost view = { λ d. data_block_of d.inner };
 
-    ghost invariant = { λ d. (items : List Entry) × (r : ℕ) × (b : ℕ) × IsBlock entries IsEntry H.hash64 d.inner.payload items r b };
+    ghost invariant = { λ d. (items : List Entry) × (r : ℕ) × (b : ℕ)
+        × IsBlock entries IsEntry H.hash64 d.inner.payload items r b };
 }
 
 impl<H: BlockHash> DataBlock<H> {
-    /// Returns whether no entry sorts before its predecessor: by user key rising, then by sequence number falling.
+    /// Returns whether no entry sorts before its predecessor: by user key rising, then by sequence
+    /// number falling.
     pub fn is_ordered(items: &[InternalValue]) -> bool
         ensures { IsTrue result ↔ IsOrdered entries items.now }
     {
@@ -67,13 +71,14 @@ impl<H: BlockHash> DataBlock<H> {
         true
     }
 
-    /// Encodes a non-empty ordered list of entries into an empty vector, in restart intervals of at least one entry,
-    /// with the number of buckets that the ratio gives. The denominator is at least 1; for now the numerator is 0.
+    /// Encodes a non-empty ordered list of entries into an empty vector, in restart intervals of at
+    /// least one entry, with the number of buckets that the ratio gives. The denominator is at
+    /// least 1; for now the numerator is 0.
     ///
     /// # Errors
     ///
-    /// `Error::TooLong` only where the block has 2^32 bytes or more; `Error::Memory` if an allocation fails. The
-    /// vector is then empty.
+    /// `Error::TooLong` only where the block has 2^32 bytes or more; `Error::Memory` if an
+    /// allocation fails. The vector is then empty.
     pub fn encode_into(
         writer: &mut Vec<u8>,
         items: &[InternalValue],
@@ -98,11 +103,13 @@ impl<H: BlockHash> DataBlock<H> {
         encode_all::<InternalValue, H>(writer, items, restart_interval, ratio)
     }
 
-    /// Encodes a non-empty ordered list of entries, as [`DataBlock::encode_into`] does, into a vector of its own.
+    /// Encodes a non-empty ordered list of entries, as [`DataBlock::encode_into`] does, into a
+    /// vector of its own.
     ///
     /// # Errors
     ///
-    /// `Error::TooLong` only where the block has 2^32 bytes or more; `Error::Memory` if an allocation fails.
+    /// `Error::TooLong` only where the block has 2^32 bytes or more; `Error::Memory` if an
+    /// allocation fails.
     pub fn encode_into_vec(
         alloc: Global,
         items: &[InternalValue],
@@ -127,9 +134,11 @@ impl<H: BlockHash> DataBlock<H> {
         Ok(writer)
     }
 
-    /// Takes a block whose payload is the encoding of some ordered, non-empty list of entries. Takes no memory.
+    /// Takes a block whose payload is the encoding of some ordered, non-empty list of entries.
+    /// Takes no memory.
     pub fn new(block: Block) -> DataBlock<H>
-        requires { (items : List Entry) × (r : ℕ) × (b : ℕ) × IsBlock entries IsEntry H.hash64 block.payload items r b }
+        requires { (items : List Entry) × (r : ℕ) × (b : ℕ)
+            × IsBlock entries IsEntry H.hash64 block.payload items r b }
         ensures inner { block_of result ≡ block }
         ensures payload { result.payload ≡ block.payload }
         ensures read { (items : List Entry) (r b : ℕ) → IsBlock entries IsEntry H.hash64 block.payload items r b
@@ -143,7 +152,8 @@ impl<H: BlockHash> DataBlock<H> {
         }
     }
 
-    /// Returns the payload, which is the encoding of the block's entries at its interval and stored number of buckets.
+    /// Returns the payload, which is the encoding of the block's entries at its interval and stored
+    /// number of buckets.
     pub fn as_slice(&self) -> &Slice
         ensures value { result.now ≡ self.now.payload }
         ensures encoded { IsBlock entries IsEntry H.hash64 self.now.payload self.now.items self.now.interval self.now.stored }
@@ -218,8 +228,9 @@ impl<H: BlockHash> DataBlock<H> {
         Ok(all)
     }
 
-    /// Returns the first entry with this key whose sequence number is strictly below `seqno`. A tombstone has no
-    /// value. What was looked at is added to `steps`: an entry that is found counts as an entry.
+    /// Returns the first entry with this key whose sequence number is strictly below `seqno`. A
+    /// tombstone has no value. What was looked at is added to `steps`: an entry that is found
+    /// counts as an entry.
     ///
     /// # Errors
     ///
@@ -236,7 +247,8 @@ impl<H: BlockHash> DataBlock<H> {
         ensures only_found { OnErr result (IsSome (first_match entries needle.now seqno self.now.items)) }
         ensures heads_grow { steps.old.heads ≤ steps.new.heads }
         ensures entries_grow { steps.old.entries ≤ steps.new.entries }
-        ensures counted { IsSome (first_match entries needle.now seqno self.now.items) → steps.old.entries + 1 ≤ steps.new.entries }
+        ensures counted { IsSome (first_match entries needle.now seqno self.now.items)
+            → steps.old.entries + 1 ≤ steps.new.entries }
     {
         let payload = self.as_slice();
         let mut iter = self.iter();

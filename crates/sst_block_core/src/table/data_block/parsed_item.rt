@@ -8,7 +8,8 @@ use sst_base::{InternalKey, InternalValue, Result, SeqNo, Slice, ValueType};
 use std::alloc::Global;
 use std::cmp::Ordering;
 
-/// An entry by its ranges of a payload: its key is the prefix, if there is one, and the key's own bytes behind it.
+/// An entry by its ranges of a payload: its key is the prefix, if there is one, and the key's own
+/// bytes behind it.
 #[derive(Clone, Copy, Debug, PartialEq, Eq)]
 pub struct DataBlockParsedItem {
     /// The value type.

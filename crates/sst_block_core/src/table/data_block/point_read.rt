@@ -20,7 +20,8 @@ fn is_version(item: &DataBlockParsedItem, payload: &[u8], needle: &[u8], seqno: 
     item.seqno < seqno && item.compare_key(needle, payload).is_eq()
 }
 
-/// Finds the first entry left of an iterator with this key and a sequence number strictly below `seqno`.
+/// Finds the first entry left of an iterator with this key and a sequence number strictly below
+/// `seqno`.
 pub(crate) fn find_version(
     iter: &mut Iter<'_>,
     payload: &[u8],
@@ -28,7 +29,8 @@ pub(crate) fn find_version(
     seqno: SeqNo,
 ) -> Option<DataBlockParsedItem>
     requires { iter.old.payload ≡ payload.now }
-    ensures item { option_map (entry_of payload.now) result ≡ slice_get (filter (is_version entries needle.now seqno) (items_left iter.old.window)) 0 }
+    ensures item { option_map (entry_of payload.now) result
+        ≡ slice_get (filter (is_version entries needle.now seqno) (items_left iter.old.window)) 0 }
     ensures found { IfSome result (IsParsedEntry payload.now) }
     ensures heads { iter.new.steps.heads ≡ iter.old.steps.heads }
     ensures entries { iter.old.steps.entries + found_item result ≤ iter.new.steps.entries }
