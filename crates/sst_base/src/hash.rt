@@ -17,12 +17,29 @@ pub trait BlockHash {
 #[derive(Clone, Copy, Debug, PartialEq, Eq)]
 pub struct Poly31;
 
+// What each byte but the last is multiplied by, and its powers.
+const BASE: u64 = 31;
+
+const BASE_2: u64 = 961;
+
+const BASE_3: u64 = 29791;
+
+const BASE_4: u64 = 923521;
+
+const BASE_5: u64 = 28629151;
+
+const BASE_6: u64 = 887503681;
+
+const BASE_7: u64 = 27512614111;
+
+const BASE_8: u64 = 852891037441;
+
 // Continues a hash, a byte a step.
 fn poly31_from(so_far: u64, bytes: &[u8]) -> u64
     ensures { result ≡ poly31_from 64 so_far bytes.now }
 {
     bytes.iter().fold(so_far, |hash, byte| {
-        hash.wrapping_mul(31).wrapping_add(u64::from(*byte))
+        hash.wrapping_mul(BASE).wrapping_add(u64::from(*byte))
     })
 }
 
@@ -32,13 +49,13 @@ fn eight_at(bytes: &[u8], at: usize) -> u64
     requires { at + 8 ≤ length bytes.now }
     ensures { result ≡ fold times31 0 (take 8 (drop at bytes.now)) }
 {
-    u64::from(bytes[at]) * 27512614111
-        + u64::from(bytes[at + 1]) * 887503681
-        + u64::from(bytes[at + 2]) * 28629151
-        + u64::from(bytes[at + 3]) * 923521
-        + u64::from(bytes[at + 4]) * 29791
-        + u64::from(bytes[at + 5]) * 961
-        + u64::from(bytes[at + 6]) * 31
+    u64::from(bytes[at]) * BASE_7
+        + u64::from(bytes[at + 1]) * BASE_6
+        + u64::from(bytes[at + 2]) * BASE_5
+        + u64::from(bytes[at + 3]) * BASE_4
+        + u64::from(bytes[at + 4]) * BASE_3
+        + u64::from(bytes[at + 5]) * BASE_2
+        + u64::from(bytes[at + 6]) * BASE
         + u64::from(bytes[at + 7])
 }
 
@@ -50,7 +67,7 @@ fn hash_by_eight(bytes: &[u8]) -> u64
     let mut hash = 0u64;
     for i in 0..words {
         hash = hash
-            .wrapping_mul(852891037441)
+            .wrapping_mul(BASE_8)
             .wrapping_add(eight_at(bytes, 8 * i));
     }
     let (_, tail) = bytes.split_at(8 * words);

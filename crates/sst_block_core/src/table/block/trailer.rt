@@ -16,6 +16,21 @@ pub const TRAILER_START_MARKER: u8 = 255;
 /// The length of a trailer in bytes.
 pub const TRAILER_SIZE: usize = 31;
 
+// Where the fields of a trailer are: see the table at `Trailer`.
+const WIDTH_AT: usize = 1;
+
+const HEADS_AT: usize = 2;
+
+const INDEX_OFFSET_AT: usize = 6;
+
+const HASH_LEN_AT: usize = 10;
+
+const HASH_OFFSET_AT: usize = 14;
+
+const TRUNCATION_FLAG_AT: usize = 18;
+
+const ITEM_COUNT_AT: usize = 27;
+
 /// A view of the trailer of a block.
 ///
 /// | At | Bytes | Content |
@@ -111,42 +126,42 @@ impl<'a> Trailer<'a> {
     pub fn width(&self) -> u8
         ensures { result ≡ (trailer_in self.now).width }
     {
-        self.as_slice()[1]
+        self.as_slice()[WIDTH_AT]
     }
 
     /// Returns the number of heads.
     pub fn heads(&self) -> u32
         ensures { result ≡ (trailer_in self.now).heads }
     {
-        self.number_at(2)
+        self.number_at(HEADS_AT)
     }
 
     /// Returns the offset of the binary index.
     pub fn index_offset(&self) -> u32
         ensures { result ≡ (trailer_in self.now).index_offset }
     {
-        self.number_at(6)
+        self.number_at(INDEX_OFFSET_AT)
     }
 
     /// Returns the number of buckets in the hash index.
     pub fn hash_len(&self) -> u32
         ensures { result ≡ (trailer_in self.now).hash_len }
     {
-        self.number_at(10)
+        self.number_at(HASH_LEN_AT)
     }
 
     /// Returns the offset of the hash index.
     pub fn hash_offset(&self) -> u32
         ensures { result ≡ (trailer_in self.now).hash_offset }
     {
-        self.number_at(14)
+        self.number_at(HASH_OFFSET_AT)
     }
 
     /// Returns the number of items.
     pub fn item_count(&self) -> usize
         ensures { result ≡ (trailer_in self.now).item_count }
     {
-        self.number_at(27) as usize
+        self.number_at(ITEM_COUNT_AT) as usize
     }
 
     /// Appends the trailer with these numbers, 31 bytes.
@@ -187,12 +202,12 @@ fn trailer_of(numbers: TrailerNumbers) -> [u8; TRAILER_SIZE]
 {
     let mut bytes = [0u8; TRAILER_SIZE];
     bytes[0] = numbers.interval;
-    bytes[1] = numbers.width;
-    LittleEndian::write_u32(&mut bytes[2..], numbers.heads);
-    LittleEndian::write_u32(&mut bytes[6..], numbers.index_offset);
-    LittleEndian::write_u32(&mut bytes[10..], numbers.hash_len);
-    LittleEndian::write_u32(&mut bytes[14..], numbers.hash_offset);
-    bytes[18] = 1;
-    LittleEndian::write_u32(&mut bytes[27..], numbers.item_count);
+    bytes[WIDTH_AT] = numbers.width;
+    LittleEndian::write_u32(&mut bytes[HEADS_AT..], numbers.heads);
+    LittleEndian::write_u32(&mut bytes[INDEX_OFFSET_AT..], numbers.index_offset);
+    LittleEndian::write_u32(&mut bytes[HASH_LEN_AT..], numbers.hash_len);
+    LittleEndian::write_u32(&mut bytes[HASH_OFFSET_AT..], numbers.hash_offset);
+    bytes[TRUNCATION_FLAG_AT] = 1;
+    LittleEndian::write_u32(&mut bytes[ITEM_COUNT_AT..], numbers.item_count);
     bytes
 }
