@@ -6,7 +6,7 @@ use Rattle.std.proofs.lemmas.List.{length-take-le, take-append-drop}
 use Rattle.std.proofs.lemmas.Nat.{mul-mod_first, mod_below}
 use Rattle.sst_base.specs.Hashes.{times31, poly31_from, poly31}
 
-add-mod_first : (a b m : ℕ) → (a % m + b) % m ≡ (a + b) % m
+pub add-mod_first : (a b m : ℕ) → (a % m + b) % m ≡ (a + b) % m
 add-mod_first a b m = add-mod (a % m) b m ∙ ap (λ k. (k + b % m) % m) (mod-mod a m) ∙ sym (add-mod a b m)
 
 -- one step

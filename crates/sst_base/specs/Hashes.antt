@@ -12,3 +12,7 @@ poly31_from bits so_far bytes = fold times31 so_far bytes % 2 ^ bits
 -- from 0, times 31 plus each byte in turn, modulo 2 ^ bits
 abbrev pub poly31 : ℕ → List ℕ → ℕ
 poly31 bits bytes = poly31_from bits 0 bytes
+
+-- the sum of the bytes, modulo 2 ^ bits
+abbrev pub byte_sum : ℕ → List ℕ → ℕ
+byte_sum bits bytes = fold (λ so_far byte. so_far + byte) 0 bytes % 2 ^ bits

@@ -1,6 +1,6 @@
 //! Hash functions of byte strings.
 ghost use Rattle.std.specs.Prelude.{◌≡◌, ◌+◌, ◌≤◌, ℕ, List, length, take, drop, fold};
-ghost use Rattle.sst_base.specs.Hashes.{times31, poly31, poly31_from};
+ghost use Rattle.sst_base.specs.Hashes.{times31, poly31, poly31_from, byte_sum};
 
 /// The hash function of hash index and checksums.
 pub trait BlockHash {
@@ -79,5 +79,19 @@ impl BlockHash for Poly31 {
 
     fn hash64(bytes: &[u8]) -> u64 {
         hash_by_eight(bytes)
+    }
+}
+
+/// The sum of the bytes, modulo 2^64. Not collision-resistant.
+#[derive(Clone, Copy, Debug, PartialEq, Eq)]
+pub struct ByteSum;
+
+impl BlockHash for ByteSum {
+    ghost hash64 = { byte_sum 64 };
+
+    fn hash64(bytes: &[u8]) -> u64 {
+        bytes
+            .iter()
+            .fold(0, |sum, byte| sum.wrapping_add(u64::from(*byte)))
     }
 }

@@ -26,7 +26,7 @@ pub use coding::{decode_varint, encode_varint, push_varint_reserved};
 pub use config::HashRatio;
 pub use count::Count;
 pub use error::{Error, HeaderName, Result, TagName};
-pub use hash::{BlockHash, Poly31};
+pub use hash::{BlockHash, ByteSum, Poly31};
 pub use history::History;
 pub use key::{InternalKey, SeqNo, UserKey};
 pub use slice::Slice;

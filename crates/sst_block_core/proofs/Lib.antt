@@ -6,6 +6,7 @@ mod Trailers
 mod Splits
 pub mod Tables
 pub mod LastHeads
+mod PointerReads
 mod BucketLaws
 mod Canonical
 mod IndexBlocks

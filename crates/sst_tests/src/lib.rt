@@ -3,4 +3,6 @@
 
 #[cfg(test)]
 mod blocks;
+#[cfg(test)]
+mod indexes;
 pub mod plain;

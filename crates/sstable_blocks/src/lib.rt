@@ -8,8 +8,8 @@
 pub mod table;
 
 pub use sst_base::{
-    Block, BlockHash, BlockType, Checksum, Error, HashRatio, Header, HeaderName, InternalKey,
-    InternalValue, Poly31, Result, SeqNo, Slice, Steps, TagName, UserKey, UserValue, ValueType,
-    checksum, coding, hash, key, slice, value, value_type,
+    Block, BlockHash, BlockType, ByteSum, Checksum, Error, HashRatio, Header, HeaderName,
+    InternalKey, InternalValue, Poly31, Result, SeqNo, Slice, Steps, TagName, UserKey, UserValue,
+    ValueType, checksum, coding, hash, key, slice, value, value_type,
 };
 pub use sst_block_core::DataBlock;

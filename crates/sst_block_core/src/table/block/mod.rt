@@ -2,6 +2,7 @@
 pub mod binary_index;
 pub mod decoder;
 pub mod encoder;
+pub mod hash_index;
 pub(crate) mod reading;
 pub mod trailer;
 pub(crate) mod writing;
