@@ -1,13 +1,13 @@
 //! The block decoder.
 ghost use Rattle.std.specs.Prelude.{◌≡◌, ◌≢◌, ℕ, ◌+◌, ◌-◌, ◌%◌, ◌*◌, ◌^◌, ◌<◌, ◌≤◌, List, [], ◌∷◌};
-ghost use Rattle.std.specs.Prelude.{length, drop, slice_get, Some, None, IfSome, IfOk, IsSomeAnd};
+ghost use Rattle.std.specs.Prelude.{length, drop, slice_get, Some, None, IfSome, IfOk, IsSome, IsSomeAnd};
 ghost use Rattle.std.specs.Prelude.{IsOkUnless};
 ghost use Rattle.std.specs.Ordering.{nat_cmp};
 ghost use Rattle.std.specs.Cmp.Lexicographic.{slice_cmp};
 ghost use Rattle.std.specs.Iterator.{at_most};
 ghost use Rattle.sst_base.specs.Counted.{found_item};
 ghost use Rattle.sst_base.specs.SharedPrefix.{shared_prefix_length};
-ghost use Rattle.sst_block_core.specs.Found.{Finds, StandsAt};
+ghost use Rattle.sst_block_core.specs.Found.{Finds, Takes, StandsAt, IsRange, range_of};
 ghost use Rattle.sst_block_core.specs.Payload.{IsEncoding};
 ghost use Rattle.sst_block_core.specs.Stages.{items_in};
 ghost use Rattle.sst_block_core.specs.Window.{whole};
@@ -16,6 +16,7 @@ ghost use Rattle.sst_block_core.specs.Scan.{Scan, IsPlace, IsScan, GivesNext};
 use crate::block_item::BlockItem;
 use crate::table::block::trailer::Trailer;
 use sst_base::table::block::Block;
+use sst_base::table::util::SliceIndexes;
 use sst_base::{Error, Result, Slice, Steps};
 use std::alloc::Global;
 use std::cmp::Ordering;
@@ -59,7 +60,10 @@ pub trait ParsedItem<Item: BlockItem> {
         ensures memory { IsOkUnless result Error.Memory };
 }
 
-/// Items that can be read from a block. These parsers take any bytes.
+/// Items that can be read from a block.
+///
+/// The parsers whose names begin with `parse` take any bytes. The others are for the bytes of a
+/// block, where a form is known to stand: they test nothing.
 pub trait Decodable<Parsed: ParsedItem<Self>>: BlockItem + Sized {
     /// Decodes the key and the sequence number of the head at an offset. Returns `None` at the
     /// marker. Counts a head.
@@ -110,6 +114,58 @@ pub trait Decodable<Parsed: ParsedItem<Self>>: BlockItem + Sized {
         ensures marker { StandsAt payload.now offset (255 ∷ []) → result ≡ None }
         ensures heads { steps.new.heads ≡ steps.old.heads }
         ensures entries { steps.new.entries ≡ steps.old.entries + found_item result };
+
+    /// Decodes the item whose full form stands at an offset; the second answer is where the form
+    /// ends. Tests nothing.
+    fn read_full(payload: &[u8], offset: usize) -> (Parsed, usize)
+        requires { IsSome (Self.kind.full_at (drop offset payload.now)) }
+        ensures exact { Takes (Parsed.item_of payload.now) payload.now result (Self.kind.full_at (drop offset payload.now)) }
+        ensures found { Parsed.is_found payload.now result.0 }
+        ensures key { StandsAt payload.now (Parsed.key_start result.0) (Self.kind.key (Parsed.item_of payload.now result.0)) };
+
+    /// Decodes the item whose truncated form stands at an offset, behind a head whose key begins at
+    /// `base_key_offset`; the second answer is where the form ends. Tests nothing.
+    fn read_truncated(payload: &[u8], offset: usize, base_key_offset: usize) -> (Parsed, usize)
+        requires { (base : List ℕ) × StandsAt payload.now base_key_offset base
+            × IsSome (Self.kind.truncated_at base (drop offset payload.now)) }
+        ensures inside { result.1 ≤ length payload.now }
+        ensures item { (base : List ℕ) (x : Self) (rest : List ℕ) → StandsAt payload.now base_key_offset base
+            → Self.kind.truncated_at base (drop offset payload.now) ≡ Some (x, rest)
+            → (Parsed.item_of payload.now result.0 ≡ x) × (drop result.1 payload.now ≡ rest) }
+        ensures found { Parsed.is_found payload.now result.0 };
+
+    /// Returns the outline of the full form that stands at an offset. Tests nothing.
+    fn outline_full(payload: &[u8], offset: usize) -> Outline
+        requires { IsSome (Self.kind.full_at (drop offset payload.now)) }
+        ensures key { IsRange payload.now result.key }
+        ensures inside { result.end ≤ length payload.now }
+        ensures form { (x : Self) (rest : List ℕ) → Self.kind.full_at (drop offset payload.now) ≡ Some (x, rest)
+            → (range_of payload.now result.key ≡ Self.kind.key x) × (result.seqno ≡ Self.kind.seqno x)
+            × (drop result.end payload.now ≡ rest) };
+
+    /// Returns the outline of the truncated form that stands at an offset, whatever its head. Tests
+    /// nothing.
+    fn outline_truncated(payload: &[u8], offset: usize) -> Outline
+        requires { (base : List ℕ) × IsSome (Self.kind.truncated_at base (drop offset payload.now)) }
+        ensures key { IsRange payload.now result.key }
+        ensures inside { result.end ≤ length payload.now }
+        ensures form { (base : List ℕ) (x : Self) (rest : List ℕ) → Self.kind.truncated_at base (drop offset payload.now) ≡ Some (x, rest)
+            → (result.shared ≡ shared_prefix_length base (Self.kind.key x))
+            × (range_of payload.now result.key ≡ drop result.shared (Self.kind.key x))
+            × (result.seqno ≡ Self.kind.seqno x) × (drop result.end payload.now ≡ rest) };
+}
+
+/// What a search needs of a form: no item is made of it.
+#[derive(Clone, Copy, Debug, PartialEq, Eq)]
+pub struct Outline {
+    /// The sequence number.
+    pub seqno: u64,
+    /// How many bytes the key shares with the key of its interval's head: 0 in a full form.
+    pub shared: usize,
+    /// The key's own bytes.
+    pub key: SliceIndexes,
+    /// Where the form ends.
+    pub end: usize,
 }
 
 /// An index into a block's items: the offset of its form, and the offset of its interval's base

@@ -7,6 +7,6 @@ pub(crate) mod reading;
 pub mod trailer;
 pub(crate) mod writing;
 
-pub use decoder::{Decodable, Decoder, ParsedItem};
+pub use decoder::{Decodable, Decoder, Outline, ParsedItem};
 pub use encoder::{Encodable, Encoder};
 pub use trailer::Trailer;
