@@ -13,9 +13,17 @@ mod IndexBlocks
 mod Ends
 mod PlaceReads
 mod Openings
+mod HeadPlaces
+mod OwnKeys
+mod Halves
+mod HeadAnswers
+mod Cuts
+mod SharedFronts
+mod Scans
 mod EntryReads
 mod OrderedSteps
 mod WindowSteps
+mod FirstMatches
 mod PlainEntries
 pub mod Indexes
 pub mod Written

@@ -13,6 +13,7 @@ pub mod HandleLaws
 pub mod Vectors
 pub mod Found
 pub mod Scan
+pub mod Intervals
 pub mod ParsedEntry
 pub mod DataBlock
 pub mod Encoders

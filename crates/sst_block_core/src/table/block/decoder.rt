@@ -11,16 +11,17 @@ ghost use Rattle.sst_block_core.specs.Found.{Finds, Takes, StandsAt, IsRange, ra
 ghost use Rattle.sst_block_core.specs.Payload.{IsEncoding};
 ghost use Rattle.sst_block_core.specs.Stages.{items_in};
 ghost use Rattle.sst_block_core.specs.Window.{whole};
-ghost use Rattle.sst_block_core.specs.Scan.{Scan, IsPlace, IsScan, GivesNext};
+ghost use Rattle.sst_block_core.specs.Scan.{GivesNext};
+ghost use Rattle.sst_block_core.specs.Trailer.{trailer_in};
 
 use crate::block_item::BlockItem;
-use crate::table::block::trailer::Trailer;
+use crate::table::block::intervals::Intervals;
+use crate::table::block::place::Place;
 use sst_base::table::block::Block;
-use sst_base::table::util::SliceIndexes;
 use sst_base::{Error, Result, Slice, Steps};
 use std::alloc::Global;
 use std::cmp::Ordering;
-use std::marker::{Model, PhantomData};
+use std::marker::Model;
 
 /// The answer of a parser: an item by its ranges of a payload.
 pub trait ParsedItem<Item: BlockItem> {
@@ -48,6 +49,16 @@ pub trait ParsedItem<Item: BlockItem> {
     /// Returns the offset of its key, if it is a head.
     fn key_offset(&self) -> usize
         ensures { result ≡ key_start self.now };
+
+    /// Returns the length of its shared prefix: 0 in a full form.
+    fn prefix_len(&self, payload: &[u8]) -> usize
+        requires { is_found payload.now self.now }
+        ensures { result ≡ shared_len self.now };
+
+    /// Returns the key's own bytes: those behind the shared prefix.
+    fn own_key<'a>(&self, payload: &'a [u8]) -> &'a [u8]
+        requires { is_found payload.now self.now }
+        ensures { result.now ≡ drop (shared_len self.now) (Item.kind.key (item_of payload.now self.now)) };
 
     /// Makes the item. Only a truncated key is joined and copied.
     ///
@@ -121,7 +132,8 @@ pub trait Decodable<Parsed: ParsedItem<Self>>: BlockItem + Sized {
         requires { IsSome (Self.kind.full_at (drop offset payload.now)) }
         ensures exact { Takes (Parsed.item_of payload.now) payload.now result (Self.kind.full_at (drop offset payload.now)) }
         ensures found { Parsed.is_found payload.now result.0 }
-        ensures key { StandsAt payload.now (Parsed.key_start result.0) (Self.kind.key (Parsed.item_of payload.now result.0)) };
+        ensures key { StandsAt payload.now (Parsed.key_start result.0) (Self.kind.key (Parsed.item_of payload.now result.0)) }
+        ensures shared { Parsed.shared_len result.0 ≡ 0 };
 
     /// Decodes the item whose truncated form stands at an offset, behind a head whose key begins at
     /// `base_key_offset`; the second answer is where the form ends. Tests nothing.
@@ -131,122 +143,41 @@ pub trait Decodable<Parsed: ParsedItem<Self>>: BlockItem + Sized {
         ensures inside { result.1 ≤ length payload.now }
         ensures item { (base : List ℕ) (x : Self) (rest : List ℕ) → StandsAt payload.now base_key_offset base
             → Self.kind.truncated_at base (drop offset payload.now) ≡ Some (x, rest)
-            → (Parsed.item_of payload.now result.0 ≡ x) × (drop result.1 payload.now ≡ rest) }
+            → (Parsed.item_of payload.now result.0 ≡ x) × (drop result.1 payload.now ≡ rest)
+            × (Parsed.shared_len result.0 ≡ shared_prefix_length base (Self.kind.key x)) }
         ensures found { Parsed.is_found payload.now result.0 };
 
-    /// Returns the outline of the full form that stands at an offset. Tests nothing.
-    fn outline_full(payload: &[u8], offset: usize) -> Outline
+    /// Decodes the key and the sequence number of the head that stands at an offset. Tests nothing.
+    fn read_head<'a>(payload: &'a [u8], offset: usize) -> (&'a [u8], u64)
         requires { IsSome (Self.kind.full_at (drop offset payload.now)) }
-        ensures key { IsRange payload.now result.key }
-        ensures inside { result.end ≤ length payload.now }
-        ensures form { (x : Self) (rest : List ℕ) → Self.kind.full_at (drop offset payload.now) ≡ Some (x, rest)
-            → (range_of payload.now result.key ≡ Self.kind.key x) × (result.seqno ≡ Self.kind.seqno x)
-            × (drop result.end payload.now ≡ rest) };
-
-    /// Returns the outline of the truncated form that stands at an offset, whatever its head. Tests
-    /// nothing.
-    fn outline_truncated(payload: &[u8], offset: usize) -> Outline
-        requires { (base : List ℕ) × IsSome (Self.kind.truncated_at base (drop offset payload.now)) }
-        ensures key { IsRange payload.now result.key }
-        ensures inside { result.end ≤ length payload.now }
-        ensures form { (base : List ℕ) (x : Self) (rest : List ℕ) → Self.kind.truncated_at base (drop offset payload.now) ≡ Some (x, rest)
-            → (result.shared ≡ shared_prefix_length base (Self.kind.key x))
-            × (range_of payload.now result.key ≡ drop result.shared (Self.kind.key x))
-            × (result.seqno ≡ Self.kind.seqno x) × (drop result.end payload.now ≡ rest) };
-}
-
-/// What a search needs of a form: no item is made of it.
-#[derive(Clone, Copy, Debug, PartialEq, Eq)]
-pub struct Outline {
-    /// The sequence number.
-    pub seqno: u64,
-    /// How many bytes the key shares with the key of its interval's head: 0 in a full form.
-    pub shared: usize,
-    /// The key's own bytes.
-    pub key: SliceIndexes,
-    /// Where the form ends.
-    pub end: usize,
-}
-
-/// An index into a block's items: the offset of its form, and the offset of its interval's base
-/// key.
-#[derive(Clone, Copy)]
-pub(crate) struct Place {
-    pub(crate) place: usize,
-    pub(crate) offset: usize,
-    pub(crate) base: usize,
-}
-
-/// The item at an index, and the next index.
-#[inline(always)]
-pub(crate) fn parse_at<Item: Decodable<Parsed>, Parsed: ParsedItem<Item>>(
-    payload: &[u8],
-    restart_interval: u8,
-    at: &Place,
-    steps: &mut Steps,
-) -> Option<(Parsed, Place)>
-    requires some { 0 < restart_interval }
-    requires inside { at.now.offset ≤ length payload.now }
-    requires room { at.now.place + 1 < 2 ^ 64 }
-    ensures item { (items : List Item) → IsPlace Item.kind restart_interval payload.now items at.now.place at.now.offset at.now.base
-        → at.now.place < length items
-        → IsSomeAnd result (λ f. (slice_get items at.now.place ≡ Some (Parsed.item_of payload.now f.0))
-        × (f.1.place ≡ at.now.place + 1)
-        × IsPlace Item.kind restart_interval payload.now items f.1.place f.1.offset f.1.base) }
-    ensures found { IfSome result (λ f. Parsed.is_found payload.now f.0) }
-    ensures heads { steps.new.heads ≡ steps.old.heads }
-    ensures entries { steps.new.entries ≡ steps.old.entries + found_item result }
-{
-    let place = at.place + 1;
-    if at.place % usize::from(restart_interval) == 0 {
-        let (item, offset) = Item::parse_full(payload, at.offset, steps)?;
-        let base = item.key_offset();
-        Some((
-            item,
-            Place {
-                place,
-                offset,
-                base,
-            },
-        ))
-    } else {
-        let (item, offset) = Item::parse_truncated(payload, at.offset, at.base, steps)?;
-        Some((
-            item,
-            Place {
-                place,
-                offset,
-                base: at.base,
-            },
-        ))
-    }
+        ensures { (x : Self) (rest : List ℕ) → Self.kind.full_at (drop offset payload.now) ≡ Some (x, rest)
+            → (result.0.now ≡ Self.kind.key x) × (result.1 ≡ Self.kind.seqno x) };
 }
 
 /// The block decoder: an iterator over the items of a block, as ranges of its payload.
 ///
-/// Clauses see the payload, a window over the items, and the counters. No step takes memory.
+/// Clauses see the payload, the restart interval, a window over the items, and the counters. No step
+/// takes memory.
 pub struct Decoder<'a, Item: Decodable<Parsed>, Parsed: ParsedItem<Item>> {
-    kinds: PhantomData<(Item, Parsed)>,
-    payload: &'a [u8],
-    restart_interval: u8,
+    intervals: Intervals<'a, Item, Parsed>,
     front: Place,
     hi: usize,
-    steps: Steps,
 }
 
 impl<'a, Item: Decodable<Parsed>, Parsed: ParsedItem<Item>> Model for Decoder<'a, Item, Parsed> {
-    ghost use Rattle.sst_block_core.specs.Stages.{items_in};
-    ghost use Rattle.sst_block_core.specs.Scan.{Scan, IsScan};
+    ghost use Rattle.std.specs.Prelude.{◌≤◌, length};
+    ghost use Rattle.sst_block_core.specs.Scan.{Scan, Stands};
 
     ghost Value = { Scan Item };
 
     ghost view = { λ d. record {
-      payload = d.payload.now;
-      window = record { list = items_in Item.kind d.payload.now; lo = d.front.place; hi = d.hi };
-      steps = d.steps;
+      payload = d.intervals.list.payload;
+      interval = d.intervals.list.interval;
+      window = record { list = d.intervals.list.items; lo = d.front.place; hi = d.hi };
+      steps = d.intervals.steps;
     } };
 
-    ghost invariant = { λ d. IsScan Item.kind d.payload.now d.restart_interval d.front.place d.front.offset d.front.base d.hi };
+    ghost invariant = { λ d. Stands Item.kind d.intervals.list d.front × (d.hi ≤ length d.intervals.list.items) };
 }
 
 impl<'a, Item: Decodable<Parsed>, Parsed: ParsedItem<Item>> Decoder<'a, Item, Parsed> {
@@ -256,23 +187,18 @@ impl<'a, Item: Decodable<Parsed>, Parsed: ParsedItem<Item>> Decoder<'a, Item, Pa
         requires { (hash : List ℕ → ℕ) × (items : List Item) × (r : ℕ) × (b : ℕ)
             × IsEncoding Item.kind Item.valid hash block.now.payload items r b }
         ensures payload { result.payload ≡ block.now.payload }
+        ensures interval { result.interval ≡ (trailer_in block.now.payload).interval }
         ensures window { result.window ≡ whole (items_in Item.kind block.now.payload) }
         ensures heads { result.steps.heads ≡ 0 }
         ensures entries { result.steps.entries ≡ 0 }
     {
-        let payload = block.data().as_slice();
-        let trailer = Trailer::new(block);
+        let intervals = Intervals::new(block);
+        let hi = intervals.item_count();
+        let front = intervals.first();
         Decoder {
-            kinds: PhantomData,
-            payload,
-            restart_interval: trailer.interval(),
-            front: Place {
-                place: 0,
-                offset: 0,
-                base: 0,
-            },
-            hi: trailer.item_count(),
-            steps: Steps::new(),
+            intervals,
+            front,
+            hi,
         }
     }
 
@@ -280,7 +206,7 @@ impl<'a, Item: Decodable<Parsed>, Parsed: ParsedItem<Item>> Decoder<'a, Item, Pa
     pub fn steps(&self) -> &Steps
         ensures { result.now ≡ self.now.steps }
     {
-        &self.steps
+        self.intervals.steps()
     }
 }
 
@@ -298,28 +224,16 @@ impl<'a, Item: Decodable<Parsed>, Parsed: ParsedItem<Item> + Drop> Iterator
         if self.front.place >= self.hi {
             return None;
         }
-        let Some((item, next)) = parse_at::<Item, Parsed>(
-            self.payload,
-            self.restart_interval,
-            &self.front,
-            &mut self.steps,
-        ) else {
-            unreachable!()
-        };
-        self.front = next;
-        Some(item)
+        Some(self.intervals.take(&mut self.front))
     }
 }
 
 impl<'a, Item: Decodable<Parsed>, Parsed: ParsedItem<Item>> Drop for Decoder<'a, Item, Parsed> {
     fn drop(self) {
         let Self {
-            kinds: _,
-            payload: _,
-            restart_interval: _,
+            intervals: _,
             front: _,
             hi: _,
-            steps: _,
         } = self;
     }
 }

@@ -1,12 +1,17 @@
 //! Blocks: what writes and reads the items of one.
 pub mod binary_index;
+pub(crate) mod bound;
 pub mod decoder;
 pub mod encoder;
+pub(crate) mod form_reader;
 pub mod hash_index;
+pub(crate) mod intervals;
+pub(crate) mod place;
 pub(crate) mod reading;
+pub(crate) mod search;
 pub mod trailer;
 pub(crate) mod writing;
 
-pub use decoder::{Decodable, Decoder, Outline, ParsedItem};
+pub use decoder::{Decodable, Decoder, ParsedItem};
 pub use encoder::{Encodable, Encoder};
 pub use trailer::Trailer;

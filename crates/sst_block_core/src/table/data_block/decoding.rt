@@ -4,7 +4,7 @@ ghost use Rattle.sst_block_core.specs.Found.{Finds, IsRange, IsOptionalRange, op
 ghost use Rattle.sst_block_core.specs.Entries.{value_at, truncated_form_at};
 ghost use Rattle.sst_block_core.specs.ParsedEntry.{truncated_of, IsKeyLength};
 
-use crate::table::block::{Decodable, Outline};
+use crate::table::block::Decodable;
 use crate::table::block::reading::{length_prefixed_from, number_from, value_type_from};
 use crate::table::data_block::parsed_item::{DataBlockParsedItem, bytes_of};
 use sst_base::key::MAX_KEY_LEN;
@@ -163,11 +163,7 @@ impl Decodable<DataBlockParsedItem> for InternalValue {
         unreachable!()
     }
 
-    fn outline_full(payload: &[u8], offset: usize) -> Outline {
-        unreachable!()
-    }
-
-    fn outline_truncated(payload: &[u8], offset: usize) -> Outline {
+    fn read_head<'a>(payload: &'a [u8], offset: usize) -> (&'a [u8], u64) {
         unreachable!()
     }
 }

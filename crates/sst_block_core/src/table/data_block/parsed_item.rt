@@ -60,6 +60,20 @@ impl ParsedItem<InternalValue> for DataBlockParsedItem {
         self.key.0
     }
 
+    #[inline(always)]
+    fn prefix_len(&self, payload: &[u8]) -> usize {
+        match &self.prefix {
+            Some(prefix) => prefix.1 - prefix.0,
+            None => 0,
+        }
+    }
+
+    #[inline(always)]
+    #[tactic(auto, using(crate::proofs::OwnKeys::own_key))]
+    fn own_key<'a>(&self, payload: &'a [u8]) -> &'a [u8] {
+        bytes_of(payload, &self.key)
+    }
+
     fn materialize(&self, alloc: Global, payload: &Slice) -> Result<InternalValue> {
         let user_key = match &self.prefix {
             Some(prefix) => Slice::fused(

@@ -1,0 +1,90 @@
+-- A search within one interval.
+use Rattle.std.proofs.Common.{◌≡◌, ℕ, ◌+◌, ◌-◌, ◌*◌, ◌%◌, ◌<◌, ◌≤◌, min, List, length, drop, Some, Option, true, false, Bool, refl, sym, ap, ◌∙◌, arith}
+use Rattle.std.specs.Prelude.{nat_lt, ◌==◌, if◌then◌else◌}
+use Rattle.std.specs.List.{slice_get}
+use Rattle.std.proofs.lemmas.Nat.{mod-mul-add}
+use Rattle.std.specs.Ordering.{nat_cmp}
+use Rattle.std.specs.Cmp.Lexicographic.{slice_cmp}
+use Rattle.sst_base.specs.SharedPrefix.{shared_prefix_length}
+use Rattle.sst_base.specs.SharedPrefixLaws.{shared_prefix_inside}
+use Rattle.sst_block_core.specs.Kind.{Kind, IsOrdered}
+use Rattle.sst_block_core.specs.Scan.{Listed, StandsBehind}
+use Rattle.sst_block_core.specs.Window.{passes_cmp, passes, count_passed}
+use Rattle.sst_block_core.specs.Intervals.{IsEntered}
+use Rattle.sst_block_core.specs.declared.table.block.place.Place.{Place}
+use Rattle.sst_block_core.proofs.Cuts.{cut_ordered, passed_below, not_passed_above}
+use Rattle.sst_block_core.proofs.SharedFronts.{passes_by_lengths}
+
+-- an index behind a head and before the next is no head's
+between_heads : (j r i : ℕ) → j * r < i → i < (j + 1) * r → 0 < i % r
+between_heads j r i low high =
+    let e : i ≡ j * r + (i - j * r) = omega arith in
+    let row : (j + 1) * r ≡ j * r + r = omega arith in
+    let m : i % r ≡ i - j * r = ap (λ k. k % r) e ∙ mod-mul-add j r (i - j * r) (omega (arith, row)) in
+    omega (arith, m)
+
+module _ {X : Type 0} (kind : Kind X) (needle : List ℕ) (from : Option ℕ) (list : Listed X) (ordered : IsOrdered kind list.items) (j : ℕ) (inside : j * list.interval < length list.items) (x : X) (there : slice_get list.items (j * list.interval) ≡ Some x) where
+  -- a head in front of the count passes
+  pub head_passes : j * list.interval < count_passed kind needle from list.items → passes needle from (kind.key x) (kind.seqno x) ≡ true
+  head_passes below = (cut_ordered kind needle from list.items ordered).first (j * list.interval) x below there
+
+  -- behind a head that passes a search has reached the next place
+  pub enters : (at : Place) (alike end : ℕ) → 0 < list.interval → passes needle from (kind.key x) (kind.seqno x) ≡ true → at.place ≡ j * list.interval + 1 → StandsBehind kind list at (kind.key x)
+      → alike ≡ shared_prefix_length (kind.key x) needle → end ≡ min (length list.items) ((j + 1) * list.interval) → IsEntered kind needle from list at alike end
+  enters at alike end pos passed place_is stands alike_is end_is =
+      let below = passed_below kind needle from list.items ordered (j * list.interval) x there passed in
+      let row : (j + 1) * list.interval ≡ j * list.interval + list.interval = omega arith in
+      record {
+        index = j * list.interval;
+        before = omega (arith, place_is);
+        head = x;
+        there = there;
+        passed = passed;
+        shared_is = alike_is;
+        stands = stands;
+        reached = omega (arith, below, place_is);
+        upto = omega (arith, place_is, end_is, row, pos, inside);
+        inside = omega (arith, end_is);
+        no_head = λ i low high. between_heads j list.interval i (omega (arith, low, place_is)) (omega (arith, high, end_is));
+      }
+
+module _ {X : Type 0} (kind : Kind X) (needle : List ℕ) (from : Option ℕ) (list : Listed X) (at : Place) (alike end : ℕ) (e : IsEntered kind needle from list at alike end) where
+  -- what head and needle share lies in the needle
+  pub alike_inside : alike ≤ length needle
+  alike_inside = let s = (shared_prefix_inside (kind.key e.head) needle).1 in let a = e.shared_is in omega (arith, s, a)
+
+  module _ (ordered : IsOrdered kind list.items) (x : X) (there : slice_get list.items at.place ≡ Some x) (shared seqno : ℕ) (rest : List ℕ)
+      (shared_is : shared ≡ shared_prefix_length (kind.key e.head) (kind.key x)) (rest_is : rest ≡ drop shared (kind.key x)) (seqno_is : seqno ≡ kind.seqno x) where
+    -- the test by lengths tells whether the item passes
+    pub test_is : (if shared == alike then passes_cmp (slice_cmp nat_cmp rest (drop alike needle)) from seqno else nat_lt alike shared) ≡ passes needle from (kind.key x) (kind.seqno x)
+    test_is =
+        let b = e.before in
+        passes_by_lengths kind list.items ordered e.index at.place e.head x (omega (arith, b)) e.there there needle from (kind.key e.head) rest shared alike seqno
+        refl e.passed e.shared_is shared_is rest_is seqno_is
+
+    module _ (test : Bool) (is : test ≡ (if shared == alike then passes_cmp (slice_cmp nat_cmp rest (drop alike needle)) from seqno else nat_lt alike shared)) where
+      -- where it doesn't, the search ends
+      pub stops_here : at.place < end → test ≡ false → at.place ≡ min end (count_passed kind needle from list.items)
+      stops_here more stopped =
+          let above = not_passed_above kind needle from list.items ordered at.place x there (sym test_is ∙ sym is ∙ stopped) in
+          let r = e.reached in
+          omega (arith, above, r, more)
+
+      -- where it does, the search has reached the next place
+      pub goes_on : (next : Place) → at.place < end → test ≡ true → next.place ≡ at.place + 1 → StandsBehind kind list next (kind.key e.head) → IsEntered kind needle from list next alike end
+      goes_on next more passed place_is stands =
+          let below = passed_below kind needle from list.items ordered at.place x there (sym test_is ∙ sym is ∙ passed) in
+          let b = e.before in
+          record {
+            index = e.index;
+            before = omega (arith, b, place_is);
+            head = e.head;
+            there = e.there;
+            passed = e.passed;
+            shared_is = e.shared_is;
+            stands = stands;
+            reached = omega (arith, below, place_is);
+            upto = omega (arith, more, place_is);
+            inside = e.inside;
+            no_head = λ i low high. e.no_head i (omega (arith, low, place_is)) high;
+          }

@@ -1,0 +1,53 @@
+use Rattle.std.proofs.Common.{◌≡◌, ◌∙◌, ◌+◌, ap, sym, refl, drop, arith}
+use Rattle.sst_block_core.proofs.Scans.{alike_inside, stops_here, goes_on}
+use Rattle.sst_block_core.proofs.table.block.intervals.Intervals.scan.Goals as goal
+
+pub loop-at-init : goal.loop-at-init
+loop-at-init g c = record {
+  same = refl;
+  entered = c.requires.entered;
+  onwards = omega arith;
+  heads = refl;
+  entries = refl;
+}
+
+pub passes_behind-requires : goal.passes_behind-requires
+passes_behind-requires g c =
+    alike_inside g.Item.BlockItem.kind c.args.bound.now.needle.now c.args.bound.now.from c.args.self.now.list c.args.from c.args.alike c.args.end c.requires.entered
+
+pub returns-then-not-passes_behind-clause-place : goal.returns-then-not-passes_behind-clause-place
+returns-then-not-passes_behind-clause-place g c =
+    let i = c.loop-at.invariant in
+    let e = i.entered in
+    let kind = g.Item.BlockItem.kind in
+    let took = c.take_rest-item.ensures in
+    let there = rw i.same at took.item in
+    let behind = (rw i.same at took.stands) (kind.key e.head) e.stands in
+    let shared = c.prefix_len-shared.ensures ∙ behind.1 in
+    let rest = c.own_key.ensures ∙ (λ k. drop (sym c.prefix_len-shared.ensures k) (kind.key (g.Parsed.ParsedItem.item_of ((ap (λ l. l.payload) (took.list ∙ i.same)) k) c.take_rest-item.result))) in
+    stops_here kind c.args.bound.now.needle.now c.args.bound.now.from c.args.self.now.list c.loop-at.at c.args.alike c.args.end e c.requires.ordered _ there
+    c.prefix_len-shared.result c.seqno.result c.own_key.result.now shared rest (c.seqno.ensures c.args.self.now.list.payload)
+    c.passes_behind.result c.passes_behind.ensures c.loop-at-test.true c.if-not-passes_behind.true
+
+pub loop-at-preserved : goal.loop-at-preserved
+loop-at-preserved g c =
+    let i = c.loop-at.invariant in
+    let e = i.entered in
+    let kind = g.Item.BlockItem.kind in
+    let took = c.take_rest-item.ensures in
+    let there = rw i.same at took.item in
+    let behind = (rw i.same at took.stands) (kind.key e.head) e.stands in
+    let shared = c.prefix_len-shared.ensures ∙ behind.1 in
+    let rest = c.own_key.ensures ∙ (λ k. drop (sym c.prefix_len-shared.ensures k) (kind.key (g.Parsed.ParsedItem.item_of ((ap (λ l. l.payload) (took.list ∙ i.same)) k) c.take_rest-item.result))) in
+    let k = took.entries in
+    let n = i.entries in
+    let p = took.place in
+    record {
+      same = took.list ∙ i.same;
+      entered = goes_on kind c.args.bound.now.needle.now c.args.bound.now.from c.args.self.now.list c.loop-at.at c.args.alike c.args.end e c.requires.ordered _ there
+          c.prefix_len-shared.result c.seqno.result c.own_key.result.now shared rest (c.seqno.ensures c.args.self.now.list.payload)
+          c.passes_behind.result c.passes_behind.ensures c.take_rest-item.new.at c.loop-at-test.true c.if-not-passes_behind.false took.place behind.0;
+      onwards = let o = i.onwards in omega (arith, o, p);
+      heads = took.heads ∙ i.heads;
+      entries = omega (arith, k, n, p);
+    }

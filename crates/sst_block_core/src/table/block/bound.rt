@@ -1,0 +1,66 @@
+//! The bound of a search.
+ghost use Rattle.std.specs.Prelude.{◌≡◌, ◌≤◌, ◌==◌, if◌then◌else◌, nat_lt, length, drop};
+ghost use Rattle.std.specs.Ordering.{nat_cmp};
+ghost use Rattle.std.specs.Cmp.Lexicographic.{slice_cmp};
+ghost use Rattle.sst_block_core.specs.Window.{passes_cmp, passes};
+
+use sst_base::SeqNo;
+use sst_base::table::util::compare_bytes;
+use std::cmp::Ordering;
+
+/// Passes the keys below a needle, and those equal to it whose sequence number is at least `from`,
+/// if there is such a number.
+#[derive(Clone, Copy)]
+pub(crate) struct Bound<'n> {
+    pub(crate) needle: &'n [u8],
+    pub(crate) from: Option<SeqNo>,
+}
+
+impl<'n> Bound<'n> {
+    // Whether it passes a key that compares so with the needle.
+    #[inline(always)]
+    fn passes_order(&self, order: Ordering, seqno: SeqNo) -> bool
+        ensures { result ≡ passes_cmp order self.now.from seqno }
+    {
+        match order {
+            Ordering::Less => true,
+            Ordering::Equal => match self.from {
+                Some(from) => from <= seqno,
+                None => false,
+            },
+            Ordering::Greater => false,
+        }
+    }
+
+    /// Returns whether it passes a key with a sequence number.
+    #[inline(always)]
+    pub(crate) fn passes(&self, key: &[u8], seqno: SeqNo) -> bool
+        ensures { result ≡ passes self.now.needle.now self.now.from key.now seqno }
+    {
+        self.passes_order(compare_bytes(key, self.needle), seqno)
+    }
+
+    /// Returns whether it passes a key of which this many bytes are those of its interval's head, and
+    /// the rest its own. The bound passes the head, which shares `alike` bytes with the needle.
+    ///
+    /// A key that shares more with the head than the needle does sorts before the needle, one that
+    /// shares less behind it.
+    #[inline(always)]
+    pub(crate) fn passes_behind(
+        &self,
+        shared: usize,
+        rest: &[u8],
+        seqno: SeqNo,
+        alike: usize,
+    ) -> bool
+        requires { alike ≤ length self.now.needle.now }
+        ensures { result ≡ (if shared == alike then passes_cmp (slice_cmp nat_cmp rest.now (drop alike self.now.needle.now)) self.now.from seqno else nat_lt alike shared) }
+    {
+        if shared == alike {
+            let (_, wanted) = self.needle.split_at(alike);
+            self.passes_order(compare_bytes(rest, wanted), seqno)
+        } else {
+            alike < shared
+        }
+    }
+}

@@ -1,0 +1,264 @@
+//! The restart intervals of a block.
+ghost use Rattle.std.specs.Prelude.{◌≡◌, ℕ, ◌+◌, ◌-◌, ◌*◌, ◌^◌, ◌<◌, ◌≤◌, List, length, drop, slice_get, Some, min};
+ghost use Rattle.std.specs.Prelude.{true, false};
+ghost use Rattle.std.specs.Ordering.{nat_cmp};
+ghost use Rattle.std.specs.Cmp.Lexicographic.{slice_cmp};
+ghost use Rattle.sst_base.specs.SharedPrefix.{shared_prefix_length};
+ghost use Rattle.sst_block_core.specs.Body.{place_offset};
+ghost use Rattle.sst_block_core.specs.Found.{StandsAt};
+ghost use Rattle.sst_block_core.specs.Payload.{IsEncoding};
+ghost use Rattle.sst_block_core.specs.Pointers.{head_count};
+ghost use Rattle.sst_block_core.specs.Scan.{StandsBehind, Stands};
+ghost use Rattle.sst_block_core.specs.Stages.{items_in};
+ghost use Rattle.sst_block_core.specs.Trailer.{trailer_in};
+ghost use Rattle.sst_block_core.specs.Intervals.{IsListed, Answered, Splits, digits};
+
+use crate::table::block::binary_index::Reader;
+use crate::table::block::decoder::{Decodable, ParsedItem};
+use crate::table::block::form_reader::FormReader;
+use crate::table::block::place::Place;
+use crate::table::block::trailer::Trailer;
+use sst_base::Steps;
+use sst_base::table::block::Block;
+use std::cmp::Ordering;
+use std::marker::Model;
+
+/// The restart intervals of a block: its items by index, heads by the binary index.
+///
+/// Clauses see the block's list, and the counters.
+pub(crate) struct Intervals<'a, Item: Decodable<Parsed>, Parsed: ParsedItem<Item>> {
+    forms: FormReader<'a, Item, Parsed>,
+    pointers: Reader<'a>,
+    restart_interval: u8,
+    item_count: usize,
+}
+
+impl<'a, Item: Decodable<Parsed>, Parsed: ParsedItem<Item>> Model for Intervals<'a, Item, Parsed> {
+    ghost use Rattle.sst_block_core.specs.Stages.{items_in};
+    ghost use Rattle.sst_block_core.specs.Intervals.{IntervalsParts, IsIndexed};
+
+    ghost Value = { IntervalsParts Item };
+
+    ghost view = { λ i. record {
+      list = record { payload = i.forms.payload; interval = i.restart_interval; items = items_in Item.kind i.forms.payload };
+      steps = i.forms.steps;
+    } };
+
+    ghost invariant = { λ i. IsIndexed Item.kind
+        (record { payload = i.forms.payload; interval = i.restart_interval; items = items_in Item.kind i.forms.payload })
+        i.pointers i.item_count };
+}
+
+impl<'a, Item: Decodable<Parsed>, Parsed: ParsedItem<Item>> Intervals<'a, Item, Parsed> {
+    /// Opens a block, whose payload is the encoding of some list of items, ordered or not. Nothing
+    /// is counted.
+    pub(crate) fn new(block: &'a Block) -> Intervals<'a, Item, Parsed>
+        requires { (hash : List ℕ → ℕ) × (items : List Item) × (r : ℕ) × (b : ℕ)
+            × IsEncoding Item.kind Item.valid hash block.now.payload items r b }
+        ensures payload { result.list.payload ≡ block.now.payload }
+        ensures items { result.list.items ≡ items_in Item.kind block.now.payload }
+        ensures interval { result.list.interval ≡ (trailer_in block.now.payload).interval }
+        ensures heads { result.steps.heads ≡ 0 }
+        ensures entries { result.steps.entries ≡ 0 }
+    {
+        let payload = block.data().as_slice();
+        let trailer = Trailer::new(block);
+        Intervals {
+            forms: FormReader::new(payload),
+            pointers: Reader::new(
+                payload,
+                trailer.index_offset(),
+                trailer.heads(),
+                trailer.width(),
+            ),
+            restart_interval: trailer.interval(),
+            item_count: trailer.item_count(),
+        }
+    }
+
+    /// Returns what was counted so far.
+    pub(crate) fn steps(&self) -> &Steps
+        ensures { result.now ≡ self.now.steps }
+    {
+        self.forms.steps()
+    }
+
+    /// Returns the number of items.
+    #[inline(always)]
+    pub(crate) fn item_count(&self) -> usize
+        ensures value { result ≡ length self.now.list.items }
+        ensures listed { IsListed self.now.list }
+    {
+        self.item_count
+    }
+
+    /// Returns the number of intervals, which is that of heads.
+    #[inline(always)]
+    pub(crate) fn count(&self) -> usize
+        ensures value { result ≡ head_count self.now.list.interval (length self.now.list.items) }
+        ensures below { (result - 1) * self.now.list.interval < length self.now.list.items }
+        ensures all { length self.now.list.items ≤ result * self.now.list.interval }
+        ensures listed { IsListed self.now.list }
+    {
+        self.pointers.len()
+    }
+
+    /// Returns the place of the first item, which is the first head.
+    #[inline(always)]
+    pub(crate) fn first(&self) -> Place
+        ensures place { result.place ≡ 0 }
+        ensures stands { Stands Item.kind self.now.list result }
+    {
+        // The proof needs that the first pointer is 0.
+        let _pointers = self.pointers.len();
+        Place {
+            place: 0,
+            phase: 0,
+            offset: 0,
+            base: 0,
+        }
+    }
+
+    /// Returns the place of the head of interval j, which exists.
+    #[inline(always)]
+    pub(crate) fn start(&self, j: usize) -> Place
+        requires { j * self.now.list.interval < length self.now.list.items }
+        ensures place { result.place ≡ j * self.now.list.interval }
+        ensures phase { result.phase ≡ 0 }
+        ensures stands { Stands Item.kind self.now.list result }
+        ensures offset { result.offset ≡ place_offset Item.kind self.now.list.interval self.now.list.items (j * self.now.list.interval) }
+    {
+        Place {
+            place: j * usize::from(self.restart_interval),
+            phase: 0,
+            offset: self.pointers.get(j),
+            base: 0,
+        }
+    }
+
+    /// Returns the index behind the last item of interval j, which exists.
+    #[inline(always)]
+    pub(crate) fn end(&self, j: usize) -> usize
+        requires { j * self.now.list.interval < length self.now.list.items }
+        ensures value { result ≡ min (length self.now.list.items) ((j + 1) * self.now.list.interval) }
+        ensures listed { IsListed self.now.list }
+    {
+        let count = self.item_count();
+        count.min((j + 1) * usize::from(self.restart_interval))
+    }
+
+    /// Decodes the key and the sequence number of the head of interval j, which exists. Counts a
+    /// head.
+    #[inline(always)]
+    pub(crate) fn read_head(&mut self, j: usize) -> (&'a [u8], u64)
+        requires { j * self.old.list.interval < length self.old.list.items }
+        ensures list { self.new.list ≡ self.old.list }
+        ensures head { (x : Item) → slice_get self.old.list.items (j * self.old.list.interval) ≡ Some x
+            → (result.0.now ≡ Item.kind.key x) × (result.1 ≡ Item.kind.seqno x) }
+        ensures heads { self.new.steps.heads ≡ self.old.steps.heads + 1 }
+        ensures entries { self.new.steps.entries ≡ self.old.steps.entries }
+    {
+        let at = self.start(j);
+        self.forms.read_head(at.offset)
+    }
+
+    /// Decodes the item of a head, and moves behind it. Counts an entry.
+    #[inline(always)]
+    pub(crate) fn take_head(&mut self, at: &mut Place) -> Parsed
+        requires inside { at.old.place < length self.old.list.items }
+        requires head { at.old.phase ≡ 0 }
+        requires stands { Stands Item.kind self.old.list at.old }
+        ensures list { self.new.list ≡ self.old.list }
+        ensures item { slice_get self.old.list.items at.old.place ≡ Some (Parsed.item_of self.old.list.payload result) }
+        ensures found { Parsed.is_found self.old.list.payload result }
+        ensures shared { Parsed.shared_len result ≡ 0 }
+        ensures place { at.new.place ≡ at.old.place + 1 }
+        ensures stands { StandsBehind Item.kind self.old.list at.new (Item.kind.key (Parsed.item_of self.old.list.payload result)) }
+        ensures heads { self.new.steps.heads ≡ self.old.steps.heads }
+        ensures entries { self.new.steps.entries ≡ self.old.steps.entries + 1 }
+    {
+        let (item, end) = self.forms.read_full(at.offset);
+        at.base = item.key_offset();
+        at.move_on(end, self.restart_interval);
+        item
+    }
+
+    /// Decodes the item at a place that isn't a head's, and moves behind it. Counts an entry.
+    #[inline(always)]
+    pub(crate) fn take_rest(&mut self, at: &mut Place) -> Parsed
+        requires inside { at.old.place < length self.old.list.items }
+        requires rest { 0 < at.old.phase }
+        requires stands { Stands Item.kind self.old.list at.old }
+        ensures list { self.new.list ≡ self.old.list }
+        ensures item { slice_get self.old.list.items at.old.place ≡ Some (Parsed.item_of self.old.list.payload result) }
+        ensures found { Parsed.is_found self.old.list.payload result }
+        ensures place { at.new.place ≡ at.old.place + 1 }
+        ensures stands { (head : List ℕ) → StandsBehind Item.kind self.old.list at.old head
+            → StandsBehind Item.kind self.old.list at.new head
+            × (Parsed.shared_len result ≡ shared_prefix_length head (Item.kind.key (Parsed.item_of self.old.list.payload result))) }
+        ensures heads { self.new.steps.heads ≡ self.old.steps.heads }
+        ensures entries { self.new.steps.entries ≡ self.old.steps.entries + 1 }
+    {
+        let (item, end) = self.forms.read_truncated(at.offset, at.base);
+        at.move_on(end, self.restart_interval);
+        item
+    }
+
+    /// Returns the length of an item's shared prefix.
+    #[inline(always)]
+    pub(crate) fn prefix_len(&self, item: &Parsed) -> usize
+        requires { Parsed.is_found self.now.list.payload item.now }
+        ensures { result ≡ Parsed.shared_len item.now }
+    {
+        self.forms.prefix_len(item)
+    }
+
+    /// Returns an item's own bytes of the key.
+    #[inline(always)]
+    pub(crate) fn own_key(&self, item: &Parsed) -> &'a [u8]
+        requires { Parsed.is_found self.now.list.payload item.now }
+        ensures { result.now ≡ drop (Parsed.shared_len item.now) (Item.kind.key (Parsed.item_of self.now.list.payload item.now)) }
+    {
+        self.forms.own_key(item)
+    }
+
+    /// Compares an item's key with a needle, without joining prefix and rest.
+    #[inline(always)]
+    pub(crate) fn compare_key(&self, item: &Parsed, needle: &[u8]) -> Ordering
+        requires { Parsed.is_found self.now.list.payload item.now }
+        ensures { result ≡ slice_cmp nat_cmp (Item.kind.key (Parsed.item_of self.now.list.payload item.now)) needle.now }
+    {
+        self.forms.compare_key(item, needle)
+    }
+
+    /// Decodes the item at a place, and moves behind it. Counts an entry.
+    #[inline(always)]
+    pub(crate) fn take(&mut self, at: &mut Place) -> Parsed
+        requires inside { at.old.place < length self.old.list.items }
+        requires stands { Stands Item.kind self.old.list at.old }
+        ensures list { self.new.list ≡ self.old.list }
+        ensures item { slice_get self.old.list.items at.old.place ≡ Some (Parsed.item_of self.old.list.payload result) }
+        ensures found { Parsed.is_found self.old.list.payload result }
+        ensures place { at.new.place ≡ at.old.place + 1 }
+        ensures stands { Stands Item.kind self.old.list at.new }
+        ensures heads { self.new.steps.heads ≡ self.old.steps.heads }
+        ensures entries { self.new.steps.entries ≡ self.old.steps.entries + 1 }
+    {
+        if at.phase == 0 {
+            self.take_head(at)
+        } else {
+            self.take_rest(at)
+        }
+    }
+}
+
+impl<'a, Item: Decodable<Parsed>, Parsed: ParsedItem<Item>> Drop for Intervals<'a, Item, Parsed> {
+    fn drop(self) {
+        let Self {
+            forms: _,
+            pointers: _,
+            restart_interval: _,
+            item_count: _,
+        } = self;
+    }
+}

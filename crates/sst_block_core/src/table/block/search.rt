@@ -1,0 +1,244 @@
+//! The search for an item over the heads of a block and within one interval.
+ghost use Rattle.std.specs.Prelude.{◌≡◌, ℕ, ◌+◌, ◌-◌, ◌*◌, ◌<◌, ◌≤◌, List, length, slice_get, Some, min};
+ghost use Rattle.std.specs.Prelude.{true, false, MatchOption, None, filter, IfSome, if◌then◌else◌};
+ghost use Rattle.std.specs.Ordering.{nat_cmp, is_eq};
+ghost use Rattle.std.specs.Cmp.Lexicographic.{slice_cmp};
+ghost use Rattle.sst_base.specs.SharedPrefix.{shared_prefix_length};
+ghost use Rattle.std.specs.Option.{option_map};
+ghost use Rattle.sst_base.specs.Counted.{found_item};
+ghost use Rattle.sst_block_core.specs.Kind.{IsOrdered};
+ghost use Rattle.sst_block_core.specs.Pointers.{head_count};
+ghost use Rattle.sst_block_core.specs.Scan.{Stands, StandsBehind};
+ghost use Rattle.sst_block_core.specs.Window.{count_passed, is_version};
+ghost use Rattle.sst_block_core.specs.Intervals.{Answered, Splits, digits, IsEntered};
+
+use crate::table::block::bound::Bound;
+use crate::table::block::decoder::{Decodable, ParsedItem};
+use crate::table::block::intervals::Intervals;
+use crate::table::block::place::Place;
+use sst_base::SeqNo;
+use sst_base::table::util::longest_shared_prefix_length;
+
+impl<'a, Item: Decodable<Parsed>, Parsed: ParsedItem<Item>> Intervals<'a, Item, Parsed> {
+    /// Returns how many heads a predicate over keys and sequence numbers holds of, if it is true and
+    /// then false over the heads. By halves.
+    #[inline(always)]
+    pub(crate) fn partition_point<F: Fn(&[u8], u64) -> bool>(&mut self, pred: &F) -> usize
+        requires callable { F.IsAlwaysCallable pred.now }
+        ensures list { self.new.list ≡ self.old.list }
+        ensures within { result ≤ head_count self.old.list.interval (length self.old.list.items) }
+        ensures before { 0 < result → Answered Item.kind (F.post pred.now) self.old.list.interval self.old.list.items (result - 1) true }
+        ensures after { result < head_count self.old.list.interval (length self.old.list.items) → Answered Item.kind (F.post pred.now) self.old.list.interval self.old.list.items result false }
+        ensures point { (p : ℕ) → Splits Item.kind (F.post pred.now) self.old.list.interval self.old.list.items (head_count self.old.list.interval (length self.old.list.items)) p → result ≡ p }
+        ensures heads { self.new.steps.heads ≤ self.old.steps.heads + digits (head_count self.old.list.interval (length self.old.list.items)) }
+        ensures heads_grow { self.old.steps.heads ≤ self.new.steps.heads }
+        ensures entries { self.new.steps.entries ≡ self.old.steps.entries }
+    {
+        let mut left = 0;
+        let mut right = self.count();
+        while left < right {
+            let mid = left + (right - left) / 2;
+            let (key, seqno) = self.read_head(mid);
+            if pred(key, seqno) {
+                left = mid + 1;
+            } else {
+                right = mid;
+            }
+        }
+        left
+    }
+
+    /// Returns how many heads a bound passes: the first item that it doesn't pass is in the interval
+    /// before, or the next head.
+    pub(crate) fn heads_passed(&mut self, bound: &Bound<'_>) -> usize
+        requires { IsOrdered Item.kind self.old.list.items }
+        ensures list { self.new.list ≡ self.old.list }
+        ensures low { 0 < result → (result - 1) * self.old.list.interval < count_passed Item.kind bound.now.needle.now bound.now.from self.old.list.items }
+        ensures high { count_passed Item.kind bound.now.needle.now bound.now.from self.old.list.items ≤ result * self.old.list.interval }
+        ensures start { (result - 1) * self.old.list.interval < length self.old.list.items }
+        ensures heads { self.new.steps.heads ≤ self.old.steps.heads + digits (head_count self.old.list.interval (length self.old.list.items)) }
+        ensures heads_grow { self.old.steps.heads ≤ self.new.steps.heads }
+        ensures entries { self.new.steps.entries ≡ self.old.steps.entries }
+    {
+        let _ = self.count();
+        self.partition_point(&|key: &[u8], seqno: u64| bound.passes(key, seqno))
+    }
+}
+
+impl<'a, Item: Decodable<Parsed>, Parsed: ParsedItem<Item> + Drop> Intervals<'a, Item, Parsed> {
+    // The first place from one on, and before an end, whose item a bound doesn't pass, with that item;
+    // or the end. No head is among them, and their head, which the bound passes, shares `alike` bytes
+    // with the needle.
+    #[inline(always)]
+    fn scan(
+        &mut self,
+        from: Place,
+        end: usize,
+        alike: usize,
+        bound: &Bound<'_>,
+    ) -> (Place, Option<Parsed>)
+        requires ordered { IsOrdered Item.kind self.old.list.items }
+        requires entered { IsEntered Item.kind bound.now.needle.now bound.now.from self.old.list from alike end }
+        ensures list { self.new.list ≡ self.old.list }
+        ensures place { result.0.place ≡ min end (count_passed Item.kind bound.now.needle.now bound.now.from self.old.list.items) }
+        ensures stands { Stands Item.kind self.old.list result.0 }
+        ensures item { MatchOption result.1 (end ≤ result.0.place)
+            (λ p. (slice_get self.old.list.items result.0.place ≡ Some (Parsed.item_of self.old.list.payload p)) × Parsed.is_found self.old.list.payload p × (result.0.place < end)) }
+        ensures heads { self.new.steps.heads ≡ self.old.steps.heads }
+        ensures entries { self.new.steps.entries + from.place ≡ self.old.steps.entries + result.0.place + found_item result.1 }
+        ensures onwards { from.place ≤ result.0.place }
+    {
+        let mut at = from;
+        while at.place < end {
+            let here = at;
+            let item = self.take_rest(&mut at);
+            let shared = self.prefix_len(&item);
+            if !bound.passes_behind(shared, self.own_key(&item), item.seqno(), alike) {
+                return (here, Some(item));
+            }
+        }
+        (at, None)
+    }
+
+    // Reads the head of interval j, which exists, and moves behind it. The number is how many bytes
+    // its key shares with the needle.
+    #[inline(always)]
+    fn enter(&mut self, j: usize, needle: &[u8]) -> (Place, Parsed, usize)
+        requires { j * self.old.list.interval < length self.old.list.items }
+        ensures list { self.new.list ≡ self.old.list }
+        ensures item { slice_get self.old.list.items (j * self.old.list.interval) ≡ Some (Parsed.item_of self.old.list.payload result.1) }
+        ensures found { Parsed.is_found self.old.list.payload result.1 }
+        ensures shared { Parsed.shared_len result.1 ≡ 0 }
+        ensures place { result.0.place ≡ j * self.old.list.interval + 1 }
+        ensures stands { StandsBehind Item.kind self.old.list result.0 (Item.kind.key (Parsed.item_of self.old.list.payload result.1)) }
+        ensures alike { result.2 ≡ shared_prefix_length (Item.kind.key (Parsed.item_of self.old.list.payload result.1)) needle.now }
+        ensures heads { self.new.steps.heads ≡ self.old.steps.heads }
+        ensures entries { self.new.steps.entries ≡ self.old.steps.entries + 1 }
+    {
+        let mut at = self.start(j);
+        let head = self.take_head(&mut at);
+        let alike = longest_shared_prefix_length(self.own_key(&head), needle);
+        (at, head, alike)
+    }
+
+    // The first place of interval j whose item a bound doesn't pass, with that item; or the end of
+    // the interval. The bound passes its head.
+    #[inline(always)]
+    fn seek_in(&mut self, j: usize, bound: &Bound<'_>) -> (Place, Option<Parsed>)
+        requires ordered { IsOrdered Item.kind self.old.list.items }
+        requires inside { j * self.old.list.interval < length self.old.list.items }
+        requires passed { j * self.old.list.interval < count_passed Item.kind bound.now.needle.now bound.now.from self.old.list.items }
+        ensures list { self.new.list ≡ self.old.list }
+        ensures place { result.0.place ≡ min (min (length self.old.list.items) ((j + 1) * self.old.list.interval)) (count_passed Item.kind bound.now.needle.now bound.now.from self.old.list.items) }
+        ensures stands { Stands Item.kind self.old.list result.0 }
+        ensures item { MatchOption result.1 (min (length self.old.list.items) ((j + 1) * self.old.list.interval) ≤ result.0.place)
+            (λ p. (slice_get self.old.list.items result.0.place ≡ Some (Parsed.item_of self.old.list.payload p)) × Parsed.is_found self.old.list.payload p × (result.0.place < length self.old.list.items)) }
+        ensures heads { self.new.steps.heads ≡ self.old.steps.heads }
+        ensures entries { self.new.steps.entries + j * self.old.list.interval ≡ self.old.steps.entries + result.0.place + found_item result.1 }
+    {
+        let end = self.end(j);
+        let (from, _, alike) = self.enter(j, bound.needle);
+        self.scan(from, end, alike, bound)
+    }
+
+    /// Returns the place of the first item that a bound doesn't pass, with that item.
+    #[inline(always)]
+    pub(crate) fn seek(&mut self, bound: &Bound<'_>) -> (Place, Option<Parsed>)
+        requires { IsOrdered Item.kind self.old.list.items }
+        ensures list { self.new.list ≡ self.old.list }
+        ensures place { result.0.place ≡ count_passed Item.kind bound.now.needle.now bound.now.from self.old.list.items }
+        ensures stands { Stands Item.kind self.old.list result.0 }
+        ensures item { MatchOption result.1 (length self.old.list.items ≤ result.0.place)
+            (λ p. (slice_get self.old.list.items result.0.place ≡ Some (Parsed.item_of self.old.list.payload p)) × Parsed.is_found self.old.list.payload p) }
+        ensures heads { self.new.steps.heads ≤ self.old.steps.heads + digits (head_count self.old.list.interval (length self.old.list.items)) }
+        ensures heads_grow { self.old.steps.heads ≤ self.new.steps.heads }
+        ensures entries { self.new.steps.entries ≤ self.old.steps.entries + (self.old.list.interval + 1) }
+        ensures entries_grow { self.old.steps.entries + found_item result.1 ≤ self.new.steps.entries }
+    {
+        let heads = self.heads_passed(bound);
+        let (mut at, item) = if heads == 0 {
+            (self.start(0), None)
+        } else {
+            self.seek_in(heads - 1, bound)
+        };
+        if item.is_some() || at.place >= self.item_count() {
+            return (at, item);
+        }
+        let here = at;
+        let item = self.take(&mut at);
+        (here, Some(item))
+    }
+
+    // An item, if it has a key.
+    #[inline(always)]
+    fn with_key(&self, item: Parsed, needle: &[u8]) -> Option<Parsed>
+        requires { Parsed.is_found self.now.list.payload item }
+        ensures { result ≡ (if is_eq (slice_cmp nat_cmp (Item.kind.key (Parsed.item_of self.now.list.payload item)) needle.now) then Some item else None) }
+    {
+        if self.compare_key(&item, needle).is_eq() {
+            Some(item)
+        } else {
+            None
+        }
+    }
+
+    /// Finds the first item with a key whose sequence number is strictly below `seqno`, by a search
+    /// over the heads.
+    #[inline(always)]
+    pub(crate) fn first_version(&mut self, needle: &[u8], seqno: SeqNo) -> Option<Parsed>
+        requires { IsOrdered Item.kind self.old.list.items }
+        ensures list { self.new.list ≡ self.old.list }
+        ensures item { option_map (Parsed.item_of self.old.list.payload) result ≡ slice_get (filter (is_version Item.kind needle.now seqno) self.old.list.items) 0 }
+        ensures found { IfSome result (Parsed.is_found self.old.list.payload) }
+        ensures heads { self.new.steps.heads ≤ self.old.steps.heads + digits (head_count self.old.list.interval (length self.old.list.items)) }
+        ensures heads_grow { self.old.steps.heads ≤ self.new.steps.heads }
+        ensures entries { self.new.steps.entries ≤ self.old.steps.entries + (self.old.list.interval + 1) }
+        ensures entries_grow { self.old.steps.entries + found_item result ≤ self.new.steps.entries }
+    {
+        let bound = Bound {
+            needle,
+            from: Some(seqno),
+        };
+        let (_, item) = self.seek(&bound);
+        let Some(item) = item else {
+            return None;
+        };
+        self.with_key(item, needle)
+    }
+
+    /// Finds the first item with a key whose sequence number is strictly below `seqno`, in interval
+    /// j, where all items with this key are.
+    #[inline(always)]
+    pub(crate) fn first_version_in(
+        &mut self,
+        j: usize,
+        needle: &[u8],
+        seqno: SeqNo,
+    ) -> Option<Parsed>
+        requires ordered { IsOrdered Item.kind self.old.list.items }
+        requires inside { j * self.old.list.interval < length self.old.list.items }
+        requires alone { (i : ℕ) (x : Item) → slice_get self.old.list.items i ≡ Some x → Item.kind.key x ≡ needle.now
+            → (j * self.old.list.interval ≤ i) × (i < (j + 1) * self.old.list.interval) }
+        ensures list { self.new.list ≡ self.old.list }
+        ensures item { option_map (Parsed.item_of self.old.list.payload) result ≡ slice_get (filter (is_version Item.kind needle.now seqno) self.old.list.items) 0 }
+        ensures found { IfSome result (Parsed.is_found self.old.list.payload) }
+        ensures heads { self.new.steps.heads ≡ self.old.steps.heads }
+        ensures entries { self.new.steps.entries ≤ self.old.steps.entries + self.old.list.interval }
+        ensures entries_grow { self.old.steps.entries + found_item result ≤ self.new.steps.entries }
+    {
+        let bound = Bound {
+            needle,
+            from: Some(seqno),
+        };
+        let end = self.end(j);
+        let (from, head, alike) = self.enter(j, needle);
+        if !bound.passes(self.own_key(&head), head.seqno()) {
+            return self.with_key(head, needle);
+        }
+        let (_, item) = self.scan(from, end, alike, &bound);
+        let Some(item) = item else {
+            return None;
+        };
+        self.with_key(item, needle)
+    }
+}
