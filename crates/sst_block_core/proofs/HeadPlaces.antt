@@ -2,7 +2,7 @@
 use Rattle.std.proofs.Common.{◌≡◌, ℕ, zero, suc, ◌+◌, ◌-◌, ◌*◌, ◌/◌, ◌%◌, ◌<◌, ◌≤◌, ◌^◌, ◌⊎◌, ◌↔◌, inl, inr, List, [], ◌∷◌, ◌++◌, map, length, take, drop, Option, Some, refl, sym, ap, subst, ◌∙◌, arith, append_assoc, length-drop, length-append, slice_index, mul-div_cancel, le-div_iff_mul-le}
 use Rattle.std.specs.List.{AllByRecursion}
 use Rattle.std.proofs.lemmas.Bool.{cases_lt}
-use Rattle.std.proofs.lemmas.List.{take-append-drop, drop_at, drop-map, length-map, length-take-le}
+use Rattle.std.proofs.lemmas.List.{drop_all, take-append-drop, drop_at, drop-map, length-map, length-take-le}
 use Rattle.std.proofs.Math.Nat.{mul-mod_left}
 use Rattle.sst_block_core.specs.Kind.{Kind, IsKind}
 use Rattle.sst_block_core.specs.Body.{body, forms, items_at, place_offset}
@@ -168,3 +168,22 @@ first_stands kind list ps n i =
     let e : slice_index ps 0 ≡ 0 = i.offsets 0 h ∙ ap (place_offset kind list.interval list.items) z in
     subst (λ o. Stands kind list (record { place = 0; phase = 0; offset = o; base = 0 })) e
     (subst (λ n. Stands kind list (record { place = n; phase = 0; offset = slice_index ps 0; base = 0 })) z (i.are_heads 0 h))
+
+-- behind the last item nothing is read, wherever
+pub last_stands : {X : Type 0} (kind : Kind X) (list : Listed X) (place phase : ℕ) → place ≡ length list.items → phase ≡ place % list.interval → Stands kind list (record { place = place; phase = phase; offset = 0; base = 0 })
+unfolding items_at
+last_stands kind list place phase e p =
+    let none : length list.items - place ≡ 0 = omega arith in
+    record {
+      head = [];
+      stands = record {
+        phase = p;
+        base = λ _. record { inside = omega arith; after = list.payload; there = refl };
+        behind = record {
+          place_inside = omega arith;
+          offset_inside = omega arith;
+          after = list.payload;
+          reads = ap (λ n. items_at kind list.interval place n [] list.payload) none ∙ ap (λ ys. Some (ys, list.payload)) (sym (drop_all place list.items (omega arith)));
+        };
+      };
+    }

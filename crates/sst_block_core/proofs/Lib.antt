@@ -11,6 +11,8 @@ mod BucketLaws
 mod Canonical
 mod IndexBlocks
 mod Ends
+mod StandingNumbers
+mod StandingForms
 mod PlaceReads
 mod Openings
 mod HeadPlaces

@@ -1,9 +1,11 @@
 -- Where forms begin.
-use Rattle.std.proofs.Common.{◌≡◌, ℕ, ◌+◌, ◌-◌, ◌%◌, ◌<◌, ◌≤◌, suc, cond, eqb, List, [], ◌∷◌, ◌++◌, length, take, drop, refl, sym, ap, ◌∙◌, arith, append_assoc, length-append, map}
-use Rattle.std.proofs.lemmas.List.{get_or_append_left, take-append-drop, take-take, take-map}
+use Rattle.std.proofs.Common.{◌≡◌, ℕ, ◌+◌, ◌-◌, ◌%◌, ◌<◌, ◌≤◌, suc, cond, eqb, List, [], ◌∷◌, ◌++◌, length, take, drop, refl, sym, ap, ◌∙◌, arith, append_assoc, length-append, map, length-drop, inl, inr, ◌*◌}
+use Rattle.std.proofs.lemmas.List.{get_or_append_left, take-append-drop, take-take, take-map, length-take-le}
 use Rattle.sst_block_core.specs.Kind.{Kind, IsKind}
 use Rattle.sst_block_core.specs.Body.{truncated_against, form, forms, body, place_offset}
 use Rattle.sst_block_core.proofs.Forms.{body-plain, cond_has}
+use Rattle.std.proofs.lemmas.Bool.{cases_lt}
+use Rattle.std.proofs.lemmas.Nat.{mul-le}
 
 module _ {X : Type 0} (kind : Kind X) (r : ℕ) (pos : 0 < r) where
   -- what follows an item changes nothing of its form
@@ -63,3 +65,37 @@ module _ {X : Type 0} (kind : Kind X) (r : ℕ) (pos : 0 < r) where
     pub body_long : (items : List X) → length items ≤ length (body kind r items)
     unfolding body
     body_long items = length-forms items items 0
+
+    -- a place behind begins behind
+    pub place_gap : (items : List X) (i j : ℕ) → i ≤ j → j ≤ length items → place_offset kind r items i + (j - i) ≤ place_offset kind r items j
+    place_gap items i j h inside =
+        let xs = take j items in
+        let front : take i xs ≡ take i items = take-take i j items h in
+        let whole = ap (λ ys. length (body kind r ys)) (take-append-drop i xs) in
+        let split = body-append (take i xs) (drop i xs) in
+        let l = ap length split ∙ length-append (body kind r (take i xs)) (forms kind r (take i xs ++ drop i xs) (length (take i xs)) (drop i xs)) in
+        let rest = length-forms (take i xs ++ drop i xs) (drop i xs) (length (take i xs)) in
+        let n = length-drop i xs in
+        let m = length-take-le j items inside in
+        let e = ap (λ ys. length (body kind r ys)) front in
+        omega (arith, whole, l, rest, n, m, e)
+
+    -- a head at most another stands at or in front of it, one below it in front of it
+    pub head_upto : (items : List X) (i j : ℕ) → i * r < length items → j * r < length items → place_offset kind r items (i * r) ≤ place_offset kind r items (j * r) → i ≤ j
+    head_upto items i j h k le = elim (cases_lt j i) [
+      | inl less ↦ absurd (
+          let row : (j + 1) * r ≡ j * r + r = omega arith in
+          let t : (j + 1) * r ≤ i * r = mul-le (j + 1) r i r (omega arith) (omega arith) in
+          let g = place_gap items (j * r) (i * r) (omega (arith, row, t)) (omega (arith, h)) in
+          omega (arith, g, le, row, t, pos))
+      | inr ge ↦ ge
+    ]
+
+    pub head_behind : (items : List X) (i j : ℕ) → i * r < length items → j * r < length items → place_offset kind r items (j * r) < place_offset kind r items (i * r) → j < i
+    head_behind items i j h k lt = elim (cases_lt j i) [
+      | inl less ↦ less
+      | inr ge ↦ absurd (
+          let t : i * r ≤ j * r = mul-le i r j r ge (omega arith) in
+          let g = place_rises items (i * r) (j * r) t in
+          omega (arith, g, lt))
+    ]

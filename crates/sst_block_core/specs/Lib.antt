@@ -12,6 +12,7 @@ pub mod EntryLaws
 pub mod HandleLaws
 pub mod Vectors
 pub mod Found
+pub mod Digits
 pub mod Scan
 pub mod Intervals
 pub mod ParsedEntry

@@ -1,5 +1,5 @@
 //! The block decoder.
-ghost use Rattle.std.specs.Prelude.{◌≡◌, ◌≢◌, ℕ, ◌+◌, ◌-◌, ◌%◌, ◌*◌, ◌^◌, ◌<◌, ◌≤◌, List, [], ◌∷◌};
+ghost use Rattle.std.specs.Prelude.{◌≡◌, ◌≢◌, ℕ, ◌+◌, ◌-◌, ◌*◌, ◌<◌, ◌≤◌, List, [], ◌∷◌};
 ghost use Rattle.std.specs.Prelude.{length, drop, slice_get, Some, None, IfSome, IfOk, IsSome, IsSomeAnd};
 ghost use Rattle.std.specs.Prelude.{IsOkUnless};
 ghost use Rattle.std.specs.Ordering.{nat_cmp};
@@ -10,7 +10,10 @@ ghost use Rattle.sst_base.specs.SharedPrefix.{shared_prefix_length};
 ghost use Rattle.sst_block_core.specs.Found.{Finds, Takes, StandsAt, IsRange, range_of};
 ghost use Rattle.sst_block_core.specs.Payload.{IsEncoding};
 ghost use Rattle.sst_block_core.specs.Stages.{items_in};
-ghost use Rattle.sst_block_core.specs.Window.{whole};
+ghost use Rattle.sst_block_core.specs.Body.{place_offset};
+ghost use Rattle.sst_block_core.specs.Pointers.{head_count};
+ghost use Rattle.sst_block_core.specs.Intervals.{Splits, digits, seek_picked};
+ghost use Rattle.sst_block_core.specs.Window.{Window, Answer, found, whole};
 ghost use Rattle.sst_block_core.specs.Scan.{GivesNext};
 ghost use Rattle.sst_block_core.specs.Trailer.{trailer_in};
 
@@ -200,6 +203,55 @@ impl<'a, Item: Decodable<Parsed>, Parsed: ParsedItem<Item>> Decoder<'a, Item, Pa
             front,
             hi,
         }
+    }
+
+    /// Moves the front to a head, which a predicate over keys and sequence numbers picks: true and
+    /// then false over the heads, it picks the last head of which it is true, or in the second form
+    /// the first of which it is false. Where there is none, the first head, or in the second form the
+    /// last.
+    ///
+    /// Answers `true`. But in the second form, where each item is a head and the predicate is true of
+    /// all, the front is emptied, and the answer is `false`. The back stays, and no entry is counted.
+    pub fn seek<F: Fn(&[u8], u64) -> bool>(&mut self, pred: &F, second: bool) -> bool
+        requires callable { F.IsAlwaysCallable pred.now }
+        ensures payload { self.new.payload ≡ self.old.payload }
+        ensures interval { self.new.interval ≡ self.old.interval }
+        ensures list { self.new.window.list ≡ self.old.window.list }
+        ensures back { self.new.window.hi ≡ self.old.window.hi }
+        ensures step { (p : ℕ) → Splits Item.kind (F.post pred.now) self.old.interval self.old.window.list (head_count self.old.interval (length self.old.window.list)) p
+            → ◌≡◌ {A = Window Item × Answer Item} (self.new.window, found result) (seek_picked self.old.interval second p self.old.window) }
+        ensures heads { self.new.steps.heads ≤ self.old.steps.heads + digits (head_count self.old.interval (length self.old.window.list)) }
+        ensures heads_grow { self.old.steps.heads ≤ self.new.steps.heads }
+        ensures entries { self.new.steps.entries ≡ self.old.steps.entries }
+    {
+        let passed = self.intervals.partition_point(pred);
+        let count = self.intervals.count();
+        if second && passed == count && self.intervals.interval() == 1 {
+            self.front = self.intervals.last();
+            return false;
+        }
+        let picked = if second {
+            passed.min(count - 1)
+        } else {
+            passed.saturating_sub(1)
+        };
+        self.front = self.intervals.start(picked);
+        true
+    }
+
+    /// Moves the front to the head at an offset. The back stays, and nothing is counted.
+    pub fn set_lo_offset(&mut self, offset: usize)
+        requires { (j : ℕ) × (j * self.old.interval < length self.old.window.list)
+            × (offset ≡ place_offset Item.kind self.old.interval self.old.window.list (j * self.old.interval)) }
+        ensures payload { self.new.payload ≡ self.old.payload }
+        ensures interval { self.new.interval ≡ self.old.interval }
+        ensures window { (j : ℕ) → j * self.old.interval < length self.old.window.list
+            → offset ≡ place_offset Item.kind self.old.interval self.old.window.list (j * self.old.interval)
+            → self.new.window ≡ record { list = self.old.window.list; lo = j * self.old.interval; hi = self.old.window.hi } }
+        ensures heads { self.new.steps.heads ≡ self.old.steps.heads }
+        ensures entries { self.new.steps.entries ≡ self.old.steps.entries }
+    {
+        self.front = self.intervals.place_at(offset);
     }
 
     /// Returns what was counted since the decoder was made.

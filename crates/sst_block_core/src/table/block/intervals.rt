@@ -1,5 +1,5 @@
 //! The restart intervals of a block.
-ghost use Rattle.std.specs.Prelude.{◌≡◌, ℕ, ◌+◌, ◌-◌, ◌*◌, ◌^◌, ◌<◌, ◌≤◌, List, length, drop, slice_get, Some, min};
+ghost use Rattle.std.specs.Prelude.{◌≡◌, ℕ, ◌+◌, ◌-◌, ◌*◌, ◌<◌, ◌≤◌, List, length, drop, slice_get, Some, min};
 ghost use Rattle.std.specs.Prelude.{true, false};
 ghost use Rattle.std.specs.Ordering.{nat_cmp};
 ghost use Rattle.std.specs.Cmp.Lexicographic.{slice_cmp};
@@ -134,6 +134,51 @@ impl<'a, Item: Decodable<Parsed>, Parsed: ParsedItem<Item>> Intervals<'a, Item, 
             offset: self.pointers.get(j),
             base: 0,
         }
+    }
+
+    /// Returns the number of items per interval; the last may hold fewer.
+    #[inline(always)]
+    pub(crate) fn interval(&self) -> u8
+        ensures value { result ≡ self.now.list.interval }
+        ensures listed { IsListed self.now.list }
+    {
+        self.restart_interval
+    }
+
+    /// Returns the place behind the last item.
+    #[inline(always)]
+    pub(crate) fn last(&self) -> Place
+        ensures place { result.place ≡ length self.now.list.items }
+        ensures stands { Stands Item.kind self.now.list result }
+    {
+        let place = self.item_count();
+        Place {
+            place,
+            phase: (place % usize::from(self.restart_interval)) as u8,
+            offset: 0,
+            base: 0,
+        }
+    }
+
+    /// Returns the place of the head at an offset, by halves over the pointers.
+    pub(crate) fn place_at(&self, offset: usize) -> Place
+        requires { (j : ℕ) × (j * self.now.list.interval < length self.now.list.items)
+            × (offset ≡ place_offset Item.kind self.now.list.interval self.now.list.items (j * self.now.list.interval)) }
+        ensures place { (j : ℕ) → j * self.now.list.interval < length self.now.list.items
+            → offset ≡ place_offset Item.kind self.now.list.interval self.now.list.items (j * self.now.list.interval) → result.place ≡ j * self.now.list.interval }
+        ensures stands { Stands Item.kind self.now.list result }
+    {
+        let mut left = 0;
+        let mut right = self.count();
+        while right - left > 1 {
+            let mid = left + (right - left) / 2;
+            if self.start(mid).offset <= offset {
+                left = mid;
+            } else {
+                right = mid;
+            }
+        }
+        self.start(left)
     }
 
     /// Returns the index behind the last item of interval j, which exists.

@@ -1,11 +1,14 @@
 //! Entries as items of a block: how they are decoded.
-ghost use Rattle.std.specs.Prelude.{◌≡◌, ◌+◌, ◌-◌, ◌^◌, ◌<◌, ◌≤◌, length, drop, IfSome, IfNone};
-ghost use Rattle.sst_block_core.specs.Found.{Finds, IsRange, IsOptionalRange, optional_range};
-ghost use Rattle.sst_block_core.specs.Entries.{value_at, truncated_form_at};
-ghost use Rattle.sst_block_core.specs.ParsedEntry.{truncated_of, IsKeyLength};
+ghost use Rattle.std.specs.Prelude.{◌≡◌, ◌+◌, ◌-◌, ◌^◌, ◌<◌, ◌≤◌, length, drop, IfSome, IfNone, IsSome, None};
+ghost use Rattle.sst_block_core.specs.Found.{Finds, Takes, IsRange, IsOptionalRange, optional_range};
+ghost use Rattle.sst_block_core.specs.Entries.{value_at, full_at, truncated_form_at};
+ghost use Rattle.sst_block_core.specs.ParsedEntry.{entry_of, truncated_of, IsKeyLength};
 
 use crate::table::block::Decodable;
-use crate::table::block::reading::{length_prefixed_from, number_from, value_type_from};
+use crate::table::block::reading::{
+    length_prefixed_from, number_from, read_length_prefixed, read_number, read_value_type,
+    value_type_from,
+};
 use crate::table::data_block::parsed_item::{DataBlockParsedItem, bytes_of};
 use sst_base::key::MAX_KEY_LEN;
 use sst_base::table::util::SliceIndexes;
@@ -91,6 +94,69 @@ fn prefix_from(payload: &[u8], base: usize, shared: u64, rest: usize) -> Option<
     Some(SliceIndexes(base, base + shared))
 }
 
+// The range of the value that stands at an offset, which a tombstone has not, and where it ends.
+#[inline(always)]
+fn read_value(payload: &[u8], at: usize, value_type: ValueType) -> (Option<SliceIndexes>, usize)
+    requires inside { at ≤ length payload.now }
+    requires stands { IsSome (value_at value_type (drop at payload.now)) }
+    ensures exact { Takes (optional_range payload.now) payload.now result (value_at value_type (drop at payload.now)) }
+    ensures range { IsOptionalRange payload.now result.0 }
+{
+    match value_type {
+        ValueType::Tombstone | ValueType::WeakTombstone => (None, at),
+        ValueType::Value | ValueType::Indirection => {
+            let (range, end) = read_length_prefixed(payload, at, 32);
+            (Some(range), end)
+        }
+    }
+}
+
+// The entry whose full form stands at an offset, and where the form ends.
+#[inline(always)]
+fn read_full_form(payload: &[u8], offset: usize) -> (DataBlockParsedItem, usize)
+    requires { IsSome (full_at (drop offset payload.now)) }
+    ensures exact { Takes (entry_of payload.now) payload.now result (full_at (drop offset payload.now)) }
+    ensures key { IsRange payload.now result.0.key }
+    ensures value { IsOptionalRange payload.now result.0.value }
+    ensures prefix { result.0.prefix ≡ None }
+{
+    let (value_type, at) = read_value_type(payload, offset);
+    let (seqno, at) = read_number(payload, at, 64);
+    let (key, at) = read_length_prefixed(payload, at, 16);
+    let (value, end) = read_value(payload, at, value_type);
+    let item = DataBlockParsedItem {
+        value_type,
+        seqno,
+        prefix: None,
+        key,
+        value,
+    };
+    (item, end)
+}
+
+// The truncated form that stands at an offset, whatever its head, and where it ends.
+#[inline(always)]
+fn read_truncated_form(payload: &[u8], offset: usize) -> (TruncatedForm, usize)
+    requires { IsSome (truncated_form_at (drop offset payload.now)) }
+    ensures exact { Takes (truncated_of payload.now) payload.now result (truncated_form_at (drop offset payload.now)) }
+    ensures key { IsRange payload.now result.0.key }
+    ensures value { IsOptionalRange payload.now result.0.value }
+{
+    let (value_type, at) = read_value_type(payload, offset);
+    let (seqno, at) = read_number(payload, at, 64);
+    let (shared, at) = read_number(payload, at, 16);
+    let (key, at) = read_length_prefixed(payload, at, 16);
+    let (value, end) = read_value(payload, at, value_type);
+    let form = TruncatedForm {
+        value_type,
+        seqno,
+        shared,
+        key,
+        value,
+    };
+    (form, end)
+}
+
 /// Decodes the two forms of an entry as ranges of the payload.
 impl Decodable<DataBlockParsedItem> for InternalValue {
     fn parse_restart_key<'a>(
@@ -151,19 +217,35 @@ impl Decodable<DataBlockParsedItem> for InternalValue {
         Some((item, end))
     }
 
+    #[inline(always)]
     fn read_full(payload: &[u8], offset: usize) -> (DataBlockParsedItem, usize) {
-        unreachable!()
+        read_full_form(payload, offset)
     }
 
+    #[inline(always)]
     fn read_truncated(
         payload: &[u8],
         offset: usize,
         base_key_offset: usize,
     ) -> (DataBlockParsedItem, usize) {
-        unreachable!()
+        let _size = payload.len();
+        let (form, end) = read_truncated_form(payload, offset);
+        let prefix = SliceIndexes(base_key_offset, base_key_offset + form.shared as usize);
+        let item = DataBlockParsedItem {
+            value_type: form.value_type,
+            seqno: form.seqno,
+            prefix: Some(prefix),
+            key: form.key,
+            value: form.value,
+        };
+        (item, end)
     }
 
+    #[inline(always)]
     fn read_head<'a>(payload: &'a [u8], offset: usize) -> (&'a [u8], u64) {
-        unreachable!()
+        let (_, at) = read_value_type(payload, offset);
+        let (seqno, at) = read_number(payload, at, 64);
+        let (key, _) = read_length_prefixed(payload, at, 16);
+        (bytes_of(payload, &key), seqno)
     }
 }
