@@ -20,3 +20,4 @@ mod PlainEntries
 pub mod Indexes
 pub mod Written
 pub mod Endings
+pub mod BucketWrites

@@ -73,7 +73,7 @@ impl<H: BlockHash> DataBlock<H> {
 
     /// Encodes a non-empty ordered list of entries into an empty vector, in restart intervals of at
     /// least one entry, with the number of buckets that the ratio gives. The denominator is at
-    /// least 1; for now the numerator is 0.
+    /// least 1. With more than 254 heads no buckets are stored.
     ///
     /// # Errors
     ///
@@ -90,7 +90,6 @@ impl<H: BlockHash> DataBlock<H> {
         requires ordered { IsOrdered entries items.now }
         requires interval { 1 ≤ restart_interval }
         requires den { 1 ≤ ratio.den }
-        requires no_hash { ratio.num ≡ 0 }
         ensures payload { OnOk result (writer.new.items
             ≡ data_payload H.hash64 items.now restart_interval (bucket_count ratio.num ratio.den (length items.now))) }
         ensures block { OnOk result (IsBlock entries IsEntry H.hash64 writer.new.items items.now restart_interval
@@ -120,7 +119,6 @@ impl<H: BlockHash> DataBlock<H> {
         requires ordered { IsOrdered entries items.now }
         requires interval { 1 ≤ restart_interval }
         requires den { 1 ≤ ratio.den }
-        requires no_hash { ratio.num ≡ 0 }
         ensures payload { IfOk result (λ v. v.items
             ≡ data_payload H.hash64 items.now restart_interval (bucket_count ratio.num ratio.den (length items.now))) }
         ensures block { IfOk result (λ v. IsBlock entries IsEntry H.hash64 v.items items.now restart_interval
