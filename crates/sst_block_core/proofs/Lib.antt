@@ -21,3 +21,4 @@ pub mod Indexes
 pub mod Written
 pub mod Endings
 pub mod BucketWrites
+pub mod BucketReads
