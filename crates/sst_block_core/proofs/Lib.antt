@@ -30,3 +30,5 @@ mod PlainEntries
 pub mod Indexes
 pub mod Written
 pub mod Endings
+pub mod BucketWrites
+pub mod BucketReads

@@ -1,12 +1,15 @@
 //! Data blocks: blocks of entries.
 ghost use Rattle.std.specs.Prelude.{◌≡◌, ◌↔◌, ℕ, ◌+◌, ◌^◌, ◌<◌, ◌≤◌, List, length, map, [], IsTrue};
-ghost use Rattle.std.specs.Prelude.{IsSome, OnOk, OnErr, IfOk, IfErr, IsOkUnless, None};
+ghost use Rattle.std.specs.Prelude.{IsSome, OnOk, OnErr, IfOk, IfErr, IsOkUnless, None, Some};
+ghost use Rattle.std.specs.Prelude.{◌==◌, if◌then◌else◌};
 ghost use Rattle.sst_base.specs.Bytes.{IsBytes};
 ghost use Rattle.sst_base.specs.Entry.{Entry, IsEntry, plain};
 ghost use Rattle.sst_block_core.specs.Kind.{IsOrdered};
 ghost use Rattle.sst_block_core.specs.Entries.{entries, data_payload};
-ghost use Rattle.sst_block_core.specs.Buckets.{bucket_count, stored_count};
+ghost use Rattle.sst_block_core.specs.Pointers.{head_count};
+ghost use Rattle.sst_block_core.specs.Buckets.{bucket_count, buckets, stored_count};
 ghost use Rattle.sst_block_core.specs.Payload.{IsBlock};
+ghost use Rattle.sst_block_core.specs.Stages.{HasIndexes};
 ghost use Rattle.sst_block_core.specs.Trailer.{trailer_in};
 ghost use Rattle.sst_block_core.specs.Encoders.{IsRefusal};
 ghost use Rattle.sst_block_core.specs.Window.{whole, first_match};
@@ -20,7 +23,7 @@ pub mod parsed_item;
 mod point_read;
 
 use crate::table::block::encoder::encode_all;
-use crate::table::block::{Decoder, ParsedItem, Trailer};
+use crate::table::block::{Decoder, ParsedItem, Trailer, hash_index};
 pub use entry_ref::{Entries, EntryRef};
 pub use iter::Iter;
 pub use parsed_item::DataBlockParsedItem;
@@ -73,7 +76,7 @@ impl<H: BlockHash> DataBlock<H> {
 
     /// Encodes a non-empty ordered list of entries into an empty vector, in restart intervals of at
     /// least one entry, with the number of buckets that the ratio gives. The denominator is at
-    /// least 1; for now the numerator is 0.
+    /// least 1. With more than 254 heads no buckets are stored.
     ///
     /// # Errors
     ///
@@ -90,7 +93,6 @@ impl<H: BlockHash> DataBlock<H> {
         requires ordered { IsOrdered entries items.now }
         requires interval { 1 ≤ restart_interval }
         requires den { 1 ≤ ratio.den }
-        requires no_hash { ratio.num ≡ 0 }
         ensures payload { OnOk result (writer.new.items
             ≡ data_payload H.hash64 items.now restart_interval (bucket_count ratio.num ratio.den (length items.now))) }
         ensures block { OnOk result (IsBlock entries IsEntry H.hash64 writer.new.items items.now restart_interval
@@ -120,7 +122,6 @@ impl<H: BlockHash> DataBlock<H> {
         requires ordered { IsOrdered entries items.now }
         requires interval { 1 ≤ restart_interval }
         requires den { 1 ≤ ratio.den }
-        requires no_hash { ratio.num ≡ 0 }
         ensures payload { IfOk result (λ v. v.items
             ≡ data_payload H.hash64 items.now restart_interval (bucket_count ratio.num ratio.den (length items.now))) }
         ensures block { IfOk result (λ v. IsBlock entries IsEntry H.hash64 v.items items.now restart_interval
@@ -178,6 +179,7 @@ impl<H: BlockHash> DataBlock<H> {
         ensures trailer { 31 ≤ length self.now.payload }
         ensures count { (trailer_in self.now.payload).item_count ≡ length self.now.items }
         ensures some { 1 ≤ length self.now.items }
+        ensures indexes { HasIndexes entries H.hash64 self.now.payload self.now.items self.now.interval self.now.stored }
     {
         // The proof needs the bound on the payload's length.
         let _fits = self.inner.size();
@@ -190,6 +192,35 @@ impl<H: BlockHash> DataBlock<H> {
         ensures some { 1 ≤ result }
     {
         Trailer::new(self.opened()).item_count()
+    }
+
+    /// Returns the number of heads, each of which has a pointer in the binary index.
+    pub fn binary_index_len(&self) -> u32
+        ensures { result ≡ head_count self.now.interval (length self.now.items) }
+    {
+        Trailer::new(self.opened()).heads()
+    }
+
+    /// Returns the number of buckets in the hash index, or `None` if none is stored.
+    pub fn hash_bucket_count(&self) -> Option<u32>
+        ensures { result ≡ (if self.now.stored == 0 then None else Some self.now.stored) }
+    {
+        let stored = Trailer::new(self.opened()).hash_len();
+        if stored == 0 { None } else { Some(stored) }
+    }
+
+    /// Returns a view of the hash index, or `None` if none is stored. Takes no memory.
+    pub fn get_hash_index_reader(&self) -> Option<hash_index::Reader<'_, H>>
+        ensures { result ≡ (if self.now.stored == 0 then None else Some (buckets entries H.hash64 self.now.interval self.now.items self.now.stored)) }
+    {
+        let inner = self.opened();
+        let trailer = Trailer::new(inner);
+        let stored = trailer.hash_len();
+        if stored == 0 {
+            return None;
+        }
+        let bytes = inner.data().as_slice();
+        Some(hash_index::Reader::new(bytes, trailer.hash_offset(), stored))
     }
 
     /// Returns an iterator over the entries, as ranges of the payload. Takes no memory.

@@ -1,11 +1,11 @@
 //! Collecting the hash index of a block.
 ghost use Rattle.std.specs.Prelude.{◌≡◌, ◌≢◌, ◌↔◌, ◌++◌, ◌≤◌, ◌<◌, ◌%◌, ◌^◌, length, slice_index, slice_set};
-ghost use Rattle.std.specs.Prelude.{replicate, IsTrue, IfOk, OnOk, IsOkUnless};
-ghost use Rattle.sst_block_core.specs.Buckets.{bucket_count, bucket_byte_with};
+ghost use Rattle.std.specs.Prelude.{replicate, IsTrue, IfOk, OnOk, IsOkUnless, []};
+ghost use Rattle.sst_block_core.specs.Buckets.{bucket_count, bucket_byte_with, begun, noted, AreFew};
 
 use super::{MARKER_CONFLICT, MARKER_FREE};
 use sst_base::{BlockHash, Error, HashRatio, Result};
-use std::alloc::Global;
+use std::alloc::{AllocError, Global};
 use std::marker::{Model, PhantomData};
 
 /// The greatest number of heads for which a hash index is stored.
@@ -29,6 +29,16 @@ impl<H: BlockHash> Model for Builder<H> {
 }
 
 impl<H: BlockHash> Builder<H> {
+    /// Makes a builder without buckets. Takes no memory.
+    pub(crate) fn new(alloc: Global) -> Builder<H>
+        ensures { result ≡ [] }
+    {
+        Builder {
+            hash: PhantomData,
+            buckets: Vec::new(alloc),
+        }
+    }
+
     /// Makes a builder of this many buckets, all free.
     ///
     /// # Errors
@@ -78,6 +88,39 @@ impl<H: BlockHash> Builder<H> {
         let byte = byte_with(self.buckets[index], interval_number);
         self.buckets[index] = byte;
         byte != MARKER_CONFLICT
+    }
+
+    /// Begins the last of this many restart intervals, for the encoder: makes this many buckets, all
+    /// free, at the first interval, and drops them at the first for which no bucket has a number.
+    ///
+    /// # Errors
+    ///
+    /// `AllocError` if an allocation fails.
+    pub(crate) fn begin_interval(
+        &mut self,
+        heads: usize,
+        bucket_count: u32,
+    ) -> std::result::Result<(), AllocError>
+        ensures { OnOk result (self.new ≡ begun heads bucket_count self.old) }
+    {
+        let alloc = *self.buckets.allocator();
+        if heads == 1 {
+            self.buckets = vec![in alloc; MARKER_FREE; bucket_count as usize]?;
+        } else if heads == MAX_POINTERS_FOR_HASH_INDEX + 1 {
+            self.buckets = Vec::new(alloc);
+        }
+        Ok(())
+    }
+
+    /// Notes that a key stands in the last of this many restart intervals, if there are buckets.
+    #[inline(always)]
+    pub(crate) fn note_key(&mut self, key: &[u8], heads: usize)
+        requires { AreFew heads self.old }
+        ensures { self.new ≡ noted H.hash64 key.now heads self.old }
+    {
+        if !self.buckets.is_empty() {
+            self.set(key, (heads - 1) as u8);
+        }
     }
 
     /// Returns the bytes of the buckets.
