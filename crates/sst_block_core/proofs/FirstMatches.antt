@@ -80,6 +80,13 @@ pub kept_if : {X P : Type 0} (f : P → X) (p : P) (b : Bool) (found : Option X)
 kept_if f p true found r good bad e = ap (option_map f) e ∙ good refl
 kept_if f p false found r good bad e = ap (option_map f) e ∙ bad refl
 
+-- there is none, where no item has the key
+pub none_has_key : {X : Type 0} (kind : Kind X) (needle : List ℕ) (seqno : ℕ) (items : List X) → ((i : ℕ) (x : X) → slice_get items i ≡ Some x → kind.key x ≡ needle → ⊥) → None ≡ slice_get (filter (is_version kind needle seqno) items) 0
+none_has_key kind needle seqno items none = sym (filter_none (is_version kind needle seqno) items (λ j y at. elim (cases_Bool (is_eq (slice_cmp nat_cmp (kind.key y) needle))) [
+  | inl same ↦ absurd (none j y at (keys_equal (kind.key y) needle same))
+  | inr other ↦ ap (λ t. ltb (kind.seqno y) seqno && t) other ∙ and_false (ltb (kind.seqno y) seqno)
+]))
+
 module _ {X : Type 0} (kind : Kind X) (needle : List ℕ) (seqno : ℕ) (items : List X) (ordered : IsOrdered kind items) where
   before : (j : ℕ) (y : X) → j < count_passed kind needle (Some seqno) items → slice_get items j ≡ Some y → is_version kind needle seqno y ≡ false
   before j y h at = version_passed (slice_cmp nat_cmp (kind.key y) needle) seqno (kind.seqno y) ((cut_ordered kind needle (Some seqno) items ordered).first j y h at)

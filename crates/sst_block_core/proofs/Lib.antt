@@ -27,6 +27,7 @@ mod OrderedSteps
 mod WindowSteps
 mod FirstMatches
 mod PlainEntries
+mod LookupReads
 pub mod Indexes
 pub mod Written
 pub mod Endings

@@ -17,6 +17,7 @@ pub mod Scan
 pub mod Intervals
 pub mod ParsedEntry
 pub mod DataBlock
+pub mod Lookups
 pub mod Encoders
 pub mod PointerLaws
 pub mod WindowLaws

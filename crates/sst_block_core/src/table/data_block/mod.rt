@@ -12,6 +12,7 @@ ghost use Rattle.sst_block_core.specs.Payload.{IsBlock};
 ghost use Rattle.sst_block_core.specs.Stages.{HasIndexes};
 ghost use Rattle.sst_block_core.specs.Trailer.{trailer_in};
 ghost use Rattle.sst_block_core.specs.Encoders.{IsRefusal};
+ghost use Rattle.sst_block_core.specs.Lookups.{read_heads, read_entries};
 ghost use Rattle.sst_block_core.specs.Window.{whole, first_match};
 ghost use Rattle.sst_block_core.specs.DataBlock.{block_of};
 
@@ -27,7 +28,6 @@ use crate::table::block::{Decoder, ParsedItem, Trailer, hash_index};
 pub use entry_ref::{Entries, EntryRef};
 pub use iter::Iter;
 pub use parsed_item::DataBlockParsedItem;
-use point_read::find_version;
 use sst_base::table::block::Block;
 use sst_base::{BlockHash, Error, HashRatio, InternalValue, Result, SeqNo, Slice, Steps};
 use std::alloc::{AllocError, Global};
@@ -260,8 +260,11 @@ impl<H: BlockHash> DataBlock<H> {
     }
 
     /// Returns the first entry with this key whose sequence number is strictly below `seqno`. A
-    /// tombstone has no value. What was looked at is added to `steps`: an entry that is found
-    /// counts as an entry.
+    /// tombstone has no value.
+    ///
+    /// What was looked at is added to `steps`. Where the hash index says that the key is not there,
+    /// that is nothing; where it gives a restart interval, at most the entries of one; else at most as
+    /// many heads as their number has binary digits, and the entries of one interval and one more.
     ///
     /// # Errors
     ///
@@ -276,17 +279,15 @@ impl<H: BlockHash> DataBlock<H> {
         ensures found { IfOk result (λ item. item ≡ first_match entries needle.now seqno self.now.items) }
         ensures memory { IsOkUnless result Error.Memory }
         ensures only_found { OnErr result (IsSome (first_match entries needle.now seqno self.now.items)) }
+        ensures heads { steps.new.heads ≤ steps.old.heads + read_heads H.hash64 self.now needle.now }
         ensures heads_grow { steps.old.heads ≤ steps.new.heads }
+        ensures entries { steps.new.entries ≤ steps.old.entries + read_entries H.hash64 self.now needle.now }
         ensures entries_grow { steps.old.entries ≤ steps.new.entries }
         ensures counted { IsSome (first_match entries needle.now seqno self.now.items)
             → steps.old.entries + 1 ≤ steps.new.entries }
     {
-        let payload = self.as_slice();
-        let mut iter = self.iter();
-        let found = find_version(&mut iter, payload.as_slice(), needle, seqno);
-        steps.add(iter.steps());
-        match found {
-            Some(item) => Ok(Some(item.materialize(alloc, payload)?)),
+        match self.find_version(needle, seqno, steps) {
+            Some(item) => Ok(Some(item.materialize(alloc, self.as_slice())?)),
             None => Ok(None),
         }
     }

@@ -4,7 +4,7 @@ pub mod builder;
 pub mod reader;
 
 pub use builder::{Builder, MAX_POINTERS_FOR_HASH_INDEX};
-pub use reader::Reader;
+pub use reader::{Lookup, Reader};
 
 /// The byte of a bucket into which no key falls.
 pub const MARKER_FREE: u8 = 254;

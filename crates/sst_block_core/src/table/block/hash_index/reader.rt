@@ -1,11 +1,23 @@
 //! Reading the hash index of a block.
 ghost use Rattle.std.specs.Prelude.{◌≡◌, ◌+◌, ◌==◌, ◌≤◌, ◌<◌, ◌%◌, take, drop, length, slice_index};
 ghost use Rattle.std.specs.Prelude.{count_by};
+ghost use Rattle.sst_block_core.specs.Lookups.{lookup_in};
 
-use super::MARKER_CONFLICT;
+use super::{MARKER_CONFLICT, MARKER_FREE};
 use super::builder::bucket_index;
 use sst_base::BlockHash;
 use std::marker::{Model, PhantomData};
+
+/// Where the items with a key can be, by the key's bucket.
+#[derive(Clone, Copy, Debug, PartialEq, Eq)]
+pub enum Lookup {
+    /// The bucket is free: there are none.
+    Nowhere,
+    /// In the restart interval with this number alone.
+    Interval(u8),
+    /// The bucket has a conflict, or there is none: in any interval.
+    Anywhere,
+}
 
 /// The buckets of a hash index. Clauses see their bytes.
 #[derive(Drop)]
@@ -59,5 +71,17 @@ impl<'a, H: BlockHash> Reader<'a, H> {
         ensures { result ≡ slice_index self.now (H.hash64 key.now % length self.now) }
     {
         self.buckets[bucket_index::<H>(key, self.buckets.len())]
+    }
+
+    /// Returns what the bucket of a key says. There is at least one bucket.
+    pub fn lookup(&self, key: &[u8]) -> Lookup
+        requires { 0 < length self.now }
+        ensures { result ≡ lookup_in H.hash64 self.now key.now }
+    {
+        match self.get(key) {
+            MARKER_FREE => Lookup::Nowhere,
+            MARKER_CONFLICT => Lookup::Anywhere,
+            number => Lookup::Interval(number),
+        }
     }
 }
