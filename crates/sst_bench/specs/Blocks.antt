@@ -2,12 +2,13 @@
 use Rattle.std.specs.Prelude.{◌≡◌, ℕ, ◌+◌, ◌-◌, ◌%◌, ◌^◌, min, List, length, take, fold, slice_index, Option, Some, None}
 use Rattle.sst_base.specs.Entry.{Entry}
 use Rattle.sst_base.specs.Hashes.{poly31}
+use Rattle.sst_block_core.specs.Buckets.{bucket_count}
 use Rattle.sst_block_core.specs.Entries.{entries, data_payload}
 use Rattle.sst_block_core.specs.Window.{first_match}
 
--- the payload of a data block without a hash index
-abbrev pub block_payload : List Entry → ℕ → List ℕ
-block_payload items interval = data_payload (poly31 64) items interval 0
+-- the payload of a data block at an interval and a hash ratio of num to den
+abbrev pub block_payload : List Entry → ℕ → ℕ → ℕ → List ℕ
+block_payload items interval num den = data_payload (poly31 64) items interval (bucket_count num den (length items))
 
 -- one byte string begins with the other, as far as both go
 abbrev pub BeginAlike : List ℕ → List ℕ → Type 0

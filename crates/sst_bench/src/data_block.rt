@@ -1,8 +1,7 @@
 //! Data blocks: encoding, forward walks, and point reads.
 //!
 //! Each call takes entries as bytes (see `entries`), a restart interval and a hash ratio `num /
-//! den`. It refuses an empty list, entries out of order, an interval of 0, a denominator of 0, and
-//! for now every ratio but 0.
+//! den`. It refuses an empty list, entries out of order, an interval of 0, and a denominator of 0.
 ghost use Rattle.std.specs.Prelude.{◌≡◌, ℕ, ◌<◌, ◌≤◌, List, length, map, OnSome, IfSome};
 ghost use Rattle.sst_base.specs.Entry.{Entry, plain};
 ghost use Rattle.sst_block_core.specs.Kind.{IsOrdered};
@@ -39,9 +38,8 @@ fn items_in(
     ensures ordered { IfSome result (λ items. IsOrdered entries items.items) }
     ensures interval { OnSome result (1 ≤ interval) }
     ensures den { OnSome result (1 ≤ ratio.den) }
-    ensures no_hash { OnSome result (ratio.num ≡ 0) }
 {
-    if interval == 0 || ratio.num != 0 || ratio.den == 0 {
+    if interval == 0 || ratio.den == 0 {
         return None;
     }
     let items = entries_in(alloc, bytes, count)?;
@@ -99,8 +97,7 @@ fn encode(
     requires ordered { IsOrdered entries items.now }
     requires interval { 1 ≤ interval }
     requires den { 1 ≤ ratio.den }
-    requires no_hash { ratio.num ≡ 0 }
-    ensures { OnSome result (0 < times → writer.new.items ≡ block_payload items.now interval) }
+    ensures { OnSome result (0 < times → writer.new.items ≡ block_payload items.now interval ratio.num ratio.den) }
 {
     for _ in 0..times {
         writer.clear();
@@ -122,7 +119,7 @@ pub extern "C" fn sst_encode(
     alloc: Global,
 ) -> u64
     ensures { OrRefused result ((items : List Entry) × AreEntries bytes.now count items
-        × (0 < times → Copied result out.new (block_payload items interval))) }
+        × (0 < times → Copied result out.new (block_payload items interval num den))) }
 {
     let ratio = HashRatio { num, den };
     let Some(items) = items_in(alloc, bytes, count, interval, ratio) else {

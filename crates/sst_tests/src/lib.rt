@@ -4,5 +4,7 @@
 #[cfg(test)]
 mod blocks;
 #[cfg(test)]
+mod hash_indexes;
+#[cfg(test)]
 mod indexes;
 pub mod plain;

@@ -1,7 +1,7 @@
 //! Data blocks: blocks of entries.
 ghost use Rattle.std.specs.Prelude.{◌≡◌, ◌↔◌, ℕ, ◌+◌, ◌^◌, ◌<◌, ◌≤◌, List, length, map, [], IsTrue};
 ghost use Rattle.std.specs.Prelude.{IsSome, OnOk, OnErr, IfOk, IfErr, IsOkUnless, None, Some};
-ghost use Rattle.std.specs.Prelude.{◌==◌, if◌then◌else◌};
+ghost use Rattle.std.specs.Prelude.{IfSome, ◌==◌, if◌then◌else◌};
 ghost use Rattle.sst_base.specs.Bytes.{IsBytes};
 ghost use Rattle.sst_base.specs.Entry.{Entry, IsEntry, plain};
 ghost use Rattle.sst_block_core.specs.Kind.{IsOrdered};
@@ -209,9 +209,11 @@ impl<H: BlockHash> DataBlock<H> {
         if stored == 0 { None } else { Some(stored) }
     }
 
-    /// Returns a view of the hash index, or `None` if none is stored. Takes no memory.
+    /// Returns a view of the hash index, which has at least one bucket, or `None` if none is stored.
+    /// Takes no memory.
     pub fn get_hash_index_reader(&self) -> Option<hash_index::Reader<'_, H>>
-        ensures { result ≡ (if self.now.stored == 0 then None else Some (buckets entries H.hash64 self.now.interval self.now.items self.now.stored)) }
+        ensures buckets { result ≡ (if self.now.stored == 0 then None else Some (buckets entries H.hash64 self.now.interval self.now.items self.now.stored)) }
+        ensures some { IfSome result (λ reader. 0 < length reader) }
     {
         let inner = self.opened();
         let trailer = Trailer::new(inner);

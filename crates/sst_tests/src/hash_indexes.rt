@@ -1,0 +1,216 @@
+//! Blocks with a hash index: worked bytes, and the greatest number of heads for which one is
+//! stored.
+ghost use Rattle.std.specs.Prelude.{◌≤◌, length};
+
+use sst_base::table::block::{Block, BlockType, Header};
+use sst_base::{BlockHash, ByteSum, Checksum, HashRatio, InternalValue, Result, Slice, ValueType};
+use sst_block_core::DataBlock;
+use std::alloc::Global;
+use std::process::Abort;
+use std::test::Fail;
+
+const ONE_EACH: HashRatio = HashRatio { num: 1, den: 1 };
+
+/// A hash by which all keys fall into one bucket.
+struct NoHash;
+
+impl BlockHash for NoHash {
+    ghost hash64 = { λ _. 0 };
+
+    fn hash64(bytes: &[u8]) -> u64 {
+        let _ = bytes;
+        0
+    }
+}
+
+/// Appends an entry to a list.
+fn push(
+    list: &mut Vec<InternalValue>,
+    key: &[u8],
+    value: &[u8],
+    seqno: u64,
+    value_type: ValueType,
+) -> Result<()>
+    requires some { 1 ≤ length key.now }
+    requires key { length key.now ≤ 65535 }
+    requires value { length value.now ≤ 65535 }
+{
+    let alloc = *list.allocator();
+    let key = Slice::new(alloc, key)?;
+    let value = Slice::new(alloc, value)?;
+    list.push(InternalValue::from_components(key, value, seqno, value_type))?;
+    Ok(())
+}
+
+/// The block of a list that is ordered and not empty.
+fn block_of<H: BlockHash>(
+    rt: &impl Abort,
+    alloc: Global,
+    list: &[InternalValue],
+    interval: u8,
+    ratio: HashRatio,
+) -> Result<DataBlock<H>>
+    requires interval { 1 ≤ interval }
+    requires den { 1 ≤ ratio.den }
+{
+    assert!(rt; !list.is_empty());
+    assert!(rt; DataBlock::<H>::is_ordered(list));
+    let bytes = DataBlock::<H>::encode_into_vec(alloc, list, interval, ratio)?;
+    let length = bytes.len() as u32;
+    let header = Header {
+        block_type: BlockType::Data,
+        checksum: Checksum::from_raw(0),
+        data_length: length,
+        uncompressed_length: length,
+    };
+    Ok(DataBlock::new(Block::from_parts(header, Slice::from_vec(bytes)?)))
+}
+
+/// Two versions of a key, of which the older is a tombstone, and another key.
+fn pair(alloc: Global) -> Result<Vec<InternalValue>> {
+    let mut list = Vec::new(alloc);
+    push(&mut list, b"ab", b"x", 2, ValueType::Value)?;
+    push(&mut list, b"ab", b"", 1, ValueType::Tombstone)?;
+    push(&mut list, b"ac", b"y", 300, ValueType::Value)?;
+    Ok(list)
+}
+
+#[test]
+fn buckets_stand_behind_the_pointers(rt: HostRuntime) -> std::result::Result<(), Fail> {
+    let list = pair(rt.alloc())?;
+    let block = block_of::<ByteSum>(&rt, rt.alloc(), &list, 2, ONE_EACH)?;
+    let bytes = block.as_slice().as_slice();
+    assert_eq!(rt; bytes.len(), 58);
+    let (items, rest) = bytes.split_at(20);
+    assert_eq!(rt;
+        items,
+        b"\x00\x02\x02ab\x01x\x01\x01\x02\x00\x00\xac\x02\x02ac\x01y\xff".as_slice()
+    );
+    let (indexes, trailer) = rest.split_at(7);
+    assert_eq!(rt; indexes, [0, 0, 11, 0, 0, 1, 254].as_slice());
+    let (numbers, fixed) = trailer.split_at(18);
+    assert_eq!(rt;
+        numbers,
+        [2, 2, 2, 0, 0, 0, 20, 0, 0, 0, 3, 0, 0, 0, 24, 0, 0, 0].as_slice()
+    );
+    assert_eq!(rt; fixed, [1, 0, 0, 0, 0, 0, 0, 0, 0, 3, 0, 0, 0].as_slice());
+    assert_eq!(rt; block.binary_index_len(), 2);
+    assert_eq!(rt; block.hash_bucket_count(), Some(3));
+    Ok(())
+}
+
+/// Checks that a block has these buckets at an offset, and its trailer behind them.
+fn check_buckets<H: BlockHash>(
+    rt: &impl Abort,
+    block: &DataBlock<H>,
+    offset: usize,
+    buckets: &[u8],
+) {
+    let bytes = block.as_slice().as_slice();
+    assert!(rt; offset <= bytes.len());
+    let (_, rest) = bytes.split_at(offset);
+    assert!(rt; buckets.len() <= rest.len());
+    let (stored, trailer) = rest.split_at(buckets.len());
+    assert_eq!(rt; stored, buckets);
+    assert_eq!(rt; trailer.len(), 31);
+    match block.get_hash_index_reader() {
+        Some(reader) => assert_eq!(rt; reader.bucket_count(), buckets.len()),
+        None => assert!(rt; buckets.is_empty()),
+    }
+}
+
+#[test]
+fn versions_in_two_intervals_conflict(rt: HostRuntime) -> std::result::Result<(), Fail> {
+    let list = pair(rt.alloc())?;
+    let block = block_of::<ByteSum>(&rt, rt.alloc(), &list, 1, ONE_EACH)?;
+    check_buckets(&rt, &block, 27, [255, 2, 254].as_slice());
+    let Some(reader) = block.get_hash_index_reader() else {
+        assert!(rt; false);
+        return Ok(());
+    };
+    assert_eq!(rt; reader.get(b"ab"), 255);
+    assert_eq!(rt; reader.get(b"ac"), 2);
+    assert_eq!(rt; reader.get(b"c"), 255);
+    assert_eq!(rt; reader.get(b"b"), 254);
+    assert_eq!(rt; reader.conflict_count(), 1);
+    Ok(())
+}
+
+/// Three versions of a key, and another key.
+fn versions(alloc: Global) -> Result<Vec<InternalValue>> {
+    let mut list = Vec::new(alloc);
+    push(&mut list, b"a", b"a", 3, ValueType::Value)?;
+    push(&mut list, b"a", b"a", 2, ValueType::Value)?;
+    push(&mut list, b"a", b"a", 1, ValueType::Value)?;
+    push(&mut list, b"b", b"b", 65, ValueType::Value)?;
+    Ok(list)
+}
+
+#[test]
+fn five_buckets_for_four_entries(rt: HostRuntime) -> std::result::Result<(), Fail> {
+    let list = versions(rt.alloc())?;
+    let ratio = HashRatio { num: 133, den: 100 };
+    let block = block_of::<ByteSum>(&rt, rt.alloc(), &list, 1, ratio)?;
+    check_buckets(&rt, &block, 33, [254, 254, 255, 3, 254].as_slice());
+    let one_bucket = block_of::<NoHash>(&rt, rt.alloc(), &list, 1, ratio)?;
+    check_buckets(&rt, &one_bucket, 33, [255, 254, 254, 254, 254].as_slice());
+    Ok(())
+}
+
+/// Entries with keys of one byte, from 1 up to this one.
+fn byte_keys(alloc: Global, last: u8) -> Result<Vec<InternalValue>> {
+    let mut list = Vec::new(alloc);
+    for key in 1..=last {
+        push(&mut list, [key].as_slice(), b"", 0, ValueType::Value)?;
+    }
+    Ok(list)
+}
+
+#[test]
+fn buckets_are_stored_for_at_most_254_heads(rt: HostRuntime) -> std::result::Result<(), Fail> {
+    let alloc = rt.alloc();
+    let mut buckets = Vec::new(alloc);
+    buckets.push(253u8)?;
+    for number in 0..253u8 {
+        buckets.push(number)?;
+    }
+    let list = byte_keys(alloc, 254)?;
+    let block = block_of::<ByteSum>(&rt, alloc, &list, 1, ONE_EACH)?;
+    check_buckets(&rt, &block, 1779, &buckets);
+    assert_eq!(rt; block.binary_index_len(), 254);
+    assert_eq!(rt; block.hash_bucket_count(), Some(254));
+    let longer = byte_keys(alloc, 255)?;
+    let none = block_of::<ByteSum>(&rt, alloc, &longer, 1, ONE_EACH)?;
+    check_buckets(&rt, &none, 1786, b"");
+    let bytes = none.as_slice().as_slice();
+    assert_eq!(rt; bytes.len(), 1817);
+    let (_, trailer) = bytes.split_at(1786);
+    let (numbers, _) = trailer.split_at(18);
+    assert_eq!(rt;
+        numbers,
+        [1, 2, 255, 0, 0, 0, 252, 4, 0, 0, 0, 0, 0, 0, 0, 0, 0, 0].as_slice()
+    );
+    assert_eq!(rt; none.binary_index_len(), 255);
+    assert_eq!(rt; none.hash_bucket_count(), None);
+    Ok(())
+}
+
+#[test]
+fn buckets_name_the_interval_of_truncated_entries(
+    rt: HostRuntime,
+) -> std::result::Result<(), Fail> {
+    let alloc = rt.alloc();
+    let list = byte_keys(alloc, 255)?;
+    let block = block_of::<ByteSum>(&rt, alloc, &list, 2, ONE_EACH)?;
+    assert_eq!(rt; block.binary_index_len(), 128);
+    assert_eq!(rt; block.hash_bucket_count(), Some(255));
+    let Some(reader) = block.get_hash_index_reader() else {
+        assert!(rt; false);
+        return Ok(());
+    };
+    assert_eq!(rt; reader.get(b"\x01"), 0);
+    assert_eq!(rt; reader.get(b"\x02"), 0);
+    assert_eq!(rt; reader.get(b"\xff"), 127);
+    assert_eq!(rt; reader.conflict_count(), 0);
+    Ok(())
+}
