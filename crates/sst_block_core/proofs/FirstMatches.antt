@@ -7,7 +7,7 @@ use Rattle.std.specs.Cmp.{nat_cmp_is}
 use Rattle.std.specs.Cmp.Lexicographic.{slice_cmp}
 use Rattle.std.specs.declared.cmp.Ordering.{Ordering}
 use Rattle.std.specs.declared.cmp.Ordering.TheVariants.{Less, Equal, Greater}
-use Rattle.std.proofs.lemmas.Option.{slice_get_within}
+use Rattle.std.proofs.lemmas.Option.{slice_get_within, slice_get_cases}
 use Rattle.std.proofs.lemmas.Bool.{cases_lt, cases_Bool, false≢true, leb-true, ltb-true, le-leb, lt-ltb}
 use Rattle.std.proofs.lemmas.Bool.Decides.{nat_tests}
 use Rattle.sst_block_core.specs.Kind.{Kind, IsOrdered}
@@ -119,6 +119,13 @@ module _ {X : Type 0} (kind : Kind X) (needle : List ℕ) (seqno : ℕ) (items :
               let gone = above (slice_cmp nat_cmp (kind.key y) needle) (kind.seqno y) (cut.others j y (omega (arith, low, ge)) here) in
               ap (λ t. ltb (kind.seqno y) seqno && t) gone ∙ and_false (ltb (kind.seqno y) seqno))
         ]))
+
+  -- none, where the first that doesn't pass, if there is one, has another key
+  pub none_at : ((x : X) → slice_get items (count_passed kind needle (Some seqno) items) ≡ Some x → is_eq (slice_cmp nat_cmp (kind.key x) needle) ≡ false) → None ≡ slice_get (filter (is_version kind needle seqno) items) 0
+  none_at other = elim (slice_get_cases items (count_passed kind needle (Some seqno) items)).1 [
+    | inl at ↦ stops_above at.0 at.2 (other at.0 at.2)
+    | inr past ↦ none_left past.0
+  ]
 
   -- where all items with the key stand between two indices, those in front of the first and behind the second are no version
   module _ (low high : ℕ) (alone : (j : ℕ) (y : X) → slice_get items j ≡ Some y → kind.key y ≡ needle → (low ≤ j) × (j < high)) where

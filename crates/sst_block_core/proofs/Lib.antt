@@ -26,6 +26,7 @@ mod EntryReads
 mod OrderedSteps
 mod WindowSteps
 mod FirstMatches
+mod Versions
 mod PlainEntries
 mod LookupReads
 pub mod Indexes

@@ -1,9 +1,11 @@
 -- A search within one interval.
-use Rattle.std.proofs.Common.{◌≡◌, ℕ, ◌+◌, ◌-◌, ◌*◌, ◌%◌, ◌<◌, ◌≤◌, min, List, length, drop, Some, Option, true, false, Bool, refl, sym, ap, ◌∙◌, arith}
+use Rattle.std.proofs.Common.{◌≡◌, ℕ, ◌+◌, ◌-◌, ◌*◌, ◌%◌, ◌<◌, ◌≤◌, min, List, length, drop, Some, Option, true, false, Bool, refl, sym, ap, subst, cond, None, MatchOption, ◌∙◌, arith}
 use Rattle.std.specs.Prelude.{nat_lt, ◌==◌, if◌then◌else◌}
 use Rattle.std.specs.List.{slice_get}
 use Rattle.std.proofs.lemmas.Nat.{mod-mul-add}
 use Rattle.std.specs.Ordering.{nat_cmp}
+use Rattle.std.specs.declared.cmp.Ordering.{Ordering}
+use Rattle.std.specs.declared.cmp.Ordering.TheVariants.{Less, Greater}
 use Rattle.std.specs.Cmp.Lexicographic.{slice_cmp}
 use Rattle.sst_base.specs.SharedPrefix.{shared_prefix_length}
 use Rattle.sst_base.specs.SharedPrefixLaws.{shared_prefix_inside}
@@ -13,7 +15,17 @@ use Rattle.sst_block_core.specs.Window.{passes_cmp, passes, count_passed}
 use Rattle.sst_block_core.specs.Intervals.{IsEntered}
 use Rattle.sst_block_core.specs.declared.table.block.place.Place.{Place}
 use Rattle.sst_block_core.proofs.Cuts.{cut_ordered, passed_below, not_passed_above}
-use Rattle.sst_block_core.proofs.SharedFronts.{passes_by_lengths}
+use Rattle.sst_block_core.proofs.SharedFronts.{order_by_lengths}
+
+-- what is kept where a test says so, by cases
+pub kept_match : {P : Type 0} (p : P) (b : Bool) (r : Option P) (None' : Type 0) (Some' : P → Type 0) → r ≡ cond b (Some p) None → (b ≡ false → None') → (b ≡ true → Some' p) → MatchOption r None' Some'
+kept_match p true r None' Some' e bad good = subst (λ o. MatchOption o None' Some') (sym e) (good refl)
+kept_match p false r None' Some' e bad good = subst (λ o. MatchOption o None' Some') (sym e) (bad refl)
+
+-- the same, with less said where nothing was kept
+pub match_less : {P : Type 0} (r : Option P) (None' None'' : Type 0) (Some' : P → Type 0) → MatchOption r None' Some' → (None' → None'') → MatchOption r None'' Some'
+match_less None None' None'' Some' m less = less m
+match_less (Some p) None' None'' Some' m less = m
 
 -- an index behind a head and before the next is no head's
 between_heads : (j r i : ℕ) → j * r < i → i < (j + 1) * r → 0 < i % r
@@ -53,27 +65,30 @@ module _ {X : Type 0} (kind : Kind X) (needle : List ℕ) (from : Option ℕ) (l
   pub alike_inside : alike ≤ length needle
   alike_inside = let s = (shared_prefix_inside (kind.key e.head) needle).1 in let a = e.shared_is in omega (arith, s, a)
 
-  module _ (ordered : IsOrdered kind list.items) (x : X) (there : slice_get list.items at.place ≡ Some x) (shared seqno : ℕ) (rest : List ℕ)
-      (shared_is : shared ≡ shared_prefix_length (kind.key e.head) (kind.key x)) (rest_is : rest ≡ drop shared (kind.key x)) (seqno_is : seqno ≡ kind.seqno x) where
-    -- the test by lengths tells whether the item passes
-    pub test_is : (if shared == alike then passes_cmp (slice_cmp nat_cmp rest (drop alike needle)) from seqno else nat_lt alike shared) ≡ passes needle from (kind.key x) (kind.seqno x)
-    test_is =
+  module _ (ordered : IsOrdered kind list.items) (x : X) (there : slice_get list.items at.place ≡ Some x) (shared : ℕ) (rest : List ℕ)
+      (shared_is : shared ≡ shared_prefix_length (kind.key e.head) (kind.key x)) (rest_is : rest ≡ drop shared (kind.key x)) (order : Ordering)
+      (is : order ≡ (if shared == alike then slice_cmp nat_cmp rest (drop alike needle) else if nat_lt alike shared then Less else Greater)) where
+    -- the comparison by lengths is that of the item's key
+    pub order_is : order ≡ slice_cmp nat_cmp (kind.key x) needle
+    order_is =
         let b = e.before in
-        passes_by_lengths kind list.items ordered e.index at.place e.head x (omega (arith, b)) e.there there needle from (kind.key e.head) rest shared alike seqno
-        refl e.passed e.shared_is shared_is rest_is seqno_is
+        is ∙ order_by_lengths kind list.items ordered e.index at.place e.head x (omega (arith, b)) e.there there needle from rest shared alike e.passed e.shared_is shared_is rest_is
 
-    module _ (test : Bool) (is : test ≡ (if shared == alike then passes_cmp (slice_cmp nat_cmp rest (drop alike needle)) from seqno else nat_lt alike shared)) where
-      -- where it doesn't, the search ends
-      pub stops_here : at.place < end → test ≡ false → at.place ≡ min end (count_passed kind needle from list.items)
+    module _ (seqno : ℕ) (seqno_is : seqno ≡ kind.seqno x) where
+      test_is : passes_cmp order from seqno ≡ passes needle from (kind.key x) (kind.seqno x)
+      test_is = (λ i. passes_cmp (order_is i) from (seqno_is i))
+
+      -- where the item doesn't pass, the search ends
+      pub stops_here : at.place < end → passes_cmp order from seqno ≡ false → at.place ≡ min end (count_passed kind needle from list.items)
       stops_here more stopped =
-          let above = not_passed_above kind needle from list.items ordered at.place x there (sym test_is ∙ sym is ∙ stopped) in
+          let above = not_passed_above kind needle from list.items ordered at.place x there (sym test_is ∙ stopped) in
           let r = e.reached in
           omega (arith, above, r, more)
 
       -- where it does, the search has reached the next place
-      pub goes_on : (next : Place) → at.place < end → test ≡ true → next.place ≡ at.place + 1 → StandsBehind kind list next (kind.key e.head) → IsEntered kind needle from list next alike end
+      pub goes_on : (next : Place) → at.place < end → passes_cmp order from seqno ≡ true → next.place ≡ at.place + 1 → StandsBehind kind list next (kind.key e.head) → IsEntered kind needle from list next alike end
       goes_on next more passed place_is stands =
-          let below = passed_below kind needle from list.items ordered at.place x there (sym test_is ∙ sym is ∙ passed) in
+          let below = passed_below kind needle from list.items ordered at.place x there (sym test_is ∙ passed) in
           let b = e.before in
           record {
             index = e.index;

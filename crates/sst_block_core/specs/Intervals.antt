@@ -1,6 +1,8 @@
 -- What contracts see of the restart intervals of a block: the heads by the binary index, other items from their head on.
 use Rattle.std.specs.Prelude.{◌≡◌, ℕ, ◌+◌, ◌-◌, ◌*◌, ◌/◌, ◌%◌, ◌<◌, ◌≤◌, ◌^◌, if◌then◌else◌, zero, suc, Bool, true, false, List, length, slice_index, slice_get, Option, Some, min}
 use Rattle.std.specs.Borrow.{Bor}
+use Rattle.std.specs.Ordering.{nat_cmp, is_eq}
+use Rattle.std.specs.Cmp.Lexicographic.{slice_cmp}
 use Rattle.sst_base.specs.Counted.{Counted}
 use Rattle.sst_base.specs.SharedPrefix.{shared_prefix_length}
 use Rattle.sst_block_core.specs.Kind.{Kind}
@@ -85,3 +87,9 @@ pub record IsEntered {X : Type 0} (kind : Kind X) (needle : List ℕ) (from : Op
   pub upto : at.place ≤ end
   pub inside : end ≤ length list.items
   pub no_head : (i : ℕ) → at.place ≤ i → i < end → 0 < i % list.interval
+
+-- an item by its ranges was found at an index of a list, and has this key
+pub record IsFoundAt {X P : Type 0} (item_of : List ℕ → P → X) (is_found : List ℕ → P → Type 0) (kind : Kind X) (needle : List ℕ) (list : Listed X) (place : ℕ) (p : P) : Type 0 where
+  pub there : slice_get list.items place ≡ Some (item_of list.payload p)
+  pub found : is_found list.payload p
+  pub same_key : is_eq (slice_cmp nat_cmp (kind.key (item_of list.payload p)) needle) ≡ true

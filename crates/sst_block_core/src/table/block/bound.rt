@@ -2,6 +2,7 @@
 ghost use Rattle.std.specs.Prelude.{◌≡◌, ◌≤◌, ◌==◌, if◌then◌else◌, nat_lt, length, drop};
 ghost use Rattle.std.specs.Ordering.{nat_cmp};
 ghost use Rattle.std.specs.Cmp.Lexicographic.{slice_cmp};
+ghost use Rattle.std.specs.declared.cmp.Ordering.TheVariants.{Less, Greater};
 ghost use Rattle.sst_block_core.specs.Window.{passes_cmp, passes};
 
 use sst_base::SeqNo;
@@ -17,9 +18,9 @@ pub(crate) struct Bound<'n> {
 }
 
 impl<'n> Bound<'n> {
-    // Whether it passes a key that compares so with the needle.
+    /// Returns whether it passes a key that compares so with the needle.
     #[inline(always)]
-    fn passes_order(&self, order: Ordering, seqno: SeqNo) -> bool
+    pub(crate) fn passes_order(&self, order: Ordering, seqno: SeqNo) -> bool
         ensures { result ≡ passes_cmp order self.now.from seqno }
     {
         match order {
@@ -40,27 +41,24 @@ impl<'n> Bound<'n> {
         self.passes_order(compare_bytes(key, self.needle), seqno)
     }
 
-    /// Returns whether it passes a key of which this many bytes are those of its interval's head, and
-    /// the rest its own. The bound passes the head, which shares `alike` bytes with the needle.
+    /// Compares with the needle a key that shares so many bytes with the key of its interval's head,
+    /// and has the rest of its own. That head, which the bound passes, shares `alike` bytes with the
+    /// needle.
     ///
     /// A key that shares more with the head than the needle does sorts before the needle, one that
     /// shares less behind it.
     #[inline(always)]
-    pub(crate) fn passes_behind(
-        &self,
-        shared: usize,
-        rest: &[u8],
-        seqno: SeqNo,
-        alike: usize,
-    ) -> bool
+    pub(crate) fn compare_behind(&self, shared: usize, rest: &[u8], alike: usize) -> Ordering
         requires { alike ≤ length self.now.needle.now }
-        ensures { result ≡ (if shared == alike then passes_cmp (slice_cmp nat_cmp rest.now (drop alike self.now.needle.now)) self.now.from seqno else nat_lt alike shared) }
+        ensures { result ≡ (if shared == alike then slice_cmp nat_cmp rest.now (drop alike self.now.needle.now) else if nat_lt alike shared then Less else Greater) }
     {
         if shared == alike {
             let (_, wanted) = self.needle.split_at(alike);
-            self.passes_order(compare_bytes(rest, wanted), seqno)
+            compare_bytes(rest, wanted)
+        } else if alike < shared {
+            Ordering::Less
         } else {
-            alike < shared
+            Ordering::Greater
         }
     }
 }

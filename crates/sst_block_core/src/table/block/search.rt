@@ -10,7 +10,7 @@ ghost use Rattle.sst_block_core.specs.Kind.{IsOrdered};
 ghost use Rattle.sst_block_core.specs.Pointers.{head_count};
 ghost use Rattle.sst_block_core.specs.Scan.{Stands, StandsBehind};
 ghost use Rattle.sst_block_core.specs.Window.{count_passed, is_version};
-ghost use Rattle.sst_block_core.specs.Intervals.{Answered, Splits, digits, IsEntered};
+ghost use Rattle.sst_block_core.specs.Intervals.{Answered, Splits, digits, IsEntered, IsFoundAt};
 
 use crate::table::block::bound::Bound;
 use crate::table::block::decoder::{Decodable, ParsedItem};
@@ -18,6 +18,7 @@ use crate::table::block::intervals::Intervals;
 use crate::table::block::place::Place;
 use sst_base::SeqNo;
 use sst_base::table::util::longest_shared_prefix_length;
+use std::cmp::Ordering;
 
 impl<'a, Item: Decodable<Parsed>, Parsed: ParsedItem<Item>> Intervals<'a, Item, Parsed> {
     /// Returns how many heads a predicate over keys and sequence numbers holds of, if it is true and
@@ -66,9 +67,9 @@ impl<'a, Item: Decodable<Parsed>, Parsed: ParsedItem<Item>> Intervals<'a, Item, 
 }
 
 impl<'a, Item: Decodable<Parsed>, Parsed: ParsedItem<Item> + Drop> Intervals<'a, Item, Parsed> {
-    // The first place from one on, and before an end, whose item a bound doesn't pass, with that item;
-    // or the end. No head is among them, and their head, which the bound passes, shares `alike` bytes
-    // with the needle.
+    // The first place from one on, and before an end, whose item a bound doesn't pass, with that item
+    // if its key is the needle; or the end. No head is among them, and their head, which the bound
+    // passes, shares `alike` bytes with the needle.
     #[inline(always)]
     fn scan(
         &mut self,
@@ -82,19 +83,21 @@ impl<'a, Item: Decodable<Parsed>, Parsed: ParsedItem<Item> + Drop> Intervals<'a,
         ensures list { self.new.list ≡ self.old.list }
         ensures place { result.0.place ≡ min end (count_passed Item.kind bound.now.needle.now bound.now.from self.old.list.items) }
         ensures stands { Stands Item.kind self.old.list result.0 }
-        ensures item { MatchOption result.1 (end ≤ result.0.place)
-            (λ p. (slice_get self.old.list.items result.0.place ≡ Some (Parsed.item_of self.old.list.payload p)) × Parsed.is_found self.old.list.payload p × (result.0.place < end)) }
+        ensures item { MatchOption result.1
+            ((x : Item) → result.0.place < end → slice_get self.old.list.items result.0.place ≡ Some x → is_eq (slice_cmp nat_cmp (Item.kind.key x) bound.now.needle.now) ≡ false)
+            (λ p. IsFoundAt Parsed.item_of Parsed.is_found Item.kind bound.now.needle.now self.old.list result.0.place p × (result.0.place < end)) }
         ensures heads { self.new.steps.heads ≡ self.old.steps.heads }
-        ensures entries { self.new.steps.entries + from.place ≡ self.old.steps.entries + result.0.place + found_item result.1 }
-        ensures onwards { from.place ≤ result.0.place }
+        ensures entries { self.new.steps.entries ≤ self.old.steps.entries + (end - from.place) }
+        ensures entries_grow { self.old.steps.entries + found_item result.1 ≤ self.new.steps.entries }
     {
         let mut at = from;
         while at.place < end {
             let here = at;
             let item = self.take_rest(&mut at);
             let shared = self.prefix_len(&item);
-            if !bound.passes_behind(shared, self.own_key(&item), item.seqno(), alike) {
-                return (here, Some(item));
+            let order = bound.compare_behind(shared, self.own_key(&item), alike);
+            if !bound.passes_order(order, item.seqno()) {
+                return (here, if_equal(order, item));
             }
         }
         (at, None)
@@ -121,8 +124,8 @@ impl<'a, Item: Decodable<Parsed>, Parsed: ParsedItem<Item> + Drop> Intervals<'a,
         (at, head, alike)
     }
 
-    // The first place of interval j whose item a bound doesn't pass, with that item; or the end of
-    // the interval. The bound passes its head.
+    // The first place of interval j whose item a bound doesn't pass, with that item if its key is the
+    // needle; or the end of the interval. The bound passes its head.
     #[inline(always)]
     fn seek_in(&mut self, j: usize, bound: &Bound<'_>) -> (Place, Option<Parsed>)
         requires ordered { IsOrdered Item.kind self.old.list.items }
@@ -131,42 +134,16 @@ impl<'a, Item: Decodable<Parsed>, Parsed: ParsedItem<Item> + Drop> Intervals<'a,
         ensures list { self.new.list ≡ self.old.list }
         ensures place { result.0.place ≡ min (min (length self.old.list.items) ((j + 1) * self.old.list.interval)) (count_passed Item.kind bound.now.needle.now bound.now.from self.old.list.items) }
         ensures stands { Stands Item.kind self.old.list result.0 }
-        ensures item { MatchOption result.1 (min (length self.old.list.items) ((j + 1) * self.old.list.interval) ≤ result.0.place)
-            (λ p. (slice_get self.old.list.items result.0.place ≡ Some (Parsed.item_of self.old.list.payload p)) × Parsed.is_found self.old.list.payload p × (result.0.place < length self.old.list.items)) }
+        ensures item { MatchOption result.1
+            ((x : Item) → result.0.place < min (length self.old.list.items) ((j + 1) * self.old.list.interval) → slice_get self.old.list.items result.0.place ≡ Some x → is_eq (slice_cmp nat_cmp (Item.kind.key x) bound.now.needle.now) ≡ false)
+            (IsFoundAt Parsed.item_of Parsed.is_found Item.kind bound.now.needle.now self.old.list result.0.place) }
         ensures heads { self.new.steps.heads ≡ self.old.steps.heads }
-        ensures entries { self.new.steps.entries + j * self.old.list.interval ≡ self.old.steps.entries + result.0.place + found_item result.1 }
+        ensures entries { self.new.steps.entries ≤ self.old.steps.entries + self.old.list.interval }
+        ensures entries_grow { self.old.steps.entries + found_item result.1 ≤ self.new.steps.entries }
     {
         let end = self.end(j);
         let (from, _, alike) = self.enter(j, bound.needle);
         self.scan(from, end, alike, bound)
-    }
-
-    /// Returns the place of the first item that a bound doesn't pass, with that item.
-    #[inline(always)]
-    pub(crate) fn seek(&mut self, bound: &Bound<'_>) -> (Place, Option<Parsed>)
-        requires { IsOrdered Item.kind self.old.list.items }
-        ensures list { self.new.list ≡ self.old.list }
-        ensures place { result.0.place ≡ count_passed Item.kind bound.now.needle.now bound.now.from self.old.list.items }
-        ensures stands { Stands Item.kind self.old.list result.0 }
-        ensures item { MatchOption result.1 (length self.old.list.items ≤ result.0.place)
-            (λ p. (slice_get self.old.list.items result.0.place ≡ Some (Parsed.item_of self.old.list.payload p)) × Parsed.is_found self.old.list.payload p) }
-        ensures heads { self.new.steps.heads ≤ self.old.steps.heads + digits (head_count self.old.list.interval (length self.old.list.items)) }
-        ensures heads_grow { self.old.steps.heads ≤ self.new.steps.heads }
-        ensures entries { self.new.steps.entries ≤ self.old.steps.entries + (self.old.list.interval + 1) }
-        ensures entries_grow { self.old.steps.entries + found_item result.1 ≤ self.new.steps.entries }
-    {
-        let heads = self.heads_passed(bound);
-        let (mut at, item) = if heads == 0 {
-            (self.start(0), None)
-        } else {
-            self.seek_in(heads - 1, bound)
-        };
-        if item.is_some() || at.place >= self.item_count() {
-            return (at, item);
-        }
-        let here = at;
-        let item = self.take(&mut at);
-        (here, Some(item))
     }
 
     // An item, if it has a key.
@@ -175,11 +152,52 @@ impl<'a, Item: Decodable<Parsed>, Parsed: ParsedItem<Item> + Drop> Intervals<'a,
         requires { Parsed.is_found self.now.list.payload item }
         ensures { result ≡ (if is_eq (slice_cmp nat_cmp (Item.kind.key (Parsed.item_of self.now.list.payload item)) needle.now) then Some item else None) }
     {
-        if self.compare_key(&item, needle).is_eq() {
-            Some(item)
-        } else {
-            None
+        if_equal(self.compare_key(&item, needle), item)
+    }
+
+    // The item of a head, if it has a key.
+    #[inline(always)]
+    fn head_with_key(&mut self, at: Place, needle: &[u8]) -> Option<Parsed>
+        requires inside { at.place < length self.old.list.items }
+        requires head { at.phase ≡ 0 }
+        requires stands { Stands Item.kind self.old.list at }
+        ensures list { self.new.list ≡ self.old.list }
+        ensures item { MatchOption result
+            ((x : Item) → slice_get self.old.list.items at.place ≡ Some x → is_eq (slice_cmp nat_cmp (Item.kind.key x) needle.now) ≡ false)
+            (IsFoundAt Parsed.item_of Parsed.is_found Item.kind needle.now self.old.list at.place) }
+        ensures heads { self.new.steps.heads ≡ self.old.steps.heads }
+        ensures entries { self.new.steps.entries ≡ self.old.steps.entries + 1 }
+    {
+        let mut at = at;
+        let item = self.take_head(&mut at);
+        self.with_key(item, needle)
+    }
+
+    /// Returns the place of the first item that a bound doesn't pass, with that item if its key is
+    /// the needle.
+    #[inline(always)]
+    pub(crate) fn seek(&mut self, bound: &Bound<'_>) -> (Place, Option<Parsed>)
+        requires { IsOrdered Item.kind self.old.list.items }
+        ensures list { self.new.list ≡ self.old.list }
+        ensures place { result.0.place ≡ count_passed Item.kind bound.now.needle.now bound.now.from self.old.list.items }
+        ensures stands { Stands Item.kind self.old.list result.0 }
+        ensures item { MatchOption result.1
+            ((x : Item) → slice_get self.old.list.items result.0.place ≡ Some x → is_eq (slice_cmp nat_cmp (Item.kind.key x) bound.now.needle.now) ≡ false)
+            (IsFoundAt Parsed.item_of Parsed.is_found Item.kind bound.now.needle.now self.old.list result.0.place) }
+        ensures heads { self.new.steps.heads ≤ self.old.steps.heads + digits (head_count self.old.list.interval (length self.old.list.items)) }
+        ensures heads_grow { self.old.steps.heads ≤ self.new.steps.heads }
+        ensures entries { self.new.steps.entries ≤ self.old.steps.entries + (self.old.list.interval + 1) }
+        ensures entries_grow { self.old.steps.entries + found_item result.1 ≤ self.new.steps.entries }
+    {
+        let heads = self.heads_passed(bound);
+        if heads > 0 {
+            let (at, item) = self.seek_in(heads - 1, bound);
+            if at.place < self.end(heads - 1) || at.place >= self.item_count() {
+                return (at, item);
+            }
         }
+        let at = self.start(heads);
+        (at, self.head_with_key(at, bound.needle))
     }
 
     /// Finds the first item with a key whose sequence number is strictly below `seqno`, by a search
@@ -200,10 +218,7 @@ impl<'a, Item: Decodable<Parsed>, Parsed: ParsedItem<Item> + Drop> Intervals<'a,
             from: Some(seqno),
         };
         let (_, item) = self.seek(&bound);
-        let Some(item) = item else {
-            return None;
-        };
-        self.with_key(item, needle)
+        item
     }
 
     /// Finds the first item with a key whose sequence number is strictly below `seqno`, in interval
@@ -236,9 +251,14 @@ impl<'a, Item: Decodable<Parsed>, Parsed: ParsedItem<Item> + Drop> Intervals<'a,
             return self.with_key(head, needle);
         }
         let (_, item) = self.scan(from, end, alike, &bound);
-        let Some(item) = item else {
-            return None;
-        };
-        self.with_key(item, needle)
+        item
     }
+}
+
+// An item, if a comparison says equal.
+#[inline(always)]
+fn if_equal<T: Drop>(order: Ordering, item: T) -> Option<T>
+    ensures { result ≡ (if is_eq order then Some item else None) }
+{
+    if order.is_eq() { Some(item) } else { None }
 }

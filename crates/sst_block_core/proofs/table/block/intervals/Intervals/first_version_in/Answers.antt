@@ -1,10 +1,10 @@
-use Rattle.std.proofs.Common.{◌≡◌, ◌∙◌, ◌⊎◌, ◌+◌, ◌*◌, ◌<◌, ◌≤◌, Some, sym, ap, subst, drop, arith, inl, inr, length, slice_get, min}
-use Rattle.std.proofs.lemmas.Bool.{cases_lt}
+use Rattle.std.proofs.Common.{◌∙◌, Some, sym, ap, subst, drop}
 use Rattle.sst_block_core.specs.Scan.{Listed}
-use Rattle.sst_block_core.specs.Window.{passes, count_passed}
+use Rattle.sst_block_core.specs.Window.{passes}
 use Rattle.sst_block_core.specs.Intervals.{IsEntered}
 use Rattle.sst_block_core.proofs.Scans.{enters}
-use Rattle.sst_block_core.proofs.FirstMatches.{none_between, first_of_these, none_of_these, stops_at, stops_above, kept_if}
+use Rattle.sst_block_core.proofs.FirstMatches.{first_of_these, none_of_these, kept_if}
+use Rattle.sst_block_core.proofs.Versions.{version_found_in}
 use Rattle.sst_block_core.proofs.table.block.intervals.Intervals.first_version_in.Goals as goal
 
 pub returns-then-not-passes-clause-item : goal.returns-then-not-passes-clause-item
@@ -32,27 +32,8 @@ scan-item-requires-clause-entered g c =
     subst P (sym e.list) (enters kind c.args.needle.now (Some c.args.seqno) list c.requires.ordered c.args.j c.requires.inside _ e.item c.enter-head.result.0 c.enter-head.result.2 c.end-end.result
     c.end-end.ensures.listed.interval_some (sym says ∙ c.if-not-passes.false) e.place e.stands e.alike c.end-end.ensures.value)
 
-pub returns-in_default-clause-item : goal.returns-in_default-clause-item
-returns-in_default-clause-item g c =
-    let e = c.enter-head.ensures in
-    let r = c.args.self.now.list.interval in
-    let items = c.args.self.now.list.items in
-    let past = rw c.in_default.is at c.scan-item.ensures.item in
-    let place = rw e.list at c.scan-item.ensures.place in
-    let end = c.end-end.ensures.value in
-    none_between g.Item.BlockItem.kind c.args.needle.now c.args.seqno items c.requires.ordered _ _ c.requires.alone c.end-end.result
-    (elim (cases_lt (length items) ((c.args.j + 1) * r)) [ | inl less ↦ inl (omega (arith, end, less)) | inr ge ↦ inr (omega (arith, end, ge)) ])
-    (omega (arith, past, place))
-
 pub returns-clause-item : goal.returns-clause-item
 returns-clause-item g c =
     let e = c.enter-head.ensures in
-    let kind = g.Item.BlockItem.kind in
-    let items = c.args.self.now.list.items in
-    let here = rw e.list at (rw c.in-Some.is at c.scan-item.ensures.item) in
-    let place = rw e.list at c.scan-item.ensures.place in
-    let is : c.scan-item.result.0.place ≡ count_passed kind c.args.needle.now (Some c.args.seqno) items = omega (arith, place, here.2) in
-    let at = rw is at here.0 in
-    let kept = rw (c.scan-item.ensures.list ∙ e.list) at c.with_key-2.ensures in
-    kept_if (g.Parsed.ParsedItem.item_of c.args.self.now.list.payload) c.in-Some.item _ _ c.with_key-2.result
-    (stops_at kind c.args.needle.now c.args.seqno items c.requires.ordered _ at) (stops_above kind c.args.needle.now c.args.seqno items c.requires.ordered _ at) kept
+    version_found_in g.Parsed.ParsedItem.item_of g.Parsed.ParsedItem.is_found g.Item.BlockItem.kind c.args.needle.now c.args.seqno c.args.self.now.list c.requires.ordered c.scan-item.result.0.place
+    c.scan-item.result.1 c.args.j c.end-end.result c.end-end.ensures.value (rw e.list at c.scan-item.ensures.place) c.requires.alone (rw e.list at c.scan-item.ensures.item)

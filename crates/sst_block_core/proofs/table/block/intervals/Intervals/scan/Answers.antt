@@ -1,5 +1,8 @@
-use Rattle.std.proofs.Common.{◌≡◌, ◌∙◌, ◌+◌, ap, sym, refl, drop, arith}
-use Rattle.sst_block_core.proofs.Scans.{alike_inside, stops_here, goes_on}
+use Rattle.std.proofs.Common.{◌≡◌, ◌∙◌, ◌+◌, ◌≤◌, ap, sym, refl, drop, arith}
+use Rattle.std.specs.Ordering.{is_eq, nat_cmp}
+use Rattle.std.specs.Cmp.Lexicographic.{slice_cmp}
+use Rattle.std.proofs.lemmas.Option.{same_Some}
+use Rattle.sst_block_core.proofs.Scans.{alike_inside, order_is, stops_here, goes_on, kept_match}
 use Rattle.sst_block_core.proofs.table.block.intervals.Intervals.scan.Goals as goal
 
 pub loop-at-init : goal.loop-at-init
@@ -11,12 +14,12 @@ loop-at-init g c = record {
   entries = refl;
 }
 
-pub passes_behind-requires : goal.passes_behind-requires
-passes_behind-requires g c =
+pub compare_behind-order-requires : goal.compare_behind-order-requires
+compare_behind-order-requires g c =
     alike_inside g.Item.BlockItem.kind c.args.bound.now.needle.now c.args.bound.now.from c.args.self.now.list c.args.from c.args.alike c.args.end c.requires.entered
 
-pub returns-then-not-passes_behind-clause-place : goal.returns-then-not-passes_behind-clause-place
-returns-then-not-passes_behind-clause-place g c =
+pub returns-then-not-passes_order-clause-place : goal.returns-then-not-passes_order-clause-place
+returns-then-not-passes_order-clause-place g c =
     let i = c.loop-at.invariant in
     let e = i.entered in
     let kind = g.Item.BlockItem.kind in
@@ -26,8 +29,24 @@ returns-then-not-passes_behind-clause-place g c =
     let shared = c.prefix_len-shared.ensures ∙ behind.1 in
     let rest = c.own_key.ensures ∙ (λ k. drop (sym c.prefix_len-shared.ensures k) (kind.key (g.Parsed.ParsedItem.item_of ((ap (λ l. l.payload) (took.list ∙ i.same)) k) c.take_rest-item.result))) in
     stops_here kind c.args.bound.now.needle.now c.args.bound.now.from c.args.self.now.list c.loop-at.at c.args.alike c.args.end e c.requires.ordered _ there
-    c.prefix_len-shared.result c.seqno.result c.own_key.result.now shared rest (c.seqno.ensures c.args.self.now.list.payload)
-    c.passes_behind.result c.passes_behind.ensures c.loop-at-test.true c.if-not-passes_behind.true
+    c.prefix_len-shared.result c.own_key.result.now shared rest c.compare_behind-order.result c.compare_behind-order.ensures
+    c.seqno.result (c.seqno.ensures c.args.self.now.list.payload) c.loop-at-test.true (sym c.passes_order.ensures ∙ c.if-not-passes_order.true)
+
+pub returns-then-not-passes_order-clause-item : goal.returns-then-not-passes_order-clause-item
+returns-then-not-passes_order-clause-item g c =
+    let i = c.loop-at.invariant in
+    let e = i.entered in
+    let kind = g.Item.BlockItem.kind in
+    let took = c.take_rest-item.ensures in
+    let there = rw i.same at took.item in
+    let behind = (rw i.same at took.stands) (kind.key e.head) e.stands in
+    let shared = c.prefix_len-shared.ensures ∙ behind.1 in
+    let rest = c.own_key.ensures ∙ (λ k. drop (sym c.prefix_len-shared.ensures k) (kind.key (g.Parsed.ParsedItem.item_of ((ap (λ l. l.payload) (took.list ∙ i.same)) k) c.take_rest-item.result))) in
+    let same = order_is kind c.args.bound.now.needle.now c.args.bound.now.from c.args.self.now.list c.loop-at.at c.args.alike c.args.end e c.requires.ordered _ there
+    c.prefix_len-shared.result c.own_key.result.now shared rest c.compare_behind-order.result c.compare_behind-order.ensures in
+    kept_match c.take_rest-item.result _ c.if_equal.result _ _ c.if_equal.ensures
+    (λ other x less at. ap (λ y. is_eq (slice_cmp nat_cmp (kind.key y) c.args.bound.now.needle.now)) (same_Some x _ (sym at ∙ there)) ∙ ap is_eq (sym same) ∙ other)
+    (λ equal. (record { there = there; found = rw i.same at took.found; same_key = ap is_eq (sym same) ∙ equal }, c.loop-at-test.true))
 
 pub loop-at-preserved : goal.loop-at-preserved
 loop-at-preserved g c =
@@ -45,8 +64,8 @@ loop-at-preserved g c =
     record {
       same = took.list ∙ i.same;
       entered = goes_on kind c.args.bound.now.needle.now c.args.bound.now.from c.args.self.now.list c.loop-at.at c.args.alike c.args.end e c.requires.ordered _ there
-          c.prefix_len-shared.result c.seqno.result c.own_key.result.now shared rest (c.seqno.ensures c.args.self.now.list.payload)
-          c.passes_behind.result c.passes_behind.ensures c.take_rest-item.new.at c.loop-at-test.true c.if-not-passes_behind.false took.place behind.0;
+    c.prefix_len-shared.result c.own_key.result.now shared rest c.compare_behind-order.result c.compare_behind-order.ensures
+          c.seqno.result (c.seqno.ensures c.args.self.now.list.payload) c.take_rest-item.new.at c.loop-at-test.true (sym c.passes_order.ensures ∙ c.if-not-passes_order.false) took.place behind.0;
       onwards = let o = i.onwards in omega (arith, o, p);
       heads = took.heads ∙ i.heads;
       entries = omega (arith, k, n, p);
