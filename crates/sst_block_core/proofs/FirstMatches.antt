@@ -139,7 +139,7 @@ module _ {X : Type 0} (kind : Kind X) (needle : List ℕ) (seqno : ℕ) (items :
     pub none_between : (end : ℕ) → (length items ≤ end) ⊎ (high ≤ end) → end ≤ count_passed kind needle (Some seqno) items → None ≡ slice_get (filter (is_version kind needle seqno) items) 0
     none_between end reach h = sym (filter_none (is_version kind needle seqno) items (λ j y at. elim (cases_lt j end) [
       | inl less ↦ before j y (omega (arith, less, h)) at
-      | inr ge ↦ outside j y at (λ k. let w = slice_get_within items j y at in elim reach [ | inl all ↦ omega (arith, all, ge, w) | inr some ↦ omega (arith, some, ge, k) ])
+      | inr ge ↦ outside j y at (λ k. let w = slice_get_within items j y at in elim reach [ inl all ↦ omega (arith, all, ge, w) | inr some ↦ omega (arith, some, ge, k) ])
     ]))
 
     -- where the first of these doesn't pass, it is the first, if it has the key

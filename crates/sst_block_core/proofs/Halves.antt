@@ -1,6 +1,7 @@
 -- A half has one digit less.
 use Rattle.std.proofs.Common.{◌≡◌, ℕ, zero, suc, ◌+◌, ◌/◌, ◌≤◌, ◌<◌, arith, refl, ap}
 use Rattle.sst_block_core.specs.Intervals.{digits_within, digits}
+
 pub same_fuel : (f g n : ℕ) → n ≤ f → n ≤ g → digits_within f n ≡ digits_within g n
 same_fuel zero zero zero p q = refl
 same_fuel zero (suc g) zero p q = refl

@@ -78,7 +78,7 @@ index_count : (t : Trailer) (p : List ℕ) → HasParts t p → length (pointers
 index_count t p parts =
     let e = parts.end in
     let l : length (index_in t p) ≡ t.heads * t.width = length-take-le (t.heads * t.width) (drop t.index_offset p) (let d = length-drop t.index_offset p in omega (arith, e, d)) in
-    let w : 0 < t.width = elim parts.width [ | inl two ↦ omega (arith, two) | inr four ↦ omega (arith, four) ] in
+    let w : 0 < t.width = elim parts.width [ inl two ↦ omega (arith, two) | inr four ↦ omega (arith, four) ] in
     pointers_count t.width (index_in t p) ∙ ap (λ n. n / t.width) l ∙ mul-div_cancel t.heads w
 
 module _ {X : Type 0} (kind : Kind X) (valid : X → Type 0) (laws : IsKind kind valid) (hash : List ℕ → ℕ) (p : List ℕ) (items : List X) (r b : ℕ) (block : IsEncoding kind valid hash p items r b) (room : length p < 2 ^ 32) where
@@ -100,10 +100,10 @@ module _ {X : Type 0} (kind : Kind X) (valid : X → Type 0) (laws : IsKind kind
       let total : length p ≡ length (body kind r items) + length rest = ap length block.whole ∙ length-append (body kind r items) rest in
       let many = index_count t p pass.parts in
       let pointer : (j : ℕ) → j * t.interval < length (items_in kind p) → slice_index (pointers_in t.width (index_in t p)) j ≡ place_offset kind t.interval (items_in kind p) (j * t.interval) = (λ j h.
-          let k = (head_below t.interval (length (items_in kind p)) j pos).1 h in
-          let e = ap (head_count t.interval) count in
-          let few : j < t.heads = omega (arith, k, e, heads) in
-          pointer_is t.width (index_in t p) j 0 (omega (arith, few, many)) ∙ pass.pointers.offsets j few) in
+      let k = (head_below t.interval (length (items_in kind p)) j pos).1 h in
+      let e = ap (head_count t.interval) count in
+      let few : j < t.heads = omega (arith, k, e, heads) in
+      pointer_is t.width (index_in t p) j 0 (omega (arith, few, many)) ∙ pass.pointers.offsets j few) in
       record {
         listed = record {
           interval_some = pos;

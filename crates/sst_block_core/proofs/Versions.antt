@@ -43,6 +43,6 @@ module _ {X P : Type 0} (item_of : List ℕ → P → X) (is_found : List ℕ �
         (let here : place ≡ count_passed kind needle (Some seqno) list.items = omega (arith, is, less) in
         none_there here (λ x at. m x (omega (arith, here, less)) at))
     | inr past ↦ none_between kind needle seqno list.items ordered (j * list.interval) ((j + 1) * list.interval) alone end
-        (elim (cases_lt (length list.items) ((j + 1) * list.interval)) [ | inl short ↦ inl (omega (arith, end_is, short)) | inr long ↦ inr (omega (arith, end_is, long)) ])
+        (elim (cases_lt (length list.items) ((j + 1) * list.interval)) [ inl short ↦ inl (omega (arith, end_is, short)) | inr long ↦ inr (omega (arith, end_is, long)) ])
         past
   ]

@@ -3,8 +3,8 @@ ghost use Rattle.std.specs.Prelude.{◌≡◌, ◌+◌, ◌==◌, ◌≤◌, ◌
 ghost use Rattle.std.specs.Prelude.{count_by};
 ghost use Rattle.sst_block_core.specs.Lookups.{lookup_in};
 
-use super::{MARKER_CONFLICT, MARKER_FREE};
 use super::builder::bucket_index;
+use super::{MARKER_CONFLICT, MARKER_FREE};
 use sst_base::BlockHash;
 use std::marker::{Model, PhantomData};
 

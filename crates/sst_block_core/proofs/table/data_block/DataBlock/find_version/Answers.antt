@@ -27,13 +27,13 @@ returns-clause-item g c =
     let payload = i.payload in
     elim c.match-lookup.branch [
       | in-Nowhere w ↦
-        let none = nowhere_none g.H.BlockHash.hash64 c.args.self.now c.args.needle.now i.some c.lookup.ensures.few_heads (sym c.lookup.ensures.value ∙ w.in-Nowhere.is) in
-        ap (option_map (entry_of c.args.self.now.payload)) w.found-is
-        ∙ first_match_search c.args.needle.now c.args.seqno items items _ refl i.plain (none_has_key entries c.args.needle.now c.args.seqno items none)
+          let none = nowhere_none g.H.BlockHash.hash64 c.args.self.now c.args.needle.now i.some c.lookup.ensures.few_heads (sym c.lookup.ensures.value ∙ w.in-Nowhere.is) in
+          ap (option_map (entry_of c.args.self.now.payload)) w.found-is
+          ∙ first_match_search c.args.needle.now c.args.seqno items items _ refl i.plain (none_has_key entries c.args.needle.now c.args.seqno items none)
       | in-Interval w ↦
-        (λ k. option_map (entry_of (sym payload k)) (w.found-is k))
-        ∙ first_match_search c.args.needle.now c.args.seqno c.intervals-intervals.result.list.items items _ i.items i.plain w.first_version_in-found.ensures.item
+          (λ k. option_map (entry_of (sym payload k)) (w.found-is k))
+          ∙ first_match_search c.args.needle.now c.args.seqno c.intervals-intervals.result.list.items items _ i.items i.plain w.first_version_in-found.ensures.item
       | in-Anywhere w ↦
-        (λ k. option_map (entry_of (sym payload k)) (w.found-is k))
-        ∙ first_match_search c.args.needle.now c.args.seqno c.intervals-intervals.result.list.items items _ i.items i.plain w.first_version-found.ensures.item
+          (λ k. option_map (entry_of (sym payload k)) (w.found-is k))
+          ∙ first_match_search c.args.needle.now c.args.seqno c.intervals-intervals.result.list.items items _ i.items i.plain w.first_version-found.ensures.item
     ]

@@ -13,7 +13,7 @@ returns-clause-low g c = λ h.
 
 pub returns-clause-high : goal.returns-clause-high
 returns-clause-high g c = elim (cases_lt c.partition_point.result c.count.result) [
-    | inl less ↦
+  | inl less ↦
       let a = c.partition_point.ensures.after (omega (arith, less, c.count.ensures.value)) in
       let bad : passes c.args.bound.now.needle.now c.args.bound.now.from a.key.now (g.Item.BlockItem.kind.seqno a.item) ≡ false = search rules in
       not_passed_above g.Item.BlockItem.kind c.args.bound.now.needle.now c.args.bound.now.from c.args.self.now.list.items c.requires _ a.item a.there (rw a.is at bad)
@@ -21,4 +21,4 @@ returns-clause-high g c = elim (cases_lt c.partition_point.result c.count.result
       let count = count_inside g.Item.BlockItem.kind c.args.bound.now.needle.now c.args.bound.now.from c.args.self.now.list.items c.requires in
       let up : c.count.result * c.args.self.now.list.interval ≤ c.partition_point.result * c.args.self.now.list.interval = times_upto _ _ _ past in
       omega (arith, count, up, c.count.ensures.all)
-  ]
+]

@@ -16,8 +16,8 @@ loop-right-preserved-then-start-offset g c =
       order = omega arith;
       inside = i.inside;
       between = λ j h e.
-        let le : place_offset g.Item.BlockItem.kind r c.args.self.now.list.items (mid * r) ≤ place_offset g.Item.BlockItem.kind r c.args.self.now.list.items (j * r) = omega (arith, o, e, c.if-start-offset.true) in
-        (head_upto g.Item.BlockItem.kind r c.count-right.ensures.listed.interval_some g.Item.BlockItem.valid g.Item.BlockItem.is_kind c.args.self.now.list.items mid j known h le, (i.between j h e).1);
+          let le : place_offset g.Item.BlockItem.kind r c.args.self.now.list.items (mid * r) ≤ place_offset g.Item.BlockItem.kind r c.args.self.now.list.items (j * r) = omega (arith, o, e, c.if-start-offset.true) in
+          (head_upto g.Item.BlockItem.kind r c.count-right.ensures.listed.interval_some g.Item.BlockItem.valid g.Item.BlockItem.is_kind c.args.self.now.list.items mid j known h le, (i.between j h e).1);
     }
 
 pub loop-right-preserved : goal.loop-right-preserved
@@ -33,6 +33,6 @@ loop-right-preserved g c =
       order = omega arith;
       inside = omega (arith, low, known);
       between = λ j h e.
-        let lt : place_offset g.Item.BlockItem.kind r c.args.self.now.list.items (j * r) < place_offset g.Item.BlockItem.kind r c.args.self.now.list.items (mid * r) = omega (arith, o, e, c.if-start-offset.false) in
-        ((i.between j h e).0, head_behind g.Item.BlockItem.kind r c.count-right.ensures.listed.interval_some g.Item.BlockItem.valid g.Item.BlockItem.is_kind c.args.self.now.list.items mid j known h lt);
+          let lt : place_offset g.Item.BlockItem.kind r c.args.self.now.list.items (j * r) < place_offset g.Item.BlockItem.kind r c.args.self.now.list.items (mid * r) = omega (arith, o, e, c.if-start-offset.false) in
+          ((i.between j h e).0, head_behind g.Item.BlockItem.kind r c.count-right.ensures.listed.interval_some g.Item.BlockItem.valid g.Item.BlockItem.is_kind c.args.self.now.list.items mid j known h lt);
     }

@@ -6,7 +6,7 @@ abbrev pub invariant-loop-right : goal.invariant-loop-right
 invariant-loop-right g l = record {
   order : l.left < l.right;
   inside : (l.right - 1) * l.self.list.interval < length l.self.list.items;
-  between : (j : ℕ) → j * l.self.list.interval < length l.self.list.items → l.offset ≡ place_offset g.Item.BlockItem.kind l.self.list.interval l.self.list.items (j * l.self.list.interval) → (l.left ≤ j) × (j < l.right)
+  between : (j : ℕ) → j * l.self.list.interval < length l.self.list.items → l.offset ≡ place_offset g.Item.BlockItem.kind l.self.list.interval l.self.list.items (j * l.self.list.interval) → (l.left ≤ j) × (j < l.right);
 }
 
 abbrev pub decreases-loop-right : goal.decreases-loop-right

@@ -64,7 +64,7 @@ loop-at-preserved g c =
     record {
       same = took.list ∙ i.same;
       entered = goes_on kind c.args.bound.now.needle.now c.args.bound.now.from c.args.self.now.list c.loop-at.at c.args.alike c.args.end e c.requires.ordered _ there
-    c.prefix_len-shared.result c.own_key.result.now shared rest c.compare_behind-order.result c.compare_behind-order.ensures
+          c.prefix_len-shared.result c.own_key.result.now shared rest c.compare_behind-order.result c.compare_behind-order.ensures
           c.seqno.result (c.seqno.ensures c.args.self.now.list.payload) c.take_rest-item.new.at c.loop-at-test.true (sym c.passes_order.ensures ∙ c.if-not-passes_order.false) took.place behind.0;
       onwards = let o = i.onwards in omega (arith, o, p);
       heads = took.heads ∙ i.heads;

@@ -24,8 +24,8 @@ returns-then-at-end-clause-item g c =
     match_less c.seek_in-item.result.1 _ _ _ found (λ other x at. other x (elim c.then-at-end.branch [
       | then-at-end-via-then-at-end w ↦ let less = w.if-at-end.true in omega (arith, less, value)
       | then-at-end-via-else-at-end+then-at-item_count w ↦
-        let within = slice_get_within items c.seek_in-item.result.0.place x at in
-        let past = w.if-at-item_count.true in
-        let n = rw same at w.item_count.ensures.value in
-        absurd (omega (arith, within, past, n))
+          let within = slice_get_within items c.seek_in-item.result.0.place x at in
+          let past = w.if-at-item_count.true in
+          let n = rw same at w.item_count.ensures.value in
+          absurd (omega (arith, within, past, n))
     ]) at)
