@@ -96,6 +96,7 @@ impl<H: BlockHash> Builder<H> {
     /// # Errors
     ///
     /// `AllocError` if an allocation fails.
+    #[inline(always)]
     pub(crate) fn begin_interval(
         &mut self,
         heads: usize,
