@@ -202,10 +202,10 @@ impl<H: BlockHash> DataBlock<H> {
     }
 
     /// Returns the number of buckets in the hash index, or `None` if none is stored.
-    pub fn hash_bucket_count(&self) -> Option<u32>
+    pub fn hash_bucket_count(&self) -> Option<usize>
         ensures { result ≡ (if self.now.stored == 0 then None else Some self.now.stored) }
     {
-        let stored = Trailer::new(self.opened()).hash_len();
+        let stored = Trailer::new(self.opened()).hash_len() as usize;
         if stored == 0 { None } else { Some(stored) }
     }
 
