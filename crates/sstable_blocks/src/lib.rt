@@ -1,5 +1,5 @@
 //! The block layer of a log-structured storage engine: sorted entries in blocks with restart
-//! intervals, prefix truncation and a binary index.
+//! intervals, prefix truncation, a binary index and a hash index.
 //!
 //! This crate names what users need of the crates below it, in the modules of the Rust crate that
 //! it ports.

@@ -205,32 +205,33 @@ impl<'a, Item: Decodable<Parsed>, Parsed: ParsedItem<Item>> Decoder<'a, Item, Pa
         }
     }
 
-    /// Moves the front to a head, which a predicate over keys and sequence numbers picks: true and
-    /// then false over the heads, it picks the last head of which it is true, or in the second form
-    /// the first of which it is false. Where there is none, the first head, or in the second form the
-    /// last.
+    /// Moves the front to a head. A predicate over keys and sequence numbers, true of the first heads
+    /// and false of the others, picks it: the last head of which it is true, or the first head where
+    /// it is true of none. With `second_partition` it picks the first head of which it is false, or
+    /// the last head where it is true of all.
     ///
-    /// Answers `true`. But in the second form, where each item is a head and the predicate is true of
-    /// all, the front is emptied, and the answer is `false`. The back stays, and no entry is counted.
-    pub fn seek<F: Fn(&[u8], u64) -> bool>(&mut self, pred: &F, second: bool) -> bool
+    /// Returns `true`. But with `second_partition`, where each item is a head and the predicate is
+    /// true of all, the front is emptied, and the answer is `false`. The back stays. Counts at most as
+    /// many heads as their number has binary digits, and no entry.
+    pub fn seek<F: Fn(&[u8], u64) -> bool>(&mut self, pred: &F, second_partition: bool) -> bool
         requires callable { F.IsAlwaysCallable pred.now }
         ensures payload { self.new.payload ≡ self.old.payload }
         ensures interval { self.new.interval ≡ self.old.interval }
         ensures list { self.new.window.list ≡ self.old.window.list }
         ensures back { self.new.window.hi ≡ self.old.window.hi }
         ensures step { (p : ℕ) → Splits Item.kind (F.post pred.now) self.old.interval self.old.window.list (head_count self.old.interval (length self.old.window.list)) p
-            → ◌≡◌ {A = Window Item × Answer Item} (self.new.window, found result) (seek_picked self.old.interval second p self.old.window) }
+            → ◌≡◌ {A = Window Item × Answer Item} (self.new.window, found result) (seek_picked self.old.interval second_partition p self.old.window) }
         ensures heads { self.new.steps.heads ≤ self.old.steps.heads + digits (head_count self.old.interval (length self.old.window.list)) }
         ensures heads_grow { self.old.steps.heads ≤ self.new.steps.heads }
         ensures entries { self.new.steps.entries ≡ self.old.steps.entries }
     {
         let passed = self.intervals.partition_point(pred);
         let count = self.intervals.count();
-        if second && passed == count && self.intervals.interval() == 1 {
+        if second_partition && passed == count && self.intervals.interval() == 1 {
             self.front = self.intervals.last();
             return false;
         }
-        let picked = if second {
+        let picked = if second_partition {
             passed.min(count - 1)
         } else {
             passed.saturating_sub(1)
