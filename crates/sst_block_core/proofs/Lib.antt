@@ -16,6 +16,7 @@ mod StandingForms
 mod PlaceReads
 mod Openings
 mod HeadPlaces
+mod Backs
 mod OwnKeys
 mod Halves
 mod HeadAnswers

@@ -238,6 +238,7 @@ impl<'a, Item: Decodable<Parsed>, Parsed: ParsedItem<Item>> Intervals<'a, Item, 
         ensures item { slice_get self.old.list.items at.old.place ≡ Some (Parsed.item_of self.old.list.payload result) }
         ensures found { Parsed.is_found self.old.list.payload result }
         ensures place { at.new.place ≡ at.old.place + 1 }
+        ensures base { at.new.base ≡ at.old.base }
         ensures stands { (head : List ℕ) → StandsBehind Item.kind self.old.list at.old head
             → StandsBehind Item.kind self.old.list at.new head
             × (Parsed.shared_len result ≡ shared_prefix_length head (Item.kind.key (Parsed.item_of self.old.list.payload result))) }

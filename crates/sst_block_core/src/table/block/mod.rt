@@ -1,4 +1,5 @@
 //! Blocks: what writes and reads the items of one.
+pub(crate) mod back;
 pub mod binary_index;
 pub(crate) mod bound;
 pub mod decoder;

@@ -1,0 +1,132 @@
+-- The back of a window: its stack of places.
+use Rattle.std.proofs.Common.{◌≡◌, ◌≢◌, ℕ, zero, suc, ◌+◌, ◌-◌, ◌*◌, ◌/◌, ◌%◌, ◌<◌, ◌≤◌, ◌⊎◌, inl, inr, Bool, true, false, cond, eqb, List, [], ◌∷◌, ◌++◌, length, get_or, min, Option, Some, None, refl, sym, ap, subst, ◌∙◌, arith, add-one}
+use Rattle.std.proofs.Math.Nat.{zero-mod, mul-mod_left, add-mul-mod_self_right, mod-add-div', mod-eq_of_lt, lt-div-mul-add, div-mul-le_self}
+use Rattle.std.specs.Prelude.{slice_index, ◌||◌}
+use Rattle.std.proofs.lemmas.Bool.{cases_lt}
+use Rattle.std.proofs.lemmas.Bool.Decides.{nat_tests}
+use Rattle.std.proofs.lemmas.List.{length_push, get_or_push, get_or_append_left}
+use Rattle.sst_block_core.specs.Kind.{Kind}
+use Rattle.sst_block_core.specs.Scan.{Listed, IsBehind, StandsBehind, Stands}
+use Rattle.sst_block_core.specs.Backs.{first_of, StackStands, IsBack, back_cost}
+use Rattle.sst_block_core.specs.declared.table.block.place.Place.{Place}
+
+-- a place of an interval has its distance from the head as its remainder
+pub mod_in_interval : (i k r : ℕ) → i % r ≡ 0 → k < r → (i + k) % r ≡ k
+mod_in_interval i k r head below =
+    let e : i + k ≡ k + i / r * r = let d = mod-add-div' i r in omega (arith, d, head) in
+    ap (λ n. n % r) e ∙ add-mul-mod_self_right k (i / r) r ∙ mod-eq_of_lt below
+
+pub first_of_is : (r end : ℕ) → first_of r end ≡ (end - 1) / r * r
+unfolding first_of
+first_of_is r end = refl
+
+pub first_below : (r end : ℕ) → 0 < end → (end - 1) / r * r < end
+first_below r end h = let d = div-mul-le_self (end - 1) r in omega (arith, d, h)
+
+pub first_near : (r end : ℕ) → 0 < r → end ≤ (end - 1) / r * r + r
+first_near r end h = let d = lt-div-mul-add {a = end - 1} {b = r} h in omega (arith, d)
+
+module _ {X : Type 0} (kind : Kind X) (list : Listed X) where
+  -- a head's place stands with any base
+  pub any_base : (at other : Place) → other.place ≡ at.place → other.offset ≡ at.offset → other.phase ≡ 0 → at.phase ≡ 0 → Stands kind list at → Stands kind list other
+  any_base at other p o z q s =
+      let b = s.stands in
+      record {
+        head = s.head;
+        stands = record {
+          phase = z ∙ sym q ∙ b.phase ∙ ap (λ n. n % list.interval) (sym p);
+          base = λ some. absurd (omega (arith, some, z));
+          behind = subst (λ n. IsBehind kind list n other.offset s.head) (sym p) (subst (λ n. IsBehind kind list at.place n s.head) (sym o) b.behind);
+        };
+      }
+
+  -- one offset more
+  pub stack_push : (stack : List ℕ) (base first : ℕ) (at : Place) → StackStands kind list stack base first → at.place ≡ first + length stack → at.phase ≡ length stack → at.base ≡ base → Stands kind list at
+      → StackStands kind list (stack ++ at.offset ∷ []) base first
+  stack_push stack base first at places p q e s = λ k h.
+      let l = length_push stack at.offset in
+      elim (cases_lt k (length stack)) [
+        | inl less ↦ rw (get_or_append_left stack (at.offset ∷ []) 0 k less) (places k less)
+        | inr ge ↦
+            let n : k ≡ length stack = omega (arith, l, h, ge) in
+            rw (n, get_or_push stack at.offset 0 (length stack) refl) (subst (Stands kind list) (λ i. record { place = p i; phase = q i; offset = at.offset; base = e i }) s)
+      ]
+
+  -- a filled stack
+  pub is_back_filled : (end : ℕ) (stack : List ℕ) (base : ℕ) → 0 < end → end ≤ length list.items → StackStands kind list stack base (first_of list.interval end) → first_of list.interval end + length stack ≡ end
+      → IsBack kind list end stack base × (0 < length stack)
+  is_back_filled end stack base some inside places count =
+      let is = first_of_is list.interval end in
+      let below = first_below list.interval end some in
+      let more : 0 < length stack = omega (arith, is, below, count) in
+      let start : first_of list.interval end ≡ end - length stack = omega (arith, count) in
+      (
+        record {
+          inside = inside;
+          fits = omega (arith, count);
+          places = rw start at places;
+          head = λ h. rw (← start, is) (mul-mod_left ((end - 1) / list.interval) list.interval);
+          ends = λ z. absurd (omega (arith, z, more));
+        },
+        more,
+      )
+
+  pub is_back_empty : (stack : List ℕ) (base : ℕ) → length stack ≡ 0 → IsBack kind list 0 stack base
+  is_back_empty stack base e = record {
+    inside = omega arith;
+    fits = omega (arith, e);
+    places = λ k h. absurd (omega (arith, e, h));
+    head = λ h. absurd (omega (arith, e, h));
+    ends = λ z h. absurd (let m = zero-mod list.interval in omega (arith, m, h));
+  }
+
+  -- without its last place
+  pub is_back_less : (hi : ℕ) (stack less : List ℕ) (top base : ℕ) → 0 < hi → IsBack kind list hi stack base → stack ≡ less ++ top ∷ [] → IsBack kind list (hi - 1) less base
+  is_back_less hi stack less top base some b is =
+      let n : length stack ≡ length less + 1 = ap length is ∙ length_push less top in
+      let inside = b.inside in let fits = b.fits in
+      let start : hi - length stack ≡ (hi - 1) - length less = omega (arith, n, fits) in
+      record {
+        inside = omega (arith, inside);
+        fits = omega (arith, fits, n);
+        places = λ k h. rw (get_or_append_left less (top ∷ []) 0 k h) at (rw is at (rw start at (b.places k (omega (arith, n, h)))));
+        head = λ h. rw start at (b.head (omega (arith, n)));
+        ends = λ z h. absurd (let r = b.head (omega (arith, n)) in let e : (hi - 1) % list.interval ≡ 0 = ap (λ k. k % list.interval) (let q : hi - 1 ≡ hi - length stack = omega (arith, n, z) in q) ∙ r in omega (arith, e, h));
+      }
+
+eqb_same : (n : ℕ) → eqb n n ≡ true
+eqb_same n = grind (arith, nat_tests)
+
+or_true : (b : Bool) → (b || true) ≡ true
+or_true true = refl
+or_true false = refl
+
+-- what is decoded for an empty stack
+pub back_cost_ends : (r n hi : ℕ) → (0 < hi % r → hi ≡ n) → hi - first_of r hi ≤ back_cost r n hi
+unfolding back_cost
+back_cost_ends r n hi ends = elim (cases_lt 0 (hi % r)) [
+  | inl more ↦ let e : eqb hi n ≡ true = rw (ends more) (eqb_same n) in rw (e, or_true) (omega arith)
+  | inr none ↦ let e : hi % r ≡ 0 = omega (arith, none) in rw e (omega arith)
+  ]
+
+-- the end of an interval
+min_ends : (k r n hi : ℕ) → hi ≡ min n (k * r) → 0 < hi % r → hi ≡ n
+min_ends k r n hi e h = elim (cases_lt n (k * r)) [
+  | inl less ↦ omega (arith, e, less)
+  | inr ge ↦
+      let same : hi ≡ k * r = omega (arith, e, ge) in
+      let rem : hi % r ≡ 0 = ap (λ m. m % r) same ∙ mul-mod_left k r in
+      absurd (omega (arith, rem, h))
+  ]
+
+pub is_back_interval : {X : Type 0} (kind : Kind X) (list : Listed X) (k hi : ℕ) (stack : List ℕ) (base : ℕ) → hi ≡ min (length list.items) (k * list.interval) → length stack ≡ 0 → IsBack kind list hi stack base
+is_back_interval kind list k hi stack base e none = record {
+  inside = omega (arith, e);
+  fits = omega (arith, none);
+  places = λ j h. absurd (omega (arith, none, h));
+  head = λ h. absurd (omega (arith, none, h));
+  ends = λ z h. min_ends k list.interval (length list.items) hi e h;
+}
+
+pub zero_from_test : (b : Bool) (m : ℕ) → b ≡ eqb m 0 → b ≡ true → m ≡ 0
+zero_from_test b m is h = grind (arith, nat_tests)

@@ -1,0 +1,9 @@
+use Rattle.std.proofs.Common.{◌≡◌, length, refl, arith}
+use Rattle.sst_block_core.proofs.Backs.{back_cost_ends, zero_from_test}
+use Rattle.sst_block_core.proofs.table.block.intervals.Intervals.load.Goals as goal
+
+pub returns-then-is_empty-clause-entries : goal.returns-then-is_empty-clause-entries
+returns-then-is_empty-clause-entries g c =
+    let none : length c.args.back.now.stack.items ≡ 0 = zero_from_test _ _ c.if-is_empty.ensures refl in
+    let cost = back_cost_ends c.args.self.now.list.interval (length c.args.self.now.list.items) c.args.back.now.hi (c.requires.back.ends none) in
+    omega (arith, cost, c.set_back.ensures.entries)
