@@ -1,9 +1,11 @@
 -- What contracts see of the back of an iterator: an end, and the offsets of the forms in front of it.
-use Rattle.std.specs.Prelude.{◌≡◌, ℕ, ◌+◌, ◌-◌, ◌*◌, ◌/◌, ◌%◌, ◌<◌, ◌≤◌, ◌==◌, ◌||◌, if◌then◌else◌, Bool, true, List, length, slice_index, min}
+use Rattle.std.specs.Prelude.{◌≡◌, ℕ, ◌+◌, ◌-◌, ◌*◌, ◌/◌, ◌%◌, ◌<◌, ◌≤◌, ◌==◌, ◌||◌, if◌then◌else◌, Bool, true, List, length, slice_index, min, Option, IfSome}
+use Rattle.std.specs.Option.{option_map}
+use Rattle.sst_base.specs.Counted.{found_item}
 use Rattle.sst_block_core.specs.Kind.{Kind}
 use Rattle.sst_block_core.specs.Pointers.{head_count}
 use Rattle.sst_block_core.specs.Scan.{Listed, Scan, Stands}
-use Rattle.sst_block_core.specs.Window.{Window, Answer, found, picked_head}
+use Rattle.sst_block_core.specs.Window.{Window, Answer, item, found, picked_head, next_back}
 use Rattle.sst_block_core.specs.declared.table.block.place.Place.{Place}
 
 -- the index of the head of the interval in which the item before an end is
@@ -35,3 +37,14 @@ pub record GivesStep {X : Type 0} (s t : Scan X) (answer : Answer X) (step : Win
   pub payload : t.payload ≡ s.payload
   pub interval : t.interval ≡ s.interval
   pub step_is : ◌≡◌ {A = Window X × Answer X} (t.window, answer) step
+
+-- A call of `next_back` is that step of the window. It counts an entry for an item, and those of the item's interval where
+-- that ends with it.
+pub record GivesNextBack {X P : Type 0} (item_of : List ℕ → P → X) (is_found : List ℕ → P → Type 0) (s : Scan X) (r : Option P) (t : Scan X) : Type 0 where
+  pub payload : t.payload ≡ s.payload
+  pub interval : t.interval ≡ s.interval
+  pub step : ◌≡◌ {A = Window X × Answer X} (t.window, item (option_map (item_of s.payload) r)) (next_back s.window)
+  pub found : IfSome r (is_found s.payload)
+  pub heads : t.steps.heads ≡ s.steps.heads
+  pub entries : t.steps.entries ≤ s.steps.entries + found_item r * (1 + back_cost s.interval (length s.window.list) s.window.hi)
+  pub entries_grow : s.steps.entries + found_item r ≤ t.steps.entries

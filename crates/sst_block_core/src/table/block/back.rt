@@ -22,6 +22,21 @@ pub(crate) struct Back {
     pub(crate) base: usize,
 }
 
+impl Back {
+    /// Makes a back at the end of a block. No offsets are known.
+    #[inline(always)]
+    pub(crate) fn new(hi: usize) -> Back
+        ensures hi { result.hi ≡ hi }
+        ensures empty { result.stack.items ≡ [] }
+    {
+        Back {
+            hi,
+            stack: ArrayVec::new(),
+            base: 0,
+        }
+    }
+}
+
 impl<'a, Item: Decodable<Parsed>, Parsed: ParsedItem<Item> + Drop> Intervals<'a, Item, Parsed> {
     // Puts the offsets of the interval's items before an end on an empty stack. Returns where the key
     // of their head begins.

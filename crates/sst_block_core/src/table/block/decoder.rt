@@ -13,11 +13,13 @@ ghost use Rattle.sst_block_core.specs.Stages.{items_in};
 ghost use Rattle.sst_block_core.specs.Body.{place_offset};
 ghost use Rattle.sst_block_core.specs.Pointers.{head_count};
 ghost use Rattle.sst_block_core.specs.Intervals.{Splits, digits, seek_picked};
-ghost use Rattle.sst_block_core.specs.Window.{Window, Answer, found, whole};
+ghost use Rattle.sst_block_core.specs.Window.{Window, Answer, found, whole, picked_head};
 ghost use Rattle.sst_block_core.specs.Scan.{GivesNext};
+ghost use Rattle.sst_block_core.specs.Backs.{GivesNextBack, seek_upper_picked};
 ghost use Rattle.sst_block_core.specs.Trailer.{trailer_in};
 
 use crate::block_item::BlockItem;
+use crate::table::block::back::Back;
 use crate::table::block::intervals::Intervals;
 use crate::table::block::place::Place;
 use sst_base::table::block::Block;
@@ -164,23 +166,24 @@ pub trait Decodable<Parsed: ParsedItem<Self>>: BlockItem + Sized {
 pub struct Decoder<'a, Item: Decodable<Parsed>, Parsed: ParsedItem<Item>> {
     intervals: Intervals<'a, Item, Parsed>,
     front: Place,
-    hi: usize,
+    back: Back,
 }
 
 impl<'a, Item: Decodable<Parsed>, Parsed: ParsedItem<Item>> Model for Decoder<'a, Item, Parsed> {
-    ghost use Rattle.std.specs.Prelude.{◌≤◌, length};
     ghost use Rattle.sst_block_core.specs.Scan.{Scan, Stands};
+    ghost use Rattle.sst_block_core.specs.Backs.{IsBack};
 
     ghost Value = { Scan Item };
 
     ghost view = { λ d. record {
       payload = d.intervals.list.payload;
       interval = d.intervals.list.interval;
-      window = record { list = d.intervals.list.items; lo = d.front.place; hi = d.hi };
+      window = record { list = d.intervals.list.items; lo = d.front.place; hi = d.back.hi };
       steps = d.intervals.steps;
     } };
 
-    ghost invariant = { λ d. Stands Item.kind d.intervals.list d.front × (d.hi ≤ length d.intervals.list.items) };
+    ghost invariant = { λ d. Stands Item.kind d.intervals.list d.front
+        × IsBack Item.kind d.intervals.list d.back.hi d.back.stack.items d.back.base };
 }
 
 impl<'a, Item: Decodable<Parsed>, Parsed: ParsedItem<Item>> Decoder<'a, Item, Parsed> {
@@ -201,7 +204,7 @@ impl<'a, Item: Decodable<Parsed>, Parsed: ParsedItem<Item>> Decoder<'a, Item, Pa
         Decoder {
             intervals,
             front,
-            hi,
+            back: Back::new(hi),
         }
     }
 
@@ -231,12 +234,34 @@ impl<'a, Item: Decodable<Parsed>, Parsed: ParsedItem<Item>> Decoder<'a, Item, Pa
             self.front = self.intervals.last();
             return false;
         }
-        let picked = if second_partition {
-            passed.min(count - 1)
-        } else {
-            passed.saturating_sub(1)
-        };
-        self.front = self.intervals.start(picked);
+        self.front = self.intervals.start(picked_head(second_partition, passed, count));
+        true
+    }
+
+    /// Moves the back behind the interval of a head, which a predicate picks as [`Decoder::seek`]
+    /// says. Returns `true`. The front stays. Counts at most as many heads as their number has binary
+    /// digits, and no entry.
+    pub fn seek_upper<F: Fn(&[u8], u64) -> bool>(
+        &mut self,
+        pred: &F,
+        second_partition: bool,
+    ) -> bool
+        requires callable { F.IsAlwaysCallable pred.now }
+        ensures payload { self.new.payload ≡ self.old.payload }
+        ensures interval { self.new.interval ≡ self.old.interval }
+        ensures list { self.new.window.list ≡ self.old.window.list }
+        ensures front { self.new.window.lo ≡ self.old.window.lo }
+        ensures step { (p : ℕ) → Splits Item.kind (F.post pred.now) self.old.interval self.old.window.list (head_count self.old.interval (length self.old.window.list)) p
+            → ◌≡◌ {A = Window Item × Answer Item} (self.new.window, found result) (seek_upper_picked self.old.interval second_partition p self.old.window) }
+        ensures heads { self.new.steps.heads ≤ self.old.steps.heads + digits (head_count self.old.interval (length self.old.window.list)) }
+        ensures heads_grow { self.old.steps.heads ≤ self.new.steps.heads }
+        ensures entries { self.new.steps.entries ≡ self.old.steps.entries }
+    {
+        let passed = self.intervals.partition_point(pred);
+        let count = self.intervals.count();
+        let end = self.intervals.end(picked_head(second_partition, passed, count));
+        self.back.hi = end;
+        self.back.stack.clear();
         true
     }
 
@@ -274,10 +299,25 @@ impl<'a, Item: Decodable<Parsed>, Parsed: ParsedItem<Item> + Drop> Iterator
 
     #[inline(always)]
     fn next(&mut self) -> Option<Parsed> {
-        if self.front.place >= self.hi {
+        if self.front.place >= self.back.hi {
             return None;
         }
         Some(self.intervals.take(&mut self.front))
+    }
+}
+
+/// Returns the last item, if one is left. Counts an entry for an item, and those of its interval
+/// where it is the last of it.
+impl<'a, Item: Decodable<Parsed>, Parsed: ParsedItem<Item> + Drop> DoubleEndedIterator
+    for Decoder<'a, Item, Parsed> {
+    ghost next_back_gives = { λ s r t. GivesNextBack Parsed.item_of Parsed.is_found s r t };
+
+    #[inline(always)]
+    fn next_back(&mut self) -> Option<Parsed> {
+        if self.front.place >= self.back.hi {
+            return None;
+        }
+        Some(self.intervals.take_back(&mut self.back))
     }
 }
 
@@ -286,7 +326,20 @@ impl<'a, Item: Decodable<Parsed>, Parsed: ParsedItem<Item>> Drop for Decoder<'a,
         let Self {
             intervals: _,
             front: _,
-            hi: _,
+            back: _,
         } = self;
+    }
+}
+
+// The head that is picked where a predicate holds of the first `passed` of so many heads.
+#[inline(always)]
+fn picked_head(second_partition: bool, passed: usize, count: usize) -> usize
+    requires { 0 < count }
+    ensures { result ≡ picked_head second_partition passed count }
+{
+    if second_partition {
+        passed.min(count - 1)
+    } else {
+        passed.saturating_sub(1)
     }
 }
