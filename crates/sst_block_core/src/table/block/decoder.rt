@@ -164,9 +164,9 @@ pub trait Decodable<Parsed: ParsedItem<Self>>: BlockItem + Sized {
 /// Clauses see the payload, the restart interval, a window over the items, and the counters. No step
 /// takes memory.
 pub struct Decoder<'a, Item: Decodable<Parsed>, Parsed: ParsedItem<Item>> {
-    intervals: Intervals<'a, Item, Parsed>,
-    front: Place,
-    back: Back,
+    pub(crate) intervals: Intervals<'a, Item, Parsed>,
+    pub(crate) front: Place,
+    pub(crate) back: Back,
 }
 
 impl<'a, Item: Decodable<Parsed>, Parsed: ParsedItem<Item>> Model for Decoder<'a, Item, Parsed> {

@@ -10,6 +10,7 @@ pub(crate) mod intervals;
 pub(crate) mod place;
 pub(crate) mod reading;
 pub(crate) mod search;
+pub(crate) mod seeks;
 pub mod trailer;
 pub(crate) mod writing;
 

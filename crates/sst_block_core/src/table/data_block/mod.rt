@@ -228,6 +228,7 @@ impl<H: BlockHash> DataBlock<H> {
     /// Returns an iterator over the entries, as ranges of the payload. Takes no memory.
     pub fn iter(&self) -> Iter<'_>
         ensures payload { result.payload ≡ self.now.payload }
+        ensures interval { result.interval ≡ self.now.interval }
         ensures window { result.window ≡ whole self.now.items }
         ensures plain { map plain self.now.items ≡ self.now.items }
         ensures heads { result.steps.heads ≡ 0 }

@@ -1,0 +1,72 @@
+//! Seeks of a decoder by key.
+ghost use Rattle.std.specs.Prelude.{◌≡◌, ◌+◌, ◌*◌, ◌≤◌, length};
+ghost use Rattle.sst_block_core.specs.Kind.{IsOrdered};
+ghost use Rattle.sst_block_core.specs.Pointers.{head_count};
+ghost use Rattle.sst_block_core.specs.Window.{count_passed, has_key, first_left, last_left, some_left};
+ghost use Rattle.sst_block_core.specs.Intervals.{digits};
+
+use crate::table::block::bound::Bound;
+use crate::table::block::decoder::{Decodable, Decoder, ParsedItem};
+
+impl<'a, Item: Decodable<Parsed>, Parsed: ParsedItem<Item> + Drop> Decoder<'a, Item, Parsed> {
+    /// Returns whether an item is left.
+    #[inline(always)]
+    pub(crate) fn has_left(&self) -> bool
+        ensures { result ≡ some_left self.now.window }
+    {
+        self.front.place < self.back.hi
+    }
+
+    /// Moves the front to the first item that a bound doesn't pass. Returns whether an item is left,
+    /// and the first has the needle as its key.
+    #[inline(always)]
+    pub(crate) fn seek_key(&mut self, bound: &Bound<'_>) -> bool
+        requires { IsOrdered Item.kind self.old.window.list }
+        ensures payload { self.new.payload ≡ self.old.payload }
+        ensures interval { self.new.interval ≡ self.old.interval }
+        ensures window { self.new.window ≡ record {
+          list = self.old.window.list;
+          lo = count_passed Item.kind bound.now.needle.now bound.now.from self.old.window.list;
+          hi = self.old.window.hi;
+        } }
+        ensures answer { result ≡ has_key Item.kind bound.now.needle.now (first_left self.new.window) }
+        ensures heads { self.new.steps.heads ≤ self.old.steps.heads + digits (head_count self.old.interval (length self.old.window.list)) }
+        ensures heads_grow { self.old.steps.heads ≤ self.new.steps.heads }
+        ensures entries { self.new.steps.entries ≤ self.old.steps.entries + (self.old.interval + 1) }
+        ensures entries_grow { self.old.steps.entries ≤ self.new.steps.entries }
+    {
+        let (place, item) = self.intervals.seek(bound);
+        self.front = place;
+        match item {
+            Some(_) => self.front.place < self.back.hi,
+            None => false,
+        }
+    }
+
+    /// Moves the back to the first item that a bound doesn't pass, not included. Returns whether an
+    /// item is left, and the last has the needle as its key.
+    #[inline(always)]
+    pub(crate) fn seek_upper_key(&mut self, bound: &Bound<'_>) -> bool
+        requires { IsOrdered Item.kind self.old.window.list }
+        ensures payload { self.new.payload ≡ self.old.payload }
+        ensures interval { self.new.interval ≡ self.old.interval }
+        ensures window { self.new.window ≡ record {
+          list = self.old.window.list;
+          lo = self.old.window.lo;
+          hi = count_passed Item.kind bound.now.needle.now bound.now.from self.old.window.list;
+        } }
+        ensures answer { result ≡ has_key Item.kind bound.now.needle.now (last_left self.new.window) }
+        ensures heads { self.new.steps.heads ≤ self.old.steps.heads + digits (head_count self.old.interval (length self.old.window.list)) }
+        ensures heads_grow { self.old.steps.heads ≤ self.new.steps.heads }
+        ensures entries { self.new.steps.entries ≤ self.old.steps.entries + (2 * self.old.interval + 2) }
+        ensures entries_grow { self.old.steps.entries ≤ self.new.steps.entries }
+    {
+        let (place, _) = self.intervals.seek(bound);
+        self.intervals.set_back(&mut self.back, place.place);
+        if self.front.place >= self.back.hi {
+            return false;
+        }
+        let item = self.intervals.peek_back(&self.back);
+        self.intervals.compare_key(&item, bound.needle).is_eq()
+    }
+}
