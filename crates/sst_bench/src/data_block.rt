@@ -166,6 +166,38 @@ pub extern "C" fn sst_walk(
     sum
 }
 
+// Adds each parsed item of a block, from the back.
+#[inline(never)]
+fn add_items_back(so_far: u64, block: &DataBlock<Poly31>) -> u64 {
+    let mut sum = so_far;
+    let mut iter = block.iter();
+    while let Some(item) = iter.next_back() {
+        sum = sum.wrapping_add(item_sum(&item));
+    }
+    sum
+}
+
+/// Iterates over the block from the back, and adds each parsed item.
+#[unsafe(no_mangle)]
+pub extern "C" fn sst_walk_back(
+    bytes: &[u8],
+    count: usize,
+    interval: u8,
+    num: u32,
+    den: u32,
+    times: u64,
+    alloc: Global,
+) -> u64 {
+    let Some(block) = block_in(alloc, bytes, count, interval, HashRatio { num, den }) else {
+        return REFUSED;
+    };
+    let mut sum = 0;
+    for _ in 0..times {
+        sum = add_items_back(sum, &block);
+    }
+    sum
+}
+
 // Materializes each entry of a block, and adds it.
 #[inline(never)]
 fn add_entries(so_far: u64, block: &DataBlock<Poly31>, alloc: Global) -> Option<u64> {
@@ -291,4 +323,83 @@ pub extern "C" fn sst_get(
         return REFUSED;
     };
     add_found_often(&block, needles.as_slice(), times, alloc).unwrap_or(REFUSED)
+}
+
+// Seeks each needle with a new iterator, adds 1 where the seek answers `true`, and the next item.
+#[inline(never)]
+fn add_next(so_far: u64, block: &DataBlock<Poly31>, needles: &[&[u8]]) -> u64 {
+    let mut sum = so_far;
+    for needle in needles {
+        let mut iter = block.iter();
+        sum = sum.wrapping_add(u64::from(iter.seek(needle)));
+        sum = sum.wrapping_add(iter.next().map_or(0, |item| item_sum(&item)));
+    }
+    sum
+}
+
+/// Seeks each needle with a new iterator, adds 1 where the seek answers `true`, and adds the next
+/// item if there is one.
+#[unsafe(no_mangle)]
+pub extern "C" fn sst_seek_next(
+    bytes: &[u8],
+    count: usize,
+    interval: u8,
+    num: u32,
+    den: u32,
+    times: u64,
+    needles: &[u8],
+    key_len: usize,
+    alloc: Global,
+) -> u64 {
+    let Some(block) = block_in(alloc, bytes, count, interval, HashRatio { num, den }) else {
+        return REFUSED;
+    };
+    let Some(needles) = keys_in(alloc, needles, key_len) else {
+        return REFUSED;
+    };
+    let mut sum = 0;
+    for _ in 0..times {
+        sum = add_next(sum, &block, needles.as_slice());
+    }
+    sum
+}
+
+// Seeks each needle from the back with a new iterator, adds 1 where the seek answers `true`, and the
+// next item from the back.
+#[inline(never)]
+fn add_next_back(so_far: u64, block: &DataBlock<Poly31>, needles: &[&[u8]]) -> u64 {
+    let mut sum = so_far;
+    for needle in needles {
+        let mut iter = block.iter();
+        sum = sum.wrapping_add(u64::from(iter.seek_upper(needle)));
+        sum = sum.wrapping_add(iter.next_back().map_or(0, |item| item_sum(&item)));
+    }
+    sum
+}
+
+/// Seeks each needle from the back with a new iterator, adds 1 where the seek answers `true`, and
+/// adds the next item from the back if there is one.
+#[unsafe(no_mangle)]
+pub extern "C" fn sst_seek_upper_back(
+    bytes: &[u8],
+    count: usize,
+    interval: u8,
+    num: u32,
+    den: u32,
+    times: u64,
+    needles: &[u8],
+    key_len: usize,
+    alloc: Global,
+) -> u64 {
+    let Some(block) = block_in(alloc, bytes, count, interval, HashRatio { num, den }) else {
+        return REFUSED;
+    };
+    let Some(needles) = keys_in(alloc, needles, key_len) else {
+        return REFUSED;
+    };
+    let mut sum = 0;
+    for _ in 0..times {
+        sum = add_next_back(sum, &block, needles.as_slice());
+    }
+    sum
 }
