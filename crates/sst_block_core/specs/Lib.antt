@@ -19,6 +19,7 @@ pub mod Backs
 pub mod ParsedEntry
 pub mod DataBlock
 pub mod Lookups
+pub mod Ops
 pub mod Encoders
 pub mod PointerLaws
 pub mod WindowLaws

@@ -20,6 +20,7 @@ mod decoding;
 mod encoding;
 pub mod entry_ref;
 pub mod iter;
+pub mod ops;
 pub mod parsed_item;
 mod point_read;
 
@@ -27,6 +28,7 @@ use crate::table::block::encoder::encode_all;
 use crate::table::block::{Decoder, ParsedItem, Trailer, hash_index};
 pub use entry_ref::{Entries, EntryRef};
 pub use iter::Iter;
+pub use ops::{Answer, Op, walk};
 pub use parsed_item::DataBlockParsedItem;
 use sst_base::table::block::Block;
 use sst_base::{BlockHash, Error, HashRatio, InternalValue, Result, SeqNo, Slice, Steps};
