@@ -5,3 +5,4 @@ pub mod Sums
 pub mod Orders
 pub mod ShortVarints
 pub mod ShortSlices
+pub mod LastItems

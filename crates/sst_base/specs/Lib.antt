@@ -19,3 +19,5 @@ pub mod OrderLaws
 pub mod HeaderLaws
 pub mod KeyOrderLaws
 pub mod SliceBytes
+pub mod Peekable
+pub mod ListIterators

@@ -6,6 +6,7 @@ pub mod checksum;
 pub mod coding;
 pub mod config;
 pub mod count;
+pub mod double_ended_peekable;
 pub mod error;
 pub mod hash;
 pub mod history;

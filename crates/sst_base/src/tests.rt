@@ -1,5 +1,8 @@
 // What no clause says: values from outside, that a call succeeds where memory is ample, and printed
 // text. Two tests accept `Error::Memory` too: they are for runs in which allocations fail.
+ghost use Rattle.std.specs.Iterator.{YieldsFirst, YieldsLast, item_count};
+
+use crate::double_ended_peekable::{DoubleEndedPeekableExt, ListIterator};
 use crate::hash::{BlockHash, Poly31};
 use crate::{
     Block, BlockType, Checksum, Error, Header, History, InternalKey, InternalValue, Result, Slice,
@@ -332,4 +335,137 @@ fn ghost_state_takes_no_bytes(rt: HostRuntime) {
 #[test]
 fn sizes_are_known(rt: HostRuntime) {
     assert_eq!(rt; size_of::<Slice>(), 48);
+}
+
+// An iterator that items can be added to, also after it has ended.
+#[derive(Drop)]
+struct Queue {
+    items: Vec<u8>,
+}
+
+impl Iterator for Queue {
+    type Item = u8;
+
+    ghost next_gives = { YieldsFirst (λ q. q.items.items) };
+
+    ghost remaining = { item_count (λ q. q.items.items) };
+
+    fn next(&mut self) -> Option<u8> {
+        if self.items.is_empty() {
+            return None;
+        }
+        Some(self.items.remove(0))
+    }
+}
+
+impl DoubleEndedIterator for Queue {
+    ghost next_back_gives = { YieldsLast (λ q. q.items.items) };
+
+    fn next_back(&mut self) -> Option<u8> {
+        self.items.pop()
+    }
+}
+
+impl ListIterator for Queue {
+    type Value = u8;
+
+    ghost value_of = { λ x. x };
+
+    ghost items = { λ q. q.items.items };
+
+    ghost may_next = { λ _. tt };
+
+    ghost may_next_back = { λ _. tt };
+
+    ghost gives_first = { λ s r t h. h };
+
+    ghost gives_last = { λ s r t h. h };
+}
+
+#[test]
+fn both_ends_are_peeked(rt: HostRuntime) {
+    let numbers = [1, 2, 3];
+    let mut it = numbers.iter().double_ended_peekable();
+    assert_eq!(rt; it.peek().copied().copied(), Some(1));
+    assert_eq!(rt; it.peek_back().copied().copied(), Some(3));
+    assert_eq!(rt; it.next().copied(), Some(1));
+    assert_eq!(rt; it.next_if(|_| false).copied(), None);
+    assert_eq!(rt; it.next_back().copied(), Some(3));
+    assert_eq!(rt; it.next_back().copied(), Some(2));
+    assert_eq!(rt; it.next().copied(), None);
+    assert_eq!(rt; it.peek().copied().copied(), None);
+    assert_eq!(rt; it.peek_back().copied().copied(), None);
+}
+
+#[test]
+fn one_item_is_taken_once(rt: HostRuntime) {
+    let numbers = [7];
+    let mut it = numbers.iter().double_ended_peekable();
+    assert_eq!(rt; it.peek().copied().copied(), Some(7));
+    assert_eq!(rt; it.peek_back().copied().copied(), Some(7));
+    assert_eq!(rt; it.next().copied(), Some(7));
+    assert_eq!(rt; it.next_back().copied(), None);
+    let mut it = numbers.iter().double_ended_peekable();
+    assert_eq!(rt; it.peek_back().copied().copied(), Some(7));
+    assert_eq!(rt; it.peek().copied().copied(), Some(7));
+    assert_eq!(rt; it.next_back().copied(), Some(7));
+    assert_eq!(rt; it.next().copied(), None);
+}
+
+#[test]
+fn an_item_is_taken_if_accepted(rt: HostRuntime) -> std::result::Result<(), Fail> {
+    let mut it = vec![in rt.alloc(); 7u8, 8]?
+        .into_iter()
+        .double_ended_peekable();
+    assert_eq!(rt; it.peek_back().copied(), Some(8));
+    assert_eq!(rt; it.next_if(|x| *x == 8), None);
+    assert_eq!(rt; it.next_if(|x| *x == 7), Some(7));
+    assert_eq!(rt; it.next_if(|x| *x == 8), Some(8));
+    assert_eq!(rt; it.next_if(|_| true), None);
+    Ok(())
+}
+
+#[test]
+fn an_end_is_not_remembered(rt: HostRuntime) -> std::result::Result<(), Fail> {
+    let mut it = Queue {
+        items: Vec::new(rt.alloc()),
+    }
+    .double_ended_peekable();
+    assert_eq!(rt; it.peek().copied(), None);
+    it.inner_mut().items.push(4)?;
+    assert_eq!(rt; it.next(), Some(4));
+    assert_eq!(rt; it.peek_back().copied(), None);
+    it.inner_mut().items.push(5)?;
+    assert_eq!(rt; it.next_back(), Some(5));
+    Ok(())
+}
+
+#[test]
+fn peeked_items_stay_around_inner(rt: HostRuntime) -> std::result::Result<(), Fail> {
+    let mut it = Queue {
+        items: vec![in rt.alloc(); 1, 3]?,
+    }
+    .double_ended_peekable();
+    assert_eq!(rt; it.peek().copied(), Some(1));
+    assert_eq!(rt; it.peek_back().copied(), Some(3));
+    it.inner_mut().items.push(2)?;
+    assert_eq!(rt; it.next(), Some(1));
+    assert_eq!(rt; it.next(), Some(2));
+    assert_eq!(rt; it.next(), Some(3));
+    assert_eq!(rt; it.next(), None);
+    Ok(())
+}
+
+#[test]
+fn a_peekable_is_wrapped_again(rt: HostRuntime) {
+    let numbers = [1, 2];
+    let mut it = numbers
+        .iter()
+        .double_ended_peekable()
+        .double_ended_peekable();
+    assert_eq!(rt; it.peek_back().copied().copied(), Some(2));
+    assert_eq!(rt; it.peek().copied().copied(), Some(1));
+    assert_eq!(rt; it.next().copied(), Some(1));
+    assert_eq!(rt; it.next().copied(), Some(2));
+    assert_eq!(rt; it.next_back().copied(), None);
 }

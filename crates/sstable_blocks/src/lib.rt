@@ -10,6 +10,6 @@ pub mod table;
 pub use sst_base::{
     Block, BlockHash, BlockType, ByteSum, Checksum, Error, HashRatio, Header, HeaderName,
     InternalKey, InternalValue, Poly31, Result, SeqNo, Slice, Steps, TagName, UserKey, UserValue,
-    ValueType, checksum, coding, hash, key, slice, value, value_type,
+    ValueType, checksum, coding, double_ended_peekable, hash, key, slice, value, value_type,
 };
 pub use sst_block_core::DataBlock;

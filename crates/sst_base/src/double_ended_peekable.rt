@@ -1,0 +1,264 @@
+//! Peeking at both ends of an iterator.
+ghost use Rattle.std.specs.Prelude.{◌≡◌, ◌⊎◌, List, [], ◌∷◌, ◌++◌, Option, Some, option_map};
+ghost use Rattle.std.specs.Prelude.{IsNone, IfSome, IfNone, slice_get, true, false};
+ghost use Rattle.std.specs.Iterator.{YieldsFirstBy, YieldsLastBy, item_count};
+ghost use Rattle.std.specs.List.{last_or};
+ghost use Rattle.std.specs.Option.{option_copied};
+ghost use Rattle.std.specs.Fn.{FnOnceReturnsAt};
+ghost use Rattle.std.specs.Slice.Iter.{iter_rest};
+ghost use Rattle.std.specs.Vec.Iter.{into_iter_items};
+ghost use Rattle.std.specs.Borrow.{sem, Lends};
+ghost use Rattle.sst_base.specs.contracts.double_ended_peekable.DoubleEndedPeekable.{the_row};
+ghost use Rattle.sst_base.specs.ListIterators.{slice_gives_first, slice_gives_last};
+ghost use Rattle.sst_base.specs.ListIterators.{vec_gives_first, vec_gives_last};
+ghost use Rattle.sst_base.specs.Peekable.{peekable_items, inner_of, with_inner, KeepsItems};
+
+use std::alloc::Allocator;
+use std::{slice, vec};
+
+/// A double-ended iterator over a finite list, of which `next` takes the first item and `next_back`
+/// the last. At the end of the list both return `None`, however often they are called.
+pub trait ListIterator: DoubleEndedIterator {
+    /// What clauses see of an item.
+    type Value;
+
+    // the value of an item
+    ghost value_of: { Self.Item → Self.Value };
+
+    // the values of the items left, front to back
+    ghost items: { Self → List Self.Value };
+
+    // `next` may always be called
+    ghost may_next: { (s : Self) → Self.can_next s };
+
+    // `next_back` may always be called
+    ghost may_next_back: { (s : Self) → Self.can_next_back s };
+
+    // `next` takes the first item, or there is none
+    ghost gives_first: { (s : Self) (r : Option Self.Item) (t : Self)
+        → Self.next_gives s r t → YieldsFirstBy value_of items s r t };
+
+    // `next_back` takes the last item, or there is none
+    ghost gives_last: { (s : Self) (r : Option Self.Item) (t : Self)
+        → Self.next_back_gives s r t → YieldsLastBy value_of items s r t };
+}
+
+/// An iterator over a slice. Clauses see the elements behind the references.
+impl<'a, T> ListIterator for slice::Iter<'a, T> {
+    type Value = T;
+
+    ghost value_of = { λ x. x.now };
+
+    ghost items = { iter_rest };
+
+    ghost may_next = { λ _. tt };
+
+    ghost may_next_back = { λ _. tt };
+
+    ghost gives_first = { slice_gives_first };
+
+    ghost gives_last = { slice_gives_last };
+}
+
+/// An iterator that owns the elements of a vector.
+impl<T: Drop, A: Allocator> ListIterator for vec::IntoIter<T, A> {
+    type Value = T;
+
+    ghost value_of = { λ x. x };
+
+    ghost items = { into_iter_items };
+
+    ghost may_next = { λ _. tt };
+
+    ghost may_next_back = { λ _. tt };
+
+    ghost gives_first = { vec_gives_first };
+
+    ghost gives_last = { vec_gives_last };
+}
+
+/// Makes a [`DoubleEndedPeekable`] of each [`ListIterator`].
+pub trait DoubleEndedPeekableExt: ListIterator {
+    /// Wraps the iterator, with nothing peeked.
+    fn double_ended_peekable(self) -> DoubleEndedPeekable<Self::Item, Self>
+        ensures { peekable_items Self.value_of Self.items result ≡ Self.items self };
+}
+
+impl<I: ListIterator<Item: Drop>> DoubleEndedPeekableExt for I {
+    fn double_ended_peekable(self) -> DoubleEndedPeekable<I::Item, I> {
+        DoubleEndedPeekable {
+            iter: self,
+            front: None,
+            back: None,
+        }
+    }
+}
+
+/// An iterator whose first and last item can be looked at before they are taken. Clauses see the
+/// items left: the peeked front item, if any, those of the inner iterator, and the peeked back item,
+/// if any. That the inner iterator ended is not remembered.
+#[derive(Drop)]
+pub struct DoubleEndedPeekable<T, I> {
+    iter: I,
+    front: Option<T>,
+    back: Option<T>,
+}
+
+impl<T: Drop, I: ListIterator<Item = T>> DoubleEndedPeekable<T, I> {
+    /// Returns the inner iterator. Peeked items stay.
+    pub fn inner_mut(&mut self) -> &mut I
+        ensures value { result.now ≡ inner_of self.old }
+        ensures* writes_back { sem 𝓛 (Lends (the_row T.row I.row) I.row self.entry result
+            (with_inner self.old)) }
+    {
+        &mut self.iter
+    }
+
+    /// Returns the first item, which stays.
+    pub fn peek(&mut self) -> Option<&T>
+        ensures first { option_map I.value_of (option_copied result)
+            ≡ slice_get (peekable_items I.value_of I.items self.old) 0 }
+        ensures* same { sem 𝓛 (KeepsItems (the_row T.row I.row)
+            (peekable_items I.value_of I.items) self.entry) }
+    {
+        self.fill_front();
+        self.first_peeked()
+    }
+
+    /// Returns the last item, which stays.
+    pub fn peek_back(&mut self) -> Option<&T>
+        ensures last { option_map I.value_of (option_copied result)
+            ≡ last_or None (peekable_items I.value_of I.items self.old) }
+        ensures* same { sem 𝓛 (KeepsItems (the_row T.row I.row)
+            (peekable_items I.value_of I.items) self.entry) }
+    {
+        self.fill_back();
+        self.last_peeked()
+    }
+
+    /// Takes and returns the first item if there is one and `func` returns true of it.
+    pub fn next_if<F: FnOnce(&T) -> bool>(&mut self, func: F) -> Option<T>
+        requires { F.IsAlwaysCallable func }
+        ensures taken { IfSome result (λ x. peekable_items I.value_of I.items self.old
+            ≡ I.value_of x ∷ peekable_items I.value_of I.items self.new) }
+        ensures accepted { IfSome result (λ x. FnOnceReturnsAt F.FnOnce func x true) }
+        ensures same { IfNone result (peekable_items I.value_of I.items self.new
+            ≡ peekable_items I.value_of I.items self.old) }
+        ensures refused { IfNone result ((peekable_items I.value_of I.items self.old ≡ [])
+            ⊎ ((x : T) × (slice_get (peekable_items I.value_of I.items self.old) 0 ≡ Some (I.value_of x))
+            × FnOnceReturnsAt F.FnOnce func x false)) }
+    {
+        let item = self.take_first()?;
+        if func(&item) {
+            return Some(item);
+        }
+        self.front = Some(item);
+        None
+    }
+
+    // Peeks at the first item, unless one is peeked. At None the inner iterator is at its end.
+    fn fill_front(&mut self)
+        ensures same { peekable_items I.value_of I.items self.new
+            ≡ peekable_items I.value_of I.items self.old }
+        ensures filled { IsNone self.new.front → I.items self.new.iter ≡ [] }
+    {
+        if self.front.is_none() {
+            self.front = self.iter.next();
+        }
+    }
+
+    // Peeks at the last item, unless one is peeked. At None the inner iterator is at its end.
+    fn fill_back(&mut self)
+        ensures same { peekable_items I.value_of I.items self.new
+            ≡ peekable_items I.value_of I.items self.old }
+        ensures filled { IsNone self.new.back → I.items self.new.iter ≡ [] }
+    {
+        if self.back.is_none() {
+            self.back = self.iter.next_back();
+        }
+    }
+
+    // The first item, once the front is filled.
+    fn first_peeked(&self) -> Option<&T>
+        requires { IsNone self.now.front → I.items self.now.iter ≡ [] }
+        ensures { option_map I.value_of (option_copied result)
+            ≡ slice_get (peekable_items I.value_of I.items self.now) 0 }
+    {
+        match &self.front {
+            Some(item) => Some(item),
+            None => self.back.as_ref(),
+        }
+    }
+
+    // The last item, once the back is filled.
+    fn last_peeked(&self) -> Option<&T>
+        requires { IsNone self.now.back → I.items self.now.iter ≡ [] }
+        ensures { option_map I.value_of (option_copied result)
+            ≡ last_or None (peekable_items I.value_of I.items self.now) }
+    {
+        match &self.back {
+            Some(item) => Some(item),
+            None => self.front.as_ref(),
+        }
+    }
+
+    // Takes the first item, after which none is peeked at the front.
+    fn take_first(&mut self) -> Option<T>
+        ensures first { YieldsFirstBy I.value_of (peekable_items I.value_of I.items)
+            self.old result self.new }
+        ensures unpeeked { IsNone self.new.front }
+    {
+        if let Some(item) = self.front.take() {
+            return Some(item);
+        }
+        match self.iter.next() {
+            Some(item) => Some(item),
+            None => self.back.take(),
+        }
+    }
+}
+
+/// Takes items from the front.
+impl<T: Drop, I: ListIterator<Item = T>> Iterator for DoubleEndedPeekable<T, I> {
+    type Item = T;
+
+    ghost next_gives = { YieldsFirstBy I.value_of (peekable_items I.value_of I.items) };
+
+    ghost remaining = { item_count (peekable_items I.value_of I.items) };
+
+    fn next(&mut self) -> Option<T> {
+        self.take_first()
+    }
+}
+
+/// Takes items from the back.
+impl<T: Drop, I: ListIterator<Item = T>> DoubleEndedIterator for DoubleEndedPeekable<T, I> {
+    ghost next_back_gives = { YieldsLastBy I.value_of (peekable_items I.value_of I.items) };
+
+    fn next_back(&mut self) -> Option<T> {
+        if let Some(item) = self.back.take() {
+            return Some(item);
+        }
+        match self.iter.next_back() {
+            Some(item) => Some(item),
+            None => self.front.take(),
+        }
+    }
+}
+
+/// The items left, so that a peekable iterator may be wrapped again.
+impl<T: Drop, I: ListIterator<Item = T>> ListIterator for DoubleEndedPeekable<T, I> {
+    type Value = I::Value;
+
+    ghost value_of = { I.value_of };
+
+    ghost items = { peekable_items I.value_of I.items };
+
+    ghost may_next = { λ _. tt };
+
+    ghost may_next_back = { λ _. tt };
+
+    ghost gives_first = { λ s r t h. h };
+
+    ghost gives_last = { λ s r t h. h };
+}
