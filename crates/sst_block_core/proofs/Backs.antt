@@ -59,8 +59,7 @@ module _ {X : Type 0} (kind : Kind X) (list : Listed X) where
       let is = first_of_is list.interval end in
       let below = first_below list.interval end some in
       let more : 0 < length stack = omega (arith, is, below, count) in
-      let start : first_of list.interval end ≡ end - length stack = omega (arith, count) in
-      (
+      let start : first_of list.interval end ≡ end - length stack = omega (arith, count) in (
         record {
           inside = inside;
           fits = omega (arith, count);
@@ -107,7 +106,7 @@ unfolding back_cost
 back_cost_ends r n hi ends = elim (cases_lt 0 (hi % r)) [
   | inl more ↦ let e : eqb hi n ≡ true = rw (ends more) (eqb_same n) in rw (e, or_true) (omega arith)
   | inr none ↦ let e : hi % r ≡ 0 = omega (arith, none) in rw e (omega arith)
-  ]
+]
 
 -- the end of an interval
 min_ends : (k r n hi : ℕ) → hi ≡ min n (k * r) → 0 < hi % r → hi ≡ n
@@ -117,7 +116,7 @@ min_ends k r n hi e h = elim (cases_lt n (k * r)) [
       let same : hi ≡ k * r = omega (arith, e, ge) in
       let rem : hi % r ≡ 0 = ap (λ m. m % r) same ∙ mul-mod_left k r in
       absurd (omega (arith, rem, h))
-  ]
+]
 
 pub is_back_interval : {X : Type 0} (kind : Kind X) (list : Listed X) (k hi : ℕ) (stack : List ℕ) (base : ℕ) → hi ≡ min (length list.items) (k * list.interval) → length stack ≡ 0 → IsBack kind list hi stack base
 is_back_interval kind list k hi stack base e none = record {

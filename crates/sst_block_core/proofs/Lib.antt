@@ -17,6 +17,8 @@ mod PlaceReads
 mod Openings
 mod HeadPlaces
 mod Backs
+mod BothEnds
+mod BackCosts
 mod OwnKeys
 mod Halves
 mod HeadAnswers

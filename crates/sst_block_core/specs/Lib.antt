@@ -20,6 +20,7 @@ pub mod ParsedEntry
 pub mod DataBlock
 pub mod Lookups
 pub mod Ops
+pub mod Walks
 pub mod Encoders
 pub mod PointerLaws
 pub mod WindowLaws

@@ -234,7 +234,9 @@ impl<'a, Item: Decodable<Parsed>, Parsed: ParsedItem<Item>> Decoder<'a, Item, Pa
             self.front = self.intervals.last();
             return false;
         }
-        self.front = self.intervals.start(picked_head(second_partition, passed, count));
+        self.front = self
+            .intervals
+            .start(picked_head(second_partition, passed, count));
         true
     }
 
@@ -259,7 +261,9 @@ impl<'a, Item: Decodable<Parsed>, Parsed: ParsedItem<Item>> Decoder<'a, Item, Pa
     {
         let passed = self.intervals.partition_point(pred);
         let count = self.intervals.count();
-        let end = self.intervals.end(picked_head(second_partition, passed, count));
+        let end = self
+            .intervals
+            .end(picked_head(second_partition, passed, count));
         self.back.hi = end;
         self.back.stack.clear();
         true
@@ -314,7 +318,7 @@ impl<'a, Item: Decodable<Parsed>, Parsed: ParsedItem<Item> + Drop> DoubleEndedIt
 
     #[inline(always)]
     fn next_back(&mut self) -> Option<Parsed> {
-        if self.front.place >= self.back.hi {
+        if self.back.hi <= self.front.place {
             return None;
         }
         Some(self.intervals.take_back(&mut self.back))

@@ -39,11 +39,7 @@ pub enum Answer {
 }
 
 // Makes the entry of an item, if there is one.
-fn made(
-    alloc: Global,
-    payload: &Slice,
-    parsed: Option<DataBlockParsedItem>,
-) -> Result<Answer>
+fn made(alloc: Global, payload: &Slice, parsed: Option<DataBlockParsedItem>) -> Result<Answer>
     requires { IfSome parsed (IsParsedEntry payload.now) }
     ensures ok { IfOk result (λ a. answer_of a ≡ item (option_map (entry_of payload.now) parsed)) }
     ensures memory { IsOkUnless result Error.Memory }
@@ -79,11 +75,7 @@ fn perform(alloc: Global, iter: &mut Iter<'_>, payload: &Slice, op: &Op) -> Resu
 /// # Errors
 ///
 /// `Error::Memory` if an allocation fails.
-pub fn walk<H: BlockHash>(
-    alloc: Global,
-    block: &DataBlock<H>,
-    ops: &[Op],
-) -> Result<Vec<Answer>>
+pub fn walk<H: BlockHash>(alloc: Global, block: &DataBlock<H>, ops: &[Op]) -> Result<Vec<Answer>>
     ensures ok { IfOk result (λ all. map answer_of all.items ≡ answers (map step_of ops.now) (whole block.now.items)) }
     ensures memory { IsOkUnless result Error.Memory }
 {

@@ -43,7 +43,7 @@ loop-at-preserved g c =
     let near_first : c.args.end ≤ first + r = rw same near in
     let pushed = ap length c.push-in-loop-at.ensures.items ∙ length_push c.loop-at.stack.items c.loop-at.at.offset in
     let rem : (first + length c.loop-at.stack.items) % r ≡ length c.loop-at.stack.items =
-        mod_in_interval first (length c.loop-at.stack.items) r (mul-mod_left ((c.args.end - 1) / c.from.result) r) (omega (arith, near_first, i.count, c.loop-at-test.true)) in
+    mod_in_interval first (length c.loop-at.stack.items) r (mul-mod_left ((c.args.end - 1) / c.from.result) r) (omega (arith, near_first, i.count, c.loop-at-test.true)) in
     let phase : c.loop-at.at.phase ≡ length c.loop-at.stack.items = b.phase ∙ ap (λ n. n % r) (sym i.count) ∙ rem in
     let next = (rw i.same at e.stands) stands.head b in
     record {
