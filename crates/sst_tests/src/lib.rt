@@ -14,3 +14,5 @@ pub mod plain;
 mod point_reads;
 #[cfg(test)]
 mod searches;
+#[cfg(test)]
+mod sources;
