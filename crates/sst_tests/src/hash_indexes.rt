@@ -1,6 +1,6 @@
 //! Blocks with a hash index: worked bytes, and the greatest number of heads for which one is
 //! stored.
-ghost use Rattle.std.specs.Prelude.{◌≤◌, length};
+ghost use Rattle.std.specs.Prelude.{◌≡◌, ◌≤◌, ◌<◌, ◌^◌, length, IfOk};
 
 use sst_base::table::block::{Block, BlockType, Header};
 use sst_base::{BlockHash, ByteSum, Checksum, HashRatio, InternalValue, Result, Slice, ValueType};
@@ -9,10 +9,14 @@ use std::alloc::Global;
 use std::process::Abort;
 use std::test::Fail;
 
-const ONE_EACH: HashRatio = HashRatio { num: 1, den: 1 };
+/// A bucket for each entry.
+pub(crate) const ONE_EACH: HashRatio = HashRatio { num: 1, den: 1 };
+
+/// No hash index.
+pub(crate) const NO_BUCKETS: HashRatio = HashRatio { num: 0, den: 1 };
 
 /// A hash by which all keys fall into one bucket.
-struct NoHash;
+pub(crate) struct NoHash;
 
 impl BlockHash for NoHash {
     ghost hash64 = { λ _. 0 };
@@ -24,7 +28,7 @@ impl BlockHash for NoHash {
 }
 
 /// Appends an entry to a list.
-fn push(
+pub(crate) fn push(
     list: &mut Vec<InternalValue>,
     key: &[u8],
     value: &[u8],
@@ -33,7 +37,7 @@ fn push(
 ) -> Result<()>
     requires some { 1 ≤ length key.now }
     requires key { length key.now ≤ 65535 }
-    requires value { length value.now ≤ 65535 }
+    requires value { length value.now < 2 ^ 32 }
 {
     let alloc = *list.allocator();
     let key = Slice::new(alloc, key)?;
@@ -43,7 +47,7 @@ fn push(
 }
 
 /// The block of a list that is ordered and not empty.
-fn block_of<H: BlockHash>(
+pub(crate) fn block_of<H: BlockHash>(
     rt: &impl Abort,
     alloc: Global,
     list: &[InternalValue],
@@ -52,6 +56,7 @@ fn block_of<H: BlockHash>(
 ) -> Result<DataBlock<H>>
     requires interval { 1 ≤ interval }
     requires den { 1 ≤ ratio.den }
+    ensures interval { IfOk result (λ block. block.interval ≡ interval) }
 {
     assert!(rt; !list.is_empty());
     assert!(rt; DataBlock::<H>::is_ordered(list));
@@ -67,7 +72,7 @@ fn block_of<H: BlockHash>(
 }
 
 /// Two versions of a key, of which the older is a tombstone, and another key.
-fn pair(alloc: Global) -> Result<Vec<InternalValue>> {
+pub(crate) fn pair(alloc: Global) -> Result<Vec<InternalValue>> {
     let mut list = Vec::new(alloc);
     push(&mut list, b"ab", b"x", 2, ValueType::Value)?;
     push(&mut list, b"ab", b"", 1, ValueType::Tombstone)?;
@@ -100,7 +105,7 @@ fn buckets_stand_behind_the_pointers(rt: HostRuntime) -> std::result::Result<(),
 }
 
 /// Checks that a block has these buckets at an offset, and its trailer behind them.
-fn check_buckets<H: BlockHash>(
+pub(crate) fn check_buckets<H: BlockHash>(
     rt: &impl Abort,
     block: &DataBlock<H>,
     offset: usize,
@@ -137,7 +142,7 @@ fn versions_in_two_intervals_conflict(rt: HostRuntime) -> std::result::Result<()
 }
 
 /// Three versions of a key, and another key.
-fn versions(alloc: Global) -> Result<Vec<InternalValue>> {
+pub(crate) fn versions(alloc: Global) -> Result<Vec<InternalValue>> {
     let mut list = Vec::new(alloc);
     push(&mut list, b"a", b"a", 3, ValueType::Value)?;
     push(&mut list, b"a", b"a", 2, ValueType::Value)?;
@@ -157,10 +162,10 @@ fn five_buckets_for_four_entries(rt: HostRuntime) -> std::result::Result<(), Fai
     Ok(())
 }
 
-/// Entries with keys of one byte, from 1 up to this one.
-fn byte_keys(alloc: Global, last: u8) -> Result<Vec<InternalValue>> {
+/// Entries with keys of one byte, from one up to another, without values, at sequence number 0.
+pub(crate) fn byte_keys(alloc: Global, first: u8, last: u8) -> Result<Vec<InternalValue>> {
     let mut list = Vec::new(alloc);
-    for key in 1..=last {
+    for key in first..=last {
         push(&mut list, [key].as_slice(), b"", 0, ValueType::Value)?;
     }
     Ok(list)
@@ -174,12 +179,12 @@ fn buckets_are_stored_for_at_most_254_heads(rt: HostRuntime) -> std::result::Res
     for number in 0..253u8 {
         buckets.push(number)?;
     }
-    let list = byte_keys(alloc, 254)?;
+    let list = byte_keys(alloc, 1, 254)?;
     let block = block_of::<ByteSum>(&rt, alloc, &list, 1, ONE_EACH)?;
     check_buckets(&rt, &block, 1779, &buckets);
     assert_eq!(rt; block.binary_index_len(), 254);
     assert_eq!(rt; block.hash_bucket_count(), Some(254));
-    let longer = byte_keys(alloc, 255)?;
+    let longer = byte_keys(alloc, 1, 255)?;
     let none = block_of::<ByteSum>(&rt, alloc, &longer, 1, ONE_EACH)?;
     check_buckets(&rt, &none, 1786, b"");
     let bytes = none.as_slice().as_slice();
@@ -200,7 +205,7 @@ fn buckets_name_the_interval_of_truncated_entries(
     rt: HostRuntime,
 ) -> std::result::Result<(), Fail> {
     let alloc = rt.alloc();
-    let list = byte_keys(alloc, 255)?;
+    let list = byte_keys(alloc, 1, 255)?;
     let block = block_of::<ByteSum>(&rt, alloc, &list, 2, ONE_EACH)?;
     assert_eq!(rt; block.binary_index_len(), 128);
     assert_eq!(rt; block.hash_bucket_count(), Some(255));

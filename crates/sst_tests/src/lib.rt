@@ -4,7 +4,15 @@
 #[cfg(test)]
 mod blocks;
 #[cfg(test)]
+mod first_matches;
+#[cfg(test)]
 mod hash_indexes;
 #[cfg(test)]
 mod indexes;
 pub mod plain;
+#[cfg(test)]
+mod point_reads;
+#[cfg(test)]
+mod searches;
+#[cfg(test)]
+mod sources;

@@ -1,0 +1,217 @@
+//! Seeks over the heads of a block, and moves to a head by its offset.
+ghost use Rattle.std.specs.Prelude.{◌≡◌, ◌*◌, ◌<◌, ◌≤◌, length, IfOk};
+ghost use Rattle.sst_block_core.specs.Window.{whole};
+
+use crate::hash_indexes::{NO_BUCKETS, block_of, byte_keys, push};
+use crate::plain::plain_offset;
+use sst_base::{BlockHash, ByteSum, InternalValue, Result, ValueType, compare_bytes};
+use sst_block_core::laws::data_block_is_read;
+use sst_block_core::{DataBlock, DataBlockParsedItem, Decoder, ParsedItem};
+use std::alloc::Global;
+use std::process::Abort;
+use std::test::Fail;
+
+/// A decoder of the entries of a data block.
+type Keys<'a> = Decoder<'a, InternalValue, DataBlockParsedItem>;
+
+/// A decoder of a block, at its first entry.
+fn decoder_of<H: BlockHash>(block: &DataBlock<H>) -> Keys<'_>
+    ensures payload { result.payload ≡ block.now.payload }
+    ensures interval { result.interval ≡ block.now.interval }
+    ensures window { result.window ≡ whole block.now.items }
+{
+    // The proof needs that the payload is the encoding of the entries as decoded.
+    let _encoded = block.as_slice();
+    let _plain = block.iter();
+    data_block_is_read();
+    Decoder::new(block.inner())
+}
+
+/// Steps over the entries left, and finds these keys of one byte, in this order, and then none.
+fn check_left(rt: &impl Abort, decoder: &mut Keys<'_>, payload: &[u8], keys: &[u8])
+    requires payload { decoder.old.payload ≡ payload.now }
+    ensures payload { decoder.new.payload ≡ payload.now }
+    ensures interval { decoder.new.interval ≡ decoder.old.interval }
+    ensures list { decoder.new.window.list ≡ decoder.old.window.list }
+{
+    for key in keys {
+        let Some(item) = decoder.next() else {
+            assert!(rt; false, "no entry where {key} is left");
+            return;
+        };
+        assert!(rt;
+            item.compare_key([*key].as_slice(), payload).is_eq(),
+            "not {key}"
+        );
+    }
+    assert!(rt; decoder.next().is_none());
+}
+
+/// Seeks the keys below a bound, and checks the answer and the keys left.
+fn check_seek(
+    rt: &impl Abort,
+    decoder: &mut Keys<'_>,
+    payload: &[u8],
+    below: &[u8],
+    second: bool,
+    left: &[u8],
+)
+    requires payload { decoder.old.payload ≡ payload.now }
+    ensures payload { decoder.new.payload ≡ payload.now }
+{
+    let answer = decoder.seek(
+        &|key: &[u8], _: u64| compare_bytes(key, below).is_lt(),
+        second,
+    );
+    assert_eq!(rt; answer, !left.is_empty());
+    check_left(rt, decoder, payload, left);
+}
+
+/// The block of the keys a to e, at an interval.
+fn five_keys(rt: &impl Abort, alloc: Global, interval: u8) -> Result<DataBlock<ByteSum>>
+    requires interval { 1 ≤ interval }
+    ensures interval { IfOk result (λ block. block.interval ≡ interval) }
+{
+    let list = byte_keys(alloc, b'a', b'e')?;
+    block_of::<ByteSum>(rt, alloc, &list, interval, NO_BUCKETS)
+}
+
+/// At interval 2 the heads are a, c and e. The first form picks the last head that the predicate
+/// holds of, the second the first that it doesn't hold of. Each seek but the first begins at the
+/// end.
+#[test]
+fn seeks_pick_a_head(rt: HostRuntime) -> std::result::Result<(), Fail> {
+    let block = five_keys(&rt, rt.alloc(), 2)?;
+    let payload = block.as_slice().as_slice();
+    let mut decoder = decoder_of(&block);
+    check_seek(&rt, &mut decoder, payload, b"c", false, b"abcde");
+    check_seek(&rt, &mut decoder, payload, b"c", true, b"cde");
+    check_seek(&rt, &mut decoder, payload, b"z", false, b"e");
+    check_seek(&rt, &mut decoder, payload, b"z", true, b"e");
+    check_seek(&rt, &mut decoder, payload, b"", false, b"abcde");
+    check_seek(&rt, &mut decoder, payload, b"", true, b"abcde");
+    check_seek(&rt, &mut decoder, payload, b"b", false, b"abcde");
+    check_seek(&rt, &mut decoder, payload, b"b", true, b"cde");
+    check_seek(&rt, &mut decoder, payload, b"d", false, b"cde");
+    check_seek(&rt, &mut decoder, payload, b"d", true, b"e");
+    Ok(())
+}
+
+/// At interval 1 the second form finds no head where the predicate holds of all.
+#[test]
+fn every_key_is_a_head_at_interval_1(rt: HostRuntime) -> std::result::Result<(), Fail> {
+    let block = five_keys(&rt, rt.alloc(), 1)?;
+    let payload = block.as_slice().as_slice();
+    let mut decoder = decoder_of(&block);
+    check_seek(&rt, &mut decoder, payload, b"z", true, b"");
+    check_seek(&rt, &mut decoder, payload, b"z", false, b"e");
+    check_seek(&rt, &mut decoder, payload, b"e", true, b"e");
+    check_seek(&rt, &mut decoder, payload, b"d", false, b"cde");
+    check_seek(&rt, &mut decoder, payload, b"d", true, b"de");
+    check_seek(&rt, &mut decoder, payload, b"", false, b"abcde");
+    check_seek(&rt, &mut decoder, payload, b"", true, b"abcde");
+    Ok(())
+}
+
+/// Takes an entry away from the front, of which there is one.
+fn skip(rt: &impl Abort, decoder: &mut Keys<'_>)
+    ensures payload { decoder.new.payload ≡ decoder.old.payload }
+    ensures interval { decoder.new.interval ≡ decoder.old.interval }
+    ensures list { decoder.new.window.list ≡ decoder.old.window.list }
+{
+    assert!(rt; decoder.next().is_some());
+}
+
+/// A seek forgets where the decoder was: behind some entries, or at a head that was sought.
+#[test]
+fn seeks_from_within_the_entries(rt: HostRuntime) -> std::result::Result<(), Fail> {
+    let block = five_keys(&rt, rt.alloc(), 2)?;
+    let payload = block.as_slice().as_slice();
+    let mut decoder = decoder_of(&block);
+    skip(&rt, &mut decoder);
+    check_seek(&rt, &mut decoder, payload, b"c", false, b"abcde");
+    let mut behind_c = decoder_of(&block);
+    skip(&rt, &mut behind_c);
+    skip(&rt, &mut behind_c);
+    skip(&rt, &mut behind_c);
+    check_seek(&rt, &mut behind_c, payload, b"c", true, b"cde");
+    let mut sought = decoder_of(&block);
+    assert!(&rt; sought.seek(&|_: &[u8], _: u64| true, false));
+    check_seek(&rt, &mut sought, payload, b"", true, b"abcde");
+    Ok(())
+}
+
+/// Behind a seek that found no head nothing is left, and the next seek finds all entries again.
+#[test]
+fn a_seek_to_no_head_leaves_the_others(rt: HostRuntime) -> std::result::Result<(), Fail> {
+    let block = five_keys(&rt, rt.alloc(), 1)?;
+    let payload = block.as_slice().as_slice();
+    let mut decoder = decoder_of(&block);
+    skip(&rt, &mut decoder);
+    assert!(&rt; !decoder.seek(&|_: &[u8], _: u64| true, true));
+    assert!(&rt; decoder.next().is_none());
+    check_seek(&rt, &mut decoder, payload, b"b", false, b"abcde");
+    Ok(())
+}
+
+/// A predicate sees the sequence numbers of the heads too.
+#[test]
+fn seeks_by_sequence_number(rt: HostRuntime) -> std::result::Result<(), Fail> {
+    let alloc = rt.alloc();
+    let mut list = Vec::new(alloc);
+    for seqno in 1..6 {
+        push(&mut list, b"k", b"", 6 - seqno, ValueType::Value)?;
+    }
+    let block = block_of::<ByteSum>(&rt, alloc, &list, 2, NO_BUCKETS)?;
+    let mut decoder = decoder_of(&block);
+    assert!(&rt; decoder.seek(&|_: &[u8], seqno: u64| seqno > 2, false));
+    assert_eq!(&rt; decoder.next().map(|item| item.seqno()), Some(3));
+    assert!(&rt; decoder.seek(&|_: &[u8], seqno: u64| seqno > 3, true));
+    assert_eq!(&rt; decoder.next().map(|item| item.seqno()), Some(3));
+    Ok(())
+}
+
+/// Moves to a head, whose offset is this one, and checks the keys left.
+fn check_move(
+    rt: &impl Abort,
+    alloc: Global,
+    decoder: &mut Keys<'_>,
+    block: &DataBlock<ByteSum>,
+    head: usize,
+    offset: u64,
+    left: &[u8],
+) -> Result<()>
+    requires payload { decoder.old.payload ≡ block.now.payload }
+    requires interval { decoder.old.interval ≡ block.now.interval }
+    requires list { decoder.old.window.list ≡ block.now.items }
+    requires two { block.now.interval ≡ 2 }
+    requires head { head ≤ 100 }
+    ensures payload { decoder.new.payload ≡ block.now.payload }
+    ensures interval { decoder.new.interval ≡ block.now.interval }
+    ensures list { decoder.new.window.list ≡ block.now.items }
+{
+    let list = block.to_vec(alloc)?;
+    assert!(rt; head * 2 < list.len());
+    let found = plain_offset(alloc, &list, 2, head * 2)?;
+    assert_eq!(rt; found, offset);
+    decoder.set_lo_offset(found as usize);
+    check_left(rt, decoder, block.as_slice().as_slice(), left);
+    Ok(())
+}
+
+/// The heads a, c and e are at the offsets 0, 11 and 22, and a decoder moves to each at any moment.
+#[test]
+fn offsets_of_heads_are_moved_to(rt: HostRuntime) -> std::result::Result<(), Fail> {
+    let block = five_keys(&rt, rt.alloc(), 2)?;
+    let mut decoder = decoder_of(&block);
+    check_move(&rt, rt.alloc(), &mut decoder, &block, 1, 11, b"cde")?;
+    check_move(&rt, rt.alloc(), &mut decoder, &block, 2, 22, b"e")?;
+    check_move(&rt, rt.alloc(), &mut decoder, &block, 0, 0, b"abcde")?;
+    let mut behind_a = decoder_of(&block);
+    skip(&rt, &mut behind_a);
+    check_move(&rt, rt.alloc(), &mut behind_a, &block, 0, 0, b"abcde")?;
+    let mut sought = decoder_of(&block);
+    assert!(&rt; sought.seek(&|_: &[u8], _: u64| true, false));
+    check_move(&rt, rt.alloc(), &mut sought, &block, 1, 11, b"cde")?;
+    Ok(())
+}

@@ -1,0 +1,166 @@
+//! The sources of decoder, search and point read: their code reads the bytes of a block by one
+//! counting reader alone.
+//!
+//! `rt test` runs where the sources are found. `rt ci` and `rt try --test` run the tests in another
+//! folder, without the sources, and then only the lines written here are looked at. `rt try --test`
+//! can be given each file, as
+//! `--data table/block/bound.rt=../sst_block_core/src/table/block/bound.rt`.
+use std::rt::Files;
+use std::test::Fail;
+use std::{fs, io};
+
+/// Where the sources of the crate may be.
+const FOLDERS: [&str; 2] = ["../sst_block_core/src/table", "table"];
+
+/// The sources that get at heads and entries by the reader.
+const READERS: [&str; 9] = [
+    "block/decoder.rt",
+    "block/intervals.rt",
+    "block/search.rt",
+    "block/bound.rt",
+    "block/place.rt",
+    "data_block/mod.rt",
+    "data_block/point_read.rt",
+    "data_block/iter.rt",
+    "data_block/entry_ref.rt",
+];
+
+/// What code names that reads bytes of a block by itself, or counts anew.
+const DIRECT: [&str; 22] = [
+    "decode_varint",
+    "read_number",
+    "read_long_number",
+    "read_length_prefixed",
+    "read_full_form",
+    "read_truncated_form",
+    "read_head(payload",
+    "Item::read_",
+    "Item::parse_",
+    "InternalValue::read_",
+    "InternalValue::parse_",
+    "Decodable::",
+    "number_from",
+    "from_le_bytes",
+    "LittleEndian",
+    "payload[",
+    "payload.get(",
+    "bytes[",
+    ".as_slice()[",
+    "get_unchecked",
+    "as_ptr",
+    "Steps::new",
+];
+
+/// Returns whether a line is code: no comment, contract or ghost line.
+fn is_code(line: &str) -> bool {
+    let text = line.trim_start();
+    let is_other = text.starts_with("//")
+        || text.starts_with("ghost")
+        || text.starts_with("requires")
+        || text.starts_with("ensures");
+    !is_other
+}
+
+/// Returns how many lines of code of a text have a word.
+fn count(text: &str, word: &str) -> usize {
+    let mut found = 0usize;
+    for line in text.lines() {
+        if is_code(line) && line.contains(word) {
+            found = found.saturating_add(1);
+        }
+    }
+    found
+}
+
+/// Returns how often a text's code reads bytes of a block by itself.
+fn direct_reads(text: &str) -> usize {
+    let mut found = 0usize;
+    for word in DIRECT {
+        found = found.saturating_add(count(text, word));
+    }
+    found
+}
+
+/// Lines of code that read bytes are caught; comments, contracts and ghost lines are not.
+#[test]
+fn direct_reads_are_seen(rt: HostRuntime) {
+    for line in [
+        "let b = payload[at];",
+        "        let b = self.payload[at];\n",
+        "use sst_base::decode_varint;\nlet x = 1;",
+        "let (key, seqno) = Item::read_head(payload, offset);",
+        "let steps = Steps::new();",
+        "// A comment.\nlet byte = bytes[0];",
+    ] {
+        assert!(rt; direct_reads(line) > 0, "{line}");
+    }
+    for line in [
+        "// let b = payload[at];",
+        "    /// Decodes `Item::read_head`.",
+        "    ensures head { payload[at] }",
+        "    requires { decode_varint }",
+        "    ghost item_of: { Item::read_ };",
+        "self.forms.read_head(at.offset)",
+        "",
+    ] {
+        assert_eq!(rt; direct_reads(line), 0, "{line}");
+    }
+    assert_eq!(rt; count("a(1);\n// a(2);\n  a(3);\n", "a("), 2);
+}
+
+/// Returns the folder of the sources, if they are found.
+fn folder(rt: &impl Files) -> io::Result<Option<&'static str>> {
+    for folder in FOLDERS {
+        if fs::exists(rt, folder)? {
+            return Ok(Some(folder));
+        }
+    }
+    Ok(None)
+}
+
+/// Returns the text of a source.
+fn source<R: Files + AllocGlobal>(rt: &R, folder: &str, name: &str) -> io::Result<String> {
+    let path = format!(in rt.alloc(); "{folder}/{name}")?;
+    fs::read_to_string(rt, path.as_str())
+}
+
+/// No source names a direct read, and the one form reader is made where intervals are opened.
+#[test]
+fn readers_read_by_the_form_reader_alone(rt: HostRuntime) -> std::result::Result<(), Fail> {
+    let Some(folder) = folder(&rt)? else {
+        return Ok(());
+    };
+    let mut made = 0usize;
+    let mut payloads = 0usize;
+    for name in READERS {
+        let text = source(&rt, folder, name)?;
+        for word in DIRECT {
+            assert_eq!(&rt; count(text.as_str(), word), 0, "{name}: {word}");
+        }
+        made = made.saturating_add(count(text.as_str(), "FormReader::new"));
+        payloads = payloads.saturating_add(count(text.as_str(), ".data()"));
+        assert_eq!(&rt; count(text.as_str(), "FormReader {"), 0, "{name}");
+    }
+    let intervals = source(&rt, folder, "block/intervals.rt")?;
+    assert_eq!(&rt; made, 1);
+    assert_eq!(&rt; count(intervals.as_str(), "FormReader::new"), 1);
+    assert_eq!(&rt; count(intervals.as_str(), ".data()"), 1);
+    assert_eq!(&rt; payloads, 4);
+    Ok(())
+}
+
+/// The form reader's payload is a private field, and only the form reader makes counters.
+#[test]
+fn the_form_reader_keeps_its_payload(rt: HostRuntime) -> std::result::Result<(), Fail> {
+    let Some(folder) = folder(&rt)? else {
+        return Ok(());
+    };
+    let reader = source(&rt, folder, "block/form_reader.rt")?;
+    let text = reader.as_str();
+    assert_eq!(&rt; count(text, "    payload: &'a [u8],"), 1);
+    assert_eq!(&rt; count(text, "fn payload"), 0);
+    assert_eq!(&rt; count(text, "pub payload"), 0);
+    assert_eq!(&rt; count(text, ") payload"), 0);
+    assert_eq!(&rt; count(text, "Steps::new"), 1);
+    Ok(())
+}
