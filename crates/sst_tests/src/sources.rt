@@ -1,9 +1,9 @@
 //! The sources of decoder, search and point read: their code reads the bytes of a block by one
 //! counting reader alone.
 //!
-//! `rt test` runs where the sources are found. `rt ci` and `rt try --test` run the tests in another
-//! folder, without the sources, and then only the lines written here are looked at. `rt try --test`
-//! can be given each file, as
+//! `rt test` runs where the sources are found. `rt ci` runs the tests in another folder, without the
+//! sources, and then only the lines written here are looked at. So `.ci/run` runs `rt try --test`
+//! first and gives it each file, as
 //! `--data table/block/bound.rt=../sst_block_core/src/table/block/bound.rt`.
 use std::rt::Files;
 use std::test::Fail;
@@ -13,20 +13,23 @@ use std::{fs, io};
 const FOLDERS: [&str; 2] = ["../sst_block_core/src/table", "table"];
 
 /// The sources that get at heads and entries by the reader.
-const READERS: [&str; 9] = [
+const READERS: [&str; 12] = [
     "block/decoder.rt",
     "block/intervals.rt",
     "block/search.rt",
+    "block/seeks.rt",
+    "block/back.rt",
     "block/bound.rt",
     "block/place.rt",
     "data_block/mod.rt",
     "data_block/point_read.rt",
     "data_block/iter.rt",
+    "data_block/ops.rt",
     "data_block/entry_ref.rt",
 ];
 
 /// What code names that reads bytes of a block by itself, or counts anew.
-const DIRECT: [&str; 22] = [
+const DIRECT: [&str; 24] = [
     "decode_varint",
     "read_number",
     "read_long_number",
@@ -49,6 +52,8 @@ const DIRECT: [&str; 22] = [
     "get_unchecked",
     "as_ptr",
     "Steps::new",
+    "count_head",
+    "count_entry",
 ];
 
 /// Returns whether a line is code: no comment, contract or ghost line.
@@ -162,5 +167,25 @@ fn the_form_reader_keeps_its_payload(rt: HostRuntime) -> std::result::Result<(),
     assert_eq!(&rt; count(text, "pub payload"), 0);
     assert_eq!(&rt; count(text, ") payload"), 0);
     assert_eq!(&rt; count(text, "Steps::new"), 1);
+    Ok(())
+}
+
+/// A point read opens the intervals of its block once, and goes over them by no iterator.
+#[test]
+fn a_point_read_walks_nothing(rt: HostRuntime) -> std::result::Result<(), Fail> {
+    let Some(folder) = folder(&rt)? else {
+        return Ok(());
+    };
+    let point_read = source(&rt, folder, "data_block/point_read.rt")?;
+    for word in [".iter()", "entries()", "Decoder", ".next()", ".next_back()"] {
+        assert_eq!(&rt; count(point_read.as_str(), word), 0, "{word}");
+    }
+    assert_eq!(&rt; count(point_read.as_str(), "self.intervals()"), 1);
+    let mut opened = 0usize;
+    for name in READERS {
+        let text = source(&rt, folder, name)?;
+        opened = opened.saturating_add(count(text.as_str(), "Intervals::new"));
+    }
+    assert_eq!(&rt; opened, 2);
     Ok(())
 }
