@@ -39,7 +39,7 @@ int main() {
     const size_t space = measure.name.find(' ');
     const std::string operation = measure.name.substr(space + 1);
     if (!measure.other || operation == "compare") return;
-    const bool is_whole = operation == "encode" || operation == "walk";
+    const bool is_whole = operation == "encode" || operation == "walk" || operation == "walk_back";
     const double operations = is_whole ? 1 : double(measure.operations);
     const Turns ours = TurnsOf(measure.ours, operations);
     const Turns other = TurnsOf(measure.other, operations);

@@ -84,6 +84,17 @@ uint64_t LevelTable::Walk(uint64_t times) const {
   return sum;
 }
 
+uint64_t LevelTable::WalkBack(uint64_t times) const {
+  uint64_t sum = 0;
+  for (; times > 0; times--) {
+    auto iter = Iter();
+    for (iter->SeekToLast(); iter->Valid(); iter->Prev()) {
+      sum += iter->key().size() + iter->value().size();
+    }
+  }
+  return sum;
+}
+
 uint64_t LevelTable::Materialize(uint64_t times) const {
   uint64_t sum = 0;
   for (; times > 0; times--) {
@@ -125,6 +136,18 @@ uint64_t LevelTable::Get(const std::string& needles, uint64_t times) const {
     }
   }
   return hits;
+}
+
+uint64_t LevelTable::SeekNext(const std::string& needles, uint64_t times) const {
+  uint64_t sum = 0;
+  for (; times > 0; times--) {
+    for (size_t at = 0; at < needles.size(); at += entries_.key_len) {
+      auto iter = Iter();
+      iter->Seek(Slice(needles.data() + at, entries_.key_len));
+      sum += iter->key().size();
+    }
+  }
+  return sum;
 }
 
 std::vector<std::pair<std::string, std::string>> LevelTable::Walked() const {

@@ -43,9 +43,13 @@ class LevelTable {
   // Each repeats its operation, and returns a sum of what it read or the length of what it wrote.
   uint64_t Encode(uint64_t times);
   uint64_t Walk(uint64_t times) const;
+  // Walks over all keys and values from the back.
+  uint64_t WalkBack(uint64_t times) const;
   uint64_t Materialize(uint64_t times) const;
   uint64_t First(uint64_t times) const;
   uint64_t Get(const std::string& needles, uint64_t times) const;
+  // Makes an iterator for each needle, seeks it, and takes one key.
+  uint64_t SeekNext(const std::string& needles, uint64_t times) const;
 
   // The entries that a walk gives, and for each needle whether it is found with its own value.
   std::vector<std::pair<std::string, std::string>> Walked() const;

@@ -15,6 +15,8 @@ uint64_t sst_encode(const uint8_t* entries, size_t entries_len, size_t count, ui
                     uint32_t num, uint32_t den, uint64_t times, uint8_t* out, size_t out_len);
 uint64_t sst_walk(const uint8_t* entries, size_t entries_len, size_t count, uint8_t interval,
                   uint32_t num, uint32_t den, uint64_t times);
+uint64_t sst_walk_back(const uint8_t* entries, size_t entries_len, size_t count, uint8_t interval,
+                       uint32_t num, uint32_t den, uint64_t times);
 uint64_t sst_materialize(const uint8_t* entries, size_t entries_len, size_t count,
                          uint8_t interval, uint32_t num, uint32_t den, uint64_t times);
 uint64_t sst_iter(const uint8_t* entries, size_t entries_len, size_t count, uint8_t interval,
@@ -22,6 +24,9 @@ uint64_t sst_iter(const uint8_t* entries, size_t entries_len, size_t count, uint
 uint64_t sst_get(const uint8_t* entries, size_t entries_len, size_t count, uint8_t interval,
                  uint32_t num, uint32_t den, uint64_t times, const uint8_t* needles,
                  size_t needles_len, size_t key_len);
+uint64_t sst_seek_next(const uint8_t* entries, size_t entries_len, size_t count,
+                       uint8_t interval, uint32_t num, uint32_t den, uint64_t times,
+                       const uint8_t* needles, size_t needles_len, size_t key_len);
 
 }  // extern "C"
 

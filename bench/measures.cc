@@ -1,5 +1,6 @@
 #include "measures.h"
 
+#include <algorithm>
 #include <cstdio>
 #include <cstdlib>
 #include <memory>
@@ -41,6 +42,9 @@ class LibraryBlock {
   uint64_t Walk(uint64_t times) const {
     return sst_walk(BytesOf(bytes_), bytes_.size(), count_, interval_, 0, 1, times);
   }
+  uint64_t WalkBack(uint64_t times) const {
+    return sst_walk_back(BytesOf(bytes_), bytes_.size(), count_, interval_, 0, 1, times);
+  }
   uint64_t Materialize(uint64_t times) const {
     return sst_materialize(BytesOf(bytes_), bytes_.size(), count_, interval_, 0, 1, times);
   }
@@ -50,6 +54,10 @@ class LibraryBlock {
   uint64_t Get(const std::string& needles, uint64_t times) const {
     return sst_get(BytesOf(bytes_), bytes_.size(), count_, interval_, 0, 1, times,
                    BytesOf(needles), needles.size(), key_len_);
+  }
+  uint64_t SeekNext(const std::string& needles, uint64_t times) const {
+    return sst_seek_next(BytesOf(bytes_), bytes_.size(), count_, interval_, 0, 1, times,
+                         BytesOf(needles), needles.size(), key_len_);
   }
 
  private:
@@ -81,6 +89,18 @@ uint64_t ReadSum(const Entries& entries, const std::string& needles,
   return sum;
 }
 
+// What the library adds for seeks of keys that are there, each with the item behind it.
+uint64_t SeekSum(const Entries& entries, const std::vector<Item>& items) {
+  uint64_t sum = 0;
+  for (size_t at = 0; at < entries.hits.size(); at += entries.key_len) {
+    std::string needle = entries.hits.substr(at, entries.key_len);
+    auto first = std::lower_bound(items.begin(), items.end(), needle,
+                                  [](const Item& a, const std::string& b) { return a.key < b; });
+    sum += 1 + first->sum;
+  }
+  return sum;
+}
+
 // Shows that both sides hold the same entries, and find the same needles.
 void Compare(const std::string& name, const Entries& entries, const LibraryBlock& ours,
              const LevelTable& other, int interval) {
@@ -98,6 +118,7 @@ void Compare(const std::string& name, const Entries& entries, const LibraryBlock
     entry_sum += EntrySum(entries.list[i]);
   }
   Agree(name + " walk", ours.Walk(1) == item_sum);
+  Agree(name + " walk_back", ours.WalkBack(1) == item_sum);
   Agree(name + " materialize", ours.Materialize(1) == entry_sum);
   Agree(name + " iter", ours.First(1) == items[0].sum);
   for (const std::string* needles : {&entries.hits, &entries.misses}) {
@@ -105,6 +126,7 @@ void Compare(const std::string& name, const Entries& entries, const LibraryBlock
     for (bool hit : found) Agree(name + " get", hit == (needles == &entries.hits));
     Agree(name + " get", ours.Get(*needles, 1) == ReadSum(entries, *needles, found));
   }
+  Agree(name + " seek_next", ours.SeekNext(entries.hits, 1) == SeekSum(entries, items));
 }
 
 void BlockMeasures(const BlockShape& shape, const std::function<void(const Measure&)>& take) {
@@ -118,6 +140,8 @@ void BlockMeasures(const BlockShape& shape, const std::function<void(const Measu
         [&](uint64_t n) { return other.Encode(n); }});
   take({name + " walk", count, [&](uint64_t n) { return ours.Walk(n); },
         [&](uint64_t n) { return other.Walk(n); }});
+  take({name + " walk_back", count, [&](uint64_t n) { return ours.WalkBack(n); },
+        [&](uint64_t n) { return other.WalkBack(n); }});
   take({name + " materialize", count, [&](uint64_t n) { return ours.Materialize(n); },
         [&](uint64_t n) { return other.Materialize(n); }});
   take({name + " iter", 1, [&](uint64_t n) { return ours.First(n); },
@@ -126,6 +150,8 @@ void BlockMeasures(const BlockShape& shape, const std::function<void(const Measu
         [&](uint64_t n) { return other.Get(entries.hits, n); }});
   take({name + " get_miss", kNeedles, [&](uint64_t n) { return ours.Get(entries.misses, n); },
         [&](uint64_t n) { return other.Get(entries.misses, n); }});
+  take({name + " seek_next", kNeedles, [&](uint64_t n) { return ours.SeekNext(entries.hits, n); },
+        [&](uint64_t n) { return other.SeekNext(entries.hits, n); }});
 }
 
 void KeyMeasures(size_t key_len, const std::function<void(const Measure&)>& take) {

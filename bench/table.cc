@@ -100,10 +100,12 @@ std::vector<Group> GroupsOf(const std::vector<Row>& rows) {
 const std::map<std::string, std::string> kTitles = {
     {"encode", "encode, an entry"},
     {"walk", "walk, an entry"},
+    {"walk_back", "walk from the back, an entry"},
     {"materialize", "walk and make entries, an entry"},
     {"iter", "make an iterator, take one item"},
     {"get_hit", "read a key that is there"},
     {"get_miss", "read a key that is not"},
+    {"seek_next", "make an iterator, seek a key, take one item"},
     {"compare", "compare two keys"},
     {"shared", "shared prefix of two keys"},
     {"hash", "hash a key"},
@@ -118,8 +120,9 @@ std::string TitleOf(const std::string& operation) {
 void PrintMeans(std::vector<Group> groups) {
   std::stable_sort(groups.begin(), groups.end(), [](const Group& a, const Group& b) {
     const auto place = [](const Group& one) {
-      const char* order[] = {"encode",   "walk",    "materialize", "iter", "get_hit",
-                             "get_miss", "compare", "shared",      "hash", "varint"};
+      const char* order[] = {"encode",   "walk",      "walk_back", "materialize",
+                             "iter",     "get_hit",   "get_miss",  "seek_next",
+                             "compare",  "shared",    "hash",      "varint"};
       return std::find(std::begin(order), std::end(order), one.operation) - std::begin(order);
     };
     return place(a) < place(b);
@@ -143,10 +146,12 @@ void PrintMeans(std::vector<Group> groups) {
 const std::map<std::string, std::string> kUnits = {
     {"encode", "encode, a block"},
     {"walk", "walk, a block"},
+    {"walk_back", "walk from the back, a block"},
     {"materialize", "make entries, an entry"},
     {"iter", "make an iterator, take one item"},
     {"get_hit", "read a key that is there"},
     {"get_miss", "read a key that is not"},
+    {"seek_next", "make an iterator, seek a key, take one item"},
 };
 
 // Three blocks that differ in interval or size.
