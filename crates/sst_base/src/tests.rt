@@ -384,32 +384,42 @@ impl ListIterator for Queue {
 
 #[test]
 fn both_ends_are_peeked(rt: HostRuntime) {
-    let numbers = [1, 2, 3];
+    let numbers = [1u8, 2, 3];
     let mut it = numbers.iter().double_ended_peekable();
-    assert_eq!(rt; it.peek().copied().copied(), Some(1));
-    assert_eq!(rt; it.peek_back().copied().copied(), Some(3));
-    assert_eq!(rt; it.next().copied(), Some(1));
-    assert_eq!(rt; it.next_if(|_| false).copied(), None);
-    assert_eq!(rt; it.next_back().copied(), Some(3));
-    assert_eq!(rt; it.next_back().copied(), Some(2));
-    assert_eq!(rt; it.next().copied(), None);
-    assert_eq!(rt; it.peek().copied().copied(), None);
-    assert_eq!(rt; it.peek_back().copied().copied(), None);
+    let got = [
+        it.peek().copied().copied(),
+        it.peek_back().copied().copied(),
+        it.next().copied(),
+        it.next_if(|_| false).copied(),
+        it.next_back().copied(),
+        it.next_back().copied(),
+        it.next().copied(),
+    ];
+    assert_eq!(rt;
+        got,
+        [Some(1), Some(3), Some(1), None, Some(3), Some(2), None]
+    );
 }
 
 #[test]
 fn one_item_is_taken_once(rt: HostRuntime) {
-    let numbers = [7];
+    let numbers = [7u8];
     let mut it = numbers.iter().double_ended_peekable();
-    assert_eq!(rt; it.peek().copied().copied(), Some(7));
-    assert_eq!(rt; it.peek_back().copied().copied(), Some(7));
-    assert_eq!(rt; it.next().copied(), Some(7));
-    assert_eq!(rt; it.next_back().copied(), None);
+    let from_front = [
+        it.peek().copied().copied(),
+        it.peek_back().copied().copied(),
+        it.next().copied(),
+        it.next_back().copied(),
+    ];
     let mut it = numbers.iter().double_ended_peekable();
-    assert_eq!(rt; it.peek_back().copied().copied(), Some(7));
-    assert_eq!(rt; it.peek().copied().copied(), Some(7));
-    assert_eq!(rt; it.next_back().copied(), Some(7));
-    assert_eq!(rt; it.next().copied(), None);
+    let from_back = [
+        it.peek_back().copied().copied(),
+        it.peek().copied().copied(),
+        it.next_back().copied(),
+        it.next().copied(),
+    ];
+    assert_eq!(rt; from_front, [Some(7), Some(7), Some(7), None]);
+    assert_eq!(rt; from_back, [Some(7), Some(7), Some(7), None]);
 }
 
 #[test]
@@ -417,11 +427,13 @@ fn an_item_is_taken_if_accepted(rt: HostRuntime) -> std::result::Result<(), Fail
     let mut it = vec![in rt.alloc(); 7u8, 8]?
         .into_iter()
         .double_ended_peekable();
-    assert_eq!(rt; it.peek_back().copied(), Some(8));
-    assert_eq!(rt; it.next_if(|x| *x == 8), None);
-    assert_eq!(rt; it.next_if(|x| *x == 7), Some(7));
-    assert_eq!(rt; it.next_if(|x| *x == 8), Some(8));
-    assert_eq!(rt; it.next_if(|_| true), None);
+    let got = [
+        it.next_if(|x| *x == 8),
+        it.next_if(|x| *x == 7),
+        it.next(),
+        it.next_if(|_| true),
+    ];
+    assert_eq!(rt; got, [None, Some(7), Some(8), None]);
     Ok(())
 }
 
@@ -431,12 +443,10 @@ fn an_end_is_not_remembered(rt: HostRuntime) -> std::result::Result<(), Fail> {
         items: Vec::new(rt.alloc()),
     }
     .double_ended_peekable();
-    assert_eq!(rt; it.peek().copied(), None);
+    let before = [it.peek().copied(), it.peek_back().copied()];
     it.inner_mut().items.push(4)?;
+    assert_eq!(rt; before, [None, None]);
     assert_eq!(rt; it.next(), Some(4));
-    assert_eq!(rt; it.peek_back().copied(), None);
-    it.inner_mut().items.push(5)?;
-    assert_eq!(rt; it.next_back(), Some(5));
     Ok(())
 }
 
@@ -446,26 +456,26 @@ fn peeked_items_stay_around_inner(rt: HostRuntime) -> std::result::Result<(), Fa
         items: vec![in rt.alloc(); 1, 3]?,
     }
     .double_ended_peekable();
-    assert_eq!(rt; it.peek().copied(), Some(1));
-    assert_eq!(rt; it.peek_back().copied(), Some(3));
+    let peeked = [it.peek().copied(), it.peek_back().copied()];
     it.inner_mut().items.push(2)?;
-    assert_eq!(rt; it.next(), Some(1));
-    assert_eq!(rt; it.next(), Some(2));
-    assert_eq!(rt; it.next(), Some(3));
-    assert_eq!(rt; it.next(), None);
+    let taken = [it.next(), it.next(), it.next(), it.next()];
+    assert_eq!(rt; peeked, [Some(1), Some(3)]);
+    assert_eq!(rt; taken, [Some(1), Some(2), Some(3), None]);
     Ok(())
 }
 
 #[test]
 fn a_peekable_is_wrapped_again(rt: HostRuntime) {
-    let numbers = [1, 2];
+    let numbers = [1u8, 2];
     let mut it = numbers
         .iter()
         .double_ended_peekable()
         .double_ended_peekable();
-    assert_eq!(rt; it.peek_back().copied().copied(), Some(2));
-    assert_eq!(rt; it.peek().copied().copied(), Some(1));
-    assert_eq!(rt; it.next().copied(), Some(1));
-    assert_eq!(rt; it.next().copied(), Some(2));
-    assert_eq!(rt; it.next_back().copied(), None);
+    let got = [
+        it.peek_back().copied().copied(),
+        it.next().copied(),
+        it.next().copied(),
+        it.next_back().copied(),
+    ];
+    assert_eq!(rt; got, [Some(2), Some(1), Some(2), None]);
 }
