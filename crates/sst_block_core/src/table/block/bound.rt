@@ -1,5 +1,6 @@
 //! The bound of a search.
 ghost use Rattle.std.specs.Prelude.{◌≡◌, ◌≤◌, ◌==◌, if◌then◌else◌, nat_lt, length, drop};
+ghost use Rattle.std.specs.Prelude.{Some, None};
 ghost use Rattle.std.specs.Ordering.{nat_cmp};
 ghost use Rattle.std.specs.Cmp.Lexicographic.{slice_cmp};
 ghost use Rattle.std.specs.declared.cmp.Ordering.TheVariants.{Less, Greater};
@@ -18,6 +19,27 @@ pub(crate) struct Bound<'n> {
 }
 
 impl<'n> Bound<'n> {
+    /// Returns the bound that passes the keys below a needle.
+    #[inline(always)]
+    pub(crate) fn below(needle: &'n [u8]) -> Bound<'n>
+        ensures needle { result.needle.now ≡ needle.now }
+        ensures from { result.from ≡ None }
+    {
+        Bound { needle, from: None }
+    }
+
+    /// Returns the bound that passes the keys below a needle and those equal to it.
+    #[inline(always)]
+    pub(crate) fn up_to(needle: &'n [u8]) -> Bound<'n>
+        ensures needle { result.needle.now ≡ needle.now }
+        ensures from { result.from ≡ Some 0 }
+    {
+        Bound {
+            needle,
+            from: Some(0),
+        }
+    }
+
     /// Returns whether it passes a key that compares so with the needle.
     #[inline(always)]
     pub(crate) fn passes_order(&self, order: Ordering, seqno: SeqNo) -> bool
