@@ -15,6 +15,7 @@ pub mod SharedPrefixLaws
 pub mod Counted
 pub mod Hashes
 pub mod Block
+pub mod BlockHandle
 pub mod OrderLaws
 pub mod HeaderLaws
 pub mod KeyOrderLaws

@@ -32,7 +32,7 @@ pub use history::History;
 pub use key::{InternalKey, SeqNo, UserKey};
 pub use slice::Slice;
 pub use steps::Steps;
-pub use table::block::{Block, BlockType, Header};
+pub use table::block::{Block, BlockHandle, BlockOffset, BlockType, Header};
 pub use table::util::{
     SliceIndexes, compare_bytes, compare_prefixed_slice, longest_shared_prefix_length,
 };

@@ -2,12 +2,16 @@
 ghost use Rattle.std.specs.Prelude.{◌≡◌, ◌^◌, ◌<◌, length};
 ghost use Rattle.sst_base.specs.Block.{BlockParts};
 
+pub mod block_handle;
 pub mod block_type;
 pub mod header;
+pub mod offset;
 
 use crate::slice::Slice;
+pub use block_handle::BlockHandle;
 pub use block_type::BlockType;
 pub use header::Header;
+pub use offset::BlockOffset;
 use std::alloc::AllocError;
 use std::fmt;
 use std::marker::Model;
