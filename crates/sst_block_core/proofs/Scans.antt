@@ -3,7 +3,8 @@ use Rattle.std.proofs.Common.{◌≡◌, ℕ, ◌+◌, ◌-◌, ◌*◌, ◌%◌
 use Rattle.std.specs.Prelude.{nat_lt, ◌==◌, if◌then◌else◌}
 use Rattle.std.specs.List.{slice_get}
 use Rattle.std.proofs.lemmas.Nat.{mod-mul-add}
-use Rattle.std.specs.Ordering.{nat_cmp}
+use Rattle.std.proofs.lemmas.Option.{same_Some}
+use Rattle.std.specs.Ordering.{nat_cmp, is_eq}
 use Rattle.std.specs.declared.cmp.Ordering.{Ordering}
 use Rattle.std.specs.declared.cmp.Ordering.TheVariants.{Less, Greater}
 use Rattle.std.specs.Cmp.Lexicographic.{slice_cmp}
@@ -12,7 +13,9 @@ use Rattle.sst_base.specs.SharedPrefixLaws.{shared_prefix_inside}
 use Rattle.sst_block_core.specs.Kind.{Kind, IsOrdered}
 use Rattle.sst_block_core.specs.Scan.{Listed, StandsBehind}
 use Rattle.sst_block_core.specs.Window.{passes_cmp, passes, count_passed}
-use Rattle.sst_block_core.specs.Intervals.{IsEntered}
+use Rattle.sst_block_core.specs.Intervals.{IsEntered, IsFoundAt}
+use Rattle.sst_block_core.specs.Landings.{IsLandedAt, with_needle}
+use Rattle.sst_block_core.specs.declared.table.block.landing.Landing.{Landing}
 use Rattle.sst_block_core.specs.declared.table.block.place.Place.{Place}
 use Rattle.sst_block_core.proofs.Cuts.{cut_ordered, passed_below, not_passed_above}
 use Rattle.sst_block_core.proofs.SharedFronts.{order_by_lengths}
@@ -22,10 +25,43 @@ pub kept_match : {P : Type 0} (p : P) (b : Bool) (r : Option P) (None' : Type 0)
 kept_match p true r None' Some' e bad good = subst (λ o. MatchOption o None' Some') (sym e) (good refl)
 kept_match p false r None' Some' e bad good = subst (λ o. MatchOption o None' Some') (sym e) (bad refl)
 
--- the same, with less said where nothing was kept
-pub match_less : {P : Type 0} (r : Option P) (None' None'' : Type 0) (Some' : P → Type 0) → MatchOption r None' Some' → (None' → None'') → MatchOption r None'' Some'
-match_less None None' None'' Some' m less = less m
-match_less (Some p) None' None'' Some' m less = m
+-- with less said of nothing, and of what was kept
+pub match_less : {P : Type 0} (r : Option P) (None' None'' : Type 0) (Some' Some'' : P → Type 0) → MatchOption r None' Some' → (None' → None'') → ((p : P) → Some' p → Some'' p) → MatchOption r None'' Some''
+match_less None None' None'' Some' Some'' m none some = none m
+match_less (Some p) None' None'' Some' Some'' m none some = some p m
+
+-- a search in the interval of the last head that passes finds the first item that doesn't
+pub stop_place : (n r heads place count : ℕ) → 0 < heads → place ≡ min (min n ((heads - 1 + 1) * r)) count → count ≤ heads * r → count ≤ n → place ≡ count
+stop_place n r heads place count some is high inside =
+    let k : heads - 1 + 1 ≡ heads = omega arith in
+    let m = ap (λ j. j * r) k in
+    omega (arith, is, high, inside, m)
+
+module _ {X P : Type 0} (item_of : List ℕ → P → X) (is_found : List ℕ → P → Type 0) (kind : Kind X) (needle : List ℕ) (list : Listed X) (place end : ℕ) where
+  -- where a search stopped at an item, or at an end, it found the needle's item or there is none
+  pub landed_match : (landing : Option (Landing P)) (r : Option P) → r ≡ with_needle landing
+      → MatchOption landing (place ≡ end) (λ l. IsLandedAt item_of is_found kind needle list place l × (place < end))
+      → MatchOption r
+      ((x : X) → place < end → slice_get list.items place ≡ Some x → is_eq (slice_cmp nat_cmp (kind.key x) needle) ≡ false)
+      (λ p. IsFoundAt item_of is_found kind needle list place p × (place < end))
+  landed_match None r e m = subst (λ o. MatchOption o
+      ((x : X) → place < end → slice_get list.items place ≡ Some x → is_eq (slice_cmp nat_cmp (kind.key x) needle) ≡ false)
+      (λ p. IsFoundAt item_of is_found kind needle list place p × (place < end))) (sym e) (λ x less at. absurd (omega (arith, m, less)))
+  landed_match (Some l) r e m =
+      let landed = m.0 in
+      let held = landed.held in
+      kept_match l.item (is_eq l.order) r _ _ e
+      (λ other x less at. ap (λ y. is_eq (slice_cmp nat_cmp (kind.key y) needle)) (same_Some x _ (sym at ∙ held.there)) ∙ ap is_eq (sym landed.order_is) ∙ other)
+      (λ equal. (record { there = held.there; found = held.found; same_key = ap is_eq (sym landed.order_is) ∙ equal }, m.1))
+
+  -- the same where there is no item at the end
+  pub landed_found : (landing : Option (Landing P)) (r : Option P) → r ≡ with_needle landing
+      → MatchOption landing (place ≡ end) (λ l. IsLandedAt item_of is_found kind needle list place l × (place < end))
+      → ((x : X) → slice_get list.items place ≡ Some x → place < end)
+      → MatchOption r
+      ((x : X) → slice_get list.items place ≡ Some x → is_eq (slice_cmp nat_cmp (kind.key x) needle) ≡ false)
+      (IsFoundAt item_of is_found kind needle list place)
+  landed_found landing r e m inside = match_less r _ _ _ _ (landed_match landing r e m) (λ other x at. other x (inside x at) at) (λ p both. both.0)
 
 -- an index behind a head and before the next is no head's
 between_heads : (j r i : ℕ) → j * r < i → i < (j + 1) * r → 0 < i % r

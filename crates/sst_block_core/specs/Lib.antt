@@ -15,6 +15,7 @@ pub mod Found
 pub mod Digits
 pub mod Scan
 pub mod Intervals
+pub mod Landings
 pub mod Backs
 pub mod ParsedEntry
 pub mod DataBlock

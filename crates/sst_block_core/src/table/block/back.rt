@@ -1,6 +1,7 @@
 //! The back of an iterator over a block.
 ghost use Rattle.std.specs.Prelude.{◌≡◌, ◌+◌, ◌-◌, ◌<◌, ◌≤◌, [], length, slice_get, Some};
 ghost use Rattle.sst_block_core.specs.Backs.{first_of, back_cost, StackStands, IsBack};
+ghost use Rattle.sst_block_core.specs.Landings.{scan_cost};
 
 use crate::table::block::decoder::{Decodable, ParsedItem};
 use crate::table::block::intervals::Intervals;
@@ -77,6 +78,24 @@ impl<'a, Item: Decodable<Parsed>, Parsed: ParsedItem<Item> + Drop> Intervals<'a,
         back.stack.clear();
         if end > 0 {
             back.base = self.fill(end, &mut back.stack);
+        }
+    }
+
+    /// Moves a back to an end, and fills its offsets where the end is within an interval.
+    pub(crate) fn move_back(&mut self, back: &mut Back, end: usize)
+        requires { end ≤ length self.old.list.items }
+        ensures list { self.new.list ≡ self.old.list }
+        ensures hi { back.new.hi ≡ end }
+        ensures back { IsBack Item.kind self.old.list back.new.hi back.new.stack.items back.new.base }
+        ensures heads { self.new.steps.heads ≡ self.old.steps.heads }
+        ensures entries { self.new.steps.entries ≤ self.old.steps.entries + scan_cost self.old.list.interval }
+        ensures entries_grow { self.old.steps.entries ≤ self.new.steps.entries }
+    {
+        if end == self.item_count() || end % usize::from(self.interval()) == 0 {
+            back.hi = end;
+            back.stack.clear();
+        } else {
+            self.set_back(back, end);
         }
     }
 

@@ -160,6 +160,17 @@ impl<'a, Item: Decodable<Parsed>, Parsed: ParsedItem<Item>> Intervals<'a, Item, 
         }
     }
 
+    /// Returns the place of the head of interval j, or behind the last item where j is the number of
+    /// intervals.
+    #[inline(always)]
+    pub(crate) fn start_or_last(&self, j: usize) -> Place
+        requires { j ≤ head_count self.now.list.interval (length self.now.list.items) }
+        ensures place { result.place ≡ min (length self.now.list.items) (j * self.now.list.interval) }
+        ensures stands { Stands Item.kind self.now.list result }
+    {
+        if j < self.count() { self.start(j) } else { self.last() }
+    }
+
     /// Returns the place of the head at an offset, by halves over the pointers.
     pub(crate) fn place_at(&self, offset: usize) -> Place
         requires { (j : ℕ) × (j * self.now.list.interval < length self.now.list.items)

@@ -11,10 +11,12 @@ ghost use Rattle.sst_block_core.specs.Pointers.{head_count};
 ghost use Rattle.sst_block_core.specs.Scan.{Stands, StandsBehind};
 ghost use Rattle.sst_block_core.specs.Window.{count_passed, is_version};
 ghost use Rattle.sst_block_core.specs.Intervals.{Answered, Splits, digits, IsEntered, IsFoundAt};
+ghost use Rattle.sst_block_core.specs.Landings.{IsHeldAt, IsLandedAt, with_needle, scan_cost};
 
 use crate::table::block::bound::Bound;
 use crate::table::block::decoder::{Decodable, ParsedItem};
 use crate::table::block::intervals::Intervals;
+use crate::table::block::landing::Landing;
 use crate::table::block::place::Place;
 use sst_base::SeqNo;
 use sst_base::table::util::longest_shared_prefix_length;
@@ -54,6 +56,7 @@ impl<'a, Item: Decodable<Parsed>, Parsed: ParsedItem<Item>> Intervals<'a, Item, 
     pub(crate) fn heads_passed(&mut self, bound: &Bound<'_>) -> usize
         requires { IsOrdered Item.kind self.old.list.items }
         ensures list { self.new.list ≡ self.old.list }
+        ensures within { result ≤ head_count self.old.list.interval (length self.old.list.items) }
         ensures low { 0 < result → (result - 1) * self.old.list.interval < count_passed Item.kind bound.now.needle.now bound.now.from self.old.list.items }
         ensures high { count_passed Item.kind bound.now.needle.now bound.now.from self.old.list.items ≤ result * self.old.list.interval }
         ensures start { (result - 1) * self.old.list.interval < length self.old.list.items }
@@ -67,9 +70,9 @@ impl<'a, Item: Decodable<Parsed>, Parsed: ParsedItem<Item>> Intervals<'a, Item, 
 }
 
 impl<'a, Item: Decodable<Parsed>, Parsed: ParsedItem<Item> + Drop> Intervals<'a, Item, Parsed> {
-    // The first place from one on, and before an end, whose item a bound doesn't pass, with that item
-    // if its key is the needle; or the end. No head is among them, and their head, which the bound
-    // passes, shares `alike` bytes with the needle.
+    // The first place from one on, and before an end, whose item a bound doesn't pass, with that
+    // item; or the end. No head is among them, and their head, which the bound passes, shares `alike`
+    // bytes with the needle.
     #[inline(always)]
     fn scan(
         &mut self,
@@ -77,15 +80,14 @@ impl<'a, Item: Decodable<Parsed>, Parsed: ParsedItem<Item> + Drop> Intervals<'a,
         end: usize,
         alike: usize,
         bound: &Bound<'_>,
-    ) -> (Place, Option<Parsed>)
+    ) -> (Place, Option<Landing<Parsed>>)
         requires ordered { IsOrdered Item.kind self.old.list.items }
         requires entered { IsEntered Item.kind bound.now.needle.now bound.now.from self.old.list from alike end }
         ensures list { self.new.list ≡ self.old.list }
         ensures place { result.0.place ≡ min end (count_passed Item.kind bound.now.needle.now bound.now.from self.old.list.items) }
         ensures stands { Stands Item.kind self.old.list result.0 }
-        ensures item { MatchOption result.1
-            ((x : Item) → result.0.place < end → slice_get self.old.list.items result.0.place ≡ Some x → is_eq (slice_cmp nat_cmp (Item.kind.key x) bound.now.needle.now) ≡ false)
-            (λ p. IsFoundAt Parsed.item_of Parsed.is_found Item.kind bound.now.needle.now self.old.list result.0.place p × (result.0.place < end)) }
+        ensures landing { MatchOption result.1 (result.0.place ≡ end)
+            (λ l. IsLandedAt Parsed.item_of Parsed.is_found Item.kind bound.now.needle.now self.old.list result.0.place l × (result.0.place < end)) }
         ensures heads { self.new.steps.heads ≡ self.old.steps.heads }
         ensures entries { self.new.steps.entries ≤ self.old.steps.entries + (end - from.place) }
         ensures entries_grow { self.old.steps.entries + found_item result.1 ≤ self.new.steps.entries }
@@ -97,7 +99,8 @@ impl<'a, Item: Decodable<Parsed>, Parsed: ParsedItem<Item> + Drop> Intervals<'a,
             let shared = self.prefix_len(&item);
             let order = bound.compare_behind(shared, self.own_key(&item), alike);
             if !bound.passes_order(order, item.seqno()) {
-                return (here, if_equal(order, item));
+                let after = at;
+                return (here, Some(Landing { item, order, after }));
             }
         }
         (at, None)
@@ -124,19 +127,19 @@ impl<'a, Item: Decodable<Parsed>, Parsed: ParsedItem<Item> + Drop> Intervals<'a,
         (at, head, alike)
     }
 
-    // The first place of interval j whose item a bound doesn't pass, with that item if its key is the
-    // needle; or the end of the interval. The bound passes its head.
+    // The first place of interval j whose item a bound doesn't pass, with that item; or the end of the
+    // interval. The bound passes its head.
     #[inline(always)]
-    fn seek_in(&mut self, j: usize, bound: &Bound<'_>) -> (Place, Option<Parsed>)
+    fn seek_in(&mut self, j: usize, bound: &Bound<'_>) -> (Place, Option<Landing<Parsed>>)
         requires ordered { IsOrdered Item.kind self.old.list.items }
         requires inside { j * self.old.list.interval < length self.old.list.items }
         requires passed { j * self.old.list.interval < count_passed Item.kind bound.now.needle.now bound.now.from self.old.list.items }
         ensures list { self.new.list ≡ self.old.list }
         ensures place { result.0.place ≡ min (min (length self.old.list.items) ((j + 1) * self.old.list.interval)) (count_passed Item.kind bound.now.needle.now bound.now.from self.old.list.items) }
         ensures stands { Stands Item.kind self.old.list result.0 }
-        ensures item { MatchOption result.1
-            ((x : Item) → result.0.place < min (length self.old.list.items) ((j + 1) * self.old.list.interval) → slice_get self.old.list.items result.0.place ≡ Some x → is_eq (slice_cmp nat_cmp (Item.kind.key x) bound.now.needle.now) ≡ false)
-            (IsFoundAt Parsed.item_of Parsed.is_found Item.kind bound.now.needle.now self.old.list result.0.place) }
+        ensures landing { MatchOption result.1 (result.0.place ≡ min (length self.old.list.items) ((j + 1) * self.old.list.interval))
+            (λ l. IsLandedAt Parsed.item_of Parsed.is_found Item.kind bound.now.needle.now self.old.list result.0.place l
+            × (result.0.place < min (length self.old.list.items) ((j + 1) * self.old.list.interval))) }
         ensures heads { self.new.steps.heads ≡ self.old.steps.heads }
         ensures entries { self.new.steps.entries ≤ self.old.steps.entries + self.old.list.interval }
         ensures entries_grow { self.old.steps.entries + found_item result.1 ≤ self.new.steps.entries }
@@ -191,13 +194,37 @@ impl<'a, Item: Decodable<Parsed>, Parsed: ParsedItem<Item> + Drop> Intervals<'a,
     {
         let heads = self.heads_passed(bound);
         if heads > 0 {
-            let (at, item) = self.seek_in(heads - 1, bound);
+            let (at, landing) = self.seek_in(heads - 1, bound);
             if at.place < self.end(heads - 1) || at.place >= self.item_count() {
-                return (at, item);
+                return (at, with_needle(landing));
             }
         }
         let at = self.start(heads);
         (at, self.head_with_key(at, bound.needle))
+    }
+
+    /// Returns the place of the first item that a bound doesn't pass, with that item where it was
+    /// decoded. Where each item is a head, none is decoded.
+    #[inline(always)]
+    pub(crate) fn seek_place(&mut self, bound: &Bound<'_>) -> (Place, Option<Landing<Parsed>>)
+        requires { IsOrdered Item.kind self.old.list.items }
+        ensures list { self.new.list ≡ self.old.list }
+        ensures place { result.0.place ≡ count_passed Item.kind bound.now.needle.now bound.now.from self.old.list.items }
+        ensures stands { Stands Item.kind self.old.list result.0 }
+        ensures landing { IfSome result.1 (IsHeldAt Parsed.item_of Parsed.is_found Item.kind self.old.list result.0.place) }
+        ensures heads { self.new.steps.heads ≤ self.old.steps.heads + digits (head_count self.old.list.interval (length self.old.list.items)) }
+        ensures heads_grow { self.old.steps.heads ≤ self.new.steps.heads }
+        ensures entries { self.new.steps.entries ≤ self.old.steps.entries + scan_cost self.old.list.interval }
+        ensures entries_grow { self.old.steps.entries ≤ self.new.steps.entries }
+    {
+        let heads = self.heads_passed(bound);
+        if heads > 0 && self.interval() > 1 {
+            let (at, landing) = self.seek_in(heads - 1, bound);
+            if at.place < self.end(heads - 1) || at.place >= self.item_count() {
+                return (at, landing);
+            }
+        }
+        (self.start_or_last(heads), None)
     }
 
     /// Finds the first item with a key whose sequence number is strictly below `seqno`, by a search
@@ -250,8 +277,19 @@ impl<'a, Item: Decodable<Parsed>, Parsed: ParsedItem<Item> + Drop> Intervals<'a,
         if !bound.passes(self.own_key(&head), head.seqno()) {
             return self.with_key(head, needle);
         }
-        let (_, item) = self.scan(from, end, alike, &bound);
-        item
+        let (_, landing) = self.scan(from, end, alike, &bound);
+        with_needle(landing)
+    }
+}
+
+// The item at which a search stopped, if its key is the needle.
+#[inline(always)]
+fn with_needle<T: Drop>(landing: Option<Landing<T>>) -> Option<T>
+    ensures { result ≡ with_needle landing }
+{
+    match landing {
+        Some(landing) => if_equal(landing.order, landing.item),
+        None => None,
     }
 }
 

@@ -1,12 +1,14 @@
 //! Seeks of a decoder by key.
-ghost use Rattle.std.specs.Prelude.{◌≡◌, ◌+◌, ◌*◌, ◌≤◌, length};
+ghost use Rattle.std.specs.Prelude.{◌≡◌, ◌+◌, ◌*◌, ◌≤◌, length, min, nat_lt, IfSome};
 ghost use Rattle.sst_block_core.specs.Kind.{IsOrdered};
 ghost use Rattle.sst_block_core.specs.Pointers.{head_count};
 ghost use Rattle.sst_block_core.specs.Window.{count_passed, has_key, first_left, last_left, some_left};
 ghost use Rattle.sst_block_core.specs.Intervals.{digits};
+ghost use Rattle.sst_block_core.specs.Landings.{IsHeldAt, GivesNextHeld, listed_of, scan_cost};
 
 use crate::table::block::bound::Bound;
 use crate::table::block::decoder::{Decodable, Decoder, ParsedItem};
+use crate::table::block::landing::Landing;
 
 impl<'a, Item: Decodable<Parsed>, Parsed: ParsedItem<Item> + Drop> Decoder<'a, Item, Parsed> {
     /// Returns whether an item is left.
@@ -15,6 +17,72 @@ impl<'a, Item: Decodable<Parsed>, Parsed: ParsedItem<Item> + Drop> Decoder<'a, I
         ensures { result ≡ some_left self.now.window }
     {
         self.front.place < self.back.hi
+    }
+
+    /// Returns whether the front is at an item of the block, wherever the back is.
+    #[inline(always)]
+    pub(crate) fn is_at_item(&self) -> bool
+        ensures { result ≡ nat_lt self.now.window.lo (length self.now.window.list) }
+    {
+        self.front.place < self.intervals.item_count()
+    }
+
+    /// Moves the front to the first item that a bound doesn't pass. Returns that item where it was
+    /// decoded.
+    #[inline(always)]
+    pub(crate) fn seek_place(&mut self, bound: &Bound<'_>) -> Option<Landing<Parsed>>
+        requires { IsOrdered Item.kind self.old.window.list }
+        ensures payload { self.new.payload ≡ self.old.payload }
+        ensures interval { self.new.interval ≡ self.old.interval }
+        ensures window { self.new.window ≡ record {
+          list = self.old.window.list;
+          lo = count_passed Item.kind bound.now.needle.now bound.now.from self.old.window.list;
+          hi = self.old.window.hi;
+        } }
+        ensures landing { IfSome result (IsHeldAt Parsed.item_of Parsed.is_found Item.kind (listed_of self.old)
+            (count_passed Item.kind bound.now.needle.now bound.now.from self.old.window.list)) }
+        ensures heads { self.new.steps.heads ≤ self.old.steps.heads + digits (head_count self.old.interval (length self.old.window.list)) }
+        ensures heads_grow { self.old.steps.heads ≤ self.new.steps.heads }
+        ensures entries { self.new.steps.entries ≤ self.old.steps.entries + scan_cost self.old.interval }
+        ensures entries_grow { self.old.steps.entries ≤ self.new.steps.entries }
+    {
+        let (place, landing) = self.intervals.seek_place(bound);
+        self.front = place;
+        landing
+    }
+
+    /// Moves the back behind the first item that a bound doesn't pass, or behind the last item.
+    #[inline(always)]
+    pub(crate) fn seek_upper_place(&mut self, bound: &Bound<'_>)
+        requires { IsOrdered Item.kind self.old.window.list }
+        ensures payload { self.new.payload ≡ self.old.payload }
+        ensures interval { self.new.interval ≡ self.old.interval }
+        ensures window { self.new.window ≡ record {
+          list = self.old.window.list;
+          lo = self.old.window.lo;
+          hi = min (length self.old.window.list) (count_passed Item.kind bound.now.needle.now bound.now.from self.old.window.list + 1);
+        } }
+        ensures heads { self.new.steps.heads ≤ self.old.steps.heads + digits (head_count self.old.interval (length self.old.window.list)) }
+        ensures heads_grow { self.old.steps.heads ≤ self.new.steps.heads }
+        ensures entries { self.new.steps.entries ≤ self.old.steps.entries + 2 * scan_cost self.old.interval }
+        ensures entries_grow { self.old.steps.entries ≤ self.new.steps.entries }
+    {
+        let (place, _) = self.intervals.seek_place(bound);
+        let end = self.intervals.item_count().min(place.place + 1);
+        self.intervals.move_back(&mut self.back, end);
+    }
+
+    /// Returns the item at the front, which is held, if it is left. Counts nothing.
+    #[inline(always)]
+    pub(crate) fn next_held(&mut self, held: Landing<Parsed>) -> Option<Parsed>
+        requires { IsHeldAt Parsed.item_of Parsed.is_found Item.kind (listed_of self.old) self.old.window.lo held }
+        ensures { GivesNextHeld Parsed.item_of Parsed.is_found self.old result self.new }
+    {
+        if self.front.place >= self.back.hi {
+            return None;
+        }
+        self.front = held.after;
+        Some(held.item)
     }
 
     /// Moves the front to the first item that a bound doesn't pass. Returns whether an item is left,

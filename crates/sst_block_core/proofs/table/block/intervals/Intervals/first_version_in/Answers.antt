@@ -2,7 +2,7 @@ use Rattle.std.proofs.Common.{◌∙◌, Some, sym, ap, subst, drop}
 use Rattle.sst_block_core.specs.Scan.{Listed}
 use Rattle.sst_block_core.specs.Window.{passes}
 use Rattle.sst_block_core.specs.Intervals.{IsEntered}
-use Rattle.sst_block_core.proofs.Scans.{enters}
+use Rattle.sst_block_core.proofs.Scans.{enters, landed_match}
 use Rattle.sst_block_core.proofs.FirstMatches.{first_of_these, none_of_these, kept_if}
 use Rattle.sst_block_core.proofs.Versions.{version_found_in}
 use Rattle.sst_block_core.proofs.table.block.intervals.Intervals.first_version_in.Goals as goal
@@ -20,8 +20,8 @@ returns-then-not-passes-clause-item g c =
     (first_of_these kind c.args.needle.now c.args.seqno items c.requires.ordered _ _ c.requires.alone _ e.item stopped)
     (none_of_these kind c.args.needle.now c.args.seqno items c.requires.ordered _ _ c.requires.alone _ e.item stopped) kept
 
-pub scan-item-requires-clause-entered : goal.scan-item-requires-clause-entered
-scan-item-requires-clause-entered g c =
+pub scan-landing-requires-clause-entered : goal.scan-landing-requires-clause-entered
+scan-landing-requires-clause-entered g c =
     let e = c.enter-head.ensures in
     let kind = g.Item.BlockItem.kind in
     let items = c.args.self.now.list.items in
@@ -35,5 +35,7 @@ scan-item-requires-clause-entered g c =
 pub returns-clause-item : goal.returns-clause-item
 returns-clause-item g c =
     let e = c.enter-head.ensures in
-    version_found_in g.Parsed.ParsedItem.item_of g.Parsed.ParsedItem.is_found g.Item.BlockItem.kind c.args.needle.now c.args.seqno c.args.self.now.list c.requires.ordered c.scan-item.result.0.place
-    c.scan-item.result.1 c.args.j c.end-end.result c.end-end.ensures.value (rw e.list at c.scan-item.ensures.place) c.requires.alone (rw e.list at c.scan-item.ensures.item)
+    let found = landed_match g.Parsed.ParsedItem.item_of g.Parsed.ParsedItem.is_found g.Item.BlockItem.kind c.args.needle.now c.args.self.now.list c.scan-landing.result.0.place c.end-end.result
+    c.scan-landing.result.1 c.with_needle.result c.with_needle.ensures (rw e.list at c.scan-landing.ensures.landing) in
+    version_found_in g.Parsed.ParsedItem.item_of g.Parsed.ParsedItem.is_found g.Item.BlockItem.kind c.args.needle.now c.args.seqno c.args.self.now.list c.requires.ordered c.scan-landing.result.0.place
+    c.with_needle.result c.args.j c.end-end.result c.end-end.ensures.value (rw e.list at c.scan-landing.ensures.place) c.requires.alone found

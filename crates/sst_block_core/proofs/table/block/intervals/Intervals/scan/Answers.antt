@@ -1,8 +1,5 @@
 use Rattle.std.proofs.Common.{◌≡◌, ◌∙◌, ◌+◌, ◌≤◌, ap, sym, refl, drop, arith}
-use Rattle.std.specs.Ordering.{is_eq, nat_cmp}
-use Rattle.std.specs.Cmp.Lexicographic.{slice_cmp}
-use Rattle.std.proofs.lemmas.Option.{same_Some}
-use Rattle.sst_block_core.proofs.Scans.{alike_inside, order_is, stops_here, goes_on, kept_match}
+use Rattle.sst_block_core.proofs.Scans.{alike_inside, order_is, stops_here, goes_on}
 use Rattle.sst_block_core.proofs.table.block.intervals.Intervals.scan.Goals as goal
 
 pub loop-at-init : goal.loop-at-init
@@ -32,8 +29,8 @@ returns-then-not-passes_order-clause-place g c =
     c.prefix_len-shared.result c.own_key.result.now shared rest c.compare_behind-order.result c.compare_behind-order.ensures
     c.seqno.result (c.seqno.ensures c.args.self.now.list.payload) c.loop-at-test.true (sym c.passes_order.ensures ∙ c.if-not-passes_order.true)
 
-pub returns-then-not-passes_order-clause-item : goal.returns-then-not-passes_order-clause-item
-returns-then-not-passes_order-clause-item g c =
+pub returns-then-not-passes_order-clause-landing : goal.returns-then-not-passes_order-clause-landing
+returns-then-not-passes_order-clause-landing g c =
     let i = c.loop-at.invariant in
     let e = i.entered in
     let kind = g.Item.BlockItem.kind in
@@ -44,9 +41,7 @@ returns-then-not-passes_order-clause-item g c =
     let rest = c.own_key.ensures ∙ (λ k. drop (sym c.prefix_len-shared.ensures k) (kind.key (g.Parsed.ParsedItem.item_of ((ap (λ l. l.payload) (took.list ∙ i.same)) k) c.take_rest-item.result))) in
     let same = order_is kind c.args.bound.now.needle.now c.args.bound.now.from c.args.self.now.list c.loop-at.at c.args.alike c.args.end e c.requires.ordered _ there
     c.prefix_len-shared.result c.own_key.result.now shared rest c.compare_behind-order.result c.compare_behind-order.ensures in
-    kept_match c.take_rest-item.result _ c.if_equal.result _ _ c.if_equal.ensures
-    (λ other x less at. ap (λ y. is_eq (slice_cmp nat_cmp (kind.key y) c.args.bound.now.needle.now)) (same_Some x _ (sym at ∙ there)) ∙ ap is_eq (sym same) ∙ other)
-    (λ equal. (record { there = there; found = rw i.same at took.found; same_key = ap is_eq (sym same) ∙ equal }, c.loop-at-test.true))
+    (record { held = record { there = there; found = rw i.same at took.found; next = took.place; stands = record { head = kind.key e.head; stands = behind.0 } }; order_is = same }, c.loop-at-test.true)
 
 pub loop-at-preserved : goal.loop-at-preserved
 loop-at-preserved g c =

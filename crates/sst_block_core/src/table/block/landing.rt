@@ -1,0 +1,14 @@
+//! Where a search within a restart interval stops.
+use crate::table::block::place::Place;
+use std::cmp::Ordering;
+
+/// An item at which a search stopped, as it was decoded.
+#[derive(Drop)]
+pub(crate) struct Landing<Parsed> {
+    /// The item.
+    pub(crate) item: Parsed,
+    /// How its key compares with the needle.
+    pub(crate) order: Ordering,
+    /// The place behind it.
+    pub(crate) after: Place,
+}
