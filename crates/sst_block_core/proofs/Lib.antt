@@ -26,6 +26,7 @@ mod Cuts
 mod SharedFronts
 mod Scans
 mod EntryReads
+mod HandleReads
 mod OrderedSteps
 mod WindowSteps
 mod FirstMatches

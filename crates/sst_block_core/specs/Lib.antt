@@ -18,9 +18,12 @@ pub mod Intervals
 pub mod Landings
 pub mod Backs
 pub mod ParsedEntry
+pub mod ParsedHandle
 pub mod DataBlock
+pub mod IndexBlock
 pub mod Lookups
 pub mod Ops
+pub mod IndexOps
 pub mod Walks
 pub mod Encoders
 pub mod PointerLaws

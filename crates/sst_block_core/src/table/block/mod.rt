@@ -7,6 +7,7 @@ pub mod encoder;
 pub(crate) mod form_reader;
 pub mod hash_index;
 pub(crate) mod intervals;
+pub(crate) mod key_ranges;
 pub(crate) mod landing;
 pub(crate) mod place;
 pub(crate) mod reading;

@@ -5,12 +5,12 @@ ghost use Rattle.sst_block_core.specs.Entries.{value_at, full_at, truncated_form
 ghost use Rattle.sst_block_core.specs.ParsedEntry.{entry_of, truncated_of, IsKeyLength};
 
 use crate::table::block::Decodable;
+use crate::table::block::key_ranges::bytes_of;
 use crate::table::block::reading::{
-    length_prefixed_from, number_from, read_length_prefixed, read_number, read_value_type,
-    value_type_from,
+    length_prefixed_from, number_from, prefix_from, read_length_prefixed, read_number,
+    read_value_type, value_type_from,
 };
-use crate::table::data_block::parsed_item::{DataBlockParsedItem, bytes_of};
-use sst_base::key::MAX_KEY_LEN;
+use crate::table::data_block::parsed_item::DataBlockParsedItem;
 use sst_base::table::util::SliceIndexes;
 use sst_base::{InternalValue, Steps, ValueType};
 
@@ -75,23 +75,15 @@ fn truncated_form_from(payload: &[u8], offset: usize) -> Option<(TruncatedForm, 
 // The range of a prefix of this length at the offset of a head's key, if it lies in the payload and
 // the whole key has 1 to 65535 bytes.
 #[inline(always)]
-fn prefix_from(payload: &[u8], base: usize, shared: u64, rest: usize) -> Option<SliceIndexes>
+fn entry_prefix_from(payload: &[u8], base: usize, shared: u64, rest: usize) -> Option<SliceIndexes>
     ensures found { IfSome result (λ p. (p ≡ record { 0 = base; 1 = base + shared }) × IsRange payload.now p
         × IsKeyLength (shared + rest)) }
     ensures none { IfNone result (base + shared ≤ length payload.now → IsKeyLength (shared + rest) → ⊥) }
 {
-    if base > payload.len() || shared > (payload.len() - base) as u64 {
+    if shared == 0 && rest == 0 {
         return None;
     }
-    if shared > MAX_KEY_LEN as u64 || rest > MAX_KEY_LEN {
-        return None;
-    }
-    let shared = shared as usize;
-    let whole = shared + rest;
-    if whole == 0 || whole > MAX_KEY_LEN {
-        return None;
-    }
-    Some(SliceIndexes(base, base + shared))
+    prefix_from(payload, base, shared, rest)
 }
 
 // The range of the value that stands at an offset, which a tombstone has not, and where it ends.
@@ -205,7 +197,7 @@ impl Decodable<DataBlockParsedItem> for InternalValue {
     ) -> Option<(DataBlockParsedItem, usize)> {
         let (form, end) = truncated_form_from(payload, offset)?;
         let rest = form.key.1 - form.key.0;
-        let prefix = prefix_from(payload, base_key_offset, form.shared, rest)?;
+        let prefix = entry_prefix_from(payload, base_key_offset, form.shared, rest)?;
         steps.count_entry();
         let item = DataBlockParsedItem {
             value_type: form.value_type,

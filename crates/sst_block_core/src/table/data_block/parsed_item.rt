@@ -1,9 +1,7 @@
 //! Entries by their ranges of a payload.
-ghost use Rattle.std.specs.Prelude.{◌≡◌};
-ghost use Rattle.sst_block_core.specs.Found.{IsRange, range_of};
-
 use crate::table::block::ParsedItem;
-use sst_base::table::util::{SliceIndexes, compare_bytes, compare_prefixed_slice};
+use crate::table::block::key_ranges::{bytes_of, compare_ranges, join_ranges, prefix_len};
+use sst_base::table::util::SliceIndexes;
 use sst_base::{InternalKey, InternalValue, Result, SeqNo, Slice, ValueType};
 use std::alloc::Global;
 use std::cmp::Ordering;
@@ -24,15 +22,6 @@ pub struct DataBlockParsedItem {
     pub value: Option<SliceIndexes>,
 }
 
-/// Returns the bytes of a range.
-#[inline(always)]
-pub(crate) fn bytes_of<'a>(payload: &'a [u8], range: &SliceIndexes) -> &'a [u8]
-    requires { IsRange payload.now range.now }
-    ensures { result.now ≡ range_of payload.now range.now }
-{
-    &payload[range.0..range.1]
-}
-
 impl ParsedItem<InternalValue> for DataBlockParsedItem {
     ghost use Rattle.sst_block_core.specs.ParsedEntry.{entry_of, IsParsedEntry, prefix_len};
 
@@ -45,11 +34,7 @@ impl ParsedItem<InternalValue> for DataBlockParsedItem {
     ghost shared_len = { prefix_len };
 
     fn compare_key(&self, needle: &[u8], payload: &[u8]) -> Ordering {
-        let key = bytes_of(payload, &self.key);
-        match &self.prefix {
-            Some(prefix) => compare_prefixed_slice(bytes_of(payload, prefix), key, needle),
-            None => compare_bytes(key, needle),
-        }
+        compare_ranges(payload, &self.prefix, &self.key, needle)
     }
 
     fn seqno(&self) -> u64 {
@@ -62,10 +47,7 @@ impl ParsedItem<InternalValue> for DataBlockParsedItem {
 
     #[inline(always)]
     fn prefix_len(&self, payload: &[u8]) -> usize {
-        match &self.prefix {
-            Some(prefix) => prefix.1 - prefix.0,
-            None => 0,
-        }
+        prefix_len(payload, &self.prefix)
     }
 
     #[inline(always)]
@@ -75,14 +57,7 @@ impl ParsedItem<InternalValue> for DataBlockParsedItem {
     }
 
     fn materialize(&self, alloc: Global, payload: &Slice) -> Result<InternalValue> {
-        let user_key = match &self.prefix {
-            Some(prefix) => Slice::fused(
-                alloc,
-                bytes_of(payload.as_slice(), prefix),
-                bytes_of(payload.as_slice(), &self.key),
-            )?,
-            None => payload.slice(self.key.0..self.key.1)?,
-        };
+        let user_key = join_ranges(alloc, payload, &self.prefix, &self.key)?;
         let value = match &self.value {
             Some(value) => payload.slice(value.0..value.1)?,
             None => Slice::empty(alloc),

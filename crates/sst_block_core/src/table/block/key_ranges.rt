@@ -1,0 +1,76 @@
+//! Keys by their ranges of a payload: a prefix, if there is one, and the bytes behind it.
+ghost use Rattle.std.specs.Prelude.{◌≡◌, ◌++◌, IfOk, IsOkUnless};
+ghost use Rattle.std.specs.Ordering.{nat_cmp};
+ghost use Rattle.std.specs.Cmp.Lexicographic.{slice_cmp};
+ghost use Rattle.sst_block_core.specs.Found.{IsRange, IsOptionalRange, range_of, optional_range, range_len};
+
+use sst_base::table::util::{SliceIndexes, compare_bytes, compare_prefixed_slice};
+use sst_base::{Error, Result, Slice};
+use std::alloc::Global;
+use std::cmp::Ordering;
+
+/// Returns the bytes of a range.
+#[inline(always)]
+pub(crate) fn bytes_of<'a>(payload: &'a [u8], range: &SliceIndexes) -> &'a [u8]
+    requires { IsRange payload.now range.now }
+    ensures { result.now ≡ range_of payload.now range.now }
+{
+    &payload[range.0..range.1]
+}
+
+/// Returns the length of a prefix: 0 where there is none.
+#[inline(always)]
+pub(crate) fn prefix_len(payload: &[u8], prefix: &Option<SliceIndexes>) -> usize
+    requires { IsOptionalRange payload.now prefix.now }
+    ensures { result ≡ range_len prefix.now }
+{
+    match prefix {
+        Some(prefix) => prefix.1 - prefix.0,
+        None => 0,
+    }
+}
+
+/// Compares a key with a needle, without joining prefix and rest.
+#[inline(always)]
+pub(crate) fn compare_ranges(
+    payload: &[u8],
+    prefix: &Option<SliceIndexes>,
+    rest: &SliceIndexes,
+    needle: &[u8],
+) -> Ordering
+    requires prefix { IsOptionalRange payload.now prefix.now }
+    requires rest { IsRange payload.now rest.now }
+    ensures { result ≡ slice_cmp nat_cmp (optional_range payload.now prefix.now ++ range_of payload.now rest.now) needle.now }
+{
+    let rest = bytes_of(payload, rest);
+    match prefix {
+        Some(prefix) => compare_prefixed_slice(bytes_of(payload, prefix), rest, needle),
+        None => compare_bytes(rest, needle),
+    }
+}
+
+/// Makes the key: a sub-slice of the payload, or prefix and rest joined.
+///
+/// # Errors
+///
+/// `Error::Memory` if an allocation fails.
+pub(crate) fn join_ranges(
+    alloc: Global,
+    payload: &Slice,
+    prefix: &Option<SliceIndexes>,
+    rest: &SliceIndexes,
+) -> Result<Slice>
+    requires prefix { IsOptionalRange payload.now prefix.now }
+    requires rest { IsRange payload.now rest.now }
+    ensures ok { IfOk result (λ key. key ≡ optional_range payload.now prefix.now ++ range_of payload.now rest.now) }
+    ensures memory { IsOkUnless result Error.Memory }
+{
+    match prefix {
+        Some(prefix) => Slice::fused(
+            alloc,
+            bytes_of(payload.as_slice(), prefix),
+            bytes_of(payload.as_slice(), rest),
+        ),
+        None => payload.slice(rest.0..rest.1),
+    }
+}
