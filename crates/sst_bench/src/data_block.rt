@@ -78,7 +78,7 @@ fn block_in(
 }
 
 // Copies as many bytes as fit.
-fn copy_front(out: &mut [u8], bytes: &[u8])
+pub(crate) fn copy_front(out: &mut [u8], bytes: &[u8])
     ensures { BeginAlike out.new bytes.now }
 {
     let len = out.len().min(bytes.len());

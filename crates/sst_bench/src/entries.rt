@@ -29,7 +29,7 @@ fn type_in(bytes: &[u8]) -> Option<(ValueType, &[u8])>
 }
 
 // The number of two bytes at the front, and the bytes after it.
-fn u16_in(bytes: &[u8]) -> Option<(u16, &[u8])>
+pub(crate) fn u16_in(bytes: &[u8]) -> Option<(u16, &[u8])>
     ensures { IfSome result (λ p. bytes.now ≡ little_bytes 2 p.0 ++ p.1.now) }
 {
     if bytes.len() < 2 {
@@ -40,7 +40,7 @@ fn u16_in(bytes: &[u8]) -> Option<(u16, &[u8])>
 }
 
 // The number of four bytes at the front, and the bytes after it.
-fn u32_in(bytes: &[u8]) -> Option<(u32, &[u8])>
+pub(crate) fn u32_in(bytes: &[u8]) -> Option<(u32, &[u8])>
     ensures { IfSome result (λ p. bytes.now ≡ little_bytes 4 p.0 ++ p.1.now) }
 {
     if bytes.len() < 4 {
@@ -51,7 +51,7 @@ fn u32_in(bytes: &[u8]) -> Option<(u32, &[u8])>
 }
 
 // The number of eight bytes at the front, and the bytes after it.
-fn u64_in(bytes: &[u8]) -> Option<(u64, &[u8])>
+pub(crate) fn u64_in(bytes: &[u8]) -> Option<(u64, &[u8])>
     ensures { IfSome result (λ p. bytes.now ≡ little_bytes 8 p.0 ++ p.1.now) }
 {
     if bytes.len() < 8 {
@@ -62,7 +62,7 @@ fn u64_in(bytes: &[u8]) -> Option<(u64, &[u8])>
 }
 
 // The first `len` bytes, and the bytes after them.
-fn bytes_in(bytes: &[u8], len: usize) -> Option<(&[u8], &[u8])>
+pub(crate) fn bytes_in(bytes: &[u8], len: usize) -> Option<(&[u8], &[u8])>
     ensures joined { IfSome result (λ p. bytes.now ≡ p.0.now ++ p.1.now) }
     ensures length { IfSome result (λ p. length p.0.now ≡ len) }
 {

@@ -8,6 +8,8 @@
 
 pub mod data_block;
 pub mod entries;
+pub mod handles;
+pub mod index_block;
 pub mod keys;
 pub mod sums;
 

@@ -4,7 +4,7 @@ ghost use Rattle.sst_bench.specs.Blocks.{entry_sum};
 
 use sst_base::InternalValue;
 use sst_base::table::util::SliceIndexes;
-use sst_block_core::DataBlockParsedItem;
+use sst_block_core::{DataBlockParsedItem, IndexBlockParsedItem};
 
 // Start and end of a range, each times a factor.
 #[inline(always)]
@@ -29,6 +29,17 @@ pub fn item_sum(item: &DataBlockParsedItem) -> u64 {
         sum = sum.wrapping_add(range_sum(value, 9, 11));
     }
     sum
+}
+
+/// Offset, size, sequence number, and start and end of the end key's own bytes of a parsed handle,
+/// each times a factor.
+#[inline(always)]
+pub fn handle_sum(item: &IndexBlockParsedItem) -> u64 {
+    item.offset
+        .0
+        .wrapping_add(u64::from(item.size).wrapping_mul(3))
+        .wrapping_add(item.seqno.wrapping_mul(5))
+        .wrapping_add(range_sum(&item.end_key, 7, 9))
 }
 
 // The last byte, or 0 for none.

@@ -168,7 +168,11 @@ impl<'a, Item: Decodable<Parsed>, Parsed: ParsedItem<Item>> Intervals<'a, Item, 
         ensures place { result.place ≡ min (length self.now.list.items) (j * self.now.list.interval) }
         ensures stands { Stands Item.kind self.now.list result }
     {
-        if j < self.count() { self.start(j) } else { self.last() }
+        if j < self.count() {
+            self.start(j)
+        } else {
+            self.last()
+        }
     }
 
     /// Returns the place of the head at an offset, by halves over the pointers.

@@ -219,9 +219,9 @@ impl<'a, Item: Decodable<Parsed>, Parsed: ParsedItem<Item> + Drop> Intervals<'a,
     {
         let heads = self.heads_passed(bound);
         if heads > 0 && self.interval() > 1 {
-            let (at, landing) = self.seek_in(heads - 1, bound);
-            if at.place < self.end(heads - 1) || at.place >= self.item_count() {
-                return (at, landing);
+            let (first, landing) = self.seek_in(heads - 1, bound);
+            if first.place < self.end(heads - 1) || first.place >= self.item_count() {
+                return (first, landing);
             }
         }
         (self.start_or_last(heads), None)

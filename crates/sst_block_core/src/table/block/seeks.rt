@@ -46,8 +46,8 @@ impl<'a, Item: Decodable<Parsed>, Parsed: ParsedItem<Item> + Drop> Decoder<'a, I
         ensures entries { self.new.steps.entries ≤ self.old.steps.entries + scan_cost self.old.interval }
         ensures entries_grow { self.old.steps.entries ≤ self.new.steps.entries }
     {
-        let (place, landing) = self.intervals.seek_place(bound);
-        self.front = place;
+        let (first, landing) = self.intervals.seek_place(bound);
+        self.front = first;
         landing
     }
 

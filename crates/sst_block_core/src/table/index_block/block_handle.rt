@@ -8,8 +8,8 @@ ghost use Rattle.std.proofs.Common.{rules};
 ghost use Rattle.sst_block_core.specs.Handles.{handles, IsHandle};
 ghost use Rattle.sst_block_core.specs.Kind.{item_cmp};
 
-use sst_base::{SeqNo, UserKey};
 pub use sst_base::table::block::{BlockHandle, BlockOffset};
+use sst_base::{SeqNo, UserKey};
 use std::alloc::AllocError;
 use std::cmp::Ordering;
 use std::fmt;

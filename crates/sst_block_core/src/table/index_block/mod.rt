@@ -65,6 +65,16 @@ impl IndexBlock {
         true
     }
 
+    /// Returns whether the frame of each handle ends below 2^64.
+    pub fn ends_fit(items: &[KeyedBlockHandle]) -> bool
+        ensures { IsTrue result ↔ AllByRecursion EndFits items.now }
+    {
+        items.iter().all(|handle| {
+            let size = u64::from(handle.size());
+            handle.offset().checked_add(size).is_some()
+        })
+    }
+
     /// Encodes a non-empty ordered list of handles, each with an end of its block below 2^64, into an
     /// empty vector. Each handle is a head.
     ///

@@ -48,12 +48,7 @@ fn made(alloc: Global, payload: &Slice, parsed: Option<IndexBlockParsedItem>) ->
 }
 
 // Does one operation.
-fn perform(
-    alloc: Global,
-    iter: &mut Iter<'_>,
-    payload: &Slice,
-    op: &IndexOp,
-) -> Result<IndexAnswer>
+fn perform(alloc: Global, iter: &mut Iter<'_>, payload: &Slice, op: &IndexOp) -> Result<IndexAnswer>
     requires { iter.old.payload ≡ payload.now }
     ensures payload { iter.new.payload ≡ iter.old.payload }
     ensures ok { IfOk result (λ a. Performs op.now iter.old.window a iter.new.window) }

@@ -16,7 +16,7 @@ pub returns-clause-block : goal.returns-clause-block
 returns-clause-block c =
     let interval = c.type_inv in
     both_ok c.encode_all.result _ _ _ (returns-clause-payload c) c.encode_all.ensures.valid (λ whole are_valid.
-        written_block c.encode_all.new.writer.items c.args.items.now c.args.restart_interval (record { some = c.requires.interval; most = omega arith }) c.requires.some c.requires.ordered c.requires.ends are_valid whole)
+    written_block c.encode_all.new.writer.items c.args.items.now c.args.restart_interval (record { some = c.requires.interval; most = omega arith }) c.requires.some c.requires.ordered c.requires.ends are_valid whole)
 
 pub returns-clause-cause : goal.returns-clause-cause
 returns-clause-cause c =

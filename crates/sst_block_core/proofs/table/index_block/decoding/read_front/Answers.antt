@@ -19,5 +19,5 @@ pub returns : goal.returns
 returns c = (
   c.read_number-seqno.ensures.exact.0,
   front_whole (drop c.args.at c.args.payload.now) _ (marker_stands c.args.at c.args.payload.now c.requires).1 c.requires _ _ c.read_number-offset.ensures.exact.1 _ _ c.read_number-size.ensures.exact.1
-  _ _ c.read_number-seqno.ensures.exact.1,
+      _ _ c.read_number-seqno.ensures.exact.1,
 )

@@ -3,8 +3,8 @@ use Rattle.sst_block_core.proofs.Cuts.{count_inside}
 use Rattle.sst_block_core.proofs.Scans.{stop_place}
 use Rattle.sst_block_core.proofs.table.block.intervals.Intervals.seek_place.Goals as goal
 
-pub returns-then-at-end-clause-place : goal.returns-then-at-end-clause-place
-returns-then-at-end-clause-place g c =
+pub returns-then-first-end-clause-place : goal.returns-then-first-end-clause-place
+returns-then-first-end-clause-place g c =
     let high = c.heads_passed-heads.ensures.high in
     let inside = count_inside g.Item.BlockItem.kind c.args.bound.now.needle.now c.args.bound.now.from c.args.self.now.list.items c.requires in
     let p = rw c.heads_passed-heads.ensures.list at c.seek_in-landing.ensures.place in

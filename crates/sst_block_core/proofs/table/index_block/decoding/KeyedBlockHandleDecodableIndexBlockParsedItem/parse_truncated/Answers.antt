@@ -46,7 +46,7 @@ returns-clause-read c = λ base stands.
     let p = c.args.payload.now in
     let bytes = drop c.args.offset p in
     let P : IndexBlockParsedItem → Type 0 = λ q. range_len q.prefix ≡ shared_prefix_length base (handle_of p q).end_key
-        → ◌≡◌ (truncated_at base bytes) (Some (handle_of p q, drop c.in_ok-key.end p)) in
+    → ◌≡◌ (truncated_at base bytes) (Some (handle_of p q, drop c.in_ok-key.end p)) in
     subst P (sym c.with_key.ensures) (truncated_read p bytes base c.args.base_key_offset c.in_ok-key.end c.in_ok-shared.shared (front_by c.in_ok-front.front) _ _ c.in_ok-key.key
     stands c.in_ok-key.ensures.range c.in_ok-front.ensures.1 c.in_ok-shared.ensures.exact.1 c.in_ok-key.ensures.exact.1 c.in_ok-prefix.prefix c.in_ok-prefix.ensures.found.0 c.in_ok-prefix.ensures.found.2)
 
