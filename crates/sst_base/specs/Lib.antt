@@ -14,6 +14,7 @@ pub mod ReadingLaws
 pub mod SharedPrefixLaws
 pub mod Counted
 pub mod Hashes
+pub mod HashLaws
 pub mod Block
 pub mod BlockHandle
 pub mod OrderLaws
