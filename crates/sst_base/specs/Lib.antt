@@ -16,9 +16,12 @@ pub mod Counted
 pub mod Hashes
 pub mod HashLaws
 pub mod Block
+pub mod Inputs
+pub mod Frame
 pub mod BlockHandle
 pub mod OrderLaws
 pub mod HeaderLaws
+pub mod FrameLaws
 pub mod KeyOrderLaws
 pub mod SliceBytes
 pub mod Peekable
