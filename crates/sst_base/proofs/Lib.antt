@@ -1,6 +1,7 @@
 pub mod Shared
 pub mod Joined
 pub mod Polynomials
+pub mod Frames
 pub mod Sums
 pub mod Orders
 pub mod ShortVarints

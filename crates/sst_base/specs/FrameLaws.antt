@@ -52,7 +52,7 @@ block_of-own : (hash128 : List ℕ → ℕ) (h : Header) (payload : List ℕ) �
 unfolding block_of
 block_of-own hash128 h payload e = rw (eq-eqb (hash128 payload) h.checksum e) refl
 
-block_of_takes : (hash128 : List ℕ → ℕ) (h : Header) (payload : List ℕ) (b : BlockParts) → block_of hash128 h payload ≡ Ok b → (hash128 payload ≡ h.checksum) × (◌≡◌ {A = BlockParts} (record { header = h; payload = payload }) b)
+pub block_of_takes : (hash128 : List ℕ → ℕ) (h : Header) (payload : List ℕ) (b : BlockParts) → block_of hash128 h payload ≡ Ok b → (hash128 payload ≡ h.checksum) × (◌≡◌ {A = BlockParts} (record { header = h; payload = payload }) b)
 unfolding block_of
 block_of_takes hash128 h payload b e =
     let g = guard_ok (nat_eq (hash128 payload) h.checksum) (record { header = h; payload = payload }) b _ e in

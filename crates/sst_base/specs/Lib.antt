@@ -17,6 +17,7 @@ pub mod Hashes
 pub mod HashLaws
 pub mod Block
 pub mod Inputs
+pub mod InputLaws
 pub mod Frame
 pub mod BlockHandle
 pub mod OrderLaws

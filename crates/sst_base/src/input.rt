@@ -1,11 +1,13 @@
 //! Readers whose end over memory is known exactly.
-ghost use Rattle.std.specs.Prelude.{◌≡◌, ◌<◌, ℕ, List, length, drop, refl, Some, IfSome, OnOk, OnErr};
+ghost use Rattle.std.specs.Prelude.{◌≡◌, ◌<◌, ℕ, List, length, drop, Some, IfSome, OnOk, OnErr};
 ghost use Rattle.std.specs.Prelude.{IsOkUnless};
+ghost use Rattle.std.specs.Io.Cursor.{cursor_position, cursor_inner};
 ghost use Rattle.std.specs.Io.KnownBytes.{Consumes};
+ghost use Rattle.sst_base.specs.InputLaws.{left_from};
 
 use crate::error::{Error, Result};
 use std::fs::File;
-use std::io::{Read, Seek};
+use std::io::{AsBytes, Cursor, Read, Seek};
 
 /// A reader that fills whole buffers.
 ///
@@ -56,6 +58,12 @@ impl Input for File {
     }
 }
 
+impl<T: AsBytes> Input for Cursor<T> {
+    fn fill(&mut self, buf: &mut [u8]) -> Result<()> {
+        Ok(self.read_exact(buf)?)
+    }
+}
+
 /// A reader that can be moved, as a file.
 pub trait SeekInput: Input + Seek {
     // where position and bytes are known, the bytes from the position on are left
@@ -70,4 +78,9 @@ impl<R: SeekInput> SeekInput for &mut R {
 
 impl SeekInput for File {
     ghost left_at_position = { λ s at bytes position. Prim.cc };
+}
+
+impl<T: AsBytes> SeekInput for Cursor<T> {
+    ghost left_at_position = { λ c at bytes.
+        left_from (cursor_position c) at (T.bytes (cursor_inner c)) bytes };
 }

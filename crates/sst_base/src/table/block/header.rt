@@ -6,6 +6,7 @@ ghost use Rattle.std.specs.Io.KnownBytes.{Appends};
 ghost use Rattle.sst_base.specs.BlockType.{block_type_byte};
 ghost use Rattle.sst_base.specs.Header.{magic, header, header_front, header_at, header_of, header_with};
 ghost use Rattle.sst_base.specs.Header.{bytes_at, magic_at, block_type_at};
+ghost use Rattle.sst_base.specs.Frame.{has_length};
 ghost use Rattle.sst_base.specs.Inputs.{Reads};
 
 use crate::checksum::Checksum;
@@ -79,6 +80,13 @@ impl Header {
         let bytes = self.encoded::<H>();
         writer.write_all(&bytes)?;
         Ok(())
+    }
+
+    // Whether both lengths are this one.
+    pub(crate) fn has_length(&self, len: usize) -> bool
+        ensures { result ≡ has_length self.now len }
+    {
+        self.data_length == self.uncompressed_length && self.data_length as usize == len
     }
 
     // The bytes of the header.
