@@ -2,6 +2,7 @@ pub mod Shared
 pub mod Joined
 pub mod Polynomials
 pub mod Frames
+pub mod Passing
 pub mod Sums
 pub mod Orders
 pub mod ShortVarints

@@ -15,6 +15,7 @@ pub mod SharedPrefixLaws
 pub mod Counted
 pub mod Hashes
 pub mod HashLaws
+pub mod Streams
 pub mod Block
 pub mod Inputs
 pub mod InputLaws

@@ -23,7 +23,7 @@ pub mod value;
 pub mod value_type;
 pub mod vectors;
 
-pub use checksum::Checksum;
+pub use checksum::{Checksum, ChecksumType, ChecksummedReader, ChecksummedWriter};
 pub use coding::{decode_varint, encode_varint, push_varint_reserved};
 pub use config::HashRatio;
 pub use count::Count;
