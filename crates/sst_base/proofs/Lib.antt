@@ -3,6 +3,7 @@ pub mod Joined
 pub mod Polynomials
 pub mod Frames
 pub mod Passing
+pub mod Handles
 pub mod Sums
 pub mod Orders
 pub mod ShortVarints

@@ -24,6 +24,7 @@ pub mod BlockHandle
 pub mod OrderLaws
 pub mod HeaderLaws
 pub mod FrameLaws
+pub mod BlockHandleLaws
 pub mod KeyOrderLaws
 pub mod SliceBytes
 pub mod Peekable

@@ -3,7 +3,9 @@ ghost use Rattle.std.specs.Prelude.{◌≡◌, ◌<◌, ℕ, List, length, drop,
 ghost use Rattle.std.specs.Prelude.{IsOkUnless};
 ghost use Rattle.std.specs.Io.Cursor.{cursor_position, cursor_inner};
 ghost use Rattle.std.specs.Io.KnownBytes.{Consumes};
+ghost use Rattle.sst_base.specs.Header.{bytes_at};
 ghost use Rattle.sst_base.specs.InputLaws.{left_from};
+ghost use Rattle.sst_base.specs.Inputs.{Reads};
 
 use crate::error::{Error, Result};
 use std::fs::File;
@@ -83,4 +85,15 @@ impl SeekInput for File {
 impl<T: AsBytes> SeekInput for Cursor<T> {
     ghost left_at_position = { λ c at bytes.
         left_from (cursor_position c) at (T.bytes (cursor_inner c)) bytes };
+}
+
+// The next bytes of a reader.
+pub(crate) fn array_from<const N: usize, R: Input>(reader: &mut R) -> Result<[u8; N]>
+    ensures read { (bytes : List ℕ) → R.remaining reader.old ≡ Some bytes
+        → Reads (R.is_memory reader.old) result (R.remaining reader.new) (bytes_at N bytes) }
+    ensures kept { R.is_memory reader.old → R.is_memory reader.new }
+{
+    let mut bytes = [0u8; N];
+    reader.fill(&mut bytes)?;
+    Ok(bytes)
 }

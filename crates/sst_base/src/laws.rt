@@ -12,6 +12,7 @@ ghost use Rattle.sst_base.specs.BlockType.{block_type_byte, block_type_of};
 ghost use Rattle.sst_base.specs.Key.{Key};
 ghost use Rattle.sst_base.specs.Order.{key_cmp};
 ghost use Rattle.sst_base.specs.Block.{BlockParts};
+ghost use Rattle.sst_base.specs.BlockHandle.{HandleParts, handle_bytes, handle_at};
 ghost use Rattle.sst_base.specs.Frame.{block_for, frame, frame_at, frame_in};
 ghost use Rattle.sst_base.specs.Header.{IsHeader, header, header_at};
 ghost use Rattle.sst_base.specs.declared.value_type.ValueType.{ValueType};
@@ -127,6 +128,19 @@ pub fn whole_frame_was_written()
         → (bytes ≡ frame hash128 b.header.block_type b.payload)
         × (b ≡ block_for hash128 b.header.block_type b.payload)
         × (length b.payload < 2 ^ 32) }
+{}
+
+/// A handle is read again, whatever follows it.
+pub fn handle_is_read_again()
+    ensures { (h : HandleParts) (rest : List ℕ) → h.offset < 2 ^ 64 → h.size < 2 ^ 32
+        → handle_at (handle_bytes h ++ rest) ≡ Ok (h, rest) }
+{}
+
+/// Where a handle is read, it is within its widths, and the bytes begin with it.
+pub fn handle_was_written()
+    ensures { (bytes : List ℕ) (h : HandleParts) (rest : List ℕ) → IsBytes bytes
+        → handle_at bytes ≡ Ok (h, rest)
+        → (bytes ≡ handle_bytes h ++ rest) × (h.offset < 2 ^ 64) × (h.size < 2 ^ 32) }
 {}
 
 /// An internal key sorts before another exactly if its user key is less, or the same and its

@@ -24,7 +24,7 @@ pub mod value_type;
 pub mod vectors;
 
 pub use checksum::{Checksum, ChecksumType, ChecksummedReader, ChecksummedWriter};
-pub use coding::{decode_varint, encode_varint, push_varint_reserved};
+pub use coding::{Decode, Encode, decode_varint, encode_varint, push_varint_reserved};
 pub use config::HashRatio;
 pub use count::Count;
 pub use error::{Error, HeaderName, Result, TagName};

@@ -3,11 +3,12 @@
 ghost use Rattle.std.specs.Prelude.{◌≡◌, ◌-◌, ◌^◌, [], ◌∷◌, sum, Ok, Err};
 ghost use Rattle.sst_base.specs.Varint.{varint};
 ghost use Rattle.sst_base.specs.Hashes.{poly31};
+ghost use Rattle.sst_base.specs.BlockHandle.{handle_bytes, handle_at};
 ghost use Rattle.sst_base.specs.Frame.{block_for, frame, frame_at, frame_in};
 ghost use Rattle.sst_base.specs.Header.{header};
 ghost use Rattle.sst_base.specs.declared.error.Error.TheVariants.{Io, InvalidHeader, InvalidTag};
 ghost use Rattle.sst_base.specs.declared.error.Error.TheVariants.{ChecksumMismatch, LengthMismatch};
-ghost use Rattle.sst_base.specs.declared.error.Error.TheVariants.{Truncated};
+ghost use Rattle.sst_base.specs.declared.error.Error.TheVariants.{Truncated, BadHandle};
 ghost use Rattle.sst_base.specs.declared.error.HeaderName.TheVariants as names;
 ghost use Rattle.sst_base.specs.declared.error.TagName.TheVariants as tags;
 ghost use Rattle.sst_base.specs.declared.table.block.block_type.BlockType.TheVariants.{Data, Meta};
@@ -165,4 +166,25 @@ pub fn frames_in_memory()
         ∷ 0x03 ∷ 0x00 ∷ 0x00 ∷ 0x00
         ∷ 0x1c ∷ 0x01 ∷ 0x00 ∷ [])
         ≡ Err Truncated }
+{}
+
+/// Handles, and bytes that are none.
+#[tactic(auto, unfolding(crate::specs::BlockHandle::handle_at, crate::specs::BlockHandle::handle_number_at, crate::specs::Varint::varint, crate::specs::Varint::varint_within))]
+pub fn handles()
+    ensures encoded { handle_bytes (record { offset = 146; size = 73 })
+        ≡ 0x92 ∷ 0x01 ∷ 0x49 ∷ [] }
+    ensures decoded { handle_at (0x92 ∷ 0x01 ∷ 0x49 ∷ 7 ∷ [])
+        ≡ Ok (record { offset = 146; size = 73 }, 7 ∷ []) }
+    ensures not_minimal { handle_at (0x80 ∷ 0x00 ∷ 0x49 ∷ []) ≡ Err BadHandle }
+    ensures without_size { handle_at (0x00 ∷ []) ≡ Err Io }
+    ensures tenth_byte_of_2 { handle_at (0xff ∷ 0xff ∷ 0xff ∷ 0xff ∷ 0xff ∷ 0xff ∷ 0xff ∷ 0xff ∷ 0xff
+        ∷ 0x02 ∷ []) ≡ Err BadHandle }
+    ensures tenth_byte_goes_on { handle_at (0xff ∷ 0xff ∷ 0xff ∷ 0xff ∷ 0xff ∷ 0xff ∷ 0xff ∷ 0xff
+        ∷ 0xff ∷ 0x81 ∷ []) ≡ Err BadHandle }
+    ensures fifth_byte_of_16 { handle_at (0x00 ∷ 0xff ∷ 0xff ∷ 0xff ∷ 0xff ∷ 0x10 ∷ [])
+        ≡ Err BadHandle }
+    ensures fifth_byte_goes_on { handle_at (0x00 ∷ 0xff ∷ 0xff ∷ 0xff ∷ 0xff ∷ 0x8f ∷ [])
+        ≡ Err BadHandle }
+    ensures nine_bytes { handle_at (0xff ∷ 0xff ∷ 0xff ∷ 0xff ∷ 0xff ∷ 0xff ∷ 0xff ∷ 0xff ∷ 0xff ∷ [])
+        ≡ Err Io }
 {}

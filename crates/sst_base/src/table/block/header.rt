@@ -5,14 +5,14 @@ ghost use Rattle.byteorder.specs.Endian.{little_number};
 ghost use Rattle.std.specs.Io.KnownBytes.{Appends};
 ghost use Rattle.sst_base.specs.BlockType.{block_type_byte};
 ghost use Rattle.sst_base.specs.Header.{magic, header, header_front, header_at, header_of, header_with};
-ghost use Rattle.sst_base.specs.Header.{bytes_at, magic_at, block_type_at};
+ghost use Rattle.sst_base.specs.Header.{magic_at, block_type_at};
 ghost use Rattle.sst_base.specs.Frame.{has_length};
 ghost use Rattle.sst_base.specs.Inputs.{Reads};
 
 use crate::checksum::Checksum;
 use crate::error::{Error, HeaderName, Result};
 use crate::hash::BlockHash;
-use crate::input::Input;
+use crate::input::{Input, array_from};
 use crate::table::block::block_type::BlockType;
 use byteorder::{ByteOrder, LittleEndian};
 use std::io::Write;
@@ -145,17 +145,6 @@ fn low_bits(hash: u128) -> u32
     ensures { result ≡ hash % 2 ^ 32 }
 {
     (hash % (1 << 32)) as u32
-}
-
-// The next bytes of a reader.
-fn array_from<const N: usize, R: Input>(reader: &mut R) -> Result<[u8; N]>
-    ensures read { (bytes : List ℕ) → R.remaining reader.old ≡ Some bytes
-        → Reads (R.is_memory reader.old) result (R.remaining reader.new) (bytes_at N bytes) }
-    ensures kept { R.is_memory reader.old → R.is_memory reader.new }
-{
-    let mut bytes = [0u8; N];
-    reader.fill(&mut bytes)?;
-    Ok(bytes)
 }
 
 // The magic.
