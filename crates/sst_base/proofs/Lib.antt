@@ -1,6 +1,9 @@
 pub mod Shared
 pub mod Joined
 pub mod Polynomials
+pub mod Frames
+pub mod Passing
+pub mod Handles
 pub mod Sums
 pub mod Orders
 pub mod ShortVarints

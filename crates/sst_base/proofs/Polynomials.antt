@@ -1,30 +1,23 @@
--- The plain hash function, with or without the multiples of 2 ^ 64 left out at each step.
-use Rattle.std.proofs.Common.{◌≡◌, ℕ, ◌+◌, ◌*◌, ◌%◌, ◌^◌, ◌<◌, ◌≤◌, List, [], ◌∷◌, ◌++◌, length, take, drop, refl, arith, sym, ◌∙◌, ap, take-add, length-drop, lit<, suc, get_or, drop-cons}
-use Rattle.std.proofs.Math.Nat.{add-mod, mod-mod}
+-- The polynomial hash, with or without the multiples of the modulus left out at each step.
+use Rattle.std.proofs.Common.{◌≡◌, ℕ, ◌+◌, ◌*◌, ◌%◌, ◌^◌, ◌<◌, ◌≤◌, List, [], ◌∷◌, length, take, drop, refl, arith, sym, ◌∙◌, ap, take-add, length-drop, suc, get_or, drop-cons}
 use Rattle.std.specs.List.{fold}
 use Rattle.std.proofs.lemmas.List.{length-take-le, take-append-drop}
-use Rattle.std.proofs.lemmas.Nat.{mul-mod_first, mod_below}
-use Rattle.sst_base.specs.Hashes.{times31, poly31_from, poly31}
+use Rattle.std.proofs.lemmas.Nat.{mul-mod_first}
+use Rattle.sst_base.specs.Hashes.{times31, poly31_from}
+use Rattle.sst_base.specs.HashLaws.{add-mod_first, fold-append, fold31-mod}
 
-pub add-mod_first : (a b m : ℕ) → (a % m + b) % m ≡ (a + b) % m
-add-mod_first a b m = add-mod (a % m) b m ∙ ap (λ k. (k + b % m) % m) (mod-mod a m) ∙ sym (add-mod a b m)
+-- a step in so many bits
+abbrev pub wrapped31 : ℕ → ℕ → ℕ → ℕ
+wrapped31 bits so_far byte = ((so_far * 31) % 2 ^ bits + byte) % 2 ^ bits
 
--- one step
-pub step_mod : (h b m : ℕ) → (((h % m) * 31) % m + b) % m ≡ (h * 31 + b) % m
-step_mod h b m = ap (λ k. (k + b) % m) (mul-mod_first h 31 m) ∙ add-mod_first (h * 31) b m
+steps_mod : (bits h : ℕ) (bytes : List ℕ) → fold (wrapped31 bits) (h % 2 ^ bits) bytes ≡ fold times31 h bytes % 2 ^ bits
+steps_mod bits h [] = refl
+steps_mod bits h (b ∷ bytes) =
+    ap (λ s. fold (wrapped31 bits) s bytes) (ap (λ k. (k + b) % 2 ^ bits) (mul-mod_first h 31 (2 ^ bits)) ∙ add-mod_first (h * 31) b (2 ^ bits))
+    ∙ steps_mod bits (h * 31 + b) bytes
 
--- a step in 64 bits
-abbrev pub wrapped31 : ℕ → ℕ → ℕ
-wrapped31 so_far byte = ((so_far * 31) % 2 ^ 64 + byte) % 2 ^ 64
-
-pub steps_mod : (h : ℕ) (bytes : List ℕ) → fold wrapped31 (h % 2 ^ 64) bytes ≡ fold times31 h bytes % 2 ^ 64
-steps_mod h [] = refl
-steps_mod h (b ∷ bytes) = ap (λ s. fold wrapped31 s bytes) (step_mod h b (2 ^ 64)) ∙ steps_mod (h * 31 + b) bytes
-
-pub poly31_from_steps : (so_far : ℕ) (bytes : List ℕ) → so_far < 2 ^ 64 → fold wrapped31 so_far bytes ≡ poly31_from 64 so_far bytes
-poly31_from_steps so_far bytes h =
-    let e : so_far % 2 ^ 64 ≡ so_far = omega arith in
-    ap (λ s. fold wrapped31 s bytes) (sym e) ∙ steps_mod so_far bytes
+pub poly31_from_steps : (bits so_far : ℕ) (bytes : List ℕ) → so_far ≡ so_far % 2 ^ bits → fold (wrapped31 bits) so_far bytes ≡ poly31_from bits so_far bytes
+poly31_from_steps bits so_far bytes h = ap (λ s. fold (wrapped31 bits) s bytes) h ∙ steps_mod bits so_far bytes
 
 -- eight bytes more
 pub eight_steps : (h : ℕ) (w : List ℕ) → length w ≡ 8 → fold times31 h w ≡ h * 852891037441 + fold times31 0 w
@@ -62,27 +55,21 @@ eight_powers bytes at a b c d e f g i h p q r s t u v w =
     ∙ ap (λ xs. g ∷ xs) (cell bytes at 7 i (omega arith) w))))))) in
     rw cells (omega arith)
 
-pub fold-append : (h : ℕ) (xs ys : List ℕ) → fold times31 h (xs ++ ys) ≡ fold times31 (fold times31 h xs) ys
-fold-append h [] ys = refl
-fold-append h (x ∷ xs) ys = fold-append (h * 31 + x) xs ys
-
 -- eight bytes more
-pub eight_more : (bytes : List ℕ) (i hash product next v : ℕ) → 8 * i + 8 ≤ length bytes → hash ≡ poly31_from 64 0 (take (8 * i) bytes) → product ≡ (hash * 852891037441) % 2 ^ 64 → v ≡ fold times31 0 (take 8 (drop (8 * i) bytes)) → next ≡ (product + v) % 2 ^ 64 → next ≡ poly31_from 64 0 (take (8 * (i + 1)) bytes)
-eight_more bytes i hash product next v h e p q r =
-    let plain = fold times31 0 (take (8 * i) bytes) in
+pub eight_more : (bits from : ℕ) (bytes : List ℕ) (i hash product next v : ℕ) → 8 * i + 8 ≤ length bytes → hash ≡ poly31_from bits from (take (8 * i) bytes) → product ≡ (hash * 852891037441) % 2 ^ bits → v ≡ fold times31 0 (take 8 (drop (8 * i) bytes)) → next ≡ (product + v) % 2 ^ bits → next ≡ poly31_from bits from (take (8 * (i + 1)) bytes)
+eight_more bits from bytes i hash product next v h e p q r =
+    let plain = fold times31 from (take (8 * i) bytes) in
     let w = take 8 (drop (8 * i) bytes) in
     let n : 8 * (i + 1) ≡ 8 * i + 8 = omega arith in
     let l : length w ≡ 8 = length-take-le 8 (drop (8 * i) bytes) (omega (arith, length-drop (8 * i) bytes)) in
-    let longer : fold times31 0 (take (8 * (i + 1)) bytes) ≡ plain * 852891037441 + v =
-    ap (λ k. fold times31 0 (take k bytes)) n ∙ ap (fold times31 0) (take-add (8 * i) 8 bytes) ∙ fold-append 0 (take (8 * i) bytes) w ∙ eight_steps plain w l ∙ ap (λ k. plain * 852891037441 + k) (sym q) in
-    r ∙ ap (λ k. (k + v) % 2 ^ 64) (p ∙ ap (λ k. (k * 852891037441) % 2 ^ 64) e ∙ mul-mod_first plain 852891037441 (2 ^ 64)) ∙ add-mod_first (plain * 852891037441) v (2 ^ 64) ∙ ap (λ k. k % 2 ^ 64) (sym longer)
+    let longer : fold times31 from (take (8 * (i + 1)) bytes) ≡ plain * 852891037441 + v =
+    ap (λ k. fold times31 from (take k bytes)) n ∙ ap (fold times31 from) (take-add (8 * i) 8 bytes) ∙ fold-append times31 from (take (8 * i) bytes) w ∙ eight_steps plain w l ∙ ap (λ k. plain * 852891037441 + k) (sym q) in
+    r ∙ ap (λ k. (k + v) % 2 ^ bits) (p ∙ ap (λ k. (k * 852891037441) % 2 ^ bits) e ∙ mul-mod_first plain 852891037441 (2 ^ bits)) ∙ add-mod_first (plain * 852891037441) v (2 ^ bits) ∙ ap (λ k. k % 2 ^ bits) (sym longer)
 
 -- the bytes behind the last eight
-pub tail_more : (bytes tail : List ℕ) (n hash r : ℕ) → hash ≡ poly31_from 64 0 (take n bytes) → tail ≡ drop n bytes → r ≡ poly31_from 64 hash tail → r ≡ poly31 64 bytes
-tail_more bytes tail n hash r e t p =
-    let plain = fold times31 0 (take n bytes) in
-    let below : plain % 2 ^ 64 < 2 ^ 64 = mod_below plain (2 ^ 64) (lit< tt) in
-    p ∙ ap (λ h. poly31_from 64 h tail) e ∙ ap (poly31_from 64 (plain % 2 ^ 64)) t
-    ∙ sym (poly31_from_steps (plain % 2 ^ 64) (drop n bytes) below)
-    ∙ steps_mod plain (drop n bytes)
-    ∙ ap (λ k. k % 2 ^ 64) (sym (fold-append 0 (take n bytes) (drop n bytes)) ∙ ap (fold times31 0) (take-append-drop n bytes))
+pub tail_more : (bits from : ℕ) (bytes tail : List ℕ) (n hash r : ℕ) → hash ≡ poly31_from bits from (take n bytes) → tail ≡ drop n bytes → r ≡ poly31_from bits hash tail → r ≡ poly31_from bits from bytes
+tail_more bits from bytes tail n hash r e t p =
+    let plain = fold times31 from (take n bytes) in
+    p ∙ ap (λ h. poly31_from bits h tail) e ∙ ap (poly31_from bits (plain % 2 ^ bits)) t
+    ∙ fold31-mod (2 ^ bits) plain (drop n bytes)
+    ∙ ap (λ k. k % 2 ^ bits) (sym (fold-append times31 from (take n bytes) (drop n bytes)) ∙ ap (fold times31 from) (take-append-drop n bytes))

@@ -13,6 +13,14 @@ poly31_from bits so_far bytes = fold times31 so_far bytes % 2 ^ bits
 abbrev pub poly31 : ℕ → List ℕ → ℕ
 poly31 bits bytes = poly31_from bits 0 bytes
 
+-- one byte more: what was so far and the byte
+abbrev pub plus : ℕ → ℕ → ℕ
+plus so_far byte = so_far + byte
+
+-- a sum continued by bytes, modulo 2 ^ bits
+abbrev pub byte_sum_from : ℕ → ℕ → List ℕ → ℕ
+byte_sum_from bits so_far bytes = fold plus so_far bytes % 2 ^ bits
+
 -- the sum of the bytes, modulo 2 ^ bits
 abbrev pub byte_sum : ℕ → List ℕ → ℕ
-byte_sum bits bytes = fold (λ so_far byte. so_far + byte) 0 bytes % 2 ^ bits
+byte_sum bits bytes = byte_sum_from bits 0 bytes

@@ -205,3 +205,22 @@ header_at_takes hash128 bytes h rest small e =
           ∙ ap (λ k. header hash128 k ++ f.0.1) found.1
           ∙ ap (λ (y : Header × List ℕ). header hash128 y.0 ++ y.1) same,
     )
+
+-- a header that is read takes 33 bytes
+pub header_at_begins : (hash128 : List ℕ → ℕ) (bytes : List ℕ) (h : Header) (rest : List ℕ) → header_at hash128 bytes ≡ Ok (h, rest) → (33 ≤ length bytes) × (rest ≡ drop 33 bytes)
+unfolding header_at
+header_at_begins hash128 bytes h rest e =
+    let m = bind_ok (magic_at bytes) _ _ e in
+    let t = bind_ok (block_type_at m.0.1) _ _ m.2 in
+    let f = bind_ok (bytes_at 28 t.0.1) _ _ t.2 in
+    let tail = f.0.0 in
+    let o = bind_ok (header_of hash128 t.0.0 (take 24 tail) (little_number 4 (drop 24 tail))) _ _ f.2 in
+    let cut = bytes_at_takes 28 t.0.1 f.0 f.1 in
+    let front = magic ++ (block_type_byte t.0.0 ∷ tail) in
+    let all : bytes ≡ front ++ f.0.1 =
+    magic_at_takes bytes m.0 m.1 ∙ ap (λ ys. magic ++ ys) (block_type_at_takes m.0.1 t.0 t.1 ∙ ap (λ ys. block_type_byte t.0.0 ∷ ys) cut.0) in
+    let len : length front ≡ 33 = omega (arith, cut.1) in
+    let same : (o.0, f.0.1) ≡ (h, rest) = cc (o.2) in (
+      rw all (omega (arith, len, length-append front f.0.1)),
+      sym (ap (λ (y : Header × List ℕ). y.1) same) ∙ sym (drop_at front f.0.1 33 len) ∙ ap (drop 33) (sym all),
+    )

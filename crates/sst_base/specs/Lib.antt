@@ -14,10 +14,17 @@ pub mod ReadingLaws
 pub mod SharedPrefixLaws
 pub mod Counted
 pub mod Hashes
+pub mod HashLaws
+pub mod Streams
 pub mod Block
+pub mod Inputs
+pub mod InputLaws
+pub mod Frame
 pub mod BlockHandle
 pub mod OrderLaws
 pub mod HeaderLaws
+pub mod FrameLaws
+pub mod BlockHandleLaws
 pub mod KeyOrderLaws
 pub mod SliceBytes
 pub mod Peekable

@@ -131,7 +131,7 @@ with_digit_some d (Some p) n len e = elim (cases_eq p.0 0) [
 some_digit : (d high l : ℕ) → 0 < high → with_digit d (Some (high, l)) ≡ Some (d + 128 * high, l + 1)
 some_digit d high l h = search (arith, nat_tests)
 
-larger : (b high n : ℕ) (xs : List ℕ) → b < 256 → 128 ≤ b → n ≡ (b - 128) + 128 * high → 0 < high → IsVarint xs high → IsVarint (b ∷ xs) n
+pub larger : (b high n : ℕ) (xs : List ℕ) → b < 256 → 128 ≤ b → n ≡ (b - 128) + 128 * high → 0 < high → IsVarint xs high → IsVarint (b ∷ xs) n
 larger b high n [] l h e p v = absurd v
 larger b high n (c ∷ xs) l h e p v = (h, l, high, p, omega arith, v)
 

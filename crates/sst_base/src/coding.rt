@@ -1,11 +1,59 @@
-//! Varints: numbers in base 128, least significant digit first.
+//! Encodings: what has one, and varints, numbers in base 128, least significant digit first.
 ghost use Rattle.std.specs.Prelude.{◌≡◌, ℕ, ◌+◌, ◌-◌, ◌*◌, ◌/◌, ◌^◌, ◌<◌, ◌≤◌, ◌++◌, length, take};
 ghost use Rattle.std.specs.Prelude.{drop, OnOk, OnErr, IsOkUnless, IfSome, IfNone};
+ghost use Rattle.std.specs.Prelude.{List, Some, IfOk, Result as Outcome};
+ghost use Rattle.std.specs.Io.KnownBytes.{Appends};
 ghost use Rattle.std.specs.Vec.{vec_len, vec_capacity};
+ghost use Rattle.sst_base.specs.Inputs.{Reads};
+ghost use Rattle.sst_base.specs.declared.error.Error.{Error};
 ghost use Rattle.sst_base.specs.Varint.{IsVarint, IsWidth, varint, with_digits, varint_up_to};
 ghost use Rattle.sst_base.specs.Varint.{varint_at};
 
 use crate::error::{Error, Result};
+use crate::input::Input;
+use std::alloc::Global;
+use std::io::Write;
+
+/// What has an encoding.
+pub trait Encode {
+    // the bytes of the encoding
+    ghost encoding: { Self → List ℕ };
+
+    /// Writes the encoding.
+    ///
+    /// # Errors
+    ///
+    /// `Error::Io` if the writer fails. It may then hold a partial write.
+    fn encode_into<W: Write>(&self, writer: &mut W) -> Result<()>
+        ensures ok { OnOk result
+            (Appends (W.contents writer.old) (W.contents writer.new) (encoding self.now)) }
+        ensures io { IsOkUnless result Error.Io };
+
+    /// Returns the encoding.
+    ///
+    /// # Errors
+    ///
+    /// `Error::Memory` if an allocation fails.
+    fn encode_into_vec(&self, alloc: Global) -> Result<Vec<u8>>
+        ensures ok { IfOk result (λ bytes. bytes.items ≡ encoding self.now) }
+        ensures memory { IsOkUnless result Error.Memory };
+}
+
+/// What can be decoded.
+pub trait Decode: Sized {
+    // what is encoded at the front of bytes and the bytes behind it, or the first refusal
+    ghost decoded: { List ℕ → Outcome (Self × List ℕ) Error };
+
+    /// Decodes what is next in a reader.
+    ///
+    /// # Errors
+    ///
+    /// `Error::Io` if the reader fails, or ends before; else the first refusal.
+    fn decode_from<R: Input>(reader: &mut R) -> Result<Self>
+        ensures read { (bytes : List ℕ) → R.remaining reader.old ≡ Some bytes
+            → Reads (R.is_memory reader.old) result (R.remaining reader.new) (decoded bytes) }
+        ensures kept { R.is_memory reader.old → R.is_memory reader.new };
+}
 
 /// The greatest number of bytes that a varint takes.
 pub const MAX_VARINT_LEN: usize = 10;
@@ -44,6 +92,25 @@ pub fn push_varint_reserved(out: &mut Vec<u8>, n: u64)
     } else {
         push_digits(out, n);
     }
+}
+
+// The varint of a number, and how many bytes it takes.
+pub(crate) fn varint_digits(n: u64) -> ([u8; MAX_VARINT_LEN], usize)
+    ensures len { result.1 ≤ 10 }
+    ensures bytes { take result.1 result.0 ≡ varint n }
+{
+    let mut digits = [0u8; MAX_VARINT_LEN];
+    let mut rest = n;
+    for i in 0..9usize {
+        if rest < 128 {
+            digits[i] = rest as u8;
+            return (digits, i + 1);
+        }
+        digits[i] = (rest % 128) as u8 + 128;
+        rest /= 128;
+    }
+    digits[9] = rest as u8;
+    (digits, MAX_VARINT_LEN)
 }
 
 /// Appends the minimal encoding of a number as a varint. On an error the vector is unchanged.

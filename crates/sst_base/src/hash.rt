@@ -1,21 +1,51 @@
 //! Hash functions of byte strings.
-ghost use Rattle.std.specs.Prelude.{◌≡◌, ◌+◌, ◌≤◌, ℕ, List, length, take, drop, fold};
-ghost use Rattle.sst_base.specs.Hashes.{times31, poly31, poly31_from, byte_sum};
+ghost use Rattle.std.specs.Prelude.{◌≡◌, ◌+◌, ◌<◌, ◌≤◌, ◌^◌, ◌++◌, ℕ, List, [], length, take, drop};
+ghost use Rattle.std.specs.Prelude.{fold};
+ghost use Rattle.sst_base.specs.Hashes.{times31, poly31, poly31_from, byte_sum, byte_sum_from};
+ghost use Rattle.sst_base.specs.HashLaws.{poly31-below, byte_sum-below};
 
-/// The hash function of hash index and checksums.
-pub trait BlockHash {
+/// The hash function of hash index and checksums, and a stream that hashes bytes as they come.
+pub trait BlockHash: Drop {
     // the hash of 64 bits
     ghost hash64: { List ℕ → ℕ };
+
+    // the hash of 128 bits
+    ghost hash128: { List ℕ → ℕ };
+
+    // the bytes that a stream was given since its start
+    ghost has_taken: { Self → List ℕ → Type 0 };
 
     /// Returns the hash of the bytes in 64 bits.
     fn hash64(bytes: &[u8]) -> u64
         ensures { result ≡ hash64 bytes.now };
+
+    /// Returns the hash of the bytes in 128 bits.
+    fn hash128(bytes: &[u8]) -> u128
+        ensures { result ≡ hash128 bytes.now };
+
+    /// Starts a stream.
+    fn start() -> Self
+        ensures { has_taken result [] };
+
+    /// Adds bytes to a stream.
+    fn update(&mut self, bytes: &[u8])
+        ensures { (taken : List ℕ) → has_taken self.old taken
+            → has_taken self.new (taken ++ bytes.now) };
+
+    /// Returns the hash of all bytes added, in 128 bits.
+    fn digest128(&self) -> u128
+        ensures { (taken : List ℕ) → has_taken self.now taken → result ≡ hash128 taken };
+
+    // a hash of 128 bits fits them
+    ghost hash128_fits: { (bytes : List ℕ) → hash128 bytes < 2 ^ 128 };
 }
 
-/// The polynomial hash: from 0, times 31 plus each byte in turn, modulo 2^64. Not
+/// The polynomial hash: from 0, times 31 plus each byte in turn, modulo 2^64 or 2^128. Not
 /// collision-resistant.
 #[derive(Clone, Copy, Debug, PartialEq, Eq)]
-pub struct Poly31;
+pub struct Poly31 {
+    so_far: u128,
+}
 
 // What each byte but the last is multiplied by, and its powers.
 const BASE: u64 = 31;
@@ -34,15 +64,6 @@ const BASE_7: u64 = 27512614111;
 
 const BASE_8: u64 = 852891037441;
 
-// Continues a hash, a byte a step.
-fn poly31_from(so_far: u64, bytes: &[u8]) -> u64
-    ensures { result ≡ poly31_from 64 so_far bytes.now }
-{
-    bytes.iter().fold(so_far, |hash, byte| {
-        hash.wrapping_mul(BASE).wrapping_add(u64::from(*byte))
-    })
-}
-
 // The hash of eight bytes alone.
 #[inline(always)]
 fn eight_at(bytes: &[u8], at: usize) -> u64
@@ -59,6 +80,15 @@ fn eight_at(bytes: &[u8], at: usize) -> u64
         + u64::from(bytes[at + 7])
 }
 
+// Continues a hash of 64 bits, a byte a step.
+fn continued64(so_far: u64, bytes: &[u8]) -> u64
+    ensures { result ≡ poly31_from 64 so_far bytes.now }
+{
+    bytes.iter().fold(so_far, |hash, byte| {
+        hash.wrapping_mul(BASE).wrapping_add(u64::from(*byte))
+    })
+}
+
 // The same as `Poly31::hash64`, eight bytes a step.
 fn hash_by_eight(bytes: &[u8]) -> u64
     ensures { result ≡ poly31 64 bytes.now }
@@ -71,27 +101,107 @@ fn hash_by_eight(bytes: &[u8]) -> u64
             .wrapping_add(eight_at(bytes, 8 * i));
     }
     let (_, tail) = bytes.split_at(8 * words);
-    poly31_from(hash, tail)
+    continued64(hash, tail)
+}
+
+// Continues a hash of 128 bits, a byte a step.
+fn continued128(so_far: u128, bytes: &[u8]) -> u128
+    ensures { result ≡ poly31_from 128 so_far bytes.now }
+{
+    bytes.iter().fold(so_far, |hash, byte| {
+        hash.wrapping_mul(u128::from(BASE))
+            .wrapping_add(u128::from(*byte))
+    })
+}
+
+// The same, eight bytes a step.
+fn continued_by_eight(so_far: u128, bytes: &[u8]) -> u128
+    ensures { result ≡ poly31_from 128 so_far bytes.now }
+{
+    let words = bytes.len() / 8;
+    let mut hash = so_far;
+    for i in 0..words {
+        hash = hash
+            .wrapping_mul(BASE_8 as u128)
+            .wrapping_add(u128::from(eight_at(bytes, 8 * i)));
+    }
+    let (_, tail) = bytes.split_at(8 * words);
+    continued128(hash, tail)
 }
 
 impl BlockHash for Poly31 {
     ghost hash64 = { poly31 64 };
 
+    ghost hash128 = { poly31 128 };
+
+    ghost has_taken = { λ stream taken. stream.so_far ≡ poly31 128 taken };
+
+    ghost hash128_fits = { poly31-below 128 };
+
     fn hash64(bytes: &[u8]) -> u64 {
         hash_by_eight(bytes)
     }
+
+    fn hash128(bytes: &[u8]) -> u128 {
+        continued_by_eight(0, bytes)
+    }
+
+    fn start() -> Poly31 {
+        Poly31 { so_far: 0 }
+    }
+
+    fn update(&mut self, bytes: &[u8]) {
+        self.so_far = continued_by_eight(self.so_far, bytes);
+    }
+
+    fn digest128(&self) -> u128 {
+        self.so_far
+    }
 }
 
-/// The sum of the bytes, modulo 2^64. Not collision-resistant.
+/// The sum of the bytes, modulo 2^64 or 2^128. Not collision-resistant.
 #[derive(Clone, Copy, Debug, PartialEq, Eq)]
-pub struct ByteSum;
+pub struct ByteSum {
+    so_far: u128,
+}
+
+// Continues a sum.
+fn sum_from(so_far: u128, bytes: &[u8]) -> u128
+    ensures { result ≡ byte_sum_from 128 so_far bytes.now }
+{
+    bytes
+        .iter()
+        .fold(so_far, |sum, byte| sum.wrapping_add(u128::from(*byte)))
+}
 
 impl BlockHash for ByteSum {
     ghost hash64 = { byte_sum 64 };
+
+    ghost hash128 = { byte_sum 128 };
+
+    ghost has_taken = { λ stream taken. stream.so_far ≡ byte_sum 128 taken };
+
+    ghost hash128_fits = { byte_sum-below 128 };
 
     fn hash64(bytes: &[u8]) -> u64 {
         bytes
             .iter()
             .fold(0, |sum, byte| sum.wrapping_add(u64::from(*byte)))
+    }
+
+    fn hash128(bytes: &[u8]) -> u128 {
+        sum_from(0, bytes)
+    }
+
+    fn start() -> ByteSum {
+        ByteSum { so_far: 0 }
+    }
+
+    fn update(&mut self, bytes: &[u8]) {
+        self.so_far = sum_from(self.so_far, bytes);
+    }
+
+    fn digest128(&self) -> u128 {
+        self.so_far
     }
 }

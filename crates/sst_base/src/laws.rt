@@ -1,5 +1,5 @@
 //! Laws of the definitions that contracts cite. Each function states one law, and does nothing.
-ghost use Rattle.std.specs.Prelude.{◌≡◌, ◌↔◌, ◌⊎◌, ℕ, ◌<◌, ◌≤◌, ◌^◌, List, ◌++◌, length, take};
+ghost use Rattle.std.specs.Prelude.{◌≡◌, ◌↔◌, ◌⊎◌, ℕ, ◌+◌, ◌<◌, ◌≤◌, ◌^◌, List, ◌++◌, length, take};
 ghost use Rattle.std.specs.Prelude.{nat_eq, true, Some, Ok};
 ghost use Rattle.std.specs.Ordering.{nat_cmp, ordering_reverse};
 ghost use Rattle.std.specs.Cmp.Lexicographic.{pointwise, slice_cmp};
@@ -11,6 +11,9 @@ ghost use Rattle.sst_base.specs.ValueType.{value_type_byte, value_type_of};
 ghost use Rattle.sst_base.specs.BlockType.{block_type_byte, block_type_of};
 ghost use Rattle.sst_base.specs.Key.{Key};
 ghost use Rattle.sst_base.specs.Order.{key_cmp};
+ghost use Rattle.sst_base.specs.Block.{BlockParts};
+ghost use Rattle.sst_base.specs.BlockHandle.{HandleParts, handle_bytes, handle_at};
+ghost use Rattle.sst_base.specs.Frame.{block_for, frame, frame_at, frame_in};
 ghost use Rattle.sst_base.specs.Header.{IsHeader, header, header_at};
 ghost use Rattle.sst_base.specs.declared.value_type.ValueType.{ValueType};
 ghost use Rattle.sst_base.specs.declared.table.block.block_type.BlockType.{BlockType};
@@ -81,6 +84,63 @@ pub fn header_is_read_again()
 pub fn header_was_written()
     ensures { (hash128 : List ℕ → ℕ) (bytes : List ℕ) (h : Header) (rest : List ℕ) → IsBytes bytes
         → header_at hash128 bytes ≡ Ok (h, rest) → IsHeader h × (bytes ≡ header hash128 h ++ rest) }
+{}
+
+/// A header takes 33 bytes.
+pub fn header_takes_33_bytes()
+    ensures { (hash128 : List ℕ → ℕ) (h : Header) → length (header hash128 h) ≡ 33 }
+{}
+
+/// A frame takes 33 bytes more than its payload.
+pub fn frame_takes_33_bytes_more()
+    ensures { (hash128 : List ℕ → ℕ) (t : BlockType) (payload : List ℕ)
+        → length (frame hash128 t payload) ≡ 33 + length payload }
+{}
+
+/// A frame is read again, whatever follows it.
+pub fn frame_is_read_again()
+    ensures { (hash128 : List ℕ → ℕ) (t : BlockType) (payload rest : List ℕ)
+        → length payload < 2 ^ 32 → hash128 payload < 2 ^ 128
+        → frame_at hash128 (frame hash128 t payload ++ rest)
+        ≡ Ok (block_for hash128 t payload, rest) }
+{}
+
+/// Where a frame is read, the bytes begin with the frame of its payload.
+pub fn frame_was_written()
+    ensures { (hash128 : List ℕ → ℕ) (bytes : List ℕ) (b : BlockParts) (rest : List ℕ)
+        → IsBytes bytes → frame_at hash128 bytes ≡ Ok (b, rest)
+        → (bytes ≡ frame hash128 b.header.block_type b.payload ++ rest)
+        × (b ≡ block_for hash128 b.header.block_type b.payload)
+        × (length b.payload < 2 ^ 32) }
+{}
+
+/// A frame in memory is read again.
+pub fn whole_frame_is_read_again()
+    ensures { (hash128 : List ℕ → ℕ) (t : BlockType) (payload : List ℕ)
+        → length payload < 2 ^ 32 → hash128 payload < 2 ^ 128
+        → frame_in hash128 (frame hash128 t payload) ≡ Ok (block_for hash128 t payload) }
+{}
+
+/// Where bytes are read as a frame, they are the frame of its payload.
+pub fn whole_frame_was_written()
+    ensures { (hash128 : List ℕ → ℕ) (bytes : List ℕ) (b : BlockParts)
+        → IsBytes bytes → frame_in hash128 bytes ≡ Ok b
+        → (bytes ≡ frame hash128 b.header.block_type b.payload)
+        × (b ≡ block_for hash128 b.header.block_type b.payload)
+        × (length b.payload < 2 ^ 32) }
+{}
+
+/// A handle is read again, whatever follows it.
+pub fn handle_is_read_again()
+    ensures { (h : HandleParts) (rest : List ℕ) → h.offset < 2 ^ 64 → h.size < 2 ^ 32
+        → handle_at (handle_bytes h ++ rest) ≡ Ok (h, rest) }
+{}
+
+/// Where a handle is read, it is within its widths, and the bytes begin with it.
+pub fn handle_was_written()
+    ensures { (bytes : List ℕ) (h : HandleParts) (rest : List ℕ) → IsBytes bytes
+        → handle_at bytes ≡ Ok (h, rest)
+        → (bytes ≡ handle_bytes h ++ rest) × (h.offset < 2 ^ 64) × (h.size < 2 ^ 32) }
 {}
 
 /// An internal key sorts before another exactly if its user key is less, or the same and its

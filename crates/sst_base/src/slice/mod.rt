@@ -11,10 +11,13 @@ ghost use Rattle.std.specs.Cmp.Lexicographic.{nat_list_cmp_total, texts_ties, te
 ghost use Rattle.std.specs.Cmp.{partial_equiv_from_equiv};
 ghost use Rattle.std.specs.Cmp.Rules.{hashing};
 ghost use Rattle.std.proofs.Common.{rules};
+ghost use Rattle.sst_base.specs.Header.{bytes_at};
+ghost use Rattle.sst_base.specs.Inputs.{ReadsAllocating};
 
 mod short;
 
 use crate::error::{Error, Result};
+use crate::input::Input;
 use crate::table::util::compare_bytes;
 use bytes::Bytes;
 use short::{SHORT_LEN, ShortBytes};
@@ -24,6 +27,9 @@ use std::hash::{Hash, Hasher};
 use std::marker::Model;
 use std::ops::{Range, RangeBounds};
 use std::{fmt, slice};
+
+// The greatest number of bytes that is read at once.
+const PIECE_LEN: usize = 65536;
 
 // Where the bytes of a slice are.
 #[derive(Drop)]
@@ -157,6 +163,28 @@ impl Slice {
         ensures memory { IsOkUnless result Error.Memory }
     {
         Slice::from_vec(Vec::from_iter(alloc, iter)?)
+    }
+
+    /// Reads so many bytes, in pieces of at most 65536 bytes, so a length that is too great costs
+    /// little memory.
+    ///
+    /// # Errors
+    ///
+    /// `Error::Io` if the reader fails, or ends before. `Error::Memory` if an allocation fails.
+    pub fn from_reader<R: Input>(alloc: Global, reader: &mut R, len: usize) -> Result<Slice>
+        ensures read { (bytes : List ℕ) → R.remaining reader.old ≡ Some bytes
+            → ReadsAllocating (R.is_memory reader.old) result (R.remaining reader.new)
+            (bytes_at len bytes) }
+        ensures len { IfOk result (λ s. length s ≡ len) }
+        ensures kept { R.is_memory reader.old → R.is_memory reader.new }
+    {
+        let mut bytes = Vec::with_capacity(alloc, PIECE_LEN.min(len))?;
+        while bytes.len() < len {
+            let start = bytes.len();
+            bytes.resize(start + PIECE_LEN.min(len - start), 0)?;
+            reader.fill(&mut bytes[start..])?;
+        }
+        Slice::from_vec(bytes)
     }
 
     /// Returns the bytes in a range, which lies inside the bytes. Up to 39 bytes are copied, more

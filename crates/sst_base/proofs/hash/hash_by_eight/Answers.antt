@@ -5,9 +5,9 @@ use Rattle.sst_base.proofs.hash.hash_by_eight.Goals as goal
 pub loop-i-preserved : goal.loop-i-preserved
 loop-i-preserved c =
     let inside : 8 * c.loop-i.i + 8 ≤ length c.args.bytes.now = omega arith in
-    eight_more c.args.bytes.now c.loop-i.i c.loop-i.hash _ _ c.eight_at.result inside c.loop-i.invariant refl c.eight_at.ensures refl
+    eight_more 64 0 c.args.bytes.now c.loop-i.i c.loop-i.hash _ _ c.eight_at.result inside c.loop-i.invariant refl c.eight_at.ensures refl
 
 pub returns : goal.returns
 returns c =
     let all : c.loop-i.i ≡ length c.args.bytes.now / 8 = omega arith in
-    tail_more c.args.bytes.now _ (8 * (length c.args.bytes.now / 8)) c.loop-i.hash _ (rw all at c.loop-i.invariant) c.split_at.ensures.back c.poly31_from.ensures
+    tail_more 64 0 c.args.bytes.now _ (8 * (length c.args.bytes.now / 8)) c.loop-i.hash _ (rw all at c.loop-i.invariant) c.split_at.ensures.back c.continued64.ensures

@@ -1,0 +1,15 @@
+use Rattle.std.proofs.Common.{◌++◌}
+use Rattle.sst_base.proofs.Frames.{found_front, only_front}
+use Rattle.sst_base.specs.Frame.{block_for, frame, frame_at}
+use Rattle.sst_base.specs.FrameLaws.{frame_at-frame}
+use Rattle.sst_base.proofs.table.block.Block.from_reader.Goals as goal
+
+pub returns-clause-found : goal.returns-clause-found
+returns-clause-found g c bytes small known =
+    found_front g.H.BlockHash.hash128 (g.R.Input.is_memory c.args.reader.now) c.read_from.result (g.R.Read.remaining c.read_from.new.reader) bytes small (c.read_from.ensures.read bytes known)
+
+pub returns-clause-only : goal.returns-clause-only
+returns-clause-only g c t payload rest short known memory =
+    let hash = g.H.BlockHash.hash128 in
+    only_front (g.R.Input.is_memory c.args.reader.now) c.read_from.result (g.R.Read.remaining c.read_from.new.reader) (frame_at hash (frame hash t payload ++ rest)) (block_for hash t payload) rest memory
+    (frame_at-frame hash t payload rest short (g.met.H.BlockHash.hash128_fits payload)) (c.read_from.ensures.read (frame hash t payload ++ rest) known)

@@ -1,0 +1,27 @@
+-- What reading known bytes answers and leaves.
+use Rattle.std.specs.Prelude.{◌≡◌, List, ℕ, ⊤, Option, Some, Result, Ok, Err}
+use Rattle.sst_base.specs.declared.error.Error.{Error}
+use Rattle.sst_base.specs.declared.error.Error.TheVariants.{Io, Memory}
+
+-- The answer and the bytes left behind are those of reading; a reader that isn't over memory may have failed instead.
+abbrev pub Reads : {A : Type 0} → Type 0 → Result A Error → Option (List ℕ) → Result (A × List ℕ) Error → Type 0
+Reads over_memory (Ok x) left read = (rest : List ℕ) × (left ≡ Some rest) × (read ≡ Ok (x, rest))
+Reads over_memory (Err Io) left read = over_memory → read ≡ Err Io
+Reads over_memory (Err e) left read = read ≡ Err e
+
+-- the same where an allocation may have failed instead
+abbrev pub ReadsAllocating : {A : Type 0} → Type 0 → Result A Error → Option (List ℕ) → Result (A × List ℕ) Error → Type 0
+ReadsAllocating over_memory (Ok x) left read = Reads over_memory (Ok x) left read
+ReadsAllocating over_memory (Err Memory) left read = ⊤
+ReadsAllocating over_memory (Err e) left read = Reads over_memory (Err e) left read
+
+-- an answer is this one, unless an allocation failed
+abbrev pub Gives : {A : Type 0} → Result A Error → Result A Error → Type 0
+Gives (Err Memory) answer = ⊤
+Gives r answer = r ≡ answer
+
+-- an answer is this one, unless an allocation or the reader failed
+abbrev pub GivesOrFails : {A : Type 0} → Result A Error → Result A Error → Type 0
+GivesOrFails (Err Memory) answer = ⊤
+GivesOrFails (Err Io) answer = ⊤
+GivesOrFails r answer = r ≡ answer
