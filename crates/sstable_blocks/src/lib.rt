@@ -8,8 +8,10 @@
 pub mod table;
 
 pub use sst_base::{
-    Block, BlockHash, BlockType, ByteSum, Checksum, Error, HashRatio, Header, HeaderName,
-    InternalKey, InternalValue, Poly31, Result, SeqNo, Slice, Steps, TagName, UserKey, UserValue,
-    ValueType, checksum, coding, double_ended_peekable, hash, key, slice, value, value_type,
+    Block, BlockHandle, BlockHash, BlockOffset, BlockType, ByteSum, Checksum, ChecksumType,
+    ChecksummedReader, ChecksummedWriter, Decode, Encode, Error, HashRatio, Header, HeaderName,
+    Input, InternalKey, InternalValue, Poly31, Result, SeekInput, SeqNo, Slice, Steps, TagName,
+    UserKey, UserValue, ValueType, checksum, coding, double_ended_peekable, hash, key, slice,
+    value, value_type,
 };
-pub use sst_block_core::DataBlock;
+pub use sst_block_core::{DataBlock, IndexBlock, KeyedBlockHandle};

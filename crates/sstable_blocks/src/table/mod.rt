@@ -2,4 +2,4 @@
 pub mod block;
 
 pub use sst_base::table::util;
-pub use sst_block_core::table::data_block;
+pub use sst_block_core::table::{data_block, index_block};
