@@ -63,28 +63,26 @@ impl Line {
     }
 }
 
-/// The answer of an item of an iterator over a block.
-fn taken(
-    alloc: Global,
-    block: &DataBlock<Poly31>,
-    item: Option<DataBlockParsedItem>,
-) -> Result<Answer>
-    requires { IfSome item (IsParsedEntry block.now.payload) }
+/// The answer of an item of an iterator over a payload.
+fn taken(alloc: Global, payload: &Slice, item: Option<DataBlockParsedItem>) -> Result<Answer>
+    requires { IfSome item (IsParsedEntry payload.now) }
 {
     match item {
-        Some(item) => Ok(Answer::Item(Some(item.materialize(alloc, block.as_slice())?))),
+        Some(item) => Ok(Answer::Item(Some(item.materialize(alloc, payload)?))),
         None => Ok(Answer::Item(None)),
     }
 }
 
-/// Does an operation with an iterator over a block.
-fn perform(alloc: Global, block: &DataBlock<Poly31>, iter: &mut Iter<'_>, op: &Op) -> Result<Answer>
-    requires { iter.old.payload ≡ block.now.payload }
-    ensures { iter.new.payload ≡ iter.old.payload }
+/// Does an operation with an iterator over a payload.
+fn perform(alloc: Global, payload: &Slice, iter: &mut Iter<'_>, op: &Op) -> Result<Answer>
+    requires { iter.old.payload ≡ payload.now }
+    ensures payload { iter.new.payload ≡ iter.old.payload }
+    ensures interval { iter.new.interval ≡ iter.old.interval }
+    ensures list { iter.new.window.list ≡ iter.old.window.list }
 {
     match op {
-        Op::Next => taken(alloc, block, iter.next()),
-        Op::NextBack => taken(alloc, block, iter.next_back()),
+        Op::Next => taken(alloc, payload, iter.next()),
+        Op::NextBack => taken(alloc, payload, iter.next_back()),
         Op::Seek(key) => Ok(Answer::Found(iter.seek(key.as_slice()))),
         Op::SeekUpper(key) => Ok(Answer::Found(iter.seek_upper(key.as_slice()))),
         Op::SeekExclusive(key) => Ok(Answer::Found(iter.seek_exclusive(key.as_slice()))),
@@ -92,6 +90,25 @@ fn perform(alloc: Global, block: &DataBlock<Poly31>, iter: &mut Iter<'_>, op: &O
             Ok(Answer::Found(iter.seek_upper_exclusive(key.as_slice())))
         }
     }
+}
+
+/// Does operations with an iterator over a payload, and returns their answers.
+fn perform_all(
+    alloc: Global,
+    payload: &Slice,
+    iter: &mut Iter<'_>,
+    ops: &[Op],
+) -> Result<Vec<Answer>>
+    requires { iter.old.payload ≡ payload.now }
+    ensures payload { iter.new.payload ≡ iter.old.payload }
+    ensures interval { iter.new.interval ≡ iter.old.interval }
+    ensures list { iter.new.window.list ≡ iter.old.window.list }
+{
+    let mut all = Vec::new(alloc);
+    for op in ops {
+        all.push(perform(alloc, payload, iter, op)?)?;
+    }
+    Ok(all)
 }
 
 /// The operations of some lines.
@@ -103,28 +120,31 @@ fn ops_of(alloc: Global, lines: &[Line]) -> Result<Vec<Op>> {
     Ok(ops)
 }
 
-/// Checks what `walk` answered to the operations of some lines over a list.
-fn check_walk(rt: &impl Abort, list: &[InternalValue], lines: &[Line], found: &[Answer]) {
+/// Checks that these are the answers of some lines over a list.
+fn check_answers(rt: &impl Abort, list: &[InternalValue], lines: &[Line], found: &[Answer]) {
     assert_eq!(rt; found.len(), lines.len());
     for (line, answer) in lines.iter().zip(found.iter()) {
         assert!(rt; line.answer(list).is(answer));
     }
 }
 
-/// Does the operations of some lines with an iterator, and checks the answers.
+/// Does the operations of some lines with an iterator over a block of a list.
 fn check_iter(
     rt: &impl Abort,
     alloc: Global,
     block: &DataBlock<Poly31>,
+    iter: &mut Iter<'_>,
     list: &[InternalValue],
     lines: &[Line],
-) -> Result<()> {
-    let mut iter = block.iter();
-    for line in lines {
-        let op = line.op(alloc)?;
-        let answer = perform(alloc, block, &mut iter, &op)?;
-        assert!(rt; line.answer(list).is(&answer), "{op:?}");
-    }
+) -> Result<()>
+    requires { iter.old.payload ≡ block.now.payload }
+    ensures payload { iter.new.payload ≡ iter.old.payload }
+    ensures interval { iter.new.interval ≡ iter.old.interval }
+    ensures list { iter.new.window.list ≡ iter.old.window.list }
+{
+    let ops = ops_of(alloc, lines)?;
+    let found = perform_all(alloc, block.as_slice(), iter, &ops)?;
+    check_answers(rt, list, lines, &found);
     Ok(())
 }
 
@@ -141,8 +161,9 @@ fn check(
     let block = block_of::<Poly31>(rt, alloc, list, interval, NO_BUCKETS)?;
     let ops = ops_of(alloc, lines)?;
     let found = walk(alloc, &block, &ops)?;
-    check_walk(rt, list, lines, &found);
-    check_iter(rt, alloc, &block, list, lines)
+    check_answers(rt, list, lines, &found);
+    let mut iter = block.iter();
+    check_iter(rt, alloc, &block, &mut iter, list, lines)
 }
 
 /// Does the operations of some lines over the block of the keys a to e, without values.
@@ -244,20 +265,6 @@ fn bounds_without_their_key(rt: HostRuntime) -> std::result::Result<(), Fail> {
     Ok(())
 }
 
-/// Sets both bounds of an iterator over the keys a to e, each without its key, and takes the entry
-/// between them.
-fn take_between(rt: &impl Abort, iter: &mut Iter<'_>)
-    ensures payload { iter.new.payload ≡ iter.old.payload }
-    ensures interval { iter.new.interval ≡ iter.old.interval }
-    ensures list { iter.new.window.list ≡ iter.old.window.list }
-{
-    assert!(rt; iter.seek_exclusive(b"b"));
-    assert!(rt; iter.seek_upper_exclusive(b"d"));
-    assert!(rt; iter.next().is_some());
-    assert!(rt; iter.next().is_none());
-    assert!(rt; iter.next_back().is_none());
-}
-
 /// Moves an iterator over a block at interval 2 to a head, whose offset is this one.
 fn move_to(
     rt: &impl Abort,
@@ -286,12 +293,17 @@ fn an_offset_moves_the_front(rt: HostRuntime) -> std::result::Result<(), Fail> {
     let alloc = rt.alloc();
     let list = byte_keys(alloc, b'a', b'e')?;
     let block = block_of::<Poly31>(&rt, alloc, &list, 2, NO_BUCKETS)?;
+    let between = [
+        Line::SeekExclusive(b"b", true),
+        Line::SeekUpperExclusive(b"d", true),
+        Line::Next(Some(b"c")),
+        Line::Next(None),
+    ];
+    let again = [Line::Next(Some(b"c")), Line::Next(None)];
     let mut iter = block.iter();
-    take_between(&rt, &mut iter);
+    check_iter(&rt, alloc, &block, &mut iter, &list, between.as_slice())?;
     move_to(&rt, alloc, &block, &mut iter, 1, 11)?;
-    let answer = taken(alloc, &block, iter.next())?;
-    assert!(rt; Plain::Item(entry_of(&list, b"c")).is(&answer));
-    assert!(rt; iter.next().is_none());
+    check_iter(&rt, alloc, &block, &mut iter, &list, again.as_slice())?;
     Ok(())
 }
 
@@ -433,8 +445,24 @@ fn compare(rt: &impl Abort, list: &[InternalValue], ops: &[Op], found: &[Answer]
     }
 }
 
-/// 200 random operations over a random list of 1 to 40 entries: a block at an interval answers as
-/// the plain window does.
+/// Does operations over the block of a list, by `walk` and by an iterator, and checks that the
+/// answers are the plain window's.
+fn run(
+    rt: &impl Abort,
+    alloc: Global,
+    block: &DataBlock<Poly31>,
+    list: &[InternalValue],
+    ops: &[Op],
+) -> Result<()> {
+    let found = walk(alloc, block, ops)?;
+    compare(rt, list, ops, &found);
+    let mut iter = block.iter();
+    let again = perform_all(alloc, block.as_slice(), &mut iter, ops)?;
+    compare(rt, list, ops, &again);
+    Ok(())
+}
+
+/// 200 random operations over the block of a random list of 1 to 40 entries at an interval.
 fn random_run(rt: &impl Abort, alloc: Global, random: &mut Random, interval: u8) -> Result<()>
     requires { 1 ≤ interval }
 {
@@ -442,9 +470,7 @@ fn random_run(rt: &impl Abort, alloc: Global, random: &mut Random, interval: u8)
     let list = random_list(rt, alloc, random, count)?;
     let ops = random_ops(alloc, random, count + 4, 200)?;
     let block = block_of::<Poly31>(rt, alloc, &list, interval, NO_BUCKETS)?;
-    let found = walk(alloc, &block, &ops)?;
-    compare(rt, &list, &ops, &found);
-    Ok(())
+    run(rt, alloc, &block, &list, &ops)
 }
 
 /// A random run at each interval up to 16, and at 255.
@@ -465,30 +491,25 @@ fn random_operations_answer_as_the_plain_window(rt: HostRuntime) -> std::result:
     Ok(())
 }
 
-/// Takes all entries of a block from the back, and finds the list.
-fn check_back(
-    rt: &impl Abort,
-    alloc: Global,
-    block: &DataBlock<Poly31>,
-    list: &[InternalValue],
-) -> Result<()> {
-    let mut iter = block.iter();
-    for entry in list.iter().rev() {
-        let answer = taken(alloc, block, iter.next_back())?;
-        assert!(rt; Plain::Item(Some(entry)).is(&answer));
+/// So many steps from the back, and then one from each end.
+fn steps_back(alloc: Global, count: usize) -> Result<Vec<Op>> {
+    let mut ops = Vec::new(alloc);
+    for _ in 0..count {
+        ops.push(Op::NextBack)?;
     }
-    assert!(rt; iter.next_back().is_none());
-    assert!(rt; iter.next().is_none());
-    Ok(())
+    ops.push(Op::NextBack)?;
+    ops.push(Op::Next)?;
+    Ok(ops)
 }
 
-/// Takes all entries of a list at an interval from the front and from the back, and finds the list.
+/// Takes all entries of a list at an interval from the front, and from the back.
 fn comes_back(rt: &impl Abort, alloc: Global, list: &[InternalValue], interval: u8) -> Result<()>
     requires { 1 ≤ interval }
 {
     let block = block_of::<Poly31>(rt, alloc, list, interval, NO_BUCKETS)?;
     walks(rt, alloc, &block, list)?;
-    check_back(rt, alloc, &block, list)
+    let ops = steps_back(alloc, list.len())?;
+    run(rt, alloc, &block, list, &ops)
 }
 
 /// Takes all entries of a list from both ends, at several intervals.

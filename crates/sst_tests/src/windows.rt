@@ -1,6 +1,7 @@
 //! The plain window: a list of entries and two places, moved as the definitions say, each key
 //! counted, one by one.
 
+use crate::blocks::is_decoded;
 use sst_base::InternalValue;
 use sst_block_core::table::data_block::{Answer, Op};
 
@@ -118,18 +119,13 @@ impl<'a> Window<'a> {
     }
 }
 
-/// Whether two entries are the same: key, sequence number, type and value.
-pub fn is_same(a: &InternalValue, b: &InternalValue) -> bool {
-    a.key() == b.key() && a.key().value_type() == b.key().value_type() && a.value() == b.value()
-}
-
 impl Plain<'_> {
     /// Whether a block answered the same.
     pub fn is(&self, answer: &Answer) -> bool {
         match (self, answer) {
             (Plain::Found(wanted), Answer::Found(found)) => wanted == found,
             (Plain::Item(None), Answer::Item(None)) => true,
-            (Plain::Item(Some(wanted)), Answer::Item(Some(read))) => is_same(wanted, read),
+            (Plain::Item(Some(wanted)), Answer::Item(Some(read))) => is_decoded(wanted, read),
             _ => false,
         }
     }
