@@ -298,6 +298,7 @@ fn an_offset_moves_the_front(rt: HostRuntime) -> std::result::Result<(), Fail> {
         Line::SeekUpperExclusive(b"d", true),
         Line::Next(Some(b"c")),
         Line::Next(None),
+        Line::NextBack(None),
     ];
     let again = [Line::Next(Some(b"c")), Line::Next(None)];
     let mut iter = block.iter();

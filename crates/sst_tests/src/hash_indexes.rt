@@ -190,8 +190,8 @@ pub(crate) fn byte_keys(alloc: Global, first: u8, last: u8) -> Result<Vec<Intern
     Ok(list)
 }
 
-/// The buckets of the keys 1 to 254, each in an interval of its own: key 254 is in bucket 0, and each
-/// other in the bucket of its number.
+/// The buckets of the keys 1 to 254, each in an interval of its own: key 254 is in bucket 0, and
+/// each other in the bucket of its number.
 fn one_bucket_each(alloc: Global) -> Result<Vec<u8>> {
     let mut buckets = Vec::new(alloc);
     buckets.push(253u8)?;

@@ -78,20 +78,16 @@ fn five_keys(rt: &impl Abort, alloc: Global, interval: u8) -> Result<DataBlock<B
     block_of::<ByteSum>(rt, alloc, &list, interval, NO_BUCKETS)
 }
 
-/// A seek for the keys below a bound: which form, and the keys left.
+/// A seek for the keys below a bound, whether in the second form, and the keys left.
 #[derive(Clone, Copy)]
-struct Seek {
-    below: &'static [u8],
-    second: bool,
-    left: &'static [u8],
-}
+struct Seek(&'static [u8], bool, &'static [u8]);
 
 /// Seeks one after the other, and checks the answers and the keys left.
 fn check_seeks(rt: &impl Abort, decoder: &mut Keys<'_>, payload: &[u8], seeks: &[Seek])
     requires payload { decoder.old.payload ≡ payload.now }
 {
     for seek in seeks {
-        check_seek(rt, decoder, payload, seek.below, seek.second, seek.left);
+        check_seek(rt, decoder, payload, seek.0, seek.1, seek.2);
     }
 }
 
@@ -101,65 +97,21 @@ fn check_seeks(rt: &impl Abort, decoder: &mut Keys<'_>, payload: &[u8], seeks: &
 #[test]
 fn seeks_pick_a_head(rt: HostRuntime) -> std::result::Result<(), Fail> {
     let block = five_keys(&rt, rt.alloc(), 2)?;
+    let payload = block.as_slice().as_slice();
     let mut decoder = decoder_of(&block);
     let seeks = [
-        Seek {
-            below: b"c",
-            second: false,
-            left: b"abcde",
-        },
-        Seek {
-            below: b"c",
-            second: true,
-            left: b"cde",
-        },
-        Seek {
-            below: b"z",
-            second: false,
-            left: b"e",
-        },
-        Seek {
-            below: b"z",
-            second: true,
-            left: b"e",
-        },
-        Seek {
-            below: b"",
-            second: false,
-            left: b"abcde",
-        },
-        Seek {
-            below: b"",
-            second: true,
-            left: b"abcde",
-        },
-        Seek {
-            below: b"b",
-            second: false,
-            left: b"abcde",
-        },
-        Seek {
-            below: b"b",
-            second: true,
-            left: b"cde",
-        },
-        Seek {
-            below: b"d",
-            second: false,
-            left: b"cde",
-        },
-        Seek {
-            below: b"d",
-            second: true,
-            left: b"e",
-        },
+        Seek(b"c", false, b"abcde"),
+        Seek(b"c", true, b"cde"),
+        Seek(b"z", false, b"e"),
+        Seek(b"z", true, b"e"),
+        Seek(b"", false, b"abcde"),
+        Seek(b"", true, b"abcde"),
+        Seek(b"b", false, b"abcde"),
+        Seek(b"b", true, b"cde"),
+        Seek(b"d", false, b"cde"),
+        Seek(b"d", true, b"e"),
     ];
-    check_seeks(
-        &rt,
-        &mut decoder,
-        block.as_slice().as_slice(),
-        seeks.as_slice(),
-    );
+    check_seeks(&rt, &mut decoder, payload, seeks.as_slice());
     Ok(())
 }
 
@@ -167,50 +119,18 @@ fn seeks_pick_a_head(rt: HostRuntime) -> std::result::Result<(), Fail> {
 #[test]
 fn every_key_is_a_head_at_interval_1(rt: HostRuntime) -> std::result::Result<(), Fail> {
     let block = five_keys(&rt, rt.alloc(), 1)?;
+    let payload = block.as_slice().as_slice();
     let mut decoder = decoder_of(&block);
     let seeks = [
-        Seek {
-            below: b"z",
-            second: true,
-            left: b"",
-        },
-        Seek {
-            below: b"z",
-            second: false,
-            left: b"e",
-        },
-        Seek {
-            below: b"e",
-            second: true,
-            left: b"e",
-        },
-        Seek {
-            below: b"d",
-            second: false,
-            left: b"cde",
-        },
-        Seek {
-            below: b"d",
-            second: true,
-            left: b"de",
-        },
-        Seek {
-            below: b"",
-            second: false,
-            left: b"abcde",
-        },
-        Seek {
-            below: b"",
-            second: true,
-            left: b"abcde",
-        },
+        Seek(b"z", true, b""),
+        Seek(b"z", false, b"e"),
+        Seek(b"e", true, b"e"),
+        Seek(b"d", false, b"cde"),
+        Seek(b"d", true, b"de"),
+        Seek(b"", false, b"abcde"),
+        Seek(b"", true, b"abcde"),
     ];
-    check_seeks(
-        &rt,
-        &mut decoder,
-        block.as_slice().as_slice(),
-        seeks.as_slice(),
-    );
+    check_seeks(&rt, &mut decoder, payload, seeks.as_slice());
     Ok(())
 }
 
@@ -227,16 +147,10 @@ fn skip(rt: &impl Abort, decoder: &mut Keys<'_>)
 #[test]
 fn a_seek_from_behind_an_entry(rt: HostRuntime) -> std::result::Result<(), Fail> {
     let block = five_keys(&rt, rt.alloc(), 2)?;
+    let payload = block.as_slice().as_slice();
     let mut decoder = decoder_of(&block);
     skip(&rt, &mut decoder);
-    check_seek(
-        &rt,
-        &mut decoder,
-        block.as_slice().as_slice(),
-        b"c",
-        false,
-        b"abcde",
-    );
+    check_seek(&rt, &mut decoder, payload, b"c", false, b"abcde");
     Ok(())
 }
 
@@ -244,18 +158,12 @@ fn a_seek_from_behind_an_entry(rt: HostRuntime) -> std::result::Result<(), Fail>
 #[test]
 fn a_seek_from_within_an_interval(rt: HostRuntime) -> std::result::Result<(), Fail> {
     let block = five_keys(&rt, rt.alloc(), 2)?;
+    let payload = block.as_slice().as_slice();
     let mut decoder = decoder_of(&block);
     skip(&rt, &mut decoder);
     skip(&rt, &mut decoder);
     skip(&rt, &mut decoder);
-    check_seek(
-        &rt,
-        &mut decoder,
-        block.as_slice().as_slice(),
-        b"c",
-        true,
-        b"cde",
-    );
+    check_seek(&rt, &mut decoder, payload, b"c", true, b"cde");
     Ok(())
 }
 
@@ -263,16 +171,10 @@ fn a_seek_from_within_an_interval(rt: HostRuntime) -> std::result::Result<(), Fa
 #[test]
 fn a_seek_from_a_head(rt: HostRuntime) -> std::result::Result<(), Fail> {
     let block = five_keys(&rt, rt.alloc(), 2)?;
+    let payload = block.as_slice().as_slice();
     let mut decoder = decoder_of(&block);
     assert!(&rt; decoder.seek(&|_: &[u8], _: u64| true, false));
-    check_seek(
-        &rt,
-        &mut decoder,
-        block.as_slice().as_slice(),
-        b"",
-        true,
-        b"abcde",
-    );
+    check_seek(&rt, &mut decoder, payload, b"", true, b"abcde");
     Ok(())
 }
 
