@@ -118,7 +118,7 @@ fn check_reads<H: BlockHash>(
             query.key.as_slice(),
             query.below,
             query.wanted,
-        )?;
+        );
     }
     Ok(())
 }

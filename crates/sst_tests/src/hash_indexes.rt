@@ -80,11 +80,8 @@ pub(crate) fn pair(alloc: Global) -> Result<Vec<InternalValue>> {
     Ok(list)
 }
 
-#[test]
-fn buckets_stand_behind_the_pointers(rt: HostRuntime) -> std::result::Result<(), Fail> {
-    let list = pair(rt.alloc())?;
-    let block = block_of::<ByteSum>(&rt, rt.alloc(), &list, 2, ONE_EACH)?;
-    let bytes = block.as_slice().as_slice();
+/// Checks the bytes of a block of two heads and three buckets.
+fn check_hash_pair(rt: &impl Abort, bytes: &[u8]) {
     assert_eq!(rt; bytes.len(), 58);
     let (items, rest) = bytes.split_at(20);
     assert_eq!(rt;
@@ -99,6 +96,13 @@ fn buckets_stand_behind_the_pointers(rt: HostRuntime) -> std::result::Result<(),
         [2, 2, 2, 0, 0, 0, 20, 0, 0, 0, 3, 0, 0, 0, 24, 0, 0, 0].as_slice()
     );
     assert_eq!(rt; fixed, [1, 0, 0, 0, 0, 0, 0, 0, 0, 3, 0, 0, 0].as_slice());
+}
+
+#[test]
+fn buckets_stand_behind_the_pointers(rt: HostRuntime) -> std::result::Result<(), Fail> {
+    let list = pair(rt.alloc())?;
+    let block = block_of::<ByteSum>(&rt, rt.alloc(), &list, 2, ONE_EACH)?;
+    check_hash_pair(&rt, block.as_slice().as_slice());
     assert_eq!(rt; block.binary_index_len(), 2);
     assert_eq!(rt; block.hash_bucket_count(), Some(3));
     Ok(())
@@ -124,20 +128,35 @@ pub(crate) fn check_buckets<H: BlockHash>(
     }
 }
 
+/// Checks the bytes of the buckets of some keys, and how many buckets have a conflict.
+pub(crate) fn check_bytes<H: BlockHash>(
+    rt: &impl Abort,
+    block: &DataBlock<H>,
+    wanted: &[(&[u8], u8)],
+    conflicts: usize,
+) {
+    let Some(reader) = block.get_hash_index_reader() else {
+        assert!(rt; false, "no hash index");
+        return;
+    };
+    assert_eq!(rt; reader.conflict_count(), conflicts);
+    for (key, byte) in wanted {
+        assert_eq!(rt; reader.get(key), *byte);
+    }
+}
+
 #[test]
 fn versions_in_two_intervals_conflict(rt: HostRuntime) -> std::result::Result<(), Fail> {
     let list = pair(rt.alloc())?;
     let block = block_of::<ByteSum>(&rt, rt.alloc(), &list, 1, ONE_EACH)?;
     check_buckets(&rt, &block, 27, [255, 2, 254].as_slice());
-    let Some(reader) = block.get_hash_index_reader() else {
-        assert!(rt; false);
-        return Ok(());
-    };
-    assert_eq!(rt; reader.get(b"ab"), 255);
-    assert_eq!(rt; reader.get(b"ac"), 2);
-    assert_eq!(rt; reader.get(b"c"), 255);
-    assert_eq!(rt; reader.get(b"b"), 254);
-    assert_eq!(rt; reader.conflict_count(), 1);
+    let wanted = [
+        (b"ab".as_slice(), 255),
+        (b"ac".as_slice(), 2),
+        (b"c".as_slice(), 255),
+        (b"b".as_slice(), 254),
+    ];
+    check_bytes(&rt, &block, wanted.as_slice(), 1);
     Ok(())
 }
 
@@ -171,23 +190,30 @@ pub(crate) fn byte_keys(alloc: Global, first: u8, last: u8) -> Result<Vec<Intern
     Ok(list)
 }
 
-#[test]
-fn buckets_are_stored_for_at_most_254_heads(rt: HostRuntime) -> std::result::Result<(), Fail> {
-    let alloc = rt.alloc();
+/// The buckets of the keys 1 to 254, each in an interval of its own: key 254 is in bucket 0, and
+/// each other in the bucket of its number.
+fn one_bucket_each(alloc: Global) -> Result<Vec<u8>> {
     let mut buckets = Vec::new(alloc);
     buckets.push(253u8)?;
     for number in 0..253u8 {
         buckets.push(number)?;
     }
-    let list = byte_keys(alloc, 1, 254)?;
-    let block = block_of::<ByteSum>(&rt, alloc, &list, 1, ONE_EACH)?;
+    Ok(buckets)
+}
+
+#[test]
+fn buckets_are_stored_for_254_heads(rt: HostRuntime) -> std::result::Result<(), Fail> {
+    let buckets = one_bucket_each(rt.alloc())?;
+    let list = byte_keys(rt.alloc(), 1, 254)?;
+    let block = block_of::<ByteSum>(&rt, rt.alloc(), &list, 1, ONE_EACH)?;
     check_buckets(&rt, &block, 1779, &buckets);
     assert_eq!(rt; block.binary_index_len(), 254);
     assert_eq!(rt; block.hash_bucket_count(), Some(254));
-    let longer = byte_keys(alloc, 1, 255)?;
-    let none = block_of::<ByteSum>(&rt, alloc, &longer, 1, ONE_EACH)?;
-    check_buckets(&rt, &none, 1786, b"");
-    let bytes = none.as_slice().as_slice();
+    Ok(())
+}
+
+/// Checks the numbers of the trailer of a block without hash index.
+fn check_numbers(rt: &impl Abort, bytes: &[u8]) {
     assert_eq!(rt; bytes.len(), 1817);
     let (_, trailer) = bytes.split_at(1786);
     let (numbers, _) = trailer.split_at(18);
@@ -195,8 +221,16 @@ fn buckets_are_stored_for_at_most_254_heads(rt: HostRuntime) -> std::result::Res
         numbers,
         [1, 2, 255, 0, 0, 0, 252, 4, 0, 0, 0, 0, 0, 0, 0, 0, 0, 0].as_slice()
     );
-    assert_eq!(rt; none.binary_index_len(), 255);
-    assert_eq!(rt; none.hash_bucket_count(), None);
+}
+
+#[test]
+fn buckets_are_not_stored_for_255_heads(rt: HostRuntime) -> std::result::Result<(), Fail> {
+    let list = byte_keys(rt.alloc(), 1, 255)?;
+    let block = block_of::<ByteSum>(&rt, rt.alloc(), &list, 1, ONE_EACH)?;
+    check_buckets(&rt, &block, 1786, b"");
+    check_numbers(&rt, block.as_slice().as_slice());
+    assert_eq!(rt; block.binary_index_len(), 255);
+    assert_eq!(rt; block.hash_bucket_count(), None);
     Ok(())
 }
 
@@ -209,13 +243,11 @@ fn buckets_name_the_interval_of_truncated_entries(
     let block = block_of::<ByteSum>(&rt, alloc, &list, 2, ONE_EACH)?;
     assert_eq!(rt; block.binary_index_len(), 128);
     assert_eq!(rt; block.hash_bucket_count(), Some(255));
-    let Some(reader) = block.get_hash_index_reader() else {
-        assert!(rt; false);
-        return Ok(());
-    };
-    assert_eq!(rt; reader.get(b"\x01"), 0);
-    assert_eq!(rt; reader.get(b"\x02"), 0);
-    assert_eq!(rt; reader.get(b"\xff"), 127);
-    assert_eq!(rt; reader.conflict_count(), 0);
+    let wanted = [
+        (b"\x01".as_slice(), 0),
+        (b"\x02".as_slice(), 0),
+        (b"\xff".as_slice(), 127),
+    ];
+    check_bytes(&rt, &block, wanted.as_slice(), 0);
     Ok(())
 }

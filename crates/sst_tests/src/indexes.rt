@@ -7,28 +7,39 @@ use std::alloc::Global;
 use std::process::Abort;
 use std::test::Fail;
 
-/// The number of buckets that a ratio gives for a number of items.
-fn bucket_count(alloc: Global, item_count: usize, num: u32, den: u32) -> Result<u32> {
-    let ratio = HashRatio {
-        num,
-        den: den.max(1),
-    };
+/// Checks the number of buckets that a ratio gives for a number of items.
+fn check_count(
+    rt: &impl Abort,
+    alloc: Global,
+    item_count: usize,
+    ratio: HashRatio,
+    wanted: u32,
+) -> Result<()>
+    requires { 1 ≤ ratio.den }
+{
     let builder = hash_index::Builder::<ByteSum>::with_hash_ratio(alloc, item_count, ratio)?;
-    Ok(builder.bucket_count())
+    assert_eq!(rt; builder.bucket_count(), wanted);
+    Ok(())
 }
 
 #[test]
 fn ratios_give_bucket_counts(rt: HostRuntime) -> std::result::Result<(), Fail> {
     let alloc = rt.alloc();
-    assert_eq!(rt; bucket_count(alloc, 2, 133, 100)?, 2);
-    assert_eq!(rt; bucket_count(alloc, 1, 1, 1_000_000)?, 1);
-    assert_eq!(rt; bucket_count(alloc, 7, 0, 1)?, 0);
-    assert_eq!(rt; bucket_count(alloc, 4, 133, 100)?, 5);
+    let more = HashRatio { num: 133, den: 100 };
+    let least = HashRatio {
+        num: 1,
+        den: 1_000_000,
+    };
+    let none = HashRatio { num: 0, den: 1 };
+    check_count(&rt, alloc, 2, more, 2)?;
+    check_count(&rt, alloc, 1, least, 1)?;
+    check_count(&rt, alloc, 7, none, 0)?;
+    check_count(&rt, alloc, 4, more, 5)?;
     Ok(())
 }
 
-/// Sets two keys in one bucket, and checks its byte and the number of conflicts.
-fn check_bucket(rt: &impl Abort, alloc: Global, a: u8, b: u8, byte: u8) -> Result<()>
+/// The byte of one bucket in which two keys are set.
+fn bucket_of(rt: &impl Abort, alloc: Global, a: u8, b: u8) -> Result<Vec<u8>>
     requires a { a ≤ 253 }
     requires b { b ≤ 253 }
 {
@@ -37,6 +48,15 @@ fn check_bucket(rt: &impl Abort, alloc: Global, a: u8, b: u8, byte: u8) -> Resul
     assert_eq!(rt; builder.set(b"b", b), a == b);
     let mut bytes = Vec::new(alloc);
     builder.write(&mut bytes)?;
+    Ok(bytes)
+}
+
+/// Sets two keys in one bucket, and checks its byte and the number of conflicts.
+fn check_bucket(rt: &impl Abort, alloc: Global, a: u8, b: u8, byte: u8) -> Result<()>
+    requires a { a ≤ 253 }
+    requires b { b ≤ 253 }
+{
+    let bytes = bucket_of(rt, alloc, a, b)?;
     assert_eq!(rt; bytes.as_slice(), [byte].as_slice());
     let reader = hash_index::Reader::<ByteSum>::new(bytes.as_slice(), 0, 1);
     assert_eq!(rt; reader.conflict_count(), usize::from(a != b));

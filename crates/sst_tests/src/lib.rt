@@ -4,6 +4,8 @@
 #[cfg(test)]
 mod blocks;
 #[cfg(test)]
+mod both_ends;
+#[cfg(test)]
 mod first_matches;
 #[cfg(test)]
 mod hash_indexes;
@@ -16,3 +18,5 @@ mod point_reads;
 mod searches;
 #[cfg(test)]
 mod sources;
+#[cfg(test)]
+mod windows;

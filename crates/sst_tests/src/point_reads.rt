@@ -3,7 +3,8 @@ ghost use Rattle.std.specs.Prelude.{◌≤◌, ◌<◌, ◌^◌, length};
 
 use crate::blocks::{is_decoded, reads, walks};
 use crate::hash_indexes::{
-    NO_BUCKETS, NoHash, ONE_EACH, block_of, byte_keys, check_buckets, pair, push, versions,
+    NO_BUCKETS, NoHash, ONE_EACH, block_of, byte_keys, check_buckets, check_bytes, pair, push,
+    versions,
 };
 use sst_base::{BlockHash, ByteSum, HashRatio, InternalValue, Poly31, Result, Steps, ValueType};
 use sst_block_core::DataBlock;
@@ -20,32 +21,37 @@ pub(crate) fn check_read<H: BlockHash>(
     needle: &[u8],
     below: u64,
     wanted: Option<&InternalValue>,
-) -> Result<()> {
+) {
     let mut steps = Steps::new();
-    match (block.point_read(alloc, needle, below, &mut steps)?, wanted) {
-        (None, None) => {}
-        (Some(read), Some(entry)) => assert!(rt; is_decoded(entry, &read), "below {below}"),
-        (read, _) => assert!(rt; false, "below {below}, found: {}", read.is_some()),
+    match (block.point_read(alloc, needle, below, &mut steps), wanted) {
+        (Ok(None), None) => {}
+        (Ok(Some(read)), Some(entry)) => assert!(rt; is_decoded(entry, &read), "below {below}"),
+        _ => assert!(rt; false, "{needle:?} below {below}"),
     }
-    Ok(())
+}
+
+/// Four versions of one key.
+fn four_versions(alloc: Global) -> Result<Vec<InternalValue>> {
+    let mut list = Vec::new(alloc);
+    push(&mut list, b"\x00", b"", 5, ValueType::Value)?;
+    push(&mut list, b"\x00", b"", 4, ValueType::Tombstone)?;
+    push(&mut list, b"\x00", b"", 3, ValueType::Value)?;
+    push(&mut list, b"\x00", b"", 0, ValueType::Value)?;
+    Ok(list)
 }
 
 /// Below each bound the newest version is found, a tombstone too, and below 0 none.
 #[test]
 fn versions_of_one_key_are_read(rt: HostRuntime) -> std::result::Result<(), Fail> {
     let alloc = rt.alloc();
-    let mut list = Vec::new(alloc);
-    push(&mut list, b"\x00", b"", 5, ValueType::Value)?;
-    push(&mut list, b"\x00", b"", 4, ValueType::Tombstone)?;
-    push(&mut list, b"\x00", b"", 3, ValueType::Value)?;
-    push(&mut list, b"\x00", b"", 0, ValueType::Value)?;
+    let list = four_versions(alloc)?;
     let block = block_of::<ByteSum>(&rt, alloc, &list, 2, NO_BUCKETS)?;
     assert_eq!(&rt; block.hash_bucket_count(), None);
-    check_read(&rt, alloc, &block, b"\x00", 6, list.get(0))?;
-    check_read(&rt, alloc, &block, b"\x00", 5, list.get(1))?;
-    check_read(&rt, alloc, &block, b"\x00", 4, list.get(2))?;
-    check_read(&rt, alloc, &block, b"\x00", 1, list.get(3))?;
-    check_read(&rt, alloc, &block, b"\x00", 0, None)?;
+    check_read(&rt, alloc, &block, b"\x00", 6, list.get(0));
+    check_read(&rt, alloc, &block, b"\x00", 5, list.get(1));
+    check_read(&rt, alloc, &block, b"\x00", 4, list.get(2));
+    check_read(&rt, alloc, &block, b"\x00", 1, list.get(3));
+    check_read(&rt, alloc, &block, b"\x00", 0, None);
     Ok(())
 }
 
@@ -55,25 +61,55 @@ fn a_key_behind_all_is_not_found(rt: HostRuntime) -> std::result::Result<(), Fai
     let alloc = rt.alloc();
     let list = byte_keys(alloc, b'a', b'h')?;
     let block = block_of::<ByteSum>(&rt, alloc, &list, 2, NO_BUCKETS)?;
-    check_read(&rt, alloc, &block, b"z", 1, None)?;
-    check_read(&rt, alloc, &block, b"h", 1, list.get(7))?;
+    check_read(&rt, alloc, &block, b"z", 1, None);
+    check_read(&rt, alloc, &block, b"h", 1, list.get(7));
     Ok(())
+}
+
+/// Eight versions of one key.
+fn eight_versions(alloc: Global) -> Result<Vec<InternalValue>> {
+    let mut list = Vec::new(alloc);
+    for n in 0..8 {
+        push(&mut list, b"k", b"", 8 - n, ValueType::Value)?;
+    }
+    Ok(list)
+}
+
+/// Whether an entry has this sequence number.
+fn has_seqno(entry: Option<&InternalValue>, seqno: u64) -> bool {
+    match entry {
+        Some(entry) => entry.key().seqno() == seqno,
+        None => false,
+    }
 }
 
 /// The version looked for may be in an interval behind those whose heads have its key.
 #[test]
 fn one_key_in_several_intervals(rt: HostRuntime) -> std::result::Result<(), Fail> {
     let alloc = rt.alloc();
-    let mut list = Vec::new(alloc);
-    for n in 0..8 {
-        push(&mut list, b"k", b"", 8 - n, ValueType::Value)?;
-    }
+    let list = eight_versions(alloc)?;
     let block = block_of::<ByteSum>(&rt, alloc, &list, 2, NO_BUCKETS)?;
-    check_read(&rt, alloc, &block, b"k", 7, list.get(2))?;
-    check_read(&rt, alloc, &block, b"k", 2, list.get(7))?;
-    assert_eq!(&rt; list.get(2).map(|entry| entry.key().seqno()), Some(6));
-    assert_eq!(&rt; list.get(7).map(|entry| entry.key().seqno()), Some(1));
+    assert!(rt; has_seqno(list.get(2), 6));
+    assert!(rt; has_seqno(list.get(7), 1));
+    check_read(&rt, alloc, &block, b"k", 7, list.get(2));
+    check_read(&rt, alloc, &block, b"k", 2, list.get(7));
     Ok(())
+}
+
+/// Reads three versions of a and one of b.
+fn check_versions<H: BlockHash>(
+    rt: &impl Abort,
+    alloc: Global,
+    block: &DataBlock<H>,
+    list: &[InternalValue],
+) {
+    check_read(rt, alloc, block, b"a", 3, list.get(1));
+    check_read(rt, alloc, block, b"a", 2, list.get(2));
+    check_read(rt, alloc, block, b"a", 1, None);
+    check_read(rt, alloc, block, b"b", 66, list.get(3));
+    check_read(rt, alloc, block, b"b", 65, None);
+    check_read(rt, alloc, block, b"q", 9, None);
+    check_read(rt, alloc, block, b"c", 9, None);
 }
 
 /// Reads three versions of a and one of b in a block with five buckets, of which c's has this byte.
@@ -87,19 +123,19 @@ fn check_five_buckets<H: BlockHash>(
     let ratio = HashRatio { num: 133, den: 100 };
     let block = block_of::<H>(rt, alloc, &list, 1, ratio)?;
     check_buckets(rt, &block, 33, buckets);
-    if let Some(reader) = block.get_hash_index_reader() {
-        assert_eq!(rt; reader.conflict_count(), 1);
-        assert_eq!(rt; reader.get(b"a"), 255);
-        assert_eq!(rt; reader.get(b"c"), of_c);
-        assert_eq!(rt; reader.lookup(b"a"), Lookup::Anywhere);
+    let wanted = [(b"a".as_slice(), 255), (b"c".as_slice(), of_c)];
+    check_bytes(rt, &block, wanted.as_slice(), 1);
+    check_lookup(rt, &block, b"a", Lookup::Anywhere);
+    check_versions(rt, alloc, &block, &list);
+    Ok(())
+}
+
+/// Checks what the hash index of a block says of a key.
+fn check_lookup<H: BlockHash>(rt: &impl Abort, block: &DataBlock<H>, key: &[u8], wanted: Lookup) {
+    match block.get_hash_index_reader() {
+        Some(reader) => assert_eq!(rt; reader.lookup(key), wanted),
+        None => assert!(rt; false, "no hash index"),
     }
-    check_read(rt, alloc, &block, b"a", 3, list.get(1))?;
-    check_read(rt, alloc, &block, b"a", 2, list.get(2))?;
-    check_read(rt, alloc, &block, b"a", 1, None)?;
-    check_read(rt, alloc, &block, b"b", 66, list.get(3))?;
-    check_read(rt, alloc, &block, b"b", 65, None)?;
-    check_read(rt, alloc, &block, b"q", 9, None)?;
-    check_read(rt, alloc, &block, b"c", 9, None)
 }
 
 /// With a hash that tells keys apart, and with one that doesn't, the same entries are found.
@@ -118,14 +154,10 @@ fn buckets_say_where_keys_are(rt: HostRuntime) -> std::result::Result<(), Fail> 
     let list = versions(rt.alloc())?;
     let ratio = HashRatio { num: 133, den: 100 };
     let block = block_of::<ByteSum>(&rt, rt.alloc(), &list, 1, ratio)?;
-    let Some(reader) = block.get_hash_index_reader() else {
-        assert!(rt; false);
-        return Ok(());
-    };
-    assert_eq!(rt; reader.lookup(b"a"), Lookup::Anywhere);
-    assert_eq!(rt; reader.lookup(b"b"), Lookup::Interval(3));
-    assert_eq!(rt; reader.lookup(b"q"), Lookup::Interval(3));
-    assert_eq!(rt; reader.lookup(b"c"), Lookup::Nowhere);
+    check_lookup(&rt, &block, b"a", Lookup::Anywhere);
+    check_lookup(&rt, &block, b"b", Lookup::Interval(3));
+    check_lookup(&rt, &block, b"q", Lookup::Interval(3));
+    check_lookup(&rt, &block, b"c", Lookup::Nowhere);
     Ok(())
 }
 
@@ -135,12 +167,13 @@ fn check_pair(rt: &impl Abort, alloc: Global, interval: u8) -> Result<()>
 {
     let list = pair(alloc)?;
     let block = block_of::<ByteSum>(rt, alloc, &list, interval, ONE_EACH)?;
-    check_read(rt, alloc, &block, b"ab", 2, list.get(1))?;
-    check_read(rt, alloc, &block, b"ab", 1, None)?;
-    check_read(rt, alloc, &block, b"c", 5, None)?;
-    check_read(rt, alloc, &block, b"ab", u64::MAX, list.get(0))?;
-    check_read(rt, alloc, &block, b"ac", 301, list.get(2))?;
-    check_read(rt, alloc, &block, b"ac", 300, None)
+    check_read(rt, alloc, &block, b"ab", 2, list.get(1));
+    check_read(rt, alloc, &block, b"ab", 1, None);
+    check_read(rt, alloc, &block, b"c", 5, None);
+    check_read(rt, alloc, &block, b"ab", u64::MAX, list.get(0));
+    check_read(rt, alloc, &block, b"ac", 301, list.get(2));
+    check_read(rt, alloc, &block, b"ac", 300, None);
+    Ok(())
 }
 
 /// At interval 1 the bucket of ab has a conflict, at interval 2 a number.
@@ -167,50 +200,53 @@ fn push_sequence_numbers(list: &mut Vec<InternalValue>, key: &[u8], value: &[u8]
     push(list, key, value, 127, ValueType::Value)
 }
 
+/// Appends entries with keys of 20000 bytes and more, and values of 70000 bytes.
+fn push_long(list: &mut Vec<InternalValue>, short_value: &[u8]) -> Result<()>
+    requires value { length short_value.now ≤ 65535 }
+{
+    let alloc = *list.allocator();
+    let key = vec![in alloc; b'k'; 20000]?;
+    let mut longer = vec![in alloc; b'k'; 20000]?;
+    longer.push(b'x')?;
+    let value = vec![in alloc; b'w'; 70000]?;
+    push(list, &key, short_value, 1 << 14, ValueType::Value)?;
+    push(list, &key, &value, 1 << 7, ValueType::Value)?;
+    push(list, &longer, &value, 1 << 21, ValueType::Value)?;
+    push(list, b"l", &value, 300, ValueType::Value)
+}
+
 /// A list of keys of 1, 200 and 20000 bytes, with values of 300 and 70000 bytes.
 fn long_entries(rt: &impl Abort, alloc: Global) -> Result<Vec<InternalValue>> {
     let mut list = Vec::new(alloc);
-    let short_key = vec![in alloc; b'k'; 200]?;
-    let mut long_key = vec![in alloc; b'k'; 20000]?;
-    let short_value = vec![in alloc; b'v'; 300]?;
-    let long_value = vec![in alloc; b'w'; 70000]?;
-    push_sequence_numbers(&mut list, b"k", short_value.as_slice())?;
-    push_sequence_numbers(&mut list, short_key.as_slice(), short_value.as_slice())?;
-    push(
-        &mut list,
-        long_key.as_slice(),
-        short_value.as_slice(),
-        1 << 14,
-        ValueType::Value,
-    )?;
-    push(
-        &mut list,
-        long_key.as_slice(),
-        long_value.as_slice(),
-        1 << 7,
-        ValueType::Value,
-    )?;
-    long_key.push(b'x')?;
-    push(
-        &mut list,
-        long_key.as_slice(),
-        long_value.as_slice(),
-        1 << 21,
-        ValueType::Value,
-    )?;
-    push(
-        &mut list,
-        b"l",
-        long_value.as_slice(),
-        300,
-        ValueType::Value,
-    )?;
+    let key = vec![in alloc; b'k'; 200]?;
+    let value = vec![in alloc; b'v'; 300]?;
+    push_sequence_numbers(&mut list, b"k", &value)?;
+    push_sequence_numbers(&mut list, &key, &value)?;
+    push_long(&mut list, &value)?;
     assert_eq!(rt; list.len(), 20);
     Ok(list)
 }
 
-/// Iterates over a block of long entries, and reads each key below each of its sequence numbers and
-/// below the next.
+/// Reads each key of a list below each of its sequence numbers and below the next, and the key
+/// without its first byte.
+fn check_keys<H: BlockHash>(
+    rt: &impl Abort,
+    alloc: Global,
+    block: &DataBlock<H>,
+    list: &[InternalValue],
+) {
+    for entry in list {
+        let key = entry.key().user_key().as_slice();
+        let seqno = entry.key().seqno();
+        reads(rt, alloc, block, list, key, seqno);
+        if seqno < u64::MAX {
+            check_read(rt, alloc, block, key, seqno + 1, Some(entry));
+        }
+        reads(rt, alloc, block, list, &key[1..], seqno);
+    }
+}
+
+/// Iterates over a block of long entries, and reads each key.
 fn check_long(
     rt: &impl Abort,
     alloc: Global,
@@ -223,15 +259,7 @@ fn check_long(
 {
     let block = block_of::<Poly31>(rt, alloc, list, interval, ratio)?;
     walks(rt, alloc, &block, list)?;
-    for entry in list {
-        let key = entry.key().user_key().as_slice();
-        let seqno = entry.key().seqno();
-        reads(rt, alloc, &block, list, key, seqno)?;
-        if seqno < u64::MAX {
-            check_read(rt, alloc, &block, key, seqno + 1, Some(entry))?;
-        }
-        reads(rt, alloc, &block, list, &key[1..], seqno)?;
-    }
+    check_keys(rt, alloc, &block, list);
     Ok(())
 }
 
@@ -248,32 +276,42 @@ fn long_numbers_keys_and_values_are_read(rt: HostRuntime) -> std::result::Result
     Ok(())
 }
 
-/// Without hash index, each key of 300 is found by a search over the heads.
-#[test]
-fn more_than_254_heads_are_searched(rt: HostRuntime) -> std::result::Result<(), Fail> {
-    let alloc = rt.alloc();
+/// 300 keys of two bytes.
+fn two_byte_keys(alloc: Global) -> Result<Vec<InternalValue>> {
     let mut list = Vec::new(alloc);
     for n in 0..300u64 {
         let key = [(n / 256) as u8, (n % 256) as u8];
         push(&mut list, key.as_slice(), b"v", n, ValueType::Value)?;
     }
+    Ok(list)
+}
+
+/// Reads each entry of a list below the number behind its own, and none below its own.
+fn check_entries<H: BlockHash>(
+    rt: &impl Abort,
+    alloc: Global,
+    block: &DataBlock<H>,
+    list: &[InternalValue],
+) {
+    for entry in list {
+        let key = entry.key().user_key().as_slice();
+        let seqno = entry.key().seqno();
+        check_read(rt, alloc, block, key, seqno.saturating_add(1), Some(entry));
+        check_read(rt, alloc, block, key, seqno, None);
+    }
+}
+
+/// Without hash index, each key of 300 is found by a search over the heads.
+#[test]
+fn more_than_254_heads_are_searched(rt: HostRuntime) -> std::result::Result<(), Fail> {
+    let alloc = rt.alloc();
+    let list = two_byte_keys(alloc)?;
     let block = block_of::<ByteSum>(&rt, alloc, &list, 1, ONE_EACH)?;
     assert_eq!(&rt; block.binary_index_len(), 300);
     assert_eq!(&rt; block.hash_bucket_count(), None);
     assert!(&rt; block.get_hash_index_reader().is_none());
-    for entry in list.iter() {
-        let key = entry.key().user_key().as_slice();
-        check_read(
-            &rt,
-            alloc,
-            &block,
-            key,
-            entry.key().seqno().saturating_add(1),
-            Some(entry),
-        )?;
-        check_read(&rt, alloc, &block, key, entry.key().seqno(), None)?;
-    }
-    check_read(&rt, alloc, &block, b"\x02", 9, None)?;
-    check_read(&rt, alloc, &block, b"", 9, None)?;
+    check_entries(&rt, alloc, &block, &list);
+    check_read(&rt, alloc, &block, b"\x02", 9, None);
+    check_read(&rt, alloc, &block, b"", 9, None);
     Ok(())
 }

@@ -1,5 +1,7 @@
 //! Seeks over the heads of a block, and moves to a head by its offset.
 ghost use Rattle.std.specs.Prelude.{◌≡◌, ◌*◌, ◌<◌, ◌≤◌, length, IfOk};
+ghost use Rattle.sst_block_core.specs.Body.{place_offset};
+ghost use Rattle.sst_block_core.specs.Entries.{entries};
 ghost use Rattle.sst_block_core.specs.Window.{whole};
 
 use crate::hash_indexes::{NO_BUCKETS, block_of, byte_keys, push};
@@ -76,6 +78,19 @@ fn five_keys(rt: &impl Abort, alloc: Global, interval: u8) -> Result<DataBlock<B
     block_of::<ByteSum>(rt, alloc, &list, interval, NO_BUCKETS)
 }
 
+/// A seek for the keys below a bound, whether in the second form, and the keys left.
+#[derive(Clone, Copy)]
+struct Seek(&'static [u8], bool, &'static [u8]);
+
+/// Seeks one after the other, and checks the answers and the keys left.
+fn check_seeks(rt: &impl Abort, decoder: &mut Keys<'_>, payload: &[u8], seeks: &[Seek])
+    requires payload { decoder.old.payload ≡ payload.now }
+{
+    for seek in seeks {
+        check_seek(rt, decoder, payload, seek.0, seek.1, seek.2);
+    }
+}
+
 /// At interval 2 the heads are a, c and e. The first form picks the last head that the predicate
 /// holds of, the second the first that it doesn't hold of. Each seek but the first begins at the
 /// end.
@@ -84,16 +99,19 @@ fn seeks_pick_a_head(rt: HostRuntime) -> std::result::Result<(), Fail> {
     let block = five_keys(&rt, rt.alloc(), 2)?;
     let payload = block.as_slice().as_slice();
     let mut decoder = decoder_of(&block);
-    check_seek(&rt, &mut decoder, payload, b"c", false, b"abcde");
-    check_seek(&rt, &mut decoder, payload, b"c", true, b"cde");
-    check_seek(&rt, &mut decoder, payload, b"z", false, b"e");
-    check_seek(&rt, &mut decoder, payload, b"z", true, b"e");
-    check_seek(&rt, &mut decoder, payload, b"", false, b"abcde");
-    check_seek(&rt, &mut decoder, payload, b"", true, b"abcde");
-    check_seek(&rt, &mut decoder, payload, b"b", false, b"abcde");
-    check_seek(&rt, &mut decoder, payload, b"b", true, b"cde");
-    check_seek(&rt, &mut decoder, payload, b"d", false, b"cde");
-    check_seek(&rt, &mut decoder, payload, b"d", true, b"e");
+    let seeks = [
+        Seek(b"c", false, b"abcde"),
+        Seek(b"c", true, b"cde"),
+        Seek(b"z", false, b"e"),
+        Seek(b"z", true, b"e"),
+        Seek(b"", false, b"abcde"),
+        Seek(b"", true, b"abcde"),
+        Seek(b"b", false, b"abcde"),
+        Seek(b"b", true, b"cde"),
+        Seek(b"d", false, b"cde"),
+        Seek(b"d", true, b"e"),
+    ];
+    check_seeks(&rt, &mut decoder, payload, seeks.as_slice());
     Ok(())
 }
 
@@ -103,13 +121,16 @@ fn every_key_is_a_head_at_interval_1(rt: HostRuntime) -> std::result::Result<(),
     let block = five_keys(&rt, rt.alloc(), 1)?;
     let payload = block.as_slice().as_slice();
     let mut decoder = decoder_of(&block);
-    check_seek(&rt, &mut decoder, payload, b"z", true, b"");
-    check_seek(&rt, &mut decoder, payload, b"z", false, b"e");
-    check_seek(&rt, &mut decoder, payload, b"e", true, b"e");
-    check_seek(&rt, &mut decoder, payload, b"d", false, b"cde");
-    check_seek(&rt, &mut decoder, payload, b"d", true, b"de");
-    check_seek(&rt, &mut decoder, payload, b"", false, b"abcde");
-    check_seek(&rt, &mut decoder, payload, b"", true, b"abcde");
+    let seeks = [
+        Seek(b"z", true, b""),
+        Seek(b"z", false, b"e"),
+        Seek(b"e", true, b"e"),
+        Seek(b"d", false, b"cde"),
+        Seek(b"d", true, b"de"),
+        Seek(b"", false, b"abcde"),
+        Seek(b"", true, b"abcde"),
+    ];
+    check_seeks(&rt, &mut decoder, payload, seeks.as_slice());
     Ok(())
 }
 
@@ -122,22 +143,38 @@ fn skip(rt: &impl Abort, decoder: &mut Keys<'_>)
     assert!(rt; decoder.next().is_some());
 }
 
-/// A seek forgets where the decoder was: behind some entries, or at a head that was sought.
+/// A seek forgets that the decoder was behind its first entry.
 #[test]
-fn seeks_from_within_the_entries(rt: HostRuntime) -> std::result::Result<(), Fail> {
+fn a_seek_from_behind_an_entry(rt: HostRuntime) -> std::result::Result<(), Fail> {
     let block = five_keys(&rt, rt.alloc(), 2)?;
     let payload = block.as_slice().as_slice();
     let mut decoder = decoder_of(&block);
     skip(&rt, &mut decoder);
     check_seek(&rt, &mut decoder, payload, b"c", false, b"abcde");
-    let mut behind_c = decoder_of(&block);
-    skip(&rt, &mut behind_c);
-    skip(&rt, &mut behind_c);
-    skip(&rt, &mut behind_c);
-    check_seek(&rt, &mut behind_c, payload, b"c", true, b"cde");
-    let mut sought = decoder_of(&block);
-    assert!(&rt; sought.seek(&|_: &[u8], _: u64| true, false));
-    check_seek(&rt, &mut sought, payload, b"", true, b"abcde");
+    Ok(())
+}
+
+/// A seek forgets that the decoder was within the second interval.
+#[test]
+fn a_seek_from_within_an_interval(rt: HostRuntime) -> std::result::Result<(), Fail> {
+    let block = five_keys(&rt, rt.alloc(), 2)?;
+    let payload = block.as_slice().as_slice();
+    let mut decoder = decoder_of(&block);
+    skip(&rt, &mut decoder);
+    skip(&rt, &mut decoder);
+    skip(&rt, &mut decoder);
+    check_seek(&rt, &mut decoder, payload, b"c", true, b"cde");
+    Ok(())
+}
+
+/// A seek forgets where an earlier one moved to.
+#[test]
+fn a_seek_from_a_head(rt: HostRuntime) -> std::result::Result<(), Fail> {
+    let block = five_keys(&rt, rt.alloc(), 2)?;
+    let payload = block.as_slice().as_slice();
+    let mut decoder = decoder_of(&block);
+    assert!(&rt; decoder.seek(&|_: &[u8], _: u64| true, false));
+    check_seek(&rt, &mut decoder, payload, b"", true, b"abcde");
     Ok(())
 }
 
@@ -154,21 +191,50 @@ fn a_seek_to_no_head_leaves_the_others(rt: HostRuntime) -> std::result::Result<(
     Ok(())
 }
 
-/// A predicate sees the sequence numbers of the heads too.
-#[test]
-fn seeks_by_sequence_number(rt: HostRuntime) -> std::result::Result<(), Fail> {
-    let alloc = rt.alloc();
+/// Five versions of one key.
+fn five_versions(alloc: Global) -> Result<Vec<InternalValue>> {
     let mut list = Vec::new(alloc);
     for seqno in 1..6 {
         push(&mut list, b"k", b"", 6 - seqno, ValueType::Value)?;
     }
-    let block = block_of::<ByteSum>(&rt, alloc, &list, 2, NO_BUCKETS)?;
+    Ok(list)
+}
+
+/// Takes an entry from the front, and checks its sequence number.
+fn check_next(rt: &impl Abort, decoder: &mut Keys<'_>, seqno: u64) {
+    match decoder.next() {
+        Some(item) => assert_eq!(rt; item.seqno(), seqno),
+        None => assert!(rt; false, "no entry is left"),
+    }
+}
+
+/// A predicate sees the sequence numbers of the heads too.
+#[test]
+fn seeks_by_sequence_number(rt: HostRuntime) -> std::result::Result<(), Fail> {
+    let list = five_versions(rt.alloc())?;
+    let block = block_of::<ByteSum>(&rt, rt.alloc(), &list, 2, NO_BUCKETS)?;
     let mut decoder = decoder_of(&block);
     assert!(&rt; decoder.seek(&|_: &[u8], seqno: u64| seqno > 2, false));
-    assert_eq!(&rt; decoder.next().map(|item| item.seqno()), Some(3));
+    check_next(&rt, &mut decoder, 3);
     assert!(&rt; decoder.seek(&|_: &[u8], seqno: u64| seqno > 3, true));
-    assert_eq!(&rt; decoder.next().map(|item| item.seqno()), Some(3));
+    check_next(&rt, &mut decoder, 3);
     Ok(())
+}
+
+/// The offset of a head of a block at interval 2.
+fn offset_of(
+    rt: &impl Abort,
+    alloc: Global,
+    block: &DataBlock<ByteSum>,
+    head: usize,
+) -> Result<usize>
+    requires head { head ≤ 100 }
+    ensures inside { IfOk result (λ _. head * 2 < length block.now.items) }
+    ensures offset { IfOk result (λ offset. offset ≡ place_offset entries 2 block.now.items (head * 2)) }
+{
+    let list = block.to_vec(alloc)?;
+    assert!(rt; head * 2 < list.len());
+    Ok(plain_offset(alloc, &list, 2, head * 2)? as usize)
 }
 
 /// Moves to a head, whose offset is this one, and checks the keys left.
@@ -178,28 +244,25 @@ fn check_move(
     decoder: &mut Keys<'_>,
     block: &DataBlock<ByteSum>,
     head: usize,
-    offset: u64,
+    offset: usize,
     left: &[u8],
 ) -> Result<()>
     requires payload { decoder.old.payload ≡ block.now.payload }
-    requires interval { decoder.old.interval ≡ block.now.interval }
+    requires interval { decoder.old.interval ≡ 2 }
     requires list { decoder.old.window.list ≡ block.now.items }
-    requires two { block.now.interval ≡ 2 }
     requires head { head ≤ 100 }
     ensures payload { decoder.new.payload ≡ block.now.payload }
-    ensures interval { decoder.new.interval ≡ block.now.interval }
+    ensures interval { decoder.new.interval ≡ 2 }
     ensures list { decoder.new.window.list ≡ block.now.items }
 {
-    let list = block.to_vec(alloc)?;
-    assert!(rt; head * 2 < list.len());
-    let found = plain_offset(alloc, &list, 2, head * 2)?;
+    let found = offset_of(rt, alloc, block, head)?;
     assert_eq!(rt; found, offset);
-    decoder.set_lo_offset(found as usize);
+    decoder.set_lo_offset(found);
     check_left(rt, decoder, block.as_slice().as_slice(), left);
     Ok(())
 }
 
-/// The heads a, c and e are at the offsets 0, 11 and 22, and a decoder moves to each at any moment.
+/// The heads a, c and e are at the offsets 0, 11 and 22, and a decoder moves to each.
 #[test]
 fn offsets_of_heads_are_moved_to(rt: HostRuntime) -> std::result::Result<(), Fail> {
     let block = five_keys(&rt, rt.alloc(), 2)?;
@@ -207,11 +270,25 @@ fn offsets_of_heads_are_moved_to(rt: HostRuntime) -> std::result::Result<(), Fai
     check_move(&rt, rt.alloc(), &mut decoder, &block, 1, 11, b"cde")?;
     check_move(&rt, rt.alloc(), &mut decoder, &block, 2, 22, b"e")?;
     check_move(&rt, rt.alloc(), &mut decoder, &block, 0, 0, b"abcde")?;
-    let mut behind_a = decoder_of(&block);
-    skip(&rt, &mut behind_a);
-    check_move(&rt, rt.alloc(), &mut behind_a, &block, 0, 0, b"abcde")?;
-    let mut sought = decoder_of(&block);
-    assert!(&rt; sought.seek(&|_: &[u8], _: u64| true, false));
-    check_move(&rt, rt.alloc(), &mut sought, &block, 1, 11, b"cde")?;
+    Ok(())
+}
+
+/// A decoder behind its first entry moves to a head.
+#[test]
+fn an_offset_is_moved_to_behind_an_entry(rt: HostRuntime) -> std::result::Result<(), Fail> {
+    let block = five_keys(&rt, rt.alloc(), 2)?;
+    let mut decoder = decoder_of(&block);
+    skip(&rt, &mut decoder);
+    check_move(&rt, rt.alloc(), &mut decoder, &block, 0, 0, b"abcde")?;
+    Ok(())
+}
+
+/// A decoder behind a seek moves to a head.
+#[test]
+fn an_offset_is_moved_to_behind_a_seek(rt: HostRuntime) -> std::result::Result<(), Fail> {
+    let block = five_keys(&rt, rt.alloc(), 2)?;
+    let mut decoder = decoder_of(&block);
+    assert!(&rt; decoder.seek(&|_: &[u8], _: u64| true, false));
+    check_move(&rt, rt.alloc(), &mut decoder, &block, 1, 11, b"cde")?;
     Ok(())
 }

@@ -5,6 +5,7 @@
 //! sources, and then only the lines written here are looked at. So `.ci/run` runs `rt try --test`
 //! first and gives it each file, as
 //! `--data table/block/bound.rt=../sst_block_core/src/table/block/bound.rt`.
+use std::process::Abort;
 use std::rt::Files;
 use std::test::Fail;
 use std::{fs, io};
@@ -86,7 +87,7 @@ fn direct_reads(text: &str) -> usize {
     found
 }
 
-/// Lines of code that read bytes are caught; comments, contracts and ghost lines are not.
+/// Lines of code that read bytes are caught.
 #[test]
 fn direct_reads_are_seen(rt: HostRuntime) {
     for line in [
@@ -99,6 +100,11 @@ fn direct_reads_are_seen(rt: HostRuntime) {
     ] {
         assert!(rt; direct_reads(line) > 0, "{line}");
     }
+}
+
+/// Comments, contracts and ghost lines are no direct reads.
+#[test]
+fn other_lines_are_not_seen(rt: HostRuntime) {
     for line in [
         "// let b = payload[at];",
         "    /// Decodes `Item::read_head`.",
@@ -129,28 +135,55 @@ fn source<R: Files + AllocGlobal>(rt: &R, folder: &str, name: &str) -> io::Resul
     fs::read_to_string(rt, path.as_str())
 }
 
-/// No source names a direct read, and the one form reader is made where intervals are opened.
+/// Checks how many lines of code of a text have each word.
+fn check_counts(rt: &impl Abort, text: &str, words: &[(&str, usize)]) {
+    for (word, wanted) in words {
+        assert_eq!(rt; count(text, word), *wanted, "{word}");
+    }
+}
+
+/// Checks that no line of code of a text has one of these words.
+fn check_none(rt: &impl Abort, text: &str, words: &[&str]) {
+    for word in words {
+        assert_eq!(rt; count(text, word), 0, "{word}");
+    }
+}
+
+/// Returns how many lines of code of all the readers have a word.
+fn count_all<R: Files + AllocGlobal>(rt: &R, folder: &str, word: &str) -> io::Result<usize> {
+    let mut found = 0usize;
+    for name in READERS {
+        let text = source(rt, folder, name)?;
+        found = found.saturating_add(count(text.as_str(), word));
+    }
+    Ok(found)
+}
+
+/// No source names a direct read.
 #[test]
 fn readers_read_by_the_form_reader_alone(rt: HostRuntime) -> std::result::Result<(), Fail> {
     let Some(folder) = folder(&rt)? else {
         return Ok(());
     };
-    let mut made = 0usize;
-    let mut payloads = 0usize;
     for name in READERS {
         let text = source(&rt, folder, name)?;
-        for word in DIRECT {
-            assert_eq!(&rt; count(text.as_str(), word), 0, "{name}: {word}");
-        }
-        made = made.saturating_add(count(text.as_str(), "FormReader::new"));
-        payloads = payloads.saturating_add(count(text.as_str(), ".data()"));
-        assert_eq!(&rt; count(text.as_str(), "FormReader {"), 0, "{name}");
+        check_none(&rt, text.as_str(), DIRECT.as_slice());
+        check_none(&rt, text.as_str(), ["FormReader {"].as_slice());
     }
+    Ok(())
+}
+
+/// The one form reader is made where intervals are opened.
+#[test]
+fn one_form_reader_is_made(rt: HostRuntime) -> std::result::Result<(), Fail> {
+    let Some(folder) = folder(&rt)? else {
+        return Ok(());
+    };
+    assert_eq!(&rt; count_all(&rt, folder, "FormReader::new")?, 1);
+    assert_eq!(&rt; count_all(&rt, folder, ".data()")?, 4);
     let intervals = source(&rt, folder, "block/intervals.rt")?;
-    assert_eq!(&rt; made, 1);
-    assert_eq!(&rt; count(intervals.as_str(), "FormReader::new"), 1);
-    assert_eq!(&rt; count(intervals.as_str(), ".data()"), 1);
-    assert_eq!(&rt; payloads, 4);
+    let wanted = [("FormReader::new", 1), (".data()", 1)];
+    check_counts(&rt, intervals.as_str(), wanted.as_slice());
     Ok(())
 }
 
@@ -161,12 +194,14 @@ fn the_form_reader_keeps_its_payload(rt: HostRuntime) -> std::result::Result<(),
         return Ok(());
     };
     let reader = source(&rt, folder, "block/form_reader.rt")?;
-    let text = reader.as_str();
-    assert_eq!(&rt; count(text, "    payload: &'a [u8],"), 1);
-    assert_eq!(&rt; count(text, "fn payload"), 0);
-    assert_eq!(&rt; count(text, "pub payload"), 0);
-    assert_eq!(&rt; count(text, ") payload"), 0);
-    assert_eq!(&rt; count(text, "Steps::new"), 1);
+    let wanted = [
+        ("    payload: &'a [u8],", 1),
+        ("fn payload", 0),
+        ("pub payload", 0),
+        (") payload", 0),
+        ("Steps::new", 1),
+    ];
+    check_counts(&rt, reader.as_str(), wanted.as_slice());
     Ok(())
 }
 
@@ -177,15 +212,15 @@ fn a_point_read_walks_nothing(rt: HostRuntime) -> std::result::Result<(), Fail> 
         return Ok(());
     };
     let point_read = source(&rt, folder, "data_block/point_read.rt")?;
-    for word in [".iter()", "entries()", "Decoder", ".next()", ".next_back()"] {
-        assert_eq!(&rt; count(point_read.as_str(), word), 0, "{word}");
-    }
-    assert_eq!(&rt; count(point_read.as_str(), "self.intervals()"), 1);
-    let mut opened = 0usize;
-    for name in READERS {
-        let text = source(&rt, folder, name)?;
-        opened = opened.saturating_add(count(text.as_str(), "Intervals::new"));
-    }
-    assert_eq!(&rt; opened, 2);
+    let wanted = [
+        (".iter()", 0),
+        ("entries()", 0),
+        ("Decoder", 0),
+        (".next()", 0),
+        (".next_back()", 0),
+        ("self.intervals()", 1),
+    ];
+    check_counts(&rt, point_read.as_str(), wanted.as_slice());
+    assert_eq!(&rt; count_all(&rt, folder, "Intervals::new")?, 2);
     Ok(())
 }
