@@ -6,6 +6,7 @@ ghost use Rattle.sst_block_core.specs.ParsedEntry.{IsParsedEntry};
 use crate::blocks::walks;
 use crate::hash_indexes::{NO_BUCKETS, block_of, byte_keys, push};
 use crate::plain::plain_offset;
+use crate::random::{Random, key_of};
 use crate::windows::{Plain, Window};
 use sst_base::{InternalValue, Poly31, Result, Slice, ValueType};
 use sst_block_core::table::data_block::{Answer, Iter, Op, walk};
@@ -336,43 +337,6 @@ fn two_heads_from_both_ends(rt: HostRuntime) -> std::result::Result<(), Fail> {
     Ok(())
 }
 
-/// A generator of numbers without order, always the same.
-#[derive(Drop)]
-struct Random {
-    state: u64,
-}
-
-impl Random {
-    /// The next number.
-    fn next(&mut self) -> u64 {
-        self.state = self.state.wrapping_add(0x9e37_79b9_7f4a_7c15);
-        let z = (self.state ^ (self.state >> 30)).wrapping_mul(0xbf58_476d_1ce4_e5b9);
-        let z = (z ^ (z >> 27)).wrapping_mul(0x94d0_49bb_1331_11eb);
-        z ^ (z >> 31)
-    }
-
-    /// A number below a bound.
-    fn below(&mut self, bound: u64) -> u64
-        requires { 1 ≤ bound }
-        ensures { result < bound }
-    {
-        self.next() % bound
-    }
-}
-
-/// The key of a number. Keys rise with their numbers, and some are prefixes of others: the empty
-/// key, a, b, c, m, ma, mb, mc, mm, mma and so on.
-fn key_of(alloc: Global, number: u64) -> Result<Vec<u8>> {
-    let mut key = vec![in alloc; b'm'; (number / 4) as usize]?;
-    match number % 4 {
-        0 => {}
-        1 => key.push(b'a')?,
-        2 => key.push(b'b')?,
-        _ => key.push(b'c')?,
-    }
-    Ok(key)
-}
-
 /// Appends an entry of the key of a number: every fourth a tombstone, the others with values of up
 /// to three bytes.
 fn push_random(
@@ -485,7 +449,7 @@ fn random_runs(rt: &impl Abort, alloc: Global, random: &mut Random) -> Result<()
 /// Random operations over random lists answer as the plain window does.
 #[test]
 fn random_operations_answer_as_the_plain_window(rt: HostRuntime) -> std::result::Result<(), Fail> {
-    let mut random = Random { state: 1 };
+    let mut random = Random::new(1);
     for _ in 0..3 {
         random_runs(&rt, rt.alloc(), &mut random)?;
     }
@@ -526,7 +490,7 @@ fn comes_back_at_intervals(rt: &impl Abort, alloc: Global, list: &[InternalValue
 #[test]
 fn all_from_the_back_are_those_from_the_front(rt: HostRuntime) -> std::result::Result<(), Fail> {
     let alloc = rt.alloc();
-    let mut random = Random { state: 7 };
+    let mut random = Random::new(7);
     comes_back_at_intervals(&rt, alloc, &random_list(&rt, alloc, &mut random, 40)?)?;
     comes_back_at_intervals(&rt, alloc, &byte_keys(alloc, b'a', b'e')?)?;
     comes_back_at_intervals(&rt, alloc, &two_entries(alloc)?)?;

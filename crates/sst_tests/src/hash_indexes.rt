@@ -1,6 +1,7 @@
 //! Blocks with a hash index: worked bytes, and the greatest number of heads for which one is
 //! stored.
 ghost use Rattle.std.specs.Prelude.{◌≡◌, ◌≤◌, ◌<◌, ◌^◌, length, IfOk};
+ghost use Rattle.std.proofs.Common.{arith};
 
 use sst_base::table::block::{Block, BlockType, Header};
 use sst_base::{BlockHash, ByteSum, Checksum, HashRatio, InternalValue, Result, Slice, ValueType};
@@ -16,13 +17,37 @@ pub(crate) const ONE_EACH: HashRatio = HashRatio { num: 1, den: 1 };
 pub(crate) const NO_BUCKETS: HashRatio = HashRatio { num: 0, den: 1 };
 
 /// A hash by which all keys fall into one bucket.
+#[derive(Drop)]
 pub(crate) struct NoHash;
 
 impl BlockHash for NoHash {
     ghost hash64 = { λ _. 0 };
 
+    ghost hash128 = { λ _. 0 };
+
+    ghost has_taken = { λ _ _. Unit {0} };
+
+    ghost hash128_fits = { λ _. Prim.omega arith };
+
     fn hash64(bytes: &[u8]) -> u64 {
         let _ = bytes;
+        0
+    }
+
+    fn hash128(bytes: &[u8]) -> u128 {
+        let _ = bytes;
+        0
+    }
+
+    fn start() -> NoHash {
+        NoHash
+    }
+
+    fn update(&mut self, bytes: &[u8]) {
+        let _ = bytes;
+    }
+
+    fn digest128(&self) -> u128 {
         0
     }
 }

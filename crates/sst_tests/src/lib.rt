@@ -10,10 +10,14 @@ mod first_matches;
 #[cfg(test)]
 mod hash_indexes;
 #[cfg(test)]
+mod index_blocks;
+#[cfg(test)]
 mod indexes;
 pub mod plain;
 #[cfg(test)]
 mod point_reads;
+#[cfg(test)]
+mod random;
 #[cfg(test)]
 mod searches;
 #[cfg(test)]
