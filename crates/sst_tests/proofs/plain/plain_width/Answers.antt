@@ -1,6 +1,4 @@
-use Rattle.std.proofs.Common.{◌≡◌, ◌∙◌, ◌-◌, ◌*◌, ◌<◌, length, arith, ap, cond, leb, sym}
-use Rattle.sst_block_core.specs.Body.{place_offset}
-use Rattle.sst_block_core.specs.Entries.{entries}
+use Rattle.std.proofs.Common.{◌∙◌}
 use Rattle.sst_tests.proofs.PlainLaws.{narrow_by_last, wide_by_last}
 use Rattle.sst_tests.proofs.plain.plain_width.Goals as goal
 use Rattle.sst_tests.proofs.plain.plain_width.Goals.{then-offset-le65535, else-offset-le65535}
