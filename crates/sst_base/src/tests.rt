@@ -2,6 +2,9 @@
 // text. Two tests accept `Error::Memory` too: they are for runs in which allocations fail.
 ghost use Rattle.std.specs.Iterator.{YieldsFirst, YieldsLast, item_count};
 
+mod devices;
+mod frames;
+
 use crate::double_ended_peekable::{DoubleEndedPeekableExt, ListIterator};
 use crate::hash::{BlockHash, Poly31};
 use crate::{
