@@ -1,12 +1,12 @@
 -- The back of a window: its stack of places.
-use Rattle.std.proofs.Common.{◌≡◌, ◌≢◌, ℕ, zero, suc, ◌+◌, ◌-◌, ◌*◌, ◌/◌, ◌%◌, ◌<◌, ◌≤◌, ◌⊎◌, inl, inr, Bool, true, false, cond, eqb, List, [], ◌∷◌, ◌++◌, length, get_or, min, Option, Some, None, refl, sym, ap, subst, ◌∙◌, arith, add-one}
+use Rattle.std.proofs.Common.{◌≡◌, ℕ, ◌+◌, ◌-◌, ◌*◌, ◌/◌, ◌%◌, ◌<◌, ◌≤◌, inl, inr, Bool, true, false, eqb, List, [], ◌∷◌, ◌++◌, length, min, refl, sym, ap, subst, ◌∙◌, arith}
 use Rattle.std.proofs.Math.Nat.{zero-mod, mul-mod_left, add-mul-mod_self_right, mod-add-div', mod-eq_of_lt, lt-div-mul-add, div-mul-le_self}
-use Rattle.std.specs.Prelude.{slice_index, ◌||◌}
+use Rattle.std.specs.Prelude.{◌||◌}
 use Rattle.std.proofs.lemmas.Bool.{cases_lt}
 use Rattle.std.proofs.lemmas.Bool.Decides.{nat_tests}
 use Rattle.std.proofs.lemmas.List.{length_push, get_or_push, get_or_append_left}
 use Rattle.sst_block_core.specs.Kind.{Kind}
-use Rattle.sst_block_core.specs.Scan.{Listed, IsBehind, StandsBehind, Stands}
+use Rattle.sst_block_core.specs.Scan.{Listed, IsBehind, Stands}
 use Rattle.sst_block_core.specs.Backs.{first_of, StackStands, IsBack, back_cost}
 use Rattle.sst_block_core.specs.declared.table.block.place.Place.{Place}
 

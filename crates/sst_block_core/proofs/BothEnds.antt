@@ -1,15 +1,15 @@
 -- What steps from both ends give together.
-use Rattle.std.proofs.Common.{◌≡◌, ℕ, zero, suc, ◌+◌, ◌-◌, ◌<◌, ◌≤◌, ◌⊎◌, inl, inr, Bool, true, false, cond, ltb, List, [], ◌∷◌, ◌++◌, length, take, drop, get_or, map, Option, Some, None, refl, sym, ap, ◌∙◌, arith, append_assoc, length-drop}
+use Rattle.std.proofs.Common.{◌≡◌, ℕ, suc, ◌+◌, ◌-◌, ◌<◌, ◌≤◌, inl, inr, true, false, ltb, List, [], ◌∷◌, ◌++◌, length, take, drop, get_or, map, Option, Some, None, refl, sym, ap, ◌∙◌, arith, append_assoc, length-drop}
 use Rattle.std.specs.List.{slice_get}
 use Rattle.std.specs.Option.{option_to_list}
 use Rattle.std.proofs.lemmas.Bool.{cases_lt}
 use Rattle.std.proofs.lemmas.Bool.Decides.{nat_tests}
-use Rattle.std.proofs.lemmas.Option.{slice_get-get_or, slice_get_cases, slice_get_within, get_or_from_slice_get}
+use Rattle.std.proofs.lemmas.Option.{slice_get_cases, get_or_from_slice_get}
 use Rattle.std.proofs.lemmas.List.{drop_more, take_more, append-nil, get_or-drop}
 use Rattle.sst_base.specs.Entry.{Entry}
-use Rattle.sst_block_core.specs.Window.{Window, Answer, item, items_left, answers}
+use Rattle.sst_block_core.specs.Window.{Window, Answer, items_left, answers}
 use Rattle.sst_block_core.specs.Ops.{step_of}
-use Rattle.sst_block_core.specs.Walks.{AreSteps, window_after, taken, fronts, backs}
+use Rattle.sst_block_core.specs.Walks.{AreSteps, window_after, fronts, backs}
 use Rattle.sst_block_core.specs.declared.table.data_block.ops.Op.{Op}
 use Rattle.sst_block_core.specs.declared.table.data_block.ops.Op.TheVariants.{Next, NextBack, Seek, SeekUpper, SeekExclusive, SeekUpperExclusive}
 

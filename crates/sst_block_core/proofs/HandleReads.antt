@@ -1,12 +1,12 @@
 -- Forms of handles that are read or stand at an offset: their parts, one behind the other.
-use Rattle.std.proofs.Common.{◌≡◌, ℕ, ◌+◌, ◌-◌, ◌<◌, ◌≤◌, List, [], ◌∷◌, ◌++◌, length, take, drop, get_or, refl, sym, ap, ◌∙◌, inl, inr, Option, Some, None, true, cond, eqb, leb, arith, length-append}
+use Rattle.std.proofs.Common.{◌≡◌, ℕ, ◌+◌, ◌-◌, ◌<◌, ◌≤◌, List, [], ◌∷◌, ◌++◌, length, take, drop, get_or, refl, sym, ap, ◌∙◌, inl, inr, Some, None, true, eqb, arith, length-append}
 use Rattle.std.specs.Option.{IsSome}
-use Rattle.std.proofs.lemmas.List.{drop_all, drop_more, drop_at, length-take-le}
+use Rattle.std.proofs.lemmas.List.{drop_all, drop_more, length-take-le}
 use Rattle.std.proofs.lemmas.Bool.{cases_lt, eq-eqb, le-leb}
 use Rattle.std.proofs.lemmas.Option.{cond_some, same_Some}
 use Rattle.sst_base.specs.Bytes.{IsBytes}
 use Rattle.sst_base.specs.BytesLaws.{IsBytes-drop}
-use Rattle.sst_base.specs.Reading.{◌>>=◌, number_at, length_prefixed_at}
+use Rattle.sst_base.specs.Reading.{number_at, length_prefixed_at}
 use Rattle.sst_base.specs.ReadingLaws.{pair_parts}
 use Rattle.sst_base.specs.SharedPrefix.{shared_prefix_length}
 use Rattle.sst_base.specs.SharedPrefixLaws.{shared_prefix_inside}

@@ -1,12 +1,12 @@
 -- Where a predicate over heads turns.
-use Rattle.std.proofs.Common.{◌≡◌, ℕ, ◌+◌, ◌-◌, ◌*◌, ◌<◌, ◌≤◌, ◌⊎◌, inl, inr, Bool, true, false, List, length, refl, sym, ap, ◌∙◌, arith, Some}
+use Rattle.std.proofs.Common.{◌≡◌, ℕ, ◌-◌, ◌*◌, ◌<◌, ◌≤◌, inl, inr, Bool, true, false, List, length, sym, arith, Some}
 use Rattle.std.specs.Borrow.{Bor}
 use Rattle.std.specs.List.{slice_get}
 use Rattle.std.proofs.lemmas.Bool.{cases_lt, false≢true}
 use Rattle.std.proofs.lemmas.Nat.{mul-le}
 use Rattle.std.proofs.lemmas.Option.{slice_get_cases}
 use Rattle.sst_block_core.specs.Kind.{Kind}
-use Rattle.sst_block_core.specs.Intervals.{Answered, Answers, Splits}
+use Rattle.sst_block_core.specs.Intervals.{Answered, Splits}
 
 -- where the predicate is true and then false, the search stops at its point
 pub split_point : {X : Type 0} (kind : Kind X) (post : Bor (List ℕ) → ℕ → Bool → Type 0) (r : ℕ) (items : List X) (heads n : ℕ) → n ≤ heads

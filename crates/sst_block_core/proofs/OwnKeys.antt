@@ -1,5 +1,5 @@
 -- The own bytes of a key by its ranges.
-use Rattle.std.proofs.Common.{◌≡◌, ℕ, ◌-◌, ◌≤◌, List, ◌++◌, length, take, drop, refl, sym, ap, ◌∙◌, arith, Option, Some, None, length-drop}
+use Rattle.std.proofs.Common.{◌≡◌, ℕ, ◌-◌, List, ◌++◌, length, drop, refl, sym, arith, Option, Some, None, length-drop}
 use Rattle.std.proofs.lemmas.List.{drop_at, length-take-le}
 use Rattle.sst_base.specs.declared.table.util.SliceIndexes.{SliceIndexes}
 use Rattle.sst_block_core.specs.Found.{IsRange, IsOptionalRange, range_of, optional_range, range_len}

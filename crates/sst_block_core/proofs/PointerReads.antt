@@ -2,7 +2,7 @@
 use Rattle.std.proofs.Common.{◌≡◌, ℕ, ◌+◌, ◌-◌, ◌*◌, ◌/◌, ◌<◌, ◌≤◌, List, length, drop, get_or, ap, ◌∙◌, arith}
 use Rattle.std.proofs.Math.Nat.{div-mul-le_self}
 use Rattle.byteorder.specs.Endian.{little_number}
-use Rattle.sst_block_core.specs.Pointers.{each, pointer_at, pointers_in}
+use Rattle.sst_block_core.specs.Pointers.{pointer_at, pointers_in}
 use Rattle.sst_block_core.proofs.Tables.{length-each, get_or-each}
 
 -- as many pointers as the bytes have room for

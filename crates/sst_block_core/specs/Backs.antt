@@ -6,7 +6,6 @@ use Rattle.sst_block_core.specs.Kind.{Kind}
 use Rattle.sst_block_core.specs.Pointers.{head_count}
 use Rattle.sst_block_core.specs.Scan.{Listed, Scan, Stands}
 use Rattle.sst_block_core.specs.Window.{Window, Answer, item, found, picked_head, next_back}
-use Rattle.sst_block_core.specs.declared.table.block.place.Place.{Place}
 
 -- the index of the head of the interval in which the item before an end is
 unfoldable pub first_of : ℕ → ℕ → ℕ

@@ -1,5 +1,5 @@
 -- What contracts see of the restart intervals of a block: the heads by the binary index, other items from their head on.
-use Rattle.std.specs.Prelude.{◌≡◌, ℕ, ◌+◌, ◌-◌, ◌*◌, ◌/◌, ◌%◌, ◌<◌, ◌≤◌, ◌^◌, if◌then◌else◌, zero, suc, Bool, true, false, List, length, slice_index, slice_get, Option, Some, min}
+use Rattle.std.specs.Prelude.{◌≡◌, ℕ, ◌+◌, ◌*◌, ◌/◌, ◌%◌, ◌<◌, ◌≤◌, ◌^◌, if◌then◌else◌, zero, suc, Bool, true, false, List, length, slice_index, slice_get, Option, Some}
 use Rattle.std.specs.Borrow.{Bor}
 use Rattle.std.specs.Ordering.{nat_cmp, is_eq}
 use Rattle.std.specs.Cmp.Lexicographic.{slice_cmp}
@@ -8,7 +8,7 @@ use Rattle.sst_base.specs.SharedPrefix.{shared_prefix_length}
 use Rattle.sst_block_core.specs.Kind.{Kind}
 use Rattle.sst_block_core.specs.Body.{place_offset}
 use Rattle.sst_block_core.specs.Pointers.{head_count}
-use Rattle.sst_block_core.specs.Scan.{Listed, Scan, StandsBehind, Stands}
+use Rattle.sst_block_core.specs.Scan.{Listed, StandsBehind, Stands}
 use Rattle.sst_block_core.specs.Window.{Window, Answer, found, passes, count_passed, is_past_all, picked_head}
 use Rattle.sst_block_core.specs.declared.table.block.place.Place.{Place}
 

@@ -1,5 +1,5 @@
 -- Laws of lists by index.
-use Rattle.std.proofs.Common.{◌≡◌, ℕ, ◌+◌, zero, suc, List, [], ◌∷◌, ◌++◌, ap, ◌∙◌, arith}
+use Rattle.std.proofs.Common.{◌≡◌, ℕ, ◌+◌, zero, suc, [], ◌∷◌, ◌++◌, ap, ◌∙◌, arith}
 use Rattle.sst_block_core.specs.Pointers.{each}
 
 -- one element more

@@ -1,5 +1,4 @@
 use Rattle.std.proofs.Common.{◌≡◌, ◌≤◌, ◌^◌, Result, Ok, Err, OnOk, IfErr, None, length, subst, arith}
-use Rattle.sst_base.specs.declared.error.Error.{Error}
 use Rattle.sst_block_core.specs.Encoders.{IsRefusal}
 use Rattle.sst_block_core.proofs.IndexBlocks.{no_buckets_hashed, written_block}
 use Rattle.sst_block_core.proofs.table.index_block.IndexBlock.encode_into_with.Goals as goal

@@ -1,4 +1,4 @@
-use Rattle.std.proofs.Common.{◌≡◌, ◌∙◌, ◌+◌, ◌*◌, length, min, true, ap, sym, subst}
+use Rattle.std.proofs.Common.{◌∙◌, ◌+◌, ◌*◌, length, min, true, ap, sym, subst}
 use Rattle.sst_block_core.specs.Scan.{Listed, Stands}
 use Rattle.sst_block_core.specs.Window.{picked_head, found}
 use Rattle.sst_block_core.proofs.Backs.{is_back_interval}

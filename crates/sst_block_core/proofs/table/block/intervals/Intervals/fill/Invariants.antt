@@ -1,4 +1,4 @@
-use Rattle.std.proofs.Common.{◌-◌, ◌≡◌, ℕ, ◌+◌, ◌*◌, ◌<◌, ◌≤◌, length}
+use Rattle.std.proofs.Common.{◌-◌, ◌≡◌, ◌+◌, ◌*◌, ◌<◌, ◌≤◌, length}
 use Rattle.sst_block_core.specs.Scan.{Stands}
 use Rattle.sst_block_core.specs.Backs.{StackStands}
 use Rattle.sst_block_core.proofs.table.block.intervals.Intervals.fill.Given as goal

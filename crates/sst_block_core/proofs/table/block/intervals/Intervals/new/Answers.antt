@@ -1,4 +1,4 @@
-use Rattle.std.proofs.Common.{◌∙◌, ap, sym}
+use Rattle.std.proofs.Common.{◌∙◌, ap}
 use Rattle.sst_block_core.specs.Trailer.{trailer_in}
 use Rattle.sst_block_core.proofs.Openings.{opened}
 use Rattle.sst_block_core.proofs.HeadPlaces.{index_inside, indexed_along}

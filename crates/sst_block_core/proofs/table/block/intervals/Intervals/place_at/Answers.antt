@@ -1,4 +1,4 @@
-use Rattle.std.proofs.Common.{◌≡◌, ℕ, ◌+◌, ◌-◌, ◌*◌, ◌/◌, ◌<◌, ◌≤◌, length, sym, ap, ◌∙◌, arith}
+use Rattle.std.proofs.Common.{◌≡◌, ◌+◌, ◌-◌, ◌*◌, ◌/◌, ◌<◌, ◌≤◌, length, arith}
 use Rattle.sst_block_core.specs.Body.{place_offset}
 use Rattle.sst_block_core.proofs.HeadAnswers.{times_upto}
 use Rattle.sst_block_core.proofs.Offsets.{head_upto, head_behind}

@@ -1,4 +1,4 @@
-use Rattle.std.proofs.Common.{◌≡◌, ◌∙◌, ap, sym, arith, slice_get}
+use Rattle.std.proofs.Common.{◌∙◌, ap, sym, arith, slice_get}
 use Rattle.std.proofs.lemmas.Option.{same_Some}
 use Rattle.sst_block_core.proofs.PlaceReads.{head_item, head_is_there}
 use Rattle.sst_block_core.proofs.table.block.intervals.Intervals.read_head.Goals as goal

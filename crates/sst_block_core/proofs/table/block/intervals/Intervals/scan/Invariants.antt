@@ -1,4 +1,4 @@
-use Rattle.std.proofs.Common.{◌-◌, ◌≡◌, ℕ, ◌+◌, ◌≤◌}
+use Rattle.std.proofs.Common.{◌-◌, ◌≡◌, ◌+◌, ◌≤◌}
 use Rattle.sst_block_core.specs.Intervals.{IsEntered}
 use Rattle.sst_block_core.proofs.table.block.intervals.Intervals.scan.Given as goal
 

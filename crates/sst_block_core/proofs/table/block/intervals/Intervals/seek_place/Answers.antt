@@ -1,4 +1,3 @@
-use Rattle.std.proofs.Common.{◌≡◌, ◌-◌, ◌+◌, ◌*◌, min, length}
 use Rattle.sst_block_core.proofs.Cuts.{count_inside}
 use Rattle.sst_block_core.proofs.Scans.{stop_place}
 use Rattle.sst_block_core.proofs.table.block.intervals.Intervals.seek_place.Goals as goal

@@ -1,4 +1,4 @@
-use Rattle.std.proofs.Common.{◌≡◌, ◌∙◌, ap, sym, arith}
+use Rattle.std.proofs.Common.{◌∙◌}
 use Rattle.sst_block_core.proofs.PlaceReads.{head_is_there, took_head}
 use Rattle.sst_block_core.proofs.table.block.intervals.Intervals.take_head.Goals as goal
 

@@ -1,4 +1,3 @@
-use Rattle.std.proofs.Common.{◌≡◌, ◌∙◌, ap, sym, arith}
 use Rattle.sst_block_core.proofs.PlaceReads.{rest_is_there, took_rest, took_behind}
 use Rattle.sst_block_core.proofs.table.block.intervals.Intervals.take_rest.Goals as goal
 

@@ -1,7 +1,7 @@
-use Rattle.std.proofs.Common.{◌≡◌, ◌∙◌, ◌++◌, ℕ, List, drop, sym, ap, subst, Some}
+use Rattle.std.proofs.Common.{◌≡◌, ◌∙◌, ◌++◌, drop, sym, ap, subst, Some}
 use Rattle.sst_base.specs.SharedPrefix.{shared_prefix_length}
 use Rattle.sst_base.specs.declared.table.util.SliceIndexes.{SliceIndexes}
-use Rattle.sst_block_core.specs.Handles.{Handle, handle_with, truncated_at}
+use Rattle.sst_block_core.specs.Handles.{handle_with, truncated_at}
 use Rattle.sst_block_core.specs.Found.{range_len, range_of}
 use Rattle.sst_block_core.specs.ParsedHandle.{handle_of, front_by}
 use Rattle.sst_block_core.specs.declared.table.index_block.parsed_item.IndexBlockParsedItem.{IndexBlockParsedItem}

@@ -1,4 +1,4 @@
-use Rattle.std.proofs.Common.{◌≡◌, ◌++◌, ◌∙◌, drop, sym, ap, subst, arith}
+use Rattle.std.proofs.Common.{◌∙◌, drop, sym, ap, subst, arith}
 use Rattle.sst_block_core.specs.Handles.{IsHandle, truncated_at}
 use Rattle.sst_block_core.specs.Found.{range_len}
 use Rattle.sst_block_core.specs.ParsedHandle.{handle_of, front_by, IsParsedHandle}
