@@ -73,7 +73,8 @@ fn check_bytes(
 {
     let block = block_of(rt, alloc, &three_handles(alloc)?, interval)?;
     let bytes = block.as_slice().as_slice();
-    assert_eq!(rt; bytes.len(), body.len() + 1 + pointers.len() + 31);
+    assert!(rt; body.len() <= 100 && pointers.len() <= 100);
+    assert_eq!(rt; bytes.len(), body.len() + pointers.len() + 32);
     let (items, rest) = bytes.split_at(body.len());
     assert_eq!(rt; items, body);
     let (marker, rest) = rest.split_at(1);
@@ -496,11 +497,11 @@ fn seek_and_next(iter: &mut Iter<'_>, needle: &[u8], seqno: u64) -> bool
     iter.seek(needle, seqno) && iter.next().is_some()
 }
 
-/// A seek over 4096 heads decodes no handle and looks at no more than 13 heads.
-fn seek_counts_thirteen(iter: &mut Iter<'_>, needle: &[u8], seqno: u64) -> bool
-    requires count { length iter.old.window.list ≡ 4096 }
+/// A seek over 40 heads decodes no handle and looks at no more than 6 heads.
+fn seek_counts_six_of_forty(iter: &mut Iter<'_>, needle: &[u8], seqno: u64) -> bool
+    requires count { length iter.old.window.list ≡ 40 }
     requires interval { iter.old.interval ≡ 1 }
-    ensures heads { iter.new.steps.heads ≤ iter.old.steps.heads + 13 }
+    ensures heads { iter.new.steps.heads ≤ iter.old.steps.heads + 6 }
     ensures entries { iter.new.steps.entries ≡ iter.old.steps.entries }
 {
     iter.seek(needle, seqno)
