@@ -6,6 +6,7 @@
 #include <memory>
 #include <string>
 
+#include "filters.h"
 #include "leveldb_table.h"
 #include "inputs.h"
 #include "library.h"
@@ -173,6 +174,25 @@ void KeyMeasures(size_t key_len, const std::function<void(const Measure&)>& take
         [&](uint64_t n) { return sst_hash(bytes, keys.size(), key_len, n); }, nullptr});
 }
 
+void FilterMeasures(size_t key_len, size_t count, const std::function<void(const Measure&)>& take) {
+  const std::string name = "k" + std::to_string(key_len) + ".n" + std::to_string(count);
+  const Entries entries(count, key_len, 0);
+  const LibraryFilter ours(entries.Keys(), key_len);
+  const LevelFilter other(entries.Keys(), key_len);
+  Agree(name + " filter_build", ours.payload() == PlainFilter(entries.Keys(), key_len, kBitsPerKey));
+  Agree(name + " filter_hit", ours.Contains(entries.hits, 1) == kNeedles);
+  Agree(name + " filter_hit", other.Contains(entries.hits, 1) == kNeedles);
+  Agree(name + " filter_miss", ours.Contains(entries.misses, 1) ==
+                                   PlainContained(ours.payload(), entries.misses, key_len));
+  take({name + " filter_build", count, [&](uint64_t n) { return ours.Build(n); },
+        [&](uint64_t n) { return other.Build(n); }});
+  take({name + " filter_hit", kNeedles, [&](uint64_t n) { return ours.Contains(entries.hits, n); },
+        [&](uint64_t n) { return other.Contains(entries.hits, n); }});
+  take({name + " filter_miss", kNeedles,
+        [&](uint64_t n) { return ours.Contains(entries.misses, n); },
+        [&](uint64_t n) { return other.Contains(entries.misses, n); }});
+}
+
 void VarintMeasures(Lengths lengths, const std::string& name,
                     const std::function<void(const Measure&)>& take) {
   const size_t count = 1000;
@@ -190,6 +210,8 @@ void ForEachMeasure(Form form, const std::function<void(const Measure&)>& take) 
     BlockMeasures(shape, take);
   }
   for (size_t key_len : {16, 32}) KeyMeasures(key_len, take);
+  for (size_t key_len : {16, 32})
+    for (size_t count : {1000, 100000}) FilterMeasures(key_len, count, take);
   VarintMeasures(Lengths::kOne, "one-byte", take);
   VarintMeasures(Lengths::kThree, "three-byte", take);
   VarintMeasures(Lengths::kMixed, "mixed", take);

@@ -10,7 +10,8 @@ namespace bench {
 
 enum class Form { kQuick, kFull };
 
-// Makes each group of measures in turn, of one block or of keys and numbers, and hands each of its measures on.
+// Makes each group of measures in turn, of one block, of keys and numbers, or of a filter, and hands each of its
+// measures on.
 // Ends the process with a message where answers differ.
 void ForEachMeasure(Form form, const std::function<void(const Measure&)>& take);
 

@@ -39,6 +39,37 @@ class Cursor {
   bool failed_ = false;
 };
 
+// The hash of the key at an offset.
+uint64_t HashOf(const std::string& keys, size_t at, size_t key_len) {
+  uint64_t hash = 0;
+  for (size_t i = 0; i < key_len; i++) hash = hash * 31 + static_cast<unsigned char>(keys[at + i]);
+  return hash;
+}
+
+// The probes of a hash: k bits of m.
+std::vector<uint64_t> ProbesOf(uint64_t hash, uint64_t m, uint64_t k) {
+  std::vector<uint64_t> probes;
+  uint64_t sum = 0, factorial = 1;
+  for (uint64_t i = 0; i < k; i++) {
+    probes.push_back((hash + (hash >> 32) * 0x517cc1b727220a95u * sum) % m);
+    sum += factorial;
+    factorial *= i + 1;
+  }
+  return probes;
+}
+
+std::string NumberBytes(uint64_t number) {
+  std::string bytes;
+  for (int i = 0; i < 8; i++) bytes += char(number >> (8 * i));
+  return bytes;
+}
+
+uint64_t NumberAt(const std::string& bytes, size_t at) {
+  uint64_t number = 0;
+  for (int i = 7; i >= 0; i--) number = number * 256 + static_cast<unsigned char>(bytes[at + i]);
+  return number;
+}
+
 // The number of items, the last four bytes of a block.
 size_t ItemCount(const std::string& payload) {
   size_t count = 0;
@@ -103,9 +134,7 @@ uint64_t PlainShared(const std::string& keys, size_t key_len) {
 uint64_t PlainHash(const std::string& keys, size_t key_len) {
   uint64_t sum = 0;
   for (size_t at = 0; at < keys.size(); at += key_len) {
-    uint64_t hash = 0;
-    for (size_t i = 0; i < key_len; i++) hash = hash * 31 + static_cast<unsigned char>(keys[at + i]);
-    sum = 3 * sum + hash;
+    sum = 3 * sum + HashOf(keys, at, key_len);
   }
   return sum;
 }
@@ -113,6 +142,31 @@ uint64_t PlainHash(const std::string& keys, size_t key_len) {
 uint64_t PlainVarints(const std::string& varints) {
   uint64_t sum = 0;
   for (Cursor cursor(varints); cursor.at() < varints.size();) sum += cursor.Varint();
+  return sum;
+}
+
+std::string PlainFilter(const std::string& keys, size_t key_len, uint64_t bits) {
+  const uint64_t m = (keys.size() / key_len * bits + 7) / 8 * 8;
+  const uint64_t k = std::max<uint64_t>(bits * 693147 / 1000000, 1);
+  std::string bytes(m / 8, '\0');
+  for (size_t at = 0; at < keys.size(); at += key_len) {
+    for (uint64_t bit : ProbesOf(HashOf(keys, at, key_len), m, k)) {
+      bytes[bit / 8] = char(bytes[bit / 8] | 128 >> (bit % 8));
+    }
+  }
+  return std::string("LSM\3\0\0", 6) + NumberBytes(m) + NumberBytes(k) + bytes;
+}
+
+uint64_t PlainContained(const std::string& filter, const std::string& needles, size_t key_len) {
+  const uint64_t m = NumberAt(filter, 6), k = NumberAt(filter, 14);
+  uint64_t sum = 0;
+  for (size_t at = 0; at < needles.size(); at += key_len) {
+    bool all = true;
+    for (uint64_t bit : ProbesOf(HashOf(needles, at, key_len), m, k)) {
+      all = all && (filter[22 + bit / 8] & 128 >> (bit % 8));
+    }
+    sum += all;
+  }
   return sum;
 }
 

@@ -27,4 +27,8 @@ uint64_t PlainShared(const std::string& keys, size_t key_len);
 uint64_t PlainHash(const std::string& keys, size_t key_len);
 uint64_t PlainVarints(const std::string& varints);
 
+// The filter of keys of one length at some bits a key, and how many needles it may contain.
+std::string PlainFilter(const std::string& keys, size_t key_len, uint64_t bits);
+uint64_t PlainContained(const std::string& filter, const std::string& needles, size_t key_len);
+
 }  // namespace bench

@@ -110,6 +110,9 @@ const std::map<std::string, std::string> kTitles = {
     {"shared", "shared prefix of two keys"},
     {"hash", "hash a key"},
     {"varint", "decode a varint"},
+    {"filter_build", "build a filter, a key"},
+    {"filter_hit", "ask a filter for a key that is there"},
+    {"filter_miss", "ask a filter for a key that is not"},
 };
 
 std::string TitleOf(const std::string& operation) {
@@ -122,7 +125,8 @@ void PrintMeans(std::vector<Group> groups) {
     const auto place = [](const Group& one) {
       const char* order[] = {"encode",   "walk",      "walk_back", "materialize",
                              "iter",     "get_hit",   "get_miss",  "seek_next",
-                             "compare",  "shared",    "hash",      "varint"};
+                             "compare",  "shared",    "hash",      "varint",
+                             "filter_build", "filter_hit", "filter_miss"};
       return std::find(std::begin(order), std::end(order), one.operation) - std::begin(order);
     };
     return place(a) < place(b);

@@ -1,5 +1,5 @@
 -- Reading a frame in memory, step by step.
-use Rattle.std.proofs.Common.{◌≡◌, ℕ, ◌+◌, ◌≤◌, ◌<◌, ◌-◌, List, ◌++◌, length, take, drop, refl, arith, sym, ◌∙◌, ap, subst, Result, Ok, Err, Some, Option, Bool, true, false, nat_eq, ◌&&◌, length-drop}
+use Rattle.std.proofs.Common.{◌≡◌, ℕ, ◌+◌, ◌≤◌, ◌-◌, List, ◌++◌, length, drop, refl, arith, sym, ◌∙◌, ap, subst, Result, Ok, Err, Some, Option, Bool, true, false, nat_eq, ◌&&◌, length-drop}
 use Rattle.std.specs.Result.{IfOk, MatchResult}
 use Rattle.std.specs.List.{slice_range}
 use Rattle.std.proofs.lemmas.Bool.{eqb-true, le-leb}

@@ -1,5 +1,5 @@
 -- Reading a number of a handle, byte by byte.
-use Rattle.std.proofs.Common.{◌≡◌, ℕ, List, [], ◌∷◌, take, drop, refl, arith, sym, ◌∙◌, subst, Result, Ok, Err, Option}
+use Rattle.std.proofs.Common.{◌≡◌, ℕ, List, [], ◌∷◌, take, drop, refl, arith, sym, subst, Result, Ok, Err, Option}
 use Rattle.std.proofs.lemmas.Bool.Decides.{nat_tests}
 use Rattle.sst_base.specs.BlockHandle.{handle_number_at}
 use Rattle.sst_base.specs.Header.{bytes_at}

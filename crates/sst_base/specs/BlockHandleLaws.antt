@@ -1,5 +1,5 @@
 -- Laws of the encoding of handles: what was written is read again, whatever follows, and what is read was written so.
-use Rattle.std.proofs.Common.{◌≡◌, ℕ, ◌+◌, ◌-◌, ◌*◌, ◌/◌, ◌≤◌, ◌<◌, ◌^◌, suc, List, [], ◌∷◌, ◌++◌, refl, arith, sym, ◌∙◌, ap, subst, Result, Ok, Err, nat_eq, append_assoc, inl, inr, lit<}
+use Rattle.std.proofs.Common.{◌≡◌, ℕ, ◌+◌, ◌-◌, ◌*◌, ◌/◌, ◌≤◌, ◌<◌, ◌^◌, suc, List, [], ◌∷◌, ◌++◌, refl, arith, sym, ◌∙◌, ap, subst, Ok, Err, append_assoc, inl, inr, lit<}
 use Rattle.std.proofs.lemmas.Bool.{cases_lt, cases_eq}
 use Rattle.std.proofs.lemmas.Bool.Decides.{nat_tests}
 use Rattle.sst_base.specs.Bytes.{IsBytes}
@@ -9,7 +9,6 @@ use Rattle.sst_base.specs.HeaderLaws.{bind_ok}
 use Rattle.sst_base.specs.Varint.{IsVarint, varint}
 use Rattle.sst_base.specs.VarintLaws.{IsVarint-varint, one_encoding, larger}
 use Rattle.sst_base.specs.BlockHandle.{HandleParts, handle_bytes, behind_digit, handle_number_at, handle_at}
-use Rattle.sst_base.specs.declared.error.Error.{Error}
 use Rattle.sst_base.specs.declared.error.Error.TheVariants.{BadHandle}
 
 number_small : (max b : ℕ) (bs : List ℕ) → b < 128 → b ≤ max → handle_number_at max (b ∷ bs) ≡ Ok (b, bs)

@@ -1,5 +1,5 @@
 // What no clause says: values from outside, that a call succeeds where memory is ample, and printed
-// text. Two tests accept `Error::Memory` too: they are for runs in which allocations fail.
+// text. Three tests accept `Error::Memory` too: they are for runs in which allocations fail.
 ghost use Rattle.std.specs.Iterator.{YieldsFirst, YieldsLast, item_count};
 
 mod devices;

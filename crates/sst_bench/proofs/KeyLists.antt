@@ -1,7 +1,7 @@
 -- Lists of keys, as they grow and as they are gone over.
-use Rattle.std.proofs.Common.{◌≡◌, ℕ, suc, ◌+◌, ◌%◌, ◌^◌, ◌<◌, List, [], ◌∷◌, ◌++◌, length, drop, get_or, map, Bor, sym, ap, ◌∙◌, arith, drop-cons}
+use Rattle.std.proofs.Common.{◌≡◌, ℕ, suc, ◌+◌, ◌%◌, ◌^◌, ◌<◌, List, [], ◌∷◌, ◌++◌, length, take, drop, get_or, map, Bor, sym, ap, ◌∙◌, arith, drop-cons}
 use Rattle.std.proofs.lemmas.Grind.{common_steps}
-use Rattle.std.proofs.lemmas.List.{map-append}
+use Rattle.std.proofs.lemmas.List.{map-append, take_more}
 use Rattle.std.proofs.lemmas.List.Folds.{concat-append}
 use Rattle.std.proofs.lemmas.List.Elements.{All-push}
 use Rattle.std.specs.List.{All, concat}
@@ -34,3 +34,12 @@ pub keys_from : (keys : List (Bor (List ℕ))) (i : ℕ) (x : Bor (List ℕ)) �
 keys_from keys i x h e =
     ap now_of (drop-cons keys i x h ∙ ap (λ y. y ∷ drop (suc i) keys) (sym e))
     ∙ (let q : suc i ≡ i + 1 = omega arith in ap (λ n. x.now ∷ now_of (drop n keys)) q)
+
+-- the hashes of one key more
+pub hashes_more : (f : List ℕ → ℕ) (keys : List (Bor (List ℕ))) (i : ℕ) (d : Bor (List ℕ)) → i < length keys
+    → map f (now_of (take (i + 1) keys)) ≡ map f (now_of (take i keys)) ++ f (get_or keys i d).now ∷ []
+hashes_more f keys i d h =
+    let key = get_or keys i d in
+    ap (λ xs. map f (now_of xs)) (take_more keys i d h)
+    ∙ ap (map f) (map-append (λ key. key.now) (take i keys) (key ∷ []))
+    ∙ map-append f (now_of (take i keys)) (key.now ∷ [])

@@ -2,3 +2,4 @@ pub mod Keys
 pub mod Turns
 pub mod Inputs
 pub mod Blocks
+pub mod Filters

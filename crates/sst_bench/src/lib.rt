@@ -8,6 +8,8 @@
 
 pub mod data_block;
 pub mod entries;
+pub mod filter;
+pub mod frames;
 pub mod handles;
 pub mod index_block;
 pub mod keys;

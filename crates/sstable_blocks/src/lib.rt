@@ -1,11 +1,15 @@
 //! The block layer of a log-structured storage engine: sorted entries in blocks with restart
-//! intervals, prefix truncation, a binary index and a hash index.
+//! intervals, prefix truncation, a binary index and a hash index; and Bloom filters.
 //!
-//! This crate names what users need of the crates below it, in the modules of the Rust crate that
-//! it ports.
+//! This crate has the filters, and names what users need of the crates below it, in the modules of
+//! the Rust crate that it ports.
 #![tactic(auto)]
 
+pub mod laws;
 pub mod table;
+#[cfg(test)]
+mod tests;
+pub mod vectors;
 
 pub use sst_base::{
     Block, BlockHandle, BlockHash, BlockOffset, BlockType, ByteSum, Checksum, ChecksumType,
@@ -15,3 +19,4 @@ pub use sst_base::{
     value, value_type,
 };
 pub use sst_block_core::{DataBlock, IndexBlock, KeyedBlockHandle};
+pub use table::filter::{self, FilterBlock};

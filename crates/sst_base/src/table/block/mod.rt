@@ -196,7 +196,7 @@ impl Block {
         Ok(Block::from_parts(header, payload))
     }
 
-    /// Reads a frame in memory. The payload shares its bytes.
+    /// Reads a frame in memory. The payload is a sub-slice of its bytes.
     ///
     /// # Errors
     ///

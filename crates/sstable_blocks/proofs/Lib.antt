@@ -1,0 +1,4 @@
+pub mod Bits
+pub mod Counts
+pub mod Probes
+pub mod Remainders

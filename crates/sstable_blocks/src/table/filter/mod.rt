@@ -1,0 +1,11 @@
+//! Bloom filters: whether a key may be there, answered from a few bits for each key.
+pub mod bit_array;
+pub mod block;
+mod divisor;
+pub mod filter_type;
+pub mod policy;
+pub mod standard_bloom;
+
+pub use block::FilterBlock;
+pub use filter_type::FilterType;
+pub use policy::BloomConstructionPolicy;
