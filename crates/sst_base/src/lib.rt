@@ -5,6 +5,7 @@
 pub mod checksum;
 pub mod coding;
 pub mod config;
+pub mod contents;
 pub mod count;
 pub mod double_ended_peekable;
 pub mod error;
@@ -26,6 +27,7 @@ pub mod vectors;
 pub use checksum::{Checksum, ChecksumType, ChecksummedReader, ChecksummedWriter};
 pub use coding::{Decode, Encode, decode_varint, encode_varint, push_varint_reserved};
 pub use config::HashRatio;
+pub use contents::Contents;
 pub use count::Count;
 pub use error::{Error, HeaderName, Result, TagName};
 pub use hash::{BlockHash, ByteSum, Poly31};

@@ -5,3 +5,9 @@ pub mod Probes
 pub mod Reciprocal
 pub mod Filter
 pub mod FilterLaws
+pub mod Blocks
+pub mod Lookup
+pub mod Run
+pub mod Opened
+pub mod ReadCosts
+pub mod Writing

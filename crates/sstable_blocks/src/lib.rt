@@ -6,6 +6,7 @@
 #![tactic(auto)]
 
 pub mod laws;
+pub mod run;
 pub mod table;
 #[cfg(test)]
 mod tests;

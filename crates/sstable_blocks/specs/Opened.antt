@@ -1,0 +1,64 @@
+-- What a reader finds in the layout of a run.
+use Rattle.std.specs.Prelude.{◌≡◌, ℕ, ◌+◌, ◌-◌, ◌≤◌, List, length, map, take, drop, slice_get, Option, Some, None, IfSome, Ok}
+use Rattle.sst_base.specs.BlockHandle.{HandleParts}
+use Rattle.sst_base.specs.Entry.{Entry, IsEntry, plain}
+use Rattle.sst_block_core.specs.Entries.{entries}
+use Rattle.sst_block_core.specs.Handles.{Handle, handles, IsIndexBlock}
+use Rattle.sst_block_core.specs.Payload.{IsBlock}
+use Rattle.sst_block_core.specs.Stages.{items_in}
+use Rattle.sst_block_core.specs.Trailer.{trailer_in}
+use Rattle.sst_block_core.specs.Window.{first_match}
+use Rattle.sstable_blocks.specs.Blocks.{joined}
+use Rattle.sstable_blocks.specs.Filter.{Filter, filter_at, MayContain}
+use Rattle.sstable_blocks.specs.Lookup.{first_in, handle_for, place_for}
+use Rattle.sstable_blocks.specs.Run.{Form, handles_from}
+use Rattle.sstable_blocks.specs.declared.run.RunHandles.{RunHandles}
+
+-- the range of a handle
+abbrev pub range_of : Handle → HandleParts
+range_of h = record { offset = h.offset; size = h.size }
+
+-- a handle's range lies in bytes, and a header in the range
+pub record IsFrameRange (bytes : List ℕ) (h : HandleParts) : Type 0 where
+  pub inside : h.offset + h.size ≤ length bytes
+  pub header : 33 ≤ h.size
+
+-- the payload in the range of a frame
+unfoldable pub payload_in : List ℕ → HandleParts → List ℕ
+payload_in bytes h = take (h.size - 33) (drop (h.offset + 33) bytes)
+
+-- the handles of the index in the range of a frame
+abbrev pub index_in : List ℕ → HandleParts → List Handle
+index_in bytes h = items_in handles (payload_in bytes h)
+
+-- the filter in a frame, if there is one, can be read, and has not the bits of all probes of a hash
+abbrev pub IsDenied : List ℕ → Option HandleParts → ℕ → Type 0
+IsDenied bytes None hash = ⊥
+IsDenied bytes (Some h) hash = (f : Filter) × (filter_at (payload_in bytes h) ≡ Ok f) × (MayContain f hash → ⊥)
+
+-- in the range of a handle stands the frame of a block of a run
+pub record IsOpen (f : Form) (bytes : List ℕ) (h : HandleParts) (block : List Entry) : Type 0 where
+  pub range : IsFrameRange bytes h
+  pub buckets : ℕ
+  pub is_block : IsBlock entries IsEntry f.hash64 (payload_in bytes h) block f.config.restart_interval buckets
+  pub items : items_in entries (payload_in bytes h) ≡ map plain block
+  pub first : (needle : List ℕ) (seqno : ℕ) → first_match entries needle seqno (items_in entries (payload_in bytes h)) ≡ first_match entries needle seqno block
+  pub interval : (trailer_in (payload_in bytes h)).interval ≡ f.config.restart_interval
+
+-- what a reader finds: the index with the handles of the blocks, the blocks where these say, and a filter that denies no key of the run
+pub record Opened (f : Form) (blocks : List (List Entry)) (bytes : List ℕ) (h : RunHandles) : Type 0 where
+  pub index_range : IsFrameRange bytes h.index
+  pub index_block : IsIndexBlock (payload_in bytes h.index) (handles_from f 0 blocks) f.config.index_interval
+  pub index_items : index_in bytes h.index ≡ handles_from f 0 blocks
+  pub index_interval : (trailer_in (payload_in bytes h.index)).interval ≡ f.config.index_interval
+  pub count : length (handles_from f 0 blocks) ≡ length blocks
+  pub found : (needle : List ℕ) (seqno : ℕ) → first_match entries needle seqno (joined blocks) ≡ first_in entries needle seqno (slice_get blocks (place_for handles needle seqno (handles_from f 0 blocks)))
+  pub block_open : (n : ℕ) (g : Handle) → slice_get (handles_from f 0 blocks) n ≡ Some g → (block : List Entry) × (slice_get blocks n ≡ Some block) × IsOpen f bytes (range_of g) block
+  pub none_open : (n : ℕ) → slice_get (handles_from f 0 blocks) n ≡ None → slice_get blocks n ≡ None
+  pub filter_range : IfSome h.filter (IsFrameRange bytes)
+  pub filter_reads : IfSome h.filter (λ g. (x : Filter) × (filter_at (payload_in bytes g) ≡ Ok x))
+  pub filter_denies : (needle : List ℕ) (seqno : ℕ) → IsDenied bytes h.filter (f.hash64 needle) → first_match entries needle seqno (joined blocks) ≡ None
+
+-- the block of a run that can hold the needle below a sequence number, if there is one
+abbrev pub block_for : Form → List (List Entry) → List ℕ → ℕ → Option (List Entry)
+block_for f blocks needle seqno = slice_get blocks (place_for handles needle seqno (handles_from f 0 blocks))

@@ -1,0 +1,62 @@
+-- A run that is being written.
+use Rattle.std.specs.Prelude.{◌≡◌, ℕ, ◌+◌, ◌<◌, ◌^◌, ◌⊎◌, List, length, Option}
+use Rattle.std.specs.List.{AllByRecursion}
+use Rattle.sst_base.specs.Entry.{Entry, IsEntry}
+use Rattle.sst_base.specs.declared.error.Error.{Error}
+use Rattle.sst_base.specs.declared.error.Error.TheVariants.{Io, TooLong, Memory}
+use Rattle.sst_block_core.specs.Body.{IsInterval}
+use Rattle.sst_block_core.specs.Entries.{entries}
+use Rattle.sst_block_core.specs.Handles.{Handle}
+use Rattle.sst_block_core.specs.Kind.{IsOrdered}
+use Rattle.sstable_blocks.specs.Blocks.{joined, IsNotEmpty}
+use Rattle.sstable_blocks.specs.Run.{Form, block_payload, block_frame, block_frames, handles_from, key_hashes, IsFramed}
+use Rattle.sstable_blocks.specs.declared.run.RunConfig.{RunConfig}
+
+-- what contracts see of the core of a writer of runs: how it writes, and the blocks that it accepted
+pub record Written : Type 0 where
+  pub config : RunConfig
+  pub blocks : List (List Entry)
+
+-- and of a writer of runs, which has a writer of bytes of its own: also what it answers from now on, if anything,
+-- and the bytes that its writer held when it was made, if those are known
+pub record Writing (W : Type 0) : Type 0 where
+  pub config : RunConfig
+  pub blocks : List (List Entry)
+  pub refusal : Option Error
+  pub start : Option (List ℕ)
+  pub writer : W
+
+-- what is kept of the blocks accepted: their handles, the hashes of their keys, and where the next frame stands
+pub record IsKept (f : Form) (blocks : List (List Entry)) (hs : List Handle) (hashes : List ℕ) (next : ℕ) : Type 0 where
+  pub interval : IsInterval f.config.restart_interval
+  pub index_interval : IsInterval f.config.index_interval
+  pub all_some : AllByRecursion IsNotEmpty blocks
+  pub valid : AllByRecursion IsEntry (joined blocks)
+  pub ordered : IsOrdered entries (joined blocks)
+  pub framed : AllByRecursion (λ block. IsFramed (block_payload f block)) blocks
+  pub handles : hs ≡ handles_from f 0 blocks
+  pub hashed : hashes ≡ key_hashes f.hash64 (joined blocks)
+  pub offset : next ≡ length (block_frames f blocks)
+  pub fits : next < 2 ^ 64
+
+-- a block fits at an offset: its payload a handle, and the end of its frame 64 bits
+pub record FrameFits (f : Form) (at : ℕ) (block : List Entry) : Type 0 where
+  pub framed : IsFramed (block_payload f block)
+  pub end : at + length (block_frame f block) < 2 ^ 64
+
+-- a payload fits at an offset
+pub record PartFits (at : ℕ) (payload : List ℕ) : Type 0 where
+  pub framed : IsFramed payload
+  pub end : at + (33 + length payload) < 2 ^ 64
+
+-- a payload, a length and an end are those of the frame of a valid block at an offset
+pub record IsFramedBlock (f : Form) (at : ℕ) (block : List Entry) (text : List ℕ) (long behind : ℕ) : Type 0 where
+  pub payload : text ≡ block_payload f block
+  pub size : long ≡ length (block_frame f block)
+  pub end : behind ≡ at + length (block_frame f block)
+  pub fits : FrameFits f at block
+  pub valid : AllByRecursion IsEntry block
+
+-- why a write is refused: the writer failed, or something does not fit, or memory was wanting
+abbrev pub IsWriteRefusal : Type 0 → Error → Type 0
+IsWriteRefusal long e = (e ≡ Io) ⊎ ((e ≡ TooLong) × long) ⊎ (e ≡ Memory)

@@ -1,0 +1,41 @@
+//! Runs: an ordered list of entries in blocks, written as frames with an index and a filter.
+ghost use Rattle.std.specs.Prelude.{◌≡◌};
+
+use sst_base::{BlockHandle, HashRatio};
+
+/// How a run is written.
+#[derive(Clone, Copy, Debug, PartialEq, Eq)]
+pub struct RunConfig {
+    /// The number of entries in a restart interval of a data block, at least 1.
+    pub restart_interval: u8,
+    /// The number of buckets for each entry of a data block. The denominator is at least 1.
+    pub ratio: HashRatio,
+    /// The number of bits of the filter for each entry; 0 for no filter.
+    pub bits_per_key: u32,
+    /// The number of handles in a restart interval of the index, at least 1.
+    pub index_interval: u8,
+}
+
+impl RunConfig {
+    /// Makes a configuration in which each handle of the index is a head.
+    pub fn new(restart_interval: u8, ratio: HashRatio, bits_per_key: u32) -> RunConfig
+        ensures { result ≡ record {
+            restart_interval = restart_interval; ratio = ratio; bits_per_key = bits_per_key; index_interval = 1 } }
+    {
+        RunConfig {
+            restart_interval,
+            ratio,
+            bits_per_key,
+            index_interval: 1,
+        }
+    }
+}
+
+/// Where the index and the filter of a run are.
+#[derive(Clone, Copy, Debug, PartialEq, Eq)]
+pub struct RunHandles {
+    /// The frame of the index.
+    pub index: BlockHandle,
+    /// The frame of the filter, if there is one.
+    pub filter: Option<BlockHandle>,
+}
