@@ -1,6 +1,8 @@
 //! Runs: an ordered list of entries in blocks, written as frames with an index and a filter.
 ghost use Rattle.std.specs.Prelude.{◌≡◌};
 
+pub mod laws;
+
 use sst_base::{BlockHandle, HashRatio};
 
 /// How a run is written.

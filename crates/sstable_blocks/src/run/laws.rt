@@ -1,0 +1,48 @@
+//! Laws of runs. Each function states one law, and does nothing.
+ghost use Rattle.std.specs.Prelude.{◌≡◌, ℕ, ◌<◌, ◌^◌, List, length, slice_get};
+ghost use Rattle.std.specs.List.{AllByRecursion, AllZip};
+ghost use Rattle.sst_base.specs.Entry.{Entry};
+ghost use Rattle.sst_block_core.specs.Handles.{handles, IsHandle, EndFits};
+ghost use Rattle.sst_block_core.specs.Kind.{IsOrdered};
+ghost use Rattle.sst_block_core.specs.Window.{first_match};
+ghost use Rattle.sstable_blocks.specs.Blocks.{joined, blocks_of, CutsFit, IsNotEmpty};
+ghost use Rattle.sstable_blocks.specs.Lookup.{IsEnd, first_in, place_for};
+ghost use Rattle.sstable_blocks.specs.Opened.{Opened};
+ghost use Rattle.sstable_blocks.specs.Run.{Form, IsLayout, IsRun, IsFramed, block_payload};
+ghost use Rattle.sstable_blocks.specs.Run.{block_frames, handles_from};
+ghost use Rattle.sstable_blocks.specs.declared.run.RunHandles.{RunHandles};
+
+use sst_block_core::block_item::BlockItem;
+use sst_block_core::laws::{data_block_is_read, first_match_of_plain, index_block_is_read};
+
+/// The blocks of a list, joined, are the list, and none is empty.
+pub fn blocks_are_the_list<T>()
+    ensures { (items : List T) (cuts : List ℕ) → CutsFit 0 (length items) cuts
+        → (joined (blocks_of cuts items) ≡ items) × AllByRecursion IsNotEmpty (blocks_of cuts items) }
+{}
+
+/// The first match of an ordered list in blocks is that of the one block at which a search over the
+/// ends of the blocks stops, and there is none where it passes over all.
+pub fn first_match_is_in_one_block<T: BlockItem, E: BlockItem>()
+    ensures { (needle : List ℕ) (seqno : ℕ) (blocks : List (List T)) (ends : List E) → AllZip (IsEnd T.kind E.kind) blocks ends
+        → IsOrdered T.kind (joined blocks)
+        → first_match T.kind needle seqno (joined blocks) ≡ first_in T.kind needle seqno (slice_get blocks (place_for E.kind needle seqno ends)) }
+{}
+
+/// The handles of a run's blocks whose frames end below 2^64 are what an index block is made of: as
+/// many as blocks, ordered, within their limits.
+pub fn handles_are_ready()
+    ensures { (f : Form) (blocks : List (List Entry)) → IsRun f blocks → AllByRecursion (λ block. IsFramed (block_payload f block)) blocks → length (block_frames f blocks) < 2 ^ 64
+        → (length (handles_from f 0 blocks) ≡ length blocks) × IsOrdered handles (handles_from f 0 blocks)
+        × AllByRecursion IsHandle (handles_from f 0 blocks) × AllByRecursion EndFits (handles_from f 0 blocks) }
+{}
+
+/// What a reader finds in a layout: the index with the handles of the blocks, the blocks where these
+/// say, and a filter that denies no key of the run.
+pub fn layout_opens()
+    ensures { (f : Form) (blocks : List (List Entry)) (bytes : List ℕ) (h : RunHandles) → IsLayout f blocks bytes h → Opened f blocks bytes h }
+{
+    data_block_is_read();
+    index_block_is_read();
+    first_match_of_plain();
+}
