@@ -2,8 +2,13 @@
 ghost use Rattle.std.specs.Prelude.{◌≡◌};
 
 pub mod laws;
+mod run_core;
+pub mod write;
+pub mod writer;
 
 use sst_base::{BlockHandle, HashRatio};
+pub use write::{cuts_fit, write_run};
+pub use writer::RunWriter;
 
 /// How a run is written.
 #[derive(Clone, Copy, Debug, PartialEq, Eq)]
