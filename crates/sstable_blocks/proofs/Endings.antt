@@ -1,5 +1,5 @@
 -- The end of a run: its index and its filter.
-use Rattle.std.proofs.Common.{◌≡◌, ℕ, ◌+◌, ◌*◌, ◌/◌, ◌<◌, ◌≤◌, ◌^◌, ◌⊎◌, true, false, cond, eqb, List, [], ◌∷◌, ◌++◌, length, refl, arith, sym, ◌∙◌, ap, subst, length-append, inl, inr, Option, Some, None}
+use Rattle.std.proofs.Common.{◌≡◌, ℕ, ◌+◌, ◌*◌, ◌/◌, ◌<◌, ◌≤◌, ◌^◌, ◌⊎◌, true, false, cond, eqb, List, [], ◌∷◌, ◌++◌, length, refl, arith, sym, ◌∙◌, ap, subst, length-append, inl, inr, Option, Some, None, Result, Ok, Err, IfErr, OnOk}
 use Rattle.std.proofs.lemmas.Bool.{eq-eqb, ne_eqb}
 use Rattle.std.proofs.lemmas.List.{append-nil, length-map}
 use Rattle.std.specs.Io.KnownBytes.{Appends}
@@ -14,6 +14,7 @@ use Rattle.sst_base.specs.declared.table.block.block_type.BlockType.TheVariants.
 use Rattle.sst_block_core.specs.Encoders.{IsRefusal}
 use Rattle.sst_block_core.specs.Handles.{Handle, index_payload}
 use Rattle.sstable_blocks.specs.Blocks.{joined, IsNotEmpty}
+use Rattle.sstable_blocks.specs.Filter.{bit_count}
 use Rattle.sstable_blocks.specs.FilterLaws.{length-filter_payload}
 use Rattle.sstable_blocks.specs.Run.{Form, block_payload, block_frames, index_text, index_frame, filter_frame, key_hashes, filter_frame_length, run_text, run_handles, IsFramed, IsFilterText, IsRun, RunFits, IsLayout}
 use Rattle.sstable_blocks.specs.Writing.{IsKept, PartFits, IsWriteRefusal, IsFrameAppended, AppendsFilter, AppendsEnd}
@@ -25,13 +26,21 @@ pub part_refused : (fits : Type 0) (at : ℕ) (p : List ℕ) (e : Error) → (e 
 part_refused fits at p e (inl io) f = inl io
 part_refused fits at p e (inr long) f = inr (inl (long.0, λ (x : fits). long.1 (f x)))
 
+pub on_any : {T P : Type 0} (r : Result T Error) → P → OnOk r P
+on_any (Ok x) p = p
+on_any (Err e) p = tt
+
+pub if_err_map : {T : Type 0} (r : Result T Error) (P Q : Error → Type 0) → ((e : Error) → P e → Q e) → IfErr r P → IfErr r Q
+if_err_map (Ok x) P Q f h = tt
+if_err_map (Err e) P Q f h = f e h
+
 module _ (f : Form) (blocks : List (List Entry)) where
   pub index_long : length (index_frame f blocks) ≡ 33 + length (index_text f blocks)
   index_long = length-frame f.hash128 Index (index_text f blocks)
 
   -- the frame of a filter is as long as the formulas say
   no_frame_long : f.config.bits_per_key ≡ 0 → filter_frame_length f blocks ≡ 0
-  no_frame_long z = ap (λ b. cond b 0 _) (eq-eqb _ _ z)
+  no_frame_long z = ap (λ b. cond b 0 (55 + bit_count (length (joined blocks)) f.config.bits_per_key / 8)) (eq-eqb _ _ z)
 
   pub filter_long : 1 ≤ f.config.bits_per_key → (p : List ℕ) → IsFilterText (key_hashes f.hash64 (joined blocks)) f.config.bits_per_key p → filter_frame_length f blocks ≡ 33 + length p
   filter_long some p is =
@@ -40,7 +49,7 @@ module _ (f : Form) (blocks : List (List Entry)) where
       let n = length-map (joined blocks) (λ (e : Entry). f.hash64 e.key.user_key) in
       let m = ap (λ x. (x * f.config.bits_per_key + 7) / 8 * 8) n in
       let l = ap length is.text ∙ length-filter_payload is.filter in
-      ap (λ b. cond b 0 _) (ne_eqb f.config.bits_per_key 0 (λ z. absurd (omega arith)))
+      ap (λ b. cond b 0 (55 + bit_count (length (joined blocks)) f.config.bits_per_key / 8)) (ne_eqb f.config.bits_per_key 0 (λ z. absurd (omega arith)))
       ∙ (let e : 55 + (length (joined blocks) * f.config.bits_per_key + 7) / 8 * 8 / 8 ≡ 33 + length p = omega arith in e)
 
   pub filter_framed : 1 ≤ f.config.bits_per_key → length (joined blocks) * f.config.bits_per_key ≤ 34359737920 → (p : List ℕ) → IsFilterText (key_hashes f.hash64 (joined blocks)) f.config.bits_per_key p → IsFramed p
@@ -65,7 +74,7 @@ module _ (f : Form) (blocks : List (List Entry)) where
 
   module _ (run : IsRun f blocks) (framed : AllByRecursion (λ block. IsFramed (block_payload f block)) blocks) where
     -- a layout without a filter
-    ended_without : (old mid new : Option (List ℕ)) (i : HandleParts) → IsFrameAppended f Index (length (block_frames f blocks)) (index_text f blocks) old mid i
+    ended_without : (old mid new : Option (List ℕ)) (i : HandleParts) → IsFrameAppended f.hash128 Index (length (block_frames f blocks)) (index_text f blocks) old mid i
         → f.config.bits_per_key ≡ 0 → Appends mid new [] → AppendsEnd f blocks old new (record { index = i; filter = None })
     unfolding run_text run_handles
     ended_without old mid new i index z same =
@@ -89,7 +98,7 @@ module _ (f : Form) (blocks : List (List Entry)) where
         )
 
     -- a layout with one
-    ended_with : (old mid new : Option (List ℕ)) (i h : HandleParts) (at : ℕ) → IsFrameAppended f Index (length (block_frames f blocks)) (index_text f blocks) old mid i
+    ended_with : (old mid new : Option (List ℕ)) (i h : HandleParts) (at : ℕ) → IsFrameAppended f.hash128 Index (length (block_frames f blocks)) (index_text f blocks) old mid i
         → at ≡ length (block_frames f blocks) + length (index_frame f blocks) → AppendsFilter f blocks at mid new (Some h) → AppendsEnd f blocks old new (record { index = i; filter = Some h })
     unfolding run_text run_handles
     ended_with old mid new i h at index e filter =
@@ -119,7 +128,7 @@ module _ (f : Form) (blocks : List (List Entry)) where
           subst (λ xs. Appends old new (index_frame f blocks ++ xs)) (sym framed_p) (appends_then old mid new _ _ index.bytes part.bytes),
         )
 
-    pub ended : (old mid new : Option (List ℕ)) (i : HandleParts) (o : Option HandleParts) (at : ℕ) → IsFrameAppended f Index (length (block_frames f blocks)) (index_text f blocks) old mid i
+    pub ended : (old mid new : Option (List ℕ)) (i : HandleParts) (o : Option HandleParts) (at : ℕ) → IsFrameAppended f.hash128 Index (length (block_frames f blocks)) (index_text f blocks) old mid i
         → at ≡ length (block_frames f blocks) + length (index_frame f blocks) → AppendsFilter f blocks at mid new o → AppendsEnd f blocks old new (record { index = i; filter = o })
     ended old mid new i None at index e filter = ended_without old mid new i index filter.0 filter.1
     ended old mid new i (Some h) at index e filter = ended_with old mid new i h at index e filter
@@ -135,25 +144,32 @@ module _ (f : Form) (blocks : List (List Entry)) (hs : List Handle) (hashes : Li
   unfolding index_text
   index_is = ap (λ xs. index_payload xs f.config.index_interval) k.handles
 
+  pub index_text_is : (xs : List Handle) (q : ℕ) (p : List ℕ) → xs ≡ hs → q ≡ f.config.index_interval → p ≡ index_payload xs q → p ≡ index_text f blocks
+  index_text_is xs q p x e is = is ∙ ap (λ ys. index_payload ys q) x ∙ ap (index_payload hs) e ∙ index_is
+
   -- a run that fits has an index that fits
-  pub index_fits : RunFits f blocks → PartFits next (index_payload hs f.config.index_interval)
-  index_fits fits =
-      let e = ap length index_is in
+  pub index_fits : (p : List ℕ) → p ≡ index_text f blocks → RunFits f blocks → PartFits next p
+  index_fits p is fits =
+      let e = ap length is in
       let l = index_long f blocks in
       let o = k.offset in
       let n = fits.end in
       let i : length (index_text f blocks) ≤ 4294967262 = fits.index_frame_fits in
-      record { framed = (let m : length (index_payload hs f.config.index_interval) ≤ 4294967262 = omega arith in m); end = omega arith }
+      record { framed = (let m : length p ≤ 4294967262 = omega arith in m); end = omega arith }
 
-  pub index_refused : (e : Error) → IsRefusal None (2 ^ 32 ≤ length (index_payload hs f.config.index_interval)) e → IsWriteRefusal (RunFits f blocks → ⊥) e
-  index_refused e (inl long) = inr (inl (long.0, λ (fits : RunFits f blocks). let h : length (index_payload hs f.config.index_interval) ≤ 4294967262 = (index_fits fits).framed in let m = long.1 in absurd (omega arith)))
-  index_refused e (inr memory) = inr (inr memory)
+  pub index_refused : (p : List ℕ) → p ≡ index_text f blocks → (e : Error) → IsRefusal None (2 ^ 32 ≤ length p) e → IsWriteRefusal (RunFits f blocks → ⊥) e
+  index_refused p is e (inl long) = inr (inl (long.0, λ (fits : RunFits f blocks). let h : length p ≤ 4294967262 = (index_fits p is fits).framed in let m = long.1 in absurd (omega arith)))
+  index_refused p is e (inr memory) = inr (inr memory)
 
   pub hashes_long : length hashes ≡ length (joined blocks)
   hashes_long = ap length k.hashed ∙ length-map (joined blocks) _
 
   pub hashes_some : 1 ≤ length hashes
   hashes_some = let h = hashes_long in let j = joined_some blocks some k.all_some in omega arith
+
+  -- a filter of the hashes kept is that of the keys
+  pub filter_is : (xs : List ℕ) (bits : ℕ) (p : List ℕ) → xs ≡ hashes → bits ≡ f.config.bits_per_key → IsFilterText xs bits p → IsFilterText (key_hashes f.hash64 (joined blocks)) f.config.bits_per_key p
+  filter_is xs bits p x b is = subst (λ n. IsFilterText (key_hashes f.hash64 (joined blocks)) n p) b (subst (λ ys. IsFilterText ys bits p) (x ∙ k.hashed) is)
 
   pub bits_refused : (length hashes * f.config.bits_per_key ≤ 34359737920 → ⊥) → RunFits f blocks → ⊥
   bits_refused h fits = h (let b = fits.bits in subst (λ n. n * f.config.bits_per_key ≤ 34359737920) (sym hashes_long) b)

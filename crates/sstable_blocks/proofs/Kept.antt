@@ -20,7 +20,7 @@ use Rattle.sst_base.specs.declared.error.Error.{Error}
 use Rattle.sst_base.specs.declared.error.Error.TheVariants.{TooLong}
 use Rattle.sst_base.specs.declared.table.block.block_type.BlockType.TheVariants.{Data}
 use Rattle.sst_block_core.specs.Encoders.{IsRefusal}
-use Rattle.sstable_blocks.specs.Writing.{IsKept, IsBehind, FrameFits, IsFramedBlock, IsWriteRefusal}
+use Rattle.sstable_blocks.specs.Writing.{Follows, IsKept, IsBehind, FrameFits, IsFramedBlock, IsWriteRefusal}
 
 pub joined-push : {X : Type 0} (blocks : List (List X)) (b : List X) → joined (blocks ++ b ∷ []) ≡ joined blocks ++ b
 joined-push [] b = append-nil b
@@ -68,6 +68,29 @@ pub behind_last : (xs : List Entry) (y : Entry) (ys : List Entry) → IsOrdered 
 behind_last xs y ys o front last e =
     let whole : xs ++ y ∷ ys ≡ front ++ (last ∷ y ∷ ys) = ap (λ zs. zs ++ y ∷ ys) e ∙ append_assoc front (last ∷ []) (y ∷ ys) in
     (back_in_order front (last ∷ y ∷ ys) (subst (IsOrdered entries) whole o)).0
+
+-- entries can be a next block exactly if there is a first one, they are in order, and the first is behind the others
+pub follows_from : (blocks : List (List Entry)) (items : List Entry) (first : Entry) → slice_get items 0 ≡ Some first → IsOrdered entries (joined blocks) → IsOrdered entries items → IsBehind blocks first → Follows blocks items
+follows_from blocks [] first s o p behind = cc
+follows_from blocks (x ∷ xs) first s o p behind =
+    let same : x ≡ first = cc in
+    record {
+      some = omega arith;
+      ordered = subst (IsOrdered entries) (sym (joined-push blocks (x ∷ xs))) (ordered_append (joined blocks) x xs o p (subst (IsBehind blocks) (sym same) behind));
+    }
+
+pub follows_ordered : (blocks : List (List Entry)) (items : List Entry) → Follows blocks items → IsOrdered entries items
+follows_ordered blocks items follows = back_in_order (joined blocks) items (subst (IsOrdered entries) (joined-push blocks items) follows.ordered)
+
+pub follows_behind : (blocks : List (List Entry)) (items : List Entry) (first : Entry) → slice_get items 0 ≡ Some first → Follows blocks items → IsBehind blocks first
+follows_behind blocks [] first s follows = cc
+follows_behind blocks (x ∷ xs) first s follows =
+    let same : x ≡ first = cc in
+    subst (IsBehind blocks) same (behind_last (joined blocks) x xs (subst (IsOrdered entries) (joined-push blocks (x ∷ xs)) follows.ordered))
+
+pub follows_some : (blocks : List (List Entry)) (items : List Entry) → slice_get items 0 ≡ None → Follows blocks items → ⊥
+follows_some blocks [] s follows = let n = follows.some in absurd (omega arith)
+follows_some blocks (x ∷ xs) s follows = cc
 
 -- the last entry of a block
 pub end_parts : (block : List Entry) → IsNotEmpty block → (front : List Entry) × (last : Entry) × (block ≡ front ++ last ∷ []) × (end_of block ≡ last.key)
@@ -197,5 +220,5 @@ module _ (f : Form) where
       let l = length-block_frame b in
       record { payload = e; size = omega arith; end = omega arith; fits = record { framed = (let h : length (block_payload f b) ≤ 4294967262 = omega arith in h); end = omega arith }; valid = valid }
 
-  pub handle_is : (at : ℕ) (b : List Entry) (size seqno : ℕ) (key : List ℕ) → size ≡ length (block_frame f b) → seqno ≡ (end_of b).seqno → key ≡ (end_of b).user_key → record { offset = at; size = size; seqno = seqno; end_key = key } ≡ handle_of f at b
-  handle_is at b size seqno key s n k = λ i. record { offset = at; size = s i; seqno = n i; end_key = k i }
+  pub handle_is : (at : ℕ) (b : List Entry) (offset size seqno : ℕ) (key : List ℕ) → offset ≡ at → size ≡ length (block_frame f b) → seqno ≡ (end_of b).seqno → key ≡ (end_of b).user_key → record { offset = offset; size = size; seqno = seqno; end_key = key } ≡ handle_of f at b
+  handle_is at b offset size seqno key o s n k = λ i. record { offset = o i; size = s i; seqno = n i; end_key = k i }

@@ -77,8 +77,8 @@ abbrev pub AppendsEnd : Form → List (List Entry) → Option (List ℕ) → Opt
 AppendsEnd f blocks old new h = (text : List ℕ) × IsLayout f blocks (block_frames f blocks ++ text) h × Appends old new text
 
 -- they grew by a frame at an offset, whose handle this is
-pub record IsFrameAppended (f : Form) (t : BlockType) (at : ℕ) (payload : List ℕ) (old new : Option (List ℕ)) (h : HandleParts) : Type 0 where
-  pub bytes : Appends old new (frame f.hash128 t payload)
+pub record IsFrameAppended (hash128 : List ℕ → ℕ) (t : BlockType) (at : ℕ) (payload : List ℕ) (old new : Option (List ℕ)) (h : HandleParts) : Type 0 where
+  pub bytes : Appends old new (frame hash128 t payload)
   pub offset : h.offset ≡ at
   pub size : h.size ≡ 33 + length payload
   pub fits : PartFits at payload
@@ -88,7 +88,7 @@ abbrev pub AppendsFilter : Form → List (List Entry) → ℕ → Option (List �
 AppendsFilter f blocks at old new None = (f.config.bits_per_key ≡ 0) × Appends old new []
 AppendsFilter f blocks at old new (Some h) =
     (1 ≤ f.config.bits_per_key) × (length (joined blocks) * f.config.bits_per_key ≤ 34359737920)
-    × ((p : List ℕ) × IsFilterText (key_hashes f.hash64 (joined blocks)) f.config.bits_per_key p × IsFrameAppended f Filter at p old new h)
+    × ((p : List ℕ) × IsFilterText (key_hashes f.hash64 (joined blocks)) f.config.bits_per_key p × IsFrameAppended f.hash128 Filter at p old new h)
 
 -- entries can be the block behind others: there is one, and all are in order
 pub record Follows (blocks : List (List Entry)) (items : List Entry) : Type 0 where

@@ -11,6 +11,8 @@ ghost use Rattle.sst_block_core.specs.Kind.{IsOrdered};
 ghost use Rattle.sstable_blocks.specs.Blocks.{joined, IsNotEmpty};
 ghost use Rattle.sstable_blocks.specs.Policy.{bits_per_key};
 ghost use Rattle.sstable_blocks.specs.Run.{form, block_frame, block_frames, key_hashes, RunFits};
+ghost use Rattle.sstable_blocks.specs.Run.{block_payload, IsRun};
+ghost use Rattle.std.specs.List.{AllByRecursion};
 ghost use Rattle.sstable_blocks.specs.Run.{index_frame, index_text, IsFilterText, IsFramed};
 ghost use Rattle.sstable_blocks.specs.Writing.{Follows, IsBehind, FrameFits, PartFits, IsFramedBlock, IsWriteRefusal};
 ghost use Rattle.sstable_blocks.specs.Writing.{IsFrameAppended, AppendsFilter, AppendsEnd};
@@ -77,12 +79,16 @@ impl<H: BlockHash> RunCore<H> {
     pub(crate) fn fits_after(&self, items: &[InternalValue]) -> bool
         ensures { IsTrue result ↔ Follows self.now.blocks items.now }
     {
-        !items.is_empty() && DataBlock::<H>::is_ordered(items) && self.is_behind(&items[0])
+        match items.first() {
+            None => false,
+            Some(first) => DataBlock::<H>::is_ordered(items) && self.is_behind(first),
+        }
     }
 
     // Returns whether an entry does not sort before the last one of the blocks accepted.
     fn is_behind(&self, item: &InternalValue) -> bool
-        ensures { IsTrue result ↔ IsBehind self.now.blocks item.now }
+        ensures behind { IsTrue result ↔ IsBehind self.now.blocks item.now }
+        ensures ordered { IsOrdered entries (joined self.now.blocks) }
     {
         match self.handles.last() {
             None => true,
@@ -161,10 +167,13 @@ impl<H: BlockHash> RunCore<H> {
     fn write_index<W: Write>(&self, writer: &mut W) -> Result<(BlockHandle, u64)>
         requires { 1 ≤ length self.now.blocks }
         ensures written { let f = form H.hash64 H.hash128 self.now.config in
-            IfOk result (λ r. IsFrameAppended f Index (length (block_frames f self.now.blocks)) (index_text f self.now.blocks)
+            IfOk result (λ r. IsFrameAppended H.hash128 Index (length (block_frames f self.now.blocks)) (index_text f self.now.blocks)
             (W.contents writer.old) (W.contents writer.new) r.0) }
         ensures end { let f = form H.hash64 H.hash128 self.now.config in
             IfOk result (λ r. r.1 ≡ length (block_frames f self.now.blocks) + (33 + length (index_text f self.now.blocks))) }
+        ensures run { OnOk result (IsRun (form H.hash64 H.hash128 self.now.config) self.now.blocks) }
+        ensures framed { let f = form H.hash64 H.hash128 self.now.config in
+            OnOk result (AllByRecursion (λ block. IsFramed (block_payload f block)) self.now.blocks) }
         ensures cause { IfErr result (IsWriteRefusal (RunFits (form H.hash64 H.hash128 self.now.config) self.now.blocks → ⊥)) }
     {
         handles_are_ready();
@@ -261,9 +270,9 @@ fn write_part<H: BlockHash, W: Write>(
     block_type: BlockType,
     offset: u64,
 ) -> Result<(BlockHandle, u64)>
-    ensures bytes { OnOk result (Appends (W.contents writer.old) (W.contents writer.new) (frame H.hash128 block_type payload.now)) }
-    ensures range { IfOk result (λ r. (r.0 ≡ record { offset = offset; size = 33 + length payload.now }) × (r.1 ≡ offset + (33 + length payload.now))) }
-    ensures fits { OnOk result (PartFits offset payload.now) }
+    ensures written { IfOk result (λ r. IsFrameAppended H.hash128 block_type offset payload.now
+        (W.contents writer.old) (W.contents writer.new) r.0) }
+    ensures end { IfOk result (λ r. r.1 ≡ offset + (33 + length payload.now)) }
     ensures cause { IfErr result (λ e. (e ≡ Io) ⊎ ((e ≡ TooLong) × (PartFits offset payload.now → ⊥))) }
 {
     let Some((size, end)) = frame_end(payload.len(), offset) else {

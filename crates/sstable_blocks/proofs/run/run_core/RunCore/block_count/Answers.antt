@@ -1,4 +1,4 @@
-use Rattle.std.proofs.Common.{arith, ap, ◌∙◌, length}
+use Rattle.std.proofs.Common.{ap, ◌∙◌, length}
 use Rattle.sstable_blocks.specs.Run.{form}
 use Rattle.sstable_blocks.specs.Writing.{Written}
 use Rattle.sstable_blocks.proofs.Kept.{length-handles_from}
@@ -6,9 +6,6 @@ use Rattle.sstable_blocks.proofs.run.run_core.RunCore.block_count.Goals as goal
 
 pub returns : goal.returns
 returns g c =
-    let n = ap length c.self.invariant.handles in
-    let l = length-handles_from (form g.H.BlockHash.hash64 g.H.BlockHash.hash128 c.self.inside.config) c.self.inside.accepted 0 in
-    let b = ap (λ (w : Written). length w.blocks) c.self.view_is in
-    let k = c.self.inside.handles.ok in
-    let m = c.len.ensures in
-    ?
+    c.len.ensures ∙ c.self.inside.handles.ok.0 ∙ ap length c.self.invariant.handles
+    ∙ length-handles_from (form g.H.BlockHash.hash64 g.H.BlockHash.hash128 c.self.inside.config) c.self.inside.accepted 0
+    ∙ ap (λ (w : Written). length w.blocks) c.self.view_is
