@@ -108,10 +108,12 @@ pub bytes_next : (f : Form) (a b c : Option (List ℕ)) (old new : List (List En
 bytes_next f a b c old new block h k n = subst (Appends a c) (sym (ap (block_frames f) n ∙ frames_next f old block)) (appends_then a b c _ _ h k)
 
 -- the frames of all blocks, and then the end, are a layout
+pub layout_joined : (f : Form) (blocks : List (List Entry)) (a b c : Option (List ℕ)) (h : RunHandles) → Appends a b (block_frames f blocks) → AppendsEnd f blocks b c h → AppendsLayout f blocks a c h
+layout_joined f blocks a b c h front end = (block_frames f blocks ++ end.0, end.1, appends_then a b c _ _ front end.2)
+
 pub layout_end : (f : Form) (a b c : Option (List ℕ)) (blocks all : List (List Entry)) (r : Result RunHandles Error) → blocks ≡ all → Appends a b (block_frames f blocks)
     → IfOk r (AppendsEnd f blocks b c) → IfOk r (AppendsLayout f all a c)
-layout_end f a b c blocks all (Ok h) e front end =
-    subst (λ bs. AppendsLayout f bs a c h) e (block_frames f blocks ++ end.0, end.1, appends_then a b c _ _ front end.2)
+layout_end f a b c blocks all (Ok h) e front end = subst (λ bs. AppendsLayout f bs a c h) e (layout_joined f blocks a b c h front end)
 layout_end f a b c blocks all (Err x) e front end = tt
 
 pub before_cut : (start end i : ℕ) (cuts : List ℕ) → i < length cuts → start < get_or cuts i 0 → CutsFit (get_or cuts i 0) end (drop (i + 1) cuts) → CutsFit start end (drop i cuts)
