@@ -2,3 +2,12 @@ pub mod Bits
 pub mod Counts
 pub mod Probes
 pub mod Remainders
+pub mod Cuts
+pub mod Ends
+pub mod Search
+pub mod BlockHandles
+pub mod Layouts
+pub mod FilterReads
+pub mod Openings
+pub mod IndexSteps
+pub mod Points
