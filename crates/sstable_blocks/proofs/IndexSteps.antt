@@ -1,11 +1,10 @@
 -- A seek in an index, and the step behind it.
-use Rattle.std.proofs.Common.{◌≡◌, ℕ, ◌+◌, cond, eqb, ltb, List, length, refl, sym, ◌∙◌, ap, inl, inr, Option, Some, None, Bool, true, false}
+use Rattle.std.proofs.Common.{◌≡◌, ℕ, ◌+◌, cond, eqb, ltb, List, length, refl, sym, ◌∙◌, ap, inl, inr, Option, Some, None, Bool}
 use Rattle.std.specs.List.{slice_get}
 use Rattle.std.specs.Option.{option_map}
 use Rattle.std.proofs.lemmas.Bool.{cases_Bool, ltb-false}
 use Rattle.std.proofs.lemmas.Option.{slice_get_past}
 use Rattle.sst_base.specs.BlockHandle.{HandleParts}
-use Rattle.sst_base.specs.ReadingLaws.{pair_parts}
 use Rattle.sst_block_core.specs.Backs.{GivesStep}
 use Rattle.sst_block_core.specs.Handles.{Handle, handles}
 use Rattle.sst_block_core.specs.Landings.{GivesNextHeld, scan_cost}
@@ -48,8 +47,8 @@ found_range s t u hs needle seqno b r fresh sought given =
     range_by-handle t.payload r ∙ ap (option_map range_of) (same ∙ left_at hs (place_for handles needle seqno hs))
 
 -- the most handles: those of a scan, and one
-pub handles_most-scan : (q : ℕ) → handles_most q ≡ scan_cost q + 1
-handles_most-scan q = elim (cases_Bool (eqb q 1)) [
+pub handles_by_scan : (q : ℕ) → handles_most q ≡ scan_cost q + 1
+handles_by_scan q = elim (cases_Bool (eqb q 1)) [
   | inl one ↦ ap (λ b. cond b 1 (q + 1)) one ∙ ap (λ b. cond b 0 q + 1) (sym one)
   | inr more ↦ ap (λ b. cond b 1 (q + 1)) more ∙ ap (λ b. cond b 0 q + 1) (sym more)
 ]

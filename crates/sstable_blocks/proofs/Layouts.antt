@@ -70,8 +70,8 @@ module _ (f : Form) where
       let whole : (block_frames f blocks ++ index_frame f blocks) ++ (filter_frame f p ++ []) ≡ block_frames f blocks ++ (index_frame f blocks ++ filter_frame f p) =
       ap (λ xs. (block_frames f blocks ++ index_frame f blocks) ++ xs) (append-nil (filter_frame f p)) ∙ append_assoc (block_frames f blocks) (index_frame f blocks) (filter_frame f p) in
       subst (λ n. IsPart (block_frames f blocks ++ (index_frame f blocks ++ filter_frame f p)) n (filter_frame f p)) (length-append (block_frames f blocks) (index_frame f blocks))
-          (subst (λ xs. IsPart xs (length (block_frames f blocks ++ index_frame f blocks)) (filter_frame f p)) whole
-          (IsPart-between (block_frames f blocks ++ index_frame f blocks) (filter_frame f p) []))
+      (subst (λ xs. IsPart xs (length (block_frames f blocks ++ index_frame f blocks)) (filter_frame f p)) whole
+      (IsPart-between (block_frames f blocks ++ index_frame f blocks) (filter_frame f p) []))
 
   -- the payload of a block encodes it
   abbrev pub IsDataBlock : List Entry → Type 0

@@ -19,7 +19,7 @@ use Rattle.sst_block_core.specs.Trailer.{trailer_in}
 use Rattle.sst_block_core.specs.Window.{first_match}
 use Rattle.sstable_blocks.specs.Blocks.{joined}
 use Rattle.sstable_blocks.specs.Filter.{Filter, filter_at}
-use Rattle.sstable_blocks.specs.Run.{Form, block_payload, block_frame, handle_of, handles_from, index_text, filter_frame, run_text, run_handles, key_hashes, IsFramed, IsFilterText, IsRun, RunFits, IsLayout}
+use Rattle.sstable_blocks.specs.Run.{Form, block_payload, block_frame, handle_of, handles_from, index_text, run_text, run_handles, key_hashes, IsFramed, IsFilterText, IsRun, RunFits, IsLayout}
 use Rattle.sstable_blocks.specs.Opened.{range_of, IsFrameRange, payload_in, IsDenied, IsOpen, Opened}
 use Rattle.sstable_blocks.specs.declared.run.RunHandles.{RunHandles}
 use Rattle.sstable_blocks.proofs.BlockHandles.{handles_end, length-handles_from}

@@ -1,7 +1,6 @@
 -- A point read of a run, by what a reader finds in its layout.
 use Rattle.std.proofs.Common.{◌≡◌, ℕ, ◌+◌, ◌-◌, ◌≤◌, List, length, take, drop, refl, arith, sym, ◌∙◌, ap, subst, Option, Some, None}
 use Rattle.std.proofs.lemmas.List.{length-map}
-use Rattle.std.specs.List.{slice_get}
 use Rattle.std.specs.Option.{option_map}
 use Rattle.sst_base.specs.BlockHandle.{HandleParts}
 use Rattle.sst_base.specs.Entry.{plain}
@@ -20,7 +19,7 @@ use Rattle.sst_base.specs.Entry.{Entry}
 use Rattle.sstable_blocks.specs.Blocks.{joined}
 use Rattle.sstable_blocks.specs.Lookup.{first_in, handle_for, place_for}
 use Rattle.sstable_blocks.specs.Opened.{range_of, payload_in, index_in, block_for, IsDenied, IsOpen, Opened}
-use Rattle.sstable_blocks.specs.ReadCosts.{heads_of}
+use Rattle.sstable_blocks.specs.ReadCosts.{heads_of, handles_most}
 use Rattle.sstable_blocks.specs.Run.{Form, handles_from}
 use Rattle.sstable_blocks.specs.declared.run.RunHandles.{RunHandles}
 
@@ -90,6 +89,10 @@ module _ (f : Form) (blocks : List (List Entry)) (bytes : List ℕ) (h : RunHand
   index_digits =
       ap digits (ap (λ n. head_count n (length (index_in bytes h.index))) o.index_interval
       ∙ ap (λ xs. head_count f.config.index_interval (length xs)) o.index_items ∙ ap (head_count f.config.index_interval) o.count)
+
+  -- the most handles that are decoded
+  pub index_handles : handles_most (trailer_in (payload_in bytes h.index)).interval ≡ handles_most f.config.index_interval
+  index_handles = ap handles_most o.index_interval
 
   pub block_digits : (r : Option HandleParts) (k : HandleParts) → IsAnswer r → r ≡ Some k
       → digits (head_count (trailer_in (payload_in bytes k)).interval (length (items_in entries (payload_in bytes k)))) ≡ digits (heads_of f (block_for f blocks needle s))
