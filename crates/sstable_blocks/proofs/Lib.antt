@@ -6,3 +6,12 @@ pub mod Kept
 pub mod CutLoops
 pub mod Endings
 pub mod FilterTexts
+pub mod Cuts
+pub mod Ends
+pub mod Search
+pub mod BlockHandles
+pub mod Layouts
+pub mod FilterReads
+pub mod Openings
+pub mod IndexSteps
+pub mod Points

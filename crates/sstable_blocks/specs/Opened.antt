@@ -10,7 +10,7 @@ use Rattle.sst_block_core.specs.Trailer.{trailer_in}
 use Rattle.sst_block_core.specs.Window.{first_match}
 use Rattle.sstable_blocks.specs.Blocks.{joined}
 use Rattle.sstable_blocks.specs.Filter.{Filter, filter_at, MayContain}
-use Rattle.sstable_blocks.specs.Lookup.{first_in, handle_for, place_for}
+use Rattle.sstable_blocks.specs.Lookup.{first_in, place_for}
 use Rattle.sstable_blocks.specs.Run.{Form, handles_from}
 use Rattle.sstable_blocks.specs.declared.run.RunHandles.{RunHandles}
 

@@ -2,10 +2,12 @@
 ghost use Rattle.std.specs.Prelude.{◌≡◌};
 
 pub mod laws;
+pub mod read;
 mod run_core;
 pub mod write;
 pub mod writer;
 
+pub use read::read_entry;
 use sst_base::{BlockHandle, HashRatio};
 pub use write::{cuts_fit, write_run};
 pub use writer::RunWriter;
@@ -27,7 +29,11 @@ impl RunConfig {
     /// Makes a configuration in which each handle of the index is a head.
     pub fn new(restart_interval: u8, ratio: HashRatio, bits_per_key: u32) -> RunConfig
         ensures { result ≡ record {
-            restart_interval = restart_interval; ratio = ratio; bits_per_key = bits_per_key; index_interval = 1 } }
+          restart_interval = restart_interval;
+          ratio = ratio;
+          bits_per_key = bits_per_key;
+          index_interval = 1;
+        } }
     {
         RunConfig {
             restart_interval,

@@ -14,7 +14,7 @@ ghost use Rattle.sst_block_core.specs.Trailer.{trailer_in};
 ghost use Rattle.sst_block_core.specs.Encoders.{IsRefusal};
 ghost use Rattle.sst_block_core.specs.Lookups.{read_heads, read_entries};
 ghost use Rattle.sst_block_core.specs.Window.{whole, first_match};
-ghost use Rattle.sst_block_core.specs.DataBlock.{block_of};
+ghost use Rattle.sst_block_core.specs.DataBlock.{block_of, data_block_of};
 
 mod decoding;
 mod encoding;
@@ -144,6 +144,7 @@ impl<H: BlockHash> DataBlock<H> {
             × IsBlock entries IsEntry H.hash64 block.payload items r b }
         ensures inner { block_of result ≡ block }
         ensures payload { result.payload ≡ block.payload }
+        ensures parts { result ≡ data_block_of block }
         ensures read { (items : List Entry) (r b : ℕ) → IsBlock entries IsEntry H.hash64 block.payload items r b
             → (result.items ≡ map plain items) × (result.interval ≡ r) × (result.stored ≡ stored_count r (length items) b) }
     {

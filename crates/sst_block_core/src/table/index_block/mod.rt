@@ -6,7 +6,7 @@ ghost use Rattle.sst_base.specs.Bytes.{IsBytes};
 ghost use Rattle.sst_block_core.specs.Encoders.{IsRefusal};
 ghost use Rattle.sst_block_core.specs.Handles.{Handle, EndFits, handles, index_payload};
 ghost use Rattle.sst_block_core.specs.Handles.{IsIndexBlock};
-ghost use Rattle.sst_block_core.specs.IndexBlock.{block_of};
+ghost use Rattle.sst_block_core.specs.IndexBlock.{block_of, index_block_of};
 ghost use Rattle.sst_block_core.specs.Kind.{IsOrdered};
 ghost use Rattle.sst_block_core.specs.Trailer.{trailer_in};
 ghost use Rattle.sst_block_core.specs.Window.{whole};
@@ -174,6 +174,7 @@ impl IndexBlock {
         requires { (items : List Handle) × (r : ℕ) × IsIndexBlock block.payload items r }
         ensures inner { block_of result ≡ block }
         ensures payload { result.payload ≡ block.payload }
+        ensures parts { result ≡ index_block_of block }
         ensures read { (items : List Handle) (r : ℕ) → IsIndexBlock block.payload items r
             → (result.items ≡ items) × (result.interval ≡ r) }
     {

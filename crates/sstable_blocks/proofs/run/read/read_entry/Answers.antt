@@ -1,0 +1,90 @@
+use Rattle.std.proofs.Common.{arith}
+use Rattle.sstable_blocks.specs.Run.{form}
+use Rattle.sstable_blocks.proofs.Points.{chosen, found_none, found_denied, found_some, index_digits, index_handles, block_digits, block_interval}
+use Rattle.sstable_blocks.proofs.run.read.read_entry.Goals as goal
+
+pub may_have-requires-clause-range : goal.may_have-requires-clause-range
+may_have-requires-clause-range g c =
+    let l = c.requires.layout in
+    (c.layout_opens.ensures (form g.H.BlockHash.hash64 g.H.BlockHash.hash128 l.0) l.1 _ _ l.2).filter_range
+
+pub may_have-requires-clause-readable : goal.may_have-requires-clause-readable
+may_have-requires-clause-readable g c =
+    let l = c.requires.layout in
+    (c.layout_opens.ensures (form g.H.BlockHash.hash64 g.H.BlockHash.hash128 l.0) l.1 _ _ l.2).filter_reads
+
+pub returns-then-not-branch-clause-found : goal.returns-then-not-branch-clause-found
+returns-then-not-branch-clause-found g c = λ config blocks layout.
+    let o = c.layout_opens.ensures (form g.H.BlockHash.hash64 g.H.BlockHash.hash128 config) blocks _ _ layout in
+    found_denied _ _ _ _ c.args.needle.now c.args.seqno o _ c.hash64.ensures (c.in_ok-may_have.ensures.denied.0 c.if-not-branch.true)
+
+pub handle_in_index-requires-clause-range : goal.handle_in_index-requires-clause-range
+handle_in_index-requires-clause-range g c =
+    let l = c.requires.layout in
+    (c.layout_opens.ensures (form g.H.BlockHash.hash64 g.H.BlockHash.hash128 l.0) l.1 _ _ l.2).index_range
+
+pub handle_in_index-requires-clause-index : goal.handle_in_index-requires-clause-index
+handle_in_index-requires-clause-index g c =
+    let l = c.requires.layout in
+    (_, _, (c.layout_opens.ensures (form g.H.BlockHash.hash64 g.H.BlockHash.hash128 l.0) l.1 _ _ l.2).index_block)
+
+pub returns-in_err-handle_in_index-clause-heads : goal.returns-in_err-handle_in_index-clause-heads
+returns-in_err-handle_in_index-clause-heads g c = λ config blocks layout.
+    let o = c.layout_opens.ensures (form g.H.BlockHash.hash64 g.H.BlockHash.hash128 config) blocks _ _ layout in
+    let d = index_digits _ _ _ _ c.args.needle.now c.args.seqno o in
+    omega arith
+
+pub returns-in_err-handle_in_index-clause-entries : goal.returns-in_err-handle_in_index-clause-entries
+returns-in_err-handle_in_index-clause-entries g c = λ config blocks layout.
+    let o = c.layout_opens.ensures (form g.H.BlockHash.hash64 g.H.BlockHash.hash128 config) blocks _ _ layout in
+    let i = index_handles _ _ _ _ c.args.needle.now c.args.seqno o in
+    omega arith
+
+pub match_in-requires-clause-range : goal.match_in-requires-clause-range
+match_in-requires-clause-range g c =
+    let l = c.requires.layout in
+    let o = c.layout_opens.ensures (form g.H.BlockHash.hash64 g.H.BlockHash.hash128 l.0) l.1 _ _ l.2 in
+    (chosen _ _ _ _ c.args.needle.now c.args.seqno o _ _ c.in_ok-handle_in_index.ensures.found c.in-Some.is).2.range
+
+pub match_in-requires-clause-block : goal.match_in-requires-clause-block
+match_in-requires-clause-block g c =
+    let l = c.requires.layout in
+    let o = c.layout_opens.ensures (form g.H.BlockHash.hash64 g.H.BlockHash.hash128 l.0) l.1 _ _ l.2 in
+    let b = chosen _ _ _ _ c.args.needle.now c.args.seqno o _ _ c.in_ok-handle_in_index.ensures.found c.in-Some.is in
+    (b.0, _, b.2.buckets, b.2.is_block)
+
+pub returns-in-None-clause-found : goal.returns-in-None-clause-found
+returns-in-None-clause-found g c = λ config blocks layout.
+    let o = c.layout_opens.ensures (form g.H.BlockHash.hash64 g.H.BlockHash.hash128 config) blocks _ _ layout in
+    found_none _ _ _ _ c.args.needle.now c.args.seqno o _ c.in_ok-handle_in_index.ensures.found c.in-None.is
+
+pub returns-in-None-clause-heads : goal.returns-in-None-clause-heads
+returns-in-None-clause-heads g c = λ config blocks layout.
+    let o = c.layout_opens.ensures (form g.H.BlockHash.hash64 g.H.BlockHash.hash128 config) blocks _ _ layout in
+    let d = index_digits _ _ _ _ c.args.needle.now c.args.seqno o in
+    omega arith
+
+pub returns-in-None-clause-entries : goal.returns-in-None-clause-entries
+returns-in-None-clause-entries g c = λ config blocks layout.
+    let o = c.layout_opens.ensures (form g.H.BlockHash.hash64 g.H.BlockHash.hash128 config) blocks _ _ layout in
+    let i = index_handles _ _ _ _ c.args.needle.now c.args.seqno o in
+    omega arith
+
+pub returns-in-Some-clause-found : goal.returns-in-Some-clause-found
+returns-in-Some-clause-found g c = λ config blocks layout.
+    let o = c.layout_opens.ensures (form g.H.BlockHash.hash64 g.H.BlockHash.hash128 config) blocks _ _ layout in
+    rw (found_some _ _ _ _ c.args.needle.now c.args.seqno o _ _ c.in_ok-handle_in_index.ensures.found c.in-Some.is) at c.match_in.ensures.found
+
+pub returns-in-Some-clause-heads : goal.returns-in-Some-clause-heads
+returns-in-Some-clause-heads g c = λ config blocks layout.
+    let o = c.layout_opens.ensures (form g.H.BlockHash.hash64 g.H.BlockHash.hash128 config) blocks _ _ layout in
+    let d = index_digits _ _ _ _ c.args.needle.now c.args.seqno o in
+    let e = block_digits _ _ _ _ c.args.needle.now c.args.seqno o _ _ c.in_ok-handle_in_index.ensures.found c.in-Some.is in
+    omega arith
+
+pub returns-in-Some-clause-entries : goal.returns-in-Some-clause-entries
+returns-in-Some-clause-entries g c = λ config blocks layout.
+    let o = c.layout_opens.ensures (form g.H.BlockHash.hash64 g.H.BlockHash.hash128 config) blocks _ _ layout in
+    let n = index_handles _ _ _ _ c.args.needle.now c.args.seqno o in
+    let i = block_interval _ _ _ _ c.args.needle.now c.args.seqno o _ _ c.in_ok-handle_in_index.ensures.found c.in-Some.is in
+    omega arith

@@ -1,0 +1,188 @@
+//! Reading runs.
+ghost use Rattle.std.specs.Prelude.{◌≡◌, ◌↔◌, ℕ, ◌+◌, ◌≤◌, ◌<◌, ◌^◌, List, length, Some, None, Ok, false};
+ghost use Rattle.std.specs.Prelude.{IfOk, IfSome, IsOkUnless};
+ghost use Rattle.std.specs.Option.{option_map};
+ghost use Rattle.sst_base.specs.Entry.{Entry, IsEntry};
+ghost use Rattle.sst_block_core.specs.Entries.{entries};
+ghost use Rattle.sst_block_core.specs.Handles.{Handle, handles, IsIndexBlock};
+ghost use Rattle.sst_block_core.specs.Intervals.{digits};
+ghost use Rattle.sst_block_core.specs.Payload.{IsBlock};
+ghost use Rattle.sst_block_core.specs.Pointers.{head_count};
+ghost use Rattle.sst_block_core.specs.Stages.{items_in};
+ghost use Rattle.sst_block_core.specs.Trailer.{trailer_in};
+ghost use Rattle.sst_block_core.specs.Window.{first_match};
+ghost use Rattle.sstable_blocks.specs.Blocks.{joined};
+ghost use Rattle.sstable_blocks.specs.Filter.{Filter, filter_at};
+ghost use Rattle.sstable_blocks.specs.Lookup.{handle_for};
+ghost use Rattle.sstable_blocks.specs.Opened.{range_of, index_in, payload_in};
+ghost use Rattle.sstable_blocks.specs.Opened.{IsDenied, IsFrameRange};
+ghost use Rattle.sstable_blocks.specs.ReadCosts.{heads_most, handles_most, entries_most};
+ghost use Rattle.sstable_blocks.specs.Run.{form, IsLayout};
+ghost use Rattle.sstable_blocks.specs.declared.run.RunConfig.{RunConfig};
+
+use crate::run::RunHandles;
+use crate::run::laws::layout_opens;
+use crate::table::filter::FilterBlock;
+use sst_base::table::block::header::HEADER_LEN;
+use sst_base::{
+    Block, BlockHandle, BlockHash, BlockType, Checksum, Error, Header, InternalValue, Result,
+    SeqNo, Slice, Steps,
+};
+use sst_block_core::{DataBlock, IndexBlock};
+use std::alloc::Global;
+
+// The block of a frame, by the frame's range alone. The checksum of its header is 0, since nobody
+// asks for it.
+#[tactic(auto, using(crate::proofs::Points::payload_range), unfolding(crate::specs::Opened::payload_in))]
+fn block_at(bytes: &Slice, handle: &BlockHandle, block_type: BlockType) -> Result<Block>
+    requires { IsFrameRange bytes.now handle.now }
+    ensures payload { IfOk result (λ b. b.payload ≡ payload_in bytes.now handle.now) }
+    ensures memory { IsOkUnless result Error.Memory }
+{
+    // The proof needs the bound on the length of the bytes.
+    let _fits = bytes.len();
+    let size = handle.size();
+    let start = *handle.offset() as usize;
+    let payload = bytes.slice(start + HEADER_LEN..start + size as usize)?;
+    let length = size - HEADER_LEN as u32;
+    let header = Header {
+        block_type,
+        checksum: Checksum::from_raw(0),
+        data_length: length,
+        uncompressed_length: length,
+    };
+    Ok(Block::from_parts(header, payload))
+}
+
+// Whether a run can have a key of this hash, by its filter.
+fn may_have(bytes: &Slice, filter: &Option<BlockHandle>, hash: u64) -> Result<bool>
+    requires range { IfSome filter.now (IsFrameRange bytes.now) }
+    requires readable { IfSome filter.now (λ h. (f : Filter) × (filter_at (payload_in bytes.now h) ≡ Ok f)) }
+    ensures denied { IfOk result (λ may. (may ≡ false) ↔ IsDenied bytes.now filter.now hash) }
+    ensures memory { IsOkUnless result Error.Memory }
+{
+    match filter {
+        None => Ok(true),
+        Some(handle) => {
+            let filter = FilterBlock::new(block_at(bytes, handle, BlockType::Filter)?);
+            filter.maybe_contains_hash(hash)
+        }
+    }
+}
+
+// The first handle of an index that can lead to a key below a sequence number.
+#[tactic(auto, using(crate::proofs::IndexSteps::found_range, crate::proofs::IndexSteps::handles_by_scan))]
+fn find_handle(
+    index: &IndexBlock,
+    needle: &[u8],
+    seqno: SeqNo,
+    steps: &mut Steps,
+) -> Option<BlockHandle>
+    ensures found { result ≡ option_map range_of (handle_for handles needle.now seqno index.now.items) }
+    ensures heads { steps.new.heads ≤ steps.old.heads + digits (head_count index.now.interval (length index.now.items)) }
+    ensures heads_grow { steps.old.heads ≤ steps.new.heads }
+    ensures entries { steps.new.entries ≤ steps.old.entries + handles_most index.now.interval }
+    ensures entries_grow { steps.old.entries ≤ steps.new.entries }
+{
+    let mut iter = index.iter();
+    iter.seek(needle, seqno);
+    let found = iter.next();
+    steps.add(iter.steps());
+    match found {
+        Some(item) => Some(BlockHandle::new(item.offset, item.size)),
+        None => None,
+    }
+}
+
+// The handle of the block that can hold a key below a sequence number, by the index in a frame.
+fn handle_in_index(
+    bytes: &Slice,
+    handle: &BlockHandle,
+    needle: &[u8],
+    seqno: SeqNo,
+    steps: &mut Steps,
+) -> Result<Option<BlockHandle>>
+    requires range { IsFrameRange bytes.now handle.now }
+    requires index { (items : List Handle) × (r : ℕ) × IsIndexBlock (payload_in bytes.now handle.now) items r }
+    ensures found { IfOk result (λ found. found ≡ option_map range_of (handle_for handles needle.now seqno (index_in bytes.now handle.now))) }
+    ensures memory { IsOkUnless result Error.Memory }
+    ensures heads { let p = payload_in bytes.now handle.now in
+        steps.new.heads ≤ steps.old.heads + digits (head_count (trailer_in p).interval (length (index_in bytes.now handle.now))) }
+    ensures heads_grow { steps.old.heads ≤ steps.new.heads }
+    ensures entries { steps.new.entries ≤ steps.old.entries + handles_most (trailer_in (payload_in bytes.now handle.now)).interval }
+    ensures entries_grow { steps.old.entries ≤ steps.new.entries }
+{
+    let index = IndexBlock::new(block_at(bytes, handle, BlockType::Index)?);
+    Ok(find_handle(&index, needle, seqno, steps))
+}
+
+// The first match in the block in a frame.
+#[tactic(auto, using(crate::proofs::Points::block_heads, crate::proofs::Points::block_entries))]
+fn match_in<H: BlockHash>(
+    alloc: Global,
+    bytes: &Slice,
+    handle: &BlockHandle,
+    needle: &[u8],
+    seqno: SeqNo,
+    steps: &mut Steps,
+) -> Result<Option<InternalValue>>
+    requires range { IsFrameRange bytes.now handle.now }
+    requires block { (items : List Entry) × (r : ℕ) × (b : ℕ) × IsBlock entries IsEntry H.hash64 (payload_in bytes.now handle.now) items r b }
+    ensures found { IfOk result (λ item. item ≡ first_match entries needle.now seqno (items_in entries (payload_in bytes.now handle.now))) }
+    ensures memory { IsOkUnless result Error.Memory }
+    ensures heads { let p = payload_in bytes.now handle.now in
+        steps.new.heads ≤ steps.old.heads + digits (head_count (trailer_in p).interval (length (items_in entries p))) }
+    ensures heads_grow { steps.old.heads ≤ steps.new.heads }
+    ensures entries { steps.new.entries ≤ steps.old.entries + ((trailer_in (payload_in bytes.now handle.now)).interval + 1) }
+    ensures entries_grow { steps.old.entries ≤ steps.new.entries }
+{
+    let block = DataBlock::<H>::new(block_at(bytes, handle, BlockType::Data)?);
+    block.point_read(alloc, needle, seqno, steps)
+}
+
+/// Returns the first entry of a run with this key whose sequence number is strictly below `seqno`.
+/// A tombstone has no value.
+///
+/// The bytes are a layout of the run, with these handles. Nothing of it is tested, and no checksum
+/// is computed: the frames are taken by their ranges, and their payloads are sub-slices of the
+/// bytes.
+///
+/// The filter is asked first. Where it denies the key, nothing else is looked at. Else the index
+/// leads to the one block that can hold the key. What was looked at is added to `steps`: at most as
+/// many heads as the number of heads of the index has binary digits, and those of the block; of the
+/// index one handle, and those of one interval where not each handle is a head; and the entries of
+/// one interval of the block, and one more.
+///
+/// # Errors
+///
+/// `Error::Memory` if an allocation fails.
+pub fn read_entry<H: BlockHash>(
+    alloc: Global,
+    bytes: &Slice,
+    handles: &RunHandles,
+    needle: &[u8],
+    seqno: SeqNo,
+    steps: &mut Steps,
+) -> Result<Option<InternalValue>>
+    requires layout { (config : RunConfig) × (blocks : List (List Entry)) × IsLayout (form H.hash64 H.hash128 config) blocks bytes.now handles.now }
+    ensures found { (config : RunConfig) (blocks : List (List Entry)) → IsLayout (form H.hash64 H.hash128 config) blocks bytes.now handles.now
+        → IfOk result (λ item. item ≡ first_match entries needle.now seqno (joined blocks)) }
+    ensures memory { IsOkUnless result Error.Memory }
+    ensures heads { (config : RunConfig) (blocks : List (List Entry)) → IsLayout (form H.hash64 H.hash128 config) blocks bytes.now handles.now
+        → steps.new.heads ≤ steps.old.heads + heads_most (form H.hash64 H.hash128 config) blocks needle.now seqno }
+    ensures heads_grow { steps.old.heads ≤ steps.new.heads }
+    ensures entries { (config : RunConfig) (blocks : List (List Entry)) → IsLayout (form H.hash64 H.hash128 config) blocks bytes.now handles.now
+        → steps.new.entries ≤ steps.old.entries + entries_most (form H.hash64 H.hash128 config) }
+    ensures entries_grow { steps.old.entries ≤ steps.new.entries }
+    ensures denied { IsDenied bytes.now handles.now.filter (H.hash64 needle.now)
+        → (steps.new.heads ≡ steps.old.heads) × (steps.new.entries ≡ steps.old.entries) }
+{
+    layout_opens();
+    if !may_have(bytes, &handles.filter, H::hash64(needle))? {
+        return Ok(None);
+    }
+    match handle_in_index(bytes, &handles.index, needle, seqno, steps)? {
+        None => Ok(None),
+        Some(handle) => match_in::<H>(alloc, bytes, &handle, needle, seqno, steps),
+    }
+}
