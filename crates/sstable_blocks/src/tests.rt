@@ -1,6 +1,8 @@
 // What no clause says: values from outside, and that a call succeeds where memory is ample.
 ghost use Rattle.std.specs.Prelude.{◌<◌};
 
+mod runs;
+
 use crate::table::filter::bit_array::{self, BitArrayReader, enable_bit};
 use crate::table::filter::standard_bloom::{Builder, StandardBloomFilterReader, secondary_hash};
 use crate::table::filter::{BloomConstructionPolicy, FilterBlock, FilterType};

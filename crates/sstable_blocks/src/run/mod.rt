@@ -3,11 +3,13 @@ ghost use Rattle.std.specs.Prelude.{◌≡◌};
 
 pub mod laws;
 pub mod read;
+pub mod round_trip;
 mod run_core;
 pub mod write;
 pub mod writer;
 
 pub use read::read_entry;
+pub use round_trip::write_and_read;
 use sst_base::{BlockHandle, HashRatio};
 pub use write::{cuts_fit, write_run};
 pub use writer::RunWriter;
