@@ -1,16 +1,23 @@
 -- A run that is being written.
-use Rattle.std.specs.Prelude.{◌≡◌, ℕ, ◌+◌, ◌<◌, ◌^◌, ◌⊎◌, List, length, Option}
+use Rattle.std.specs.Prelude.{◌≡◌, ◌≢◌, ℕ, ◌+◌, ◌*◌, ◌≤◌, ◌<◌, ◌^◌, ◌⊎◌, List, [], ◌∷◌, ◌++◌, length, Option, Some, None}
+use Rattle.std.specs.Io.KnownBytes.{Appends}
 use Rattle.std.specs.List.{AllByRecursion}
+use Rattle.std.specs.declared.cmp.Ordering.TheVariants.{Less}
+use Rattle.sst_base.specs.BlockHandle.{HandleParts}
 use Rattle.sst_base.specs.Entry.{Entry, IsEntry}
+use Rattle.sst_base.specs.Frame.{frame}
 use Rattle.sst_base.specs.declared.error.Error.{Error}
 use Rattle.sst_base.specs.declared.error.Error.TheVariants.{Io, TooLong, Memory}
+use Rattle.sst_base.specs.declared.table.block.block_type.BlockType.{BlockType}
+use Rattle.sst_base.specs.declared.table.block.block_type.BlockType.TheVariants.{Filter}
 use Rattle.sst_block_core.specs.Body.{IsInterval}
 use Rattle.sst_block_core.specs.Entries.{entries}
 use Rattle.sst_block_core.specs.Handles.{Handle}
-use Rattle.sst_block_core.specs.Kind.{IsOrdered}
+use Rattle.sst_block_core.specs.Kind.{IsOrdered, item_cmp}
 use Rattle.sstable_blocks.specs.Blocks.{joined, IsNotEmpty}
-use Rattle.sstable_blocks.specs.Run.{Form, block_payload, block_frame, block_frames, handles_from, key_hashes, IsFramed}
+use Rattle.sstable_blocks.specs.Run.{Form, block_payload, block_frame, block_frames, handles_from, key_hashes, IsFramed, IsFilterText, IsLayout}
 use Rattle.sstable_blocks.specs.declared.run.RunConfig.{RunConfig}
+use Rattle.sstable_blocks.specs.declared.run.RunHandles.{RunHandles}
 
 -- what contracts see of the core of a writer of runs: how it writes, and the blocks that it accepted
 pub record Written : Type 0 where
@@ -60,3 +67,39 @@ pub record IsFramedBlock (f : Form) (at : ℕ) (block : List Entry) (text : List
 -- why a write is refused: the writer failed, or something does not fit, or memory was wanting
 abbrev pub IsWriteRefusal : Type 0 → Error → Type 0
 IsWriteRefusal long e = (e ≡ Io) ⊎ ((e ≡ TooLong) × long) ⊎ (e ≡ Memory)
+
+-- a writer's known bytes grew by the layout of a run, whose handles these are
+abbrev pub AppendsLayout : Form → List (List Entry) → Option (List ℕ) → Option (List ℕ) → RunHandles → Type 0
+AppendsLayout f blocks old new h = (text : List ℕ) × IsLayout f blocks text h × Appends old new text
+
+-- they grew by what a layout has behind the frames of its blocks
+abbrev pub AppendsEnd : Form → List (List Entry) → Option (List ℕ) → Option (List ℕ) → RunHandles → Type 0
+AppendsEnd f blocks old new h = (text : List ℕ) × IsLayout f blocks (block_frames f blocks ++ text) h × Appends old new text
+
+-- they grew by a frame at an offset, whose handle this is
+pub record IsFrameAppended (hash128 : List ℕ → ℕ) (t : BlockType) (at : ℕ) (payload : List ℕ) (old new : Option (List ℕ)) (h : HandleParts) : Type 0 where
+  pub bytes : Appends old new (frame hash128 t payload)
+  pub offset : h.offset ≡ at
+  pub size : h.size ≡ 33 + length payload
+  pub fits : PartFits at payload
+
+-- they grew by the frame of the filter of a run at an offset, if there are bits
+abbrev pub AppendsFilter : Form → List (List Entry) → ℕ → Option (List ℕ) → Option (List ℕ) → Option HandleParts → Type 0
+AppendsFilter f blocks at old new None = (f.config.bits_per_key ≡ 0) × Appends old new []
+AppendsFilter f blocks at old new (Some h) =
+    (1 ≤ f.config.bits_per_key) × (length (joined blocks) * f.config.bits_per_key ≤ 34359737920)
+    × ((p : List ℕ) × IsFilterText (key_hashes f.hash64 (joined blocks)) f.config.bits_per_key p × IsFrameAppended f.hash128 Filter at p old new h)
+
+-- entries can be the block behind others: there is one, and all are in order
+pub record Follows (blocks : List (List Entry)) (items : List Entry) : Type 0 where
+  pub some : IsNotEmpty items
+  pub ordered : IsOrdered entries (joined (blocks ++ items ∷ []))
+
+-- what a writer of runs keeps: a ratio that can be divided by, and before a refusal the frames of its blocks in its writer
+pub record IsUnderWay (f : Form) (blocks : List (List Entry)) (refusal : Option Error) (start now : Option (List ℕ)) : Type 0 where
+  pub den : 1 ≤ f.config.ratio.den
+  pub frames : refusal ≡ None → Appends start now (block_frames f blocks)
+
+-- an entry does not sort before the last one of blocks
+abbrev pub IsBehind : List (List Entry) → Entry → Type 0
+IsBehind blocks item = (front : List Entry) (last : Entry) → joined blocks ≡ front ++ last ∷ [] → item_cmp entries item last ≢ Less

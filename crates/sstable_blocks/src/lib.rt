@@ -12,7 +12,7 @@ pub mod table;
 mod tests;
 pub mod vectors;
 
-pub use run::{RunConfig, RunHandles, read_entry};
+pub use run::{RunConfig, RunHandles, RunWriter, cuts_fit, read_entry, write_run};
 pub use sst_base::{
     Block, BlockHandle, BlockHash, BlockOffset, BlockType, ByteSum, Checksum, ChecksumType,
     ChecksummedReader, ChecksummedWriter, Decode, Encode, Error, HashRatio, Header, HeaderName,

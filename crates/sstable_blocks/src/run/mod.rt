@@ -3,9 +3,14 @@ ghost use Rattle.std.specs.Prelude.{◌≡◌};
 
 pub mod laws;
 pub mod read;
+mod run_core;
+pub mod write;
+pub mod writer;
 
 pub use read::read_entry;
 use sst_base::{BlockHandle, HashRatio};
+pub use write::{cuts_fit, write_run};
+pub use writer::RunWriter;
 
 /// How a run is written.
 #[derive(Clone, Copy, Debug, PartialEq, Eq)]

@@ -1,0 +1,120 @@
+-- Writing the blocks of a list one after the other.
+use Rattle.std.proofs.Common.{◌≡◌, ℕ, ◌+◌, ◌-◌, ◌<◌, ◌≤◌, List, [], ◌∷◌, ◌++◌, length, take, drop, get_or, refl, arith, sym, ◌∙◌, ap, subst, append_assoc, length-append, inl, inr, Option, Some, None, Result, Ok, Err, IfOk}
+use Rattle.std.proofs.lemmas.List.{append-nil, drop_more, drop_all, drop-drop}
+use Rattle.std.specs.Io.KnownBytes.{Appends}
+use Rattle.std.specs.List.{AllByRecursion}
+use Rattle.sst_base.specs.Entry.{Entry}
+use Rattle.sst_base.specs.declared.error.Error.{Error}
+use Rattle.sst_block_core.specs.Entries.{entries}
+use Rattle.sst_block_core.specs.Kind.{IsOrdered}
+use Rattle.sstable_blocks.specs.Blocks.{joined, CutsFit, blocks_from}
+use Rattle.sstable_blocks.specs.Run.{Form, block_payload, block_frame, block_frames, IsFramed, RunFits}
+use Rattle.sstable_blocks.specs.Writing.{FrameFits, IsWriteRefusal, AppendsLayout, AppendsEnd}
+use Rattle.sstable_blocks.specs.declared.run.RunHandles.{RunHandles}
+
+cuts_below : (start end : ℕ) (cuts : List ℕ) → CutsFit start end cuts → start < end
+cuts_below start end [] h = h
+cuts_below start end (cut ∷ cuts) h = let k = cuts_below cut end cuts h.1 in omega arith
+
+-- the next cut
+pub next_cut : (start end i : ℕ) (cuts : List ℕ) → i < length cuts → CutsFit start end (drop i cuts) → (start < get_or cuts i 0) × (get_or cuts i 0 < end) × CutsFit (get_or cuts i 0) end (drop (i + 1) cuts)
+next_cut start end i cuts h fit =
+    let f = subst (CutsFit start end) (drop_more cuts i 0 h) fit in
+    (f.0, cuts_below (get_or cuts i 0) end (drop (i + 1) cuts) f.1, f.1)
+
+pub no_cut : (start end i : ℕ) (cuts : List ℕ) → length cuts ≤ i → CutsFit start end (drop i cuts) → start < end
+no_cut start end i cuts h fit = cuts_below start end (drop i cuts) fit
+
+pub next_block : (start i : ℕ) (cuts : List ℕ) (items : List Entry) → i < length cuts
+    → blocks_from start (drop i cuts) items ≡ take (get_or cuts i 0 - start) (drop start items) ∷ blocks_from (get_or cuts i 0) (drop (i + 1) cuts) items
+next_block start i cuts items h = ap (λ cs. blocks_from start cs items) (drop_more cuts i 0 h)
+
+joined-append : (xs ys : List (List Entry)) → joined (xs ++ ys) ≡ joined xs ++ joined ys
+joined-append [] ys = refl
+joined-append (b ∷ bs) ys = ap (λ zs. b ++ zs) (joined-append bs ys) ∙ sym (append_assoc b (joined bs) (joined ys))
+
+front_in_order : (xs ys : List Entry) → IsOrdered entries (xs ++ ys) → IsOrdered entries xs
+front_in_order [] ys h = tt
+front_in_order (x ∷ []) ys h = tt
+front_in_order (x ∷ y ∷ xs) ys h = (h.0, front_in_order (y ∷ xs) ys h.1)
+
+-- the blocks so far and the next one are a front of the list
+pub order_next : (blocks : List (List Entry)) (b : List Entry) (bs all : List (List Entry)) (items : List Entry) → blocks ++ b ∷ bs ≡ all → joined all ≡ items → IsOrdered entries items → IsOrdered entries (joined (blocks ++ b ∷ []))
+order_next blocks b bs all items e j o =
+    let whole : joined (blocks ++ b ∷ []) ++ joined bs ≡ items =
+    sym (joined-append (blocks ++ b ∷ []) bs) ∙ ap joined (append_assoc blocks (b ∷ []) bs) ∙ ap joined e ∙ j in
+    front_in_order (joined (blocks ++ b ∷ [])) (joined bs) (subst (IsOrdered entries) (sym whole) o)
+
+all_at : {X : Type 0} (P : X → Type 0) (xs : List X) (x : X) (ys : List X) → AllByRecursion P (xs ++ x ∷ ys) → P x
+all_at P [] x ys h = h.0
+all_at P (y ∷ xs) x ys h = all_at P xs x ys h.1
+
+pub refusal_on : (P Q : Type 0) (e : Error) → IsWriteRefusal P e → (P → Q) → IsWriteRefusal Q e
+refusal_on P Q e (inl io) f = inl io
+refusal_on P Q e (inr (inl long)) f = inr (inl (long.0, f long.1))
+refusal_on P Q e (inr (inr memory)) f = inr (inr memory)
+
+pub appends_then : (a b c : Option (List ℕ)) (x y : List ℕ) → Appends a b x → Appends b c y → Appends a c (x ++ y)
+appends_then None b c x y h k = tt
+appends_then (Some p) None c x y h k = absurd h
+appends_then (Some p) (Some q) None x y h k = absurd k
+appends_then (Some p) (Some q) (Some r) x y h k = k ∙ ap (λ z. z ++ y) h ∙ append_assoc p x y
+
+pub appends_nothing : (a : Option (List ℕ)) → Appends a a []
+appends_nothing None = tt
+appends_nothing (Some p) = sym (append-nil p)
+
+module _ (f : Form) where
+  block_frames-append : (xs ys : List (List Entry)) → block_frames f (xs ++ ys) ≡ block_frames f xs ++ block_frames f ys
+  block_frames-append [] ys = refl
+  block_frames-append (b ∷ bs) ys = ap (λ zs. block_frame f b ++ zs) (block_frames-append bs ys) ∙ sym (append_assoc (block_frame f b) (block_frames f bs) (block_frames f ys))
+
+  pub frames_next : (blocks : List (List Entry)) (b : List Entry) → block_frames f (blocks ++ b ∷ []) ≡ block_frames f blocks ++ block_frame f b
+  frames_next blocks b = block_frames-append blocks (b ∷ []) ∙ ap (λ xs. block_frames f blocks ++ xs) (append-nil (block_frame f b))
+
+  fits_one : (blocks : List (List Entry)) (b : List Entry) (bs : List (List Entry)) → RunFits f (blocks ++ b ∷ bs) → FrameFits f (length (block_frames f blocks)) b
+  fits_one blocks b bs fits =
+      let all = blocks ++ b ∷ bs in
+      let end = fits.end in
+      let m = ap length (block_frames-append blocks (b ∷ bs)) ∙ length-append (block_frames f blocks) (block_frames f (b ∷ bs)) in
+      let n = length-append (block_frame f b) (block_frames f bs) in
+      record { framed = all_at (λ block. IsFramed (block_payload f block)) blocks b bs fits.data_frames_fit; end = omega arith }
+
+  -- a run that fits has blocks that fit
+  pub fits_next : (blocks : List (List Entry)) (b : List Entry) (bs all : List (List Entry)) → blocks ++ b ∷ bs ≡ all → (FrameFits f (length (block_frames f blocks)) b → ⊥) → RunFits f all → ⊥
+  fits_next blocks b bs all e h = λ (fits : RunFits f all). h (fits_one blocks b bs (subst (RunFits f) (sym e) fits))
+
+-- one step of the loop
+pub step_is : (blocks : List (List Entry)) (start i : ℕ) (cuts : List ℕ) (items rest b : List Entry) (all : List (List Entry)) → i < length cuts → rest ≡ drop start items → b ≡ take (get_or cuts i 0 - start) rest
+    → blocks ++ blocks_from start (drop i cuts) items ≡ all → blocks ++ b ∷ blocks_from (get_or cuts i 0) (drop (i + 1) cuts) items ≡ all
+step_is blocks start i cuts items rest b all h r t e =
+    ap (λ x. blocks ++ x ∷ blocks_from (get_or cuts i 0) (drop (i + 1) cuts) items) (t ∙ ap (take (get_or cuts i 0 - start)) r)
+    ∙ ap (λ xs. blocks ++ xs) (sym (next_block start i cuts items h)) ∙ e
+
+pub last_is : (blocks : List (List Entry)) (start i : ℕ) (cuts : List ℕ) (items rest : List Entry) (all : List (List Entry)) → length cuts ≤ i → rest ≡ drop start items
+    → blocks ++ blocks_from start (drop i cuts) items ≡ all → blocks ++ rest ∷ [] ≡ all
+last_is blocks start i cuts items rest all h r e =
+    ap (λ x. blocks ++ x ∷ []) r ∙ ap (λ cs. blocks ++ blocks_from start cs items) (sym (drop_all i cuts h)) ∙ e
+
+pub so_far_is : (old new : List (List Entry)) (b : List Entry) (bs all : List (List Entry)) → new ≡ old ++ b ∷ [] → old ++ b ∷ bs ≡ all → new ++ bs ≡ all
+so_far_is old new b bs all n e = ap (λ xs. xs ++ bs) n ∙ append_assoc old (b ∷ []) bs ∙ e
+
+pub rest_is : (start cut : ℕ) (items rest behind : List Entry) → start ≤ cut → rest ≡ drop start items → behind ≡ drop (cut - start) rest → behind ≡ drop cut items
+rest_is start cut items rest behind h r b =
+    let n : start + (cut - start) ≡ cut = omega arith in
+    b ∙ ap (drop (cut - start)) r ∙ drop-drop (cut - start) start items ∙ ap (λ k. drop k items) n
+
+pub bytes_next : (f : Form) (a b c : Option (List ℕ)) (old new : List (List Entry)) (block : List Entry) → Appends a b (block_frames f old) → Appends b c (block_frame f block) → new ≡ old ++ block ∷ [] → Appends a c (block_frames f new)
+bytes_next f a b c old new block h k n = subst (Appends a c) (sym (ap (block_frames f) n ∙ frames_next f old block)) (appends_then a b c _ _ h k)
+
+-- the frames of all blocks, and then the end, are a layout
+pub layout_joined : (f : Form) (blocks : List (List Entry)) (a b c : Option (List ℕ)) (h : RunHandles) → Appends a b (block_frames f blocks) → AppendsEnd f blocks b c h → AppendsLayout f blocks a c h
+layout_joined f blocks a b c h front end = (block_frames f blocks ++ end.0, end.1, appends_then a b c _ _ front end.2)
+
+pub layout_end : (f : Form) (a b c : Option (List ℕ)) (blocks all : List (List Entry)) (r : Result RunHandles Error) → blocks ≡ all → Appends a b (block_frames f blocks)
+    → IfOk r (AppendsEnd f blocks b c) → IfOk r (AppendsLayout f all a c)
+layout_end f a b c blocks all (Ok h) e front end = subst (λ bs. AppendsLayout f bs a c h) e (layout_joined f blocks a b c h front end)
+layout_end f a b c blocks all (Err x) e front end = tt
+
+pub before_cut : (start end i : ℕ) (cuts : List ℕ) → i < length cuts → start < get_or cuts i 0 → CutsFit (get_or cuts i 0) end (drop (i + 1) cuts) → CutsFit start end (drop i cuts)
+before_cut start end i cuts h less fit = subst (CutsFit start end) (sym (drop_more cuts i 0 h)) (less, fit)

@@ -1,0 +1,65 @@
+use Rattle.std.proofs.Common.{◌≡◌, sym, ◌∙◌, ap, arith, subst, length, length-drop, get_or, IfOk}
+use Rattle.std.proofs.lemmas.Result.{err_from_is_err_and}
+use Rattle.std.specs.Io.KnownBytes.{Appends}
+use Rattle.sstable_blocks.specs.Blocks.{blocks_of}
+use Rattle.sstable_blocks.specs.Run.{form, block_frames}
+use Rattle.sstable_blocks.specs.Writing.{Written, FrameFits, IsWriteRefusal, AppendsLayout}
+use Rattle.sstable_blocks.proofs.CutLoops.{next_cut, step_is, last_is, so_far_is, rest_is, order_next, bytes_next, layout_end, refusal_on, fits_next}
+use Rattle.sstable_blocks.proofs.run.write.write_run.Goals as goal
+
+pub split_at-requires : goal.split_at-requires
+split_at-requires g c =
+    let i = c.loop-cut.invariant in
+    let n = next_cut _ _ c.loop-cut.cut-index c.args.cuts.now c.loop-cut-test.true i.cuts_left in
+    let r = ap length i.rest in
+    let l = length-drop c.loop-cut.start c.args.items.now in
+    omega arith
+
+pub add_block-requires-clause-ordered : goal.add_block-requires-clause-ordered
+add_block-requires-clause-ordered g c =
+    let i = c.loop-cut.invariant in
+    let step = step_is c.loop-cut.core.blocks c.loop-cut.start c.loop-cut.cut-index c.args.cuts.now c.args.items.now _ _ _ c.loop-cut-test.true i.rest c.split_at.ensures.front i.so_far in
+    order_next _ _ _ _ _ step (c.blocks_are_the_list.ensures c.args.items.now c.args.cuts.now c.requires.cuts).0 c.requires.ordered
+
+pub returns-in_err-add_block-clause-cause : goal.returns-in_err-add_block-clause-cause
+returns-in_err-add_block-clause-cause g c =
+    let i = c.loop-cut.invariant in
+    let step = step_is c.loop-cut.core.blocks c.loop-cut.start c.loop-cut.cut-index c.args.cuts.now c.args.items.now _ _ _ c.loop-cut-test.true i.rest c.split_at.ensures.front i.so_far in
+    let same : c.loop-cut.core.config ≡ c.args.config = i.config ∙ ap (λ (w : Written). w.config) c.new-core.ensures in
+    let p = err_from_is_err_and c.from_residual.result c.from_residual.ensures.1 in
+    let cause = subst (λ k. IsWriteRefusal (FrameFits (form g.H.BlockHash.hash64 g.H.BlockHash.hash128 k) (length (block_frames (form g.H.BlockHash.hash64 g.H.BlockHash.hash128 k) c.loop-cut.core.blocks)) c.split_at.result.0.now → ⊥) c.in_err-add_block.field-0.0) same c.in_err-add_block.ensures.cause in
+    rw (p.1, p.2) (refusal_on _ _ _ cause (fits_next (form g.H.BlockHash.hash64 g.H.BlockHash.hash128 c.args.config) _ _ _ _ step))
+
+pub loop-cut-preserved : goal.loop-cut-preserved
+loop-cut-preserved g c =
+    let i = c.loop-cut.invariant in
+    let n = next_cut _ _ c.loop-cut.cut-index c.args.cuts.now c.loop-cut-test.true i.cuts_left in
+    let step = step_is c.loop-cut.core.blocks c.loop-cut.start c.loop-cut.cut-index c.args.cuts.now c.args.items.now _ _ _ c.loop-cut-test.true i.rest c.split_at.ensures.front i.so_far in
+    let e = c.in_ok-add_block.ensures in
+    record {
+      config = e.config ∙ i.config;
+      so_far = so_far_is _ _ _ _ _ e.accepted step;
+      rest = rest_is c.loop-cut.start (get_or c.args.cuts.now c.loop-cut.cut-index 0) _ _ _ (omega arith) i.rest c.split_at.ensures.back;
+      cuts_left = n.2;
+      bytes = rw e.config (bytes_next (form g.H.BlockHash.hash64 g.H.BlockHash.hash128 c.loop-cut.core.config) _ _ _ _ _ _ i.bytes e.bytes e.accepted);
+    }
+
+pub returns-in_err-add_block-2-clause-cause : goal.returns-in_err-add_block-2-clause-cause
+returns-in_err-add_block-2-clause-cause g c =
+    let i = c.loop-cut.invariant in
+    let last = last_is c.loop-cut.core.blocks c.loop-cut.start c.loop-cut.cut-index c.args.cuts.now c.args.items.now _ _ c.loop-cut-test.false i.rest i.so_far in
+    let same : c.loop-cut.core.config ≡ c.args.config = i.config ∙ ap (λ (w : Written). w.config) c.new-core.ensures in
+    let p = err_from_is_err_and c.from_residual-in_err-add_block-2.result c.from_residual-in_err-add_block-2.ensures.1 in
+    let cause = subst (λ k. IsWriteRefusal (FrameFits (form g.H.BlockHash.hash64 g.H.BlockHash.hash128 k) (length (block_frames (form g.H.BlockHash.hash64 g.H.BlockHash.hash128 k) c.loop-cut.core.blocks)) c.loop-cut.rest.now → ⊥) c.in_err-add_block-2.field-0.0) same c.in_err-add_block-2.ensures.cause in
+    rw (p.1, p.2) (refusal_on _ _ _ cause (fits_next (form g.H.BlockHash.hash64 g.H.BlockHash.hash128 c.args.config) _ _ _ _ last))
+
+pub returns-clause-layout : goal.returns-clause-layout
+returns-clause-layout g c =
+    let i = c.loop-cut.invariant in
+    let e = c.in_ok-add_block-2.ensures in
+    let last = last_is c.loop-cut.core.blocks c.loop-cut.start c.loop-cut.cut-index c.args.cuts.now c.args.items.now _ _ c.loop-cut-test.false i.rest i.so_far in
+    let same : c.loop-cut.core.config ≡ c.args.config = i.config ∙ ap (λ (w : Written). w.config) c.new-core.ensures in
+    let so_far = subst (λ k. Appends (g.W.Write.contents c.args.writer.now) (g.W.Write.contents c.add_block-2.new.writer) (block_frames (form g.H.BlockHash.hash64 g.H.BlockHash.hash128 k) c.add_block-2.new.self.blocks)) (sym e.config)
+    (bytes_next (form g.H.BlockHash.hash64 g.H.BlockHash.hash128 c.loop-cut.core.config) _ _ _ _ _ _ i.bytes e.bytes e.accepted) in
+    subst (λ k. IfOk c.finish.result (AppendsLayout (form g.H.BlockHash.hash64 g.H.BlockHash.hash128 k) (blocks_of c.args.cuts.now c.args.items.now) (g.W.Write.contents c.args.writer.now) (g.W.Write.contents c.finish.new.writer))) (e.config ∙ same)
+    (layout_end (form g.H.BlockHash.hash64 g.H.BlockHash.hash128 c.add_block-2.new.self.config) _ _ _ _ _ c.finish.result (e.accepted ∙ last) so_far c.finish.ensures.layout)

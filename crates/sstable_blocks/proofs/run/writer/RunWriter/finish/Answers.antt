@@ -1,0 +1,12 @@
+use Rattle.std.proofs.Common.{◌≡◌, ap, sym, ◌∙◌, subst, None}
+use Rattle.sstable_blocks.specs.Run.{form}
+use Rattle.sstable_blocks.specs.Writing.{Writing, AppendsLayout}
+use Rattle.sstable_blocks.proofs.CutLoops.{layout_joined}
+use Rattle.sstable_blocks.proofs.run.writer.RunWriter.finish.Goals as goal
+
+pub returns-clause-layout : goal.returns-clause-layout
+returns-clause-layout g c =
+    let f = form g.H.BlockHash.hash64 g.H.BlockHash.hash128 c.self.inside.core.config in
+    let none : c.self.inside.refusal ≡ None = search (c.in_default.is, c.in_default.not-Some) in
+    let layout = layout_joined f c.self.inside.core.blocks c.self.inside.start (g.W.Write.contents c.self.inside.writer) (g.W.Write.contents c.finish.new.writer) c.in_ok-handles.handles (c.self.invariant.frames none) c.in_ok-handles.ensures.layout in
+    subst (λ w. AppendsLayout (form g.H.BlockHash.hash64 g.H.BlockHash.hash128 w.config) w.blocks w.start (g.W.Write.contents c.finish.new.writer) c.in_ok-handles.handles) c.self.view_is layout

@@ -1,0 +1,313 @@
+//! What is kept while a run is written.
+ghost use Rattle.std.specs.Prelude.{◌≡◌, ◌≢◌, ◌↔◌, ◌⊎◌, ℕ, ◌+◌, ◌*◌, ◌≤◌, ◌<◌, List, [], ◌∷◌, ◌++◌, length};
+ghost use Rattle.std.specs.Prelude.{OnOk, OnErr, IfOk, IfErr, IfSome, IsNone, IsTrue, IsOkUnless, ◌^◌};
+ghost use Rattle.std.specs.Io.KnownBytes.{Appends};
+ghost use Rattle.std.specs.Vec.{vec_len, vec_capacity};
+ghost use Rattle.sst_base.specs.declared.error.Error.TheVariants.{Io, TooLong};
+ghost use Rattle.sst_base.specs.declared.table.block.block_type.BlockType.TheVariants.{Index};
+ghost use Rattle.sst_base.specs.Frame.{frame};
+ghost use Rattle.sst_block_core.specs.Entries.{entries};
+ghost use Rattle.sst_block_core.specs.Kind.{IsOrdered};
+ghost use Rattle.sstable_blocks.specs.Blocks.{joined, IsNotEmpty};
+ghost use Rattle.sstable_blocks.specs.Policy.{bits_per_key};
+ghost use Rattle.sstable_blocks.specs.Run.{form, block_frame, block_frames, key_hashes, RunFits};
+ghost use Rattle.sstable_blocks.specs.Run.{block_payload, IsRun};
+ghost use Rattle.std.specs.List.{AllByRecursion};
+ghost use Rattle.sstable_blocks.specs.Run.{index_frame, index_text, IsFilterText, IsFramed};
+ghost use Rattle.sstable_blocks.specs.Writing.{Follows, IsBehind, FrameFits, PartFits, IsFramedBlock, IsWriteRefusal};
+ghost use Rattle.sstable_blocks.specs.Writing.{IsFrameAppended, AppendsFilter, AppendsEnd};
+
+use super::laws::handles_are_ready;
+use super::{RunConfig, RunHandles};
+use crate::table::filter::BloomConstructionPolicy;
+use crate::table::filter::policy::MAX_BITS;
+use sst_base::table::block::header::HEADER_LEN;
+use sst_base::{
+    Block, BlockHandle, BlockHash, BlockOffset, BlockType, Error, History, InternalValue, Result,
+};
+use sst_block_core::{DataBlock, IndexBlock, KeyedBlockHandle};
+use std::alloc::Global;
+use std::collections::LinkedList;
+use std::io::Write;
+use std::marker::{Model, PhantomData};
+
+// The greatest length of a payload behind a handle: its frame has at most 2^32 - 1 bytes.
+const MAX_PAYLOAD: usize = 4294967262;
+
+/// What is kept while a run is written block by block. The writer is handed in at each call.
+///
+/// Clauses see the configuration and the blocks accepted.
+#[derive(Drop)]
+pub(crate) struct RunCore<H: BlockHash> {
+    hash: PhantomData<H>,
+    config: RunConfig,
+    handles: Vec<KeyedBlockHandle>,
+    hashes: Vec<u64>,
+    offset: u64,
+    accepted: History<LinkedList<InternalValue>>,
+}
+
+impl<H: BlockHash> Model for RunCore<H> {
+    ghost use Rattle.sstable_blocks.specs.Run.{form};
+    ghost use Rattle.sstable_blocks.specs.Writing.{Written, IsKept};
+
+    ghost Value = { Written };
+
+    ghost view = { λ c. record { config = c.config; blocks = c.accepted } };
+
+    ghost invariant = { λ c. IsKept (form H.hash64 H.hash128 c.config) c.accepted c.handles.items c.hashes.items c.offset };
+}
+
+impl<H: BlockHash> RunCore<H> {
+    /// Begins a run without blocks. Both intervals are at least 1.
+    pub(crate) fn new(alloc: Global, config: RunConfig) -> RunCore<H>
+        requires interval { 1 ≤ config.restart_interval }
+        requires index_interval { 1 ≤ config.index_interval }
+        ensures { result ≡ record { config = config; blocks = [] } }
+    {
+        RunCore {
+            hash: PhantomData,
+            config,
+            handles: Vec::new(alloc),
+            hashes: Vec::new(alloc),
+            offset: 0,
+            accepted: History::new(),
+        }
+    }
+
+    /// Returns whether entries can be the next block.
+    pub(crate) fn fits_after(&self, items: &[InternalValue]) -> bool
+        ensures { IsTrue result ↔ Follows self.now.blocks items.now }
+    {
+        match items.first() {
+            None => false,
+            Some(first) => DataBlock::<H>::is_ordered(items) && self.is_behind(first),
+        }
+    }
+
+    // Returns whether an entry does not sort before the last one of the blocks accepted.
+    fn is_behind(&self, item: &InternalValue) -> bool
+        ensures behind { IsTrue result ↔ IsBehind self.now.blocks item.now }
+        ensures ordered { IsOrdered entries (joined self.now.blocks) }
+    {
+        match self.handles.last() {
+            None => true,
+            Some(handle) => {
+                let key = InternalValue::key(item);
+                let by_key = key.user_key().cmp(handle.end_key());
+                by_key.then(handle.seqno().cmp(&key.seqno())).is_ge()
+            }
+        }
+    }
+
+    /// Returns the number of blocks accepted.
+    pub(crate) fn block_count(&self) -> usize
+        ensures { result ≡ length self.now.blocks }
+    {
+        self.handles.len()
+    }
+
+    /// Writes one more block, not empty and ordered behind the blocks before. All growths of its own
+    /// come before the first byte. The denominator of the ratio is at least 1.
+    ///
+    /// # Errors
+    ///
+    /// `Error::TooLong` only where the block does not fit, `Error::Memory` if an allocation fails;
+    /// nothing is written then. `Error::Io` if the writer fails. The block is not accepted.
+    pub(crate) fn add_block<W: Write>(
+        &mut self,
+        writer: &mut W,
+        items: &[InternalValue],
+    ) -> Result<()>
+        requires some { IsNotEmpty items.now }
+        requires ordered { IsOrdered entries (joined (self.old.blocks ++ items.now ∷ [])) }
+        requires den { 1 ≤ self.old.config.ratio.den }
+        ensures config { self.new.config ≡ self.old.config }
+        ensures accepted { OnOk result (self.new.blocks ≡ self.old.blocks ++ items.now ∷ []) }
+        ensures bytes { OnOk result (Appends (W.contents writer.old) (W.contents writer.new) (block_frame (form H.hash64 H.hash128 self.old.config) items.now)) }
+        ensures kept { OnErr result (self.new.blocks ≡ self.old.blocks) }
+        ensures untouched { IfErr result (λ e. e ≢ Io → writer.new ≡ writer.old) }
+        ensures cause { let f = form H.hash64 H.hash128 self.old.config in
+            IfErr result (IsWriteRefusal (FrameFits f (length (block_frames f self.old.blocks)) items.now → ⊥)) }
+    {
+        let last = InternalValue::key(&items[items.len() - 1]);
+        let end_key = last.user_key().clone()?;
+        self.handles.try_reserve(1)?;
+        self.hashes.try_reserve(items.len())?;
+        let alloc = *self.handles.allocator();
+        let (payload, size, end) = framed_block::<H>(alloc, items, &self.config, self.offset)?;
+        let place = BlockHandle::new(BlockOffset(self.offset), size);
+        let handle = KeyedBlockHandle::new(end_key, last.seqno(), place);
+        write_frame::<H, W>(writer, &payload, BlockType::Data)?;
+        let _room = self.handles.push(handle);
+        push_hashes::<H>(&mut self.hashes, items);
+        self.offset = end;
+        self.accepted.push_list(items);
+        Ok(())
+    }
+
+    /// Writes the index and the filter. A block was accepted.
+    ///
+    /// # Errors
+    ///
+    /// `Error::TooLong` only where the run does not fit, `Error::Memory` if an allocation fails,
+    /// `Error::Io` if the writer fails.
+    pub(crate) fn finish<W: Write>(&self, writer: &mut W) -> Result<RunHandles>
+        requires { 1 ≤ length self.now.blocks }
+        ensures layout { IfOk result (AppendsEnd (form H.hash64 H.hash128 self.now.config) self.now.blocks
+            (W.contents writer.old) (W.contents writer.new)) }
+        ensures cause { IfErr result (IsWriteRefusal (RunFits (form H.hash64 H.hash128 self.now.config) self.now.blocks → ⊥)) }
+    {
+        let (index, end) = self.write_index(writer)?;
+        let filter = self.write_filter(writer, end)?;
+        Ok(RunHandles { index, filter })
+    }
+
+    // Writes the index behind the blocks. Returns its handle, and the offset behind it.
+    fn write_index<W: Write>(&self, writer: &mut W) -> Result<(BlockHandle, u64)>
+        requires { 1 ≤ length self.now.blocks }
+        ensures written { let f = form H.hash64 H.hash128 self.now.config in
+            IfOk result (λ r. IsFrameAppended H.hash128 Index (length (block_frames f self.now.blocks)) (index_text f self.now.blocks)
+            (W.contents writer.old) (W.contents writer.new) r.0) }
+        ensures end { let f = form H.hash64 H.hash128 self.now.config in
+            IfOk result (λ r. r.1 ≡ length (block_frames f self.now.blocks) + (33 + length (index_text f self.now.blocks))) }
+        ensures run { OnOk result (IsRun (form H.hash64 H.hash128 self.now.config) self.now.blocks) }
+        ensures framed { let f = form H.hash64 H.hash128 self.now.config in
+            OnOk result (AllByRecursion (λ block. IsFramed (block_payload f block)) self.now.blocks) }
+        ensures cause { IfErr result (IsWriteRefusal (RunFits (form H.hash64 H.hash128 self.now.config) self.now.blocks → ⊥)) }
+    {
+        handles_are_ready();
+        let alloc = *self.handles.allocator();
+        let interval = self.config.index_interval;
+        let payload = IndexBlock::encode_into_vec_with(alloc, &self.handles, interval)?;
+        write_part::<H, W>(writer, &payload, BlockType::Index, self.offset)
+    }
+
+    // Writes the filter, if there are bits, behind the index. Returns its handle.
+    fn write_filter<W: Write>(&self, writer: &mut W, offset: u64) -> Result<Option<BlockHandle>>
+        requires some { 1 ≤ length self.now.blocks }
+        requires offset { let f = form H.hash64 H.hash128 self.now.config in
+            offset ≡ length (block_frames f self.now.blocks) + length (index_frame f self.now.blocks) }
+        ensures written { let f = form H.hash64 H.hash128 self.now.config in
+            IfOk result (AppendsFilter f self.now.blocks offset (W.contents writer.old) (W.contents writer.new)) }
+        ensures cause { IfErr result (IsWriteRefusal (RunFits (form H.hash64 H.hash128 self.now.config) self.now.blocks → ⊥)) }
+    {
+        let policy = BloomConstructionPolicy::BitsPerKey(self.config.bits_per_key);
+        if !policy.is_active() {
+            return Ok(None);
+        }
+        if !policy.fits(self.hashes.len()) {
+            return Err(Error::TooLong);
+        }
+        let alloc = *self.hashes.allocator();
+        let payload = filter_of(alloc, &policy, &self.hashes)?;
+        let (handle, _) = write_part::<H, W>(writer, &payload, BlockType::Filter, offset)?;
+        Ok(Some(handle))
+    }
+}
+
+// The payload of a block, the length of its frame, and the offset behind it.
+fn framed_block<H: BlockHash>(
+    alloc: Global,
+    items: &[InternalValue],
+    config: &RunConfig,
+    offset: u64,
+) -> Result<(Vec<u8>, u32, u64)>
+    requires some { IsNotEmpty items.now }
+    requires ordered { IsOrdered entries items.now }
+    requires interval { 1 ≤ config.now.restart_interval }
+    requires den { 1 ≤ config.now.ratio.den }
+    ensures ok { IfOk result (λ r. IsFramedBlock (form H.hash64 H.hash128 config.now) offset items.now r.0.items r.1 r.2) }
+    ensures cause { IfErr result (IsWriteRefusal (FrameFits (form H.hash64 H.hash128 config.now) offset items.now → ⊥)) }
+    ensures not_io { IfErr result (λ e. e ≢ Io) }
+{
+    let interval = config.restart_interval;
+    match DataBlock::<H>::encode_into_vec(alloc, items, interval, config.ratio) {
+        Err(e) => Err(e),
+        Ok(payload) => match frame_end(payload.len(), offset) {
+            Some((size, end)) => Ok((payload, size, end)),
+            None => Err(Error::TooLong),
+        },
+    }
+}
+
+// The length of the frame of a payload of this length, and its end, if they fit.
+fn frame_end(payload_len: usize, offset: u64) -> Option<(u32, u64)>
+    ensures framed { IfSome result (λ r. payload_len ≤ 4294967262) }
+    ensures size { IfSome result (λ r. r.0 ≡ 33 + payload_len) }
+    ensures end { IfSome result (λ r. (r.1 ≡ offset + (33 + payload_len)) × (r.1 < 2 ^ 64)) }
+    ensures none { IsNone result → (4294967262 < payload_len) ⊎ (2 ^ 64 ≤ offset + (33 + payload_len)) }
+{
+    if payload_len > MAX_PAYLOAD {
+        return None;
+    }
+    let size = (HEADER_LEN + payload_len) as u32;
+    match offset.checked_add(u64::from(size)) {
+        Some(end) => Some((size, end)),
+        None => None,
+    }
+}
+
+// Writes a frame whose payload is behind a handle.
+fn write_frame<H: BlockHash, W: Write>(
+    writer: &mut W,
+    payload: &[u8],
+    block_type: BlockType,
+) -> Result<()>
+    requires { IsFramed payload.now }
+    ensures bytes { OnOk result (Appends (W.contents writer.old) (W.contents writer.new) (frame H.hash128 block_type payload.now)) }
+    ensures io { IsOkUnless result Error.Io }
+{
+    Block::write_into::<H, W>(writer, payload, block_type)?;
+    Ok(())
+}
+
+// Writes a frame, where the next one begins at `offset`. Returns its handle, and the offset behind
+// it.
+fn write_part<H: BlockHash, W: Write>(
+    writer: &mut W,
+    payload: &[u8],
+    block_type: BlockType,
+    offset: u64,
+) -> Result<(BlockHandle, u64)>
+    ensures written { IfOk result (λ r. IsFrameAppended H.hash128 block_type offset payload.now
+        (W.contents writer.old) (W.contents writer.new) r.0) }
+    ensures end { IfOk result (λ r. r.1 ≡ offset + (33 + length payload.now)) }
+    ensures cause { IfErr result (λ e. (e ≡ Io) ⊎ ((e ≡ TooLong) × (PartFits offset payload.now → ⊥))) }
+{
+    let Some((size, end)) = frame_end(payload.len(), offset) else {
+        return Err(Error::TooLong);
+    };
+    write_frame::<H, W>(writer, payload, block_type)?;
+    Ok((BlockHandle::new(BlockOffset(offset), size), end))
+}
+
+// Keeps the hashes of the keys of entries, for which there is room.
+fn push_hashes<H: BlockHash>(hashes: &mut Vec<u64>, items: &[InternalValue])
+    requires { vec_len hashes.old + length items.now ≤ vec_capacity hashes.old }
+    ensures { hashes.new.items ≡ hashes.old.items ++ key_hashes H.hash64 items.now }
+{
+    for item in items {
+        let hash = H::hash64(InternalValue::key(item).user_key().as_slice());
+        let _room = hashes.push(hash);
+    }
+}
+
+// The payload of the filter of hashes.
+fn filter_of(
+    alloc: Global,
+    policy: &BloomConstructionPolicy,
+    hashes: &[u64],
+) -> Result<Vec<u8>>
+    requires some { 1 ≤ length hashes.now }
+    requires active { 1 ≤ bits_per_key policy.now }
+    requires fits { length hashes.now * bits_per_key policy.now ≤ MAX_BITS }
+    ensures ok { IfOk result (λ v. IsFilterText hashes.now (bits_per_key policy.now) v.items) }
+    ensures memory { IsOkUnless result Error.Memory }
+{
+    let mut builder = policy.init(alloc, hashes.len())?;
+    for hash in hashes {
+        builder.set_with_hash(*hash);
+    }
+    builder.build(alloc)
+}

@@ -1,0 +1,71 @@
+//! Writing a run whose entries are all at hand.
+ghost use Rattle.std.specs.Prelude.{◌≡◌, ◌↔◌, ℕ, ◌≤◌, length, IsTrue, IfOk, IfErr};
+ghost use Rattle.sst_block_core.specs.Entries.{entries};
+ghost use Rattle.sst_block_core.specs.Kind.{IsOrdered};
+ghost use Rattle.sstable_blocks.specs.Blocks.{CutsFit, blocks_of};
+ghost use Rattle.sstable_blocks.specs.Run.{form, RunFits};
+ghost use Rattle.sstable_blocks.specs.Writing.{AppendsLayout, IsWriteRefusal};
+
+use super::laws::blocks_are_the_list;
+use super::run_core::RunCore;
+use super::{RunConfig, RunHandles};
+use sst_base::{BlockHash, InternalValue, Result};
+use std::alloc::Global;
+use std::io::Write;
+
+/// Returns whether a list of this length can be cut at these places into blocks that are not empty:
+/// they rise strictly, and are at least 1 and below the length. Without cuts any list that is not
+/// empty can.
+pub fn cuts_fit(len: usize, cuts: &[usize]) -> bool
+    ensures { IsTrue result ↔ CutsFit 0 len cuts.now }
+{
+    let mut start = 0;
+    for cut in cuts {
+        if *cut <= start {
+            return false;
+        }
+        start = *cut;
+    }
+    start < len
+}
+
+/// Writes a run: an ordered list of entries, cut into blocks where `cuts` says. The frames of the
+/// blocks come first, then that of the index, then, if there are bits for it, that of the filter.
+///
+/// Both intervals and the denominator of the ratio are at least 1. See [`cuts_fit`] and
+/// `DataBlock::is_ordered`.
+///
+/// # Errors
+///
+/// `Error::TooLong` only where a payload has more than 4294967262 bytes, the filter more than 34359737920
+/// bits, or all frames 2^64 bytes or more; `Error::Memory` if an allocation fails; `Error::Io` if the
+/// writer fails, as a vector does that finds no memory. The writer may then hold a part of the run.
+pub fn write_run<H: BlockHash, W: Write>(
+    alloc: Global,
+    writer: &mut W,
+    items: &[InternalValue],
+    cuts: &[usize],
+    config: RunConfig,
+) -> Result<RunHandles>
+    requires ordered { IsOrdered entries items.now }
+    requires cuts { CutsFit 0 (length items.now) cuts.now }
+    requires interval { 1 ≤ config.restart_interval }
+    requires index_interval { 1 ≤ config.index_interval }
+    requires den { 1 ≤ config.ratio.den }
+    ensures layout { IfOk result (AppendsLayout (form H.hash64 H.hash128 config) (blocks_of cuts.now items.now)
+        (W.contents writer.old) (W.contents writer.new)) }
+    ensures cause { IfErr result (IsWriteRefusal (RunFits (form H.hash64 H.hash128 config) (blocks_of cuts.now items.now) → ⊥)) }
+{
+    blocks_are_the_list::<InternalValue>();
+    let mut core = RunCore::<H>::new(alloc, config);
+    let mut start = 0;
+    let mut rest = items;
+    for cut in cuts {
+        let (block, behind) = rest.split_at(*cut - start);
+        core.add_block(writer, block)?;
+        rest = behind;
+        start = *cut;
+    }
+    core.add_block(writer, rest)?;
+    core.finish(writer)
+}

@@ -1,0 +1,140 @@
+//! Writing a run block by block.
+ghost use Rattle.std.specs.Prelude.{◌≡◌, ◌≢◌, ◌↔◌, ℕ, ◌≤◌, List, [], ◌∷◌, ◌++◌, length, IsTrue, None, Some};
+ghost use Rattle.std.specs.Prelude.{OnOk, OnErr, IfOk, IfErr, IfSome, Err};
+ghost use Rattle.std.specs.Io.KnownBytes.{Appends};
+ghost use Rattle.sst_base.specs.declared.error.Error.TheVariants.{Io};
+ghost use Rattle.sst_block_core.specs.Entries.{entries};
+ghost use Rattle.sst_block_core.specs.Kind.{IsOrdered};
+ghost use Rattle.sstable_blocks.specs.Blocks.{joined, IsNotEmpty};
+ghost use Rattle.sstable_blocks.specs.Run.{form, block_frame, block_frames, RunFits};
+ghost use Rattle.sstable_blocks.specs.Writing.{Follows, FrameFits, IsWriteRefusal, AppendsLayout};
+
+use super::run_core::RunCore;
+use super::{RunConfig, RunHandles};
+use sst_base::{BlockHash, Contents, Error, InternalValue, Result};
+use std::alloc::Global;
+use std::io::Write;
+use std::marker::Model;
+
+/// Writes a run block by block into a writer of bytes.
+///
+/// Clauses see the configuration, the blocks accepted, the refusal that is answered from now on, if
+/// there is one, what the writer held when this was made, and the writer.
+#[derive(Drop)]
+pub struct RunWriter<H: BlockHash, W: Write> {
+    core: RunCore<H>,
+    writer: W,
+    refusal: Option<Error>,
+    start: Contents,
+}
+
+impl<H: BlockHash, W: Write> Model for RunWriter<H, W> {
+    ghost use Rattle.std.specs.Prelude.{◌≤◌};
+    ghost use Rattle.sstable_blocks.specs.Run.{form};
+    ghost use Rattle.sstable_blocks.specs.Writing.{Writing, IsUnderWay};
+
+    ghost Value = { Writing W };
+
+    ghost view = { λ w. record {
+        config = w.core.config; blocks = w.core.blocks; refusal = w.refusal; start = w.start; writer = w.writer } };
+
+    ghost invariant = { λ w. IsUnderWay (form H.hash64 H.hash128 w.core.config) w.core.blocks w.refusal
+        w.start (W.contents w.writer) };
+}
+
+impl<H: BlockHash, W: Write> RunWriter<H, W> {
+    /// Makes a writer of a run. Both intervals and the denominator of the ratio are at least 1.
+    pub fn new(alloc: Global, writer: W, config: RunConfig) -> RunWriter<H, W>
+        requires interval { 1 ≤ config.restart_interval }
+        requires index_interval { 1 ≤ config.index_interval }
+        requires den { 1 ≤ config.ratio.den }
+        ensures { result ≡ record {
+            config = config; blocks = []; refusal = None; start = W.contents writer; writer = writer } }
+    {
+        let start = Contents::of(&writer);
+        RunWriter {
+            core: RunCore::new(alloc, config),
+            writer,
+            refusal: None,
+            start,
+        }
+    }
+
+    /// Returns whether entries can be the next block: there is one, none sorts before its
+    /// predecessor, and the first not before the last entry of the blocks accepted.
+    pub fn fits_after(&self, items: &[InternalValue]) -> bool
+        ensures { IsTrue result ↔ Follows self.now.blocks items.now }
+    {
+        self.core.fits_after(items)
+    }
+
+    /// Returns the number of blocks accepted.
+    pub fn block_count(&self) -> usize
+        ensures { result ≡ length self.now.blocks }
+    {
+        self.core.block_count()
+    }
+
+    /// Writes one more block, which [`RunWriter::fits_after`] the blocks before.
+    ///
+    /// # Errors
+    ///
+    /// `Error::TooLong` only where the payload of the block has more than 4294967262 bytes or the frames
+    /// of all blocks 2^64 bytes or more, `Error::Memory` if an allocation fails; nothing is written
+    /// then. `Error::Io` if the writer fails. The block is not accepted, and from then on every call
+    /// answers the same error, and does not touch the writer.
+    pub fn add_block(&mut self, items: &[InternalValue]) -> Result<()>
+        requires { Follows self.old.blocks items.now }
+        ensures config { self.new.config ≡ self.old.config }
+        ensures start { self.new.start ≡ self.old.start }
+        ensures accepted { OnOk result (self.new.blocks ≡ self.old.blocks ++ items.now ∷ []) }
+        ensures kept { OnErr result (self.new.blocks ≡ self.old.blocks) }
+        ensures open { OnOk result (self.new.refusal ≡ None) }
+        ensures refused { IfErr result (λ e. self.new.refusal ≡ Some e) }
+        ensures repeated { IfSome self.old.refusal (λ e. result ≡ Err e) }
+        ensures bytes { OnOk result (Appends (W.contents self.old.writer) (W.contents self.new.writer)
+            (block_frame (form H.hash64 H.hash128 self.old.config) items.now)) }
+        ensures silent { IfSome self.old.refusal (λ e. self.new.writer ≡ self.old.writer) }
+        ensures untouched { IfErr result (λ e. e ≢ Io → self.new.writer ≡ self.old.writer) }
+        ensures cause { let f = form H.hash64 H.hash128 self.old.config in self.old.refusal ≡ None
+            → IfErr result (IsWriteRefusal (FrameFits f (length (block_frames f self.old.blocks)) items.now → ⊥)) }
+    {
+        if let Some(refusal) = self.refusal {
+            return Err(refusal);
+        }
+        let added = self.core.add_block(&mut self.writer, items);
+        if let Err(e) = &added {
+            self.refusal = Some(*e);
+        }
+        added
+    }
+
+}
+
+impl<H: BlockHash, W: Write + Drop> RunWriter<H, W> {
+    /// Writes the index and the filter. Returns their handles, and the writer. A block was accepted,
+    /// or one was refused.
+    ///
+    /// # Errors
+    ///
+    /// That of `add_block`, if it refused. Else `Error::TooLong` only where the run does not fit: see
+    /// `write_run`; `Error::Memory` if an allocation fails, `Error::Io` if the writer fails.
+    pub fn finish(self) -> Result<(RunHandles, W)>
+        requires { self.refusal ≡ None → 1 ≤ length self.blocks }
+        ensures layout { IfOk result (λ r. AppendsLayout (form H.hash64 H.hash128 self.config) self.blocks self.start (W.contents r.1) r.0) }
+        ensures repeated { IfSome self.refusal (λ e. result ≡ Err e) }
+        ensures cause { self.refusal ≡ None → IfErr result (IsWriteRefusal (RunFits (form H.hash64 H.hash128 self.config) self.blocks → ⊥)) }
+    {
+        let RunWriter {
+            core,
+            mut writer,
+            refusal,
+            start: _,
+        } = self;
+        if let Some(refusal) = refusal {
+            return Err(refusal);
+        }
+        let handles = core.finish(&mut writer)?;
+        Ok((handles, writer))
+    }
+}
