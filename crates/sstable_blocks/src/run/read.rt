@@ -149,9 +149,9 @@ fn match_in<H: BlockHash>(
 ///
 /// The filter is asked first. Where it denies the key, nothing else is looked at. Else the index
 /// leads to the one block that can hold the key. What was looked at is added to `steps`: at most as
-/// many heads as the number of heads of the index has binary digits, and those of the block; of the
-/// index one handle, and those of one interval where not each handle is a head; and the entries of
-/// one interval of the block, and one more.
+/// many heads as the numbers of heads of the index and of the block have binary digits; one handle,
+/// and those of a restart interval of the index where not each handle is a head; and the entries of
+/// a restart interval of the block, and one more.
 ///
 /// # Errors
 ///
