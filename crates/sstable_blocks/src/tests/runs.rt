@@ -144,14 +144,20 @@ fn check_reads(rt: &impl Abort, alloc: Global, items: &[InternalValue], cuts: &[
     check_read(rt, alloc, items, cuts, config, (b"", 9), None);
 }
 
+fn check_three_blocks(rt: &impl Abort, bytes: &[u8], handles: &RunHandles) {
+    assert_eq!(rt; bytes, THREE_BLOCKS.as_slice());
+    let index = handles.index;
+    assert_eq!(rt; index, handle(219, 90));
+    let filter = handles.filter;
+    assert_eq!(rt; filter, Some(handle(309, 59)));
+}
+
 #[test]
 fn three_blocks_are_written(rt: HostRuntime) -> std::result::Result<(), Fail> {
     let alloc = rt.alloc();
     let items = three_entries(alloc)?;
     let (bytes, handles) = written(&rt, alloc, &items, &[1, 2], config(1, 10, 1))?;
-    assert_eq!(rt; bytes.as_slice(), THREE_BLOCKS.as_slice());
-    assert_eq!(rt; handles.index, handle(219, 90));
-    assert_eq!(rt; handles.filter, Some(handle(309, 59)));
+    check_three_blocks(&rt, &bytes, &handles);
     Ok(())
 }
 
@@ -212,17 +218,31 @@ fn equal_keys_are_cut(rt: HostRuntime) -> std::result::Result<(), Fail> {
     Ok(())
 }
 
+// As many entries with one key.
+fn versions(alloc: Global, count: u64) -> Result<Vec<InternalValue>> {
+    let mut items = Vec::new(alloc);
+    for i in 0..count {
+        items.push(entry(alloc, b'a', b'x', count - i)?)?;
+    }
+    Ok(items)
+}
+
+// Why a run without cuts is not written.
+fn refusal(
+    rt: &impl Abort,
+    alloc: Global,
+    items: &[InternalValue],
+    config: RunConfig,
+) -> Option<Error> {
+    written(rt, alloc, items, &[], config).err()
+}
+
 #[test]
 fn too_many_bits_are_refused(rt: HostRuntime) -> std::result::Result<(), Fail> {
     let alloc = rt.alloc();
-    let mut items = Vec::new(alloc);
-    for seqno in 0..8 {
-        items.push(entry(alloc, b'a', b'x', 8 - seqno)?)?;
-    }
-    match written(&rt, alloc, items.as_slice(), &[], config(16, 4294967295, 1)) {
-        Ok(_) => assert!(rt; false, "written"),
-        Err(e) => assert_eq!(rt; e, Error::TooLong),
-    }
+    let items = versions(alloc, 8)?;
+    let refused = refusal(&rt, alloc, &items, config(16, 4294967295, 1));
+    assert_eq!(rt; refused, Some(Error::TooLong));
     Ok(())
 }
 
@@ -264,16 +284,14 @@ fn add<W: Write>(
 #[test]
 fn three_blocks_are_added(rt: HostRuntime) -> std::result::Result<(), Fail> {
     let alloc = rt.alloc();
-    let [first, second, third] = three_entries(alloc)?;
     let mut writer = RunWriter::new(alloc, Vec::new(alloc), config(1, 10, 1));
-    add(&rt, &mut writer, &[first])?;
-    add(&rt, &mut writer, &[second])?;
-    add(&rt, &mut writer, &[third])?;
+    add(&rt, &mut writer, &[entry(alloc, b'a', b'x', 3)?])?;
+    add(&rt, &mut writer, &[entry(alloc, b'a', b'y', 1)?])?;
+    add(&rt, &mut writer, &[entry(alloc, b'b', b'z', 4)?])?;
     assert_eq!(rt; writer.block_count(), 3);
-    let (handles, bytes) = writer.finish()?;
-    assert_eq!(rt; bytes.as_slice(), THREE_BLOCKS.as_slice());
-    assert_eq!(rt; handles.index, handle(219, 90));
-    assert_eq!(rt; handles.filter, Some(handle(309, 59)));
+    let finished = writer.finish()?;
+    let r = &finished;
+    check_three_blocks(&rt, &r.1, &r.0);
     Ok(())
 }
 
@@ -281,15 +299,17 @@ fn three_blocks_are_added(rt: HostRuntime) -> std::result::Result<(), Fail> {
 #[test]
 fn a_failure_is_repeated(rt: HostRuntime) -> std::result::Result<(), Fail> {
     let alloc = rt.alloc();
-    let [first, second, third] = three_entries(alloc)?;
+    let first = [entry(alloc, b'a', b'x', 3)?];
+    let second = [entry(alloc, b'a', b'y', 1)?];
+    let third = [entry(alloc, b'b', b'z', 4)?];
     let mut room = Room {
         left: 100,
         calls: 0,
     };
     let mut writer = RunWriter::new(alloc, &mut room, config(1, 10, 1));
-    assert_eq!(rt; add(&rt, &mut writer, &[first]), Ok(()));
-    assert_eq!(rt; add(&rt, &mut writer, &[second]), Err(Error::Io));
-    assert_eq!(rt; add(&rt, &mut writer, &[third]), Err(Error::Io));
+    assert_eq!(rt; add(&rt, &mut writer, &first), Ok(()));
+    assert_eq!(rt; add(&rt, &mut writer, &second), Err(Error::Io));
+    assert_eq!(rt; add(&rt, &mut writer, &third), Err(Error::Io));
     assert_eq!(rt; writer.block_count(), 1);
     match writer.finish() {
         Ok(_) => assert!(rt; false, "finished"),
