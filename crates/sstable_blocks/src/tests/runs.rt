@@ -82,7 +82,11 @@ fn three_entries(alloc: Global) -> Result<[InternalValue; 3]> {
     Ok([first, second, entry(alloc, b'b', b'z', 4)?])
 }
 
-fn config(restart_interval: u8, bits_per_key: u32, index_interval: u8) -> RunConfig {
+fn config(restart_interval: u8, bits_per_key: u32, index_interval: u8) -> RunConfig
+    ensures interval { result.restart_interval ≡ restart_interval }
+    ensures index_interval { result.index_interval ≡ index_interval }
+    ensures den { result.ratio.den ≡ 1 }
+{
     let mut config = RunConfig::new(restart_interval, NO_BUCKETS, bits_per_key);
     config.index_interval = index_interval;
     config
