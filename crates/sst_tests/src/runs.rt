@@ -21,8 +21,16 @@ fn push_versions(list: &mut Vec<InternalValue>, key: &[u8], random: &mut Random)
     }
     let mut seqno = random.below(1000);
     for _ in 0..random.below(9) + 1 {
-        let value = if seqno % 2 == 0 { b"value".as_slice() } else { b"" };
-        let value_type = if seqno % 7 == 0 { ValueType::Tombstone } else { ValueType::Value };
+        let value = if seqno % 2 == 0 {
+            b"value".as_slice()
+        } else {
+            b""
+        };
+        let value_type = if seqno % 7 == 0 {
+            ValueType::Tombstone
+        } else {
+            ValueType::Value
+        };
         push(list, key, value, seqno, value_type)?;
         seqno = seqno.saturating_sub(random.below(3));
     }
@@ -55,7 +63,11 @@ fn is_same(wanted: Option<&InternalValue>, read: Option<&InternalValue>) -> bool
     match (wanted, read) {
         (None, None) => true,
         (Some(wanted), Some(read)) => {
-            let value: &[u8] = if wanted.is_tombstone() { b"" } else { wanted.value().as_slice() };
+            let value: &[u8] = if wanted.is_tombstone() {
+                b""
+            } else {
+                wanted.value().as_slice()
+            };
             read.key() == wanted.key()
                 && read.key().value_type() == wanted.key().value_type()
                 && read.value().eq_bytes(value)
@@ -124,7 +136,12 @@ fn check_run<H: BlockHash>(
 }
 
 /// A random list, cut at random, at one interval, in every other form.
-fn check_interval<H: BlockHash>(rt: &impl Abort, alloc: Global, interval: u8, seed: u64) -> Result<()>
+fn check_interval<H: BlockHash>(
+    rt: &impl Abort,
+    alloc: Global,
+    interval: u8,
+    seed: u64,
+) -> Result<()>
     requires { 1 ≤ interval }
 {
     let mut random = Random::new(seed);
@@ -132,8 +149,17 @@ fn check_interval<H: BlockHash>(rt: &impl Abort, alloc: Global, interval: u8, se
         for bits_per_key in [0, 1, 10] {
             let list = random_list(alloc, &mut random)?;
             let cuts = random_cuts(alloc, list.len(), &mut random)?;
-            let ratio = if random.next() % 2 == 0 { NO_BUCKETS } else { ONE_EACH };
-            let config = RunConfig { restart_interval: interval, ratio, bits_per_key, index_interval };
+            let ratio = if random.next() % 2 == 0 {
+                NO_BUCKETS
+            } else {
+                ONE_EACH
+            };
+            let config = RunConfig {
+                restart_interval: interval,
+                ratio,
+                bits_per_key,
+                index_interval,
+            };
             check_run::<H>(rt, alloc, &list, &cuts, config)?;
         }
     }

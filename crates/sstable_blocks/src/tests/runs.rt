@@ -140,7 +140,13 @@ fn check_read(
 }
 
 // The reads of the three entries.
-fn check_reads(rt: &impl Abort, alloc: Global, items: &[InternalValue], cuts: &[usize], config: RunConfig) {
+fn check_reads(
+    rt: &impl Abort,
+    alloc: Global,
+    items: &[InternalValue],
+    cuts: &[usize],
+    config: RunConfig,
+) {
     check_read(rt, alloc, items, cuts, config, (b"a", 3), Some(b'y'));
     check_read(rt, alloc, items, cuts, config, (b"a", 1), None);
     check_read(rt, alloc, items, cuts, config, (b"b", 5), Some(b'z'));
@@ -217,7 +223,15 @@ fn one_block_is_written_and_read(rt: HostRuntime) -> std::result::Result<(), Fai
 fn equal_keys_are_cut(rt: HostRuntime) -> std::result::Result<(), Fail> {
     let alloc = rt.alloc();
     let items = [entry(alloc, b'a', b'x', 5)?, entry(alloc, b'a', b'y', 5)?];
-    check_read(&rt, alloc, &items, &[1], config(1, 10, 1), (b"a", 6), Some(b'x'));
+    check_read(
+        &rt,
+        alloc,
+        &items,
+        &[1],
+        config(1, 10, 1),
+        (b"a", 6),
+        Some(b'x'),
+    );
     check_read(&rt, alloc, &items, &[1], config(1, 10, 1), (b"a", 5), None);
     Ok(())
 }
