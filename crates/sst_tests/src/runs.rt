@@ -169,7 +169,7 @@ fn check_interval<H: BlockHash>(
 /// The intervals 1 to 16, and 255.
 fn check_intervals<H: BlockHash>(rt: &impl Abort, alloc: Global, seed: u64) -> Result<()> {
     for interval in 1..17 {
-        check_interval::<H>(rt, alloc, interval, seed + u64::from(interval))?;
+        check_interval::<H>(rt, alloc, interval, seed.wrapping_add(u64::from(interval)))?;
     }
     check_interval::<H>(rt, alloc, 255, seed)
 }
