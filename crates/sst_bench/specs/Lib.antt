@@ -3,3 +3,4 @@ pub mod Turns
 pub mod Inputs
 pub mod Blocks
 pub mod Filters
+pub mod Runs

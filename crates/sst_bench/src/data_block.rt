@@ -23,10 +23,10 @@ use sst_block_core::{DataBlock, ParsedItem};
 use std::alloc::Global;
 
 // Above the sequence number of each entry that is read here, so that every version is visible.
-const NEWEST: SeqNo = u64::MAX;
+pub(crate) const NEWEST: SeqNo = u64::MAX;
 
 // The entries, if a block can be encoded from them.
-fn items_in(
+pub(crate) fn items_in(
     alloc: Global,
     bytes: &[u8],
     count: usize,

@@ -13,6 +13,7 @@ pub mod frames;
 pub mod handles;
 pub mod index_block;
 pub mod keys;
+pub mod run;
 pub mod sums;
 
 /// What a call returns that does not take its input.

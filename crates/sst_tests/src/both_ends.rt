@@ -37,18 +37,28 @@ fn entry_of<'a>(list: &'a [InternalValue], key: &[u8]) -> Option<&'a InternalVal
 }
 
 impl Line {
+    /// The key of a seek; no bytes of a step.
+    fn key(&self) -> &'static [u8] {
+        match self {
+            Line::Next(_) | Line::NextBack(_) => b"",
+            Line::Seek(key, _)
+            | Line::SeekUpper(key, _)
+            | Line::SeekExclusive(key, _)
+            | Line::SeekUpperExclusive(key, _) => key,
+        }
+    }
+
     /// The operation.
     fn op(&self, alloc: Global) -> Result<Op> {
-        match self {
-            Line::Next(_) => Ok(Op::Next),
-            Line::NextBack(_) => Ok(Op::NextBack),
-            Line::Seek(key, _) => Ok(Op::Seek(Slice::new(alloc, key)?)),
-            Line::SeekUpper(key, _) => Ok(Op::SeekUpper(Slice::new(alloc, key)?)),
-            Line::SeekExclusive(key, _) => Ok(Op::SeekExclusive(Slice::new(alloc, key)?)),
-            Line::SeekUpperExclusive(key, _) => {
-                Ok(Op::SeekUpperExclusive(Slice::new(alloc, key)?))
-            }
-        }
+        let key = Slice::new(alloc, self.key())?;
+        Ok(match self {
+            Line::Next(_) => Op::Next,
+            Line::NextBack(_) => Op::NextBack,
+            Line::Seek(_, _) => Op::Seek(key),
+            Line::SeekUpper(_, _) => Op::SeekUpper(key),
+            Line::SeekExclusive(_, _) => Op::SeekExclusive(key),
+            Line::SeekUpperExclusive(_, _) => Op::SeekUpperExclusive(key),
+        })
     }
 
     /// The answer over a list.
@@ -123,9 +133,9 @@ fn ops_of(alloc: Global, lines: &[Line]) -> Result<Vec<Op>> {
 
 /// Checks that these are the answers of some lines over a list.
 fn check_answers(rt: &impl Abort, list: &[InternalValue], lines: &[Line], found: &[Answer]) {
-    assert_eq!(rt; found.len(), lines.len());
-    for (line, answer) in lines.iter().zip(found.iter()) {
-        assert!(rt; line.answer(list).is(answer));
+    assert!(rt; found.len() == lines.len());
+    for place in 0..lines.len() {
+        assert!(rt; lines[place].answer(list).is(&found[place]), "line {place}");
     }
 }
 
@@ -283,17 +293,33 @@ fn move_to(
     let list = block.to_vec(alloc)?;
     assert!(rt; head * 2 < list.len());
     let found = plain_offset(alloc, &list, 2, head * 2)?;
-    assert_eq!(rt; found, offset);
+    assert!(rt; found == offset);
     assert!(rt; iter.seek_to_offset(found as usize));
     Ok(())
+}
+
+/// Does the operations of some lines over a block at interval 2, moves to the head at offset 11,
+/// and does those of others.
+fn check_moved(
+    rt: &impl Abort,
+    alloc: Global,
+    block: &DataBlock<Poly31>,
+    list: &[InternalValue],
+    before: &[Line],
+    after: &[Line],
+) -> Result<()>
+    requires { block.now.interval ≡ 2 }
+{
+    let mut iter = block.iter();
+    check_iter(rt, alloc, block, &mut iter, list, before)?;
+    move_to(rt, alloc, block, &mut iter, 1, 11)?;
+    check_iter(rt, alloc, block, &mut iter, list, after)
 }
 
 /// A move to the head at offset 11, the key c, gives back the entry between two bounds.
 #[test]
 fn an_offset_moves_the_front(rt: HostRuntime) -> std::result::Result<(), Fail> {
     let alloc = rt.alloc();
-    let list = byte_keys(alloc, b'a', b'e')?;
-    let block = block_of::<Poly31>(&rt, alloc, &list, 2, NO_BUCKETS)?;
     let between = [
         Line::SeekExclusive(b"b", true),
         Line::SeekUpperExclusive(b"d", true),
@@ -302,10 +328,16 @@ fn an_offset_moves_the_front(rt: HostRuntime) -> std::result::Result<(), Fail> {
         Line::NextBack(None),
     ];
     let again = [Line::Next(Some(b"c")), Line::Next(None)];
-    let mut iter = block.iter();
-    check_iter(&rt, alloc, &block, &mut iter, &list, between.as_slice())?;
-    move_to(&rt, alloc, &block, &mut iter, 1, 11)?;
-    check_iter(&rt, alloc, &block, &mut iter, &list, again.as_slice())?;
+    let list = byte_keys(alloc, b'a', b'e')?;
+    let block = block_of::<Poly31>(&rt, alloc, &list, 2, NO_BUCKETS)?;
+    check_moved(
+        &rt,
+        alloc,
+        &block,
+        &list,
+        between.as_slice(),
+        again.as_slice(),
+    )?;
     Ok(())
 }
 
@@ -403,10 +435,13 @@ fn random_ops(alloc: Global, random: &mut Random, keys: u64, count: usize) -> Re
 
 /// Checks that these are the plain window's answers over a list.
 fn compare(rt: &impl Abort, list: &[InternalValue], ops: &[Op], found: &[Answer]) {
-    assert_eq!(rt; found.len(), ops.len());
+    assert!(rt; found.len() == ops.len());
     let mut window = Window::new(list);
-    for (op, answer) in ops.iter().zip(found.iter()) {
-        assert!(rt; window.perform(op).is(answer), "{op:?}");
+    for place in 0..ops.len() {
+        assert!(rt;
+            window.perform(&ops[place]).is(&found[place]),
+            "operation {place}"
+        );
     }
 }
 

@@ -105,31 +105,20 @@ pub(crate) fn pair(alloc: Global) -> Result<Vec<InternalValue>> {
     Ok(list)
 }
 
-/// Checks the bytes of a block of two heads and three buckets.
-fn check_hash_pair(rt: &impl Abort, bytes: &[u8]) {
-    assert_eq!(rt; bytes.len(), 58);
-    let (items, rest) = bytes.split_at(20);
-    assert_eq!(rt;
-        items,
-        b"\x00\x02\x02ab\x01x\x01\x01\x02\x00\x00\xac\x02\x02ac\x01y\xff".as_slice()
-    );
-    let (indexes, trailer) = rest.split_at(7);
-    assert_eq!(rt; indexes, [0, 0, 11, 0, 0, 1, 254].as_slice());
-    let (numbers, fixed) = trailer.split_at(18);
-    assert_eq!(rt;
-        numbers,
-        [2, 2, 2, 0, 0, 0, 20, 0, 0, 0, 3, 0, 0, 0, 24, 0, 0, 0].as_slice()
-    );
-    assert_eq!(rt; fixed, [1, 0, 0, 0, 0, 0, 0, 0, 0, 3, 0, 0, 0].as_slice());
-}
+/// The bytes of a block of two heads and three buckets: the entries, the end marker, the pointers,
+/// the buckets, and the trailer.
+const HASH_PAIR: [u8; 58] = [
+    0, 2, 2, 97, 98, 1, 120, 1, 1, 2, 0, 0, 172, 2, 2, 97, 99, 1, 121, 255, 0, 0, 11, 0, 0, 1, 254,
+    2, 2, 2, 0, 0, 0, 20, 0, 0, 0, 3, 0, 0, 0, 24, 0, 0, 0, 1, 0, 0, 0, 0, 0, 0, 0, 0, 3, 0, 0, 0,
+];
 
 #[test]
 fn buckets_stand_behind_the_pointers(rt: HostRuntime) -> std::result::Result<(), Fail> {
     let list = pair(rt.alloc())?;
     let block = block_of::<ByteSum>(&rt, rt.alloc(), &list, 2, ONE_EACH)?;
-    check_hash_pair(&rt, block.as_slice().as_slice());
-    assert_eq!(rt; block.binary_index_len(), 2);
-    assert_eq!(rt; block.hash_bucket_count(), Some(3));
+    assert!(rt; block.as_slice().eq_bytes(&HASH_PAIR));
+    assert!(rt; block.binary_index_len() == 2);
+    assert!(rt; block.hash_bucket_count() == Some(3));
     Ok(())
 }
 
@@ -145,10 +134,10 @@ pub(crate) fn check_buckets<H: BlockHash>(
     let (_, rest) = bytes.split_at(offset);
     assert!(rt; buckets.len() <= rest.len());
     let (stored, trailer) = rest.split_at(buckets.len());
-    assert_eq!(rt; stored, buckets);
-    assert_eq!(rt; trailer.len(), 31);
+    assert!(rt; stored == buckets);
+    assert!(rt; trailer.len() == 31);
     match block.get_hash_index_reader() {
-        Some(reader) => assert_eq!(rt; reader.bucket_count(), buckets.len()),
+        Some(reader) => assert!(rt; reader.bucket_count() == buckets.len()),
         None => assert!(rt; buckets.is_empty()),
     }
 }
@@ -164,9 +153,9 @@ pub(crate) fn check_bytes<H: BlockHash>(
         assert!(rt; false, "no hash index");
         return;
     };
-    assert_eq!(rt; reader.conflict_count(), conflicts);
+    assert!(rt; reader.conflict_count() == conflicts);
     for (key, byte) in wanted {
-        assert_eq!(rt; reader.get(key), *byte);
+        assert!(rt; reader.get(key) == *byte);
     }
 }
 
@@ -232,20 +221,17 @@ fn buckets_are_stored_for_254_heads(rt: HostRuntime) -> std::result::Result<(), 
     let list = byte_keys(rt.alloc(), 1, 254)?;
     let block = block_of::<ByteSum>(&rt, rt.alloc(), &list, 1, ONE_EACH)?;
     check_buckets(&rt, &block, 1779, &buckets);
-    assert_eq!(rt; block.binary_index_len(), 254);
-    assert_eq!(rt; block.hash_bucket_count(), Some(254));
+    assert!(rt; block.binary_index_len() == 254);
+    assert!(rt; block.hash_bucket_count() == Some(254));
     Ok(())
 }
 
 /// Checks the numbers of the trailer of a block without hash index.
 fn check_numbers(rt: &impl Abort, bytes: &[u8]) {
-    assert_eq!(rt; bytes.len(), 1817);
+    assert!(rt; bytes.len() == 1817);
     let (_, trailer) = bytes.split_at(1786);
     let (numbers, _) = trailer.split_at(18);
-    assert_eq!(rt;
-        numbers,
-        [1, 2, 255, 0, 0, 0, 252, 4, 0, 0, 0, 0, 0, 0, 0, 0, 0, 0].as_slice()
-    );
+    assert!(rt; numbers == [1, 2, 255, 0, 0, 0, 252, 4, 0, 0, 0, 0, 0, 0, 0, 0, 0, 0].as_slice());
 }
 
 #[test]
@@ -254,8 +240,8 @@ fn buckets_are_not_stored_for_255_heads(rt: HostRuntime) -> std::result::Result<
     let block = block_of::<ByteSum>(&rt, rt.alloc(), &list, 1, ONE_EACH)?;
     check_buckets(&rt, &block, 1786, b"");
     check_numbers(&rt, block.as_slice().as_slice());
-    assert_eq!(rt; block.binary_index_len(), 255);
-    assert_eq!(rt; block.hash_bucket_count(), None);
+    assert!(rt; block.binary_index_len() == 255);
+    assert!(rt; block.hash_bucket_count().is_none());
     Ok(())
 }
 
@@ -266,8 +252,8 @@ fn buckets_name_the_interval_of_truncated_entries(
     let alloc = rt.alloc();
     let list = byte_keys(alloc, 1, 255)?;
     let block = block_of::<ByteSum>(&rt, alloc, &list, 2, ONE_EACH)?;
-    assert_eq!(rt; block.binary_index_len(), 128);
-    assert_eq!(rt; block.hash_bucket_count(), Some(255));
+    assert!(rt; block.binary_index_len() == 128);
+    assert!(rt; block.hash_bucket_count() == Some(255));
     let wanted = [
         (b"\x01".as_slice(), 0),
         (b"\x02".as_slice(), 0),

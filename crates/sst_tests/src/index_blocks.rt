@@ -59,8 +59,26 @@ fn three_handles(alloc: Global) -> Result<Vec<KeyedBlockHandle>> {
     Ok(list)
 }
 
-/// Checks the parts of a payload: its body, its pointers, and the numbers of its trailer but the
-/// fixed bytes between.
+/// The payload of three handles: its body, the end marker, its pointers, and its trailer.
+fn payload_of(
+    alloc: Global,
+    interval: u8,
+    body: &[u8],
+    pointers: &[u8],
+    heads: u8,
+) -> Result<Vec<u8>> {
+    let mut all = body.to_vec(alloc)?;
+    all.push(255)?;
+    all.extend_from_slice(pointers)?;
+    let trailer = [
+        interval, 2, heads, 0, 0, 0, 30, 0, 0, 0, 0, 0, 0, 0, 0, 0, 0, 0, 1, 0, 0, 0, 0, 0, 0, 0,
+        0, 3, 0, 0, 0,
+    ];
+    all.extend_from_slice(trailer.as_slice())?;
+    Ok(all)
+}
+
+/// Checks the payload of three handles.
 fn check_bytes(
     rt: &impl Abort,
     alloc: Global,
@@ -71,24 +89,9 @@ fn check_bytes(
 ) -> Result<()>
     requires { 1 ≤ interval }
 {
+    let wanted = payload_of(alloc, interval, body, pointers, heads)?;
     let block = block_of(rt, alloc, &three_handles(alloc)?, interval)?;
-    let bytes = block.as_slice().as_slice();
-    assert!(rt; body.len() <= 100 && pointers.len() <= 100);
-    assert_eq!(rt; bytes.len(), body.len() + pointers.len() + 32);
-    let (items, rest) = bytes.split_at(body.len());
-    assert_eq!(rt; items, body);
-    let (marker, rest) = rest.split_at(1);
-    assert_eq!(rt; marker, [255].as_slice());
-    let (index, trailer) = rest.split_at(pointers.len());
-    assert_eq!(rt; index, pointers);
-    let (numbers, rest) = trailer.split_at(10);
-    assert_eq!(rt;
-        numbers,
-        [interval, 2, heads, 0, 0, 0, 30, 0, 0, 0].as_slice()
-    );
-    let (hash, rest) = rest.split_at(8);
-    assert_eq!(rt; hash, [0, 0, 0, 0, 0, 0, 0, 0].as_slice());
-    assert_eq!(rt; rest, [1, 0, 0, 0, 0, 0, 0, 0, 0, 3, 0, 0, 0].as_slice());
+    assert!(rt; block.as_slice().eq_bytes(&wanted));
     Ok(())
 }
 
@@ -102,10 +105,10 @@ fn three_handles_each_a_head(rt: HostRuntime) -> std::result::Result<(), Fail> {
     let list = three_handles(alloc)?;
     assert!(&rt; !list.is_empty() && IndexBlock::is_ordered(&list) && IndexBlock::ends_fit(&list));
     let bytes = IndexBlock::encode_into_vec(alloc, &list)?;
-    assert_eq!(&rt; bytes.len(), 67);
+    assert!(&rt; bytes.len() == 67);
     let again = block_of(&rt, alloc, &list, 1)?;
     assert!(&rt; bytes.as_slice() == again.as_slice().as_slice());
-    assert_eq!(&rt; again.len(), 3);
+    assert!(&rt; again.len() == 3);
     Ok(())
 }
 
@@ -174,10 +177,24 @@ fn ops_of(alloc: Global, lines: &[Line]) -> Result<Vec<IndexOp>> {
 
 /// Checks that these are the answers of some lines.
 fn check_answers(rt: &impl Abort, lines: &[Line], found: &[IndexAnswer]) {
-    assert_eq!(rt; found.len(), lines.len());
-    for (line, answer) in lines.iter().zip(found.iter()) {
-        assert!(rt; line.is(answer), "{answer:?}");
+    assert!(rt; found.len() == lines.len());
+    for place in 0..lines.len() {
+        assert!(rt; lines[place].is(&found[place]), "line {place}");
     }
+}
+
+/// The answers to operations over the block of a list.
+fn answers(
+    rt: &impl Abort,
+    alloc: Global,
+    list: &[KeyedBlockHandle],
+    interval: u8,
+    ops: &[IndexOp],
+) -> Result<Vec<IndexAnswer>>
+    requires { 1 ≤ interval }
+{
+    let block = block_of(rt, alloc, list, interval)?;
+    walk(alloc, &block, ops)
 }
 
 /// Does the operations of some lines over the block of a list.
@@ -190,8 +207,8 @@ fn check(
 ) -> Result<()>
     requires { 1 ≤ interval }
 {
-    let block = block_of(rt, alloc, list, interval)?;
-    let found = walk(alloc, &block, &ops_of(alloc, lines)?)?;
+    let ops = ops_of(alloc, lines)?;
+    let found = answers(rt, alloc, list, interval, &ops)?;
     check_answers(rt, lines, &found);
     Ok(())
 }
@@ -312,6 +329,16 @@ fn an_end_key_may_be_empty(rt: HostRuntime) -> std::result::Result<(), Fail> {
     Ok(())
 }
 
+/// Checks the parts of a handle of 73 bytes at 150.
+fn check_parts(rt: &impl Abort, handle: &KeyedBlockHandle) {
+    assert!(rt; handle.offset() == BlockOffset(150));
+    assert!(rt; *handle.offset() == 150);
+    assert!(rt; handle.size() == 73);
+    assert!(rt; handle.seqno() == 5);
+    assert!(rt; handle.end_key().eq_bytes(b"key"));
+    assert!(rt; *handle.as_ref() == BlockHandle::new(BlockOffset(150), 73));
+}
+
 /// The calls of a handle.
 #[test]
 fn a_handle_has_its_parts(rt: HostRuntime) -> std::result::Result<(), Fail> {
@@ -320,12 +347,7 @@ fn a_handle_has_its_parts(rt: HostRuntime) -> std::result::Result<(), Fail> {
     let mut handle = KeyedBlockHandle::new(Slice::new(alloc, b"key")?, 5, plain);
     let before = handle.clone()?;
     handle.shift(BlockOffset(4));
-    assert_eq!(&rt; handle.offset(), BlockOffset(150));
-    assert_eq!(&rt; *handle.offset(), 150);
-    assert_eq!(&rt; handle.size(), 73);
-    assert_eq!(&rt; handle.seqno(), 5);
-    assert_eq!(&rt; handle.end_key().as_slice(), b"key".as_slice());
-    assert!(&rt; *handle.as_ref() == BlockHandle::new(BlockOffset(150), 73));
+    check_parts(&rt, &handle);
     assert!(&rt; handle != before);
     assert!(&rt; before.into_inner() == plain);
     Ok(())
@@ -456,11 +478,14 @@ fn random_ops(alloc: Global, random: &mut Random, keys: u64, count: usize) -> Re
 
 /// Checks that these are the plain window's answers over a list.
 fn compare(rt: &impl Abort, list: &[KeyedBlockHandle], ops: &[IndexOp], found: &[IndexAnswer]) {
-    assert_eq!(rt; found.len(), ops.len());
+    assert!(rt; found.len() == ops.len());
     let hi = list.len();
     let mut window = Window { list, lo: 0, hi };
-    for (op, answer) in ops.iter().zip(found.iter()) {
-        assert!(rt; window.perform(op).is(answer), "{op:?}");
+    for place in 0..ops.len() {
+        assert!(rt;
+            window.perform(&ops[place]).is(&found[place]),
+            "operation {place}"
+        );
     }
 }
 
@@ -471,8 +496,7 @@ fn random_run(rt: &impl Abort, alloc: Global, random: &mut Random, interval: u8)
     let count = 1 + random.below(40);
     let list = random_list(rt, alloc, random, count)?;
     let ops = random_ops(alloc, random, count + 4, 200)?;
-    let block = block_of(rt, alloc, &list, interval)?;
-    let found = walk(alloc, &block, &ops)?;
+    let found = answers(rt, alloc, &list, interval, &ops)?;
     compare(rt, &list, &ops, &found);
     Ok(())
 }

@@ -19,6 +19,8 @@ mod point_reads;
 #[cfg(test)]
 mod random;
 #[cfg(test)]
+mod runs;
+#[cfg(test)]
 mod searches;
 #[cfg(test)]
 mod sources;

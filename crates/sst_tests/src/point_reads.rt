@@ -1,7 +1,7 @@
 //! Point reads in small blocks, and in blocks of long keys, values and sequence numbers.
 ghost use Rattle.std.specs.Prelude.{◌≤◌, ◌<◌, ◌^◌, length};
 
-use crate::blocks::{is_decoded, reads, walks};
+use crate::blocks::{is_same, reads_each, walks};
 use crate::hash_indexes::{
     NO_BUCKETS, NoHash, ONE_EACH, block_of, byte_keys, check_buckets, check_bytes, pair, push,
     versions,
@@ -23,10 +23,9 @@ pub(crate) fn check_read<H: BlockHash>(
     wanted: Option<&InternalValue>,
 ) {
     let mut steps = Steps::new();
-    match (block.point_read(alloc, needle, below, &mut steps), wanted) {
-        (Ok(None), None) => {}
-        (Ok(Some(read)), Some(entry)) => assert!(rt; is_decoded(entry, &read), "below {below}"),
-        _ => assert!(rt; false, "{needle:?} below {below}"),
+    match block.point_read(alloc, needle, below, &mut steps) {
+        Ok(read) => assert!(rt; is_same(wanted, read.as_ref()), "below {below}"),
+        Err(_) => assert!(rt; false, "no memory"),
     }
 }
 
@@ -46,7 +45,7 @@ fn versions_of_one_key_are_read(rt: HostRuntime) -> std::result::Result<(), Fail
     let alloc = rt.alloc();
     let list = four_versions(alloc)?;
     let block = block_of::<ByteSum>(&rt, alloc, &list, 2, NO_BUCKETS)?;
-    assert_eq!(&rt; block.hash_bucket_count(), None);
+    assert!(&rt; block.hash_bucket_count().is_none());
     check_read(&rt, alloc, &block, b"\x00", 6, list.get(0));
     check_read(&rt, alloc, &block, b"\x00", 5, list.get(1));
     check_read(&rt, alloc, &block, b"\x00", 4, list.get(2));
@@ -133,7 +132,7 @@ fn check_five_buckets<H: BlockHash>(
 /// Checks what the hash index of a block says of a key.
 fn check_lookup<H: BlockHash>(rt: &impl Abort, block: &DataBlock<H>, key: &[u8], wanted: Lookup) {
     match block.get_hash_index_reader() {
-        Some(reader) => assert_eq!(rt; reader.lookup(key), wanted),
+        Some(reader) => assert!(rt; reader.lookup(key) == wanted),
         None => assert!(rt; false, "no hash index"),
     }
 }
@@ -223,27 +222,8 @@ fn long_entries(rt: &impl Abort, alloc: Global) -> Result<Vec<InternalValue>> {
     push_sequence_numbers(&mut list, b"k", &value)?;
     push_sequence_numbers(&mut list, &key, &value)?;
     push_long(&mut list, &value)?;
-    assert_eq!(rt; list.len(), 20);
+    assert!(rt; list.len() == 20);
     Ok(list)
-}
-
-/// Reads each key of a list below each of its sequence numbers and below the next, and the key
-/// without its first byte.
-fn check_keys<H: BlockHash>(
-    rt: &impl Abort,
-    alloc: Global,
-    block: &DataBlock<H>,
-    list: &[InternalValue],
-) {
-    for entry in list {
-        let key = entry.key().user_key().as_slice();
-        let seqno = entry.key().seqno();
-        reads(rt, alloc, block, list, key, seqno);
-        if seqno < u64::MAX {
-            check_read(rt, alloc, block, key, seqno + 1, Some(entry));
-        }
-        reads(rt, alloc, block, list, &key[1..], seqno);
-    }
 }
 
 /// Iterates over a block of long entries, and reads each key.
@@ -259,7 +239,7 @@ fn check_long(
 {
     let block = block_of::<Poly31>(rt, alloc, list, interval, ratio)?;
     walks(rt, alloc, &block, list)?;
-    check_keys(rt, alloc, &block, list);
+    reads_each(rt, alloc, &block, list);
     Ok(())
 }
 
@@ -307,8 +287,8 @@ fn more_than_254_heads_are_searched(rt: HostRuntime) -> std::result::Result<(), 
     let alloc = rt.alloc();
     let list = two_byte_keys(alloc)?;
     let block = block_of::<ByteSum>(&rt, alloc, &list, 1, ONE_EACH)?;
-    assert_eq!(&rt; block.binary_index_len(), 300);
-    assert_eq!(&rt; block.hash_bucket_count(), None);
+    assert!(&rt; block.binary_index_len() == 300);
+    assert!(&rt; block.hash_bucket_count().is_none());
     assert!(&rt; block.get_hash_index_reader().is_none());
     check_entries(&rt, alloc, &block, &list);
     check_read(&rt, alloc, &block, b"\x02", 9, None);

@@ -65,7 +65,7 @@ fn check_seek(
         &|key: &[u8], _: u64| compare_bytes(key, below).is_lt(),
         second,
     );
-    assert_eq!(rt; answer, !left.is_empty());
+    assert!(rt; answer != left.is_empty());
     check_left(rt, decoder, payload, left);
 }
 
@@ -91,14 +91,18 @@ fn check_seeks(rt: &impl Abort, decoder: &mut Keys<'_>, payload: &[u8], seeks: &
     }
 }
 
+/// Seeks one after the other in a block, and checks the answers and the keys left.
+fn seeks_in(rt: &impl Abort, block: &DataBlock<ByteSum>, seeks: &[Seek]) {
+    let mut decoder = decoder_of(block);
+    check_seeks(rt, &mut decoder, block.as_slice().as_slice(), seeks);
+}
+
 /// At interval 2 the heads are a, c and e. The first form picks the last head that the predicate
 /// holds of, the second the first that it doesn't hold of. Each seek but the first begins at the
 /// end.
 #[test]
 fn seeks_pick_a_head(rt: HostRuntime) -> std::result::Result<(), Fail> {
     let block = five_keys(&rt, rt.alloc(), 2)?;
-    let payload = block.as_slice().as_slice();
-    let mut decoder = decoder_of(&block);
     let seeks = [
         Seek(b"c", false, b"abcde"),
         Seek(b"c", true, b"cde"),
@@ -111,7 +115,7 @@ fn seeks_pick_a_head(rt: HostRuntime) -> std::result::Result<(), Fail> {
         Seek(b"d", false, b"cde"),
         Seek(b"d", true, b"e"),
     ];
-    check_seeks(&rt, &mut decoder, payload, seeks.as_slice());
+    seeks_in(&rt, &block, seeks.as_slice());
     Ok(())
 }
 
@@ -119,8 +123,6 @@ fn seeks_pick_a_head(rt: HostRuntime) -> std::result::Result<(), Fail> {
 #[test]
 fn every_key_is_a_head_at_interval_1(rt: HostRuntime) -> std::result::Result<(), Fail> {
     let block = five_keys(&rt, rt.alloc(), 1)?;
-    let payload = block.as_slice().as_slice();
-    let mut decoder = decoder_of(&block);
     let seeks = [
         Seek(b"z", true, b""),
         Seek(b"z", false, b"e"),
@@ -130,7 +132,7 @@ fn every_key_is_a_head_at_interval_1(rt: HostRuntime) -> std::result::Result<(),
         Seek(b"", false, b"abcde"),
         Seek(b"", true, b"abcde"),
     ];
-    check_seeks(&rt, &mut decoder, payload, seeks.as_slice());
+    seeks_in(&rt, &block, seeks.as_slice());
     Ok(())
 }
 
@@ -144,50 +146,65 @@ fn skip(rt: &impl Abort, decoder: &mut Keys<'_>)
 }
 
 /// A seek forgets that the decoder was behind its first entry.
-#[test]
-fn a_seek_from_behind_an_entry(rt: HostRuntime) -> std::result::Result<(), Fail> {
-    let block = five_keys(&rt, rt.alloc(), 2)?;
+fn seeks_behind_an_entry(rt: &impl Abort, block: &DataBlock<ByteSum>) {
+    let mut decoder = decoder_of(block);
+    skip(rt, &mut decoder);
     let payload = block.as_slice().as_slice();
-    let mut decoder = decoder_of(&block);
-    skip(&rt, &mut decoder);
-    check_seek(&rt, &mut decoder, payload, b"c", false, b"abcde");
-    Ok(())
+    check_seek(rt, &mut decoder, payload, b"c", false, b"abcde");
 }
 
 /// A seek forgets that the decoder was within the second interval.
-#[test]
-fn a_seek_from_within_an_interval(rt: HostRuntime) -> std::result::Result<(), Fail> {
-    let block = five_keys(&rt, rt.alloc(), 2)?;
+fn seeks_within_an_interval(rt: &impl Abort, block: &DataBlock<ByteSum>) {
+    let mut decoder = decoder_of(block);
+    skip(rt, &mut decoder);
+    skip(rt, &mut decoder);
+    skip(rt, &mut decoder);
     let payload = block.as_slice().as_slice();
-    let mut decoder = decoder_of(&block);
-    skip(&rt, &mut decoder);
-    skip(&rt, &mut decoder);
-    skip(&rt, &mut decoder);
-    check_seek(&rt, &mut decoder, payload, b"c", true, b"cde");
-    Ok(())
+    check_seek(rt, &mut decoder, payload, b"c", true, b"cde");
+}
+
+/// Seeks by a predicate that holds of every head.
+fn seek_behind_all(decoder: &mut Keys<'_>, second: bool) -> bool
+    ensures payload { decoder.new.payload ≡ decoder.old.payload }
+    ensures interval { decoder.new.interval ≡ decoder.old.interval }
+    ensures list { decoder.new.window.list ≡ decoder.old.window.list }
+{
+    decoder.seek(&|_: &[u8], _: u64| true, second)
 }
 
 /// A seek forgets where an earlier one moved to.
-#[test]
-fn a_seek_from_a_head(rt: HostRuntime) -> std::result::Result<(), Fail> {
-    let block = five_keys(&rt, rt.alloc(), 2)?;
+fn seeks_from_a_head(rt: &impl Abort, block: &DataBlock<ByteSum>) {
+    let mut decoder = decoder_of(block);
+    assert!(rt; seek_behind_all(&mut decoder, false));
     let payload = block.as_slice().as_slice();
-    let mut decoder = decoder_of(&block);
-    assert!(&rt; decoder.seek(&|_: &[u8], _: u64| true, false));
-    check_seek(&rt, &mut decoder, payload, b"", true, b"abcde");
+    check_seek(rt, &mut decoder, payload, b"", true, b"abcde");
+}
+
+/// A seek forgets where the front was: behind an entry, within an interval, at a head.
+#[test]
+fn a_seek_forgets_where_the_front_was(rt: HostRuntime) -> std::result::Result<(), Fail> {
+    let block = five_keys(&rt, rt.alloc(), 2)?;
+    seeks_behind_an_entry(&rt, &block);
+    seeks_within_an_interval(&rt, &block);
+    seeks_from_a_head(&rt, &block);
     Ok(())
 }
 
 /// Behind a seek that found no head nothing is left, and the next seek finds all entries again.
+fn seeks_from_no_head(rt: &impl Abort, block: &DataBlock<ByteSum>) {
+    let mut decoder = decoder_of(block);
+    skip(rt, &mut decoder);
+    assert!(rt; !seek_behind_all(&mut decoder, true));
+    let payload = block.as_slice().as_slice();
+    check_left(rt, &mut decoder, payload, b"");
+    check_seek(rt, &mut decoder, payload, b"b", false, b"abcde");
+}
+
+/// A seek that finds no head leaves the others.
 #[test]
 fn a_seek_to_no_head_leaves_the_others(rt: HostRuntime) -> std::result::Result<(), Fail> {
     let block = five_keys(&rt, rt.alloc(), 1)?;
-    let payload = block.as_slice().as_slice();
-    let mut decoder = decoder_of(&block);
-    skip(&rt, &mut decoder);
-    assert!(&rt; !decoder.seek(&|_: &[u8], _: u64| true, true));
-    assert!(&rt; decoder.next().is_none());
-    check_seek(&rt, &mut decoder, payload, b"b", false, b"abcde");
+    seeks_from_no_head(&rt, &block);
     Ok(())
 }
 
@@ -203,9 +220,23 @@ fn five_versions(alloc: Global) -> Result<Vec<InternalValue>> {
 /// Takes an entry from the front, and checks its sequence number.
 fn check_next(rt: &impl Abort, decoder: &mut Keys<'_>, seqno: u64) {
     match decoder.next() {
-        Some(item) => assert_eq!(rt; item.seqno(), seqno),
+        Some(item) => assert!(rt; item.seqno() == seqno),
         None => assert!(rt; false, "no entry is left"),
     }
+}
+
+/// Seeks the sequence numbers above a bound.
+fn seek_above(decoder: &mut Keys<'_>, bound: u64, second: bool) -> bool {
+    decoder.seek(&|_: &[u8], seqno: u64| seqno > bound, second)
+}
+
+/// Seeks twice, and finds the first of the picked interval.
+fn seeks_by_numbers(rt: &impl Abort, block: &DataBlock<ByteSum>) {
+    let mut decoder = decoder_of(block);
+    assert!(rt; seek_above(&mut decoder, 2, false));
+    check_next(rt, &mut decoder, 3);
+    assert!(rt; seek_above(&mut decoder, 3, true));
+    check_next(rt, &mut decoder, 3);
 }
 
 /// A predicate sees the sequence numbers of the heads too.
@@ -213,11 +244,7 @@ fn check_next(rt: &impl Abort, decoder: &mut Keys<'_>, seqno: u64) {
 fn seeks_by_sequence_number(rt: HostRuntime) -> std::result::Result<(), Fail> {
     let list = five_versions(rt.alloc())?;
     let block = block_of::<ByteSum>(&rt, rt.alloc(), &list, 2, NO_BUCKETS)?;
-    let mut decoder = decoder_of(&block);
-    assert!(&rt; decoder.seek(&|_: &[u8], seqno: u64| seqno > 2, false));
-    check_next(&rt, &mut decoder, 3);
-    assert!(&rt; decoder.seek(&|_: &[u8], seqno: u64| seqno > 3, true));
-    check_next(&rt, &mut decoder, 3);
+    seeks_by_numbers(&rt, &block);
     Ok(())
 }
 
@@ -256,39 +283,46 @@ fn check_move(
     ensures list { decoder.new.window.list ≡ block.now.items }
 {
     let found = offset_of(rt, alloc, block, head)?;
-    assert_eq!(rt; found, offset);
+    assert!(rt; found == offset);
     decoder.set_lo_offset(found);
     check_left(rt, decoder, block.as_slice().as_slice(), left);
     Ok(())
 }
 
 /// The heads a, c and e are at the offsets 0, 11 and 22, and a decoder moves to each.
-#[test]
-fn offsets_of_heads_are_moved_to(rt: HostRuntime) -> std::result::Result<(), Fail> {
-    let block = five_keys(&rt, rt.alloc(), 2)?;
-    let mut decoder = decoder_of(&block);
-    check_move(&rt, rt.alloc(), &mut decoder, &block, 1, 11, b"cde")?;
-    check_move(&rt, rt.alloc(), &mut decoder, &block, 2, 22, b"e")?;
-    check_move(&rt, rt.alloc(), &mut decoder, &block, 0, 0, b"abcde")?;
-    Ok(())
+fn moves_to_heads(rt: &impl Abort, alloc: Global, block: &DataBlock<ByteSum>) -> Result<()>
+    requires { block.now.interval ≡ 2 }
+{
+    let mut decoder = decoder_of(block);
+    check_move(rt, alloc, &mut decoder, block, 1, 11, b"cde")?;
+    check_move(rt, alloc, &mut decoder, block, 2, 22, b"e")?;
+    check_move(rt, alloc, &mut decoder, block, 0, 0, b"abcde")
 }
 
 /// A decoder behind its first entry moves to a head.
-#[test]
-fn an_offset_is_moved_to_behind_an_entry(rt: HostRuntime) -> std::result::Result<(), Fail> {
-    let block = five_keys(&rt, rt.alloc(), 2)?;
-    let mut decoder = decoder_of(&block);
-    skip(&rt, &mut decoder);
-    check_move(&rt, rt.alloc(), &mut decoder, &block, 0, 0, b"abcde")?;
-    Ok(())
+fn moves_behind_an_entry(rt: &impl Abort, alloc: Global, block: &DataBlock<ByteSum>) -> Result<()>
+    requires { block.now.interval ≡ 2 }
+{
+    let mut decoder = decoder_of(block);
+    skip(rt, &mut decoder);
+    check_move(rt, alloc, &mut decoder, block, 0, 0, b"abcde")
 }
 
 /// A decoder behind a seek moves to a head.
+fn moves_behind_a_seek(rt: &impl Abort, alloc: Global, block: &DataBlock<ByteSum>) -> Result<()>
+    requires { block.now.interval ≡ 2 }
+{
+    let mut decoder = decoder_of(block);
+    assert!(rt; seek_behind_all(&mut decoder, false));
+    check_move(rt, alloc, &mut decoder, block, 1, 11, b"cde")
+}
+
+/// A decoder moves to an offset from its start, from behind an entry and from behind a seek.
 #[test]
-fn an_offset_is_moved_to_behind_a_seek(rt: HostRuntime) -> std::result::Result<(), Fail> {
+fn offsets_of_heads_are_moved_to(rt: HostRuntime) -> std::result::Result<(), Fail> {
     let block = five_keys(&rt, rt.alloc(), 2)?;
-    let mut decoder = decoder_of(&block);
-    assert!(&rt; decoder.seek(&|_: &[u8], _: u64| true, false));
-    check_move(&rt, rt.alloc(), &mut decoder, &block, 1, 11, b"cde")?;
+    moves_to_heads(&rt, rt.alloc(), &block)?;
+    moves_behind_an_entry(&rt, rt.alloc(), &block)?;
+    moves_behind_a_seek(&rt, rt.alloc(), &block)?;
     Ok(())
 }

@@ -162,9 +162,8 @@ module _ (f : Form) where
   is_behind blocks item h o s e is =
       let end = last_handle 0 blocks h s e in
       let at : (k : Key) → end_of (joined blocks) ≡ k → o ≡ ordering_then (slice_cmp nat_cmp item.key.user_key k.user_key) (nat_cmp k.seqno item.key.seqno) = λ k x.
-          is ∙ ap (λ u. ordering_then (slice_cmp nat_cmp item.key.user_key u) (nat_cmp h.seqno item.key.seqno)) (end.0 ∙ ap (λ (y : Key). y.user_key) x)
-          ∙ ap (λ n. ordering_then (slice_cmp nat_cmp item.key.user_key k.user_key) (nat_cmp n item.key.seqno)) (end.1 ∙ ap (λ (y : Key). y.seqno) x) in
-      (
+      is ∙ ap (λ u. ordering_then (slice_cmp nat_cmp item.key.user_key u) (nat_cmp h.seqno item.key.seqno)) (end.0 ∙ ap (λ (y : Key). y.user_key) x)
+      ∙ ap (λ n. ordering_then (slice_cmp nat_cmp item.key.user_key k.user_key) (nat_cmp n item.key.seqno)) (end.1 ∙ ap (λ (y : Key). y.seqno) x) in (
         (λ ge front last j. subst (λ c. c ≢ Less) (at last.key (ap end_of j ∙ end_of-push front last)) (ge_is o ge)),
         (λ behind. let p = end_parts (joined blocks) (joined_some blocks (handles_some blocks _ h e) s) in is_ge_of o (subst (λ c. c ≢ Less) (sym (at p.1.key p.3)) (behind p.0 p.1 p.2))),
       )

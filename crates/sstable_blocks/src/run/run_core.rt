@@ -294,11 +294,7 @@ fn push_hashes<H: BlockHash>(hashes: &mut Vec<u64>, items: &[InternalValue])
 }
 
 // The payload of the filter of hashes.
-fn filter_of(
-    alloc: Global,
-    policy: &BloomConstructionPolicy,
-    hashes: &[u64],
-) -> Result<Vec<u8>>
+fn filter_of(alloc: Global, policy: &BloomConstructionPolicy, hashes: &[u64]) -> Result<Vec<u8>>
     requires some { 1 ≤ length hashes.now }
     requires active { 1 ≤ bits_per_key policy.now }
     requires fits { length hashes.now * bits_per_key policy.now ≤ MAX_BITS }

@@ -36,7 +36,12 @@ impl<H: BlockHash, W: Write> Model for RunWriter<H, W> {
     ghost Value = { Writing W };
 
     ghost view = { λ w. record {
-        config = w.core.config; blocks = w.core.blocks; refusal = w.refusal; start = w.start; writer = w.writer } };
+      config = w.core.config;
+      blocks = w.core.blocks;
+      refusal = w.refusal;
+      start = w.start;
+      writer = w.writer;
+    } };
 
     ghost invariant = { λ w. IsUnderWay (form H.hash64 H.hash128 w.core.config) w.core.blocks w.refusal
         w.start (W.contents w.writer) };
@@ -49,7 +54,12 @@ impl<H: BlockHash, W: Write> RunWriter<H, W> {
         requires index_interval { 1 ≤ config.index_interval }
         requires den { 1 ≤ config.ratio.den }
         ensures { result ≡ record {
-            config = config; blocks = []; refusal = None; start = W.contents writer; writer = writer } }
+          config = config;
+          blocks = [];
+          refusal = None;
+          start = W.contents writer;
+          writer = writer;
+        } }
     {
         let start = Contents::of(&writer);
         RunWriter {
@@ -108,7 +118,6 @@ impl<H: BlockHash, W: Write> RunWriter<H, W> {
         }
         added
     }
-
 }
 
 impl<H: BlockHash, W: Write + Drop> RunWriter<H, W> {

@@ -82,7 +82,11 @@ fn three_entries(alloc: Global) -> Result<[InternalValue; 3]> {
     Ok([first, second, entry(alloc, b'b', b'z', 4)?])
 }
 
-fn config(restart_interval: u8, bits_per_key: u32, index_interval: u8) -> RunConfig {
+fn config(restart_interval: u8, bits_per_key: u32, index_interval: u8) -> RunConfig
+    ensures interval { result.restart_interval ≡ restart_interval }
+    ensures index_interval { result.index_interval ≡ index_interval }
+    ensures den { result.ratio.den ≡ 1 }
+{
     let mut config = RunConfig::new(restart_interval, NO_BUCKETS, bits_per_key);
     config.index_interval = index_interval;
     config
@@ -136,7 +140,13 @@ fn check_read(
 }
 
 // The reads of the three entries.
-fn check_reads(rt: &impl Abort, alloc: Global, items: &[InternalValue], cuts: &[usize], config: RunConfig) {
+fn check_reads(
+    rt: &impl Abort,
+    alloc: Global,
+    items: &[InternalValue],
+    cuts: &[usize],
+    config: RunConfig,
+) {
     check_read(rt, alloc, items, cuts, config, (b"a", 3), Some(b'y'));
     check_read(rt, alloc, items, cuts, config, (b"a", 1), None);
     check_read(rt, alloc, items, cuts, config, (b"b", 5), Some(b'z'));
@@ -144,14 +154,20 @@ fn check_reads(rt: &impl Abort, alloc: Global, items: &[InternalValue], cuts: &[
     check_read(rt, alloc, items, cuts, config, (b"", 9), None);
 }
 
+fn check_three_blocks(rt: &impl Abort, bytes: &[u8], handles: &RunHandles) {
+    assert_eq!(rt; bytes, THREE_BLOCKS.as_slice());
+    let index = handles.index;
+    assert_eq!(rt; index, handle(219, 90));
+    let filter = handles.filter;
+    assert_eq!(rt; filter, Some(handle(309, 59)));
+}
+
 #[test]
 fn three_blocks_are_written(rt: HostRuntime) -> std::result::Result<(), Fail> {
     let alloc = rt.alloc();
     let items = three_entries(alloc)?;
     let (bytes, handles) = written(&rt, alloc, &items, &[1, 2], config(1, 10, 1))?;
-    assert_eq!(rt; bytes.as_slice(), THREE_BLOCKS.as_slice());
-    assert_eq!(rt; handles.index, handle(219, 90));
-    assert_eq!(rt; handles.filter, Some(handle(309, 59)));
+    check_three_blocks(&rt, &bytes, &handles);
     Ok(())
 }
 
@@ -207,22 +223,44 @@ fn one_block_is_written_and_read(rt: HostRuntime) -> std::result::Result<(), Fai
 fn equal_keys_are_cut(rt: HostRuntime) -> std::result::Result<(), Fail> {
     let alloc = rt.alloc();
     let items = [entry(alloc, b'a', b'x', 5)?, entry(alloc, b'a', b'y', 5)?];
-    check_read(&rt, alloc, &items, &[1], config(1, 10, 1), (b"a", 6), Some(b'x'));
+    check_read(
+        &rt,
+        alloc,
+        &items,
+        &[1],
+        config(1, 10, 1),
+        (b"a", 6),
+        Some(b'x'),
+    );
     check_read(&rt, alloc, &items, &[1], config(1, 10, 1), (b"a", 5), None);
     Ok(())
+}
+
+// As many entries with one key.
+fn versions(alloc: Global, count: u64) -> Result<Vec<InternalValue>> {
+    let mut items = Vec::new(alloc);
+    for i in 0..count {
+        items.push(entry(alloc, b'a', b'x', count - i)?)?;
+    }
+    Ok(items)
+}
+
+// Why a run without cuts is not written.
+fn refusal(
+    rt: &impl Abort,
+    alloc: Global,
+    items: &[InternalValue],
+    config: RunConfig,
+) -> Option<Error> {
+    written(rt, alloc, items, &[], config).err()
 }
 
 #[test]
 fn too_many_bits_are_refused(rt: HostRuntime) -> std::result::Result<(), Fail> {
     let alloc = rt.alloc();
-    let mut items = Vec::new(alloc);
-    for seqno in 0..8 {
-        items.push(entry(alloc, b'a', b'x', 8 - seqno)?)?;
-    }
-    match written(&rt, alloc, items.as_slice(), &[], config(16, 4294967295, 1)) {
-        Ok(_) => assert!(rt; false, "written"),
-        Err(e) => assert_eq!(rt; e, Error::TooLong),
-    }
+    let items = versions(alloc, 8)?;
+    let refused = refusal(&rt, alloc, &items, config(16, 4294967295, 1));
+    assert_eq!(rt; refused, Some(Error::TooLong));
     Ok(())
 }
 
@@ -264,16 +302,14 @@ fn add<W: Write>(
 #[test]
 fn three_blocks_are_added(rt: HostRuntime) -> std::result::Result<(), Fail> {
     let alloc = rt.alloc();
-    let [first, second, third] = three_entries(alloc)?;
     let mut writer = RunWriter::new(alloc, Vec::new(alloc), config(1, 10, 1));
-    add(&rt, &mut writer, &[first])?;
-    add(&rt, &mut writer, &[second])?;
-    add(&rt, &mut writer, &[third])?;
+    add(&rt, &mut writer, &[entry(alloc, b'a', b'x', 3)?])?;
+    add(&rt, &mut writer, &[entry(alloc, b'a', b'y', 1)?])?;
+    add(&rt, &mut writer, &[entry(alloc, b'b', b'z', 4)?])?;
     assert_eq!(rt; writer.block_count(), 3);
-    let (handles, bytes) = writer.finish()?;
-    assert_eq!(rt; bytes.as_slice(), THREE_BLOCKS.as_slice());
-    assert_eq!(rt; handles.index, handle(219, 90));
-    assert_eq!(rt; handles.filter, Some(handle(309, 59)));
+    let finished = writer.finish()?;
+    let r = &finished;
+    check_three_blocks(&rt, &r.1, &r.0);
     Ok(())
 }
 
@@ -281,15 +317,17 @@ fn three_blocks_are_added(rt: HostRuntime) -> std::result::Result<(), Fail> {
 #[test]
 fn a_failure_is_repeated(rt: HostRuntime) -> std::result::Result<(), Fail> {
     let alloc = rt.alloc();
-    let [first, second, third] = three_entries(alloc)?;
+    let first = [entry(alloc, b'a', b'x', 3)?];
+    let second = [entry(alloc, b'a', b'y', 1)?];
+    let third = [entry(alloc, b'b', b'z', 4)?];
     let mut room = Room {
         left: 100,
         calls: 0,
     };
     let mut writer = RunWriter::new(alloc, &mut room, config(1, 10, 1));
-    assert_eq!(rt; add(&rt, &mut writer, &[first]), Ok(()));
-    assert_eq!(rt; add(&rt, &mut writer, &[second]), Err(Error::Io));
-    assert_eq!(rt; add(&rt, &mut writer, &[third]), Err(Error::Io));
+    assert_eq!(rt; add(&rt, &mut writer, &first), Ok(()));
+    assert_eq!(rt; add(&rt, &mut writer, &second), Err(Error::Io));
+    assert_eq!(rt; add(&rt, &mut writer, &third), Err(Error::Io));
     assert_eq!(rt; writer.block_count(), 1);
     match writer.finish() {
         Ok(_) => assert!(rt; false, "finished"),

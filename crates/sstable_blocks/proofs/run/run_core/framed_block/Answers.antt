@@ -15,4 +15,4 @@ returns-in-Some-clause-ok g c =
 
 pub returns-in-None-clause-cause : goal.returns-in-None-clause-cause
 unfolding block_payload
-returns-in-None-clause-cause g c = frame_refused (form g.H.BlockHash.hash64 g.H.BlockHash.hash128 c.args.config.now) _ _ _ c.in-Ok.ensures.payload (elim (c.in-None.ensures.none refl) [ | inl long ↦ inl (omega arith) | inr long ↦ inr (omega arith) ])
+returns-in-None-clause-cause g c = frame_refused (form g.H.BlockHash.hash64 g.H.BlockHash.hash128 c.args.config.now) _ _ _ c.in-Ok.ensures.payload (elim (c.in-None.ensures.none refl) [ inl long ↦ inl (omega arith) | inr long ↦ inr (omega arith) ])

@@ -1,0 +1,167 @@
+//! Runs: writing one, and reading from it by key.
+//!
+//! Each call takes entries as bytes (see `entries`), the number of entries in a block, a restart
+//! interval, a hash ratio `num / den`, and the bits of the filter for each key. Each handle of the
+//! index is a head. It refuses what data blocks refuse, and blocks of no entries.
+ghost use Rattle.std.specs.Prelude.{◌≡◌, ℕ, ◌<◌, ◌≤◌, List, length, IfSome};
+ghost use Rattle.sst_base.specs.Entry.{Entry};
+ghost use Rattle.sst_base.specs.Hashes.{poly31};
+ghost use Rattle.sst_block_core.specs.Entries.{entries};
+ghost use Rattle.sst_block_core.specs.Kind.{IsOrdered};
+ghost use Rattle.sstable_blocks.specs.Blocks.{CutsFit, blocks_of};
+ghost use Rattle.sstable_blocks.specs.Run.{form, IsLayout};
+ghost use Rattle.sstable_blocks.specs.declared.run.RunConfig.{RunConfig};
+ghost use Rattle.sst_bench.specs.Blocks.{Copied};
+ghost use Rattle.sst_bench.specs.Inputs.{AreEntries};
+ghost use Rattle.sst_bench.specs.Runs.{IsRunOf};
+ghost use Rattle.sst_bench.specs.Turns.{OrRefused};
+
+use crate::REFUSED;
+use crate::data_block::{NEWEST, copy_front, items_in};
+use crate::keys::keys_in;
+use crate::sums::entry_sum;
+use sst_base::{HashRatio, InternalValue, Poly31, Slice, Steps};
+use sstable_blocks::{RunConfig, RunHandles, cuts_fit, read_entry, write_run};
+use std::alloc::Global;
+
+// The cuts of a list into blocks of so many entries, the last perhaps of fewer.
+fn cuts_of(alloc: Global, len: usize, per_block: usize) -> Option<Vec<usize>>
+    ensures { IfSome result (λ cuts. CutsFit 0 len cuts.items) }
+{
+    if per_block == 0 {
+        return None;
+    }
+    let mut cuts = Vec::new(alloc);
+    for i in 1..len.div_ceil(per_block) {
+        cuts.push(i.checked_mul(per_block)?).ok()?;
+    }
+    if cuts_fit(len, cuts.as_slice()) {
+        Some(cuts)
+    } else {
+        None
+    }
+}
+
+// Writes the run, and returns its bytes and its handles.
+#[inline(never)]
+fn written(
+    alloc: Global,
+    items: &[InternalValue],
+    cuts: &[usize],
+    config: RunConfig,
+) -> Option<(Vec<u8>, RunHandles)>
+    requires ordered { IsOrdered entries items.now }
+    requires cuts { CutsFit 0 (length items.now) cuts.now }
+    requires interval { 1 ≤ config.restart_interval }
+    requires index_interval { 1 ≤ config.index_interval }
+    requires den { 1 ≤ config.ratio.den }
+    ensures { IfSome result (λ r. IsLayout (form (poly31 64) (poly31 128) config)
+        (blocks_of cuts.now items.now) r.0.items r.1) }
+{
+    let mut bytes = Vec::new(alloc);
+    let handles = write_run::<Poly31, Vec<u8>>(alloc, &mut bytes, items, cuts, config).ok()?;
+    Some((bytes, handles))
+}
+
+// The run of entries as bytes.
+fn run_in(
+    alloc: Global,
+    bytes: &[u8],
+    count: usize,
+    per_block: usize,
+    config: RunConfig,
+) -> Option<(Vec<u8>, RunHandles)>
+    requires { 1 ≤ config.index_interval }
+    ensures { IfSome result (λ r. IsRunOf bytes.now count config r.0.items r.1) }
+{
+    let items = items_in(alloc, bytes, count, config.restart_interval, config.ratio)?;
+    let cuts = cuts_of(alloc, items.len(), per_block)?;
+    written(alloc, items.as_slice(), cuts.as_slice(), config)
+}
+
+/// Writes the run, and copies as much of it into `out` as fits.
+#[unsafe(no_mangle)]
+pub extern "C" fn sst_run_write(
+    bytes: &[u8],
+    count: usize,
+    per_block: usize,
+    interval: u8,
+    num: u32,
+    den: u32,
+    bits: u32,
+    times: u64,
+    out: &mut [u8],
+    alloc: Global,
+) -> u64 {
+    let config = RunConfig::new(interval, HashRatio { num, den }, bits);
+    let Some(items) = items_in(alloc, bytes, count, interval, config.ratio) else {
+        return REFUSED;
+    };
+    let Some(cuts) = cuts_of(alloc, items.len(), per_block) else {
+        return REFUSED;
+    };
+    let mut len = 0;
+    for _ in 0..times {
+        match written(alloc, items.as_slice(), cuts.as_slice(), config) {
+            Some((run, _)) => {
+                copy_front(out, run.as_slice());
+                len = run.len() as u64;
+            }
+            None => return REFUSED,
+        }
+    }
+    len
+}
+
+// Reads each needle, and adds the entry that is found, or 1 for none.
+#[inline(never)]
+fn add_found(
+    so_far: u64,
+    bytes: &Slice,
+    handles: &RunHandles,
+    needles: &[&[u8]],
+    alloc: Global,
+) -> Option<u64>
+    requires { (config : RunConfig) × (blocks : List (List Entry))
+        × IsLayout (form (poly31 64) (poly31 128) config) blocks bytes.now handles.now }
+{
+    let mut sum = so_far;
+    for needle in needles {
+        let mut steps = Steps::new();
+        let found = read_entry::<Poly31>(alloc, bytes, handles, needle, NEWEST, &mut steps).ok()?;
+        sum = sum.wrapping_add(found.map_or(1, |entry| entry_sum(&entry)));
+    }
+    Some(sum)
+}
+
+/// Reads each needle from the run, and adds the entry that is found, or 1 for none.
+#[unsafe(no_mangle)]
+pub extern "C" fn sst_run_get(
+    bytes: &[u8],
+    count: usize,
+    per_block: usize,
+    interval: u8,
+    num: u32,
+    den: u32,
+    bits: u32,
+    times: u64,
+    needles: &[u8],
+    key_len: usize,
+    alloc: Global,
+) -> u64 {
+    let config = RunConfig::new(interval, HashRatio { num, den }, bits);
+    let Some((run, handles)) = run_in(alloc, bytes, count, per_block, config) else {
+        return REFUSED;
+    };
+    let (Ok(run), Some(needles)) = (Slice::from_vec(run), keys_in(alloc, needles, key_len)) else {
+        return REFUSED;
+    };
+    let mut sum = 0;
+    for _ in 0..times {
+        match add_found(sum, &run, &handles, needles.as_slice(), alloc) {
+            Some(more) => sum = more,
+            None => return REFUSED,
+        }
+    }
+    sum
+}
