@@ -1,7 +1,7 @@
 -- The end of a run: its index and its filter.
-use Rattle.std.proofs.Common.{◌≡◌, ℕ, ◌+◌, ◌*◌, ◌/◌, ◌<◌, ◌≤◌, ◌^◌, ◌⊎◌, true, false, cond, eqb, List, [], ◌∷◌, ◌++◌, length, refl, arith, sym, ◌∙◌, ap, subst, length-append, inl, inr, Option, Some, None, Result, Ok, Err, IfErr, OnOk}
+use Rattle.std.proofs.Common.{◌≡◌, ℕ, ◌+◌, ◌*◌, ◌/◌, ◌<◌, ◌≤◌, ◌^◌, ◌⊎◌, cond, List, [], ◌++◌, length, refl, arith, sym, ◌∙◌, ap, subst, inl, inr, Option, Some, None, Result, Ok, Err, IfErr, OnOk}
 use Rattle.std.proofs.lemmas.Bool.{eq-eqb, ne_eqb}
-use Rattle.std.proofs.lemmas.List.{append-nil, length-map}
+use Rattle.std.proofs.lemmas.List.{length-map}
 use Rattle.std.specs.Io.KnownBytes.{Appends}
 use Rattle.std.specs.List.{AllByRecursion}
 use Rattle.sst_base.specs.BlockHandle.{HandleParts}
@@ -13,10 +13,10 @@ use Rattle.sst_base.specs.declared.error.Error.TheVariants.{TooLong, Io}
 use Rattle.sst_base.specs.declared.table.block.block_type.BlockType.TheVariants.{Index, Filter}
 use Rattle.sst_block_core.specs.Encoders.{IsRefusal}
 use Rattle.sst_block_core.specs.Handles.{Handle, index_payload}
-use Rattle.sstable_blocks.specs.Blocks.{joined, IsNotEmpty}
+use Rattle.sstable_blocks.specs.Blocks.{joined}
 use Rattle.sstable_blocks.specs.Filter.{bit_count}
 use Rattle.sstable_blocks.specs.FilterLaws.{length-filter_payload}
-use Rattle.sstable_blocks.specs.Run.{Form, block_payload, block_frames, index_text, index_frame, filter_frame, key_hashes, filter_frame_length, run_text, run_handles, IsFramed, IsFilterText, IsRun, RunFits, IsLayout}
+use Rattle.sstable_blocks.specs.Run.{Form, block_payload, block_frames, index_text, index_frame, filter_frame, key_hashes, filter_frame_length, run_text, run_handles, IsFramed, IsFilterText, IsRun, RunFits}
 use Rattle.sstable_blocks.specs.Writing.{IsKept, PartFits, IsWriteRefusal, IsFrameAppended, AppendsFilter, AppendsEnd}
 use Rattle.sstable_blocks.proofs.CutLoops.{appends_then}
 use Rattle.sstable_blocks.proofs.Kept.{joined_some}

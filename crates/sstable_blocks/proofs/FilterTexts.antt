@@ -1,6 +1,6 @@
 -- The filter of a list of hashes.
-use Rattle.std.proofs.Common.{◌≡◌, ℕ, ◌+◌, ◌<◌, ◌≤◌, List, [], ◌∷◌, ◌++◌, length, take, get_or, sym, ◌∙◌, ap, subst, Result, Ok, Err, IfOk}
-use Rattle.std.proofs.lemmas.List.{take_more, take_all}
+use Rattle.std.proofs.Common.{◌≡◌, ℕ, ◌+◌, ◌<◌, List, [], ◌∷◌, ◌++◌, length, take, get_or, sym, subst, Result, Ok, Err, IfOk}
+use Rattle.std.proofs.lemmas.List.{take_more}
 use Rattle.sst_base.specs.declared.error.Error.{Error}
 use Rattle.sstable_blocks.specs.Filter.{Filter, IsFilterOf, bit_count, probe_count, filter_payload}
 use Rattle.sstable_blocks.specs.Run.{IsFilterText}

@@ -22,7 +22,7 @@ ghost use Rattle.sstable_blocks.specs.declared.run.RunConfig.{RunConfig};
 
 use crate::run::RunHandles;
 use crate::run::laws::layout_opens;
-use crate::table::filter::FilterBlock;
+use crate::table::filter::standard_bloom::StandardBloomFilterReader;
 use sst_base::table::block::header::HEADER_LEN;
 use sst_base::{
     Block, BlockHandle, BlockHash, BlockType, Checksum, Error, Header, InternalValue, Result,
@@ -54,19 +54,28 @@ fn block_at(bytes: &Slice, handle: &BlockHandle, block_type: BlockType) -> Resul
     Ok(Block::from_parts(header, payload))
 }
 
-// Whether a run can have a key of this hash, by its filter.
-fn may_have(bytes: &Slice, filter: &Option<BlockHandle>, hash: u64) -> Result<bool>
-    requires range { IfSome filter.now (IsFrameRange bytes.now) }
-    requires readable { IfSome filter.now (λ h. (f : Filter) × (filter_at (payload_in bytes.now h) ≡ Ok f)) }
-    ensures denied { IfOk result (λ may. (may ≡ false) ↔ IsDenied bytes.now filter.now hash) }
-    ensures memory { IsOkUnless result Error.Memory }
+// The payload of a frame, by the frame's range alone.
+#[tactic(auto, using(crate::proofs::Points::payload_range), unfolding(crate::specs::Opened::payload_in))]
+fn payload_at<'a>(bytes: &'a [u8], handle: &BlockHandle) -> &'a [u8]
+    requires { IsFrameRange bytes.now handle.now }
+    ensures { result.now ≡ payload_in bytes.now handle.now }
+{
+    let size = handle.size();
+    let start = *handle.offset() as usize;
+    &bytes[start + HEADER_LEN..start + size as usize]
+}
+
+// Whether a run can have a key of this hash, by its filter. It can where there is none.
+fn may_have(bytes: &[u8], filter: &Option<BlockHandle>, hash: u64) -> bool
+    requires { IfSome filter.now (IsFrameRange bytes.now) }
+    ensures { (result ≡ false) ↔ IsDenied bytes.now filter.now hash }
 {
     match filter {
-        None => Ok(true),
-        Some(handle) => {
-            let filter = FilterBlock::new(block_at(bytes, handle, BlockType::Filter)?);
-            filter.maybe_contains_hash(hash)
-        }
+        None => true,
+        Some(handle) => match StandardBloomFilterReader::new(payload_at(bytes, handle)) {
+            Ok(filter) => filter.contains_hash(hash),
+            Err(_) => true,
+        },
     }
 }
 
@@ -178,7 +187,7 @@ pub fn read_entry<H: BlockHash>(
         → (steps.new.heads ≡ steps.old.heads) × (steps.new.entries ≡ steps.old.entries) }
 {
     layout_opens();
-    if !may_have(bytes, &handles.filter, H::hash64(needle))? {
+    if !may_have(bytes.as_slice(), &handles.filter, H::hash64(needle)) {
         return Ok(None);
     }
     match handle_in_index(bytes, &handles.index, needle, seqno, steps)? {

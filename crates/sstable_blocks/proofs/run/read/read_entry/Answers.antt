@@ -1,22 +1,20 @@
-use Rattle.std.proofs.Common.{arith}
+use Rattle.std.proofs.Common.{arith, sym, subst, IfSome}
+use Rattle.sstable_blocks.specs.Opened.{IsFrameRange, IsDenied}
 use Rattle.sstable_blocks.specs.Run.{form}
 use Rattle.sstable_blocks.proofs.Points.{chosen, found_none, found_denied, found_some, index_digits, index_handles, block_digits, block_interval}
 use Rattle.sstable_blocks.proofs.run.read.read_entry.Goals as goal
 
-pub may_have-requires-clause-range : goal.may_have-requires-clause-range
-may_have-requires-clause-range g c =
+pub may_have-requires : goal.may_have-requires
+may_have-requires g c =
     let l = c.requires.layout in
-    (c.layout_opens.ensures (form g.H.BlockHash.hash64 g.H.BlockHash.hash128 l.0) l.1 _ _ l.2).filter_range
+    let o = c.layout_opens.ensures (form g.H.BlockHash.hash64 g.H.BlockHash.hash128 l.0) l.1 _ _ l.2 in
+    subst (λ xs. IfSome c.args.handles.now.filter (IsFrameRange xs)) (sym c.as_slice.ensures) o.filter_range
 
-pub may_have-requires-clause-readable : goal.may_have-requires-clause-readable
-may_have-requires-clause-readable g c =
-    let l = c.requires.layout in
-    (c.layout_opens.ensures (form g.H.BlockHash.hash64 g.H.BlockHash.hash128 l.0) l.1 _ _ l.2).filter_reads
-
-pub returns-then-not-branch-clause-found : goal.returns-then-not-branch-clause-found
-returns-then-not-branch-clause-found g c = λ config blocks layout.
+pub returns-then-not-may_have-clause-found : goal.returns-then-not-may_have-clause-found
+returns-then-not-may_have-clause-found g c = λ config blocks layout.
     let o = c.layout_opens.ensures (form g.H.BlockHash.hash64 g.H.BlockHash.hash128 config) blocks _ _ layout in
-    found_denied _ _ _ _ c.args.needle.now c.args.seqno o _ c.hash64.ensures (c.in_ok-may_have.ensures.denied.0 c.if-not-branch.true)
+    let denied = subst (λ xs. IsDenied xs c.args.handles.now.filter c.hash64.result) c.as_slice.ensures (c.may_have.ensures.0 c.if-not-may_have.true) in
+    found_denied _ _ _ _ c.args.needle.now c.args.seqno o _ c.hash64.ensures denied
 
 pub handle_in_index-requires-clause-range : goal.handle_in_index-requires-clause-range
 handle_in_index-requires-clause-range g c =

@@ -1,4 +1,4 @@
-use Rattle.std.proofs.Common.{◌≡◌, ◌∙◌, ap, subst, Ok, Err, IfOk}
+use Rattle.std.proofs.Common.{◌∙◌, ap, subst}
 use Rattle.std.proofs.lemmas.List.{take_all}
 use Rattle.sstable_blocks.specs.Filter.{Filter, IsFilterOf}
 use Rattle.sstable_blocks.proofs.FilterTexts.{next_inserted, filter_text, if_ok_map}

@@ -1,9 +1,5 @@
-use Rattle.std.proofs.Common.{◌≡◌, refl, ap, sym, ◌∙◌, subst, IsTrue, false}
-use Rattle.sst_block_core.specs.Entries.{entries}
-use Rattle.sst_block_core.specs.Kind.{IsOrdered}
-use Rattle.sstable_blocks.specs.Blocks.{joined}
-use Rattle.sstable_blocks.specs.Writing.{Written}
-use Rattle.sstable_blocks.proofs.Kept.{follows_from, follows_ordered, follows_behind, follows_some}
+use Rattle.std.proofs.Common.{sym, IsTrue}
+use Rattle.sstable_blocks.proofs.Kept.{follows_from, follows_ordered, follows_behind}
 use Rattle.sstable_blocks.proofs.run.run_core.RunCore.fits_after.Goals as goal
 
 pub returns-then-is_ordered : goal.returns-then-is_ordered

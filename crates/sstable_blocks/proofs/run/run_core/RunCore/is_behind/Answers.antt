@@ -1,10 +1,9 @@
-use Rattle.std.proofs.Common.{rules, ◌≡◌, refl, ap, sym, ◌∙◌, subst, length, Some, None, Option, List, ◌-◌, IsTrue, ◌↔◌}
+use Rattle.std.proofs.Common.{rules, ◌≡◌, refl, ap, sym, ◌∙◌, subst, length, List, ◌-◌, IsTrue, ◌↔◌}
 use Rattle.std.specs.List.{slice_get}
-use Rattle.std.specs.Option.{option_copied}
-use Rattle.std.specs.Ordering.{is_ge, nat_cmp, ordering_then}
+use Rattle.std.specs.Ordering.{nat_cmp, ordering_then}
 use Rattle.std.specs.Cmp.Lexicographic.{slice_cmp}
 use Rattle.sst_block_core.specs.Handles.{Handle}
-use Rattle.sstable_blocks.specs.Run.{form, handles_from}
+use Rattle.sstable_blocks.specs.Run.{form}
 use Rattle.sstable_blocks.specs.Writing.{Written, IsBehind}
 use Rattle.sstable_blocks.proofs.Kept.{no_last, is_behind}
 use Rattle.sstable_blocks.proofs.run.run_core.RunCore.is_behind.Goals as goal

@@ -1,4 +1,4 @@
-use Rattle.std.proofs.Common.{rules, ◌≡◌, ap, sym, ◌∙◌, subst, ◌≤◌, ℕ, List, length}
+use Rattle.std.proofs.Common.{rules, ap, sym, subst, ◌≤◌, ℕ, List, length}
 use Rattle.std.proofs.lemmas.Result.{err_from_is_err_and}
 use Rattle.sstable_blocks.specs.Run.{form, RunFits, IsFilterText}
 use Rattle.sstable_blocks.specs.Writing.{Written, IsKept}

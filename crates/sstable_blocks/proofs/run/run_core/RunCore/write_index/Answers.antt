@@ -1,4 +1,4 @@
-use Rattle.std.proofs.Common.{◌≡◌, refl, ap, sym, ◌∙◌, subst, ◌+◌, ℕ, List, length, IfOk}
+use Rattle.std.proofs.Common.{◌≡◌, refl, ap, ◌∙◌, subst, ◌+◌, ℕ, List, length, IfOk}
 use Rattle.std.proofs.lemmas.Result.{err_from_is_err_and}
 use Rattle.sst_base.specs.declared.table.block.block_type.BlockType.TheVariants.{Index}
 use Rattle.sst_block_core.specs.Handles.{index_payload}

@@ -1,4 +1,4 @@
-use Rattle.std.proofs.Common.{◌≡◌, ap, sym, ◌∙◌, subst, OnOk, ◌≤◌, ◌∷◌, [], ◌++◌}
+use Rattle.std.proofs.Common.{◌≡◌, sym, subst, OnOk, ◌≤◌, ◌∷◌, [], ◌++◌}
 use Rattle.std.specs.Io.KnownBytes.{Appends}
 use Rattle.sstable_blocks.specs.Run.{form, block_frame, block_frames}
 use Rattle.sstable_blocks.specs.declared.run.RunConfig.{RunConfig}

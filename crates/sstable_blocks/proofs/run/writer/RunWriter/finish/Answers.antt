@@ -1,6 +1,6 @@
-use Rattle.std.proofs.Common.{◌≡◌, ap, sym, ◌∙◌, subst, None}
+use Rattle.std.proofs.Common.{◌≡◌, subst, None}
 use Rattle.sstable_blocks.specs.Run.{form}
-use Rattle.sstable_blocks.specs.Writing.{Writing, AppendsLayout}
+use Rattle.sstable_blocks.specs.Writing.{AppendsLayout}
 use Rattle.sstable_blocks.proofs.CutLoops.{layout_joined}
 use Rattle.sstable_blocks.proofs.run.writer.RunWriter.finish.Goals as goal
 
