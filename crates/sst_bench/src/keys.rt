@@ -121,6 +121,25 @@ pub extern "C" fn sst_hash(bytes: &[u8], key_len: usize, times: u64, alloc: Glob
     sum
 }
 
+// Adds low and high 64 bits of the hash of all bytes.
+#[inline(never)]
+fn add_hash128(so_far: u64, bytes: &[u8]) -> u64 {
+    let hash = Poly31::hash128(bytes);
+    so_far
+        .wrapping_add((hash % (1 << 64)) as u64)
+        .wrapping_add((hash >> 64) as u64)
+}
+
+/// Adds low and high 64 bits of the hash of 128 bits of all bytes.
+#[unsafe(no_mangle)]
+pub extern "C" fn sst_hash128(bytes: &[u8], times: u64) -> u64 {
+    let mut sum = 0;
+    for _ in 0..times {
+        sum = add_hash128(sum, bytes);
+    }
+    sum
+}
+
 // Adds concatenated varints of 64 bits. `None` if the bytes are not such varints.
 #[inline(never)]
 fn add_varints(so_far: u64, bytes: &[u8]) -> Option<u64> {
