@@ -44,6 +44,8 @@ pub(crate) struct RunCore<H: BlockHash> {
     handles: Vec<KeyedBlockHandle>,
     hashes: Vec<u64>,
     offset: u64,
+    // The payload of the last block, kept for its room.
+    payload: Vec<u8>,
     accepted: History<LinkedList<InternalValue>>,
 }
 
@@ -71,6 +73,7 @@ impl<H: BlockHash> RunCore<H> {
             handles: Vec::new(alloc),
             hashes: Vec::new(alloc),
             offset: 0,
+            payload: Vec::new(alloc),
             accepted: History::new(),
         }
     }
@@ -134,11 +137,11 @@ impl<H: BlockHash> RunCore<H> {
         let end_key = last.user_key().clone()?;
         self.handles.try_reserve(1)?;
         self.hashes.try_reserve(items.len())?;
-        let alloc = *self.handles.allocator();
-        let (payload, size, end) = framed_block::<H>(alloc, items, &self.config, self.offset)?;
-        let place = BlockHandle::new(BlockOffset(self.offset), size);
+        let (config, offset) = (self.config, self.offset);
+        let (size, end) = framed_block::<H>(&mut self.payload, items, &config, offset)?;
+        let place = BlockHandle::new(BlockOffset(offset), size);
         let handle = KeyedBlockHandle::new(end_key, last.seqno(), place);
-        write_frame::<H, W>(writer, &payload, BlockType::Data)?;
+        write_frame::<H, W>(writer, &self.payload, BlockType::Data)?;
         let _room = self.handles.push(handle);
         push_hashes::<H>(&mut self.hashes, items);
         self.offset = end;
@@ -206,26 +209,26 @@ impl<H: BlockHash> RunCore<H> {
     }
 }
 
-// The payload of a block, the length of its frame, and the offset behind it.
+// Makes the payload of a block. Returns the length of its frame, and the offset behind it.
 fn framed_block<H: BlockHash>(
-    alloc: Global,
+    payload: &mut Vec<u8>,
     items: &[InternalValue],
     config: &RunConfig,
     offset: u64,
-) -> Result<(Vec<u8>, u32, u64)>
+) -> Result<(u32, u64)>
     requires some { IsNotEmpty items.now }
     requires ordered { IsOrdered entries items.now }
     requires interval { 1 ≤ config.now.restart_interval }
     requires den { 1 ≤ config.now.ratio.den }
-    ensures ok { IfOk result (λ r. IsFramedBlock (form H.hash64 H.hash128 config.now) offset items.now r.0.items r.1 r.2) }
+    ensures ok { IfOk result (λ r. IsFramedBlock (form H.hash64 H.hash128 config.now) offset items.now payload.new.items r.0 r.1) }
     ensures cause { IfErr result (IsWriteRefusal (FrameFits (form H.hash64 H.hash128 config.now) offset items.now → ⊥)) }
     ensures not_io { IfErr result (λ e. e ≢ Io) }
 {
-    let interval = config.restart_interval;
-    match DataBlock::<H>::encode_into_vec(alloc, items, interval, config.ratio) {
+    payload.clear();
+    match DataBlock::<H>::encode_into(payload, items, config.restart_interval, config.ratio) {
         Err(e) => Err(e),
-        Ok(payload) => match frame_end(payload.len(), offset) {
-            Some((size, end)) => Ok((payload, size, end)),
+        Ok(()) => match frame_end(payload.len(), offset) {
+            Some((size, end)) => Ok((size, end)),
             None => Err(Error::TooLong),
         },
     }

@@ -18,7 +18,7 @@ invariant_of-self-2 g c =
     let f = form g.H.BlockHash.hash64 g.H.BlockHash.hash128 c.self.inside.config in
     let room : c.push-room.new.self.items ≡ c.self.inside.handles.items ++ c.new-handle.result ∷ [] = grind (arith, common_steps) in
     let last = end_of-last c.args.items.now c.index-items-items.result c.requires.some c.index-items-items.is in
-    let n = c.in_ok-payload.ensures.ok in
+    let n = c.in_ok-size.ensures.ok in
     let same : c.args.self.now.blocks ≡ c.self.inside.accepted = sym (ap (λ (v : Written). v.blocks) c.self.view_is) in
     let seqno : c.seqno.result ≡ (end_of c.args.items.now).seqno = (let k = ap (λ (x : Key). x.seqno) last in let m = c.key-last.ensures.value in cc) in
     let key : c.in_ok-end_key.end_key ≡ (end_of c.args.items.now).user_key = (let k = ap (λ (x : Key). x.user_key) last in let m = c.key-last.ensures.value in let o = c.in_ok-end_key.ensures.cases in cc) in
