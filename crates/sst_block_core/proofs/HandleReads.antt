@@ -1,5 +1,5 @@
 -- Forms of handles that are read or stand at an offset: their parts, one behind the other.
-use Rattle.std.proofs.Common.{◌≡◌, ℕ, ◌+◌, ◌-◌, ◌<◌, ◌≤◌, List, [], ◌∷◌, ◌++◌, length, take, drop, get_or, refl, sym, ap, ◌∙◌, inl, inr, Some, None, true, eqb, arith, length-append}
+use Rattle.std.proofs.Common.{◌≡◌, ℕ, ◌+◌, ◌-◌, ◌<◌, ◌≤◌, List, [], ◌∷◌, ◌++◌, length, take, drop, get_or, refl, sym, ap, ◌∙◌, inl, inr, Some, None, true, false, eqb, arith, length-append}
 use Rattle.std.specs.Option.{IsSome}
 use Rattle.std.proofs.lemmas.List.{drop_all, drop_more, length-take-le}
 use Rattle.std.proofs.lemmas.Bool.{cases_lt, eq-eqb, le-leb}
@@ -120,6 +120,11 @@ module _ (bytes : List ℕ) (f : Front) (a : List ℕ) (front_is : front_at byte
         pub truncated_whole : is_truncation base n (take n base ++ k) ≡ true → truncated_at base bytes ≡ Some (handle_with f (take n base ++ k), c)
         unfolding truncated_at
         truncated_whole is = rw (front_is, shared_is, rest_is, is) refl
+
+        -- and where it is not, none is read
+        pub truncated_other : is_truncation base n (take n base ++ k) ≡ false → truncated_at base bytes ≡ None
+        unfolding truncated_at
+        truncated_other other = rw (front_is, shared_is, rest_is, other) refl
 
         -- and what a handle that is read is made of
         pub truncated_is : (x : Handle) (rest : List ℕ) → truncated_at base bytes ≡ Some (x, rest)

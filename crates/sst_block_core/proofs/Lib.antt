@@ -38,3 +38,16 @@ pub mod Written
 pub mod Endings
 pub mod BucketWrites
 pub mod BucketReads
+mod CheckTests
+mod Verdicts
+mod CheckAnswers
+mod Greatest
+mod KeyOrders
+mod ReadOn
+mod PassSteps
+mod ItemStages
+mod Tallies
+mod Truncations
+mod ExactEntries
+mod ExactHandles
+mod CheckRefusals

@@ -28,3 +28,6 @@ pub mod Walks
 pub mod Encoders
 pub mod PointerLaws
 pub mod WindowLaws
+pub mod Checks
+pub mod KeyRanges
+pub mod Passes

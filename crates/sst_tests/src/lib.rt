@@ -6,6 +6,8 @@ mod blocks;
 #[cfg(test)]
 mod both_ends;
 #[cfg(test)]
+mod checks;
+#[cfg(test)]
 mod first_matches;
 #[cfg(test)]
 mod hash_indexes;

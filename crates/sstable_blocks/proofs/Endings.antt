@@ -161,15 +161,16 @@ module _ (f : Form) (blocks : List (List Entry)) (hs : List Handle) (hashes : Li
   index_refused p is e (inl long) = inr (inl (long.0, λ (fits : RunFits f blocks). let h : length p ≤ 4294967262 = (index_fits p is fits).framed in let m = long.1 in absurd (omega arith)))
   index_refused p is e (inr memory) = inr (inr memory)
 
-  pub hashes_long : length hashes ≡ length (joined blocks)
-  hashes_long = ap length k.hashed ∙ length-map (joined blocks) _
+  -- where there are bits, the hashes kept are as many as the entries
+  pub hashes_long : 1 ≤ f.config.bits_per_key → length hashes ≡ length (joined blocks)
+  hashes_long bits = ap length (k.hashed bits) ∙ length-map (joined blocks) _
 
-  pub hashes_some : 1 ≤ length hashes
-  hashes_some = let h = hashes_long in let j = joined_some blocks some k.all_some in omega arith
+  pub hashes_some : 1 ≤ f.config.bits_per_key → 1 ≤ length hashes
+  hashes_some bits = let h = hashes_long bits in let j = joined_some blocks some k.all_some in omega arith
 
   -- a filter of the hashes kept is that of the keys
-  pub filter_is : (xs : List ℕ) (bits : ℕ) (p : List ℕ) → xs ≡ hashes → bits ≡ f.config.bits_per_key → IsFilterText xs bits p → IsFilterText (key_hashes f.hash64 (joined blocks)) f.config.bits_per_key p
-  filter_is xs bits p x b is = subst (λ n. IsFilterText (key_hashes f.hash64 (joined blocks)) n p) b (subst (λ ys. IsFilterText ys bits p) (x ∙ k.hashed) is)
+  pub filter_is : 1 ≤ f.config.bits_per_key → (xs : List ℕ) (bits : ℕ) (p : List ℕ) → xs ≡ hashes → bits ≡ f.config.bits_per_key → IsFilterText xs bits p → IsFilterText (key_hashes f.hash64 (joined blocks)) f.config.bits_per_key p
+  filter_is active xs bits p x b is = subst (λ n. IsFilterText (key_hashes f.hash64 (joined blocks)) n p) b (subst (λ ys. IsFilterText ys bits p) (x ∙ k.hashed active) is)
 
-  pub bits_refused : (length hashes * f.config.bits_per_key ≤ 34359737920 → ⊥) → RunFits f blocks → ⊥
-  bits_refused h fits = h (let b = fits.bits in subst (λ n. n * f.config.bits_per_key ≤ 34359737920) (sym hashes_long) b)
+  pub bits_refused : 1 ≤ f.config.bits_per_key → (length hashes * f.config.bits_per_key ≤ 34359737920 → ⊥) → RunFits f blocks → ⊥
+  bits_refused bits h fits = h (let b = fits.bits in subst (λ n. n * f.config.bits_per_key ≤ 34359737920) (sym (hashes_long bits)) b)

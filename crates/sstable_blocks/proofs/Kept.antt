@@ -182,10 +182,10 @@ module _ (f : Form) where
       let e : offset + length (block_frame f c) + length (block_frames f cs) ≡ offset + length (block_frames f (c ∷ cs)) = omega (arith, length-append (block_frame f c) (block_frames f cs)) in
       ap (λ hs. handle_of f offset c ∷ hs) (handles_from-push (offset + length (block_frame f c)) cs b ∙ ap (λ n. handles_from f (offset + length (block_frame f c)) cs ++ handle_of f n b ∷ []) e)
 
-  pub kept_push : (blocks : List (List Entry)) (b : List Entry) (hs : List Handle) (hashes : List ℕ) (next : ℕ) (h : Handle) (end : ℕ) → IsKept f blocks hs hashes next
-      → IsNotEmpty b → AllByRecursion IsEntry b → IsOrdered entries (joined (blocks ++ b ∷ [])) → IsFramed (block_payload f b) → h ≡ handle_of f next b → end ≡ next + length (block_frame f b) → end < 2 ^ 64
-      → IsKept f (blocks ++ b ∷ []) (hs ++ h ∷ []) (hashes ++ key_hashes f.hash64 b) end
-  kept_push blocks b hs hashes next h end k some valid ordered framed is at fits =
+  pub kept_push : (blocks : List (List Entry)) (b : List Entry) (hs : List Handle) (hashes : List ℕ) (next : ℕ) (h : Handle) (end : ℕ) (hashed : List Entry) → IsKept f blocks hs hashes next
+      → (1 ≤ f.config.bits_per_key → hashed ≡ b) → IsNotEmpty b → AllByRecursion IsEntry b → IsOrdered entries (joined (blocks ++ b ∷ [])) → IsFramed (block_payload f b) → h ≡ handle_of f next b → end ≡ next + length (block_frame f b) → end < 2 ^ 64
+      → IsKept f (blocks ++ b ∷ []) (hs ++ h ∷ []) (hashes ++ key_hashes f.hash64 hashed) end
+  kept_push blocks b hs hashes next h end hashed k all some valid ordered framed is at fits =
       let j = joined-push blocks b in
       let frames = ap length (block_frames-push blocks b) ∙ length-append (block_frames f blocks) (block_frame f b) in
       let start : next ≡ 0 + length (block_frames f blocks) = (let o = k.offset in omega arith) in
@@ -197,7 +197,7 @@ module _ (f : Form) where
         ordered = ordered;
         framed = all_push (λ block. IsFramed (block_payload f block)) blocks b k.framed framed;
         handles = ap (λ xs. xs ++ h ∷ []) k.handles ∙ ap (λ x. handles_from f 0 blocks ++ x ∷ []) (is ∙ ap (λ n. handle_of f n b) start) ∙ sym (handles_from-push 0 blocks b);
-        hashed = ap (λ xs. xs ++ key_hashes f.hash64 b) k.hashed ∙ sym (map-append _ (joined blocks) b) ∙ ap (key_hashes f.hash64) (sym j);
+        hashed = λ bits. ap (λ xs. hashes ++ key_hashes f.hash64 xs) (all bits) ∙ ap (λ xs. xs ++ key_hashes f.hash64 b) (k.hashed bits) ∙ sym (map-append _ (joined blocks) b) ∙ ap (key_hashes f.hash64) (sym j);
         offset = (let o = k.offset in omega arith);
         fits = fits;
       }

@@ -15,3 +15,7 @@ pub mod FilterReads
 pub mod Openings
 pub mod IndexSteps
 pub mod Points
+pub mod CheckedReads
+pub mod ReadLayouts
+pub mod Meanings
+pub mod Answered

@@ -8,7 +8,8 @@ use Rattle.sst_base.specs.declared.error.Error.{Error}
 use Rattle.sst_base.specs.declared.error.Error.TheVariants.{Truncated, InvalidHeader, InvalidTag, BadFilter}
 use Rattle.sst_base.specs.declared.error.HeaderName.TheVariants as names
 use Rattle.sst_base.specs.declared.error.TagName.TheVariants as tags
-use Rattle.sstable_blocks.specs.Bits.{HasBit}
+use Rattle.sst_block_core.specs.Checks.{all_below}
+use Rattle.sstable_blocks.specs.Bits.{HasBit, has_bit}
 use Rattle.sstable_blocks.specs.Probes.{probe, IsProbe}
 
 pub record Filter : Type 0 where
@@ -45,6 +46,10 @@ pub record IsFilterOf (hashes : List ℕ) (f : Filter) : Type 0 where
 -- the bit of each probe of a hash is set
 abbrev pub MayContain : Filter → ℕ → Type 0
 MayContain f hash = (i : ℕ) → i < f.k → HasBit f.bits (probe f.m hash i)
+
+-- the same, as a test
+abbrev pub may_contain : Filter → ℕ → Bool
+may_contain f hash = all_below f.k (λ i. has_bit f.bits (probe f.m hash i))
 
 -- magic (4), filter type 0 (1), hash type 0 (1), m (8), k (8), bits (m / 8)
 unfoldable pub filter_payload : Filter → List ℕ

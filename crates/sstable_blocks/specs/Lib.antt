@@ -11,3 +11,5 @@ pub mod Run
 pub mod Opened
 pub mod ReadCosts
 pub mod Writing
+pub mod RunReading
+pub mod Sources

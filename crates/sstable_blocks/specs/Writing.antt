@@ -33,7 +33,7 @@ pub record Writing (W : Type 0) : Type 0 where
   pub start : Option (List ℕ)
   pub writer : W
 
--- what is kept of the blocks accepted: their handles, the hashes of their keys, and where the next frame stands
+-- what is kept of the blocks accepted: their handles, the hashes of their keys if there are bits for them, and where the next frame stands
 pub record IsKept (f : Form) (blocks : List (List Entry)) (hs : List Handle) (hashes : List ℕ) (next : ℕ) : Type 0 where
   pub interval : IsInterval f.config.restart_interval
   pub index_interval : IsInterval f.config.index_interval
@@ -42,7 +42,7 @@ pub record IsKept (f : Form) (blocks : List (List Entry)) (hs : List Handle) (ha
   pub ordered : IsOrdered entries (joined blocks)
   pub framed : AllByRecursion (λ block. IsFramed (block_payload f block)) blocks
   pub handles : hs ≡ handles_from f 0 blocks
-  pub hashed : hashes ≡ key_hashes f.hash64 (joined blocks)
+  pub hashed : 1 ≤ f.config.bits_per_key → hashes ≡ key_hashes f.hash64 (joined blocks)
   pub offset : next ≡ length (block_frames f blocks)
   pub fits : next < 2 ^ 64
 

@@ -12,7 +12,10 @@ pub mod table;
 mod tests;
 pub mod vectors;
 
-pub use run::{RunConfig, RunHandles, RunWriter, cuts_fit, read_entry, write_and_read, write_run};
+pub use run::{
+    FileSource, FrameSource, MemorySource, RunConfig, RunHandles, RunWriter, cuts_fit, read_entry,
+    read_entry_checked, write_and_read, write_run,
+};
 pub use sst_base::{
     Block, BlockHandle, BlockHash, BlockOffset, BlockType, ByteSum, Checksum, ChecksumType,
     ChecksummedReader, ChecksummedWriter, Decode, Encode, Error, HashRatio, Header, HeaderName,

@@ -1,6 +1,7 @@
 // What no clause says: values from outside, and that a call succeeds where memory is ample.
 ghost use Rattle.std.specs.Prelude.{◌<◌};
 
+mod checked;
 mod runs;
 
 use crate::table::filter::bit_array::{self, BitArrayReader, enable_bit};

@@ -1,5 +1,9 @@
 //! Laws of runs. Each function states one law, and does nothing.
-ghost use Rattle.std.specs.Prelude.{◌≡◌, ℕ, ◌<◌, ◌^◌, List, length, slice_get};
+ghost use Rattle.std.specs.Prelude.{◌≡◌, ℕ, ◌<◌, ◌^◌, List, length, slice_get, Ok};
+ghost use Rattle.sst_block_core.specs.Entries.{entries};
+ghost use Rattle.sstable_blocks.specs.RunReading.{Hashes, hashes, read_checked, AnswerMeans};
+ghost use Rattle.sst_base.specs.Bytes.{IsBytes};
+ghost use Rattle.std.specs.Prelude.{Option};
 ghost use Rattle.std.specs.List.{AllByRecursion, AllZip};
 ghost use Rattle.sst_base.specs.Entry.{Entry};
 ghost use Rattle.sst_block_core.specs.Handles.{handles, IsHandle, EndFits};
@@ -13,7 +17,10 @@ ghost use Rattle.sstable_blocks.specs.Run.{block_frames, handles_from};
 ghost use Rattle.sstable_blocks.specs.declared.run.RunHandles.{RunHandles};
 
 use sst_block_core::block_item::BlockItem;
-use sst_block_core::laws::{data_block_is_read, first_match_of_plain, index_block_is_read};
+use sst_block_core::laws::{
+    data_block_is_read, data_check_is_by_stages, first_match_of_plain, index_block_is_read,
+    index_check_is_by_stages,
+};
 
 /// The blocks of a list, joined, are the list, and none is empty.
 pub fn blocks_are_the_list<T>()
@@ -45,4 +52,28 @@ pub fn layout_opens()
     data_block_is_read();
     index_block_is_read();
     first_match_of_plain();
+}
+
+/// A checked read of a layout gives the first match of its run.
+pub fn layout_is_read()
+    ensures { (f : Form) (blocks : List (List Entry)) (bytes : List ℕ) (h : RunHandles) (needle : List ℕ) (seqno : ℕ)
+        → ((xs : List ℕ) → f.hash128 xs < 2 ^ 128) → IsLayout f blocks bytes h
+        → read_checked (hashes f.hash64 f.hash128) bytes h needle seqno ≡ Ok (first_match entries needle seqno (joined blocks)) }
+{
+    data_check_is_by_stages();
+    index_check_is_by_stages();
+    data_block_is_read();
+    index_block_is_read();
+    first_match_of_plain();
+}
+
+/// What an answer of a checked read on any bytes means: each frame met is a frame of the right type,
+/// whose payload the filter's reader or the check accepts; there is none where the filter denies the
+/// key, else the answer is by the handle at which the index seek stops.
+pub fn checked_answer_means()
+    ensures { (c : Hashes) (bytes : List ℕ) (h : RunHandles) (needle : List ℕ) (seqno : ℕ) (answer : Option Entry) → IsBytes bytes
+        → read_checked c bytes h needle seqno ≡ Ok answer → AnswerMeans c bytes h needle seqno answer }
+{
+    data_check_is_by_stages();
+    index_check_is_by_stages();
 }

@@ -1,15 +1,19 @@
 //! Runs: an ordered list of entries in blocks, written as frames with an index and a filter.
 ghost use Rattle.std.specs.Prelude.{◌≡◌};
 
+pub mod checked;
 pub mod laws;
 pub mod read;
 pub mod round_trip;
 mod run_core;
+pub mod source;
 pub mod write;
 pub mod writer;
 
+pub use checked::read_entry_checked;
 pub use read::read_entry;
 pub use round_trip::write_and_read;
+pub use source::{FileSource, FrameSource, MemorySource};
 use sst_base::{BlockHandle, HashRatio};
 pub use write::{cuts_fit, write_run};
 pub use writer::RunWriter;

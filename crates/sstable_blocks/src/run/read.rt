@@ -81,7 +81,7 @@ fn may_have(bytes: &[u8], filter: &Option<BlockHandle>, hash: u64) -> bool
 
 // The first handle of an index that can lead to a key below a sequence number.
 #[tactic(auto, using(crate::proofs::IndexSteps::found_range, crate::proofs::IndexSteps::handles_by_scan))]
-fn find_handle(
+pub(crate) fn find_handle(
     index: &IndexBlock,
     needle: &[u8],
     seqno: SeqNo,

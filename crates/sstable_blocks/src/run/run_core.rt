@@ -136,14 +136,15 @@ impl<H: BlockHash> RunCore<H> {
         let last = InternalValue::key(&items[items.len() - 1]);
         let end_key = last.user_key().clone()?;
         self.handles.try_reserve(1)?;
-        self.hashes.try_reserve(items.len())?;
+        let hashed = hashed_items(items, &self.config);
+        self.hashes.try_reserve(hashed.len())?;
         let (config, offset) = (self.config, self.offset);
         let (size, end) = framed_block::<H>(&mut self.payload, items, &config, offset)?;
         let place = BlockHandle::new(BlockOffset(offset), size);
         let handle = KeyedBlockHandle::new(end_key, last.seqno(), place);
         write_frame::<H, W>(writer, &self.payload, BlockType::Data)?;
         let _room = self.handles.push(handle);
-        push_hashes::<H>(&mut self.hashes, items);
+        push_hashes::<H>(&mut self.hashes, hashed);
         self.offset = end;
         self.accepted.push_list(items);
         Ok(())
@@ -283,6 +284,13 @@ fn write_part<H: BlockHash, W: Write>(
     };
     write_frame::<H, W>(writer, payload, block_type)?;
     Ok((BlockHandle::new(BlockOffset(offset), size), end))
+}
+
+// The entries whose keys the filter takes: all, or none where there is no filter.
+fn hashed_items<'a>(items: &'a [InternalValue], config: &RunConfig) -> &'a [InternalValue]
+    ensures { 1 ≤ config.now.bits_per_key → result.now ≡ items.now }
+{
+    if config.bits_per_key == 0 { &[] } else { items }
 }
 
 // Keeps the hashes of the keys of entries, for which there is room.

@@ -207,6 +207,8 @@ impl Block {
     pub fn from_frame<H: BlockHash>(bytes: Slice) -> Result<Block>
         ensures read { Gives result (frame_in H.hash128 bytes) }
 
+        ensures not_io { IfErr result (λ e. e ≢ Error.Io) }
+
         // What is read is a frame.
         ensures found { IfOk result (λ b. (bytes ≡ frame H.hash128 b.header.block_type b.payload)
             × (b ≡ block_for H.hash128 b.header.block_type b.payload)) }

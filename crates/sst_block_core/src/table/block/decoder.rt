@@ -104,6 +104,7 @@ pub trait Decodable<Parsed: ParsedItem<Self>>: BlockItem + Sized {
         ensures found { IfSome result (λ f. Parsed.is_found payload.now f.0) }
         ensures key { IfSome result
             (λ f. StandsAt payload.now (Parsed.key_start f.0) (Self.kind.key (Parsed.item_of payload.now f.0))) }
+        ensures shared { IfSome result (λ f. Parsed.shared_len f.0 ≡ 0) }
         ensures marker { StandsAt payload.now offset (255 ∷ []) → result ≡ None }
         ensures heads { steps.new.heads ≡ steps.old.heads }
         ensures entries { steps.new.entries ≡ steps.old.entries + found_item result };

@@ -2,6 +2,7 @@
 pub(crate) mod back;
 pub mod binary_index;
 pub(crate) mod bound;
+pub(crate) mod check;
 pub mod decoder;
 pub mod encoder;
 pub(crate) mod form_reader;

@@ -36,7 +36,8 @@ impl Place {
 #[tactic(auto, using(crate::proofs::Places::next_in_interval))]
 pub(crate) fn next_phase(phase: u8, restart_interval: u8) -> u8
     requires { phase < restart_interval }
-    ensures { (n : ℕ) → phase ≡ n % restart_interval → result ≡ (n + 1) % restart_interval }
+    ensures phase { (n : ℕ) → phase ≡ n % restart_interval → result ≡ (n + 1) % restart_interval }
+    ensures below { result < restart_interval }
 {
     let next = phase + 1;
     if next == restart_interval { 0 } else { next }

@@ -3,6 +3,7 @@
 
 ghost use Rattle.std.specs.Prelude.{◌≡◌, ◌+◌, ◌-◌, ◌≤◌, ◌++◌, drop, length, OnOk, IsOkUnless};
 ghost use Rattle.byteorder.specs.Endian.{little_number};
+ghost use Rattle.sst_block_core.specs.Passes.{trailer_by};
 ghost use Rattle.sst_block_core.specs.Trailer.{trailer, trailer_bytes, trailer_in};
 
 use byteorder::{ByteOrder, LittleEndian};
@@ -27,9 +28,9 @@ const HASH_LEN_AT: usize = 10;
 
 const HASH_OFFSET_AT: usize = 14;
 
-const TRUNCATION_FLAG_AT: usize = 18;
+pub(crate) const TRUNCATION_FLAG_AT: usize = 18;
 
-const ITEM_COUNT_AT: usize = 27;
+pub(crate) const ITEM_COUNT_AT: usize = 27;
 
 /// A view of the trailer of a block.
 ///
@@ -162,6 +163,21 @@ impl<'a> Trailer<'a> {
         ensures { result ≡ (trailer_in self.now).item_count }
     {
         self.number_at(ITEM_COUNT_AT) as usize
+    }
+
+    /// Returns all numbers.
+    pub(crate) fn numbers(&self) -> TrailerNumbers
+        ensures { trailer_by result ≡ trailer_in self.now }
+    {
+        TrailerNumbers {
+            interval: self.interval(),
+            width: self.width(),
+            heads: self.heads(),
+            index_offset: self.index_offset(),
+            hash_len: self.hash_len(),
+            hash_offset: self.hash_offset(),
+            item_count: self.number_at(ITEM_COUNT_AT),
+        }
     }
 
     /// Appends the trailer with these numbers, 31 bytes.

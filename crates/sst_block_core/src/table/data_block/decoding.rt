@@ -37,18 +37,18 @@ fn value_from(
 
 // The parts of a truncated form, by their ranges.
 #[derive(Clone, Copy)]
-struct TruncatedForm {
-    value_type: ValueType,
-    seqno: u64,
-    shared: u64,
-    key: SliceIndexes,
-    value: Option<SliceIndexes>,
+pub(super) struct TruncatedForm {
+    pub(super) value_type: ValueType,
+    pub(super) seqno: u64,
+    pub(super) shared: u64,
+    pub(super) key: SliceIndexes,
+    pub(super) value: Option<SliceIndexes>,
 }
 
 // The truncated form at an offset, whatever its head, and where it ends.
 #[inline(always)]
 #[tactic(auto, unfolding(crate::specs::Entries::truncated_form_at))]
-fn truncated_form_from(payload: &[u8], offset: usize) -> Option<(TruncatedForm, usize)>
+pub(super) fn truncated_form_from(payload: &[u8], offset: usize) -> Option<(TruncatedForm, usize)>
     requires { offset ≤ length payload.now }
     ensures exact { Finds (truncated_of payload.now) payload.now result (truncated_form_at (drop offset payload.now)) }
     ensures key { IfSome result (λ f. IsRange payload.now f.0.key) }
@@ -75,7 +75,12 @@ fn truncated_form_from(payload: &[u8], offset: usize) -> Option<(TruncatedForm, 
 // The range of a prefix of this length at the offset of a head's key, if it lies in the payload and
 // the whole key has 1 to 65535 bytes.
 #[inline(always)]
-fn entry_prefix_from(payload: &[u8], base: usize, shared: u64, rest: usize) -> Option<SliceIndexes>
+pub(super) fn entry_prefix_from(
+    payload: &[u8],
+    base: usize,
+    shared: u64,
+    rest: usize,
+) -> Option<SliceIndexes>
     ensures found { IfSome result (λ p. (p ≡ record { 0 = base; 1 = base + shared }) × IsRange payload.now p
         × IsKeyLength (shared + rest)) }
     ensures none { IfNone result (base + shared ≤ length payload.now → IsKeyLength (shared + rest) → ⊥) }

@@ -1,9 +1,10 @@
 //! Data blocks: blocks of entries.
 ghost use Rattle.std.specs.Prelude.{◌≡◌, ◌↔◌, ℕ, ◌+◌, ◌^◌, ◌<◌, ◌≤◌, List, length, map, [], IsTrue};
 ghost use Rattle.std.specs.Prelude.{IsSome, OnOk, OnErr, IfOk, IfErr, IsOkUnless, None, Some};
-ghost use Rattle.std.specs.Prelude.{IfSome, ◌==◌, if◌then◌else◌};
+ghost use Rattle.std.specs.Prelude.{IfSome, ◌==◌, if◌then◌else◌, ◌≢◌, Ok, Err};
 ghost use Rattle.sst_base.specs.Bytes.{IsBytes};
 ghost use Rattle.sst_base.specs.Entry.{Entry, IsEntry, plain};
+ghost use Rattle.sst_block_core.specs.Checks.{data_check};
 ghost use Rattle.sst_block_core.specs.Kind.{IsOrdered};
 ghost use Rattle.sst_block_core.specs.Entries.{entries, data_payload};
 ghost use Rattle.sst_block_core.specs.Pointers.{head_count};
@@ -16,6 +17,7 @@ ghost use Rattle.sst_block_core.specs.Lookups.{read_heads, read_entries};
 ghost use Rattle.sst_block_core.specs.Window.{whole, first_match};
 ghost use Rattle.sst_block_core.specs.DataBlock.{block_of, data_block_of};
 
+mod checking;
 mod decoding;
 mod encoding;
 pub mod entry_ref;
@@ -26,6 +28,7 @@ mod point_read;
 
 use crate::table::block::encoder::encode_all;
 use crate::table::block::{Decoder, ParsedItem, Trailer, hash_index};
+use checking::check_block;
 pub use entry_ref::{Entries, EntryRef};
 pub use iter::Iter;
 pub use ops::{Answer, Op, walk};
@@ -154,6 +157,29 @@ impl<H: BlockHash> DataBlock<H> {
             hash: PhantomData,
             inner: block,
         }
+    }
+
+    /// Takes a block of any bytes, if its payload is the encoding of some ordered, non-empty list of
+    /// entries. Takes memory only where buckets are stored: for the buckets, and for the longest
+    /// truncated key.
+    ///
+    /// # Errors
+    ///
+    /// That of the first of these stages that fails. `Error::Truncated` if the payload has fewer than
+    /// 31 bytes; `Error::BadTrailer` if the numbers of the trailer do not fit each other and the
+    /// payload; `Error::BadEntry` if the body is not as many entries in their forms, and nothing else;
+    /// `Error::OutOfOrder` if an entry sorts before its predecessor; `Error::BadIndex` if a pointer is
+    /// not the offset of its head, or the pointer width not the least; `Error::BadHashIndex` if a
+    /// bucket is not that of the entries. `Error::Memory` if an allocation fails.
+    pub fn check(alloc: Global, block: Block) -> Result<DataBlock<H>>
+        ensures checked { IfOk result (λ b. data_check H.hash64 block.payload ≡ Ok b.items) }
+        ensures parts { IfOk result (λ b. b ≡ data_block_of block) }
+        ensures encoded { IfOk result (λ b. IsBlock entries IsEntry H.hash64 block.payload b.items b.interval b.stored) }
+        ensures refused { IfErr result (λ e. e ≢ Error.Memory → data_check H.hash64 block.payload ≡ Err e) }
+        ensures memory { IfErr result (λ e. e ≡ Error.Memory → 0 < (trailer_in block.payload).hash_len) }
+    {
+        check_block::<H>(alloc, &block)?;
+        Ok(DataBlock::new(block))
     }
 
     /// Returns the payload, which is the encoding of the block's entries at its interval and stored

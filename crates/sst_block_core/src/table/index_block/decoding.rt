@@ -18,16 +18,20 @@ use sst_base::{SeqNo, Steps};
 
 // What a form says in front of its end key.
 #[derive(Clone, Copy)]
-struct HandleFront {
-    offset: u64,
-    size: u32,
-    seqno: SeqNo,
+pub(super) struct HandleFront {
+    pub(super) offset: u64,
+    pub(super) size: u32,
+    pub(super) seqno: SeqNo,
 }
 
 impl HandleFront {
     // The item of an end key by its ranges.
     #[inline(always)]
-    fn with_key(self, prefix: Option<SliceIndexes>, end_key: SliceIndexes) -> IndexBlockParsedItem
+    pub(super) fn with_key(
+        self,
+        prefix: Option<SliceIndexes>,
+        end_key: SliceIndexes,
+    ) -> IndexBlockParsedItem
         ensures { result ≡ record {
           offset = record { 0 = self.offset };
           size = self.size;
@@ -62,7 +66,7 @@ fn marker_from(payload: &[u8], at: usize) -> Option<usize>
 // The front at an offset, and where it ends.
 #[inline(always)]
 #[tactic(auto, unfolding(crate::specs::Handles::front_at))]
-fn front_from(payload: &[u8], at: usize) -> Option<(HandleFront, usize)>
+pub(super) fn front_from(payload: &[u8], at: usize) -> Option<(HandleFront, usize)>
     requires { at ≤ length payload.now }
     ensures { Finds front_by payload.now result (front_at (drop at payload.now)) }
 {

@@ -1,8 +1,9 @@
 //! Index blocks: blocks of handles.
 ghost use Rattle.std.specs.Prelude.{◌≡◌, ◌↔◌, ℕ, ◌^◌, ◌<◌, ◌≤◌, List, length, [], IsTrue};
-ghost use Rattle.std.specs.Prelude.{OnOk, OnErr, IfOk, IfErr, None};
+ghost use Rattle.std.specs.Prelude.{OnOk, OnErr, IfOk, IfErr, None, Ok, Err};
 ghost use Rattle.std.specs.List.{AllByRecursion};
 ghost use Rattle.sst_base.specs.Bytes.{IsBytes};
+ghost use Rattle.sst_block_core.specs.Checks.{index_check};
 ghost use Rattle.sst_block_core.specs.Encoders.{IsRefusal};
 ghost use Rattle.sst_block_core.specs.Handles.{Handle, EndFits, handles, index_payload};
 ghost use Rattle.sst_block_core.specs.Handles.{IsIndexBlock};
@@ -12,6 +13,7 @@ ghost use Rattle.sst_block_core.specs.Trailer.{trailer_in};
 ghost use Rattle.sst_block_core.specs.Window.{whole};
 
 pub mod block_handle;
+mod checking;
 mod decoding;
 mod encoding;
 pub mod iter;
@@ -21,6 +23,7 @@ pub mod parsed_item;
 use crate::table::block::encoder::encode_all;
 use crate::table::block::{Decoder, Trailer};
 pub use block_handle::{BlockHandle, KeyedBlockHandle};
+use checking::check_block;
 pub use iter::Iter;
 pub use ops::{IndexAnswer, IndexOp, walk};
 pub use parsed_item::IndexBlockParsedItem;
@@ -181,6 +184,27 @@ impl IndexBlock {
         // The proof needs the bound on the payload's length.
         let _fits = block.size();
         IndexBlock { inner: block }
+    }
+
+    /// Takes a block of any bytes, if its payload is the encoding of some ordered, non-empty list of
+    /// handles at an interval from 1 to 255, each with an end of its block below 2^64. Takes no memory.
+    ///
+    /// # Errors
+    ///
+    /// That of the first of these stages that fails. `Error::Truncated` if the payload has fewer than
+    /// 31 bytes; `Error::BadTrailer` if the numbers of the trailer do not fit each other and the
+    /// payload, or there are buckets; `Error::BadEntry` if the body is not as many handles in their
+    /// forms, and nothing else; `Error::BadHandle` if a block's end is 2^64 or above;
+    /// `Error::OutOfOrder` if a handle sorts before its predecessor; `Error::BadIndex` if a pointer is
+    /// not the offset of its head, or the pointer width not the least.
+    pub fn check(block: Block) -> Result<IndexBlock>
+        ensures checked { IfOk result (λ b. index_check block.payload ≡ Ok b.items) }
+        ensures parts { IfOk result (λ b. b ≡ index_block_of block) }
+        ensures encoded { IfOk result (λ b. IsIndexBlock block.payload b.items b.interval) }
+        ensures refused { IfErr result (λ e. index_check block.payload ≡ Err e) }
+    {
+        check_block(&block)?;
+        Ok(IndexBlock::new(block))
     }
 
     /// Returns the payload, which is the encoding of the block's handles at its interval.

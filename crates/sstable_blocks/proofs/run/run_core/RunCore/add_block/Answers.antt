@@ -24,6 +24,6 @@ invariant_of-self-2 g c =
     let key : c.in_ok-end_key.end_key ≡ (end_of c.args.items.now).user_key = (let k = ap (λ (x : Key). x.user_key) last in let m = c.key-last.ensures.value in let o = c.in_ok-end_key.ensures.cases in cc) in
     let is : c.new-handle.result ≡ handle_of f c.self.inside.offset c.args.items.now =
     c.new-handle.ensures ∙ handle_is f c.self.inside.offset c.args.items.now c.new-place.result.offset c.new-place.result.size c.seqno.result c.in_ok-end_key.end_key (ap (λ (h : HandleParts). h.offset) c.new-place.ensures) (ap (λ (h : HandleParts). h.size) c.new-place.ensures ∙ n.size) seqno key in
-    let hashes : c.push_hashes.new.hashes.items ≡ c.self.inside.hashes.items ++ key_hashes g.H.BlockHash.hash64 c.args.items.now = c.push_hashes.ensures ∙ ap (λ xs. xs ++ key_hashes g.H.BlockHash.hash64 c.args.items.now) c.in_ok-try_reserve-2.ensures.items in
-    let kept = kept_push f _ _ _ _ _ _ _ c.self.invariant c.requires.some n.valid (subst (λ xs. IsOrdered entries (joined (xs ++ c.args.items.now ∷ []))) same c.requires.ordered) n.fits.framed is n.end (let e = n.fits.end in let k = n.end in omega arith) in
+    let hashes : c.push_hashes.new.hashes.items ≡ c.self.inside.hashes.items ++ key_hashes g.H.BlockHash.hash64 c.hashed_items-hashed.result.now = c.push_hashes.ensures ∙ ap (λ xs. xs ++ key_hashes g.H.BlockHash.hash64 c.hashed_items-hashed.result.now) c.in_ok-try_reserve-2.ensures.items in
+    let kept = kept_push f _ _ _ _ _ _ _ c.hashed_items-hashed.result.now c.self.invariant c.hashed_items-hashed.ensures c.requires.some n.valid (subst (λ xs. IsOrdered entries (joined (xs ++ c.args.items.now ∷ []))) same c.requires.ordered) n.fits.framed is n.end (let e = n.fits.end in let k = n.end in omega arith) in
     rw (c.push_list.ensures, room, hashes) kept

@@ -1,0 +1,100 @@
+-- The order of two keys, by the ranges of their parts.
+use Rattle.std.proofs.Common.{◌≡◌, ◌≢◌, ℕ, ◌+◌, ◌-◌, ◌≤◌, List, ◌++◌, length, take, drop, refl, sym, ap, ◌∙◌, arith, append_assoc, length-drop, take-add}
+use Rattle.std.proofs.lemmas.List.{drop-drop, length-take-le}
+use Rattle.std.proofs.lemmas.Cmp.{nat_list_cmp_total}
+use Rattle.std.specs.Cmp.Lexicographic.{slice_cmp}
+use Rattle.std.specs.Ordering.{nat_cmp, ordering_then, ordering_reverse}
+use Rattle.std.specs.declared.cmp.Ordering.{Ordering}
+use Rattle.std.specs.declared.cmp.Ordering.TheVariants.{Less, Equal, Greater}
+use Rattle.sst_base.specs.declared.table.util.SliceIndexes.{SliceIndexes}
+use Rattle.sst_base.specs.OrderLaws.{slice_cmp-append}
+use Rattle.sst_block_core.specs.Found.{range_of, IsRange}
+use Rattle.sst_block_core.specs.KeyRanges.{key_by}
+use Rattle.sst_block_core.specs.declared.table.block.check.keys.KeyRanges.{KeyRanges}
+
+decided : (o w : Ordering) → o ≢ Equal → o ≡ ordering_then o w
+decided Less w n = refl
+decided Equal w n = absurd (n refl)
+decided Greater w n = refl
+
+-- the range behind the first n bytes of a range
+abbrev pub behind : SliceIndexes → ℕ → SliceIndexes
+behind range n = record { 0 = range.0 + n; 1 = range.1 }
+
+range_split : (payload : List ℕ) (range : SliceIndexes) (n : ℕ) → n ≤ range.1 - range.0 → range_of payload range ≡ take n (drop range.0 payload) ++ range_of payload (behind range n)
+range_split payload range n h =
+    let e : range.1 - range.0 ≡ n + (range.1 - (range.0 + n)) = omega arith in
+    ap (λ k. take k (drop range.0 payload)) e ∙ take-add n (range.1 - (range.0 + n)) (drop range.0 payload)
+    ∙ ap (λ ys. take n (drop range.0 payload) ++ take (range.1 - (range.0 + n)) ys) (drop-drop n range.0 payload)
+
+front_length : (payload : List ℕ) (range : SliceIndexes) (n : ℕ) → IsRange payload range → n ≤ range.1 - range.0 → length (take n (drop range.0 payload)) ≡ n
+front_length payload range n is h = length-take-le n (drop range.0 payload) (let d = length-drop range.0 payload in let i = is.inside in let o = is.order in omega arith)
+
+module _ (payload : List ℕ) (a b : KeyRanges) (left : IsRange payload a.front) (right : IsRange payload b.front) where
+  split : (n : ℕ) → n ≤ a.front.1 - a.front.0 → n ≤ b.front.1 - b.front.0
+      → slice_cmp nat_cmp (key_by payload a) (key_by payload b)
+      ≡ ordering_then (slice_cmp nat_cmp (take n (drop a.front.0 payload)) (take n (drop b.front.0 payload)))
+      (slice_cmp nat_cmp (range_of payload (behind a.front n) ++ range_of payload a.rest) (range_of payload (behind b.front n) ++ range_of payload b.rest))
+  split n h k =
+      let x = take n (drop a.front.0 payload) in
+      let y = take n (drop b.front.0 payload) in
+      let same : length x ≡ length y = front_length payload a.front n left h ∙ sym (front_length payload b.front n right k) in
+      let u : key_by payload a ≡ x ++ (range_of payload (behind a.front n) ++ range_of payload a.rest) =
+      ap (λ f. f ++ range_of payload a.rest) (range_split payload a.front n h) ∙ append_assoc x (range_of payload (behind a.front n)) (range_of payload a.rest) in
+      let v : key_by payload b ≡ y ++ (range_of payload (behind b.front n) ++ range_of payload b.rest) =
+      ap (λ f. f ++ range_of payload b.rest) (range_split payload b.front n k) ∙ append_assoc y (range_of payload (behind b.front n)) (range_of payload b.rest) in
+      (λ i. slice_cmp nat_cmp (u i) (v i)) ∙ slice_cmp-append x y _ _ same
+
+  none_behind : (range : SliceIndexes) (rest : List ℕ) → range_of payload (behind range (range.1 - range.0)) ++ rest ≡ rest
+  none_behind range rest = let z : range.1 - (range.0 + (range.1 - range.0)) ≡ 0 = omega arith in ap (λ n. take n (drop (range.0 + (range.1 - range.0)) payload) ++ rest) z
+
+  -- the fronts decide
+  pub fronts_decide : (n : ℕ) (o : Ordering) → n ≤ a.front.1 - a.front.0 → n ≤ b.front.1 - b.front.0
+      → o ≡ slice_cmp nat_cmp (take n (drop a.front.0 payload)) (take n (drop b.front.0 payload)) → o ≢ Equal → o ≡ slice_cmp nat_cmp (key_by payload a) (key_by payload b)
+  fronts_decide n o h k e ne =
+      let w = slice_cmp nat_cmp (range_of payload (behind a.front n) ++ range_of payload a.rest) (range_of payload (behind b.front n) ++ range_of payload b.rest) in
+      decided o w ne ∙ ap (λ p. ordering_then p w) e ∙ sym (split n h k)
+
+  -- the fronts are one
+  pub same_fronts : (o w : Ordering) (ra rb : List ℕ) → a.front.1 - a.front.0 ≡ b.front.1 - b.front.0
+      → o ≡ slice_cmp nat_cmp (take (a.front.1 - a.front.0) (drop a.front.0 payload)) (take (a.front.1 - a.front.0) (drop b.front.0 payload)) → o ≡ Equal
+      → ra ≡ range_of payload a.rest → rb ≡ range_of payload b.rest → w ≡ slice_cmp nat_cmp ra rb → w ≡ slice_cmp nat_cmp (key_by payload a) (key_by payload b)
+  same_fronts o w ra rb h e tie p q cw =
+      let n = a.front.1 - a.front.0 in
+      let s = split n (omega arith) (omega arith) in
+      let other : range_of payload (behind b.front n) ++ range_of payload b.rest ≡ range_of payload b.rest = ap (λ m. range_of payload (behind b.front m) ++ range_of payload b.rest) h ∙ none_behind b.front (range_of payload b.rest) in
+      cw ∙ (λ i. slice_cmp nat_cmp (p i) (q i))
+      ∙ (λ i. slice_cmp nat_cmp (sym (none_behind a.front (range_of payload a.rest)) i) (sym other i))
+      ∙ ap (λ t. ordering_then t (slice_cmp nat_cmp (range_of payload (behind a.front n) ++ range_of payload a.rest) (range_of payload (behind b.front n) ++ range_of payload b.rest))) (sym tie ∙ e)
+      ∙ sym s
+
+  -- the left front is the shorter, and the right one begins with it
+  pub left_shorter : (o w v : Ordering) (more ra rb : List ℕ) → a.front.1 - a.front.0 ≤ b.front.1 - b.front.0
+      → o ≡ slice_cmp nat_cmp (take (a.front.1 - a.front.0) (drop a.front.0 payload)) (take (a.front.1 - a.front.0) (drop b.front.0 payload)) → o ≡ Equal
+      → more ≡ range_of payload (behind b.front (a.front.1 - a.front.0)) → ra ≡ range_of payload a.rest → rb ≡ range_of payload b.rest
+      → w ≡ slice_cmp nat_cmp (more ++ rb) ra → v ≡ ordering_reverse w → v ≡ slice_cmp nat_cmp (key_by payload a) (key_by payload b)
+  left_shorter o w v more ra rb h e tie m p q cw cv =
+      let n = a.front.1 - a.front.0 in
+      let s = split n (omega arith) h in
+      cv ∙ ap ordering_reverse (cw ∙ (λ i. slice_cmp nat_cmp (m i ++ q i) (p i)))
+      ∙ sym (nat_list_cmp_total.antisymm (range_of payload a.rest) (range_of payload (behind b.front n) ++ range_of payload b.rest))
+      ∙ ap (λ x. slice_cmp nat_cmp x (range_of payload (behind b.front n) ++ range_of payload b.rest)) (sym (none_behind a.front (range_of payload a.rest)))
+      ∙ ap (λ t. ordering_then t (slice_cmp nat_cmp (range_of payload (behind a.front n) ++ range_of payload a.rest) (range_of payload (behind b.front n) ++ range_of payload b.rest))) (sym tie ∙ e)
+      ∙ sym s
+
+  -- the right front is the shorter
+  pub right_shorter : (o w : Ordering) (more ra rb : List ℕ) → b.front.1 - b.front.0 ≤ a.front.1 - a.front.0
+      → o ≡ slice_cmp nat_cmp (take (b.front.1 - b.front.0) (drop a.front.0 payload)) (take (b.front.1 - b.front.0) (drop b.front.0 payload)) → o ≡ Equal
+      → more ≡ range_of payload (behind a.front (b.front.1 - b.front.0)) → ra ≡ range_of payload a.rest → rb ≡ range_of payload b.rest
+      → w ≡ slice_cmp nat_cmp (more ++ ra) rb → w ≡ slice_cmp nat_cmp (key_by payload a) (key_by payload b)
+  right_shorter o w more ra rb h e tie m p q cw =
+      let n = b.front.1 - b.front.0 in
+      let s = split n h (omega arith) in
+      cw ∙ (λ i. slice_cmp nat_cmp (m i ++ p i) (q i))
+      ∙ ap (slice_cmp nat_cmp (range_of payload (behind a.front n) ++ range_of payload a.rest)) (sym (none_behind b.front (range_of payload b.rest)))
+      ∙ ap (λ t. ordering_then t (slice_cmp nat_cmp (range_of payload (behind a.front n) ++ range_of payload a.rest) (range_of payload (behind b.front n) ++ range_of payload b.rest))) (sym tie ∙ e)
+      ∙ sym s
+
+-- where the front is empty, the key is what is behind it
+pub whole_key : (payload : List ℕ) (k : KeyRanges) → k.front.1 - k.front.0 ≡ 0 → key_by payload k ≡ range_of payload k.rest
+whole_key payload k e = ap (λ n. take n (drop k.front.0 payload) ++ range_of payload k.rest) e

@@ -1,0 +1,78 @@
+use Rattle.std.proofs.Common.{◌≡◌, ◌+◌, ◌/◌, ◌≤◌, [], take, drop, refl, arith, sym, ap, ◌∙◌}
+use Rattle.std.proofs.Math.Nat.{zero-mod}
+use Rattle.std.proofs.lemmas.Bool.{false≢true}
+use Rattle.sst_block_core.specs.Stages.{buckets_in}
+use Rattle.sst_block_core.specs.Passes.{trailer_by}
+use Rattle.sst_block_core.specs.Pointers.{head_count}
+use Rattle.sst_block_core.proofs.Tallies.{few_so_far, interval_fits, tally_none, tally_more, buckets_to, tallied_in, buckets_length}
+use Rattle.sst_block_core.proofs.table.block.check.buckets.check_buckets.Goals as goal
+
+pub loop-place-init : goal.loop-place-init
+loop-place-init g c =
+    let none = tally_none g.Item.BlockItem.kind g.H.BlockHash.hash64 c.args.t.now.interval c.args.t.now.hash_len c.requires.parts.interval c.split_at.result.0.now [] c.in_ok-buckets.buckets refl
+    c.in_ok-buckets.ensures.ok in
+    let some = c.requires.parts.interval in
+    rw c.first-at.ensures (record {
+      place_is = refl;
+      phase = sym (zero-mod c.args.t.now.interval);
+      below = omega (arith, some);
+      inside = omega arith;
+      base = record { order = omega arith; inside = omega arith };
+      tallied = none;
+    })
+
+pub overflow_cast-number : goal.overflow_cast-number
+overflow_cast-number g c =
+    let t = c.args.t.now in
+    let some = c.if-t-eq0.false in
+    let parts = c.requires.parts in
+    let few : head_count t.interval t.item_count ≤ 254 = let f = parts.few_heads (omega arith) in let h = parts.heads in omega arith in
+    let below = interval_fits t.interval t.item_count c.loop-place.place parts.interval c.loop-place-test.true few in
+    let e = ap (λ k. c.loop-place.place / k) c.from.ensures in
+    omega (arith, below, e)
+
+pub note_key-requires-clause-number : goal.note_key-requires-clause-number
+note_key-requires-clause-number g c =
+    let t = c.args.t.now in
+    let some = c.if-t-eq0.false in
+    let parts = c.requires.parts in
+    let few : head_count t.interval t.item_count ≤ 254 = let f = parts.few_heads (omega arith) in let h = parts.heads in omega arith in
+    let below = interval_fits t.interval t.item_count c.loop-place.place parts.interval c.loop-place-test.true few in
+    let e = ap (λ k. c.loop-place.place / k) c.from.ensures in
+    omega (arith, below, e)
+
+pub loop-place-preserved : goal.loop-place-preserved
+loop-place-preserved g c =
+    let t = c.args.t.now in
+    let some = c.if-t-eq0.false in
+    let parts = c.requires.parts in
+    let p = c.loop-place.invariant.tallied in
+    let few : head_count t.interval t.item_count ≤ 254 = let f = parts.few_heads (omega arith) in let h = parts.heads in omega arith in
+    let place = c.loop-place.invariant.place_is in
+    let few_here = few_so_far t.interval t.item_count c.loop-place.at.place parts.interval (omega arith) few in
+    let e = c.in-Some.ensures in
+    record {
+      place_is = e.place ∙ ap (λ k. k + 1) place;
+      phase = e.phase;
+      below = e.below;
+      inside = e.inside;
+      base = e.base;
+      tallied = tally_more g.Item.BlockItem.kind g.H.BlockHash.hash64 t.interval t.hash_len parts.interval c.split_at.result.0.now
+          c.loop-place.at.place c.loop-place.at.offset _ c.loop-place.buckets p (g.Parsed.ParsedItem.item_of c.split_at.result.0.now c.in-Some.item) _ _ _
+          _ _ _ (omega arith) few_here (e.exact p.items p.read) (sym (c.key_ranges-key.ensures.key c.split_at.result.0.now))
+          (λ i. sym place i / c.from.ensures i) c.in_ok-note_key.ensures.ok;
+    }
+
+pub returns-clause-refused : goal.returns-clause-refused
+returns-clause-refused g c = λ h.
+    let kind = g.Item.BlockItem.kind in
+    let hash = g.H.BlockHash.hash64 in
+    let t = trailer_by c.args.t.now in
+    let p = c.args.payload.now in
+    let some = c.if-t-eq0.false in
+    let end : c.loop-place.at.place ≡ t.item_count = let i = c.loop-place.invariant.place_is in let a = c.loop-place.auto.place-end in let f = c.loop-place-test.false in omega arith in
+    let k = tallied_in kind hash t p c.split_at.result.0.now c.loop-place.at.place c.loop-place.at.offset _ c.loop-place.buckets c.loop-place.invariant.tallied c.split_at.ensures.front end in
+    let e = buckets_to kind hash t p c.requires.forms c.loop-place.at.offset _ c.loop-place.buckets k (buckets_length t p c.requires.parts) h in
+    let stored : c.split_at-3.result.0.now ≡ buckets_in t p = c.split_at-3.ensures.front ∙ ap (take t.hash_len) (c.split_at-2.ensures.back ∙ ap (λ o. drop o p) (c.requires.parts.hash_offset (omega arith))) in
+    let same = c.is_same.ensures.1 (c.as_slice.ensures.value ∙ c.into_inner.ensures ∙ e ∙ sym stored) in
+    false≢true (sym c.if-is_same.false ∙ same)

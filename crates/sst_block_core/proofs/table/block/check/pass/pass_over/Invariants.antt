@@ -1,0 +1,17 @@
+use Rattle.std.proofs.Common.{◌≡◌, ◌%◌, ◌<◌, ◌≤◌, length, IfSome}
+use Rattle.std.specs.Option.{option_map}
+use Rattle.sst_block_core.specs.Found.{range_of, IsRange}
+use Rattle.sst_block_core.specs.Passes.{IsPassing}
+use Rattle.sst_block_core.proofs.table.block.check.pass.pass_over.Given as goal
+
+abbrev pub invariant-loop-place : goal.invariant-loop-place
+invariant-loop-place g l = record {
+  place_is : l.at.place ≡ l.place;
+  phase : l.at.phase ≡ l.at.place % l.restart_interval;
+  below : l.at.phase < l.restart_interval;
+  inside : l.at.offset ≤ length l.body;
+  base : IsRange l.body l.at.base;
+  found : IfSome l.last (g.Parsed.ParsedItem.is_found l.body);
+  passing : IsPassing g.Item.BlockItem.kind g.Item.Checkable.fits l.restart_interval l.body l.pointers l.at.place l.at.offset (range_of l.body l.at.base) (option_map (g.Parsed.ParsedItem.item_of l.body) l.last)
+      l.passed.all_fit l.passed.is_ordered l.passed.is_indexed;
+}

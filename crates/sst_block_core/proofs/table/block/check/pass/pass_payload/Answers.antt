@@ -1,0 +1,17 @@
+use Rattle.sst_block_core.specs.Passes.{trailer_by}
+use Rattle.sst_block_core.proofs.ItemStages.{found_from, pointers_inside, last_inside}
+use Rattle.sst_block_core.proofs.table.block.check.pass.pass_payload.Goals as goal
+
+pub pass_over-requires-clause-pointers : goal.pass_over-requires-clause-pointers
+pass_over-requires-clause-pointers g c =
+    pointers_inside g.Item.BlockItem.kind g.Item.Checkable.fits (trailer_by c.args.t.now) c.args.payload.now _ _ c.requires c.split_at.ensures.front c.new-pointers.ensures
+
+pub get-last-requires : goal.get-last-requires
+get-last-requires g c =
+    last_inside g.Item.BlockItem.kind g.Item.Checkable.fits (trailer_by c.args.t.now) c.args.payload.now _ _ c.requires c.split_at.ensures.front c.new-pointers.ensures
+
+pub returns : goal.returns
+returns g c = record {
+  exact = found_from g.Item.BlockItem.kind g.Item.Checkable.fits (trailer_by c.args.t.now) c.args.payload.now _ _ c.requires c.split_at.ensures.front c.new-pointers.ensures _ _ _ _ _
+      c.in_ok-passed.ensures.exact c.get-last.ensures c.is_least_width.ensures;
+}

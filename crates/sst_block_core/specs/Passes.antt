@@ -1,0 +1,98 @@
+-- What a pass over a body has read so far, and what it found of it.
+use Rattle.std.specs.Prelude.{◌≡◌, ◌↔◌, ℕ, ◌+◌, ◌*◌, ◌%◌, ◌==◌, ◌<◌, ◌≤◌, if◌then◌else◌, Bool, IsTrue, List, [], ◌∷◌, length, drop, slice_index, Option, Some, None}
+use Rattle.std.specs.List.{AllByRecursion}
+use Rattle.sst_base.specs.declared.error.Error.{Error}
+use Rattle.sst_base.specs.declared.error.Error.TheVariants.{Truncated, BadTrailer, BadEntry, BadHandle, OutOfOrder, BadIndex, BadHashIndex, Memory}
+use Rattle.sst_block_core.specs.Kind.{Kind, IsOrdered}
+use Rattle.sst_block_core.specs.Body.{items_at, place_offset}
+use Rattle.sst_block_core.specs.Trailer.{Trailer}
+use Rattle.sst_block_core.specs.Buckets.{bucket}
+use Rattle.sst_block_core.specs.Stages.{items_by, HasTrailer, HasParts, HasForms, HasOrder, HasPointers, HasBuckets}
+use Rattle.sst_block_core.specs.declared.table.block.trailer.TrailerNumbers.{TrailerNumbers}
+
+-- the numbers of a trailer, as code has them
+abbrev pub trailer_by : TrailerNumbers → Trailer
+trailer_by n = record {
+  interval = n.interval;
+  width = n.width;
+  heads = n.heads;
+  index_offset = n.index_offset;
+  hash_len = n.hash_len;
+  hash_offset = n.hash_offset;
+  item_count = n.item_count;
+}
+
+-- the key of the head in front of what follows these items, of which the first has index i; `base` is that in front of them
+abbrev pub base_behind : {X : Type 0} → Kind X → ℕ → ℕ → List X → List ℕ → List ℕ
+base_behind kind r i [] base = base
+base_behind kind r i (x ∷ xs) base = base_behind kind r (i + 1) xs (if (i % r) == 0 then kind.key x else base)
+
+-- the last of some items, if there is one
+abbrev pub last_of : {X : Type 0} → List X → Option X
+last_of [] = None
+last_of (x ∷ []) = Some x
+last_of (x ∷ y ∷ xs) = last_of (y ∷ xs)
+
+-- decoding as many items from the front of a body gives these, and ends at an offset, behind a head with this key
+pub record IsRead {X : Type 0} (kind : Kind X) (r : ℕ) (body : List ℕ) (xs : List X) (place offset : ℕ) (base : List ℕ) : Type 0 where
+  pub count : place ≡ length xs
+  pub inside : offset ≤ length body
+  pub reads : items_at kind r 0 place [] body ≡ Some (xs, drop offset body)
+  pub base_is : base ≡ base_behind kind r 0 xs []
+
+-- each pointer of these items says where its head begins
+abbrev pub ArePointed : {X : Type 0} → Kind X → ℕ → List ℕ → List X → Type 0
+ArePointed kind r pointers xs = (j : ℕ) → j * r < length xs → slice_index pointers j ≡ place_offset kind r xs (j * r)
+
+-- what a pass found of items: whether they fit, whether they are in order, and whether their pointers are right
+pub record IsJudged {X : Type 0} (kind : Kind X) (fits : X → Type 0) (r : ℕ) (pointers : List ℕ) (xs : List X) (all_fit is_ordered is_indexed : Bool) : Type 0 where
+  pub fit : IsTrue all_fit ↔ AllByRecursion fits xs
+  pub ordered : IsTrue is_ordered ↔ IsOrdered kind xs
+  pub indexed : IsTrue is_indexed ↔ ArePointed kind r pointers xs
+
+-- a pass knows the items that it has read so far, the last of them, and what it found of them
+pub record IsPassing {X : Type 0} (kind : Kind X) (fits : X → Type 0) (r : ℕ) (body pointers : List ℕ) (place offset : ℕ) (base : List ℕ) (last : Option X) (all_fit is_ordered is_indexed : Bool) : Type 0 where
+  pub items : List X
+  pub read : IsRead kind r body items place offset base
+  pub last_is : last ≡ last_of items
+  pub judged : IsJudged kind fits r pointers items all_fit is_ordered is_indexed
+
+-- a pass is over: the body is so many forms, and this was found of their items
+pub record IsPassed {X : Type 0} (kind : Kind X) (fits : X → Type 0) (r n : ℕ) (body pointers : List ℕ) (all_fit is_ordered is_indexed : Bool) : Type 0 where
+  pub items : List X
+  pub reads : items_at kind r 0 n [] body ≡ Some (items, [])
+  pub judged : IsJudged kind fits r pointers items all_fit is_ordered is_indexed
+
+-- what a pass over the items of a payload whose first two stages hold found of the next ones: the third holds
+pub record IsFound {X : Type 0} (kind : Kind X) (fits : X → Type 0) (t : Trailer) (p : List ℕ) (all_fit is_ordered is_indexed : Bool) : Type 0 where
+  pub forms : HasForms kind t p
+  pub fit : IsTrue all_fit ↔ AllByRecursion fits (items_by kind t p)
+  pub ordered : IsTrue is_ordered ↔ HasOrder kind t p
+  pub indexed : IsTrue is_indexed ↔ HasPointers kind t p
+
+-- a pass over the buckets knows the items that it has read so far, and has their bucket bytes
+pub record IsTallied {X : Type 0} (kind : Kind X) (hash : List ℕ → ℕ) (r b : ℕ) (body : List ℕ) (place offset : ℕ) (base : List ℕ) (table : List ℕ) : Type 0 where
+  pub items : List X
+  pub read : IsRead kind r body items place offset base
+  pub count : length table ≡ b
+  pub buckets : (q : ℕ) → q < b → slice_index table q ≡ bucket kind hash r items b q
+
+-- why the numbers of a trailer are refused: which of the first two stages fails first
+abbrev pub IsPartsRefusal : Trailer → List ℕ → Error → Type 0
+IsPartsRefusal t p Truncated = HasTrailer p → ⊥
+IsPartsRefusal t p BadTrailer = HasTrailer p × (HasParts t p → ⊥)
+IsPartsRefusal t p _ = ⊥
+
+-- why a pass over the items refuses a payload whose first two stages hold: which of the next ones fails first
+abbrev pub IsItemsRefusal : {X : Type 0} → Kind X → (X → Type 0) → Trailer → List ℕ → Error → Type 0
+IsItemsRefusal kind fits t p BadEntry = HasForms kind t p → ⊥
+IsItemsRefusal kind fits t p BadHandle = HasForms kind t p × (AllByRecursion fits (items_by kind t p) → ⊥)
+IsItemsRefusal kind fits t p OutOfOrder = HasForms kind t p × AllByRecursion fits (items_by kind t p) × (HasOrder kind t p → ⊥)
+IsItemsRefusal kind fits t p BadIndex = HasForms kind t p × AllByRecursion fits (items_by kind t p) × HasOrder kind t p × (HasPointers kind t p → ⊥)
+IsItemsRefusal kind fits t p _ = ⊥
+
+-- why a pass over the buckets refuses a payload whose first three stages hold
+abbrev pub IsBucketsRefusal : {X : Type 0} → Kind X → (List ℕ → ℕ) → Trailer → List ℕ → Error → Type 0
+IsBucketsRefusal kind hash t p BadHashIndex = HasBuckets kind hash t p → ⊥
+IsBucketsRefusal kind hash t p Memory = 0 < t.hash_len
+IsBucketsRefusal kind hash t p _ = ⊥

@@ -1,0 +1,75 @@
+//! The order of two keys by their ranges of a payload.
+ghost use Rattle.std.specs.Prelude.{◌≡◌, ◌+◌, ◌≤◌, length, take, drop};
+ghost use Rattle.std.specs.Ordering.{nat_cmp};
+ghost use Rattle.std.specs.Cmp.Lexicographic.{slice_cmp};
+ghost use Rattle.sst_block_core.specs.KeyRanges.{key_by, IsKeyRanges};
+
+use crate::table::block::key_ranges::bytes_of;
+use sst_base::table::util::{SliceIndexes, compare_bytes, compare_prefixed_slice};
+use std::cmp::Ordering;
+
+/// A key by its ranges of a payload: the bytes that it shares with its interval's head, none in a
+/// full form, and its own bytes behind them.
+#[derive(Clone, Copy)]
+pub(crate) struct KeyRanges {
+    pub(crate) front: SliceIndexes,
+    pub(crate) rest: SliceIndexes,
+}
+
+// Compares two byte strings of one length at these offsets. At one offset they are the same and are
+// not looked at.
+#[inline(always)]
+fn compare_fronts(payload: &[u8], a: usize, b: usize, len: usize) -> Ordering
+    requires left { a + len ≤ length payload.now }
+    requires right { b + len ≤ length payload.now }
+    ensures { result ≡ slice_cmp nat_cmp (take len (drop a payload.now)) (take len (drop b payload.now)) }
+{
+    if a == b {
+        return Ordering::Equal;
+    }
+    if len == 0 {
+        return Ordering::Equal;
+    }
+    let (_, left) = payload.split_at(a);
+    let (left, _) = left.split_at(len);
+    let (_, right) = payload.split_at(b);
+    let (right, _) = right.split_at(len);
+    compare_bytes(left, right)
+}
+
+/// Compares two keys by their ranges. Nothing is joined, and what both share with one head is not
+/// looked at.
+#[inline(always)]
+pub(crate) fn compare_keys(payload: &[u8], a: &KeyRanges, b: &KeyRanges) -> Ordering
+    requires left { IsKeyRanges payload.now a.now }
+    requires right { IsKeyRanges payload.now b.now }
+    ensures { result ≡ slice_cmp nat_cmp (key_by payload.now a.now) (key_by payload.now b.now) }
+{
+    let left = a.front.1 - a.front.0;
+    let right = b.front.1 - b.front.0;
+    let left_rest = bytes_of(payload, &a.rest);
+    let right_rest = bytes_of(payload, &b.rest);
+    if left == right {
+        return match compare_fronts(payload, a.front.0, b.front.0, left) {
+            Ordering::Equal => compare_bytes(left_rest, right_rest),
+            decided => decided,
+        };
+    }
+    if left < right {
+        match compare_fronts(payload, a.front.0, b.front.0, left) {
+            Ordering::Equal => {
+                let more = bytes_of(payload, &SliceIndexes(b.front.0 + left, b.front.1));
+                compare_prefixed_slice(more, right_rest, left_rest).reverse()
+            }
+            decided => decided,
+        }
+    } else {
+        match compare_fronts(payload, a.front.0, b.front.0, right) {
+            Ordering::Equal => {
+                let more = bytes_of(payload, &SliceIndexes(a.front.0 + right, a.front.1));
+                compare_prefixed_slice(more, left_rest, right_rest)
+            }
+            decided => decided,
+        }
+    }
+}

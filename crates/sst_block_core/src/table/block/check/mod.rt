@@ -1,0 +1,40 @@
+//! The check of a block's payload, stage by stage.
+ghost use Rattle.std.specs.Prelude.{◌≡◌, ◌↔◌, ℕ, ◌-◌, ◌≤◌, List, length, drop, IfSome, IsTrue};
+ghost use Rattle.sst_block_core.specs.Found.{Finds, IsRange, range_of};
+ghost use Rattle.sst_block_core.specs.KeyRanges.{key_by, IsKeyRanges};
+
+pub(crate) mod buckets;
+pub(crate) mod keys;
+pub(crate) mod parts;
+pub(crate) mod pass;
+pub(crate) mod spot;
+pub(crate) mod truncation;
+
+use crate::table::block::{Decodable, ParsedItem};
+use keys::KeyRanges;
+use sst_base::table::util::SliceIndexes;
+
+/// Items whose forms can be checked.
+pub(crate) trait Checkable<Parsed: ParsedItem<Self>>: Decodable<Parsed> {
+    /// What the check asks of an item beyond its form.
+    ghost fits: { Self → Type 0 };
+
+    /// Returns whether an item is what the check asks beyond its form.
+    fn fits(item: &Parsed) -> bool
+        ensures { (payload : List ℕ) → IsTrue result ↔ fits (Parsed.item_of payload item.now) };
+
+    /// Returns the ranges of an item's key.
+    fn key_ranges(item: &Parsed) -> KeyRanges
+        ensures inside { (payload : List ℕ) → Parsed.is_found payload item.now → IsKeyRanges payload result }
+        ensures key { (payload : List ℕ) → Self.kind.key (Parsed.item_of payload item.now) ≡ key_by payload result }
+        ensures front { result.front.1 - result.front.0 ≡ Parsed.shared_len item.now };
+
+    /// Decodes the item in truncated form at an offset, behind a head with this key; the second
+    /// answer is where the form ends. Returns `None` wherever no truncated form stands, also
+    /// where the shared prefix is not the longest.
+    fn parse_exactly(payload: &[u8], offset: usize, base: &SliceIndexes) -> Option<(Parsed, usize)>
+        requires inside { offset ≤ length payload.now }
+        requires base { IsRange payload.now base.now }
+        ensures exact { Finds (Parsed.item_of payload.now) payload.now result (Self.kind.truncated_at (range_of payload.now base.now) (drop offset payload.now)) }
+        ensures found { IfSome result (λ f. Parsed.is_found payload.now f.0) };
+}

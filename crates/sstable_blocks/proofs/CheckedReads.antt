@@ -1,0 +1,109 @@
+-- Reading frames of any bytes: which errors do not come, and what a filter says.
+use Rattle.std.proofs.Common.{◌≡◌, ◌≢◌, ◌⊎◌, ℕ, zero, suc, ◌+◌, ◌-◌, ◌/◌, ◌%◌, ◌<◌, ◌≤◌, List, length, take, drop, arith, refl, sym, ap, subst, ◌∙◌, inl, inr, Bool, true, false, nat_eq, eqb, ltb, not, ◌&&◌, if◌then◌else◌, get_or, Option, Some, None, Result, Ok, Err, IfOk, IfErr, IfSome, IsTrue, ◌↔◌}
+use Rattle.std.proofs.lemmas.Bool.{eqb-true, eq-eqb, and_parts, and_from, cases_lt}
+use Rattle.std.specs.Int.{bit_at}
+use Rattle.sst_base.specs.FrameErrors.{NotIo, not_io_if}
+use Rattle.sst_base.specs.declared.error.Error.{Error}
+use Rattle.sst_base.specs.declared.error.Error.TheVariants.{Io, Memory, Truncated, InvalidHeader, InvalidTag, BadFilter}
+use Rattle.sst_base.specs.declared.error.HeaderName.TheVariants as names
+use Rattle.sst_base.specs.declared.error.TagName.TheVariants as tags
+use Rattle.std.specs.Cmp.Lexicographic.{pointwise}
+use Rattle.std.specs.Option.{option_map}
+use Rattle.sst_base.specs.BlockHandle.{HandleParts}
+use Rattle.sst_base.specs.Header.{magic}
+use Rattle.sst_base.specs.declared.table.block.block_type.BlockType.TheVariants as types
+use Rattle.sst_block_core.specs.Handles.{handles}
+use Rattle.sstable_blocks.specs.Lookup.{handle_for}
+use Rattle.sstable_blocks.specs.Opened.{range_of}
+use Rattle.sstable_blocks.specs.RunReading.{Hashes, payload_at, read_block, read_blocks}
+use Rattle.sstable_blocks.specs.Sources.{GivesOr}
+use Rattle.sst_base.specs.Entry.{Entry}
+use Rattle.sst_block_core.specs.Checks.{all_below, data_check, index_check, DataVerdict, DataRefusal, IndexVerdict, IndexRefusal}
+use Rattle.sst_block_core.specs.Handles.{Handle}
+use Rattle.sst_block_core.specs.Trailer.{trailer_in}
+use Rattle.sstable_blocks.specs.Bits.{HasBit, has_bit}
+use Rattle.sstable_blocks.specs.Probes.{probe}
+use Rattle.sst_base.specs.Header.{◌>>=◌}
+use Rattle.sstable_blocks.specs.Filter.{Filter, MayContain, may_contain, filter_at, filter_in, is_sized}
+use Rattle.sstable_blocks.specs.RunReading.{filter_answer}
+
+-- a test that holds of all numbers below n
+pub all_below_to : (n : ℕ) (test : ℕ → Bool) → ((i : ℕ) → i < n → test i ≡ true) → all_below n test ≡ true
+all_below_to zero test h = refl
+all_below_to (suc n) test h = and_from (all_below n test) (test n) (all_below_to n test (λ i less. h i (omega arith))) (h n (omega arith))
+
+pub all_below_from : (n : ℕ) (test : ℕ → Bool) → all_below n test ≡ true → (i : ℕ) → i < n → test i ≡ true
+all_below_from zero test e i less = absurd (omega arith)
+all_below_from (suc n) test e i less =
+    let both = and_parts (all_below n test) (test n) e in
+    elim (cases_lt i n) [
+      | inl below ↦ all_below_from n test both.0 i below
+      | inr more ↦ (let same : n ≡ i = omega arith in subst (λ k. test k ≡ true) same both.1)
+    ]
+
+-- the test of a filter is the bit of each probe
+pub may_contain_to : (f : Filter) (hash : ℕ) → MayContain f hash → may_contain f hash ≡ true
+may_contain_to f hash h = all_below_to f.k (λ i. has_bit f.bits (probe f.m hash i)) (λ i less. eq-eqb _ _ (h i less))
+
+pub may_contain_from : (f : Filter) (hash : ℕ) → may_contain f hash ≡ true → MayContain f hash
+may_contain_from f hash e = λ i less. eqb-true _ _ (all_below_from f.k (λ i. has_bit f.bits (probe f.m hash i)) e i less)
+
+pub says_is : (f : Filter) (hash : ℕ) (b : Bool) → (IsTrue b ↔ MayContain f hash) → may_contain f hash ≡ b
+says_is f hash true says = may_contain_to f hash (says.0 refl)
+says_is f hash false says = elim (may_contain f hash) as (λ c. may_contain f hash ≡ c → c ≡ false) [
+  | true ↦ (λ e. let wrong : IsTrue false = says.1 (may_contain_from f hash e) in cc)
+  | false ↦ (λ e. refl)
+] refl
+
+not_io_else : {A : Type 0} (b : Bool) (r : Result A Error) (d : Error) → d ≢ Io → NotIo r → NotIo (if b then Err d else r)
+not_io_else true r d h k = h
+not_io_else false r d h k = k
+
+-- a filter is never refused as failed input
+pub filter_not_io : (bytes : List ℕ) → NotIo (filter_at bytes)
+unfolding filter_at
+filter_not_io bytes =
+    not_io_else (ltb (length bytes) 22) _ Truncated (λ e. cc)
+    (not_io_else (not (pointwise nat_eq (take 4 bytes) magic)) _ (InvalidHeader names.BloomFilter) (λ e. cc)
+    (not_io_else (not (nat_eq (get_or bytes 4 0) 0)) _ (InvalidTag tags.FilterType (get_or bytes 4 0)) (λ e. cc)
+    (not_io_else (not (nat_eq (get_or bytes 5 0) 0)) _ (InvalidTag tags.HashType (get_or bytes 5 0)) (λ e. cc)
+    (not_io_if (is_sized (filter_in bytes)) (Ok (filter_in bytes)) BadFilter (λ e. cc) tt))))
+
+-- nor is a block by its check
+pub data_not_io : (hash64 : List ℕ → ℕ) (p : List ℕ) (e : Error) → DataVerdict hash64 (trailer_in p) p (data_check hash64 p) → (e ≢ Memory → data_check hash64 p ≡ Err e) → e ≢ Io
+data_not_io hash64 p e verdict refused k =
+    let stage = subst (DataVerdict hash64 (trailer_in p) p) (refused (λ m. let wrong : Io ≡ Memory = sym k ∙ m in cc)) verdict in
+    subst (DataRefusal hash64 (trailer_in p) p) k stage
+
+pub index_not_io : (p : List ℕ) (e : Error) → IndexVerdict (trailer_in p) p (index_check p) → index_check p ≡ Err e → e ≢ Io
+index_not_io p e verdict refused k = subst (IndexRefusal (trailer_in p) p) k (subst (IndexVerdict (trailer_in p) p) refused verdict)
+
+-- an answer of a filter, and its errors
+pub asked : (p : List ℕ) (hash : ℕ) (r : Result Bool Error) → IfOk r (λ b. (f : Filter) × (filter_at p ≡ Ok f) × (IsTrue b ↔ MayContain f hash)) → IfErr r (λ e. filter_at p ≡ Err e) → r ≡ filter_answer p hash
+asked p hash (Ok b) says err = sym (ap (λ q. q >>= (λ f. Ok (may_contain f hash))) says.1 ∙ ap (λ c. Ok c) (says_is says.0 hash b says.2))
+asked p hash (Err e) says err = sym (ap (λ q. q >>= (λ f. Ok (may_contain f hash))) err)
+
+pub asked_not_io : (p : List ℕ) (r : Result Bool Error) → IfErr r (λ e. filter_at p ≡ Err e) → IfErr r (λ e. e ≢ Io)
+asked_not_io p (Ok b) err = tt
+asked_not_io p (Err e) err = subst NotIo err (filter_not_io p)
+
+-- a source that failed later failed
+gives_or_later : {X Y : Type 0} (P Q : Type 0) (view : X → Y) (r : Result X Error) (read : Result Y Error) → (P → Q) → GivesOr P view r read → GivesOr Q view r read
+gives_or_later P Q view (Ok x) read f h = h
+gives_or_later P Q view (Err e) read f h = λ other. elim (h other) [
+  | inl failed ↦ inl (failed.0, f failed.1)
+  | inr same ↦ inr same
+]
+
+-- the read by an index whose block was read and checked is that of the block of its handle
+pub by_index : (c : Hashes) (before after : Option (List ℕ)) (old mid new : ℕ) (index : HandleParts) (p : List ℕ) (items : List Handle) (o : Option HandleParts) (needle : List ℕ) (seqno : ℕ) (r : Result (Option Entry) Error)
+    → after ≡ before → old ≤ mid → IfSome before (λ all. payload_at c types.Index all index ≡ Ok p) → index_check p ≡ Ok items → o ≡ option_map range_of (handle_for handles needle seqno items)
+    → IfSome after (λ all. (h : Option Handle) → o ≡ option_map range_of h → GivesOr (mid < new) (λ x. x) r (read_block c all h needle seqno))
+    → IfSome before (λ all. GivesOr (old < new) (λ x. x) r (read_blocks c all index needle seqno))
+by_index c None after old mid new index p items o needle seqno r same le at checked is read = tt
+by_index c (Some all) after old mid new index p items o needle seqno r same le at checked is read =
+    let here = subst (λ b. IfSome b (λ all. (h : Option Handle) → o ≡ option_map range_of h → GivesOr (mid < new) (λ x. x) r (read_block c all h needle seqno))) same read in
+    let given = gives_or_later (mid < new) (old < new) (λ x. x) r (read_block c all (handle_for handles needle seqno items) needle seqno) (λ less. omega arith) (here (handle_for handles needle seqno items) is) in
+    let go : List Handle → Result (Option Entry) Error = λ (hs : List Handle). read_block c all (handle_for handles needle seqno hs) needle seqno in
+    let whole : read_blocks c all index needle seqno ≡ go items = ap (λ q. q >>= (λ (x : List ℕ). index_check x >>= go)) at ∙ ap (λ q. q >>= go) checked in
+    subst (GivesOr (old < new) (λ x. x) r) (sym whole) given

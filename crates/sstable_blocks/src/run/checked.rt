@@ -1,0 +1,199 @@
+//! Reading runs from bytes of any kind.
+ghost use Rattle.std.specs.Prelude.{◌≡◌, ◌≢◌, ℕ, ◌+◌, ◌≤◌, ◌<◌, List, length, Option, Ok, IfOk, IfErr, IfSome};
+ghost use Rattle.std.specs.Option.{option_map};
+ghost use Rattle.sst_base.specs.Bytes.{IsBytes};
+ghost use Rattle.sst_base.specs.Entry.{Entry};
+ghost use Rattle.sst_base.specs.declared.error.Error.TheVariants.{Io};
+ghost use Rattle.sst_block_core.specs.Entries.{entries};
+ghost use Rattle.sst_block_core.specs.Handles.{Handle};
+ghost use Rattle.sst_block_core.specs.Window.{first_match};
+ghost use Rattle.sstable_blocks.specs.Blocks.{joined};
+ghost use Rattle.sstable_blocks.specs.Opened.{range_of};
+ghost use Rattle.sstable_blocks.specs.Run.{form, IsLayout};
+ghost use Rattle.sstable_blocks.specs.RunReading.{hashes, payload_at, filter_says, filter_answer, read_block};
+ghost use Rattle.sst_block_core.specs.Checks.{data_check, index_check};
+ghost use Rattle.sstable_blocks.specs.RunReading.{read_blocks, read_checked, AnswerMeans};
+ghost use Rattle.sstable_blocks.specs.Sources.{GivesOr};
+ghost use Rattle.sstable_blocks.specs.declared.run.RunConfig.{RunConfig};
+
+use super::RunHandles;
+use super::laws::{checked_answer_means, layout_is_read};
+use super::read::find_handle;
+use super::source::FrameSource;
+use crate::table::filter::FilterBlock;
+use sst_base::{
+    Block, BlockHandle, BlockHash, BlockType, Error, InternalValue, Result, SeqNo, Steps, TagName,
+};
+use sst_block_core::laws::{data_check_is_by_stages, index_check_is_by_stages};
+use sst_block_core::{DataBlock, IndexBlock};
+use std::alloc::Global;
+
+// The block of the frame of a type that a handle names.
+#[tactic(auto, unfolding(sst_base::specs::Frame::payload_of_type))]
+fn block_from<H: BlockHash, S: FrameSource>(
+    alloc: Global,
+    source: &mut S,
+    handle: &BlockHandle,
+    block_type: BlockType,
+) -> Result<Block>
+    ensures same { S.bytes source.new ≡ S.bytes source.old }
+    ensures failures_grow { S.failures source.old ≤ S.failures source.new }
+    ensures io { IfErr result (λ e. e ≡ Io → S.failures source.old < S.failures source.new) }
+    ensures exact { IfSome (S.bytes source.old) (λ all. GivesOr (S.failures source.old < S.failures source.new) (λ b. b.payload) result
+        (payload_at (hashes H.hash64 H.hash128) block_type all handle.now)) }
+{
+    let frame = source.read_frame(alloc, handle)?;
+    let block = Block::from_frame::<H>(frame)?;
+    let found = u8::from(block.header().block_type);
+    if found != u8::from(block_type) {
+        return Err(Error::InvalidTag(TagName::BlockType, found));
+    }
+    Ok(block)
+}
+
+// What the filter in a block says of a hash.
+fn ask_filter(block: Block, hash: u64) -> Result<bool>
+    ensures exact { result ≡ filter_answer block.payload hash }
+    ensures not_io { IfErr result (λ e. e ≢ Io) }
+{
+    let filter = FilterBlock::new(block);
+    filter.maybe_contains_hash(hash)
+}
+
+// The data block of a block of any bytes.
+fn check_data<H: BlockHash>(alloc: Global, block: Block) -> Result<DataBlock<H>>
+    ensures exact { GivesOr ⊥ (λ b. b.items) result (data_check H.hash64 block.payload) }
+    ensures not_io { IfErr result (λ e. e ≢ Io) }
+{
+    data_check_is_by_stages();
+    DataBlock::<H>::check(alloc, block)
+}
+
+// The index block of a block of any bytes.
+fn check_index(block: Block) -> Result<IndexBlock>
+    ensures exact { GivesOr ⊥ (λ b. b.items) result (index_check block.payload) }
+    ensures not_io { IfErr result (λ e. e ≢ Io) }
+{
+    index_check_is_by_stages();
+    IndexBlock::check(block)
+}
+
+// Whether a run can have a key, by its filter.
+fn may_have<H: BlockHash, S: FrameSource>(
+    alloc: Global,
+    source: &mut S,
+    filter: &Option<BlockHandle>,
+    needle: &[u8],
+) -> Result<bool>
+    ensures same { S.bytes source.new ≡ S.bytes source.old }
+    ensures failures_grow { S.failures source.old ≤ S.failures source.new }
+    ensures io { IfErr result (λ e. e ≡ Io → S.failures source.old < S.failures source.new) }
+    ensures exact { IfSome (S.bytes source.old) (λ all. GivesOr (S.failures source.old < S.failures source.new) (λ b. b) result
+        (filter_says (hashes H.hash64 H.hash128) all filter.now needle.now)) }
+{
+    match filter {
+        None => Ok(true),
+        Some(handle) => {
+            let block = block_from::<H, S>(alloc, source, handle, BlockType::Filter)?;
+            ask_filter(block, H::hash64(needle))
+        }
+    }
+}
+
+// The first match in the data block of a handle, if there is one.
+fn read_in_block<H: BlockHash, S: FrameSource>(
+    alloc: Global,
+    source: &mut S,
+    handle: &Option<BlockHandle>,
+    needle: &[u8],
+    seqno: SeqNo,
+) -> Result<Option<InternalValue>>
+    ensures same { S.bytes source.new ≡ S.bytes source.old }
+    ensures failures_grow { S.failures source.old ≤ S.failures source.new }
+    ensures io { IfErr result (λ e. e ≡ Io → S.failures source.old < S.failures source.new) }
+    ensures exact { IfSome (S.bytes source.old) (λ all. (h : Option Handle) → handle.now ≡ option_map range_of h
+        → GivesOr (S.failures source.old < S.failures source.new) (λ x. x) result (read_block (hashes H.hash64 H.hash128) all h needle.now seqno)) }
+{
+    match handle {
+        None => Ok(None),
+        Some(handle) => {
+            let block = block_from::<H, S>(alloc, source, handle, BlockType::Data)?;
+            let block = check_data::<H>(alloc, block)?;
+            block.point_read(alloc, needle, seqno, &mut Steps::new())
+        }
+    }
+}
+
+// The first match by the index.
+fn read_by_index<H: BlockHash, S: FrameSource>(
+    alloc: Global,
+    source: &mut S,
+    index: &BlockHandle,
+    needle: &[u8],
+    seqno: SeqNo,
+) -> Result<Option<InternalValue>>
+    ensures same { S.bytes source.new ≡ S.bytes source.old }
+    ensures failures_grow { S.failures source.old ≤ S.failures source.new }
+    ensures io { IfErr result (λ e. e ≡ Io → S.failures source.old < S.failures source.new) }
+    ensures exact { IfSome (S.bytes source.old) (λ all. GivesOr (S.failures source.old < S.failures source.new) (λ x. x) result
+        (read_blocks (hashes H.hash64 H.hash128) all index.now needle.now seqno)) }
+{
+    let block = block_from::<H, S>(alloc, source, index, BlockType::Index)?;
+    let index = check_index(block)?;
+    let handle = find_handle(&index, needle, seqno, &mut Steps::new());
+    read_in_block::<H, S>(alloc, source, &handle, needle, seqno)
+}
+
+// The first match of a run on any bytes, in stages.
+#[tactic(auto, unfolding(crate::specs::RunReading::read_checked))]
+fn read_in_stages<H: BlockHash, S: FrameSource>(
+    alloc: Global,
+    source: &mut S,
+    handles: &RunHandles,
+    needle: &[u8],
+    seqno: SeqNo,
+) -> Result<Option<InternalValue>>
+    ensures same { S.bytes source.new ≡ S.bytes source.old }
+    ensures failures_grow { S.failures source.old ≤ S.failures source.new }
+    ensures io { IfErr result (λ e. e ≡ Io → S.failures source.old < S.failures source.new) }
+    ensures exact { IfSome (S.bytes source.old) (λ all. GivesOr (S.failures source.old < S.failures source.new) (λ x. x) result
+        (read_checked (hashes H.hash64 H.hash128) all handles.now needle.now seqno)) }
+{
+    if may_have::<H, S>(alloc, source, &handles.filter, needle)? {
+        read_by_index::<H, S>(alloc, source, &handles.index, needle, seqno)
+    } else {
+        Ok(None)
+    }
+}
+
+/// Returns the first entry of a run with this key whose sequence number is strictly below `seqno`,
+/// from bytes of any kind: the filter's frame, if there is one, that of the index and that of the one
+/// block are read, and each is verified and checked.
+///
+/// # Errors
+///
+/// The first one met, in this order: for the filter, if there is one, those of its frame
+/// (`FrameSource::read_frame`, `Block::from_frame`), `Error::InvalidTag` if it is of another type, and
+/// those of `StandardBloomFilterReader::new`; then for the index those of its frame, its type, and
+/// `IndexBlock::check`; then for the block those of its frame, its type, and `DataBlock::check`.
+/// `Error::Io` only where the source failed. `Error::Memory` if an allocation fails.
+pub fn read_entry_checked<H: BlockHash, S: FrameSource>(
+    alloc: Global,
+    source: &mut S,
+    handles: &RunHandles,
+    needle: &[u8],
+    seqno: SeqNo,
+) -> Result<Option<InternalValue>>
+    ensures same { S.bytes source.new ≡ S.bytes source.old }
+    ensures failures_grow { S.failures source.old ≤ S.failures source.new }
+    ensures io { IfErr result (λ e. e ≡ Io → S.failures source.old < S.failures source.new) }
+    ensures exact { IfSome (S.bytes source.old) (λ all. GivesOr (S.failures source.old < S.failures source.new) (λ x. x) result
+        (read_checked (hashes H.hash64 H.hash128) all handles.now needle.now seqno)) }
+    ensures means { IfSome (S.bytes source.old) (λ all. IsBytes all → IfOk result (AnswerMeans (hashes H.hash64 H.hash128) all handles.now needle.now seqno)) }
+    ensures layout { IfSome (S.bytes source.old) (λ all. (config : RunConfig) (blocks : List (List Entry)) → IsLayout (form H.hash64 H.hash128 config) blocks all handles.now
+        → IfOk result (λ found. found ≡ first_match entries needle.now seqno (joined blocks))) }
+{
+    checked_answer_means();
+    layout_is_read();
+    read_in_stages::<H, S>(alloc, source, handles, needle, seqno)
+}
