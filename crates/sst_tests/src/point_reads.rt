@@ -7,8 +7,8 @@ use crate::hash_indexes::{
     versions,
 };
 use sst_base::{BlockHash, ByteSum, HashRatio, InternalValue, Poly31, Result, Steps, ValueType};
-use sst_block_kinds::DataBlock;
 use sst_block_core::table::block::hash_index::Lookup;
+use sst_block_kinds::DataBlock;
 use std::alloc::Global;
 use std::process::Abort;
 use std::test::Fail;

@@ -4,6 +4,7 @@ ghost use Rattle.sst_base.specs.Entry.{Entry};
 ghost use Rattle.sstable_blocks.specs.Run.{form, IsLayout};
 ghost use Rattle.sstable_blocks.specs.declared.run.RunConfig.{RunConfig};
 
+use crate::blocks::is_same;
 use crate::hash_indexes::{NO_BUCKETS, NoHash, ONE_EACH, push};
 use crate::plain::plain_first_match;
 use crate::random::{Random, key_of};
@@ -56,24 +57,6 @@ fn random_cuts(alloc: Global, len: usize, random: &mut Random) -> Result<Vec<usi
         }
     }
     Ok(cuts)
-}
-
-/// Whether an entry of the list was read, without a tombstone's value, or none.
-fn is_same(wanted: Option<&InternalValue>, read: Option<&InternalValue>) -> bool {
-    match (wanted, read) {
-        (None, None) => true,
-        (Some(wanted), Some(read)) => {
-            let value: &[u8] = if wanted.is_tombstone() {
-                b""
-            } else {
-                wanted.value().as_slice()
-            };
-            read.key() == wanted.key()
-                && read.key().value_type() == wanted.key().value_type()
-                && read.value().eq_bytes(value)
-        }
-        _ => false,
-    }
 }
 
 /// Reads a key below a sequence number, and finds the first match of the list.

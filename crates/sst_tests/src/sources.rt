@@ -1,17 +1,16 @@
-//! The sources of decoder, search and point read: their code reads the bytes of a block by one
-//! counting reader alone.
+//! The sources of decoder, search and reads: their code reads the bytes of a block by one counting
+//! reader alone.
 //!
-//! `rt test` runs where the sources are found. `rt ci` runs the tests in another folder, without the
-//! sources, and then only the lines written here are looked at. So `.ci/run` runs `rt try --test`
-//! first and gives it each file, as
+//! `rt ci` runs the tests in a folder without the sources, and then only the lines written here are
+//! looked at. So `.ci/run` runs `rt try --test` first and gives it each file, as
 //! `--data table/block/bound.rt=../sst_block_core/src/table/block/bound.rt`.
 use std::process::Abort;
 use std::rt::Files;
 use std::test::Fail;
 use std::{fs, io};
 
-/// Where the sources of the crate may be.
-const FOLDERS: [&str; 2] = ["../sst_block_core/src/table", "table"];
+/// Where the sources are, if they are given.
+const FOLDER: &str = "table";
 
 /// The sources that get at heads and entries by the reader.
 const READERS: [&str; 12] = [
@@ -119,12 +118,10 @@ fn other_lines_are_not_seen(rt: HostRuntime) {
     assert_eq!(rt; count("a(1);\n// a(2);\n  a(3);\n", "a("), 2);
 }
 
-/// Returns the folder of the sources, if they are found.
+/// Returns the folder of the sources, if they are given.
 fn folder(rt: &impl Files) -> io::Result<Option<&'static str>> {
-    for folder in FOLDERS {
-        if fs::exists(rt, folder)? {
-            return Ok(Some(folder));
-        }
+    if fs::exists(rt, FOLDER)? {
+        return Ok(Some(FOLDER));
     }
     Ok(None)
 }
@@ -222,5 +219,31 @@ fn a_point_read_walks_nothing(rt: HostRuntime) -> std::result::Result<(), Fail> 
     ];
     check_counts(&rt, point_read.as_str(), wanted.as_slice());
     assert_eq!(&rt; count_all(&rt, folder, "Intervals::new")?, 2);
+    Ok(())
+}
+
+/// A read of a run opens one index block and one data block, and reads each by one call.
+#[test]
+fn a_read_of_a_run_reads_by_its_blocks(rt: HostRuntime) -> std::result::Result<(), Fail> {
+    let Some(folder) = folder(&rt)? else {
+        return Ok(());
+    };
+    let read = source(&rt, folder, "../run/read.rt")?;
+    let wanted = [
+        ("IndexBlock::new", 1),
+        ("index.iter()", 1),
+        ("iter.seek(", 1),
+        (".next()", 1),
+        ("DataBlock::<H>::new", 1),
+        ("block.point_read(", 1),
+        (".iter()", 1),
+        ("entries()", 0),
+        ("Decoder", 0),
+        ("Steps::new", 0),
+        ("read_number", 0),
+        ("decode_varint", 0),
+        ("parse_", 0),
+    ];
+    check_counts(&rt, read.as_str(), wanted.as_slice());
     Ok(())
 }

@@ -14,7 +14,7 @@ use Rattle.sstable_blocks.specs.Run.{Form, block_payload, block_frame, block_fra
 use Rattle.sstable_blocks.proofs.Ends.{ends_in_order, all_front, all_back}
 
 -- the last entry of a block
-end_parts : (block : List Entry) → IsNotEmpty block → (front : List Entry) × (last : Entry) × (block ≡ front ++ last ∷ []) × (end_of block ≡ last.key)
+pub end_parts : (block : List Entry) → IsNotEmpty block → (front : List Entry) × (last : Entry) × (block ≡ front ++ last ∷ []) × (end_of block ≡ last.key)
 end_parts [] h = absurd (omega arith)
 end_parts (x ∷ []) h = ([], x, refl, refl)
 end_parts (x ∷ y ∷ ys) h =

@@ -6,15 +6,13 @@ use Rattle.std.specs.List.{AllByRecursion}
 use Rattle.sst_base.specs.Entry.{Entry}
 use Rattle.sst_base.specs.declared.error.Error.{Error}
 use Rattle.sst_block_core.specs.Entries.{entries}
-use Rattle.sst_block_core.specs.Kind.{IsOrdered}
+use Rattle.sst_block_core.specs.Kind.{IsOrdered, item_cmp}
 use Rattle.sstable_blocks.specs.Blocks.{joined, CutsFit, blocks_from}
 use Rattle.sstable_blocks.specs.Run.{Form, block_payload, block_frame, block_frames, IsFramed, RunFits}
+use Rattle.sstable_blocks.proofs.Cuts.{cuts_below}
+use Rattle.sstable_blocks.proofs.Ends.{front_in_order}
 use Rattle.sstable_blocks.specs.Writing.{FrameFits, IsWriteRefusal, AppendsLayout, AppendsEnd}
 use Rattle.sstable_blocks.specs.declared.run.RunHandles.{RunHandles}
-
-cuts_below : (start end : ℕ) (cuts : List ℕ) → CutsFit start end cuts → start < end
-cuts_below start end [] h = h
-cuts_below start end (cut ∷ cuts) h = let k = cuts_below cut end cuts h.1 in omega arith
 
 -- the next cut
 pub next_cut : (start end i : ℕ) (cuts : List ℕ) → i < length cuts → CutsFit start end (drop i cuts) → (start < get_or cuts i 0) × (get_or cuts i 0 < end) × CutsFit (get_or cuts i 0) end (drop (i + 1) cuts)
@@ -33,17 +31,12 @@ joined-append : (xs ys : List (List Entry)) → joined (xs ++ ys) ≡ joined xs 
 joined-append [] ys = refl
 joined-append (b ∷ bs) ys = ap (λ zs. b ++ zs) (joined-append bs ys) ∙ sym (append_assoc b (joined bs) (joined ys))
 
-front_in_order : (xs ys : List Entry) → IsOrdered entries (xs ++ ys) → IsOrdered entries xs
-front_in_order [] ys h = tt
-front_in_order (x ∷ []) ys h = tt
-front_in_order (x ∷ y ∷ xs) ys h = (h.0, front_in_order (y ∷ xs) ys h.1)
-
 -- the blocks so far and the next one are a front of the list
 pub order_next : (blocks : List (List Entry)) (b : List Entry) (bs all : List (List Entry)) (items : List Entry) → blocks ++ b ∷ bs ≡ all → joined all ≡ items → IsOrdered entries items → IsOrdered entries (joined (blocks ++ b ∷ []))
 order_next blocks b bs all items e j o =
     let whole : joined (blocks ++ b ∷ []) ++ joined bs ≡ items =
     sym (joined-append (blocks ++ b ∷ []) bs) ∙ ap joined (append_assoc blocks (b ∷ []) bs) ∙ ap joined e ∙ j in
-    front_in_order (joined (blocks ++ b ∷ [])) (joined bs) (subst (IsOrdered entries) (sym whole) o)
+    front_in_order (item_cmp entries) (joined (blocks ++ b ∷ [])) (joined bs) (subst (IsOrdered entries) (sym whole) o)
 
 all_at : {X : Type 0} (P : X → Type 0) (xs : List X) (x : X) (ys : List X) → AllByRecursion P (xs ++ x ∷ ys) → P x
 all_at P [] x ys h = h.0

@@ -5,7 +5,7 @@ use Rattle.std.proofs.lemmas.List.{append-nil, length-take-le, take-append-drop,
 use Rattle.sstable_blocks.specs.Blocks.{joined, IsNotEmpty, CutsFit, blocks_from}
 
 -- a place from which cuts rise lies below the end
-cuts_below : (start end : ℕ) (cuts : List ℕ) → CutsFit start end cuts → start < end
+pub cuts_below : (start end : ℕ) (cuts : List ℕ) → CutsFit start end cuts → start < end
 cuts_below start end [] h = h
 cuts_below start end (cut ∷ cuts) h = let k = cuts_below cut end cuts h.1 in omega arith
 

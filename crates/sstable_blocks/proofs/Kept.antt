@@ -20,6 +20,8 @@ use Rattle.sst_base.specs.declared.error.Error.{Error}
 use Rattle.sst_base.specs.declared.error.Error.TheVariants.{TooLong}
 use Rattle.sst_base.specs.declared.table.block.block_type.BlockType.TheVariants.{Data}
 use Rattle.sst_block_core.specs.Encoders.{IsRefusal}
+use Rattle.sstable_blocks.proofs.BlockHandles.{end_parts}
+use Rattle.sstable_blocks.proofs.Ends.{back_in_order}
 use Rattle.sstable_blocks.specs.Writing.{Follows, IsKept, IsBehind, FrameFits, IsFramedBlock, IsWriteRefusal}
 
 pub joined-push : {X : Type 0} (blocks : List (List X)) (b : List X) → joined (blocks ++ b ∷ []) ≡ joined blocks ++ b
@@ -34,12 +36,6 @@ all_append : {X : Type 0} (P : X → Type 0) (xs ys : List X) → AllByRecursion
 all_append P [] ys h k = k
 all_append P (x ∷ xs) ys h k = (h.0, all_append P xs ys h.1 k)
 
-pub back_in_order : (xs ys : List Entry) → IsOrdered entries (xs ++ ys) → IsOrdered entries ys
-back_in_order [] ys h = h
-back_in_order (x ∷ []) [] h = tt
-back_in_order (x ∷ []) (y ∷ ys) h = h.1
-back_in_order (x ∷ z ∷ xs) ys h = back_in_order (z ∷ xs) ys h.1
-
 -- the last entry's key is the end key
 pub end_of-last : (b : List Entry) (x : Entry) → 1 ≤ length b → x ≡ get_or b (length b - 1) x → end_of b ≡ x.key
 end_of-last [] x h e = absurd (omega arith)
@@ -47,15 +43,6 @@ end_of-last (y ∷ []) x h e = sym (ap (λ (z : Entry). z.key) e)
 end_of-last (y ∷ z ∷ zs) x h e =
     let n : length (y ∷ z ∷ zs) - 1 ≡ suc (length (z ∷ zs) - 1) = omega arith in
     end_of-last (z ∷ zs) x (omega arith) (e ∙ ap (λ k. get_or (y ∷ z ∷ zs) k x) n)
-
--- the last item of a list
-last_of : {X : Type 0} (xs ys : List X) (x y : X) → xs ++ x ∷ [] ≡ ys ++ y ∷ [] → x ≡ y
-last_of [] [] x y e = cc
-last_of [] (z ∷ []) x y e = cc
-last_of [] (z ∷ w ∷ ys) x y e = cc
-last_of (z ∷ []) [] x y e = cc
-last_of (z ∷ w ∷ xs) [] x y e = cc
-last_of (z ∷ xs) (w ∷ ys) x y e = last_of xs ys x y (cc)
 
 -- a list behind a list in order, whose first item does not sort before the last of that, is in order
 pub ordered_append : (xs : List Entry) (y : Entry) (ys : List Entry) → IsOrdered entries xs → IsOrdered entries (y ∷ ys) → ((front : List Entry) (last : Entry) → xs ≡ front ++ last ∷ [] → item_cmp entries y last ≢ Less) → IsOrdered entries (xs ++ y ∷ ys)
@@ -67,7 +54,7 @@ ordered_append (x ∷ z ∷ xs) y ys o p h = (o.0, ordered_append (z ∷ xs) y y
 pub behind_last : (xs : List Entry) (y : Entry) (ys : List Entry) → IsOrdered entries (xs ++ y ∷ ys) → (front : List Entry) (last : Entry) → xs ≡ front ++ last ∷ [] → item_cmp entries y last ≢ Less
 behind_last xs y ys o front last e =
     let whole : xs ++ y ∷ ys ≡ front ++ (last ∷ y ∷ ys) = ap (λ zs. zs ++ y ∷ ys) e ∙ append_assoc front (last ∷ []) (y ∷ ys) in
-    (back_in_order front (last ∷ y ∷ ys) (subst (IsOrdered entries) whole o)).0
+    (back_in_order (item_cmp entries) front (last ∷ y ∷ ys) (subst (IsOrdered entries) whole o)).0
 
 -- entries can be a next block exactly if there is a first one, they are in order, and the first is behind the others
 pub follows_from : (blocks : List (List Entry)) (items : List Entry) (first : Entry) → slice_get items 0 ≡ Some first → IsOrdered entries (joined blocks) → IsOrdered entries items → IsBehind blocks first → Follows blocks items
@@ -80,7 +67,7 @@ follows_from blocks (x ∷ xs) first s o p behind =
     }
 
 pub follows_ordered : (blocks : List (List Entry)) (items : List Entry) → Follows blocks items → IsOrdered entries items
-follows_ordered blocks items follows = back_in_order (joined blocks) items (subst (IsOrdered entries) (joined-push blocks items) follows.ordered)
+follows_ordered blocks items follows = back_in_order (item_cmp entries) (joined blocks) items (subst (IsOrdered entries) (joined-push blocks items) follows.ordered)
 
 pub follows_behind : (blocks : List (List Entry)) (items : List Entry) (first : Entry) → slice_get items 0 ≡ Some first → Follows blocks items → IsBehind blocks first
 follows_behind blocks [] first s follows = cc
@@ -91,14 +78,6 @@ follows_behind blocks (x ∷ xs) first s follows =
 pub follows_some : (blocks : List (List Entry)) (items : List Entry) → slice_get items 0 ≡ None → Follows blocks items → ⊥
 follows_some blocks [] s follows = let n = follows.some in absurd (omega arith)
 follows_some blocks (x ∷ xs) s follows = cc
-
--- the last entry of a block
-pub end_parts : (block : List Entry) → IsNotEmpty block → (front : List Entry) × (last : Entry) × (block ≡ front ++ last ∷ []) × (end_of block ≡ last.key)
-end_parts [] h = absurd (omega arith)
-end_parts (x ∷ []) h = ([], x, refl, refl)
-end_parts (x ∷ y ∷ ys) h =
-    let r = end_parts (y ∷ ys) (omega arith) in
-    (x ∷ r.0, r.1, ap (λ xs. x ∷ xs) r.2, r.3)
 
 -- the last key of two lists is that of the second, if that is not empty
 end_of-append : (xs ys : List Entry) → 1 ≤ length ys → end_of (xs ++ ys) ≡ end_of ys
@@ -167,10 +146,6 @@ module _ (f : Form) where
         (λ ge front last j. subst (λ c. c ≢ Less) (at last.key (ap end_of j ∙ end_of-push front last)) (ge_is o ge)),
         (λ behind. let p = end_parts (joined blocks) (joined_some blocks (handles_some blocks _ h e) s) in is_ge_of o (subst (λ c. c ≢ Less) (sym (at p.1.key p.3)) (behind p.0 p.1 p.2))),
       )
-
-  pub length-handles_from : (blocks : List (List Entry)) (offset : ℕ) → length (handles_from f offset blocks) ≡ length blocks
-  length-handles_from [] offset = refl
-  length-handles_from (b ∷ bs) offset = ap suc (length-handles_from bs (offset + length (block_frame f b)))
 
   pub block_frames-push : (blocks : List (List Entry)) (b : List Entry) → block_frames f (blocks ++ b ∷ []) ≡ block_frames f blocks ++ block_frame f b
   block_frames-push [] b = append-nil (block_frame f b)

@@ -69,9 +69,12 @@ fn check_kept(rt: &impl Abort, read: Result<Option<InternalValue>>, at: usize) {
 }
 
 fn check_refused(rt: &impl Abort, read: Result<Option<InternalValue>>, in_frame: usize, byte: u8) {
-    match read {
-        Ok(_) => assert!(rt; false, "byte {in_frame} made {byte} is read"),
-        Err(e) => assert!(rt; is_wanted(&e, in_frame, byte), "byte {in_frame} made {byte}: {e}"),
+    match read.err() {
+        None => assert!(rt; false, "byte {in_frame} made {byte} is read"),
+        Some(e) => assert!(rt;
+            is_wanted(&e, in_frame, byte),
+            "byte {in_frame} made {byte}: {e}"
+        ),
     }
 }
 
@@ -113,7 +116,10 @@ fn handles_are_changed(rt: HostRuntime) {
     assert_eq!(rt; refusal_at(alloc, 400, 1), Some(Error::BadHandle));
     assert_eq!(rt; refusal_at(alloc, 368, 0), Some(Error::Truncated));
     assert_eq!(rt; refusal_at(alloc, 369, 0), Some(Error::BadHandle));
-    assert_eq!(rt; refusal_at(alloc, 0, 73), Some(Error::InvalidTag(TagName::BlockType, 0)));
+    assert_eq!(rt;
+        refusal_at(alloc, 0, 73),
+        Some(Error::InvalidTag(TagName::BlockType, 0))
+    );
     let by_filter = refusal(alloc, &handles(handle(219, 90), Some(handle(0, 73))));
     assert_eq!(rt; by_filter, Some(Error::InvalidTag(TagName::BlockType, 0)));
 }

@@ -6,12 +6,13 @@ use Rattle.std.proofs.lemmas.Grind.{common_steps}
 use Rattle.sstable_blocks.specs.Writing.{Written}
 use Rattle.sstable_blocks.specs.Blocks.{joined}
 use Rattle.sst_block_core.specs.Entries.{entries}
-use Rattle.sst_block_core.specs.Kind.{IsOrdered}
-use Rattle.sstable_blocks.proofs.Kept.{back_in_order, joined-push, kept_push, end_of-last, handle_is}
+use Rattle.sst_block_core.specs.Kind.{IsOrdered, item_cmp}
+use Rattle.sstable_blocks.proofs.Ends.{back_in_order}
+use Rattle.sstable_blocks.proofs.Kept.{joined-push, kept_push, end_of-last, handle_is}
 use Rattle.sstable_blocks.proofs.run.run_core.RunCore.add_block.Goals as goal
 
 pub framed_block-requires-clause-ordered : goal.framed_block-requires-clause-ordered
-framed_block-requires-clause-ordered g c = back_in_order (joined c.args.self.now.blocks) c.args.items.now (subst (IsOrdered entries) (joined-push c.args.self.now.blocks c.args.items.now) c.requires.ordered)
+framed_block-requires-clause-ordered g c = back_in_order (item_cmp entries) (joined c.args.self.now.blocks) c.args.items.now (subst (IsOrdered entries) (joined-push c.args.self.now.blocks c.args.items.now) c.requires.ordered)
 
 pub invariant_of-self-2 : goal.invariant_of-self-2
 invariant_of-self-2 g c =
