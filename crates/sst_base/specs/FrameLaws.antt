@@ -11,7 +11,7 @@ use Rattle.sst_base.specs.declared.error.Error.TheVariants.{LengthMismatch, Trun
 use Rattle.sst_base.specs.declared.table.block.block_type.BlockType.{BlockType}
 use Rattle.sst_base.specs.declared.table.block.header.Header.{Header}
 
-and_parts : (a b : Bool) → (a && b) ≡ true → (a ≡ true) × (b ≡ true)
+pub and_parts : (a b : Bool) → (a && b) ≡ true → (a ≡ true) × (b ≡ true)
 and_parts true b e = (refl, e)
 and_parts false b e = cc
 

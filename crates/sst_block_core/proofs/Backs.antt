@@ -93,10 +93,10 @@ module _ {X : Type 0} (kind : Kind X) (list : Listed X) where
         ends = λ z h. absurd (let r = b.head (omega (arith, n)) in let e : (hi - 1) % list.interval ≡ 0 = ap (λ k. k % list.interval) (let q : hi - 1 ≡ hi - length stack = omega (arith, n, z) in q) ∙ r in omega (arith, e, h));
       }
 
-eqb_same : (n : ℕ) → eqb n n ≡ true
+pub eqb_same : (n : ℕ) → eqb n n ≡ true
 eqb_same n = grind (arith, nat_tests)
 
-or_true : (b : Bool) → (b || true) ≡ true
+pub or_true : (b : Bool) → (b || true) ≡ true
 or_true true = refl
 or_true false = refl
 

@@ -24,7 +24,7 @@ IsFalling p [] = Unit {0}
 IsFalling p (x ∷ []) = Unit {0}
 IsFalling p (x ∷ y ∷ xs) = (p y ≡ true → p x ≡ true) × IsFalling p (y ∷ xs)
 
-some_some : {X : Type 0} {x y : X} → ◌≡◌ {A = Option X} (Some x) (Some y) → x ≡ y
+pub some_some : {X : Type 0} {x y : X} → ◌≡◌ {A = Option X} (Some x) (Some y) → x ≡ y
 some_some e = cc
 
 falling_tail : {X : Type 0} (p : X → Bool) (x : X) (xs : List X) → IsFalling p (x ∷ xs) → IsFalling p xs

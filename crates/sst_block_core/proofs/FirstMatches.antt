@@ -12,11 +12,8 @@ use Rattle.std.proofs.lemmas.Bool.{cases_lt, cases_Bool, false≢true, le-leb}
 use Rattle.std.proofs.lemmas.Bool.Decides.{nat_tests}
 use Rattle.sst_block_core.specs.Kind.{Kind, IsOrdered}
 use Rattle.sst_block_core.specs.Window.{passes_cmp, count_passed, is_version}
-use Rattle.sst_block_core.proofs.Cuts.{cut_ordered}
+use Rattle.sst_block_core.proofs.Cuts.{cut_ordered, some_some}
 use Rattle.sst_block_core.proofs.WindowSteps.{first_filter}
-
-some_some : {X : Type 0} {x y : X} → ◌≡◌ {A = Option X} (Some x) (Some y) → x ≡ y
-some_some e = cc
 
 -- none passes a test
 filter_none : {X : Type 0} (test : X → Bool) (items : List X) → ((j : ℕ) (x : X) → slice_get items j ≡ Some x → test x ≡ false) → slice_get (filter test items) 0 ≡ None

@@ -15,6 +15,7 @@ use Rattle.sst_block_core.specs.Kind.{Kind, IsKind, item_cmp}
 use Rattle.sst_block_core.specs.Body.{body, items_at, place_offset}
 use Rattle.sst_block_core.specs.Passes.{last_of, IsRead, ArePointed, IsPassing}
 use Rattle.sst_block_core.proofs.ReadOn.{read_offset, read_none}
+use Rattle.sst_block_core.proofs.Written.{place_same}
 
 last_push : {X : Type 0} (xs : List X) (x : X) → last_of (xs ++ x ∷ []) ≡ Some x
 last_push [] x = refl
@@ -69,9 +70,6 @@ fit_push fits xs x o t so_far here =
     )
 
 module _ {X : Type 0} (kind : Kind X) (r : ℕ) (pos : 0 < r) (pointers : List ℕ) where
-  place_same : (xs : List X) (x : X) (k : ℕ) → k ≤ length xs → place_offset kind r (xs ++ x ∷ []) k ≡ place_offset kind r xs k
-  place_same xs x k h = ap (λ ys. length (body kind r ys)) (take-append-le k xs (x ∷ []) h)
-
   place_last : (xs : List X) → place_offset kind r xs (length xs) ≡ length (body kind r xs)
   place_last xs = ap (λ ys. length (body kind r ys)) (take_all (length xs) xs (omega arith))
 
@@ -84,20 +82,20 @@ module _ {X : Type 0} (kind : Kind X) (r : ℕ) (pos : 0 < r) (pointers : List �
   pointed_push xs x place phase offset o t in_row n e so_far here =
       let l = length_push xs x in (
         (λ h. let g = (both o t).1 h in λ j below. elim (cases_lt (j * r) (length xs)) [
-          | inl old ↦ so_far.0 g.0 j old ∙ sym (place_same xs x (j * r) (omega arith))
+          | inl old ↦ so_far.0 g.0 j old ∙ sym (place_same kind r xs x (j * r) (omega arith))
           | inr new ↦ (
               let same : j * r ≡ place = omega (arith, l, below, new, n) in
               let z : place % r ≡ 0 = ap (λ k. k % r) (sym same) ∙ mul-mod_left j r in
               let turned : place ≡ r * j = omega (arith, same) in
               let q : place / r ≡ j = ap (λ k. k / r) turned ∙ mul-div_cancel_left j pos in
               ap (λ k. get_or pointers k 0) (sym q) ∙ here.0 g.1 (in_row ∙ z) ∙ e ∙ sym (place_last xs) ∙ ap (place_offset kind r xs) (sym (same ∙ n))
-              ∙ sym (place_same xs x (j * r) (omega (arith, same, n))))
+              ∙ sym (place_same kind r xs x (j * r) (omega (arith, same, n))))
         ]),
         (λ all. (both o t).0 (
-          so_far.1 (λ j old. all j (omega (arith, l, old)) ∙ place_same xs x (j * r) (omega arith)),
+          so_far.1 (λ j old. all j (omega (arith, l, old)) ∙ place_same kind r xs x (j * r) (omega arith)),
           here.1 (λ z.
               let q = head_again place (sym in_row ∙ z) in
-              all (place / r) (omega (arith, l, q, n)) ∙ ap (place_offset kind r (xs ++ x ∷ [])) (q ∙ n) ∙ place_same xs x (length xs) (omega arith) ∙ place_last xs ∙ sym e),
+              all (place / r) (omega (arith, l, q, n)) ∙ ap (place_offset kind r (xs ++ x ∷ [])) (q ∙ n) ∙ place_same kind r xs x (length xs) (omega arith) ∙ place_last xs ∙ sym e),
         )),
       )
 

@@ -6,7 +6,7 @@ use Rattle.std.proofs.lemmas.Bool.{ne_eqb}
 use Rattle.std.proofs.lemmas.Bool.Decides.{nat_tests}
 use Rattle.sst_block_core.specs.Backs.{first_of, back_cost}
 use Rattle.sst_block_kinds.specs.Walks.{back_walk_cost}
-use Rattle.sst_block_core.proofs.Backs.{first_of_is}
+use Rattle.sst_block_core.proofs.Backs.{first_of_is, eqb_same, or_true}
 
 -- at most how many entries the steps from the back decode, from a place down to 0
 unfoldable back_total_cost : ℕ → ℕ → ℕ → ℕ
@@ -26,13 +26,6 @@ pays false hi f t h g l = omega arith
 
 eqb_zero : (m : ℕ) → eqb m 0 ≡ true → m ≡ 0
 eqb_zero m e = grind (arith, nat_tests)
-
-eqb_same : (m : ℕ) → eqb m m ≡ true
-eqb_same m = grind (arith, nat_tests)
-
-or_true : (b : Bool) → (b || true) ≡ true
-or_true true = refl
-or_true false = refl
 
 -- one step
 back_step_cost : (r n hi : ℕ) → 0 < r → 0 < hi → hi ≤ n → (1 + back_cost r n hi) + back_total_cost r n (hi - 1) ≤ back_total_cost r n hi

@@ -10,14 +10,12 @@ use Rattle.sst_block_kinds.specs.Handles.{Handle, handles}
 use Rattle.sst_block_core.specs.Landings.{GivesNextHeld, scan_cost}
 use Rattle.sst_block_kinds.specs.ParsedHandle.{handle_of, IsParsedHandle}
 use Rattle.sst_block_core.specs.Scan.{Scan}
+use Rattle.sst_block_core.specs.WindowLaws.{item_same}
 use Rattle.sst_block_core.specs.Window.{Window, Answer, item, found, whole, next, first_left, seek_index}
 use Rattle.sst_block_kinds.specs.declared.table.index_block.parsed_item.IndexBlockParsedItem.{IndexBlockParsedItem}
 use Rattle.sstable_blocks.specs.Lookup.{handle_for, place_for}
 use Rattle.sstable_blocks.specs.Opened.{range_of}
 use Rattle.sstable_blocks.specs.ReadCosts.{handles_most}
-
-item_same : {X : Type 0} (a b : Option X) → ◌≡◌ {A = Answer X} (item a) (item b) → a ≡ b
-item_same a b e = cc
 
 -- the range that a parsed handle has
 abbrev pub range_by : IndexBlockParsedItem → HandleParts

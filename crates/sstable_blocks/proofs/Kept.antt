@@ -19,6 +19,7 @@ use Rattle.sst_base.specs.FrameLaws.{length-frame}
 use Rattle.sst_base.specs.declared.error.Error.{Error}
 use Rattle.sst_base.specs.declared.error.Error.TheVariants.{TooLong}
 use Rattle.sst_base.specs.declared.table.block.block_type.BlockType.TheVariants.{Data}
+use Rattle.sst_block_core.proofs.Written.{all_push}
 use Rattle.sst_block_core.specs.Encoders.{IsRefusal}
 use Rattle.sstable_blocks.proofs.BlockHandles.{end_parts}
 use Rattle.sstable_blocks.proofs.Ends.{back_in_order}
@@ -27,10 +28,6 @@ use Rattle.sstable_blocks.specs.Writing.{Follows, IsKept, IsBehind, FrameFits, I
 pub joined-push : {X : Type 0} (blocks : List (List X)) (b : List X) → joined (blocks ++ b ∷ []) ≡ joined blocks ++ b
 joined-push [] b = append-nil b
 joined-push (c ∷ cs) b = ap (λ xs. c ++ xs) (joined-push cs b) ∙ sym (append_assoc c (joined cs) b)
-
-pub all_push : {X : Type 0} (P : X → Type 0) (xs : List X) (x : X) → AllByRecursion P xs → P x → AllByRecursion P (xs ++ x ∷ [])
-all_push P [] x h k = (k, tt)
-all_push P (y ∷ ys) x h k = (h.0, all_push P ys x h.1 k)
 
 all_append : {X : Type 0} (P : X → Type 0) (xs ys : List X) → AllByRecursion P xs → AllByRecursion P ys → AllByRecursion P (xs ++ ys)
 all_append P [] ys h k = k

@@ -11,6 +11,7 @@ use Rattle.std.proofs.lemmas.List.Elements.{Contains-append_left, Contains-push,
 use Rattle.std.proofs.lemmas.Nat.Bits.{bit_at-zero, same_from_bits_below, bit_at-lt}
 use Rattle.byteorder.specs.Endian.{little_bytes, little_number}
 use Rattle.byteorder.specs.Numbers.{little_number-reads_back}
+use Rattle.sst_base.specs.FrameLaws.{and_parts}
 use Rattle.sst_base.specs.Bytes.{IsBytes}
 use Rattle.sst_base.specs.BytesLaws.{little_bytes-little_number_at, take-drop-more}
 use Rattle.sst_base.specs.Header.{magic}
@@ -66,9 +67,6 @@ is_sized_of : (f : Filter) → IsSized f → is_sized f ≡ true
 is_sized_of f sized = let b = sized.bits in let s = sized.some in let m = sized.most in search (arith, nat_tests)
 
 -- both sides of a conjunction
-and_parts : (a b : Bool) → (a && b) ≡ true → (a ≡ true) × (b ≡ true)
-and_parts true b e = (refl, e)
-and_parts false b e = cc
 
 -- and only where they are
 IsSized_of : (f : Filter) → is_sized f ≡ true → IsSized f
