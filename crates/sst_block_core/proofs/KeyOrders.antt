@@ -12,7 +12,7 @@ use Rattle.sst_block_core.specs.Found.{range_of, IsRange}
 use Rattle.sst_block_core.specs.KeyRanges.{key_by}
 use Rattle.sst_block_core.specs.declared.table.block.check.keys.KeyRanges.{KeyRanges}
 
-decided : (o w : Ordering) → o ≢ Equal → o ≡ ordering_then o w
+pub decided : (o w : Ordering) → o ≢ Equal → o ≡ ordering_then o w
 decided Less w n = refl
 decided Equal w n = absurd (n refl)
 decided Greater w n = refl

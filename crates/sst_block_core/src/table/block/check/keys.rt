@@ -1,8 +1,9 @@
 //! The order of two keys by their ranges of a payload.
-ghost use Rattle.std.specs.Prelude.{◌≡◌, ◌+◌, ◌≤◌, ◌++◌, length, take, drop};
+ghost use Rattle.std.specs.Prelude.{◌≡◌, ◌≢◌, ◌↔◌, ◌+◌, ◌≤◌, ◌++◌, length, take, drop, IfSome, IsTrue};
 ghost use Rattle.std.specs.Ordering.{nat_cmp};
 ghost use Rattle.std.specs.Cmp.Lexicographic.{slice_cmp};
-ghost use Rattle.sst_block_core.specs.KeyRanges.{key_by, IsKeyRanges};
+ghost use Rattle.std.specs.declared.cmp.Ordering.TheVariants.{Less};
+ghost use Rattle.sst_block_core.specs.KeyRanges.{key_by, IsKeyRanges, version_cmp};
 
 use crate::table::block::key_ranges::bytes_of;
 use sst_base::table::util::{SliceIndexes, compare_bytes, compare_prefixed_slice};
@@ -14,6 +15,13 @@ use std::cmp::Ordering;
 pub struct KeyRanges {
     pub front: SliceIndexes,
     pub rest: SliceIndexes,
+}
+
+/// The key and the sequence number of an item: what its place in the order hangs on.
+#[derive(Clone, Copy)]
+pub struct KeyVersion {
+    pub key: KeyRanges,
+    pub seqno: u64,
 }
 
 // The same as `compare_bytes`, out of line.
@@ -111,5 +119,23 @@ pub(crate) fn compare_keys(payload: &[u8], a: &KeyRanges, b: &KeyRanges) -> Orde
             }
             decided => decided,
         }
+    }
+}
+
+/// Returns whether a version does not sort before the last one, if there is one.
+#[inline(always)]
+#[tactic(auto, using(crate::proofs::KeyOrders::decided))]
+pub(crate) fn keeps_order(payload: &[u8], last: &Option<KeyVersion>, version: &KeyVersion) -> bool
+    requires last { IfSome last.now (λ l. IsKeyRanges payload.now l.key) }
+    requires version { IsKeyRanges payload.now version.now.key }
+    ensures { IsTrue result ↔ IfSome last.now (λ l. version_cmp payload.now version.now l ≢ Less) }
+{
+    let Some(last) = last else {
+        return true;
+    };
+    match compare_keys(payload, &version.key, &last.key) {
+        Ordering::Less => false,
+        Ordering::Equal => version.seqno <= last.seqno,
+        Ordering::Greater => true,
     }
 }

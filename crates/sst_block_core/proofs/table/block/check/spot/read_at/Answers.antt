@@ -13,8 +13,7 @@ read_truncated-item-requires g c =
     let kind = g.Item.BlockItem.kind in
     let at = c.args.at.now in
     let body = c.args.body.now in
-    let no : eqb (at.place % c.args.restart_interval) 0 ≡ false = ne_eqb _ 0 (λ e. c.if-at-eq0.false (c.requires.phase ∙ e)) in
-    (
+    let no : eqb (at.place % c.args.restart_interval) 0 ≡ false = ne_eqb _ 0 (λ e. c.if-at-eq0.false (c.requires.phase ∙ e)) in (
       range_of body at.base,
       range_stands body at.base c.requires.base.order c.requires.base.inside,
       subst (λ t. IsSome (cond t (kind.full_at (drop at.offset body)) (kind.truncated_at (range_of body at.base) (drop at.offset body)))) no c.requires.stands,
