@@ -1,6 +1,6 @@
 //! Encodings: what has one, and varints, numbers in base 128, least significant digit first.
 ghost use Rattle.std.specs.Prelude.{◌≡◌, ℕ, ◌+◌, ◌-◌, ◌*◌, ◌/◌, ◌^◌, ◌<◌, ◌≤◌, ◌++◌, length, take};
-ghost use Rattle.std.specs.Prelude.{drop, OnOk, OnErr, IsOkUnless, IfSome, IfNone};
+ghost use Rattle.std.specs.Prelude.{◌↔◌, drop, OnOk, OnErr, IsOkUnless, IfSome, IfNone, IsSome, IsTrue};
 ghost use Rattle.std.specs.Prelude.{List, Some, IfOk, Result as Outcome};
 ghost use Rattle.std.specs.Io.KnownBytes.{Appends};
 ghost use Rattle.std.specs.Vec.{vec_len, vec_capacity};
@@ -173,14 +173,41 @@ fn decode_up_to(bytes: &[u8], max: u64) -> Option<(u64, usize)>
     decode_behind(bytes, digit - 128, max)
 }
 
+// Returns whether a front of the bytes encodes a number within the width.
+#[inline(never)]
+#[tactic(auto, unfolding(crate::specs::Varint::varint_at))]
+fn has_varint(bytes: &[u8], bits: u32) -> bool
+    requires { IsWidth bits }
+    ensures { IsTrue result ↔ IsSome (varint_at bits bytes.now) }
+{
+    decode_up_to(bytes, u64::MAX >> (64 - bits)).is_some()
+}
+
 // Reads the number within the width that a front of the bytes encodes, and the length of that
 // front.
+#[inline(never)]
 #[tactic(auto, unfolding(crate::specs::Varint::varint_at))]
+fn decode_found(bytes: &[u8], bits: u32) -> (u64, usize)
+    requires width { IsWidth bits }
+    requires found { IsSome (varint_at bits bytes.now) }
+    ensures { varint_at bits bytes.now ≡ Some result }
+{
+    match decode_up_to(bytes, u64::MAX >> (64 - bits)) {
+        Some(found) => found,
+        None => unreachable!(),
+    }
+}
+
+// The same where such a front is not known. Neither call answers by way of memory.
+#[inline(always)]
 fn decode_within(bytes: &[u8], bits: u32) -> Option<(u64, usize)>
     requires { IsWidth bits }
     ensures { result ≡ varint_at bits bytes.now }
 {
-    decode_up_to(bytes, u64::MAX >> (64 - bits))
+    if !has_varint(bytes, bits) {
+        return None;
+    }
+    Some(decode_found(bytes, bits))
 }
 
 // Reads a varint of more than one byte.

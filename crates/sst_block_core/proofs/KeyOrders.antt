@@ -1,7 +1,7 @@
 -- The order of two keys, by the ranges of their parts.
-use Rattle.std.proofs.Common.{◌≡◌, ◌≢◌, ℕ, ◌+◌, ◌-◌, ◌≤◌, List, ◌++◌, length, take, drop, refl, sym, ap, ◌∙◌, arith, append_assoc, length-drop, take-add}
+use Rattle.std.proofs.Common.{◌≡◌, ◌≢◌, ℕ, ◌+◌, ◌-◌, ◌<◌, ◌≤◌, List, [], ◌∷◌, ◌++◌, length, get_or, take, drop, refl, sym, ap, ◌∙◌, arith, append_assoc, length-drop, take-add}
 use Rattle.std.proofs.lemmas.List.{drop-drop, length-take-le}
-use Rattle.std.proofs.lemmas.Cmp.{nat_list_cmp_total}
+use Rattle.std.proofs.lemmas.Cmp.{nat_list_cmp_total, ranked}
 use Rattle.std.specs.Cmp.Lexicographic.{slice_cmp}
 use Rattle.std.specs.Ordering.{nat_cmp, ordering_then, ordering_reverse}
 use Rattle.std.specs.declared.cmp.Ordering.{Ordering}
@@ -12,10 +12,21 @@ use Rattle.sst_block_core.specs.Found.{range_of, IsRange}
 use Rattle.sst_block_core.specs.KeyRanges.{key_by}
 use Rattle.sst_block_core.specs.declared.table.block.check.keys.KeyRanges.{KeyRanges}
 
-decided : (o w : Ordering) → o ≢ Equal → o ≡ ordering_then o w
+pub decided : (o w : Ordering) → o ≢ Equal → o ≡ ordering_then o w
 decided Less w n = refl
 decided Equal w n = absurd (n refl)
 decided Greater w n = refl
+
+-- the first bytes decide where they differ
+pub first_bytes : (a b : List ℕ) → 0 < length a → 0 < length b → get_or a 0 0 ≢ get_or b 0 0 → nat_cmp (get_or a 0 0) (get_or b 0 0) ≡ slice_cmp nat_cmp a b
+first_bytes [] b h k ne = absurd (omega arith)
+first_bytes (x ∷ xs) [] h k ne = absurd (omega arith)
+first_bytes (x ∷ xs) (y ∷ ys) h k ne = decided (nat_cmp x y) (slice_cmp nat_cmp xs ys) (λ e. ne (ranked x y Equal (sym e)))
+
+-- also where the left ones stand in a prefix
+pub first_bytes_prefixed : (prefix suffix needle : List ℕ) → 0 < length prefix → 0 < length needle → get_or prefix 0 0 ≢ get_or needle 0 0 → nat_cmp (get_or prefix 0 0) (get_or needle 0 0) ≡ slice_cmp nat_cmp (prefix ++ suffix) needle
+first_bytes_prefixed [] suffix needle h k ne = absurd (omega arith)
+first_bytes_prefixed (x ∷ xs) suffix needle h k ne = first_bytes (x ∷ (xs ++ suffix)) needle (omega arith) k ne
 
 -- the range behind the first n bytes of a range
 abbrev pub behind : SliceIndexes → ℕ → SliceIndexes

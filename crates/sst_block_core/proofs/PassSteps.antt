@@ -1,7 +1,8 @@
 -- A pass over items, one item more.
 use Rattle.std.proofs.Common.{◌≡◌, ◌≢◌, ◌↔◌, ℕ, ◌*◌, ◌/◌, ◌%◌, ◌<◌, ◌≤◌, ◌&&◌, Bool, true, false, IsTrue, IfSome, List, [], ◌∷◌, ◌++◌, length, drop, get_or, Option, Some, None, refl, sym, ap, subst, ◌∙◌, arith, inl, inr, length-drop}
 use Rattle.std.specs.List.{AllByRecursion}
-use Rattle.std.specs.Option.{option_map}
+use Rattle.std.specs.Ordering.{nat_cmp, ordering_then}
+use Rattle.std.specs.Cmp.Lexicographic.{slice_cmp}
 use Rattle.std.specs.declared.cmp.Ordering.{Ordering}
 use Rattle.std.specs.declared.cmp.Ordering.TheVariants.{Less}
 use Rattle.std.proofs.lemmas.Bool.{cases_lt}
@@ -13,7 +14,9 @@ use Rattle.sst_base.specs.Order.{IsInOrder}
 use Rattle.sst_base.specs.ReadingLaws.{pair_parts}
 use Rattle.sst_block_core.specs.Kind.{Kind, IsKind, item_cmp}
 use Rattle.sst_block_core.specs.Body.{body, items_at, place_offset}
+use Rattle.sst_block_core.specs.KeyRanges.{IsKeyRanges, version_cmp, IsVersion, IsLast}
 use Rattle.sst_block_core.specs.Passes.{last_of, IsRead, ArePointed, IsPassing}
+use Rattle.sst_block_core.specs.declared.table.block.check.keys.KeyVersion.{KeyVersion}
 use Rattle.sst_block_core.proofs.ReadOn.{read_offset, read_none}
 use Rattle.sst_block_core.proofs.Written.{place_same}
 
@@ -42,15 +45,15 @@ module _ {X : Type 0} (cmp : X → X → Ordering) where
       let r = order_more (z ∷ ys) l x e in
       ((λ h. (h.0.0, r.0 (h.0.1, h.1))), (λ h. let g = r.1 h.1 in ((h.0, g.0), g.1)))
 
-  pub order_push : {P : Type 0} (f : P → X) (xs : List X) (x : X) (last : Option P) (o t : Bool) → option_map f last ≡ last_of xs → IsTrue o ↔ IsInOrder cmp xs → IsTrue t ↔ IfSome last (λ l. cmp x (f l) ≢ Less)
+  pub order_push : (xs : List X) (x : X) (last : Option X) (o t : Bool) → last ≡ last_of xs → IsTrue o ↔ IsInOrder cmp xs → IsTrue t ↔ IfSome last (λ l. cmp x l ≢ Less)
       → IsTrue (o && t) ↔ IsInOrder cmp (xs ++ x ∷ [])
-  order_push f xs x None o t e so_far keeps =
+  order_push xs x None o t e so_far keeps =
       let z = no_last xs e in
       let none : IsInOrder cmp xs = subst (IsInOrder cmp) (sym z) tt in
       let one : IsInOrder cmp (xs ++ x ∷ []) = subst (λ ys. IsInOrder cmp (ys ++ x ∷ [])) (sym z) tt in
       ((λ h. one), (λ h. (both o t).0 (so_far.1 none, keeps.1 tt)))
-  order_push f xs x (Some l) o t e so_far keeps =
-      let m = order_more xs (f l) x e in (
+  order_push xs x (Some l) o t e so_far keeps =
+      let m = order_more xs l x e in (
         (λ h. let g = (both o t).1 h in m.0 (so_far.0 g.0, keeps.0 g.1)),
         (λ h. let g = m.1 h in (both o t).0 (so_far.1 g.0, keeps.1 g.1)),
       )
@@ -110,20 +113,36 @@ module _ {X : Type 0} (kind : Kind X) (valid fits : X → Type 0) (laws : IsKind
   }
 
   -- an item more
-  pub pass_more : {P : Type 0} (f : P → X) (place phase offset : ℕ) (base : List ℕ) (last : Option P) (a o i s t u : Bool) (p : IsPassing kind fits r bytes pointers place offset base (option_map f last) a o i) (item : P) (place' offset' : ℕ) (base' : List ℕ)
-      → phase ≡ place % r → IsRead kind r bytes (p.items ++ f item ∷ []) place' offset' base' → IsTrue s ↔ fits (f item) → IsTrue t ↔ IfSome last (λ l. item_cmp kind (f item) (f l) ≢ Less)
+  pub pass_more : (place phase offset : ℕ) (base : List ℕ) (last : Option X) (a o i s t u : Bool) (p : IsPassing kind fits r bytes pointers place offset base last a o i) (x : X) (place' offset' : ℕ) (base' : List ℕ)
+      → phase ≡ place % r → IsRead kind r bytes (p.items ++ x ∷ []) place' offset' base' → IsTrue s ↔ fits x → IsTrue t ↔ IfSome last (λ l. item_cmp kind x l ≢ Less)
       → IsTrue u ↔ (phase ≡ 0 → get_or pointers (place / r) 0 ≡ offset)
-      → IsPassing kind fits r bytes pointers place' offset' base' (Some (f item)) (a && s) (o && t) (i && u)
-  pass_more f place phase offset base last a o i s t u p item place' offset' base' in_row read fit keeps here = record {
-    items = p.items ++ f item ∷ [];
+      → IsPassing kind fits r bytes pointers place' offset' base' (Some x) (a && s) (o && t) (i && u)
+  pass_more place phase offset base last a o i s t u p x place' offset' base' in_row read fit keeps here = record {
+    items = p.items ++ x ∷ [];
     read = read;
-    last_is = sym (last_push p.items (f item));
+    last_is = sym (last_push p.items x);
     judged = record {
-      fit = fit_push fits p.items (f item) a s p.judged.fit fit;
-      ordered = order_push (item_cmp kind) f p.items (f item) last o t p.last_is p.judged.ordered keeps;
-      indexed = pointed_push kind r pos pointers p.items (f item) place phase offset i u in_row p.read.count (read_offset kind r bytes p.items place offset base p.read valid laws pos b) p.judged.indexed here;
+      fit = fit_push fits p.items x a s p.judged.fit fit;
+      ordered = order_push (item_cmp kind) p.items x last o t p.last_is p.judged.ordered keeps;
+      indexed = pointed_push kind r pos pointers p.items x place phase offset i u in_row p.read.count (read_offset kind r bytes p.items place offset base p.read valid laws pos b) p.judged.indexed here;
     };
   }
+
+-- the order by what is kept of the last item is that of the items
+pub keeps_by : {X : Type 0} (kind : Kind X) (bytes : List ℕ) (last : Option KeyVersion) (y : Option X) (v : KeyVersion) (x : X) (t : Bool) → IsLast kind bytes last y → IsVersion kind bytes x v
+    → IsTrue t ↔ IfSome last (λ l. version_cmp bytes v l ≢ Less) → IsTrue t ↔ IfSome y (λ l. item_cmp kind x l ≢ Less)
+keeps_by kind bytes None None v x t seen is keeps = keeps
+keeps_by kind bytes None (Some y) v x t seen is keeps = absurd seen
+keeps_by kind bytes (Some l) None v x t seen is keeps = absurd seen
+keeps_by kind bytes (Some l) (Some y) v x t seen is keeps =
+    let e : version_cmp bytes v l ≡ item_cmp kind x y = (λ i. ordering_then (slice_cmp nat_cmp (sym is.key i) (sym seen.key i)) (nat_cmp (sym seen.seqno i) (sym is.seqno i))) in
+    subst (λ o. IsTrue t ↔ (o ≢ Less)) e keeps
+
+-- and its key lies in the bytes
+pub last_ranges : {X : Type 0} (kind : Kind X) (bytes : List ℕ) (last : Option KeyVersion) (y : Option X) → IsLast kind bytes last y → IfSome last (λ l. IsKeyRanges bytes l.key)
+last_ranges kind bytes None y seen = tt
+last_ranges kind bytes (Some l) None seen = absurd seen
+last_ranges kind bytes (Some l) (Some y) seen = seen.ranges
 
 some_parts : {A B : Type 0} (a x : A) (b y : B) → ◌≡◌ {A = Option (A × B)} (Some (a, b)) (Some (x, y)) → b ≡ y
 some_parts a x b y e = let s : ◌≡◌ {A = _ × _} (a, b) (x, y) = cc in (pair_parts a x b y s).1

@@ -1,7 +1,11 @@
 -- Keys by their ranges of a payload.
-use Rattle.std.specs.Prelude.{ℕ, List, ◌++◌}
+use Rattle.std.specs.Prelude.{◌≡◌, ℕ, List, ◌++◌, Option, Some, None}
+use Rattle.std.specs.declared.cmp.Ordering.{Ordering}
+use Rattle.sst_base.specs.Order.{versions_cmp}
+use Rattle.sst_block_core.specs.Kind.{Kind}
 use Rattle.sst_block_core.specs.Found.{range_of, IsRange}
 use Rattle.sst_block_core.specs.declared.table.block.check.keys.KeyRanges.{KeyRanges}
+use Rattle.sst_block_core.specs.declared.table.block.check.keys.KeyVersion.{KeyVersion}
 
 -- the key: a front, and what is behind it
 abbrev pub key_by : List ℕ → KeyRanges → List ℕ
@@ -11,3 +15,19 @@ key_by payload k = range_of payload k.front ++ range_of payload k.rest
 pub record IsKeyRanges (payload : List ℕ) (k : KeyRanges) : Type 0 where
   pub front : IsRange payload k.front
   pub rest : IsRange payload k.rest
+
+-- the order of versions: by key rising, then by sequence number falling
+abbrev pub version_cmp : List ℕ → KeyVersion → KeyVersion → Ordering
+version_cmp payload = versions_cmp (λ v. key_by payload v.key) (λ v. v.seqno)
+
+-- the key and the sequence number of an item
+pub record IsVersion {X : Type 0} (kind : Kind X) (payload : List ℕ) (x : X) (v : KeyVersion) : Type 0 where
+  pub ranges : IsKeyRanges payload v.key
+  pub key : kind.key x ≡ key_by payload v.key
+  pub seqno : kind.seqno x ≡ v.seqno
+
+-- those of the last item, if there is one
+abbrev pub IsLast : {X : Type 0} → Kind X → List ℕ → Option KeyVersion → Option X → Type 0
+IsLast kind payload None None = Unit {0}
+IsLast kind payload (Some v) (Some x) = IsVersion kind payload x v
+IsLast kind payload _ _ = ⊥

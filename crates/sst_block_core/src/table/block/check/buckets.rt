@@ -9,11 +9,11 @@ ghost use Rattle.sst_block_core.specs.Stages.{HasParts, HasForms, HasBuckets};
 use crate::table::block::ParsedItem;
 use crate::table::block::check::Checkable;
 use crate::table::block::check::keys::KeyRanges;
-use crate::table::block::check::spot::{Spot, check_at};
+use crate::table::block::check::spot::{Spot, read_at};
 use crate::table::block::hash_index::Builder;
 use crate::table::block::key_ranges::bytes_of;
 use crate::table::block::trailer::TrailerNumbers;
-use sst_base::{BlockHash, Error, Result, Steps};
+use sst_base::{BlockHash, Error, Result};
 use std::alloc::Global;
 
 // Notes in the buckets that a key stands in the restart interval with this number. A key without a
@@ -79,12 +79,9 @@ pub fn check_buckets<Item: Checkable<Parsed>, Parsed: ParsedItem<Item> + Drop, H
     let (stored, _) = behind.split_at(t.hash_len as usize);
     let mut buckets = Builder::<H>::with_bucket_count(alloc, t.hash_len)?;
     let mut scratch = Vec::new(alloc);
-    let mut steps = Steps::new();
     let mut at = Spot::first();
     for place in 0..t.item_count as usize {
-        let Some((item, next)) = check_at::<Item, Parsed>(body, t.interval, &at, &mut steps) else {
-            return Err(Error::BadEntry);
-        };
+        let (item, next) = read_at::<Item, Parsed>(body, t.interval, &at);
         let number = (place / usize::from(t.interval)) as u8;
         let key = Item::key_ranges(&item);
         note_key(&mut buckets, &mut scratch, body, &key, number)?;

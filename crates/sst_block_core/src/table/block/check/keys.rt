@@ -1,8 +1,9 @@
 //! The order of two keys by their ranges of a payload.
-ghost use Rattle.std.specs.Prelude.{◌≡◌, ◌+◌, ◌≤◌, length, take, drop};
+ghost use Rattle.std.specs.Prelude.{◌≡◌, ◌≢◌, ◌↔◌, ◌+◌, ◌≤◌, ◌++◌, length, take, drop, IfSome, IsTrue};
 ghost use Rattle.std.specs.Ordering.{nat_cmp};
 ghost use Rattle.std.specs.Cmp.Lexicographic.{slice_cmp};
-ghost use Rattle.sst_block_core.specs.KeyRanges.{key_by, IsKeyRanges};
+ghost use Rattle.std.specs.declared.cmp.Ordering.TheVariants.{Less};
+ghost use Rattle.sst_block_core.specs.KeyRanges.{key_by, IsKeyRanges, version_cmp};
 
 use crate::table::block::key_ranges::bytes_of;
 use sst_base::table::util::{SliceIndexes, compare_bytes, compare_prefixed_slice};
@@ -14,6 +15,53 @@ use std::cmp::Ordering;
 pub struct KeyRanges {
     pub front: SliceIndexes,
     pub rest: SliceIndexes,
+}
+
+/// The key and the sequence number of an item: what its place in the order hangs on.
+#[derive(Clone, Copy)]
+pub struct KeyVersion {
+    pub key: KeyRanges,
+    pub seqno: u64,
+}
+
+// The same as `compare_bytes`, out of line.
+#[inline(never)]
+fn compare_whole(a: &[u8], b: &[u8]) -> Ordering
+    ensures { result ≡ slice_cmp nat_cmp a.now b.now }
+{
+    compare_bytes(a, b)
+}
+
+// The same as `compare_prefixed_slice`, out of line.
+#[inline(never)]
+fn compare_whole_prefixed(prefix: &[u8], suffix: &[u8], needle: &[u8]) -> Ordering
+    ensures { result ≡ slice_cmp nat_cmp (prefix.now ++ suffix.now) needle.now }
+{
+    compare_prefixed_slice(prefix, suffix, needle)
+}
+
+// Compares two byte strings bytewise. The first bytes mostly decide.
+#[inline(always)]
+#[tactic(auto, using(crate::proofs::KeyOrders::first_bytes))]
+fn compare_rests(a: &[u8], b: &[u8]) -> Ordering
+    ensures { result ≡ slice_cmp nat_cmp a.now b.now }
+{
+    if !a.is_empty() && !b.is_empty() && a[0] != b[0] {
+        return a[0].cmp(&b[0]);
+    }
+    compare_whole(a, b)
+}
+
+// Compares a prefix followed by a suffix with a needle, bytewise. The first bytes mostly decide.
+#[inline(always)]
+#[tactic(auto, using(crate::proofs::KeyOrders::first_bytes_prefixed))]
+fn compare_prefixed(prefix: &[u8], suffix: &[u8], needle: &[u8]) -> Ordering
+    ensures { result ≡ slice_cmp nat_cmp (prefix.now ++ suffix.now) needle.now }
+{
+    if !prefix.is_empty() && !needle.is_empty() && prefix[0] != needle[0] {
+        return prefix[0].cmp(&needle[0]);
+    }
+    compare_whole_prefixed(prefix, suffix, needle)
 }
 
 // Compares two byte strings of one length at these offsets. At one offset they are the same and are
@@ -34,7 +82,7 @@ fn compare_fronts(payload: &[u8], a: usize, b: usize, len: usize) -> Ordering
     let (left, _) = left.split_at(len);
     let (_, right) = payload.split_at(b);
     let (right, _) = right.split_at(len);
-    compare_bytes(left, right)
+    compare_whole(left, right)
 }
 
 /// Compares two keys by their ranges. Nothing is joined, and what both share with one head is not
@@ -51,7 +99,7 @@ pub(crate) fn compare_keys(payload: &[u8], a: &KeyRanges, b: &KeyRanges) -> Orde
     let right_rest = bytes_of(payload, &b.rest);
     if left == right {
         return match compare_fronts(payload, a.front.0, b.front.0, left) {
-            Ordering::Equal => compare_bytes(left_rest, right_rest),
+            Ordering::Equal => compare_rests(left_rest, right_rest),
             decided => decided,
         };
     }
@@ -59,7 +107,7 @@ pub(crate) fn compare_keys(payload: &[u8], a: &KeyRanges, b: &KeyRanges) -> Orde
         match compare_fronts(payload, a.front.0, b.front.0, left) {
             Ordering::Equal => {
                 let more = bytes_of(payload, &SliceIndexes(b.front.0 + left, b.front.1));
-                compare_prefixed_slice(more, right_rest, left_rest).reverse()
+                compare_prefixed(more, right_rest, left_rest).reverse()
             }
             decided => decided,
         }
@@ -67,9 +115,27 @@ pub(crate) fn compare_keys(payload: &[u8], a: &KeyRanges, b: &KeyRanges) -> Orde
         match compare_fronts(payload, a.front.0, b.front.0, right) {
             Ordering::Equal => {
                 let more = bytes_of(payload, &SliceIndexes(a.front.0 + right, a.front.1));
-                compare_prefixed_slice(more, left_rest, right_rest)
+                compare_prefixed(more, left_rest, right_rest)
             }
             decided => decided,
         }
+    }
+}
+
+/// Returns whether a version does not sort before the last one, if there is one.
+#[inline(always)]
+#[tactic(auto, using(crate::proofs::KeyOrders::decided))]
+pub(crate) fn keeps_order(payload: &[u8], last: &Option<KeyVersion>, version: &KeyVersion) -> bool
+    requires last { IfSome last.now (λ l. IsKeyRanges payload.now l.key) }
+    requires version { IsKeyRanges payload.now version.now.key }
+    ensures { IsTrue result ↔ IfSome last.now (λ l. version_cmp payload.now version.now l ≢ Less) }
+{
+    let Some(last) = last else {
+        return true;
+    };
+    match compare_keys(payload, &version.key, &last.key) {
+        Ordering::Less => false,
+        Ordering::Equal => version.seqno <= last.seqno,
+        Ordering::Greater => true,
     }
 }

@@ -1,51 +1,28 @@
 //! One pass over the items of a body.
-ghost use Rattle.std.specs.Prelude.{◌≡◌, ◌≢◌, ◌↔◌, ℕ, ◌+◌, ◌-◌, ◌*◌, ◌/◌, ◌%◌, ◌^◌, ◌<◌, ◌≤◌, [], List, length, Some};
-ghost use Rattle.std.specs.Prelude.{IfSome, IsTrue, MatchOption, slice_index, OnOk, IfErr, nat_le, if◌then◌else◌};
+ghost use Rattle.std.specs.Prelude.{◌≡◌, ◌↔◌, ℕ, ◌+◌, ◌-◌, ◌*◌, ◌/◌, ◌%◌, ◌^◌, ◌<◌, ◌≤◌, [], List, length, Some};
+ghost use Rattle.std.specs.Prelude.{IsTrue, MatchOption, slice_index, OnOk, IfErr, nat_le, if◌then◌else◌};
 ghost use Rattle.std.specs.List.{AllByRecursion};
-ghost use Rattle.std.specs.declared.cmp.Ordering.TheVariants.{Less};
-ghost use Rattle.sst_block_core.specs.Kind.{item_cmp};
 ghost use Rattle.sst_block_core.specs.Body.{items_at};
+ghost use Rattle.sst_block_core.specs.KeyRanges.{IsVersion};
 ghost use Rattle.sst_block_core.specs.Passes.{IsPassed, IsFound, trailer_by, IsItemsRefusal};
 ghost use Rattle.sst_block_core.specs.Stages.{HasParts, HasForms, HasOrder, HasPointers, items_by};
 
 use crate::table::block::ParsedItem;
 use crate::table::block::binary_index::Reader;
 use crate::table::block::check::Checkable;
-use crate::table::block::check::keys::compare_keys;
+use crate::table::block::check::keys::{KeyVersion, keeps_order};
 use crate::table::block::check::spot::{Spot, check_at};
 use crate::table::block::trailer::TrailerNumbers;
 use sst_base::{Error, Result, Steps};
-use std::cmp::Ordering;
 
-// Compares two items: by key rising, then by sequence number falling.
+// Returns the key and the sequence number of an item.
 #[inline(always)]
-fn compare_items<Item: Checkable<Parsed>, Parsed: ParsedItem<Item>>(
-    payload: &[u8],
-    a: &Parsed,
-    b: &Parsed,
-) -> Ordering
-    requires left { Parsed.is_found payload.now a.now }
-    requires right { Parsed.is_found payload.now b.now }
-    ensures { result ≡ item_cmp Item.kind (Parsed.item_of payload.now a.now) (Parsed.item_of payload.now b.now) }
+fn version_of<Item: Checkable<Parsed>, Parsed: ParsedItem<Item>>(item: &Parsed) -> KeyVersion
+    ensures { (payload : List ℕ) → Parsed.is_found payload item.now → IsVersion Item.kind payload (Parsed.item_of payload item.now) result }
 {
-    let keys = compare_keys(payload, &Item::key_ranges(a), &Item::key_ranges(b));
-    keys.then(b.seqno().cmp(&a.seqno()))
-}
-
-// Returns whether an item does not sort before the last one, if there is one.
-#[inline(always)]
-fn keeps_order<Item: Checkable<Parsed>, Parsed: ParsedItem<Item>>(
-    body: &[u8],
-    last: &Option<Parsed>,
-    item: &Parsed,
-) -> bool
-    requires last { IfSome last.now (Parsed.is_found body.now) }
-    requires found { Parsed.is_found body.now item.now }
-    ensures { IsTrue result ↔ IfSome last.now (λ l. item_cmp Item.kind (Parsed.item_of body.now item.now) (Parsed.item_of body.now l) ≢ Less) }
-{
-    match last {
-        Some(last) => compare_items::<Item, Parsed>(body, item, last) != Ordering::Less,
-        None => true,
+    KeyVersion {
+        key: Item::key_ranges(item),
+        seqno: item.seqno(),
     }
 }
 
@@ -88,7 +65,7 @@ pub(crate) fn pass_over<Item: Checkable<Parsed>, Parsed: ParsedItem<Item> + Drop
 {
     let mut steps = Steps::new();
     let mut at = Spot::first();
-    let mut last: Option<Parsed> = None;
+    let mut last: Option<KeyVersion> = None;
     let mut passed = Passed {
         all_fit: true,
         is_ordered: true,
@@ -97,9 +74,10 @@ pub(crate) fn pass_over<Item: Checkable<Parsed>, Parsed: ParsedItem<Item> + Drop
     for place in 0..count {
         let (item, next) = check_at::<Item, Parsed>(body, restart_interval, &at, &mut steps)?;
         passed.all_fit = passed.all_fit & Item::fits(&item);
-        passed.is_ordered = passed.is_ordered & keeps_order::<Item, Parsed>(body, &last, &item);
+        let version = version_of::<Item, Parsed>(&item);
+        passed.is_ordered = passed.is_ordered & keeps_order(body, &last, &version);
         passed.is_indexed = passed.is_indexed & is_pointed(pointers, restart_interval, &at);
-        last = Some(item);
+        last = Some(version);
         at = next;
     }
     if at.offset != body.len() {

@@ -1,9 +1,11 @@
 use Rattle.std.proofs.Common.{◌≡◌, ◌+◌, ◌/◌, ◌≤◌, [], take, drop, refl, arith, sym, ap, ◌∙◌}
 use Rattle.std.proofs.Math.Nat.{zero-mod}
 use Rattle.std.proofs.lemmas.Bool.{false≢true}
-use Rattle.sst_block_core.specs.Stages.{buckets_in}
+use Rattle.sst_block_core.specs.Body.{items_at}
+use Rattle.sst_block_core.specs.Stages.{buckets_in, items_by}
 use Rattle.sst_block_core.specs.Passes.{trailer_by}
 use Rattle.sst_block_core.specs.Pointers.{head_count}
+use Rattle.sst_block_core.proofs.ReadOn.{form_next}
 use Rattle.sst_block_core.proofs.Tallies.{few_so_far, interval_fits, tally_none, tally_more, buckets_to, tallied_in, buckets_length}
 use Rattle.sst_block_core.proofs.table.block.check.buckets.check_buckets.Goals as goal
 
@@ -20,6 +22,16 @@ loop-place-init g c =
       base = record { order = omega arith; inside = omega arith };
       tallied = none;
     })
+
+pub read_at-item-requires-clause-stands : goal.read_at-item-requires-clause-stands
+read_at-item-requires-clause-stands g c =
+    let t = trailer_by c.args.t.now in
+    let kind = g.Item.BlockItem.kind in
+    let p = c.loop-place.invariant.tallied in
+    let place = c.loop-place.invariant.place_is in
+    let below = c.loop-place-test.true in
+    form_next kind t.interval c.split_at.result.0.now p.items c.loop-place.at.place c.loop-place.at.offset _ p.read t.item_count (items_by kind t c.args.payload.now, []) (omega arith)
+    (ap (items_at kind t.interval 0 t.item_count []) c.split_at.ensures.front ∙ c.requires.forms)
 
 pub overflow_cast-number : goal.overflow_cast-number
 overflow_cast-number g c =
@@ -50,7 +62,7 @@ loop-place-preserved g c =
     let few : head_count t.interval t.item_count ≤ 254 = let f = parts.few_heads (omega arith) in let h = parts.heads in omega arith in
     let place = c.loop-place.invariant.place_is in
     let few_here = few_so_far t.interval t.item_count c.loop-place.at.place parts.interval (omega arith) few in
-    let e = c.in-Some.ensures in
+    let e = c.read_at-item.ensures in
     record {
       place_is = e.place ∙ ap (λ k. k + 1) place;
       phase = e.phase;
@@ -58,7 +70,7 @@ loop-place-preserved g c =
       inside = e.inside;
       base = e.base;
       tallied = tally_more g.Item.BlockItem.kind g.H.BlockHash.hash64 t.interval t.hash_len parts.interval c.split_at.result.0.now
-          c.loop-place.at.place c.loop-place.at.offset _ c.loop-place.buckets p (g.Parsed.ParsedItem.item_of c.split_at.result.0.now c.in-Some.item) _ _ _
+          c.loop-place.at.place c.loop-place.at.offset _ c.loop-place.buckets p (g.Parsed.ParsedItem.item_of c.split_at.result.0.now c.read_at-item.result.0) _ _ _
           _ _ _ (omega arith) few_here (e.exact p.items p.read) (sym (c.key_ranges-key.ensures.key c.split_at.result.0.now))
           (λ i. sym place i / c.from.ensures i) c.in_ok-note_key.ensures.ok;
     }
@@ -76,3 +88,6 @@ returns-clause-refused g c = λ h.
     let stored : c.split_at-3.result.0.now ≡ buckets_in t p = c.split_at-3.ensures.front ∙ ap (take t.hash_len) (c.split_at-2.ensures.back ∙ ap (λ o. drop o p) (c.requires.parts.hash_offset (omega arith))) in
     let same = c.is_same.ensures.1 (c.as_slice.ensures.value ∙ c.into_inner.ensures ∙ e ∙ sym stored) in
     false≢true (sym c.if-is_same.false ∙ same)
+
+pub note_key-requires-clause-key : goal.note_key-requires-clause-key
+note_key-requires-clause-key g c = c.key_ranges-key.ensures.inside c.split_at.result.0.now c.read_at-item.ensures.found

@@ -1,7 +1,7 @@
-use Rattle.std.proofs.Common.{◌≡◌, ◌+◌, [], drop, Some, refl, arith, sym, ap, ◌∙◌, subst}
+use Rattle.std.proofs.Common.{◌≡◌, ◌+◌, [], drop, Some, None, refl, arith, sym, ap, ◌∙◌, subst}
 use Rattle.std.proofs.Math.Nat.{zero-mod}
 use Rattle.sst_block_core.specs.Body.{items_at}
-use Rattle.sst_block_core.proofs.PassSteps.{pass_none, pass_more, not_filled}
+use Rattle.sst_block_core.proofs.PassSteps.{pass_none, pass_more, keeps_by, last_ranges, not_filled}
 use Rattle.sst_block_core.proofs.table.block.check.pass.pass_over.Goals as goal
 
 pub loop-place-init : goal.loop-place-init
@@ -14,30 +14,45 @@ loop-place-init g c =
       below = c.requires.some;
       inside = omega arith;
       base = record { order = omega arith; inside = omega arith };
-      found = tt;
-      passing = none;
+      passing = (None, tt, none);
     })
+
+pub keeps_order-requires-clause-last : goal.keeps_order-requires-clause-last
+keeps_order-requires-clause-last g c =
+    let p = c.loop-place.invariant.passing in
+    last_ranges g.Item.BlockItem.kind c.args.body.now c.loop-place.last p.0 p.1
+
+pub keeps_order-requires-clause-version : goal.keeps_order-requires-clause-version
+keeps_order-requires-clause-version g c = (c.version_of-version.ensures c.args.body.now c.in_ok-item.ensures.found).ranges
 
 pub loop-place-preserved : goal.loop-place-preserved
 loop-place-preserved g c =
+    let kind = g.Item.BlockItem.kind in
+    let body = c.args.body.now in
     let p = c.loop-place.invariant.passing in
     let e = c.in_ok-item.ensures in
+    let item = g.Parsed.ParsedItem.item_of body c.in_ok-item.item in
+    let version = c.version_of-version.ensures body e.found in
     record {
       place_is = e.place ∙ ap (λ k. k + 1) c.loop-place.invariant.place_is;
       phase = e.phase;
       below = e.below;
       inside = e.inside;
       base = e.base;
-      found = e.found;
-      passing = pass_more g.Item.BlockItem.kind g.Item.BlockItem.valid g.Item.Checkable.fits g.Item.BlockItem.is_kind c.args.restart_interval c.requires.some c.args.body.now c.args.pointers.now
-          (λ i. let f = c.type_inv.body i in omega arith)
-          (g.Parsed.ParsedItem.item_of c.args.body.now) c.loop-place.at.place c.loop-place.at.phase c.loop-place.at.offset _ c.loop-place.last _ _ _ _ _ _ p c.in_ok-item.item _ _ _
-          c.loop-place.invariant.phase (e.exact p.items p.read) (c.fits.ensures c.args.body.now) c.keeps_order.ensures c.is_pointed.ensures;
+      passing = (
+        Some item,
+        version,
+        pass_more kind g.Item.BlockItem.valid g.Item.Checkable.fits g.Item.BlockItem.is_kind c.args.restart_interval c.requires.some body c.args.pointers.now
+            (λ i. let f = c.type_inv.body i in omega arith)
+            c.loop-place.at.place c.loop-place.at.phase c.loop-place.at.offset _ p.0 _ _ _ _ _ _ p.2 item _ _ _
+            c.loop-place.invariant.phase (e.exact p.2.items p.2.read) (c.fits.ensures body)
+            (keeps_by kind body c.loop-place.last p.0 c.version_of-version.result item c.keeps_order.result p.1 version c.keeps_order.ensures) c.is_pointed.ensures,
+      );
     }
 
 pub returns-then-at-body : goal.returns-then-at-body
 returns-then-at-body g c =
-    let p = c.loop-place.invariant.passing in
+    let p = c.loop-place.invariant.passing.2 in
     let end : c.loop-place.at.place ≡ c.args.count = let i = c.loop-place.invariant.place_is in let a = c.loop-place.auto.place-end in let f = c.loop-place-test.false in omega arith in
     record {
       exact = not_filled g.Item.BlockItem.kind c.args.restart_interval c.args.count c.args.body.now p.items c.loop-place.at.offset

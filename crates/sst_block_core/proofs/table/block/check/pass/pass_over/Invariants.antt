@@ -1,6 +1,6 @@
-use Rattle.std.proofs.Common.{◌≡◌, ◌%◌, ◌<◌, ◌≤◌, length, IfSome}
-use Rattle.std.specs.Option.{option_map}
+use Rattle.std.proofs.Common.{◌≡◌, ◌%◌, ◌<◌, ◌≤◌, length, Option}
 use Rattle.sst_block_core.specs.Found.{range_of, IsRange}
+use Rattle.sst_block_core.specs.KeyRanges.{IsLast}
 use Rattle.sst_block_core.specs.Passes.{IsPassing}
 use Rattle.sst_block_core.proofs.table.block.check.pass.pass_over.Given as goal
 
@@ -11,7 +11,6 @@ invariant-loop-place g l = record {
   below : l.at.phase < l.restart_interval;
   inside : l.at.offset ≤ length l.body;
   base : IsRange l.body l.at.base;
-  found : IfSome l.last (g.Parsed.ParsedItem.is_found l.body);
-  passing : IsPassing g.Item.BlockItem.kind g.Item.Checkable.fits l.restart_interval l.body l.pointers l.at.place l.at.offset (range_of l.body l.at.base) (option_map (g.Parsed.ParsedItem.item_of l.body) l.last)
-      l.passed.all_fit l.passed.is_ordered l.passed.is_indexed;
+  passing : (last : Option g.row.Item.Denot) × IsLast g.Item.BlockItem.kind l.body l.last last
+      × IsPassing g.Item.BlockItem.kind g.Item.Checkable.fits l.restart_interval l.body l.pointers l.at.place l.at.offset (range_of l.body l.at.base) last l.passed.all_fit l.passed.is_ordered l.passed.is_indexed;
 }
