@@ -41,3 +41,14 @@ pub fn bytes_in(alloc: Global, digits: &[u8]) -> Result<Option<Vec<u8>>>
         Err(_) => Ok(None),
     }
 }
+
+/// Returns the number from `least` to `most` that decimal digits encode.
+pub fn number_within(digits: &[u8], least: u64, most: u64) -> Option<u64>
+    ensures exact { result ≡ number_within least most digits.now }
+    ensures range { IfSome result (λ n. (least ≤ n) × (n ≤ most)) }
+{
+    match number_in(digits) {
+        Some(n) if least <= n && n <= most => Some(n),
+        _ => None,
+    }
+}

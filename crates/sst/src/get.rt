@@ -1,0 +1,44 @@
+//! `get`: one look-up in a table file.
+
+use crate::fault::Fault;
+use crate::lines::answer_line;
+use crate::output::print_text;
+use crate::table::open_table;
+use crate::words::GetWords;
+use sstable_blocks::{InternalValue, Poly31, Result, read_entry_checked};
+use std::alloc::Global;
+use std::io::Write;
+use std::rt::Files;
+
+// The first match in a table file.
+fn find<R: Files>(rt: &R, alloc: Global, words: &GetWords<'_>) -> Result<Option<InternalValue>> {
+    let mut table = open_table(rt, alloc, words.file())?;
+    read_entry_checked::<Poly31, _>(
+        alloc,
+        &mut table.source,
+        &table.handles,
+        words.needle(),
+        words.seqno(),
+    )
+}
+
+/// Prints the entry that is found in a table file, or `none`. A needle that is too long for a key is
+/// looked up like any other. Of the file its footer is read, and the frames that `read_entry_checked`
+/// reads.
+///
+/// # Errors
+///
+/// `Error::Io` if the file or the output fails, `Error::Truncated` if the file is shorter than a
+/// footer, those of `read_entry_checked`, and `Error::Memory` if an allocation fails.
+pub fn get<R: Files, O: Write>(
+    rt: &R,
+    alloc: Global,
+    words: &GetWords<'_>,
+    output: &mut O,
+) -> std::result::Result<(), Fault> {
+    let found = find(rt, alloc, words)?;
+    let mut text = answer_line(alloc, found)?;
+    text.push('\n')?;
+    print_text(output, text.as_bytes())?;
+    Ok(())
+}
