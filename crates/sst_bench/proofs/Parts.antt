@@ -3,7 +3,7 @@ use Rattle.std.proofs.Common.{◌≡◌, ℕ, List, [], ◌∷◌, ◌++◌, ari
 use Rattle.std.proofs.lemmas.Grind.{common_steps, flat_map-append}
 use Rattle.std.specs.List.{flat_map}
 use Rattle.sst_base.specs.Entry.{Entry}
-use Rattle.sst_block_core.specs.Handles.{Handle}
+use Rattle.sst_block_kinds.specs.Handles.{Handle}
 use Rattle.sst_bench.specs.Inputs.{entry_bytes, handle_bytes}
 
 -- six parts, each in front of the next

@@ -4,7 +4,7 @@ use Rattle.std.specs.List.{flat_map}
 use Rattle.byteorder.specs.Endian.{little_bytes}
 use Rattle.sst_base.specs.Entry.{Entry}
 use Rattle.sst_base.specs.ValueType.{value_type_byte}
-use Rattle.sst_block_core.specs.Handles.{Handle}
+use Rattle.sst_block_kinds.specs.Handles.{Handle}
 
 -- value type (1), sequence number (8), key length (2), value length (4), key, value
 unfoldable pub entry_bytes : Entry → List ℕ

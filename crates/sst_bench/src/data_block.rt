@@ -19,7 +19,8 @@ use sst_base::{
     Block, BlockHash, BlockType, Checksum, HashRatio, Header, InternalValue, Poly31, SeqNo, Slice,
     Steps,
 };
-use sst_block_core::{DataBlock, ParsedItem};
+use sst_block_core::ParsedItem;
+use sst_block_kinds::DataBlock;
 use std::alloc::Global;
 
 // Above the sequence number of each entry that is read here, so that every version is visible.

@@ -14,7 +14,7 @@ ghost use Rattle.sst_bench.specs.Inputs.{handle_bytes, AreHandles};
 
 use crate::entries::{bytes_in, u16_in, u32_in, u64_in};
 use sst_base::{BlockHandle, BlockOffset, Slice};
-use sst_block_core::KeyedBlockHandle;
+use sst_block_kinds::KeyedBlockHandle;
 use std::alloc::Global;
 
 // The handle at the front of bytes, and the bytes after it.

@@ -5,7 +5,7 @@
 ghost use Rattle.std.specs.Prelude.{◌≡◌, ◌<◌, ◌≤◌, List, length, OnSome, IfSome};
 ghost use Rattle.std.specs.List.{AllByRecursion};
 ghost use Rattle.sst_block_core.specs.Kind.{IsOrdered};
-ghost use Rattle.sst_block_core.specs.Handles.{Handle, EndFits, handles, index_payload};
+ghost use Rattle.sst_block_kinds.specs.Handles.{Handle, EndFits, handles, index_payload};
 ghost use Rattle.sst_bench.specs.Blocks.{Copied};
 ghost use Rattle.sst_bench.specs.Inputs.{AreHandles};
 ghost use Rattle.sst_bench.specs.Turns.{OrRefused};
@@ -16,7 +16,7 @@ use crate::handles::handles_in;
 use crate::keys::keys_in;
 use crate::sums::handle_sum;
 use sst_base::{Block, BlockHash, BlockType, Checksum, Header, Poly31, SeqNo, Slice};
-use sst_block_core::{IndexBlock, KeyedBlockHandle};
+use sst_block_kinds::{IndexBlock, KeyedBlockHandle};
 use std::alloc::Global;
 
 // The handles, if a block can be encoded from them.

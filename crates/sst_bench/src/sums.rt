@@ -4,7 +4,7 @@ ghost use Rattle.sst_bench.specs.Blocks.{entry_sum};
 
 use sst_base::InternalValue;
 use sst_base::table::util::SliceIndexes;
-use sst_block_core::{DataBlockParsedItem, IndexBlockParsedItem};
+use sst_block_kinds::{DataBlockParsedItem, IndexBlockParsedItem};
 
 // Start and end of a range, each times a factor.
 #[inline(always)]

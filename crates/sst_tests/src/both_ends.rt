@@ -1,7 +1,7 @@
 //! Iterators over data blocks from both ends: worked lists of operations, random ones compared with
 //! the plain window, and what is counted.
 ghost use Rattle.std.specs.Prelude.{◌≡◌, ◌+◌, ◌≤◌, ◌<◌, length, IfSome, IsTrue};
-ghost use Rattle.sst_block_core.specs.ParsedEntry.{IsParsedEntry};
+ghost use Rattle.sst_block_kinds.specs.ParsedEntry.{IsParsedEntry};
 
 use crate::blocks::walks;
 use crate::hash_indexes::{NO_BUCKETS, block_of, byte_keys, push};
@@ -9,8 +9,9 @@ use crate::plain::plain_offset;
 use crate::random::{Random, key_of};
 use crate::windows::{Plain, Window};
 use sst_base::{InternalValue, Poly31, Result, Slice, ValueType};
-use sst_block_core::table::data_block::{Answer, Iter, Op, walk};
-use sst_block_core::{DataBlock, DataBlockParsedItem, ParsedItem};
+use sst_block_kinds::table::data_block::{Answer, Iter, Op, walk};
+use sst_block_core::ParsedItem;
+use sst_block_kinds::{DataBlock, DataBlockParsedItem};
 use std::alloc::Global;
 use std::process::Abort;
 use std::test::Fail;

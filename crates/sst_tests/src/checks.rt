@@ -1,12 +1,13 @@
 //! Checks of blocks of any bytes: worked damage, and every change of one byte of small blocks.
 ghost use Rattle.std.specs.Prelude.{◌<◌, ◌^◌, length};
-ghost use Rattle.sst_block_core.specs.ParsedHandle.{IsParsedHandle};
+ghost use Rattle.sst_block_kinds.specs.ParsedHandle.{IsParsedHandle};
 
 use crate::hash_indexes::{NO_BUCKETS, block_of, push};
 use sst_base::table::block::{Block, BlockType, Header};
 use sst_base::{ByteSum, Checksum, Error, HashRatio, InternalValue, Result, Slice, ValueType};
 use sst_block_core::table::block::encoder::Encoder;
-use sst_block_core::{DataBlock, IndexBlock, IndexBlockParsedItem, KeyedBlockHandle, ParsedItem};
+use sst_block_core::ParsedItem;
+use sst_block_kinds::{DataBlock, IndexBlock, IndexBlockParsedItem, KeyedBlockHandle};
 use std::alloc::Global;
 use std::process::Abort;
 use std::test::Fail;

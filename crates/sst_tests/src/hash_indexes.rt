@@ -5,7 +5,7 @@ ghost use Rattle.std.proofs.Common.{arith};
 
 use sst_base::table::block::{Block, BlockType, Header};
 use sst_base::{BlockHash, ByteSum, Checksum, HashRatio, InternalValue, Result, Slice, ValueType};
-use sst_block_core::DataBlock;
+use sst_block_kinds::DataBlock;
 use std::alloc::Global;
 use std::process::Abort;
 use std::test::Fail;

@@ -7,7 +7,7 @@ use crate::hash_indexes::{
     versions,
 };
 use sst_base::{BlockHash, ByteSum, HashRatio, InternalValue, Poly31, Result, Steps, ValueType};
-use sst_block_core::DataBlock;
+use sst_block_kinds::DataBlock;
 use sst_block_core::table::block::hash_index::Lookup;
 use std::alloc::Global;
 use std::process::Abort;

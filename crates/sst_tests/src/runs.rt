@@ -8,7 +8,7 @@ use crate::hash_indexes::{NO_BUCKETS, NoHash, ONE_EACH, push};
 use crate::plain::plain_first_match;
 use crate::random::{Random, key_of};
 use sst_base::{BlockHash, ByteSum, InternalValue, Poly31, Result, Slice, Steps, ValueType};
-use sst_block_core::DataBlock;
+use sst_block_kinds::DataBlock;
 use sstable_blocks::{RunConfig, RunHandles, cuts_fit, read_entry, write_run};
 use std::alloc::Global;
 use std::process::Abort;

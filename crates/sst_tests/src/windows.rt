@@ -3,7 +3,7 @@
 
 use crate::blocks::is_decoded;
 use sst_base::InternalValue;
-use sst_block_core::table::data_block::{Answer, Op};
+use sst_block_kinds::table::data_block::{Answer, Op};
 
 /// The entries of a list from `lo` up to, not including, `hi`.
 #[derive(Drop)]

@@ -12,14 +12,14 @@ use Rattle.std.specs.Option.{option_map}
 use Rattle.sst_base.specs.BlockHandle.{HandleParts}
 use Rattle.sst_base.specs.Header.{magic}
 use Rattle.sst_base.specs.declared.table.block.block_type.BlockType.TheVariants as types
-use Rattle.sst_block_core.specs.Handles.{handles}
+use Rattle.sst_block_kinds.specs.Handles.{handles}
 use Rattle.sstable_blocks.specs.Lookup.{handle_for}
 use Rattle.sstable_blocks.specs.Opened.{range_of}
 use Rattle.sstable_blocks.specs.RunReading.{Hashes, payload_at, read_block, read_blocks}
 use Rattle.sstable_blocks.specs.Sources.{GivesOr}
 use Rattle.sst_base.specs.Entry.{Entry}
-use Rattle.sst_block_core.specs.Checks.{all_below, data_check, index_check, DataVerdict, DataRefusal, IndexVerdict, IndexRefusal}
-use Rattle.sst_block_core.specs.Handles.{Handle}
+use Rattle.sst_block_kinds.specs.Checks.{all_below, data_check, index_check, DataVerdict, DataRefusal, IndexVerdict, IndexRefusal}
+use Rattle.sst_block_kinds.specs.Handles.{Handle}
 use Rattle.sst_block_core.specs.Trailer.{trailer_in}
 use Rattle.sstable_blocks.specs.Bits.{HasBit, has_bit}
 use Rattle.sstable_blocks.specs.Probes.{probe}

@@ -13,7 +13,7 @@ use Rattle.sst_base.specs.declared.table.block.block_type.BlockType.TheVariants 
 use Rattle.sst_block_core.specs.Buckets.{bucket_count}
 use Rattle.sst_block_core.specs.Payload.{IsBlock}
 use Rattle.sst_block_core.specs.Entries.{entries}
-use Rattle.sst_block_core.specs.Handles.{Handle, handles, IsIndexBlock}
+use Rattle.sst_block_kinds.specs.Handles.{Handle, handles, IsIndexBlock}
 use Rattle.sst_block_core.specs.Stages.{items_in}
 use Rattle.sst_block_core.specs.Trailer.{trailer_in}
 use Rattle.sst_block_core.specs.Window.{first_match}

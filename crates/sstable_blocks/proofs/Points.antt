@@ -4,11 +4,11 @@ use Rattle.std.proofs.lemmas.List.{length-map}
 use Rattle.std.specs.Option.{option_map}
 use Rattle.sst_base.specs.BlockHandle.{HandleParts}
 use Rattle.sst_base.specs.Entry.{plain}
-use Rattle.sst_block_core.specs.DataBlock.{DataBlockParts}
+use Rattle.sst_block_kinds.specs.DataBlock.{DataBlockParts}
 use Rattle.sst_block_core.specs.Entries.{entries}
-use Rattle.sst_block_core.specs.Handles.{Handle, handles}
+use Rattle.sst_block_kinds.specs.Handles.{Handle, handles}
 use Rattle.sst_block_core.specs.Intervals.{digits}
-use Rattle.sst_block_core.specs.Lookups.{lookup, heads_most, entries_most, read_heads, read_entries}
+use Rattle.sst_block_kinds.specs.PointReads.{lookup, heads_most, entries_most, read_heads, read_entries}
 use Rattle.sst_block_core.specs.Pointers.{head_count}
 use Rattle.sst_block_core.specs.Stages.{items_in}
 use Rattle.sst_block_core.specs.Trailer.{trailer_in}

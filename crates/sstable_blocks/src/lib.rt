@@ -23,5 +23,5 @@ pub use sst_base::{
     UserKey, UserValue, ValueType, checksum, coding, double_ended_peekable, hash, key, slice,
     value, value_type,
 };
-pub use sst_block_core::{DataBlock, IndexBlock, KeyedBlockHandle};
+pub use sst_block_kinds::{DataBlock, IndexBlock, KeyedBlockHandle};
 pub use table::filter::{self, FilterBlock};

@@ -5,13 +5,13 @@ ghost use Rattle.sst_base.specs.Bytes.{IsBytes};
 ghost use Rattle.sst_base.specs.Entry.{Entry};
 ghost use Rattle.sst_base.specs.declared.error.Error.TheVariants.{Io};
 ghost use Rattle.sst_block_core.specs.Entries.{entries};
-ghost use Rattle.sst_block_core.specs.Handles.{Handle};
+ghost use Rattle.sst_block_kinds.specs.Handles.{Handle};
 ghost use Rattle.sst_block_core.specs.Window.{first_match};
 ghost use Rattle.sstable_blocks.specs.Blocks.{joined};
 ghost use Rattle.sstable_blocks.specs.Opened.{range_of};
 ghost use Rattle.sstable_blocks.specs.Run.{form, IsLayout};
 ghost use Rattle.sstable_blocks.specs.RunReading.{hashes, payload_at, filter_says, filter_answer, read_block};
-ghost use Rattle.sst_block_core.specs.Checks.{data_check, index_check};
+ghost use Rattle.sst_block_kinds.specs.Checks.{data_check, index_check};
 ghost use Rattle.sstable_blocks.specs.RunReading.{read_blocks, read_checked, AnswerMeans};
 ghost use Rattle.sstable_blocks.specs.Sources.{GivesOr};
 ghost use Rattle.sstable_blocks.specs.declared.run.RunConfig.{RunConfig};
@@ -24,8 +24,8 @@ use crate::table::filter::FilterBlock;
 use sst_base::{
     Block, BlockHandle, BlockHash, BlockType, Error, InternalValue, Result, SeqNo, Steps, TagName,
 };
-use sst_block_core::laws::{data_check_is_by_stages, index_check_is_by_stages};
-use sst_block_core::{DataBlock, IndexBlock};
+use sst_block_kinds::laws::{data_check_is_by_stages, index_check_is_by_stages};
+use sst_block_kinds::{DataBlock, IndexBlock};
 use std::alloc::Global;
 
 /// Reads the frame that a handle names, of a block of this type.

@@ -6,7 +6,7 @@ ghost use Rattle.sst_base.specs.Bytes.{IsBytes};
 ghost use Rattle.std.specs.Prelude.{Option};
 ghost use Rattle.std.specs.List.{AllByRecursion, AllZip};
 ghost use Rattle.sst_base.specs.Entry.{Entry};
-ghost use Rattle.sst_block_core.specs.Handles.{handles, IsHandle, EndFits};
+ghost use Rattle.sst_block_kinds.specs.Handles.{handles, IsHandle, EndFits};
 ghost use Rattle.sst_block_core.specs.Kind.{IsOrdered};
 ghost use Rattle.sst_block_core.specs.Window.{first_match};
 ghost use Rattle.sstable_blocks.specs.Blocks.{joined, blocks_of, CutsFit, IsNotEmpty};
@@ -16,8 +16,8 @@ ghost use Rattle.sstable_blocks.specs.Run.{Form, IsLayout, IsRun, IsFramed, bloc
 ghost use Rattle.sstable_blocks.specs.Run.{block_frames, handles_from};
 ghost use Rattle.sstable_blocks.specs.declared.run.RunHandles.{RunHandles};
 
-use sst_block_core::block_item::BlockItem;
-use sst_block_core::laws::{
+use sst_block_core::BlockItem;
+use sst_block_kinds::laws::{
     data_block_is_read, data_check_is_by_stages, first_match_of_plain, index_block_is_read,
     index_check_is_by_stages,
 };

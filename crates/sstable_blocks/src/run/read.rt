@@ -4,7 +4,7 @@ ghost use Rattle.std.specs.Prelude.{Ok, false, IfOk, IfSome, IsOkUnless};
 ghost use Rattle.std.specs.Option.{option_map};
 ghost use Rattle.sst_base.specs.Entry.{Entry, IsEntry};
 ghost use Rattle.sst_block_core.specs.Entries.{entries};
-ghost use Rattle.sst_block_core.specs.Handles.{Handle, handles, IsIndexBlock};
+ghost use Rattle.sst_block_kinds.specs.Handles.{Handle, handles, IsIndexBlock};
 ghost use Rattle.sst_block_core.specs.Intervals.{digits};
 ghost use Rattle.sst_block_core.specs.Payload.{IsBlock};
 ghost use Rattle.sst_block_core.specs.Pointers.{head_count};
@@ -28,7 +28,7 @@ use sst_base::{
     Block, BlockHandle, BlockHash, BlockType, Checksum, Error, Header, InternalValue, Result,
     SeqNo, Slice, Steps,
 };
-use sst_block_core::{DataBlock, IndexBlock};
+use sst_block_kinds::{DataBlock, IndexBlock};
 use std::alloc::Global;
 
 // The block of a frame, by the frame's range alone. The checksum of its header is 0, since nobody

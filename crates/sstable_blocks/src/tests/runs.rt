@@ -10,7 +10,7 @@ use sst_base::{
     BlockHandle, BlockHash, BlockOffset, ByteSum, Error, HashRatio, InternalValue, Result, Slice,
     ValueType,
 };
-use sst_block_core::DataBlock;
+use sst_block_kinds::DataBlock;
 use std::alloc::Global;
 use std::io;
 use std::io::{ErrorKind, Write};

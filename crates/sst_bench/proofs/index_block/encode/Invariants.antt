@@ -1,5 +1,5 @@
 use Rattle.std.proofs.Common.{◌≡◌, ◌<◌}
-use Rattle.sst_block_core.specs.Handles.{index_payload}
+use Rattle.sst_block_kinds.specs.Handles.{index_payload}
 use Rattle.sst_bench.proofs.index_block.encode.Given as goal
 
 abbrev pub invariant-loop : goal.invariant-loop

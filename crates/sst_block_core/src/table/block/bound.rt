@@ -13,15 +13,15 @@ use std::cmp::Ordering;
 /// Passes the keys below a needle, and those equal to it whose sequence number is at least `from`,
 /// if there is such a number.
 #[derive(Clone, Copy)]
-pub(crate) struct Bound<'n> {
-    pub(crate) needle: &'n [u8],
-    pub(crate) from: Option<SeqNo>,
+pub struct Bound<'n> {
+    pub needle: &'n [u8],
+    pub from: Option<SeqNo>,
 }
 
 impl<'n> Bound<'n> {
     /// Returns the bound that passes the keys below a needle.
     #[inline(always)]
-    pub(crate) fn below(needle: &'n [u8]) -> Bound<'n>
+    pub fn below(needle: &'n [u8]) -> Bound<'n>
         ensures needle { result.needle.now ≡ needle.now }
         ensures from { result.from ≡ None }
     {
@@ -30,7 +30,7 @@ impl<'n> Bound<'n> {
 
     /// Returns the bound that passes the keys below a needle and those equal to it.
     #[inline(always)]
-    pub(crate) fn up_to(needle: &'n [u8]) -> Bound<'n>
+    pub fn up_to(needle: &'n [u8]) -> Bound<'n>
         ensures needle { result.needle.now ≡ needle.now }
         ensures from { result.from ≡ Some 0 }
     {

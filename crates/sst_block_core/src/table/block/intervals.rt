@@ -26,7 +26,7 @@ use std::marker::Model;
 /// The restart intervals of a block: its items by index, heads by the binary index.
 ///
 /// Clauses see the block's list, and the counters.
-pub(crate) struct Intervals<'a, Item: Decodable<Parsed>, Parsed: ParsedItem<Item>> {
+pub struct Intervals<'a, Item: Decodable<Parsed>, Parsed: ParsedItem<Item>> {
     forms: FormReader<'a, Item, Parsed>,
     pointers: Reader<'a>,
     restart_interval: u8,
@@ -52,7 +52,7 @@ impl<'a, Item: Decodable<Parsed>, Parsed: ParsedItem<Item>> Model for Intervals<
 impl<'a, Item: Decodable<Parsed>, Parsed: ParsedItem<Item>> Intervals<'a, Item, Parsed> {
     /// Opens a block, whose payload is the encoding of some list of items, ordered or not. Nothing
     /// is counted.
-    pub(crate) fn new(block: &'a Block) -> Intervals<'a, Item, Parsed>
+    pub fn new(block: &'a Block) -> Intervals<'a, Item, Parsed>
         requires { (hash : List ℕ → ℕ) × (items : List Item) × (r : ℕ) × (b : ℕ)
             × IsEncoding Item.kind Item.valid hash block.now.payload items r b }
         ensures payload { result.list.payload ≡ block.now.payload }
@@ -77,7 +77,7 @@ impl<'a, Item: Decodable<Parsed>, Parsed: ParsedItem<Item>> Intervals<'a, Item, 
     }
 
     /// Returns what was counted so far.
-    pub(crate) fn steps(&self) -> &Steps
+    pub fn steps(&self) -> &Steps
         ensures { result.now ≡ self.now.steps }
     {
         self.forms.steps()

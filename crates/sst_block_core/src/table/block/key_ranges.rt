@@ -11,7 +11,7 @@ use std::cmp::Ordering;
 
 /// Returns the bytes of a range.
 #[inline(always)]
-pub(crate) fn bytes_of<'a>(payload: &'a [u8], range: &SliceIndexes) -> &'a [u8]
+pub fn bytes_of<'a>(payload: &'a [u8], range: &SliceIndexes) -> &'a [u8]
     requires { IsRange payload.now range.now }
     ensures { result.now ≡ range_of payload.now range.now }
 {
@@ -20,7 +20,7 @@ pub(crate) fn bytes_of<'a>(payload: &'a [u8], range: &SliceIndexes) -> &'a [u8]
 
 /// Returns the length of a prefix: 0 where there is none.
 #[inline(always)]
-pub(crate) fn prefix_len(payload: &[u8], prefix: &Option<SliceIndexes>) -> usize
+pub fn prefix_len(payload: &[u8], prefix: &Option<SliceIndexes>) -> usize
     requires { IsOptionalRange payload.now prefix.now }
     ensures { result ≡ range_len prefix.now }
 {
@@ -32,7 +32,7 @@ pub(crate) fn prefix_len(payload: &[u8], prefix: &Option<SliceIndexes>) -> usize
 
 /// Compares a key with a needle, without joining prefix and rest.
 #[inline(always)]
-pub(crate) fn compare_ranges(
+pub fn compare_ranges(
     payload: &[u8],
     prefix: &Option<SliceIndexes>,
     rest: &SliceIndexes,
@@ -54,7 +54,7 @@ pub(crate) fn compare_ranges(
 /// # Errors
 ///
 /// `Error::Memory` if an allocation fails.
-pub(crate) fn join_ranges(
+pub fn join_ranges(
     alloc: Global,
     payload: &Slice,
     prefix: &Option<SliceIndexes>,

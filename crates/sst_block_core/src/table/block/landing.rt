@@ -4,7 +4,7 @@ use std::cmp::Ordering;
 
 /// An item at which a search stopped, as it was decoded.
 #[derive(Drop)]
-pub(crate) struct Landing<Parsed> {
+pub struct Landing<Parsed> {
     /// The item.
     pub(crate) item: Parsed,
     /// How its key compares with the needle.

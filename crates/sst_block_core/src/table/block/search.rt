@@ -230,7 +230,7 @@ impl<'a, Item: Decodable<Parsed>, Parsed: ParsedItem<Item> + Drop> Intervals<'a,
     /// Finds the first item with a key whose sequence number is strictly below `seqno`, by a search
     /// over the heads.
     #[inline(always)]
-    pub(crate) fn first_version(&mut self, needle: &[u8], seqno: SeqNo) -> Option<Parsed>
+    pub fn first_version(&mut self, needle: &[u8], seqno: SeqNo) -> Option<Parsed>
         requires { IsOrdered Item.kind self.old.list.items }
         ensures list { self.new.list ≡ self.old.list }
         ensures item { option_map (Parsed.item_of self.old.list.payload) result ≡ slice_get (filter (is_version Item.kind needle.now seqno) self.old.list.items) 0 }
@@ -251,12 +251,7 @@ impl<'a, Item: Decodable<Parsed>, Parsed: ParsedItem<Item> + Drop> Intervals<'a,
     /// Finds the first item with a key whose sequence number is strictly below `seqno`, in interval
     /// j, where all items with this key are.
     #[inline(always)]
-    pub(crate) fn first_version_in(
-        &mut self,
-        j: usize,
-        needle: &[u8],
-        seqno: SeqNo,
-    ) -> Option<Parsed>
+    pub fn first_version_in(&mut self, j: usize, needle: &[u8], seqno: SeqNo) -> Option<Parsed>
         requires ordered { IsOrdered Item.kind self.old.list.items }
         requires inside { j * self.old.list.interval < length self.old.list.items }
         requires alone { (i : ℕ) (x : Item) → slice_get self.old.list.items i ≡ Some x → Item.kind.key x ≡ needle.now

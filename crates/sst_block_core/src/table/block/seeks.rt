@@ -13,7 +13,7 @@ use crate::table::block::landing::Landing;
 impl<'a, Item: Decodable<Parsed>, Parsed: ParsedItem<Item> + Drop> Decoder<'a, Item, Parsed> {
     /// Returns whether an item is left.
     #[inline(always)]
-    pub(crate) fn has_left(&self) -> bool
+    pub fn has_left(&self) -> bool
         ensures { result ≡ some_left self.now.window }
     {
         self.front.place < self.back.hi
@@ -21,7 +21,7 @@ impl<'a, Item: Decodable<Parsed>, Parsed: ParsedItem<Item> + Drop> Decoder<'a, I
 
     /// Returns whether the front is at an item of the block, wherever the back is.
     #[inline(always)]
-    pub(crate) fn is_at_item(&self) -> bool
+    pub fn is_at_item(&self) -> bool
         ensures { result ≡ nat_lt self.now.window.lo (length self.now.window.list) }
     {
         self.front.place < self.intervals.item_count()
@@ -30,7 +30,7 @@ impl<'a, Item: Decodable<Parsed>, Parsed: ParsedItem<Item> + Drop> Decoder<'a, I
     /// Moves the front to the first item that a bound doesn't pass. Returns that item where it was
     /// decoded.
     #[inline(always)]
-    pub(crate) fn seek_place(&mut self, bound: &Bound<'_>) -> Option<Landing<Parsed>>
+    pub fn seek_place(&mut self, bound: &Bound<'_>) -> Option<Landing<Parsed>>
         requires { IsOrdered Item.kind self.old.window.list }
         ensures payload { self.new.payload ≡ self.old.payload }
         ensures interval { self.new.interval ≡ self.old.interval }
@@ -53,7 +53,7 @@ impl<'a, Item: Decodable<Parsed>, Parsed: ParsedItem<Item> + Drop> Decoder<'a, I
 
     /// Moves the back behind the first item that a bound doesn't pass, or behind the last item.
     #[inline(always)]
-    pub(crate) fn seek_upper_place(&mut self, bound: &Bound<'_>)
+    pub fn seek_upper_place(&mut self, bound: &Bound<'_>)
         requires { IsOrdered Item.kind self.old.window.list }
         ensures payload { self.new.payload ≡ self.old.payload }
         ensures interval { self.new.interval ≡ self.old.interval }
@@ -74,7 +74,7 @@ impl<'a, Item: Decodable<Parsed>, Parsed: ParsedItem<Item> + Drop> Decoder<'a, I
 
     /// Returns the item at the front, which is held, if it is left. Counts nothing.
     #[inline(always)]
-    pub(crate) fn next_held(&mut self, held: Landing<Parsed>) -> Option<Parsed>
+    pub fn next_held(&mut self, held: Landing<Parsed>) -> Option<Parsed>
         requires { IsHeldAt Parsed.item_of Parsed.is_found Item.kind (listed_of self.old) self.old.window.lo held }
         ensures { GivesNextHeld Parsed.item_of Parsed.is_found self.old result self.new }
     {
@@ -88,7 +88,7 @@ impl<'a, Item: Decodable<Parsed>, Parsed: ParsedItem<Item> + Drop> Decoder<'a, I
     /// Moves the front to the first item that a bound doesn't pass. Returns whether an item is left,
     /// and the first has the needle as its key.
     #[inline(always)]
-    pub(crate) fn seek_key(&mut self, bound: &Bound<'_>) -> bool
+    pub fn seek_key(&mut self, bound: &Bound<'_>) -> bool
         requires { IsOrdered Item.kind self.old.window.list }
         ensures payload { self.new.payload ≡ self.old.payload }
         ensures interval { self.new.interval ≡ self.old.interval }
@@ -114,7 +114,7 @@ impl<'a, Item: Decodable<Parsed>, Parsed: ParsedItem<Item> + Drop> Decoder<'a, I
     /// Moves the back to the first item that a bound doesn't pass, not included. Returns whether an
     /// item is left, and the last has the needle as its key.
     #[inline(always)]
-    pub(crate) fn seek_upper_key(&mut self, bound: &Bound<'_>) -> bool
+    pub fn seek_upper_key(&mut self, bound: &Bound<'_>) -> bool
         requires { IsOrdered Item.kind self.old.window.list }
         ensures payload { self.new.payload ≡ self.old.payload }
         ensures interval { self.new.interval ≡ self.old.interval }

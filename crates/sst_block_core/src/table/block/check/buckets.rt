@@ -61,7 +61,7 @@ fn is_same(a: &[u8], b: &[u8]) -> bool
 ///
 /// `Error::BadHashIndex` if a bucket is not that of the items. `Error::Memory` if an allocation
 /// fails; never where no buckets are stored.
-pub(crate) fn check_buckets<Item: Checkable<Parsed>, Parsed: ParsedItem<Item> + Drop, H: BlockHash>(
+pub fn check_buckets<Item: Checkable<Parsed>, Parsed: ParsedItem<Item> + Drop, H: BlockHash>(
     alloc: Global,
     payload: &[u8],
     t: &TrailerNumbers,

@@ -11,9 +11,9 @@ use std::cmp::Ordering;
 /// A key by its ranges of a payload: the bytes that it shares with its interval's head, none in a
 /// full form, and its own bytes behind them.
 #[derive(Clone, Copy)]
-pub(crate) struct KeyRanges {
-    pub(crate) front: SliceIndexes,
-    pub(crate) rest: SliceIndexes,
+pub struct KeyRanges {
+    pub front: SliceIndexes,
+    pub rest: SliceIndexes,
 }
 
 // Compares two byte strings of one length at these offsets. At one offset they are the same and are

@@ -3,19 +3,19 @@ ghost use Rattle.std.specs.Prelude.{◌≡◌, ◌↔◌, ℕ, ◌-◌, ◌≤�
 ghost use Rattle.sst_block_core.specs.Found.{Finds, IsRange, range_of};
 ghost use Rattle.sst_block_core.specs.KeyRanges.{key_by, IsKeyRanges};
 
-pub(crate) mod buckets;
-pub(crate) mod keys;
-pub(crate) mod parts;
-pub(crate) mod pass;
+pub mod buckets;
+pub mod keys;
+pub mod parts;
+pub mod pass;
 pub(crate) mod spot;
-pub(crate) mod truncation;
+pub mod truncation;
 
 use crate::table::block::{Decodable, ParsedItem};
 use keys::KeyRanges;
 use sst_base::table::util::SliceIndexes;
 
 /// Items whose forms can be checked.
-pub(crate) trait Checkable<Parsed: ParsedItem<Self>>: Decodable<Parsed> {
+pub trait Checkable<Parsed: ParsedItem<Self>>: Decodable<Parsed> {
     /// What the check asks of an item beyond its form.
     ghost fits: { Self → Type 0 };
 

@@ -64,7 +64,7 @@ fn has_parts(payload: &[u8], t: &TrailerNumbers) -> bool
 ///
 /// `Error::Truncated` if the payload has fewer than 31 bytes; `Error::BadTrailer` if the numbers do
 /// not fit.
-pub(crate) fn parts_of(block: &Block) -> Result<TrailerNumbers>
+pub fn parts_of(block: &Block) -> Result<TrailerNumbers>
     ensures trailer { IfOk result (λ t. trailer_by t ≡ trailer_in block.now.payload) }
     ensures long { OnOk result (HasTrailer block.now.payload) }
     ensures parts { OnOk result (HasParts (trailer_in block.now.payload) block.now.payload) }

@@ -149,7 +149,7 @@ fn pass_payload<Item: Checkable<Parsed>, Parsed: ParsedItem<Item> + Drop>(
 /// `Error::BadHandle` if an item is not what the check asks beyond its form; `Error::OutOfOrder` if
 /// an item sorts before its predecessor; `Error::BadIndex` if a pointer is not the offset of its
 /// head, or the pointer width is not the least that serves. The first of these that holds.
-pub(crate) fn check_items<Item: Checkable<Parsed>, Parsed: ParsedItem<Item> + Drop>(
+pub fn check_items<Item: Checkable<Parsed>, Parsed: ParsedItem<Item> + Drop>(
     payload: &[u8],
     t: &TrailerNumbers,
 ) -> Result<()>

@@ -18,7 +18,7 @@ fn begin_alike(a: &[u8], b: &[u8]) -> bool
 /// longest that the two share.
 #[inline(always)]
 #[tactic(auto, using(crate::proofs::Greatest::greatest_far, crate::proofs::Greatest::greatest_alike, crate::proofs::Greatest::greatest_is))]
-pub(crate) fn is_greatest(base: &[u8], shared: u64, rest: &[u8]) -> bool
+pub fn is_greatest(base: &[u8], shared: u64, rest: &[u8]) -> bool
     ensures { result ≡ nat_eq (shared_prefix_length base.now (take shared base.now ++ rest.now)) shared }
 {
     if shared > base.len() as u64 {

@@ -169,7 +169,7 @@ fn byte_with(byte: u8, interval_number: u8) -> u8
 
 /// Returns the number of buckets that a ratio gives for a number of items: none for a numerator of 0,
 /// else the product rounded down, at least 1 and at most 2^32 - 1. The denominator is at least 1.
-pub(crate) fn bucket_count(item_count: usize, ratio: HashRatio) -> u32
+pub fn bucket_count(item_count: usize, ratio: HashRatio) -> u32
     requires { 1 ≤ ratio.den }
     ensures { result ≡ bucket_count ratio.num ratio.den item_count }
 {

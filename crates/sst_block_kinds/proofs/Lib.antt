@@ -1,0 +1,17 @@
+mod IndexBlocks
+mod StandingForms
+mod BothEnds
+mod BackCosts
+mod OwnKeys
+mod EntryReads
+mod HandleReads
+mod OrderedSteps
+mod PlainEntries
+mod LookupReads
+mod CheckTests
+mod Verdicts
+mod CheckAnswers
+mod Truncations
+mod ExactEntries
+mod ExactHandles
+mod CheckRefusals

@@ -1,0 +1,34 @@
+use Rattle.std.proofs.Common.{◌∙◌, ap, drop, Some}
+use Rattle.sst_base.specs.declared.table.util.SliceIndexes.{SliceIndexes}
+use Rattle.sst_block_kinds.specs.ParsedEntry.{entry_of}
+use Rattle.sst_block_kinds.proofs.EntryReads.{truncated_parts, no_reading, truncated_found, truncated_read, marker_truncated}
+use Rattle.sst_block_kinds.proofs.table.data_block.decoding.InternalValueDecodableDataBlockParsedItem.parse_truncated.Goals as goal
+
+pub returns-in_err-form-clause-item : goal.returns-in_err-form-clause-item
+returns-in_err-form-clause-item c = λ base stands x rest e.
+    let p = truncated_parts base (drop c.args.offset c.args.payload.now) x rest e in
+    absurd (no_reading _ (p.said, rest) p.form_is c.in_err-form.ensures.exact)
+
+pub returns-in_err-prefix-clause-item : goal.returns-in_err-prefix-clause-item
+returns-in_err-prefix-clause-item c = λ base stands x rest e.
+    let f = truncated_found c.args.payload.now (drop c.args.offset c.args.payload.now) base c.args.base_key_offset c.in_ok-form.end c.in_ok-form.form x rest stands
+    c.in_ok-form.ensures.key e c.in_ok-form.ensures.exact.1 in
+    absurd (c.in_err-prefix.ensures.none f.0 f.1)
+
+pub returns-clause-item : goal.returns-clause-item
+returns-clause-item c = λ base stands x rest e.
+    let f = truncated_found c.args.payload.now (drop c.args.offset c.args.payload.now) base c.args.base_key_offset c.in_ok-form.end c.in_ok-form.form x rest stands
+    c.in_ok-form.ensures.key e c.in_ok-form.ensures.exact.1 in
+    let form = c.in_ok-form.form in (
+      c.in_ok-form.ensures.exact.0,
+      ap (λ (p : SliceIndexes). entry_of c.args.payload.now (record { value_type = form.value_type; seqno = form.seqno; prefix = Some p; key = form.key; value = form.value })) c.in_ok-prefix.ensures.found.0 ∙ f.2,
+      f.3,
+    )
+
+pub returns-clause-read : goal.returns-clause-read
+returns-clause-read c = λ base stands longest.
+    truncated_read c.args.payload.now (drop c.args.offset c.args.payload.now) base c.args.base_key_offset c.in_ok-form.end c.in_ok-form.form c.in_ok-prefix.prefix
+    stands c.in_ok-form.ensures.key c.in_ok-prefix.ensures.found.0 c.in_ok-prefix.ensures.found.2 longest c.in_ok-form.ensures.exact.1
+
+pub returns-clause-marker : goal.returns-clause-marker
+returns-clause-marker c = λ stands. absurd (marker_truncated c.args.payload.now c.args.offset _ stands c.in_ok-form.ensures.exact.1)

@@ -1,0 +1,22 @@
+use Rattle.std.proofs.Common.{◌∙◌, drop, sym, ap, subst, Some}
+use Rattle.sst_block_core.specs.Found.{StandsAt}
+use Rattle.sst_block_kinds.specs.ParsedHandle.{handle_of, front_by}
+use Rattle.sst_block_kinds.specs.declared.table.index_block.parsed_item.IndexBlockParsedItem.{IndexBlockParsedItem}
+use Rattle.sst_block_core.proofs.Ends.{range_stands}
+use Rattle.sst_block_kinds.proofs.HandleReads.{full_whole, marker_ends}
+use Rattle.sst_block_kinds.proofs.table.index_block.decoding.KeyedBlockHandleDecodableIndexBlockParsedItem.parse_full.Goals as goal
+
+pub returns-clause-exact : goal.returns-clause-exact
+returns-clause-exact c = (
+  c.in_ok-key.ensures.exact.0,
+  full_whole (drop c.args.offset c.args.payload.now) (front_by c.in_ok-front.front) _ c.in_ok-front.ensures.1 _ _ c.in_ok-key.ensures.exact.1
+      ∙ ap (λ p. Some (handle_of c.args.payload.now p, drop c.in_ok-key.end c.args.payload.now)) (sym c.with_key.ensures),
+)
+
+pub returns-clause-key : goal.returns-clause-key
+returns-clause-key c =
+    let P : IndexBlockParsedItem → Type 0 = λ p. StandsAt c.args.payload.now p.end_key.0 (handle_of c.args.payload.now p).end_key in
+    subst P (sym c.with_key.ensures) (range_stands c.args.payload.now c.in_ok-key.key c.in_ok-key.ensures.range.order c.in_ok-key.ensures.range.inside)
+
+pub returns-clause-marker : goal.returns-clause-marker
+returns-clause-marker c = λ stands. absurd (marker_ends c.args.payload.now c.args.offset _ stands c.in_ok-front.ensures.1)

@@ -1,0 +1,26 @@
+-- What contracts see of an index block: its header and payload, its handles and its interval.
+use Rattle.std.specs.Prelude.{ℕ, List}
+use Rattle.sst_base.specs.declared.table.block.header.Header.{Header}
+use Rattle.sst_base.specs.Block.{BlockParts}
+use Rattle.sst_block_core.specs.Trailer.{trailer_in}
+use Rattle.sst_block_core.specs.Stages.{items_in}
+use Rattle.sst_block_kinds.specs.Handles.{Handle, handles}
+
+pub record IndexBlockParts : Type 0 where
+  pub header : Header
+  pub payload : List ℕ
+  pub items : List Handle
+  pub interval : ℕ
+
+-- the index block of a header and a payload: all but the header is read from the payload
+abbrev pub index_block_of : BlockParts → IndexBlockParts
+index_block_of b = record {
+  header = b.header;
+  payload = b.payload;
+  items = items_in handles b.payload;
+  interval = (trailer_in b.payload).interval;
+}
+
+-- the header and the payload of an index block
+abbrev pub block_of : IndexBlockParts → BlockParts
+block_of d = record { header = d.header; payload = d.payload }

@@ -1,0 +1,12 @@
+pub mod Handles
+pub mod HandleLaws
+pub mod Vectors
+pub mod ParsedEntry
+pub mod ParsedHandle
+pub mod DataBlock
+pub mod IndexBlock
+pub mod Ops
+pub mod IndexOps
+pub mod Walks
+pub mod Checks
+pub mod PointReads

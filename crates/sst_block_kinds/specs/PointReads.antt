@@ -1,0 +1,33 @@
+-- Where the entries with a key can be, by the hash index, and how little a point read looks at then.
+use Rattle.std.specs.Prelude.{ℕ, ◌+◌, ◌==◌, if◌then◌else◌, List, length}
+use Rattle.sst_block_core.specs.Buckets.{buckets}
+use Rattle.sst_block_core.specs.Pointers.{head_count}
+use Rattle.sst_block_core.specs.Intervals.{digits}
+use Rattle.sst_block_core.specs.Lookups.{lookup_in}
+use Rattle.sst_block_core.specs.declared.table.block.hash_index.reader.Lookup.{Lookup}
+use Rattle.sst_block_core.specs.declared.table.block.hash_index.reader.Lookup.TheVariants.{Nowhere, Interval, Anywhere}
+use Rattle.sst_block_core.specs.Entries.{entries}
+use Rattle.sst_block_kinds.specs.DataBlock.{DataBlockParts}
+
+-- what the hash index of a data block says of a key, if there is one
+abbrev pub lookup : (List ℕ → ℕ) → DataBlockParts → List ℕ → Lookup
+lookup hash d key = if d.stored == 0 then Anywhere else lookup_in hash (buckets entries hash d.interval d.items d.stored) key
+
+-- how many heads a point read looks at, at most: none but for the search over all of them
+abbrev pub heads_most : Lookup → ℕ → ℕ
+heads_most Nowhere heads = 0
+heads_most (Interval n) heads = 0
+heads_most Anywhere heads = digits heads
+
+-- how many entries a point read decodes, at most: those of an interval, and behind a search one more
+abbrev pub entries_most : Lookup → ℕ → ℕ
+entries_most Nowhere interval = 0
+entries_most (Interval n) interval = interval
+entries_most Anywhere interval = interval + 1
+
+-- the same for a key in a data block
+abbrev pub read_heads : (List ℕ → ℕ) → DataBlockParts → List ℕ → ℕ
+read_heads hash d key = heads_most (lookup hash d key) (head_count d.interval (length d.items))
+
+abbrev pub read_entries : (List ℕ → ℕ) → DataBlockParts → List ℕ → ℕ
+read_entries hash d key = entries_most (lookup hash d key) d.interval

@@ -1,0 +1,9 @@
+//! Blocks of entries and blocks of handles: the kinds that tables are made of.
+#![tactic(auto)]
+
+pub mod laws;
+pub mod table;
+pub mod vectors;
+
+pub use table::data_block::{DataBlock, DataBlockParsedItem};
+pub use table::index_block::{IndexBlock, IndexBlockParsedItem, KeyedBlockHandle};

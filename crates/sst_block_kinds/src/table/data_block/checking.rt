@@ -1,0 +1,87 @@
+//! The check of a data block, and entries as items that are checked.
+ghost use Rattle.std.specs.Prelude.{◌≡◌, ◌≢◌, ◌<◌, OnOk, IfErr, Ok, Err};
+ghost use Rattle.sst_base.specs.Entry.{IsEntry};
+ghost use Rattle.sst_block_kinds.specs.Checks.{data_check};
+ghost use Rattle.sst_block_core.specs.Entries.{entries};
+ghost use Rattle.sst_block_core.specs.Payload.{IsBlock};
+ghost use Rattle.sst_block_core.specs.Stages.{items_in};
+ghost use Rattle.sst_block_core.specs.Trailer.{trailer_in};
+
+use crate::table::data_block::decoding::{entry_prefix_from, truncated_form_from};
+use crate::table::data_block::parsed_item::DataBlockParsedItem;
+use sst_base::table::block::Block;
+use sst_base::table::util::SliceIndexes;
+use sst_base::{BlockHash, Error, InternalValue, Result};
+use sst_block_core::table::block::check::Checkable;
+use sst_block_core::table::block::check::buckets::check_buckets;
+use sst_block_core::table::block::check::keys::KeyRanges;
+use sst_block_core::table::block::check::parts::parts_of;
+use sst_block_core::table::block::check::pass::check_items;
+use sst_block_core::table::block::check::truncation::is_greatest;
+use sst_block_core::table::block::key_ranges::bytes_of;
+use std::alloc::Global;
+
+impl Checkable<DataBlockParsedItem> for InternalValue {
+    ghost fits = { λ e. Unit {0} };
+
+    #[inline(always)]
+    fn fits(item: &DataBlockParsedItem) -> bool {
+        let _ = item;
+        true
+    }
+
+    #[inline(always)]
+    fn key_ranges(item: &DataBlockParsedItem) -> KeyRanges {
+        let front = match &item.prefix {
+            Some(prefix) => *prefix,
+            None => SliceIndexes(0, 0),
+        };
+        KeyRanges {
+            front,
+            rest: item.key,
+        }
+    }
+
+    #[inline(always)]
+    fn parse_exactly(
+        payload: &[u8],
+        offset: usize,
+        base: &SliceIndexes,
+    ) -> Option<(DataBlockParsedItem, usize)> {
+        let (form, end) = truncated_form_from(payload, offset)?;
+        let key = bytes_of(payload, &form.key);
+        if !is_greatest(bytes_of(payload, base), form.shared, key) {
+            return None;
+        }
+        let rest = form.key.1 - form.key.0;
+        let prefix = entry_prefix_from(payload, base.0, form.shared, rest)?;
+        let item = DataBlockParsedItem {
+            value_type: form.value_type,
+            seqno: form.seqno,
+            prefix: Some(prefix),
+            key: form.key,
+            value: form.value,
+        };
+        Some((item, end))
+    }
+}
+
+/// Checks the payload of a block of any bytes, stage by stage.
+///
+/// # Errors
+///
+/// That of the first stage that fails. `Error::Memory` if an allocation fails, which is asked for
+/// only where buckets are stored.
+pub(super) fn check_block<H: BlockHash>(alloc: Global, block: &Block) -> Result<()>
+    ensures checked { OnOk result (data_check H.hash64 block.now.payload ≡ Ok (items_in entries block.now.payload)) }
+    ensures block { OnOk result (IsBlock entries IsEntry H.hash64 block.now.payload (items_in entries block.now.payload)
+        (trailer_in block.now.payload).interval (trailer_in block.now.payload).hash_len) }
+    ensures refused { IfErr result (λ e. e ≢ Error.Memory → data_check H.hash64 block.now.payload ≡ Err e) }
+    ensures memory { IfErr result (λ e. e ≡ Error.Memory → 0 < (trailer_in block.now.payload).hash_len) }
+{
+    let numbers = parts_of(block)?;
+    let payload = block.data().as_slice();
+    check_items::<InternalValue, DataBlockParsedItem>(payload, &numbers)?;
+    check_buckets::<InternalValue, DataBlockParsedItem, H>(alloc, payload, &numbers)?;
+    Ok(())
+}

@@ -1,0 +1,127 @@
+//! Entries that borrow their block, and the iterator over them.
+ghost use Rattle.std.specs.Prelude.{◌≡◌, ◌↔◌, IfOk, IsOkUnless, IsTrue};
+ghost use Rattle.std.specs.Ordering.{nat_cmp};
+ghost use Rattle.std.specs.Cmp.Lexicographic.{slice_cmp};
+ghost use Rattle.std.specs.Iterator.{YieldsFirst, item_count};
+ghost use Rattle.sst_base.specs.ValueType.{IsTombstone};
+
+use crate::table::data_block::DataBlock;
+use crate::table::data_block::iter::Iter;
+use crate::table::data_block::parsed_item::DataBlockParsedItem;
+use sst_base::{BlockHash, Error, InternalValue, Result, SeqNo, Slice, ValueType};
+use sst_block_core::table::block::ParsedItem;
+use std::alloc::Global;
+use std::cmp::Ordering;
+use std::marker::Model;
+
+/// An entry of a block, which it borrows. Clauses see the entry.
+#[derive(Drop)]
+pub struct EntryRef<'a> {
+    payload: &'a Slice,
+    item: DataBlockParsedItem,
+}
+
+impl<'a> Model for EntryRef<'a> {
+    ghost use Rattle.sst_base.specs.Entry.{Entry};
+    ghost use Rattle.sst_block_kinds.specs.ParsedEntry.{entry_of, IsParsedEntry};
+
+    ghost Value = { Entry };
+
+    ghost view = { λ e. entry_of e.payload.now e.item };
+
+    ghost invariant = { λ e. IsParsedEntry e.payload.now e.item };
+}
+
+impl<'a> EntryRef<'a> {
+    /// Returns its sequence number.
+    pub fn seqno(&self) -> SeqNo
+        ensures { result ≡ self.now.key.seqno }
+    {
+        self.item.seqno
+    }
+
+    /// Returns its value type.
+    pub fn value_type(&self) -> ValueType
+        ensures { result ≡ self.now.key.value_type }
+    {
+        self.item.value_type
+    }
+
+    /// Returns whether it is a tombstone.
+    pub fn is_tombstone(&self) -> bool
+        ensures { IsTrue result ↔ IsTombstone self.now.key.value_type }
+    {
+        self.item.value_type.is_tombstone()
+    }
+
+    /// Compares its user key with a needle, without joining prefix and rest.
+    pub fn compare_key(&self, needle: &[u8]) -> Ordering
+        ensures { result ≡ slice_cmp nat_cmp self.now.key.user_key needle.now }
+    {
+        self.item.compare_key(needle, self.payload.as_slice())
+    }
+
+    /// Makes the entry. Only a prefix-truncated key is joined and copied.
+    ///
+    /// # Errors
+    ///
+    /// `Error::Memory` if an allocation fails.
+    pub fn materialize(&self, alloc: Global) -> Result<InternalValue>
+        ensures ok { IfOk result (λ entry. entry ≡ self.now) }
+        ensures memory { IsOkUnless result Error.Memory }
+    {
+        self.item.materialize(alloc, self.payload)
+    }
+}
+
+/// An iterator over the entries of a data block. Clauses see the list of the entries left. No step
+/// takes memory.
+#[derive(Drop)]
+pub struct Entries<'a> {
+    iter: Iter<'a>,
+    payload: &'a Slice,
+}
+
+impl<'a> Model for Entries<'a> {
+    ghost use Rattle.std.specs.Prelude.{◌≡◌, List};
+    ghost use Rattle.sst_base.specs.Entry.{Entry};
+    ghost use Rattle.sst_block_core.specs.Window.{items_left};
+
+    ghost Value = { List Entry };
+
+    ghost view = { λ e. items_left e.iter.window };
+
+    ghost invariant = { λ e. e.payload.now ≡ e.iter.payload };
+}
+
+impl<'a> Entries<'a> {
+    /// Returns an iterator over the entries of a block. Takes no memory.
+    pub fn new<H: BlockHash>(block: &'a DataBlock<H>) -> Entries<'a>
+        ensures { result ≡ block.now.items }
+    {
+        Entries {
+            iter: block.iter(),
+            payload: block.as_slice(),
+        }
+    }
+}
+
+/// Returns the first entry left, if there is one.
+impl<'a> Iterator for Entries<'a> {
+    type Item = EntryRef<'a>;
+
+    ghost next_gives = { YieldsFirst (λ s. s) };
+
+    ghost remaining = { item_count (λ s. s) };
+
+    #[inline(always)]
+    fn next(&mut self) -> Option<EntryRef<'a>> {
+        let Some(item) = self.iter.next() else {
+            return None;
+        };
+        Some(EntryRef {
+            payload: self.payload,
+            item,
+        })
+    }
+}

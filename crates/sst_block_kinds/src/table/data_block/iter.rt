@@ -1,0 +1,155 @@
+//! The iterator over the entries of a data block, as ranges of its payload.
+ghost use Rattle.std.specs.Prelude.{◌≡◌, ℕ, ◌+◌, ◌-◌, ◌*◌, ◌<◌, ◌≤◌, length, true};
+ghost use Rattle.std.specs.Iterator.{at_most};
+ghost use Rattle.sst_block_core.specs.Body.{place_offset};
+ghost use Rattle.sst_block_core.specs.Kind.{IsOrdered};
+ghost use Rattle.sst_block_core.specs.Entries.{entries};
+ghost use Rattle.sst_block_core.specs.Pointers.{head_count};
+ghost use Rattle.sst_block_kinds.specs.ParsedEntry.{entry_of, IsParsedEntry};
+ghost use Rattle.sst_block_core.specs.Scan.{Scan, GivesNext};
+ghost use Rattle.sst_block_core.specs.Intervals.{digits};
+ghost use Rattle.sst_block_core.specs.Backs.{GivesStep, GivesNextBack};
+ghost use Rattle.sst_block_core.specs.Window.{found, seek, seek_exclusive, seek_upper};
+ghost use Rattle.sst_block_core.specs.Window.{seek_upper_exclusive};
+
+use crate::table::data_block::parsed_item::DataBlockParsedItem;
+use sst_base::{InternalValue, Steps};
+use sst_block_core::table::block::Decoder;
+use sst_block_core::table::block::bound::Bound;
+use std::marker::Model;
+
+/// An iterator over the entries of a data block, as ranges of its payload.
+///
+/// Clauses see the payload, the restart interval, a window over the entries, and the counters. Every
+/// call, at any moment, is a step of the window: a seek moves its own end, wherever that was, and
+/// leaves the other. No step takes memory.
+#[derive(Drop)]
+pub struct Iter<'a> {
+    decoder: Decoder<'a, InternalValue, DataBlockParsedItem>,
+}
+
+impl<'a> Model for Iter<'a> {
+    ghost use Rattle.sst_base.specs.Entry.{Entry};
+    ghost use Rattle.sst_block_core.specs.Kind.{IsOrdered};
+    ghost use Rattle.sst_block_core.specs.Entries.{entries};
+    ghost use Rattle.sst_block_core.specs.Scan.{Scan};
+
+    ghost Value = { Scan Entry };
+
+    ghost view = { λ i. i.decoder };
+
+    ghost invariant = { λ i. IsOrdered entries i.decoder.window.list };
+}
+
+impl<'a> Iter<'a> {
+    /// Wraps a decoder of a data block, whose entries are ordered.
+    pub fn new(decoder: Decoder<'a, InternalValue, DataBlockParsedItem>) -> Iter<'a>
+        requires { IsOrdered entries decoder.window.list }
+        ensures { result ≡ decoder.entry }
+    {
+        Iter { decoder }
+    }
+
+    /// Returns what was counted since the iterator was made.
+    pub fn steps(&self) -> &Steps
+        ensures { result.now ≡ self.now.steps }
+    {
+        self.decoder.steps()
+    }
+
+    /// Moves the front to the first entry whose key is at least the needle. Returns whether an entry
+    /// is left, and the first has the needle as its key.
+    pub fn seek(&mut self, needle: &[u8]) -> bool
+        ensures step { GivesStep self.old self.new (found result) (seek entries needle.now self.old.window) }
+        ensures heads { self.new.steps.heads ≤ self.old.steps.heads + digits (head_count self.old.interval (length self.old.window.list)) }
+        ensures heads_grow { self.old.steps.heads ≤ self.new.steps.heads }
+        ensures entries { self.new.steps.entries ≤ self.old.steps.entries + (self.old.interval + 1) }
+        ensures entries_grow { self.old.steps.entries ≤ self.new.steps.entries }
+    {
+        let bound = Bound::below(needle);
+        self.decoder.seek_key(&bound)
+    }
+
+    /// Moves the front to the first entry whose key is above the needle. Returns whether an entry is
+    /// left.
+    pub fn seek_exclusive(&mut self, needle: &[u8]) -> bool
+        ensures step { GivesStep self.old self.new (found result) (seek_exclusive entries needle.now self.old.window) }
+        ensures heads { self.new.steps.heads ≤ self.old.steps.heads + digits (head_count self.old.interval (length self.old.window.list)) }
+        ensures heads_grow { self.old.steps.heads ≤ self.new.steps.heads }
+        ensures entries { self.new.steps.entries ≤ self.old.steps.entries + (self.old.interval + 1) }
+        ensures entries_grow { self.old.steps.entries ≤ self.new.steps.entries }
+    {
+        let passed = Bound::up_to(needle);
+        self.decoder.seek_key(&passed);
+        self.decoder.has_left()
+    }
+
+    /// Moves the back behind the last entry whose key is at most the needle. Returns whether an entry
+    /// is left, and the last has the needle as its key.
+    pub fn seek_upper(&mut self, needle: &[u8]) -> bool
+        ensures step { GivesStep self.old self.new (found result) (seek_upper entries needle.now self.old.window) }
+        ensures heads { self.new.steps.heads ≤ self.old.steps.heads + digits (head_count self.old.interval (length self.old.window.list)) }
+        ensures heads_grow { self.old.steps.heads ≤ self.new.steps.heads }
+        ensures entries { self.new.steps.entries ≤ self.old.steps.entries + (2 * self.old.interval + 2) }
+        ensures entries_grow { self.old.steps.entries ≤ self.new.steps.entries }
+    {
+        let bound = Bound::up_to(needle);
+        self.decoder.seek_upper_key(&bound)
+    }
+
+    /// Moves the back behind the last entry whose key is below the needle. Returns whether an entry is
+    /// left.
+    pub fn seek_upper_exclusive(&mut self, needle: &[u8]) -> bool
+        ensures step { GivesStep self.old self.new (found result) (seek_upper_exclusive entries needle.now self.old.window) }
+        ensures heads { self.new.steps.heads ≤ self.old.steps.heads + digits (head_count self.old.interval (length self.old.window.list)) }
+        ensures heads_grow { self.old.steps.heads ≤ self.new.steps.heads }
+        ensures entries { self.new.steps.entries ≤ self.old.steps.entries + (2 * self.old.interval + 2) }
+        ensures entries_grow { self.old.steps.entries ≤ self.new.steps.entries }
+    {
+        let passed = Bound::below(needle);
+        self.decoder.seek_upper_key(&passed);
+        self.decoder.has_left()
+    }
+
+    /// Moves the front to the head at an offset. Returns `true`. Nothing is counted.
+    pub fn seek_to_offset(&mut self, offset: usize) -> bool
+        requires { (j : ℕ) × (j * self.old.interval < length self.old.window.list)
+            × (offset ≡ place_offset entries self.old.interval self.old.window.list (j * self.old.interval)) }
+        ensures payload { self.new.payload ≡ self.old.payload }
+        ensures interval { self.new.interval ≡ self.old.interval }
+        ensures window { (j : ℕ) → j * self.old.interval < length self.old.window.list
+            → offset ≡ place_offset entries self.old.interval self.old.window.list (j * self.old.interval)
+            → self.new.window ≡ record { list = self.old.window.list; lo = j * self.old.interval; hi = self.old.window.hi } }
+        ensures answer { result ≡ true }
+        ensures heads { self.new.steps.heads ≡ self.old.steps.heads }
+        ensures entries { self.new.steps.entries ≡ self.old.steps.entries }
+    {
+        self.decoder.set_lo_offset(offset);
+        true
+    }
+}
+
+/// Returns the next entry, if one is left. Counts an entry for an item.
+impl<'a> Iterator for Iter<'a> {
+    type Item = DataBlockParsedItem;
+
+    ghost next_gives = { λ s r t. GivesNext entry_of IsParsedEntry s r t };
+
+    ghost remaining = { λ s. at_most (s.window.hi - s.window.lo) };
+
+    #[inline(always)]
+    fn next(&mut self) -> Option<DataBlockParsedItem> {
+        self.decoder.next()
+    }
+}
+
+/// Returns the last entry, if one is left. Counts an entry for an item, and those of its interval
+/// where it is the last of it.
+impl<'a> DoubleEndedIterator for Iter<'a> {
+    ghost next_back_gives = { λ s r t. GivesNextBack entry_of IsParsedEntry s r t };
+
+    #[inline(always)]
+    fn next_back(&mut self) -> Option<DataBlockParsedItem> {
+        self.decoder.next_back()
+    }
+}

@@ -1,0 +1,350 @@
+//! Data blocks: blocks of entries.
+ghost use Rattle.std.specs.Prelude.{◌≡◌, ◌↔◌, ℕ, ◌+◌, ◌^◌, ◌<◌, ◌≤◌, List, length, map, [], IsTrue};
+ghost use Rattle.std.specs.Prelude.{IsSome, OnOk, OnErr, IfOk, IfErr, IsOkUnless, None, Some};
+ghost use Rattle.std.specs.Prelude.{IfSome, ◌==◌, if◌then◌else◌, ◌≢◌, Ok, Err};
+ghost use Rattle.sst_base.specs.Bytes.{IsBytes};
+ghost use Rattle.sst_base.specs.Entry.{Entry, IsEntry, plain};
+ghost use Rattle.sst_block_kinds.specs.Checks.{data_check};
+ghost use Rattle.sst_block_core.specs.Kind.{IsOrdered};
+ghost use Rattle.sst_block_core.specs.Entries.{entries, data_payload};
+ghost use Rattle.sst_block_core.specs.Pointers.{head_count};
+ghost use Rattle.sst_block_core.specs.Buckets.{bucket_count, buckets, stored_count};
+ghost use Rattle.sst_block_core.specs.Payload.{IsBlock};
+ghost use Rattle.sst_block_core.specs.Stages.{HasIndexes};
+ghost use Rattle.sst_block_core.specs.Trailer.{trailer_in};
+ghost use Rattle.sst_block_core.specs.Encoders.{IsRefusal};
+ghost use Rattle.sst_block_kinds.specs.PointReads.{read_heads, read_entries};
+ghost use Rattle.sst_block_core.specs.Window.{whole, first_match};
+ghost use Rattle.sst_block_kinds.specs.DataBlock.{block_of, data_block_of};
+
+mod checking;
+mod decoding;
+pub mod entry_ref;
+pub mod iter;
+pub mod ops;
+pub mod parsed_item;
+mod point_read;
+
+use checking::check_block;
+pub use entry_ref::{Entries, EntryRef};
+pub use iter::Iter;
+pub use ops::{Answer, Op, walk};
+pub use parsed_item::DataBlockParsedItem;
+use sst_base::table::block::Block;
+use sst_base::{BlockHash, Error, HashRatio, InternalValue, Result, SeqNo, Slice, Steps};
+use sst_block_core::table::block::encoder::encode_all;
+use sst_block_core::table::block::{Decoder, ParsedItem, Trailer, hash_index};
+use std::alloc::{AllocError, Global};
+use std::fmt;
+use std::marker::{Model, PhantomData};
+
+/// A block of entries, whose hash index, if it has one, is made by `H`.
+///
+/// Clauses see its header and payload, its entries (those of tombstones without values), its
+/// restart interval and its number of stored buckets. The payload is always the encoding of these
+/// entries: see [`DataBlock::as_slice`].
+#[derive(Drop)]
+pub struct DataBlock<H: BlockHash> {
+    hash: PhantomData<H>,
+    inner: Block,
+}
+
+impl<H: BlockHash> Model for DataBlock<H> {
+    ghost use Rattle.std.specs.Prelude.{ℕ, List};
+    ghost use Rattle.sst_base.specs.Entry.{Entry, IsEntry};
+    ghost use Rattle.sst_block_core.specs.Entries.{entries};
+    ghost use Rattle.sst_block_core.specs.Payload.{IsBlock};
+    ghost use Rattle.sst_block_kinds.specs.DataBlock.{DataBlockParts, data_block_of};
+
+    ghost Value = { DataBlockParts };
+
+    ghost view = { λ d. data_block_of d.inner };
+
+    ghost invariant = { λ d. (items : List Entry) × (r : ℕ) × (b : ℕ)
+        × IsBlock entries IsEntry H.hash64 d.inner.payload items r b };
+}
+
+impl<H: BlockHash> DataBlock<H> {
+    /// Returns whether no entry sorts before its predecessor: by user key rising, then by sequence
+    /// number falling.
+    pub fn is_ordered(items: &[InternalValue]) -> bool
+        ensures { IsTrue result ↔ IsOrdered entries items.now }
+    {
+        for i in 1..items.len() {
+            if InternalValue::key(&items[i]) < InternalValue::key(&items[i - 1]) {
+                return false;
+            }
+        }
+        true
+    }
+
+    /// Encodes a non-empty ordered list of entries into an empty vector, in restart intervals of at
+    /// least one entry, with the number of buckets that the ratio gives. The denominator is at
+    /// least 1. With more than 254 heads no buckets are stored.
+    ///
+    /// # Errors
+    ///
+    /// `Error::TooLong` only where the block has 2^32 bytes or more; `Error::Memory` if an
+    /// allocation fails. The vector is then empty.
+    pub fn encode_into(
+        writer: &mut Vec<u8>,
+        items: &[InternalValue],
+        restart_interval: u8,
+        ratio: HashRatio,
+    ) -> Result<()>
+        requires empty { writer.old.items ≡ [] }
+        requires some { 1 ≤ length items.now }
+        requires ordered { IsOrdered entries items.now }
+        requires interval { 1 ≤ restart_interval }
+        requires den { 1 ≤ ratio.den }
+        ensures payload { OnOk result (writer.new.items
+            ≡ data_payload H.hash64 items.now restart_interval (bucket_count ratio.num ratio.den (length items.now))) }
+        ensures block { OnOk result (IsBlock entries IsEntry H.hash64 writer.new.items items.now restart_interval
+            (bucket_count ratio.num ratio.den (length items.now))) }
+        ensures fits { OnOk result (length writer.new.items < 2 ^ 32) }
+        ensures empty { OnErr result (writer.new.items ≡ []) }
+        ensures cause { IfErr result (IsRefusal None
+            (2 ^ 32 ≤ length (data_payload H.hash64 items.now restart_interval (bucket_count ratio.num ratio.den (length items.now))))) }
+    {
+        encode_all::<InternalValue, H>(writer, items, restart_interval, ratio)
+    }
+
+    /// Encodes a non-empty ordered list of entries, as [`DataBlock::encode_into`] does, into a
+    /// vector of its own.
+    ///
+    /// # Errors
+    ///
+    /// `Error::TooLong` only where the block has 2^32 bytes or more; `Error::Memory` if an
+    /// allocation fails.
+    pub fn encode_into_vec(
+        alloc: Global,
+        items: &[InternalValue],
+        restart_interval: u8,
+        ratio: HashRatio,
+    ) -> Result<Vec<u8>>
+        requires some { 1 ≤ length items.now }
+        requires ordered { IsOrdered entries items.now }
+        requires interval { 1 ≤ restart_interval }
+        requires den { 1 ≤ ratio.den }
+        ensures payload { IfOk result (λ v. v.items
+            ≡ data_payload H.hash64 items.now restart_interval (bucket_count ratio.num ratio.den (length items.now))) }
+        ensures block { IfOk result (λ v. IsBlock entries IsEntry H.hash64 v.items items.now restart_interval
+            (bucket_count ratio.num ratio.den (length items.now))) }
+        ensures fits { IfOk result (λ v. length v.items < 2 ^ 32) }
+        ensures cause { IfErr result (IsRefusal None
+            (2 ^ 32 ≤ length (data_payload H.hash64 items.now restart_interval (bucket_count ratio.num ratio.den (length items.now))))) }
+    {
+        let mut writer = Vec::new(alloc);
+        DataBlock::<H>::encode_into(&mut writer, items, restart_interval, ratio)?;
+        Ok(writer)
+    }
+
+    /// Takes a block whose payload is the encoding of some ordered, non-empty list of entries.
+    /// Takes no memory.
+    pub fn new(block: Block) -> DataBlock<H>
+        requires { (items : List Entry) × (r : ℕ) × (b : ℕ)
+            × IsBlock entries IsEntry H.hash64 block.payload items r b }
+        ensures inner { block_of result ≡ block }
+        ensures payload { result.payload ≡ block.payload }
+        ensures parts { result ≡ data_block_of block }
+        ensures read { (items : List Entry) (r b : ℕ) → IsBlock entries IsEntry H.hash64 block.payload items r b
+            → (result.items ≡ map plain items) × (result.interval ≡ r) × (result.stored ≡ stored_count r (length items) b) }
+    {
+        // The proof needs the bound on the payload's length.
+        let _fits = block.size();
+        DataBlock {
+            hash: PhantomData,
+            inner: block,
+        }
+    }
+
+    /// Takes a block of any bytes, if its payload is the encoding of some ordered, non-empty list of
+    /// entries. Takes memory only where buckets are stored: for the buckets, and for the longest
+    /// truncated key.
+    ///
+    /// # Errors
+    ///
+    /// That of the first of these stages that fails. `Error::Truncated` if the payload has fewer than
+    /// 31 bytes; `Error::BadTrailer` if the numbers of the trailer do not fit each other and the
+    /// payload; `Error::BadEntry` if the body is not as many entries in their forms, and nothing else;
+    /// `Error::OutOfOrder` if an entry sorts before its predecessor; `Error::BadIndex` if a pointer is
+    /// not the offset of its head, or the pointer width not the least; `Error::BadHashIndex` if a
+    /// bucket is not that of the entries. `Error::Memory` if an allocation fails.
+    pub fn check(alloc: Global, block: Block) -> Result<DataBlock<H>>
+        ensures checked { IfOk result (λ b. data_check H.hash64 block.payload ≡ Ok b.items) }
+        ensures parts { IfOk result (λ b. b ≡ data_block_of block) }
+        ensures encoded { IfOk result (λ b. IsBlock entries IsEntry H.hash64 block.payload b.items b.interval b.stored) }
+        ensures refused { IfErr result (λ e. e ≢ Error.Memory → data_check H.hash64 block.payload ≡ Err e) }
+        ensures memory { IfErr result (λ e. e ≡ Error.Memory → 0 < (trailer_in block.payload).hash_len) }
+    {
+        check_block::<H>(alloc, &block)?;
+        Ok(DataBlock::new(block))
+    }
+
+    /// Returns the payload, which is the encoding of the block's entries at its interval and stored
+    /// number of buckets.
+    pub fn as_slice(&self) -> &Slice
+        ensures value { result.now ≡ self.now.payload }
+        ensures encoded { IsBlock entries IsEntry H.hash64 self.now.payload self.now.items self.now.interval self.now.stored }
+        ensures fits { length self.now.payload < 2 ^ 32 }
+    {
+        // The proof needs the bound on the payload's length, and that its cells are bytes.
+        let _fits = self.inner.size();
+        note_bytes(self.inner.data().as_slice());
+        self.inner.data()
+    }
+
+    /// Returns the block, with its header.
+    pub fn inner(&self) -> &Block
+        ensures { result.now ≡ block_of self.now }
+    {
+        &self.inner
+    }
+
+    // The block, and what its trailer says.
+    fn opened(&self) -> &Block
+        ensures payload { result.now.payload ≡ self.now.payload }
+        ensures trailer { 31 ≤ length self.now.payload }
+        ensures count { (trailer_in self.now.payload).item_count ≡ length self.now.items }
+        ensures some { 1 ≤ length self.now.items }
+        ensures indexes { HasIndexes entries H.hash64 self.now.payload self.now.items self.now.interval self.now.stored }
+    {
+        // The proof needs the bound on the payload's length.
+        let _fits = self.inner.size();
+        &self.inner
+    }
+
+    /// Returns the number of entries, which is at least one.
+    pub fn len(&self) -> usize
+        ensures count { result ≡ length self.now.items }
+        ensures some { 1 ≤ result }
+    {
+        Trailer::new(self.opened()).item_count()
+    }
+
+    /// Returns the number of heads, each of which has a pointer in the binary index.
+    pub fn binary_index_len(&self) -> u32
+        ensures { result ≡ head_count self.now.interval (length self.now.items) }
+    {
+        Trailer::new(self.opened()).heads()
+    }
+
+    /// Returns the number of buckets in the hash index, or `None` if none is stored.
+    pub fn hash_bucket_count(&self) -> Option<usize>
+        ensures { result ≡ (if self.now.stored == 0 then None else Some self.now.stored) }
+    {
+        let stored = Trailer::new(self.opened()).hash_len() as usize;
+        if stored == 0 { None } else { Some(stored) }
+    }
+
+    /// Returns a view of the hash index, which has at least one bucket, or `None` if none is stored.
+    /// Takes no memory.
+    pub fn get_hash_index_reader(&self) -> Option<hash_index::Reader<'_, H>>
+        ensures buckets { result ≡ (if self.now.stored == 0 then None else Some (buckets entries H.hash64 self.now.interval self.now.items self.now.stored)) }
+        ensures some { IfSome result (λ reader. 0 < length reader) }
+    {
+        let inner = self.opened();
+        let trailer = Trailer::new(inner);
+        let stored = trailer.hash_len();
+        if stored == 0 {
+            return None;
+        }
+        let bytes = inner.data().as_slice();
+        Some(hash_index::Reader::new(bytes, trailer.hash_offset(), stored))
+    }
+
+    /// Returns an iterator over the entries, as ranges of the payload. Takes no memory.
+    pub fn iter(&self) -> Iter<'_>
+        ensures payload { result.payload ≡ self.now.payload }
+        ensures interval { result.interval ≡ self.now.interval }
+        ensures window { result.window ≡ whole self.now.items }
+        ensures plain { map plain self.now.items ≡ self.now.items }
+        ensures heads { result.steps.heads ≡ 0 }
+        ensures entries { result.steps.entries ≡ 0 }
+    {
+        // The proof needs the bound on the payload's length.
+        let _fits = self.inner.size();
+        Iter::new(Decoder::new(&self.inner))
+    }
+
+    /// Returns an iterator over the entries, each of which borrows the block. Takes no memory.
+    pub fn entries(&self) -> Entries<'_>
+        ensures { result ≡ self.now.items }
+    {
+        Entries::new(self)
+    }
+
+    /// Makes all entries.
+    ///
+    /// # Errors
+    ///
+    /// `Error::Memory` if an allocation fails.
+    pub fn to_vec(&self, alloc: Global) -> Result<Vec<InternalValue>>
+        ensures ok { IfOk result (λ v. v.items ≡ self.now.items) }
+        ensures memory { IsOkUnless result Error.Memory }
+    {
+        let mut all = Vec::with_capacity(alloc, self.len())?;
+        for entry in self.entries() {
+            all.push(entry.materialize(alloc)?)?;
+        }
+        Ok(all)
+    }
+
+    /// Returns the first entry with this key whose sequence number is strictly below `seqno`. A
+    /// tombstone has no value.
+    ///
+    /// What was looked at is added to `steps`. Where the hash index says that the key is not there,
+    /// that is nothing; where it gives a restart interval, at most the entries of one; else at most as
+    /// many heads as their number has binary digits, and the entries of one interval and one more.
+    ///
+    /// # Errors
+    ///
+    /// `Error::Memory` if an allocation fails, and only where there is such an entry.
+    pub fn point_read(
+        &self,
+        alloc: Global,
+        needle: &[u8],
+        seqno: SeqNo,
+        steps: &mut Steps,
+    ) -> Result<Option<InternalValue>>
+        ensures found { IfOk result (λ item. item ≡ first_match entries needle.now seqno self.now.items) }
+        ensures memory { IsOkUnless result Error.Memory }
+        ensures only_found { OnErr result (IsSome (first_match entries needle.now seqno self.now.items)) }
+        ensures heads { steps.new.heads ≤ steps.old.heads + read_heads H.hash64 self.now needle.now }
+        ensures heads_grow { steps.old.heads ≤ steps.new.heads }
+        ensures entries { steps.new.entries ≤ steps.old.entries + read_entries H.hash64 self.now needle.now }
+        ensures entries_grow { steps.old.entries ≤ steps.new.entries }
+        ensures counted { IsSome (first_match entries needle.now seqno self.now.items)
+            → steps.old.entries + 1 ≤ steps.new.entries }
+    {
+        match self.find_version(needle, seqno, steps) {
+            Some(item) => Ok(Some(item.materialize(alloc, self.as_slice())?)),
+            None => Ok(None),
+        }
+    }
+}
+
+// Tells a proof that the cells of a slice are bytes. Does nothing.
+#[inline(always)]
+fn note_bytes(bytes: &[u8])
+    ensures { IsBytes bytes.now }
+{
+    let _ = bytes;
+}
+
+impl<H: BlockHash> Clone for DataBlock<H> {
+    ghost is_clone = { λ d copy. copy ≡ d };
+
+    fn clone(&self) -> std::result::Result<DataBlock<H>, AllocError> {
+        Ok(DataBlock {
+            hash: PhantomData,
+            inner: self.inner.clone()?,
+        })
+    }
+}
+
+impl<H: BlockHash> fmt::Debug for DataBlock<H> {
+    fn fmt<W: fmt::Write>(&self, f: &mut fmt::Formatter<W>) -> fmt::Result {
+        write!(f, "DataBlock({:?})", self.inner)
+    }
+}

@@ -1,0 +1,68 @@
+//! Entries by their ranges of a payload.
+use sst_base::table::util::SliceIndexes;
+use sst_base::{InternalKey, InternalValue, Result, SeqNo, Slice, ValueType};
+use sst_block_core::table::block::ParsedItem;
+use sst_block_core::table::block::key_ranges::{bytes_of, compare_ranges, join_ranges, prefix_len};
+use std::alloc::Global;
+use std::cmp::Ordering;
+
+/// An entry by its ranges of a payload: its key is the prefix, if there is one, and the key's own
+/// bytes behind it.
+#[derive(Clone, Copy, Debug, PartialEq, Eq)]
+pub struct DataBlockParsedItem {
+    /// The value type.
+    pub value_type: ValueType,
+    /// The sequence number.
+    pub seqno: SeqNo,
+    /// The bytes that the key shares with the key of its interval's head. `None` in a full form.
+    pub prefix: Option<SliceIndexes>,
+    /// The key's own bytes.
+    pub key: SliceIndexes,
+    /// The value. `None` for a tombstone.
+    pub value: Option<SliceIndexes>,
+}
+
+impl ParsedItem<InternalValue> for DataBlockParsedItem {
+    ghost use Rattle.sst_block_kinds.specs.ParsedEntry.{entry_of, IsParsedEntry, prefix_len};
+
+    ghost item_of = { entry_of };
+
+    ghost is_found = { IsParsedEntry };
+
+    ghost key_start = { λ p. p.key.0 };
+
+    ghost shared_len = { prefix_len };
+
+    fn compare_key(&self, needle: &[u8], payload: &[u8]) -> Ordering {
+        compare_ranges(payload, &self.prefix, &self.key, needle)
+    }
+
+    fn seqno(&self) -> u64 {
+        self.seqno
+    }
+
+    fn key_offset(&self) -> usize {
+        self.key.0
+    }
+
+    #[inline(always)]
+    fn prefix_len(&self, payload: &[u8]) -> usize {
+        prefix_len(payload, &self.prefix)
+    }
+
+    #[inline(always)]
+    #[tactic(auto, using(crate::proofs::OwnKeys::own_key))]
+    fn own_key<'a>(&self, payload: &'a [u8]) -> &'a [u8] {
+        bytes_of(payload, &self.key)
+    }
+
+    fn materialize(&self, alloc: Global, payload: &Slice) -> Result<InternalValue> {
+        let user_key = join_ranges(alloc, payload, &self.prefix, &self.key)?;
+        let value = match &self.value {
+            Some(value) => payload.slice(value.0..value.1)?,
+            None => Slice::empty(alloc),
+        };
+        let key = InternalKey::new(user_key, self.seqno, self.value_type);
+        Ok(InternalValue::new(key, value))
+    }
+}

@@ -1,0 +1,78 @@
+//! The look-up of a point read.
+ghost use Rattle.std.specs.Prelude.{◌≡◌, ◌+◌, ◌<◌, ◌≤◌, IfSome, length, map};
+ghost use Rattle.std.specs.Option.{option_map};
+ghost use Rattle.sst_base.specs.Counted.{found_item};
+ghost use Rattle.sst_base.specs.Entry.{plain};
+ghost use Rattle.sst_block_core.specs.Kind.{IsOrdered};
+ghost use Rattle.sst_block_core.specs.Entries.{entries};
+ghost use Rattle.sst_block_kinds.specs.PointReads.{lookup, read_heads, read_entries};
+ghost use Rattle.sst_block_kinds.specs.ParsedEntry.{entry_of, IsParsedEntry};
+ghost use Rattle.sst_block_core.specs.Pointers.{head_count};
+ghost use Rattle.sst_block_core.specs.Window.{first_match};
+
+use crate::table::data_block::DataBlock;
+use crate::table::data_block::parsed_item::DataBlockParsedItem;
+use sst_base::{BlockHash, InternalValue, SeqNo, Steps};
+use sst_block_core::table::block::hash_index::Lookup;
+use sst_block_core::table::block::intervals::Intervals;
+
+impl<H: BlockHash> DataBlock<H> {
+    // What the hash index says of a key, if there is one.
+    #[inline(always)]
+    fn lookup(&self, needle: &[u8]) -> Lookup
+        ensures value { result ≡ lookup H.hash64 self.now needle.now }
+        ensures few_heads { 0 < self.now.stored → head_count self.now.interval (length self.now.items) ≤ 254 }
+    {
+        // The proof needs how many heads a block with a hash index has.
+        let _opened = self.opened();
+        match self.get_hash_index_reader() {
+            Some(index) => index.lookup(needle),
+            None => Lookup::Anywhere,
+        }
+    }
+
+    // The block's restart intervals, of which nothing is counted yet.
+    #[inline(always)]
+    fn intervals(&self) -> Intervals<'_, InternalValue, DataBlockParsedItem>
+        ensures payload { result.list.payload ≡ self.now.payload }
+        ensures items { result.list.items ≡ self.now.items }
+        ensures interval { result.list.interval ≡ self.now.interval }
+        ensures some { 0 < self.now.interval }
+        ensures ordered { IsOrdered entries self.now.items }
+        ensures plain { map plain self.now.items ≡ self.now.items }
+        ensures heads { result.steps.heads ≡ 0 }
+        ensures entries { result.steps.entries ≡ 0 }
+    {
+        // The proof needs the bound on the payload's length.
+        let _fits = self.inner.size();
+        Intervals::new(&self.inner)
+    }
+
+    /// Finds the first entry with a key whose sequence number is strictly below `seqno`. What was
+    /// looked at is added to `steps`.
+    #[inline(always)]
+    pub(crate) fn find_version(
+        &self,
+        needle: &[u8],
+        seqno: SeqNo,
+        steps: &mut Steps,
+    ) -> Option<DataBlockParsedItem>
+        ensures item { option_map (entry_of self.now.payload) result ≡ first_match entries needle.now seqno self.now.items }
+        ensures found { IfSome result (IsParsedEntry self.now.payload) }
+        ensures heads { steps.new.heads ≤ steps.old.heads + read_heads H.hash64 self.now needle.now }
+        ensures heads_grow { steps.old.heads ≤ steps.new.heads }
+        ensures entries { steps.new.entries ≤ steps.old.entries + read_entries H.hash64 self.now needle.now }
+        ensures entries_grow { steps.old.entries + found_item result ≤ steps.new.entries }
+    {
+        let mut intervals = self.intervals();
+        let found = match self.lookup(needle) {
+            Lookup::Nowhere => None,
+            Lookup::Interval(number) => {
+                intervals.first_version_in(usize::from(number), needle, seqno)
+            }
+            Lookup::Anywhere => intervals.first_version(needle, seqno),
+        };
+        steps.add(intervals.steps());
+        found
+    }
+}

@@ -1,0 +1,78 @@
+//! The check of an index block, and handles as items that are checked.
+ghost use Rattle.std.specs.Prelude.{◌≡◌, ◌≢◌, OnOk, IfErr, Ok, Err};
+ghost use Rattle.sst_block_kinds.specs.Checks.{index_check};
+ghost use Rattle.sst_block_kinds.specs.Handles.{handles, IsIndexBlock};
+ghost use Rattle.sst_block_core.specs.Stages.{items_in};
+ghost use Rattle.sst_block_core.specs.Trailer.{trailer_in};
+
+use crate::table::index_block::block_handle::KeyedBlockHandle;
+use crate::table::index_block::decoding::front_from;
+use crate::table::index_block::parsed_item::IndexBlockParsedItem;
+use sst_base::table::block::Block;
+use sst_base::table::util::SliceIndexes;
+use sst_base::{Error, Result};
+use sst_block_core::table::block::check::Checkable;
+use sst_block_core::table::block::check::keys::KeyRanges;
+use sst_block_core::table::block::check::parts::parts_of;
+use sst_block_core::table::block::check::pass::check_items;
+use sst_block_core::table::block::check::truncation::is_greatest;
+use sst_block_core::table::block::key_ranges::bytes_of;
+use sst_block_core::table::block::reading::{length_prefixed_from, number_from, prefix_from};
+
+/// A handle's block has to end within 64 bits.
+impl Checkable<IndexBlockParsedItem> for KeyedBlockHandle {
+    ghost use Rattle.sst_block_kinds.specs.Handles.{EndFits};
+
+    ghost fits = { EndFits };
+
+    #[inline(always)]
+    fn fits(item: &IndexBlockParsedItem) -> bool {
+        item.offset.0 <= u64::MAX - u64::from(item.size)
+    }
+
+    #[inline(always)]
+    fn key_ranges(item: &IndexBlockParsedItem) -> KeyRanges {
+        let front = match &item.prefix {
+            Some(prefix) => *prefix,
+            None => SliceIndexes(0, 0),
+        };
+        KeyRanges {
+            front,
+            rest: item.end_key,
+        }
+    }
+
+    #[inline(always)]
+    fn parse_exactly(
+        payload: &[u8],
+        offset: usize,
+        base: &SliceIndexes,
+    ) -> Option<(IndexBlockParsedItem, usize)> {
+        let (front, at) = front_from(payload, offset)?;
+        let (shared, at) = number_from(payload, at, 16)?;
+        let (key, end) = length_prefixed_from(payload, at, 16)?;
+        if !is_greatest(bytes_of(payload, base), shared, bytes_of(payload, &key)) {
+            return None;
+        }
+        let prefix = prefix_from(payload, base.0, shared, key.1 - key.0)?;
+        Some((front.with_key(Some(prefix), key), end))
+    }
+}
+
+/// Checks the payload of a block of any bytes, stage by stage. Takes no memory.
+///
+/// # Errors
+///
+/// That of the first stage that fails.
+pub(super) fn check_block(block: &Block) -> Result<()>
+    ensures checked { OnOk result (index_check block.now.payload ≡ Ok (items_in handles block.now.payload)) }
+    ensures block { OnOk result (IsIndexBlock block.now.payload (items_in handles block.now.payload) (trailer_in block.now.payload).interval) }
+    ensures refused { IfErr result (λ e. index_check block.now.payload ≡ Err e) }
+{
+    let numbers = parts_of(block)?;
+    if numbers.hash_len != 0 {
+        return Err(Error::BadTrailer);
+    }
+    check_items::<KeyedBlockHandle, IndexBlockParsedItem>(block.data().as_slice(), &numbers)?;
+    Ok(())
+}

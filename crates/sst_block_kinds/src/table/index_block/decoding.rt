@@ -1,0 +1,170 @@
+//! Handles as items of a block: how they are decoded.
+ghost use Rattle.std.specs.Prelude.{◌≡◌, ◌+◌, ◌^◌, ◌<◌, ◌≤◌, length, drop, IfSome, IsSome};
+ghost use Rattle.sst_block_core.specs.Found.{Finds, Takes};
+ghost use Rattle.sst_block_kinds.specs.Handles.{marker_at, front_at};
+ghost use Rattle.sst_block_kinds.specs.ParsedHandle.{front_by};
+
+use crate::table::index_block::block_handle::KeyedBlockHandle;
+use crate::table::index_block::encoding::HANDLE_MARKER;
+use crate::table::index_block::parsed_item::IndexBlockParsedItem;
+use sst_base::table::block::BlockOffset;
+use sst_base::table::util::SliceIndexes;
+use sst_base::{SeqNo, Steps};
+use sst_block_core::table::block::Decodable;
+use sst_block_core::table::block::key_ranges::bytes_of;
+use sst_block_core::table::block::reading::{
+    length_prefixed_from, number_from, prefix_from, read_length_prefixed, read_number,
+};
+
+// What a form says in front of its end key.
+#[derive(Clone, Copy)]
+pub(super) struct HandleFront {
+    pub(super) offset: u64,
+    pub(super) size: u32,
+    pub(super) seqno: SeqNo,
+}
+
+impl HandleFront {
+    // The item of an end key by its ranges.
+    #[inline(always)]
+    pub(super) fn with_key(
+        self,
+        prefix: Option<SliceIndexes>,
+        end_key: SliceIndexes,
+    ) -> IndexBlockParsedItem
+        ensures { result ≡ record {
+          offset = record { 0 = self.offset };
+          size = self.size;
+          prefix = prefix;
+          end_key = end_key;
+          seqno = self.seqno;
+        } }
+    {
+        IndexBlockParsedItem {
+            offset: BlockOffset(self.offset),
+            size: self.size,
+            prefix,
+            end_key,
+            seqno: self.seqno,
+        }
+    }
+}
+
+// Where the marker at an offset ends, if it is that of a handle.
+#[inline(always)]
+fn marker_from(payload: &[u8], at: usize) -> Option<usize>
+    requires { at ≤ length payload.now }
+    ensures none { result ≡ None → marker_at (drop at payload.now) ≡ None }
+    ensures some { IfSome result (λ end. (end ≤ length payload.now) × (marker_at (drop at payload.now) ≡ Some (drop end payload.now))) }
+{
+    if at >= payload.len() || payload[at] != HANDLE_MARKER {
+        return None;
+    }
+    Some(at + 1)
+}
+
+// The front at an offset, and where it ends.
+#[inline(always)]
+#[tactic(auto, unfolding(crate::specs::Handles::front_at))]
+pub(super) fn front_from(payload: &[u8], at: usize) -> Option<(HandleFront, usize)>
+    requires { at ≤ length payload.now }
+    ensures { Finds front_by payload.now result (front_at (drop at payload.now)) }
+{
+    let at = marker_from(payload, at)?;
+    let (offset, at) = number_from(payload, at, 64)?;
+    let (size, at) = number_from(payload, at, 32)?;
+    let (seqno, end) = number_from(payload, at, 64)?;
+    let front = HandleFront {
+        offset,
+        size: size as u32,
+        seqno,
+    };
+    Some((front, end))
+}
+
+// The front that stands at an offset, and where it ends.
+#[inline(always)]
+fn read_front(payload: &[u8], at: usize) -> (HandleFront, usize)
+    requires { IsSome (front_at (drop at payload.now)) }
+    ensures { Takes front_by payload.now result (front_at (drop at payload.now)) }
+{
+    let (offset, at) = read_number(payload, at + 1, 64);
+    let (size, at) = read_number(payload, at, 32);
+    let (seqno, end) = read_number(payload, at, 64);
+    let front = HandleFront {
+        offset,
+        size: size as u32,
+        seqno,
+    };
+    (front, end)
+}
+
+/// Decodes the two forms of a handle as ranges of the payload.
+impl Decodable<IndexBlockParsedItem> for KeyedBlockHandle {
+    fn parse_restart_key<'a>(
+        payload: &'a [u8],
+        offset: usize,
+        steps: &mut Steps,
+    ) -> Option<(&'a [u8], u64)> {
+        steps.count_head();
+        let (front, at) = front_from(payload, offset)?;
+        let (key, _) = length_prefixed_from(payload, at, 16)?;
+        Some((bytes_of(payload, &key), front.seqno))
+    }
+
+    #[inline(always)]
+    #[tactic(auto, using(crate::proofs::HandleReads::full_no_front, crate::proofs::HandleReads::full_no_key))]
+    fn parse_full(
+        payload: &[u8],
+        offset: usize,
+        steps: &mut Steps,
+    ) -> Option<(IndexBlockParsedItem, usize)> {
+        let (front, at) = front_from(payload, offset)?;
+        let (key, end) = length_prefixed_from(payload, at, 16)?;
+        steps.count_entry();
+        Some((front.with_key(None, key), end))
+    }
+
+    #[inline(always)]
+    fn parse_truncated(
+        payload: &[u8],
+        offset: usize,
+        base_key_offset: usize,
+        steps: &mut Steps,
+    ) -> Option<(IndexBlockParsedItem, usize)> {
+        let (front, at) = front_from(payload, offset)?;
+        let (shared, at) = number_from(payload, at, 16)?;
+        let (key, end) = length_prefixed_from(payload, at, 16)?;
+        let prefix = prefix_from(payload, base_key_offset, shared, key.1 - key.0)?;
+        steps.count_entry();
+        Some((front.with_key(Some(prefix), key), end))
+    }
+
+    #[inline(always)]
+    fn read_full(payload: &[u8], offset: usize) -> (IndexBlockParsedItem, usize) {
+        let (front, at) = read_front(payload, offset);
+        let (key, end) = read_length_prefixed(payload, at, 16);
+        (front.with_key(None, key), end)
+    }
+
+    #[inline(always)]
+    fn read_truncated(
+        payload: &[u8],
+        offset: usize,
+        base_key_offset: usize,
+    ) -> (IndexBlockParsedItem, usize) {
+        let _size = payload.len();
+        let (front, at) = read_front(payload, offset);
+        let (shared, at) = read_number(payload, at, 16);
+        let (key, end) = read_length_prefixed(payload, at, 16);
+        let prefix = SliceIndexes(base_key_offset, base_key_offset + shared as usize);
+        (front.with_key(Some(prefix), key), end)
+    }
+
+    #[inline(always)]
+    fn read_head<'a>(payload: &'a [u8], offset: usize) -> (&'a [u8], u64) {
+        let (front, at) = read_front(payload, offset);
+        let (key, _) = read_length_prefixed(payload, at, 16);
+        (bytes_of(payload, &key), front.seqno)
+    }
+}

@@ -1,0 +1,126 @@
+//! The iterator over the handles of an index block, as ranges of its payload.
+ghost use Rattle.std.specs.Prelude.{◌≡◌, ◌+◌, ◌-◌, ◌*◌, ◌≤◌, length, true};
+ghost use Rattle.std.specs.Iterator.{at_most};
+ghost use Rattle.sst_block_core.specs.Backs.{GivesStep, GivesNextBack};
+ghost use Rattle.sst_block_kinds.specs.Handles.{handles};
+ghost use Rattle.sst_block_core.specs.Intervals.{digits};
+ghost use Rattle.sst_block_core.specs.Kind.{IsOrdered};
+ghost use Rattle.sst_block_core.specs.Landings.{GivesNextHeld, scan_cost};
+ghost use Rattle.sst_block_kinds.specs.ParsedHandle.{handle_of, IsParsedHandle};
+ghost use Rattle.sst_block_core.specs.Pointers.{head_count};
+ghost use Rattle.sst_block_core.specs.Window.{found, seek_index, seek_upper_index};
+
+use crate::table::index_block::block_handle::KeyedBlockHandle;
+use crate::table::index_block::parsed_item::IndexBlockParsedItem;
+use sst_base::{SeqNo, Steps};
+use sst_block_core::table::block::Decoder;
+use sst_block_core::table::block::bound::Bound;
+use sst_block_core::table::block::landing::Landing;
+use std::marker::Model;
+
+/// An iterator over the handles of an index block, as ranges of its payload.
+///
+/// Clauses see the payload, the restart interval, a window over the handles, and the counters. Every
+/// call, at any moment, is a step of the window: a seek moves its own end, wherever that was, and
+/// leaves the other. The handle that a seek decodes is held for the next step. No step takes memory.
+#[derive(Drop)]
+pub struct Iter<'a> {
+    decoder: Decoder<'a, KeyedBlockHandle, IndexBlockParsedItem>,
+    held: Option<Landing<IndexBlockParsedItem>>,
+}
+
+impl<'a> Model for Iter<'a> {
+    ghost use Rattle.std.specs.Prelude.{IfSome};
+    ghost use Rattle.sst_block_core.specs.Kind.{IsOrdered};
+    ghost use Rattle.sst_block_kinds.specs.Handles.{Handle, handles};
+    ghost use Rattle.sst_block_core.specs.Landings.{IsHeldAt, listed_of};
+    ghost use Rattle.sst_block_kinds.specs.ParsedHandle.{handle_of, IsParsedHandle};
+    ghost use Rattle.sst_block_core.specs.Scan.{Scan};
+
+    ghost Value = { Scan Handle };
+
+    ghost view = { λ i. i.decoder };
+
+    ghost invariant = { λ i. IsOrdered handles i.decoder.window.list
+        × IfSome i.held (IsHeldAt handle_of IsParsedHandle handles (listed_of i.decoder) i.decoder.window.lo) };
+}
+
+impl<'a> Iter<'a> {
+    /// Wraps a decoder of an index block, whose handles are ordered.
+    pub fn new(decoder: Decoder<'a, KeyedBlockHandle, IndexBlockParsedItem>) -> Iter<'a>
+        requires { IsOrdered handles decoder.window.list }
+        ensures { result ≡ decoder.entry }
+    {
+        Iter {
+            decoder,
+            held: None,
+        }
+    }
+
+    /// Returns what was counted since the iterator was made.
+    pub fn steps(&self) -> &Steps
+        ensures { result.now ≡ self.now.steps }
+    {
+        self.decoder.steps()
+    }
+
+    /// Moves the front to the first handle that can lead to the needle below the sequence number:
+    /// it passes over end keys below the needle, and those equal to it whose sequence number is at
+    /// least `seqno`. Returns whether there is such a handle in the block, wherever the back is.
+    pub fn seek(&mut self, needle: &[u8], seqno: SeqNo) -> bool
+        ensures step { GivesStep self.old self.new (found result) (seek_index handles needle.now seqno self.old.window) }
+        ensures heads { self.new.steps.heads ≤ self.old.steps.heads + digits (head_count self.old.interval (length self.old.window.list)) }
+        ensures heads_grow { self.old.steps.heads ≤ self.new.steps.heads }
+        ensures entries { self.new.steps.entries ≤ self.old.steps.entries + scan_cost self.old.interval }
+        ensures entries_grow { self.old.steps.entries ≤ self.new.steps.entries }
+    {
+        let passed = Bound {
+            needle,
+            from: Some(seqno),
+        };
+        self.held = self.decoder.seek_place(&passed);
+        self.decoder.is_at_item()
+    }
+
+    /// Moves the back behind the first handle whose end key is above the needle, or behind the last
+    /// handle. Returns `true`. The sequence number is not looked at.
+    pub fn seek_upper(&mut self, needle: &[u8], _seqno: SeqNo) -> bool
+        ensures step { GivesStep self.old self.new (found result) (seek_upper_index handles needle.now self.old.window) }
+        ensures heads { self.new.steps.heads ≤ self.old.steps.heads + digits (head_count self.old.interval (length self.old.window.list)) }
+        ensures heads_grow { self.old.steps.heads ≤ self.new.steps.heads }
+        ensures entries { self.new.steps.entries ≤ self.old.steps.entries + 2 * scan_cost self.old.interval }
+        ensures entries_grow { self.old.steps.entries ≤ self.new.steps.entries }
+    {
+        let passed = Bound::up_to(needle);
+        self.decoder.seek_upper_place(&passed);
+        true
+    }
+}
+
+/// Returns the next handle, if one is left. Counts an entry for a handle that was not held.
+impl<'a> Iterator for Iter<'a> {
+    type Item = IndexBlockParsedItem;
+
+    ghost next_gives = { λ s r t. GivesNextHeld handle_of IsParsedHandle s r t };
+
+    ghost remaining = { λ s. at_most (s.window.hi - s.window.lo) };
+
+    #[inline(always)]
+    fn next(&mut self) -> Option<IndexBlockParsedItem> {
+        match self.held.take() {
+            Some(held) => self.decoder.next_held(held),
+            None => self.decoder.next(),
+        }
+    }
+}
+
+/// Returns the last handle, if one is left. Counts an entry for a handle, and those of its interval
+/// where it is the last of it.
+impl<'a> DoubleEndedIterator for Iter<'a> {
+    ghost next_back_gives = { λ s r t. GivesNextBack handle_of IsParsedHandle s r t };
+
+    #[inline(always)]
+    fn next_back(&mut self) -> Option<IndexBlockParsedItem> {
+        self.decoder.next_back()
+    }
+}

@@ -1,0 +1,276 @@
+//! Index blocks: blocks of handles.
+ghost use Rattle.std.specs.Prelude.{◌≡◌, ◌↔◌, ℕ, ◌^◌, ◌<◌, ◌≤◌, List, length, [], IsTrue};
+ghost use Rattle.std.specs.Prelude.{OnOk, OnErr, IfOk, IfErr, None, Ok, Err};
+ghost use Rattle.std.specs.List.{AllByRecursion};
+ghost use Rattle.sst_base.specs.Bytes.{IsBytes};
+ghost use Rattle.sst_block_kinds.specs.Checks.{index_check};
+ghost use Rattle.sst_block_core.specs.Encoders.{IsRefusal};
+ghost use Rattle.sst_block_kinds.specs.Handles.{Handle, EndFits, handles, index_payload};
+ghost use Rattle.sst_block_kinds.specs.Handles.{IsIndexBlock};
+ghost use Rattle.sst_block_kinds.specs.IndexBlock.{block_of, index_block_of};
+ghost use Rattle.sst_block_core.specs.Kind.{IsOrdered};
+ghost use Rattle.sst_block_core.specs.Trailer.{trailer_in};
+ghost use Rattle.sst_block_core.specs.Window.{whole};
+
+pub mod block_handle;
+mod checking;
+mod decoding;
+mod encoding;
+pub mod iter;
+pub mod ops;
+pub mod parsed_item;
+
+pub use block_handle::{BlockHandle, KeyedBlockHandle};
+use checking::check_block;
+pub use iter::Iter;
+pub use ops::{IndexAnswer, IndexOp, walk};
+pub use parsed_item::IndexBlockParsedItem;
+use sst_base::table::block::Block;
+use sst_base::{HashRatio, Poly31, Result, Slice};
+use sst_block_core::table::block::encoder::encode_all;
+use sst_block_core::table::block::{Decoder, Trailer};
+use std::alloc::{AllocError, Global};
+use std::fmt;
+use std::marker::Model;
+
+/// A block of handles.
+///
+/// Clauses see its header and payload, its handles and its restart interval. The payload is always
+/// the encoding of these handles: see [`IndexBlock::as_slice`].
+#[derive(Drop)]
+pub struct IndexBlock {
+    inner: Block,
+}
+
+impl Model for IndexBlock {
+    ghost use Rattle.std.specs.Prelude.{ℕ, List};
+    ghost use Rattle.sst_block_kinds.specs.Handles.{Handle, IsIndexBlock};
+    ghost use Rattle.sst_block_kinds.specs.IndexBlock.{IndexBlockParts, index_block_of};
+
+    ghost Value = { IndexBlockParts };
+
+    ghost view = { λ b. index_block_of b.inner };
+
+    ghost invariant = { λ b. (items : List Handle) × (r : ℕ) × IsIndexBlock b.inner.payload items r };
+}
+
+impl IndexBlock {
+    /// Returns whether no handle sorts before its predecessor: by end key rising, then by sequence
+    /// number falling.
+    pub fn is_ordered(items: &[KeyedBlockHandle]) -> bool
+        ensures { IsTrue result ↔ IsOrdered handles items.now }
+    {
+        for i in 1..items.len() {
+            if items[i].compare(&items[i - 1]).is_lt() {
+                return false;
+            }
+        }
+        true
+    }
+
+    /// Returns whether the frame of each handle ends below 2^64.
+    pub fn ends_fit(items: &[KeyedBlockHandle]) -> bool
+        ensures { IsTrue result ↔ AllByRecursion EndFits items.now }
+    {
+        items.iter().all(|handle| {
+            let size = u64::from(handle.size());
+            handle.offset().checked_add(size).is_some()
+        })
+    }
+
+    /// Encodes a non-empty ordered list of handles, each with an end of its block below 2^64, into an
+    /// empty vector. Each handle is a head.
+    ///
+    /// # Errors
+    ///
+    /// `Error::TooLong` only where the block has 2^32 bytes or more; `Error::Memory` if an
+    /// allocation fails. The vector is then empty.
+    pub fn encode_into(writer: &mut Vec<u8>, items: &[KeyedBlockHandle]) -> Result<()>
+        requires empty { writer.old.items ≡ [] }
+        requires some { 1 ≤ length items.now }
+        requires ordered { IsOrdered handles items.now }
+        requires ends { AllByRecursion EndFits items.now }
+        ensures payload { OnOk result (writer.new.items ≡ index_payload items.now 1) }
+        ensures block { OnOk result (IsIndexBlock writer.new.items items.now 1) }
+        ensures fits { OnOk result (length writer.new.items < 2 ^ 32) }
+        ensures empty { OnErr result (writer.new.items ≡ []) }
+        ensures cause { IfErr result (IsRefusal None (2 ^ 32 ≤ length (index_payload items.now 1))) }
+    {
+        IndexBlock::encode_into_with(writer, items, 1)
+    }
+
+    /// Encodes a list of handles, as [`IndexBlock::encode_into`] does, into a vector of its own.
+    ///
+    /// # Errors
+    ///
+    /// `Error::TooLong` only where the block has 2^32 bytes or more; `Error::Memory` if an
+    /// allocation fails.
+    pub fn encode_into_vec(alloc: Global, items: &[KeyedBlockHandle]) -> Result<Vec<u8>>
+        requires some { 1 ≤ length items.now }
+        requires ordered { IsOrdered handles items.now }
+        requires ends { AllByRecursion EndFits items.now }
+        ensures payload { IfOk result (λ v. v.items ≡ index_payload items.now 1) }
+        ensures block { IfOk result (λ v. IsIndexBlock v.items items.now 1) }
+        ensures fits { IfOk result (λ v. length v.items < 2 ^ 32) }
+        ensures cause { IfErr result (IsRefusal None (2 ^ 32 ≤ length (index_payload items.now 1))) }
+    {
+        IndexBlock::encode_into_vec_with(alloc, items, 1)
+    }
+
+    /// Encodes a non-empty ordered list of handles, each with an end of its block below 2^64, into an
+    /// empty vector, in restart intervals of at least one handle.
+    ///
+    /// # Errors
+    ///
+    /// `Error::TooLong` only where the block has 2^32 bytes or more; `Error::Memory` if an
+    /// allocation fails. The vector is then empty.
+    pub fn encode_into_with(
+        writer: &mut Vec<u8>,
+        items: &[KeyedBlockHandle],
+        restart_interval: u8,
+    ) -> Result<()>
+        requires empty { writer.old.items ≡ [] }
+        requires some { 1 ≤ length items.now }
+        requires ordered { IsOrdered handles items.now }
+        requires ends { AllByRecursion EndFits items.now }
+        requires interval { 1 ≤ restart_interval }
+        ensures payload { OnOk result (writer.new.items ≡ index_payload items.now restart_interval) }
+        ensures block { OnOk result (IsIndexBlock writer.new.items items.now restart_interval) }
+        ensures fits { OnOk result (length writer.new.items < 2 ^ 32) }
+        ensures empty { OnErr result (writer.new.items ≡ []) }
+        ensures cause { IfErr result (IsRefusal None (2 ^ 32 ≤ length (index_payload items.now restart_interval))) }
+    {
+        // No key is hashed, since there are no buckets.
+        let no_buckets = HashRatio { num: 0, den: 1 };
+        encode_all::<KeyedBlockHandle, Poly31>(writer, items, restart_interval, no_buckets)
+    }
+
+    /// Encodes a list of handles, as [`IndexBlock::encode_into_with`] does, into a vector of its
+    /// own.
+    ///
+    /// # Errors
+    ///
+    /// `Error::TooLong` only where the block has 2^32 bytes or more; `Error::Memory` if an
+    /// allocation fails.
+    pub fn encode_into_vec_with(
+        alloc: Global,
+        items: &[KeyedBlockHandle],
+        restart_interval: u8,
+    ) -> Result<Vec<u8>>
+        requires some { 1 ≤ length items.now }
+        requires ordered { IsOrdered handles items.now }
+        requires ends { AllByRecursion EndFits items.now }
+        requires interval { 1 ≤ restart_interval }
+        ensures payload { IfOk result (λ v. v.items ≡ index_payload items.now restart_interval) }
+        ensures block { IfOk result (λ v. IsIndexBlock v.items items.now restart_interval) }
+        ensures fits { IfOk result (λ v. length v.items < 2 ^ 32) }
+        ensures cause { IfErr result (IsRefusal None (2 ^ 32 ≤ length (index_payload items.now restart_interval))) }
+    {
+        let mut writer = Vec::new(alloc);
+        IndexBlock::encode_into_with(&mut writer, items, restart_interval)?;
+        Ok(writer)
+    }
+
+    /// Takes a block whose payload is the encoding of some ordered, non-empty list of handles, each
+    /// with an end of its block below 2^64. Takes no memory.
+    pub fn new(block: Block) -> IndexBlock
+        requires { (items : List Handle) × (r : ℕ) × IsIndexBlock block.payload items r }
+        ensures inner { block_of result ≡ block }
+        ensures payload { result.payload ≡ block.payload }
+        ensures parts { result ≡ index_block_of block }
+        ensures read { (items : List Handle) (r : ℕ) → IsIndexBlock block.payload items r
+            → (result.items ≡ items) × (result.interval ≡ r) }
+    {
+        // The proof needs the bound on the payload's length.
+        let _fits = block.size();
+        IndexBlock { inner: block }
+    }
+
+    /// Takes a block of any bytes, if its payload is the encoding of some ordered, non-empty list of
+    /// handles at an interval from 1 to 255, each with an end of its block below 2^64. Takes no memory.
+    ///
+    /// # Errors
+    ///
+    /// That of the first of these stages that fails. `Error::Truncated` if the payload has fewer than
+    /// 31 bytes; `Error::BadTrailer` if the numbers of the trailer do not fit each other and the
+    /// payload, or there are buckets; `Error::BadEntry` if the body is not as many handles in their
+    /// forms, and nothing else; `Error::BadHandle` if a block's end is 2^64 or above;
+    /// `Error::OutOfOrder` if a handle sorts before its predecessor; `Error::BadIndex` if a pointer is
+    /// not the offset of its head, or the pointer width not the least.
+    pub fn check(block: Block) -> Result<IndexBlock>
+        ensures checked { IfOk result (λ b. index_check block.payload ≡ Ok b.items) }
+        ensures parts { IfOk result (λ b. b ≡ index_block_of block) }
+        ensures encoded { IfOk result (λ b. IsIndexBlock block.payload b.items b.interval) }
+        ensures refused { IfErr result (λ e. index_check block.payload ≡ Err e) }
+    {
+        check_block(&block)?;
+        Ok(IndexBlock::new(block))
+    }
+
+    /// Returns the payload, which is the encoding of the block's handles at its interval.
+    pub fn as_slice(&self) -> &Slice
+        ensures value { result.now ≡ self.now.payload }
+        ensures encoded { IsIndexBlock self.now.payload self.now.items self.now.interval }
+        ensures fits { length self.now.payload < 2 ^ 32 }
+    {
+        // The proof needs the bound on the payload's length.
+        let _fits = self.inner.size();
+        self.inner.data()
+    }
+
+    /// Returns the block, with its header.
+    pub fn inner(&self) -> &Block
+        ensures { result.now ≡ block_of self.now }
+    {
+        &self.inner
+    }
+
+    // The block, and what its trailer says.
+    fn opened(&self) -> &Block
+        ensures payload { result.now.payload ≡ self.now.payload }
+        ensures trailer { 31 ≤ length self.now.payload }
+        ensures count { (trailer_in self.now.payload).item_count ≡ length self.now.items }
+        ensures some { 1 ≤ length self.now.items }
+    {
+        // The proof needs the bound on the payload's length.
+        let _fits = self.inner.size();
+        &self.inner
+    }
+
+    /// Returns the number of handles, which is at least one.
+    pub fn len(&self) -> usize
+        ensures count { result ≡ length self.now.items }
+        ensures some { 1 ≤ result }
+    {
+        Trailer::new(self.opened()).item_count()
+    }
+
+    /// Returns an iterator over the handles, as ranges of the payload. Takes no memory.
+    pub fn iter(&self) -> Iter<'_>
+        ensures payload { result.payload ≡ self.now.payload }
+        ensures interval { result.interval ≡ self.now.interval }
+        ensures window { result.window ≡ whole self.now.items }
+        ensures heads { result.steps.heads ≡ 0 }
+        ensures entries { result.steps.entries ≡ 0 }
+    {
+        // The proof needs the bound on the payload's length.
+        let _fits = self.inner.size();
+        Iter::new(Decoder::new(&self.inner))
+    }
+}
+
+impl Clone for IndexBlock {
+    ghost is_clone = { λ b copy. copy ≡ b };
+
+    fn clone(&self) -> std::result::Result<IndexBlock, AllocError> {
+        Ok(IndexBlock {
+            inner: self.inner.clone()?,
+        })
+    }
+}
+
+impl fmt::Debug for IndexBlock {
+    fn fmt<W: fmt::Write>(&self, f: &mut fmt::Formatter<W>) -> fmt::Result {
+        write!(f, "IndexBlock({:?})", self.inner)
+    }
+}

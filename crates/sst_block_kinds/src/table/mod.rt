@@ -1,0 +1,3 @@
+//! The blocks of tables.
+pub mod data_block;
+pub mod index_block;
