@@ -1,11 +1,15 @@
 //! `check`: the frames of a table file, one after the other.
+ghost use Rattle.std.specs.Prelude.{◌≡◌, OnOk, IfOk, IfErr, IsOkUnless, string_bytes};
+ghost use Rattle.sst.specs.Outcome.{checked_text_of, PrintsCounts, PrintsNothing, IsRefused};
 
 use crate::fault::Fault;
 use crate::output::print_text;
 use crate::table::{data_block_at, index_at, open_table};
 use sstable_blocks::filter::standard_bloom::StandardBloomFilterReader;
 use sstable_blocks::run::checked::block_from;
-use sstable_blocks::{BlockHandle, BlockType, FrameSource, IndexBlock, Poly31, Result, RunHandles};
+use sstable_blocks::{
+    BlockHandle, BlockType, Error, FrameSource, IndexBlock, Poly31, Result, RunHandles,
+};
 use std::alloc::Global;
 use std::io::Write;
 use std::rt::Files;
@@ -42,6 +46,14 @@ fn check_run<S: FrameSource>(
     Ok((index.len(), entries))
 }
 
+// The line of the numbers of blocks and of entries, with its line feed.
+fn counts_text(alloc: Global, blocks: usize, entries: u64) -> Result<String>
+    ensures ok { IfOk result (λ text. string_bytes text ≡ checked_text_of blocks entries) }
+    ensures memory { IsOkUnless result Error.Memory }
+{
+    Ok(format!(in alloc; "ok {blocks} blocks {entries} entries\n")?)
+}
+
 /// Checks a table file, and prints the number of its blocks and of their entries. A block is counted
 /// as often as the index names it. End keys and the bits of the filter are not compared with the
 /// entries.
@@ -56,10 +68,14 @@ pub fn check<R: Files, O: Write>(
     alloc: Global,
     file: &str,
     output: &mut O,
-) -> std::result::Result<(), Fault> {
+) -> std::result::Result<(), Fault>
+    ensures printed { OnOk result (PrintsCounts (O.contents output.old) (O.contents output.new)) }
+    ensures err { IfErr result IsRefused }
+    ensures kept { IfErr result (PrintsNothing (O.contents output.old) (O.contents output.new)) }
+{
     let mut table = open_table(rt, alloc, file)?;
     let (blocks, entries) = check_run(alloc, &mut table.source, &table.handles)?;
-    let text = format!(in alloc; "ok {blocks} blocks {entries} entries\n")?;
+    let text = counts_text(alloc, blocks, entries)?;
     print_text(output, text.as_bytes())?;
     Ok(())
 }

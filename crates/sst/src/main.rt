@@ -18,9 +18,9 @@ pub mod text;
 pub mod walk;
 pub mod words;
 
-ghost use Rattle.std.specs.Prelude.{◌≡◌, ℕ, ◌≤◌, List, map, OnOk, IfErr, is_ok, if◌then◌else◌};
-ghost use Rattle.std.specs.Io.KnownBytes.{Appends};
-ghost use Rattle.sst.specs.Outcome.{outcome_of, IsTextOf, IsFaultOf, PrintsNothing};
+ghost use Rattle.std.specs.Prelude.{◌≡◌, ◌≤◌, map, OnOk, IfErr, is_ok, if◌then◌else◌};
+ghost use Rattle.sst.specs.Commands.{command_of_words};
+ghost use Rattle.sst.specs.Outcome.{HasPrinted, HasTold, HasKept};
 
 use check::check;
 use fault::Fault;
@@ -47,9 +47,8 @@ pub fn sst_main<R: Files, W: AsSlice<u8>, I: Read, O: Write, F: Write>(
     faults: &mut F,
 ) -> u8
     ensures status { result ≤ 1 }
-    ensures printed { result ≡ 0 → (text : List ℕ)
-        × IsTextOf (outcome_of (map W.items words.now)) (I.remaining input.old) text
-        × Appends (O.contents output.old) (O.contents output.new) text }
+    ensures printed { result ≡ 0 → HasPrinted (command_of_words (map W.items words.now))
+        (I.remaining input.old) (O.contents output.old) (O.contents output.new) }
 {
     let outcome = run(rt, alloc, words, input, output);
     status_of(outcome, faults)
@@ -68,11 +67,11 @@ pub fn run<R: Files, W: AsSlice<u8>, I: Read, O: Write>(
     input: &mut I,
     output: &mut O,
 ) -> Result<(), Fault>
-    ensures printed { OnOk result ((text : List ℕ)
-        × IsTextOf (outcome_of (map W.items words.now)) (I.remaining input.old) text
-        × Appends (O.contents output.old) (O.contents output.new) text) }
-    ensures err { IfErr result (IsFaultOf (outcome_of (map W.items words.now)) (I.remaining input.old)) }
-    ensures kept { IfErr result (PrintsNothing (O.contents output.old) (O.contents output.new)) }
+    ensures printed { OnOk result (HasPrinted (command_of_words (map W.items words.now))
+        (I.remaining input.old) (O.contents output.old) (O.contents output.new)) }
+    ensures err { IfErr result (HasTold (command_of_words (map W.items words.now)) (I.remaining input.old)) }
+    ensures kept { IfErr result (HasKept (command_of_words (map W.items words.now))
+        (O.contents output.old) (O.contents output.new)) }
 {
     match command_in(alloc, words)? {
         Some(Command::Point(words)) => point(alloc, &words, input, output),

@@ -1,8 +1,8 @@
 //! Numbers and byte strings as words and lines encode them.
-ghost use Rattle.std.specs.Prelude.{◌≡◌, ◌↔◌, IsSome, IfSome, IfOk, IsOkUnless};
+ghost use Rattle.std.specs.Prelude.{◌≡◌, ◌↔◌, ◌≤◌, IsSome, IfSome, IfOk, IsOkUnless};
 ghost use Rattle.std.specs.Option.{option_map};
 ghost use Rattle.std.specs.Str.Parse.{digits_value};
-ghost use Rattle.sst.specs.Text.{IsNumberText, hex_bytes};
+ghost use Rattle.sst.specs.Text.{IsNumberText, hex_bytes, number_within};
 
 use sstable_blocks::{Error, Result};
 use std::alloc::Global;

@@ -226,16 +226,22 @@ pub fn command_in<'a, W: AsSlice<u8>>(alloc: Global, words: &'a [W]) -> Result<O
 }
 
 // The command that a word names.
+#[tactic(auto, unfolding(crate::specs::Commands::name_of))]
 fn name_in(word: &[u8]) -> Option<Name>
     ensures { result ≡ name_of word.now }
 {
-    match word {
-        b"point" => Some(Name::Point),
-        b"pack" => Some(Name::Pack),
-        b"get" => Some(Name::Get),
-        b"walk" => Some(Name::Walk),
-        b"check" => Some(Name::Check),
-        _ => None,
+    if word == b"point".as_slice() {
+        Some(Name::Point)
+    } else if word == b"pack".as_slice() {
+        Some(Name::Pack)
+    } else if word == b"get".as_slice() {
+        Some(Name::Get)
+    } else if word == b"walk".as_slice() {
+        Some(Name::Walk)
+    } else if word == b"check".as_slice() {
+        Some(Name::Check)
+    } else {
+        None
     }
 }
 
@@ -297,6 +303,7 @@ fn pack_words<'a, W: AsSlice<u8>>(words: &'a [W]) -> Option<PackWords<'a>>
 }
 
 // INTERVAL NUM DEN BITS
+#[tactic(auto, unfolding(crate::specs::Commands::config_of))]
 fn config_in(interval: &[u8], num: &[u8], den: &[u8], bits: &[u8]) -> Option<RunConfig>
     ensures value { result ≡ config_of interval.now num.now den.now bits.now }
 {

@@ -1,0 +1,114 @@
+-- The command that words encode, by what each encodes.
+use Rattle.std.proofs.Common.{◌≡◌, ℕ, ◌<◌, ◌≤◌, List, [], ◌∷◌, length, drop, arith, refl, true, false, ap, sym, ◌∙◌, ◌⊎◌, get_or}
+use Rattle.std.specs.Prelude.{Option, Some, None, nat_eq, nat_le, nat_lt, ◌&&◌, map, codes}
+use Rattle.std.proofs.lemmas.Bool.Decides.{nat_tests}
+use Rattle.sst.specs.Text.{number_of, within, number_within, hex_bytes}
+use Rattle.sst.specs.Commands.{point_of_words, pack_of_words, get_of_words, file_of_words, index_interval_of, query_of, packing_of, lookup_of, file_of}
+
+pub within-kept : (least most n : ℕ) → least ≤ n → n ≤ most → within least most n ≡ Some n
+within-kept least most n some small =
+    let test : (nat_le least n && nat_le n most) ≡ true = grind (arith, nat_tests) in
+    rw test refl
+
+pub within-passed : (least most n : ℕ) → (n < least) ⊎ (most < n) → within least most n ≡ None
+within-passed least most n h =
+    let test : (nat_le least n && nat_le n most) ≡ false = grind (arith, nat_tests) in
+    rw test refl
+
+pub number_within-some : (least most : ℕ) (text : List ℕ) (n : ℕ) → number_of text ≡ Some n → number_within least most text ≡ within least most n
+unfolding number_within
+number_within-some least most text n e = rw e refl
+
+pub number_within-none : (least most : ℕ) (text : List ℕ) → number_of text ≡ None → number_within least most text ≡ None
+unfolding number_within
+number_within-none least most text e = rw e refl
+
+-- one item
+pub map-one : {A : Type 0} (f : A → List ℕ) (ws : List A) (a : A) → 1 ≤ length ws → length ws < 2 → a ≡ get_or ws 0 a → map f ws ≡ f a ∷ []
+map-one f [] a h l p = absurd (omega arith)
+map-one f (w ∷ []) a h l p = rw p refl
+map-one f (w ∷ x ∷ ws) a h l p = absurd (omega arith)
+
+-- three items, one by one
+pub map-three : {A : Type 0} (f : A → List ℕ) (ws : List A) (a b c : A) → 3 ≤ length ws → length ws < 4
+    → a ≡ get_or ws 0 a → b ≡ get_or ws 1 b → c ≡ get_or ws 2 c → map f ws ≡ f a ∷ f b ∷ f c ∷ []
+map-three f [] a b c h l p q r = absurd (omega arith)
+map-three f (w ∷ []) a b c h l p q r = absurd (omega arith)
+map-three f (w ∷ x ∷ []) a b c h l p q r = absurd (omega arith)
+map-three f (w ∷ x ∷ y ∷ []) a b c h l p q r = rw (p, q, r) refl
+map-three f (w ∷ x ∷ y ∷ z ∷ ws) a b c h l p q r = absurd (omega arith)
+
+-- six items, one by one, and those behind
+pub map-six : {A : Type 0} (f : A → List ℕ) (ws : List A) (a b c d e g : A) → 6 ≤ length ws
+    → a ≡ get_or ws 0 a → b ≡ get_or ws 1 b → c ≡ get_or ws 2 c → d ≡ get_or ws 3 d → e ≡ get_or ws 4 e → g ≡ get_or ws 5 g
+    → map f ws ≡ f a ∷ f b ∷ f c ∷ f d ∷ f e ∷ f g ∷ map f (drop 6 ws)
+map-six f [] a b c d e g h p q r s t u = absurd (omega arith)
+map-six f (w ∷ []) a b c d e g h p q r s t u = absurd (omega arith)
+map-six f (w ∷ x ∷ []) a b c d e g h p q r s t u = absurd (omega arith)
+map-six f (w ∷ x ∷ y ∷ []) a b c d e g h p q r s t u = absurd (omega arith)
+map-six f (w ∷ x ∷ y ∷ z ∷ []) a b c d e g h p q r s t u = absurd (omega arith)
+map-six f (w ∷ x ∷ y ∷ z ∷ v ∷ []) a b c d e g h p q r s t u = absurd (omega arith)
+map-six f (w ∷ x ∷ y ∷ z ∷ v ∷ o ∷ ws) a b c d e g h p q r s t u = rw (p, q, r, s, t, u) refl
+
+pub point-other_count : {A : Type 0} (f : A → List ℕ) (ws : List A) → (length ws < 3) ⊎ (4 ≤ length ws) → point_of_words (map f ws) ≡ None
+unfolding point_of_words
+point-other_count f [] h = refl
+point-other_count f (w ∷ []) h = refl
+point-other_count f (w ∷ x ∷ []) h = refl
+point-other_count f (w ∷ x ∷ y ∷ []) h = absurd (omega arith)
+point-other_count f (w ∷ x ∷ y ∷ z ∷ ws) h = refl
+
+pub point-words : (a b c : List ℕ) → point_of_words (a ∷ b ∷ c ∷ []) ≡ query_of a b c
+unfolding point_of_words
+point-words a b c = refl
+
+pub get-other_count : {A : Type 0} (f : A → List ℕ) (ws : List A) → (length ws < 3) ⊎ (4 ≤ length ws) → get_of_words (map f ws) ≡ None
+unfolding get_of_words
+get-other_count f [] h = refl
+get-other_count f (w ∷ []) h = refl
+get-other_count f (w ∷ x ∷ []) h = refl
+get-other_count f (w ∷ x ∷ y ∷ []) h = absurd (omega arith)
+get-other_count f (w ∷ x ∷ y ∷ z ∷ ws) h = refl
+
+pub get-words : (a b c : List ℕ) → get_of_words (a ∷ b ∷ c ∷ []) ≡ lookup_of a b c
+unfolding get_of_words
+get-words a b c = refl
+
+pub pack-other_count : {A : Type 0} (f : A → List ℕ) (ws : List A) → length ws < 6 → pack_of_words (map f ws) ≡ None
+unfolding pack_of_words
+pack-other_count f [] h = refl
+pack-other_count f (w ∷ []) h = refl
+pack-other_count f (w ∷ x ∷ []) h = refl
+pack-other_count f (w ∷ x ∷ y ∷ []) h = refl
+pack-other_count f (w ∷ x ∷ y ∷ z ∷ []) h = refl
+pack-other_count f (w ∷ x ∷ y ∷ z ∷ v ∷ []) h = refl
+pack-other_count f (w ∷ x ∷ y ∷ z ∷ v ∷ o ∷ ws) h = absurd (omega arith)
+
+pub pack-words : (a b c d e g : List ℕ) (words : List (List ℕ)) → pack_of_words (a ∷ b ∷ c ∷ d ∷ e ∷ g ∷ words) ≡ packing_of a b c d e g words
+unfolding pack_of_words
+pack-words a b c d e g words = refl
+
+pub file-other_count : {A : Type 0} (f : A → List ℕ) (ws : List A) → (length ws < 1) ⊎ (2 ≤ length ws) → file_of_words (map f ws) ≡ None
+unfolding file_of_words
+file-other_count f [] h = refl
+file-other_count f (w ∷ []) h = absurd (omega arith)
+file-other_count f (w ∷ x ∷ ws) h = refl
+
+pub file-words : (a : List ℕ) → file_of_words (a ∷ []) ≡ file_of a
+unfolding file_of_words
+file-words a = refl
+
+pub interval-none : {A : Type 0} (f : A → List ℕ) (ws : List A) → length ws < 1 → index_interval_of (map f ws) ≡ Some 1
+unfolding index_interval_of
+interval-none f [] h = refl
+interval-none f (w ∷ ws) h = absurd (omega arith)
+
+pub interval-one : (a : List ℕ) → index_interval_of (a ∷ []) ≡ number_within 1 255 a
+unfolding index_interval_of
+interval-one a = refl
+
+pub interval-more : {A : Type 0} (f : A → List ℕ) (ws : List A) → 2 ≤ length ws → index_interval_of (map f ws) ≡ None
+unfolding index_interval_of
+interval-more f [] h = absurd (omega arith)
+interval-more f (w ∷ []) h = absurd (omega arith)
+interval-more f (w ∷ x ∷ ws) h = refl

@@ -1,0 +1,42 @@
+-- Blocks of a size, and the length of a table.
+use Rattle.std.proofs.Common.{◌≡◌, ℕ, ◌+◌, ◌≤◌, ◌<◌, List, [], ◌∷◌, ◌++◌, length, take, drop, arith, refl, sym, ◌∙◌, ap, append_assoc, append-nil}
+use Rattle.sstable_blocks.specs.Blocks.{joined}
+use Rattle.sst_base.specs.Entry.{Entry}
+use Rattle.sst_block_core.specs.Entries.{entries}
+use Rattle.sst_block_core.specs.Kind.{IsOrdered}
+use Rattle.sst.specs.Table.{HaveSize, IsCutBy}
+
+-- all blocks have n items
+abbrev pub AreFull : {X : Type 0} → ℕ → List (List X) → Type 0
+AreFull n [] = Unit {0}
+AreFull n (block ∷ blocks) = (length block ≡ n) × AreFull n blocks
+
+pub joined-next : {X : Type 0} (blocks : List (List X)) (block : List X) → joined (blocks ++ block ∷ []) ≡ joined blocks ++ block
+joined-next [] block = append-nil block
+joined-next (b ∷ blocks) block = ap (λ xs. b ++ xs) (joined-next blocks block) ∙ sym (append_assoc b (joined blocks) block)
+
+pub full-next : {X : Type 0} (n : ℕ) (blocks : List (List X)) (block : List X) → AreFull n blocks → length block ≡ n → AreFull n (blocks ++ block ∷ [])
+full-next n [] block h e = (e, tt)
+full-next n (b ∷ blocks) block h e = (h.0, full-next n blocks block h.1 e)
+
+pub size-next : {X : Type 0} (n : ℕ) (blocks : List (List X)) (block : List X) → AreFull n blocks → 1 ≤ length block → length block ≤ n → HaveSize n (blocks ++ block ∷ [])
+size-next n [] block h some most = (some, most)
+size-next n (b ∷ []) block h some most = (h.0, (some, most))
+size-next n (b ∷ c ∷ blocks) block h some most = (h.0, size-next n (c ∷ blocks) block h.1 some most)
+
+-- the front of an ordered list
+pub ordered-front : (a b : List Entry) → IsOrdered entries (a ++ b) → IsOrdered entries a
+ordered-front [] b h = tt
+ordered-front (x ∷ []) b h = tt
+ordered-front (x ∷ y ∷ a) b h = (h.0, ordered-front (y ∷ a) b h.1)
+
+-- a block more, cut from what is left
+pub all-next : {X : Type 0} (blocks : List (List X)) (block behind rest items : List X) → joined blocks ++ rest ≡ items → rest ≡ block ++ behind
+    → joined (blocks ++ block ∷ []) ++ behind ≡ items
+all-next blocks block behind rest items all cut =
+    ap (λ xs. xs ++ behind) (joined-next blocks block) ∙ append_assoc (joined blocks) block behind ∙ ap (λ xs. joined blocks ++ xs) (sym cut) ∙ all
+
+pub ordered-next : (blocks : List (List Entry)) (block behind rest items : List Entry) → joined blocks ++ rest ≡ items → rest ≡ block ++ behind
+    → IsOrdered entries items → IsOrdered entries (joined (blocks ++ block ∷ []))
+ordered-next blocks block behind rest items all cut h =
+    ordered-front (joined (blocks ++ block ∷ [])) behind (rw (all-next blocks block behind rest items all cut) h)
