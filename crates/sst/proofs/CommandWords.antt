@@ -1,9 +1,11 @@
 -- The command that words encode, by what each encodes.
-use Rattle.std.proofs.Common.{◌≡◌, ℕ, ◌<◌, ◌≤◌, List, [], ◌∷◌, length, drop, arith, refl, true, false, ap, sym, ◌∙◌, ◌⊎◌, get_or}
+use Rattle.std.proofs.Common.{◌≡◌, ℕ, ◌<◌, ◌≤◌, List, [], ◌∷◌, length, drop, arith, refl, true, false, ap, sym, ◌∙◌, ◌⊎◌, get_or, Bool, cond}
 use Rattle.std.specs.Prelude.{Option, Some, None, nat_eq, nat_le, nat_lt, ◌&&◌, map, codes}
+use Rattle.std.specs.Str.{IsUtf8, is_utf8}
 use Rattle.std.proofs.lemmas.Bool.Decides.{nat_tests}
+use Rattle.std.proofs.lemmas.Str.{IsUtf8-from_is_utf8, is_utf8-from_IsUtf8}
 use Rattle.sst.specs.Text.{number_of, within, number_within, hex_bytes}
-use Rattle.sst.specs.Commands.{point_of_words, pack_of_words, get_of_words, file_of_words, index_interval_of, query_of, packing_of, lookup_of, file_of}
+use Rattle.sst.specs.Commands.{name_of, point_of_words, pack_of_words, get_of_words, file_of_words, command_named, command_of_words, index_interval_of, query_of, ratio_of, config_of, packing_of, lookup_of, file_of}
 
 pub within-kept : (least most n : ℕ) → least ≤ n → n ≤ most → within least most n ≡ Some n
 within-kept least most n some small =
@@ -84,7 +86,7 @@ pack-other_count f (w ∷ x ∷ y ∷ z ∷ []) h = refl
 pack-other_count f (w ∷ x ∷ y ∷ z ∷ v ∷ []) h = refl
 pack-other_count f (w ∷ x ∷ y ∷ z ∷ v ∷ o ∷ ws) h = absurd (omega arith)
 
-pub pack-words : (a b c d e g : List ℕ) (words : List (List ℕ)) → pack_of_words (a ∷ b ∷ c ∷ d ∷ e ∷ g ∷ words) ≡ packing_of a b c d e g words
+pub pack-words : (a b c d e g : List ℕ) (words : List (List ℕ)) → pack_of_words (a ∷ b ∷ c ∷ d ∷ e ∷ g ∷ words) ≡ packing_of a (config_of b (ratio_of c d) e (index_interval_of words)) g
 unfolding pack_of_words
 pack-words a b c d e g words = refl
 
@@ -112,3 +114,22 @@ unfolding index_interval_of
 interval-more f [] h = absurd (omega arith)
 interval-more f (w ∷ []) h = absurd (omega arith)
 interval-more f (w ∷ x ∷ ws) h = refl
+
+pub file-utf8 : (word name : List ℕ) → name ≡ word → IsUtf8 word → file_of word ≡ Some name
+file-utf8 word name e u = let test = is_utf8-from_IsUtf8 word u in rw (test, e) refl
+
+file-cases : (word : List ℕ) (b : Bool) → b ≡ is_utf8 word → (IsUtf8 word → ⊥) → cond b (Some word) None ≡ None
+file-cases word true e h = absurd (h (IsUtf8-from_is_utf8 word (sym e)))
+file-cases word false e h = refl
+
+pub file-other : (word : List ℕ) → (IsUtf8 word → ⊥) → file_of word ≡ None
+file-other word h = file-cases word (is_utf8 word) refl h
+
+pub command-none : {A : Type 0} (f : A → List ℕ) (ws : List A) → length ws ≡ 0 → command_of_words (map f ws) ≡ None
+unfolding command_of_words
+command-none f [] h = refl
+command-none f (w ∷ ws) h = absurd (omega arith)
+
+pub command-words : {A : Type 0} (f : A → List ℕ) (ws : List A) (a : A) (rest : List A) → ws ≡ a ∷ rest → command_of_words (map f ws) ≡ command_named (name_of (f a)) (map f rest)
+unfolding command_of_words
+command-words f ws a rest e = rw e refl

@@ -4,6 +4,7 @@ use Rattle.std.specs.Cmp.Lexicographic.{pointwise}
 use Rattle.std.specs.Option.{option_map}
 use Rattle.std.specs.Str.{is_utf8}
 use Rattle.sst_base.specs.Reading.{◌>>=◌}
+use Rattle.sst_base.specs.declared.config.HashRatio.{HashRatio}
 use Rattle.sstable_blocks.specs.declared.run.RunConfig.{RunConfig}
 use Rattle.sst.specs.Query.{Query, Packing, Lookup}
 use Rattle.sst.specs.Text.{number_of, number_within, hex_bytes}
@@ -38,14 +39,21 @@ unfoldable pub point_of_words : List (List ℕ) → Option Query
 point_of_words (interval ∷ key ∷ seqno ∷ []) = query_of interval key seqno
 point_of_words words = None
 
--- INTERVAL NUM DEN BITS, with an index of interval 1
-unfoldable pub config_of : List ℕ → List ℕ → List ℕ → List ℕ → Option RunConfig
-config_of interval num den bits = do
-  r ← number_within 1 255 interval
+-- NUM DEN
+unfoldable pub ratio_of : List ℕ → List ℕ → Option HashRatio
+ratio_of num den = do
   n ← number_within 0 (2 ^ 32 - 1) num
   d ← number_within 1 (2 ^ 32 - 1) den
+  Some (record { num = n; den = d })
+
+-- INTERVAL, a ratio, BITS and the index interval
+unfoldable pub config_of : List ℕ → Option HashRatio → List ℕ → Option ℕ → Option RunConfig
+config_of interval ratio bits index_interval = do
+  r ← number_within 1 255 interval
+  h ← ratio
   b ← number_within 0 (2 ^ 32 - 1) bits
-  Some (record { restart_interval = r; ratio = record { num = n; den = d }; bits_per_key = b; index_interval = 1 })
+  q ← index_interval
+  Some (record { restart_interval = r; ratio = h; bits_per_key = b; index_interval = q })
 
 -- [INDEX_INTERVAL], 1 in its absence
 unfoldable pub index_interval_of : List (List ℕ) → Option ℕ
@@ -53,17 +61,18 @@ index_interval_of [] = Some 1
 index_interval_of (word ∷ []) = number_within 1 255 word
 index_interval_of (word ∷ other ∷ words) = None
 
--- FILE INTERVAL NUM DEN BITS PER_BLOCK, and the words behind
-unfoldable pub packing_of : List ℕ → List ℕ → List ℕ → List ℕ → List ℕ → List ℕ → List (List ℕ) → Option Packing
-packing_of file interval num den bits per_block words = do
+-- a file, how it is written, and PER_BLOCK
+unfoldable pub packing_of : List ℕ → Option RunConfig → List ℕ → Option Packing
+packing_of file config per_block = do
   name ← file_of file
-  config ← config_of interval num den bits
+  c ← config
   n ← number_within 1 (2 ^ 32 - 1) per_block
-  q ← index_interval_of words
-  Some (record { file = name; config = record config { index_interval = q }; per_block = n })
+  Some (record { file = name; config = c; per_block = n })
 
+-- FILE INTERVAL NUM DEN BITS PER_BLOCK [INDEX_INTERVAL]
 unfoldable pub pack_of_words : List (List ℕ) → Option Packing
-pack_of_words (file ∷ interval ∷ num ∷ den ∷ bits ∷ per_block ∷ words) = packing_of file interval num den bits per_block words
+pack_of_words (file ∷ interval ∷ num ∷ den ∷ bits ∷ per_block ∷ words) =
+    packing_of file (config_of interval (ratio_of num den) bits (index_interval_of words)) per_block
 pack_of_words words = None
 
 -- FILE KEYHEX SEQNO

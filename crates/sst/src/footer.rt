@@ -1,6 +1,6 @@
 //! The footer of a table file.
-ghost use Rattle.std.specs.Prelude.{◌≡◌};
-ghost use Rattle.sst.specs.Footer.{footer, handles_at};
+ghost use Rattle.std.specs.Prelude.{◌≡◌, ◌≤◌, length};
+ghost use Rattle.sst.specs.Footer.{footer, handles_at, parts_of, parts_at};
 
 use byteorder::{ByteOrder, LittleEndian};
 use sstable_blocks::{BlockHandle, BlockOffset, Error, Result, RunHandles};
@@ -25,11 +25,11 @@ const FILTER_SIZE_AT: usize = 20;
 /// | 20 | 4 | size of the filter frame, 0 if there is none |
 ///
 /// Numbers are little-endian.
+#[tactic(auto, unfolding(crate::specs::Footer::footer))]
 pub fn footer_of(handles: &RunHandles) -> [u8; FOOTER_LEN]
     ensures { result ≡ footer handles.now }
 {
-    let none = BlockHandle::new(BlockOffset(0), 0);
-    let (index, filter) = (&handles.index, handles.filter.as_ref().unwrap_or(&none));
+    let (index, filter) = (handles.index, filter_parts(&handles.filter));
     let mut bytes = [0u8; FOOTER_LEN];
     LittleEndian::write_u64(&mut bytes[..], *index.offset());
     LittleEndian::write_u32(&mut bytes[INDEX_SIZE_AT..], index.size());
@@ -38,12 +38,23 @@ pub fn footer_of(handles: &RunHandles) -> [u8; FOOTER_LEN]
     bytes
 }
 
+// The handle of a filter, and 0 and 0 for none.
+fn filter_parts(filter: &Option<BlockHandle>) -> BlockHandle
+    ensures { result ≡ parts_of filter.now }
+{
+    match filter {
+        Some(handle) => *handle,
+        None => BlockHandle::new(BlockOffset(0), 0),
+    }
+}
+
 /// Returns the handles of a footer, at the front of these bytes. If the size of the filter is 0 there
 /// is none, wherever its offset is.
 ///
 /// # Errors
 ///
 /// `Error::Truncated` below 24 bytes.
+#[tactic(auto, unfolding(crate::specs::Footer::handles_at))]
 pub fn handles_in(bytes: &[u8]) -> Result<RunHandles>
     ensures { result ≡ handles_at bytes.now }
 {
@@ -63,7 +74,10 @@ pub fn handles_in(bytes: &[u8]) -> Result<RunHandles>
 }
 
 // The handle in the first 12 bytes: its offset and its size.
-fn handle_in(bytes: &[u8]) -> BlockHandle {
+fn handle_in(bytes: &[u8]) -> BlockHandle
+    requires { 12 ≤ length bytes.now }
+    ensures { result ≡ parts_at bytes.now }
+{
     let (_, size) = bytes.split_at(INDEX_SIZE_AT);
     BlockHandle::new(
         BlockOffset(LittleEndian::read_u64(bytes)),

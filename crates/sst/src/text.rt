@@ -2,7 +2,7 @@
 ghost use Rattle.std.specs.Prelude.{◌≡◌, ◌↔◌, ◌≤◌, IsSome, IfSome, IfOk, IsOkUnless};
 ghost use Rattle.std.specs.Option.{option_map};
 ghost use Rattle.std.specs.Str.Parse.{digits_value};
-ghost use Rattle.sst.specs.Text.{IsNumberText, hex_bytes, number_within};
+ghost use Rattle.sst.specs.Text.{IsNumberText, hex_bytes, number_of, number_within};
 
 use sstable_blocks::{Error, Result};
 use std::alloc::Global;
@@ -12,6 +12,7 @@ use std::alloc::Global;
 pub fn number_in(digits: &[u8]) -> Option<u64>
     ensures some { IsSome result ↔ IsNumberText digits.now }
     ensures value { IfSome result (λ n. n ≡ digits_value 10 digits.now) }
+    ensures exact { result ≡ number_of digits.now }
 {
     if digits.first() == Some(&b'+') {
         return None;

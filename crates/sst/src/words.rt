@@ -1,8 +1,11 @@
 //! The words after the program's name.
-ghost use Rattle.std.specs.Prelude.{◌≡◌, ◌≤◌, ◌<◌, ◌^◌, ℕ, List, IfOk, IfSome, IsOkUnless, map};
+ghost use Rattle.std.specs.Prelude.{◌≡◌, ◌≤◌, IfOk, IfSome, IsOkUnless, map};
+ghost use Rattle.std.specs.Option.{option_map};
 ghost use Rattle.sst.specs.Text.{number_within};
-ghost use Rattle.sst.specs.Commands.{name_of, file_of, point_of_words, pack_of_words, config_of};
-ghost use Rattle.sst.specs.Commands.{index_interval_of, get_of_words, file_of_words, command_of_words};
+ghost use Rattle.sst.specs.Commands.{name_of, file_of, query_of, point_of_words, ratio_of};
+ghost use Rattle.sst.specs.Commands.{config_of, index_interval_of, packing_of, pack_of_words};
+ghost use Rattle.sst.specs.Commands.{lookup_of, get_of_words, file_of_words, command_of_words};
+ghost use Rattle.sst.specs.declared.words.Command.TheVariants.{Point, Pack, Get, Walk, Check};
 
 use crate::fault::Fault;
 use crate::text::{bytes_in, number_in, number_within};
@@ -216,11 +219,11 @@ pub fn command_in<'a, W: AsSlice<u8>>(alloc: Global, words: &'a [W]) -> Result<O
         return Ok(None);
     };
     match name_in(name.as_slice()) {
-        Some(Name::Point) => Ok(point_words(alloc, words)?.map(Command::Point)),
-        Some(Name::Pack) => Ok(pack_words(words).map(Command::Pack)),
-        Some(Name::Get) => Ok(get_words(alloc, words)?.map(Command::Get)),
-        Some(Name::Walk) => Ok(file_word(words).map(Command::Walk)),
-        Some(Name::Check) => Ok(file_word(words).map(Command::Check)),
+        Some(Name::Point) => point_words(alloc, words),
+        Some(Name::Pack) => Ok(pack_words(words)),
+        Some(Name::Get) => get_words(alloc, words),
+        Some(Name::Walk) => Ok(walk_words(words)),
+        Some(Name::Check) => Ok(check_words(words)),
         None => Ok(None),
     }
 }
@@ -256,45 +259,73 @@ fn file_in(word: &[u8]) -> Option<FileName<'_>>
 }
 
 // INTERVAL KEYHEX SEQNO
-fn point_words<W: AsSlice<u8>>(alloc: Global, words: &[W]) -> Result<Option<PointWords>>
-    ensures ok { IfOk result (λ found. found ≡ point_of_words (map W.items words.now)) }
+fn point_words<'a, W: AsSlice<u8>>(alloc: Global, words: &'a [W]) -> Result<Option<Command<'a>>>
+    ensures ok { IfOk result (λ found. found ≡ option_map Point (point_of_words (map W.items words.now))) }
     ensures memory { IsOkUnless result Error.Memory }
 {
     let [interval, key, seqno] = words else {
         return Ok(None);
     };
-    let (Some(interval), Some(seqno)) = (
-        number_within(interval.as_slice(), 1, MAX_INTERVAL),
-        number_in(seqno.as_slice()),
-    ) else {
+    match query_in(alloc, interval.as_slice(), key.as_slice(), seqno.as_slice())? {
+        Some(words) => Ok(Some(Command::Point(words))),
+        None => Ok(None),
+    }
+}
+
+// What `point` is asked by these three words.
+#[tactic(auto, unfolding(crate::specs::Commands::query_of))]
+fn query_in(alloc: Global, interval: &[u8], key: &[u8], seqno: &[u8]) -> Result<Option<PointWords>>
+    ensures ok { IfOk result (λ found. found ≡ query_of interval.now key.now seqno.now) }
+    ensures memory { IsOkUnless result Error.Memory }
+{
+    let (Some(interval), Some(seqno)) = (interval_in(interval), number_in(seqno)) else {
         return Ok(None);
     };
-    let Some(needle) = bytes_in(alloc, key.as_slice())? else {
-        return Ok(None);
-    };
-    Ok(Some(PointWords {
-        interval: interval as u8,
-        needle,
-        seqno,
-    }))
+    match bytes_in(alloc, key)? {
+        Some(needle) => Ok(Some(PointWords {
+            interval,
+            needle,
+            seqno,
+        })),
+        None => Ok(None),
+    }
 }
 
 // FILE INTERVAL NUM DEN BITS PER_BLOCK [INDEX_INTERVAL]
-fn pack_words<'a, W: AsSlice<u8>>(words: &'a [W]) -> Option<PackWords<'a>>
-    ensures { result ≡ pack_of_words (map W.items words.now) }
+fn pack_words<'a, W: AsSlice<u8>>(words: &'a [W]) -> Option<Command<'a>>
+    ensures { result ≡ option_map Pack (pack_of_words (map W.items words.now)) }
 {
     let [file, interval, num, den, bits, per_block, rest @ ..] = words else {
         return None;
     };
-    let file = file_in(file.as_slice())?;
-    let mut config = config_in(
+    let ratio = ratio_in(num.as_slice(), den.as_slice());
+    let config = config_in(
         interval.as_slice(),
-        num.as_slice(),
-        den.as_slice(),
+        ratio,
         bits.as_slice(),
-    )?;
-    let per_block = number_within(per_block.as_slice(), 1, MAX_NUMBER)?;
-    config.index_interval = index_interval_in(rest)?;
+        index_interval_in(rest),
+    );
+    match packing_in(file.as_slice(), config, per_block.as_slice()) {
+        Some(words) => Some(Command::Pack(words)),
+        None => None,
+    }
+}
+
+// What `pack` is asked by a file, how it is written, and PER_BLOCK.
+#[tactic(auto, unfolding(crate::specs::Commands::packing_of))]
+fn packing_in<'a>(
+    file: &'a [u8],
+    config: Option<RunConfig>,
+    per_block: &[u8],
+) -> Option<PackWords<'a>>
+    requires interval { IfSome config (λ c. 1 ≤ c.restart_interval) }
+    requires index_interval { IfSome config (λ c. 1 ≤ c.index_interval) }
+    requires den { IfSome config (λ c. 1 ≤ c.ratio.den) }
+    ensures { result ≡ packing_of file.now config per_block.now }
+{
+    let file = file_in(file)?;
+    let config = config?;
+    let per_block = number_within(per_block, 1, MAX_NUMBER)?;
     Some(PackWords {
         file,
         config,
@@ -302,52 +333,125 @@ fn pack_words<'a, W: AsSlice<u8>>(words: &'a [W]) -> Option<PackWords<'a>>
     })
 }
 
-// INTERVAL NUM DEN BITS
-#[tactic(auto, unfolding(crate::specs::Commands::config_of))]
-fn config_in(interval: &[u8], num: &[u8], den: &[u8], bits: &[u8]) -> Option<RunConfig>
-    ensures value { result ≡ config_of interval.now num.now den.now bits.now }
+// NUM DEN
+#[tactic(auto, unfolding(crate::specs::Commands::ratio_of))]
+fn ratio_in(num: &[u8], den: &[u8]) -> Option<HashRatio>
+    ensures value { result ≡ ratio_of num.now den.now }
+    ensures den { IfSome result (λ ratio. 1 ≤ ratio.den) }
 {
-    let interval = number_within(interval, 1, MAX_INTERVAL)?;
     let num = number_within(num, 0, MAX_NUMBER)?;
     let den = number_within(den, 1, MAX_NUMBER)?;
-    let bits = number_within(bits, 0, MAX_NUMBER)?;
-    let ratio = HashRatio {
+    Some(HashRatio {
         num: num as u32,
         den: den as u32,
-    };
-    Some(RunConfig::new(interval as u8, ratio, bits as u32))
+    })
 }
 
-// [INDEX_INTERVAL], 1 in its absence.
+// INTERVAL, a ratio, BITS and the index interval
+#[tactic(auto, unfolding(crate::specs::Commands::config_of))]
+fn config_in(
+    interval: &[u8],
+    ratio: Option<HashRatio>,
+    bits: &[u8],
+    index_interval: Option<u8>,
+) -> Option<RunConfig>
+    requires den { IfSome ratio (λ r. 1 ≤ r.den) }
+    requires index_interval { IfSome index_interval (λ q. 1 ≤ q) }
+    ensures value { result ≡ config_of interval.now ratio bits.now index_interval }
+    ensures interval { IfSome result (λ c. 1 ≤ c.restart_interval) }
+    ensures index_interval { IfSome result (λ c. 1 ≤ c.index_interval) }
+    ensures den { IfSome result (λ c. 1 ≤ c.ratio.den) }
+{
+    let restart_interval = interval_in(interval)?;
+    let ratio = ratio?;
+    let bits = number_within(bits, 0, MAX_NUMBER)?;
+    let index_interval = index_interval?;
+    Some(RunConfig {
+        restart_interval,
+        ratio,
+        bits_per_key: bits as u32,
+        index_interval,
+    })
+}
+
+// A restart interval, from 1 to 255.
+fn interval_in(word: &[u8]) -> Option<u8>
+    ensures value { result ≡ number_within 1 255 word.now }
+    ensures some { IfSome result (λ interval. 1 ≤ interval) }
+{
+    match number_within(word, 1, MAX_INTERVAL) {
+        Some(interval) => Some(interval as u8),
+        None => None,
+    }
+}
+
+// [INDEX_INTERVAL], 1 in its absence
 fn index_interval_in<W: AsSlice<u8>>(words: &[W]) -> Option<u8>
     ensures value { result ≡ index_interval_of (map W.items words.now) }
     ensures some { IfSome result (λ interval. 1 ≤ interval) }
 {
     match words {
         [] => Some(1),
-        [word] => Some(number_within(word.as_slice(), 1, MAX_INTERVAL)? as u8),
+        [word] => interval_in(word.as_slice()),
         _ => None,
     }
 }
 
 // FILE KEYHEX SEQNO
-fn get_words<'a, W: AsSlice<u8>>(alloc: Global, words: &'a [W]) -> Result<Option<GetWords<'a>>>
-    ensures ok { IfOk result (λ found. found ≡ get_of_words (map W.items words.now)) }
+fn get_words<'a, W: AsSlice<u8>>(alloc: Global, words: &'a [W]) -> Result<Option<Command<'a>>>
+    ensures ok { IfOk result (λ found. found ≡ option_map Get (get_of_words (map W.items words.now))) }
     ensures memory { IsOkUnless result Error.Memory }
 {
     let [file, key, seqno] = words else {
         return Ok(None);
     };
-    let (Some(file), Some(seqno)) = (file_in(file.as_slice()), number_in(seqno.as_slice())) else {
+    match lookup_in(alloc, file.as_slice(), key.as_slice(), seqno.as_slice())? {
+        Some(words) => Ok(Some(Command::Get(words))),
+        None => Ok(None),
+    }
+}
+
+// What `get` is asked by these three words.
+#[tactic(auto, unfolding(crate::specs::Commands::lookup_of))]
+fn lookup_in<'a>(
+    alloc: Global,
+    file: &'a [u8],
+    key: &[u8],
+    seqno: &[u8],
+) -> Result<Option<GetWords<'a>>>
+    ensures ok { IfOk result (λ found. found ≡ lookup_of file.now key.now seqno.now) }
+    ensures memory { IsOkUnless result Error.Memory }
+{
+    let (Some(file), Some(seqno)) = (file_in(file), number_in(seqno)) else {
         return Ok(None);
     };
-    match bytes_in(alloc, key.as_slice())? {
+    match bytes_in(alloc, key)? {
         Some(needle) => Ok(Some(GetWords {
             file,
             needle,
             seqno,
         })),
         None => Ok(None),
+    }
+}
+
+// FILE of `walk`
+fn walk_words<'a, W: AsSlice<u8>>(words: &'a [W]) -> Option<Command<'a>>
+    ensures { result ≡ option_map Walk (file_of_words (map W.items words.now)) }
+{
+    match file_word(words) {
+        Some(file) => Some(Command::Walk(file)),
+        None => None,
+    }
+}
+
+// FILE of `check`
+fn check_words<'a, W: AsSlice<u8>>(words: &'a [W]) -> Option<Command<'a>>
+    ensures { result ≡ option_map Check (file_of_words (map W.items words.now)) }
+{
+    match file_word(words) {
+        Some(file) => Some(Command::Check(file)),
+        None => None,
     }
 }
 
