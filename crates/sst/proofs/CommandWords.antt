@@ -4,6 +4,8 @@ use Rattle.std.specs.Prelude.{Option, Some, None, nat_eq, nat_le, nat_lt, ◌&&�
 use Rattle.std.specs.Str.{IsUtf8, is_utf8}
 use Rattle.std.proofs.lemmas.Bool.Decides.{nat_tests}
 use Rattle.std.proofs.lemmas.Str.{IsUtf8-from_is_utf8, is_utf8-from_IsUtf8}
+use Rattle.sst_base.specs.declared.config.HashRatio.{HashRatio}
+use Rattle.sstable_blocks.specs.declared.run.RunConfig.{RunConfig}
 use Rattle.sst.specs.Text.{number_of, within, number_within, hex_bytes}
 use Rattle.sst.specs.Commands.{name_of, point_of_words, pack_of_words, get_of_words, file_of_words, command_named, command_of_words, index_interval_of, query_of, ratio_of, config_of, packing_of, lookup_of, file_of}
 
@@ -52,25 +54,41 @@ map-six f (w ∷ x ∷ y ∷ z ∷ []) a b c d e g h p q r s t u = absurd (omega
 map-six f (w ∷ x ∷ y ∷ z ∷ v ∷ []) a b c d e g h p q r s t u = absurd (omega arith)
 map-six f (w ∷ x ∷ y ∷ z ∷ v ∷ o ∷ ws) a b c d e g h p q r s t u = rw (p, q, r, s, t, u) refl
 
-pub point-other_count : {A : Type 0} (f : A → List ℕ) (ws : List A) → (length ws < 3) ⊎ (4 ≤ length ws) → point_of_words (map f ws) ≡ None
+pub point-too_few : {A : Type 0} (f : A → List ℕ) (ws : List A) → length ws < 3 → point_of_words (map f ws) ≡ None
 unfolding point_of_words
-point-other_count f [] h = refl
-point-other_count f (w ∷ []) h = refl
-point-other_count f (w ∷ x ∷ []) h = refl
-point-other_count f (w ∷ x ∷ y ∷ []) h = absurd (omega arith)
-point-other_count f (w ∷ x ∷ y ∷ z ∷ ws) h = refl
+point-too_few f [] h = refl
+point-too_few f (w ∷ []) h = refl
+point-too_few f (w ∷ x ∷ []) h = refl
+point-too_few f (w ∷ x ∷ y ∷ []) h = absurd (omega arith)
+point-too_few f (w ∷ x ∷ y ∷ z ∷ ws) h = absurd (omega arith)
+
+pub point-too_many : {A : Type 0} (f : A → List ℕ) (ws : List A) → 4 ≤ length ws → point_of_words (map f ws) ≡ None
+unfolding point_of_words
+point-too_many f [] h = absurd (omega arith)
+point-too_many f (w ∷ []) h = absurd (omega arith)
+point-too_many f (w ∷ x ∷ []) h = absurd (omega arith)
+point-too_many f (w ∷ x ∷ y ∷ []) h = absurd (omega arith)
+point-too_many f (w ∷ x ∷ y ∷ z ∷ ws) h = refl
 
 pub point-words : (a b c : List ℕ) → point_of_words (a ∷ b ∷ c ∷ []) ≡ query_of a b c
 unfolding point_of_words
 point-words a b c = refl
 
-pub get-other_count : {A : Type 0} (f : A → List ℕ) (ws : List A) → (length ws < 3) ⊎ (4 ≤ length ws) → get_of_words (map f ws) ≡ None
+pub get-too_few : {A : Type 0} (f : A → List ℕ) (ws : List A) → length ws < 3 → get_of_words (map f ws) ≡ None
 unfolding get_of_words
-get-other_count f [] h = refl
-get-other_count f (w ∷ []) h = refl
-get-other_count f (w ∷ x ∷ []) h = refl
-get-other_count f (w ∷ x ∷ y ∷ []) h = absurd (omega arith)
-get-other_count f (w ∷ x ∷ y ∷ z ∷ ws) h = refl
+get-too_few f [] h = refl
+get-too_few f (w ∷ []) h = refl
+get-too_few f (w ∷ x ∷ []) h = refl
+get-too_few f (w ∷ x ∷ y ∷ []) h = absurd (omega arith)
+get-too_few f (w ∷ x ∷ y ∷ z ∷ ws) h = absurd (omega arith)
+
+pub get-too_many : {A : Type 0} (f : A → List ℕ) (ws : List A) → 4 ≤ length ws → get_of_words (map f ws) ≡ None
+unfolding get_of_words
+get-too_many f [] h = absurd (omega arith)
+get-too_many f (w ∷ []) h = absurd (omega arith)
+get-too_many f (w ∷ x ∷ []) h = absurd (omega arith)
+get-too_many f (w ∷ x ∷ y ∷ []) h = absurd (omega arith)
+get-too_many f (w ∷ x ∷ y ∷ z ∷ ws) h = refl
 
 pub get-words : (a b c : List ℕ) → get_of_words (a ∷ b ∷ c ∷ []) ≡ lookup_of a b c
 unfolding get_of_words
@@ -90,11 +108,17 @@ pub pack-words : (a b c d e g : List ℕ) (words : List (List ℕ)) → pack_of_
 unfolding pack_of_words
 pack-words a b c d e g words = refl
 
-pub file-other_count : {A : Type 0} (f : A → List ℕ) (ws : List A) → (length ws < 1) ⊎ (2 ≤ length ws) → file_of_words (map f ws) ≡ None
+pub file-too_few : {A : Type 0} (f : A → List ℕ) (ws : List A) → length ws < 1 → file_of_words (map f ws) ≡ None
 unfolding file_of_words
-file-other_count f [] h = refl
-file-other_count f (w ∷ []) h = absurd (omega arith)
-file-other_count f (w ∷ x ∷ ws) h = refl
+file-too_few f [] h = refl
+file-too_few f (w ∷ []) h = absurd (omega arith)
+file-too_few f (w ∷ x ∷ ws) h = absurd (omega arith)
+
+pub file-too_many : {A : Type 0} (f : A → List ℕ) (ws : List A) → 2 ≤ length ws → file_of_words (map f ws) ≡ None
+unfolding file_of_words
+file-too_many f [] h = absurd (omega arith)
+file-too_many f (w ∷ []) h = absurd (omega arith)
+file-too_many f (w ∷ x ∷ ws) h = refl
 
 pub file-words : (a : List ℕ) → file_of_words (a ∷ []) ≡ file_of a
 unfolding file_of_words
@@ -133,3 +157,23 @@ command-none f (w ∷ ws) h = absurd (omega arith)
 pub command-words : {A : Type 0} (f : A → List ℕ) (ws : List A) (a : A) (rest : List A) → ws ≡ a ∷ rest → command_of_words (map f ws) ≡ command_named (name_of (f a)) (map f rest)
 unfolding command_of_words
 command-words f ws a rest e = rw e refl
+
+pub point-found : {A : Type 0} (f : A → List ℕ) (ws : List A) (a b c : A) (x y z : List ℕ) → 3 ≤ length ws → length ws < 4
+    → a ≡ get_or ws 0 a → b ≡ get_or ws 1 b → c ≡ get_or ws 2 c → x ≡ f a → y ≡ f b → z ≡ f c → point_of_words (map f ws) ≡ query_of x y z
+point-found f ws a b c x y z h l p q r e g k =
+    ap point_of_words (map-three f ws a b c h l p q r) ∙ point-words (f a) (f b) (f c) ∙ rw (e, g, k) refl
+
+pub get-found : {A : Type 0} (f : A → List ℕ) (ws : List A) (a b c : A) (x y z : List ℕ) → 3 ≤ length ws → length ws < 4
+    → a ≡ get_or ws 0 a → b ≡ get_or ws 1 b → c ≡ get_or ws 2 c → x ≡ f a → y ≡ f b → z ≡ f c → get_of_words (map f ws) ≡ lookup_of x y z
+get-found f ws a b c x y z h l p q r e g k =
+    ap get_of_words (map-three f ws a b c h l p q r) ∙ get-words (f a) (f b) (f c) ∙ rw (e, g, k) refl
+
+-- the words of `pack`, with what its parts are
+pub pack-found : {A : Type 0} (f : A → List ℕ) (ws : List A) (a b c d e g : A) (file interval num den bits per_block : List ℕ) (ratio : Option HashRatio) (q : Option ℕ) (config : Option RunConfig) → 6 ≤ length ws
+    → a ≡ get_or ws 0 a → b ≡ get_or ws 1 b → c ≡ get_or ws 2 c → d ≡ get_or ws 3 d → e ≡ get_or ws 4 e → g ≡ get_or ws 5 g
+    → file ≡ f a → interval ≡ f b → num ≡ f c → den ≡ f d → bits ≡ f e → per_block ≡ f g
+    → ratio ≡ ratio_of num den → q ≡ index_interval_of (map f (drop 6 ws)) → config ≡ config_of interval ratio bits q → pack_of_words (map f ws) ≡ packing_of file config per_block
+pack-found f ws a b c d e g file interval num den bits per_block ratio q config h p0 p1 p2 p3 p4 p5 q0 q1 q2 q3 q4 q5 is-ratio is-q is-config =
+    ap pack_of_words (map-six f ws a b c d e g h p0 p1 p2 p3 p4 p5)
+    ∙ pack-words (f a) (f b) (f c) (f d) (f e) (f g) (map f (drop 6 ws))
+    ∙ rw (is-config, is-ratio, is-q, q0, q1, q2, q3, q4, q5) refl

@@ -1,7 +1,9 @@
 -- What a run prints, by what is found of its input.
-use Rattle.std.proofs.Common.{◌≡◌, ℕ, ◌+◌, ◌<◌, ◌≤◌, ◌^◌, List, [], ◌∷◌, length, arith, refl, true, false, sym, ◌∙◌, ap, inl, inr, ◌⊎◌}
+use Rattle.std.proofs.Common.{◌≡◌, ℕ, ◌+◌, ◌<◌, ◌≤◌, ◌^◌, List, [], ◌∷◌, length, arith, refl, true, false, sym, ◌∙◌, ap, inl, inr, ◌⊎◌, ◌++◌, append_assoc, subst}
 use Rattle.std.specs.Prelude.{Option, Some, None, Result, Ok, Err, nat_lt, nat_eq, IfSome, IfOk, IfErr}
-use Rattle.std.specs.Io.KnownBytes.{Keeps}
+use Rattle.std.specs.Io.KnownBytes.{Keeps, Appends}
+use Rattle.std.proofs.KnownBytes.{Appends-nil, Appends-trans, Appends-kept}
+use Rattle.sst.specs.Line.{entry_line_of}
 use Rattle.std.proofs.lemmas.Bool.Decides.{nat_tests}
 use Rattle.sst_base.specs.declared.error.Error.{Error}
 use Rattle.sst_base.specs.declared.error.Error.TheVariants.{TooLong, Memory}
@@ -11,7 +13,7 @@ use Rattle.sst.specs.declared.fault.Fault.TheVariants.{Usage, NoEntries, Order, 
 use Rattle.sst.specs.Query.{Query}
 use Rattle.sst.specs.Lines.{entries_of_input}
 use Rattle.sst.specs.Point.{point_payload, point_text_of}
-use Rattle.sst.specs.Outcome.{disorder_from, fault_of_disorder, fault_of_items, run_of_input, outcome_of_items, outcome_of_run, outcome_of_query, Gave, IsFailure, IsOutcomeOf, IsFaultOf}
+use Rattle.sst.specs.Outcome.{disorder_from, fault_of_disorder, fault_of_items, run_of_input, outcome_of_items, outcome_of_run, outcome_of_query, Gave, IsFailure, IsOutcomeOf, IsFaultOf, lines_text_of, PrintsLines}
 
 pub fault-no_entries : (items : List Entry) → length items ≡ 0 → fault_of_items items ≡ Some NoEntries
 unfolding fault_of_items
@@ -104,3 +106,24 @@ none-from_test n h = grind (arith, nat_tests)
 pub keeps_same : (known : Option (List ℕ)) → Keeps known known
 keeps_same None = tt
 keeps_same (Some bytes) = refl
+
+-- lines are printed behind lines
+pub prints_nothing : (a : Option (List ℕ)) → PrintsLines a a
+prints_nothing a = ([], Appends-nil a)
+
+lines-append : (xs ys : List Entry) → lines_text_of xs ++ lines_text_of ys ≡ lines_text_of (xs ++ ys)
+lines-append [] ys = refl
+lines-append (x ∷ xs) ys = append_assoc (entry_line_of x) (10 ∷ lines_text_of xs) (lines_text_of ys) ∙ ap (λ t. entry_line_of x ++ (10 ∷ t)) (lines-append xs ys)
+
+pub prints_more : (a b c : Option (List ℕ)) → PrintsLines a b → PrintsLines b c → PrintsLines a c
+prints_more a b c p q =
+    (p.0 ++ q.0, subst (Appends a c) (lines-append p.0 q.0) (Appends-trans a b c (lines_text_of p.0) (lines_text_of q.0) p.1 q.1))
+
+pub prints_kept : (a b c : Option (List ℕ)) → PrintsLines a b → Keeps b c → PrintsLines a c
+prints_kept a b c p k = (p.0, Appends-kept a b c (lines_text_of p.0) p.1 k)
+
+-- the line of an entry behind the lines before
+pub lines-next : (text line text' : List ℕ) (e : Entry) (rest : List Entry) → line ≡ entry_line_of e → text' ≡ (text ++ line) ++ (10 ∷ []) → text' ++ lines_text_of rest ≡ text ++ lines_text_of (e ∷ rest)
+lines-next text line text' e rest l t =
+    ap (λ x. x ++ lines_text_of rest) t ∙ append_assoc (text ++ line) (10 ∷ []) (lines_text_of rest) ∙ append_assoc text line (10 ∷ lines_text_of rest)
+    ∙ ap (λ x. text ++ (x ++ (10 ∷ lines_text_of rest))) l

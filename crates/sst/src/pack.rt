@@ -36,11 +36,11 @@ fn add_blocks<W: Write>(
     per_block: usize,
 ) -> Result<()>
     requires fresh { run.old.blocks ≡ [] }
-    requires open { run.old.refusal ≡ None }
+    requires accepting { run.old.refusal ≡ None }
     requires per_block { 1 ≤ per_block }
     requires ordered { IsOrdered entries items.now }
     ensures cut { OnOk result (IsCutBy per_block items.now run.new.blocks) }
-    ensures open { OnOk result (run.new.refusal ≡ None) }
+    ensures accepting { OnOk result (run.new.refusal ≡ None) }
     ensures config { run.new.config ≡ run.old.config }
     ensures start { run.new.start ≡ run.old.start }
     ensures cause { IfErr result IsWriteFault }

@@ -14,6 +14,14 @@ pub fn number_in(digits: &[u8]) -> Option<u64>
     ensures value { IfSome result (λ n. n ≡ digits_value 10 digits.now) }
     ensures exact { result ≡ number_of digits.now }
 {
+    parsed(digits)
+}
+
+// The number that digits without a sign encode.
+fn parsed(digits: &[u8]) -> Option<u64>
+    ensures some { IsSome result ↔ IsNumberText digits.now }
+    ensures value { IfSome result (λ n. n ≡ digits_value 10 digits.now) }
+{
     if digits.first() == Some(&b'+') {
         return None;
     }

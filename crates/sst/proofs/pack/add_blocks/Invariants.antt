@@ -9,7 +9,7 @@ abbrev pub invariant-loop-rest : goal.invariant-loop-rest
 invariant-loop-rest g l = record {
   config : l.run.config ≡ l.initial.run.config;
   start : l.run.start ≡ l.initial.run.start;
-  open : l.run.refusal ≡ None;
+  accepting : l.run.refusal ≡ None;
   all : joined l.run.blocks ++ l.rest ≡ l.items;
   sizes : HaveSize l.per_block l.run.blocks;
   full : 1 ≤ length l.rest → AreFull l.per_block l.run.blocks;

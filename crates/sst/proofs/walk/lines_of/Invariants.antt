@@ -4,4 +4,4 @@ use Rattle.sst.specs.Outcome.{lines_text_of}
 use Rattle.sst.proofs.walk.lines_of.Given as goal
 
 abbrev pub invariant-loop-entry : goal.invariant-loop-entry
-invariant-loop-entry l = string_bytes l.text ++ lines_text_of l.entry-iter ≡ lines_text_of l.block.items
+invariant-loop-entry l = string_bytes l.text ++ lines_text_of l.entry-iterator ≡ lines_text_of l.block.items

@@ -1,6 +1,7 @@
-use Rattle.std.proofs.Common.{◌≡◌, sym, ◌∙◌, ap, inl, inr, arith}
+use Rattle.std.proofs.Common.{◌≡◌, sym, ◌∙◌, ap, arith, length}
+use Rattle.std.specs.Prelude.{map, None}
 use Rattle.sst.specs.Commands.{file_of, file_of_words}
-use Rattle.sst.proofs.CommandWords.{map-one, file-words, file-other_count}
+use Rattle.sst.proofs.CommandWords.{map-one, file-words, file-too_few, file-too_many}
 use Rattle.sst.proofs.words.file_word.Goals as goal
 use Rattle.sst.proofs.words.file_word.Goals.{in_default-via-then-words-lt1, in_default-via-else-words-lt1+else-words-lt2}
 
@@ -12,8 +13,7 @@ returns-in-len1 g c =
 
 pub returns-in_default : goal.returns-in_default
 returns-in_default g c =
-    let f = g.W.AsSlice.items in
     elim c.in_default.branch [
-      | in_default-via-then-words-lt1 w ↦ sym (file-other_count f c.args.words.now (inl (omega arith)))
-      | in_default-via-else-words-lt1+else-words-lt2 w ↦ sym (file-other_count f c.args.words.now (inr (omega arith)))
+      | in_default-via-then-words-lt1 w ↦ let none : file_of_words (map g.W.AsSlice.items c.args.words.now) ≡ None = grind (arith, file-too_few, file-too_many) in sym none
+      | in_default-via-else-words-lt1+else-words-lt2 w ↦ let none : file_of_words (map g.W.AsSlice.items c.args.words.now) ≡ None = grind (arith, file-too_few, file-too_many) in sym none
     ]
