@@ -1,8 +1,9 @@
 -- The command that words encode, by what each encodes.
-use Rattle.std.proofs.Common.{◌≡◌, ℕ, ◌<◌, ◌≤◌, List, [], ◌∷◌, length, drop, arith, refl, true, false, ap, sym, ◌∙◌, ◌⊎◌, get_or, Bool, cond}
+use Rattle.std.proofs.Common.{◌≡◌, ℕ, ◌<◌, ◌≤◌, List, [], ◌∷◌, length, drop, take, ◌-◌, length-drop, arith, refl, true, false, ap, sym, ◌∙◌, ◌⊎◌, get_or, Bool, cond}
 use Rattle.std.specs.Prelude.{Option, Some, None, nat_eq, nat_le, nat_lt, ◌&&◌, map, codes}
 use Rattle.std.specs.Str.{IsUtf8, is_utf8}
 use Rattle.std.proofs.lemmas.Bool.Decides.{nat_tests}
+use Rattle.std.proofs.lemmas.List.{take_all}
 use Rattle.std.proofs.lemmas.Str.{IsUtf8-from_is_utf8, is_utf8-from_IsUtf8}
 use Rattle.sst_base.specs.declared.config.HashRatio.{HashRatio}
 use Rattle.sstable_blocks.specs.declared.run.RunConfig.{RunConfig}
@@ -172,8 +173,8 @@ get-found f ws a b c x y z h l p q r e g k =
 pub pack-found : {A : Type 0} (f : A → List ℕ) (ws : List A) (a b c d e g : A) (file interval num den bits per_block : List ℕ) (ratio : Option HashRatio) (q : Option ℕ) (config : Option RunConfig) → 6 ≤ length ws
     → a ≡ get_or ws 0 a → b ≡ get_or ws 1 b → c ≡ get_or ws 2 c → d ≡ get_or ws 3 d → e ≡ get_or ws 4 e → g ≡ get_or ws 5 g
     → file ≡ f a → interval ≡ f b → num ≡ f c → den ≡ f d → bits ≡ f e → per_block ≡ f g
-    → ratio ≡ ratio_of num den → q ≡ index_interval_of (map f (drop 6 ws)) → config ≡ config_of interval ratio bits q → pack_of_words (map f ws) ≡ packing_of file config per_block
+    → ratio ≡ ratio_of num den → q ≡ index_interval_of (map f (take (length ws - 6) (drop 6 ws))) → config ≡ config_of interval ratio bits q → pack_of_words (map f ws) ≡ packing_of file config per_block
 pack-found f ws a b c d e g file interval num den bits per_block ratio q config h p0 p1 p2 p3 p4 p5 q0 q1 q2 q3 q4 q5 is-ratio is-q is-config =
     ap pack_of_words (map-six f ws a b c d e g h p0 p1 p2 p3 p4 p5)
     ∙ pack-words (f a) (f b) (f c) (f d) (f e) (f g) (map f (drop 6 ws))
-    ∙ rw (is-config, is-ratio, is-q, q0, q1, q2, q3, q4, q5) refl
+    ∙ (let rest : take (length ws - 6) (drop 6 ws) ≡ drop 6 ws = take_all (length ws - 6) (drop 6 ws) (omega (arith, length-drop 6 ws)) in rw (is-config, is-ratio, is-q, rest, q0, q1, q2, q3, q4, q5) refl)

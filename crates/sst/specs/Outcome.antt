@@ -87,7 +87,7 @@ packed_text_of items blocks len =
 
 -- ok B blocks N entries
 abbrev pub checked_text_of : ℕ → ℕ → List ℕ
-checked_text_of blocks items = codes "ok " ++ decimal blocks ++ codes " blocks " ++ decimal items ++ codes " entries" ++ (10 ∷ [])
+checked_text_of blocks items = codes "ok " ++ (decimal blocks ++ (codes " blocks " ++ (decimal items ++ (codes " entries" ++ (10 ∷ [])))))
 
 -- the line of what is found, with its line feed
 abbrev pub answer_text_of : Option Entry → List ℕ
