@@ -1,9 +1,10 @@
+pub mod CommandWords
 pub mod Cuts
+pub mod Disorder
 pub mod EntryLaw
 pub mod EntryLines
 pub mod EntryParts
 pub mod NumberText
 pub mod Numbers
-pub mod Order
 pub mod Outcomes
-pub mod QueryWords
+pub mod Tables

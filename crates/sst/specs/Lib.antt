@@ -1,6 +1,9 @@
+pub mod Commands
+pub mod Footer
 pub mod Line
 pub mod Lines
 pub mod Outcome
 pub mod Point
 pub mod Query
+pub mod Table
 pub mod Text

@@ -1,9 +1,14 @@
-//! Reading all of an input.
-ghost use Rattle.std.specs.Prelude.{◌≡◌, ◌≢◌, ◌⊎◌, IfOk, IfErr};
+//! Reading all entries of an input.
+ghost use Rattle.std.specs.Prelude.{◌≡◌, ◌≢◌, ◌⊎◌, ◌≤◌, length, IfOk, IfErr};
 ghost use Rattle.sst_base.specs.declared.error.Error.TheVariants.{Memory, Io};
-ghost use Rattle.sst.specs.Outcome.{Gave};
+ghost use Rattle.sst_block_core.specs.Kind.{IsOrdered};
+ghost use Rattle.sst_block_core.specs.Entries.{entries};
+ghost use Rattle.sst.specs.Outcome.{Gave, IsOutcomeOf, IsFaultOf, run_of_input};
 
-use sstable_blocks::{Error, Result};
+use crate::fault::Fault;
+use crate::lines::entries_in;
+use crate::order::fault_of;
+use sstable_blocks::{Error, InternalValue, Result};
 use std::alloc::Global;
 use std::io::{ErrorKind, Read};
 
@@ -33,5 +38,29 @@ fn error_of(kind: ErrorKind) -> Error
         Error::Memory
     } else {
         Error::Io
+    }
+}
+
+/// Returns the entries of an input, one a line, of which there is at least one, and none sorts before
+/// its predecessor.
+///
+/// # Errors
+///
+/// `Fault::NoEntries`, `Fault::Entry` and `Fault::Order` as the input demands, `Error::Memory` if an
+/// allocation fails, and `Error::Io` if the input fails.
+pub fn ordered_entries<I: Read>(
+    alloc: Global,
+    input: &mut I,
+) -> std::result::Result<Vec<InternalValue>, Fault>
+    ensures ok { IfOk result (λ items. IsOutcomeOf run_of_input (I.remaining input.old) items.items) }
+    ensures err { IfErr result (IsFaultOf run_of_input (I.remaining input.old)) }
+    ensures some { IfOk result (λ items. 1 ≤ length items.items) }
+    ensures ordered { IfOk result (λ items. IsOrdered entries items.items) }
+{
+    let bytes = read_all(alloc, input)?;
+    let items = entries_in(alloc, bytes.as_slice())?;
+    match fault_of(items.as_slice()) {
+        Some(fault) => Err(fault),
+        None => Ok(items),
     }
 }

@@ -5,6 +5,7 @@ ghost use Rattle.sst_base.specs.Entry.{Entry, plain_value};
 ghost use Rattle.sst.specs.Line.{entry_line_of, letter_of, byte_text_of, joined_by_spaces, Encodes};
 ghost use Rattle.sst.specs.Line.{Lacks, type_of_letters, entry_of_parts, entry_of_line};
 ghost use Rattle.sst.specs.Lines.{lines_of, entries_of_input};
+ghost use Rattle.sst.specs.Point.{answer_line_of};
 
 use crate::fault::Fault;
 use crate::text::{bytes_in, number_in};
@@ -67,6 +68,21 @@ pub fn entry_line(alloc: Global, item: &InternalValue) -> Result<String>
     let user_key = hex::encode(alloc, key.user_key().as_slice())?;
     let value = byte_text(alloc, item.value().as_slice())?;
     Ok(format!(in alloc; "{letter} {seqno} {user_key} {value}")?)
+}
+
+/// Returns the line of the entry that is found, or `none`.
+///
+/// # Errors
+///
+/// `Error::Memory` if an allocation fails.
+pub fn answer_line(alloc: Global, found: Option<InternalValue>) -> Result<String>
+    ensures ok { IfOk result (λ line. string_bytes line ≡ answer_line_of found) }
+    ensures memory { IsOkUnless result Error.Memory }
+{
+    match found {
+        Some(item) => entry_line(alloc, &item),
+        None => Ok(String::from_str(alloc, "none")?),
+    }
 }
 
 // The four parts of a line, between single spaces.

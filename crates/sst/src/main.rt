@@ -1,33 +1,45 @@
 //! The program `sst`: blocks of entries from the command line.
 #![tactic(auto)]
 
+pub mod check;
 pub mod fault;
+pub mod footer;
+pub mod get;
 pub mod input;
 pub mod lines;
+pub mod order;
+pub mod output;
+pub mod pack;
 pub mod point;
+pub mod table;
 #[cfg(test)]
 mod tests;
 pub mod text;
+pub mod walk;
 pub mod words;
 
-ghost use Rattle.std.specs.Prelude.{◌≡◌, ℕ, ◌≤◌, List, map, OnOk, IfErr, is_ok, if◌then◌else◌};
-ghost use Rattle.std.specs.Io.KnownBytes.{Appends};
-ghost use Rattle.sst.specs.Outcome.{outcome_of, IsTextOf, IsFaultOf, PrintsNothing};
+ghost use Rattle.std.specs.Prelude.{◌≡◌, ◌≤◌, map, OnOk, IfErr, is_ok, if◌then◌else◌};
+ghost use Rattle.sst.specs.Commands.{command_of_words};
+ghost use Rattle.sst.specs.Outcome.{HasPrinted, HasTold, HasKept};
 
+use check::check;
 use fault::Fault;
+use get::get;
 pub use lines::entry_line;
+use pack::pack;
 use point::point;
 use std::alloc::Global;
 use std::convert::AsSlice;
 use std::io::{Read, Write};
 use std::process::ExitCode;
 use std::rt::Files;
-use words::{command_in, words_of};
+use walk::walk;
+use words::{Command, command_in, words_of};
 
 /// Runs the program on these words, which are those after its name, and returns its status: 0, or 1
 /// after one line on `faults`.
 pub fn sst_main<R: Files, W: AsSlice<u8>, I: Read, O: Write, F: Write>(
-    _rt: &R,
+    rt: &R,
     alloc: Global,
     words: &[W],
     input: &mut I,
@@ -35,11 +47,10 @@ pub fn sst_main<R: Files, W: AsSlice<u8>, I: Read, O: Write, F: Write>(
     faults: &mut F,
 ) -> u8
     ensures status { result ≤ 1 }
-    ensures printed { result ≡ 0 → (text : List ℕ)
-        × IsTextOf (outcome_of (map W.items words.now)) (I.remaining input.old) text
-        × Appends (O.contents output.old) (O.contents output.new) text }
+    ensures printed { result ≡ 0 → HasPrinted (command_of_words (map W.items words.now))
+        (I.remaining input.old) (O.contents output.old) (O.contents output.new) }
 {
-    let outcome = run(alloc, words, input, output);
+    let outcome = run(rt, alloc, words, input, output);
     status_of(outcome, faults)
 }
 
@@ -49,20 +60,25 @@ pub fn sst_main<R: Files, W: AsSlice<u8>, I: Read, O: Write, F: Write>(
 ///
 /// `Fault::Usage` if the words are no command, then those of the command, and `Error::Memory` if an
 /// allocation fails.
-pub fn run<W: AsSlice<u8>, I: Read, O: Write>(
+pub fn run<R: Files, W: AsSlice<u8>, I: Read, O: Write>(
+    rt: &R,
     alloc: Global,
     words: &[W],
     input: &mut I,
     output: &mut O,
 ) -> Result<(), Fault>
-    ensures printed { OnOk result ((text : List ℕ)
-        × IsTextOf (outcome_of (map W.items words.now)) (I.remaining input.old) text
-        × Appends (O.contents output.old) (O.contents output.new) text) }
-    ensures err { IfErr result (IsFaultOf (outcome_of (map W.items words.now)) (I.remaining input.old)) }
-    ensures kept { IfErr result (PrintsNothing (O.contents output.old) (O.contents output.new)) }
+    ensures printed { OnOk result (HasPrinted (command_of_words (map W.items words.now))
+        (I.remaining input.old) (O.contents output.old) (O.contents output.new)) }
+    ensures err { IfErr result (HasTold (command_of_words (map W.items words.now)) (I.remaining input.old)) }
+    ensures kept { IfErr result (HasKept (command_of_words (map W.items words.now))
+        (O.contents output.old) (O.contents output.new)) }
 {
     match command_in(alloc, words)? {
-        Some(words) => point(alloc, &words, input, output),
+        Some(Command::Point(words)) => point(alloc, &words, input, output),
+        Some(Command::Pack(words)) => pack(rt, alloc, &words, input, output),
+        Some(Command::Get(words)) => get(rt, alloc, &words, output),
+        Some(Command::Walk(file)) => walk(rt, alloc, file.as_str(), output),
+        Some(Command::Check(file)) => check(rt, alloc, file.as_str(), output),
         None => Err(Fault::Usage),
     }
 }

@@ -9,12 +9,13 @@ ghost use Rattle.sst_block_core.specs.Encoders.{IsRefusal};
 ghost use Rattle.sst_base.specs.Entry.{plain};
 ghost use Rattle.hex.specs.Hex.{encode_lower};
 ghost use Rattle.sst.specs.Point.{point_payload, point_text_of, answer_line_of};
-ghost use Rattle.sst.specs.Outcome.{disorder_from, outcome_of_items, outcome_of_query, IsFailure};
-ghost use Rattle.sst.specs.Outcome.{IsTextOf, IsFaultOf, PrintsNothing};
+ghost use Rattle.sst.specs.Outcome.{outcome_of_query};
+ghost use Rattle.sst.specs.Outcome.{IsOutcomeOf, IsFaultOf, PrintsNothing};
 
 use crate::fault::Fault;
-use crate::input::read_all;
-use crate::lines::{entries_in, entry_line};
+use crate::input::ordered_entries;
+use crate::lines::answer_line;
+use crate::output::print_text;
 use crate::words::PointWords;
 use sstable_blocks::{
     Block, BlockHash, BlockType, Checksum, DataBlock, Error, HashRatio, Header, InternalValue,
@@ -22,23 +23,6 @@ use sstable_blocks::{
 };
 use std::alloc::Global;
 use std::io::{Read, Write};
-
-/// Returns the index of the first entry that sorts before its predecessor, by user key rising and
-/// then by sequence number falling, or `None` if the entries are ordered.
-pub fn first_disorder(items: &[InternalValue]) -> Option<usize>
-    ensures index { result ≡ disorder_from 0 items.now }
-    ensures none { IsNone result ↔ IsOrdered entries items.now }
-    ensures range { IfSome result (λ i. (1 ≤ i) × (i < length items.now)) }
-    ensures before { IfSome result (λ i. IsOrdered entries (take i items.now)) }
-    ensures at { IfSome result (λ i. IsOrdered entries (take (i + 1) items.now) → ⊥) }
-{
-    for i in 1..items.len() {
-        if items[i].key() < items[i - 1].key() {
-            return Some(i);
-        }
-    }
-    None
-}
 
 // The block with this payload.
 fn block_of(bytes: Vec<u8>) -> Result<Block>
@@ -54,17 +38,6 @@ fn block_of(bytes: Vec<u8>) -> Result<Block>
         uncompressed_length: len,
     };
     Ok(Block::from_parts(header, Slice::from_vec(bytes)?))
-}
-
-// The line of the entry that is found, or `none`.
-fn answer_line(alloc: Global, found: Option<InternalValue>) -> Result<String>
-    ensures ok { IfOk result (λ line. string_bytes line ≡ answer_line_of found) }
-    ensures memory { IsOkUnless result Error.Memory }
-{
-    match found {
-        Some(item) => entry_line(alloc, &item),
-        None => Ok(String::from_str(alloc, "none")?),
-    }
 }
 
 // The block of these entries, without buckets.
@@ -127,42 +100,23 @@ pub fn point_text(
     two_lines(alloc, block.as_slice().as_slice(), answer.as_str())
 }
 
-// What `point` prints for these entries.
-fn text_of(
-    alloc: Global,
-    words: &PointWords,
-    items: &[InternalValue],
-) -> std::result::Result<Vec<u8>, Fault>
-    ensures ok { IfOk result (λ text. outcome_of_items words.now items.now ≡ Ok text.items) }
-    ensures err { IfErr result (λ fault. IsFailure fault ⊎ (outcome_of_items words.now items.now ≡ Err fault)) }
-{
-    if items.is_empty() {
-        return Err(Fault::NoEntries);
-    }
-    if let Some(index) = first_disorder(items) {
-        return Err(Fault::Order(index + 1));
-    }
-    Ok(point_text(
-        alloc,
-        items,
-        words.interval(),
-        words.needle(),
-        words.seqno(),
-    )?)
-}
-
 // What `point` prints for this input.
 fn text_for<I: Read>(
     alloc: Global,
     words: &PointWords,
     input: &mut I,
 ) -> std::result::Result<Vec<u8>, Fault>
-    ensures ok { IfOk result (λ text. IsTextOf (outcome_of_query words.now) (I.remaining input.old) text.items) }
+    ensures ok { IfOk result (λ text. IsOutcomeOf (outcome_of_query words.now) (I.remaining input.old) text.items) }
     ensures err { IfErr result (IsFaultOf (outcome_of_query words.now) (I.remaining input.old)) }
 {
-    let bytes = read_all(alloc, input)?;
-    let items = entries_in(alloc, bytes.as_slice())?;
-    text_of(alloc, words, items.as_slice())
+    let items = ordered_entries(alloc, input)?;
+    Ok(point_text(
+        alloc,
+        items.as_slice(),
+        words.interval(),
+        words.needle(),
+        words.seqno(),
+    )?)
 }
 
 /// Reads entries, and prints their block and the entry that is found in it.
@@ -179,22 +133,12 @@ pub fn point<I: Read, O: Write>(
     output: &mut O,
 ) -> std::result::Result<(), Fault>
     ensures printed { OnOk result ((text : List ℕ)
-        × IsTextOf (outcome_of_query words.now) (I.remaining input.old) text
+        × IsOutcomeOf (outcome_of_query words.now) (I.remaining input.old) text
         × Appends (O.contents output.old) (O.contents output.new) text) }
     ensures err { IfErr result (IsFaultOf (outcome_of_query words.now) (I.remaining input.old)) }
     ensures kept { IfErr result (PrintsNothing (O.contents output.old) (O.contents output.new)) }
 {
     let text = text_for(alloc, words, input)?;
     print_text(output, text.as_slice())?;
-    Ok(())
-}
-
-// `Error::Io` if the output fails.
-fn print_text<O: Write>(output: &mut O, text: &[u8]) -> Result<()>
-    ensures printed { OnOk result (Appends (O.contents output.old) (O.contents output.new) text.now) }
-    ensures cause { IsOkUnless result Error.Io }
-{
-    output.write_all(text)?;
-    output.flush()?;
     Ok(())
 }

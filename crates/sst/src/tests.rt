@@ -1,5 +1,6 @@
 // What the clauses do not say: the printed text, whose expected lines come from outside; that a run
 // with ample memory ends well; and that a stream that fails, or an allocation, changes no answer.
+mod damage;
 mod faults;
 mod lines;
 mod long;
@@ -7,4 +8,5 @@ mod memory;
 mod runs;
 mod streams;
 mod success;
+mod tables;
 mod words;

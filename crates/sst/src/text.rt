@@ -1,8 +1,8 @@
 //! Numbers and byte strings as words and lines encode them.
-ghost use Rattle.std.specs.Prelude.{◌≡◌, ◌↔◌, IsSome, IfSome, IfOk, IsOkUnless};
+ghost use Rattle.std.specs.Prelude.{◌≡◌, ◌↔◌, ◌≤◌, IsSome, IfSome, IfOk, IsOkUnless};
 ghost use Rattle.std.specs.Option.{option_map};
 ghost use Rattle.std.specs.Str.Parse.{digits_value};
-ghost use Rattle.sst.specs.Text.{IsNumberText, hex_bytes};
+ghost use Rattle.sst.specs.Text.{IsNumberText, hex_bytes, number_of, number_within};
 
 use sstable_blocks::{Error, Result};
 use std::alloc::Global;
@@ -10,6 +10,15 @@ use std::alloc::Global;
 /// Returns the number that decimal digits encode: at least one digit, with any count of leading
 /// zeros, and nothing else. `None` too if it is 2^64 or more.
 pub fn number_in(digits: &[u8]) -> Option<u64>
+    ensures some { IsSome result ↔ IsNumberText digits.now }
+    ensures value { IfSome result (λ n. n ≡ digits_value 10 digits.now) }
+    ensures exact { result ≡ number_of digits.now }
+{
+    parsed(digits)
+}
+
+// The number that digits without a sign encode.
+fn parsed(digits: &[u8]) -> Option<u64>
     ensures some { IsSome result ↔ IsNumberText digits.now }
     ensures value { IfSome result (λ n. n ≡ digits_value 10 digits.now) }
 {
@@ -39,5 +48,16 @@ pub fn bytes_in(alloc: Global, digits: &[u8]) -> Result<Option<Vec<u8>>>
         Ok(bytes) => Ok(Some(bytes)),
         Err(hex::FromHexError::OutOfMemory) => Err(Error::Memory),
         Err(_) => Ok(None),
+    }
+}
+
+/// Returns the number from `least` to `most` that decimal digits encode.
+pub fn number_within(digits: &[u8], least: u64, most: u64) -> Option<u64>
+    ensures exact { result ≡ number_within least most digits.now }
+    ensures range { IfSome result (λ n. (least ≤ n) × (n ≤ most)) }
+{
+    match number_in(digits) {
+        Some(n) if least <= n && n <= most => Some(n),
+        _ => None,
     }
 }

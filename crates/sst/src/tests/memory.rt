@@ -3,6 +3,7 @@
 // may fail there.
 use super::runs::make_run;
 use std::alloc::Global;
+use std::fs;
 use std::process::Abort;
 use std::rt::Files;
 
@@ -49,4 +50,21 @@ fn refused_memory_changes_no_answer(rt: HostRuntime) {
         b"V 0 62 62",
         printed,
     );
+}
+
+#[test]
+fn refused_memory_changes_no_table(rt: HostRuntime) {
+    let alloc = rt.alloc();
+    let input = b"V 2 6162 78\nT 1 6162 7A7a\nV 300 6163 79\n";
+    let words = ["pack", "memory", "2", "1", "1", "10", "2"];
+    let packed = b"packed 3 entries in 2 blocks, 323 bytes\n";
+    check_whole_or_refused(&rt, alloc, &words, input, packed);
+    if fs::metadata(&rt, "memory").is_ok_and(|file| file.len() == 323) {
+        let words = ["get", "memory", "6162", "2"];
+        check_whole_or_refused(&rt, alloc, &words, b"", b"T 1 6162 -\n");
+        let lines = b"V 2 6162 78\nT 1 6162 -\nV 300 6163 79\n";
+        check_whole_or_refused(&rt, alloc, &["walk", "memory"], b"", lines);
+        let checked = b"ok 2 blocks 3 entries\n";
+        check_whole_or_refused(&rt, alloc, &["check", "memory"], b"", checked);
+    }
 }

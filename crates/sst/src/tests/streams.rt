@@ -115,10 +115,11 @@ impl Write for Narrow {
     }
 }
 
-// A run with this output has this status, and its faults begin with this line.
+// A run of these words with this output has this status, and its faults begin with this line.
 fn check_output<R: Files + Abort>(
     rt: &R,
     alloc: Global,
+    words: &[&str],
     mut output: Narrow,
     expected: u8,
     line: &[u8],
@@ -126,40 +127,44 @@ fn check_output<R: Files + Abort>(
     let mut input: &[u8] = b"V 0 62 62\n";
     let mut place = [0u8; 32];
     let mut faults: &mut [u8] = &mut place;
-    let words = ["point", "1", "62", "1"];
-    let status = sst_main(rt, alloc, &words, &mut input, &mut output, &mut faults);
+    let status = sst_main(rt, alloc, words, &mut input, &mut output, &mut faults);
     assert_eq!(rt; status, expected);
     assert!(rt; place.starts_with(line));
 }
 
-#[test]
-fn a_writer_may_fail(rt: HostRuntime) {
-    for room in [0, 1, 80, 81, 90] {
+// A run of these words prints so many bytes: where there is less room, or the output cannot be
+// flushed, the output fails.
+fn check_rooms<R: Files + Abort>(rt: &R, alloc: Global, words: &[&str], len: usize) {
+    for room in [0, 1, len / 2, len - 1] {
         for at_end in [AtEnd::Fails, AtEnd::TakesNothing] {
             let output = Narrow {
                 room,
                 at_end,
                 flushes: true,
             };
-            check_output(&rt, rt.alloc(), output, 1, b"sst: E1 Io\n\0");
+            check_output(rt, alloc, words, output, 1, b"sst: E1 Io\n\0");
         }
     }
-    let output = Narrow {
-        room: 91,
-        at_end: AtEnd::Fails,
-        flushes: true,
-    };
-    check_output(&rt, rt.alloc(), output, 0, b"\0");
+    for flushes in [true, false] {
+        let output = Narrow {
+            room: len,
+            at_end: AtEnd::Fails,
+            flushes,
+        };
+        let line: &[u8] = if flushes { b"\0" } else { b"sst: E1 Io\n\0" };
+        check_output(rt, alloc, words, output, u8::from(!flushes), line);
+    }
 }
 
 #[test]
-fn a_flush_may_fail(rt: HostRuntime) {
-    let output = Narrow {
-        room: 91,
-        at_end: AtEnd::Fails,
-        flushes: false,
-    };
-    check_output(&rt, rt.alloc(), output, 1, b"sst: E1 Io\n\0");
+fn a_writer_may_fail(rt: HostRuntime) {
+    let alloc = rt.alloc();
+    check_rooms(&rt, alloc, &["point", "1", "62", "1"], 91);
+    check_rooms(&rt, alloc, &["pack", "fails", "1", "0", "1", "10", "1"], 40);
+    check_rooms(&rt, alloc, &["get", "fails", "62", "1"], 10);
+    check_rooms(&rt, alloc, &["get", "fails", "61", "1"], 5);
+    check_rooms(&rt, alloc, &["walk", "fails"], 10);
+    check_rooms(&rt, alloc, &["check", "fails"], 22);
 }
 
 #[test]

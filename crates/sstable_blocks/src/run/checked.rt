@@ -28,9 +28,14 @@ use sst_block_kinds::laws::{data_check_is_by_stages, index_check_is_by_stages};
 use sst_block_kinds::{DataBlock, IndexBlock};
 use std::alloc::Global;
 
-// The block of the frame of a type that a handle names.
+/// Reads the frame that a handle names, of a block of this type.
+///
+/// # Errors
+///
+/// Those of `FrameSource::read_frame`, then those of `Block::from_frame`, then `Error::InvalidTag` if
+/// the block is of another type.
 #[tactic(auto, unfolding(sst_base::specs::Frame::payload_of_type))]
-fn block_from<H: BlockHash, S: FrameSource>(
+pub fn block_from<H: BlockHash, S: FrameSource>(
     alloc: Global,
     source: &mut S,
     handle: &BlockHandle,

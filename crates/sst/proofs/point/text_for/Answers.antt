@@ -1,21 +1,24 @@
-use Rattle.std.proofs.Common.{ℕ, Vec, Global}
+use Rattle.std.proofs.Common.{◌≡◌, sym}
 use Rattle.std.proofs.lemmas.Result.{err_from_is_err_and}
-use Rattle.sst.proofs.Outcomes.{text-along, fault-along, fault-of_line}
+use Rattle.sst.specs.Point.{point_payload, point_text_of}
+use Rattle.sst.proofs.Outcomes.{text-of_run, fault-of_run, fault-of_block}
 use Rattle.sst.proofs.point.text_for.Goals as goal
 
 pub returns-in_err-items-clause-err : goal.returns-in_err-items-clause-err
 returns-in_err-items-clause-err g c =
-    let p = err_from_is_err_and c.from_residual-in_err-items.result c.from_residual-in_err-items.ensures.1 in
-    let fault = fault-of_line c.args.words.now (g.I.Read.remaining c.args.input.now) c.in_ok-bytes.bytes.items c.as_slice.result.now c.in_err-items.field-0.0
-    c.in_ok-bytes.ensures.bytes c.as_slice.ensures.value c.in_err-items.ensures.err in
+    let p = err_from_is_err_and c.from_residual.result c.from_residual.ensures.1 in
+    let fault = fault-of_run c.args.words.now (g.I.Read.remaining c.args.input.now) c.in_err-items.field-0.0 c.in_err-items.ensures.err in
+    rw (p.1, p.2) fault
+
+pub returns-in_err-point_text-clause-err : goal.returns-in_err-point_text-clause-err
+returns-in_err-point_text-clause-err g c =
+    let p = err_from_is_err_and c.from_residual-in_err-point_text.result c.from_residual-in_err-point_text.ensures.1 in
+    let cause = rw (c.interval.ensures.value, c.as_slice.ensures.value) at c.in_err-point_text.ensures.cause in
+    let fault = fault-of_block c.args.words.now (g.I.Read.remaining c.args.input.now) c.in_ok-items.items.items c.in_err-point_text.field-0.0 c.in_ok-items.ensures.ok cause in
     rw (p.1, p.2) fault
 
 pub returns-clause-ok : goal.returns-clause-ok
 returns-clause-ok g c =
-    text-along (λ (t : Vec ℕ Global). t.items) c.text_of.result c.args.words.now (g.I.Read.remaining c.args.input.now) c.in_ok-bytes.bytes.items c.as_slice.result.now c.in_ok-items.items.items c.as_slice-2.result.now
-    c.in_ok-bytes.ensures.bytes c.as_slice.ensures.value c.in_ok-items.ensures.ok c.as_slice-2.ensures.value c.text_of.ensures.ok
-
-pub returns-clause-err : goal.returns-clause-err
-returns-clause-err g c =
-    fault-along c.text_of.result c.args.words.now (g.I.Read.remaining c.args.input.now) c.in_ok-bytes.bytes.items c.as_slice.result.now c.in_ok-items.items.items c.as_slice-2.result.now
-    c.in_ok-bytes.ensures.bytes c.as_slice.ensures.value c.in_ok-items.ensures.ok c.as_slice-2.ensures.value c.text_of.ensures.err
+    let text = rw (c.interval.ensures.value, c.as_slice.ensures.value, c.needle.ensures, c.seqno.ensures) at c.in_ok-point_text.ensures.ok in
+    let fits = rw (c.interval.ensures.value, c.as_slice.ensures.value) at c.in_ok-point_text.ensures.fits in
+    text-of_run c.args.words.now (g.I.Read.remaining c.args.input.now) c.in_ok-items.items.items c.in_ok-point_text.field-0.items c.in_ok-items.ensures.ok fits text

@@ -1,6 +1,6 @@
-use Rattle.std.proofs.Common.{rules}
-use Rattle.sst.proofs.NumberText.{IsUtf8-number}
+use Rattle.std.proofs.Common.{◌≡◌, sym}
+use Rattle.sst.proofs.Numbers.{number-exact}
 use Rattle.sst.proofs.text.number_in.Goals as goal
 
-pub returns-in_err-ok-clause-some : goal.returns-in_err-ok-clause-some
-returns-in_err-ok-clause-some c = search (rules, IsUtf8-number)
+pub returns-clause-exact : goal.returns-clause-exact
+returns-clause-exact c = sym (number-exact c.parsed.result c.args.digits.now c.parsed.ensures.some c.parsed.ensures.value)

@@ -4,8 +4,8 @@ use Rattle.sst_base.specs.Order.{key_cmp}
 use Rattle.sst_block_core.specs.Kind.{item_cmp}
 use Rattle.sst_block_core.specs.Entries.{entries}
 use Rattle.sst.specs.Outcome.{disorder_from}
-use Rattle.sst.proofs.Order.{disorder-step, disorder-found, disorder-short, first-found, ordered-found, not_ordered-found, test-along}
-use Rattle.sst.proofs.point.first_disorder.Goals as goal
+use Rattle.sst.proofs.Disorder.{disorder-step, disorder-found, disorder-short, first-found, ordered-found, not_ordered-found, test-along}
+use Rattle.sst.proofs.order.first_disorder.Goals as goal
 
 -- the index is the first
 found : (c : goal.Then-lt) → Some c.loop-i.i ≡ disorder_from 0 c.args.items.now

@@ -1,0 +1,98 @@
+//! Table files: a run and its footer.
+
+use crate::footer::{FOOTER_LEN, handles_in};
+use sstable_blocks::run::checked::block_from;
+use sstable_blocks::{
+    BlockHandle, BlockOffset, BlockType, DataBlock, Error, FileSource, FrameSource, IndexBlock,
+    Input, Poly31, Result, RunHandles, SeekInput,
+};
+use std::alloc::Global;
+use std::io::{Read, Seek, SeekFrom};
+use std::rt::Files;
+use std::{fs, io};
+
+/// An open file. Nothing is known of its bytes.
+#[derive(Drop)]
+pub struct TableFile<F> {
+    file: F,
+}
+
+impl<F: Read> Read for TableFile<F> {
+    fn read(&mut self, buf: &mut [u8]) -> io::Result<usize> {
+        self.file.read(buf)
+    }
+}
+
+impl<F: Seek> Seek for TableFile<F> {
+    fn seek(&mut self, to: SeekFrom) -> io::Result<u64> {
+        self.file.seek(to)
+    }
+}
+
+impl<F: Read> Input for TableFile<F> {
+    fn fill(&mut self, buf: &mut [u8]) -> Result<()> {
+        Ok(self.read_exact(buf)?)
+    }
+}
+
+impl<F: Read + Seek> SeekInput for TableFile<F> {
+    ghost left_at_position = { λ s at bytes position. Prim.cc };
+}
+
+/// The frames of a table file, and where its index and its filter are.
+#[derive(Drop)]
+pub struct Table<F> {
+    /// The frames.
+    pub source: FileSource<TableFile<F>>,
+    /// The frames of the index and of the filter, as the footer says.
+    pub handles: RunHandles,
+}
+
+/// Opens a table file and reads its footer.
+///
+/// # Errors
+///
+/// `Error::Io` if the file cannot be opened or read, `Error::Truncated` below 24 bytes, and
+/// `Error::Memory` if an allocation fails.
+pub fn open_table<R: Files>(rt: &R, alloc: Global, name: &str) -> Result<Table<R::File>> {
+    let mut file = TableFile {
+        file: fs::open(rt, name)?,
+    };
+    let len = file.seek(SeekFrom::End(0))?;
+    let size = len.min(FOOTER_LEN as u64);
+    let footer = BlockHandle::new(BlockOffset(len - size), size as u32);
+    let mut source = FileSource::new(file);
+    let footer = source.read_frame(alloc, &footer)?;
+    let handles = handles_in(footer.as_slice())?;
+    Ok(Table { source, handles })
+}
+
+/// Reads and checks the index of a run.
+///
+/// # Errors
+///
+/// Those of its frame, then `Error::InvalidTag` if it is of another type, then those of
+/// `IndexBlock::check`. `Error::Memory` if an allocation fails.
+pub fn index_at<S: FrameSource>(
+    alloc: Global,
+    source: &mut S,
+    handle: &BlockHandle,
+) -> Result<IndexBlock> {
+    let block = block_from::<Poly31, S>(alloc, source, handle, BlockType::Index)?;
+    IndexBlock::check(block)
+}
+
+/// Reads and checks a data block of a run.
+///
+/// # Errors
+///
+/// Those of its frame, then `Error::InvalidTag` if it is of another type, then those of
+/// `DataBlock::check`. `Error::Memory` if an allocation fails.
+pub fn data_block_at<S: FrameSource>(
+    alloc: Global,
+    source: &mut S,
+    handle: &BlockHandle,
+) -> Result<DataBlock<Poly31>> {
+    let block = block_from::<Poly31, S>(alloc, source, handle, BlockType::Data)?;
+    DataBlock::check(alloc, block)
+}

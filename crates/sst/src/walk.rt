@@ -1,0 +1,86 @@
+//! `walk`: all entries of a table file.
+ghost use Rattle.std.specs.Prelude.{◌≡◌, ◌⊎◌, OnOk, IfOk, IfErr, IsOkUnless, string_bytes};
+ghost use Rattle.std.specs.Io.KnownBytes.{Keeps};
+ghost use Rattle.sst_base.specs.declared.error.Error.TheVariants.{Io};
+ghost use Rattle.sst.specs.declared.fault.Fault.TheVariants.{Refused};
+ghost use Rattle.sst.specs.Outcome.{lines_text_of, PrintsLines, IsRefused};
+
+use crate::fault::Fault;
+use crate::lines::entry_line;
+use crate::output::print_text;
+use crate::table::{data_block_at, index_at, open_table};
+use sstable_blocks::{BlockHandle, DataBlock, Error, FrameSource, IndexBlock, Poly31, Result};
+use std::alloc::Global;
+use std::io::Write;
+use std::rt::Files;
+
+// The lines of the entries of a block.
+fn lines_of(alloc: Global, block: &DataBlock<Poly31>) -> Result<String>
+    ensures ok { IfOk result (λ text. string_bytes text ≡ lines_text_of block.now.items) }
+    ensures memory { IsOkUnless result Error.Memory }
+{
+    let mut text = String::new(alloc);
+    for entry in block.entries() {
+        let line = entry_line(alloc, &entry.materialize(alloc)?)?;
+        text.push_str(line.as_str())?;
+        text.push('\n')?;
+    }
+    Ok(text)
+}
+
+// Prints the entries of the block of a handle, after its check.
+fn print_block<S: FrameSource, O: Write>(
+    alloc: Global,
+    source: &mut S,
+    handle: &BlockHandle,
+    output: &mut O,
+) -> Result<()>
+    ensures printed { OnOk result (PrintsLines (O.contents output.old) (O.contents output.new)) }
+    ensures kept { IfErr result (λ e. (e ≡ Io) ⊎ Keeps (O.contents output.old) (O.contents output.new)) }
+{
+    let block = data_block_at(alloc, source, handle)?;
+    let text = lines_of(alloc, &block)?;
+    print_text(output, text.as_bytes())
+}
+
+// Prints the entries of the blocks of an index, each after its check.
+#[tactic(auto, using(crate::proofs::Outcomes::prints_nothing, crate::proofs::Outcomes::prints_more, crate::proofs::Outcomes::prints_kept))]
+fn print_blocks<S: FrameSource, O: Write>(
+    alloc: Global,
+    source: &mut S,
+    index: &IndexBlock,
+    output: &mut O,
+) -> Result<()>
+    ensures printed { OnOk result (PrintsLines (O.contents output.old) (O.contents output.new)) }
+    ensures kept { IfErr result (λ e. (e ≡ Io) ⊎ PrintsLines (O.contents output.old) (O.contents output.new)) }
+{
+    for item in index.iter() {
+        let handle = BlockHandle::new(item.offset, item.size);
+        print_block(alloc, source, &handle, output)?;
+    }
+    Ok(())
+}
+
+/// Prints all entries of a table file in order, a line each, block by block. The filter is not read.
+///
+/// # Errors
+///
+/// `Error::Io` if the file or the output fails, `Error::Truncated` if the file is shorter than a
+/// footer, then those of the index and of its blocks in order: see `index_at` and `data_block_at`.
+/// `Error::Memory` if an allocation fails. The entries of the blocks before are printed, unless the
+/// output failed.
+pub fn walk<R: Files, O: Write>(
+    rt: &R,
+    alloc: Global,
+    file: &str,
+    output: &mut O,
+) -> std::result::Result<(), Fault>
+    ensures printed { OnOk result (PrintsLines (O.contents output.old) (O.contents output.new)) }
+    ensures err { IfErr result IsRefused }
+    ensures kept { IfErr result (λ fault. (fault ≡ Refused Io) ⊎ PrintsLines (O.contents output.old) (O.contents output.new)) }
+{
+    let mut table = open_table(rt, alloc, file)?;
+    let index = index_at(alloc, &mut table.source, &table.handles.index)?;
+    print_blocks(alloc, &mut table.source, &index, output)?;
+    Ok(())
+}
