@@ -7,6 +7,7 @@ use Rattle.std.specs.Ordering.{nat_cmp, ordering_then, ordering_reverse}
 use Rattle.std.specs.declared.cmp.Ordering.{Ordering}
 use Rattle.std.specs.declared.cmp.Ordering.TheVariants.{Less, Equal, Greater}
 use Rattle.sst_base.specs.declared.table.util.SliceIndexes.{SliceIndexes}
+use Rattle.sst_base.specs.KeyOrderLaws.{slice_cmp-equal}
 use Rattle.sst_base.specs.OrderLaws.{slice_cmp-append}
 use Rattle.sst_block_core.specs.Found.{range_of, IsRange}
 use Rattle.sst_block_core.specs.KeyRanges.{key_by}
@@ -22,11 +23,6 @@ pub first_bytes : (a b : List ℕ) → 0 < length a → 0 < length b → get_or 
 first_bytes [] b h k ne = absurd (omega arith)
 first_bytes (x ∷ xs) [] h k ne = absurd (omega arith)
 first_bytes (x ∷ xs) (y ∷ ys) h k ne = decided (nat_cmp x y) (slice_cmp nat_cmp xs ys) (λ e. ne (ranked x y Equal (sym e)))
-
--- also where the left ones stand in a prefix
-pub first_bytes_prefixed : (prefix suffix needle : List ℕ) → 0 < length prefix → 0 < length needle → get_or prefix 0 0 ≢ get_or needle 0 0 → nat_cmp (get_or prefix 0 0) (get_or needle 0 0) ≡ slice_cmp nat_cmp (prefix ++ suffix) needle
-first_bytes_prefixed [] suffix needle h k ne = absurd (omega arith)
-first_bytes_prefixed (x ∷ xs) suffix needle h k ne = first_bytes (x ∷ (xs ++ suffix)) needle (omega arith) k ne
 
 -- the range behind the first n bytes of a range
 abbrev pub behind : SliceIndexes → ℕ → SliceIndexes
@@ -78,6 +74,14 @@ module _ (payload : List ℕ) (a b : KeyRanges) (left : IsRange payload a.front)
       ∙ (λ i. slice_cmp nat_cmp (sym (none_behind a.front (range_of payload a.rest)) i) (sym other i))
       ∙ ap (λ t. ordering_then t (slice_cmp nat_cmp (range_of payload (behind a.front n) ++ range_of payload a.rest) (range_of payload (behind b.front n) ++ range_of payload b.rest))) (sym tie ∙ e)
       ∙ sym s
+
+  -- the fronts are one range
+  pub one_front : (w : Ordering) (ra rb : List ℕ) → a.front.0 ≡ b.front.0 → a.front.1 ≡ b.front.1
+      → ra ≡ range_of payload a.rest → rb ≡ range_of payload b.rest → w ≡ slice_cmp nat_cmp ra rb → w ≡ slice_cmp nat_cmp (key_by payload a) (key_by payload b)
+  one_front w ra rb s e p q cw =
+      let n = a.front.1 - a.front.0 in
+      let same = (slice_cmp-equal (take n (drop a.front.0 payload)) (take n (drop b.front.0 payload))).1 (ap (λ k. take n (drop k payload)) s) in
+      same_fronts Equal w ra rb (omega (arith, s, e)) (sym same) refl p q cw
 
   -- the left front is the shorter, and the right one begins with it
   pub left_shorter : (o w v : Ordering) (more ra rb : List ℕ) → a.front.1 - a.front.0 ≤ b.front.1 - b.front.0

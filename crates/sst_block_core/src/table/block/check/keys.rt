@@ -1,5 +1,5 @@
 //! The order of two keys by their ranges of a payload.
-ghost use Rattle.std.specs.Prelude.{◌≡◌, ◌≢◌, ◌↔◌, ◌+◌, ◌≤◌, ◌++◌, length, take, drop, IfSome, IsTrue};
+ghost use Rattle.std.specs.Prelude.{◌≡◌, ◌≢◌, ◌↔◌, ◌+◌, ◌≤◌, length, take, drop, IfSome, IsTrue};
 ghost use Rattle.std.specs.Ordering.{nat_cmp};
 ghost use Rattle.std.specs.Cmp.Lexicographic.{slice_cmp};
 ghost use Rattle.std.specs.declared.cmp.Ordering.TheVariants.{Less};
@@ -32,14 +32,6 @@ fn compare_whole(a: &[u8], b: &[u8]) -> Ordering
     compare_bytes(a, b)
 }
 
-// The same as `compare_prefixed_slice`, out of line.
-#[inline(never)]
-fn compare_whole_prefixed(prefix: &[u8], suffix: &[u8], needle: &[u8]) -> Ordering
-    ensures { result ≡ slice_cmp nat_cmp (prefix.now ++ suffix.now) needle.now }
-{
-    compare_prefixed_slice(prefix, suffix, needle)
-}
-
 // Compares two byte strings bytewise. The first bytes mostly decide.
 #[inline(always)]
 #[tactic(auto, using(crate::proofs::KeyOrders::first_bytes))]
@@ -50,18 +42,6 @@ fn compare_rests(a: &[u8], b: &[u8]) -> Ordering
         return a[0].cmp(&b[0]);
     }
     compare_whole(a, b)
-}
-
-// Compares a prefix followed by a suffix with a needle, bytewise. The first bytes mostly decide.
-#[inline(always)]
-#[tactic(auto, using(crate::proofs::KeyOrders::first_bytes_prefixed))]
-fn compare_prefixed(prefix: &[u8], suffix: &[u8], needle: &[u8]) -> Ordering
-    ensures { result ≡ slice_cmp nat_cmp (prefix.now ++ suffix.now) needle.now }
-{
-    if !prefix.is_empty() && !needle.is_empty() && prefix[0] != needle[0] {
-        return prefix[0].cmp(&needle[0]);
-    }
-    compare_whole_prefixed(prefix, suffix, needle)
 }
 
 // Compares two byte strings of one length at these offsets. At one offset they are the same and are
@@ -82,7 +62,43 @@ fn compare_fronts(payload: &[u8], a: usize, b: usize, len: usize) -> Ordering
     let (left, _) = left.split_at(len);
     let (_, right) = payload.split_at(b);
     let (right, _) = right.split_at(len);
-    compare_whole(left, right)
+    compare_bytes(left, right)
+}
+
+// The same as `compare_keys`, whatever the fronts are. Out of line.
+#[inline(never)]
+fn compare_apart(payload: &[u8], a: KeyRanges, b: KeyRanges) -> Ordering
+    requires left { IsKeyRanges payload.now a }
+    requires right { IsKeyRanges payload.now b }
+    ensures { result ≡ slice_cmp nat_cmp (key_by payload.now a) (key_by payload.now b) }
+{
+    let left = a.front.1 - a.front.0;
+    let right = b.front.1 - b.front.0;
+    let left_rest = bytes_of(payload, &a.rest);
+    let right_rest = bytes_of(payload, &b.rest);
+    if left == right {
+        return match compare_fronts(payload, a.front.0, b.front.0, left) {
+            Ordering::Equal => compare_bytes(left_rest, right_rest),
+            decided => decided,
+        };
+    }
+    if left < right {
+        match compare_fronts(payload, a.front.0, b.front.0, left) {
+            Ordering::Equal => {
+                let more = bytes_of(payload, &SliceIndexes(b.front.0 + left, b.front.1));
+                compare_prefixed_slice(more, right_rest, left_rest).reverse()
+            }
+            decided => decided,
+        }
+    } else {
+        match compare_fronts(payload, a.front.0, b.front.0, right) {
+            Ordering::Equal => {
+                let more = bytes_of(payload, &SliceIndexes(a.front.0 + right, a.front.1));
+                compare_prefixed_slice(more, left_rest, right_rest)
+            }
+            decided => decided,
+        }
+    }
 }
 
 /// Compares two keys by their ranges. Nothing is joined, and what both share with one head is not
@@ -93,33 +109,10 @@ pub(crate) fn compare_keys(payload: &[u8], a: &KeyRanges, b: &KeyRanges) -> Orde
     requires right { IsKeyRanges payload.now b.now }
     ensures { result ≡ slice_cmp nat_cmp (key_by payload.now a.now) (key_by payload.now b.now) }
 {
-    let left = a.front.1 - a.front.0;
-    let right = b.front.1 - b.front.0;
-    let left_rest = bytes_of(payload, &a.rest);
-    let right_rest = bytes_of(payload, &b.rest);
-    if left == right {
-        return match compare_fronts(payload, a.front.0, b.front.0, left) {
-            Ordering::Equal => compare_rests(left_rest, right_rest),
-            decided => decided,
-        };
+    if a.front.0 == b.front.0 && a.front.1 == b.front.1 {
+        return compare_rests(bytes_of(payload, &a.rest), bytes_of(payload, &b.rest));
     }
-    if left < right {
-        match compare_fronts(payload, a.front.0, b.front.0, left) {
-            Ordering::Equal => {
-                let more = bytes_of(payload, &SliceIndexes(b.front.0 + left, b.front.1));
-                compare_prefixed(more, right_rest, left_rest).reverse()
-            }
-            decided => decided,
-        }
-    } else {
-        match compare_fronts(payload, a.front.0, b.front.0, right) {
-            Ordering::Equal => {
-                let more = bytes_of(payload, &SliceIndexes(a.front.0 + right, a.front.1));
-                compare_prefixed(more, left_rest, right_rest)
-            }
-            decided => decided,
-        }
-    }
+    compare_apart(payload, *a, *b)
 }
 
 /// Returns whether a version does not sort before the last one, if there is one.
