@@ -1,13 +1,13 @@
 -- The command that words encode, by what each encodes.
 use Rattle.std.proofs.Common.{◌≡◌, ℕ, ◌<◌, ◌≤◌, List, [], ◌∷◌, length, drop, take, ◌-◌, length-drop, arith, refl, true, false, ap, sym, ◌∙◌, ◌⊎◌, get_or, Bool, cond}
-use Rattle.std.specs.Prelude.{Option, Some, None, nat_eq, nat_le, nat_lt, ◌&&◌, map, codes}
+use Rattle.std.specs.Prelude.{Option, Some, None, nat_le, ◌&&◌, map}
 use Rattle.std.specs.Str.{IsUtf8, is_utf8}
 use Rattle.std.proofs.lemmas.Bool.Decides.{nat_tests}
 use Rattle.std.proofs.lemmas.List.{take_all}
 use Rattle.std.proofs.lemmas.Str.{IsUtf8-from_is_utf8, is_utf8-from_IsUtf8}
 use Rattle.sst_base.specs.declared.config.HashRatio.{HashRatio}
 use Rattle.sstable_blocks.specs.declared.run.RunConfig.{RunConfig}
-use Rattle.sst.specs.Text.{number_of, within, number_within, hex_bytes}
+use Rattle.sst.specs.Text.{number_of, within, number_within}
 use Rattle.sst.specs.Commands.{name_of, point_of_words, pack_of_words, get_of_words, file_of_words, command_named, command_of_words, index_interval_of, query_of, ratio_of, config_of, packing_of, lookup_of, file_of}
 
 pub within-kept : (least most n : ℕ) → least ≤ n → n ≤ most → within least most n ≡ Some n

@@ -1,9 +1,8 @@
 -- The entry that a line encodes, as a function and as a relation.
-use Rattle.std.proofs.Common.{◌≡◌, ◌≢◌, ℕ, ◌+◌, ◌<◌, ◌≤◌, ◌^◌, zero, suc, List, [], ◌∷◌, ◌++◌, length, get_or, arith, refl, true, false, Bool, sym, ◌∙◌, ap, ◌↔◌, cond}
+use Rattle.std.proofs.Common.{◌≡◌, ◌≢◌, ℕ, ◌<◌, ◌≤◌, ◌^◌, zero, suc, List, [], ◌∷◌, ◌++◌, length, get_or, arith, refl, true, false, Bool, sym, ◌∙◌, ap, ◌↔◌, cond}
 use Rattle.std.specs.Prelude.{Option, Some, None, Result, Ok, Err, IfOk, IsSomeAnd, nat_eq, nat_le, nat_lt, ◌&&◌, ◌==◌}
 use Rattle.std.specs.Char.{digit_value}
 use Rattle.std.specs.Cmp.Lexicographic.{pointwise}
-use Rattle.std.specs.List.{AllPass}
 use Rattle.std.specs.Option.{option_map}
 use Rattle.std.specs.Result.{result_ok}
 use Rattle.std.specs.Str.Parse.{AllDigits, digits_value}
@@ -15,9 +14,9 @@ use Rattle.hex.proofs.HexLemmas.{decode_of-ok}
 use Rattle.sst_base.specs.declared.value_type.ValueType.{ValueType}
 use Rattle.sst_base.specs.declared.value_type.ValueType.TheVariants.{Value, Tombstone, WeakTombstone, Indirection}
 use Rattle.sst_base.specs.Reading.{◌>>=◌}
-use Rattle.sst_base.specs.Entry.{Entry, IsEntry, plain_value}
+use Rattle.sst_base.specs.Entry.{Entry, plain_value}
 use Rattle.sst.specs.Text.{IsNumberText, is_number_text, number_of, hex_bytes}
-use Rattle.sst.specs.Line.{letter_of, type_of_letter, type_of_letters, joined_by_spaces, IsEncodedBy, Encodes, Lacks, cut_at, entry_within_limits, entry_of_parts, entry_of_line}
+use Rattle.sst.specs.Line.{letter_of, type_of_letter, type_of_letters, IsEncodedBy, Encodes, Lacks, cut_at, entry_within_limits, entry_of_parts, entry_of_line}
 use Rattle.sst.proofs.Numbers.{number_text-sound, number_of-some}
 use Rattle.sst.proofs.EntryParts.{line-with_parts, parts-all, limits-kept}
 

@@ -1,6 +1,6 @@
 -- The entries of lines, as a loop over the lines reads them.
 use Rattle.std.proofs.Common.{◌≡◌, ℕ, ◌+◌, List, [], ◌∷◌, ◌++◌, refl, ap, sym, ◌∙◌, append_assoc, append-nil, length, true, arith}
-use Rattle.std.specs.Prelude.{Option, Some, None, Result, Ok, Err, nat_eq}
+use Rattle.std.specs.Prelude.{Some, None, Result, Ok, Err, nat_eq}
 use Rattle.sst_base.specs.Entry.{Entry}
 use Rattle.sst.specs.declared.fault.Fault.{Fault}
 use Rattle.sst.specs.declared.fault.Fault.TheVariants.{Entry as NoEntry}

@@ -1,11 +1,11 @@
 -- The entry that a line encodes, by what its parts encode.
-use Rattle.std.proofs.Common.{◌≡◌, ℕ, ◌<◌, ◌≤◌, ◌^◌, List, [], ◌∷◌, ◌++◌, length, arith, refl, true, false, Bool, ◌⊎◌}
-use Rattle.std.specs.Prelude.{Option, Some, None, nat_eq, nat_le, nat_lt, ◌&&◌}
+use Rattle.std.proofs.Common.{◌≡◌, ℕ, ◌<◌, ◌≤◌, ◌^◌, List, ◌∷◌, ◌++◌, length, arith, refl, true, false, Bool, ◌⊎◌}
+use Rattle.std.specs.Prelude.{Some, None, nat_eq, nat_le, nat_lt, ◌&&◌}
 use Rattle.std.proofs.lemmas.Bool.Decides.{nat_tests}
 use Rattle.sst_base.specs.declared.value_type.ValueType.{ValueType}
-use Rattle.sst_base.specs.Entry.{Entry, plain_value}
+use Rattle.sst_base.specs.Entry.{plain_value}
 use Rattle.sst.specs.Text.{number_of, hex_bytes}
-use Rattle.sst.specs.Line.{Lacks, cut_at, joined_by_spaces, type_of_letters, entry_within_limits, entry_of_parts, entry_of_line}
+use Rattle.sst.specs.Line.{Lacks, type_of_letters, entry_within_limits, entry_of_parts, entry_of_line}
 use Rattle.sst.proofs.Cuts.{cut-joined, cut-none}
 
 pub line-without_space : (line : List ℕ) → Lacks 32 line → entry_of_line line ≡ None

@@ -1,7 +1,6 @@
 -- The number that decimal digits encode, as a test and as a fact.
-use Rattle.std.proofs.Common.{◌≡◌, ◌≢◌, ℕ, ◌+◌, ◌<◌, ◌^◌, suc, List, [], ◌∷◌, length, arith, sym, ◌∙◌, ap, refl, true, false, Bool, ◌↔◌, cond}
-use Rattle.std.specs.Prelude.{Option, Some, None, IsSome, IfSome, nat_lt, ◌&&◌}
-use Rattle.std.specs.Bool.{Decides}
+use Rattle.std.proofs.Common.{◌≡◌, ℕ, ◌^◌, List, [], ◌∷◌, length, arith, sym, ◌∙◌, ap, refl, true, false, Bool, ◌↔◌, cond}
+use Rattle.std.specs.Prelude.{Option, Some, None, IsSome, IfSome, nat_lt}
 use Rattle.std.specs.Char.{digit_value}
 use Rattle.std.specs.List.{list_all}
 use Rattle.std.specs.Str.Parse.{AllDigits, digits_value}

@@ -1,6 +1,6 @@
 -- What a run prints, by what is found of its input.
 use Rattle.std.proofs.Common.{◌≡◌, ℕ, ◌+◌, ◌<◌, ◌≤◌, ◌^◌, List, [], ◌∷◌, length, arith, refl, true, false, sym, ◌∙◌, ap, inl, inr, ◌⊎◌, ◌++◌, append_assoc, subst}
-use Rattle.std.specs.Prelude.{Option, Some, None, Result, Ok, Err, nat_lt, nat_eq, IfSome, IfOk, IfErr}
+use Rattle.std.specs.Prelude.{Option, Some, None, Ok, Err, nat_lt, nat_eq}
 use Rattle.std.specs.Io.KnownBytes.{Keeps, Appends}
 use Rattle.std.proofs.KnownBytes.{Appends-nil, Appends-trans, Appends-kept}
 use Rattle.sst.specs.Line.{entry_line_of}
@@ -9,11 +9,11 @@ use Rattle.sst_base.specs.declared.error.Error.{Error}
 use Rattle.sst_base.specs.declared.error.Error.TheVariants.{TooLong, Memory}
 use Rattle.sst_base.specs.Entry.{Entry}
 use Rattle.sst.specs.declared.fault.Fault.{Fault}
-use Rattle.sst.specs.declared.fault.Fault.TheVariants.{Usage, NoEntries, Order, Refused}
+use Rattle.sst.specs.declared.fault.Fault.TheVariants.{NoEntries, Order, Refused}
 use Rattle.sst.specs.Query.{Query}
 use Rattle.sst.specs.Lines.{entries_of_input}
 use Rattle.sst.specs.Point.{point_payload, point_text_of}
-use Rattle.sst.specs.Outcome.{disorder_from, fault_of_disorder, fault_of_items, run_of_input, outcome_of_items, outcome_of_run, outcome_of_query, Gave, IsFailure, IsOutcomeOf, IsFaultOf, lines_text_of, PrintsLines}
+use Rattle.sst.specs.Outcome.{disorder_from, fault_of_disorder, fault_of_items, run_of_input, outcome_of_items, outcome_of_query, Gave, IsOutcomeOf, IsFaultOf, lines_text_of, PrintsLines}
 
 pub fault-no_entries : (items : List Entry) → length items ≡ 0 → fault_of_items items ≡ Some NoEntries
 unfolding fault_of_items

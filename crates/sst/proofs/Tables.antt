@@ -1,5 +1,5 @@
 -- Blocks of a size, and the length of a table.
-use Rattle.std.proofs.Common.{◌≡◌, ℕ, ◌+◌, ◌≤◌, ◌<◌, List, [], ◌∷◌, ◌++◌, length, take, drop, arith, refl, sym, ◌∙◌, ap, append_assoc, append-nil}
+use Rattle.std.proofs.Common.{◌≡◌, ℕ, ◌+◌, ◌≤◌, List, [], ◌∷◌, ◌++◌, length, arith, refl, sym, ◌∙◌, ap, append_assoc, append-nil}
 use Rattle.sstable_blocks.specs.Blocks.{joined}
 use Rattle.sst_base.specs.Entry.{Entry}
 use Rattle.sst_block_core.specs.Entries.{entries}
@@ -8,13 +8,12 @@ use Rattle.std.proofs.Common.{Bool, true, false, cond, length-append, subst}
 use Rattle.std.proofs.KnownBytes.{Appends-trans, Appends-kept}
 use Rattle.std.specs.Io.KnownBytes.{Appends, Keeps}
 use Rattle.std.specs.Prelude.{Option, Some, None}
-use Rattle.sst_base.specs.BlockHandle.{HandleParts}
 use Rattle.sstable_blocks.specs.Run.{Form, IsLayout, run_text, run_handles}
 use Rattle.sstable_blocks.specs.Writing.{AppendsLayout}
 use Rattle.sstable_blocks.specs.declared.run.RunConfig.{RunConfig}
 use Rattle.sstable_blocks.specs.declared.run.RunHandles.{RunHandles}
 use Rattle.sst.specs.Footer.{footer}
-use Rattle.sst.specs.Table.{HaveSize, IsCutBy, IsTable, AppendsTable, sst_form, end_by, run_end}
+use Rattle.sst.specs.Table.{HaveSize, IsCutBy, AppendsTable, sst_form, end_by, run_end}
 
 -- all blocks have n items
 abbrev pub AreFull : {X : Type 0} → ℕ → List (List X) → Type 0

@@ -1,4 +1,6 @@
 // Streams that are slow, interrupted or fail.
+ghost use Rattle.std.specs.Prelude.{◌≤◌};
+
 use super::runs::Run;
 use crate::sst_main;
 use std::alloc::{AllocError, Global};
@@ -134,7 +136,9 @@ fn check_output<R: Files + Abort>(
 
 // A run of these words prints so many bytes: where there is less room, or the output cannot be
 // flushed, the output fails.
-fn check_rooms<R: Files + Abort>(rt: &R, alloc: Global, words: &[&str], len: usize) {
+fn check_rooms<R: Files + Abort>(rt: &R, alloc: Global, words: &[&str], len: usize)
+    requires { 1 ≤ len }
+{
     for room in [0, 1, len / 2, len - 1] {
         for at_end in [AtEnd::Fails, AtEnd::TakesNothing] {
             let output = Narrow {

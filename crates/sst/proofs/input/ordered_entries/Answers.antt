@@ -1,4 +1,4 @@
-use Rattle.std.proofs.Common.{◌≡◌, sym}
+use Rattle.std.proofs.Common.{sym}
 use Rattle.std.proofs.lemmas.Result.{err_from_is_err_and}
 use Rattle.sst.proofs.Outcomes.{run-read, run-refused, fault-of_line}
 use Rattle.sst.proofs.input.ordered_entries.Goals as goal

@@ -1,5 +1,3 @@
-use Rattle.std.proofs.Common.{◌≡◌, refl}
-use Rattle.sst.specs.Lines.{lines_of}
 use Rattle.sst.proofs.Cuts.{lines-joined, lines-only}
 use Rattle.sst.proofs.lines.cut_line.Goals as goal
 

@@ -1,5 +1,5 @@
-use Rattle.std.proofs.Common.{◌≡◌, ◌+◌, length, [], sym, ◌∙◌, ap, inr, arith, vec_len}
-use Rattle.std.specs.Prelude.{Some, None, Ok, Err}
+use Rattle.std.proofs.Common.{◌≡◌, ◌+◌, [], sym, ◌∙◌, ap, inr, vec_len}
+use Rattle.std.specs.Prelude.{Err}
 use Rattle.sst.specs.Lines.{lines_of, entries_from}
 use Rattle.sst.specs.declared.fault.Fault.TheVariants.{Entry as NoEntry}
 use Rattle.sst.proofs.EntryLines.{after, entries-step, entries-fault, entries-end, nothing-left}

@@ -1,6 +1,5 @@
-use Rattle.std.proofs.Common.{◌≡◌, ◌≤◌, ◌<◌, ◌^◌, length, sym, ◌∙◌, ap, inl, inr, arith, rules}
+use Rattle.std.proofs.Common.{◌≡◌, ◌≤◌, ◌<◌, ◌^◌, length, sym, ◌∙◌, inl, inr, arith}
 use Rattle.std.specs.Prelude.{Some, None}
-use Rattle.sst.specs.Text.{number_of, hex_bytes}
 use Rattle.sst.specs.Line.{entry_of_parts, entry_within_limits}
 use Rattle.sst.proofs.Numbers.{number-exact}
 use Rattle.sst.proofs.EntryParts.{parts-no_type, parts-no_number, parts-no_key, parts-no_value, parts-all, limits-passed, limits-kept, length-from_empty}

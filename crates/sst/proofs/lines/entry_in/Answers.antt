@@ -1,7 +1,4 @@
-use Rattle.std.proofs.Common.{◌≡◌, sym, ◌∙◌, ap}
-use Rattle.std.specs.Prelude.{Some, None, IfOk}
-use Rattle.std.proofs.lemmas.Result.{IfOk-weaker}
-use Rattle.sst.specs.Line.{entry_of_parts, Encodes}
+use Rattle.std.proofs.Common.{sym, ◌∙◌}
 use Rattle.sst.proofs.EntryLaw.{line-inverse, line-complete, law-along}
 use Rattle.sst.proofs.lines.entry_in.Goals as goal
 

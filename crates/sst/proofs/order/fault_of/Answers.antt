@@ -1,4 +1,4 @@
-use Rattle.std.proofs.Common.{◌≡◌, sym}
+use Rattle.std.proofs.Common.{sym}
 use Rattle.sst.proofs.Outcomes.{fault-no_entries, fault-disorder, fault-ordered, some-from_test, none-from_test}
 use Rattle.sst.proofs.order.fault_of.Goals as goal
 

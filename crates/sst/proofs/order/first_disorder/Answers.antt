@@ -1,4 +1,4 @@
-use Rattle.std.proofs.Common.{◌≡◌, ◌<◌, ◌≤◌, ◌+◌, ◌-◌, length, drop, arith, sym, ◌∙◌, ap, refl, true, false, is_lt, length-drop, add-one}
+use Rattle.std.proofs.Common.{◌≡◌, ◌≤◌, ◌+◌, ◌-◌, length, drop, arith, sym, ◌∙◌, refl, true, false, is_lt, length-drop, add-one}
 use Rattle.std.specs.Prelude.{Some, None}
 use Rattle.sst_base.specs.Order.{key_cmp}
 use Rattle.sst_block_core.specs.Kind.{item_cmp}

@@ -1,5 +1,4 @@
-use Rattle.std.proofs.Common.{◌≡◌, ◌≤◌, length, sym, ◌∙◌, arith}
-use Rattle.sstable_blocks.specs.Writing.{Follows}
+use Rattle.std.proofs.Common.{◌≤◌, length, ◌∙◌, arith}
 use Rattle.sst.proofs.Outcomes.{some-from_test}
 use Rattle.sst.proofs.Tables.{all-next, ordered-next, size-next, full-next}
 use Rattle.sst.proofs.pack.add_blocks.Goals as goal

@@ -1,4 +1,4 @@
-use Rattle.std.proofs.Common.{◌≡◌, ◌∙◌, ap}
+use Rattle.std.proofs.Common.{◌∙◌, ap}
 use Rattle.sstable_blocks.specs.Writing.{Writing}
 use Rattle.sst.proofs.Tables.{table-of}
 use Rattle.sst.proofs.pack.write_table.Goals as goal

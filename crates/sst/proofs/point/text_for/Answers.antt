@@ -1,6 +1,4 @@
-use Rattle.std.proofs.Common.{◌≡◌, sym}
 use Rattle.std.proofs.lemmas.Result.{err_from_is_err_and}
-use Rattle.sst.specs.Point.{point_payload, point_text_of}
 use Rattle.sst.proofs.Outcomes.{text-of_run, fault-of_run, fault-of_block}
 use Rattle.sst.proofs.point.text_for.Goals as goal
 

@@ -1,4 +1,4 @@
-use Rattle.std.proofs.Common.{◌≡◌, sym}
+use Rattle.std.proofs.Common.{sym}
 use Rattle.sst.proofs.Numbers.{number-exact}
 use Rattle.sst.proofs.text.number_in.Goals as goal
 

@@ -1,4 +1,4 @@
-use Rattle.std.proofs.Common.{◌≡◌, sym, ◌∙◌, inl, inr, arith}
+use Rattle.std.proofs.Common.{sym, ◌∙◌, inl, inr, arith}
 use Rattle.sst.proofs.CommandWords.{within-kept, within-passed, number_within-some, number_within-none}
 use Rattle.sst.proofs.text.number_within.Goals as goal
 

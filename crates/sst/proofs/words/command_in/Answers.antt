@@ -1,6 +1,6 @@
-use Rattle.std.proofs.Common.{◌≡◌, sym, ◌∙◌, ap}
-use Rattle.std.specs.Prelude.{map, Some, None}
-use Rattle.sst.specs.Commands.{name_of, command_named, command_of_words}
+use Rattle.std.proofs.Common.{sym, ◌∙◌, ap}
+use Rattle.std.specs.Prelude.{map, Some}
+use Rattle.sst.specs.Commands.{name_of, command_named}
 use Rattle.sst.proofs.CommandWords.{command-none, command-words}
 use Rattle.sst.proofs.words.command_in.Goals as goal
 

@@ -1,4 +1,4 @@
-use Rattle.std.proofs.Common.{◌≡◌, sym}
+use Rattle.std.proofs.Common.{sym}
 use Rattle.sst.proofs.CommandWords.{file-utf8, file-other}
 use Rattle.sst.proofs.words.file_in.Goals as goal
 

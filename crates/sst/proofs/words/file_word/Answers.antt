@@ -1,4 +1,4 @@
-use Rattle.std.proofs.Common.{◌≡◌, sym, ◌∙◌, ap, arith, length}
+use Rattle.std.proofs.Common.{◌≡◌, sym, ◌∙◌, ap, arith}
 use Rattle.std.specs.Prelude.{map, None}
 use Rattle.sst.specs.Commands.{file_of, file_of_words}
 use Rattle.sst.proofs.CommandWords.{map-one, file-words, file-too_few, file-too_many}

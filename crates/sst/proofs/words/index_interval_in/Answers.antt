@@ -1,4 +1,4 @@
-use Rattle.std.proofs.Common.{◌≡◌, sym, ◌∙◌, ap, arith}
+use Rattle.std.proofs.Common.{sym, ◌∙◌, ap, arith}
 use Rattle.sst.specs.Text.{number_within}
 use Rattle.sst.specs.Commands.{index_interval_of}
 use Rattle.sst.proofs.CommandWords.{map-one, interval-none, interval-one, interval-more}

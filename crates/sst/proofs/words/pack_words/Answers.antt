@@ -1,8 +1,6 @@
-use Rattle.std.proofs.Common.{◌≡◌, sym, ◌∙◌, ap, arith}
+use Rattle.std.proofs.Common.{sym, ◌∙◌, ap, arith}
 use Rattle.std.specs.Option.{option_map}
 use Rattle.sst.specs.declared.words.Command.TheVariants.{Pack}
-use Rattle.sst.specs.Commands.{pack_of_words}
-use Rattle.std.specs.Prelude.{map}
 use Rattle.sst.proofs.CommandWords.{pack-found, pack-other_count}
 use Rattle.sst.proofs.words.pack_words.Goals as goal
 
