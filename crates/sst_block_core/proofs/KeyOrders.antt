@@ -1,6 +1,10 @@
 -- The order of two keys, by the ranges of their parts.
-use Rattle.std.proofs.Common.{◌≡◌, ◌≢◌, ℕ, ◌+◌, ◌-◌, ◌<◌, ◌≤◌, List, [], ◌∷◌, ◌++◌, length, get_or, take, drop, refl, sym, ap, ◌∙◌, arith, append_assoc, length-drop, take-add}
-use Rattle.std.proofs.lemmas.List.{drop-drop, length-take-le}
+use Rattle.std.proofs.Common.{◌≡◌, ◌≢◌, ℕ, ◌+◌, ◌-◌, ◌≤◌, List, ◌++◌, length, take, drop, refl, sym, ap, ◌∙◌, arith, append_assoc, length-drop, take-add}
+use Rattle.std.proofs.lemmas.List.{drop-drop, length-take-le, take-append-drop}
+use Rattle.byteorder.specs.Endian.{big_number}
+use Rattle.byteorder.specs.Numbers.{big_from-take}
+use Rattle.sst_base.specs.Bytes.{IsBytes}
+use Rattle.sst_base.specs.BytesLaws.{IsBytes-take}
 use Rattle.std.proofs.lemmas.Cmp.{nat_list_cmp_total, ranked}
 use Rattle.std.specs.Cmp.Lexicographic.{slice_cmp}
 use Rattle.std.specs.Ordering.{nat_cmp, ordering_then, ordering_reverse}
@@ -8,7 +12,7 @@ use Rattle.std.specs.declared.cmp.Ordering.{Ordering}
 use Rattle.std.specs.declared.cmp.Ordering.TheVariants.{Less, Equal, Greater}
 use Rattle.sst_base.specs.declared.table.util.SliceIndexes.{SliceIndexes}
 use Rattle.sst_base.specs.KeyOrderLaws.{slice_cmp-equal}
-use Rattle.sst_base.specs.OrderLaws.{slice_cmp-append}
+use Rattle.sst_base.specs.OrderLaws.{slice_cmp-append, slice_cmp-big_number}
 use Rattle.sst_block_core.specs.Found.{range_of, IsRange}
 use Rattle.sst_block_core.specs.KeyRanges.{key_by}
 use Rattle.sst_block_core.specs.declared.table.block.check.keys.KeyRanges.{KeyRanges}
@@ -18,11 +22,19 @@ decided Less w n = refl
 decided Equal w n = absurd (n refl)
 decided Greater w n = refl
 
--- the first bytes decide where they differ
-pub first_bytes : (a b : List ℕ) → 0 < length a → 0 < length b → get_or a 0 0 ≢ get_or b 0 0 → nat_cmp (get_or a 0 0) (get_or b 0 0) ≡ slice_cmp nat_cmp a b
-first_bytes [] b h k ne = absurd (omega arith)
-first_bytes (x ∷ xs) [] h k ne = absurd (omega arith)
-first_bytes (x ∷ xs) (y ∷ ys) h k ne = decided (nat_cmp x y) (slice_cmp nat_cmp xs ys) (λ e. ne (ranked x y Equal (sym e)))
+-- the first four bytes decide where they differ
+pub first_four : (a b : List ℕ) (x y : ℕ) → IsBytes a → IsBytes b → 4 ≤ length a → 4 ≤ length b → x ≡ big_number 4 a → y ≡ big_number 4 b → x ≢ y → nat_cmp x y ≡ slice_cmp nat_cmp a b
+first_four a b x y c d h k p q ne =
+    let la : length (take 4 a) ≡ 4 = length-take-le 4 a h in
+    let lb : length (take 4 b) ≡ 4 = length-take-le 4 b k in
+    let rest = slice_cmp nat_cmp (drop 4 a) (drop 4 b) in
+    let fours : slice_cmp nat_cmp (take 4 a) (take 4 b) ≡ nat_cmp x y =
+    slice_cmp-big_number 4 (take 4 a) (take 4 b) (IsBytes-take 4 a c) (IsBytes-take 4 b d) la lb
+    ∙ (λ j. nat_cmp ((big_from-take 0 4 4 a (omega arith) ∙ sym p) j) ((big_from-take 0 4 4 b (omega arith) ∙ sym q) j)) in
+    decided (nat_cmp x y) rest (λ e. ne (ranked x y Equal (sym e)))
+    ∙ ap (λ o. ordering_then o rest) (sym fours)
+    ∙ sym (slice_cmp-append (take 4 a) (take 4 b) (drop 4 a) (drop 4 b) (la ∙ sym lb))
+    ∙ (λ i. slice_cmp nat_cmp (take-append-drop 4 a i) (take-append-drop 4 b i))
 
 -- the range behind the first n bytes of a range
 abbrev pub behind : SliceIndexes → ℕ → SliceIndexes

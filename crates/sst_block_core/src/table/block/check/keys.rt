@@ -6,6 +6,7 @@ ghost use Rattle.std.specs.declared.cmp.Ordering.TheVariants.{Less};
 ghost use Rattle.sst_block_core.specs.KeyRanges.{key_by, IsKeyRanges, version_cmp};
 
 use crate::table::block::key_ranges::bytes_of;
+use byteorder::{BigEndian, ByteOrder};
 use sst_base::table::util::{SliceIndexes, compare_bytes, compare_prefixed_slice};
 use std::cmp::Ordering;
 
@@ -32,14 +33,17 @@ fn compare_whole(a: &[u8], b: &[u8]) -> Ordering
     compare_bytes(a, b)
 }
 
-// Compares two byte strings bytewise. The first bytes mostly decide.
+// Compares two byte strings bytewise. The first four bytes mostly decide.
 #[inline(always)]
-#[tactic(auto, using(crate::proofs::KeyOrders::first_bytes))]
 fn compare_rests(a: &[u8], b: &[u8]) -> Ordering
     ensures { result ≡ slice_cmp nat_cmp a.now b.now }
 {
-    if !a.is_empty() && !b.is_empty() && a[0] != b[0] {
-        return a[0].cmp(&b[0]);
+    if a.len() >= 4 && b.len() >= 4 {
+        let x = BigEndian::read_u32(a);
+        let y = BigEndian::read_u32(b);
+        if x != y {
+            return x.cmp(&y);
+        }
     }
     compare_whole(a, b)
 }
