@@ -54,9 +54,9 @@ fn counts_text(alloc: Global, blocks: usize, entries: u64) -> Result<String>
     Ok(format!(in alloc; "ok {blocks} blocks {entries} entries\n")?)
 }
 
-/// Checks a table file, and prints the number of its blocks and of their entries. A block is counted
-/// as often as the index names it. End keys and the bits of the filter are not compared with the
-/// entries.
+/// Checks a table file, and prints the number of its blocks and of their entries. A block is
+/// counted as often as the index names it. End keys and the bits of the filter are not compared
+/// with the entries.
 ///
 /// # Errors
 ///

@@ -48,8 +48,8 @@ fn filter_parts(filter: &Option<BlockHandle>) -> BlockHandle
     }
 }
 
-/// Returns the handles of a footer, at the front of these bytes. If the size of the filter is 0 there
-/// is none, wherever its offset is.
+/// Returns the handles of a footer, at the front of these bytes. If the size of the filter is 0
+/// there is none, wherever its offset is.
 ///
 /// # Errors
 ///

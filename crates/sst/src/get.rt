@@ -34,9 +34,9 @@ fn answer_text(alloc: Global, found: Option<InternalValue>) -> Result<String>
     Ok(text)
 }
 
-/// Prints the entry that is found in a table file, or `none`. A needle that is too long for a key is
-/// looked up like any other. Of the file its footer is read, and the frames that `read_entry_checked`
-/// reads.
+/// Prints the entry that is found in a table file, or `none`. A needle that is too long for a key
+/// is looked up like any other. Of the file its footer is read, and the frames that
+/// `read_entry_checked` reads.
 ///
 /// # Errors
 ///

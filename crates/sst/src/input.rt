@@ -41,13 +41,13 @@ fn error_of(kind: ErrorKind) -> Error
     }
 }
 
-/// Returns the entries of an input, one a line, of which there is at least one, and none sorts before
-/// its predecessor.
+/// Returns the entries of an input, one a line, of which there is at least one, and none sorts
+/// before its predecessor.
 ///
 /// # Errors
 ///
-/// `Fault::NoEntries`, `Fault::Entry` and `Fault::Order` as the input demands, `Error::Memory` if an
-/// allocation fails, and `Error::Io` if the input fails.
+/// `Fault::NoEntries`, `Fault::Entry` and `Fault::Order` as the input demands, `Error::Memory` if
+/// an allocation fails, and `Error::Io` if the input fails.
 pub fn ordered_entries<I: Read>(
     alloc: Global,
     input: &mut I,

@@ -73,13 +73,13 @@ fn table_len(handles: &RunHandles) -> Result<u64>
     }
 }
 
-/// Writes a table: the run of ordered entries, in blocks of `per_block` entries, the last perhaps of
-/// fewer, and its footer. Returns what was written, and the writer.
+/// Writes a table: the run of ordered entries, in blocks of `per_block` entries, the last perhaps
+/// of fewer, and its footer. Returns what was written, and the writer.
 ///
 /// # Errors
 ///
-/// Those of `RunWriter::add_block` and `RunWriter::finish`; `Error::TooLong` too where the table has
-/// 2^64 bytes or more.
+/// Those of `RunWriter::add_block` and `RunWriter::finish`; `Error::TooLong` too where the table
+/// has 2^64 bytes or more.
 pub fn write_table<W: Write + Drop>(
     alloc: Global,
     writer: W,
@@ -139,8 +139,8 @@ fn packed_text(alloc: Global, entries: usize, packed: &Packed) -> Result<String>
 /// # Errors
 ///
 /// `Fault::NoEntries`, `Fault::Entry` and `Fault::Order` as the input demands; the file is not
-/// touched then. `Error::Io` if the input, the file or the output fails, `Error::TooLong` if the run
-/// does not fit: see `RunWriter`. `Error::Memory` if an allocation fails.
+/// touched then. `Error::Io` if the input, the file or the output fails, `Error::TooLong` if the
+/// run does not fit: see `RunWriter`. `Error::Memory` if an allocation fails.
 pub fn pack<R: Files, I: Read, O: Write>(
     rt: &R,
     alloc: Global,

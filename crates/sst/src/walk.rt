@@ -61,7 +61,8 @@ fn print_blocks<S: FrameSource, O: Write>(
     Ok(())
 }
 
-/// Prints all entries of a table file in order, a line each, block by block. The filter is not read.
+/// Prints all entries of a table file in order, a line each, block by block. The filter is not
+/// read.
 ///
 /// # Errors
 ///

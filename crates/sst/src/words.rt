@@ -205,8 +205,8 @@ impl<'a> GetWords<'a> {
     }
 }
 
-/// Returns what the program is asked by these words, or `None` if they are no command. A word is any
-/// byte string.
+/// Returns what the program is asked by these words, or `None` if they are no command. A word is
+/// any byte string.
 ///
 /// # Errors
 ///

@@ -95,8 +95,8 @@ impl<I: ListIterator<Item: Drop>> DoubleEndedPeekableExt for I {
 }
 
 /// An iterator whose first and last item can be looked at before they are taken. Clauses see the
-/// items left: the peeked front item, if any, those of the inner iterator, and the peeked back item,
-/// if any. That the inner iterator ended is not remembered.
+/// items left: the peeked front item, if any, those of the inner iterator, and the peeked back
+/// item, if any. That the inner iterator ended is not remembered.
 #[derive(Drop)]
 pub struct DoubleEndedPeekable<T, I> {
     iter: I,

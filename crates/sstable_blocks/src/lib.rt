@@ -1,8 +1,8 @@
 //! The block layer of a log-structured storage engine: sorted entries in blocks with restart
 //! intervals, prefix truncation, a binary index and a hash index; Bloom filters; and runs.
 //!
-//! This crate has the filters and the runs, and names what users need of the crates below it, in the
-//! modules of the Rust crate that it ports.
+//! This crate has the filters and the runs, and names what users need of the crates below it, in
+//! the modules of the Rust crate that it ports.
 #![tactic(auto)]
 
 pub mod laws;

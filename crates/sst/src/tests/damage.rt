@@ -7,8 +7,8 @@ use std::process::Abort;
 use std::rt::Files;
 use std::test::Fail;
 
-// A table file of which a part is kept and some bytes are changed, and what each command prints then:
-// lines of faults begin with `sst`.
+// A table file of which a part is kept and some bytes are changed, and what each command prints
+// then: lines of faults begin with `sst`.
 #[derive(Clone, Copy)]
 struct Damage<'a> {
     from: usize,

@@ -32,8 +32,8 @@ use std::alloc::Global;
 ///
 /// # Errors
 ///
-/// Those of `FrameSource::read_frame`, then those of `Block::from_frame`, then `Error::InvalidTag` if
-/// the block is of another type.
+/// Those of `FrameSource::read_frame`, then those of `Block::from_frame`, then `Error::InvalidTag`
+/// if the block is of another type.
 #[tactic(auto, unfolding(sst_base::specs::Frame::payload_of_type))]
 pub fn block_from<H: BlockHash, S: FrameSource>(
     alloc: Global,
@@ -172,16 +172,17 @@ fn read_in_stages<H: BlockHash, S: FrameSource>(
 }
 
 /// Returns the first entry of a run with this key whose sequence number is strictly below `seqno`,
-/// from bytes of any kind: the filter's frame, if there is one, that of the index and that of the one
-/// block are read, and each is verified and checked.
+/// from bytes of any kind: the filter's frame, if there is one, that of the index and that of the
+/// one block are read, and each is verified and checked.
 ///
 /// # Errors
 ///
 /// The first one met, in this order: for the filter, if there is one, those of its frame
-/// (`FrameSource::read_frame`, `Block::from_frame`), `Error::InvalidTag` if it is of another type, and
-/// those of `StandardBloomFilterReader::new`; then for the index those of its frame, its type, and
-/// `IndexBlock::check`; then for the block those of its frame, its type, and `DataBlock::check`.
-/// `Error::Io` only where the source failed. `Error::Memory` if an allocation fails.
+/// (`FrameSource::read_frame`, `Block::from_frame`), `Error::InvalidTag` if it is of another type,
+/// and those of `StandardBloomFilterReader::new`; then for the index those of its frame, its type,
+/// and `IndexBlock::check`; then for the block those of its frame, its type, and
+/// `DataBlock::check`. `Error::Io` only where the source failed. `Error::Memory` if an allocation
+/// fails.
 pub fn read_entry_checked<H: BlockHash, S: FrameSource>(
     alloc: Global,
     source: &mut S,

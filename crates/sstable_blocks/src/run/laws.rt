@@ -44,8 +44,8 @@ pub fn handles_are_ready()
         × AllByRecursion IsHandle (handles_from f 0 blocks) × AllByRecursion EndFits (handles_from f 0 blocks) }
 {}
 
-/// What a reader finds in a layout: the index with the handles of the blocks, the blocks where these
-/// say, and a filter that denies no key of the run.
+/// What a reader finds in a layout: the index with the handles of the blocks, the blocks where
+/// these say, and a filter that denies no key of the run.
 pub fn layout_opens()
     ensures { (f : Form) (blocks : List (List Entry)) (bytes : List ℕ) (h : RunHandles) → IsLayout f blocks bytes h → Opened f blocks bytes h }
 {
@@ -67,9 +67,9 @@ pub fn layout_is_read()
     first_match_of_plain();
 }
 
-/// What an answer of a checked read on any bytes means: each frame met is a frame of the right type,
-/// whose payload the filter's reader or the check accepts; there is none where the filter denies the
-/// key, else the answer is by the handle at which the index seek stops.
+/// What an answer of a checked read on any bytes means: each frame met is a frame of the right
+/// type, whose payload the filter's reader or the check accepts; there is none where the filter
+/// denies the key, else the answer is by the handle at which the index seek stops.
 pub fn checked_answer_means()
     ensures { (c : Hashes) (bytes : List ℕ) (h : RunHandles) (needle : List ℕ) (seqno : ℕ) (answer : Option Entry) → IsBytes bytes
         → read_checked c bytes h needle seqno ≡ Ok answer → AnswerMeans c bytes h needle seqno answer }

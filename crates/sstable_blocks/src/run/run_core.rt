@@ -110,8 +110,8 @@ impl<H: BlockHash> RunCore<H> {
         self.handles.len()
     }
 
-    /// Writes one more block, not empty and ordered behind the blocks before. All growths of its own
-    /// come before the first byte. The denominator of the ratio is at least 1.
+    /// Writes one more block, not empty and ordered behind the blocks before. All growths of its
+    /// own come before the first byte. The denominator of the ratio is at least 1.
     ///
     /// # Errors
     ///

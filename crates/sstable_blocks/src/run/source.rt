@@ -23,8 +23,8 @@ pub trait FrameSource {
     ///
     /// # Errors
     ///
-    /// `Error::BadHandle` if the range of the handle is not inside, `Error::Io` if the source fails, or
-    /// ends before, `Error::Memory` if an allocation fails.
+    /// `Error::BadHandle` if the range of the handle is not inside, `Error::Io` if the source
+    /// fails, or ends before, `Error::Memory` if an allocation fails.
     fn read_frame(&mut self, alloc: Global, handle: &BlockHandle) -> Result<Slice>
         ensures same { bytes self.new ≡ bytes self.old }
         ensures failures_grow { failures self.old ≤ failures self.new }
@@ -74,7 +74,8 @@ impl FrameSource for MemorySource {
     }
 }
 
-/// A run in a file, or in anything else that can be read and moved. Clauses see how often it failed.
+/// A run in a file, or in anything else that can be read and moved. Clauses see how often it
+/// failed.
 #[derive(Drop)]
 pub struct FileSource<F> {
     file: F,

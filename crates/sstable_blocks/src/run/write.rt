@@ -37,9 +37,10 @@ pub fn cuts_fit(len: usize, cuts: &[usize]) -> bool
 ///
 /// # Errors
 ///
-/// `Error::TooLong` only where a payload has more than 4294967262 bytes, the filter more than 34359737920
-/// bits, or all frames 2^64 bytes or more; `Error::Memory` if an allocation fails; `Error::Io` if the
-/// writer fails, as a vector does that finds no memory. The writer may then hold a part of the run.
+/// `Error::TooLong` only where a payload has more than 4294967262 bytes, the filter more than
+/// 34359737920 bits, or all frames 2^64 bytes or more; `Error::Memory` if an allocation fails;
+/// `Error::Io` if the writer fails, as a vector does that finds no memory. The writer may then hold
+/// a part of the run.
 pub fn write_run<H: BlockHash, W: Write>(
     alloc: Global,
     writer: &mut W,

@@ -89,10 +89,10 @@ impl<H: BlockHash, W: Write> RunWriter<H, W> {
     ///
     /// # Errors
     ///
-    /// `Error::TooLong` only where the payload of the block has more than 4294967262 bytes or the frames
-    /// of all blocks 2^64 bytes or more, `Error::Memory` if an allocation fails; nothing is written
-    /// then. `Error::Io` if the writer fails. The block is not accepted, and from then on every call
-    /// answers the same error, and does not touch the writer.
+    /// `Error::TooLong` only where the payload of the block has more than 4294967262 bytes or the
+    /// frames of all blocks 2^64 bytes or more, `Error::Memory` if an allocation fails; nothing is
+    /// written then. `Error::Io` if the writer fails. The block is not accepted, and from then on
+    /// every call answers the same error, and does not touch the writer.
     pub fn add_block(&mut self, items: &[InternalValue]) -> Result<()>
         requires { Follows self.old.blocks items.now }
         ensures config { self.new.config ≡ self.old.config }
@@ -121,13 +121,13 @@ impl<H: BlockHash, W: Write> RunWriter<H, W> {
 }
 
 impl<H: BlockHash, W: Write + Drop> RunWriter<H, W> {
-    /// Writes the index and the filter. Returns their handles, and the writer. A block was accepted,
-    /// or one was refused.
+    /// Writes the index and the filter. Returns their handles, and the writer. A block was
+    /// accepted, or one was refused.
     ///
     /// # Errors
     ///
-    /// That of `add_block`, if it refused. Else `Error::TooLong` only where the run does not fit: see
-    /// `write_run`; `Error::Memory` if an allocation fails, `Error::Io` if the writer fails.
+    /// That of `add_block`, if it refused. Else `Error::TooLong` only where the run does not fit:
+    /// see `write_run`; `Error::Memory` if an allocation fails, `Error::Io` if the writer fails.
     pub fn finish(self) -> Result<(RunHandles, W)>
         requires { self.refusal ≡ None → 1 ≤ length self.blocks }
         ensures layout { IfOk result (λ r. AppendsLayout (form H.hash64 H.hash128 self.config) self.blocks self.start (W.contents r.1) r.0) }

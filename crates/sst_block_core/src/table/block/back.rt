@@ -39,8 +39,8 @@ impl Back {
 }
 
 impl<'a, Item: Decodable<Parsed>, Parsed: ParsedItem<Item> + Drop> Intervals<'a, Item, Parsed> {
-    // Puts the offsets of the interval's items before an end on an empty stack. Returns where the key
-    // of their head begins.
+    // Puts the offsets of the interval's items before an end on an empty stack. Returns where the
+    // key of their head begins.
     fn fill(&mut self, end: usize, stack: &mut ArrayVec<u32, MAX_INTERVAL>) -> usize
         requires some { 0 < end }
         requires inside { end ≤ length self.old.list.items }

@@ -162,8 +162,8 @@ pub trait Decodable<Parsed: ParsedItem<Self>>: BlockItem + Sized {
 
 /// The block decoder: an iterator over the items of a block, as ranges of its payload.
 ///
-/// Clauses see the payload, the restart interval, a window over the items, and the counters. No step
-/// takes memory.
+/// Clauses see the payload, the restart interval, a window over the items, and the counters. No
+/// step takes memory.
 pub struct Decoder<'a, Item: Decodable<Parsed>, Parsed: ParsedItem<Item>> {
     pub(crate) intervals: Intervals<'a, Item, Parsed>,
     pub(crate) front: Place,
@@ -209,14 +209,14 @@ impl<'a, Item: Decodable<Parsed>, Parsed: ParsedItem<Item>> Decoder<'a, Item, Pa
         }
     }
 
-    /// Moves the front to a head. A predicate over keys and sequence numbers, true of the first heads
-    /// and false of the others, picks it: the last head of which it is true, or the first head where
-    /// it is true of none. With `second_partition` it picks the first head of which it is false, or
-    /// the last head where it is true of all.
+    /// Moves the front to a head. A predicate over keys and sequence numbers, true of the first
+    /// heads and false of the others, picks it: the last head of which it is true, or the first
+    /// head where it is true of none. With `second_partition` it picks the first head of which it
+    /// is false, or the last head where it is true of all.
     ///
     /// Returns `true`. But with `second_partition`, where each item is a head and the predicate is
-    /// true of all, the front is emptied, and the answer is `false`. The back stays. Counts at most as
-    /// many heads as their number has binary digits, and no entry.
+    /// true of all, the front is emptied, and the answer is `false`. The back stays. Counts at most
+    /// as many heads as their number has binary digits, and no entry.
     pub fn seek<F: Fn(&[u8], u64) -> bool>(&mut self, pred: &F, second_partition: bool) -> bool
         requires callable { F.IsAlwaysCallable pred.now }
         ensures payload { self.new.payload ≡ self.old.payload }
@@ -242,8 +242,8 @@ impl<'a, Item: Decodable<Parsed>, Parsed: ParsedItem<Item>> Decoder<'a, Item, Pa
     }
 
     /// Moves the back behind the interval of a head, which a predicate picks as [`Decoder::seek`]
-    /// says. Returns `true`. The front stays. Counts at most as many heads as their number has binary
-    /// digits, and no entry.
+    /// says. Returns `true`. The front stays. Counts at most as many heads as their number has
+    /// binary digits, and no entry.
     pub fn seek_upper<F: Fn(&[u8], u64) -> bool>(
         &mut self,
         pred: &F,

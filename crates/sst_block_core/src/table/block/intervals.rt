@@ -160,8 +160,8 @@ impl<'a, Item: Decodable<Parsed>, Parsed: ParsedItem<Item>> Intervals<'a, Item, 
         }
     }
 
-    /// Returns the place of the head of interval j, or behind the last item where j is the number of
-    /// intervals.
+    /// Returns the place of the head of interval j, or behind the last item where j is the number
+    /// of intervals.
     #[inline(always)]
     pub(crate) fn start_or_last(&self, j: usize) -> Place
         requires { j ≤ head_count self.now.list.interval (length self.now.list.items) }

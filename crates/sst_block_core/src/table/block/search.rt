@@ -23,8 +23,8 @@ use sst_base::table::util::longest_shared_prefix_length;
 use std::cmp::Ordering;
 
 impl<'a, Item: Decodable<Parsed>, Parsed: ParsedItem<Item>> Intervals<'a, Item, Parsed> {
-    /// Returns how many heads a predicate over keys and sequence numbers holds of, if it is true and
-    /// then false over the heads. By halves.
+    /// Returns how many heads a predicate over keys and sequence numbers holds of, if it is true
+    /// and then false over the heads. By halves.
     #[inline(always)]
     pub(crate) fn partition_point<F: Fn(&[u8], u64) -> bool>(&mut self, pred: &F) -> usize
         requires callable { F.IsAlwaysCallable pred.now }
@@ -51,8 +51,8 @@ impl<'a, Item: Decodable<Parsed>, Parsed: ParsedItem<Item>> Intervals<'a, Item, 
         left
     }
 
-    /// Returns how many heads a bound passes: the first item that it doesn't pass is in the interval
-    /// before, or the next head.
+    /// Returns how many heads a bound passes: the first item that it doesn't pass is in the
+    /// interval before, or the next head.
     pub(crate) fn heads_passed(&mut self, bound: &Bound<'_>) -> usize
         requires { IsOrdered Item.kind self.old.list.items }
         ensures list { self.new.list ≡ self.old.list }
@@ -71,8 +71,8 @@ impl<'a, Item: Decodable<Parsed>, Parsed: ParsedItem<Item>> Intervals<'a, Item, 
 
 impl<'a, Item: Decodable<Parsed>, Parsed: ParsedItem<Item> + Drop> Intervals<'a, Item, Parsed> {
     // The first place from one on, and before an end, whose item a bound doesn't pass, with that
-    // item; or the end. No head is among them, and their head, which the bound passes, shares `alike`
-    // bytes with the needle.
+    // item; or the end. No head is among them, and their head, which the bound passes, shares
+    // `alike` bytes with the needle.
     #[inline(always)]
     fn scan(
         &mut self,
@@ -127,8 +127,8 @@ impl<'a, Item: Decodable<Parsed>, Parsed: ParsedItem<Item> + Drop> Intervals<'a,
         (at, head, alike)
     }
 
-    // The first place of interval j whose item a bound doesn't pass, with that item; or the end of the
-    // interval. The bound passes its head.
+    // The first place of interval j whose item a bound doesn't pass, with that item; or the end of
+    // the interval. The bound passes its head.
     #[inline(always)]
     fn seek_in(&mut self, j: usize, bound: &Bound<'_>) -> (Place, Option<Landing<Parsed>>)
         requires ordered { IsOrdered Item.kind self.old.list.items }

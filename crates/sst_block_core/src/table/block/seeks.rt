@@ -85,8 +85,8 @@ impl<'a, Item: Decodable<Parsed>, Parsed: ParsedItem<Item> + Drop> Decoder<'a, I
         Some(held.item)
     }
 
-    /// Moves the front to the first item that a bound doesn't pass. Returns whether an item is left,
-    /// and the first has the needle as its key.
+    /// Moves the front to the first item that a bound doesn't pass. Returns whether an item is
+    /// left, and the first has the needle as its key.
     #[inline(always)]
     pub fn seek_key(&mut self, bound: &Bound<'_>) -> bool
         requires { IsOrdered Item.kind self.old.window.list }

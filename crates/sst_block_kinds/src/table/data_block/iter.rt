@@ -20,9 +20,9 @@ use std::marker::Model;
 
 /// An iterator over the entries of a data block, as ranges of its payload.
 ///
-/// Clauses see the payload, the restart interval, a window over the entries, and the counters. Every
-/// call, at any moment, is a step of the window: a seek moves its own end, wherever that was, and
-/// leaves the other. No step takes memory.
+/// Clauses see the payload, the restart interval, a window over the entries, and the counters.
+/// Every call, at any moment, is a step of the window: a seek moves its own end, wherever that was,
+/// and leaves the other. No step takes memory.
 #[derive(Drop)]
 pub struct Iter<'a> {
     decoder: Decoder<'a, InternalValue, DataBlockParsedItem>,
@@ -57,8 +57,8 @@ impl<'a> Iter<'a> {
         self.decoder.steps()
     }
 
-    /// Moves the front to the first entry whose key is at least the needle. Returns whether an entry
-    /// is left, and the first has the needle as its key.
+    /// Moves the front to the first entry whose key is at least the needle. Returns whether an
+    /// entry is left, and the first has the needle as its key.
     pub fn seek(&mut self, needle: &[u8]) -> bool
         ensures step { GivesStep self.old self.new (found result) (seek entries needle.now self.old.window) }
         ensures heads { self.new.steps.heads ≤ self.old.steps.heads + digits (head_count self.old.interval (length self.old.window.list)) }
@@ -70,8 +70,8 @@ impl<'a> Iter<'a> {
         self.decoder.seek_key(&bound)
     }
 
-    /// Moves the front to the first entry whose key is above the needle. Returns whether an entry is
-    /// left.
+    /// Moves the front to the first entry whose key is above the needle. Returns whether an entry
+    /// is left.
     pub fn seek_exclusive(&mut self, needle: &[u8]) -> bool
         ensures step { GivesStep self.old self.new (found result) (seek_exclusive entries needle.now self.old.window) }
         ensures heads { self.new.steps.heads ≤ self.old.steps.heads + digits (head_count self.old.interval (length self.old.window.list)) }
@@ -84,8 +84,8 @@ impl<'a> Iter<'a> {
         self.decoder.has_left()
     }
 
-    /// Moves the back behind the last entry whose key is at most the needle. Returns whether an entry
-    /// is left, and the last has the needle as its key.
+    /// Moves the back behind the last entry whose key is at most the needle. Returns whether an
+    /// entry is left, and the last has the needle as its key.
     pub fn seek_upper(&mut self, needle: &[u8]) -> bool
         ensures step { GivesStep self.old self.new (found result) (seek_upper entries needle.now self.old.window) }
         ensures heads { self.new.steps.heads ≤ self.old.steps.heads + digits (head_count self.old.interval (length self.old.window.list)) }
@@ -97,8 +97,8 @@ impl<'a> Iter<'a> {
         self.decoder.seek_upper_key(&bound)
     }
 
-    /// Moves the back behind the last entry whose key is below the needle. Returns whether an entry is
-    /// left.
+    /// Moves the back behind the last entry whose key is below the needle. Returns whether an entry
+    /// is left.
     pub fn seek_upper_exclusive(&mut self, needle: &[u8]) -> bool
         ensures step { GivesStep self.old self.new (found result) (seek_upper_exclusive entries needle.now self.old.window) }
         ensures heads { self.new.steps.heads ≤ self.old.steps.heads + digits (head_count self.old.interval (length self.old.window.list)) }

@@ -158,18 +158,19 @@ impl<H: BlockHash> DataBlock<H> {
         }
     }
 
-    /// Takes a block of any bytes, if its payload is the encoding of some ordered, non-empty list of
-    /// entries. Takes memory only where buckets are stored: for the buckets, and for the longest
+    /// Takes a block of any bytes, if its payload is the encoding of some ordered, non-empty list
+    /// of entries. Takes memory only where buckets are stored: for the buckets, and for the longest
     /// truncated key.
     ///
     /// # Errors
     ///
-    /// That of the first of these stages that fails. `Error::Truncated` if the payload has fewer than
-    /// 31 bytes; `Error::BadTrailer` if the numbers of the trailer do not fit each other and the
-    /// payload; `Error::BadEntry` if the body is not as many entries in their forms, and nothing else;
-    /// `Error::OutOfOrder` if an entry sorts before its predecessor; `Error::BadIndex` if a pointer is
-    /// not the offset of its head, or the pointer width not the least; `Error::BadHashIndex` if a
-    /// bucket is not that of the entries. `Error::Memory` if an allocation fails.
+    /// That of the first of these stages that fails. `Error::Truncated` if the payload has fewer
+    /// than 31 bytes; `Error::BadTrailer` if the numbers of the trailer do not fit each other and
+    /// the payload; `Error::BadEntry` if the body is not as many entries in their forms, and
+    /// nothing else; `Error::OutOfOrder` if an entry sorts before its predecessor;
+    /// `Error::BadIndex` if a pointer is not the offset of its head, or the pointer width not the
+    /// least; `Error::BadHashIndex` if a bucket is not that of the entries. `Error::Memory` if an
+    /// allocation fails.
     pub fn check(alloc: Global, block: Block) -> Result<DataBlock<H>>
         ensures checked { IfOk result (λ b. data_check H.hash64 block.payload ≡ Ok b.items) }
         ensures parts { IfOk result (λ b. b ≡ data_block_of block) }
@@ -237,8 +238,8 @@ impl<H: BlockHash> DataBlock<H> {
         if stored == 0 { None } else { Some(stored) }
     }
 
-    /// Returns a view of the hash index, which has at least one bucket, or `None` if none is stored.
-    /// Takes no memory.
+    /// Returns a view of the hash index, which has at least one bucket, or `None` if none is
+    /// stored. Takes no memory.
     pub fn get_hash_index_reader(&self) -> Option<hash_index::Reader<'_, H>>
         ensures buckets { result ≡ (if self.now.stored == 0 then None else Some (buckets entries H.hash64 self.now.interval self.now.items self.now.stored)) }
         ensures some { IfSome result (λ reader. 0 < length reader) }
@@ -294,8 +295,9 @@ impl<H: BlockHash> DataBlock<H> {
     /// tombstone has no value.
     ///
     /// What was looked at is added to `steps`. Where the hash index says that the key is not there,
-    /// that is nothing; where it gives a restart interval, at most the entries of one; else at most as
-    /// many heads as their number has binary digits, and the entries of one interval and one more.
+    /// that is nothing; where it gives a restart interval, at most the entries of one; else at most
+    /// as many heads as their number has binary digits, and the entries of one interval and one
+    /// more.
     ///
     /// # Errors
     ///

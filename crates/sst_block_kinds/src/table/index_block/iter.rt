@@ -20,9 +20,10 @@ use std::marker::Model;
 
 /// An iterator over the handles of an index block, as ranges of its payload.
 ///
-/// Clauses see the payload, the restart interval, a window over the handles, and the counters. Every
-/// call, at any moment, is a step of the window: a seek moves its own end, wherever that was, and
-/// leaves the other. The handle that a seek decodes is held for the next step. No step takes memory.
+/// Clauses see the payload, the restart interval, a window over the handles, and the counters.
+/// Every call, at any moment, is a step of the window: a seek moves its own end, wherever that was,
+/// and leaves the other. The handle that a seek decodes is held for the next step. No step takes
+/// memory.
 #[derive(Drop)]
 pub struct Iter<'a> {
     decoder: Decoder<'a, KeyedBlockHandle, IndexBlockParsedItem>,

@@ -78,8 +78,8 @@ impl IndexBlock {
         })
     }
 
-    /// Encodes a non-empty ordered list of handles, each with an end of its block below 2^64, into an
-    /// empty vector. Each handle is a head.
+    /// Encodes a non-empty ordered list of handles, each with an end of its block below 2^64, into
+    /// an empty vector. Each handle is a head.
     ///
     /// # Errors
     ///
@@ -117,8 +117,8 @@ impl IndexBlock {
         IndexBlock::encode_into_vec_with(alloc, items, 1)
     }
 
-    /// Encodes a non-empty ordered list of handles, each with an end of its block below 2^64, into an
-    /// empty vector, in restart intervals of at least one handle.
+    /// Encodes a non-empty ordered list of handles, each with an end of its block below 2^64, into
+    /// an empty vector, in restart intervals of at least one handle.
     ///
     /// # Errors
     ///
@@ -186,17 +186,18 @@ impl IndexBlock {
         IndexBlock { inner: block }
     }
 
-    /// Takes a block of any bytes, if its payload is the encoding of some ordered, non-empty list of
-    /// handles at an interval from 1 to 255, each with an end of its block below 2^64. Takes no memory.
+    /// Takes a block of any bytes, if its payload is the encoding of some ordered, non-empty list
+    /// of handles at an interval from 1 to 255, each with an end of its block below 2^64. Takes no
+    /// memory.
     ///
     /// # Errors
     ///
-    /// That of the first of these stages that fails. `Error::Truncated` if the payload has fewer than
-    /// 31 bytes; `Error::BadTrailer` if the numbers of the trailer do not fit each other and the
-    /// payload, or there are buckets; `Error::BadEntry` if the body is not as many handles in their
-    /// forms, and nothing else; `Error::BadHandle` if a block's end is 2^64 or above;
-    /// `Error::OutOfOrder` if a handle sorts before its predecessor; `Error::BadIndex` if a pointer is
-    /// not the offset of its head, or the pointer width not the least.
+    /// That of the first of these stages that fails. `Error::Truncated` if the payload has fewer
+    /// than 31 bytes; `Error::BadTrailer` if the numbers of the trailer do not fit each other and
+    /// the payload, or there are buckets; `Error::BadEntry` if the body is not as many handles in
+    /// their forms, and nothing else; `Error::BadHandle` if a block's end is 2^64 or above;
+    /// `Error::OutOfOrder` if a handle sorts before its predecessor; `Error::BadIndex` if a pointer
+    /// is not the offset of its head, or the pointer width not the least.
     pub fn check(block: Block) -> Result<IndexBlock>
         ensures checked { IfOk result (λ b. index_check block.payload ≡ Ok b.items) }
         ensures parts { IfOk result (λ b. b ≡ index_block_of block) }
