@@ -1,8 +1,8 @@
 -- Varints of two and three bytes, by the bytes that stand at the front.
-use Rattle.std.proofs.Common.{◌≡◌, ℕ, ◌+◌, ◌*◌, ◌-◌, ◌<◌, ◌≤◌, List, [], ◌∷◌, length, get_or, arith, sym, ap, ◌∙◌, Some}
+use Rattle.std.proofs.Common.{◌≡◌, ℕ, ◌+◌, ◌*◌, ◌-◌, ◌<◌, ◌≤◌, List, [], ◌∷◌, length, take, get_or, arith, sym, ap, subst, ◌∙◌, Option, Some}
 use Rattle.sst_base.specs.Bytes.{IsBytes}
-use Rattle.sst_base.specs.Varint.{IsWidth, varint_at}
-use Rattle.sst_base.specs.VarintLaws.{varint_at_two, varint_at_three}
+use Rattle.sst_base.specs.Varint.{IsVarint, IsWidth, varint_at}
+use Rattle.sst_base.specs.VarintLaws.{varint_at_found, varint_at_two, varint_at_three}
 
 pub two_bytes : (bits : ℕ) (bytes : List ℕ) (x y : ℕ) → IsWidth bits → IsBytes bytes → 2 ≤ length bytes
     → 128 ≤ get_or bytes 0 0 → 0 < get_or bytes 1 0 → get_or bytes 1 0 < 128
@@ -21,3 +21,7 @@ three_bytes bits (a ∷ []) x y z w wide small h p q r s e f g = absurd (omega a
 three_bytes bits (a ∷ b ∷ []) x y z w wide small h p q r s e f g = absurd (omega arith)
 three_bytes bits (a ∷ b ∷ c ∷ bs) x y z w wide small h p q r s e f g =
     ap (λ n. Some (n, 3)) (λ i. (e i + 128 * f i) + 16384 * g i) ∙ sym (varint_at_three bits a b c bs w (omega arith) p (small 0) q (small 1) r s)
+
+-- a number takes a byte or more
+pub takes_some : (bits : ℕ) (bytes : List ℕ) (n len : ℕ) → IsBytes bytes → bits ≤ 64 → ◌≡◌ {A = Option (ℕ × ℕ)} (Some (n, len)) (varint_at bits bytes) → len ≡ 0 → ⊥
+takes_some bits bytes n len c w e z = subst (λ k. IsVarint (take k bytes) n) z (varint_at_found bits bytes (Some (n, len)) c w e).2

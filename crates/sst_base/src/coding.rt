@@ -1,6 +1,6 @@
 //! Encodings: what has one, and varints, numbers in base 128, least significant digit first.
 ghost use Rattle.std.specs.Prelude.{◌≡◌, ℕ, ◌+◌, ◌-◌, ◌*◌, ◌/◌, ◌^◌, ◌<◌, ◌≤◌, ◌++◌, length, take};
-ghost use Rattle.std.specs.Prelude.{◌↔◌, drop, OnOk, OnErr, IsOkUnless, IfSome, IfNone, IsSome, IsTrue};
+ghost use Rattle.std.specs.Prelude.{drop, OnOk, OnErr, IsOkUnless, IfSome, IfNone, None};
 ghost use Rattle.std.specs.Prelude.{List, Some, IfOk, Result as Outcome};
 ghost use Rattle.std.specs.Io.KnownBytes.{Appends};
 ghost use Rattle.std.specs.Vec.{vec_len, vec_capacity};
@@ -173,41 +173,33 @@ fn decode_up_to(bytes: &[u8], max: u64) -> Option<(u64, usize)>
     decode_behind(bytes, digit - 128, max)
 }
 
-// Returns whether a front of the bytes encodes a number within the width.
+// Reads the number within the width that a front of the bytes encodes, and the length of that
+// front: 0 where there is none. A pair is not answered by way of memory.
 #[inline(never)]
-#[tactic(auto, unfolding(crate::specs::Varint::varint_at))]
-fn has_varint(bytes: &[u8], bits: u32) -> bool
+#[tactic(auto, using(crate::proofs::ShortVarints::takes_some), unfolding(crate::specs::Varint::varint_at))]
+fn decode_or_zero(bytes: &[u8], bits: u32) -> (u64, usize)
     requires { IsWidth bits }
-    ensures { IsTrue result ↔ IsSome (varint_at bits bytes.now) }
+    ensures found { 0 < result.1 → varint_at bits bytes.now ≡ Some result }
+    ensures none { result.1 ≡ 0 → varint_at bits bytes.now ≡ None }
 {
-    decode_up_to(bytes, u64::MAX >> (64 - bits)).is_some()
+    match decode_up_to(bytes, u64::MAX >> (64 - bits)) {
+        Some(found) => found,
+        None => (0, 0),
+    }
 }
 
 // Reads the number within the width that a front of the bytes encodes, and the length of that
 // front.
-#[inline(never)]
-#[tactic(auto, unfolding(crate::specs::Varint::varint_at))]
-fn decode_found(bytes: &[u8], bits: u32) -> (u64, usize)
-    requires width { IsWidth bits }
-    requires found { IsSome (varint_at bits bytes.now) }
-    ensures { varint_at bits bytes.now ≡ Some result }
-{
-    match decode_up_to(bytes, u64::MAX >> (64 - bits)) {
-        Some(found) => found,
-        None => unreachable!(),
-    }
-}
-
-// The same where such a front is not known. Neither call answers by way of memory.
 #[inline(always)]
 fn decode_within(bytes: &[u8], bits: u32) -> Option<(u64, usize)>
     requires { IsWidth bits }
     ensures { result ≡ varint_at bits bytes.now }
 {
-    if !has_varint(bytes, bits) {
+    let (n, len) = decode_or_zero(bytes, bits);
+    if len == 0 {
         return None;
     }
-    Some(decode_found(bytes, bits))
+    Some((n, len))
 }
 
 // Reads a varint of more than one byte.
