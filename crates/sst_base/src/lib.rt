@@ -18,8 +18,6 @@ mod note;
 pub mod slice;
 pub mod steps;
 pub mod table;
-#[cfg(test)]
-mod tests;
 pub mod value;
 pub mod value_type;
 pub mod vectors;

@@ -8,8 +8,6 @@
 pub mod laws;
 pub mod run;
 pub mod table;
-#[cfg(test)]
-mod tests;
 pub mod vectors;
 
 pub use run::{

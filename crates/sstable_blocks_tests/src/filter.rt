@@ -1,12 +1,9 @@
 // What no clause says: values from outside, and that a call succeeds where memory is ample.
 ghost use Rattle.std.specs.Prelude.{◌<◌};
 
-mod checked;
-mod runs;
-
-use crate::table::filter::bit_array::{self, BitArrayReader, enable_bit};
-use crate::table::filter::standard_bloom::{Builder, StandardBloomFilterReader, secondary_hash};
-use crate::table::filter::{BloomConstructionPolicy, FilterBlock, FilterType};
+use sstable_blocks::table::filter::bit_array::{self, BitArrayReader, enable_bit};
+use sstable_blocks::table::filter::standard_bloom::{Builder, StandardBloomFilterReader, secondary_hash};
+use sstable_blocks::table::filter::{BloomConstructionPolicy, FilterBlock, FilterType};
 use sst_base::{
     Block, BlockHash, BlockType, ByteSum, Checksum, Error, Header, HeaderName, Poly31, Result,
     Slice, TagName,

@@ -1,6 +1,6 @@
 // Checked reads of a worked run, whole, with a byte changed, and by other handles.
-use super::runs::{THREE_BLOCKS, handle};
-use crate::run::{FileSource, FrameSource, MemorySource, RunHandles, read_entry_checked};
+use crate::runs::{THREE_BLOCKS, handle};
+use sstable_blocks::run::{FileSource, FrameSource, MemorySource, RunHandles, read_entry_checked};
 use sst_base::{BlockHandle, ByteSum, Error, HeaderName, InternalValue, Result, Slice, TagName};
 use std::alloc::Global;
 use std::io::Cursor;

@@ -1,6 +1,6 @@
 // Readers and writers that move one byte a call, and fail at a call.
-use crate::error::Result;
-use crate::input::Input;
+use sst_base::error::Result;
+use sst_base::input::Input;
 use std::io;
 use std::io::{ErrorKind, Read, Write};
 

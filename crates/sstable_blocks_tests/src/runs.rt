@@ -4,8 +4,8 @@ ghost use Rattle.sst_block_core.specs.Entries.{entries};
 ghost use Rattle.sst_block_core.specs.Kind.{IsOrdered};
 ghost use Rattle.sstable_blocks.specs.Blocks.{CutsFit};
 
-use crate::run::round_trip::write_and_read;
-use crate::run::{RunConfig, RunHandles, RunWriter, cuts_fit, write_run};
+use sstable_blocks::run::round_trip::write_and_read;
+use sstable_blocks::run::{RunConfig, RunHandles, RunWriter, cuts_fit, write_run};
 use sst_base::{
     BlockHandle, BlockHash, BlockOffset, ByteSum, Error, HashRatio, InternalValue, Result, Slice,
     ValueType,
@@ -20,7 +20,7 @@ use std::test::Fail;
 const NO_BUCKETS: HashRatio = HashRatio { num: 0, den: 1 };
 
 // (a, x, 3), (a, y, 1) and (b, z, 4) in a block each, with index and filter.
-pub(super) const THREE_BLOCKS: [u8; 368] = [
+pub(crate) const THREE_BLOCKS: [u8; 368] = [
     0x4c, 0x53, 0x4d, 0x03, 0x00, 0xea, 0x01, 0x00, 0x00, 0x00, 0x00, 0x00, 0x00, 0x00, 0x00, 0x00,
     0x00, 0x00, 0x00, 0x00, 0x00, 0x28, 0x00, 0x00, 0x00, 0x28, 0x00, 0x00, 0x00, 0x2a, 0x02, 0x00,
     0x00, 0x00, 0x03, 0x01, 0x61, 0x01, 0x78, 0xff, 0x00, 0x00, 0x01, 0x02, 0x01, 0x00, 0x00, 0x00,
@@ -92,7 +92,7 @@ fn config(restart_interval: u8, bits_per_key: u32, index_interval: u8) -> RunCon
     config
 }
 
-pub(super) fn handle(offset: u64, size: u32) -> BlockHandle {
+pub(crate) fn handle(offset: u64, size: u32) -> BlockHandle {
     BlockHandle::new(BlockOffset(offset), size)
 }
 

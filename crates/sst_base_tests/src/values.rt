@@ -1,13 +1,11 @@
 // What no clause says: values from outside, that a call succeeds where memory is ample, and printed
 // text. Three tests accept `Error::Memory` too: they are for runs in which allocations fail.
+ghost use Rattle.std.specs.Prelude.{◌≡◌, length, IfOk};
 ghost use Rattle.std.specs.Iterator.{YieldsFirst, YieldsLast, item_count};
 
-mod devices;
-mod frames;
-
-use crate::double_ended_peekable::{DoubleEndedPeekableExt, ListIterator};
-use crate::hash::{BlockHash, Poly31};
-use crate::{
+use sst_base::double_ended_peekable::{DoubleEndedPeekableExt, ListIterator};
+use sst_base::hash::{BlockHash, Poly31};
+use sst_base::{
     Block, BlockType, Checksum, Error, Header, History, InternalKey, InternalValue, Result, Slice,
     Steps, ValueType, compare_bytes, compare_prefixed_slice, decode_varint, encode_varint,
     longest_shared_prefix_length,
@@ -32,14 +30,6 @@ fn check_slice(rt: &impl Abort, slice: Result<Slice>, bytes: &[u8]) {
         Ok(slice) => assert!(rt; slice.eq_bytes(bytes)),
         Err(error) => assert_eq!(rt; error, Error::Memory),
     }
-}
-
-fn check_order(rt: &impl Abort, prefix: &[u8], suffix: &[u8], needle: &[u8], order: Ordering) {
-    assert_eq!(rt;
-        compare_prefixed_slice(prefix, suffix, needle),
-        order,
-        "{prefix:?} {suffix:?} {needle:?}"
-    );
 }
 
 #[test]
@@ -70,25 +60,52 @@ fn owned_bytes_are_taken_over(rt: HostRuntime) -> std::result::Result<(), Fail> 
     Ok(())
 }
 
+// Whether a slice of these bytes has them.
+fn is_made(alloc: Global, bytes: &[u8]) -> Result<bool> {
+    let slice = Slice::new(alloc, bytes)?;
+    Ok(slice.eq_bytes(bytes) && slice.len() == bytes.len())
+}
+
+// Whether a slice of these bytes is its clone, and what is cut from it without ends.
+fn is_cloned(alloc: Global, bytes: &[u8]) -> Result<bool> {
+    let slice = Slice::new(alloc, bytes)?;
+    Ok(slice.clone()? == slice && slice.slice(..)? == slice)
+}
+
+// Whether a slice of a vector of these bytes is that of the bytes.
+fn is_taken_over(alloc: Global, bytes: &[u8]) -> Result<bool> {
+    let slice = Slice::new(alloc, bytes)?;
+    Ok(Slice::from_vec(bytes.to_vec(alloc)?)? == slice)
+}
+
+// Whether all bytes are those of two parts.
+fn is_joined(alloc: Global, front: &[u8], rest: &[u8], all: &[u8]) -> Result<bool> {
+    Ok(Slice::fused(alloc, front, rest)?.eq_bytes(all))
+}
+
+// Whether a slice of all bytes is cut into these parts.
+fn is_cut(alloc: Global, front: &[u8], rest: &[u8], all: &[u8]) -> Result<bool> {
+    let all = Slice::new(alloc, all)?;
+    let at = front.len().min(all.len());
+    Ok(all.slice(..at)?.eq_bytes(front) && all.slice(at..)?.eq_bytes(rest))
+}
+
 // Bytes up to this length, in place and shared: whole, joined, cloned and cut.
 #[test]
-fn short_and_long_bytes_are_the_same(rt: HostRuntime) -> std::result::Result<(), Fail> {
+fn short_and_long_bytes_are_the_same(rt: HostRuntime) {
     let alloc = rt.alloc();
     let bytes = *b"0123456789abcdefghijklmnopqrstuvwxyzABCDEFGHIJKLMNOPQRSTUVWXYZ";
     for len in [0, 1, 38, 39, 40, 41, 62] {
         let (part, rest) = bytes.as_slice().split_at(len);
-        let whole = Slice::new(alloc, part)?;
-        assert!(rt; whole.eq_bytes(part), "{len}");
-        assert!(rt; whole.clone()? == whole, "{len}");
-        assert!(rt; Slice::from_vec(part.to_vec(alloc)?)? == whole, "{len}");
-        assert!(rt; Slice::fused(alloc, part, rest)?.eq_bytes(&bytes), "{len}");
-        let all = Slice::new(alloc, &bytes)?;
-        assert!(rt; all.slice(..len)? == whole, "{len}");
-        assert!(rt; all.slice(len..)?.eq_bytes(rest), "{len}");
-        assert!(rt; whole.slice(..)? == whole, "{len}");
-        assert_eq!(rt; whole.len(), len);
+        let got = [
+            is_made(alloc, part),
+            is_cloned(alloc, part),
+            is_taken_over(alloc, part),
+            is_joined(alloc, part, rest, &bytes),
+            is_cut(alloc, part, rest, &bytes),
+        ];
+        assert_eq!(rt; got, [Ok(true); 5], "{len}");
     }
-    Ok(())
 }
 
 // The same calls, of which any allocation may fail.
@@ -135,82 +152,75 @@ fn a_failed_growth_leaves_the_vector(rt: HostRuntime) {
     }
 }
 
-#[test]
-fn prefixed_slices_compare(rt: HostRuntime) {
-    check_order(&rt, b"abcd", b"zz", b"abc", Ordering::Greater);
-    check_order(&rt, b"\x00\xa1", b"", b"\x00", Ordering::Greater);
-    check_order(&rt, b"yyyy", b"a", b"yyyyb", Ordering::Less);
-    check_order(&rt, b"", b"", b"", Ordering::Equal);
-    check_order(&rt, b"", b"a", b"", Ordering::Greater);
-    check_order(&rt, b"a", b"", b"", Ordering::Greater);
-    check_order(&rt, b"", b"", b"a", Ordering::Less);
-    check_order(&rt, b"", b"abc", b"abc", Ordering::Equal);
-    check_order(&rt, b"abc", b"", b"abc", Ordering::Equal);
-    check_order(&rt, b"ab", b"c", b"abc", Ordering::Equal);
-    check_order(&rt, b"ab", b"c", b"abd", Ordering::Less);
-    check_order(&rt, b"ab", b"d", b"abc", Ordering::Greater);
-}
-
-#[test]
-fn longer_slices_compare(rt: HostRuntime) {
-    check_order(&rt, b"ab", b"c", b"abcd", Ordering::Less);
-    check_order(&rt, b"ab", b"cd", b"abc", Ordering::Greater);
-    check_order(&rt, b"ab", b"c", b"b", Ordering::Less);
-    check_order(&rt, b"b", b"c", b"ab", Ordering::Greater);
-    check_order(&rt, b"abc", b"d", b"ab", Ordering::Greater);
-    check_order(&rt, b"abc", b"d", b"b", Ordering::Less);
-    check_order(&rt, b"\x80", b"\xff", b"\x7f", Ordering::Greater);
-    check_order(&rt, b"\x7f", b"\xff", b"\x80", Ordering::Less);
-    check_order(
-        &rt,
+// Prefix, suffix, needle, and how the joined bytes compare with it.
+const SPLIT_KEYS: [(&[u8], &[u8], &[u8], Ordering); 24] = [
+    (b"abcd", b"zz", b"abc", Ordering::Greater),
+    (b"\x00\xa1", b"", b"\x00", Ordering::Greater),
+    (b"yyyy", b"a", b"yyyyb", Ordering::Less),
+    (b"", b"", b"", Ordering::Equal),
+    (b"", b"a", b"", Ordering::Greater),
+    (b"a", b"", b"", Ordering::Greater),
+    (b"", b"", b"a", Ordering::Less),
+    (b"", b"abc", b"abc", Ordering::Equal),
+    (b"abc", b"", b"abc", Ordering::Equal),
+    (b"ab", b"c", b"abc", Ordering::Equal),
+    (b"ab", b"c", b"abd", Ordering::Less),
+    (b"ab", b"d", b"abc", Ordering::Greater),
+    (b"ab", b"c", b"abcd", Ordering::Less),
+    (b"ab", b"cd", b"abc", Ordering::Greater),
+    (b"ab", b"c", b"b", Ordering::Less),
+    (b"b", b"c", b"ab", Ordering::Greater),
+    (b"abc", b"d", b"ab", Ordering::Greater),
+    (b"abc", b"d", b"b", Ordering::Less),
+    (b"\x80", b"\xff", b"\x7f", Ordering::Greater),
+    (b"\x7f", b"\xff", b"\x80", Ordering::Less),
+    (
         b"abcdefgh",
         b"ijklmnopq",
         b"abcdefghijklmnopr",
         Ordering::Less,
-    );
-    check_order(
-        &rt,
+    ),
+    (
         b"abcdefghijklmnop",
         b"q",
         b"abcdefghijklmnop",
         Ordering::Greater,
-    );
-    check_order(
-        &rt,
-        b"abcdefgh",
-        b"\xc8",
-        b"abcdefgh\x7f",
-        Ordering::Greater,
-    );
-    check_order(&rt, b"abcdefg", b"hi", b"abcdefgh", Ordering::Greater);
+    ),
+    (b"abcdefgh", b"\xc8", b"abcdefgh\x7f", Ordering::Greater),
+    (b"abcdefg", b"hi", b"abcdefgh", Ordering::Greater),
+];
+
+#[test]
+fn prefixed_slices_compare(rt: HostRuntime) {
+    for (prefix, suffix, needle, order) in SPLIT_KEYS {
+        let found = compare_prefixed_slice(prefix, suffix, needle);
+        assert_eq!(rt; found, order, "{prefix:?} {suffix:?} {needle:?}");
+    }
 }
+
+// Two byte strings, how they compare, and the length of the prefix that they share.
+const PAIRS: [(&[u8], &[u8], Ordering, usize); 8] = [
+    (b"abcdefgh", b"abcdefgh", Ordering::Equal, 8),
+    (b"abcdefg\x80", b"abcdefg\x7f", Ordering::Greater, 7),
+    (b"\x01bcdefgh", b"\x00\xffcdefgh", Ordering::Greater, 0),
+    (b"abcdefghi", b"abcdefgh", Ordering::Greater, 8),
+    (b"abcdefghijklmnop", b"abcdefghijklmnoq", Ordering::Less, 15),
+    (b"", b"abc", Ordering::Less, 0),
+    (b"abcdefghijk", b"abcdefghijxk", Ordering::Less, 10),
+    (
+        b"abcdefghijklmnop",
+        b"abcdefghijklmnop",
+        Ordering::Equal,
+        16,
+    ),
+];
 
 #[test]
 fn words_and_tails_compare(rt: HostRuntime) {
-    assert_eq!(rt; compare_bytes(b"abcdefgh", b"abcdefgh"), Ordering::Equal);
-    assert_eq!(rt;
-        compare_bytes(b"abcdefg\x80", b"abcdefg\x7f"),
-        Ordering::Greater
-    );
-    assert_eq!(rt;
-        compare_bytes(b"\x01bcdefgh", b"\x00\xffcdefgh"),
-        Ordering::Greater
-    );
-    assert_eq!(rt; compare_bytes(b"abcdefghi", b"abcdefgh"), Ordering::Greater);
-    assert_eq!(rt;
-        compare_bytes(b"abcdefghijklmnop", b"abcdefghijklmnoq"),
-        Ordering::Less
-    );
-    assert_eq!(rt; longest_shared_prefix_length(b"", b"abc"), 0);
-    assert_eq!(rt; longest_shared_prefix_length(b"abc", b"abd"), 2);
-    assert_eq!(rt;
-        longest_shared_prefix_length(b"abcdefghijk", b"abcdefghijxk"),
-        10
-    );
-    assert_eq!(rt;
-        longest_shared_prefix_length(b"abcdefghijklmnop", b"abcdefghijklmnop"),
-        16
-    );
+    for (a, b, order, shared) in PAIRS {
+        assert_eq!(rt; compare_bytes(a, b), order, "{a:?} {b:?}");
+        assert_eq!(rt; longest_shared_prefix_length(a, b), shared, "{a:?} {b:?}");
+    }
 }
 
 #[test]
@@ -246,79 +256,119 @@ fn varints_are_read(rt: HostRuntime) {
 
 #[test]
 fn hashes_are_known(rt: HostRuntime) {
-    assert_eq!(rt; Poly31::hash64(b""), 0);
-    assert_eq!(rt; Poly31::hash64(b"a"), 97);
-    assert_eq!(rt; Poly31::hash64(b"ab"), 3105);
-    assert_eq!(rt; Poly31::hash64(b"abcdefgh"), 2758628677764);
+    let rows: [(&[u8], u64); 6] = [
+        (b"", 0),
+        (b"a", 97),
+        (b"ab", 3105),
+        (b"abcdefgh", 2758628677764),
+        (b"abcdefghijklmnopqrstuvwxyz", 7250214665611535789),
+        (&[255; 9], 224736788365695),
+    ];
+    for (bytes, hash) in rows {
+        assert_eq!(rt; Poly31::hash64(bytes), hash, "{bytes:?}");
+    }
+}
+
+// The key `a` with this sequence number and type.
+fn key(alloc: Global, seqno: u64, value_type: ValueType) -> Result<InternalKey>
+    ensures { IfOk result (λ key. length key.user_key ≡ 1) }
+{
+    Ok(InternalKey::new(Slice::new(alloc, b"a")?, seqno, value_type))
+}
+
+// How two keys compare, and whether they are the same.
+fn compare(a: &InternalKey, b: &InternalKey) -> (Ordering, bool) {
+    (a.cmp(b), a == b)
+}
+
+// How a newer version of a key compares with an older one, and that with its tombstone.
+fn compare_versions(alloc: Global) -> Result<[(Ordering, bool); 2]> {
+    let newer = key(alloc, 2, ValueType::Value)?;
+    let older = key(alloc, 1, ValueType::Value)?;
+    let deleted = key(alloc, 1, ValueType::Tombstone)?;
+    Ok([compare(&newer, &older), compare(&older, &deleted)])
+}
+
+#[test]
+fn keys_compare(rt: HostRuntime) {
+    let wanted = [(Ordering::Less, false), (Ordering::Equal, true)];
+    assert_eq!(rt; compare_versions(rt.alloc()), Ok(wanted));
+}
+
+// What a test sees of an entry of the key `a`: the type, the sequence number, and whether key and
+// value are these.
+type Seen = (ValueType, u64, bool);
+
+fn see(entry: &InternalValue, value: &[u8]) -> Seen {
+    let key = entry.key();
+    let is_same = key.user_key().eq_bytes(b"a") && entry.value().eq_bytes(value);
+    (
+        key.value_type(),
+        key.seqno(),
+        is_same && entry.is_tombstone() == value.is_empty(),
+    )
+}
+
+// An entry with a value, a tombstone, and the clone of a weak tombstone.
+fn entry(alloc: Global) -> Result<Seen> {
+    let key = key(alloc, 2, ValueType::Value)?;
+    Ok(see(&InternalValue::new(key, Slice::new(alloc, b"x")?), b"x"))
+}
+
+fn tombstone(alloc: Global) -> Result<Seen> {
+    let key = Slice::new(alloc, b"a")?;
+    Ok(see(&InternalValue::new_tombstone(alloc, key, 3), b""))
+}
+
+fn weak_tombstone(alloc: Global) -> Result<Seen> {
+    let key = Slice::new(alloc, b"a")?;
+    let weak = InternalValue::new_weak_tombstone(alloc, key, 4);
+    Ok(see(&weak.clone()?, b""))
+}
+
+#[test]
+fn entries_have_their_parts(rt: HostRuntime) {
+    let alloc = rt.alloc();
+    assert_eq!(rt; entry(alloc), Ok((ValueType::Value, 2, true)));
+    assert_eq!(rt; tombstone(alloc), Ok((ValueType::Tombstone, 3, true)));
     assert_eq!(rt;
-        Poly31::hash64(b"abcdefghijklmnopqrstuvwxyz"),
-        7250214665611535789
+        weak_tombstone(alloc),
+        Ok((ValueType::WeakTombstone, 4, true))
     );
-    assert_eq!(rt; Poly31::hash64(&[255; 9]), 224736788365695);
 }
 
-#[test]
-fn keys_compare(rt: HostRuntime) -> std::result::Result<(), Fail> {
-    let alloc = rt.alloc();
-    let newer = InternalKey::new(Slice::new(alloc, b"a")?, 2, ValueType::Value);
-    let older = InternalKey::new(Slice::new(alloc, b"a")?, 1, ValueType::Value);
-    let deleted = InternalKey::new(Slice::new(alloc, b"a")?, 1, ValueType::Tombstone);
-    assert_eq!(rt; newer.cmp(&older), Ordering::Less);
-    assert!(rt; older == deleted);
-    assert!(rt; deleted.is_tombstone() && !older.is_tombstone());
-    Ok(())
-}
-
-#[test]
-fn entries_have_their_parts(rt: HostRuntime) -> std::result::Result<(), Fail> {
-    let alloc = rt.alloc();
-    let key = InternalKey::new(Slice::new(alloc, b"a")?, 2, ValueType::Value);
-    let entry = InternalValue::new(key, Slice::new(alloc, b"x")?);
-    assert!(rt; !entry.is_tombstone() && entry.value().eq_bytes(b"x"));
-    assert!(rt; entry.key().user_key().eq_bytes(b"a"));
-    Ok(())
-}
-
-#[test]
-fn tombstones_have_no_value(rt: HostRuntime) -> std::result::Result<(), Fail> {
-    let alloc = rt.alloc();
-    let tombstone = InternalValue::new_tombstone(alloc, Slice::new(alloc, b"a")?, 3);
-    assert!(rt; tombstone.is_tombstone() && tombstone.value().is_empty());
-    let weak = InternalValue::new_weak_tombstone(alloc, Slice::new(alloc, b"a")?, 4);
-    assert_eq!(rt; weak.clone()?.key().value_type(), ValueType::WeakTombstone);
-    assert_eq!(rt; weak.key().seqno(), 4);
-    Ok(())
+// Whether a tombstone prints as this.
+fn prints(alloc: Global, text: &str) -> std::result::Result<bool, Fail> {
+    let entry = InternalValue::new_tombstone(alloc, Slice::new(alloc, b"a")?, 3);
+    Ok(format!(in alloc; "{entry:?}")?.as_str() == text)
 }
 
 #[test]
 fn values_print(rt: HostRuntime) -> std::result::Result<(), Fail> {
     let alloc = rt.alloc();
-    let entry = InternalValue::new_tombstone(alloc, Slice::new(alloc, b"a")?, 3);
-    assert_eq!(rt;
-        format!(in alloc; "{entry:?}")?.as_str(),
-        "b\"a\":3:Tombstone = b\"\""
-    );
-    assert_eq!(rt;
-        format!(in alloc; "{}", Checksum::from_raw(5))?.as_str(),
-        "Checksum(5)"
-    );
+    assert!(rt; prints(alloc, "b\"a\":3:Tombstone = b\"\"")?);
+    let printed = format!(in alloc; "{}", Checksum::from_raw(5))?;
+    assert_eq!(rt; printed.as_str(), "Checksum(5)");
     assert_eq!(rt; Checksum::from_raw(u128::MAX).into_u128(), u128::MAX);
     Ok(())
 }
 
-#[test]
-fn a_block_has_its_payload(rt: HostRuntime) -> std::result::Result<(), Fail> {
+// The size of a block made of a header and `abc`, and whether it has both.
+fn block_of_parts(alloc: Global) -> Result<(u32, bool)> {
     let header = Header {
         block_type: BlockType::Data,
         checksum: Checksum::from_raw(294),
         data_length: 3,
         uncompressed_length: 3,
     };
-    let block = Block::from_parts(header, Slice::new(rt.alloc(), b"abc")?);
-    assert_eq!(rt; block.size(), 3);
-    assert!(rt; block.data().eq_bytes(b"abc"));
-    assert_eq!(rt; *block.header(), header);
-    Ok(())
+    let block = Block::from_parts(header, Slice::new(alloc, b"abc")?);
+    let is_same = *block.header() == header && block.data().eq_bytes(b"abc");
+    Ok((block.size(), is_same))
+}
+
+#[test]
+fn a_block_has_its_payload(rt: HostRuntime) {
+    assert_eq!(rt; block_of_parts(rt.alloc()), Ok((3, true)));
 }
 
 #[test]
@@ -440,30 +490,25 @@ fn an_item_is_taken_if_accepted(rt: HostRuntime) -> std::result::Result<(), Fail
     Ok(())
 }
 
+// Peeks at both ends of items, adds one, and takes all.
+fn peek_and_add(items: Vec<u8>, added: u8) -> Result<([Option<u8>; 2], [Option<u8>; 4])> {
+    let mut it = Queue { items }.double_ended_peekable();
+    let peeked = [it.peek().copied(), it.peek_back().copied()];
+    it.inner_mut().items.push(added)?;
+    Ok((peeked, [it.next(), it.next(), it.next(), it.next()]))
+}
+
 #[test]
-fn an_end_is_not_remembered(rt: HostRuntime) -> std::result::Result<(), Fail> {
-    let mut it = Queue {
-        items: Vec::new(rt.alloc()),
-    }
-    .double_ended_peekable();
-    let before = [it.peek().copied(), it.peek_back().copied()];
-    it.inner_mut().items.push(4)?;
-    assert_eq!(rt; before, [None, None]);
-    assert_eq!(rt; it.next(), Some(4));
-    Ok(())
+fn an_end_is_not_remembered(rt: HostRuntime) {
+    let got = peek_and_add(Vec::new(rt.alloc()), 4);
+    assert_eq!(rt; got, Ok(([None, None], [Some(4), None, None, None])));
 }
 
 #[test]
 fn peeked_items_stay_around_inner(rt: HostRuntime) -> std::result::Result<(), Fail> {
-    let mut it = Queue {
-        items: vec![in rt.alloc(); 1, 3]?,
-    }
-    .double_ended_peekable();
-    let peeked = [it.peek().copied(), it.peek_back().copied()];
-    it.inner_mut().items.push(2)?;
-    let taken = [it.next(), it.next(), it.next(), it.next()];
-    assert_eq!(rt; peeked, [Some(1), Some(3)]);
-    assert_eq!(rt; taken, [Some(1), Some(2), Some(3), None]);
+    let got = peek_and_add(vec![in rt.alloc(); 1, 3]?, 2);
+    let taken = [Some(1), Some(2), Some(3), None];
+    assert_eq!(rt; got, Ok(([Some(1), Some(3)], taken)));
     Ok(())
 }
 
