@@ -1,11 +1,19 @@
 // Long keys, long values and long lists. What is printed is compared by its length and its hash,
 // which come from outside.
-use super::runs::{check_fault, long_text, make_run};
+use super::runs::{Run, check_fault, long_text, make_run};
 use sstable_blocks::{BlockHash, Poly31};
 use std::alloc::{AllocError, Global};
 use std::process::Abort;
 use std::rt::Files;
 use std::test::Fail;
+
+// The length and the hash of what a run prints, where it tells no fault.
+fn digest_of(run: &Run) -> Option<(usize, u64)> {
+    if run.status != 0 || !run.faults.is_empty() {
+        return None;
+    }
+    Some((run.output.len(), Poly31::hash64(run.output.as_slice())))
+}
 
 // The run prints a text of this length with this hash, and its status is 0.
 fn check_digest<R: Files + Abort>(
@@ -15,13 +23,8 @@ fn check_digest<R: Files + Abort>(
     input: &str,
     digest: (usize, u64),
 ) -> Result<(), Fail> {
-    let run = make_run(rt, alloc, words, input.as_bytes())?;
-    assert_eq!(rt; std::str::from_utf8(run.faults.as_slice()), Ok(""));
-    assert_eq!(rt;
-        (run.output.len(), Poly31::hash64(run.output.as_slice())),
-        digest
-    );
-    assert_eq!(rt; run.status, 0);
+    let found = digest_of(&make_run(rt, alloc, words, input.as_bytes())?);
+    assert_eq!(rt; found, Some(digest));
     Ok(())
 }
 
@@ -34,43 +37,29 @@ fn many_lines(alloc: Global, count: u32) -> Result<String, AllocError> {
     Ok(lines)
 }
 
+// A list of so many entries, read with these words, prints a text of this length and hash.
+fn check_list(
+    rt: &(impl Files + AllocGlobal + Abort),
+    count: u32,
+    words: &[&str],
+    digest: (usize, u64),
+) -> Result<(), Fail> {
+    let lines = many_lines(rt.alloc(), count)?;
+    check_digest(rt, rt.alloc(), words, lines.as_str(), digest)
+}
+
 #[test]
 fn long_lists_are_read_whole(rt: HostRuntime) -> Result<(), Fail> {
-    let alloc = rt.alloc();
-    let lines = many_lines(alloc, 300)?;
-    let words = ["point", "255", "00012b", "1"];
-    check_digest(
-        &rt,
-        alloc,
-        &words,
-        lines.as_str(),
-        (3778, 18132384338127674951),
-    )?;
-    let words = ["point", "1", "00012b", "1"];
-    check_digest(
-        &rt,
-        alloc,
-        &words,
-        lines.as_str(),
-        (5478, 12056167577444799160),
-    )?;
-    let lines = many_lines(alloc, 1100)?;
-    let words = ["point", "16", "00044b", "1"];
-    check_digest(
-        &rt,
-        alloc,
-        &words,
-        lines.as_str(),
-        (13692, 6185446288403498059),
-    )?;
-    let words = ["point", "255", "00044b", "1"];
-    check_digest(
-        &rt,
-        alloc,
-        &words,
-        lines.as_str(),
-        (14978, 79852367979378339),
-    )
+    let rows = [
+        (300, "255", "00012b", (3778, 18132384338127674951)),
+        (300, "1", "00012b", (5478, 12056167577444799160)),
+        (1100, "16", "00044b", (13692, 6185446288403498059)),
+        (1100, "255", "00044b", (14978, 79852367979378339)),
+    ];
+    for (count, interval, key, digest) in rows {
+        check_list(&rt, count, &["point", interval, key, "1"], digest)?;
+    }
+    Ok(())
 }
 
 #[test]
@@ -101,37 +90,33 @@ fn a_longer_key_is_no_entry(rt: HostRuntime) -> Result<(), Fail> {
     )
 }
 
+// Whether a run prints the answer of nobody, and tells no fault.
+fn finds_none(run: &Run) -> bool {
+    run.status == 0 && run.output.as_slice().ends_with(b"01000000\nnone\n")
+}
+
 #[test]
 fn nobody_has_a_longer_key(rt: HostRuntime) -> Result<(), Fail> {
     let key = long_text(rt.alloc(), "", "61", 65536, "")?;
-    let run = make_run(
-        &rt,
-        rt.alloc(),
-        &["point", "1", key.as_str(), "1"],
-        b"V 0 62 62\n",
-    )?;
-    assert_eq!(rt; run.status, 0);
-    assert!(rt; run.output.as_slice().ends_with(b"01000000\nnone\n"));
+    let words = ["point", "1", key.as_str(), "1"];
+    let found = finds_none(&make_run(&rt, rt.alloc(), &words, b"V 0 62 62\n")?);
+    assert!(rt; found);
     Ok(())
+}
+
+// A value of so many bytes before another entry prints a text of this length and hash.
+fn check_value(
+    rt: &(impl Files + AllocGlobal + Abort),
+    len: usize,
+    digest: (usize, u64),
+) -> Result<(), Fail> {
+    let input = long_text(rt.alloc(), "V 0 61 ", "76", len, "\nV 0 62 -\n")?;
+    let words = ["point", "1", "62", "1"];
+    check_digest(rt, rt.alloc(), &words, input.as_str(), digest)
 }
 
 #[test]
 fn pointers_grow_with_the_offsets(rt: HostRuntime) -> Result<(), Fail> {
-    let words = ["point", "1", "62", "1"];
-    let input = long_text(rt.alloc(), "V 0 61 ", "76", 65528, "\nV 0 62 -\n")?;
-    check_digest(
-        &rt,
-        rt.alloc(),
-        &words,
-        input.as_str(),
-        (131162, 5918048098629472769),
-    )?;
-    let input = long_text(rt.alloc(), "V 0 61 ", "76", 65529, "\nV 0 62 -\n")?;
-    check_digest(
-        &rt,
-        rt.alloc(),
-        &words,
-        input.as_str(),
-        (131172, 13317889324456644325),
-    )
+    check_value(&rt, 65528, (131162, 5918048098629472769))?;
+    check_value(&rt, 65529, (131172, 13317889324456644325))
 }

@@ -1,11 +1,20 @@
 // A refused allocation: the run ends whole, or with `E15` or `E1` and nothing or a beginning of
 // what it should print. These are the tests to run with each allocation failing in turn; the others
 // may fail there.
-use super::runs::make_run;
+use super::runs::{Run, make_run};
 use std::alloc::Global;
 use std::fs;
 use std::process::Abort;
 use std::rt::Files;
+
+fn is_whole_or_refused(run: &Run, printed: &[u8]) -> bool {
+    let (output, faults) = (run.output.as_slice(), run.faults.as_slice());
+    if run.status == 0 {
+        return output == printed && faults.is_empty();
+    }
+    let is_told = faults == b"sst: E15 Memory\n".as_slice() || faults == b"sst: E1 Io\n".as_slice();
+    run.status == 1 && printed.starts_with(output) && is_told
+}
 
 fn check_whole_or_refused<R: Files + Abort>(
     rt: &R,
@@ -14,19 +23,11 @@ fn check_whole_or_refused<R: Files + Abort>(
     input: &[u8],
     printed: &[u8],
 ) {
-    if let Ok(run) = make_run(rt, alloc, words, input) {
-        let faults = run.faults.as_slice();
-        if run.status == 0 {
-            assert!(rt; run.output.as_slice() == printed);
-            assert!(rt; faults.is_empty());
-        } else {
-            assert_eq!(rt; run.status, 1);
-            assert!(rt; printed.starts_with(run.output.as_slice()));
-            assert!(rt;
-                faults == b"sst: E15 Memory\n".as_slice() || faults == b"sst: E1 Io\n".as_slice()
-            );
-        }
-    }
+    let is_well = match make_run(rt, alloc, words, input) {
+        Ok(run) => is_whole_or_refused(&run, printed),
+        Err(_) => true,
+    };
+    assert!(rt; is_well, "{words:?}");
 }
 
 #[test]

@@ -30,27 +30,26 @@ pub fn make_run<R: Files>(
     })
 }
 
+// The run ended with this status, and wrote these texts.
+pub fn check_run(rt: &impl Abort, run: &Run, words: &[&str], status: u8, texts: (&str, &str)) {
+    let (output, faults) = texts;
+    let told = std::str::from_utf8(run.faults.as_slice());
+    assert_eq!(rt; told, Ok(faults), "{words:?}");
+    let printed = std::str::from_utf8(run.output.as_slice());
+    assert_eq!(rt; printed, Ok(output), "{words:?}");
+    assert_eq!(rt; run.status, status, "{words:?}");
+}
+
 // The run prints this text, tells no fault, and its status is 0.
 pub fn check_prints<R: Files + Abort>(
     rt: &R,
     alloc: Global,
-    name: &str,
     words: &[&str],
     input: &[u8],
     printed: &str,
 ) -> Result<(), Fail> {
     let run = make_run(rt, alloc, words, input)?;
-    assert_eq!(rt;
-        std::str::from_utf8(run.faults.as_slice()),
-        Ok(""),
-        "{name}"
-    );
-    assert_eq!(rt;
-        std::str::from_utf8(run.output.as_slice()),
-        Ok(printed),
-        "{name}"
-    );
-    assert_eq!(rt; run.status, 0, "{name}");
+    check_run(rt, &run, words, 0, (printed, ""));
     Ok(())
 }
 
@@ -64,13 +63,7 @@ pub fn check_fault<R: Files + Abort>(
 ) -> Result<(), Fail> {
     let run = make_run(rt, alloc, words, input)?;
     let line = format!(in alloc; "{fault}\n")?;
-    assert_eq!(rt;
-        std::str::from_utf8(run.faults.as_slice()),
-        Ok(line.as_str()),
-        "{words:?}"
-    );
-    assert_eq!(rt; run.status, 1, "{words:?}");
-    assert!(rt; run.output.is_empty(), "{words:?}");
+    check_run(rt, &run, words, 1, ("", line.as_str()));
     Ok(())
 }
 

@@ -1,7 +1,7 @@
 // Streams that are slow, interrupted or fail.
 ghost use Rattle.std.specs.Prelude.{◌≤◌};
 
-use super::runs::Run;
+use super::runs::{Run, check_run};
 use crate::sst_main;
 use std::alloc::{AllocError, Global};
 use std::io;
@@ -10,8 +10,10 @@ use std::process::Abort;
 use std::rt::Files;
 use std::test::Fail;
 
-const PRINTED: &[u8] =
-    b"000001620162ff000001020100000007000000000000000000000001000000000000000001000000\nV 0 62 62\n";
+const WORDS: [&str; 4] = ["point", "1", "62", "1"];
+
+const PRINTED: &str =
+    "000001620162ff000001020100000007000000000000000000000001000000000000000001000000\nV 0 62 62\n";
 
 // A reader that is interrupted before each byte, gives a byte at a time, and then ends or fails.
 #[derive(Drop)]
@@ -41,7 +43,10 @@ impl Read for Slow<'_> {
     }
 }
 
-fn make_slow_run(rt: &HostRuntime, failure: Option<ErrorKind>) -> Result<Run, AllocError> {
+fn make_slow_run<R: Files + AllocGlobal>(
+    rt: &R,
+    failure: Option<ErrorKind>,
+) -> Result<Run, AllocError> {
     let mut input = Slow {
         bytes: b"V 0 62 62\n",
         is_interrupted: true,
@@ -49,8 +54,7 @@ fn make_slow_run(rt: &HostRuntime, failure: Option<ErrorKind>) -> Result<Run, Al
     };
     let mut output = Vec::new(rt.alloc());
     let mut faults = Vec::with_capacity(rt.alloc(), 256)?;
-    let words = ["point", "1", "62", "1"];
-    let status = sst_main(rt, rt.alloc(), &words, &mut input, &mut output, &mut faults);
+    let status = sst_main(rt, rt.alloc(), &WORDS, &mut input, &mut output, &mut faults);
     Ok(Run {
         status,
         output,
@@ -61,23 +65,25 @@ fn make_slow_run(rt: &HostRuntime, failure: Option<ErrorKind>) -> Result<Run, Al
 #[test]
 fn an_interrupted_reader_is_read_whole(rt: HostRuntime) -> Result<(), Fail> {
     let run = make_slow_run(&rt, None)?;
-    assert_eq!(rt; run.status, 0);
-    assert!(rt; run.output.as_slice() == PRINTED);
-    assert!(rt; run.faults.is_empty());
+    check_run(&rt, &run, &WORDS, 0, (PRINTED, ""));
+    Ok(())
+}
+
+// A reader that fails so is told by this line.
+fn check_failure<R: Files + AllocGlobal + Abort>(
+    rt: &R,
+    failure: ErrorKind,
+    line: &str,
+) -> Result<(), Fail> {
+    let run = make_slow_run(rt, Some(failure))?;
+    check_run(rt, &run, &WORDS, 1, ("", line));
     Ok(())
 }
 
 #[test]
 fn a_reader_may_fail(rt: HostRuntime) -> Result<(), Fail> {
-    let run = make_slow_run(&rt, Some(ErrorKind::Other))?;
-    assert_eq!(rt; run.status, 1);
-    assert!(rt; run.output.is_empty());
-    assert!(rt; run.faults.as_slice() == b"sst: E1 Io\n".as_slice());
-    let run = make_slow_run(&rt, Some(ErrorKind::OutOfMemory))?;
-    assert_eq!(rt; run.status, 1);
-    assert!(rt; run.output.is_empty());
-    assert!(rt; run.faults.as_slice() == b"sst: E15 Memory\n".as_slice());
-    Ok(())
+    check_failure(&rt, ErrorKind::Other, "sst: E1 Io\n")?;
+    check_failure(&rt, ErrorKind::OutOfMemory, "sst: E15 Memory\n")
 }
 
 // What a writer does when it has no room left.

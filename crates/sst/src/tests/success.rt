@@ -5,7 +5,6 @@ use std::test::Fail;
 // A run that ends well.
 #[derive(Clone, Copy)]
 struct Case<'a> {
-    name: &'a str,
     words: [&'a str; 4],
     input: &'a str,
     block: &'a str,
@@ -35,15 +34,8 @@ const SHARED: &str =
 
 const VERSION_LINES: &str = "V 2 6162 78\nT 1 6162 7A7a\nV 300 6163 79\n";
 
-fn make_case<'a>(
-    name: &'a str,
-    words: [&'a str; 4],
-    input: &'a str,
-    block: &'a str,
-    answer: &'a str,
-) -> Case<'a> {
+fn make_case<'a>(words: [&'a str; 4], input: &'a str, block: &'a str, answer: &'a str) -> Case<'a> {
     Case {
-        name,
         words,
         input,
         block,
@@ -55,107 +47,93 @@ fn make_case<'a>(
 fn runs_that_end_well(rt: HostRuntime) -> Result<(), Fail> {
     let one = "V 0 62 62\n";
     let cases = [
+        // found
+        make_case(["point", "1", "62", "1"], one, ONE_ENTRY, "V 0 62 62"),
+        // zeros
         make_case(
-            "found",
-            ["point", "1", "62", "1"],
-            one,
-            ONE_ENTRY,
-            "V 0 62 62",
-        ),
-        make_case(
-            "zeros",
             ["point", "001", "62", "0000000000000000000000001"],
             "V 000 62 62",
             ONE_ENTRY,
             "V 0 62 62",
         ),
+        // interval 16
         make_case(
-            "interval 16",
             ["point", "16", "62", "1"],
             one,
             ONE_ENTRY_AT_16,
             "V 0 62 62",
         ),
+        // interval 255
         make_case(
-            "interval 255",
             ["point", "255", "62", "1"],
             one,
             ONE_ENTRY_AT_255,
             "V 0 62 62",
         ),
-        make_case("seqno 0", ["point", "1", "62", "0"], one, ONE_ENTRY, "none"),
+        // seqno 0
+        make_case(["point", "1", "62", "0"], one, ONE_ENTRY, "none"),
+        // empty key
+        make_case(["point", "1", "-", "1"], one, ONE_ENTRY, "none"),
+        // smaller key
         make_case(
-            "empty key",
-            ["point", "1", "-", "1"],
-            one,
-            ONE_ENTRY,
-            "none",
-        ),
-        make_case(
-            "smaller key",
             ["point", "1", "61", "18446744073709551615"],
             one,
             ONE_ENTRY,
             "none",
         ),
+        // longer key
         make_case(
-            "longer key",
             ["point", "1", "6262", "18446744073709551615"],
             one,
             ONE_ENTRY,
             "none",
         ),
+        // zero byte
         make_case(
-            "zero byte",
             ["point", "1", "00", "18446744073709551615"],
             one,
             ONE_ENTRY,
             "none",
         ),
+        // largest seqno
         make_case(
-            "largest seqno",
             ["point", "1", "61", "18446744073709551615"],
             "V 18446744073709551615 61 78\n",
             LARGEST_SEQNO,
             "none",
         ),
+        // version 2
         make_case(
-            "version 2",
             ["point", "2", "6162", "3"],
             VERSION_LINES,
             VERSIONS,
             "V 2 6162 78",
         ),
+        // version 1
         make_case(
-            "version 1",
             ["point", "2", "6162", "2"],
             VERSION_LINES,
             VERSIONS,
             "T 1 6162 -",
         ),
+        // no version
+        make_case(["point", "2", "6162", "1"], VERSION_LINES, VERSIONS, "none"),
+        // next key
         make_case(
-            "no version",
-            ["point", "2", "6162", "1"],
-            VERSION_LINES,
-            VERSIONS,
-            "none",
-        ),
-        make_case(
-            "next key",
             ["point", "2", "6163", "301"],
             VERSION_LINES,
             VERSIONS,
             "V 300 6163 79",
         ),
+        // tombstone
         make_case(
-            "tombstone",
             ["point", "1", "61", "8"],
             "T 7 61 7878",
             TOMBSTONE,
             "T 7 61 -",
         ),
+        // shared prefixes
         make_case(
-            "shared prefixes",
             ["point", "16", "616263", "1"],
             "V 0 61 78\nV 0 6162 -\nV 0 616263 -\n",
             SHARED,
@@ -167,7 +145,6 @@ fn runs_that_end_well(rt: HostRuntime) -> Result<(), Fail> {
         check_prints(
             &rt,
             rt.alloc(),
-            case.name,
             case.words.as_slice(),
             case.input.as_bytes(),
             printed.as_str(),

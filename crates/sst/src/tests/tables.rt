@@ -1,5 +1,5 @@
 // Table files: packed, looked up, walked and checked. The bytes of the files come from outside.
-use super::runs::{check_fault, check_prints, make_run};
+use super::runs::{Run, check_fault, check_prints, make_run};
 use sstable_blocks::{BlockHash, Poly31};
 use std::alloc::Global;
 use std::fs;
@@ -37,7 +37,6 @@ pub fn pack_three(rt: &(impl Files + Abort), alloc: Global, name: &str) -> Resul
     check_prints(
         rt,
         alloc,
-        name,
         &["pack", name, "1", "0", "1", "10", "1"],
         THREE.as_bytes(),
         "packed 3 entries in 3 blocks, 392 bytes\n",
@@ -80,6 +79,12 @@ const LOOK_UPS: [(&str, &str, &str); 10] = [
     ("-", "9", "none\n"),
 ];
 
+// The length and the hash of a file.
+fn digest_of(rt: &(impl Files + AllocGlobal), name: &str) -> Result<(usize, u64), Fail> {
+    let bytes = fs::read(rt, name)?;
+    Ok((bytes.len(), Poly31::hash64(bytes.as_slice())))
+}
+
 // The file is packed, and its entries are looked up, walked and checked.
 fn check_packing(
     rt: &(impl Files + AllocGlobal + Abort),
@@ -87,16 +92,14 @@ fn check_packing(
     packing: &Packing<'_>,
 ) -> Result<(), Fail> {
     let alloc = rt.alloc();
-    let name = packing.packed;
-    check_prints(rt, alloc, name, packing.words, THREE.as_bytes(), name)?;
-    let bytes = fs::read(rt, file)?;
-    let digest = (bytes.len(), Poly31::hash64(bytes.as_slice()));
-    assert_eq!(rt; digest, packing.digest, "{name}");
+    let words = packing.words;
+    check_prints(rt, alloc, words, THREE.as_bytes(), packing.packed)?;
+    assert_eq!(rt; digest_of(rt, file)?, packing.digest, "{words:?}");
     for (key, seqno, printed) in LOOK_UPS {
-        check_prints(rt, alloc, name, &["get", file, key, seqno], b"", printed)?;
+        check_prints(rt, alloc, &["get", file, key, seqno], b"", printed)?;
     }
-    check_prints(rt, alloc, name, &["walk", file], b"", THREE)?;
-    check_prints(rt, alloc, name, &["check", file], b"", packing.checked)
+    check_prints(rt, alloc, &["walk", file], b"", THREE)?;
+    check_prints(rt, alloc, &["check", file], b"", packing.checked)
 }
 
 #[test]
@@ -169,26 +172,23 @@ fn many_lines(alloc: Global, count: u32) -> Result<String, Fail> {
     Ok(lines)
 }
 
+// Whether what a run prints begins with this text.
+fn prints_first(run: &Run, text: &[u8]) -> bool {
+    run.output.as_slice().starts_with(text)
+}
+
 #[test]
 fn what_is_packed_is_walked(rt: HostRuntime) -> Result<(), Fail> {
     let alloc = rt.alloc();
     let lines = many_lines(alloc, 3000)?;
     let words = ["pack", "many", "16", "4", "3", "10", "7", "3"];
     let run = make_run(&rt, alloc, &words, lines.as_bytes())?;
-    let start = b"packed 3000 entries in 429 blocks, ".as_slice();
-    assert!(rt; run.output.as_slice().starts_with(start));
-    check_prints(&rt, alloc, "walk", &["walk", "many"], b"", lines.as_str())?;
+    assert!(rt; prints_first(&run, b"packed 3000 entries in 429 blocks, "));
+    check_prints(&rt, alloc, &["walk", "many"], b"", lines.as_str())?;
     let checked = "ok 429 blocks 3000 entries\n";
-    check_prints(&rt, alloc, "check", &["check", "many"], b"", checked)?;
+    check_prints(&rt, alloc, &["check", "many"], b"", checked)?;
     let found = "T 7 00000bb5 -\n";
-    check_prints(
-        &rt,
-        alloc,
-        "get",
-        &["get", "many", "00000bb5", "8"],
-        b"",
-        found,
-    )
+    check_prints(&rt, alloc, &["get", "many", "00000bb5", "8"], b"", found)
 }
 
 #[test]
@@ -198,7 +198,7 @@ fn a_longer_key_is_in_no_table(rt: HostRuntime) -> Result<(), Fail> {
     for count in [65535, 65536, 70000] {
         let key = super::runs::long_text(alloc, "", "61", count, "")?;
         let words = ["get", "longer", key.as_str(), "9"];
-        check_prints(&rt, alloc, "longer", &words, b"", "none\n")?;
+        check_prints(&rt, alloc, &words, b"", "none\n")?;
     }
     Ok(())
 }
