@@ -1,11 +1,10 @@
 // Checked reads of a worked run, whole, with a byte changed, and by other handles.
 use crate::runs::{THREE_BLOCKS, handle};
-use sstable_blocks::run::{FileSource, FrameSource, MemorySource, RunHandles, read_entry_checked};
 use sst_base::{BlockHandle, ByteSum, Error, HeaderName, InternalValue, Result, Slice, TagName};
+use sstable_blocks::run::{FileSource, FrameSource, MemorySource, RunHandles, read_entry_checked};
 use std::alloc::Global;
 use std::io::Cursor;
 use std::process::Abort;
-use std::test::Fail;
 
 fn handles(index: BlockHandle, filter: Option<BlockHandle>) -> RunHandles {
     RunHandles { index, filter }
@@ -110,29 +109,36 @@ fn refusal_at(alloc: Global, offset: u64, size: u32) -> Option<Error> {
 #[test]
 fn handles_are_changed(rt: HostRuntime) {
     let alloc = rt.alloc();
-    assert_eq!(rt; refusal_at(alloc, 219, 90), None);
-    assert_eq!(rt; refusal_at(alloc, 219, 91), Some(Error::LengthMismatch));
-    assert_eq!(rt; refusal_at(alloc, 219, 20), Some(Error::Truncated));
-    assert_eq!(rt; refusal_at(alloc, 400, 1), Some(Error::BadHandle));
-    assert_eq!(rt; refusal_at(alloc, 368, 0), Some(Error::Truncated));
-    assert_eq!(rt; refusal_at(alloc, 369, 0), Some(Error::BadHandle));
-    assert_eq!(rt;
-        refusal_at(alloc, 0, 73),
-        Some(Error::InvalidTag(TagName::BlockType, 0))
-    );
+    let rows = [
+        (219, 90, None),
+        (219, 91, Some(Error::LengthMismatch)),
+        (219, 20, Some(Error::Truncated)),
+        (400, 1, Some(Error::BadHandle)),
+        (368, 0, Some(Error::Truncated)),
+        (369, 0, Some(Error::BadHandle)),
+        (0, 73, Some(Error::InvalidTag(TagName::BlockType, 0))),
+    ];
+    for (offset, size, error) in rows {
+        assert_eq!(rt; refusal_at(alloc, offset, size), error, "{offset} {size}");
+    }
     let by_filter = refusal(alloc, &handles(handle(219, 90), Some(handle(0, 73))));
     assert_eq!(rt; by_filter, Some(Error::InvalidTag(TagName::BlockType, 0)));
 }
 
+// Whether (a, 3) is read from a file, by these handles.
+fn is_read_from_file(alloc: Global, handles: &RunHandles) -> Result<bool> {
+    let mut source = FileSource::new(Cursor::new(THREE_BLOCKS.as_slice()));
+    Ok(is_y(&read_from(alloc, &mut source, handles)?))
+}
+
 #[test]
-fn files_are_read(rt: HostRuntime) -> std::result::Result<(), Fail> {
-    let alloc = rt.alloc();
-    let mut source = FileSource::new(Cursor::new(THREE_BLOCKS.as_slice()));
-    assert!(rt; is_y(&read_from(alloc, &mut source, &worked_handles())?));
-    let mut source = FileSource::new(Cursor::new(THREE_BLOCKS.as_slice()));
-    let past = read_from(alloc, &mut source, &handles(handle(300, 90), None));
-    assert_eq!(rt; past.err(), Some(Error::Io));
-    let wraps = read_from(alloc, &mut source, &handles(handle(u64::MAX, 1), None));
-    assert_eq!(rt; wraps.err(), Some(Error::BadHandle));
-    Ok(())
+fn files_are_read(rt: HostRuntime) {
+    let rows = [
+        (worked_handles(), Ok(true)),
+        (handles(handle(300, 90), None), Err(Error::Io)),
+        (handles(handle(u64::MAX, 1), None), Err(Error::BadHandle)),
+    ];
+    for (handles, is_read) in rows {
+        assert_eq!(rt; is_read_from_file(rt.alloc(), &handles), is_read);
+    }
 }

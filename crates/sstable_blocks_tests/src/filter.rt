@@ -1,13 +1,15 @@
 // What no clause says: values from outside, and that a call succeeds where memory is ample.
 ghost use Rattle.std.specs.Prelude.{◌<◌};
 
-use sstable_blocks::table::filter::bit_array::{self, BitArrayReader, enable_bit};
-use sstable_blocks::table::filter::standard_bloom::{Builder, StandardBloomFilterReader, secondary_hash};
-use sstable_blocks::table::filter::{BloomConstructionPolicy, FilterBlock, FilterType};
 use sst_base::{
     Block, BlockHash, BlockType, ByteSum, Checksum, Error, Header, HeaderName, Poly31, Result,
     Slice, TagName,
 };
+use sstable_blocks::table::filter::bit_array::{self, BitArrayReader, enable_bit};
+use sstable_blocks::table::filter::standard_bloom::{
+    Builder, StandardBloomFilterReader, secondary_hash,
+};
+use sstable_blocks::table::filter::{BloomConstructionPolicy, FilterBlock, FilterType};
 use std::alloc::Global;
 use std::process::Abort;
 use std::test::Fail;
@@ -112,27 +114,26 @@ fn as_many_probes_as_bits_are_read(rt: HostRuntime) -> std::result::Result<(), F
     Ok(())
 }
 
+// A filter for so many keys, without hashes, has so many bits and probes.
+fn check_size(
+    rt: &impl Abort,
+    alloc: Global,
+    (keys, bits_per_key): (usize, u32),
+    (m, k): (u8, u8),
+) -> Result<()> {
+    let policy = BloomConstructionPolicy::BitsPerKey(bits_per_key);
+    assert!(rt; keys >= 1 && policy.is_active() && policy.fits(keys));
+    let payload = Builder::with_bpk(alloc, keys, bits_per_key)?.build(alloc)?;
+    check_empty(rt, payload.as_slice(), m, k);
+    Ok(())
+}
+
 #[test]
 fn filters_have_their_sizes(rt: HostRuntime) -> std::result::Result<(), Fail> {
     let alloc = rt.alloc();
-    check_empty(
-        &rt,
-        Builder::with_bpk(alloc, 3, 1)?.build(alloc)?.as_slice(),
-        8,
-        1,
-    );
-    check_empty(
-        &rt,
-        Builder::with_bpk(alloc, 9, 1)?.build(alloc)?.as_slice(),
-        16,
-        1,
-    );
-    check_empty(
-        &rt,
-        Builder::with_bpk(alloc, 1, 10)?.build(alloc)?.as_slice(),
-        16,
-        6,
-    );
+    check_size(&rt, alloc, (3, 1), (8, 1))?;
+    check_size(&rt, alloc, (9, 1), (16, 1))?;
+    check_size(&rt, alloc, (1, 10), (16, 6))?;
     Ok(())
 }
 
@@ -183,18 +184,21 @@ fn block_of(alloc: Global, payload: [u8; 24]) -> Result<FilterBlock> {
     Ok(FilterBlock::new(Block::from_parts(header, payload)))
 }
 
+// The size of a block with this payload, and what its filter says of a hash.
+fn ask(alloc: Global, payload: [u8; 24], hash: u64) -> Result<(u32, bool)> {
+    let block = block_of(alloc, payload)?.clone()?;
+    Ok((block.size(), block.maybe_contains_hash(hash)?))
+}
+
 #[test]
-fn filter_blocks_are_asked(rt: HostRuntime) -> std::result::Result<(), Fail> {
+fn filter_blocks_are_asked(rt: HostRuntime) {
     let alloc = rt.alloc();
-    let block = block_of(alloc, ONE_KEY)?.clone()?;
-    assert_eq!(rt; block.size(), 24);
-    assert!(rt; block.maybe_contains_hash(97)?);
-    assert!(rt; !block.maybe_contains_hash(98)?);
+    assert_eq!(rt; ask(alloc, ONE_KEY, 97), Ok((24, true)));
+    assert_eq!(rt; ask(alloc, ONE_KEY, 98), Ok((24, false)));
     let mut changed = ONE_KEY;
     changed[5] = 1;
-    let refused = block_of(alloc, changed)?.maybe_contains_hash(97);
-    assert!(rt; refused == Err(Error::InvalidTag(TagName::HashType, 1)));
-    Ok(())
+    let refused = Err(Error::InvalidTag(TagName::HashType, 1));
+    assert_eq!(rt; ask(alloc, changed, 97), refused);
 }
 
 // The hash of a number as a key.

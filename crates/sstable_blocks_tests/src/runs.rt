@@ -4,13 +4,13 @@ ghost use Rattle.sst_block_core.specs.Entries.{entries};
 ghost use Rattle.sst_block_core.specs.Kind.{IsOrdered};
 ghost use Rattle.sstable_blocks.specs.Blocks.{CutsFit};
 
-use sstable_blocks::run::round_trip::write_and_read;
-use sstable_blocks::run::{RunConfig, RunHandles, RunWriter, cuts_fit, write_run};
 use sst_base::{
     BlockHandle, BlockHash, BlockOffset, ByteSum, Error, HashRatio, InternalValue, Result, Slice,
     ValueType,
 };
 use sst_block_kinds::DataBlock;
+use sstable_blocks::run::round_trip::write_and_read;
+use sstable_blocks::run::{RunConfig, RunHandles, RunWriter, cuts_fit, write_run};
 use std::alloc::Global;
 use std::io;
 use std::io::{ErrorKind, Write};
@@ -154,12 +154,29 @@ fn check_reads(
     check_read(rt, alloc, items, cuts, config, (b"", 9), None);
 }
 
+fn check_handles(
+    rt: &impl Abort,
+    handles: &RunHandles,
+    index: BlockHandle,
+    filter: Option<BlockHandle>,
+) {
+    assert_eq!(rt; handles.index, index);
+    assert_eq!(rt; handles.filter, filter);
+}
+
 fn check_three_blocks(rt: &impl Abort, bytes: &[u8], handles: &RunHandles) {
     assert_eq!(rt; bytes, THREE_BLOCKS.as_slice());
-    let index = handles.index;
-    assert_eq!(rt; index, handle(219, 90));
-    let filter = handles.filter;
-    assert_eq!(rt; filter, Some(handle(309, 59)));
+    check_handles(rt, handles, handle(219, 90), Some(handle(309, 59)));
+}
+
+// The run of the three entries whose index is truncated.
+fn check_truncated(rt: &impl Abort, bytes: &[u8], handles: &RunHandles) {
+    let (data, rest) = bytes.split_at(bytes.len().min(219));
+    let (index, filter) = rest.split_at(rest.len().min(88));
+    assert_eq!(rt; data, &THREE_BLOCKS[..219]);
+    assert_eq!(rt; index, TRUNCATED_INDEX.as_slice());
+    assert_eq!(rt; filter, &THREE_BLOCKS[309..]);
+    check_handles(rt, handles, handle(219, 88), Some(handle(307, 59)));
 }
 
 #[test]
@@ -187,8 +204,7 @@ fn without_bits_there_is_no_filter(rt: HostRuntime) -> std::result::Result<(), F
     let items = three_entries(alloc)?;
     let (bytes, handles) = written(&rt, alloc, &items, &[1, 2], config(1, 0, 1))?;
     assert_eq!(rt; bytes.as_slice(), &THREE_BLOCKS[..309]);
-    assert_eq!(rt; handles.index, handle(219, 90));
-    assert_eq!(rt; handles.filter, None);
+    check_handles(&rt, &handles, handle(219, 90), None);
     Ok(())
 }
 
@@ -197,13 +213,7 @@ fn an_index_is_truncated(rt: HostRuntime) -> std::result::Result<(), Fail> {
     let alloc = rt.alloc();
     let items = three_entries(alloc)?;
     let (bytes, handles) = written(&rt, alloc, &items, &[1, 2], config(1, 10, 2))?;
-    let (data, rest) = bytes.as_slice().split_at_checked(219).ok_or("no index")?;
-    let (index, filter) = rest.split_at_checked(88).ok_or("no filter")?;
-    assert_eq!(rt; data, &THREE_BLOCKS[..219]);
-    assert_eq!(rt; index, TRUNCATED_INDEX.as_slice());
-    assert_eq!(rt; filter, &THREE_BLOCKS[309..]);
-    assert_eq!(rt; handles.index, handle(219, 88));
-    assert_eq!(rt; handles.filter, Some(handle(307, 59)));
+    check_truncated(&rt, &bytes, &handles);
     Ok(())
 }
 
@@ -213,8 +223,7 @@ fn one_block_is_written_and_read(rt: HostRuntime) -> std::result::Result<(), Fai
     let items = three_entries(alloc)?;
     let (bytes, handles) = written(&rt, alloc, &items, &[], config(16, 0, 1))?;
     assert_eq!(rt; bytes.as_slice(), ONE_BLOCK.as_slice());
-    assert_eq!(rt; handles.index, handle(86, 73));
-    assert_eq!(rt; handles.filter, None);
+    check_handles(&rt, &handles, handle(86, 73), None);
     check_reads(&rt, alloc, &items, &[], config(16, 0, 1));
     Ok(())
 }
@@ -336,15 +345,29 @@ fn a_failure_is_repeated(rt: HostRuntime) -> std::result::Result<(), Fail> {
     Ok(())
 }
 
-#[test]
-fn blocks_fit_behind_the_last(rt: HostRuntime) -> std::result::Result<(), Fail> {
-    let alloc = rt.alloc();
+// Whether a block of this entry fits behind one of (b, z, 4).
+fn fits_behind(rt: &impl Abort, alloc: Global, key: u8, value: u8, seqno: u64) -> Result<bool> {
     let mut writer = RunWriter::new(alloc, Vec::new(alloc), config(1, 10, 1));
+    add(rt, &mut writer, &[entry(alloc, b'b', b'z', 4)?])?;
+    Ok(writer.fits_after(&[entry(alloc, key, value, seqno)?]))
+}
+
+#[test]
+fn blocks_fit_behind_the_last(rt: HostRuntime) {
+    let alloc = rt.alloc();
+    let rows = [
+        (b'a', b'x', 3, false),
+        (b'b', b'w', 4, true),
+        (b'b', b'w', 5, false),
+        (b'c', b'w', 9, true),
+    ];
+    for (key, value, seqno, fits) in rows {
+        assert_eq!(rt;
+            fits_behind(&rt, alloc, key, value, seqno),
+            Ok(fits),
+            "{seqno}"
+        );
+    }
+    let writer = RunWriter::<ByteSum, _>::new(alloc, Vec::new(alloc), config(1, 10, 1));
     assert!(rt; !writer.fits_after(&[]));
-    add(&rt, &mut writer, &[entry(alloc, b'b', b'z', 4)?])?;
-    assert!(rt; !writer.fits_after(&[entry(alloc, b'a', b'x', 3)?]));
-    assert!(rt; writer.fits_after(&[entry(alloc, b'b', b'w', 4)?]));
-    assert!(rt; !writer.fits_after(&[entry(alloc, b'b', b'w', 5)?]));
-    assert!(rt; writer.fits_after(&[entry(alloc, b'c', b'w', 9)?]));
-    Ok(())
 }

@@ -138,27 +138,29 @@ fn check_name(rt: &impl Abort, alloc: Global, error: Error, name: &str) -> Resul
 
 #[test]
 fn refusals_have_numbers_and_names(rt: HostRuntime) -> Result<(), Fail> {
-    let alloc = rt.alloc();
-    let checksum = Checksum::from_raw(7);
-    check_name(&rt, alloc, Error::Io, "E1 Io")?;
-    let header = Error::InvalidHeader(HeaderName::Block);
-    check_name(&rt, alloc, header, "E2 InvalidHeader")?;
-    let tag = Error::InvalidTag(TagName::BlockType, 4);
-    check_name(&rt, alloc, tag, "E3 InvalidTag")?;
     let mismatch = Error::ChecksumMismatch {
-        got: checksum,
-        expected: checksum,
+        got: Checksum::from_raw(7),
+        expected: Checksum::from_raw(7),
     };
-    check_name(&rt, alloc, mismatch, "E4 ChecksumMismatch")?;
-    check_name(&rt, alloc, Error::LengthMismatch, "E5 LengthMismatch")?;
-    check_name(&rt, alloc, Error::TooLong, "E6 TooLong")?;
-    check_name(&rt, alloc, Error::Truncated, "E7 Truncated")?;
-    check_name(&rt, alloc, Error::BadTrailer, "E8 BadTrailer")?;
-    check_name(&rt, alloc, Error::BadEntry, "E9 BadEntry")?;
-    check_name(&rt, alloc, Error::OutOfOrder, "E10 OutOfOrder")?;
-    check_name(&rt, alloc, Error::BadIndex, "E11 BadIndex")?;
-    check_name(&rt, alloc, Error::BadHashIndex, "E12 BadHashIndex")?;
-    check_name(&rt, alloc, Error::BadFilter, "E13 BadFilter")?;
-    check_name(&rt, alloc, Error::BadHandle, "E14 BadHandle")?;
-    check_name(&rt, alloc, Error::Memory, "E15 Memory")
+    let rows = [
+        (Error::Io, "E1 Io"),
+        (Error::InvalidHeader(HeaderName::Block), "E2 InvalidHeader"),
+        (Error::InvalidTag(TagName::BlockType, 4), "E3 InvalidTag"),
+        (mismatch, "E4 ChecksumMismatch"),
+        (Error::LengthMismatch, "E5 LengthMismatch"),
+        (Error::TooLong, "E6 TooLong"),
+        (Error::Truncated, "E7 Truncated"),
+        (Error::BadTrailer, "E8 BadTrailer"),
+        (Error::BadEntry, "E9 BadEntry"),
+        (Error::OutOfOrder, "E10 OutOfOrder"),
+        (Error::BadIndex, "E11 BadIndex"),
+        (Error::BadHashIndex, "E12 BadHashIndex"),
+        (Error::BadFilter, "E13 BadFilter"),
+        (Error::BadHandle, "E14 BadHandle"),
+        (Error::Memory, "E15 Memory"),
+    ];
+    for (error, name) in rows {
+        check_name(&rt, rt.alloc(), error, name)?;
+    }
+    Ok(())
 }

@@ -219,23 +219,31 @@ fn a_refused_input_leaves_the_file(rt: HostRuntime) -> Result<(), Fail> {
     let alloc = rt.alloc();
     let kept = [7u8; 500];
     fs::write(&rt, "kept", &kept)?;
-    let good = ["pack", "kept", "1", "0", "1", "10", "1"];
-    let bad = ["pack", "kept", "1", "0", "0", "10", "1"];
-    check_fault(&rt, alloc, &bad, THREE.as_bytes(), "sst: usage")?;
-    check_fault(&rt, alloc, &good, b"", "sst: no entries")?;
-    check_fault(
-        &rt,
-        alloc,
-        &good,
-        b"V 3 61 78\nV 4 61 78\nV 4",
-        "sst: line 3: entry",
-    )?;
-    let swapped = b"V 3 61 78\nV 4 62 7a\nV 1 61 79\n";
-    check_fault(&rt, alloc, &good, swapped, "sst: line 3: order")?;
-    check_bytes(&rt, "kept", &kept)?;
-    check_fault(&rt, alloc, &["check", "kept"], b"", "sst: E1 Io")?;
-    pack_three(&rt, alloc, "kept")?;
-    assert_eq!(rt; fs::read(&rt, "kept")?.len(), 392);
+    let rows: [(&str, &[u8], &str); 4] = [
+        ("0", THREE.as_bytes(), "sst: usage"),
+        ("1", b"", "sst: no entries"),
+        ("1", b"V 3 61 78\nV 4 61 78\nV 4", "sst: line 3: entry"),
+        (
+            "1",
+            b"V 3 61 78\nV 4 62 7a\nV 1 61 79\n",
+            "sst: line 3: order",
+        ),
+    ];
+    for (den, input, fault) in rows {
+        let words = ["pack", "kept", "1", "0", den, "10", "1"];
+        check_fault(&rt, alloc, &words, input, fault)?;
+        check_bytes(&rt, "kept", &kept)?;
+    }
+    Ok(())
+}
+
+#[test]
+fn a_file_is_written_over(rt: HostRuntime) -> Result<(), Fail> {
+    fs::write(&rt, "over", &[7u8; 500])?;
+    check_fault(&rt, rt.alloc(), &["check", "over"], b"", "sst: E1 Io")?;
+    pack_three(&rt, rt.alloc(), "over")?;
+    let (len, _) = digest_of(&rt, "over")?;
+    assert_eq!(rt; len, 392);
     Ok(())
 }
 
