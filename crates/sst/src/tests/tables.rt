@@ -85,21 +85,31 @@ fn digest_of(rt: &(impl Files + AllocGlobal), name: &str) -> Result<(usize, u64)
     Ok((bytes.len(), Poly31::hash64(bytes.as_slice())))
 }
 
-// The file is packed, and its entries are looked up, walked and checked.
+// The entries of the file are looked up, walked and checked.
+fn check_reads(
+    rt: &(impl Files + AllocGlobal + Abort),
+    file: &str,
+    checked: &str,
+) -> Result<(), Fail> {
+    let alloc = rt.alloc();
+    for (key, seqno, printed) in LOOK_UPS {
+        check_prints(rt, alloc, &["get", file, key, seqno], b"", printed)?;
+    }
+    check_prints(rt, alloc, &["walk", file], b"", THREE)?;
+    check_prints(rt, alloc, &["check", file], b"", checked)
+}
+
+// The file is packed and read.
 fn check_packing(
     rt: &(impl Files + AllocGlobal + Abort),
     file: &str,
     packing: &Packing<'_>,
 ) -> Result<(), Fail> {
-    let alloc = rt.alloc();
     let words = packing.words;
-    check_prints(rt, alloc, words, THREE.as_bytes(), packing.packed)?;
-    assert_eq!(rt; digest_of(rt, file)?, packing.digest, "{words:?}");
-    for (key, seqno, printed) in LOOK_UPS {
-        check_prints(rt, alloc, &["get", file, key, seqno], b"", printed)?;
-    }
-    check_prints(rt, alloc, &["walk", file], b"", THREE)?;
-    check_prints(rt, alloc, &["check", file], b"", packing.checked)
+    check_prints(rt, rt.alloc(), words, THREE.as_bytes(), packing.packed)?;
+    let digest = digest_of(rt, file)?;
+    assert_eq!(rt; digest, packing.digest, "{words:?}");
+    check_reads(rt, file, packing.checked)
 }
 
 #[test]
