@@ -9,3 +9,4 @@ pub mod Orders
 pub mod ShortVarints
 pub mod ShortSlices
 pub mod LastItems
+mod Remainders

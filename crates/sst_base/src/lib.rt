@@ -7,6 +7,7 @@ pub mod coding;
 pub mod config;
 pub mod contents;
 pub mod count;
+pub mod divisor;
 pub mod double_ended_peekable;
 pub mod error;
 pub mod hash;
@@ -29,6 +30,7 @@ pub use coding::{Decode, Encode, decode_varint, encode_varint, push_varint_reser
 pub use config::HashRatio;
 pub use contents::Contents;
 pub use count::Count;
+pub use divisor::Divisor;
 pub use error::{Error, HeaderName, Result, TagName};
 pub use hash::{BlockHash, ByteSum, Poly31};
 pub use history::History;

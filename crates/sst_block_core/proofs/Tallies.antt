@@ -16,6 +16,7 @@ use Rattle.sst_block_core.proofs.BucketLaws.{bucket_push}
 use Rattle.sst_block_core.proofs.ReadOn.{read_none}
 use Rattle.sst_block_core.proofs.HeadPlaces.{head_below}
 use Rattle.sst_block_core.proofs.Tables.{each_alike, each_whole}
+use Rattle.sst_block_core.proofs.Written.{heads_behind, heads_before, heads_inside}
 
 -- so many items have at most as many heads as more items
 pub few_so_far : (r n place : ℕ) → 0 < r → place < n → head_count r n ≤ 254 → head_count r (place + 1) ≤ 254
@@ -34,6 +35,15 @@ interval_fits r n place pos h few =
     let d = div-mul-le_self place r in
     let k : place / r < head_count r n = (head_below r n (place / r) pos).1 (omega (arith, d, h)) in
     omega (arith, k, few)
+
+-- the number of the interval of the next place is one more where that is a head
+pub number_next : (r place number next phase : ℕ) → 0 < r → number ≡ place / r → phase ≡ (place + 1) % r → (phase ≡ 0 → next ≡ number + 1) → (0 < phase → next ≡ number) → next ≡ (place + 1) / r
+number_next r place number next phase pos e p head rest =
+    let b = heads_behind place r pos in
+    elim (cases_lt 0 ((place + 1) % r)) [
+      | inl some ↦ (let i = heads_inside (place + 1) r pos some in let k = rest (omega (arith, p, some)) in omega (arith, b, i, k, e))
+      | inr none ↦ (let i = heads_before (place + 1) r pos (omega (arith, none)) in let k = head (omega (arith, p, none)) in omega (arith, b, i, k, e))
+    ]
 
 module _ {X : Type 0} (kind : Kind X) (hash : List ℕ → ℕ) (r b : ℕ) (pos : 0 < r) (bytes : List ℕ) where
   pub tally_none : (base table : List ℕ) → base ≡ [] → table ≡ replicate b 254 → IsTallied kind hash r b bytes 0 0 base table
@@ -89,6 +99,9 @@ module _ {X : Type 0} (kind : Kind X) (hash : List ℕ → ℕ) (t : Trailer) (p
   buckets_to l h = sym (each_whole table t.hash_len k.count)
       ∙ each_alike (λ q. get_or table q 0) (λ q. get_or (buckets_in t p) q 0) t.hash_len (λ q below. k.buckets q below ∙ same_buckets q ∙ sym (h q below))
       ∙ each_whole (buckets_in t p) t.hash_len l
+
+  pub buckets_from : table ≡ buckets_in t p → HasBuckets kind hash t p
+  buckets_from e q below = ap (λ xs. get_or xs q 0) (sym e) ∙ k.buckets q below ∙ same_buckets q
 
 -- what a pass over the buckets knows at its end, of parts of a payload
 pub tallied_in : {X : Type 0} (kind : Kind X) (hash : List ℕ → ℕ) (t : Trailer) (p bytes : List ℕ) (place offset : ℕ) (base table : List ℕ) → IsTallied kind hash t.interval t.hash_len bytes place offset base table
