@@ -1,6 +1,7 @@
 pub mod Shared
 pub mod Joined
 pub mod Polynomials
+mod Lanes
 pub mod Frames
 pub mod Passing
 pub mod Handles
