@@ -13,10 +13,9 @@ use sst_base::table::block::Block;
 use sst_base::table::util::SliceIndexes;
 use sst_base::{BlockHash, Error, InternalValue, Result};
 use sst_block_core::table::block::check::Checkable;
-use sst_block_core::table::block::check::buckets::check_buckets;
+use sst_block_core::table::block::check::buckets::check_items_and_buckets;
 use sst_block_core::table::block::check::keys::KeyRanges;
 use sst_block_core::table::block::check::parts::parts_of;
-use sst_block_core::table::block::check::pass::check_items;
 use sst_block_core::table::block::check::truncation::is_greatest;
 use sst_block_core::table::block::key_ranges::bytes_of;
 use std::alloc::Global;
@@ -81,7 +80,6 @@ pub(super) fn check_block<H: BlockHash>(alloc: Global, block: &Block) -> Result<
 {
     let numbers = parts_of(block)?;
     let payload = block.data().as_slice();
-    check_items::<InternalValue, DataBlockParsedItem>(payload, &numbers)?;
-    check_buckets::<InternalValue, DataBlockParsedItem, H>(alloc, payload, &numbers)?;
+    check_items_and_buckets::<InternalValue, DataBlockParsedItem, H>(alloc, payload, &numbers)?;
     Ok(())
 }

@@ -88,12 +88,11 @@ impl<H: BlockHash> Builder<H> {
         self.set_at(index, interval_number)
     }
 
-    /// Notes that a key of the bucket at this index stands in the restart interval with this number,
-    /// at most 253. Returns `false` exactly if the bucket has a conflict now.
+    /// Notes that a key of the bucket at this index stands in the restart interval with this number.
+    /// Returns `false` exactly if the bucket has a conflict now.
     #[inline(always)]
     pub(crate) fn set_at(&mut self, index: usize, interval_number: u8) -> bool
-        requires index { index < length self.old }
-        requires number { interval_number ≤ 253 }
+        requires { index < length self.old }
         ensures bytes { self.new ≡ slice_set self.old index (bucket_byte_with (slice_index self.old index) interval_number) }
         ensures free { IsTrue result ↔ (slice_index self.new index ≢ 255) }
     {
@@ -134,6 +133,13 @@ impl<H: BlockHash> Builder<H> {
         if !self.buckets.is_empty() {
             self.set(key, (heads - 1) as u8);
         }
+    }
+
+    /// Returns the bytes of the buckets, borrowed.
+    pub(crate) fn as_slice(&self) -> &[u8]
+        ensures { result.now ≡ self.now }
+    {
+        self.buckets.as_slice()
     }
 
     /// Returns the bytes of the buckets.
