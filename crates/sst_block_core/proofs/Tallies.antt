@@ -1,23 +1,39 @@
 -- A pass that tallies buckets, one item more.
-use Rattle.std.proofs.Common.{◌≡◌, ℕ, ◌+◌, ◌*◌, ◌/◌, ◌%◌, ◌<◌, ◌≤◌, List, [], ◌∷◌, ◌++◌, length, drop, get_or, set, replicate, Option, Some, refl, sym, ap, subst, ◌∙◌, arith, inl, inr, cond, eqb, true, false, length-set, length-drop}
+use Rattle.std.proofs.Common.{◌≡◌, ℕ, zero, suc, ◌+◌, ◌-◌, ◌*◌, ◌/◌, ◌%◌, ◌<◌, ◌≤◌, List, [], ◌∷◌, ◌++◌, length, take, drop, get_or, set, replicate, Option, Some, refl, sym, ap, subst, ◌∙◌, arith, inl, inr, cond, eqb, true, false, length-set, length-drop}
 use Rattle.std.proofs.lemmas.Bool.{cases_eq, cases_lt, eq-eqb, ne_eqb, false≢true}
 use Rattle.std.proofs.lemmas.Nat.{mod_below}
 use Rattle.std.proofs.Math.Nat.{div-eq_of_lt, mod-eq_of_lt}
 use Rattle.std.proofs.lemmas.List.{get_or-replicate, length-replicate, get_or-set_same, get_or-set_other, length-take-le, length_push}
 use Rattle.sst_base.specs.ReadingLaws.{pair_parts}
+use Rattle.sst_base.specs.declared.table.util.SliceIndexes.{SliceIndexes}
 use Rattle.sst_base.specs.declared.error.Error.{Error}
 use Rattle.sst_base.specs.declared.error.Error.TheVariants.{BadEntry, BadHandle, OutOfOrder, BadIndex, BadHashIndex, Memory}
+use Rattle.sst_block_core.specs.Found.{range_of}
 use Rattle.sst_block_core.specs.Kind.{Kind}
 use Rattle.sst_block_core.specs.Body.{items_at}
 use Rattle.sst_block_core.specs.Trailer.{Trailer}
 use Rattle.sst_block_core.specs.Pointers.{head_count}
 use Rattle.sst_block_core.specs.Buckets.{bucket, bucket_byte_with}
 use Rattle.sst_block_core.specs.Stages.{HasParts, HasForms, HasBuckets, body_in, buckets_in, items_by}
-use Rattle.sst_block_core.specs.Passes.{TallyState, IsTallied, HasTallied, IsItemsRefusal, IsRefusal}
+use Rattle.sst_block_core.specs.Passes.{TallyState, BeginsWith, IsTallied, HasTallied, IsItemsRefusal, IsRefusal}
 use Rattle.sst_block_core.proofs.BucketLaws.{bucket_push}
 use Rattle.sst_block_core.proofs.Openings.{length-items_at}
 use Rattle.sst_block_core.proofs.Tables.{each_alike, each_whole}
 use Rattle.sst_block_core.proofs.Written.{heads_behind, heads_before, heads_inside}
+
+take_less : (n m : ℕ) (xs : List ℕ) → n ≤ m → take n (take m xs) ≡ take n xs
+take_less zero m xs h = refl
+take_less (suc n) zero xs h = absurd (omega arith)
+take_less (suc n) (suc m) [] h = refl
+take_less (suc n) (suc m) (x ∷ xs) h = ap (λ ys. x ∷ ys) (take_less n m xs (omega arith))
+
+-- a shorter front at the same place is left
+pub kept_front : (body joined : List ℕ) (old new : SliceIndexes) → BeginsWith body joined old → new.0 ≡ old.0 → new.1 ≤ old.1 → take (new.1 - new.0) joined ≡ range_of body new
+kept_front body joined old new begins same shorter =
+    let n = new.1 - new.0 in
+    let m = old.1 - old.0 in
+    sym (take_less n m joined (omega (arith, same, shorter))) ∙ ap (take n) begins ∙ take_less n m (drop old.0 body) (omega (arith, same, shorter))
+    ∙ ap (λ k. take n (drop k body)) (sym same)
 
 -- the number of heads with one item more, by that before
 heads_next : (r place heads more phase : ℕ) → 0 < r → heads ≡ head_count r place → head_count r (place + 1) ≤ 254 → phase ≡ place % r → (phase ≡ 0 → more ≡ (heads + 1) % 256) → (0 < phase → more ≡ heads)
@@ -43,12 +59,15 @@ few_before r place pos few =
     ]
 
 module _ {X : Type 0} (kind : Kind X) (hash : List ℕ → ℕ) (r b : ℕ) (pos : 0 < r) where
-  pub tally_none : (tally : TallyState) → tally ≡ record { table = replicate b 254; heads = 0; has_memory = true } → HasTallied kind hash r b tally []
-  tally_none tally e = λ memory few. record {
-    count = ap (λ t. length t.table) e ∙ length-replicate b 254;
-    heads_is = ap (λ t. t.heads) e ∙ sym (div-eq_of_lt (omega arith));
-    buckets = λ q h. ap (λ t. get_or t.table q 0) e ∙ get_or-replicate b q 254 0 h;
-  }
+  pub tally_none : (body : List ℕ) (tally : TallyState) → tally ≡ record { table = replicate b 254; heads = 0; has_memory = true; joined = []; front = record { 0 = 0; 1 = 0 } } → HasTallied kind hash r b body tally []
+  tally_none body tally e = λ memory. (
+    (λ i. take ((e i).front.1 - (e i).front.0) (e i).joined) ∙ sym (λ i. range_of body (e i).front),
+    λ few. record {
+      count = ap (λ t. length t.table) e ∙ length-replicate b 254;
+      heads_is = ap (λ t. t.heads) e ∙ sym (div-eq_of_lt (omega arith));
+      buckets = λ q h. ap (λ t. get_or t.table q 0) e ∙ get_or-replicate b q 254 0 h;
+    },
+  )
 
   tally_more : (table : List ℕ) (heads : ℕ) (xs : List X) (p : IsTallied kind hash r b table heads xs) (x : X) (phase heads' n : ℕ) (key more : List ℕ)
       → 0 < length table → head_count r (length xs + 1) ≤ 254 → phase ≡ length xs % r → (phase ≡ 0 → heads' ≡ (heads + 1) % 256) → (0 < phase → heads' ≡ heads)
@@ -84,27 +103,30 @@ module _ {X : Type 0} (kind : Kind X) (hash : List ℕ → ℕ) (r b : ℕ) (pos
             ]);
       }
 
-  module _ (old new : TallyState) (xs : List X) (x : X) where
+  module _ (body : List ℕ) (old new : TallyState) (xs : List X) (x : X) where
     -- a key more, where memory was there for it
-    pub tally_push : (phase n : ℕ) (key : List ℕ) → HasTallied kind hash r b old xs → 0 < length old.table → phase ≡ length xs % r → (phase ≡ 0 → new.heads ≡ (old.heads + 1) % 256) → (0 < phase → new.heads ≡ old.heads)
+    pub tally_push : (phase n h : ℕ) (key : List ℕ) → HasTallied kind hash r b body old xs → 0 < length old.table → phase ≡ length xs % r → (phase ≡ 0 → new.heads ≡ (old.heads + 1) % 256) → (0 < phase → new.heads ≡ old.heads)
         → (0 < new.heads → n + 1 ≡ new.heads) → kind.key x ≡ key → new.has_memory ≡ old.has_memory
-        → new.table ≡ set old.table (hash key % length old.table) (bucket_byte_with (get_or old.table (hash key % length old.table) 0) n) → HasTallied kind hash r b new (xs ++ x ∷ [])
-    tally_push phase n key taken some in_row head rest number key_is memory_is table_is = λ memory many.
-        let few : head_count r (length xs + 1) ≤ 254 = subst (λ k. head_count r k ≤ 254) (length_push xs x) many in
-        tally_more old.table old.heads xs (taken (sym memory_is ∙ memory) (few_before r (length xs) pos few)) x phase new.heads n key new.table some few in_row head rest number key_is table_is
-
-    -- and where it was not
-    pub tally_lost : new.has_memory ≡ false → HasTallied kind hash r b new (xs ++ x ∷ [])
-    tally_lost lost = λ memory few. absurd (false≢true (sym lost ∙ memory))
+        → (BeginsWith body old.joined old.front → h ≡ hash key) → (BeginsWith body old.joined old.front → BeginsWith body new.joined new.front)
+        → new.table ≡ set old.table (h % length old.table) (bucket_byte_with (get_or old.table (h % length old.table) 0) n) → HasTallied kind hash r b body new (xs ++ x ∷ [])
+    tally_push phase n h key taken some in_row head rest number key_is memory_is hash_is begins table_is = λ memory.
+        let before = taken (sym memory_is ∙ memory) in (
+          begins before.0,
+          λ many.
+              let few : head_count r (length xs + 1) ≤ 254 = subst (λ k. head_count r k ≤ 254) (length_push xs x) many in
+              let same = hash_is before.0 in
+              tally_more old.table old.heads xs (before.1 (few_before r (length xs) pos few)) x phase new.heads n key new.table some few in_row head rest number key_is
+              (table_is ∙ (λ i. set old.table (same i % length old.table) (bucket_byte_with (get_or old.table (same i % length old.table) 0) n))),
+        )
 
 module _ {X : Type 0} (kind : Kind X) (hash : List ℕ → ℕ) (t : Trailer) (p : List ℕ) (parts : HasParts t p) (some : 0 < t.hash_len) (forms : HasForms kind t p) (tally : TallyState)
-    (taken : HasTallied kind hash t.interval t.hash_len tally (items_by kind t p)) (memory : tally.has_memory ≡ true) where
+    (taken : HasTallied kind hash t.interval t.hash_len (body_in t p) tally (items_by kind t p)) (memory : tally.has_memory ≡ true) where
   tallied : IsTallied kind hash t.interval t.hash_len tally.table tally.heads (items_by kind t p)
   tallied =
       let l = ap (head_count t.interval) (length-items_at kind t.interval 0 t.item_count [] (body_in t p) (items_by kind t p) [] forms) in
       let f = parts.few_heads some in
       let h = parts.heads in
-      taken memory (omega (arith, l, f, h))
+      (taken memory).1 (omega (arith, l, f, h))
 
   buckets_length : length (buckets_in t p) ≡ t.hash_len
   buckets_length = let e = parts.end in length-take-le t.hash_len (drop (t.index_offset + t.heads * t.width) p) (omega (arith, e, length-drop (t.index_offset + t.heads * t.width) p))

@@ -1,5 +1,5 @@
 -- What a pass over a body has read so far, and what it found of it.
-use Rattle.std.specs.Prelude.{◌≡◌, ◌↔◌, ℕ, ◌+◌, ◌*◌, ◌%◌, ◌==◌, ◌<◌, ◌≤◌, if◌then◌else◌, Bool, true, IsTrue, List, [], ◌∷◌, length, drop, slice_index, Option, Some, None}
+use Rattle.std.specs.Prelude.{◌≡◌, ◌↔◌, ℕ, ◌+◌, ◌-◌, ◌*◌, ◌%◌, ◌==◌, ◌<◌, ◌≤◌, if◌then◌else◌, Bool, true, IsTrue, List, [], ◌∷◌, length, take, drop, slice_index, Option, Some, None}
 use Rattle.std.specs.List.{AllByRecursion}
 use Rattle.sst_base.specs.declared.error.Error.{Error}
 use Rattle.sst_base.specs.declared.error.Error.TheVariants.{Truncated, BadTrailer, BadEntry, BadHandle, OutOfOrder, BadIndex, BadHashIndex, Memory}
@@ -8,6 +8,8 @@ use Rattle.sst_block_core.specs.Body.{items_at, place_offset}
 use Rattle.sst_block_core.specs.Trailer.{Trailer}
 use Rattle.sst_block_core.specs.Buckets.{bucket}
 use Rattle.sst_block_core.specs.Pointers.{head_count}
+use Rattle.sst_block_core.specs.Found.{range_of}
+use Rattle.sst_base.specs.declared.table.util.SliceIndexes.{SliceIndexes}
 use Rattle.sst_block_core.specs.Stages.{items_by, HasTrailer, HasParts, HasForms, HasOrder, HasPointers, HasBuckets}
 use Rattle.sst_block_core.specs.declared.table.block.trailer.TrailerNumbers.{TrailerNumbers}
 
@@ -71,11 +73,18 @@ pub record IsFound {X : Type 0} (kind : Kind X) (fits : X → Type 0) (t : Trail
   pub ordered : IsTrue is_ordered ↔ HasOrder kind t p
   pub indexed : IsTrue is_indexed ↔ HasPointers kind t p
 
--- a tally: the bytes of its buckets, the number of heads modulo 2 ^ 8, and whether all memory that it asked for was there
+-- a tally: the bytes of its buckets, the number of heads modulo 2 ^ 8, whether all memory that it asked for was there, and a
+-- key that it joined, with the range of its front
 pub record TallyState : Type 0 where
   pub table : List ℕ
   pub heads : ℕ
   pub has_memory : Bool
+  pub joined : List ℕ
+  pub front : SliceIndexes
+
+-- the front of a joined key is that range of a body
+abbrev pub BeginsWith : List ℕ → List ℕ → SliceIndexes → Type 0
+BeginsWith body joined front = take (front.1 - front.0) joined ≡ range_of body front
 
 -- the bytes of b buckets are those of these items, which have so many heads
 pub record IsTallied {X : Type 0} (kind : Kind X) (hash : List ℕ → ℕ) (r b : ℕ) (table : List ℕ) (heads : ℕ) (items : List X) : Type 0 where
@@ -83,9 +92,10 @@ pub record IsTallied {X : Type 0} (kind : Kind X) (hash : List ℕ → ℕ) (r b
   pub heads_is : heads ≡ head_count r (length items)
   pub buckets : (q : ℕ) → q < b → slice_index table q ≡ bucket kind hash r items b q
 
--- a tally took the keys of these items: where memory was there and they have at most 254 heads, it has their buckets
-abbrev pub HasTallied : {X : Type 0} → Kind X → (List ℕ → ℕ) → ℕ → ℕ → TallyState → List X → Type 0
-HasTallied kind hash r b tally items = tally.has_memory ≡ true → head_count r (length items) ≤ 254 → IsTallied kind hash r b tally.table tally.heads items
+-- a tally took the keys of these items of a body: where memory was there and they have at most 254 heads, it has their buckets
+abbrev pub HasTallied : {X : Type 0} → Kind X → (List ℕ → ℕ) → ℕ → ℕ → List ℕ → TallyState → List X → Type 0
+HasTallied kind hash r b body tally items = tally.has_memory ≡ true → BeginsWith body tally.joined tally.front
+    × (head_count r (length items) ≤ 254 → IsTallied kind hash r b tally.table tally.heads items)
 
 -- why the numbers of a trailer are refused: which of the first two stages fails first
 abbrev pub IsPartsRefusal : Trailer → List ℕ → Error → Type 0

@@ -7,7 +7,7 @@ ghost use Rattle.sst_block_core.specs.Payload.{IsBlock};
 ghost use Rattle.sst_block_core.specs.Stages.{items_in};
 ghost use Rattle.sst_block_core.specs.Trailer.{trailer_in};
 
-use crate::table::data_block::decoding::{entry_prefix_from, truncated_form_from};
+use crate::table::data_block::decoding::{entry_prefix_within, truncated_form_from};
 use crate::table::data_block::parsed_item::DataBlockParsedItem;
 use sst_base::table::block::Block;
 use sst_base::table::util::SliceIndexes;
@@ -53,7 +53,7 @@ impl Checkable<DataBlockParsedItem> for InternalValue {
             return None;
         }
         let rest = form.key.1 - form.key.0;
-        let prefix = entry_prefix_from(payload, base.0, form.shared, rest)?;
+        let prefix = entry_prefix_within(payload, base, form.shared, rest)?;
         let item = DataBlockParsedItem {
             value_type: form.value_type,
             seqno: form.seqno,

@@ -5,7 +5,7 @@ ghost use Rattle.std.specs.List.{AllByRecursion};
 ghost use Rattle.sst_block_core.specs.Body.{items_at};
 ghost use Rattle.sst_block_core.specs.KeyRanges.{IsVersion};
 ghost use Rattle.sst_block_core.specs.Passes.{IsPassed, IsFound, trailer_by, IsItemsRefusal};
-ghost use Rattle.sst_block_core.specs.Stages.{HasParts, HasForms, HasOrder, HasPointers, items_by};
+ghost use Rattle.sst_block_core.specs.Stages.{HasParts, HasForms, HasOrder, HasPointers, body_in, items_by};
 
 use crate::table::block::ParsedItem;
 use crate::table::block::binary_index::Reader;
@@ -68,8 +68,8 @@ pub(crate) fn pass_over<
     requires pointers { (place : ℕ) → place < count → place / restart_interval < length pointers.now }
     ensures exact { MatchOption result ((xs : List Item) → items_at Item.kind restart_interval 0 count [] body.now ≡ Some (xs, []) → ⊥)
         (λ p. IsPassed Item.kind Item.fits restart_interval count body.now pointers.now p.all_fit p.is_ordered p.is_indexed) }
-    ensures taken { OnSome result ((b : ℕ) (xs : List Item) → Sink.has_taken restart_interval b sink.old []
-        → items_at Item.kind restart_interval 0 count [] body.now ≡ Some (xs, []) → Sink.has_taken restart_interval b sink.new xs) }
+    ensures taken { OnSome result ((b : ℕ) (xs : List Item) → Sink.has_taken restart_interval b body.now sink.old []
+        → items_at Item.kind restart_interval 0 count [] body.now ≡ Some (xs, []) → Sink.has_taken restart_interval b body.now sink.new xs) }
 {
     let mut steps = Steps::new();
     let mut at = Spot::first();
@@ -122,8 +122,8 @@ fn pass_payload<
     requires { HasParts (trailer_by t.now) payload.now }
     ensures exact { MatchOption result (HasForms Item.kind (trailer_by t.now) payload.now → ⊥)
         (λ p. IsFound Item.kind Item.fits (trailer_by t.now) payload.now p.all_fit p.is_ordered p.is_indexed) }
-    ensures taken { OnSome result ((b : ℕ) → Sink.has_taken t.now.interval b sink.old []
-        → Sink.has_taken t.now.interval b sink.new (items_by Item.kind (trailer_by t.now) payload.now)) }
+    ensures taken { OnSome result ((b : ℕ) → Sink.has_taken t.now.interval b (body_in (trailer_by t.now) payload.now) sink.old []
+        → Sink.has_taken t.now.interval b (body_in (trailer_by t.now) payload.now) sink.new (items_by Item.kind (trailer_by t.now) payload.now)) }
 {
     let (body, _) = payload.split_at(t.index_offset as usize - 1);
     let pointers = Reader::new(payload, t.index_offset, t.heads, t.width);
@@ -157,8 +157,8 @@ pub(crate) fn check_items_with<
     ensures fit { OnOk result (AllByRecursion Item.fits (items_by Item.kind (trailer_by t.now) payload.now)) }
     ensures order { OnOk result (HasOrder Item.kind (trailer_by t.now) payload.now) }
     ensures pointers { OnOk result (HasPointers Item.kind (trailer_by t.now) payload.now) }
-    ensures taken { OnOk result ((b : ℕ) → Sink.has_taken t.now.interval b sink.old []
-        → Sink.has_taken t.now.interval b sink.new (items_by Item.kind (trailer_by t.now) payload.now)) }
+    ensures taken { OnOk result ((b : ℕ) → Sink.has_taken t.now.interval b (body_in (trailer_by t.now) payload.now) sink.old []
+        → Sink.has_taken t.now.interval b (body_in (trailer_by t.now) payload.now) sink.new (items_by Item.kind (trailer_by t.now) payload.now)) }
     ensures refused { IfErr result (IsItemsRefusal Item.kind Item.fits (trailer_by t.now) payload.now) }
 {
     let Some(passed) = pass_payload::<Item, Parsed, Sink>(payload, t, sink) else {

@@ -7,7 +7,7 @@ use Rattle.sst_block_core.proofs.table.block.check.pass.pass_over.Goals as goal
 pub loop-place-init : goal.loop-place-init
 loop-place-init g c =
     let none = pass_none g.Item.BlockItem.kind g.Item.BlockItem.valid g.Item.Checkable.fits g.Item.BlockItem.is_kind c.args.restart_interval c.requires.some c.args.body.now c.args.pointers.now
-    (λ i. let f = c.type_inv.body i in omega arith) (λ xs. (b : ℕ) → g.Sink.KeySink.has_taken c.args.restart_interval b c.args.sink.now [] → g.Sink.KeySink.has_taken c.args.restart_interval b c.args.sink.now xs)
+    (λ i. let f = c.type_inv.body i in omega arith) (λ xs. (b : ℕ) → g.Sink.KeySink.has_taken c.args.restart_interval b c.args.body.now c.args.sink.now [] → g.Sink.KeySink.has_taken c.args.restart_interval b c.args.body.now c.args.sink.now xs)
     [] refl (λ b start. start) in
     rw c.first-at.ensures (record {
       place_is = refl;
@@ -36,7 +36,7 @@ loop-place-preserved g c =
     let version = c.version_of-version.ensures body e.found in
     let more = pass_more kind g.Item.BlockItem.valid g.Item.Checkable.fits g.Item.BlockItem.is_kind c.args.restart_interval c.requires.some body c.args.pointers.now
             (λ i. let f = c.type_inv.body i in omega arith)
-            (λ xs. (b : ℕ) → g.Sink.KeySink.has_taken c.args.restart_interval b c.args.sink.now [] → g.Sink.KeySink.has_taken c.args.restart_interval b c.take.new.self xs)
+            (λ xs. (b : ℕ) → g.Sink.KeySink.has_taken c.args.restart_interval b c.args.body.now c.args.sink.now [] → g.Sink.KeySink.has_taken c.args.restart_interval b c.args.body.now c.take.new.self xs)
             c.loop-place.at.place c.loop-place.at.phase c.loop-place.at.offset _ p.0 _ _ _ _ _ _ p.2 item _ _ _
             c.loop-place.invariant.phase (e.exact p.2.items p.2.read) (c.fits.ensures body)
             (keeps_by kind body c.loop-place.last p.0 c.version_of-version.result item c.keeps_order.result p.1 version c.keeps_order.ensures) c.is_pointed.ensures
@@ -72,4 +72,4 @@ returns-clause-taken g c = λ b xs start whole.
     let end : c.loop-place.at.place ≡ c.args.count = let i = c.loop-place.invariant.place_is in let a = c.loop-place.auto.place-end in let f = c.loop-place-test.false in omega arith in
     let same = read_whole g.Item.BlockItem.kind c.args.restart_interval c.args.count c.args.body.now p.2.items xs _
     (subst (λ n. items_at g.Item.BlockItem.kind c.args.restart_interval 0 n [] c.args.body.now ≡ Some (p.2.items, drop c.loop-place.at.offset c.args.body.now)) end p.2.read.reads) whole in
-    subst (λ ys. g.Sink.KeySink.has_taken c.args.restart_interval b c.loop-place.sink ys) same (p.3 b start)
+    subst (λ ys. g.Sink.KeySink.has_taken c.args.restart_interval b c.args.body.now c.loop-place.sink ys) same (p.3 b start)

@@ -13,5 +13,5 @@ invariant-loop-place g l = record {
   base : IsRange l.body l.at.base;
   passing : (last : Option g.row.Item.Denot) × IsLast g.Item.BlockItem.kind l.body l.last last
       × (p : IsPassing g.Item.BlockItem.kind g.Item.Checkable.fits l.restart_interval l.body l.pointers l.at.place l.at.offset (range_of l.body l.at.base) last l.passed.all_fit l.passed.is_ordered l.passed.is_indexed)
-      × ((b : ℕ) → g.Sink.KeySink.has_taken l.restart_interval b l.fn.sink [] → g.Sink.KeySink.has_taken l.restart_interval b l.sink p.items);
+      × ((b : ℕ) → g.Sink.KeySink.has_taken l.restart_interval b l.body l.fn.sink [] → g.Sink.KeySink.has_taken l.restart_interval b l.body l.sink p.items);
 }

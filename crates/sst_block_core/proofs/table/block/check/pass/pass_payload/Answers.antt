@@ -1,4 +1,4 @@
-use Rattle.std.proofs.Common.{[], ap, ◌∙◌}
+use Rattle.std.proofs.Common.{[], ap, sym, subst, ◌∙◌}
 use Rattle.sst_block_core.specs.Body.{items_at}
 use Rattle.sst_block_core.specs.Stages.{items_by}
 use Rattle.sst_block_core.specs.Passes.{trailer_by}
@@ -24,4 +24,7 @@ returns-clause-taken g c = λ b start.
     let t = trailer_by c.args.t.now in
     let f = found_from kind g.Item.Checkable.fits t c.args.payload.now _ _ c.requires c.split_at.ensures.front c.new-pointers.ensures _ _ _ _ _
     c.in_ok-passed.ensures.exact c.get-last.ensures c.is_least_width.ensures in
-    c.in_ok-passed.ensures.taken b (items_by kind t c.args.payload.now) start (ap (items_at kind t.interval 0 t.item_count []) c.split_at.ensures.front ∙ f.forms)
+    let same = c.split_at.ensures.front in
+    subst (λ bytes. g.Sink.KeySink.has_taken t.interval b bytes c.pass_over.new.sink (items_by kind t c.args.payload.now)) same
+    (c.in_ok-passed.ensures.taken b (items_by kind t c.args.payload.now) (subst (λ bytes. g.Sink.KeySink.has_taken t.interval b bytes c.args.sink.now []) (sym same) start)
+        (ap (items_at kind t.interval 0 t.item_count []) same ∙ f.forms))
