@@ -1,5 +1,5 @@
 -- The polynomial hash of the eight bytes of a word, side by side: pairs of bytes in lanes of 16 bits, fours in lanes of 32.
-use Rattle.std.proofs.Common.{◌≡◌, ℕ, ◌+◌, ◌*◌, ◌-◌, ◌/◌, ◌%◌, ◌^◌, ◌<◌, ◌≤◌, List, [], ◌∷◌, length, take, get_or, refl, arith, sym, ◌∙◌, ap}
+use Rattle.std.proofs.Common.{◌≡◌, ℕ, ◌+◌, ◌*◌, ◌/◌, ◌<◌, ◌≤◌, List, [], ◌∷◌, length, take, arith, ◌∙◌, ap}
 use Rattle.std.specs.List.{fold}
 use Rattle.std.specs.Prelude.{bit_and}
 use Rattle.std.proofs.lemmas.Nat.{and_mask, and_block, div-mul-add, mod-mul-add}

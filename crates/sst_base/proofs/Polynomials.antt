@@ -1,5 +1,5 @@
 -- The polynomial hash, with or without the multiples of the modulus left out at each step.
-use Rattle.std.proofs.Common.{◌≡◌, ℕ, ◌+◌, ◌*◌, ◌%◌, ◌^◌, ◌<◌, ◌≤◌, List, [], ◌∷◌, length, take, drop, refl, arith, sym, ◌∙◌, ap, take-add, length-drop}
+use Rattle.std.proofs.Common.{◌≡◌, ℕ, ◌+◌, ◌*◌, ◌%◌, ◌^◌, ◌≤◌, List, [], ◌∷◌, length, take, drop, refl, arith, sym, ◌∙◌, ap, take-add, length-drop}
 use Rattle.std.specs.List.{fold}
 use Rattle.std.proofs.lemmas.List.{length-take-le, take-append-drop}
 use Rattle.std.proofs.lemmas.Nat.{mul-mod_first}

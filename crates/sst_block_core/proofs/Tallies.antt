@@ -1,16 +1,14 @@
 -- A pass that tallies buckets, one item more.
-use Rattle.std.proofs.Common.{◌≡◌, ℕ, zero, suc, ◌+◌, ◌-◌, ◌*◌, ◌/◌, ◌%◌, ◌<◌, ◌≤◌, List, [], ◌∷◌, ◌++◌, length, take, drop, get_or, set, replicate, Option, Some, refl, sym, ap, subst, ◌∙◌, arith, inl, inr, cond, eqb, true, false, length-set, length-drop}
-use Rattle.std.proofs.lemmas.Bool.{cases_eq, cases_lt, eq-eqb, ne_eqb, false≢true}
+use Rattle.std.proofs.Common.{◌≡◌, ℕ, zero, suc, ◌+◌, ◌-◌, ◌*◌, ◌/◌, ◌%◌, ◌<◌, ◌≤◌, List, [], ◌∷◌, ◌++◌, length, take, drop, get_or, set, replicate, refl, sym, ap, subst, ◌∙◌, arith, inl, inr, cond, eqb, true, false, length-set, length-drop}
+use Rattle.std.proofs.lemmas.Bool.{cases_eq, cases_lt, eq-eqb, ne_eqb}
 use Rattle.std.proofs.lemmas.Nat.{mod_below}
 use Rattle.std.proofs.Math.Nat.{div-eq_of_lt, mod-eq_of_lt}
 use Rattle.std.proofs.lemmas.List.{get_or-replicate, length-replicate, get_or-set_same, get_or-set_other, length-take-le, length_push}
-use Rattle.sst_base.specs.ReadingLaws.{pair_parts}
 use Rattle.sst_base.specs.declared.table.util.SliceIndexes.{SliceIndexes}
 use Rattle.sst_base.specs.declared.error.Error.{Error}
 use Rattle.sst_base.specs.declared.error.Error.TheVariants.{BadEntry, BadHandle, OutOfOrder, BadIndex, BadHashIndex, Memory}
 use Rattle.sst_block_core.specs.Found.{range_of}
 use Rattle.sst_block_core.specs.Kind.{Kind}
-use Rattle.sst_block_core.specs.Body.{items_at}
 use Rattle.sst_block_core.specs.Trailer.{Trailer}
 use Rattle.sst_block_core.specs.Pointers.{head_count}
 use Rattle.sst_block_core.specs.Buckets.{bucket, bucket_byte_with}

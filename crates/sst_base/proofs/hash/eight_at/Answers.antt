@@ -1,4 +1,4 @@
-use Rattle.std.proofs.Common.{◌≤◌, ◌∙◌, ap, sym, subst, take, drop, length, arith, length-drop}
+use Rattle.std.proofs.Common.{◌≤◌, ◌∙◌, ap, sym, subst, take, length, arith, length-drop}
 use Rattle.std.specs.List.{fold}
 use Rattle.sst_base.specs.Bytes.{IsBytes}
 use Rattle.sst_base.specs.Hashes.{times31}

@@ -10,8 +10,8 @@ use sst_base::{InternalValue, Steps, ValueType};
 use sst_block_core::table::block::Decodable;
 use sst_block_core::table::block::key_ranges::bytes_of;
 use sst_block_core::table::block::reading::{
-    length_prefixed_from, number_from, prefix_from, prefix_within, read_length_prefixed, read_number,
-    read_value_type, value_type_from,
+    length_prefixed_from, number_from, prefix_from, prefix_within, read_length_prefixed,
+    read_number, read_value_type, value_type_from,
 };
 
 // The range of a value at an offset, which a tombstone has not, and where it ends.

@@ -24,11 +24,7 @@ pub fn check_items_and_buckets<
     Item: Checkable<Parsed>,
     Parsed: ParsedItem<Item> + Drop,
     H: BlockHash,
->(
-    alloc: Global,
-    payload: &[u8],
-    t: &TrailerNumbers,
-) -> Result<()>
+>(alloc: Global, payload: &[u8], t: &TrailerNumbers) -> Result<()>
     requires { HasParts (trailer_by t.now) payload.now }
     ensures forms { OnOk result (HasForms Item.kind (trailer_by t.now) payload.now) }
     ensures fit { OnOk result (AllByRecursion Item.fits (items_by Item.kind (trailer_by t.now) payload.now)) }

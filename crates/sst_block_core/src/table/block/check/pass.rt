@@ -110,11 +110,7 @@ fn is_least_width(width: u8, last: usize) -> bool
 // Passes over the items of a payload, whose trailer fits it, and says what it found of them and of
 // their pointers, with the width. `None` where the body is not as many forms as the trailer says,
 // and nothing else. The sink takes the keys.
-fn pass_payload<
-    Item: Checkable<Parsed>,
-    Parsed: ParsedItem<Item> + Drop,
-    Sink: KeySink<Item>,
->(
+fn pass_payload<Item: Checkable<Parsed>, Parsed: ParsedItem<Item> + Drop, Sink: KeySink<Item>>(
     payload: &[u8],
     t: &TrailerNumbers,
     sink: &mut Sink,
@@ -147,11 +143,7 @@ pub(crate) fn check_items_with<
     Item: Checkable<Parsed>,
     Parsed: ParsedItem<Item> + Drop,
     Sink: KeySink<Item>,
->(
-    payload: &[u8],
-    t: &TrailerNumbers,
-    sink: &mut Sink,
-) -> Result<()>
+>(payload: &[u8], t: &TrailerNumbers, sink: &mut Sink) -> Result<()>
     requires { HasParts (trailer_by t.now) payload.now }
     ensures forms { OnOk result (HasForms Item.kind (trailer_by t.now) payload.now) }
     ensures fit { OnOk result (AllByRecursion Item.fits (items_by Item.kind (trailer_by t.now) payload.now)) }

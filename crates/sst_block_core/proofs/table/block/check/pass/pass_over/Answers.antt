@@ -35,13 +35,13 @@ loop-place-preserved g c =
     let item = g.Parsed.ParsedItem.item_of body c.in_ok-item.item in
     let version = c.version_of-version.ensures body e.found in
     let more = pass_more kind g.Item.BlockItem.valid g.Item.Checkable.fits g.Item.BlockItem.is_kind c.args.restart_interval c.requires.some body c.args.pointers.now
-            (λ i. let f = c.type_inv.body i in omega arith)
-            (λ xs. (b : ℕ) → g.Sink.KeySink.has_taken c.args.restart_interval b c.args.body.now c.args.sink.now [] → g.Sink.KeySink.has_taken c.args.restart_interval b c.args.body.now c.take.new.self xs)
-            c.loop-place.at.place c.loop-place.at.phase c.loop-place.at.offset _ p.0 _ _ _ _ _ _ p.2 item _ _ _
-            c.loop-place.invariant.phase (e.exact p.2.items p.2.read) (c.fits.ensures body)
-            (keeps_by kind body c.loop-place.last p.0 c.version_of-version.result item c.keeps_order.result p.1 version c.keeps_order.ensures) c.is_pointed.ensures
-            (λ b start. c.take.ensures c.args.restart_interval b p.2.items item c.requires.some (p.3 b start)
-                (c.loop-place.invariant.phase ∙ ap (λ k. k % c.args.restart_interval) p.2.read.count) version.key) in
+    (λ i. let f = c.type_inv.body i in omega arith)
+    (λ xs. (b : ℕ) → g.Sink.KeySink.has_taken c.args.restart_interval b c.args.body.now c.args.sink.now [] → g.Sink.KeySink.has_taken c.args.restart_interval b c.args.body.now c.take.new.self xs)
+    c.loop-place.at.place c.loop-place.at.phase c.loop-place.at.offset _ p.0 _ _ _ _ _ _ p.2 item _ _ _
+    c.loop-place.invariant.phase (e.exact p.2.items p.2.read) (c.fits.ensures body)
+    (keeps_by kind body c.loop-place.last p.0 c.version_of-version.result item c.keeps_order.result p.1 version c.keeps_order.ensures) c.is_pointed.ensures
+    (λ b start. c.take.ensures c.args.restart_interval b p.2.items item c.requires.some (p.3 b start)
+    (c.loop-place.invariant.phase ∙ ap (λ k. k % c.args.restart_interval) p.2.read.count) version.key) in
     record {
       place_is = e.place ∙ ap (λ k. k + 1) c.loop-place.invariant.place_is;
       phase = e.phase;

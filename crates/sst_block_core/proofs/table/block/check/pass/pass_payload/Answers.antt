@@ -27,4 +27,4 @@ returns-clause-taken g c = λ b start.
     let same = c.split_at.ensures.front in
     subst (λ bytes. g.Sink.KeySink.has_taken t.interval b bytes c.pass_over.new.sink (items_by kind t c.args.payload.now)) same
     (c.in_ok-passed.ensures.taken b (items_by kind t c.args.payload.now) (subst (λ bytes. g.Sink.KeySink.has_taken t.interval b bytes c.args.sink.now []) (sym same) start)
-        (ap (items_at kind t.interval 0 t.item_count []) same ∙ f.forms))
+    (ap (items_at kind t.interval 0 t.item_count []) same ∙ f.forms))
