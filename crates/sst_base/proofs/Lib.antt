@@ -1,6 +1,7 @@
 pub mod Shared
 pub mod Joined
 pub mod Polynomials
+mod Lanes
 pub mod Frames
 pub mod Passing
 pub mod Handles
@@ -9,3 +10,4 @@ pub mod Orders
 pub mod ShortVarints
 pub mod ShortSlices
 pub mod LastItems
+mod Remainders

@@ -1,5 +1,5 @@
 -- The polynomial hash, with or without the multiples of the modulus left out at each step.
-use Rattle.std.proofs.Common.{◌≡◌, ℕ, ◌+◌, ◌*◌, ◌%◌, ◌^◌, ◌<◌, ◌≤◌, List, [], ◌∷◌, length, take, drop, refl, arith, sym, ◌∙◌, ap, take-add, length-drop, suc, get_or, drop-cons}
+use Rattle.std.proofs.Common.{◌≡◌, ℕ, ◌+◌, ◌*◌, ◌%◌, ◌^◌, ◌≤◌, List, [], ◌∷◌, length, take, drop, refl, arith, sym, ◌∙◌, ap, take-add, length-drop}
 use Rattle.std.specs.List.{fold}
 use Rattle.std.proofs.lemmas.List.{length-take-le, take-append-drop}
 use Rattle.std.proofs.lemmas.Nat.{mul-mod_first}
@@ -31,29 +31,6 @@ eight_steps h (a ∷ b ∷ c ∷ d ∷ e ∷ f ∷ []) l = absurd (omega arith)
 eight_steps h (a ∷ b ∷ c ∷ d ∷ e ∷ f ∷ g ∷ []) l = absurd (omega arith)
 eight_steps h (a ∷ b ∷ c ∷ d ∷ e ∷ f ∷ g ∷ i ∷ []) l = omega arith
 eight_steps h (a ∷ b ∷ c ∷ d ∷ e ∷ f ∷ g ∷ i ∷ j ∷ w) l = absurd (omega arith)
-
--- the same by powers
-first_cell : (bytes : List ℕ) (at x : ℕ) → at < length bytes → x ≡ get_or bytes at 0 → drop at bytes ≡ x ∷ drop (at + 1) bytes
-first_cell bytes at x h e = drop-cons bytes at 0 h ∙ ap (λ y. y ∷ drop (suc at) bytes) (sym e) ∙ (let f : suc at ≡ at + 1 = omega arith in ap (λ n. x ∷ drop n bytes) f)
-
-cell : (bytes : List ℕ) (at k x : ℕ) → at + k < length bytes → x ≡ get_or bytes (at + k) 0 → drop (at + k) bytes ≡ x ∷ drop (at + suc k) bytes
-cell bytes at k x h e = drop-cons bytes (at + k) 0 h ∙ ap (λ y. y ∷ drop (suc (at + k)) bytes) (sym e) ∙ (let f : suc (at + k) ≡ at + suc k = omega arith in ap (λ n. x ∷ drop n bytes) f)
-
-pub eight_powers : (bytes : List ℕ) (at a b c d e f g i : ℕ) → at + 8 ≤ length bytes
-    → a ≡ get_or bytes at 0 → b ≡ get_or bytes (at + 1) 0 → c ≡ get_or bytes (at + 2) 0 → d ≡ get_or bytes (at + 3) 0
-    → e ≡ get_or bytes (at + 4) 0 → f ≡ get_or bytes (at + 5) 0 → g ≡ get_or bytes (at + 6) 0 → i ≡ get_or bytes (at + 7) 0
-    → a * 27512614111 + b * 887503681 + c * 28629151 + d * 923521 + e * 29791 + f * 961 + g * 31 + i ≡ fold times31 0 (take 8 (drop at bytes))
-eight_powers bytes at a b c d e f g i h p q r s t u v w =
-    let cells : drop at bytes ≡ a ∷ b ∷ c ∷ d ∷ e ∷ f ∷ g ∷ i ∷ drop (at + 8) bytes =
-    first_cell bytes at a (omega arith) p
-    ∙ ap (λ xs. a ∷ xs) (cell bytes at 1 b (omega arith) q
-    ∙ ap (λ xs. b ∷ xs) (cell bytes at 2 c (omega arith) r
-    ∙ ap (λ xs. c ∷ xs) (cell bytes at 3 d (omega arith) s
-    ∙ ap (λ xs. d ∷ xs) (cell bytes at 4 e (omega arith) t
-    ∙ ap (λ xs. e ∷ xs) (cell bytes at 5 f (omega arith) u
-    ∙ ap (λ xs. f ∷ xs) (cell bytes at 6 g (omega arith) v
-    ∙ ap (λ xs. g ∷ xs) (cell bytes at 7 i (omega arith) w))))))) in
-    rw cells (omega arith)
 
 -- eight bytes more
 pub eight_more : (bits from : ℕ) (bytes : List ℕ) (i hash product next v : ℕ) → 8 * i + 8 ≤ length bytes → hash ≡ poly31_from bits from (take (8 * i) bytes) → product ≡ (hash * 852891037441) % 2 ^ bits → v ≡ fold times31 0 (take 8 (drop (8 * i) bytes)) → next ≡ (product + v) % 2 ^ bits → next ≡ poly31_from bits from (take (8 * (i + 1)) bytes)

@@ -1,5 +1,5 @@
 -- Laws of frames in memory: their reading never answers that the input failed.
-use Rattle.std.proofs.Common.{◌≡◌, ◌≢◌, ℕ, ◌+◌, ◌-◌, ◌<◌, ◌≤◌, List, length, take, drop, arith, refl, sym, ap, subst, ◌∙◌, Bool, true, false, leb, ltb, nat_eq, slice_index, if◌then◌else◌, Result, Ok, Err, IfErr, length-append, length-drop}
+use Rattle.std.proofs.Common.{◌≡◌, ◌≢◌, ℕ, ◌+◌, ◌≤◌, List, length, take, drop, arith, refl, sym, ap, subst, ◌∙◌, Bool, true, false, leb, nat_eq, slice_index, if◌then◌else◌, Result, Ok, Err, IfErr, length-append}
 use Rattle.std.proofs.lemmas.Bool.{leb-true, le-ltb}
 use Rattle.sst_base.specs.BlockType.{block_type_of}
 use Rattle.sst_base.specs.Frame.{demand, block_of, has_length, frame_in}

@@ -202,9 +202,10 @@ fn decode_within(bytes: &[u8], bits: u32) -> Option<(u64, usize)>
     Some((n, len))
 }
 
-// Reads a varint of more than one byte.
+/// Decodes the varint at the front of `bytes`, as `decode_varint` does, where it mostly takes more
+/// than one byte.
 #[inline(always)]
-fn decode_long(bytes: &[u8], bits: u32) -> Option<(u64, usize)>
+pub fn decode_long(bytes: &[u8], bits: u32) -> Option<(u64, usize)>
     requires { IsWidth bits }
     ensures exact { result ≡ varint_at bits bytes.now }
     ensures length { IfSome result (λ found. found.1 ≤ length bytes.now) }

@@ -1,8 +1,12 @@
 //! Hash functions of byte strings.
 ghost use Rattle.std.specs.Prelude.{◌≡◌, ◌+◌, ◌<◌, ◌≤◌, ◌^◌, ◌++◌, ℕ, List, [], length, take, drop};
 ghost use Rattle.std.specs.Prelude.{fold};
+ghost use Rattle.byteorder.specs.Endian.{big_number};
+ghost use Rattle.sst_base.specs.Bytes.{IsBytes};
 ghost use Rattle.sst_base.specs.Hashes.{times31, poly31, poly31_from, byte_sum, byte_sum_from};
 ghost use Rattle.sst_base.specs.HashLaws.{poly31-below, byte_sum-below};
+
+use byteorder::{BigEndian, ByteOrder};
 
 /// The hash function of hash index and checksums, and a stream that hashes bytes as they come.
 pub trait BlockHash: Drop {
@@ -52,17 +56,25 @@ const BASE: u64 = 31;
 
 const BASE_2: u64 = 961;
 
-const BASE_3: u64 = 29791;
-
 const BASE_4: u64 = 923521;
 
-const BASE_5: u64 = 28629151;
-
-const BASE_6: u64 = 887503681;
-
-const BASE_7: u64 = 27512614111;
-
 const BASE_8: u64 = 852891037441;
+
+// Every other byte of a word, and every other pair of bytes.
+const BYTE_LANES: u64 = 0x00ff_00ff_00ff_00ff;
+
+const PAIR_LANES: u64 = 0x0000_ffff_0000_ffff;
+
+// The hash of the eight bytes of a big-endian word: of pairs, of fours, and of all, side by side.
+#[inline(always)]
+fn word_hash(word: u64) -> u64
+    ensures { (bytes : List ℕ) → IsBytes bytes → 8 ≤ length bytes → word ≡ big_number 8 bytes
+        → result ≡ fold times31 0 (take 8 bytes) }
+{
+    let pairs = ((word >> 8) & BYTE_LANES) * BASE + (word & BYTE_LANES);
+    let fours = ((pairs >> 16) & PAIR_LANES) * BASE_2 + (pairs & PAIR_LANES);
+    (fours >> 32) * BASE_4 + (fours & 0xffff_ffff)
+}
 
 // The hash of eight bytes alone.
 #[inline(always)]
@@ -70,14 +82,8 @@ fn eight_at(bytes: &[u8], at: usize) -> u64
     requires { at + 8 ≤ length bytes.now }
     ensures { result ≡ fold times31 0 (take 8 (drop at bytes.now)) }
 {
-    u64::from(bytes[at]) * BASE_7
-        + u64::from(bytes[at + 1]) * BASE_6
-        + u64::from(bytes[at + 2]) * BASE_5
-        + u64::from(bytes[at + 3]) * BASE_4
-        + u64::from(bytes[at + 4]) * BASE_3
-        + u64::from(bytes[at + 5]) * BASE_2
-        + u64::from(bytes[at + 6]) * BASE
-        + u64::from(bytes[at + 7])
+    let (_, rest) = bytes.split_at(at);
+    word_hash(BigEndian::read_u64(rest))
 }
 
 // Continues a hash of 64 bits, a byte a step.

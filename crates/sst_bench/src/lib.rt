@@ -6,6 +6,7 @@
 //! returned where the input is not one that the call takes or an allocation fails.
 #![tactic(auto)]
 
+pub mod check;
 pub mod data_block;
 pub mod entries;
 pub mod filter;

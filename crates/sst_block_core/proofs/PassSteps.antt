@@ -6,7 +6,7 @@ use Rattle.std.specs.Cmp.Lexicographic.{slice_cmp}
 use Rattle.std.specs.declared.cmp.Ordering.{Ordering}
 use Rattle.std.specs.declared.cmp.Ordering.TheVariants.{Less}
 use Rattle.std.proofs.lemmas.Bool.{cases_lt}
-use Rattle.std.proofs.lemmas.List.{length_push, take-append-le, take_all}
+use Rattle.std.proofs.lemmas.List.{length_push, take_all}
 use Rattle.std.proofs.lemmas.Nat.{div-add-mod'}
 use Rattle.std.proofs.Math.Nat.{mul-mod_left, mul-div_cancel_left}
 use Rattle.sst_base.specs.Bytes.{IsBytes}
@@ -103,30 +103,36 @@ module _ {X : Type 0} (kind : Kind X) (r : ℕ) (pos : 0 < r) (pointers : List �
       )
 
 module _ {X : Type 0} (kind : Kind X) (valid fits : X → Type 0) (laws : IsKind kind valid) (r : ℕ) (pos : 0 < r) (bytes pointers : List ℕ) (b : IsBytes bytes) where
-  -- a pass begins
-  pub pass_none : (base : List ℕ) → base ≡ [] → IsPassing kind fits r bytes pointers 0 0 base None true true true
-  pass_none base e = record {
-    items = [];
-    read = read_none kind r bytes base e;
-    last_is = refl;
-    judged = record { fit = ((λ _. tt), (λ _. refl)); ordered = ((λ _. tt), (λ _. refl)); indexed = ((λ _. λ j h. absurd (omega (arith, h))), (λ _. refl)) };
-  }
+  -- a pass begins; P is what is known of its items besides
+  pub pass_none : (P : List X → Type 0) (base : List ℕ) → base ≡ [] → P [] → (k : IsPassing kind fits r bytes pointers 0 0 base None true true true) × P k.items
+  pass_none P base e known = (
+    record {
+      items = [];
+      read = read_none kind r bytes base e;
+      last_is = refl;
+      judged = record { fit = ((λ _. tt), (λ _. refl)); ordered = ((λ _. tt), (λ _. refl)); indexed = ((λ _. λ j h. absurd (omega (arith, h))), (λ _. refl)) };
+    },
+    known,
+  )
 
   -- an item more
-  pub pass_more : (place phase offset : ℕ) (base : List ℕ) (last : Option X) (a o i s t u : Bool) (p : IsPassing kind fits r bytes pointers place offset base last a o i) (x : X) (place' offset' : ℕ) (base' : List ℕ)
+  pub pass_more : (P : List X → Type 0) (place phase offset : ℕ) (base : List ℕ) (last : Option X) (a o i s t u : Bool) (p : IsPassing kind fits r bytes pointers place offset base last a o i) (x : X) (place' offset' : ℕ) (base' : List ℕ)
       → phase ≡ place % r → IsRead kind r bytes (p.items ++ x ∷ []) place' offset' base' → IsTrue s ↔ fits x → IsTrue t ↔ IfSome last (λ l. item_cmp kind x l ≢ Less)
       → IsTrue u ↔ (phase ≡ 0 → get_or pointers (place / r) 0 ≡ offset)
-      → IsPassing kind fits r bytes pointers place' offset' base' (Some x) (a && s) (o && t) (i && u)
-  pass_more place phase offset base last a o i s t u p x place' offset' base' in_row read fit keeps here = record {
-    items = p.items ++ x ∷ [];
-    read = read;
-    last_is = sym (last_push p.items x);
-    judged = record {
-      fit = fit_push fits p.items x a s p.judged.fit fit;
-      ordered = order_push (item_cmp kind) p.items x last o t p.last_is p.judged.ordered keeps;
-      indexed = pointed_push kind r pos pointers p.items x place phase offset i u in_row p.read.count (read_offset kind r bytes p.items place offset base p.read valid laws pos b) p.judged.indexed here;
-    };
-  }
+      → P (p.items ++ x ∷ []) → (k : IsPassing kind fits r bytes pointers place' offset' base' (Some x) (a && s) (o && t) (i && u)) × P k.items
+  pass_more P place phase offset base last a o i s t u p x place' offset' base' in_row read fit keeps here known = (
+    record {
+      items = p.items ++ x ∷ [];
+      read = read;
+      last_is = sym (last_push p.items x);
+      judged = record {
+        fit = fit_push fits p.items x a s p.judged.fit fit;
+        ordered = order_push (item_cmp kind) p.items x last o t p.last_is p.judged.ordered keeps;
+        indexed = pointed_push kind r pos pointers p.items x place phase offset i u in_row p.read.count (read_offset kind r bytes p.items place offset base p.read valid laws pos b) p.judged.indexed here;
+      };
+    },
+    known,
+  )
 
 -- the order by what is kept of the last item is that of the items
 pub keeps_by : {X : Type 0} (kind : Kind X) (bytes : List ℕ) (last : Option KeyVersion) (y : Option X) (v : KeyVersion) (x : X) (t : Bool) → IsLast kind bytes last y → IsVersion kind bytes x v
@@ -154,3 +160,10 @@ not_filled kind r n bytes xs offset reads inside ne ys e =
     let s : drop offset bytes ≡ [] = some_parts xs ys (drop offset bytes) [] (sym reads ∙ e) in
     let l = ap length s in
     ne (omega (arith, l, length-drop offset bytes))
+
+-- what is read to the end is the whole
+pub read_whole : {X : Type 0} (kind : Kind X) (r n : ℕ) (bytes : List ℕ) (xs ys : List X) (rest : List ℕ) → items_at kind r 0 n [] bytes ≡ Some (xs, rest) → items_at kind r 0 n [] bytes ≡ Some (ys, []) → xs ≡ ys
+read_whole kind r n bytes xs ys rest e f =
+    let s : ◌≡◌ {A = Option (List _ × List ℕ)} (Some (xs, rest)) (Some (ys, [])) = sym e ∙ f in
+    let q : ◌≡◌ {A = List _ × List ℕ} (xs, rest) (ys, []) = cc in
+    (pair_parts xs ys rest [] q).0

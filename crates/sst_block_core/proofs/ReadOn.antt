@@ -1,6 +1,5 @@
 -- Reading a body an item at a time.
 use Rattle.std.proofs.Common.{◌≡◌, ℕ, zero, suc, ◌+◌, ◌%◌, ◌<◌, ◌≤◌, cond, eqb, true, false, List, [], ◌∷◌, ◌++◌, length, drop, Option, Some, None, refl, sym, ap, subst, ◌∙◌, arith, length-append, length-drop}
-use Rattle.std.specs.Option.{IsSome}
 use Rattle.std.proofs.lemmas.List.{length_push}
 use Rattle.std.proofs.lemmas.Bool.{eq-eqb, ne_eqb}
 use Rattle.sst_base.specs.Bytes.{IsBytes}
@@ -9,10 +8,6 @@ use Rattle.sst_block_core.specs.Kind.{Kind, IsKind}
 use Rattle.sst_block_core.specs.Body.{body, item_at, items_at}
 use Rattle.sst_block_core.specs.Passes.{base_behind, IsRead}
 use Rattle.sst_block_core.proofs.Forms.{body_takes}
-
-some_if_not_none : {A : Type 0} (o : Option A) → (o ≡ None → ⊥) → IsSome o
-some_if_not_none None f = absurd (f refl)
-some_if_not_none (Some x) f = refl
 
 some_same : {A : Type 0} (a b : A) → ◌≡◌ {A = Option A} (Some a) (Some b) → a ≡ b
 some_same a b e = cc
@@ -112,10 +107,6 @@ module _ {X : Type 0} (kind : Kind X) (r : ℕ) where
 
     stop : item_at kind r place base (drop offset bytes) ≡ None → (m : ℕ) → place < m → items_at kind r 0 m [] bytes ≡ None
     stop h = stop_from place 0 place [] bytes xs (drop offset bytes) at.reads (omega arith) (ap (λ b. item_at kind r place b (drop offset bytes)) (sym at.base_is) ∙ h)
-
-    -- a form stands where more items were read
-    pub form_next : (m : ℕ) (all : List X × List ℕ) → place < m → items_at kind r 0 m [] bytes ≡ Some all → IsSome (item_at kind r place base (drop offset bytes))
-    form_next m all more e = some_if_not_none (item_at kind r place base (drop offset bytes)) (λ n. let z = sym (stop n m more) ∙ e in cc (z))
 
     pub stop_head : place % r ≡ 0 → kind.full_at (drop offset bytes) ≡ None → (m : ℕ) → place < m → items_at kind r 0 m [] bytes ≡ None
     stop_head z h = stop (ap (λ t. cond t (kind.full_at (drop offset bytes)) (kind.truncated_at base (drop offset bytes))) (eq-eqb (place % r) 0 z) ∙ h)

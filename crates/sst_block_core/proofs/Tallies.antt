@@ -1,100 +1,148 @@
--- A pass over the buckets, one item more.
-use Rattle.std.proofs.Common.{◌≡◌, ℕ, ◌+◌, ◌*◌, ◌/◌, ◌%◌, ◌<◌, ◌≤◌, List, [], ◌∷◌, ◌++◌, length, drop, get_or, set, replicate, Option, Some, sym, ap, subst, ◌∙◌, arith, inl, inr, cond, eqb, true, false, length-set, length-drop}
+-- A pass that tallies buckets, one item more.
+use Rattle.std.proofs.Common.{◌≡◌, ℕ, zero, suc, ◌+◌, ◌-◌, ◌*◌, ◌/◌, ◌%◌, ◌<◌, ◌≤◌, List, [], ◌∷◌, ◌++◌, length, take, drop, get_or, set, replicate, refl, sym, ap, subst, ◌∙◌, arith, inl, inr, cond, eqb, true, false, length-set, length-drop}
 use Rattle.std.proofs.lemmas.Bool.{cases_eq, cases_lt, eq-eqb, ne_eqb}
 use Rattle.std.proofs.lemmas.Nat.{mod_below}
-use Rattle.std.proofs.Math.Nat.{div-mul-le_self}
-use Rattle.std.proofs.lemmas.List.{get_or-replicate, length-replicate, get_or-set_same, get_or-set_other, length-take-le}
-use Rattle.sst_base.specs.ReadingLaws.{pair_parts}
+use Rattle.std.proofs.Math.Nat.{div-eq_of_lt, mod-eq_of_lt}
+use Rattle.std.proofs.lemmas.List.{get_or-replicate, length-replicate, get_or-set_same, get_or-set_other, length-take-le, length_push}
+use Rattle.sst_base.specs.declared.table.util.SliceIndexes.{SliceIndexes}
+use Rattle.sst_base.specs.declared.error.Error.{Error}
+use Rattle.sst_base.specs.declared.error.Error.TheVariants.{BadEntry, BadHandle, OutOfOrder, BadIndex, BadHashIndex, Memory}
+use Rattle.sst_block_core.specs.Found.{range_of}
 use Rattle.sst_block_core.specs.Kind.{Kind}
-use Rattle.sst_block_core.specs.Body.{items_at}
 use Rattle.sst_block_core.specs.Trailer.{Trailer}
 use Rattle.sst_block_core.specs.Pointers.{head_count}
 use Rattle.sst_block_core.specs.Buckets.{bucket, bucket_byte_with}
 use Rattle.sst_block_core.specs.Stages.{HasParts, HasForms, HasBuckets, body_in, buckets_in, items_by}
-use Rattle.sst_block_core.specs.Passes.{IsRead, IsTallied}
+use Rattle.sst_block_core.specs.Passes.{TallyState, BeginsWith, IsTallied, HasTallied, IsItemsRefusal, IsRefusal}
 use Rattle.sst_block_core.proofs.BucketLaws.{bucket_push}
-use Rattle.sst_block_core.proofs.ReadOn.{read_none}
-use Rattle.sst_block_core.proofs.HeadPlaces.{head_below}
+use Rattle.sst_block_core.proofs.Openings.{length-items_at}
 use Rattle.sst_block_core.proofs.Tables.{each_alike, each_whole}
+use Rattle.sst_block_core.proofs.Written.{heads_behind, heads_before, heads_inside}
 
--- so many items have at most as many heads as more items
-pub few_so_far : (r n place : ℕ) → 0 < r → place < n → head_count r n ≤ 254 → head_count r (place + 1) ≤ 254
-few_so_far r n place pos h few =
-    let c = head_count r (place + 1) in
-    elim (cases_lt 254 c) [
-      | inl more ↦ (
-          let below : 254 * r < place + 1 = (head_below r (place + 1) 254 pos).0 more in
-          let k : 254 < head_count r n = (head_below r n 254 pos).1 (omega (arith, below, h)) in
-          absurd (omega (arith, k, few)))
-      | inr ok ↦ omega arith
+take_less : (n m : ℕ) (xs : List ℕ) → n ≤ m → take n (take m xs) ≡ take n xs
+take_less zero m xs h = refl
+take_less (suc n) zero xs h = absurd (omega arith)
+take_less (suc n) (suc m) [] h = refl
+take_less (suc n) (suc m) (x ∷ xs) h = ap (λ ys. x ∷ ys) (take_less n m xs (omega arith))
+
+-- a shorter front at the same place is left
+pub kept_front : (body joined : List ℕ) (old new : SliceIndexes) → BeginsWith body joined old → new.0 ≡ old.0 → new.1 ≤ old.1 → take (new.1 - new.0) joined ≡ range_of body new
+kept_front body joined old new begins same shorter =
+    let n = new.1 - new.0 in
+    let m = old.1 - old.0 in
+    sym (take_less n m joined (omega (arith, same, shorter))) ∙ ap (take n) begins ∙ take_less n m (drop old.0 body) (omega (arith, same, shorter))
+    ∙ ap (λ k. take n (drop k body)) (sym same)
+
+-- the number of heads with one item more, by that before
+heads_next : (r place heads more phase : ℕ) → 0 < r → heads ≡ head_count r place → head_count r (place + 1) ≤ 254 → phase ≡ place % r → (phase ≡ 0 → more ≡ (heads + 1) % 256) → (0 < phase → more ≡ heads)
+    → more ≡ place / r + 1
+heads_next r place heads more phase pos e few p head rest =
+    let b = heads_behind place r pos in
+    elim (cases_lt 0 (place % r)) [
+      | inl some ↦ (let i = heads_inside place r pos some in let k = rest (omega (arith, p, some)) in omega (arith, i, k, e))
+      | inr none ↦ (
+          let i = heads_before place r pos (omega (arith, none)) in
+          let k = head (omega (arith, p, none)) in
+          let small : (heads + 1) % 256 ≡ heads + 1 = mod-eq_of_lt (omega (arith, e, i, b, few)) in
+          omega (arith, i, k, e, small))
     ]
 
-pub interval_fits : (r n place : ℕ) → 0 < r → place < n → head_count r n ≤ 254 → place / r < 254
-interval_fits r n place pos h few =
-    let d = div-mul-le_self place r in
-    let k : place / r < head_count r n = (head_below r n (place / r) pos).1 (omega (arith, d, h)) in
-    omega (arith, k, few)
+-- fewer items have no more heads
+few_before : (r place : ℕ) → 0 < r → head_count r (place + 1) ≤ 254 → head_count r place ≤ 254
+few_before r place pos few =
+    let b = heads_behind place r pos in
+    elim (cases_lt 0 (place % r)) [
+      | inl some ↦ (let i = heads_inside place r pos some in omega (arith, i, b, few))
+      | inr none ↦ (let i = heads_before place r pos (omega (arith, none)) in omega (arith, i, b, few))
+    ]
 
-module _ {X : Type 0} (kind : Kind X) (hash : List ℕ → ℕ) (r b : ℕ) (pos : 0 < r) (bytes : List ℕ) where
-  pub tally_none : (base table : List ℕ) → base ≡ [] → table ≡ replicate b 254 → IsTallied kind hash r b bytes 0 0 base table
-  tally_none base table e f = record {
-    items = [];
-    read = read_none kind r bytes base e;
-    count = ap length f ∙ length-replicate b 254;
-    buckets = λ q h. ap (λ t. get_or t q 0) f ∙ get_or-replicate b q 254 0 h;
-  }
+module _ {X : Type 0} (kind : Kind X) (hash : List ℕ → ℕ) (r b : ℕ) (pos : 0 < r) where
+  pub tally_none : (body : List ℕ) (tally : TallyState) → tally ≡ record { table = replicate b 254; heads = 0; has_memory = true; joined = []; front = record { 0 = 0; 1 = 0 } } → HasTallied kind hash r b body tally []
+  tally_none body tally e = λ memory. (
+    (λ i. take ((e i).front.1 - (e i).front.0) (e i).joined) ∙ sym (λ i. range_of body (e i).front),
+    λ few. record {
+      count = ap (λ t. length t.table) e ∙ length-replicate b 254;
+      heads_is = ap (λ t. t.heads) e ∙ sym (div-eq_of_lt (omega arith));
+      buckets = λ q h. ap (λ t. get_or t.table q 0) e ∙ get_or-replicate b q 254 0 h;
+    },
+  )
 
-  pub tally_more : (place offset : ℕ) (base table : List ℕ) (p : IsTallied kind hash r b bytes place offset base table) (x : X) (place' offset' : ℕ) (base' : List ℕ) (key more : List ℕ) (n : ℕ)
-      → 0 < b → head_count r (place + 1) ≤ 254 → IsRead kind r bytes (p.items ++ x ∷ []) place' offset' base' → key ≡ kind.key x → n ≡ place / r
-      → more ≡ set table (hash key % length table) (bucket_byte_with (get_or table (hash key % length table) 0) n) → IsTallied kind hash r b bytes place' offset' base' more
-  tally_more place offset base table p x place' offset' base' key more n some few read key_is n_is more_is =
+  tally_more : (table : List ℕ) (heads : ℕ) (xs : List X) (p : IsTallied kind hash r b table heads xs) (x : X) (phase heads' n : ℕ) (key more : List ℕ)
+      → 0 < length table → head_count r (length xs + 1) ≤ 254 → phase ≡ length xs % r → (phase ≡ 0 → heads' ≡ (heads + 1) % 256) → (0 < phase → heads' ≡ heads)
+      → (0 < heads' → n + 1 ≡ heads') → kind.key x ≡ key
+      → more ≡ set table (hash key % length table) (bucket_byte_with (get_or table (hash key % length table) 0) n) → IsTallied kind hash r b more heads' (xs ++ x ∷ [])
+  tally_more table heads xs p x phase heads' n key more some few in_row head rest number key_is more_is =
+      let place = length xs in
+      let h : heads' ≡ place / r + 1 = heads_next r place heads heads' phase pos p.heads_is few in_row head rest in
+      let n_is : n ≡ place / r = let k = number (omega (arith, h)) in omega (arith, k, h) in
       let q = hash (kind.key x) % b in
       let byte = bucket_byte_with (get_or table q 0) (place / r) in
-      let inside : q < b = mod_below (hash (kind.key x)) b some in
+      let count = p.count in
+      let same_key : key ≡ kind.key x = sym key_is in
+      let inside : q < b = mod_below (hash (kind.key x)) b (omega (arith, some, count)) in
       let there : more ≡ set table q byte =
-      more_is ∙ (λ i. set table (hash (key_is i) % p.count i) (bucket_byte_with (get_or table (hash (key_is i) % p.count i) 0) (n_is i))) in
+      more_is ∙ (λ i. set table (hash (same_key i) % p.count i) (bucket_byte_with (get_or table (hash (same_key i) % p.count i) 0) (n_is i))) in
       record {
-        items = p.items ++ x ∷ [];
-        read = read;
         count = ap length there ∙ length-set table q byte ∙ p.count;
+        heads_is = h ∙ sym (heads_behind place r pos) ∙ ap (head_count r) (sym (length_push xs x));
         buckets = λ j below.
-            let m = p.read.count in
-            let push = bucket_push kind hash r b j pos p.items x (subst (λ k. head_count r (k + 1) ≤ 254) m few) in
+            let push = bucket_push kind hash r b j pos xs x few in
             ap (λ t. get_or t j 0) there ∙ (elim (cases_eq j q) [
               | inl same ↦ (
                   let e : eqb q j ≡ true = eq-eqb _ _ (sym same) in
-                  let had : get_or table q 0 ≡ bucket kind hash r p.items b j = ap (λ k. get_or table k 0) (sym same) ∙ p.buckets j below in
-                  ap (λ k. get_or (set table q byte) k 0) same ∙ get_or-set_same table q byte 0 (let c = p.count in omega arith)
-                  ∙ (λ i. bucket_byte_with (had i) (m i / r))
-                  ∙ ap (λ t. cond t (bucket_byte_with (bucket kind hash r p.items b j) (length p.items / r)) (bucket kind hash r p.items b j)) (sym e) ∙ sym push)
+                  let had : get_or table q 0 ≡ bucket kind hash r xs b j = ap (λ k. get_or table k 0) (sym same) ∙ p.buckets j below in
+                  ap (λ k. get_or (set table q byte) k 0) same ∙ get_or-set_same table q byte 0 (omega (arith, inside, count))
+                  ∙ ap (λ k. bucket_byte_with k (place / r)) had
+                  ∙ ap (λ t. cond t (bucket_byte_with (bucket kind hash r xs b j) (place / r)) (bucket kind hash r xs b j)) (sym e) ∙ sym push)
               | inr other ↦ (
                   let e : eqb q j ≡ false = ne_eqb _ _ (λ k. other (sym k)) in
                   get_or-set_other table q j byte 0 other ∙ p.buckets j below
-                  ∙ ap (λ t. cond t (bucket_byte_with (bucket kind hash r p.items b j) (length p.items / r)) (bucket kind hash r p.items b j)) (sym e) ∙ sym push)
+                  ∙ ap (λ t. cond t (bucket_byte_with (bucket kind hash r xs b j) (place / r)) (bucket kind hash r xs b j)) (sym e) ∙ sym push)
             ]);
       }
 
-items_same : {X : Type 0} (kind : Kind X) (t : Trailer) (p : List ℕ) (xs : List X) (rest : List ℕ) → HasForms kind t p → items_at kind t.interval 0 t.item_count [] (body_in t p) ≡ Some (xs, rest) → xs ≡ items_by kind t p
-items_same kind t p xs rest forms e =
-    let s : ◌≡◌ {A = Option (List _ × List ℕ)} (Some (xs, rest)) (Some (items_by kind t p, [])) = sym e ∙ forms in
-    let q : ◌≡◌ {A = List _ × List ℕ} (xs, rest) (items_by kind t p, []) = cc in
-    (pair_parts xs (items_by kind t p) rest [] q).0
+  module _ (body : List ℕ) (old new : TallyState) (xs : List X) (x : X) where
+    -- a key more, where memory was there for it
+    pub tally_push : (phase n h : ℕ) (key : List ℕ) → HasTallied kind hash r b body old xs → 0 < length old.table → phase ≡ length xs % r → (phase ≡ 0 → new.heads ≡ (old.heads + 1) % 256) → (0 < phase → new.heads ≡ old.heads)
+        → (0 < new.heads → n + 1 ≡ new.heads) → kind.key x ≡ key → new.has_memory ≡ old.has_memory
+        → (BeginsWith body old.joined old.front → h ≡ hash key) → (BeginsWith body old.joined old.front → BeginsWith body new.joined new.front)
+        → new.table ≡ set old.table (h % length old.table) (bucket_byte_with (get_or old.table (h % length old.table) 0) n) → HasTallied kind hash r b body new (xs ++ x ∷ [])
+    tally_push phase n h key taken some in_row head rest number key_is memory_is hash_is begins table_is = λ memory.
+        let before = taken (sym memory_is ∙ memory) in (
+          begins before.0,
+          λ many.
+              let few : head_count r (length xs + 1) ≤ 254 = subst (λ k. head_count r k ≤ 254) (length_push xs x) many in
+              let same = hash_is before.0 in
+              tally_more old.table old.heads xs (before.1 (few_before r (length xs) pos few)) x phase new.heads n key new.table some few in_row head rest number key_is
+              (table_is ∙ (λ i. set old.table (same i % length old.table) (bucket_byte_with (get_or old.table (same i % length old.table) 0) n))),
+        )
 
-module _ {X : Type 0} (kind : Kind X) (hash : List ℕ → ℕ) (t : Trailer) (p : List ℕ) (forms : HasForms kind t p) (offset : ℕ) (base table : List ℕ)
-    (k : IsTallied kind hash t.interval t.hash_len (body_in t p) t.item_count offset base table) where
-  same_buckets : (q : ℕ) → bucket kind hash t.interval k.items t.hash_len q ≡ bucket kind hash t.interval (items_by kind t p) t.hash_len q
-  same_buckets q = ap (λ xs. bucket kind hash t.interval xs t.hash_len q) (items_same kind t p k.items _ forms k.read.reads)
+module _ {X : Type 0} (kind : Kind X) (hash : List ℕ → ℕ) (t : Trailer) (p : List ℕ) (parts : HasParts t p) (some : 0 < t.hash_len) (forms : HasForms kind t p) (tally : TallyState)
+    (taken : HasTallied kind hash t.interval t.hash_len (body_in t p) tally (items_by kind t p)) (memory : tally.has_memory ≡ true) where
+  tallied : IsTallied kind hash t.interval t.hash_len tally.table tally.heads (items_by kind t p)
+  tallied =
+      let l = ap (head_count t.interval) (length-items_at kind t.interval 0 t.item_count [] (body_in t p) (items_by kind t p) [] forms) in
+      let f = parts.few_heads some in
+      let h = parts.heads in
+      (taken memory).1 (omega (arith, l, f, h))
 
-  pub buckets_to : length (buckets_in t p) ≡ t.hash_len → HasBuckets kind hash t p → table ≡ buckets_in t p
-  buckets_to l h = sym (each_whole table t.hash_len k.count)
-      ∙ each_alike (λ q. get_or table q 0) (λ q. get_or (buckets_in t p) q 0) t.hash_len (λ q below. k.buckets q below ∙ same_buckets q ∙ sym (h q below))
-      ∙ each_whole (buckets_in t p) t.hash_len l
+  buckets_length : length (buckets_in t p) ≡ t.hash_len
+  buckets_length = let e = parts.end in length-take-le t.hash_len (drop (t.index_offset + t.heads * t.width) p) (omega (arith, e, length-drop (t.index_offset + t.heads * t.width) p))
 
--- what a pass over the buckets knows at its end, of parts of a payload
-pub tallied_in : {X : Type 0} (kind : Kind X) (hash : List ℕ → ℕ) (t : Trailer) (p bytes : List ℕ) (place offset : ℕ) (base table : List ℕ) → IsTallied kind hash t.interval t.hash_len bytes place offset base table
-    → bytes ≡ body_in t p → place ≡ t.item_count → IsTallied kind hash t.interval t.hash_len (body_in t p) t.item_count offset base table
-tallied_in kind hash t p bytes place offset base table k e f =
-    subst (λ n. IsTallied kind hash t.interval t.hash_len (body_in t p) n offset base table) f (subst (λ b. IsTallied kind hash t.interval t.hash_len b place offset base table) e k)
+  pub buckets_to : HasBuckets kind hash t p → tally.table ≡ buckets_in t p
+  buckets_to h = sym (each_whole tally.table t.hash_len tallied.count)
+      ∙ each_alike (λ q. get_or tally.table q 0) (λ q. get_or (buckets_in t p) q 0) t.hash_len (λ q below. tallied.buckets q below ∙ sym (h q below))
+      ∙ each_whole (buckets_in t p) t.hash_len buckets_length
 
-pub buckets_length : (t : Trailer) (p : List ℕ) → HasParts t p → length (buckets_in t p) ≡ t.hash_len
-buckets_length t p parts = let e = parts.end in length-take-le t.hash_len (drop (t.index_offset + t.heads * t.width) p) (omega (arith, e, length-drop (t.index_offset + t.heads * t.width) p))
+  pub buckets_from : tally.table ≡ buckets_in t p → HasBuckets kind hash t p
+  buckets_from e q below = ap (λ xs. get_or xs q 0) (sym e) ∙ tallied.buckets q below
+
+-- what the items are refused for, the whole is
+pub items_refused : {X : Type 0} (kind : Kind X) (fits : X → Type 0) (hash : List ℕ → ℕ) (t : Trailer) (p : List ℕ) (e : Error) → IsItemsRefusal kind fits t p e → IsRefusal kind fits hash t p e
+items_refused kind fits hash t p BadHashIndex h = absurd h
+items_refused kind fits hash t p Memory h = absurd h
+items_refused kind fits hash t p BadEntry h = h
+items_refused kind fits hash t p BadHandle h = h
+items_refused kind fits hash t p OutOfOrder h = h
+items_refused kind fits hash t p BadIndex h = h
+items_refused kind fits hash t p _ h = absurd h

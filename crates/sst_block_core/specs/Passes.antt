@@ -1,5 +1,5 @@
 -- What a pass over a body has read so far, and what it found of it.
-use Rattle.std.specs.Prelude.{◌≡◌, ◌↔◌, ℕ, ◌+◌, ◌*◌, ◌%◌, ◌==◌, ◌<◌, ◌≤◌, if◌then◌else◌, Bool, IsTrue, List, [], ◌∷◌, length, drop, slice_index, Option, Some, None}
+use Rattle.std.specs.Prelude.{◌≡◌, ◌↔◌, ℕ, ◌+◌, ◌-◌, ◌*◌, ◌%◌, ◌==◌, ◌<◌, ◌≤◌, if◌then◌else◌, Bool, true, IsTrue, List, [], ◌∷◌, length, take, drop, slice_index, Option, Some, None}
 use Rattle.std.specs.List.{AllByRecursion}
 use Rattle.sst_base.specs.declared.error.Error.{Error}
 use Rattle.sst_base.specs.declared.error.Error.TheVariants.{Truncated, BadTrailer, BadEntry, BadHandle, OutOfOrder, BadIndex, BadHashIndex, Memory}
@@ -7,6 +7,9 @@ use Rattle.sst_block_core.specs.Kind.{Kind, IsOrdered}
 use Rattle.sst_block_core.specs.Body.{items_at, place_offset}
 use Rattle.sst_block_core.specs.Trailer.{Trailer}
 use Rattle.sst_block_core.specs.Buckets.{bucket}
+use Rattle.sst_block_core.specs.Pointers.{head_count}
+use Rattle.sst_block_core.specs.Found.{range_of}
+use Rattle.sst_base.specs.declared.table.util.SliceIndexes.{SliceIndexes}
 use Rattle.sst_block_core.specs.Stages.{items_by, HasTrailer, HasParts, HasForms, HasOrder, HasPointers, HasBuckets}
 use Rattle.sst_block_core.specs.declared.table.block.trailer.TrailerNumbers.{TrailerNumbers}
 
@@ -70,12 +73,29 @@ pub record IsFound {X : Type 0} (kind : Kind X) (fits : X → Type 0) (t : Trail
   pub ordered : IsTrue is_ordered ↔ HasOrder kind t p
   pub indexed : IsTrue is_indexed ↔ HasPointers kind t p
 
--- a pass over the buckets knows the items that it has read so far, and has their bucket bytes
-pub record IsTallied {X : Type 0} (kind : Kind X) (hash : List ℕ → ℕ) (r b : ℕ) (body : List ℕ) (place offset : ℕ) (base : List ℕ) (table : List ℕ) : Type 0 where
-  pub items : List X
-  pub read : IsRead kind r body items place offset base
+-- a tally: the bytes of its buckets, the number of heads modulo 2 ^ 8, whether all memory that it asked for was there, and a
+-- key that it joined, with the range of its front
+pub record TallyState : Type 0 where
+  pub table : List ℕ
+  pub heads : ℕ
+  pub has_memory : Bool
+  pub joined : List ℕ
+  pub front : SliceIndexes
+
+-- the front of a joined key is that range of a body
+abbrev pub BeginsWith : List ℕ → List ℕ → SliceIndexes → Type 0
+BeginsWith body joined front = take (front.1 - front.0) joined ≡ range_of body front
+
+-- the bytes of b buckets are those of these items, which have so many heads
+pub record IsTallied {X : Type 0} (kind : Kind X) (hash : List ℕ → ℕ) (r b : ℕ) (table : List ℕ) (heads : ℕ) (items : List X) : Type 0 where
   pub count : length table ≡ b
+  pub heads_is : heads ≡ head_count r (length items)
   pub buckets : (q : ℕ) → q < b → slice_index table q ≡ bucket kind hash r items b q
+
+-- a tally took the keys of these items of a body: where memory was there and they have at most 254 heads, it has their buckets
+abbrev pub HasTallied : {X : Type 0} → Kind X → (List ℕ → ℕ) → ℕ → ℕ → List ℕ → TallyState → List X → Type 0
+HasTallied kind hash r b body tally items = tally.has_memory ≡ true → BeginsWith body tally.joined tally.front
+    × (head_count r (length items) ≤ 254 → IsTallied kind hash r b tally.table tally.heads items)
 
 -- why the numbers of a trailer are refused: which of the first two stages fails first
 abbrev pub IsPartsRefusal : Trailer → List ℕ → Error → Type 0
@@ -91,8 +111,9 @@ IsItemsRefusal kind fits t p OutOfOrder = HasForms kind t p × AllByRecursion fi
 IsItemsRefusal kind fits t p BadIndex = HasForms kind t p × AllByRecursion fits (items_by kind t p) × HasOrder kind t p × (HasPointers kind t p → ⊥)
 IsItemsRefusal kind fits t p _ = ⊥
 
--- why a pass over the buckets refuses a payload whose first three stages hold
-abbrev pub IsBucketsRefusal : {X : Type 0} → Kind X → (List ℕ → ℕ) → Trailer → List ℕ → Error → Type 0
-IsBucketsRefusal kind hash t p BadHashIndex = HasBuckets kind hash t p → ⊥
-IsBucketsRefusal kind hash t p Memory = 0 < t.hash_len
-IsBucketsRefusal kind hash t p _ = ⊥
+-- the same with the stored buckets
+abbrev pub IsRefusal : {X : Type 0} → Kind X → (X → Type 0) → (List ℕ → ℕ) → Trailer → List ℕ → Error → Type 0
+IsRefusal kind fits hash t p BadHashIndex =
+    HasForms kind t p × AllByRecursion fits (items_by kind t p) × HasOrder kind t p × HasPointers kind t p × (HasBuckets kind hash t p → ⊥)
+IsRefusal kind fits hash t p Memory = 0 < t.hash_len
+IsRefusal kind fits hash t p e = IsItemsRefusal kind fits t p e

@@ -12,7 +12,7 @@ use Rattle.sst_block_core.specs.Entries.{entries}
 use Rattle.sst_block_core.specs.EntryLaws.{IsKind-entries}
 use Rattle.sst_block_kinds.specs.Handles.{EndFits, handles, HasIndexParts, IndexPasses, IsIndexBlock}
 use Rattle.sst_block_kinds.specs.Checks.{data_check, index_check}
-use Rattle.sst_block_core.specs.Passes.{IsPartsRefusal, IsItemsRefusal, IsBucketsRefusal}
+use Rattle.sst_block_core.specs.Passes.{IsPartsRefusal, IsItemsRefusal, IsRefusal}
 use Rattle.sst_block_core.proofs.Canonical.{block_from}
 use Rattle.sst_block_kinds.proofs.IndexBlocks.{index_block_from}
 use Rattle.sst_block_kinds.proofs.CheckAnswers.{data_is, index_is}
@@ -37,21 +37,17 @@ module _ (hash64 : List ℕ → ℕ) (p : List ℕ) where
   data_parts _ h = absurd h
 
   module _ (a : HasTrailer p) (b : HasParts (trailer_in p) p) where
-    pub data_items : (e : Error) → IsItemsRefusal entries Any (trailer_in p) p e → data_check hash64 p ≡ Err e
-    data_items BadEntry h = data_is hash64 p (Err BadEntry) (a, b, h)
-    data_items BadHandle h = absurd (h.1 (all_any (items_by entries (trailer_in p) p)))
-    data_items OutOfOrder h = data_is hash64 p (Err OutOfOrder) (a, b, h.0, h.2)
-    data_items BadIndex h = data_is hash64 p (Err BadIndex) (a, b, h.0, h.2, h.3)
-    data_items _ h = absurd h
+    pub data_refused : (e : Error) → IsRefusal entries Any hash64 (trailer_in p) p e → e ≢ Memory → data_check hash64 p ≡ Err e
+    data_refused BadEntry h other = data_is hash64 p (Err BadEntry) (a, b, h)
+    data_refused BadHandle h other = absurd (h.1 (all_any (items_by entries (trailer_in p) p)))
+    data_refused OutOfOrder h other = data_is hash64 p (Err OutOfOrder) (a, b, h.0, h.2)
+    data_refused BadIndex h other = data_is hash64 p (Err BadIndex) (a, b, h.0, h.2, h.3)
+    data_refused BadHashIndex h other = data_is hash64 p (Err BadHashIndex) (a, b, h.0, h.2, h.3, h.4)
+    data_refused Memory h other = absurd (other refl)
+    data_refused _ h other = absurd h
 
-    module _ (c : HasForms entries (trailer_in p) p) (d : HasOrder entries (trailer_in p) p) (f : HasPointers entries (trailer_in p) p) where
-      pub data_buckets : (e : Error) → IsBucketsRefusal entries hash64 (trailer_in p) p e → e ≢ Memory → data_check hash64 p ≡ Err e
-      data_buckets BadHashIndex h other = data_is hash64 p (Err BadHashIndex) (a, b, c, d, f, h)
-      data_buckets Memory h other = absurd (other refl)
-      data_buckets _ h other = absurd h
-
-      pub data_passes : HasBuckets entries hash64 (trailer_in p) p → Passes entries hash64 p
-      data_passes g = record { encoded = record { trailer = a; parts = b; forms = c; pointers = f; buckets = g }; order = d }
+    pub data_passes : HasForms entries (trailer_in p) p → HasOrder entries (trailer_in p) p → HasPointers entries (trailer_in p) p → HasBuckets entries hash64 (trailer_in p) p → Passes entries hash64 p
+    data_passes c d f g = record { encoded = record { trailer = a; parts = b; forms = c; pointers = f; buckets = g }; order = d }
 
   pub data_passed : Passes entries hash64 p → data_check hash64 p ≡ Ok (items_in entries p)
   data_passed h = data_is hash64 p (Ok (items_in entries p)) (h, refl)

@@ -7,16 +7,15 @@ ghost use Rattle.sst_block_core.specs.Payload.{IsBlock};
 ghost use Rattle.sst_block_core.specs.Stages.{items_in};
 ghost use Rattle.sst_block_core.specs.Trailer.{trailer_in};
 
-use crate::table::data_block::decoding::{entry_prefix_from, truncated_form_from};
+use crate::table::data_block::decoding::{entry_prefix_within, truncated_form_from};
 use crate::table::data_block::parsed_item::DataBlockParsedItem;
 use sst_base::table::block::Block;
 use sst_base::table::util::SliceIndexes;
 use sst_base::{BlockHash, Error, InternalValue, Result};
 use sst_block_core::table::block::check::Checkable;
-use sst_block_core::table::block::check::buckets::check_buckets;
+use sst_block_core::table::block::check::buckets::check_items_and_buckets;
 use sst_block_core::table::block::check::keys::KeyRanges;
 use sst_block_core::table::block::check::parts::parts_of;
-use sst_block_core::table::block::check::pass::check_items;
 use sst_block_core::table::block::check::truncation::is_greatest;
 use sst_block_core::table::block::key_ranges::bytes_of;
 use std::alloc::Global;
@@ -54,7 +53,7 @@ impl Checkable<DataBlockParsedItem> for InternalValue {
             return None;
         }
         let rest = form.key.1 - form.key.0;
-        let prefix = entry_prefix_from(payload, base.0, form.shared, rest)?;
+        let prefix = entry_prefix_within(payload, base, form.shared, rest)?;
         let item = DataBlockParsedItem {
             value_type: form.value_type,
             seqno: form.seqno,
@@ -81,7 +80,6 @@ pub(super) fn check_block<H: BlockHash>(alloc: Global, block: &Block) -> Result<
 {
     let numbers = parts_of(block)?;
     let payload = block.data().as_slice();
-    check_items::<InternalValue, DataBlockParsedItem>(payload, &numbers)?;
-    check_buckets::<InternalValue, DataBlockParsedItem, H>(alloc, payload, &numbers)?;
+    check_items_and_buckets::<InternalValue, DataBlockParsedItem, H>(alloc, payload, &numbers)?;
     Ok(())
 }

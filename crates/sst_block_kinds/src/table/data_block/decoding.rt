@@ -10,8 +10,8 @@ use sst_base::{InternalValue, Steps, ValueType};
 use sst_block_core::table::block::Decodable;
 use sst_block_core::table::block::key_ranges::bytes_of;
 use sst_block_core::table::block::reading::{
-    length_prefixed_from, number_from, prefix_from, read_length_prefixed, read_number,
-    read_value_type, value_type_from,
+    length_prefixed_from, number_from, prefix_from, prefix_within, read_length_prefixed,
+    read_number, read_value_type, value_type_from,
 };
 
 // The range of a value at an offset, which a tombstone has not, and where it ends.
@@ -89,6 +89,26 @@ pub(super) fn entry_prefix_from(
         return None;
     }
     prefix_from(payload, base, shared, rest)
+}
+
+// The same for a length that the head's key has.
+#[inline(always)]
+pub(super) fn entry_prefix_within(
+    payload: &[u8],
+    base: &SliceIndexes,
+    shared: u64,
+    rest: usize,
+) -> Option<SliceIndexes>
+    requires base { IsRange payload.now base.now }
+    requires inside { shared ≤ base.now.1 - base.now.0 }
+    ensures found { IfSome result (λ p. (p ≡ record { 0 = base.now.0; 1 = base.now.0 + shared }) × IsRange payload.now p
+        × IsKeyLength (shared + rest)) }
+    ensures none { IfNone result (base.now.0 + shared ≤ length payload.now → IsKeyLength (shared + rest) → ⊥) }
+{
+    if shared == 0 && rest == 0 {
+        return None;
+    }
+    prefix_within(payload, base, shared, rest)
 }
 
 // The range of the value that stands at an offset, which a tombstone has not, and where it ends.

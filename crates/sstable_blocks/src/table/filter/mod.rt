@@ -1,7 +1,6 @@
 //! Bloom filters: whether a key may be there, answered from a few bits for each key.
 pub mod bit_array;
 pub mod block;
-mod divisor;
 pub mod filter_type;
 pub mod policy;
 pub mod standard_bloom;

@@ -1,95 +1,50 @@
-//! The check of the hash index: a second pass over the items.
-ghost use Rattle.std.specs.Prelude.{◌≡◌, ◌+◌, ◌%◌, ◌<◌, ◌≤◌, ◌++◌, length, slice_index, slice_set};
-ghost use Rattle.std.specs.Prelude.{IsTrue, ◌↔◌, OnOk, IfErr, IsOkUnless};
-ghost use Rattle.sst_block_core.specs.Buckets.{bucket_byte_with};
-ghost use Rattle.sst_block_core.specs.KeyRanges.{key_by, IsKeyRanges};
-ghost use Rattle.sst_block_core.specs.Passes.{trailer_by, IsBucketsRefusal};
-ghost use Rattle.sst_block_core.specs.Stages.{HasParts, HasForms, HasBuckets};
+//! The check of the items of a payload and of its hash index, in one pass.
+ghost use Rattle.std.specs.Prelude.{OnOk, IfErr};
+ghost use Rattle.std.specs.List.{AllByRecursion};
+ghost use Rattle.sst_block_core.specs.Passes.{trailer_by, IsRefusal};
+ghost use Rattle.sst_block_core.specs.Stages.{HasParts, HasForms, HasOrder, HasPointers, HasBuckets, items_by};
 
 use crate::table::block::ParsedItem;
 use crate::table::block::check::Checkable;
-use crate::table::block::check::keys::KeyRanges;
-use crate::table::block::check::spot::{Spot, read_at};
-use crate::table::block::hash_index::Builder;
-use crate::table::block::key_ranges::bytes_of;
+use crate::table::block::check::pass::{check_items, check_items_with};
+use crate::table::block::check::tally::Tally;
 use crate::table::block::trailer::TrailerNumbers;
 use sst_base::{BlockHash, Error, Result};
 use std::alloc::Global;
 
-// Notes in the buckets that a key stands in the restart interval with this number. A key without a
-// front is hashed where it stands; others are joined in `scratch`.
-#[inline(always)]
-fn note_key<H: BlockHash>(
-    buckets: &mut Builder<H>,
-    scratch: &mut Vec<u8>,
-    body: &[u8],
-    key: &KeyRanges,
-    interval_number: u8,
-) -> Result<()>
-    requires some { 0 < length buckets.old }
-    requires number { interval_number ≤ 253 }
-    requires key { IsKeyRanges body.now key.now }
-    ensures ok { OnOk result (buckets.new ≡ slice_set buckets.old (H.hash64 (key_by body.now key.now) % length buckets.old)
-        (bucket_byte_with (slice_index buckets.old (H.hash64 (key_by body.now key.now) % length buckets.old)) interval_number)) }
-    ensures memory { IsOkUnless result Error.Memory }
-{
-    let front = bytes_of(body, &key.front);
-    let rest = bytes_of(body, &key.rest);
-    if front.is_empty() {
-        buckets.set(rest, interval_number);
-        return Ok(());
-    }
-    scratch.clear();
-    scratch.extend_from_slice(front)?;
-    scratch.extend_from_slice(rest)?;
-    buckets.set(scratch.as_slice(), interval_number);
-    Ok(())
-}
-
-// Returns whether two byte strings are the same.
-#[inline(always)]
-fn is_same(a: &[u8], b: &[u8]) -> bool
-    ensures { IsTrue result ↔ (a.now ≡ b.now) }
-{
-    a == b
-}
-
-/// Checks the buckets of a payload, whose trailer fits it and whose body is forms: makes them anew.
-/// Takes memory for the buckets, and for the longest truncated key.
+/// Checks the items of a payload, whose trailer fits it, their pointers, and the buckets, in one
+/// pass. Takes memory for the buckets, and for the longest truncated key.
 ///
 /// # Errors
 ///
-/// `Error::BadHashIndex` if a bucket is not that of the items. `Error::Memory` if an allocation
-/// fails; never where no buckets are stored.
-pub fn check_buckets<Item: Checkable<Parsed>, Parsed: ParsedItem<Item> + Drop, H: BlockHash>(
-    alloc: Global,
-    payload: &[u8],
-    t: &TrailerNumbers,
-) -> Result<()>
-    requires parts { HasParts (trailer_by t.now) payload.now }
-    requires forms { HasForms Item.kind (trailer_by t.now) payload.now }
+/// Those of [`check_items`], and then `Error::BadHashIndex` if a bucket is not that of the items: the
+/// first of these that holds. `Error::Memory` if an allocation fails; never where no buckets are
+/// stored.
+pub fn check_items_and_buckets<
+    Item: Checkable<Parsed>,
+    Parsed: ParsedItem<Item> + Drop,
+    H: BlockHash,
+>(alloc: Global, payload: &[u8], t: &TrailerNumbers) -> Result<()>
+    requires { HasParts (trailer_by t.now) payload.now }
+    ensures forms { OnOk result (HasForms Item.kind (trailer_by t.now) payload.now) }
+    ensures fit { OnOk result (AllByRecursion Item.fits (items_by Item.kind (trailer_by t.now) payload.now)) }
+    ensures order { OnOk result (HasOrder Item.kind (trailer_by t.now) payload.now) }
+    ensures pointers { OnOk result (HasPointers Item.kind (trailer_by t.now) payload.now) }
     ensures buckets { OnOk result (HasBuckets Item.kind H.hash64 (trailer_by t.now) payload.now) }
-    ensures refused { IfErr result (IsBucketsRefusal Item.kind H.hash64 (trailer_by t.now) payload.now) }
+    ensures refused { IfErr result (IsRefusal Item.kind Item.fits H.hash64 (trailer_by t.now) payload.now) }
 {
     if t.hash_len == 0 {
-        return Ok(());
+        return check_items::<Item, Parsed>(payload, t);
     }
-    let (body, _) = payload.split_at(t.index_offset as usize - 1);
+    let mut tally = Tally::<H>::new(alloc, t.hash_len)?;
+    check_items_with::<Item, Parsed, Tally<H>>(payload, t, &mut tally)?;
+    if !tally.has_memory() {
+        return Err(Error::Memory);
+    }
     let (_, behind) = payload.split_at(t.hash_offset as usize);
     let (stored, _) = behind.split_at(t.hash_len as usize);
-    let mut buckets = Builder::<H>::with_bucket_count(alloc, t.hash_len)?;
-    let mut scratch = Vec::new(alloc);
-    let mut at = Spot::first();
-    for place in 0..t.item_count as usize {
-        let (item, next) = read_at::<Item, Parsed>(body, t.interval, &at);
-        let number = (place / usize::from(t.interval)) as u8;
-        let key = Item::key_ranges(&item);
-        note_key(&mut buckets, &mut scratch, body, &key, number)?;
-        at = next;
+    if !tally.has_buckets(stored) {
+        return Err(Error::BadHashIndex);
     }
-    if is_same(buckets.into_inner().as_slice(), stored) {
-        Ok(())
-    } else {
-        Err(Error::BadHashIndex)
-    }
+    Ok(())
 }

@@ -8,6 +8,7 @@ pub mod keys;
 pub mod parts;
 pub mod pass;
 pub(crate) mod spot;
+pub(crate) mod tally;
 pub mod truncation;
 
 use crate::table::block::{Decodable, ParsedItem};

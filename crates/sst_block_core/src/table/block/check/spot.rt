@@ -1,7 +1,7 @@
 //! Reading the forms of a body one behind the other, as the check does.
 ghost use Rattle.std.specs.Prelude.{◌≡◌, ℕ, ◌+◌, ◌%◌, ◌^◌, ◌<◌, ◌≤◌, [], ◌∷◌, ◌++◌, List, length, drop, None, IfSome};
-ghost use Rattle.std.specs.Prelude.{MatchOption, IsSome};
-ghost use Rattle.sst_block_core.specs.Body.{item_at, items_at};
+ghost use Rattle.std.specs.Prelude.{MatchOption};
+ghost use Rattle.sst_block_core.specs.Body.{items_at};
 ghost use Rattle.sst_block_core.specs.Found.{IsRange, range_of};
 ghost use Rattle.sst_block_core.specs.Passes.{IsRead};
 
@@ -88,52 +88,5 @@ pub(crate) fn check_at<Item: Checkable<Parsed>, Parsed: ParsedItem<Item>>(
                 base: at.base,
             },
         ))
-    }
-}
-
-/// Decodes the item at a spot, where its form is known to stand; the second answer is the next
-/// spot. Tests nothing.
-#[inline(always)]
-pub(crate) fn read_at<Item: Checkable<Parsed>, Parsed: ParsedItem<Item>>(
-    body: &[u8],
-    restart_interval: u8,
-    at: &Spot,
-) -> (Parsed, Spot)
-    requires phase { at.now.phase ≡ at.now.place % restart_interval }
-    requires below { at.now.phase < restart_interval }
-    requires inside { at.now.offset ≤ length body.now }
-    requires base { IsRange body.now at.now.base }
-    requires room { at.now.place + 1 < 2 ^ 64 }
-    requires stands { IsSome (item_at Item.kind restart_interval at.now.place (range_of body.now at.now.base) (drop at.now.offset body.now)) }
-    ensures exact { (xs : List Item) → IsRead Item.kind restart_interval body.now xs at.now.place at.now.offset (range_of body.now at.now.base)
-        → IsRead Item.kind restart_interval body.now (xs ++ Parsed.item_of body.now result.0 ∷ []) result.1.place result.1.offset (range_of body.now result.1.base) }
-    ensures found { Parsed.is_found body.now result.0 }
-    ensures place { result.1.place ≡ at.now.place + 1 }
-    ensures phase { result.1.phase ≡ result.1.place % restart_interval }
-    ensures below { result.1.phase < restart_interval }
-    ensures inside { result.1.offset ≤ length body.now }
-    ensures base { IsRange body.now result.1.base }
-{
-    let place = at.place + 1;
-    let phase = next_phase(at.phase, restart_interval);
-    if at.phase == 0 {
-        let (item, offset) = Item::read_full(body, at.offset);
-        let base = Item::key_ranges(&item).rest;
-        let next = Spot {
-            place,
-            phase,
-            offset,
-            base,
-        };
-        (item, next)
-    } else {
-        let (item, offset) = Item::read_truncated(body, at.offset, at.base.0);
-        let next = Spot {
-            place,
-            phase,
-            offset,
-            base: at.base,
-        };
-        (item, next)
     }
 }

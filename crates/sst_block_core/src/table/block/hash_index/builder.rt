@@ -85,6 +85,17 @@ impl<H: BlockHash> Builder<H> {
         ensures free { IsTrue result ↔ (slice_index self.new (H.hash64 key.now % length self.old) ≢ 255) }
     {
         let index = bucket_index::<H>(key, self.buckets.len());
+        self.set_at(index, interval_number)
+    }
+
+    /// Notes that a key of the bucket at this index stands in the restart interval with this number.
+    /// Returns `false` exactly if the bucket has a conflict now.
+    #[inline(always)]
+    pub(crate) fn set_at(&mut self, index: usize, interval_number: u8) -> bool
+        requires { index < length self.old }
+        ensures bytes { self.new ≡ slice_set self.old index (bucket_byte_with (slice_index self.old index) interval_number) }
+        ensures free { IsTrue result ↔ (slice_index self.new index ≢ 255) }
+    {
         let byte = byte_with(self.buckets[index], interval_number);
         self.buckets[index] = byte;
         byte != MARKER_CONFLICT
@@ -122,6 +133,13 @@ impl<H: BlockHash> Builder<H> {
         if !self.buckets.is_empty() {
             self.set(key, (heads - 1) as u8);
         }
+    }
+
+    /// Returns the bytes of the buckets, borrowed.
+    pub(crate) fn as_slice(&self) -> &[u8]
+        ensures { result.now ≡ self.now }
+    {
+        self.buckets.as_slice()
     }
 
     /// Returns the bytes of the buckets.

@@ -7,10 +7,9 @@ ghost use Rattle.sstable_blocks.specs.Filter.{empty_filter, filter_payload, IsFi
 
 use super::{HASH_TYPE, MAGIC};
 use crate::table::filter::bit_array;
-use crate::table::filter::divisor::Divisor;
 use crate::table::filter::filter_type::FilterType;
 use crate::table::filter::policy::MAX_BITS;
-use sst_base::{BlockHash, Error, Result};
+use sst_base::{BlockHash, Divisor, Error, Result};
 use std::alloc::Global;
 use std::marker::Model;
 

@@ -6,11 +6,10 @@ ghost use Rattle.sstable_blocks.specs.Filter.{filter_at, MayContain};
 pub mod builder;
 
 use super::bit_array::BitArrayReader;
-use super::divisor::Divisor;
 use super::filter_type::FilterType;
 pub use builder::{Builder, secondary_hash};
 use byteorder::{ByteOrder, LittleEndian};
-use sst_base::{BlockHash, Error, HeaderName, Result, TagName};
+use sst_base::{BlockHash, Divisor, Error, HeaderName, Result, TagName};
 use std::marker::Model;
 
 // The bytes that begin a filter: LSM and 3.

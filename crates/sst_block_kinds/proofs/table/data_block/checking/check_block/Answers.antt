@@ -1,8 +1,8 @@
 use Rattle.std.proofs.Common.{◌∙◌, rules}
 use Rattle.sst_block_core.specs.Entries.{entries}
 use Rattle.sst_block_core.specs.Stages.{HasForms, HasOrder, HasPointers, HasBuckets}
-use Rattle.sst_block_core.specs.Passes.{trailer_by, IsItemsRefusal, IsBucketsRefusal}
-use Rattle.sst_block_kinds.proofs.CheckRefusals.{Any, moved, data_parts, data_items, data_buckets, data_passes, data_passed, data_block}
+use Rattle.sst_block_core.specs.Passes.{trailer_by, IsRefusal}
+use Rattle.sst_block_kinds.proofs.CheckRefusals.{Any, moved, data_parts, data_refused, data_passes, data_passed, data_block}
 use Rattle.sst_block_kinds.proofs.table.data_block.checking.check_block.Goals as goal
 
 pub returns-in_err-numbers-clause-refused : goal.returns-in_err-numbers-clause-refused
@@ -10,28 +10,15 @@ returns-in_err-numbers-clause-refused g c =
     let r = data_parts g.H.BlockHash.hash64 c.args.block.now.payload _ c.in_err-numbers.ensures.refused in
     search (rules, r)
 
-pub returns-in_err-check_items-clause-refused : goal.returns-in_err-check_items-clause-refused
-returns-in_err-check_items-clause-refused g c =
-    let p = c.args.block.now.payload in
-    let n = c.in_ok-numbers.ensures in
-    let same = c.as_slice-payload.ensures ∙ c.data.ensures.value in
-    let e = c.in_err-check_items.field-0.0 in
-    let r = data_items g.H.BlockHash.hash64 p n.long n.parts e
-    (moved (trailer_by c.in_ok-numbers.numbers) p _ n.trailer same (λ s x. IsItemsRefusal entries Any s x e) c.in_err-check_items.ensures.refused) in
-    search (rules, r)
-
-pub returns-in_err-check_buckets-clause-refused : goal.returns-in_err-check_buckets-clause-refused
-returns-in_err-check_buckets-clause-refused g c =
+pub returns-in_err-check_items_and_buckets-clause-refused : goal.returns-in_err-check_items_and_buckets-clause-refused
+returns-in_err-check_items_and_buckets-clause-refused g c =
     let p = c.args.block.now.payload in
     let hash = g.H.BlockHash.hash64 in
     let n = c.in_ok-numbers.ensures in
-    let t = trailer_by c.in_ok-numbers.numbers in
-    let i = c.in_ok-check_items.ensures in
     let same = c.as_slice-payload.ensures ∙ c.data.ensures.value in
-    let e = c.in_err-check_buckets.field-0.0 in
-    let r = data_buckets hash p n.long n.parts
-    (moved t p _ n.trailer same (HasForms entries) i.forms) (moved t p _ n.trailer same (HasOrder entries) i.order) (moved t p _ n.trailer same (HasPointers entries) i.pointers)
-    e (moved t p _ n.trailer same (λ s x. IsBucketsRefusal entries hash s x e) c.in_err-check_buckets.ensures.refused) in
+    let e = c.in_err-check_items_and_buckets.field-0.0 in
+    let r = data_refused hash p n.long n.parts e
+    (moved (trailer_by c.in_ok-numbers.numbers) p _ n.trailer same (λ s x. IsRefusal entries Any hash s x e) c.in_err-check_items_and_buckets.ensures.refused) in
     search (rules, r)
 
 pub returns-clause-checked : goal.returns-clause-checked
@@ -40,11 +27,11 @@ returns-clause-checked g c =
     let hash = g.H.BlockHash.hash64 in
     let n = c.in_ok-numbers.ensures in
     let t = trailer_by c.in_ok-numbers.numbers in
-    let i = c.in_ok-check_items.ensures in
+    let i = c.in_ok-check_items_and_buckets.ensures in
     let same = c.as_slice-payload.ensures ∙ c.data.ensures.value in
     data_passed hash p (data_passes hash p n.long n.parts
     (moved t p _ n.trailer same (HasForms entries) i.forms) (moved t p _ n.trailer same (HasOrder entries) i.order) (moved t p _ n.trailer same (HasPointers entries) i.pointers)
-    (moved t p _ n.trailer same (HasBuckets entries hash) c.in_ok-check_buckets.ensures.buckets))
+    (moved t p _ n.trailer same (HasBuckets entries hash) i.buckets))
 
 pub returns-clause-block : goal.returns-clause-block
 returns-clause-block g c =
@@ -52,8 +39,8 @@ returns-clause-block g c =
     let hash = g.H.BlockHash.hash64 in
     let n = c.in_ok-numbers.ensures in
     let t = trailer_by c.in_ok-numbers.numbers in
-    let i = c.in_ok-check_items.ensures in
+    let i = c.in_ok-check_items_and_buckets.ensures in
     let same = c.as_slice-payload.ensures ∙ c.data.ensures.value in
     data_block hash p c.parts_of.ensures.bytes (data_passes hash p n.long n.parts
     (moved t p _ n.trailer same (HasForms entries) i.forms) (moved t p _ n.trailer same (HasOrder entries) i.order) (moved t p _ n.trailer same (HasPointers entries) i.pointers)
-    (moved t p _ n.trailer same (HasBuckets entries hash) c.in_ok-check_buckets.ensures.buckets))
+    (moved t p _ n.trailer same (HasBuckets entries hash) i.buckets))

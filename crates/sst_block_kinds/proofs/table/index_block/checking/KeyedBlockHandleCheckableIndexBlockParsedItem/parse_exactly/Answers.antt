@@ -25,12 +25,12 @@ returns-in_err-key-clause-exact c =
 pub returns-then-not-is_greatest-clause-exact : goal.returns-then-not-is_greatest-clause-exact
 returns-then-not-is_greatest-clause-exact c =
     not_longest c.args.payload.now (drop c.args.offset c.args.payload.now) c.args.base.now c.in_ok-key.key c.in_ok-shared.shared c.in_ok-key.end (front_by c.in_ok-front.front) _ _ _ _
-    c.requires.base c.in_ok-key.ensures.range c.bytes_of.ensures c.bytes_of-2.ensures c.in_ok-front.ensures.1 c.in_ok-shared.ensures.exact.1 c.in_ok-key.ensures.exact.1 c.if-not-is_greatest.ensures
+    c.requires.base c.in_ok-key.ensures.range c.bytes_of.ensures c.bytes_of-2.ensures c.in_ok-front.ensures.1 c.in_ok-shared.ensures.exact.1 c.in_ok-key.ensures.exact.1 c.if-not-is_greatest.ensures.greatest
 
 pub returns-in_err-prefix-clause-exact : goal.returns-in_err-prefix-clause-exact
 returns-in_err-prefix-clause-exact c =
     let n = not_key c.args.payload.now (drop c.args.offset c.args.payload.now) c.args.base.now c.in_ok-key.key c.in_ok-shared.shared c.in_ok-key.end (front_by c.in_ok-front.front) _ _ _ _
-    c.requires.base c.in_ok-key.ensures.range c.bytes_of.ensures c.bytes_of-2.ensures c.in_ok-front.ensures.1 c.in_ok-shared.ensures.exact.1 c.in_ok-key.ensures.exact.1 c.if-not-is_greatest.ensures
+    c.requires.base c.in_ok-key.ensures.range c.bytes_of.ensures c.bytes_of-2.ensures c.in_ok-front.ensures.1 c.in_ok-shared.ensures.exact.1 c.in_ok-key.ensures.exact.1 c.if-not-is_greatest.ensures.greatest
     c.in_err-prefix.ensures.none in
     search (rules, n)
 
@@ -38,7 +38,7 @@ pub returns-clause-exact : goal.returns-clause-exact
 returns-clause-exact c =
     let p = c.args.payload.now in
     let f = found_exactly p (drop c.args.offset p) c.args.base.now c.in_ok-key.key c.in_ok-shared.shared c.in_ok-key.end (front_by c.in_ok-front.front) _ _ _ _
-    c.requires.base c.in_ok-key.ensures.range c.bytes_of.ensures c.bytes_of-2.ensures c.in_ok-front.ensures.1 c.in_ok-shared.ensures.exact.1 c.in_ok-key.ensures.exact.1 c.if-not-is_greatest.ensures
+    c.requires.base c.in_ok-key.ensures.range c.bytes_of.ensures c.bytes_of-2.ensures c.in_ok-front.ensures.1 c.in_ok-shared.ensures.exact.1 c.in_ok-key.ensures.exact.1 c.if-not-is_greatest.ensures.greatest
     c.in_ok-prefix.ensures.found.2 in (
       c.in_ok-key.ensures.exact.0,
       f ∙ ap (λ (q : SliceIndexes). Some (handle_with (front_by c.in_ok-front.front) (range_of p q ++ range_of p c.in_ok-key.key), drop c.in_ok-key.end p)) (sym c.in_ok-prefix.ensures.found.0)

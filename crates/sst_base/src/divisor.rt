@@ -5,14 +5,14 @@ use std::marker::Model;
 
 /// A divisor and its reciprocal, times 2^64 and rounded down. Clauses see the divisor.
 #[derive(Drop)]
-pub(crate) struct Divisor {
+pub struct Divisor {
     value: u64,
     reciprocal: u64,
 }
 
 impl Model for Divisor {
     ghost use Rattle.std.specs.Prelude.{ℕ};
-    ghost use Rattle.sstable_blocks.specs.Reciprocal.{IsReciprocal};
+    ghost use Rattle.sst_base.specs.Reciprocal.{IsReciprocal};
 
     ghost Value = { ℕ };
 
@@ -23,7 +23,7 @@ impl Model for Divisor {
 
 impl Divisor {
     /// Makes a divisor of a number, at least 1.
-    pub(crate) fn new(value: u64) -> Divisor
+    pub fn new(value: u64) -> Divisor
         requires { 1 ≤ value }
         ensures { result ≡ value }
     {
@@ -35,7 +35,7 @@ impl Divisor {
 
     /// Returns the divisor.
     #[inline(always)]
-    pub(crate) fn get(&self) -> u64
+    pub fn get(&self) -> u64
         ensures { result ≡ self.now }
     {
         self.value
@@ -43,7 +43,7 @@ impl Divisor {
 
     /// Returns the remainder of a number.
     #[inline(always)]
-    pub(crate) fn remainder(&self, number: u64) -> u64
+    pub fn remainder(&self, number: u64) -> u64
         ensures { result ≡ number % self.now }
     {
         // The quotient, or one less.

@@ -1,6 +1,6 @@
 use Rattle.std.proofs.Common.{arith, ◌%◌, ap, ◌∙◌}
-use Rattle.sstable_blocks.proofs.Remainders.{not_above, near, rest_is, rest_more}
-use Rattle.sstable_blocks.proofs.table.filter.divisor.Divisor.remainder.Goals as goal
+use Rattle.sst_base.proofs.Remainders.{not_above, near, rest_is, rest_more}
+use Rattle.sst_base.proofs.divisor.Divisor.remainder.Goals as goal
 
 pub overflow_sub-rest : goal.overflow_sub-rest
 overflow_sub-rest c =

@@ -1,0 +1,55 @@
+//! The check of data blocks of any bytes.
+ghost use Rattle.std.specs.Prelude.{◌≡◌, ◌+◌, ◌%◌, ◌^◌, ◌<◌, List, length, Ok, IfSome};
+ghost use Rattle.sst_base.specs.Entry.{Entry};
+ghost use Rattle.sst_base.specs.Hashes.{poly31};
+ghost use Rattle.sst_block_kinds.specs.Checks.{data_check};
+ghost use Rattle.sst_bench.specs.Turns.{OrRefused};
+
+use crate::REFUSED;
+use sst_base::{Block, BlockType, Checksum, Header, Poly31, Slice};
+use sst_block_kinds::DataBlock;
+use std::alloc::Global;
+
+// The data block of a payload, which is copied.
+fn block_of(alloc: Global, payload: &[u8]) -> Option<Block>
+    ensures { IfSome result (λ block. block.payload ≡ payload.now) }
+{
+    let len = u32::try_from(payload.len()).ok()?;
+    let header = Header {
+        block_type: BlockType::Data,
+        checksum: Checksum::from_raw(0),
+        data_length: len,
+        uncompressed_length: len,
+    };
+    Some(Block::from_parts(header, Slice::new(alloc, payload).ok()?))
+}
+
+// Checks a block, and adds the number of its entries.
+#[inline(never)]
+fn add_checked(so_far: u64, block: &Block, alloc: Global) -> Option<u64>
+    ensures { IfSome result (λ sum. (items : List Entry) × (data_check (poly31 64) block.now.payload ≡ Ok items)
+        × (sum ≡ (so_far + length items) % 2 ^ 64)) }
+{
+    let copy = block.clone().ok()?;
+    let checked = DataBlock::<Poly31>::check(alloc, copy).ok()?;
+    Some(so_far.wrapping_add(checked.len() as u64))
+}
+
+/// Checks the payload of a data block as bytes from outside, and adds the number of its entries.
+/// Refuses what the check refuses.
+#[unsafe(no_mangle)]
+pub extern "C" fn sst_check(payload: &[u8], times: u64, alloc: Global) -> u64
+    ensures { OrRefused result (0 < times → (items : List Entry) × (data_check (poly31 64) payload.now ≡ Ok items)) }
+{
+    let Some(block) = block_of(alloc, payload) else {
+        return REFUSED;
+    };
+    let mut sum = 0;
+    for turn in 0..times {
+        match add_checked(sum, &block, alloc) {
+            Some(more) => sum = more,
+            None => return REFUSED,
+        }
+    }
+    sum
+}

@@ -1,0 +1,200 @@
+//! What a pass does with the keys that it goes over: nothing, or the buckets of a hash index.
+ghost use Rattle.std.specs.Prelude.{◌≡◌, ◌↔◌, ℕ, ◌+◌, ◌%◌, ◌<◌, ◌≤◌, ◌++◌, [], ◌∷◌, List, length};
+ghost use Rattle.std.specs.Prelude.{IsTrue, IfOk, IfSome, IsOkUnless, OnSome, replicate, true};
+ghost use Rattle.sst_block_core.specs.Found.{IsRange, range_of};
+ghost use Rattle.sst_block_core.specs.KeyRanges.{key_by, IsKeyRanges};
+ghost use Rattle.sst_block_core.specs.Passes.{BeginsWith, HasTallied};
+
+use crate::block_item::BlockItem;
+use crate::table::block::check::keys::KeyRanges;
+use crate::table::block::hash_index::Builder;
+use crate::table::block::key_ranges::bytes_of;
+use sst_base::table::util::SliceIndexes;
+use sst_base::{BlockHash, Divisor, Error, Result};
+use std::alloc::Global;
+use std::marker::Model;
+
+/// Takes the key of each item of a pass, in turn.
+pub(crate) trait KeySink<Item: BlockItem> {
+    // in restart intervals of this length, and with this many buckets, it took the keys of these items of a body
+    ghost has_taken: { ℕ → ℕ → List ℕ → Self → List Item → Type 0 };
+
+    /// Takes a key, whose item has this index in its restart interval.
+    fn take(&mut self, body: &[u8], key: &KeyRanges, phase: u8)
+        requires { IsKeyRanges body.now key.now }
+        ensures { (r b : ℕ) (items : List Item) (x : Item) → 0 < r → has_taken r b body.now self.old items
+            → phase ≡ length items % r → Item.kind.key x ≡ key_by body.now key.now
+            → has_taken r b body.now self.new (items ++ x ∷ []) };
+}
+
+/// Takes keys and keeps nothing of them.
+#[derive(Drop)]
+pub(crate) struct NoTally;
+
+impl<Item: BlockItem> KeySink<Item> for NoTally {
+    ghost has_taken = { λ _ _ _ _ _. Unit {0} };
+
+    #[inline(always)]
+    fn take(&mut self, body: &[u8], key: &KeyRanges, phase: u8) {
+        let _ = body;
+        let _ = key;
+        let _ = phase;
+    }
+}
+
+/// The buckets of the keys that it took. Clauses see their bytes, the number of heads modulo 2^8,
+/// whether all memory that it asked for was there, and what was joined last.
+#[derive(Drop)]
+pub(crate) struct Tally<H: BlockHash> {
+    buckets: Builder<H>,
+    bucket_count: Divisor,
+    // The last key with a front, and the range of that front.
+    joined: Vec<u8>,
+    front: SliceIndexes,
+    heads: u8,
+    has_memory: bool,
+}
+
+impl<H: BlockHash> Model for Tally<H> {
+    ghost use Rattle.std.specs.Prelude.{◌≡◌, ◌<◌, length};
+    ghost use Rattle.sst_block_core.specs.Passes.{TallyState};
+
+    ghost Value = { TallyState };
+
+    ghost view = { λ t. record { table = t.buckets; heads = t.heads; has_memory = t.has_memory; joined = t.joined.items; front = t.front } };
+
+    ghost invariant = { λ t. (t.bucket_count ≡ length t.buckets) × (0 < length t.buckets) };
+}
+
+// Leaves this range of a body in `joined`, which begins with the bytes of another: mostly a longer one
+// at the same place. Returns `None` if an allocation fails.
+#[inline(always)]
+fn keep_front(
+    joined: &mut Vec<u8>,
+    front: &SliceIndexes,
+    body: &[u8],
+    wanted: &SliceIndexes,
+) -> Option<()>
+    requires { IsRange body.now wanted.now }
+    ensures { OnSome result (BeginsWith body.now joined.old.items front.now → joined.new.items ≡ range_of body.now wanted.now) }
+{
+    if wanted.0 == front.0 && wanted.1 <= front.1 {
+        joined.truncate(wanted.1 - wanted.0);
+        return Some(());
+    }
+    joined.clear();
+    joined.extend_from_slice(bytes_of(body, wanted)).ok()?;
+    Some(())
+}
+
+// Joins a key. Returns `None` if an allocation fails.
+#[inline(always)]
+fn join(joined: &mut Vec<u8>, front: &SliceIndexes, body: &[u8], key: &KeyRanges) -> Option<()>
+    requires { IsKeyRanges body.now key.now }
+    ensures { OnSome result (BeginsWith body.now joined.old.items front.now → joined.new.items ≡ key_by body.now key.now) }
+{
+    keep_front(joined, front, body, &key.front)?;
+    joined.extend_from_slice(bytes_of(body, &key.rest)).ok()?;
+    Some(())
+}
+
+// The hash of a key. A key without a front is hashed where it stands; others are joined. Returns
+// `None` if an allocation fails.
+#[inline(always)]
+fn hash_of<H: BlockHash>(
+    joined: &mut Vec<u8>,
+    front: &mut SliceIndexes,
+    body: &[u8],
+    key: &KeyRanges,
+) -> Option<u64>
+    requires { IsKeyRanges body.now key.now }
+    ensures hash { IfSome result (λ hash. BeginsWith body.now joined.old.items front.old → hash ≡ H.hash64 (key_by body.now key.now)) }
+    ensures joined { OnSome result (BeginsWith body.now joined.old.items front.old → BeginsWith body.now joined.new.items front.new) }
+{
+    if key.front.0 == key.front.1 {
+        return Some(H::hash64(bytes_of(body, &key.rest)));
+    }
+    join(joined, front, body, key)?;
+    *front = key.front;
+    Some(H::hash64(joined.as_slice()))
+}
+
+// The number of heads, modulo 2^8, with the item that has this index in its restart interval.
+#[inline(always)]
+fn heads_with(heads: u8, phase: u8) -> u8
+    ensures head { phase ≡ 0 → result ≡ (heads + 1) % 256 }
+    ensures rest { 0 < phase → result ≡ heads }
+{
+    if phase == 0 {
+        heads.wrapping_add(1)
+    } else {
+        heads
+    }
+}
+
+// The number of the last of so many restart intervals.
+#[inline(always)]
+fn last_number(heads: u8) -> u8
+    ensures { 0 < heads → result + 1 ≡ heads }
+{
+    heads.wrapping_sub(1)
+}
+
+// Returns whether two byte strings are the same.
+#[inline(always)]
+fn is_same(a: &[u8], b: &[u8]) -> bool
+    ensures { IsTrue result ↔ (a.now ≡ b.now) }
+{
+    a == b
+}
+
+impl<H: BlockHash> Tally<H> {
+    /// Makes this many buckets, at least one, all free.
+    ///
+    /// # Errors
+    ///
+    /// `Error::Memory` if an allocation fails.
+    pub(crate) fn new(alloc: Global, bucket_count: u32) -> Result<Tally<H>>
+        requires { 0 < bucket_count }
+        ensures ok { IfOk result (λ t. t ≡ record { table = replicate bucket_count 254; heads = 0; has_memory = true; joined = []; front = record { 0 = 0; 1 = 0 } }) }
+        ensures memory { IsOkUnless result Error.Memory }
+    {
+        Ok(Tally {
+            buckets: Builder::with_bucket_count(alloc, bucket_count)?,
+            bucket_count: Divisor::new(u64::from(bucket_count)),
+            joined: Vec::new(alloc),
+            front: SliceIndexes(0, 0),
+            heads: 0,
+            has_memory: true,
+        })
+    }
+
+    /// Returns whether all memory that it asked for was there.
+    pub(crate) fn has_memory(&self) -> bool
+        ensures { result ≡ self.now.has_memory }
+    {
+        self.has_memory
+    }
+
+    /// Returns whether these are the bytes of its buckets.
+    pub(crate) fn has_buckets(&self, stored: &[u8]) -> bool
+        ensures { IsTrue result ↔ (self.now.table ≡ stored.now) }
+    {
+        is_same(self.buckets.as_slice(), stored)
+    }
+}
+
+impl<Item: BlockItem, H: BlockHash> KeySink<Item> for Tally<H> {
+    ghost has_taken = { λ r b body tally items. HasTallied Item.kind H.hash64 r b body tally items };
+
+    #[inline(always)]
+    fn take(&mut self, body: &[u8], key: &KeyRanges, phase: u8) {
+        self.heads = heads_with(self.heads, phase);
+        let Some(hash) = hash_of::<H>(&mut self.joined, &mut self.front, body, key) else {
+            self.has_memory = false;
+            return;
+        };
+        let index = self.bucket_count.remainder(hash) as usize;
+        self.buckets.set_at(index, last_number(self.heads));
+    }
+}
