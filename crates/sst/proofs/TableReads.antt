@@ -1,0 +1,154 @@
+-- Reading the blocks of an index one by one.
+use Rattle.std.proofs.Common.{◌≡◌, ◌≢◌, ◌⊎◌, ℕ, ◌+◌, ◌-◌, ◌^◌, ◌<◌, ◌≤◌, inl, inr, List, [], ◌∷◌, ◌++◌, length, take, drop, map, min, arith, refl, sym, ◌∙◌, ap, subst, append_assoc, append-nil, length-append, length-drop, Option, Some, None, Result, Ok, Err, IfSome}
+use Rattle.std.proofs.Math.Seq.{take-append_seam, take-length}
+use Rattle.std.proofs.KnownBytes.{Appends-nil, Appends-trans, Appends-kept}
+use Rattle.std.specs.Io.KnownBytes.{Appends, Keeps}
+use Rattle.sst_base.specs.BlockHandle.{HandleParts}
+use Rattle.sst_base.specs.Entry.{Entry}
+use Rattle.sst_base.specs.Header.{◌>>=◌}
+use Rattle.sst_base.specs.declared.error.Error.{Error}
+use Rattle.sst_base.specs.declared.error.Error.TheVariants.{Io}
+use Rattle.sst_block_core.specs.Landings.{GivesNextHeld}
+use Rattle.sst_block_core.specs.Scan.{Scan}
+use Rattle.sst_block_core.specs.Window.{Window, items_left, whole}
+use Rattle.sst_block_core.specs.WindowLaws.{next_some, next_none, items_left-whole}
+use Rattle.sst_block_kinds.specs.Handles.{Handle}
+use Rattle.sst_block_kinds.specs.ParsedHandle.{handle_of, IsParsedHandle}
+use Rattle.sst_block_kinds.specs.declared.table.index_block.parsed_item.IndexBlockParsedItem.{IndexBlockParsedItem}
+use Rattle.sstable_blocks.specs.Blocks.{joined}
+use Rattle.sstable_blocks.specs.Sources.{FailsAs}
+use Rattle.sst.specs.Outcome.{lines_text_of}
+use Rattle.sst.specs.TableReads.{block_read, blocks_read, before_refusal, first_refusal, all_read, entry_count, entries_counted, PrintsUntil, PrintsFirst}
+use Rattle.sst.proofs.Outcomes.{lines-append}
+use Rattle.sst.proofs.Tables.{joined-next}
+
+-- what is read of each of some blocks
+abbrev pub Reads : Type 0
+Reads = List (Result (List Entry) Error)
+
+-- facts of known bytes give another
+pub known_both : (o o' : Option (List ℕ)) (P Q R : List ℕ → Type 0) → o' ≡ o → ((all : List ℕ) → P all → Q all → R all) → IfSome o P → IfSome o' Q → IfSome o R
+known_both None o' P Q R same f p q = tt
+known_both (Some all) o' P Q R same f p q = f all p (subst (λ x. IfSome x Q) same q)
+
+pub known_one : (o : Option (List ℕ)) (P R : List ℕ → Type 0) → ((all : List ℕ) → P all → R all) → IfSome o P → IfSome o R
+known_one None P R f p = tt
+known_one (Some all) P R f p = f all p
+
+pub known_all : (o : Option (List ℕ)) (R : List ℕ → Type 0) → ((all : List ℕ) → R all) → IfSome o R
+known_all None R f = tt
+known_all (Some all) R f = f all
+
+-- a step of the iterator over an index, and what is read of its block: one block fewer is left to read
+pub read_step : (all : List ℕ) (s t : Scan Handle) (p : IndexBlockParsedItem) (h : HandleParts) (read : Result (List Entry) Error) → h ≡ record { offset = p.offset.0; size = p.size } → GivesNextHeld handle_of IsParsedHandle s (Some p) t
+    → block_read all h ≡ read → blocks_read all (items_left s.window) ≡ read ∷ blocks_read all (items_left t.window)
+read_step all s t p h read is gives e =
+    ap (blocks_read all) (next_some s.window t.window (handle_of s.payload p) gives.step).0
+    ∙ ap (λ (r : Result (List Entry) Error). r ∷ blocks_read all (items_left t.window)) (ap (block_read all) (sym is) ∙ e)
+
+-- all are left at the start
+pub read_whole : (all : List ℕ) (w : Window Handle) (hs : List Handle) → w ≡ whole hs → blocks_read all (items_left w) ≡ blocks_read all hs
+read_whole all w hs e = ap (λ (v : Window Handle). blocks_read all (items_left v)) e ∙ ap (blocks_read all) (items_left-whole hs)
+
+-- none is left at the end
+pub read_over : (all : List ℕ) (s t : Scan Handle) → GivesNextHeld handle_of IsParsedHandle s None t → blocks_read all (items_left s.window) ≡ []
+read_over all s t gives = ap (blocks_read all) (next_none s.window t.window gives.step).0
+
+-- these blocks were read, and what is left decides the rest
+pub record IsReadTo (reads left : Reads) (done : List (List Entry)) : Type 0 where
+  pub before : before_refusal reads ≡ done ++ before_refusal left
+  pub refusal : first_refusal reads ≡ first_refusal left
+
+read_next : (reads left more : Reads) (done : List (List Entry)) (items : List Entry) → IsReadTo reads left done → left ≡ Ok items ∷ more → IsReadTo reads more (done ++ (items ∷ []))
+read_next reads left more done items r e = record {
+  before = r.before ∙ ap (λ (q : Reads). done ++ before_refusal q) e ∙ sym (append_assoc done (items ∷ []) (before_refusal more));
+  refusal = r.refusal ∙ ap (λ (q : Reads). first_refusal q) e;
+}
+
+-- where a refusal or nothing is left, what was read is all before it
+read_end : (reads left : Reads) (done : List (List Entry)) (refusal : Option Error) → IsReadTo reads left done → before_refusal left ≡ [] → first_refusal left ≡ refusal
+    → (before_refusal reads ≡ done) × (first_refusal reads ≡ refusal)
+read_end reads left done refusal r none is = (r.before ∙ ap (λ q. done ++ q) none ∙ append-nil done, r.refusal ∙ is)
+
+-- the lines of the blocks that were read were printed
+pub record PrintsTo (old new : Option (List ℕ)) (reads left : Reads) : Type 0 where
+  pub done : List (List Entry)
+  pub read : IsReadTo reads left done
+  pub lines : Appends old new (lines_text_of (joined done))
+
+pub prints_start : (old : Option (List ℕ)) (reads left : Reads) → left ≡ reads → PrintsTo old old reads left
+prints_start old reads left e = record { done = []; read = record { before = ap (λ (q : Reads). before_refusal q) (sym e); refusal = ap (λ (q : Reads). first_refusal q) (sym e) }; lines = Appends-nil old }
+
+pub prints_next : (old now new : Option (List ℕ)) (reads left more : Reads) (items : List Entry) → PrintsTo old now reads left → left ≡ Ok items ∷ more → Appends now new (lines_text_of items) → PrintsTo old new reads more
+prints_next old now new reads left more items p e next = record {
+  done = p.done ++ (items ∷ []);
+  read = read_next reads left more p.done items p.read e;
+  lines = subst (Appends old new) (lines-append (joined p.done) items ∙ ap lines_text_of (sym (joined-next p.done items))) (Appends-trans old now new (lines_text_of (joined p.done)) (lines_text_of items) p.lines next);
+}
+
+prints_until : (old now new : Option (List ℕ)) (reads left : Reads) (refusal : Option Error) → PrintsTo old now reads left → before_refusal left ≡ [] → first_refusal left ≡ refusal → Keeps now new → PrintsUntil old new reads refusal
+prints_until old now new reads left refusal p none is kept =
+    let e = read_end reads left p.done refusal p.read none is in
+    record { until = e.1; lines = subst (λ q. Appends old new (lines_text_of (joined q))) (sym e.0) (Appends-kept old now new (lines_text_of (joined p.done)) p.lines kept) }
+
+-- all lines were printed where nothing is left
+pub prints_all : (old now : Option (List ℕ)) (reads left : Reads) → PrintsTo old now reads left → left ≡ [] → Keeps now now → PrintsUntil old now reads None
+prints_all old now reads left p e kept = prints_until old now now reads left None p (ap (λ (q : Reads). before_refusal q) e) (ap (λ (q : Reads). first_refusal q) e) kept
+
+-- and those before a refusal where that is left
+pub prints_refused : (old now new : Option (List ℕ)) (reads left more : Reads) (error : Error) → PrintsTo old now reads left → left ≡ Err error ∷ more → Keeps now new → PrintsUntil old new reads (Some error)
+prints_refused old now new reads left more error p e kept =
+    prints_until old now new reads left (Some error) p (ap (λ (q : Reads). before_refusal q) e) (ap (λ (q : Reads). first_refusal q) e) kept
+
+pub prints_first : (old now new : Option (List ℕ)) (reads left : Reads) → PrintsTo old now reads left → Keeps now new → PrintsFirst old new reads
+prints_first old now new reads left p kept = record {
+  count = length p.done;
+  lines = subst (λ q. Appends old new (lines_text_of (joined q))) (sym (ap (take (length p.done)) p.read.before ∙ take-append_seam p.done (before_refusal left))) (Appends-kept old now new (lines_text_of (joined p.done)) p.lines kept);
+}
+
+-- the entries of the blocks that were read were counted
+pub record CountsTo (reads left : Reads) (count : ℕ) : Type 0 where
+  pub done : List (List Entry)
+  pub read : IsReadTo reads left done
+  pub counted : count ≡ entry_count done
+
+pub counts_start : (reads left : Reads) → left ≡ reads → CountsTo reads left 0
+counts_start reads left e = record { done = []; read = record { before = ap (λ (q : Reads). before_refusal q) (sym e); refusal = ap (λ (q : Reads). first_refusal q) (sym e) }; counted = refl }
+
+pub counts_next : (reads left more : Reads) (items : List Entry) (count n : ℕ) → CountsTo reads left count → left ≡ Ok items ∷ more → n ≡ min (count + length items) (2 ^ 64 - 1) → CountsTo reads more n
+counts_next reads left more items count n p e is = record {
+  done = p.done ++ (items ∷ []);
+  read = read_next reads left more p.done items p.read e;
+  counted =
+      let whole : length (joined (p.done ++ (items ∷ []))) ≡ length (joined p.done) + length items = ap length (joined-next p.done items) ∙ length-append (joined p.done) items in
+      let before = p.counted in
+      omega (arith, whole, before, is);
+}
+
+-- all were counted where nothing is left
+pub counts_all : (all : List ℕ) (hs : List Handle) (left : Reads) (count : ℕ) → CountsTo (blocks_read all hs) left count → left ≡ [] → entries_counted all hs ≡ Ok count
+unfolding entries_counted
+counts_all all hs left count p e =
+    let is = read_end (blocks_read all hs) left p.done None p.read (ap (λ (q : Reads). before_refusal q) e) (ap (λ (q : Reads). first_refusal q) e) in
+    rw (is.1, is.0) (ap (λ n. Ok n) (sym p.counted))
+
+-- a refusal that is left is that of the count
+pub counts_refused : (all : List ℕ) (hs : List Handle) (left more : Reads) (count : ℕ) (error : Error) → CountsTo (blocks_read all hs) left count → left ≡ Err error ∷ more
+    → entries_counted all hs ≡ Err error
+unfolding entries_counted
+counts_refused all hs left more count error p e =
+    let end = read_end (blocks_read all hs) left p.done (Some error) p.read (ap (λ (q : Reads). before_refusal q) e) (ap (λ (q : Reads). first_refusal q) e) in
+    rw end.1 refl
+
+-- so is one of a source that failed by then
+pub counts_fail : (all : List ℕ) (hs : List Handle) (left more : Reads) (read : Result (List Entry) Error) (count : ℕ) (error : Error) (P Q : Type 0) → CountsTo (blocks_read all hs) left count
+    → ((r : Result (List Entry) Error) → read ≡ r → left ≡ r ∷ more) → (P → Q) → FailsAs P read error → FailsAs Q (entries_counted all hs) error
+counts_fail all hs left more read count error P Q p e later fails = λ other. elim (fails other) [
+  | inl failed ↦ inl (failed.0, later failed.1)
+  | inr same ↦ inr (counts_refused all hs left more count error p (e (Err error) same))
+]
+
+-- what was printed stays, unless printing failed
+pub kept_unless : (a b : Option (List ℕ)) (error : Error) → error ≢ Io → (error ≡ Io) ⊎ Keeps a b → Keeps a b
+kept_unless a b error other (inl io) = absurd (other io)
+kept_unless a b error other (inr kept) = kept
