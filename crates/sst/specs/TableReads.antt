@@ -37,6 +37,12 @@ block_read bytes h = do
   p ← payload_at sst_hashes types.Data bytes h
   data_check (poly31 64) p
 
+-- the number of its entries
+abbrev pub block_count : List ℕ → HandleParts → Result ℕ Error
+block_count bytes h = do
+  items ← block_read bytes h
+  Ok (length items)
+
 -- is there a filter in the range of a handle?
 unfoldable pub filter_check : List ℕ → HandleParts → Result (Unit {0}) Error
 filter_check bytes h = do

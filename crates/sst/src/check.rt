@@ -3,7 +3,7 @@ ghost use Rattle.std.specs.Prelude.{◌≡◌, ◌≢◌, ◌⊎◌, ◌≤◌, 
 ghost use Rattle.std.specs.Io.KnownBytes.{Keeps, Appends};
 ghost use Rattle.sst_base.specs.declared.error.Error.TheVariants.{Io, Memory};
 ghost use Rattle.sstable_blocks.specs.Sources.{GivesOr};
-ghost use Rattle.sst.specs.TableReads.{filter_check, run_filter_check, entries_counted, run_counts, PrintsCountsOf};
+ghost use Rattle.sst.specs.TableReads.{block_count, filter_check, run_filter_check, entries_counted, run_counts, PrintsCountsOf};
 ghost use Rattle.sst.specs.Outcome.{checked_text_of, PrintsCounts, PrintsNothing, IsRefused};
 
 use crate::fault::Fault;
@@ -19,7 +19,7 @@ use std::io::Write;
 use std::rt::Files;
 
 // Checks a filter: its type and its fields.
-#[tactic(auto, using(sstable_blocks::proofs::CheckedReads::filter_not_io), unfolding(crate::specs::TableReads::filter_check))]
+#[tactic(auto, unfolding(crate::specs::TableReads::filter_check))]
 fn check_filter<S: FrameSource>(alloc: Global, source: &mut S, handle: &BlockHandle) -> Result<()>
     ensures same { S.bytes source.new ≡ S.bytes source.old }
     ensures failures_grow { S.failures source.old ≤ S.failures source.new }
@@ -50,6 +50,18 @@ fn check_run_filter<S: FrameSource>(
     }
 }
 
+// Checks the block of a handle. Returns the number of its entries.
+fn check_block<S: FrameSource>(alloc: Global, source: &mut S, handle: &BlockHandle) -> Result<usize>
+    ensures same { S.bytes source.new ≡ S.bytes source.old }
+    ensures failures_grow { S.failures source.old ≤ S.failures source.new }
+    ensures io { IfErr result (λ e. e ≡ Io → S.failures source.old < S.failures source.new) }
+    ensures exact { IfSome (S.bytes source.old) (λ all. GivesOr (S.failures source.old < S.failures source.new) (λ n. n) result
+        (block_count all handle.now)) }
+{
+    let block = data_block_at(alloc, source, handle)?;
+    Ok(block.len())
+}
+
 // Checks the blocks of an index. Returns the number of their entries.
 fn check_blocks<S: FrameSource>(alloc: Global, source: &mut S, index: &IndexBlock) -> Result<u64>
     ensures same { S.bytes source.new ≡ S.bytes source.old }
@@ -61,8 +73,8 @@ fn check_blocks<S: FrameSource>(alloc: Global, source: &mut S, index: &IndexBloc
     let mut entries = 0u64;
     for item in index.iter() {
         let handle = BlockHandle::new(item.offset, item.size);
-        let block = data_block_at(alloc, source, &handle)?;
-        entries = entries.saturating_add(block.len() as u64);
+        let count = check_block(alloc, source, &handle)?;
+        entries = entries.saturating_add(count as u64);
     }
     Ok(entries)
 }
