@@ -1,5 +1,5 @@
 -- Reading the blocks of an index one by one.
-use Rattle.std.proofs.Common.{◌≡◌, ◌≢◌, ◌⊎◌, ℕ, ◌+◌, ◌-◌, ◌^◌, ◌<◌, ◌≤◌, inl, inr, List, [], ◌∷◌, ◌++◌, length, take, drop, map, min, arith, refl, sym, ◌∙◌, ap, subst, append_assoc, append-nil, length-append, length-drop, Option, Some, None, Result, Ok, Err, IfSome, IfErr, true, false, if◌then◌else◌}
+use Rattle.std.proofs.Common.{◌≡◌, ◌≢◌, ◌⊎◌, ℕ, ◌+◌, ◌-◌, ◌^◌, inl, inr, List, [], ◌∷◌, ◌++◌, length, take, drop, min, arith, refl, sym, ◌∙◌, ap, subst, append_assoc, append-nil, length-append, length-drop, Option, Some, None, Result, Ok, Err, IfSome, IfErr, true, false, if◌then◌else◌}
 use Rattle.std.proofs.Math.Seq.{take-append_seam, take-length}
 use Rattle.std.specs.Prelude.{nat_lt, nat_le}
 use Rattle.std.proofs.lemmas.Bool.Decides.{nat_tests}
@@ -24,7 +24,7 @@ use Rattle.sstable_blocks.specs.Sources.{FailsAs, GivesOr}
 use Rattle.sstable_blocks.specs.declared.run.RunHandles.{RunHandles}
 use Rattle.sst.specs.Footer.{handles_at, parts_at, filter_of}
 use Rattle.sst.specs.Outcome.{lines_text_of}
-use Rattle.sst.specs.TableReads.{block_read, block_count, blocks_read, before_refusal, first_refusal, all_read, entry_count, entries_counted, table_handles, PrintsUntil, PrintsFirst}
+use Rattle.sst.specs.TableReads.{block_read, block_count, blocks_read, before_refusal, first_refusal, entry_count, entries_counted, table_handles, PrintsUntil, PrintsFirst}
 use Rattle.sst.proofs.Outcomes.{lines-append}
 use Rattle.sst.proofs.Tables.{joined-next}
 

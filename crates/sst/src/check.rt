@@ -1,9 +1,11 @@
 //! `check`: the frames of a table file, one after the other.
-ghost use Rattle.std.specs.Prelude.{◌≡◌, ◌≢◌, ◌⊎◌, ◌≤◌, ◌<◌, ℕ, Ok, Err, OnOk, IfOk, IfErr, IfSome, IsOkUnless, string_bytes};
-ghost use Rattle.std.specs.Io.KnownBytes.{Keeps, Appends};
+ghost use Rattle.std.specs.Prelude.{◌≡◌, ◌≢◌, ◌⊎◌, ◌≤◌, ◌<◌, Err, OnOk, IfOk, IfErr, IfSome, IsOk};
+ghost use Rattle.std.specs.Prelude.{IsOkUnless, string_bytes};
+ghost use Rattle.std.specs.Io.KnownBytes.{Keeps};
 ghost use Rattle.sst_base.specs.declared.error.Error.TheVariants.{Io, Memory};
 ghost use Rattle.sstable_blocks.specs.Sources.{GivesOr};
-ghost use Rattle.sst.specs.TableReads.{block_count, filter_check, run_filter_check, entries_counted, run_counts, PrintsCountsOf};
+ghost use Rattle.sst.specs.TableReads.{block_count, filter_check, run_filter_check};
+ghost use Rattle.sst.specs.TableReads.{entries_counted, run_counts, PrintsCountsOf};
 ghost use Rattle.sst.specs.Outcome.{checked_text_of, PrintsCounts, PrintsNothing, IsRefused};
 
 use crate::fault::Fault;
@@ -24,8 +26,8 @@ fn check_filter<S: FrameSource>(alloc: Global, source: &mut S, handle: &BlockHan
     ensures same { S.bytes source.new ≡ S.bytes source.old }
     ensures failures_grow { S.failures source.old ≤ S.failures source.new }
     ensures io { IfErr result (λ e. e ≡ Io → S.failures source.old < S.failures source.new) }
-    ensures exact { IfSome (S.bytes source.old) (λ all. GivesOr (S.failures source.old < S.failures source.new) (λ u. u) result
-        (filter_check all handle.now)) }
+    ensures exact { IfSome (S.bytes source.old) (λ all.
+        GivesOr (S.failures source.old < S.failures source.new) (λ u. u) result (filter_check all handle.now)) }
 {
     let block = block_from::<Poly31, S>(alloc, source, handle, BlockType::Filter)?;
     StandardBloomFilterReader::new(block.data().as_slice())?;
@@ -41,8 +43,8 @@ fn check_run_filter<S: FrameSource>(
     ensures same { S.bytes source.new ≡ S.bytes source.old }
     ensures failures_grow { S.failures source.old ≤ S.failures source.new }
     ensures io { IfErr result (λ e. e ≡ Io → S.failures source.old < S.failures source.new) }
-    ensures exact { IfSome (S.bytes source.old) (λ all. GivesOr (S.failures source.old < S.failures source.new) (λ u. u) result
-        (run_filter_check all filter.now)) }
+    ensures exact { IfSome (S.bytes source.old) (λ all.
+        GivesOr (S.failures source.old < S.failures source.new) (λ u. u) result (run_filter_check all filter.now)) }
 {
     match filter {
         Some(filter) => check_filter(alloc, source, filter),
@@ -55,8 +57,8 @@ fn check_block<S: FrameSource>(alloc: Global, source: &mut S, handle: &BlockHand
     ensures same { S.bytes source.new ≡ S.bytes source.old }
     ensures failures_grow { S.failures source.old ≤ S.failures source.new }
     ensures io { IfErr result (λ e. e ≡ Io → S.failures source.old < S.failures source.new) }
-    ensures exact { IfSome (S.bytes source.old) (λ all. GivesOr (S.failures source.old < S.failures source.new) (λ n. n) result
-        (block_count all handle.now)) }
+    ensures exact { IfSome (S.bytes source.old) (λ all.
+        GivesOr (S.failures source.old < S.failures source.new) (λ n. n) result (block_count all handle.now)) }
 {
     let block = data_block_at(alloc, source, handle)?;
     Ok(block.len())
@@ -67,8 +69,8 @@ fn check_blocks<S: FrameSource>(alloc: Global, source: &mut S, index: &IndexBloc
     ensures same { S.bytes source.new ≡ S.bytes source.old }
     ensures failures_grow { S.failures source.old ≤ S.failures source.new }
     ensures io { IfErr result (λ e. e ≡ Io → S.failures source.old < S.failures source.new) }
-    ensures exact { IfSome (S.bytes source.old) (λ all. GivesOr (S.failures source.old < S.failures source.new) (λ n. n) result
-        (entries_counted all index.now.items)) }
+    ensures exact { IfSome (S.bytes source.old) (λ all.
+        GivesOr (S.failures source.old < S.failures source.new) (λ n. n) result (entries_counted all index.now.items)) }
 {
     let mut entries = 0u64;
     for item in index.iter() {
@@ -89,8 +91,8 @@ fn check_run<S: FrameSource>(
     ensures same { S.bytes source.new ≡ S.bytes source.old }
     ensures failures_grow { S.failures source.old ≤ S.failures source.new }
     ensures io { IfErr result (λ e. e ≡ Io → S.failures source.old < S.failures source.new) }
-    ensures exact { IfSome (S.bytes source.old) (λ all. GivesOr (S.failures source.old < S.failures source.new) (λ counts. counts) result
-        (run_counts all handles.now)) }
+    ensures exact { IfSome (S.bytes source.old) (λ all.
+        GivesOr (S.failures source.old < S.failures source.new) (λ counts. counts) result (run_counts all handles.now)) }
 {
     check_run_filter(alloc, source, &handles.filter)?;
     let index = index_at(alloc, source, &handles.index)?;
@@ -124,6 +126,8 @@ pub fn print_counts<S: FrameSource, O: Write>(
         (O.contents output.old) (O.contents output.new))) }
     ensures refused { IfSome (S.bytes source.old) (λ all. IfErr result (λ e. e ≢ Memory → e ≢ Io
         → run_counts all handles.now ≡ Err e)) }
+    ensures io { IfSome (S.bytes source.old) (λ all. IfErr result (λ e. e ≡ Io
+        → (S.failures source.old < S.failures source.new) ⊎ IsOk (run_counts all handles.now))) }
 {
     let (blocks, entries) = check_run(alloc, source, handles)?;
     let text = counts_text(alloc, blocks, entries)?;

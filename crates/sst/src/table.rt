@@ -101,8 +101,8 @@ pub fn index_at<S: FrameSource>(
     ensures same { S.bytes source.new ≡ S.bytes source.old }
     ensures failures_grow { S.failures source.old ≤ S.failures source.new }
     ensures io { IfErr result (λ e. e ≡ Io → S.failures source.old < S.failures source.new) }
-    ensures exact { IfSome (S.bytes source.old) (λ all. GivesOr (S.failures source.old < S.failures source.new) (λ b. b.items) result
-        (index_read all handle.now)) }
+    ensures exact { IfSome (S.bytes source.old) (λ all.
+        GivesOr (S.failures source.old < S.failures source.new) (λ b. b.items) result (index_read all handle.now)) }
 {
     let block = block_from::<Poly31, S>(alloc, source, handle, BlockType::Index)?;
     check_index(block)
@@ -123,8 +123,8 @@ pub fn data_block_at<S: FrameSource>(
     ensures same { S.bytes source.new ≡ S.bytes source.old }
     ensures failures_grow { S.failures source.old ≤ S.failures source.new }
     ensures io { IfErr result (λ e. e ≡ Io → S.failures source.old < S.failures source.new) }
-    ensures exact { IfSome (S.bytes source.old) (λ all. GivesOr (S.failures source.old < S.failures source.new) (λ b. b.items) result
-        (block_read all handle.now)) }
+    ensures exact { IfSome (S.bytes source.old) (λ all.
+        GivesOr (S.failures source.old < S.failures source.new) (λ b. b.items) result (block_read all handle.now)) }
 {
     let block = block_from::<Poly31, S>(alloc, source, handle, BlockType::Data)?;
     check_data::<Poly31>(alloc, block)

@@ -1,5 +1,6 @@
 //! `walk`: all entries of a table file.
-ghost use Rattle.std.specs.Prelude.{◌≡◌, ◌≢◌, ◌⊎◌, ◌≤◌, None, Some, Err, OnOk, IfOk, IfErr, IfSome, IsOkUnless, string_bytes};
+ghost use Rattle.std.specs.Prelude.{◌≡◌, ◌≢◌, ◌⊎◌, ◌≤◌, ◌<◌, None, Some, Err, OnOk, IfOk, IfErr, IfSome};
+ghost use Rattle.std.specs.Prelude.{IsOk, IsOkUnless, string_bytes};
 ghost use Rattle.std.specs.Io.KnownBytes.{Keeps};
 ghost use Rattle.sst_base.specs.declared.error.Error.TheVariants.{Io, Memory};
 ghost use Rattle.sst.specs.declared.fault.Fault.TheVariants.{Refused};
@@ -45,6 +46,8 @@ fn print_block<S: FrameSource, O: Write>(
         (O.contents output.old) (O.contents output.new))) }
     ensures refused { IfSome (S.bytes source.old) (λ all. IfErr result (λ e. e ≢ Memory → e ≢ Io
         → block_read all handle.now ≡ Err e)) }
+    ensures io { IfSome (S.bytes source.old) (λ all. IfErr result (λ e. e ≡ Io
+        → (S.failures source.old < S.failures source.new) ⊎ IsOk (block_read all handle.now))) }
 {
     let block = data_block_at(alloc, source, handle)?;
     let text = lines_of(alloc, &block)?;
@@ -52,7 +55,7 @@ fn print_block<S: FrameSource, O: Write>(
 }
 
 // Prints the entries of the blocks of an index, each after its check.
-#[tactic(auto, using(crate::proofs::Outcomes::prints_nothing, crate::proofs::Outcomes::prints_more, crate::proofs::Outcomes::prints_kept))]
+#[tactic(auto, using(crate::proofs::Outcomes::prints_kept))]
 fn print_blocks<S: FrameSource, O: Write>(
     alloc: Global,
     source: &mut S,
@@ -64,9 +67,11 @@ fn print_blocks<S: FrameSource, O: Write>(
     ensures printed { OnOk result (PrintsLines (O.contents output.old) (O.contents output.new)) }
     ensures kept { IfErr result (λ e. (e ≡ Io) ⊎ PrintsLines (O.contents output.old) (O.contents output.new)) }
     ensures exact { IfSome (S.bytes source.old) (λ all. OnOk result
-        (PrintsUntil (O.contents output.old) (O.contents output.new) (blocks_read all index.now.items) None)) }
+        (PrintsUntil (O.contents output.old) (O.contents output.new)
+        (blocks_read all index.now.items) None)) }
     ensures refused { IfSome (S.bytes source.old) (λ all. IfErr result (λ e. e ≢ Memory → e ≢ Io
-        → PrintsUntil (O.contents output.old) (O.contents output.new) (blocks_read all index.now.items) (Some e))) }
+        → PrintsUntil (O.contents output.old) (O.contents output.new)
+        (blocks_read all index.now.items) (Some e))) }
     ensures first { IfSome (S.bytes source.old) (λ all. IfErr result (λ e. (e ≡ Io)
         ⊎ PrintsFirst (O.contents output.old) (O.contents output.new) (blocks_read all index.now.items))) }
 {

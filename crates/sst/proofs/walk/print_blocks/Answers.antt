@@ -1,4 +1,4 @@
-use Rattle.std.proofs.Common.{◌≡◌, ◌∙◌, ap, refl, sym, arith, inl, inr, Ok, Err}
+use Rattle.std.proofs.Common.{◌∙◌, ap, refl, arith, inl, inr, Ok, Err}
 use Rattle.std.proofs.lemmas.Result.{err_from_is_err_and}
 use Rattle.std.proofs.KnownBytes.{Keeps-refl}
 use Rattle.sst.proofs.Outcomes.{prints_nothing, prints_more}
