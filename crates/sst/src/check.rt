@@ -27,7 +27,8 @@ fn check_filter<S: FrameSource>(alloc: Global, source: &mut S, handle: &BlockHan
     ensures failures_grow { S.failures source.old ≤ S.failures source.new }
     ensures io { IfErr result (λ e. e ≡ Io → S.failures source.old < S.failures source.new) }
     ensures exact { IfSome (S.bytes source.old) (λ all.
-        GivesOr (S.failures source.old < S.failures source.new) (λ u. u) result (filter_check all handle.now)) }
+        GivesOr (S.failures source.old < S.failures source.new) (λ u. u) result
+        (filter_check all handle.now)) }
 {
     let block = block_from::<Poly31, S>(alloc, source, handle, BlockType::Filter)?;
     StandardBloomFilterReader::new(block.data().as_slice())?;
@@ -44,7 +45,8 @@ fn check_run_filter<S: FrameSource>(
     ensures failures_grow { S.failures source.old ≤ S.failures source.new }
     ensures io { IfErr result (λ e. e ≡ Io → S.failures source.old < S.failures source.new) }
     ensures exact { IfSome (S.bytes source.old) (λ all.
-        GivesOr (S.failures source.old < S.failures source.new) (λ u. u) result (run_filter_check all filter.now)) }
+        GivesOr (S.failures source.old < S.failures source.new) (λ u. u) result
+        (run_filter_check all filter.now)) }
 {
     match filter {
         Some(filter) => check_filter(alloc, source, filter),
@@ -58,7 +60,8 @@ fn check_block<S: FrameSource>(alloc: Global, source: &mut S, handle: &BlockHand
     ensures failures_grow { S.failures source.old ≤ S.failures source.new }
     ensures io { IfErr result (λ e. e ≡ Io → S.failures source.old < S.failures source.new) }
     ensures exact { IfSome (S.bytes source.old) (λ all.
-        GivesOr (S.failures source.old < S.failures source.new) (λ n. n) result (block_count all handle.now)) }
+        GivesOr (S.failures source.old < S.failures source.new) (λ n. n) result
+        (block_count all handle.now)) }
 {
     let block = data_block_at(alloc, source, handle)?;
     Ok(block.len())
@@ -70,7 +73,8 @@ fn check_blocks<S: FrameSource>(alloc: Global, source: &mut S, index: &IndexBloc
     ensures failures_grow { S.failures source.old ≤ S.failures source.new }
     ensures io { IfErr result (λ e. e ≡ Io → S.failures source.old < S.failures source.new) }
     ensures exact { IfSome (S.bytes source.old) (λ all.
-        GivesOr (S.failures source.old < S.failures source.new) (λ n. n) result (entries_counted all index.now.items)) }
+        GivesOr (S.failures source.old < S.failures source.new) (λ n. n) result
+        (entries_counted all index.now.items)) }
 {
     let mut entries = 0u64;
     for item in index.iter() {
@@ -92,7 +96,8 @@ fn check_run<S: FrameSource>(
     ensures failures_grow { S.failures source.old ≤ S.failures source.new }
     ensures io { IfErr result (λ e. e ≡ Io → S.failures source.old < S.failures source.new) }
     ensures exact { IfSome (S.bytes source.old) (λ all.
-        GivesOr (S.failures source.old < S.failures source.new) (λ counts. counts) result (run_counts all handles.now)) }
+        GivesOr (S.failures source.old < S.failures source.new) (λ counts. counts) result
+        (run_counts all handles.now)) }
 {
     check_run_filter(alloc, source, &handles.filter)?;
     let index = index_at(alloc, source, &handles.index)?;
@@ -122,8 +127,8 @@ pub fn print_counts<S: FrameSource, O: Write>(
     ensures same { S.bytes source.new ≡ S.bytes source.old }
     ensures printed { OnOk result (PrintsCounts (O.contents output.old) (O.contents output.new)) }
     ensures kept { IfErr result (λ e. (e ≡ Io) ⊎ Keeps (O.contents output.old) (O.contents output.new)) }
-    ensures exact { IfSome (S.bytes source.old) (λ all. OnOk result (PrintsCountsOf (run_counts all handles.now)
-        (O.contents output.old) (O.contents output.new))) }
+    ensures exact { IfSome (S.bytes source.old) (λ all. OnOk result
+        (PrintsCountsOf (run_counts all handles.now) (O.contents output.old) (O.contents output.new))) }
     ensures refused { IfSome (S.bytes source.old) (λ all. IfErr result (λ e. e ≢ Memory → e ≢ Io
         → run_counts all handles.now ≡ Err e)) }
     ensures io { IfSome (S.bytes source.old) (λ all. IfErr result (λ e. e ≡ Io

@@ -31,7 +31,8 @@ fn find<S: FrameSource>(
     ensures failures_grow { S.failures source.old ≤ S.failures source.new }
     ensures io { IfErr result (λ e. e ≡ Io → S.failures source.old < S.failures source.new) }
     ensures exact { IfSome (S.bytes source.old) (λ all.
-        GivesOr (S.failures source.old < S.failures source.new) (λ x. x) result (read_checked sst_hashes all handles.now words.now.needle words.now.seqno)) }
+        GivesOr (S.failures source.old < S.failures source.new) (λ x. x) result
+        (read_checked sst_hashes all handles.now words.now.needle words.now.seqno)) }
 {
     read_entry_checked::<Poly31, S>(alloc, source, handles, words.needle(), words.seqno())
 }

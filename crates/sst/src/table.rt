@@ -78,7 +78,8 @@ pub fn read_footer<S: FrameSource>(alloc: Global, source: &mut S, len: u64) -> R
     ensures failures_grow { S.failures source.old ≤ S.failures source.new }
     ensures io { IfErr result (λ e. e ≡ Io → S.failures source.old < S.failures source.new) }
     ensures exact { IfSome (S.bytes source.old) (λ all. len ≡ length all
-        → GivesOr (S.failures source.old < S.failures source.new) (λ h. h) result (table_handles all)) }
+        → GivesOr (S.failures source.old < S.failures source.new) (λ h. h) result
+        (table_handles all)) }
 {
     let size = len.min(FOOTER_LEN as u64);
     let footer = BlockHandle::new(BlockOffset(len - size), size as u32);
@@ -102,7 +103,8 @@ pub fn index_at<S: FrameSource>(
     ensures failures_grow { S.failures source.old ≤ S.failures source.new }
     ensures io { IfErr result (λ e. e ≡ Io → S.failures source.old < S.failures source.new) }
     ensures exact { IfSome (S.bytes source.old) (λ all.
-        GivesOr (S.failures source.old < S.failures source.new) (λ b. b.items) result (index_read all handle.now)) }
+        GivesOr (S.failures source.old < S.failures source.new) (λ b. b.items) result
+        (index_read all handle.now)) }
 {
     let block = block_from::<Poly31, S>(alloc, source, handle, BlockType::Index)?;
     check_index(block)
@@ -124,7 +126,8 @@ pub fn data_block_at<S: FrameSource>(
     ensures failures_grow { S.failures source.old ≤ S.failures source.new }
     ensures io { IfErr result (λ e. e ≡ Io → S.failures source.old < S.failures source.new) }
     ensures exact { IfSome (S.bytes source.old) (λ all.
-        GivesOr (S.failures source.old < S.failures source.new) (λ b. b.items) result (block_read all handle.now)) }
+        GivesOr (S.failures source.old < S.failures source.new) (λ b. b.items) result
+        (block_read all handle.now)) }
 {
     let block = block_from::<Poly31, S>(alloc, source, handle, BlockType::Data)?;
     check_data::<Poly31>(alloc, block)

@@ -1,6 +1,6 @@
 //! `walk`: all entries of a table file.
-ghost use Rattle.std.specs.Prelude.{◌≡◌, ◌≢◌, ◌⊎◌, ◌≤◌, ◌<◌, None, Some, Err, OnOk, IfOk, IfErr, IfSome};
-ghost use Rattle.std.specs.Prelude.{IsOk, IsOkUnless, string_bytes};
+ghost use Rattle.std.specs.Prelude.{◌≡◌, ◌≢◌, ◌⊎◌, ◌≤◌, ◌<◌, None, Some, Err, OnOk, IfOk, IfErr};
+ghost use Rattle.std.specs.Prelude.{IfSome, IsOk, IsOkUnless, string_bytes};
 ghost use Rattle.std.specs.Io.KnownBytes.{Keeps};
 ghost use Rattle.sst_base.specs.declared.error.Error.TheVariants.{Io, Memory};
 ghost use Rattle.sst.specs.declared.fault.Fault.TheVariants.{Refused};
@@ -42,8 +42,8 @@ fn print_block<S: FrameSource, O: Write>(
     ensures failures_grow { S.failures source.old ≤ S.failures source.new }
     ensures printed { OnOk result (PrintsLines (O.contents output.old) (O.contents output.new)) }
     ensures kept { IfErr result (λ e. (e ≡ Io) ⊎ Keeps (O.contents output.old) (O.contents output.new)) }
-    ensures exact { IfSome (S.bytes source.old) (λ all. OnOk result (PrintsLinesOf (block_read all handle.now)
-        (O.contents output.old) (O.contents output.new))) }
+    ensures exact { IfSome (S.bytes source.old) (λ all. OnOk result
+        (PrintsLinesOf (block_read all handle.now) (O.contents output.old) (O.contents output.new))) }
     ensures refused { IfSome (S.bytes source.old) (λ all. IfErr result (λ e. e ≢ Memory → e ≢ Io
         → block_read all handle.now ≡ Err e)) }
     ensures io { IfSome (S.bytes source.old) (λ all. IfErr result (λ e. e ≡ Io
@@ -73,7 +73,8 @@ fn print_blocks<S: FrameSource, O: Write>(
         → PrintsUntil (O.contents output.old) (O.contents output.new)
         (blocks_read all index.now.items) (Some e))) }
     ensures first { IfSome (S.bytes source.old) (λ all. IfErr result (λ e. (e ≡ Io)
-        ⊎ PrintsFirst (O.contents output.old) (O.contents output.new) (blocks_read all index.now.items))) }
+        ⊎ PrintsFirst (O.contents output.old) (O.contents output.new)
+        (blocks_read all index.now.items))) }
 {
     for item in index.iter() {
         let handle = BlockHandle::new(item.offset, item.size);
@@ -97,9 +98,11 @@ pub fn print_entries<S: FrameSource, O: Write>(
     ensures printed { OnOk result (PrintsLines (O.contents output.old) (O.contents output.new)) }
     ensures kept { IfErr result (λ e. (e ≡ Io) ⊎ PrintsLines (O.contents output.old) (O.contents output.new)) }
     ensures exact { IfSome (S.bytes source.old) (λ all. OnOk result
-        (PrintsUntil (O.contents output.old) (O.contents output.new) (run_blocks all index.now) None)) }
+        (PrintsUntil (O.contents output.old) (O.contents output.new)
+        (run_blocks all index.now) None)) }
     ensures refused { IfSome (S.bytes source.old) (λ all. IfErr result (λ e. e ≢ Memory → e ≢ Io
-        → PrintsUntil (O.contents output.old) (O.contents output.new) (run_blocks all index.now) (Some e))) }
+        → PrintsUntil (O.contents output.old) (O.contents output.new)
+        (run_blocks all index.now) (Some e))) }
     ensures first { IfSome (S.bytes source.old) (λ all. IfErr result (λ e. (e ≡ Io)
         ⊎ PrintsFirst (O.contents output.old) (O.contents output.new) (run_blocks all index.now))) }
 {
