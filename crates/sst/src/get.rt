@@ -60,6 +60,7 @@ pub fn print_found<S: FrameSource, O: Write>(
     output: &mut O,
 ) -> Result<()>
     ensures same { S.bytes source.new ≡ S.bytes source.old }
+    ensures failures_grow { S.failures source.old ≤ S.failures source.new }
     ensures printed { OnOk result (PrintsAnswer (O.contents output.old) (O.contents output.new)) }
     ensures kept { IfErr result (λ e. (e ≡ Io) ⊎ Keeps (O.contents output.old) (O.contents output.new)) }
     ensures exact { IfSome (S.bytes source.old) (λ all. OnOk result (PrintsAnswerOf
