@@ -7,4 +7,5 @@ pub mod EntryParts
 pub mod NumberText
 pub mod Numbers
 pub mod Outcomes
+pub mod TableReads
 pub mod Tables

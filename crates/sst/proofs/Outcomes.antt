@@ -111,7 +111,7 @@ keeps_same (Some bytes) = refl
 pub prints_nothing : (a : Option (List ℕ)) → PrintsLines a a
 prints_nothing a = ([], Appends-nil a)
 
-lines-append : (xs ys : List Entry) → lines_text_of xs ++ lines_text_of ys ≡ lines_text_of (xs ++ ys)
+pub lines-append : (xs ys : List Entry) → lines_text_of xs ++ lines_text_of ys ≡ lines_text_of (xs ++ ys)
 lines-append [] ys = refl
 lines-append (x ∷ xs) ys = append_assoc (entry_line_of x) (10 ∷ lines_text_of xs) (lines_text_of ys) ∙ ap (λ t. entry_line_of x ++ (10 ∷ t)) (lines-append xs ys)
 

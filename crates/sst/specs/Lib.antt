@@ -5,5 +5,7 @@ pub mod Lines
 pub mod Outcome
 pub mod Point
 pub mod Query
+pub mod Refusal
 pub mod Table
+pub mod TableReads
 pub mod Text

@@ -2,6 +2,7 @@
 ghost use Rattle.std.specs.Prelude.{◌≡◌};
 ghost use Rattle.sst_base.specs.declared.error.Error.TheVariants.{Memory};
 ghost use Rattle.sst.specs.declared.fault.Fault.TheVariants.{Refused};
+ghost use Rattle.sst.specs.Refusal.{refusal_name_of};
 
 use sstable_blocks::Error;
 use std::alloc::{AllocError, AllocFailed};
@@ -29,7 +30,9 @@ pub enum Fault {
 }
 
 /// Returns the number and the bare name of a refusal, as in `E15 Memory`.
-pub fn refusal_name(error: Error) -> &'static str {
+pub fn refusal_name(error: Error) -> &'static str
+    ensures { result.now ≡ refusal_name_of error }
+{
     match error {
         Error::Io => "E1 Io",
         Error::InvalidHeader(_) => "E2 InvalidHeader",

@@ -1,5 +1,11 @@
 //! `get`: one look-up in a table file.
-ghost use Rattle.std.specs.Prelude.{◌≡◌, OnOk, IfOk, IfErr, IsOkUnless, Option, string_bytes};
+ghost use Rattle.std.specs.Prelude.{◌≡◌, ◌≢◌, ◌⊎◌, ◌≤◌, ◌<◌, Err, OnOk, IfOk, IfErr, IfSome, IsOk};
+ghost use Rattle.std.specs.Prelude.{IsOkUnless, Option, string_bytes};
+ghost use Rattle.std.specs.Io.KnownBytes.{Keeps};
+ghost use Rattle.sst_base.specs.declared.error.Error.TheVariants.{Io, Memory};
+ghost use Rattle.sstable_blocks.specs.RunReading.{read_checked};
+ghost use Rattle.sstable_blocks.specs.Sources.{GivesOr};
+ghost use Rattle.sst.specs.TableReads.{sst_hashes, PrintsAnswerOf};
 ghost use Rattle.sst.specs.Outcome.{answer_text_of, PrintsAnswer, PrintsNothing, IsRefused};
 
 use crate::fault::Fault;
@@ -7,21 +13,28 @@ use crate::lines::answer_line;
 use crate::output::print_text;
 use crate::table::open_table;
 use crate::words::GetWords;
-use sstable_blocks::{Error, InternalValue, Poly31, Result, read_entry_checked};
+use sstable_blocks::{
+    Error, FrameSource, InternalValue, Poly31, Result, RunHandles, read_entry_checked,
+};
 use std::alloc::Global;
 use std::io::Write;
 use std::rt::Files;
 
-// The first match in a table file.
-fn find<R: Files>(rt: &R, alloc: Global, words: &GetWords<'_>) -> Result<Option<InternalValue>> {
-    let mut table = open_table(rt, alloc, words.file())?;
-    read_entry_checked::<Poly31, _>(
-        alloc,
-        &mut table.source,
-        &table.handles,
-        words.needle(),
-        words.seqno(),
-    )
+// The first match in a run.
+fn find<S: FrameSource>(
+    alloc: Global,
+    source: &mut S,
+    handles: &RunHandles,
+    words: &GetWords<'_>,
+) -> Result<Option<InternalValue>>
+    ensures same { S.bytes source.new ≡ S.bytes source.old }
+    ensures failures_grow { S.failures source.old ≤ S.failures source.new }
+    ensures io { IfErr result (λ e. e ≡ Io → S.failures source.old < S.failures source.new) }
+    ensures exact { IfSome (S.bytes source.old) (λ all.
+        GivesOr (S.failures source.old < S.failures source.new) (λ x. x) result
+        (read_checked sst_hashes all handles.now words.now.needle words.now.seqno)) }
+{
+    read_entry_checked::<Poly31, S>(alloc, source, handles, words.needle(), words.seqno())
 }
 
 // The line of what is found, with its line feed.
@@ -32,6 +45,36 @@ fn answer_text(alloc: Global, found: Option<InternalValue>) -> Result<String>
     let mut text = answer_line(alloc, found)?;
     text.push('\n')?;
     Ok(text)
+}
+
+/// Prints the entry that is found in a run, or `none`.
+///
+/// # Errors
+///
+/// As [`get`], once the file is open.
+pub fn print_found<S: FrameSource, O: Write>(
+    alloc: Global,
+    source: &mut S,
+    handles: &RunHandles,
+    words: &GetWords<'_>,
+    output: &mut O,
+) -> Result<()>
+    ensures same { S.bytes source.new ≡ S.bytes source.old }
+    ensures failures_grow { S.failures source.old ≤ S.failures source.new }
+    ensures printed { OnOk result (PrintsAnswer (O.contents output.old) (O.contents output.new)) }
+    ensures kept { IfErr result (λ e. (e ≡ Io) ⊎ Keeps (O.contents output.old) (O.contents output.new)) }
+    ensures exact { IfSome (S.bytes source.old) (λ all. OnOk result (PrintsAnswerOf
+        (read_checked sst_hashes all handles.now words.now.needle words.now.seqno)
+        (O.contents output.old) (O.contents output.new))) }
+    ensures refused { IfSome (S.bytes source.old) (λ all. IfErr result (λ e. e ≢ Memory → e ≢ Io
+        → read_checked sst_hashes all handles.now words.now.needle words.now.seqno ≡ Err e)) }
+    ensures io { IfSome (S.bytes source.old) (λ all. IfErr result (λ e. e ≡ Io
+        → (S.failures source.old < S.failures source.new)
+        ⊎ IsOk (read_checked sst_hashes all handles.now words.now.needle words.now.seqno))) }
+{
+    let found = find(alloc, source, handles, words)?;
+    let text = answer_text(alloc, found)?;
+    print_text(output, text.as_bytes())
 }
 
 /// Prints the entry that is found in a table file, or `none`. A needle that is too long for a key
@@ -52,8 +95,7 @@ pub fn get<R: Files, O: Write>(
     ensures err { IfErr result IsRefused }
     ensures kept { IfErr result (PrintsNothing (O.contents output.old) (O.contents output.new)) }
 {
-    let found = find(rt, alloc, words)?;
-    let text = answer_text(alloc, found)?;
-    print_text(output, text.as_bytes())?;
+    let mut table = open_table(rt, alloc, words.file())?;
+    print_found(alloc, &mut table.source, &table.handles, words, output)?;
     Ok(())
 }

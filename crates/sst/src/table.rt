@@ -1,7 +1,11 @@
 //! Table files: a run and its footer.
+ghost use Rattle.std.specs.Prelude.{◌≡◌, ◌≤◌, ◌<◌, length, IfErr, IfSome};
+ghost use Rattle.sst_base.specs.declared.error.Error.TheVariants.{Io};
+ghost use Rattle.sst.specs.TableReads.{table_handles, index_read, block_read};
+ghost use Rattle.sstable_blocks.specs.Sources.{GivesOr};
 
 use crate::footer::{FOOTER_LEN, handles_in};
-use sstable_blocks::run::checked::block_from;
+use sstable_blocks::run::checked::{block_from, check_data, check_index};
 use sstable_blocks::{
     BlockHandle, BlockOffset, BlockType, DataBlock, Error, FileSource, FrameSource, IndexBlock,
     Input, Poly31, Result, RunHandles, SeekInput,
@@ -59,12 +63,28 @@ pub fn open_table<R: Files>(rt: &R, alloc: Global, name: &str) -> Result<Table<R
         file: fs::open(rt, name)?,
     };
     let len = file.seek(SeekFrom::End(0))?;
+    let mut source = FileSource::new(file);
+    let handles = read_footer(alloc, &mut source, len)?;
+    Ok(Table { source, handles })
+}
+
+/// Reads the footer of a table of this length.
+///
+/// # Errors
+///
+/// Those of `FrameSource::read_frame`, then `Error::Truncated` below 24 bytes.
+pub fn read_footer<S: FrameSource>(alloc: Global, source: &mut S, len: u64) -> Result<RunHandles>
+    ensures same { S.bytes source.new ≡ S.bytes source.old }
+    ensures failures_grow { S.failures source.old ≤ S.failures source.new }
+    ensures io { IfErr result (λ e. e ≡ Io → S.failures source.old < S.failures source.new) }
+    ensures exact { IfSome (S.bytes source.old) (λ all. len ≡ length all
+        → GivesOr (S.failures source.old < S.failures source.new) (λ h. h) result
+        (table_handles all)) }
+{
     let size = len.min(FOOTER_LEN as u64);
     let footer = BlockHandle::new(BlockOffset(len - size), size as u32);
-    let mut source = FileSource::new(file);
     let footer = source.read_frame(alloc, &footer)?;
-    let handles = handles_in(footer.as_slice())?;
-    Ok(Table { source, handles })
+    handles_in(footer.as_slice())
 }
 
 /// Reads and checks the index of a run.
@@ -73,13 +93,21 @@ pub fn open_table<R: Files>(rt: &R, alloc: Global, name: &str) -> Result<Table<R
 ///
 /// Those of its frame, then `Error::InvalidTag` if it is of another type, then those of
 /// `IndexBlock::check`. `Error::Memory` if an allocation fails.
+#[tactic(auto, unfolding(crate::specs::TableReads::index_read))]
 pub fn index_at<S: FrameSource>(
     alloc: Global,
     source: &mut S,
     handle: &BlockHandle,
-) -> Result<IndexBlock> {
+) -> Result<IndexBlock>
+    ensures same { S.bytes source.new ≡ S.bytes source.old }
+    ensures failures_grow { S.failures source.old ≤ S.failures source.new }
+    ensures io { IfErr result (λ e. e ≡ Io → S.failures source.old < S.failures source.new) }
+    ensures exact { IfSome (S.bytes source.old) (λ all.
+        GivesOr (S.failures source.old < S.failures source.new) (λ b. b.items) result
+        (index_read all handle.now)) }
+{
     let block = block_from::<Poly31, S>(alloc, source, handle, BlockType::Index)?;
-    IndexBlock::check(block)
+    check_index(block)
 }
 
 /// Reads and checks a data block of a run.
@@ -88,11 +116,19 @@ pub fn index_at<S: FrameSource>(
 ///
 /// Those of its frame, then `Error::InvalidTag` if it is of another type, then those of
 /// `DataBlock::check`. `Error::Memory` if an allocation fails.
+#[tactic(auto, unfolding(crate::specs::TableReads::block_read))]
 pub fn data_block_at<S: FrameSource>(
     alloc: Global,
     source: &mut S,
     handle: &BlockHandle,
-) -> Result<DataBlock<Poly31>> {
+) -> Result<DataBlock<Poly31>>
+    ensures same { S.bytes source.new ≡ S.bytes source.old }
+    ensures failures_grow { S.failures source.old ≤ S.failures source.new }
+    ensures io { IfErr result (λ e. e ≡ Io → S.failures source.old < S.failures source.new) }
+    ensures exact { IfSome (S.bytes source.old) (λ all.
+        GivesOr (S.failures source.old < S.failures source.new) (λ b. b.items) result
+        (block_read all handle.now)) }
+{
     let block = block_from::<Poly31, S>(alloc, source, handle, BlockType::Data)?;
-    DataBlock::check(alloc, block)
+    check_data::<Poly31>(alloc, block)
 }

@@ -1,9 +1,12 @@
 //! `walk`: all entries of a table file.
-ghost use Rattle.std.specs.Prelude.{◌≡◌, ◌⊎◌, OnOk, IfOk, IfErr, IsOkUnless, string_bytes};
+ghost use Rattle.std.specs.Prelude.{◌≡◌, ◌≢◌, ◌⊎◌, ◌≤◌, ◌<◌, None, Some, Err, OnOk, IfOk, IfErr};
+ghost use Rattle.std.specs.Prelude.{IfSome, IsOk, IsOkUnless, string_bytes};
 ghost use Rattle.std.specs.Io.KnownBytes.{Keeps};
-ghost use Rattle.sst_base.specs.declared.error.Error.TheVariants.{Io};
+ghost use Rattle.sst_base.specs.declared.error.Error.TheVariants.{Io, Memory};
 ghost use Rattle.sst.specs.declared.fault.Fault.TheVariants.{Refused};
 ghost use Rattle.sst.specs.Outcome.{lines_text_of, PrintsLines, IsRefused};
+ghost use Rattle.sst.specs.TableReads.{block_read, blocks_read, run_blocks};
+ghost use Rattle.sst.specs.TableReads.{PrintsLinesOf, PrintsUntil, PrintsFirst};
 
 use crate::fault::Fault;
 use crate::lines::entry_line;
@@ -35,8 +38,16 @@ fn print_block<S: FrameSource, O: Write>(
     handle: &BlockHandle,
     output: &mut O,
 ) -> Result<()>
+    ensures same { S.bytes source.new ≡ S.bytes source.old }
+    ensures failures_grow { S.failures source.old ≤ S.failures source.new }
     ensures printed { OnOk result (PrintsLines (O.contents output.old) (O.contents output.new)) }
     ensures kept { IfErr result (λ e. (e ≡ Io) ⊎ Keeps (O.contents output.old) (O.contents output.new)) }
+    ensures exact { IfSome (S.bytes source.old) (λ all. OnOk result
+        (PrintsLinesOf (block_read all handle.now) (O.contents output.old) (O.contents output.new))) }
+    ensures refused { IfSome (S.bytes source.old) (λ all. IfErr result (λ e. e ≢ Memory → e ≢ Io
+        → block_read all handle.now ≡ Err e)) }
+    ensures io { IfSome (S.bytes source.old) (λ all. IfErr result (λ e. e ≡ Io
+        → (S.failures source.old < S.failures source.new) ⊎ IsOk (block_read all handle.now))) }
 {
     let block = data_block_at(alloc, source, handle)?;
     let text = lines_of(alloc, &block)?;
@@ -44,21 +55,60 @@ fn print_block<S: FrameSource, O: Write>(
 }
 
 // Prints the entries of the blocks of an index, each after its check.
-#[tactic(auto, using(crate::proofs::Outcomes::prints_nothing, crate::proofs::Outcomes::prints_more, crate::proofs::Outcomes::prints_kept))]
+#[tactic(auto, using(crate::proofs::Outcomes::prints_kept))]
 fn print_blocks<S: FrameSource, O: Write>(
     alloc: Global,
     source: &mut S,
     index: &IndexBlock,
     output: &mut O,
 ) -> Result<()>
+    ensures same { S.bytes source.new ≡ S.bytes source.old }
+    ensures failures_grow { S.failures source.old ≤ S.failures source.new }
     ensures printed { OnOk result (PrintsLines (O.contents output.old) (O.contents output.new)) }
     ensures kept { IfErr result (λ e. (e ≡ Io) ⊎ PrintsLines (O.contents output.old) (O.contents output.new)) }
+    ensures exact { IfSome (S.bytes source.old) (λ all. OnOk result
+        (PrintsUntil (O.contents output.old) (O.contents output.new)
+        (blocks_read all index.now.items) None)) }
+    ensures refused { IfSome (S.bytes source.old) (λ all. IfErr result (λ e. e ≢ Memory → e ≢ Io
+        → PrintsUntil (O.contents output.old) (O.contents output.new)
+        (blocks_read all index.now.items) (Some e))) }
+    ensures first { IfSome (S.bytes source.old) (λ all. IfErr result (λ e. (e ≡ Io)
+        ⊎ PrintsFirst (O.contents output.old) (O.contents output.new)
+        (blocks_read all index.now.items))) }
 {
     for item in index.iter() {
         let handle = BlockHandle::new(item.offset, item.size);
         print_block(alloc, source, &handle, output)?;
     }
     Ok(())
+}
+
+/// Prints all entries of a run in order, by the handle of its index.
+///
+/// # Errors
+///
+/// As [`walk`], once the file is open.
+pub fn print_entries<S: FrameSource, O: Write>(
+    alloc: Global,
+    source: &mut S,
+    index: &BlockHandle,
+    output: &mut O,
+) -> Result<()>
+    ensures same { S.bytes source.new ≡ S.bytes source.old }
+    ensures failures_grow { S.failures source.old ≤ S.failures source.new }
+    ensures printed { OnOk result (PrintsLines (O.contents output.old) (O.contents output.new)) }
+    ensures kept { IfErr result (λ e. (e ≡ Io) ⊎ PrintsLines (O.contents output.old) (O.contents output.new)) }
+    ensures exact { IfSome (S.bytes source.old) (λ all. OnOk result
+        (PrintsUntil (O.contents output.old) (O.contents output.new)
+        (run_blocks all index.now) None)) }
+    ensures refused { IfSome (S.bytes source.old) (λ all. IfErr result (λ e. e ≢ Memory → e ≢ Io
+        → PrintsUntil (O.contents output.old) (O.contents output.new)
+        (run_blocks all index.now) (Some e))) }
+    ensures first { IfSome (S.bytes source.old) (λ all. IfErr result (λ e. (e ≡ Io)
+        ⊎ PrintsFirst (O.contents output.old) (O.contents output.new) (run_blocks all index.now))) }
+{
+    let index = index_at(alloc, source, index)?;
+    print_blocks(alloc, source, &index, output)
 }
 
 /// Prints all entries of a table file in order, a line each, block by block. The filter is not
@@ -81,7 +131,6 @@ pub fn walk<R: Files, O: Write>(
     ensures kept { IfErr result (λ fault. (fault ≡ Refused Io) ⊎ PrintsLines (O.contents output.old) (O.contents output.new)) }
 {
     let mut table = open_table(rt, alloc, file)?;
-    let index = index_at(alloc, &mut table.source, &table.handles.index)?;
-    print_blocks(alloc, &mut table.source, &index, output)?;
+    print_entries(alloc, &mut table.source, &table.handles.index, output)?;
     Ok(())
 }

@@ -1,5 +1,7 @@
 //! The words after the program's name.
-ghost use Rattle.std.specs.Prelude.{◌≡◌, ◌≤◌, IfOk, IfSome, IsOkUnless, map};
+ghost use Rattle.std.specs.Prelude.{◌≡◌, ◌≤◌, ◌⊎◌, IfErr, IfOk, IfSome, IsOkUnless, map};
+ghost use Rattle.sst_base.specs.declared.error.Error.TheVariants.{Memory};
+ghost use Rattle.sst.specs.declared.fault.Fault.TheVariants.{Usage, Refused};
 ghost use Rattle.std.specs.Option.{option_map};
 ghost use Rattle.sst.specs.Text.{number_within};
 ghost use Rattle.sst.specs.Commands.{name_of, file_of, query_of, point_of_words, ratio_of};
@@ -470,7 +472,9 @@ fn file_word<W: AsSlice<u8>>(words: &[W]) -> Option<FileName<'_>>
 /// # Errors
 ///
 /// `Fault::Usage` if an argument is not UTF-8, and `Error::Memory` if an allocation fails.
-pub fn words_of<R: Env + Alloc>(rt: &R) -> std::result::Result<Vec<String<R::A>, R::A>, Fault> {
+pub fn words_of<R: Env + Alloc>(rt: &R) -> std::result::Result<Vec<String<R::A>, R::A>, Fault>
+    ensures err { IfErr result (λ fault. (fault ≡ Usage) ⊎ (fault ≡ Refused Memory)) }
+{
     match env::args(rt) {
         Ok(words) => Ok(words.skip(1).collect(rt.alloc())?),
         Err(error) if error.kind() == ErrorKind::InvalidData => Err(Fault::Usage),

@@ -65,8 +65,12 @@ fn ask_filter(block: Block, hash: u64) -> Result<bool>
     filter.maybe_contains_hash(hash)
 }
 
-// The data block of a block of any bytes.
-fn check_data<H: BlockHash>(alloc: Global, block: Block) -> Result<DataBlock<H>>
+/// Takes a block of any bytes as a data block, if it passes `DataBlock::check`.
+///
+/// # Errors
+///
+/// Those of `DataBlock::check`, and never `Error::Io`.
+pub fn check_data<H: BlockHash>(alloc: Global, block: Block) -> Result<DataBlock<H>>
     ensures exact { GivesOr ⊥ (λ b. b.items) result (data_check H.hash64 block.payload) }
     ensures not_io { IfErr result (λ e. e ≢ Io) }
 {
@@ -74,8 +78,12 @@ fn check_data<H: BlockHash>(alloc: Global, block: Block) -> Result<DataBlock<H>>
     DataBlock::<H>::check(alloc, block)
 }
 
-// The index block of a block of any bytes.
-fn check_index(block: Block) -> Result<IndexBlock>
+/// Takes a block of any bytes as an index block, if it passes `IndexBlock::check`.
+///
+/// # Errors
+///
+/// Those of `IndexBlock::check`, and never `Error::Io`.
+pub fn check_index(block: Block) -> Result<IndexBlock>
     ensures exact { GivesOr ⊥ (λ b. b.items) result (index_check block.payload) }
     ensures not_io { IfErr result (λ e. e ≢ Io) }
 {
