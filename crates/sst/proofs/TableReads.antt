@@ -1,7 +1,7 @@
 -- Reading the blocks of an index one by one.
-use Rattle.std.proofs.Common.{◌≡◌, ◌≢◌, ◌⊎◌, ℕ, ◌+◌, ◌-◌, ◌^◌, inl, inr, List, [], ◌∷◌, ◌++◌, length, take, drop, min, arith, refl, sym, ◌∙◌, ap, subst, append_assoc, append-nil, length-append, length-drop, Option, Some, None, Result, Ok, Err, IfSome, IfErr, true, false, if◌then◌else◌}
+use Rattle.std.proofs.Common.{◌≡◌, ◌≢◌, ◌⊎◌, ℕ, ◌+◌, ◌-◌, ◌^◌, ◌≤◌, inl, inr, List, [], ◌∷◌, ◌++◌, length, take, drop, min, arith, refl, sym, ◌∙◌, ap, subst, append_assoc, append-nil, length-append, length-drop, Option, Some, None, Result, Ok, Err, IfSome, IfErr, true, false, if◌then◌else◌}
 use Rattle.std.proofs.Math.Seq.{take-append_seam, take-length}
-use Rattle.std.specs.Prelude.{nat_lt, nat_le}
+use Rattle.std.specs.Prelude.{IsOk, nat_lt, nat_le}
 use Rattle.std.proofs.lemmas.Bool.Decides.{nat_tests}
 use Rattle.std.proofs.KnownBytes.{Appends-nil, Appends-trans, Appends-kept}
 use Rattle.std.specs.Io.KnownBytes.{Appends, Keeps}
@@ -234,4 +234,25 @@ counts_fail_on (Some all) o' hs s t p h count error P Q same to is gives later f
       | inl failed ↦ inl (failed.0, later failed.1)
       | inr refused ↦ inr (counts_refused all hs (blocks_read all (items_left s.window)) (blocks_read all (items_left t.window)) count error to
           (read_step all s t p h (Err error) is gives (count_refused (block_read all h) error refused)))
+    ]
+
+ok_read : (read : Result (List Entry) Error) → IsOk read → (items : List Entry) × (read ≡ Ok items)
+ok_read (Ok items) h = (items, refl)
+ok_read (Err d) h = absurd (let wrong : false ≡ true = h in cc)
+
+-- printing fails only where a block was read, or the source failed
+pub prints_io_on : (o o' old now : Option (List ℕ)) (hs : List Handle) (s t : Scan Handle) (p : IndexBlockParsedItem) (h : HandleParts) (P Q : Type 0) (error : Error) → o' ≡ o
+    → IfSome o (λ all. PrintsTo old now (blocks_read all hs) (blocks_read all (items_left s.window))) → h ≡ record { offset = p.offset.0; size = p.size } → GivesNextHeld handle_of IsParsedHandle s (Some p) t
+    → (P → Q) → IfSome o' (λ all. error ≡ Io → P ⊎ IsOk (block_read all h)) → IfSome o (λ all. error ≡ Io → Q ⊎ (1 ≤ length (before_refusal (blocks_read all hs))))
+prints_io_on None o' old now hs s t p h P Q error same to is gives later fails = tt
+prints_io_on (Some all) o' old now hs s t p h P Q error same to is gives later fails = λ io.
+    elim ((subst (λ x. IfSome x (λ bytes. error ≡ Io → P ⊎ IsOk (block_read bytes h))) same fails) io) [
+      | inl failed ↦ inl (later failed)
+      | inr ok ↦ (
+          let r = ok_read (block_read all h) ok in
+          let next = read_next (blocks_read all hs) (blocks_read all (items_left s.window)) (blocks_read all (items_left t.window)) to.done r.0 to.read (read_step all s t p h (Ok r.0) is gives r.1) in
+          let whole = ap length next.before in
+          let parts = length-append (to.done ++ (r.0 ∷ [])) (before_refusal (blocks_read all (items_left t.window))) in
+          let front = length-append to.done (r.0 ∷ []) in
+          inr (omega (arith, whole, parts, front)))
     ]

@@ -1,11 +1,11 @@
 //! `walk`: all entries of a table file.
 ghost use Rattle.std.specs.Prelude.{◌≡◌, ◌≢◌, ◌⊎◌, ◌≤◌, ◌<◌, None, Some, Err, OnOk, IfOk, IfErr};
-ghost use Rattle.std.specs.Prelude.{IfSome, IsOk, IsOkUnless, string_bytes};
+ghost use Rattle.std.specs.Prelude.{IfSome, IsOk, length, IsOkUnless, string_bytes};
 ghost use Rattle.std.specs.Io.KnownBytes.{Keeps};
 ghost use Rattle.sst_base.specs.declared.error.Error.TheVariants.{Io, Memory};
 ghost use Rattle.sst.specs.declared.fault.Fault.TheVariants.{Refused};
 ghost use Rattle.sst.specs.Outcome.{lines_text_of, PrintsLines, IsRefused};
-ghost use Rattle.sst.specs.TableReads.{block_read, blocks_read, run_blocks};
+ghost use Rattle.sst.specs.TableReads.{block_read, blocks_read, run_blocks, before_refusal};
 ghost use Rattle.sst.specs.TableReads.{PrintsLinesOf, PrintsUntil, PrintsFirst};
 
 use crate::fault::Fault;
@@ -75,6 +75,9 @@ fn print_blocks<S: FrameSource, O: Write>(
     ensures first { IfSome (S.bytes source.old) (λ all. IfErr result (λ e. (e ≡ Io)
         ⊎ PrintsFirst (O.contents output.old) (O.contents output.new)
         (blocks_read all index.now.items))) }
+    ensures io { IfSome (S.bytes source.old) (λ all. IfErr result (λ e. e ≡ Io
+        → (S.failures source.old < S.failures source.new)
+        ⊎ (1 ≤ length (before_refusal (blocks_read all index.now.items))))) }
 {
     for item in index.iter() {
         let handle = BlockHandle::new(item.offset, item.size);
@@ -105,7 +108,11 @@ pub fn print_entries<S: FrameSource, O: Write>(
         → PrintsUntil (O.contents output.old) (O.contents output.new)
         (run_blocks all index.now) (Some e))) }
     ensures first { IfSome (S.bytes source.old) (λ all. IfErr result (λ e. (e ≡ Io)
-        ⊎ PrintsFirst (O.contents output.old) (O.contents output.new) (run_blocks all index.now))) }
+        ⊎ PrintsFirst (O.contents output.old) (O.contents output.new)
+        (run_blocks all index.now))) }
+    ensures io { IfSome (S.bytes source.old) (λ all. IfErr result (λ e. e ≡ Io
+        → (S.failures source.old < S.failures source.new)
+        ⊎ (1 ≤ length (before_refusal (run_blocks all index.now))))) }
 {
     let index = index_at(alloc, source, index)?;
     print_blocks(alloc, source, &index, output)

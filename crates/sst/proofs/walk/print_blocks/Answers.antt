@@ -2,7 +2,7 @@ use Rattle.std.proofs.Common.{◌∙◌, ap, refl, arith, inl, inr, Ok, Err}
 use Rattle.std.proofs.lemmas.Result.{err_from_is_err_and}
 use Rattle.std.proofs.KnownBytes.{Keeps-refl}
 use Rattle.sst.proofs.Outcomes.{prints_nothing, prints_more}
-use Rattle.sst.proofs.TableReads.{known_both, known_all, known_one, read_step, read_whole, read_over, prints_start, prints_next, prints_all, prints_refused, prints_first, kept_unless}
+use Rattle.sst.proofs.TableReads.{known_both, known_all, known_one, read_step, read_whole, read_over, prints_start, prints_next, prints_all, prints_refused, prints_first, prints_io_on, kept_unless}
 use Rattle.sst.proofs.walk.print_blocks.Goals as goal
 
 pub loop-item-init : goal.loop-item-init
@@ -42,3 +42,10 @@ returns-in_err-print_block-clause-first g c =
 
 pub returns-clause-exact : goal.returns-clause-exact
 returns-clause-exact g c = known_one _ _ _ (λ all p. prints_all _ _ _ _ p (read_over all _ _ c.in-None.ensures.steps) (Keeps-refl _)) c.loop-item.invariant.known
+
+pub returns-in_err-print_block-clause-io : goal.returns-in_err-print_block-clause-io
+returns-in_err-print_block-clause-io g c =
+    let i = c.loop-item.invariant in
+    let e = c.in_err-print_block.ensures in
+    let r = err_from_is_err_and c.from_residual.result c.from_residual.ensures.1 in
+    rw (r.1, r.2) (prints_io_on _ _ _ _ _ _ _ _ _ _ _ _ i.same i.known c.new-handle.ensures c.in-Some.ensures.steps (λ less. omega (arith, less, i.failures_grow)) e.io)
