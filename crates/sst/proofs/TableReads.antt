@@ -159,6 +159,14 @@ handles_not_io bytes = elim (nat_lt (length bytes) 24) as (λ b. NotIo {A = RunH
   | false ↦ tt
 ]
 
+-- a footer is refused as truncated alone
+pub handles_truncated : (P : Error → Type 0) → P Truncated → (r : Result RunHandles Error) (bytes : List ℕ) → r ≡ handles_at bytes → IfErr r P
+unfolding handles_at
+handles_truncated P truncated r bytes e = rw e (elim (nat_lt (length bytes) 24) as (λ b. IfErr {T = RunHandles} (if b then Err Truncated else Ok (record { index = parts_at bytes; filter = filter_of (parts_at (drop 12 bytes)) })) P) [
+  | true ↦ truncated
+  | false ↦ tt
+])
+
 -- in the range of the footer are the last 24 bytes
 pub footer_range : (all : List ℕ) (len size : ℕ) (h : HandleParts) → len ≡ length all → size ≡ min len 24 → h ≡ record { offset = len - size; size = size } → range_at all h ≡ Ok (drop (length all - 24) all)
 unfolding range_at

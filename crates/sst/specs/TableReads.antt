@@ -21,7 +21,11 @@ use Rattle.sst.specs.Outcome.{lines_text_of, answer_text_of, checked_text_of}
 abbrev pub sst_hashes : Hashes
 sst_hashes = hashes (poly31 64) (poly31 128)
 
--- the handles in the footer of a table: its last 24 bytes
+-- where the footer of a table of this length is: its last 24 bytes
+abbrev pub footer_place : ℕ → HandleParts
+footer_place len = record { offset = len - min len 24; size = min len 24 }
+
+-- the handles in the footer of a table
 unfoldable pub table_handles : List ℕ → Result RunHandles Error
 table_handles bytes = handles_at (drop (length bytes - 24) bytes)
 

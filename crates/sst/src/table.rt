@@ -1,7 +1,7 @@
 //! Table files: a run and its footer.
-ghost use Rattle.std.specs.Prelude.{◌≡◌, ◌≤◌, ◌<◌, length, IfErr, IfSome};
-ghost use Rattle.sst_base.specs.declared.error.Error.TheVariants.{Io};
-ghost use Rattle.sst.specs.TableReads.{table_handles, index_read, block_read};
+ghost use Rattle.std.specs.Prelude.{◌≡◌, ◌⊎◌, ◌≤◌, ◌<◌, length, IfErr, IfSome};
+ghost use Rattle.sst_base.specs.declared.error.Error.TheVariants.{Io, Truncated, BadHandle, Memory};
+ghost use Rattle.sst.specs.TableReads.{footer_place, table_handles, index_read, block_read};
 ghost use Rattle.sstable_blocks.specs.Sources.{GivesOr};
 
 use crate::footer::{FOOTER_LEN, handles_in};
@@ -58,7 +58,9 @@ pub struct Table<F> {
 ///
 /// `Error::Io` if the file cannot be opened or read, `Error::Truncated` below 24 bytes, and
 /// `Error::Memory` if an allocation fails.
-pub fn open_table<R: Files>(rt: &R, alloc: Global, name: &str) -> Result<Table<R::File>> {
+pub fn open_table<R: Files>(rt: &R, alloc: Global, name: &str) -> Result<Table<R::File>>
+    ensures err { IfErr result (λ e. (e ≡ Io) ⊎ (e ≡ Truncated) ⊎ (e ≡ Memory)) }
+{
     let mut file = TableFile {
         file: fs::open(rt, name)?,
     };
@@ -80,6 +82,8 @@ pub fn read_footer<S: FrameSource>(alloc: Global, source: &mut S, len: u64) -> R
     ensures exact { IfSome (S.bytes source.old) (λ all. len ≡ length all
         → GivesOr (S.failures source.old < S.failures source.new) (λ h. h) result
         (table_handles all)) }
+    ensures errors { IfErr result (λ e. (e ≡ Io) ⊎ (e ≡ Truncated) ⊎ (e ≡ Memory)
+        ⊎ ((e ≡ BadHandle) × S.may_refuse source.old (footer_place len))) }
 {
     let size = len.min(FOOTER_LEN as u64);
     let footer = BlockHandle::new(BlockOffset(len - size), size as u32);

@@ -1,22 +1,26 @@
 -- A pass over items, one item more.
-use Rattle.std.proofs.Common.{◌≡◌, ◌≢◌, ◌↔◌, ℕ, ◌*◌, ◌/◌, ◌%◌, ◌<◌, ◌≤◌, ◌&&◌, Bool, true, false, IsTrue, IfSome, List, [], ◌∷◌, ◌++◌, length, drop, get_or, Option, Some, None, refl, sym, ap, subst, ◌∙◌, arith, inl, inr, length-drop}
+use Rattle.std.proofs.Common.{◌≡◌, ◌≢◌, ◌↔◌, ℕ, ◌+◌, ◌*◌, ◌/◌, ◌%◌, ◌<◌, ◌≤◌, ◌&&◌, Bool, true, false, IsTrue, IfSome, List, [], ◌∷◌, ◌++◌, length, drop, get_or, Option, Some, None, refl, sym, ap, subst, ◌∙◌, arith, inl, inr, length-drop}
 use Rattle.std.specs.List.{AllByRecursion}
 use Rattle.std.specs.Ordering.{nat_cmp, ordering_then}
 use Rattle.std.specs.Cmp.Lexicographic.{slice_cmp}
 use Rattle.std.specs.declared.cmp.Ordering.{Ordering}
 use Rattle.std.specs.declared.cmp.Ordering.TheVariants.{Less}
 use Rattle.std.proofs.lemmas.Bool.{cases_lt}
-use Rattle.std.proofs.lemmas.List.{length_push, take_all}
-use Rattle.std.proofs.lemmas.Nat.{div-add-mod'}
+use Rattle.std.proofs.lemmas.Cmp.{ranked}
+use Rattle.std.proofs.lemmas.List.{length_push, take_all, at_drop_all}
+use Rattle.std.proofs.lemmas.Nat.{div-add-mod', mod-mul-add}
 use Rattle.std.proofs.Math.Nat.{mul-mod_left, mul-div_cancel_left}
 use Rattle.sst_base.specs.Bytes.{IsBytes}
 use Rattle.sst_base.specs.Order.{IsInOrder}
 use Rattle.sst_base.specs.ReadingLaws.{pair_parts}
 use Rattle.sst_block_core.specs.Kind.{Kind, IsKind, item_cmp}
 use Rattle.sst_block_core.specs.Body.{body, items_at, place_offset}
-use Rattle.sst_block_core.specs.KeyRanges.{IsKeyRanges, version_cmp, IsVersion, IsLast}
-use Rattle.sst_block_core.specs.Passes.{last_of, IsRead, ArePointed, IsPassing}
+use Rattle.sst_block_core.specs.KeyRanges.{key_by, IsKeyRanges, version_cmp, IsVersion, IsLast, least_version}
+use Rattle.sst_block_core.specs.Passes.{last_of, IsRead, ArePointed, IsAlong, HasNoHead}
+use Rattle.sst_base.specs.declared.table.util.SliceIndexes.{SliceIndexes}
+use Rattle.sst_block_core.specs.Found.{range_of}
 use Rattle.sst_block_core.specs.declared.table.block.check.keys.KeyVersion.{KeyVersion}
+use Rattle.sst_block_core.specs.declared.table.block.check.pass.Standing.{Standing}
 use Rattle.sst_block_core.proofs.ReadOn.{read_offset, read_none}
 use Rattle.sst_block_core.proofs.Written.{place_same}
 
@@ -102,53 +106,80 @@ module _ {X : Type 0} (kind : Kind X) (r : ℕ) (pos : 0 < r) (pointers : List �
         )),
       )
 
-module _ {X : Type 0} (kind : Kind X) (valid fits : X → Type 0) (laws : IsKind kind valid) (r : ℕ) (pos : 0 < r) (bytes pointers : List ℕ) (b : IsBytes bytes) where
-  -- a pass begins; P is what is known of its items besides
-  pub pass_none : (P : List X → Type 0) (base : List ℕ) → base ≡ [] → P [] → (k : IsPassing kind fits r bytes pointers 0 0 base None true true true) × P k.items
-  pass_none P base e known = (
-    record {
-      items = [];
-      read = read_none kind r bytes base e;
-      last_is = refl;
-      judged = record { fit = ((λ _. tt), (λ _. refl)); ordered = ((λ _. tt), (λ _. refl)); indexed = ((λ _. λ j h. absurd (omega (arith, h))), (λ _. refl)) };
-    },
-    known,
-  )
+and_true : (a : Bool) → (a && true) ≡ a
+and_true true = refl
+and_true false = refl
 
-  -- an item more
-  pub pass_more : (P : List X → Type 0) (place phase offset : ℕ) (base : List ℕ) (last : Option X) (a o i s t u : Bool) (p : IsPassing kind fits r bytes pointers place offset base last a o i) (x : X) (place' offset' : ℕ) (base' : List ℕ)
-      → phase ≡ place % r → IsRead kind r bytes (p.items ++ x ∷ []) place' offset' base' → IsTrue s ↔ fits x → IsTrue t ↔ IfSome last (λ l. item_cmp kind x l ≢ Less)
-      → IsTrue u ↔ (phase ≡ 0 → get_or pointers (place / r) 0 ≡ offset)
-      → P (p.items ++ x ∷ []) → (k : IsPassing kind fits r bytes pointers place' offset' base' (Some x) (a && s) (o && t) (i && u)) × P k.items
-  pass_more P place phase offset base last a o i s t u p x place' offset' base' in_row read fit keeps here known = (
-    record {
-      items = p.items ++ x ∷ [];
-      read = read;
-      last_is = sym (last_push p.items x);
-      judged = record {
-        fit = fit_push fits p.items x a s p.judged.fit fit;
-        ordered = order_push (item_cmp kind) p.items x last o t p.last_is p.judged.ordered keeps;
-        indexed = pointed_push kind r pos pointers p.items x place phase offset i u in_row p.read.count (read_offset kind r bytes p.items place offset base p.read valid laws pos b) p.judged.indexed here;
-      };
-    },
-    known,
-  )
+not_less : (m s : ℕ) → s ≤ m → nat_cmp m s ≢ Less
+not_less m s h e = let r = ranked m s Less (sym e) in omega (arith, r, h)
+
+-- nothing sorts before the empty key with the greatest sequence number
+not_before : (keys : List ℕ) (m s : ℕ) → s ≤ m → ordering_then (slice_cmp nat_cmp keys []) (nat_cmp m s) ≢ Less
+not_before [] m s h = not_less m s h
+not_before (k ∷ ks) m s h = λ e. cc e
 
 -- the order by what is kept of the last item is that of the items
-pub keeps_by : {X : Type 0} (kind : Kind X) (bytes : List ℕ) (last : Option KeyVersion) (y : Option X) (v : KeyVersion) (x : X) (t : Bool) → IsLast kind bytes last y → IsVersion kind bytes x v
-    → IsTrue t ↔ IfSome last (λ l. version_cmp bytes v l ≢ Less) → IsTrue t ↔ IfSome y (λ l. item_cmp kind x l ≢ Less)
-keeps_by kind bytes None None v x t seen is keeps = keeps
-keeps_by kind bytes None (Some y) v x t seen is keeps = absurd seen
-keeps_by kind bytes (Some l) None v x t seen is keeps = absurd seen
-keeps_by kind bytes (Some l) (Some y) v x t seen is keeps =
+pub keeps_by : {X : Type 0} (kind : Kind X) (bytes : List ℕ) (last : KeyVersion) (y : Option X) (v : KeyVersion) (x : X) (t : Bool) → v.seqno ≤ 18446744073709551615 → IsLast kind bytes last y → IsVersion kind bytes x v
+    → IsTrue t ↔ (version_cmp bytes v last ≢ Less) → IsTrue t ↔ IfSome y (λ l. item_cmp kind x l ≢ Less)
+keeps_by kind bytes l None v x t small seen is keeps =
+    let k : IsTrue t ↔ (version_cmp bytes v least_version ≢ Less) = subst (λ w. IsTrue t ↔ (version_cmp bytes v w ≢ Less)) seen keeps in
+    ((λ h. tt), (λ h. k.1 (not_before (key_by bytes v.key) 18446744073709551615 v.seqno small)))
+keeps_by kind bytes l (Some y) v x t small seen is keeps =
     let e : version_cmp bytes v l ≡ item_cmp kind x y = (λ i. ordering_then (slice_cmp nat_cmp (sym is.key i) (sym seen.key i)) (nat_cmp (sym seen.seqno i) (sym is.seqno i))) in
     subst (λ o. IsTrue t ↔ (o ≢ Less)) e keeps
 
 -- and its key lies in the bytes
-pub last_ranges : {X : Type 0} (kind : Kind X) (bytes : List ℕ) (last : Option KeyVersion) (y : Option X) → IsLast kind bytes last y → IfSome last (λ l. IsKeyRanges bytes l.key)
-last_ranges kind bytes None y seen = tt
-last_ranges kind bytes (Some l) None seen = absurd seen
-last_ranges kind bytes (Some l) (Some y) seen = seen.ranges
+pub last_ranges : {X : Type 0} (kind : Kind X) (bytes : List ℕ) (last : KeyVersion) (y : Option X) → IsLast kind bytes last y → IsKeyRanges bytes last.key
+last_ranges kind bytes l None seen =
+    let least : IsKeyRanges bytes least_version.key = record { front = record { order = omega arith; inside = omega arith }; rest = record { order = omega arith; inside = omega arith } } in
+    subst (λ w. IsKeyRanges bytes w.key) (sym seen) least
+last_ranges kind bytes l (Some y) seen = seen.ranges
+
+module _ {X : Type 0} (kind : Kind X) (valid fits : X → Type 0) (laws : IsKind kind valid) (r : ℕ) (pos : 0 < r) (bytes pointers : List ℕ) (b : IsBytes bytes) where
+  -- a pass begins
+  pub along_none : (last : KeyVersion) → last ≡ least_version
+      → IsAlong kind fits r bytes pointers [] (record { 0 = 0; 1 = 0 }) (record { offset = 0; last = last; passed = record { all_fit = true; is_ordered = true; is_indexed = true } })
+  along_none last e = record {
+    read = read_none kind r bytes [] refl;
+    last_is = e;
+    judged = record { fit = ((λ _. tt), (λ _. refl)); ordered = ((λ _. tt), (λ _. refl)); indexed = ((λ _. λ j h. absurd (omega (arith, h))), (λ _. refl)) };
+  }
+
+  module _ (xs : List X) (base : SliceIndexes) (from : Standing) (k : IsAlong kind fits r bytes pointers xs base from) (x : X) (v : KeyVersion) (offset : ℕ) (s t : Bool)
+      (small : v.seqno ≤ 18446744073709551615) (version : IsVersion kind bytes x v) (fit : IsTrue s ↔ fits x) (keeps : IsTrue t ↔ (version_cmp bytes v from.last ≢ Less)) where
+    -- an item more
+    pub along_head : (next : SliceIndexes) (u : Bool) → IsRead kind r bytes (xs ++ x ∷ []) (length xs + 1) offset (range_of bytes next)
+        → IsTrue u ↔ (length xs % r ≡ 0 → get_or pointers (length xs / r) 0 ≡ from.offset)
+        → IsAlong kind fits r bytes pointers (xs ++ x ∷ []) next (record { offset = offset; last = v; passed = record { all_fit = from.passed.all_fit && s; is_ordered = from.passed.is_ordered && t; is_indexed = from.passed.is_indexed && u } })
+    along_head next u read here = record {
+      read = subst (λ n. IsRead kind r bytes (xs ++ x ∷ []) n offset (range_of bytes next)) read.count read;
+      last_is = subst (IsLast kind bytes v) (sym (last_push xs x)) version;
+      judged = record {
+        fit = fit_push fits xs x from.passed.all_fit s k.judged.fit fit;
+        ordered = order_push (item_cmp kind) xs x (last_of xs) from.passed.is_ordered t refl k.judged.ordered (keeps_by kind bytes from.last (last_of xs) v x t small k.last_is version keeps);
+        indexed = pointed_push kind r pos pointers xs x (length xs) (length xs % r) from.offset from.passed.is_indexed u refl refl (read_offset kind r bytes xs (length xs) from.offset (range_of bytes base) k.read valid laws pos b) k.judged.indexed here;
+      };
+    }
+
+    -- one that is no head
+    pub along_rest : (length xs % r ≡ 0 → ⊥) → IsRead kind r bytes (xs ++ x ∷ []) (length xs + 1) offset (range_of bytes base)
+        → IsAlong kind fits r bytes pointers (xs ++ x ∷ []) base (record { offset = offset; last = v; passed = record { all_fit = from.passed.all_fit && s; is_ordered = from.passed.is_ordered && t; is_indexed = from.passed.is_indexed } })
+    along_rest rest read =
+        subst (λ i. IsAlong kind fits r bytes pointers (xs ++ x ∷ []) base (record { offset = offset; last = v; passed = record { all_fit = from.passed.all_fit && s; is_ordered = from.passed.is_ordered && t; is_indexed = i } }))
+        (and_true from.passed.is_indexed) (along_head base true read ((λ h. λ z. absurd (rest z)), (λ h. refl)))
+
+-- a head's place is the number of its interval times its length
+pub head_place : (r number n : ℕ) → 0 < r → n ≡ number * r → (n % r ≡ 0) × (n / r ≡ number)
+head_place r number n pos e =
+    let turned : n ≡ r * number = omega (arith, e) in
+    (ap (λ k. k % r) e ∙ mul-mod_left number r, ap (λ k. k / r) turned ∙ mul-div_cancel_left number pos)
+
+-- behind it stand no heads
+pub no_heads : (r number n len : ℕ) → 0 < r → n ≡ number * r → len + 1 ≤ r → HasNoHead r (n + 1) len
+no_heads r number n len pos e few k below z =
+    let e2 : n + 1 + k ≡ number * r + (k + 1) = omega (arith, e) in
+    let m : (n + 1 + k) % r ≡ k + 1 = ap (λ j. j % r) e2 ∙ mod-mul-add number r (k + 1) (omega arith) in
+    omega (arith, m, z)
 
 some_parts : {A B : Type 0} (a x : A) (b y : B) → ◌≡◌ {A = Option (A × B)} (Some (a, b)) (Some (x, y)) → b ≡ y
 some_parts a x b y e = let s : ◌≡◌ {A = _ × _} (a, b) (x, y) = cc in (pair_parts a x b y s).1
@@ -167,3 +198,7 @@ read_whole kind r n bytes xs ys rest e f =
     let s : ◌≡◌ {A = Option (List _ × List ℕ)} (Some (xs, rest)) (Some (ys, [])) = sym e ∙ f in
     let q : ◌≡◌ {A = List _ × List ℕ} (xs, rest) (ys, []) = cc in
     (pair_parts xs ys rest [] q).0
+
+-- and nothing is left of it there
+pub read_to_end : {X : Type 0} (kind : Kind X) (r n : ℕ) (bytes : List ℕ) (xs : List X) (offset : ℕ) → items_at kind r 0 n [] bytes ≡ Some (xs, drop offset bytes) → offset ≡ length bytes → items_at kind r 0 n [] bytes ≡ Some (xs, [])
+read_to_end kind r n bytes xs offset reads e = reads ∙ at_drop_all (λ ys. Some (xs, ys)) bytes offset (omega (arith, e))

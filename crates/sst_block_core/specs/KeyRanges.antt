@@ -26,8 +26,11 @@ pub record IsVersion {X : Type 0} (kind : Kind X) (payload : List ℕ) (x : X) (
   pub key : kind.key x ≡ key_by payload v.key
   pub seqno : kind.seqno x ≡ v.seqno
 
--- those of the last item, if there is one
-abbrev pub IsLast : {X : Type 0} → Kind X → List ℕ → Option KeyVersion → Option X → Type 0
-IsLast kind payload None None = Unit {0}
-IsLast kind payload (Some v) (Some x) = IsVersion kind payload x v
-IsLast kind payload _ _ = ⊥
+-- the empty key with the greatest sequence number: no item sorts before it
+abbrev pub least_version : KeyVersion
+least_version = record { key = record { front = record { 0 = 0; 1 = 0 }; rest = record { 0 = 0; 1 = 0 } }; seqno = 18446744073709551615 }
+
+-- those of the last item; the least where there is none
+abbrev pub IsLast : {X : Type 0} → Kind X → List ℕ → KeyVersion → Option X → Type 0
+IsLast kind payload v None = v ≡ least_version
+IsLast kind payload v (Some x) = IsVersion kind payload x v

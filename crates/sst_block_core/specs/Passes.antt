@@ -9,8 +9,10 @@ use Rattle.sst_block_core.specs.Trailer.{Trailer}
 use Rattle.sst_block_core.specs.Buckets.{bucket}
 use Rattle.sst_block_core.specs.Pointers.{head_count}
 use Rattle.sst_block_core.specs.Found.{range_of}
+use Rattle.sst_block_core.specs.KeyRanges.{IsLast}
 use Rattle.sst_base.specs.declared.table.util.SliceIndexes.{SliceIndexes}
 use Rattle.sst_block_core.specs.Stages.{items_by, HasTrailer, HasParts, HasForms, HasOrder, HasPointers, HasBuckets}
+use Rattle.sst_block_core.specs.declared.table.block.check.pass.Standing.{Standing}
 use Rattle.sst_block_core.specs.declared.table.block.trailer.TrailerNumbers.{TrailerNumbers}
 
 -- the numbers of a trailer, as code has them
@@ -53,12 +55,22 @@ pub record IsJudged {X : Type 0} (kind : Kind X) (fits : X → Type 0) (r : ℕ)
   pub ordered : IsTrue is_ordered ↔ IsOrdered kind xs
   pub indexed : IsTrue is_indexed ↔ ArePointed kind r pointers xs
 
--- a pass knows the items that it has read so far, the last of them, and what it found of them
-pub record IsPassing {X : Type 0} (kind : Kind X) (fits : X → Type 0) (r : ℕ) (body pointers : List ℕ) (place offset : ℕ) (base : List ℕ) (last : Option X) (all_fit is_ordered is_indexed : Bool) : Type 0 where
+-- a pass stands behind these items, of which the last head has its key in a range
+pub record IsAlong {X : Type 0} (kind : Kind X) (fits : X → Type 0) (r : ℕ) (body pointers : List ℕ) (xs : List X) (base : SliceIndexes) (at : Standing) : Type 0 where
+  pub read : IsRead kind r body xs (length xs) at.offset (range_of body base)
+  pub last_is : IsLast kind body at.last (last_of xs)
+  pub judged : IsJudged kind fits r pointers xs at.passed.all_fit at.passed.is_ordered at.passed.is_indexed
+
+-- a pass has come to stand behind so many items, of which this is known besides
+pub record GoesOn {X : Type 0} (kind : Kind X) (fits : X → Type 0) (r : ℕ) (body pointers : List ℕ) (n : ℕ) (base : SliceIndexes) (at : Standing) (known : List X → Type 0) : Type 0 where
   pub items : List X
-  pub read : IsRead kind r body items place offset base
-  pub last_is : last ≡ last_of items
-  pub judged : IsJudged kind fits r pointers items all_fit is_ordered is_indexed
+  pub count : length items ≡ n
+  pub along : IsAlong kind fits r body pointers items base at
+  pub besides : known items
+
+-- none of so many places from one on is that of a head
+abbrev pub HasNoHead : ℕ → ℕ → ℕ → Type 0
+HasNoHead r place len = (k : ℕ) → k < len → (place + k) % r ≡ 0 → ⊥
 
 -- a pass is over: the body is so many forms, and this was found of their items
 pub record IsPassed {X : Type 0} (kind : Kind X) (fits : X → Type 0) (r n : ℕ) (body pointers : List ℕ) (all_fit is_ordered is_indexed : Bool) : Type 0 where

@@ -1,7 +1,7 @@
 //! Immutable byte strings.
 ghost use Rattle.std.specs.Prelude.{◌≡◌, ◌+◌, ◌^◌, ◌<◌, ◌≤◌, ◌==◌, ◌++◌, [], length, slice_range};
 ghost use Rattle.std.specs.Prelude.{string_bytes, nat_eq, refl, Some, IfOk, IsOkUnless, IsTrue};
-ghost use Rattle.std.specs.Prelude.{◌↔◌, ℕ, List};
+ghost use Rattle.std.specs.Prelude.{◌↔◌, ◌⊎◌, ℕ, List, IfErr};
 ghost use Rattle.std.specs.Iterator.{IsFinite, Drains};
 ghost use Rattle.std.specs.Ordering.{nat_cmp};
 ghost use Rattle.std.specs.Range.Bound.{start_index, end_index};
@@ -11,6 +11,7 @@ ghost use Rattle.std.specs.Cmp.Lexicographic.{nat_list_cmp_total, texts_ties, te
 ghost use Rattle.std.specs.Cmp.{partial_equiv_from_equiv};
 ghost use Rattle.std.specs.Cmp.Rules.{hashing};
 ghost use Rattle.std.proofs.Common.{rules};
+ghost use Rattle.sst_base.specs.declared.error.Error.TheVariants.{Io, Memory};
 ghost use Rattle.sst_base.specs.Header.{bytes_at};
 ghost use Rattle.sst_base.specs.Inputs.{ReadsAllocating};
 
@@ -176,6 +177,7 @@ impl Slice {
             → ReadsAllocating (R.is_memory reader.old) result (R.remaining reader.new)
             (bytes_at len bytes) }
         ensures len { IfOk result (λ s. length s ≡ len) }
+        ensures errors { IfErr result (λ e. (e ≡ Io) ⊎ (e ≡ Memory)) }
         ensures kept { R.is_memory reader.old → R.is_memory reader.new }
     {
         let mut bytes = Vec::with_capacity(alloc, PIECE_LEN.min(len))?;

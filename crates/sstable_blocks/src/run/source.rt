@@ -1,6 +1,8 @@
 //! Sources of frames: memory and files.
-ghost use Rattle.std.specs.Prelude.{◌≡◌, ◌≢◌, ℕ, ◌+◌, ◌≤◌, ◌<◌, ◌^◌, List, Option, Some, None, IfErr, IfSome};
-ghost use Rattle.sst_base.specs.declared.error.Error.TheVariants.{Io};
+ghost use Rattle.std.specs.Prelude.{◌≡◌, ◌≢◌, ◌⊎◌, ℕ, ◌+◌, ◌≤◌, ◌<◌, ◌^◌, List, Option, Some, None};
+ghost use Rattle.std.specs.Prelude.{length, IfOk, IfErr, IfSome};
+ghost use Rattle.sst_base.specs.BlockHandle.{HandleParts};
+ghost use Rattle.sst_base.specs.declared.error.Error.TheVariants.{Io, BadHandle, Memory};
 ghost use Rattle.sstable_blocks.specs.RunReading.{range_at};
 ghost use Rattle.sstable_blocks.specs.Sources.{GivesOr};
 
@@ -19,6 +21,9 @@ pub trait FrameSource {
     // how often the source failed
     ghost failures: { Self → ℕ };
 
+    // may the range of a handle not be inside?
+    ghost may_refuse: { Self → HandleParts → Type 0 } = { λ _ _. Unit {0} };
+
     /// Reads the bytes that a handle names.
     ///
     /// # Errors
@@ -29,6 +34,9 @@ pub trait FrameSource {
         ensures same { bytes self.new ≡ bytes self.old }
         ensures failures_grow { failures self.old ≤ failures self.new }
         ensures io { IfErr result (λ e. e ≡ Io → failures self.old < failures self.new) }
+        ensures errors { IfErr result (λ e. (e ≡ Io) ⊎ (e ≡ Memory)
+            ⊎ ((e ≡ BadHandle) × may_refuse self.old handle.now)) }
+        ensures size { IfOk result (λ s. length s ≡ handle.now.size) }
         ensures range { IfSome (bytes self.old) (λ all. GivesOr (failures self.old < failures self.new)
             (λ s. s) result (range_at all handle.now)) };
 }
@@ -61,6 +69,8 @@ impl FrameSource for MemorySource {
     ghost bytes = { λ s. Some s };
 
     ghost failures = { λ s. 0 };
+
+    ghost may_refuse = { λ s h. length s < h.offset + h.size };
 
     #[tactic(auto, unfolding(crate::specs::RunReading::range_at))]
     fn read_frame(&mut self, alloc: Global, handle: &BlockHandle) -> Result<Slice> {
@@ -108,6 +118,8 @@ impl<F: SeekInput> FrameSource for FileSource<F> {
 
     ghost failures = { λ s. s };
 
+    ghost may_refuse = { λ s h. 2 ^ 64 ≤ h.offset + h.size };
+
     fn read_frame(&mut self, alloc: Global, handle: &BlockHandle) -> Result<Slice> {
         let offset = *handle.offset();
         if offset.checked_add(u64::from(handle.size())).is_none() {
@@ -122,7 +134,10 @@ impl<F: SeekInput> FrameSource for FileSource<F> {
 }
 
 // Moves a file to an offset, and reads so many bytes.
-fn read_at<F: SeekInput>(alloc: Global, file: &mut F, offset: u64, len: usize) -> Result<Slice> {
+fn read_at<F: SeekInput>(alloc: Global, file: &mut F, offset: u64, len: usize) -> Result<Slice>
+    ensures len { IfOk result (λ s. length s ≡ len) }
+    ensures errors { IfErr result (λ e. (e ≡ Io) ⊎ (e ≡ Memory)) }
+{
     file.seek(SeekFrom::Start(offset))?;
     Slice::from_reader(alloc, file, len)
 }

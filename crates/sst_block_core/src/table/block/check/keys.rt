@@ -1,9 +1,9 @@
 //! The order of two keys by their ranges of a payload.
-ghost use Rattle.std.specs.Prelude.{◌≡◌, ◌≢◌, ◌↔◌, ◌+◌, ◌≤◌, length, take, drop, IfSome, IsTrue};
+ghost use Rattle.std.specs.Prelude.{◌≡◌, ◌≢◌, ◌↔◌, ◌+◌, ◌≤◌, length, take, drop, IsTrue};
 ghost use Rattle.std.specs.Ordering.{nat_cmp};
 ghost use Rattle.std.specs.Cmp.Lexicographic.{slice_cmp};
 ghost use Rattle.std.specs.declared.cmp.Ordering.TheVariants.{Less};
-ghost use Rattle.sst_block_core.specs.KeyRanges.{key_by, IsKeyRanges, version_cmp};
+ghost use Rattle.sst_block_core.specs.KeyRanges.{key_by, IsKeyRanges, version_cmp, least_version};
 
 use crate::table::block::key_ranges::bytes_of;
 use byteorder::{BigEndian, ByteOrder};
@@ -119,17 +119,30 @@ pub(crate) fn compare_keys(payload: &[u8], a: &KeyRanges, b: &KeyRanges) -> Orde
     compare_apart(payload, *a, *b)
 }
 
-/// Returns whether a version does not sort before the last one, if there is one.
+impl KeyVersion {
+    /// Returns the empty key with the greatest sequence number: no item sorts before it.
+    #[inline(always)]
+    pub(crate) fn least() -> KeyVersion
+        ensures { result ≡ least_version }
+    {
+        KeyVersion {
+            key: KeyRanges {
+                front: SliceIndexes(0, 0),
+                rest: SliceIndexes(0, 0),
+            },
+            seqno: u64::MAX,
+        }
+    }
+}
+
+/// Returns whether a version does not sort before the last one.
 #[inline(always)]
 #[tactic(auto, using(crate::proofs::KeyOrders::decided))]
-pub(crate) fn keeps_order(payload: &[u8], last: &Option<KeyVersion>, version: &KeyVersion) -> bool
-    requires last { IfSome last.now (λ l. IsKeyRanges payload.now l.key) }
+pub(crate) fn keeps_order(payload: &[u8], last: &KeyVersion, version: &KeyVersion) -> bool
+    requires last { IsKeyRanges payload.now last.now.key }
     requires version { IsKeyRanges payload.now version.now.key }
-    ensures { IsTrue result ↔ IfSome last.now (λ l. version_cmp payload.now version.now l ≢ Less) }
+    ensures { IsTrue result ↔ (version_cmp payload.now version.now last.now ≢ Less) }
 {
-    let Some(last) = last else {
-        return true;
-    };
     match compare_keys(payload, &version.key, &last.key) {
         Ordering::Less => false,
         Ordering::Equal => version.seqno <= last.seqno,

@@ -7,7 +7,6 @@ pub mod buckets;
 pub mod keys;
 pub mod parts;
 pub mod pass;
-pub(crate) mod spot;
 pub(crate) mod tally;
 pub mod truncation;
 

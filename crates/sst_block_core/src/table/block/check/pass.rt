@@ -1,19 +1,20 @@
 //! One pass over the items of a body.
-ghost use Rattle.std.specs.Prelude.{◌≡◌, ◌↔◌, ℕ, ◌+◌, ◌-◌, ◌*◌, ◌/◌, ◌%◌, ◌^◌, ◌<◌, ◌≤◌, [], List, length, Some};
-ghost use Rattle.std.specs.Prelude.{OnSome, IsTrue, MatchOption, slice_index, OnOk, IfErr, nat_le, if◌then◌else◌};
+ghost use Rattle.std.specs.Prelude.{◌≡◌, ◌↔◌, ℕ, ◌+◌, ◌-◌, ◌*◌, ◌/◌, ◌<◌, ◌≤◌, [], List, length, None, Some};
+ghost use Rattle.std.specs.Prelude.{IfSome, OnSome, IsTrue, MatchOption, slice_index, OnOk, IfErr, nat_le, if◌then◌else◌};
 ghost use Rattle.std.specs.List.{AllByRecursion};
 ghost use Rattle.sst_block_core.specs.Body.{items_at};
-ghost use Rattle.sst_block_core.specs.KeyRanges.{IsVersion};
-ghost use Rattle.sst_block_core.specs.Passes.{IsPassed, IsFound, trailer_by, IsItemsRefusal};
+ghost use Rattle.sst_block_core.specs.Found.{IsRange};
+ghost use Rattle.sst_block_core.specs.KeyRanges.{IsKeyRanges, IsVersion};
+ghost use Rattle.sst_block_core.specs.Passes.{HasNoHead, IsAlong, GoesOn, IsPassed, IsFound, trailer_by, IsItemsRefusal};
 ghost use Rattle.sst_block_core.specs.Stages.{HasParts, HasForms, HasOrder, HasPointers, body_in, items_by};
 
 use crate::table::block::ParsedItem;
 use crate::table::block::binary_index::Reader;
 use crate::table::block::check::Checkable;
 use crate::table::block::check::keys::{KeyVersion, keeps_order};
-use crate::table::block::check::spot::{Spot, check_at};
 use crate::table::block::check::tally::{KeySink, NoTally};
 use crate::table::block::trailer::TrailerNumbers;
+use sst_base::table::util::SliceIndexes;
 use sst_base::{Error, Result, Steps};
 
 // Returns the key and the sequence number of an item.
@@ -27,17 +28,13 @@ fn version_of<Item: Checkable<Parsed>, Parsed: ParsedItem<Item>>(item: &Parsed) 
     }
 }
 
-// Returns whether the pointer of an item is the offset of its form, if it is a head.
+// Returns whether the pointer of a head is the offset of its form.
 #[inline(always)]
-fn is_pointed(pointers: &Reader<'_>, restart_interval: u8, at: &Spot) -> bool
-    requires some { 0 < restart_interval }
-    requires inside { at.now.place / restart_interval < length pointers.now }
-    ensures { IsTrue result ↔ (at.now.phase ≡ 0 → slice_index pointers.now (at.now.place / restart_interval) ≡ at.now.offset) }
+fn is_pointed(pointers: &Reader<'_>, number: usize, offset: usize) -> bool
+    requires { number < length pointers.now }
+    ensures { IsTrue result ↔ (slice_index pointers.now number ≡ offset) }
 {
-    if at.phase != 0 {
-        return true;
-    }
-    pointers.get(at.place / usize::from(restart_interval)) == at.offset
+    pointers.get(number) == offset
 }
 
 /// What one pass over the items of a body found of them.
@@ -49,6 +46,105 @@ pub(crate) struct Passed {
     pub(crate) is_ordered: bool,
     /// Each pointer is the offset of its head.
     pub(crate) is_indexed: bool,
+}
+
+/// Where a pass stands, and what it found of the items in front.
+#[derive(Clone, Copy)]
+pub(crate) struct Standing {
+    /// The offset of the next form.
+    pub(crate) offset: usize,
+    /// The key and the sequence number of the last item.
+    pub(crate) last: KeyVersion,
+    /// What the pass found.
+    pub(crate) passed: Passed,
+}
+
+// Passes over a head, whose interval has this number; the first answer is the range of its key.
+// Returns `None` where no full form stands.
+#[inline(always)]
+fn pass_head<Item: Checkable<Parsed>, Parsed: ParsedItem<Item> + Drop, Sink: KeySink<Item>>(
+    body: &[u8],
+    pointers: &Reader<'_>,
+    number: usize,
+    from: &Standing,
+    sink: &mut Sink,
+) -> Option<(SliceIndexes, Standing)>
+    requires number { number < length pointers.now }
+    requires inside { from.now.offset ≤ length body.now }
+    requires last { IsKeyRanges body.now from.now.last.key }
+    ensures exact { (r : ℕ) (xs : List Item) (base : SliceIndexes) → 0 < r → length xs ≡ number * r
+        → IsAlong Item.kind Item.fits r body.now pointers.now xs base from.now
+        → MatchOption result ((n : ℕ) → length xs < n → items_at Item.kind r 0 n [] body.now ≡ None)
+        (λ h. GoesOn Item.kind Item.fits r body.now pointers.now (length xs + 1) h.0 h.1
+        (λ ys. (b : ℕ) → Sink.has_taken r b body.now sink.old xs → Sink.has_taken r b body.now sink.new ys)) }
+    ensures base { IfSome result (λ h. IsRange body.now h.0) }
+{
+    let mut steps = Steps::new();
+    let (item, offset) = Item::parse_full(body, from.offset, &mut steps)?;
+    let version = version_of::<Item, Parsed>(&item);
+    let passed = Passed {
+        all_fit: from.passed.all_fit & Item::fits(&item),
+        is_ordered: from.passed.is_ordered & keeps_order(body, &from.last, &version),
+        is_indexed: from.passed.is_indexed & is_pointed(pointers, number, from.offset),
+    };
+    sink.take(body, &version.key, true);
+    let base = Item::key_ranges(&item).rest;
+    let to = Standing {
+        offset,
+        last: version,
+        passed,
+    };
+    Some((base, to))
+}
+
+// Passes over this many truncated forms behind a head, whose key has this range. Returns `None`
+// where one of them does not stand.
+fn pass_rest<Item: Checkable<Parsed>, Parsed: ParsedItem<Item> + Drop, Sink: KeySink<Item>>(
+    body: &[u8],
+    base: &SliceIndexes,
+    len: usize,
+    from: &Standing,
+    sink: &mut Sink,
+) -> Option<Standing>
+    requires base { IsRange body.now base.now }
+    requires inside { from.now.offset ≤ length body.now }
+    requires last { IsKeyRanges body.now from.now.last.key }
+    ensures exact { (r : ℕ) (pointers : List ℕ) (xs : List Item) → 0 < r → HasNoHead r (length xs) len
+        → IsAlong Item.kind Item.fits r body.now pointers xs base.now from.now
+        → MatchOption result ((n : ℕ) → length xs + len ≤ n → items_at Item.kind r 0 n [] body.now ≡ None)
+        (λ to. GoesOn Item.kind Item.fits r body.now pointers (length xs + len) base.now to
+        (λ ys. (b : ℕ) → Sink.has_taken r b body.now sink.old xs → Sink.has_taken r b body.now sink.new ys)) }
+{
+    let mut at = *from;
+    for step in 0..len {
+        let (item, offset) = Item::parse_exactly(body, at.offset, base)?;
+        let version = version_of::<Item, Parsed>(&item);
+        let passed = Passed {
+            all_fit: at.passed.all_fit & Item::fits(&item),
+            is_ordered: at.passed.is_ordered & keeps_order(body, &at.last, &version),
+            is_indexed: at.passed.is_indexed,
+        };
+        sink.take(body, &version.key, false);
+        at = Standing {
+            offset,
+            last: version,
+            passed,
+        };
+    }
+    Some(at)
+}
+
+// The number of truncated forms of a restart interval, where this many items are left.
+#[inline(always)]
+fn rest_len(restart_interval: u8, left: usize) -> usize
+    requires some { 0 < restart_interval }
+    requires left { 0 < left }
+    ensures few { result + 1 ≤ restart_interval }
+    ensures inside { result + 1 ≤ left }
+    ensures full { result + 1 < left → result + 1 ≡ restart_interval }
+{
+    let most = usize::from(restart_interval);
+    if left < most { left - 1 } else { most - 1 }
 }
 
 /// Passes over a number of items of a body once, and says what it found of them; the sink takes their
@@ -71,28 +167,28 @@ pub(crate) fn pass_over<
     ensures taken { OnSome result ((b : ℕ) (xs : List Item) → Sink.has_taken restart_interval b body.now sink.old []
         → items_at Item.kind restart_interval 0 count [] body.now ≡ Some (xs, []) → Sink.has_taken restart_interval b body.now sink.new xs) }
 {
-    let mut steps = Steps::new();
-    let mut at = Spot::first();
-    let mut last: Option<KeyVersion> = None;
-    let mut passed = Passed {
-        all_fit: true,
-        is_ordered: true,
-        is_indexed: true,
+    let mut place = 0;
+    let mut number = 0;
+    let mut at = Standing {
+        offset: 0,
+        last: KeyVersion::least(),
+        passed: Passed {
+            all_fit: true,
+            is_ordered: true,
+            is_indexed: true,
+        },
     };
-    for place in 0..count {
-        let (item, next) = check_at::<Item, Parsed>(body, restart_interval, &at, &mut steps)?;
-        passed.all_fit = passed.all_fit & Item::fits(&item);
-        let version = version_of::<Item, Parsed>(&item);
-        passed.is_ordered = passed.is_ordered & keeps_order(body, &last, &version);
-        passed.is_indexed = passed.is_indexed & is_pointed(pointers, restart_interval, &at);
-        sink.take(body, &version.key, at.phase);
-        last = Some(version);
-        at = next;
+    while place < count {
+        let (base, head) = pass_head::<Item, Parsed, Sink>(body, pointers, number, &at, sink)?;
+        let len = rest_len(restart_interval, count - place);
+        at = pass_rest::<Item, Parsed, Sink>(body, &base, len, &head, sink)?;
+        place = place + 1 + len;
+        number = number + 1;
     }
     if at.offset != body.len() {
         return None;
     }
-    Some(passed)
+    Some(at.passed)
 }
 
 // Returns whether a pointer width is the least that serves this last pointer.

@@ -19,11 +19,11 @@ pub(crate) trait KeySink<Item: BlockItem> {
     // in restart intervals of this length, and with this many buckets, it took the keys of these items of a body
     ghost has_taken: { ℕ → ℕ → List ℕ → Self → List Item → Type 0 };
 
-    /// Takes a key, whose item has this index in its restart interval.
-    fn take(&mut self, body: &[u8], key: &KeyRanges, phase: u8)
+    /// Takes a key, whose item is the head of its restart interval or not.
+    fn take(&mut self, body: &[u8], key: &KeyRanges, is_head: bool)
         requires { IsKeyRanges body.now key.now }
         ensures { (r b : ℕ) (items : List Item) (x : Item) → 0 < r → has_taken r b body.now self.old items
-            → phase ≡ length items % r → Item.kind.key x ≡ key_by body.now key.now
+            → IsTrue is_head ↔ (length items % r ≡ 0) → Item.kind.key x ≡ key_by body.now key.now
             → has_taken r b body.now self.new (items ++ x ∷ []) };
 }
 
@@ -35,10 +35,10 @@ impl<Item: BlockItem> KeySink<Item> for NoTally {
     ghost has_taken = { λ _ _ _ _ _. Unit {0} };
 
     #[inline(always)]
-    fn take(&mut self, body: &[u8], key: &KeyRanges, phase: u8) {
+    fn take(&mut self, body: &[u8], key: &KeyRanges, is_head: bool) {
         let _ = body;
         let _ = key;
-        let _ = phase;
+        let _ = is_head;
     }
 }
 
@@ -119,13 +119,13 @@ fn hash_of<H: BlockHash>(
     Some(H::hash64(joined.as_slice()))
 }
 
-// The number of heads, modulo 2^8, with the item that has this index in its restart interval.
+// The number of heads, modulo 2^8, with an item more.
 #[inline(always)]
-fn heads_with(heads: u8, phase: u8) -> u8
-    ensures head { phase ≡ 0 → result ≡ (heads + 1) % 256 }
-    ensures rest { 0 < phase → result ≡ heads }
+fn heads_with(heads: u8, is_head: bool) -> u8
+    ensures head { IsTrue is_head → result ≡ (heads + 1) % 256 }
+    ensures rest { (IsTrue is_head → ⊥) → result ≡ heads }
 {
-    if phase == 0 {
+    if is_head {
         heads.wrapping_add(1)
     } else {
         heads
@@ -188,8 +188,8 @@ impl<Item: BlockItem, H: BlockHash> KeySink<Item> for Tally<H> {
     ghost has_taken = { λ r b body tally items. HasTallied Item.kind H.hash64 r b body tally items };
 
     #[inline(always)]
-    fn take(&mut self, body: &[u8], key: &KeyRanges, phase: u8) {
-        self.heads = heads_with(self.heads, phase);
+    fn take(&mut self, body: &[u8], key: &KeyRanges, is_head: bool) {
+        self.heads = heads_with(self.heads, is_head);
         let Some(hash) = hash_of::<H>(&mut self.joined, &mut self.front, body, key) else {
             self.has_memory = false;
             return;
