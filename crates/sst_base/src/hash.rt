@@ -1,6 +1,6 @@
 //! Hash functions of byte strings.
 ghost use Rattle.std.specs.Prelude.{◌≡◌, ◌+◌, ◌<◌, ◌≤◌, ◌^◌, ◌++◌, ℕ, List, [], length, take, drop};
-ghost use Rattle.std.specs.Prelude.{fold};
+ghost use Rattle.std.specs.Prelude.{fold, IfSome};
 ghost use Rattle.byteorder.specs.Endian.{big_number};
 ghost use Rattle.sst_base.specs.Bytes.{IsBytes};
 ghost use Rattle.sst_base.specs.Hashes.{times31, poly31, poly31_from, byte_sum, byte_sum_from};
@@ -22,6 +22,16 @@ pub trait BlockHash: Drop {
     /// Returns the hash of the bytes in 64 bits.
     fn hash64(bytes: &[u8]) -> u64
         ensures { result ≡ hash64 bytes.now };
+
+    /// Goes on with a hash: from that of any byte string, returns the hash of that string with these
+    /// bytes behind it, in 64 bits. Returns `None` if it cannot be told, as it does unless implemented.
+    fn hash64_behind(front: u64, rest: &[u8]) -> Option<u64>
+        ensures { IfSome result (λ hash. (bytes : List ℕ) → hash64 bytes ≡ front → hash ≡ hash64 (bytes ++ rest.now)) }
+    {
+        let _ = front;
+        let _ = rest;
+        None
+    }
 
     /// Returns the hash of the bytes in 128 bits.
     fn hash128(bytes: &[u8]) -> u128
@@ -95,12 +105,13 @@ fn continued64(so_far: u64, bytes: &[u8]) -> u64
     })
 }
 
-// The same as `Poly31::hash64`, eight bytes a step.
-fn hash_by_eight(bytes: &[u8]) -> u64
-    ensures { result ≡ poly31 64 bytes.now }
+// The same, eight bytes a step.
+#[inline(always)]
+fn continued64_by_eight(so_far: u64, bytes: &[u8]) -> u64
+    ensures { result ≡ poly31_from 64 so_far bytes.now }
 {
     let words = bytes.len() / 8;
-    let mut hash = 0u64;
+    let mut hash = so_far;
     for i in 0..words {
         hash = hash
             .wrapping_mul(BASE_8)
@@ -121,7 +132,7 @@ fn continued128(so_far: u128, bytes: &[u8]) -> u128
 }
 
 // The same, eight bytes a step.
-fn continued_by_eight(so_far: u128, bytes: &[u8]) -> u128
+fn continued128_by_eight(so_far: u128, bytes: &[u8]) -> u128
     ensures { result ≡ poly31_from 128 so_far bytes.now }
 {
     let words = bytes.len() / 8;
@@ -145,11 +156,16 @@ impl BlockHash for Poly31 {
     ghost hash128_fits = { poly31-below 128 };
 
     fn hash64(bytes: &[u8]) -> u64 {
-        hash_by_eight(bytes)
+        continued64_by_eight(0, bytes)
+    }
+
+    #[inline(always)]
+    fn hash64_behind(front: u64, rest: &[u8]) -> Option<u64> {
+        Some(continued64_by_eight(front, rest))
     }
 
     fn hash128(bytes: &[u8]) -> u128 {
-        continued_by_eight(0, bytes)
+        continued128_by_eight(0, bytes)
     }
 
     fn start() -> Poly31 {
@@ -157,7 +173,7 @@ impl BlockHash for Poly31 {
     }
 
     fn update(&mut self, bytes: &[u8]) {
-        self.so_far = continued_by_eight(self.so_far, bytes);
+        self.so_far = continued128_by_eight(self.so_far, bytes);
     }
 
     fn digest128(&self) -> u128 {

@@ -15,6 +15,7 @@ pub struct SlowReader<'a> {
 }
 
 impl SlowReader<'_> {
+    /// Makes a reader of these bytes, whose call of this number fails.
     pub fn new(bytes: &[u8], fails_at: usize) -> SlowReader<'_> {
         SlowReader {
             bytes,
@@ -61,6 +62,7 @@ pub struct SlowWriter {
 }
 
 impl SlowWriter {
+    /// Makes a writer behind these bytes, whose call of this number fails.
     pub fn new(taken: Vec<u8>, fails_at: usize) -> SlowWriter {
         SlowWriter {
             taken,

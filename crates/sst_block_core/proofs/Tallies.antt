@@ -4,34 +4,18 @@ use Rattle.std.proofs.lemmas.Bool.{cases_eq, cases_lt, eq-eqb, ne_eqb}
 use Rattle.std.proofs.lemmas.Nat.{mod_below}
 use Rattle.std.proofs.Math.Nat.{div-eq_of_lt, mod-eq_of_lt}
 use Rattle.std.proofs.lemmas.List.{get_or-replicate, length-replicate, get_or-set_same, get_or-set_other, length-take-le, length_push}
-use Rattle.sst_base.specs.declared.table.util.SliceIndexes.{SliceIndexes}
 use Rattle.sst_base.specs.declared.error.Error.{Error}
 use Rattle.sst_base.specs.declared.error.Error.TheVariants.{BadEntry, BadHandle, OutOfOrder, BadIndex, BadHashIndex, Memory}
-use Rattle.sst_block_core.specs.Found.{range_of}
 use Rattle.sst_block_core.specs.Kind.{Kind}
 use Rattle.sst_block_core.specs.Trailer.{Trailer}
 use Rattle.sst_block_core.specs.Pointers.{head_count}
 use Rattle.sst_block_core.specs.Buckets.{bucket, bucket_byte_with}
 use Rattle.sst_block_core.specs.Stages.{HasParts, HasForms, HasBuckets, body_in, buckets_in, items_by}
-use Rattle.sst_block_core.specs.Passes.{TallyState, BeginsWith, IsTallied, HasTallied, IsItemsRefusal, IsRefusal}
+use Rattle.sst_block_core.specs.Passes.{TallyState, IsHashed, IsTallied, HasTallied, IsItemsRefusal, IsRefusal}
 use Rattle.sst_block_core.proofs.BucketLaws.{bucket_push}
 use Rattle.sst_block_core.proofs.Openings.{length-items_at}
 use Rattle.sst_block_core.proofs.Tables.{each_alike, each_whole}
 use Rattle.sst_block_core.proofs.Written.{heads_behind, heads_before, heads_inside}
-
-take_less : (n m : ℕ) (xs : List ℕ) → n ≤ m → take n (take m xs) ≡ take n xs
-take_less zero m xs h = refl
-take_less (suc n) zero xs h = absurd (omega arith)
-take_less (suc n) (suc m) [] h = refl
-take_less (suc n) (suc m) (x ∷ xs) h = ap (λ ys. x ∷ ys) (take_less n m xs (omega arith))
-
--- a shorter front at the same place is left
-pub kept_front : (body joined : List ℕ) (old new : SliceIndexes) → BeginsWith body joined old → new.0 ≡ old.0 → new.1 ≤ old.1 → take (new.1 - new.0) joined ≡ range_of body new
-kept_front body joined old new begins same shorter =
-    let n = new.1 - new.0 in
-    let m = old.1 - old.0 in
-    sym (take_less n m joined (omega (arith, same, shorter))) ∙ ap (take n) begins ∙ take_less n m (drop old.0 body) (omega (arith, same, shorter))
-    ∙ ap (λ k. take n (drop k body)) (sym same)
 
 -- the number of heads with one item more, by that before
 heads_next : (r place heads more phase : ℕ) → 0 < r → heads ≡ head_count r place → head_count r (place + 1) ≤ 254 → phase ≡ place % r → (phase ≡ 0 → more ≡ (heads + 1) % 256) → (0 < phase → more ≡ heads)
@@ -57,9 +41,9 @@ few_before r place pos few =
     ]
 
 module _ {X : Type 0} (kind : Kind X) (hash : List ℕ → ℕ) (r b : ℕ) (pos : 0 < r) where
-  pub tally_none : (body : List ℕ) (tally : TallyState) → tally ≡ record { table = replicate b 254; heads = 0; has_memory = true; joined = []; front = record { 0 = 0; 1 = 0 } } → HasTallied kind hash r b body tally []
+  pub tally_none : (body : List ℕ) (tally : TallyState) → tally ≡ record { table = replicate b 254; heads = 0; has_memory = true; front = record { range = record { 0 = 0; 1 = 0 }; hash = hash [] } } → HasTallied kind hash r b body tally []
   tally_none body tally e = λ memory. (
-    (λ i. take ((e i).front.1 - (e i).front.0) (e i).joined) ∙ sym (λ i. range_of body (e i).front),
+    subst (IsHashed hash body) (sym (ap (λ t. t.front) e)) refl,
     λ few. record {
       count = ap (λ t. length t.table) e ∙ length-replicate b 254;
       heads_is = ap (λ t. t.heads) e ∙ sym (div-eq_of_lt (omega arith));
@@ -105,14 +89,15 @@ module _ {X : Type 0} (kind : Kind X) (hash : List ℕ → ℕ) (r b : ℕ) (pos
     -- a key more, where memory was there for it
     pub tally_push : (phase n h : ℕ) (key : List ℕ) → HasTallied kind hash r b body old xs → 0 < length old.table → phase ≡ length xs % r → (phase ≡ 0 → new.heads ≡ (old.heads + 1) % 256) → (0 < phase → new.heads ≡ old.heads)
         → (0 < new.heads → n + 1 ≡ new.heads) → kind.key x ≡ key → new.has_memory ≡ old.has_memory
-        → (BeginsWith body old.joined old.front → h ≡ hash key) → (BeginsWith body old.joined old.front → BeginsWith body new.joined new.front)
+        → (IsHashed hash body new.front → h ≡ hash key) → (IsHashed hash body old.front → IsHashed hash body new.front)
         → new.table ≡ set old.table (h % length old.table) (bucket_byte_with (get_or old.table (h % length old.table) 0) n) → HasTallied kind hash r b body new (xs ++ x ∷ [])
-    tally_push phase n h key taken some in_row head rest number key_is memory_is hash_is begins table_is = λ memory.
-        let before = taken (sym memory_is ∙ memory) in (
-          begins before.0,
+    tally_push phase n h key taken some in_row head rest number key_is memory_is hash_is front_is table_is = λ memory.
+        let before = taken (sym memory_is ∙ memory) in
+        let hashed = front_is before.0 in (
+          hashed,
           λ many.
               let few : head_count r (length xs + 1) ≤ 254 = subst (λ k. head_count r k ≤ 254) (length_push xs x) many in
-              let same = hash_is before.0 in
+              let same = hash_is hashed in
               tally_more old.table old.heads xs (before.1 (few_before r (length xs) pos few)) x phase new.heads n key new.table some few in_row head rest number key_is
               (table_is ∙ (λ i. set old.table (same i % length old.table) (bucket_byte_with (get_or old.table (same i % length old.table) 0) n))),
         )

@@ -1,11 +1,11 @@
-// A run of the program, and what it writes.
+//! A run of the program, and what it writes.
 use crate::sst_main;
 use std::alloc::{AllocError, Global};
 use std::process::Abort;
 use std::rt::Files;
 use std::test::Fail;
 
-// The status of a run, and what it writes.
+/// The status of a run, and what it writes.
 #[derive(Drop)]
 pub struct Run {
     pub status: u8,
@@ -13,7 +13,7 @@ pub struct Run {
     pub faults: Vec<u8>,
 }
 
-// Runs the program. The writer of faults has room before it starts.
+/// Runs the program. The writer of faults has room before it starts.
 pub fn make_run<R: Files>(
     rt: &R,
     alloc: Global,
@@ -30,7 +30,7 @@ pub fn make_run<R: Files>(
     })
 }
 
-// The run ended with this status, and wrote these texts.
+/// Checks that the run ended with this status and wrote these texts.
 pub fn check_run(rt: &impl Abort, run: &Run, words: &[&str], status: u8, texts: (&str, &str)) {
     let (output, faults) = texts;
     let told = std::str::from_utf8(run.faults.as_slice());
@@ -40,7 +40,7 @@ pub fn check_run(rt: &impl Abort, run: &Run, words: &[&str], status: u8, texts: 
     assert_eq!(rt; run.status, status, "{words:?}");
 }
 
-// The run prints this text, tells no fault, and its status is 0.
+/// Checks that the run prints this text, tells no fault, and ends with status 0.
 pub fn check_prints<R: Files + Abort>(
     rt: &R,
     alloc: Global,
@@ -53,7 +53,7 @@ pub fn check_prints<R: Files + Abort>(
     Ok(())
 }
 
-// The run prints nothing, tells this fault on one line, and its status is 1.
+/// Checks that the run prints nothing, tells this fault on one line, and ends with status 1.
 pub fn check_fault<R: Files + Abort>(
     rt: &R,
     alloc: Global,
@@ -67,7 +67,7 @@ pub fn check_fault<R: Files + Abort>(
     Ok(())
 }
 
-// Some text, a text so many times, and another.
+/// Returns a text, a part so many times, and another text.
 pub fn long_text(
     alloc: Global,
     front: &str,

@@ -13,7 +13,7 @@ use sst_base::{BlockHash, Error, Result};
 use std::alloc::Global;
 
 /// Checks the items of a payload, whose trailer fits it, their pointers, and the buckets, in one
-/// pass. Takes memory for the buckets, and for the longest truncated key.
+/// pass. Takes memory for the buckets, and for the longest truncated key if the hash has to join it.
 ///
 /// # Errors
 ///

@@ -1,9 +1,9 @@
 //! What a pass does with the keys that it goes over: nothing, or the buckets of a hash index.
-ghost use Rattle.std.specs.Prelude.{◌≡◌, ◌↔◌, ℕ, ◌+◌, ◌%◌, ◌<◌, ◌≤◌, ◌++◌, [], ◌∷◌, List, length};
-ghost use Rattle.std.specs.Prelude.{IsTrue, IfOk, IfSome, IsOkUnless, OnSome, replicate, true};
-ghost use Rattle.sst_block_core.specs.Found.{IsRange, range_of};
+ghost use Rattle.std.specs.Prelude.{◌≡◌, ◌↔◌, ℕ, ◌+◌, ◌%◌, ◌<◌, ◌++◌, [], ◌∷◌, List, length};
+ghost use Rattle.std.specs.Prelude.{IsTrue, IfOk, IfSome, IsOkUnless, replicate, true};
+ghost use Rattle.sst_block_core.specs.Found.{IsRange};
 ghost use Rattle.sst_block_core.specs.KeyRanges.{key_by, IsKeyRanges};
-ghost use Rattle.sst_block_core.specs.Passes.{BeginsWith, HasTallied};
+ghost use Rattle.sst_block_core.specs.Passes.{IsHashed, HasTallied};
 
 use crate::block_item::BlockItem;
 use crate::table::block::check::keys::KeyRanges;
@@ -42,15 +42,22 @@ impl<Item: BlockItem> KeySink<Item> for NoTally {
     }
 }
 
+/// The front of a key: its range of a body, and its hash.
+#[derive(Clone, Copy)]
+pub(crate) struct Front {
+    range: SliceIndexes,
+    hash: u64,
+}
+
 /// The buckets of the keys that it took. Clauses see their bytes, the number of heads modulo 2^8,
-/// whether all memory that it asked for was there, and what was joined last.
+/// whether all memory that it asked for was there, and the front of the last key.
 #[derive(Drop)]
 pub(crate) struct Tally<H: BlockHash> {
     buckets: Builder<H>,
     bucket_count: Divisor,
-    // The last key with a front, and the range of that front.
+    front: Front,
+    // Room for a key, where its hash cannot go on from that of its front.
     joined: Vec<u8>,
-    front: SliceIndexes,
     heads: u8,
     has_memory: bool,
 }
@@ -61,62 +68,55 @@ impl<H: BlockHash> Model for Tally<H> {
 
     ghost Value = { TallyState };
 
-    ghost view = { λ t. record { table = t.buckets; heads = t.heads; has_memory = t.has_memory; joined = t.joined.items; front = t.front } };
+    ghost view = { λ t. record { table = t.buckets; heads = t.heads; has_memory = t.has_memory; front = t.front } };
 
     ghost invariant = { λ t. (t.bucket_count ≡ length t.buckets) × (0 < length t.buckets) };
 }
 
-// Leaves this range of a body in `joined`, which begins with the bytes of another: mostly a longer one
-// at the same place. Returns `None` if an allocation fails.
+// The front of a key with its hash, from that of the key before: mostly they are the same.
 #[inline(always)]
-fn keep_front(
-    joined: &mut Vec<u8>,
-    front: &SliceIndexes,
-    body: &[u8],
-    wanted: &SliceIndexes,
-) -> Option<()>
-    requires { IsRange body.now wanted.now }
-    ensures { OnSome result (BeginsWith body.now joined.old.items front.now → joined.new.items ≡ range_of body.now wanted.now) }
+fn front_at<H: BlockHash>(last: &Front, body: &[u8], range: &SliceIndexes) -> Front
+    requires { IsRange body.now range.now }
+    ensures range { result.range ≡ range.now }
+    ensures hash { IsHashed H.hash64 body.now last.now → IsHashed H.hash64 body.now result }
 {
-    if wanted.0 == front.0 && wanted.1 <= front.1 {
-        joined.truncate(wanted.1 - wanted.0);
-        return Some(());
+    if last.range.0 == range.0 && last.range.1 == range.1 {
+        return *last;
     }
-    joined.clear();
-    joined.extend_from_slice(bytes_of(body, wanted)).ok()?;
-    Some(())
+    Front {
+        range: *range,
+        hash: H::hash64(bytes_of(body, range)),
+    }
 }
 
-// Joins a key. Returns `None` if an allocation fails.
-#[inline(always)]
-fn join(joined: &mut Vec<u8>, front: &SliceIndexes, body: &[u8], key: &KeyRanges) -> Option<()>
+// The hash of a key that is joined first. Returns `None` if an allocation fails.
+#[inline(never)]
+fn joined_hash<H: BlockHash>(joined: &mut Vec<u8>, body: &[u8], key: &KeyRanges) -> Option<u64>
     requires { IsKeyRanges body.now key.now }
-    ensures { OnSome result (BeginsWith body.now joined.old.items front.now → joined.new.items ≡ key_by body.now key.now) }
+    ensures { IfSome result (λ hash. hash ≡ H.hash64 (key_by body.now key.now)) }
 {
-    keep_front(joined, front, body, &key.front)?;
+    joined.clear();
+    joined.extend_from_slice(bytes_of(body, &key.front)).ok()?;
     joined.extend_from_slice(bytes_of(body, &key.rest)).ok()?;
-    Some(())
+    Some(H::hash64(joined.as_slice()))
 }
 
-// The hash of a key. A key without a front is hashed where it stands; others are joined. Returns
-// `None` if an allocation fails.
+// The hash of a key with this front. Returns `None` if an allocation fails.
 #[inline(always)]
 fn hash_of<H: BlockHash>(
     joined: &mut Vec<u8>,
-    front: &mut SliceIndexes,
+    front: &Front,
     body: &[u8],
     key: &KeyRanges,
 ) -> Option<u64>
-    requires { IsKeyRanges body.now key.now }
-    ensures hash { IfSome result (λ hash. BeginsWith body.now joined.old.items front.old → hash ≡ H.hash64 (key_by body.now key.now)) }
-    ensures joined { OnSome result (BeginsWith body.now joined.old.items front.old → BeginsWith body.now joined.new.items front.new) }
+    requires ranges { IsKeyRanges body.now key.now }
+    requires front { front.now.range ≡ key.now.front }
+    ensures { IfSome result (λ hash. IsHashed H.hash64 body.now front.now → hash ≡ H.hash64 (key_by body.now key.now)) }
 {
-    if key.front.0 == key.front.1 {
-        return Some(H::hash64(bytes_of(body, &key.rest)));
+    match H::hash64_behind(front.hash, bytes_of(body, &key.rest)) {
+        Some(hash) => Some(hash),
+        None => joined_hash::<H>(joined, body, key),
     }
-    join(joined, front, body, key)?;
-    *front = key.front;
-    Some(H::hash64(joined.as_slice()))
 }
 
 // The number of heads, modulo 2^8, with an item more.
@@ -156,14 +156,17 @@ impl<H: BlockHash> Tally<H> {
     /// `Error::Memory` if an allocation fails.
     pub(crate) fn new(alloc: Global, bucket_count: u32) -> Result<Tally<H>>
         requires { 0 < bucket_count }
-        ensures ok { IfOk result (λ t. t ≡ record { table = replicate bucket_count 254; heads = 0; has_memory = true; joined = []; front = record { 0 = 0; 1 = 0 } }) }
+        ensures ok { IfOk result (λ t. t ≡ record { table = replicate bucket_count 254; heads = 0; has_memory = true; front = record { range = record { 0 = 0; 1 = 0 }; hash = H.hash64 [] } }) }
         ensures memory { IsOkUnless result Error.Memory }
     {
         Ok(Tally {
             buckets: Builder::with_bucket_count(alloc, bucket_count)?,
             bucket_count: Divisor::new(u64::from(bucket_count)),
+            front: Front {
+                range: SliceIndexes(0, 0),
+                hash: H::hash64(&[]),
+            },
             joined: Vec::new(alloc),
-            front: SliceIndexes(0, 0),
             heads: 0,
             has_memory: true,
         })
@@ -190,7 +193,8 @@ impl<Item: BlockItem, H: BlockHash> KeySink<Item> for Tally<H> {
     #[inline(always)]
     fn take(&mut self, body: &[u8], key: &KeyRanges, is_head: bool) {
         self.heads = heads_with(self.heads, is_head);
-        let Some(hash) = hash_of::<H>(&mut self.joined, &mut self.front, body, key) else {
+        self.front = front_at::<H>(&self.front, body, &key.front);
+        let Some(hash) = hash_of::<H>(&mut self.joined, &self.front, body, key) else {
             self.has_memory = false;
             return;
         };

@@ -1,6 +1,6 @@
 use Rattle.std.proofs.Common.{arith, refl, ◌≡◌, ◌∙◌, ◌≤◌, ◌+◌, ◌*◌, ◌/◌, length}
 use Rattle.sst_base.proofs.Polynomials.{eight_more, tail_more}
-use Rattle.sst_base.proofs.hash.continued_by_eight.Goals as goal
+use Rattle.sst_base.proofs.hash.continued128_by_eight.Goals as goal
 
 pub loop-i-preserved : goal.loop-i-preserved
 loop-i-preserved c =
