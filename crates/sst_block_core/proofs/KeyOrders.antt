@@ -1,6 +1,7 @@
 -- The order of two keys, by the ranges of their parts.
-use Rattle.std.proofs.Common.{◌≡◌, ◌≢◌, ℕ, ◌+◌, ◌-◌, ◌≤◌, List, ◌++◌, length, take, drop, refl, sym, ap, ◌∙◌, arith, append_assoc, length-drop, take-add}
+use Rattle.std.proofs.Common.{◌≡◌, ◌≢◌, ℕ, ◌+◌, ◌-◌, ◌≤◌, ◌<◌, List, [], ◌∷◌, get_or, ◌++◌, length, take, drop, refl, sym, ap, ◌∙◌, arith, append_assoc, length-drop, take-add}
 use Rattle.std.proofs.lemmas.List.{drop-drop, length-take-le, take-append-drop}
+use Rattle.std.specs.Prelude.{Option, Some, None, IfSome}
 use Rattle.byteorder.specs.Endian.{big_number}
 use Rattle.byteorder.specs.Numbers.{big_from-take}
 use Rattle.sst_base.specs.Bytes.{IsBytes}
@@ -35,6 +36,17 @@ first_four a b x y c d h k p q ne =
     ∙ ap (λ o. ordering_then o rest) (sym fours)
     ∙ sym (slice_cmp-append (take 4 a) (take 4 b) (drop 4 a) (drop 4 b) (la ∙ sym lb))
     ∙ (λ i. slice_cmp nat_cmp (take-append-drop 4 a i) (take-append-drop 4 b i))
+
+-- what an answer says, by something that it says
+pub answer_says : (o : Option Ordering) (P Q : Ordering → Type 0) → ((w : Ordering) → P w → Q w) → IfSome o P → IfSome o Q
+answer_says None P Q to h = h
+answer_says (Some w) P Q to h = to w h
+
+-- the first bytes decide where they differ
+pub first_decides : (more rest tail : List ℕ) → 0 < length more → 0 < length rest → get_or more 0 0 ≢ get_or rest 0 0 → nat_cmp (get_or more 0 0) (get_or rest 0 0) ≡ slice_cmp nat_cmp (more ++ tail) rest
+first_decides [] rest tail h k ne = absurd (omega arith)
+first_decides (x ∷ more) [] tail h k ne = absurd (omega arith)
+first_decides (x ∷ more) (y ∷ rest) tail h k ne = decided (nat_cmp x y) (slice_cmp nat_cmp (more ++ tail) rest) (λ e. ne (ranked x y Equal (sym e)))
 
 -- the range behind the first n bytes of a range
 abbrev pub behind : SliceIndexes → ℕ → SliceIndexes
@@ -121,6 +133,28 @@ module _ (payload : List ℕ) (a b : KeyRanges) (left : IsRange payload a.front)
       ∙ ap (slice_cmp nat_cmp (range_of payload (behind a.front n) ++ range_of payload a.rest)) (sym (none_behind b.front (range_of payload b.rest)))
       ∙ ap (λ t. ordering_then t (slice_cmp nat_cmp (range_of payload (behind a.front n) ++ range_of payload a.rest) (range_of payload (behind b.front n) ++ range_of payload b.rest))) (sym tie ∙ e)
       ∙ sym s
+
+  -- the fronts begin at one place
+  front_at_one_place : (n : ℕ) → a.front.0 ≡ b.front.0 → Equal ≡ slice_cmp nat_cmp (take n (drop a.front.0 payload)) (take n (drop b.front.0 payload))
+  front_at_one_place n place = sym ((slice_cmp-equal (take n (drop a.front.0 payload)) (take n (drop b.front.0 payload))).1 (ap (λ k. take n (drop k payload)) place))
+
+  pub left_behind : (w v : Ordering) (more ra rb : List ℕ) → a.front.0 ≡ b.front.0 → a.front.1 < b.front.1
+      → more ≡ range_of payload (record { 0 = a.front.1; 1 = b.front.1 }) → ra ≡ range_of payload a.rest → rb ≡ range_of payload b.rest
+      → w ≡ slice_cmp nat_cmp (more ++ rb) ra → v ≡ ordering_reverse w → v ≡ slice_cmp nat_cmp (key_by payload a) (key_by payload b)
+  left_behind w v more ra rb place shorter m p q cw cv =
+      let n = a.front.1 - a.front.0 in
+      let o = left.order in
+      let at : a.front.1 ≡ b.front.0 + n = omega (arith, place, o) in
+      left_shorter Equal w v more ra rb (omega (arith, place, shorter)) (front_at_one_place n place) refl (m ∙ (λ i. range_of payload (record { 0 = at i; 1 = b.front.1 }))) p q cw cv
+
+  pub right_behind : (w : Ordering) (more ra rb : List ℕ) → a.front.0 ≡ b.front.0 → b.front.1 ≤ a.front.1
+      → more ≡ range_of payload (record { 0 = b.front.1; 1 = a.front.1 }) → ra ≡ range_of payload a.rest → rb ≡ range_of payload b.rest
+      → w ≡ slice_cmp nat_cmp (more ++ ra) rb → w ≡ slice_cmp nat_cmp (key_by payload a) (key_by payload b)
+  right_behind w more ra rb place shorter m p q cw =
+      let n = b.front.1 - b.front.0 in
+      let o = right.order in
+      let at : b.front.1 ≡ a.front.0 + n = omega (arith, place, o) in
+      right_shorter Equal w more ra rb (omega (arith, place, shorter)) (front_at_one_place n place) refl (m ∙ (λ i. range_of payload (record { 0 = at i; 1 = a.front.1 }))) p q cw
 
 -- where the front is empty, the key is what is behind it
 pub whole_key : (payload : List ℕ) (k : KeyRanges) → k.front.1 - k.front.0 ≡ 0 → key_by payload k ≡ range_of payload k.rest

@@ -1,5 +1,5 @@
 //! The order of two keys by their ranges of a payload.
-ghost use Rattle.std.specs.Prelude.{◌≡◌, ◌≢◌, ◌↔◌, ◌+◌, ◌≤◌, length, take, drop, IsTrue};
+ghost use Rattle.std.specs.Prelude.{◌≡◌, ◌≢◌, ◌↔◌, ◌+◌, ◌≤◌, ◌++◌, ℕ, List, length, take, drop, IsTrue, IfSome};
 ghost use Rattle.std.specs.Ordering.{nat_cmp};
 ghost use Rattle.std.specs.Cmp.Lexicographic.{slice_cmp};
 ghost use Rattle.std.specs.declared.cmp.Ordering.TheVariants.{Less};
@@ -105,6 +105,41 @@ fn compare_apart(payload: &[u8], a: KeyRanges, b: KeyRanges) -> Ordering
     }
 }
 
+// Compares a byte string that goes on behind these bytes with another by their first bytes. Returns
+// `None` where these do not decide.
+#[inline(always)]
+#[tactic(auto, using(crate::proofs::KeyOrders::first_decides))]
+fn compare_first(more: &[u8], rest: &[u8]) -> Option<Ordering>
+    ensures { IfSome result (λ o. (tail : List ℕ) → o ≡ slice_cmp nat_cmp (more.now ++ tail) rest.now) }
+{
+    if more.is_empty() || rest.is_empty() {
+        return None;
+    }
+    if more[0] == rest[0] {
+        return None;
+    }
+    Some(more[0].cmp(&rest[0]))
+}
+
+// Compares two keys whose fronts begin at one place, by the bytes behind the shorter front. Returns
+// `None` where these do not decide.
+#[inline(always)]
+fn compare_behind(payload: &[u8], a: &KeyRanges, b: &KeyRanges) -> Option<Ordering>
+    requires left { IsKeyRanges payload.now a.now }
+    requires right { IsKeyRanges payload.now b.now }
+    requires place { a.now.front.0 ≡ b.now.front.0 }
+    ensures { IfSome result (λ o. o ≡ slice_cmp nat_cmp (key_by payload.now a.now) (key_by payload.now b.now)) }
+{
+    if a.front.1 < b.front.1 {
+        let more = bytes_of(payload, &SliceIndexes(a.front.1, b.front.1));
+        let decided = compare_first(more, bytes_of(payload, &a.rest))?;
+        Some(decided.reverse())
+    } else {
+        let more = bytes_of(payload, &SliceIndexes(b.front.1, a.front.1));
+        compare_first(more, bytes_of(payload, &b.rest))
+    }
+}
+
 /// Compares two keys by their ranges. Nothing is joined, and what both share with one head is not
 /// looked at.
 #[inline(always)]
@@ -113,8 +148,13 @@ pub(crate) fn compare_keys(payload: &[u8], a: &KeyRanges, b: &KeyRanges) -> Orde
     requires right { IsKeyRanges payload.now b.now }
     ensures { result ≡ slice_cmp nat_cmp (key_by payload.now a.now) (key_by payload.now b.now) }
 {
-    if a.front.0 == b.front.0 && a.front.1 == b.front.1 {
-        return compare_rests(bytes_of(payload, &a.rest), bytes_of(payload, &b.rest));
+    if a.front.0 == b.front.0 {
+        if a.front.1 == b.front.1 {
+            return compare_rests(bytes_of(payload, &a.rest), bytes_of(payload, &b.rest));
+        }
+        if let Some(decided) = compare_behind(payload, a, b) {
+            return decided;
+        }
     }
     compare_apart(payload, *a, *b)
 }
