@@ -244,6 +244,29 @@ varint_at_three bits a b c bs w wide h k i l p q =
     ∙ ap (λ n. Some (n, 3)) sum in
     more (2 ^ bits - 1) (power_fits 32 bits wide)
 
+-- four bytes encode a number that fits each width but the least
+pub varint_at_four : (bits a b c d : ℕ) (bs : List ℕ) → IsWidth bits → 32 ≤ bits → 128 ≤ a → a < 256 → 128 ≤ b → b < 256 → 128 ≤ c → c < 256 → 0 < d → d < 128
+    → varint_at bits (a ∷ b ∷ c ∷ d ∷ bs) ≡ Some ((a - 128) + 128 * (b - 128) + 16384 * (c - 128) + 2097152 * d, 4)
+unfolding varint_at
+varint_at_four bits a b c d bs w wide h k i l j o p q =
+    let more : (max : ℕ) → 2 ^ 32 - 1 ≤ max → varint_up_to max (a ∷ b ∷ c ∷ d ∷ bs) ≡ Some ((a - 128) + 128 * (b - 128) + 16384 * (c - 128) + 2097152 * d, 4) = λ max m.
+    let sum : (a - 128) + 128 * ((b - 128) + 128 * ((c - 128) + 128 * d)) ≡ (a - 128) + 128 * (b - 128) + 16384 * (c - 128) + 2097152 * d = omega arith in
+    let second = (max - (a - 128)) / 128 in
+    let third = (second - (b - 128)) / 128 in
+    let fourth = (third - (c - 128)) / 128 in
+    let r : 33554430 ≤ second = omega arith in
+    let s : 262142 ≤ third = omega (arith, r, l) in
+    let t : 2046 ≤ fourth = omega (arith, s, o) in
+    at_more max a (b ∷ c ∷ d ∷ bs) h (omega arith)
+    ∙ ap (with_digit (a - 128)) (at_more second b (c ∷ d ∷ bs) i (omega (arith, r))
+    ∙ ap (with_digit (b - 128)) (at_more third c (d ∷ bs) j (omega (arith, s))
+    ∙ ap (with_digit (c - 128)) (at_small fourth d bs q (omega (arith, t, q)))
+    ∙ some_digit (c - 128) d 1 p)
+    ∙ some_digit (b - 128) ((c - 128) + 128 * d) 2 (omega arith))
+    ∙ some_digit (a - 128) ((b - 128) + 128 * ((c - 128) + 128 * d)) 3 (omega arith)
+    ∙ ap (λ n. Some (n, 4)) sum in
+    more (2 ^ bits - 1) (power_fits 32 bits wide)
+
 with_digits_some : (len sum scale high l : ℕ) → 0 < high → with_digits len sum scale (Some (high, l)) ≡ Some (sum + scale * high, len + l)
 with_digits_some len sum scale high l h = search (arith, nat_tests)
 

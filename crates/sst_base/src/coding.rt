@@ -173,6 +173,24 @@ fn decode_up_to(bytes: &[u8], max: u64) -> Option<(u64, usize)>
     decode_behind(bytes, digit - 128, max)
 }
 
+// Reads a varint of four bytes, or of any length.
+#[inline(always)]
+#[tactic(auto, unfolding(crate::specs::Varint::varint_at))]
+fn decode_any(bytes: &[u8], bits: u32) -> Option<(u64, usize)>
+    requires { IsWidth bits }
+    ensures { result ≡ varint_at bits bytes.now }
+{
+    match bytes {
+        [a, b, c, d, ..]
+            if bits > 16 && *a >= 128 && *b >= 128 && *c >= 128 && 0 < *d && *d < 128 => {
+            let low = u64::from(*a - 128) + 128 * u64::from(*b - 128);
+            let low = low + 16384 * u64::from(*c - 128);
+            Some((low + 2_097_152 * u64::from(*d), 4))
+        }
+        _ => decode_up_to(bytes, u64::MAX >> (64 - bits)),
+    }
+}
+
 // Reads the number within the width that a front of the bytes encodes, and the length of that
 // front: 0 where there is none. A pair is not answered by way of memory.
 #[inline(never)]
@@ -182,7 +200,7 @@ fn decode_or_zero(bytes: &[u8], bits: u32) -> (u64, usize)
     ensures found { 0 < result.1 → varint_at bits bytes.now ≡ Some result }
     ensures none { result.1 ≡ 0 → varint_at bits bytes.now ≡ None }
 {
-    match decode_up_to(bytes, u64::MAX >> (64 - bits)) {
+    match decode_any(bytes, bits) {
         Some(found) => found,
         None => (0, 0),
     }

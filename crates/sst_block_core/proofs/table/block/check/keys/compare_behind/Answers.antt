@@ -11,5 +11,5 @@ returns-in_ok-decided c =
 pub returns-else-a-b : goal.returns-else-a-b
 returns-else-a-b c = answer_says _ _ _
     (λ o decides. right_behind c.args.payload.now c.args.a.now c.args.b.now c.requires.left.front c.requires.right.front o _ (range_of c.args.payload.now c.args.a.now.rest) _ c.requires.place (omega arith)
-        c.bytes_of-more-else-a-b.ensures refl c.bytes_of-else-a-b.ensures (decides _))
+    c.bytes_of-more-else-a-b.ensures refl c.bytes_of-else-a-b.ensures (decides _))
     c.compare_first-else-a-b.ensures
