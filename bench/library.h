@@ -28,6 +28,14 @@ uint64_t sst_seek_next(const uint8_t* entries, size_t entries_len, size_t count,
                        uint8_t interval, uint32_t num, uint32_t den, uint64_t times,
                        const uint8_t* needles, size_t needles_len, size_t key_len);
 
+uint64_t sst_check(const uint8_t* payload, size_t payload_len, uint64_t times);
+
+uint64_t sst_index_encode(const uint8_t* handles, size_t handles_len, size_t count,
+                          uint8_t interval, uint64_t times, uint8_t* out, size_t out_len);
+uint64_t sst_index_walk(const uint8_t* handles, size_t handles_len, size_t count,
+                        uint8_t interval, uint64_t times);
+uint64_t sst_index_check(const uint8_t* payload, size_t payload_len, uint64_t times);
+
 uint64_t sst_filter_build(const uint8_t* keys, size_t keys_len, size_t key_len, uint32_t bits,
                           uint64_t times, uint8_t* out, size_t out_len);
 uint64_t sst_filter_contains(const uint8_t* filter, size_t filter_len, uint64_t times,

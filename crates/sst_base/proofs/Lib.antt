@@ -1,6 +1,7 @@
 pub mod Shared
 pub mod Joined
 pub mod Polynomials
+pub mod Fours
 mod Lanes
 pub mod Frames
 pub mod Passing

@@ -1,8 +1,12 @@
--- Varints of two to four bytes, by the bytes that stand at the front.
+-- Varints of one to four bytes, by the bytes that stand at the front.
 use Rattle.std.proofs.Common.{◌≡◌, ℕ, ◌+◌, ◌*◌, ◌-◌, ◌<◌, ◌≤◌, List, [], ◌∷◌, length, take, get_or, arith, sym, ap, subst, ◌∙◌, Option, Some}
 use Rattle.sst_base.specs.Bytes.{IsBytes}
 use Rattle.sst_base.specs.Varint.{IsVarint, IsWidth, varint_at}
-use Rattle.sst_base.specs.VarintLaws.{varint_at_found, varint_at_two, varint_at_three, varint_at_four}
+use Rattle.sst_base.specs.VarintLaws.{varint_at_found, varint_at_small, varint_at_two, varint_at_three, varint_at_four}
+
+pub one_byte : (bits : ℕ) (bytes : List ℕ) (x : ℕ) → IsWidth bits → 1 ≤ length bytes → get_or bytes 0 0 < 128 → x ≡ get_or bytes 0 0 → Some (x, 1) ≡ varint_at bits bytes
+one_byte bits [] x w h p e = absurd (omega arith)
+one_byte bits (a ∷ bs) x w h p e = ap (λ n. Some (n, 1)) e ∙ sym (varint_at_small bits a bs w p)
 
 pub two_bytes : (bits : ℕ) (bytes : List ℕ) (x y : ℕ) → IsWidth bits → IsBytes bytes → 2 ≤ length bytes
     → 128 ≤ get_or bytes 0 0 → 0 < get_or bytes 1 0 → get_or bytes 1 0 < 128

@@ -173,26 +173,9 @@ fn decode_up_to(bytes: &[u8], max: u64) -> Option<(u64, usize)>
     decode_behind(bytes, digit - 128, max)
 }
 
-// Reads a varint of four bytes, or of any length.
-#[inline(always)]
-#[tactic(auto, unfolding(crate::specs::Varint::varint_at))]
-fn decode_any(bytes: &[u8], bits: u32) -> Option<(u64, usize)>
-    requires { IsWidth bits }
-    ensures { result ≡ varint_at bits bytes.now }
-{
-    match bytes {
-        [a, b, c, d, ..]
-            if bits > 16 && *a >= 128 && *b >= 128 && *c >= 128 && 0 < *d && *d < 128 => {
-            let low = u64::from(*a - 128) + 128 * u64::from(*b - 128);
-            let low = low + 16384 * u64::from(*c - 128);
-            Some((low + 2_097_152 * u64::from(*d), 4))
-        }
-        _ => decode_up_to(bytes, u64::MAX >> (64 - bits)),
-    }
-}
-
 // Reads the number within the width that a front of the bytes encodes, and the length of that
 // front: 0 where there is none. A pair is not answered by way of memory.
+#[cold]
 #[inline(never)]
 #[tactic(auto, using(crate::proofs::ShortVarints::takes_some), unfolding(crate::specs::Varint::varint_at))]
 fn decode_or_zero(bytes: &[u8], bits: u32) -> (u64, usize)
@@ -200,7 +183,7 @@ fn decode_or_zero(bytes: &[u8], bits: u32) -> (u64, usize)
     ensures found { 0 < result.1 → varint_at bits bytes.now ≡ Some result }
     ensures none { result.1 ≡ 0 → varint_at bits bytes.now ≡ None }
 {
-    match decode_any(bytes, bits) {
+    match decode_up_to(bytes, u64::MAX >> (64 - bits)) {
         Some(found) => found,
         None => (0, 0),
     }
@@ -220,33 +203,26 @@ fn decode_within(bytes: &[u8], bits: u32) -> Option<(u64, usize)>
     Some((n, len))
 }
 
-/// Decodes the varint at the front of `bytes`, as `decode_varint` does, where it mostly takes more
-/// than one byte.
-#[inline(always)]
-pub fn decode_long(bytes: &[u8], bits: u32) -> Option<(u64, usize)>
-    requires { IsWidth bits }
-    ensures exact { result ≡ varint_at bits bytes.now }
-    ensures length { IfSome result (λ found. found.1 ≤ length bytes.now) }
-    ensures width { IfSome result (λ found. found.0 < 2 ^ bits) }
-    ensures found { IfSome result (λ found. IsVarint (take found.1 bytes.now) found.0) }
-    ensures none { IfNone result ((n len : ℕ) → n < 2 ^ bits → IsVarint (take len bytes.now) n → ⊥) }
-{
-    decode_some(bytes, bits)
-}
-
-// Reads a varint of two or three bytes, or of any length.
+// Reads a varint of up to four bytes with one test of length, where four bytes are there, or any.
 #[inline(always)]
 fn decode_some(bytes: &[u8], bits: u32) -> Option<(u64, usize)>
     requires { IsWidth bits }
     ensures { result ≡ varint_at bits bytes.now }
 {
     match bytes {
-        [a, b, ..] if *a >= 128 && 0 < *b && *b < 128 => {
+        [a, _, _, _, ..] if *a < 128 => Some((u64::from(*a), 1)),
+        [a, b, _, _, ..] if *a >= 128 && 0 < *b && *b < 128 => {
             Some((u64::from(*a - 128) + 128 * u64::from(*b), 2))
         }
-        [a, b, c, ..] if bits > 16 && *a >= 128 && *b >= 128 && 0 < *c && *c < 128 => {
+        [a, b, c, _, ..] if bits > 16 && *a >= 128 && *b >= 128 && 0 < *c && *c < 128 => {
             let low = u64::from(*a - 128) + 128 * u64::from(*b - 128);
             Some((low + 16384 * u64::from(*c), 3))
+        }
+        [a, b, c, d, ..]
+            if bits > 16 && *a >= 128 && *b >= 128 && *c >= 128 && 0 < *d && *d < 128 => {
+            let low = u64::from(*a - 128) + 128 * u64::from(*b - 128);
+            let low = low + 16384 * u64::from(*c - 128);
+            Some((low + 2_097_152 * u64::from(*d), 4))
         }
         _ => decode_within(bytes, bits),
     }
@@ -258,7 +234,6 @@ fn decode_some(bytes: &[u8], bits: u32) -> Option<(u64, usize)>
 /// `bits` is the width: 16, 32 or 64. Returns `None` exactly if no front of the bytes is the
 /// minimal encoding of a number below 2^`bits`.
 #[inline(always)]
-#[tactic(auto, using(crate::specs::VarintLaws::varint_at_small))]
 pub fn decode_varint(bytes: &[u8], bits: u32) -> Option<(u64, usize)>
     requires { IsWidth bits }
     ensures exact { result ≡ varint_at bits bytes.now }
@@ -267,8 +242,5 @@ pub fn decode_varint(bytes: &[u8], bits: u32) -> Option<(u64, usize)>
     ensures found { IfSome result (λ found. IsVarint (take found.1 bytes.now) found.0) }
     ensures none { IfNone result ((n len : ℕ) → n < 2 ^ bits → IsVarint (take len bytes.now) n → ⊥) }
 {
-    match bytes.split_first() {
-        Some((first, _)) if *first < 128 => Some((u64::from(*first), 1)),
-        _ => decode_long(bytes, bits),
-    }
+    decode_some(bytes, bits)
 }

@@ -23,8 +23,9 @@ pub trait BlockHash: Drop {
     fn hash64(bytes: &[u8]) -> u64
         ensures { result ≡ hash64 bytes.now };
 
-    /// Goes on with a hash: from that of any byte string, returns the hash of that string with these
-    /// bytes behind it, in 64 bits. Returns `None` if it cannot be told, as it does unless implemented.
+    /// Continues a hash: given the hash of any byte string, returns the hash of that string followed
+    /// by these bytes, in 64 bits. Returns `None` if the hash function cannot be continued, as the
+    /// provided body does.
     fn hash64_behind(front: u64, rest: &[u8]) -> Option<u64>
         ensures { IfSome result (λ hash. (bytes : List ℕ) → hash64 bytes ≡ front → hash ≡ hash64 (bytes ++ rest.now)) }
     {
@@ -105,6 +106,28 @@ fn continued64(so_far: u64, bytes: &[u8]) -> u64
     })
 }
 
+// The hash of the first four bytes alone.
+#[inline(always)]
+fn first_four(bytes: &[u8]) -> u64
+    requires { 4 ≤ length bytes.now }
+    ensures { result ≡ fold times31 0 (take 4 bytes.now) }
+{
+    word_hash(u64::from(BigEndian::read_u32(bytes)))
+}
+
+// The same, four bytes in one step.
+#[inline(always)]
+fn continued64_by_four(so_far: u64, bytes: &[u8]) -> u64
+    ensures { result ≡ poly31_from 64 so_far bytes.now }
+{
+    if bytes.len() < 4 {
+        return continued64(so_far, bytes);
+    }
+    let hash = so_far.wrapping_mul(BASE_4).wrapping_add(first_four(bytes));
+    let (_, tail) = bytes.split_at(4);
+    continued64(hash, tail)
+}
+
 // The same, eight bytes a step.
 #[inline(always)]
 fn continued64_by_eight(so_far: u64, bytes: &[u8]) -> u64
@@ -118,7 +141,7 @@ fn continued64_by_eight(so_far: u64, bytes: &[u8]) -> u64
             .wrapping_add(eight_at(bytes, 8 * i));
     }
     let (_, tail) = bytes.split_at(8 * words);
-    continued64(hash, tail)
+    continued64_by_four(hash, tail)
 }
 
 // Continues a hash of 128 bits, a byte a step.

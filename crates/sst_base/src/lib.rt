@@ -24,7 +24,7 @@ pub mod value_type;
 pub mod vectors;
 
 pub use checksum::{Checksum, ChecksumType, ChecksummedReader, ChecksummedWriter};
-pub use coding::{Decode, Encode, decode_long, decode_varint, encode_varint, push_varint_reserved};
+pub use coding::{Decode, Encode, decode_varint, encode_varint, push_varint_reserved};
 pub use config::HashRatio;
 pub use contents::Contents;
 pub use count::Count;

@@ -244,6 +244,17 @@ fn varints_are_read(rt: HostRuntime) {
             None,
         ),
         (b"\x80\x00".as_slice(), 64, None),
+        (b"\x7f\xff\xff\xff".as_slice(), 16, Some((127, 1))),
+        (b"\x80\x01\xff\xff".as_slice(), 16, Some((128, 2))),
+        (b"\x80\x00\xff\xff".as_slice(), 64, None),
+        (b"\xff\xff\x03\xff".as_slice(), 16, Some((65535, 3))),
+        (b"\x80\x80\x04\xff".as_slice(), 16, None),
+        (b"\x80\x80\x04\xff".as_slice(), 32, Some((65536, 3))),
+        (b"\x80\x80\x00\xff".as_slice(), 32, None),
+        (b"\x80\x80\x80\x01".as_slice(), 16, None),
+        (b"\x80\x80\x80\x01".as_slice(), 32, Some((2_097_152, 4))),
+        (b"\x80\x80\x80\x00".as_slice(), 32, None),
+        (b"\xff\xff\xff\xff\x0f".as_slice(), 32, Some((4_294_967_295, 5))),
         (b"\x80".as_slice(), 64, None),
         (b"".as_slice(), 64, None),
     ];
@@ -256,16 +267,29 @@ fn varints_are_read(rt: HostRuntime) {
 
 #[test]
 fn hashes_are_known(rt: HostRuntime) {
-    let rows: [(&[u8], u64); 6] = [
+    let rows: [(&[u8], u64); 8] = [
         (b"", 0),
         (b"a", 97),
         (b"ab", 3105),
+        (b"abcd", 2987074),
+        (b"abcdefghijkl", 2547651515120520390),
         (b"abcdefgh", 2758628677764),
         (b"abcdefghijklmnopqrstuvwxyz", 7250214665611535789),
         (&[255; 9], 224736788365695),
     ];
     for (bytes, hash) in rows {
         assert_eq!(rt; Poly31::hash64(bytes), hash, "{bytes:?}");
+    }
+}
+
+#[test]
+fn hashes_are_continued(rt: HostRuntime) {
+    let bytes = b"abcdefghijklmnopqrstuvwxyz";
+    let whole = Poly31::hash64(bytes);
+    for cut in 0..bytes.len() {
+        let (front, rest) = bytes.split_at(cut);
+        let continued = Poly31::hash64_behind(Poly31::hash64(front), rest);
+        assert_eq!(rt; continued, Some(whole), "{cut}");
     }
 }
 

@@ -1,22 +1,23 @@
-//! The check of data blocks of any bytes.
+//! The check of data blocks and of index blocks of any bytes.
 ghost use Rattle.std.specs.Prelude.{◌≡◌, ◌+◌, ◌%◌, ◌^◌, ◌<◌, List, length, Ok, IfSome};
 ghost use Rattle.sst_base.specs.Entry.{Entry};
 ghost use Rattle.sst_base.specs.Hashes.{poly31};
-ghost use Rattle.sst_block_kinds.specs.Checks.{data_check};
+ghost use Rattle.sst_block_kinds.specs.Checks.{data_check, index_check};
+ghost use Rattle.sst_block_kinds.specs.Handles.{Handle};
 ghost use Rattle.sst_bench.specs.Turns.{OrRefused};
 
 use crate::REFUSED;
 use sst_base::{Block, BlockType, Checksum, Header, Poly31, Slice};
-use sst_block_kinds::DataBlock;
+use sst_block_kinds::{DataBlock, IndexBlock};
 use std::alloc::Global;
 
-// The data block of a payload, which is copied.
-fn block_of(alloc: Global, payload: &[u8]) -> Option<Block>
+// The block of a payload, which is copied.
+fn block_of(alloc: Global, payload: &[u8], block_type: BlockType) -> Option<Block>
     ensures { IfSome result (λ block. block.payload ≡ payload.now) }
 {
     let len = u32::try_from(payload.len()).ok()?;
     let header = Header {
-        block_type: BlockType::Data,
+        block_type,
         checksum: Checksum::from_raw(0),
         data_length: len,
         uncompressed_length: len,
@@ -35,18 +36,48 @@ fn add_checked(so_far: u64, block: &Block, alloc: Global) -> Option<u64>
     Some(so_far.wrapping_add(checked.len() as u64))
 }
 
+// Checks an index block, and adds the number of its handles.
+#[inline(never)]
+fn add_checked_index(so_far: u64, block: &Block) -> Option<u64>
+    ensures { IfSome result (λ sum. (items : List Handle) × (index_check block.now.payload ≡ Ok items)
+        × (sum ≡ (so_far + length items) % 2 ^ 64)) }
+{
+    let copy = block.clone().ok()?;
+    let checked = IndexBlock::check(copy).ok()?;
+    Some(so_far.wrapping_add(checked.len() as u64))
+}
+
 /// Checks the payload of a data block as bytes from outside, and adds the number of its entries.
 /// Refuses what the check refuses.
 #[unsafe(no_mangle)]
 pub extern "C" fn sst_check(payload: &[u8], times: u64, alloc: Global) -> u64
     ensures { OrRefused result (0 < times → (items : List Entry) × (data_check (poly31 64) payload.now ≡ Ok items)) }
 {
-    let Some(block) = block_of(alloc, payload) else {
+    let Some(block) = block_of(alloc, payload, BlockType::Data) else {
         return REFUSED;
     };
     let mut sum = 0;
     for turn in 0..times {
         match add_checked(sum, &block, alloc) {
+            Some(more) => sum = more,
+            None => return REFUSED,
+        }
+    }
+    sum
+}
+
+/// Checks the payload of an index block as bytes from outside, and adds the number of its handles.
+/// Refuses what the check refuses.
+#[unsafe(no_mangle)]
+pub extern "C" fn sst_index_check(payload: &[u8], times: u64, alloc: Global) -> u64
+    ensures { OrRefused result (0 < times → (items : List Handle) × (index_check payload.now ≡ Ok items)) }
+{
+    let Some(block) = block_of(alloc, payload, BlockType::Index) else {
+        return REFUSED;
+    };
+    let mut sum = 0;
+    for turn in 0..times {
+        match add_checked_index(sum, &block) {
             Some(more) => sum = more,
             None => return REFUSED,
         }

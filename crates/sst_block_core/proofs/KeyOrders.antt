@@ -1,6 +1,6 @@
 -- The order of two keys, by the ranges of their parts.
 use Rattle.std.proofs.Common.{◌≡◌, ◌≢◌, ℕ, ◌+◌, ◌-◌, ◌≤◌, ◌<◌, List, [], ◌∷◌, get_or, ◌++◌, length, take, drop, refl, sym, ap, ◌∙◌, arith, append_assoc, length-drop, take-add}
-use Rattle.std.proofs.lemmas.List.{drop-drop, length-take-le, take-append-drop}
+use Rattle.std.proofs.lemmas.List.{append-nil, drop-drop, length-take-le, take-append-drop}
 use Rattle.std.specs.Prelude.{Option, Some, None, IfSome}
 use Rattle.byteorder.specs.Endian.{big_number}
 use Rattle.byteorder.specs.Numbers.{big_from-take}
@@ -47,6 +47,10 @@ pub first_decides : (more rest tail : List ℕ) → 0 < length more → 0 < leng
 first_decides [] rest tail h k ne = absurd (omega arith)
 first_decides (x ∷ more) [] tail h k ne = absurd (omega arith)
 first_decides (x ∷ more) (y ∷ rest) tail h k ne = decided (nat_cmp x y) (slice_cmp nat_cmp (more ++ tail) rest) (λ e. ne (ranked x y Equal (sym e)))
+
+-- the same for two byte strings that are whole
+pub rests_decided : (a b : List ℕ) (o : Ordering) → ((tail : List ℕ) → o ≡ slice_cmp nat_cmp (a ++ tail) b) → o ≡ slice_cmp nat_cmp a b
+rests_decided a b o h = h [] ∙ ap (λ xs. slice_cmp nat_cmp xs b) (append-nil a)
 
 -- the range behind the first n bytes of a range
 abbrev pub behind : SliceIndexes → ℕ → SliceIndexes
@@ -159,3 +163,9 @@ module _ (payload : List ℕ) (a b : KeyRanges) (left : IsRange payload a.front)
 -- where the front is empty, the key is what is behind it
 pub whole_key : (payload : List ℕ) (k : KeyRanges) → k.front.1 - k.front.0 ≡ 0 → key_by payload k ≡ range_of payload k.rest
 whole_key payload k e = ap (λ n. take n (drop k.front.0 payload) ++ range_of payload k.rest) e
+
+-- the same key as a front with nothing behind it
+pub front_alone : (payload : List ℕ) (k : KeyRanges) → k.front.1 - k.front.0 ≡ 0 → key_by payload k ≡ key_by payload (record { front = k.rest; rest = record { 0 = k.rest.1; 1 = k.rest.1 } })
+front_alone payload k e =
+    let none : k.rest.1 - k.rest.1 ≡ 0 = omega arith in
+    whole_key payload k e ∙ sym (append-nil (range_of payload k.rest)) ∙ sym (ap (λ n. range_of payload k.rest ++ take n (drop k.rest.1 payload)) none)

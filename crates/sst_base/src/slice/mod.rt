@@ -166,7 +166,7 @@ impl Slice {
         Slice::from_vec(Vec::from_iter(alloc, iter)?)
     }
 
-    /// Reads so many bytes, in pieces of at most 65536 bytes, so a length that is too great costs
+    /// Reads `len` bytes, in pieces of at most 65536 bytes, so a length that is too great costs
     /// little memory.
     ///
     /// # Errors

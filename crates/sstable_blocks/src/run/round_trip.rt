@@ -11,7 +11,7 @@ use sst_base::{BlockHash, InternalValue, Result, SeqNo, Slice, Steps};
 use std::alloc::Global;
 
 /// Writes a run into memory, and reads the first entry with this key whose sequence number is
-/// strictly below `seqno`: it is that of the entries handed in, however they are cut, and however
+/// strictly below `seqno`: it is that of these entries, however they are cut, and however
 /// the run is configured. The conditions are those of `write_run`.
 ///
 /// # Errors

@@ -34,7 +34,7 @@ use std::marker::{Model, PhantomData};
 // The greatest length of a payload behind a handle: its frame has at most 2^32 - 1 bytes.
 const MAX_PAYLOAD: usize = 4294967262;
 
-/// What is kept while a run is written block by block. The writer is handed in at each call.
+/// What is kept while a run is written block by block. Each call takes the writer.
 ///
 /// Clauses see the configuration and the blocks accepted.
 #[derive(Drop)]

@@ -133,7 +133,7 @@ impl<F: SeekInput> FrameSource for FileSource<F> {
     }
 }
 
-// Moves a file to an offset, and reads so many bytes.
+// Moves a file to an offset, and reads `len` bytes.
 fn read_at<F: SeekInput>(alloc: Global, file: &mut F, offset: u64, len: usize) -> Result<Slice>
     ensures len { IfOk result (λ s. length s ≡ len) }
     ensures errors { IfErr result (λ e. (e ≡ Io) ⊎ (e ≡ Memory)) }

@@ -10,4 +10,4 @@ loop-i-preserved c =
 pub returns : goal.returns
 returns c =
     let all : c.loop-i.i ≡ length c.args.bytes.now / 8 = omega arith in
-    tail_more 64 c.args.so_far c.args.bytes.now _ (8 * (length c.args.bytes.now / 8)) c.loop-i.hash _ (rw all at c.loop-i.invariant) c.split_at.ensures.back c.continued64.ensures
+    tail_more 64 c.args.so_far c.args.bytes.now _ (8 * (length c.args.bytes.now / 8)) c.loop-i.hash _ (rw all at c.loop-i.invariant) c.split_at.ensures.back c.continued64_by_four.ensures

@@ -63,8 +63,8 @@ impl<'n> Bound<'n> {
         self.passes_order(compare_bytes(key, self.needle), seqno)
     }
 
-    /// Compares with the needle a key that shares so many bytes with the key of its interval's
-    /// head, and has the rest of its own. That head, which the bound passes, shares `alike` bytes
+    /// Compares with the needle a prefix-truncated key: `shared` bytes of the key of its interval's
+    /// head, and a rest of its own. That head, which the bound passes, shares `alike` bytes
     /// with the needle.
     ///
     /// A key that shares more with the head than the needle does sorts before the needle, one that

@@ -336,7 +336,7 @@ impl<'a, Item: Decodable<Parsed>, Parsed: ParsedItem<Item>> Drop for Decoder<'a,
     }
 }
 
-// The head that is picked where a predicate holds of the first `passed` of so many heads.
+// The head that is picked where a predicate holds of the first `passed` of `count` heads.
 #[inline(always)]
 fn picked_head(second_partition: bool, passed: usize, count: usize) -> usize
     requires { 0 < count }

@@ -17,7 +17,7 @@ use sst_block_core::table::block::check::parts::parts_of;
 use sst_block_core::table::block::check::pass::check_items;
 use sst_block_core::table::block::check::truncation::is_greatest;
 use sst_block_core::table::block::key_ranges::bytes_of;
-use sst_block_core::table::block::reading::{length_prefixed_from, number_from, prefix_from};
+use sst_block_core::table::block::reading::{length_prefixed_from, number_from, prefix_within};
 
 /// A handle's block has to end within 64 bits.
 impl Checkable<IndexBlockParsedItem> for KeyedBlockHandle {
@@ -54,7 +54,7 @@ impl Checkable<IndexBlockParsedItem> for KeyedBlockHandle {
         if !is_greatest(bytes_of(payload, base), shared, bytes_of(payload, &key)) {
             return None;
         }
-        let prefix = prefix_from(payload, base.0, shared, key.1 - key.0)?;
+        let prefix = prefix_within(payload, base, shared, key.1 - key.0)?;
         Some((front.with_key(Some(prefix), key), end))
     }
 }

@@ -68,6 +68,7 @@ impl<'a> Iter<'a> {
     /// Moves the front to the first handle that can lead to the needle below the sequence number:
     /// it passes over end keys below the needle, and those equal to it whose sequence number is at
     /// least `seqno`. Returns whether there is such a handle in the block, wherever the back is.
+    #[inline(always)]
     pub fn seek(&mut self, needle: &[u8], seqno: SeqNo) -> bool
         ensures step { GivesStep self.old self.new (found result) (seek_index handles needle.now seqno self.old.window) }
         ensures heads { self.new.steps.heads ≤ self.old.steps.heads + digits (head_count self.old.interval (length self.old.window.list)) }

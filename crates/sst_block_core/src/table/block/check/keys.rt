@@ -26,6 +26,7 @@ pub struct KeyVersion {
 }
 
 // The same as `compare_bytes`, out of line.
+#[cold]
 #[inline(never)]
 fn compare_whole(a: &[u8], b: &[u8]) -> Ordering
     ensures { result ≡ slice_cmp nat_cmp a.now b.now }
@@ -33,7 +34,23 @@ fn compare_whole(a: &[u8], b: &[u8]) -> Ordering
     compare_bytes(a, b)
 }
 
-// Compares two byte strings bytewise. The first four bytes mostly decide.
+// Compares a byte string that begins with these bytes with another by their first bytes. Returns
+// `None` where these do not decide.
+#[inline(always)]
+#[tactic(auto, using(crate::proofs::KeyOrders::first_decides))]
+fn compare_first(more: &[u8], rest: &[u8]) -> Option<Ordering>
+    ensures { IfSome result (λ o. (tail : List ℕ) → o ≡ slice_cmp nat_cmp (more.now ++ tail) rest.now) }
+{
+    if more.is_empty() || rest.is_empty() {
+        return None;
+    }
+    if more[0] == rest[0] {
+        return None;
+    }
+    Some(more[0].cmp(&rest[0]))
+}
+
+// Compares two byte strings bytewise. The first four bytes mostly decide, or the first of fewer.
 #[inline(always)]
 fn compare_rests(a: &[u8], b: &[u8]) -> Ordering
     ensures { result ≡ slice_cmp nat_cmp a.now b.now }
@@ -44,6 +61,8 @@ fn compare_rests(a: &[u8], b: &[u8]) -> Ordering
         if x != y {
             return x.cmp(&y);
         }
+    } else if let Some(decided) = compare_first(a, b) {
+        return decided;
     }
     compare_whole(a, b)
 }
@@ -70,6 +89,7 @@ fn compare_fronts(payload: &[u8], a: usize, b: usize, len: usize) -> Ordering
 }
 
 // The same as `compare_keys`, whatever the fronts are. Out of line.
+#[cold]
 #[inline(never)]
 fn compare_apart(payload: &[u8], a: KeyRanges, b: KeyRanges) -> Ordering
     requires left { IsKeyRanges payload.now a }
@@ -103,22 +123,6 @@ fn compare_apart(payload: &[u8], a: KeyRanges, b: KeyRanges) -> Ordering
             decided => decided,
         }
     }
-}
-
-// Compares a byte string that goes on behind these bytes with another by their first bytes. Returns
-// `None` where these do not decide.
-#[inline(always)]
-#[tactic(auto, using(crate::proofs::KeyOrders::first_decides))]
-fn compare_first(more: &[u8], rest: &[u8]) -> Option<Ordering>
-    ensures { IfSome result (λ o. (tail : List ℕ) → o ≡ slice_cmp nat_cmp (more.now ++ tail) rest.now) }
-{
-    if more.is_empty() || rest.is_empty() {
-        return None;
-    }
-    if more[0] == rest[0] {
-        return None;
-    }
-    Some(more[0].cmp(&rest[0]))
 }
 
 // Compares two keys whose fronts begin at one place, by the bytes behind the shorter front. Returns

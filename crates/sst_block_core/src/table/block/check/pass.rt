@@ -3,7 +3,7 @@ ghost use Rattle.std.specs.Prelude.{◌≡◌, ◌↔◌, ℕ, ◌+◌, ◌-◌,
 ghost use Rattle.std.specs.Prelude.{IfSome, OnSome, IsTrue, MatchOption, slice_index, OnOk, IfErr, nat_le, if◌then◌else◌};
 ghost use Rattle.std.specs.List.{AllByRecursion};
 ghost use Rattle.sst_block_core.specs.Body.{items_at};
-ghost use Rattle.sst_block_core.specs.Found.{IsRange};
+ghost use Rattle.sst_block_core.specs.Found.{IsRange, range_of};
 ghost use Rattle.sst_block_core.specs.KeyRanges.{IsKeyRanges, IsVersion};
 ghost use Rattle.sst_block_core.specs.Passes.{HasNoHead, IsAlong, GoesOn, IsPassed, IsFound, trailer_by, IsItemsRefusal};
 ghost use Rattle.sst_block_core.specs.Stages.{HasParts, HasForms, HasOrder, HasPointers, body_in, items_by};
@@ -11,7 +11,7 @@ ghost use Rattle.sst_block_core.specs.Stages.{HasParts, HasForms, HasOrder, HasP
 use crate::table::block::ParsedItem;
 use crate::table::block::binary_index::Reader;
 use crate::table::block::check::Checkable;
-use crate::table::block::check::keys::{KeyVersion, keeps_order};
+use crate::table::block::check::keys::{KeyRanges, KeyVersion, keeps_order};
 use crate::table::block::check::tally::{KeySink, NoTally};
 use crate::table::block::trailer::TrailerNumbers;
 use sst_base::table::util::SliceIndexes;
@@ -24,6 +24,24 @@ fn version_of<Item: Checkable<Parsed>, Parsed: ParsedItem<Item>>(item: &Parsed) 
 {
     KeyVersion {
         key: Item::key_ranges(item),
+        seqno: item.seqno(),
+    }
+}
+
+// The same of an item in full form, its key as the prefix that those behind it share.
+#[inline(always)]
+fn head_version_of<Item: Checkable<Parsed>, Parsed: ParsedItem<Item>>(item: &Parsed) -> KeyVersion
+    ensures version { (payload : List ℕ) → Parsed.is_found payload item.now → Parsed.shared_len item.now ≡ 0
+        → IsVersion Item.kind payload (Parsed.item_of payload item.now) result }
+    ensures front { (payload : List ℕ) → Parsed.shared_len item.now ≡ 0
+        → Item.kind.key (Parsed.item_of payload item.now) ≡ range_of payload result.key.front }
+{
+    let key = Item::key_ranges(item).rest;
+    KeyVersion {
+        key: KeyRanges {
+            front: key,
+            rest: SliceIndexes(key.1, key.1),
+        },
         seqno: item.seqno(),
     }
 }
@@ -81,20 +99,19 @@ fn pass_head<Item: Checkable<Parsed>, Parsed: ParsedItem<Item> + Drop, Sink: Key
 {
     let mut steps = Steps::new();
     let (item, offset) = Item::parse_full(body, from.offset, &mut steps)?;
-    let version = version_of::<Item, Parsed>(&item);
+    let version = head_version_of::<Item, Parsed>(&item);
     let passed = Passed {
         all_fit: from.passed.all_fit & Item::fits(&item),
         is_ordered: from.passed.is_ordered & keeps_order(body, &from.last, &version),
         is_indexed: from.passed.is_indexed & is_pointed(pointers, number, from.offset),
     };
     sink.take(body, &version.key, true);
-    let base = Item::key_ranges(&item).rest;
     let to = Standing {
         offset,
         last: version,
         passed,
     };
-    Some((base, to))
+    Some((version.key.front, to))
 }
 
 // Passes over this many truncated forms behind a head, whose key has this range. Returns `None`
@@ -147,8 +164,8 @@ fn rest_len(restart_interval: u8, left: usize) -> usize
     if left < most { left - 1 } else { most - 1 }
 }
 
-/// Passes over a number of items of a body once, and says what it found of them; the sink takes their
-/// keys. Returns `None` where the body is not so many forms and nothing else.
+/// Passes over the first `count` items of a body once, and returns what it found of them; the sink
+/// takes their keys. Returns `None` if the body is not that many forms and nothing else.
 pub(crate) fn pass_over<
     Item: Checkable<Parsed>,
     Parsed: ParsedItem<Item> + Drop,

@@ -1,4 +1,4 @@
-//! What a pass does with the keys that it goes over: nothing, or the buckets of a hash index.
+//! What a pass does with the keys of its items: nothing, or the buckets of a hash index.
 ghost use Rattle.std.specs.Prelude.{◌≡◌, ◌↔◌, ℕ, ◌+◌, ◌%◌, ◌<◌, ◌++◌, [], ◌∷◌, List, length};
 ghost use Rattle.std.specs.Prelude.{IsTrue, IfOk, IfSome, IsOkUnless, replicate, true};
 ghost use Rattle.sst_block_core.specs.Found.{IsRange};
@@ -42,7 +42,7 @@ impl<Item: BlockItem> KeySink<Item> for NoTally {
     }
 }
 
-/// The front of a key: its range of a body, and its hash.
+/// The shared prefix of a key: its range of a body, and its hash.
 #[derive(Clone, Copy)]
 pub(crate) struct Front {
     range: SliceIndexes,
@@ -56,7 +56,7 @@ pub(crate) struct Tally<H: BlockHash> {
     buckets: Builder<H>,
     bucket_count: Divisor,
     front: Front,
-    // Room for a key, where its hash cannot go on from that of its front.
+    // Room for a joined key, where the hash function cannot be continued.
     joined: Vec<u8>,
     heads: u8,
     has_memory: bool,
@@ -73,7 +73,7 @@ impl<H: BlockHash> Model for Tally<H> {
     ghost invariant = { λ t. (t.bucket_count ≡ length t.buckets) × (0 < length t.buckets) };
 }
 
-// The front of a key with its hash, from that of the key before: mostly they are the same.
+// The shared prefix of a key with its hash, given that of the key before: mostly they are the same.
 #[inline(always)]
 fn front_at<H: BlockHash>(last: &Front, body: &[u8], range: &SliceIndexes) -> Front
     requires { IsRange body.now range.now }
@@ -90,6 +90,7 @@ fn front_at<H: BlockHash>(last: &Front, body: &[u8], range: &SliceIndexes) -> Fr
 }
 
 // The hash of a key that is joined first. Returns `None` if an allocation fails.
+#[cold]
 #[inline(never)]
 fn joined_hash<H: BlockHash>(joined: &mut Vec<u8>, body: &[u8], key: &KeyRanges) -> Option<u64>
     requires { IsKeyRanges body.now key.now }
@@ -101,7 +102,7 @@ fn joined_hash<H: BlockHash>(joined: &mut Vec<u8>, body: &[u8], key: &KeyRanges)
     Some(H::hash64(joined.as_slice()))
 }
 
-// The hash of a key with this front. Returns `None` if an allocation fails.
+// The hash of a key with this shared prefix. Returns `None` if an allocation fails.
 #[inline(always)]
 fn hash_of<H: BlockHash>(
     joined: &mut Vec<u8>,
@@ -132,7 +133,7 @@ fn heads_with(heads: u8, is_head: bool) -> u8
     }
 }
 
-// The number of the last of so many restart intervals.
+// The index of the last restart interval, of their count.
 #[inline(always)]
 fn last_number(heads: u8) -> u8
     ensures { 0 < heads → result + 1 ≡ heads }

@@ -2,7 +2,6 @@ use Rattle.std.proofs.Common.{ℕ, ◌≡◌, ◌<◌, [], None, length, get_or,
 use Rattle.std.proofs.lemmas.List.{length_push}
 use Rattle.sst_block_core.specs.Body.{items_at}
 use Rattle.sst_block_core.specs.Found.{range_of}
-use Rattle.sst_block_core.proofs.KeyOrders.{whole_key}
 use Rattle.sst_block_core.proofs.ReadOn.{read_head, stop_head}
 use Rattle.sst_block_core.proofs.PassSteps.{along_head, head_place}
 use Rattle.sst_block_core.proofs.table.block.check.pass.pass_head.Goals as goal
@@ -15,10 +14,10 @@ returns-in_err-item-clause-exact g c = λ r xs base pos place k.
     search (rules, stop)
 
 pub keeps_order-requires-clause-version : goal.keeps_order-requires-clause-version
-keeps_order-requires-clause-version g c = (c.version_of-version.ensures c.args.body.now c.in_ok-item.ensures.found).ranges
+keeps_order-requires-clause-version g c = (c.head_version_of-version.ensures.version c.args.body.now c.in_ok-item.ensures.found c.in_ok-item.ensures.shared).ranges
 
 pub take-requires : goal.take-requires
-take-requires g c = (c.version_of-version.ensures c.args.body.now c.in_ok-item.ensures.found).ranges
+take-requires g c = (c.head_version_of-version.ensures.version c.args.body.now c.in_ok-item.ensures.found c.in_ok-item.ensures.shared).ranges
 
 pub returns-clause-exact : goal.returns-clause-exact
 returns-clause-exact g c = λ r xs base pos place k.
@@ -26,17 +25,18 @@ returns-clause-exact g c = λ r xs base pos place k.
     let body = c.args.body.now in
     let e = c.in_ok-item.ensures in
     let item = g.Parsed.ParsedItem.item_of body c.in_ok-item.item in
-    let version = c.version_of-version.ensures body e.found in
+    let head = c.head_version_of-version in
+    let version = head.ensures.version body e.found e.shared in
     let p = head_place r c.args.number (length xs) pos place in
-    let read = read_head kind r body xs (length xs) c.args.from.now.offset _ k.read item c.in_ok-item.offset (range_of body c.key_ranges.result.rest) p.0 e.exact.0 e.exact.1
-    (sym (c.key_ranges.ensures.key body ∙ whole_key body c.key_ranges.result (c.key_ranges.ensures.front ∙ e.shared))) in
+    let read = read_head kind r body xs (length xs) c.args.from.now.offset _ k.read item c.in_ok-item.offset (range_of body head.result.key.front) p.0 e.exact.0 e.exact.1
+    (sym (head.ensures.front body e.shared)) in
     let here = c.is_pointed.ensures in
     record {
       items = _;
       count = length_push xs item;
       along = along_head kind g.Item.BlockItem.valid g.Item.Checkable.fits g.Item.BlockItem.is_kind r pos body c.args.pointers.now (λ i. let f = c.type_inv.body i in omega arith)
-          xs base c.args.from.now k item c.version_of-version.result c.in_ok-item.offset c.fits.result c.keeps_order.result (let f = c.version_of-version.type_inv in omega arith) version
-          (c.fits.ensures body) c.keeps_order.ensures c.key_ranges.result.rest c.is_pointed.result read
+          xs base c.args.from.now k item head.result c.in_ok-item.offset c.fits.result c.keeps_order.result (let f = head.type_inv in omega arith) version
+          (c.fits.ensures body) c.keeps_order.ensures head.result.key.front c.is_pointed.result read
           ((λ h. λ z. ap (λ n. get_or c.args.pointers.now n 0) p.1 ∙ here.0 h), (λ h. here.1 (ap (λ n. get_or c.args.pointers.now n 0) (sym p.1) ∙ h p.0)));
       besides = λ b taken. c.take.ensures r b xs item pos taken ((λ h. p.0), (λ h. refl)) version.key;
     }

@@ -1,5 +1,6 @@
-use Rattle.std.proofs.Common.{◌++◌, ◌∙◌, ap, sym, drop, Some, rules}
+use Rattle.std.proofs.Common.{◌++◌, ◌∙◌, ap, refl, sym, length, drop, Some, arith, rules}
 use Rattle.sst_base.specs.declared.table.util.SliceIndexes.{SliceIndexes}
+use Rattle.sst_base.proofs.ShortSlices.{length_part}
 use Rattle.sst_block_core.specs.Found.{range_of}
 use Rattle.sst_block_kinds.specs.Handles.{handle_with}
 use Rattle.sst_block_kinds.specs.ParsedHandle.{handle_of, front_by}
@@ -31,7 +32,7 @@ pub returns-in_err-prefix-clause-exact : goal.returns-in_err-prefix-clause-exact
 returns-in_err-prefix-clause-exact c =
     let n = not_key c.args.payload.now (drop c.args.offset c.args.payload.now) c.args.base.now c.in_ok-key.key c.in_ok-shared.shared c.in_ok-key.end (front_by c.in_ok-front.front) _ _ _ _
     c.requires.base c.in_ok-key.ensures.range c.bytes_of.ensures c.bytes_of-2.ensures c.in_ok-front.ensures.1 c.in_ok-shared.ensures.exact.1 c.in_ok-key.ensures.exact.1 c.if-not-is_greatest.ensures.greatest
-    c.in_err-prefix.ensures.none in
+    (λ inside. c.in_err-prefix.ensures.none) in
     search (rules, n)
 
 pub returns-clause-exact : goal.returns-clause-exact
@@ -44,3 +45,11 @@ returns-clause-exact c =
       f ∙ ap (λ (q : SliceIndexes). Some (handle_with (front_by c.in_ok-front.front) (range_of p q ++ range_of p c.in_ok-key.key), drop c.in_ok-key.end p)) (sym c.in_ok-prefix.ensures.found.0)
           ∙ ap (λ q. Some (handle_of p q, drop c.in_ok-key.end p)) (sym c.with_key.ensures),
     )
+
+pub prefix_within-requires-clause-inside : goal.prefix_within-requires-clause-inside
+prefix_within-requires-clause-inside c =
+    let base = c.args.base.now in
+    let e = ap length c.bytes_of.ensures in
+    let l = length_part c.args.payload.now base.0 base.1 c.requires.base.inside in
+    let inside = c.if-not-is_greatest.ensures.inside refl in
+    omega (arith, e, l, inside)

@@ -1,6 +1,6 @@
 use Rattle.std.proofs.Common.{arith, ◌≤◌}
 use Rattle.sst_base.specs.VarintLaws.{varint_at_found, varint_at_none}
-use Rattle.sst_base.proofs.coding.decode_long.Goals as goal
+use Rattle.sst_base.proofs.coding.decode_varint.Goals as goal
 
 pub returns-clause-length : goal.returns-clause-length
 returns-clause-length c =
