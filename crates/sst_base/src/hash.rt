@@ -98,6 +98,7 @@ fn eight_at(bytes: &[u8], at: usize) -> u64
 }
 
 // Continues a hash of 64 bits, a byte a step.
+#[inline(always)]
 fn continued64(so_far: u64, bytes: &[u8]) -> u64
     ensures { result ≡ poly31_from 64 so_far bytes.now }
 {

@@ -53,6 +53,7 @@ impl<'a, Item: Decodable<Parsed>, Parsed: ParsedItem<Item>> Intervals<'a, Item, 
 
     /// Returns how many heads a bound passes: the first item that it doesn't pass is in the
     /// interval before, or the next head.
+    #[inline(always)]
     pub(crate) fn heads_passed(&mut self, bound: &Bound<'_>) -> usize
         requires { IsOrdered Item.kind self.old.list.items }
         ensures list { self.new.list ≡ self.old.list }
