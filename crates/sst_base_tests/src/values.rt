@@ -254,7 +254,11 @@ fn varints_are_read(rt: HostRuntime) {
         (b"\x80\x80\x80\x01".as_slice(), 16, None),
         (b"\x80\x80\x80\x01".as_slice(), 32, Some((2_097_152, 4))),
         (b"\x80\x80\x80\x00".as_slice(), 32, None),
-        (b"\xff\xff\xff\xff\x0f".as_slice(), 32, Some((4_294_967_295, 5))),
+        (
+            b"\xff\xff\xff\xff\x0f".as_slice(),
+            32,
+            Some((4_294_967_295, 5)),
+        ),
         (b"\x80".as_slice(), 64, None),
         (b"".as_slice(), 64, None),
     ];

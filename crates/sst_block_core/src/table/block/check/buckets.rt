@@ -13,7 +13,8 @@ use sst_base::{BlockHash, Error, Result};
 use std::alloc::Global;
 
 /// Checks the items of a payload, whose trailer fits it, their pointers, and the buckets, in one
-/// pass. Takes memory for the buckets, and for the longest truncated key if the hash has to join it.
+/// pass. Takes memory for the buckets, and for the longest key if the hash function cannot be
+/// continued.
 ///
 /// # Errors
 ///
