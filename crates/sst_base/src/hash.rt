@@ -211,8 +211,17 @@ pub struct ByteSum {
     so_far: u128,
 }
 
-// Continues a sum.
-fn sum_from(so_far: u128, bytes: &[u8]) -> u128
+// Continues a sum of 64 bits.
+fn sum64_from(so_far: u64, bytes: &[u8]) -> u64
+    ensures { result ≡ byte_sum_from 64 so_far bytes.now }
+{
+    bytes
+        .iter()
+        .fold(so_far, |sum, byte| sum.wrapping_add(u64::from(*byte)))
+}
+
+// Continues a sum of 128 bits.
+fn sum128_from(so_far: u128, bytes: &[u8]) -> u128
     ensures { result ≡ byte_sum_from 128 so_far bytes.now }
 {
     bytes
@@ -230,13 +239,15 @@ impl BlockHash for ByteSum {
     ghost hash128_fits = { byte_sum-below 128 };
 
     fn hash64(bytes: &[u8]) -> u64 {
-        bytes
-            .iter()
-            .fold(0, |sum, byte| sum.wrapping_add(u64::from(*byte)))
+        sum64_from(0, bytes)
+    }
+
+    fn hash64_behind(front: u64, rest: &[u8]) -> Option<u64> {
+        Some(sum64_from(front, rest))
     }
 
     fn hash128(bytes: &[u8]) -> u128 {
-        sum_from(0, bytes)
+        sum128_from(0, bytes)
     }
 
     fn start() -> ByteSum {
@@ -244,7 +255,7 @@ impl BlockHash for ByteSum {
     }
 
     fn update(&mut self, bytes: &[u8]) {
-        self.so_far = sum_from(self.so_far, bytes);
+        self.so_far = sum128_from(self.so_far, bytes);
     }
 
     fn digest128(&self) -> u128 {

@@ -4,7 +4,7 @@ ghost use Rattle.std.specs.Prelude.{◌≡◌, length, IfOk};
 ghost use Rattle.std.specs.Iterator.{YieldsFirst, YieldsLast, item_count};
 
 use sst_base::double_ended_peekable::{DoubleEndedPeekableExt, ListIterator};
-use sst_base::hash::{BlockHash, Poly31};
+use sst_base::hash::{BlockHash, ByteSum, Poly31};
 use sst_base::{
     Block, BlockType, Checksum, Error, Header, History, InternalKey, InternalValue, Result, Slice,
     Steps, ValueType, compare_bytes, compare_prefixed_slice, decode_varint, encode_varint,
@@ -289,11 +289,12 @@ fn hashes_are_known(rt: HostRuntime) {
 #[test]
 fn hashes_are_continued(rt: HostRuntime) {
     let bytes = b"abcdefghijklmnopqrstuvwxyz";
-    let whole = Poly31::hash64(bytes);
+    let whole = (Some(Poly31::hash64(bytes)), Some(ByteSum::hash64(bytes)));
     for cut in 0..bytes.len() {
         let (front, rest) = bytes.split_at(cut);
-        let continued = Poly31::hash64_behind(Poly31::hash64(front), rest);
-        assert_eq!(rt; continued, Some(whole), "{cut}");
+        let polynomial = Poly31::hash64_behind(Poly31::hash64(front), rest);
+        let sum = ByteSum::hash64_behind(ByteSum::hash64(front), rest);
+        assert_eq!(rt; (polynomial, sum), whole, "{cut}");
     }
 }
 

@@ -1,7 +1,7 @@
 use Rattle.std.proofs.Common.{rules, arith, ◌≡◌, ◌∙◌}
 use Rattle.std.specs.List.{fold}
 use Rattle.sst_base.proofs.Sums.{wrapped_sum, byte_sum_steps}
-use Rattle.sst_base.proofs.hash.sum_from.Goals as goal
+use Rattle.sst_base.proofs.hash.sum128_from.Goals as goal
 
 pub returns : goal.returns
 returns c =

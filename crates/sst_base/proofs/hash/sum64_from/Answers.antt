@@ -1,0 +1,9 @@
+use Rattle.std.proofs.Common.{rules, arith, ◌≡◌, ◌∙◌}
+use Rattle.std.specs.List.{fold}
+use Rattle.sst_base.proofs.Sums.{wrapped_sum, byte_sum_steps}
+use Rattle.sst_base.proofs.hash.sum64_from.Goals as goal
+
+pub returns : goal.returns
+returns c =
+    let steps : c.fold.result ≡ fold (wrapped_sum 64) c.args.so_far c.args.bytes.now = search rules in
+    steps ∙ byte_sum_steps 64 c.args.so_far c.args.bytes.now (omega arith)
