@@ -1,7 +1,6 @@
 -- The polynomial hash of four bytes in one step.
 use Rattle.std.proofs.Common.{◌≡◌, ℕ, ◌+◌, ◌*◌, ◌%◌, ◌^◌, ◌≤◌, zero, suc, List, [], ◌∷◌, length, take, drop, arith, sym, ◌∙◌, ap}
 use Rattle.std.specs.List.{fold}
-use Rattle.std.proofs.lemmas.Nat.{mul-mod_first}
 use Rattle.byteorder.specs.Endian.{big_number}
 use Rattle.sst_base.specs.Bytes.{IsBytes}
 use Rattle.sst_base.specs.Hashes.{times31, poly31_from}

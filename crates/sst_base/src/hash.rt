@@ -1,5 +1,5 @@
 //! Hash functions of byte strings.
-ghost use Rattle.std.specs.Prelude.{◌≡◌, ◌+◌, ◌<◌, ◌≤◌, ◌^◌, ◌++◌, ℕ, List, [], length, take, drop};
+ghost use Rattle.std.specs.Prelude.{◌≡◌, ◌+◌, ◌%◌, ◌<◌, ◌≤◌, ◌^◌, ◌++◌, ℕ, List, [], length, take, drop};
 ghost use Rattle.std.specs.Prelude.{fold, IfSome};
 ghost use Rattle.byteorder.specs.Endian.{big_number};
 ghost use Rattle.sst_base.specs.Bytes.{IsBytes};
@@ -97,14 +97,26 @@ fn eight_at(bytes: &[u8], at: usize) -> u64
     word_hash(BigEndian::read_u64(rest))
 }
 
-// Continues a hash of 64 bits, a byte a step.
+// Continues a hash of 64 bits by a byte.
 #[inline(always)]
-fn continued64(so_far: u64, bytes: &[u8]) -> u64
+fn with_byte(so_far: u64, byte: u8) -> u64
+    ensures { result ≡ times31 so_far byte % 2 ^ 64 }
+{
+    so_far.wrapping_mul(BASE).wrapping_add(u64::from(byte))
+}
+
+// Continues a hash of 64 bits by fewer than four bytes.
+#[inline(always)]
+fn continued64_by_few(so_far: u64, bytes: &[u8]) -> u64
+    requires { length bytes.now < 4 }
     ensures { result ≡ poly31_from 64 so_far bytes.now }
 {
-    bytes.iter().fold(so_far, |hash, byte| {
-        hash.wrapping_mul(BASE).wrapping_add(u64::from(*byte))
-    })
+    match bytes {
+        [a] => with_byte(so_far, *a),
+        [a, b] => with_byte(with_byte(so_far, *a), *b),
+        [a, b, c] => with_byte(with_byte(with_byte(so_far, *a), *b), *c),
+        _ => so_far,
+    }
 }
 
 // The hash of the first four bytes alone.
@@ -116,20 +128,21 @@ fn first_four(bytes: &[u8]) -> u64
     word_hash(u64::from(BigEndian::read_u32(bytes)))
 }
 
-// The same, four bytes in one step.
+// Continues a hash of 64 bits by fewer than eight bytes, the first four in one step.
 #[inline(always)]
 fn continued64_by_four(so_far: u64, bytes: &[u8]) -> u64
+    requires { length bytes.now < 8 }
     ensures { result ≡ poly31_from 64 so_far bytes.now }
 {
     if bytes.len() < 4 {
-        return continued64(so_far, bytes);
+        return continued64_by_few(so_far, bytes);
     }
     let hash = so_far.wrapping_mul(BASE_4).wrapping_add(first_four(bytes));
     let (_, tail) = bytes.split_at(4);
-    continued64(hash, tail)
+    continued64_by_few(hash, tail)
 }
 
-// The same, eight bytes a step.
+// Continues a hash of 64 bits, eight bytes a step.
 #[inline(always)]
 fn continued64_by_eight(so_far: u64, bytes: &[u8]) -> u64
     ensures { result ≡ poly31_from 64 so_far bytes.now }

@@ -1,5 +1,5 @@
 -- The order of two keys, by the ranges of their parts.
-use Rattle.std.proofs.Common.{◌≡◌, ◌≢◌, ℕ, ◌+◌, ◌-◌, ◌≤◌, ◌<◌, List, [], ◌∷◌, get_or, ◌++◌, length, take, drop, refl, sym, ap, ◌∙◌, arith, append_assoc, length-drop, take-add}
+use Rattle.std.proofs.Common.{◌≡◌, ◌≢◌, ℕ, ◌+◌, ◌-◌, ◌≤◌, ◌<◌, List, [], ◌∷◌, get_or, ◌++◌, length, take, drop, refl, sym, ap, subst, ◌∙◌, arith, append_assoc, length-drop, take-add}
 use Rattle.std.proofs.lemmas.List.{append-nil, drop-drop, length-take-le, take-append-drop}
 use Rattle.std.specs.Prelude.{Option, Some, None, IfSome}
 use Rattle.byteorder.specs.Endian.{big_number}
@@ -15,8 +15,9 @@ use Rattle.sst_base.specs.declared.table.util.SliceIndexes.{SliceIndexes}
 use Rattle.sst_base.specs.KeyOrderLaws.{slice_cmp-equal}
 use Rattle.sst_base.specs.OrderLaws.{slice_cmp-append, slice_cmp-big_number}
 use Rattle.sst_block_core.specs.Found.{range_of, IsRange}
-use Rattle.sst_block_core.specs.KeyRanges.{key_by}
+use Rattle.sst_block_core.specs.KeyRanges.{key_by, version_cmp}
 use Rattle.sst_block_core.specs.declared.table.block.check.keys.KeyRanges.{KeyRanges}
+use Rattle.sst_block_core.specs.declared.table.block.check.keys.KeyVersion.{KeyVersion}
 
 pub decided : (o w : Ordering) → o ≢ Equal → o ≡ ordering_then o w
 decided Less w n = refl
@@ -169,3 +170,17 @@ pub front_alone : (payload : List ℕ) (k : KeyRanges) → k.front.1 - k.front.0
 front_alone payload k e =
     let none : k.rest.1 - k.rest.1 ≡ 0 = omega arith in
     whole_key payload k e ∙ sym (append-nil (range_of payload k.rest)) ∙ sym (ap (λ n. range_of payload k.rest ++ take n (drop k.rest.1 payload)) none)
+
+not_less : (m s : ℕ) → s ≤ m → nat_cmp m s ≢ Less
+not_less m s h e = let r = ranked m s Less (sym e) in omega (arith, r, h)
+
+-- nothing sorts before the empty key with the greatest sequence number
+pub not_before : (keys : List ℕ) (m s : ℕ) → s ≤ m → ordering_then (slice_cmp nat_cmp keys []) (nat_cmp m s) ≢ Less
+not_before [] m s h = not_less m s h
+not_before (k ∷ ks) m s h = λ e. cc e
+
+-- the same of versions
+pub not_before_least : (payload : List ℕ) (last v : KeyVersion) → key_by payload last.key ≡ [] → last.seqno ≡ 18446744073709551615 → v.seqno ≤ 18446744073709551615 → version_cmp payload v last ≢ Less
+not_before_least payload last v none most small =
+    subst (λ key. ordering_then (slice_cmp nat_cmp (key_by payload v.key) key) (nat_cmp last.seqno v.seqno) ≢ Less) (sym none)
+    (not_before (key_by payload v.key) last.seqno v.seqno (omega (arith, most, small)))

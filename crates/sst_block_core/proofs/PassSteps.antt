@@ -6,7 +6,6 @@ use Rattle.std.specs.Cmp.Lexicographic.{slice_cmp}
 use Rattle.std.specs.declared.cmp.Ordering.{Ordering}
 use Rattle.std.specs.declared.cmp.Ordering.TheVariants.{Less}
 use Rattle.std.proofs.lemmas.Bool.{cases_lt}
-use Rattle.std.proofs.lemmas.Cmp.{ranked}
 use Rattle.std.proofs.lemmas.List.{length_push, take_all, at_drop_all}
 use Rattle.std.proofs.lemmas.Nat.{div-add-mod', mod-mul-add}
 use Rattle.std.proofs.Math.Nat.{mul-mod_left, mul-div_cancel_left}
@@ -21,6 +20,7 @@ use Rattle.sst_base.specs.declared.table.util.SliceIndexes.{SliceIndexes}
 use Rattle.sst_block_core.specs.Found.{range_of}
 use Rattle.sst_block_core.specs.declared.table.block.check.keys.KeyVersion.{KeyVersion}
 use Rattle.sst_block_core.specs.declared.table.block.check.pass.Standing.{Standing}
+use Rattle.sst_block_core.proofs.KeyOrders.{not_before}
 use Rattle.sst_block_core.proofs.ReadOn.{read_offset, read_none}
 use Rattle.sst_block_core.proofs.Written.{place_same}
 
@@ -109,14 +109,6 @@ module _ {X : Type 0} (kind : Kind X) (r : ℕ) (pos : 0 < r) (pointers : List �
 and_true : (a : Bool) → (a && true) ≡ a
 and_true true = refl
 and_true false = refl
-
-not_less : (m s : ℕ) → s ≤ m → nat_cmp m s ≢ Less
-not_less m s h e = let r = ranked m s Less (sym e) in omega (arith, r, h)
-
--- nothing sorts before the empty key with the greatest sequence number
-not_before : (keys : List ℕ) (m s : ℕ) → s ≤ m → ordering_then (slice_cmp nat_cmp keys []) (nat_cmp m s) ≢ Less
-not_before [] m s h = not_less m s h
-not_before (k ∷ ks) m s h = λ e. cc e
 
 -- the order by what is kept of the last item is that of the items
 pub keeps_by : {X : Type 0} (kind : Kind X) (bytes : List ℕ) (last : KeyVersion) (y : Option X) (v : KeyVersion) (x : X) (t : Bool) → v.seqno ≤ 18446744073709551615 → IsLast kind bytes last y → IsVersion kind bytes x v

@@ -374,3 +374,26 @@ fn changes_of_handles(rt: HostRuntime) -> std::result::Result<(), Fail> {
     assert!(&rt; accepted > 65);
     Ok(())
 }
+
+/// Returns whether a block has this type and these bytes.
+fn is_made_of(block: &Block, block_type: BlockType, bytes: &[u8]) -> bool {
+    block.header().block_type == block_type && block.data().as_slice() == bytes
+}
+
+/// A data block that was checked is given back as it came.
+#[test]
+fn data_block_is_given_back(rt: HostRuntime) -> std::result::Result<(), Fail> {
+    let block = check_data(rt.alloc(), &HASH_PAIR)?.into_inner();
+    let same = is_made_of(&block, BlockType::Data, &HASH_PAIR);
+    assert!(&rt; same);
+    Ok(())
+}
+
+/// An index block that was checked is given back as it came.
+#[test]
+fn index_block_is_given_back(rt: HostRuntime) -> std::result::Result<(), Fail> {
+    let block = check_index(rt.alloc(), &THREE_HANDLES)?.into_inner();
+    let same = is_made_of(&block, BlockType::Index, &THREE_HANDLES);
+    assert!(&rt; same);
+    Ok(())
+}

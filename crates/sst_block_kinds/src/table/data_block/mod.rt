@@ -202,6 +202,13 @@ impl<H: BlockHash> DataBlock<H> {
         &self.inner
     }
 
+    /// Gives the block back, with its header.
+    pub fn into_inner(self) -> Block
+        ensures { result ≡ block_of self }
+    {
+        self.inner
+    }
+
     // The block, and what its trailer says.
     fn opened(&self) -> &Block
         ensures payload { result.now.payload ≡ self.now.payload }

@@ -1,5 +1,5 @@
 //! The order of two keys by their ranges of a payload.
-ghost use Rattle.std.specs.Prelude.{◌≡◌, ◌≢◌, ◌↔◌, ◌+◌, ◌≤◌, ◌++◌, ℕ, List, length, take, drop, IsTrue, IfSome};
+ghost use Rattle.std.specs.Prelude.{◌≡◌, ◌≢◌, ◌↔◌, ◌+◌, ◌≤◌, ◌++◌, [], ℕ, List, length, take, drop, IsTrue, IfSome};
 ghost use Rattle.std.specs.Ordering.{nat_cmp};
 ghost use Rattle.std.specs.Cmp.Lexicographic.{slice_cmp};
 ghost use Rattle.std.specs.declared.cmp.Ordering.TheVariants.{Less};
@@ -177,6 +177,15 @@ impl KeyVersion {
             seqno: u64::MAX,
         }
     }
+
+    // Returns whether this is surely the version of `least`, under which no item sorts.
+    #[inline(always)]
+    fn is_least(&self) -> bool
+        ensures key { IsTrue result → (payload : List ℕ) → key_by payload self.now.key ≡ [] }
+        ensures seqno { IsTrue result → self.now.seqno ≡ 18446744073709551615 }
+    {
+        self.key.front.1 == 0 && self.key.rest.1 == 0 && self.seqno == u64::MAX
+    }
 }
 
 /// Returns whether a version does not sort before the last one.
@@ -192,4 +201,14 @@ pub(crate) fn keeps_order(payload: &[u8], last: &KeyVersion, version: &KeyVersio
         Ordering::Equal => version.seqno <= last.seqno,
         Ordering::Greater => true,
     }
+}
+
+/// The same for the head of a restart interval: at once where no item is in front of it.
+#[inline(always)]
+pub(crate) fn head_keeps_order(payload: &[u8], last: &KeyVersion, version: KeyVersion) -> bool
+    requires last { IsKeyRanges payload.now last.now.key }
+    requires version { IsKeyRanges payload.now version.key }
+    ensures { IsTrue result ↔ (version_cmp payload.now version last.now ≢ Less) }
+{
+    last.is_least() || keeps_order(payload, last, &version)
 }

@@ -18,7 +18,7 @@ fn is_reserved(bytes: &[u8]) -> bool
     requires { length bytes.now ≡ 9 }
     ensures { IsTrue result ↔ (bytes.now ≡ reserved) }
 {
-    bytes == [1, 0, 0, 0, 0, 0, 0, 0, 0].as_slice()
+    matches!(bytes, [1, 0, 0, 0, 0, 0, 0, 0, 0])
 }
 
 // Returns whether the numbers of a payload's trailer fit each other and the payload.

@@ -11,7 +11,7 @@ ghost use Rattle.sst_block_core.specs.Stages.{HasParts, HasForms, HasOrder, HasP
 use crate::table::block::ParsedItem;
 use crate::table::block::binary_index::Reader;
 use crate::table::block::check::Checkable;
-use crate::table::block::check::keys::{KeyRanges, KeyVersion, keeps_order};
+use crate::table::block::check::keys::{KeyRanges, KeyVersion, head_keeps_order, keeps_order};
 use crate::table::block::check::tally::{KeySink, NoTally};
 use crate::table::block::trailer::TrailerNumbers;
 use sst_base::table::util::SliceIndexes;
@@ -102,7 +102,7 @@ fn pass_head<Item: Checkable<Parsed>, Parsed: ParsedItem<Item> + Drop, Sink: Key
     let version = head_version_of::<Item, Parsed>(&item);
     let passed = Passed {
         all_fit: from.passed.all_fit & Item::fits(&item),
-        is_ordered: from.passed.is_ordered & keeps_order(body, &from.last, &version),
+        is_ordered: from.passed.is_ordered & head_keeps_order(body, &from.last, version),
         is_indexed: from.passed.is_indexed & is_pointed(pointers, number, from.offset),
     };
     sink.take(body, &version.key, true);

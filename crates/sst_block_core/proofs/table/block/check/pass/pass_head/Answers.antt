@@ -13,8 +13,8 @@ returns-in_err-item-clause-exact g c = λ r xs base pos place k.
     stop_head g.Item.BlockItem.kind r c.args.body.now xs (length xs) c.args.from.now.offset _ k.read p.0 c.in_err-item.ensures.exact in
     search (rules, stop)
 
-pub keeps_order-requires-clause-version : goal.keeps_order-requires-clause-version
-keeps_order-requires-clause-version g c = (c.head_version_of-version.ensures.version c.args.body.now c.in_ok-item.ensures.found c.in_ok-item.ensures.shared).ranges
+pub head_keeps_order-requires-clause-version : goal.head_keeps_order-requires-clause-version
+head_keeps_order-requires-clause-version g c = (c.head_version_of-version.ensures.version c.args.body.now c.in_ok-item.ensures.found c.in_ok-item.ensures.shared).ranges
 
 pub take-requires : goal.take-requires
 take-requires g c = (c.head_version_of-version.ensures.version c.args.body.now c.in_ok-item.ensures.found c.in_ok-item.ensures.shared).ranges
@@ -35,8 +35,8 @@ returns-clause-exact g c = λ r xs base pos place k.
       items = _;
       count = length_push xs item;
       along = along_head kind g.Item.BlockItem.valid g.Item.Checkable.fits g.Item.BlockItem.is_kind r pos body c.args.pointers.now (λ i. let f = c.type_inv.body i in omega arith)
-          xs base c.args.from.now k item head.result c.in_ok-item.offset c.fits.result c.keeps_order.result (let f = head.type_inv in omega arith) version
-          (c.fits.ensures body) c.keeps_order.ensures head.result.key.front c.is_pointed.result read
+          xs base c.args.from.now k item head.result c.in_ok-item.offset c.fits.result c.head_keeps_order.result (let f = head.type_inv in omega arith) version
+          (c.fits.ensures body) c.head_keeps_order.ensures head.result.key.front c.is_pointed.result read
           ((λ h. λ z. ap (λ n. get_or c.args.pointers.now n 0) p.1 ∙ here.0 h), (λ h. here.1 (ap (λ n. get_or c.args.pointers.now n 0) (sym p.1) ∙ h p.0)));
       besides = λ b taken. c.take.ensures r b xs item pos taken ((λ h. p.0), (λ h. refl)) version.key;
     }
