@@ -1,5 +1,6 @@
 //! `check`: the frames of a table file, one after the other.
-ghost use Rattle.std.specs.Prelude.{◌≡◌, ◌≢◌, ◌⊎◌, ◌≤◌, ◌<◌, Err, OnOk, IfOk, IfErr, IfSome, IsOk};
+ghost use Rattle.std.specs.Prelude.{◌≡◌, ◌≢◌, ◌⊎◌, ◌≤◌, ◌<◌, Err, OnOk};
+ghost use Rattle.std.specs.Prelude.{IfOk, IfErr, IfSome, IsOk};
 ghost use Rattle.std.specs.Prelude.{IsOkUnless, string_bytes};
 ghost use Rattle.std.specs.Io.KnownBytes.{Keeps};
 ghost use Rattle.sst_base.specs.declared.error.Error.TheVariants.{Io, Memory};
@@ -127,13 +128,17 @@ pub fn print_counts<S: FrameSource, O: Write>(
     ensures same { S.bytes source.new ≡ S.bytes source.old }
     ensures failures_grow { S.failures source.old ≤ S.failures source.new }
     ensures printed { OnOk result (PrintsCounts (O.contents output.old) (O.contents output.new)) }
-    ensures kept { IfErr result (λ e. (e ≡ Io) ⊎ Keeps (O.contents output.old) (O.contents output.new)) }
+    ensures kept { IfErr result
+        (λ e. (e ≡ Io) ⊎ Keeps (O.contents output.old) (O.contents output.new)) }
     ensures exact { IfSome (S.bytes source.old) (λ all. OnOk result
-        (PrintsCountsOf (run_counts all handles.now) (O.contents output.old) (O.contents output.new))) }
-    ensures refused { IfSome (S.bytes source.old) (λ all. IfErr result (λ e. e ≢ Memory → e ≢ Io
+        (PrintsCountsOf (run_counts all handles.now) (O.contents output.old)
+        (O.contents output.new))) }
+    ensures refused { IfSome (S.bytes source.old)
+        (λ all. IfErr result (λ e. e ≢ Memory → e ≢ Io
         → run_counts all handles.now ≡ Err e)) }
     ensures io { IfSome (S.bytes source.old) (λ all. IfErr result (λ e. e ≡ Io
-        → (S.failures source.old < S.failures source.new) ⊎ IsOk (run_counts all handles.now))) }
+        → (S.failures source.old < S.failures source.new)
+        ⊎ IsOk (run_counts all handles.now))) }
 {
     let (blocks, entries) = check_run(alloc, source, handles)?;
     let text = counts_text(alloc, blocks, entries)?;

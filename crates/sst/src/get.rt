@@ -1,5 +1,6 @@
 //! `get`: one look-up in a table file.
-ghost use Rattle.std.specs.Prelude.{◌≡◌, ◌≢◌, ◌⊎◌, ◌≤◌, ◌<◌, Err, OnOk, IfOk, IfErr, IfSome, IsOk};
+ghost use Rattle.std.specs.Prelude.{◌≡◌, ◌≢◌, ◌⊎◌, ◌≤◌, ◌<◌, Err, OnOk};
+ghost use Rattle.std.specs.Prelude.{IfOk, IfErr, IfSome, IsOk};
 ghost use Rattle.std.specs.Prelude.{IsOkUnless, Option, string_bytes};
 ghost use Rattle.std.specs.Io.KnownBytes.{Keeps};
 ghost use Rattle.sst_base.specs.declared.error.Error.TheVariants.{Io, Memory};
@@ -62,11 +63,13 @@ pub fn print_found<S: FrameSource, O: Write>(
     ensures same { S.bytes source.new ≡ S.bytes source.old }
     ensures failures_grow { S.failures source.old ≤ S.failures source.new }
     ensures printed { OnOk result (PrintsAnswer (O.contents output.old) (O.contents output.new)) }
-    ensures kept { IfErr result (λ e. (e ≡ Io) ⊎ Keeps (O.contents output.old) (O.contents output.new)) }
+    ensures kept { IfErr result
+        (λ e. (e ≡ Io) ⊎ Keeps (O.contents output.old) (O.contents output.new)) }
     ensures exact { IfSome (S.bytes source.old) (λ all. OnOk result (PrintsAnswerOf
         (read_checked sst_hashes all handles.now words.now.needle words.now.seqno)
         (O.contents output.old) (O.contents output.new))) }
-    ensures refused { IfSome (S.bytes source.old) (λ all. IfErr result (λ e. e ≢ Memory → e ≢ Io
+    ensures refused { IfSome (S.bytes source.old)
+        (λ all. IfErr result (λ e. e ≢ Memory → e ≢ Io
         → read_checked sst_hashes all handles.now words.now.needle words.now.seqno ≡ Err e)) }
     ensures io { IfSome (S.bytes source.old) (λ all. IfErr result (λ e. e ≡ Io
         → (S.failures source.old < S.failures source.new)

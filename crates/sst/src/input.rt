@@ -1,5 +1,6 @@
 //! Reading all entries of an input.
-ghost use Rattle.std.specs.Prelude.{◌≡◌, ◌≢◌, ◌⊎◌, ◌≤◌, length, IfOk, IfErr};
+ghost use Rattle.std.specs.Prelude.{◌≡◌, ◌≢◌, ◌⊎◌, ◌≤◌, length, IfOk};
+ghost use Rattle.std.specs.Prelude.{IfErr};
 ghost use Rattle.sst_base.specs.declared.error.Error.TheVariants.{Memory, Io};
 ghost use Rattle.sst_block_core.specs.Kind.{IsOrdered};
 ghost use Rattle.sst_block_core.specs.Entries.{entries};
@@ -52,7 +53,8 @@ pub fn ordered_entries<I: Read>(
     alloc: Global,
     input: &mut I,
 ) -> std::result::Result<Vec<InternalValue>, Fault>
-    ensures ok { IfOk result (λ items. IsOutcomeOf run_of_input (I.remaining input.old) items.items) }
+    ensures ok { IfOk result
+        (λ items. IsOutcomeOf run_of_input (I.remaining input.old) items.items) }
     ensures err { IfErr result (IsFaultOf run_of_input (I.remaining input.old)) }
     ensures some { IfOk result (λ items. 1 ≤ length items.items) }
     ensures ordered { IfOk result (λ items. IsOrdered entries items.items) }

@@ -1,5 +1,6 @@
 //! Entry lines: `C S K V`, the letter of the type, the sequence number, the key and the value.
-ghost use Rattle.std.specs.Prelude.{◌≡◌, ◌⊎◌, ◌↔◌, ◌<◌, ◌≤◌, [], ◌∷◌, ◌++◌, length, IfSome, IfNone};
+ghost use Rattle.std.specs.Prelude.{◌≡◌, ◌⊎◌, ◌↔◌, ◌<◌, ◌≤◌, []};
+ghost use Rattle.std.specs.Prelude.{◌∷◌, ◌++◌, length, IfSome, IfNone};
 ghost use Rattle.std.specs.Prelude.{IfOk, IfErr, IsOkUnless, Some, string_bytes};
 ghost use Rattle.sst_base.specs.Entry.{Entry, plain_value};
 ghost use Rattle.sst.specs.Line.{entry_line_of, letter_of, byte_text_of, joined_by_spaces, Encodes};
@@ -138,7 +139,8 @@ fn value_of(alloc: Global, value_type: ValueType, bytes: Vec<u8>) -> Result<Slic
 // The entry that these parts encode, if they encode one.
 fn entry_from(alloc: Global, parts: Parts<'_>) -> Result<Option<InternalValue>>
     ensures ok { IfOk result (λ found. found
-        ≡ entry_of_parts parts.entry.letter.now parts.entry.seqno.now parts.entry.key.now parts.entry.value.now) }
+        ≡ entry_of_parts parts.entry.letter.now parts.entry.seqno.now parts.entry.key.now
+        parts.entry.value.now) }
     ensures memory { IsOkUnless result Error.Memory }
 {
     let (Some(value_type), Some(seqno)) = (value_type_in(parts.letter), number_in(parts.seqno))
@@ -167,7 +169,8 @@ fn entry_from(alloc: Global, parts: Parts<'_>) -> Result<Option<InternalValue>>
 /// `Error::Memory` if an allocation fails.
 pub fn entry_in(alloc: Global, line: &[u8]) -> Result<Option<InternalValue>>
     ensures ok { IfOk result (λ found. found ≡ entry_of_line line.now) }
-    ensures encoded { IfOk result (λ found. (e : Entry) → (found ≡ Some e) ↔ Encodes line.now e) }
+    ensures encoded { IfOk result
+        (λ found. (e : Entry) → (found ≡ Some e) ↔ Encodes line.now e) }
     ensures memory { IsOkUnless result Error.Memory }
 {
     match parts_of(line) {

@@ -18,7 +18,8 @@ pub mod text;
 pub mod walk;
 pub mod words;
 
-ghost use Rattle.std.specs.Prelude.{◌≡◌, ◌≤◌, map, OnOk, IfErr, is_ok, if◌then◌else◌};
+ghost use Rattle.std.specs.Prelude.{◌≡◌, ◌≤◌, map, OnOk, IfErr, is_ok};
+ghost use Rattle.std.specs.Prelude.{if◌then◌else◌};
 ghost use Rattle.sst.specs.Commands.{command_of_words};
 ghost use Rattle.sst.specs.Outcome.{HasPrinted, HasTold, HasKept};
 
@@ -69,7 +70,8 @@ pub fn run<R: Files, W: AsSlice<u8>, I: Read, O: Write>(
 ) -> Result<(), Fault>
     ensures printed { OnOk result (HasPrinted (command_of_words (map W.items words.now))
         (I.remaining input.old) (O.contents output.old) (O.contents output.new)) }
-    ensures err { IfErr result (HasTold (command_of_words (map W.items words.now)) (I.remaining input.old)) }
+    ensures err { IfErr result
+        (HasTold (command_of_words (map W.items words.now)) (I.remaining input.old)) }
     ensures kept { IfErr result (HasKept (command_of_words (map W.items words.now))
         (O.contents output.old) (O.contents output.new)) }
 {

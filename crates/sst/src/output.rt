@@ -11,7 +11,8 @@ use std::io::Write;
 ///
 /// `Error::Io` if the output fails. It may then hold a partial write.
 pub fn print_text<O: Write>(output: &mut O, text: &[u8]) -> Result<()>
-    ensures printed { OnOk result (Appends (O.contents output.old) (O.contents output.new) text.now) }
+    ensures printed { OnOk result
+        (Appends (O.contents output.old) (O.contents output.new) text.now) }
     ensures cause { IsOkUnless result Error.Io }
 {
     output.write_all(text)?;

@@ -1,5 +1,6 @@
 //! `pack`: a table file of all entries.
-ghost use Rattle.std.specs.Prelude.{◌≡◌, ◌+◌, ◌≤◌, OnOk, IfOk, IfErr, IfSome, IsOkUnless, length};
+ghost use Rattle.std.specs.Prelude.{◌≡◌, ◌+◌, ◌≤◌, OnOk, IfOk, IfErr, IfSome};
+ghost use Rattle.std.specs.Prelude.{IsOkUnless, length};
 ghost use Rattle.std.specs.Prelude.{List, [], None, string_bytes};
 ghost use Rattle.sst_base.specs.Entry.{Entry};
 ghost use Rattle.sst_block_core.specs.Entries.{entries};
@@ -93,7 +94,8 @@ pub fn write_table<W: Write + Drop>(
     requires per_block { 1 ≤ per_block }
     requires some { 1 ≤ length items.now }
     requires ordered { IsOrdered entries items.now }
-    ensures table { IfOk result (λ r. AppendsTable config per_block items.now (W.contents writer) (W.contents r.1) r.0) }
+    ensures table { IfOk result
+        (λ r. AppendsTable config per_block items.now (W.contents writer) (W.contents r.1) r.0) }
     ensures cause { IfErr result IsWriteFault }
 {
     let mut run = RunWriter::<Poly31, W>::new(alloc, writer, config);
@@ -127,7 +129,8 @@ fn write_file<R: Files>(
 
 // The line of what was packed, with its line feed.
 fn packed_text(alloc: Global, entries: usize, packed: &Packed) -> Result<String>
-    ensures ok { IfOk result (λ text. string_bytes text ≡ packed_text_of entries packed.now.blocks packed.now.len) }
+    ensures ok { IfOk result
+        (λ text. string_bytes text ≡ packed_text_of entries packed.now.blocks packed.now.len) }
     ensures memory { IsOkUnless result Error.Memory }
 {
     let Packed { blocks, len } = *packed;

@@ -1,5 +1,6 @@
 //! `point`: one data block of all entries, and one look-up in it.
-ghost use Rattle.std.specs.Prelude.{◌≡◌, ℕ, ◌⊎◌, ◌↔◌, ◌≤◌, ◌<◌, ◌+◌, ◌^◌, List, [], ◌∷◌, ◌++◌};
+ghost use Rattle.std.specs.Prelude.{◌≡◌, ℕ, ◌⊎◌, ◌↔◌, ◌≤◌, ◌<◌};
+ghost use Rattle.std.specs.Prelude.{◌+◌, ◌^◌, List, [], ◌∷◌, ◌++◌};
 ghost use Rattle.std.specs.Prelude.{length, take, string_bytes, map, IsNone, IfSome, IfOk, IfErr};
 ghost use Rattle.std.specs.Prelude.{OnOk, IsOkUnless};
 ghost use Rattle.std.specs.Io.KnownBytes.{Appends};
@@ -48,7 +49,8 @@ fn block_with(alloc: Global, items: &[InternalValue], interval: u8) -> Result<Da
     ensures payload { IfOk result (λ block. block.payload ≡ point_payload items.now interval) }
     ensures items { IfOk result (λ block. block.items ≡ map plain items.now) }
     ensures fits { OnOk result (length (point_payload items.now interval) < 2 ^ 32) }
-    ensures cause { IfErr result (IsRefusal None (2 ^ 32 ≤ length (point_payload items.now interval))) }
+    ensures cause { IfErr result
+        (IsRefusal None (2 ^ 32 ≤ length (point_payload items.now interval))) }
 {
     let ratio = HashRatio { num: 0, den: 1 };
     let bytes = DataBlock::<Poly31>::encode_into_vec(alloc, items, interval, ratio)?;
@@ -57,7 +59,8 @@ fn block_with(alloc: Global, items: &[InternalValue], interval: u8) -> Result<Da
 
 // Bytes in lower-case hex, and an answer, a line each. The hex digits are written in place.
 fn two_lines(alloc: Global, bytes: &[u8], answer: &str) -> Result<Vec<u8>>
-    ensures ok { IfOk result (λ text. text.items ≡ encode_lower bytes.now ++ (10 ∷ []) ++ answer.now
+    ensures ok { IfOk result
+        (λ text. text.items ≡ encode_lower bytes.now ++ (10 ∷ []) ++ answer.now
         ++ (10 ∷ [])) }
     ensures memory { IsOkUnless result Error.Memory }
 {
@@ -90,9 +93,11 @@ pub fn point_text(
     requires some { 1 ≤ length items.now }
     requires ordered { IsOrdered entries items.now }
     requires interval { 1 ≤ interval }
-    ensures ok { IfOk result (λ text. text.items ≡ point_text_of items.now interval needle.now seqno) }
+    ensures ok { IfOk result
+        (λ text. text.items ≡ point_text_of items.now interval needle.now seqno) }
     ensures fits { OnOk result (length (point_payload items.now interval) < 2 ^ 32) }
-    ensures cause { IfErr result (IsRefusal None (2 ^ 32 ≤ length (point_payload items.now interval))) }
+    ensures cause { IfErr result
+        (IsRefusal None (2 ^ 32 ≤ length (point_payload items.now interval))) }
 {
     let block = block_with(alloc, items, interval)?;
     let found = block.point_read(alloc, needle, seqno, &mut Steps::new())?;
@@ -106,7 +111,8 @@ fn text_for<I: Read>(
     words: &PointWords,
     input: &mut I,
 ) -> std::result::Result<Vec<u8>, Fault>
-    ensures ok { IfOk result (λ text. IsOutcomeOf (outcome_of_query words.now) (I.remaining input.old) text.items) }
+    ensures ok { IfOk result
+        (λ text. IsOutcomeOf (outcome_of_query words.now) (I.remaining input.old) text.items) }
     ensures err { IfErr result (IsFaultOf (outcome_of_query words.now) (I.remaining input.old)) }
 {
     let items = ordered_entries(alloc, input)?;

@@ -1,5 +1,6 @@
 //! Table files: a run and its footer.
-ghost use Rattle.std.specs.Prelude.{◌≡◌, ◌⊎◌, ◌≤◌, ◌<◌, length, IfErr, IfSome};
+ghost use Rattle.std.specs.Prelude.{◌≡◌, ◌⊎◌, ◌≤◌, ◌<◌, length, IfErr};
+ghost use Rattle.std.specs.Prelude.{IfSome};
 ghost use Rattle.sst_base.specs.declared.error.Error.TheVariants.{Io, Truncated, BadHandle, Memory};
 ghost use Rattle.sst.specs.TableReads.{footer_place, table_handles, index_read, block_read};
 ghost use Rattle.sstable_blocks.specs.Sources.{GivesOr};

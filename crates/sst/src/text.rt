@@ -1,5 +1,6 @@
 //! Numbers and byte strings as words and lines encode them.
-ghost use Rattle.std.specs.Prelude.{◌≡◌, ◌↔◌, ◌≤◌, IsSome, IfSome, IfOk, IsOkUnless};
+ghost use Rattle.std.specs.Prelude.{◌≡◌, ◌↔◌, ◌≤◌, IsSome, IfSome, IfOk};
+ghost use Rattle.std.specs.Prelude.{IsOkUnless};
 ghost use Rattle.std.specs.Option.{option_map};
 ghost use Rattle.std.specs.Str.Parse.{digits_value};
 ghost use Rattle.sst.specs.Text.{IsNumberText, hex_bytes, number_of, number_within};
@@ -35,7 +36,8 @@ fn parsed(digits: &[u8]) -> Option<u64>
 ///
 /// `Error::Memory` if an allocation fails.
 pub fn bytes_in(alloc: Global, digits: &[u8]) -> Result<Option<Vec<u8>>>
-    ensures ok { IfOk result (λ found. option_map (λ bytes. bytes.items) found ≡ hex_bytes digits.now) }
+    ensures ok { IfOk result
+        (λ found. option_map (λ bytes. bytes.items) found ≡ hex_bytes digits.now) }
     ensures memory { IsOkUnless result Error.Memory }
 {
     if digits == b"-".as_slice() {

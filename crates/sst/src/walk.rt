@@ -1,5 +1,6 @@
 //! `walk`: all entries of a table file.
-ghost use Rattle.std.specs.Prelude.{◌≡◌, ◌≢◌, ◌⊎◌, ◌≤◌, ◌<◌, None, Some, Err, OnOk, IfOk, IfErr};
+ghost use Rattle.std.specs.Prelude.{◌≡◌, ◌≢◌, ◌⊎◌, ◌≤◌, ◌<◌, None};
+ghost use Rattle.std.specs.Prelude.{Some, Err, OnOk, IfOk, IfErr};
 ghost use Rattle.std.specs.Prelude.{IfSome, IsOk, length, IsOkUnless, string_bytes};
 ghost use Rattle.std.specs.Io.KnownBytes.{Keeps};
 ghost use Rattle.sst_base.specs.declared.error.Error.TheVariants.{Io, Memory};
@@ -41,10 +42,13 @@ fn print_block<S: FrameSource, O: Write>(
     ensures same { S.bytes source.new ≡ S.bytes source.old }
     ensures failures_grow { S.failures source.old ≤ S.failures source.new }
     ensures printed { OnOk result (PrintsLines (O.contents output.old) (O.contents output.new)) }
-    ensures kept { IfErr result (λ e. (e ≡ Io) ⊎ Keeps (O.contents output.old) (O.contents output.new)) }
+    ensures kept { IfErr result
+        (λ e. (e ≡ Io) ⊎ Keeps (O.contents output.old) (O.contents output.new)) }
     ensures exact { IfSome (S.bytes source.old) (λ all. OnOk result
-        (PrintsLinesOf (block_read all handle.now) (O.contents output.old) (O.contents output.new))) }
-    ensures refused { IfSome (S.bytes source.old) (λ all. IfErr result (λ e. e ≢ Memory → e ≢ Io
+        (PrintsLinesOf (block_read all handle.now) (O.contents output.old)
+        (O.contents output.new))) }
+    ensures refused { IfSome (S.bytes source.old)
+        (λ all. IfErr result (λ e. e ≢ Memory → e ≢ Io
         → block_read all handle.now ≡ Err e)) }
     ensures io { IfSome (S.bytes source.old) (λ all. IfErr result (λ e. e ≡ Io
         → (S.failures source.old < S.failures source.new) ⊎ IsOk (block_read all handle.now))) }
@@ -65,11 +69,13 @@ fn print_blocks<S: FrameSource, O: Write>(
     ensures same { S.bytes source.new ≡ S.bytes source.old }
     ensures failures_grow { S.failures source.old ≤ S.failures source.new }
     ensures printed { OnOk result (PrintsLines (O.contents output.old) (O.contents output.new)) }
-    ensures kept { IfErr result (λ e. (e ≡ Io) ⊎ PrintsLines (O.contents output.old) (O.contents output.new)) }
+    ensures kept { IfErr result
+        (λ e. (e ≡ Io) ⊎ PrintsLines (O.contents output.old) (O.contents output.new)) }
     ensures exact { IfSome (S.bytes source.old) (λ all. OnOk result
         (PrintsUntil (O.contents output.old) (O.contents output.new)
         (blocks_read all index.now.items) None)) }
-    ensures refused { IfSome (S.bytes source.old) (λ all. IfErr result (λ e. e ≢ Memory → e ≢ Io
+    ensures refused { IfSome (S.bytes source.old)
+        (λ all. IfErr result (λ e. e ≢ Memory → e ≢ Io
         → PrintsUntil (O.contents output.old) (O.contents output.new)
         (blocks_read all index.now.items) (Some e))) }
     ensures first { IfSome (S.bytes source.old) (λ all. IfErr result (λ e. (e ≡ Io)
@@ -100,11 +106,13 @@ pub fn print_entries<S: FrameSource, O: Write>(
     ensures same { S.bytes source.new ≡ S.bytes source.old }
     ensures failures_grow { S.failures source.old ≤ S.failures source.new }
     ensures printed { OnOk result (PrintsLines (O.contents output.old) (O.contents output.new)) }
-    ensures kept { IfErr result (λ e. (e ≡ Io) ⊎ PrintsLines (O.contents output.old) (O.contents output.new)) }
+    ensures kept { IfErr result
+        (λ e. (e ≡ Io) ⊎ PrintsLines (O.contents output.old) (O.contents output.new)) }
     ensures exact { IfSome (S.bytes source.old) (λ all. OnOk result
         (PrintsUntil (O.contents output.old) (O.contents output.new)
         (run_blocks all index.now) None)) }
-    ensures refused { IfSome (S.bytes source.old) (λ all. IfErr result (λ e. e ≢ Memory → e ≢ Io
+    ensures refused { IfSome (S.bytes source.old)
+        (λ all. IfErr result (λ e. e ≢ Memory → e ≢ Io
         → PrintsUntil (O.contents output.old) (O.contents output.new)
         (run_blocks all index.now) (Some e))) }
     ensures first { IfSome (S.bytes source.old) (λ all. IfErr result (λ e. (e ≡ Io)
@@ -135,7 +143,9 @@ pub fn walk<R: Files, O: Write>(
 ) -> std::result::Result<(), Fault>
     ensures printed { OnOk result (PrintsLines (O.contents output.old) (O.contents output.new)) }
     ensures err { IfErr result IsRefused }
-    ensures kept { IfErr result (λ fault. (fault ≡ Refused Io) ⊎ PrintsLines (O.contents output.old) (O.contents output.new)) }
+    ensures kept { IfErr result
+        (λ fault. (fault ≡ Refused Io)
+        ⊎ PrintsLines (O.contents output.old) (O.contents output.new)) }
 {
     let mut table = open_table(rt, alloc, file)?;
     print_entries(alloc, &mut table.source, &table.handles.index, output)?;

@@ -1,5 +1,6 @@
 //! The words after the program's name.
-ghost use Rattle.std.specs.Prelude.{◌≡◌, ◌≤◌, ◌⊎◌, IfErr, IfOk, IfSome, IsOkUnless, map};
+ghost use Rattle.std.specs.Prelude.{◌≡◌, ◌≤◌, ◌⊎◌, IfErr, IfOk, IfSome};
+ghost use Rattle.std.specs.Prelude.{IsOkUnless, map};
 ghost use Rattle.sst_base.specs.declared.error.Error.TheVariants.{Memory};
 ghost use Rattle.sst.specs.declared.fault.Fault.TheVariants.{Usage, Refused};
 ghost use Rattle.std.specs.Option.{option_map};
@@ -92,7 +93,8 @@ impl Model for PointWords {
 
     ghost Value = { Query };
 
-    ghost view = { λ w. record { interval = w.interval; needle = w.needle.items; seqno = w.seqno } };
+    ghost view = { λ w.
+        record { interval = w.interval; needle = w.needle.items; seqno = w.seqno } };
 
     ghost invariant = { λ w. 1 ≤ w.interval };
 }
@@ -262,7 +264,8 @@ fn file_in(word: &[u8]) -> Option<FileName<'_>>
 
 // INTERVAL KEYHEX SEQNO
 fn point_words<'a, W: AsSlice<u8>>(alloc: Global, words: &'a [W]) -> Result<Option<Command<'a>>>
-    ensures ok { IfOk result (λ found. found ≡ option_map Point (point_of_words (map W.items words.now))) }
+    ensures ok { IfOk result
+        (λ found. found ≡ option_map Point (point_of_words (map W.items words.now))) }
     ensures memory { IsOkUnless result Error.Memory }
 {
     let [interval, key, seqno] = words else {
@@ -401,7 +404,8 @@ fn index_interval_in<W: AsSlice<u8>>(words: &[W]) -> Option<u8>
 
 // FILE KEYHEX SEQNO
 fn get_words<'a, W: AsSlice<u8>>(alloc: Global, words: &'a [W]) -> Result<Option<Command<'a>>>
-    ensures ok { IfOk result (λ found. found ≡ option_map Get (get_of_words (map W.items words.now))) }
+    ensures ok { IfOk result
+        (λ found. found ≡ option_map Get (get_of_words (map W.items words.now))) }
     ensures memory { IsOkUnless result Error.Memory }
 {
     let [file, key, seqno] = words else {

@@ -150,7 +150,8 @@ impl<W, H: BlockHash> ChecksummedWriter<W, H> {
     /// Lends the writer. What is written to it directly is not part of the checksum.
     pub fn inner_mut(&mut self) -> &mut W
         ensures value { result.now ≡ self.old.inner }
-        ensures* writes_back { sem 𝓛 (Lends (the_row W.row H.row H.BlockHash) W.row self.entry result
+        ensures* writes_back { sem 𝓛
+            (Lends (the_row W.row H.row H.BlockHash) W.row self.entry result
             (λ w. record { inner = w; passed = self.old.passed })) }
     {
         &mut self.inner
@@ -162,8 +163,10 @@ impl<W: Write, H: BlockHash> Write for ChecksummedWriter<W, H> {
 
     fn write(&mut self, buf: &[u8]) -> io::Result<usize>
         ensures bound { WritesAtMost result buf.now }
-        ensures bytes { WriteAppends (W.contents self.old.inner) (W.contents self.new.inner) result buf.now }
-        ensures accepted { IfOk result (λ n. self.new.passed ≡ self.old.passed ++ take n buf.now) }
+        ensures bytes { WriteAppends (W.contents self.old.inner) (W.contents self.new.inner) result
+            buf.now }
+        ensures accepted { IfOk result
+            (λ n. self.new.passed ≡ self.old.passed ++ take n buf.now) }
         ensures refused { OnErr result (self.new.passed ≡ self.old.passed) }
     {
         let n = self.inner.write(buf)?;
@@ -265,7 +268,8 @@ impl<R: Read, H: BlockHash> Read for ChecksummedReader<R, H> {
 
     fn read(&mut self, buf: &mut [u8]) -> io::Result<usize>
         ensures bound { ReadsAtMost result buf.new }
-        ensures bytes { ReadConsumes (R.remaining self.old.inner) (R.remaining self.new.inner) result buf.new }
+        ensures bytes { ReadConsumes (R.remaining self.old.inner) (R.remaining self.new.inner)
+            result buf.new }
         ensures given { IfOk result (λ n. self.new.passed ≡ self.old.passed ++ take n buf.new) }
         ensures refused { OnErr result (self.new.passed ≡ self.old.passed) }
     {
@@ -281,7 +285,8 @@ impl<R: Input, H: BlockHash> Input for ChecksummedReader<R, H> {
     ghost is_memory = { λ r. R.is_memory r.inner };
 
     fn fill(&mut self, buf: &mut [u8]) -> Result<()>
-        ensures ok { OnOk result (Consumes (R.remaining self.old.inner) (R.remaining self.new.inner) buf.new) }
+        ensures ok { OnOk result
+            (Consumes (R.remaining self.old.inner) (R.remaining self.new.inner) buf.new) }
         ensures io { IsOkUnless result Error.Io }
         ensures end { OnErr result (R.is_memory self.old.inner
             → IfSome (R.remaining self.old.inner) (λ bytes. length bytes < length buf.old)) }

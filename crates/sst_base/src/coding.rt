@@ -1,5 +1,6 @@
 //! Encodings: what has one, and varints, numbers in base 128, least significant digit first.
-ghost use Rattle.std.specs.Prelude.{◌≡◌, ℕ, ◌+◌, ◌-◌, ◌*◌, ◌/◌, ◌^◌, ◌<◌, ◌≤◌, ◌++◌, length, take};
+ghost use Rattle.std.specs.Prelude.{◌≡◌, ℕ, ◌+◌, ◌-◌, ◌*◌, ◌/◌, ◌^◌};
+ghost use Rattle.std.specs.Prelude.{◌<◌, ◌≤◌, ◌++◌, length, take};
 ghost use Rattle.std.specs.Prelude.{drop, OnOk, OnErr, IsOkUnless, IfSome, IfNone, None};
 ghost use Rattle.std.specs.Prelude.{List, Some, IfOk, Result as Outcome};
 ghost use Rattle.std.specs.Io.KnownBytes.{Appends};
@@ -132,7 +133,8 @@ pub fn encode_varint(out: &mut Vec<u8>, n: u64) -> Result<()>
 fn decode_behind(bytes: &[u8], first: u64, max: u64) -> Option<(u64, usize)>
     requires first { first < 128 }
     requires max { 128 ≤ max }
-    ensures { result ≡ with_digits 1 first 128 (varint_up_to ((max - first) / 128) (drop 1 bytes.now)) }
+    ensures { result
+        ≡ with_digits 1 first 128 (varint_up_to ((max - first) / 128) (drop 1 bytes.now)) }
 {
     let mut sum = first;
     let mut scale = 128;
@@ -240,7 +242,8 @@ pub fn decode_varint(bytes: &[u8], bits: u32) -> Option<(u64, usize)>
     ensures length { IfSome result (λ found. found.1 ≤ length bytes.now) }
     ensures width { IfSome result (λ found. found.0 < 2 ^ bits) }
     ensures found { IfSome result (λ found. IsVarint (take found.1 bytes.now) found.0) }
-    ensures none { IfNone result ((n len : ℕ) → n < 2 ^ bits → IsVarint (take len bytes.now) n → ⊥) }
+    ensures none { IfNone result
+        ((n len : ℕ) → n < 2 ^ bits → IsVarint (take len bytes.now) n → ⊥) }
 {
     decode_some(bytes, bits)
 }

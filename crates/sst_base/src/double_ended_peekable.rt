@@ -1,5 +1,6 @@
 //! Peeking at both ends of an iterator.
-ghost use Rattle.std.specs.Prelude.{◌≡◌, ◌⊎◌, List, [], ◌∷◌, ◌++◌, Option, Some, option_map};
+ghost use Rattle.std.specs.Prelude.{◌≡◌, ◌⊎◌, List, [], ◌∷◌, ◌++◌, Option};
+ghost use Rattle.std.specs.Prelude.{Some, option_map};
 ghost use Rattle.std.specs.Prelude.{IsNone, IfSome, IfNone, slice_get, true, false};
 ghost use Rattle.std.specs.Iterator.{YieldsFirstBy, YieldsLastBy, item_count};
 ghost use Rattle.std.specs.List.{last_or};
@@ -145,7 +146,8 @@ impl<T: Drop, I: ListIterator<Item = T>> DoubleEndedPeekable<T, I> {
         ensures same { IfNone result (peekable_items I.value_of I.items self.new
             ≡ peekable_items I.value_of I.items self.old) }
         ensures refused { IfNone result ((peekable_items I.value_of I.items self.old ≡ [])
-            ⊎ ((x : T) × (slice_get (peekable_items I.value_of I.items self.old) 0 ≡ Some (I.value_of x))
+            ⊎ ((x : T)
+            × (slice_get (peekable_items I.value_of I.items self.old) 0 ≡ Some (I.value_of x))
             × FnOnceReturnsAt F.FnOnce func x false)) }
     {
         let item = self.take_first()?;

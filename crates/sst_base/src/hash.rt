@@ -1,5 +1,6 @@
 //! Hash functions of byte strings.
-ghost use Rattle.std.specs.Prelude.{◌≡◌, ◌+◌, ◌%◌, ◌<◌, ◌≤◌, ◌^◌, ◌++◌, ℕ, List, [], length, take, drop};
+ghost use Rattle.std.specs.Prelude.{◌≡◌, ◌+◌, ◌%◌, ◌<◌, ◌≤◌, ◌^◌};
+ghost use Rattle.std.specs.Prelude.{◌++◌, ℕ, List, [], length, take, drop};
 ghost use Rattle.std.specs.Prelude.{fold, IfSome};
 ghost use Rattle.byteorder.specs.Endian.{big_number};
 ghost use Rattle.sst_base.specs.Bytes.{IsBytes};
@@ -23,11 +24,13 @@ pub trait BlockHash: Drop {
     fn hash64(bytes: &[u8]) -> u64
         ensures { result ≡ hash64 bytes.now };
 
-    /// Continues a hash: given the hash of any byte string, returns the hash of that string followed
-    /// by these bytes, in 64 bits. Returns `None` if the hash function cannot be continued, as the
-    /// provided body does.
+    /// Continues a hash: given the hash of any byte string, returns the hash of that string
+    /// followed by these bytes, in 64 bits. Returns `None` if the hash function cannot be
+    /// continued, as the provided body does.
     fn hash64_behind(front: u64, rest: &[u8]) -> Option<u64>
-        ensures { IfSome result (λ hash. (bytes : List ℕ) → hash64 bytes ≡ front → hash ≡ hash64 (bytes ++ rest.now)) }
+        ensures { IfSome result
+            (λ hash. (bytes : List ℕ) → hash64 bytes ≡ front
+            → hash ≡ hash64 (bytes ++ rest.now)) }
     {
         let _ = front;
         let _ = rest;
@@ -79,7 +82,8 @@ const PAIR_LANES: u64 = 0x0000_ffff_0000_ffff;
 // The hash of the eight bytes of a big-endian word: of pairs, of fours, and of all, side by side.
 #[inline(always)]
 fn word_hash(word: u64) -> u64
-    ensures { (bytes : List ℕ) → IsBytes bytes → 8 ≤ length bytes → word ≡ big_number 8 bytes
+    ensures { (bytes : List ℕ) → IsBytes bytes → 8 ≤ length bytes
+        → word ≡ big_number 8 bytes
         → result ≡ fold times31 0 (take 8 bytes) }
 {
     let pairs = ((word >> 8) & BYTE_LANES) * BASE + (word & BYTE_LANES);

@@ -1,5 +1,6 @@
 //! Readers whose end over memory is known exactly.
-ghost use Rattle.std.specs.Prelude.{◌≡◌, ◌<◌, ℕ, List, length, drop, Some, IfSome, OnOk, OnErr};
+ghost use Rattle.std.specs.Prelude.{◌≡◌, ◌<◌, ℕ, List, length, drop, Some, IfSome};
+ghost use Rattle.std.specs.Prelude.{OnOk, OnErr};
 ghost use Rattle.std.specs.Prelude.{IsOkUnless};
 ghost use Rattle.std.specs.Io.Cursor.{cursor_position, cursor_inner};
 ghost use Rattle.std.specs.Io.KnownBytes.{Consumes};
@@ -24,7 +25,8 @@ pub trait Input: Read {
     ///
     /// `Error::Io` if the reader fails, or ends before.
     fn fill(&mut self, buf: &mut [u8]) -> Result<()>
-        ensures ok { OnOk result (Consumes (Self.remaining self.old) (Self.remaining self.new) buf.new) }
+        ensures ok { OnOk result
+            (Consumes (Self.remaining self.old) (Self.remaining self.new) buf.new) }
         ensures io { IsOkUnless result Error.Io }
         ensures end { OnErr result (is_memory self.old
             → IfSome (Self.remaining self.old) (λ bytes. length bytes < length buf.old)) }

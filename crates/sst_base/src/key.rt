@@ -42,7 +42,8 @@ impl Model for InternalKey {
 
     ghost Value = { Key };
 
-    ghost view = { λ k. record { user_key = k.user_key; seqno = k.seqno; value_type = k.value_type } };
+    ghost view = { λ k.
+        record { user_key = k.user_key; seqno = k.seqno; value_type = k.value_type } };
 
     ghost invariant = { λ k. length k.user_key ≤ 65535 };
 }
@@ -51,7 +52,8 @@ impl InternalKey {
     /// Makes an internal key. The user key has at most [`MAX_KEY_LEN`] bytes.
     pub fn new(user_key: UserKey, seqno: SeqNo, value_type: ValueType) -> InternalKey
         requires { length user_key ≤ 65535 }
-        ensures { result ≡ record { user_key = user_key; seqno = seqno; value_type = value_type } }
+        ensures { result
+            ≡ record { user_key = user_key; seqno = seqno; value_type = value_type } }
     {
         InternalKey {
             user_key,
@@ -93,7 +95,8 @@ impl InternalKey {
 }
 
 impl PartialEq for InternalKey {
-    ghost eq = { eq_of_both (on (λ k. k.user_key) (pointwise nat_eq)) (on (λ k. k.seqno) nat_eq) };
+    ghost eq = { eq_of_both (on (λ k. k.user_key) (pointwise nat_eq))
+        (on (λ k. k.seqno) nat_eq) };
 
     ghost laws = { Prim.search (comparing, rules, nat_list_eq_equiv) depth 9 };
 
@@ -109,7 +112,8 @@ impl Eq for InternalKey {
 impl PartialOrd for InternalKey {
     ghost partial_cmp = { as_partial_cmp key_cmp };
 
-    ghost laws = { partial_order_from_own_ties (Prim.search (comparing, rules)) (Prim.search (comparing, rules)) };
+    ghost laws = { partial_order_from_own_ties (Prim.search (comparing, rules))
+        (Prim.search (comparing, rules)) };
 
     fn partial_cmp(&self, other: &InternalKey) -> Option<Ordering> {
         Some(self.cmp(other))

@@ -1,5 +1,6 @@
 //! Laws of the definitions that contracts cite. Each function states one law, and does nothing.
-ghost use Rattle.std.specs.Prelude.{◌≡◌, ◌↔◌, ◌⊎◌, ℕ, ◌+◌, ◌<◌, ◌≤◌, ◌^◌, List, ◌++◌, length, take};
+ghost use Rattle.std.specs.Prelude.{◌≡◌, ◌↔◌, ◌⊎◌, ℕ, ◌+◌, ◌<◌};
+ghost use Rattle.std.specs.Prelude.{◌≤◌, ◌^◌, List, ◌++◌, length, take};
 ghost use Rattle.std.specs.Prelude.{nat_eq, true, Some, Ok};
 ghost use Rattle.std.specs.Ordering.{nat_cmp, ordering_reverse};
 ghost use Rattle.std.specs.Cmp.Lexicographic.{pointwise, slice_cmp};
@@ -26,7 +27,8 @@ pub fn varint_meets_grammar()
 
 /// No encoding of a number is a proper prefix of another.
 pub fn varints_are_prefix_free()
-    ensures { (a b x y : List ℕ) (m n : ℕ) → IsVarint a m → IsVarint b n → a ++ x ≡ b ++ y
+    ensures { (a b x y : List ℕ) (m n : ℕ) → IsVarint a m → IsVarint b n
+        → a ++ x ≡ b ++ y
         → (a ≡ b) × (m ≡ n) }
 {}
 
@@ -61,7 +63,8 @@ pub fn value_type_is_read_again()
 
 /// A byte that has a value type is that type's byte.
 pub fn value_type_was_written()
-    ensures { (byte : ℕ) (t : ValueType) → value_type_of byte ≡ Some t → byte ≡ value_type_byte t }
+    ensures { (byte : ℕ) (t : ValueType) → value_type_of byte ≡ Some t
+        → byte ≡ value_type_byte t }
 {}
 
 /// The block type of a block type's byte is that type.
@@ -71,7 +74,8 @@ pub fn block_type_is_read_again()
 
 /// A byte that has a block type is that type's byte.
 pub fn block_type_was_written()
-    ensures { (byte : ℕ) (t : BlockType) → block_type_of byte ≡ Ok t → byte ≡ block_type_byte t }
+    ensures { (byte : ℕ) (t : BlockType) → block_type_of byte ≡ Ok t
+        → byte ≡ block_type_byte t }
 {}
 
 /// A header is decoded again, whatever follows it.
@@ -82,8 +86,10 @@ pub fn header_is_read_again()
 
 /// Where a header is decoded, it is within its limits, and the bytes begin with it.
 pub fn header_was_written()
-    ensures { (hash128 : List ℕ → ℕ) (bytes : List ℕ) (h : Header) (rest : List ℕ) → IsBytes bytes
-        → header_at hash128 bytes ≡ Ok (h, rest) → IsHeader h × (bytes ≡ header hash128 h ++ rest) }
+    ensures { (hash128 : List ℕ → ℕ) (bytes : List ℕ) (h : Header) (rest : List ℕ)
+        → IsBytes bytes
+        → header_at hash128 bytes ≡ Ok (h, rest)
+        → IsHeader h × (bytes ≡ header hash128 h ++ rest) }
 {}
 
 /// A header takes 33 bytes.
@@ -154,7 +160,8 @@ pub fn key_sorts_before()
 /// Two internal keys are equal exactly if their user keys and sequence numbers are, whatever their
 /// value types.
 pub fn keys_are_equal()
-    ensures { (a b : Key) → (key_cmp a b ≡ Equal) ↔ ((a.user_key ≡ b.user_key) × (a.seqno ≡ b.seqno)) }
+    ensures { (a b : Key) → (key_cmp a b ≡ Equal)
+        ↔ ((a.user_key ≡ b.user_key) × (a.seqno ≡ b.seqno)) }
 {}
 
 /// The order of internal keys is antisymmetric.
@@ -164,7 +171,8 @@ pub fn key_order_is_antisymmetric()
 
 /// The order of internal keys is transitive.
 pub fn key_order_is_transitive()
-    ensures { (a b c : Key) → key_cmp a b ≡ Less → key_cmp b c ≡ Less → key_cmp a c ≡ Less }
+    ensures { (a b c : Key) → key_cmp a b ≡ Less → key_cmp b c ≡ Less
+        → key_cmp a c ≡ Less }
 {}
 
 /// Equal internal keys compare alike with every other.

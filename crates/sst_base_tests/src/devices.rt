@@ -4,8 +4,8 @@ use sst_base::input::Input;
 use std::io;
 use std::io::{ErrorKind, Read, Write};
 
-/// Gives a byte a call, counts the calls, and keeps the greatest number of bytes asked for. The call
-/// `fails_at` fails.
+/// Gives a byte a call, counts the calls, and keeps the greatest number of bytes asked for. The
+/// call `fails_at` fails.
 #[derive(Drop)]
 pub struct SlowReader<'a> {
     pub bytes: &'a [u8],

@@ -1,5 +1,6 @@
 //! The check of data blocks and of index blocks of any bytes.
-ghost use Rattle.std.specs.Prelude.{◌≡◌, ◌+◌, ◌%◌, ◌^◌, ◌<◌, List, length, Ok, IfSome};
+ghost use Rattle.std.specs.Prelude.{◌≡◌, ◌+◌, ◌%◌, ◌^◌, ◌<◌, List, length};
+ghost use Rattle.std.specs.Prelude.{Ok, IfSome};
 ghost use Rattle.sst_base.specs.Entry.{Entry};
 ghost use Rattle.sst_base.specs.Hashes.{poly31};
 ghost use Rattle.sst_block_kinds.specs.Checks.{data_check, index_check};
@@ -28,7 +29,8 @@ fn block_of(alloc: Global, payload: &[u8], block_type: BlockType) -> Option<Bloc
 // Checks a block, and adds the number of its entries. Gives the block back.
 #[inline(never)]
 fn add_checked(so_far: u64, block: Block, alloc: Global) -> Option<(u64, Block)>
-    ensures sum { IfSome result (λ s. (items : List Entry) × (data_check (poly31 64) block.payload ≡ Ok items)
+    ensures sum { IfSome result
+        (λ s. (items : List Entry) × (data_check (poly31 64) block.payload ≡ Ok items)
         × (s.0 ≡ (so_far + length items) % 2 ^ 64)) }
     ensures block { IfSome result (λ s. s.1.payload ≡ block.payload) }
 {
@@ -40,7 +42,8 @@ fn add_checked(so_far: u64, block: Block, alloc: Global) -> Option<(u64, Block)>
 // Checks an index block, and adds the number of its handles. Gives the block back.
 #[inline(never)]
 fn add_checked_index(so_far: u64, block: Block) -> Option<(u64, Block)>
-    ensures sum { IfSome result (λ s. (items : List Handle) × (index_check block.payload ≡ Ok items)
+    ensures sum { IfSome result
+        (λ s. (items : List Handle) × (index_check block.payload ≡ Ok items)
         × (s.0 ≡ (so_far + length items) % 2 ^ 64)) }
     ensures block { IfSome result (λ s. s.1.payload ≡ block.payload) }
 {
@@ -53,7 +56,8 @@ fn add_checked_index(so_far: u64, block: Block) -> Option<(u64, Block)>
 /// Refuses what the check refuses.
 #[unsafe(no_mangle)]
 pub extern "C" fn sst_check(payload: &[u8], times: u64, alloc: Global) -> u64
-    ensures { OrRefused result (0 < times → (items : List Entry) × (data_check (poly31 64) payload.now ≡ Ok items)) }
+    ensures { OrRefused result
+        (0 < times → (items : List Entry) × (data_check (poly31 64) payload.now ≡ Ok items)) }
 {
     let Some(mut block) = block_of(alloc, payload, BlockType::Data) else {
         return REFUSED;
@@ -75,7 +79,8 @@ pub extern "C" fn sst_check(payload: &[u8], times: u64, alloc: Global) -> u64
 /// Refuses what the check refuses.
 #[unsafe(no_mangle)]
 pub extern "C" fn sst_index_check(payload: &[u8], times: u64, alloc: Global) -> u64
-    ensures { OrRefused result (0 < times → (items : List Handle) × (index_check payload.now ≡ Ok items)) }
+    ensures { OrRefused result
+        (0 < times → (items : List Handle) × (index_check payload.now ≡ Ok items)) }
 {
     let Some(mut block) = block_of(alloc, payload, BlockType::Index) else {
         return REFUSED;

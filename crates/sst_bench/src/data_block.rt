@@ -2,7 +2,8 @@
 //!
 //! Each call takes entries as bytes (see `entries`), a restart interval and a hash ratio `num /
 //! den`. It refuses an empty list, entries out of order, an interval of 0, and a denominator of 0.
-ghost use Rattle.std.specs.Prelude.{◌≡◌, ℕ, ◌<◌, ◌≤◌, List, length, map, OnSome, IfSome};
+ghost use Rattle.std.specs.Prelude.{◌≡◌, ℕ, ◌<◌, ◌≤◌, List, length, map, OnSome};
+ghost use Rattle.std.specs.Prelude.{IfSome};
 ghost use Rattle.sst_base.specs.Entry.{Entry, plain};
 ghost use Rattle.sst_block_core.specs.Kind.{IsOrdered};
 ghost use Rattle.sst_block_core.specs.Entries.{entries};
@@ -98,7 +99,8 @@ fn encode(
     requires ordered { IsOrdered entries items.now }
     requires interval { 1 ≤ interval }
     requires den { 1 ≤ ratio.den }
-    ensures { OnSome result (0 < times → writer.new.items ≡ block_payload items.now interval ratio.num ratio.den) }
+    ensures { OnSome result
+        (0 < times → writer.new.items ≡ block_payload items.now interval ratio.num ratio.den) }
 {
     for _ in 0..times {
         writer.clear();
@@ -292,7 +294,8 @@ fn add_found_often(
     alloc: Global,
 ) -> Option<u64>
     ensures { IfSome result (λ sum. sum
-        ≡ repeated (add_found block.now.items (map (λ needle. needle.now) needles.now)) times 0) }
+        ≡ repeated (add_found block.now.items (map (λ needle. needle.now) needles.now)) times
+        0) }
 {
     let mut sum = 0;
     for _ in 0..times {
@@ -314,8 +317,10 @@ pub extern "C" fn sst_get(
     key_len: usize,
     alloc: Global,
 ) -> u64
-    ensures { OrRefused result ((items : List Entry) × (keys : List (List ℕ)) × AreEntries bytes.now count items
-        × AreKeys needles.now key_len keys × (result ≡ repeated (add_found (map plain items) keys) times 0)) }
+    ensures { OrRefused result
+        ((items : List Entry) × (keys : List (List ℕ)) × AreEntries bytes.now count items
+        × AreKeys needles.now key_len keys
+        × (result ≡ repeated (add_found (map plain items) keys) times 0)) }
 {
     let Some(block) = block_in(alloc, bytes, count, interval, HashRatio { num, den }) else {
         return REFUSED;
@@ -365,8 +370,8 @@ pub extern "C" fn sst_seek_next(
     sum
 }
 
-// Seeks each needle from the back with a new iterator, adds 1 where the seek answers `true`, and the
-// next item from the back.
+// Seeks each needle from the back with a new iterator, adds 1 where the seek answers `true`, and
+// the next item from the back.
 #[inline(never)]
 fn add_next_back(so_far: u64, block: &DataBlock<Poly31>, needles: &[&[u8]]) -> u64 {
     let mut sum = so_far;

@@ -14,7 +14,8 @@ use std::alloc::Global;
 
 // Writes the frame `times` times, each time into the same vector, emptied first.
 fn write(writer: &mut Vec<u8>, payload: &[u8], block_type: BlockType, times: u64) -> Option<()>
-    ensures { OnSome result (0 < times → writer.new.items ≡ frame (poly31 128) block_type payload.now) }
+    ensures { OnSome result
+        (0 < times → writer.new.items ≡ frame (poly31 128) block_type payload.now) }
 {
     for _ in 0..times {
         writer.clear();

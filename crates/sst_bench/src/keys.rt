@@ -10,7 +10,8 @@ use std::alloc::Global;
 /// Splits concatenated keys of one length. `None` if there is no key, the length is 0, the bytes
 /// are not a multiple of it, or an allocation fails.
 pub fn keys_in(alloc: Global, bytes: &[u8], key_len: usize) -> Option<Vec<&[u8]>>
-    ensures { IfSome result (λ keys. AreKeys bytes.now key_len (map (λ key. key.now) keys.items)) }
+    ensures { IfSome result
+        (λ keys. AreKeys bytes.now key_len (map (λ key. key.now) keys.items)) }
 {
     if key_len == 0 || bytes.is_empty() {
         return None;

@@ -1,5 +1,6 @@
 //! Laws of the definitions: each function does nothing, and its contract is one law.
-ghost use Rattle.std.specs.Prelude.{◌≡◌, ◌↔◌, if◌then◌else◌, ℕ, ◌+◌, ◌/◌, ◌≤◌, ◌<◌, ◌^◌};
+ghost use Rattle.std.specs.Prelude.{◌≡◌, ◌↔◌, if◌then◌else◌, ℕ, ◌+◌};
+ghost use Rattle.std.specs.Prelude.{◌/◌, ◌≤◌, ◌<◌, ◌^◌};
 ghost use Rattle.std.specs.Prelude.{List, ◌++◌, map, length, ◌*◌, Ok};
 ghost use Rattle.sst_base.specs.Bytes.{IsBytes};
 ghost use Rattle.sst_base.specs.Entry.{Entry, IsEntry, plain};
@@ -9,7 +10,8 @@ ghost use Rattle.sst_block_core.specs.Buckets.{buckets, stored_count};
 ghost use Rattle.sst_block_core.specs.Payload.{IsBlock};
 ghost use Rattle.sst_block_core.specs.Window.{Window, answers, items_left};
 ghost use Rattle.sst_block_kinds.specs.Ops.{step_of};
-ghost use Rattle.sst_block_kinds.specs.Walks.{AreSteps, window_after, fronts, backs, back_walk_cost};
+ghost use Rattle.sst_block_kinds.specs.Walks.{AreSteps, window_after, fronts, backs};
+ghost use Rattle.sst_block_kinds.specs.Walks.{back_walk_cost};
 ghost use Rattle.sst_block_kinds.specs.declared.table.data_block.ops.Op.{Op};
 ghost use Rattle.sst_block_core.specs.Stages.{Passes};
 ghost use Rattle.sst_block_core.specs.Stages.{items_in};
@@ -35,7 +37,9 @@ pub fn handles_are_a_kind()
 #[tactic(auto, using(crate::proofs::BothEnds::window_given))]
 pub fn window_is_given()
     ensures { (ops : List Op) (w : Window Entry) → w.hi ≤ length w.list → AreSteps ops
-        → fronts ops (answers (map step_of ops) w) ++ (items_left (window_after ops w) ++ backs ops (answers (map step_of ops) w)) ≡ items_left w }
+        → fronts ops (answers (map step_of ops) w)
+        ++ (items_left (window_after ops w) ++ backs ops (answers (map step_of ops) w))
+        ≡ items_left w }
 {}
 
 /// A whole walk from the back decodes no entry more than twice.
@@ -48,23 +52,29 @@ pub fn back_walk_is_cheap()
 /// non-empty list of entries at an interval from 1 to 255, for some count of buckets.
 pub fn data_check_is_exact()
     ensures { (hash : List ℕ → ℕ) (p : List ℕ) → IsBytes p → length p < 2 ^ 32
-        → Passes entries hash p ↔ ((items : List Entry) × (r : ℕ) × (b : ℕ) × IsBlock entries IsEntry hash p items r b) }
+        → Passes entries hash p
+        ↔ ((items : List Entry) × (r : ℕ) × (b : ℕ)
+        × IsBlock entries IsEntry hash p items r b) }
 {}
 
 /// The payload of a list of entries passes the check, and the list without tombstones' values, the
 /// interval and the stored count are read from it.
 pub fn data_block_is_read()
-    ensures { (hash : List ℕ → ℕ) (p : List ℕ) (items : List Entry) (r b : ℕ) → length p < 2 ^ 32 → IsBlock entries IsEntry hash p items r b
-        → Passes entries hash p × (items_in entries p ≡ map plain items) × ((trailer_in p).interval ≡ r)
+    ensures { (hash : List ℕ → ℕ) (p : List ℕ) (items : List Entry) (r b : ℕ)
+        → length p < 2 ^ 32 → IsBlock entries IsEntry hash p items r b
+        → Passes entries hash p × (items_in entries p ≡ map plain items)
+        × ((trailer_in p).interval ≡ r)
         × ((trailer_in p).hash_len ≡ stored_count r (length items) b) }
 {}
 
 /// A payload encodes one list of entries but for tombstones' values, one interval and one stored
 /// count.
 pub fn data_block_is_unique()
-    ensures { (hash : List ℕ → ℕ) (p : List ℕ) (xs ys : List Entry) (q r a b : ℕ) → length p < 2 ^ 32
+    ensures { (hash : List ℕ → ℕ) (p : List ℕ) (xs ys : List Entry) (q r a b : ℕ)
+        → length p < 2 ^ 32
         → IsBlock entries IsEntry hash p xs q a → IsBlock entries IsEntry hash p ys r b
-        → (map plain xs ≡ map plain ys) × (q ≡ r) × (stored_count q (length xs) a ≡ stored_count r (length ys) b) }
+        → (map plain xs ≡ map plain ys) × (q ≡ r)
+        × (stored_count q (length xs) a ≡ stored_count r (length ys) b) }
 {}
 
 /// Bytes pass the check of an index block of an interval exactly if they are the payload of some
@@ -76,30 +86,34 @@ pub fn index_check_is_exact()
 
 /// The handles of an index block, and its interval, are read from its payload.
 pub fn index_block_is_read()
-    ensures { (r : ℕ) (p : List ℕ) (items : List Handle) → length p < 2 ^ 32 → IsIndexBlock p items r
+    ensures { (r : ℕ) (p : List ℕ) (items : List Handle) → length p < 2 ^ 32
+        → IsIndexBlock p items r
         → IndexPasses r p × (items_in handles p ≡ items) × ((trailer_in p).interval ≡ r) }
 {}
 
 /// A payload is that of one list of handles, at one interval.
 pub fn index_block_is_unique()
-    ensures { (p : List ℕ) (xs ys : List Handle) (q r : ℕ) → length p < 2 ^ 32 → IsIndexBlock p xs q
+    ensures { (p : List ℕ) (xs ys : List Handle) (q r : ℕ) → length p < 2 ^ 32
+        → IsIndexBlock p xs q
         → IsIndexBlock p ys r → (xs ≡ ys) × (q ≡ r) }
 {}
 
 /// The first match of a list of entries is that of the list without tombstones' values.
 pub fn first_match_of_plain()
     ensures { (needle : List ℕ) (seqno : ℕ) (items : List Entry)
-        → first_match entries needle seqno (map plain items) ≡ first_match entries needle seqno items }
+        → first_match entries needle seqno (map plain items)
+        ≡ first_match entries needle seqno items }
 {}
 
 /// The check of a data block answers the entries where all stages hold, else the error of the first
 /// that fails.
 pub fn data_check_is_by_stages()
-    ensures { (hash64 : List ℕ → ℕ) (p : List ℕ) → DataVerdict hash64 (trailer_in p) p (data_check hash64 p) }
+    ensures { (hash64 : List ℕ → ℕ) (p : List ℕ)
+        → DataVerdict hash64 (trailer_in p) p (data_check hash64 p) }
 {}
 
-/// The check of an index block, at any interval, answers the handles where all stages hold, else the
-/// error of the first that fails.
+/// The check of an index block, at any interval, answers the handles where all stages hold, else
+/// the error of the first that fails.
 pub fn index_check_is_by_stages()
     ensures { (p : List ℕ) → IndexVerdict (trailer_in p) p (index_check p) }
 {}
@@ -108,8 +122,11 @@ pub fn index_check_is_by_stages()
 /// ordered, non-empty list at an interval from 1 to 255, for some count of buckets. They are that
 /// list without tombstones' values.
 pub fn data_check_accepts_encodings()
-    ensures { (hash64 : List ℕ → ℕ) (p : List ℕ) (items : List Entry) → IsBytes p → length p < 2 ^ 32
-        → (data_check hash64 p ≡ Ok items) ↔ ((list : List Entry) × (r : ℕ) × (b : ℕ) × IsBlock entries IsEntry hash64 p list r b × (items ≡ map plain list)) }
+    ensures { (hash64 : List ℕ → ℕ) (p : List ℕ) (items : List Entry) → IsBytes p
+        → length p < 2 ^ 32
+        → (data_check hash64 p ≡ Ok items)
+        ↔ ((list : List Entry) × (r : ℕ) × (b : ℕ)
+        × IsBlock entries IsEntry hash64 p list r b × (items ≡ map plain list)) }
 {}
 
 /// The check of an index block answers handles exactly where the bytes are their payload at some

@@ -516,7 +516,8 @@ fn random_operations_over_handles(rt: HostRuntime) -> std::result::Result<(), Fa
 /// A seek and the step behind it decode at most one handle more than an interval holds, and over
 /// heads alone only the one that the step gives.
 fn seek_and_next(iter: &mut Iter<'_>, needle: &[u8], seqno: u64) -> bool
-    ensures { iter.new.steps.entries ≤ iter.old.steps.entries + (scan_cost iter.old.interval + 1) }
+    ensures { iter.new.steps.entries
+        ≤ iter.old.steps.entries + (scan_cost iter.old.interval + 1) }
 {
     iter.seek(needle, seqno) && iter.next().is_some()
 }

@@ -258,7 +258,8 @@ fn offset_of(
 ) -> Result<usize>
     requires head { head ≤ 100 }
     ensures inside { IfOk result (λ _. head * 2 < length block.now.items) }
-    ensures offset { IfOk result (λ offset. offset ≡ place_offset entries 2 block.now.items (head * 2)) }
+    ensures offset { IfOk result
+        (λ offset. offset ≡ place_offset entries 2 block.now.items (head * 2)) }
 {
     let list = block.to_vec(alloc)?;
     assert!(rt; head * 2 < list.len());

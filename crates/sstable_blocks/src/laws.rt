@@ -7,7 +7,8 @@ ghost use Rattle.sstable_blocks.specs.Filter.{filter_payload, filter_at};
 
 /// A filter is read again from its payload.
 pub fn filter_is_read_again()
-    ensures { (f : Filter) → IsSized f → f.m < 2 ^ 64 → filter_at (filter_payload f) ≡ Ok f }
+    ensures { (f : Filter) → IsSized f → f.m < 2 ^ 64
+        → filter_at (filter_payload f) ≡ Ok f }
 {}
 
 /// Where a filter is read, the bytes are its payload, and its numbers are right.

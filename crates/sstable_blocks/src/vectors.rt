@@ -20,10 +20,14 @@ pub fn filter_sizes()
 
 /// The six probes of the hashes 97, 98, 113 and 2^32 in 16 bits.
 pub fn probes()
-    ensures sums { map factorial_sum (0 ∷ 1 ∷ 2 ∷ 3 ∷ 4 ∷ 5 ∷ []) ≡ 0 ∷ 1 ∷ 2 ∷ 4 ∷ 10 ∷ 34 ∷ [] }
-    ensures a { map (probe 16 97) (0 ∷ 1 ∷ 2 ∷ 3 ∷ 4 ∷ 5 ∷ []) ≡ 1 ∷ 1 ∷ 1 ∷ 1 ∷ 1 ∷ 1 ∷ [] }
-    ensures b { map (probe 16 98) (0 ∷ 1 ∷ 2 ∷ 3 ∷ 4 ∷ 5 ∷ []) ≡ 2 ∷ 2 ∷ 2 ∷ 2 ∷ 2 ∷ 2 ∷ [] }
-    ensures q { map (probe 16 113) (0 ∷ 1 ∷ 2 ∷ 3 ∷ 4 ∷ 5 ∷ []) ≡ 1 ∷ 1 ∷ 1 ∷ 1 ∷ 1 ∷ 1 ∷ [] }
+    ensures sums { map factorial_sum (0 ∷ 1 ∷ 2 ∷ 3 ∷ 4 ∷ 5 ∷ [])
+        ≡ 0 ∷ 1 ∷ 2 ∷ 4 ∷ 10 ∷ 34 ∷ [] }
+    ensures a { map (probe 16 97) (0 ∷ 1 ∷ 2 ∷ 3 ∷ 4 ∷ 5 ∷ [])
+        ≡ 1 ∷ 1 ∷ 1 ∷ 1 ∷ 1 ∷ 1 ∷ [] }
+    ensures b { map (probe 16 98) (0 ∷ 1 ∷ 2 ∷ 3 ∷ 4 ∷ 5 ∷ [])
+        ≡ 2 ∷ 2 ∷ 2 ∷ 2 ∷ 2 ∷ 2 ∷ [] }
+    ensures q { map (probe 16 113) (0 ∷ 1 ∷ 2 ∷ 3 ∷ 4 ∷ 5 ∷ [])
+        ≡ 1 ∷ 1 ∷ 1 ∷ 1 ∷ 1 ∷ 1 ∷ [] }
     ensures high { map (probe 16 4294967296) (0 ∷ 1 ∷ 2 ∷ 3 ∷ 4 ∷ 5 ∷ [])
         ≡ 0 ∷ 5 ∷ 10 ∷ 4 ∷ 2 ∷ 10 ∷ [] }
 {}

@@ -50,7 +50,8 @@ fn is_wanted(error: &Error, in_frame: usize, byte: u8) -> bool {
     }
 }
 
-// Where a byte is in its frame, if that frame is met: those of the first and the third block are not.
+// Where a byte is in its frame, if that frame is met: those of the first and the third block are
+// not.
 fn place_in_frame(at: usize) -> Option<usize> {
     match at {
         73..=145 => Some(at - 73),

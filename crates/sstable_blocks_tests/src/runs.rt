@@ -98,8 +98,10 @@ pub(crate) fn handle(offset: u64, size: u32) -> BlockHandle {
 
 // Whether a run of these can be written.
 fn can_be_written(items: &[InternalValue], cuts: &[usize], config: &RunConfig) -> bool
-    ensures { IsTrue result ↔ (IsOrdered entries items.now × CutsFit 0 (length items.now) cuts.now
-        × (1 ≤ config.now.restart_interval) × (1 ≤ config.now.index_interval) × (1 ≤ config.now.ratio.den)) }
+    ensures { IsTrue result
+        ↔ (IsOrdered entries items.now × CutsFit 0 (length items.now) cuts.now
+        × (1 ≤ config.now.restart_interval) × (1 ≤ config.now.index_interval)
+        × (1 ≤ config.now.ratio.den)) }
 {
     DataBlock::<ByteSum>::is_ordered(items)
         && cuts_fit(items.len(), cuts)

@@ -1,5 +1,6 @@
 //! Immutable byte strings.
-ghost use Rattle.std.specs.Prelude.{◌≡◌, ◌+◌, ◌^◌, ◌<◌, ◌≤◌, ◌==◌, ◌++◌, [], length, slice_range};
+ghost use Rattle.std.specs.Prelude.{◌≡◌, ◌+◌, ◌^◌, ◌<◌, ◌≤◌, ◌==◌};
+ghost use Rattle.std.specs.Prelude.{◌++◌, [], length, slice_range};
 ghost use Rattle.std.specs.Prelude.{string_bytes, nat_eq, refl, Some, IfOk, IsOkUnless, IsTrue};
 ghost use Rattle.std.specs.Prelude.{◌↔◌, ◌⊎◌, ℕ, List, IfErr};
 ghost use Rattle.std.specs.Iterator.{IsFinite, Drains};
@@ -159,7 +160,8 @@ impl Slice {
     pub fn collect_bytes<I: IntoIterator<Item = u8>>(alloc: Global, iter: I) -> Result<Slice>
         requires { (it : I.IntoIter) → I.into_iter_gives iter it → I.IntoIter.can_next it
             × IsFinite (I.IntoIter.remaining it) }
-        ensures ok { IfOk result (λ s. (it : I.IntoIter) × (xs : List ℕ) × I.into_iter_gives iter it
+        ensures ok { IfOk result
+            (λ s. (it : I.IntoIter) × (xs : List ℕ) × I.into_iter_gives iter it
             × Drains I.IntoIter.next_gives it xs × (s ≡ xs)) }
         ensures memory { IsOkUnless result Error.Memory }
     {
@@ -201,7 +203,8 @@ impl Slice {
         requires start_le_end { start_index (R.start_bound range)
             ≤ end_index (R.end_bound range) (length self.now) }
         requires in_bounds { end_index (R.end_bound range) (length self.now) ≤ length self.now }
-        ensures ok { IfOk result (λ s. s ≡ slice_range self.now (start_index (R.start_bound range))
+        ensures ok { IfOk result
+            (λ s. s ≡ slice_range self.now (start_index (R.start_bound range))
             (end_index (R.end_bound range) (length self.now))) }
         ensures memory { IsOkUnless result Error.Memory }
     {

@@ -1,5 +1,6 @@
 //! Reading runs from bytes of any kind.
-ghost use Rattle.std.specs.Prelude.{◌≡◌, ◌≢◌, ℕ, ◌+◌, ◌≤◌, ◌<◌, List, length, Option, Ok, IfOk, IfErr, IfSome};
+ghost use Rattle.std.specs.Prelude.{◌≡◌, ◌≢◌, ℕ, ◌+◌, ◌≤◌, ◌<◌, List};
+ghost use Rattle.std.specs.Prelude.{length, Option, Ok, IfOk, IfErr, IfSome};
 ghost use Rattle.std.specs.Option.{option_map};
 ghost use Rattle.sst_base.specs.Bytes.{IsBytes};
 ghost use Rattle.sst_base.specs.Entry.{Entry};
@@ -10,7 +11,8 @@ ghost use Rattle.sst_block_core.specs.Window.{first_match};
 ghost use Rattle.sstable_blocks.specs.Blocks.{joined};
 ghost use Rattle.sstable_blocks.specs.Opened.{range_of};
 ghost use Rattle.sstable_blocks.specs.Run.{form, IsLayout};
-ghost use Rattle.sstable_blocks.specs.RunReading.{hashes, payload_at, filter_says, filter_answer, read_block};
+ghost use Rattle.sstable_blocks.specs.RunReading.{hashes, payload_at, filter_says, filter_answer};
+ghost use Rattle.sstable_blocks.specs.RunReading.{read_block};
 ghost use Rattle.sst_block_kinds.specs.Checks.{data_check, index_check};
 ghost use Rattle.sstable_blocks.specs.RunReading.{read_blocks, read_checked, AnswerMeans};
 ghost use Rattle.sstable_blocks.specs.Sources.{GivesOr};
@@ -44,7 +46,8 @@ pub fn block_from<H: BlockHash, S: FrameSource>(
     ensures same { S.bytes source.new ≡ S.bytes source.old }
     ensures failures_grow { S.failures source.old ≤ S.failures source.new }
     ensures io { IfErr result (λ e. e ≡ Io → S.failures source.old < S.failures source.new) }
-    ensures exact { IfSome (S.bytes source.old) (λ all. GivesOr (S.failures source.old < S.failures source.new) (λ b. b.payload) result
+    ensures exact { IfSome (S.bytes source.old)
+        (λ all. GivesOr (S.failures source.old < S.failures source.new) (λ b. b.payload) result
         (payload_at (hashes H.hash64 H.hash128) block_type all handle.now)) }
 {
     let frame = source.read_frame(alloc, handle)?;
@@ -101,7 +104,8 @@ fn may_have<H: BlockHash, S: FrameSource>(
     ensures same { S.bytes source.new ≡ S.bytes source.old }
     ensures failures_grow { S.failures source.old ≤ S.failures source.new }
     ensures io { IfErr result (λ e. e ≡ Io → S.failures source.old < S.failures source.new) }
-    ensures exact { IfSome (S.bytes source.old) (λ all. GivesOr (S.failures source.old < S.failures source.new) (λ b. b) result
+    ensures exact { IfSome (S.bytes source.old)
+        (λ all. GivesOr (S.failures source.old < S.failures source.new) (λ b. b) result
         (filter_says (hashes H.hash64 H.hash128) all filter.now needle.now)) }
 {
     match filter {
@@ -124,8 +128,10 @@ fn read_in_block<H: BlockHash, S: FrameSource>(
     ensures same { S.bytes source.new ≡ S.bytes source.old }
     ensures failures_grow { S.failures source.old ≤ S.failures source.new }
     ensures io { IfErr result (λ e. e ≡ Io → S.failures source.old < S.failures source.new) }
-    ensures exact { IfSome (S.bytes source.old) (λ all. (h : Option Handle) → handle.now ≡ option_map range_of h
-        → GivesOr (S.failures source.old < S.failures source.new) (λ x. x) result (read_block (hashes H.hash64 H.hash128) all h needle.now seqno)) }
+    ensures exact { IfSome (S.bytes source.old)
+        (λ all. (h : Option Handle) → handle.now ≡ option_map range_of h
+        → GivesOr (S.failures source.old < S.failures source.new) (λ x. x) result
+        (read_block (hashes H.hash64 H.hash128) all h needle.now seqno)) }
 {
     match handle {
         None => Ok(None),
@@ -148,7 +154,8 @@ fn read_by_index<H: BlockHash, S: FrameSource>(
     ensures same { S.bytes source.new ≡ S.bytes source.old }
     ensures failures_grow { S.failures source.old ≤ S.failures source.new }
     ensures io { IfErr result (λ e. e ≡ Io → S.failures source.old < S.failures source.new) }
-    ensures exact { IfSome (S.bytes source.old) (λ all. GivesOr (S.failures source.old < S.failures source.new) (λ x. x) result
+    ensures exact { IfSome (S.bytes source.old)
+        (λ all. GivesOr (S.failures source.old < S.failures source.new) (λ x. x) result
         (read_blocks (hashes H.hash64 H.hash128) all index.now needle.now seqno)) }
 {
     let block = block_from::<H, S>(alloc, source, index, BlockType::Index)?;
@@ -169,7 +176,8 @@ fn read_in_stages<H: BlockHash, S: FrameSource>(
     ensures same { S.bytes source.new ≡ S.bytes source.old }
     ensures failures_grow { S.failures source.old ≤ S.failures source.new }
     ensures io { IfErr result (λ e. e ≡ Io → S.failures source.old < S.failures source.new) }
-    ensures exact { IfSome (S.bytes source.old) (λ all. GivesOr (S.failures source.old < S.failures source.new) (λ x. x) result
+    ensures exact { IfSome (S.bytes source.old)
+        (λ all. GivesOr (S.failures source.old < S.failures source.new) (λ x. x) result
         (read_checked (hashes H.hash64 H.hash128) all handles.now needle.now seqno)) }
 {
     if may_have::<H, S>(alloc, source, &handles.filter, needle)? {
@@ -201,11 +209,18 @@ pub fn read_entry_checked<H: BlockHash, S: FrameSource>(
     ensures same { S.bytes source.new ≡ S.bytes source.old }
     ensures failures_grow { S.failures source.old ≤ S.failures source.new }
     ensures io { IfErr result (λ e. e ≡ Io → S.failures source.old < S.failures source.new) }
-    ensures exact { IfSome (S.bytes source.old) (λ all. GivesOr (S.failures source.old < S.failures source.new) (λ x. x) result
+    ensures exact { IfSome (S.bytes source.old)
+        (λ all. GivesOr (S.failures source.old < S.failures source.new) (λ x. x) result
         (read_checked (hashes H.hash64 H.hash128) all handles.now needle.now seqno)) }
-    ensures means { IfSome (S.bytes source.old) (λ all. IsBytes all → IfOk result (AnswerMeans (hashes H.hash64 H.hash128) all handles.now needle.now seqno)) }
-    ensures layout { IfSome (S.bytes source.old) (λ all. (config : RunConfig) (blocks : List (List Entry)) → IsLayout (form H.hash64 H.hash128 config) blocks all handles.now
-        → IfOk result (λ found. found ≡ first_match entries needle.now seqno (joined blocks))) }
+    ensures means { IfSome (S.bytes source.old)
+        (λ all. IsBytes all
+        → IfOk result
+        (AnswerMeans (hashes H.hash64 H.hash128) all handles.now needle.now seqno)) }
+    ensures layout { IfSome (S.bytes source.old)
+        (λ all. (config : RunConfig) (blocks : List (List Entry))
+        → IsLayout (form H.hash64 H.hash128 config) blocks all handles.now
+        → IfOk result
+        (λ found. found ≡ first_match entries needle.now seqno (joined blocks))) }
 {
     checked_answer_means();
     layout_is_read();

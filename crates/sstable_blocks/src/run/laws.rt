@@ -25,29 +25,37 @@ use sst_block_kinds::laws::{
 /// The blocks of a list, joined, are the list, and none is empty.
 pub fn blocks_are_the_list<T>()
     ensures { (items : List T) (cuts : List ℕ) → CutsFit 0 (length items) cuts
-        → (joined (blocks_of cuts items) ≡ items) × AllByRecursion IsNotEmpty (blocks_of cuts items) }
+        → (joined (blocks_of cuts items) ≡ items)
+        × AllByRecursion IsNotEmpty (blocks_of cuts items) }
 {}
 
 /// The first match of an ordered list in blocks is that of the one block at which a search over the
 /// ends of the blocks stops, and there is none where it passes over all.
 pub fn first_match_is_in_one_block<T: BlockItem, E: BlockItem>()
-    ensures { (needle : List ℕ) (seqno : ℕ) (blocks : List (List T)) (ends : List E) → AllZip (IsEnd T.kind E.kind) blocks ends
+    ensures { (needle : List ℕ) (seqno : ℕ) (blocks : List (List T)) (ends : List E)
+        → AllZip (IsEnd T.kind E.kind) blocks ends
         → IsOrdered T.kind (joined blocks)
-        → first_match T.kind needle seqno (joined blocks) ≡ first_in T.kind needle seqno (slice_get blocks (place_for E.kind needle seqno ends)) }
+        → first_match T.kind needle seqno (joined blocks)
+        ≡ first_in T.kind needle seqno (slice_get blocks (place_for E.kind needle seqno ends)) }
 {}
 
 /// The handles of a run's blocks whose frames end below 2^64 are what an index block is made of: as
 /// many as blocks, ordered, within their limits.
 pub fn handles_are_ready()
-    ensures { (f : Form) (blocks : List (List Entry)) → IsRun f blocks → AllByRecursion (λ block. IsFramed (block_payload f block)) blocks → length (block_frames f blocks) < 2 ^ 64
-        → (length (handles_from f 0 blocks) ≡ length blocks) × IsOrdered handles (handles_from f 0 blocks)
-        × AllByRecursion IsHandle (handles_from f 0 blocks) × AllByRecursion EndFits (handles_from f 0 blocks) }
+    ensures { (f : Form) (blocks : List (List Entry)) → IsRun f blocks
+        → AllByRecursion (λ block. IsFramed (block_payload f block)) blocks
+        → length (block_frames f blocks) < 2 ^ 64
+        → (length (handles_from f 0 blocks) ≡ length blocks)
+        × IsOrdered handles (handles_from f 0 blocks)
+        × AllByRecursion IsHandle (handles_from f 0 blocks)
+        × AllByRecursion EndFits (handles_from f 0 blocks) }
 {}
 
 /// What a reader finds in a layout: the index with the handles of the blocks, the blocks where
 /// these say, and a filter that denies no key of the run.
 pub fn layout_opens()
-    ensures { (f : Form) (blocks : List (List Entry)) (bytes : List ℕ) (h : RunHandles) → IsLayout f blocks bytes h → Opened f blocks bytes h }
+    ensures { (f : Form) (blocks : List (List Entry)) (bytes : List ℕ) (h : RunHandles)
+        → IsLayout f blocks bytes h → Opened f blocks bytes h }
 {
     data_block_is_read();
     index_block_is_read();
@@ -56,9 +64,11 @@ pub fn layout_opens()
 
 /// A checked read of a layout gives the first match of its run.
 pub fn layout_is_read()
-    ensures { (f : Form) (blocks : List (List Entry)) (bytes : List ℕ) (h : RunHandles) (needle : List ℕ) (seqno : ℕ)
+    ensures { (f : Form) (blocks : List (List Entry)) (bytes : List ℕ) (h : RunHandles)
+        (needle : List ℕ) (seqno : ℕ)
         → ((xs : List ℕ) → f.hash128 xs < 2 ^ 128) → IsLayout f blocks bytes h
-        → read_checked (hashes f.hash64 f.hash128) bytes h needle seqno ≡ Ok (first_match entries needle seqno (joined blocks)) }
+        → read_checked (hashes f.hash64 f.hash128) bytes h needle seqno
+        ≡ Ok (first_match entries needle seqno (joined blocks)) }
 {
     data_check_is_by_stages();
     index_check_is_by_stages();
@@ -71,8 +81,11 @@ pub fn layout_is_read()
 /// type, whose payload the filter's reader or the check accepts; there is none where the filter
 /// denies the key, else the answer is by the handle at which the index seek stops.
 pub fn checked_answer_means()
-    ensures { (c : Hashes) (bytes : List ℕ) (h : RunHandles) (needle : List ℕ) (seqno : ℕ) (answer : Option Entry) → IsBytes bytes
-        → read_checked c bytes h needle seqno ≡ Ok answer → AnswerMeans c bytes h needle seqno answer }
+    ensures { (c : Hashes) (bytes : List ℕ) (h : RunHandles) (needle : List ℕ) (seqno : ℕ)
+        (answer : Option Entry)
+        → IsBytes bytes
+        → read_checked c bytes h needle seqno ≡ Ok answer
+        → AnswerMeans c bytes h needle seqno answer }
 {
     data_check_is_by_stages();
     index_check_is_by_stages();

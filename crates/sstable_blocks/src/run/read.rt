@@ -1,5 +1,6 @@
 //! Reading runs.
-ghost use Rattle.std.specs.Prelude.{◌≡◌, ◌↔◌, ℕ, ◌+◌, ◌≤◌, ◌<◌, ◌^◌, List, length, Some, None};
+ghost use Rattle.std.specs.Prelude.{◌≡◌, ◌↔◌, ℕ, ◌+◌, ◌≤◌, ◌<◌};
+ghost use Rattle.std.specs.Prelude.{◌^◌, List, length, Some, None};
 ghost use Rattle.std.specs.Prelude.{Ok, false, IfOk, IfSome, IsOkUnless};
 ghost use Rattle.std.specs.Option.{option_map};
 ghost use Rattle.sst_base.specs.Entry.{Entry, IsEntry};
@@ -87,8 +88,10 @@ pub(crate) fn find_handle(
     seqno: SeqNo,
     steps: &mut Steps,
 ) -> Option<BlockHandle>
-    ensures found { result ≡ option_map range_of (handle_for handles needle.now seqno index.now.items) }
-    ensures heads { steps.new.heads ≤ steps.old.heads + digits (head_count index.now.interval (length index.now.items)) }
+    ensures found { result
+        ≡ option_map range_of (handle_for handles needle.now seqno index.now.items) }
+    ensures heads { steps.new.heads
+        ≤ steps.old.heads + digits (head_count index.now.interval (length index.now.items)) }
     ensures heads_grow { steps.old.heads ≤ steps.new.heads }
     ensures entries { steps.new.entries ≤ steps.old.entries + handles_most index.now.interval }
     ensures entries_grow { steps.old.entries ≤ steps.new.entries }
@@ -112,13 +115,21 @@ fn handle_in_index(
     steps: &mut Steps,
 ) -> Result<Option<BlockHandle>>
     requires range { IsFrameRange bytes.now handle.now }
-    requires index { (items : List Handle) × (r : ℕ) × IsIndexBlock (payload_in bytes.now handle.now) items r }
-    ensures found { IfOk result (λ found. found ≡ option_map range_of (handle_for handles needle.now seqno (index_in bytes.now handle.now))) }
+    requires index { (items : List Handle) × (r : ℕ)
+        × IsIndexBlock (payload_in bytes.now handle.now) items r }
+    ensures found { IfOk result
+        (λ found. found
+        ≡ option_map range_of
+        (handle_for handles needle.now seqno (index_in bytes.now handle.now))) }
     ensures memory { IsOkUnless result Error.Memory }
     ensures heads { let p = payload_in bytes.now handle.now in
-        steps.new.heads ≤ steps.old.heads + digits (head_count (trailer_in p).interval (length (index_in bytes.now handle.now))) }
+        steps.new.heads
+        ≤ steps.old.heads
+        + digits (head_count (trailer_in p).interval (length (index_in bytes.now handle.now))) }
     ensures heads_grow { steps.old.heads ≤ steps.new.heads }
-    ensures entries { steps.new.entries ≤ steps.old.entries + handles_most (trailer_in (payload_in bytes.now handle.now)).interval }
+    ensures entries { steps.new.entries
+        ≤ steps.old.entries
+        + handles_most (trailer_in (payload_in bytes.now handle.now)).interval }
     ensures entries_grow { steps.old.entries ≤ steps.new.entries }
 {
     let index = IndexBlock::new(block_at(bytes, handle, BlockType::Index)?);
@@ -136,13 +147,20 @@ fn match_in<H: BlockHash>(
     steps: &mut Steps,
 ) -> Result<Option<InternalValue>>
     requires range { IsFrameRange bytes.now handle.now }
-    requires block { (items : List Entry) × (r : ℕ) × (b : ℕ) × IsBlock entries IsEntry H.hash64 (payload_in bytes.now handle.now) items r b }
-    ensures found { IfOk result (λ item. item ≡ first_match entries needle.now seqno (items_in entries (payload_in bytes.now handle.now))) }
+    requires block { (items : List Entry) × (r : ℕ) × (b : ℕ)
+        × IsBlock entries IsEntry H.hash64 (payload_in bytes.now handle.now) items r b }
+    ensures found { IfOk result
+        (λ item. item
+        ≡ first_match entries needle.now seqno
+        (items_in entries (payload_in bytes.now handle.now))) }
     ensures memory { IsOkUnless result Error.Memory }
     ensures heads { let p = payload_in bytes.now handle.now in
-        steps.new.heads ≤ steps.old.heads + digits (head_count (trailer_in p).interval (length (items_in entries p))) }
+        steps.new.heads
+        ≤ steps.old.heads
+        + digits (head_count (trailer_in p).interval (length (items_in entries p))) }
     ensures heads_grow { steps.old.heads ≤ steps.new.heads }
-    ensures entries { steps.new.entries ≤ steps.old.entries + ((trailer_in (payload_in bytes.now handle.now)).interval + 1) }
+    ensures entries { steps.new.entries
+        ≤ steps.old.entries + ((trailer_in (payload_in bytes.now handle.now)).interval + 1) }
     ensures entries_grow { steps.old.entries ≤ steps.new.entries }
 {
     let block = DataBlock::<H>::new(block_at(bytes, handle, BlockType::Data)?);
@@ -173,15 +191,21 @@ pub fn read_entry<H: BlockHash>(
     seqno: SeqNo,
     steps: &mut Steps,
 ) -> Result<Option<InternalValue>>
-    requires layout { (config : RunConfig) × (blocks : List (List Entry)) × IsLayout (form H.hash64 H.hash128 config) blocks bytes.now handles.now }
-    ensures found { (config : RunConfig) (blocks : List (List Entry)) → IsLayout (form H.hash64 H.hash128 config) blocks bytes.now handles.now
+    requires layout { (config : RunConfig) × (blocks : List (List Entry))
+        × IsLayout (form H.hash64 H.hash128 config) blocks bytes.now handles.now }
+    ensures found { (config : RunConfig) (blocks : List (List Entry))
+        → IsLayout (form H.hash64 H.hash128 config) blocks bytes.now handles.now
         → IfOk result (λ item. item ≡ first_match entries needle.now seqno (joined blocks)) }
     ensures memory { IsOkUnless result Error.Memory }
-    ensures heads { (config : RunConfig) (blocks : List (List Entry)) → IsLayout (form H.hash64 H.hash128 config) blocks bytes.now handles.now
-        → steps.new.heads ≤ steps.old.heads + heads_most (form H.hash64 H.hash128 config) blocks needle.now seqno }
+    ensures heads { (config : RunConfig) (blocks : List (List Entry))
+        → IsLayout (form H.hash64 H.hash128 config) blocks bytes.now handles.now
+        → steps.new.heads
+        ≤ steps.old.heads + heads_most (form H.hash64 H.hash128 config) blocks needle.now seqno }
     ensures heads_grow { steps.old.heads ≤ steps.new.heads }
-    ensures entries { (config : RunConfig) (blocks : List (List Entry)) → IsLayout (form H.hash64 H.hash128 config) blocks bytes.now handles.now
-        → steps.new.entries ≤ steps.old.entries + entries_most (form H.hash64 H.hash128 config) }
+    ensures entries { (config : RunConfig) (blocks : List (List Entry))
+        → IsLayout (form H.hash64 H.hash128 config) blocks bytes.now handles.now
+        → steps.new.entries
+        ≤ steps.old.entries + entries_most (form H.hash64 H.hash128 config) }
     ensures entries_grow { steps.old.entries ≤ steps.new.entries }
     ensures denied { IsDenied bytes.now handles.now.filter (H.hash64 needle.now)
         → (steps.new.heads ≡ steps.old.heads) × (steps.new.entries ≡ steps.old.entries) }

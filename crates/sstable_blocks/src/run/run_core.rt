@@ -1,6 +1,9 @@
 //! What is kept while a run is written.
-ghost use Rattle.std.specs.Prelude.{◌≡◌, ◌≢◌, ◌↔◌, ◌⊎◌, ℕ, ◌+◌, ◌*◌, ◌≤◌, ◌<◌, List, [], ◌∷◌, ◌++◌, length};
-ghost use Rattle.std.specs.Prelude.{OnOk, OnErr, IfOk, IfErr, IfSome, IsNone, IsTrue, IsOkUnless, ◌^◌};
+ghost use Rattle.std.specs.Prelude.{◌≡◌, ◌≢◌, ◌↔◌, ◌⊎◌, ℕ, ◌+◌};
+ghost use Rattle.std.specs.Prelude.{◌*◌, ◌≤◌, ◌<◌, List, [], ◌∷◌, ◌++◌};
+ghost use Rattle.std.specs.Prelude.{length};
+ghost use Rattle.std.specs.Prelude.{OnOk, OnErr, IfOk, IfErr, IfSome, IsNone, IsTrue, IsOkUnless};
+ghost use Rattle.std.specs.Prelude.{◌^◌};
 ghost use Rattle.std.specs.Io.KnownBytes.{Appends};
 ghost use Rattle.std.specs.Vec.{vec_len, vec_capacity};
 ghost use Rattle.sst_base.specs.declared.error.Error.TheVariants.{Io, TooLong};
@@ -14,7 +17,8 @@ ghost use Rattle.sstable_blocks.specs.Run.{form, block_frame, block_frames, key_
 ghost use Rattle.sstable_blocks.specs.Run.{block_payload, IsRun};
 ghost use Rattle.std.specs.List.{AllByRecursion};
 ghost use Rattle.sstable_blocks.specs.Run.{index_frame, index_text, IsFilterText, IsFramed};
-ghost use Rattle.sstable_blocks.specs.Writing.{Follows, IsBehind, FrameFits, PartFits, IsFramedBlock, IsWriteRefusal};
+ghost use Rattle.sstable_blocks.specs.Writing.{Follows, IsBehind, FrameFits, PartFits};
+ghost use Rattle.sstable_blocks.specs.Writing.{IsFramedBlock, IsWriteRefusal};
 ghost use Rattle.sstable_blocks.specs.Writing.{IsFrameAppended, AppendsFilter, AppendsEnd};
 
 use super::laws::handles_are_ready;
@@ -57,7 +61,9 @@ impl<H: BlockHash> Model for RunCore<H> {
 
     ghost view = { λ c. record { config = c.config; blocks = c.accepted } };
 
-    ghost invariant = { λ c. IsKept (form H.hash64 H.hash128 c.config) c.accepted c.handles.items c.hashes.items c.offset };
+    ghost invariant = { λ c.
+        IsKept (form H.hash64 H.hash128 c.config) c.accepted c.handles.items c.hashes.items
+        c.offset };
 }
 
 impl<H: BlockHash> RunCore<H> {
@@ -127,11 +133,15 @@ impl<H: BlockHash> RunCore<H> {
         requires den { 1 ≤ self.old.config.ratio.den }
         ensures config { self.new.config ≡ self.old.config }
         ensures accepted { OnOk result (self.new.blocks ≡ self.old.blocks ++ items.now ∷ []) }
-        ensures bytes { OnOk result (Appends (W.contents writer.old) (W.contents writer.new) (block_frame (form H.hash64 H.hash128 self.old.config) items.now)) }
+        ensures bytes { OnOk result
+            (Appends (W.contents writer.old) (W.contents writer.new)
+            (block_frame (form H.hash64 H.hash128 self.old.config) items.now)) }
         ensures kept { OnErr result (self.new.blocks ≡ self.old.blocks) }
         ensures untouched { IfErr result (λ e. e ≢ Io → writer.new ≡ writer.old) }
         ensures cause { let f = form H.hash64 H.hash128 self.old.config in
-            IfErr result (IsWriteRefusal (FrameFits f (length (block_frames f self.old.blocks)) items.now → ⊥)) }
+            IfErr result
+            (IsWriteRefusal
+            (FrameFits f (length (block_frames f self.old.blocks)) items.now → ⊥)) }
     {
         let last = InternalValue::key(&items[items.len() - 1]);
         let end_key = last.user_key().clone()?;
@@ -158,9 +168,12 @@ impl<H: BlockHash> RunCore<H> {
     /// `Error::Io` if the writer fails.
     pub(crate) fn finish<W: Write>(&self, writer: &mut W) -> Result<RunHandles>
         requires { 1 ≤ length self.now.blocks }
-        ensures layout { IfOk result (AppendsEnd (form H.hash64 H.hash128 self.now.config) self.now.blocks
+        ensures layout { IfOk result
+            (AppendsEnd (form H.hash64 H.hash128 self.now.config) self.now.blocks
             (W.contents writer.old) (W.contents writer.new)) }
-        ensures cause { IfErr result (IsWriteRefusal (RunFits (form H.hash64 H.hash128 self.now.config) self.now.blocks → ⊥)) }
+        ensures cause { IfErr result
+            (IsWriteRefusal
+            (RunFits (form H.hash64 H.hash128 self.now.config) self.now.blocks → ⊥)) }
     {
         let (index, end) = self.write_index(writer)?;
         let filter = self.write_filter(writer, end)?;
@@ -171,14 +184,23 @@ impl<H: BlockHash> RunCore<H> {
     fn write_index<W: Write>(&self, writer: &mut W) -> Result<(BlockHandle, u64)>
         requires { 1 ≤ length self.now.blocks }
         ensures written { let f = form H.hash64 H.hash128 self.now.config in
-            IfOk result (λ r. IsFrameAppended H.hash128 Index (length (block_frames f self.now.blocks)) (index_text f self.now.blocks)
+            IfOk result
+            (λ r. IsFrameAppended H.hash128 Index (length (block_frames f self.now.blocks))
+            (index_text f self.now.blocks)
             (W.contents writer.old) (W.contents writer.new) r.0) }
         ensures end { let f = form H.hash64 H.hash128 self.now.config in
-            IfOk result (λ r. r.1 ≡ length (block_frames f self.now.blocks) + (33 + length (index_text f self.now.blocks))) }
-        ensures run { OnOk result (IsRun (form H.hash64 H.hash128 self.now.config) self.now.blocks) }
+            IfOk result
+            (λ r. r.1
+            ≡ length (block_frames f self.now.blocks)
+            + (33 + length (index_text f self.now.blocks))) }
+        ensures run { OnOk result
+            (IsRun (form H.hash64 H.hash128 self.now.config) self.now.blocks) }
         ensures framed { let f = form H.hash64 H.hash128 self.now.config in
-            OnOk result (AllByRecursion (λ block. IsFramed (block_payload f block)) self.now.blocks) }
-        ensures cause { IfErr result (IsWriteRefusal (RunFits (form H.hash64 H.hash128 self.now.config) self.now.blocks → ⊥)) }
+            OnOk result
+            (AllByRecursion (λ block. IsFramed (block_payload f block)) self.now.blocks) }
+        ensures cause { IfErr result
+            (IsWriteRefusal
+            (RunFits (form H.hash64 H.hash128 self.now.config) self.now.blocks → ⊥)) }
     {
         handles_are_ready();
         let alloc = *self.handles.allocator();
@@ -191,10 +213,15 @@ impl<H: BlockHash> RunCore<H> {
     fn write_filter<W: Write>(&self, writer: &mut W, offset: u64) -> Result<Option<BlockHandle>>
         requires some { 1 ≤ length self.now.blocks }
         requires offset { let f = form H.hash64 H.hash128 self.now.config in
-            offset ≡ length (block_frames f self.now.blocks) + length (index_frame f self.now.blocks) }
+            offset
+            ≡ length (block_frames f self.now.blocks) + length (index_frame f self.now.blocks) }
         ensures written { let f = form H.hash64 H.hash128 self.now.config in
-            IfOk result (AppendsFilter f self.now.blocks offset (W.contents writer.old) (W.contents writer.new)) }
-        ensures cause { IfErr result (IsWriteRefusal (RunFits (form H.hash64 H.hash128 self.now.config) self.now.blocks → ⊥)) }
+            IfOk result
+            (AppendsFilter f self.now.blocks offset (W.contents writer.old)
+            (W.contents writer.new)) }
+        ensures cause { IfErr result
+            (IsWriteRefusal
+            (RunFits (form H.hash64 H.hash128 self.now.config) self.now.blocks → ⊥)) }
     {
         let policy = BloomConstructionPolicy::BitsPerKey(self.config.bits_per_key);
         if !policy.is_active() {
@@ -221,8 +248,12 @@ fn framed_block<H: BlockHash>(
     requires ordered { IsOrdered entries items.now }
     requires interval { 1 ≤ config.now.restart_interval }
     requires den { 1 ≤ config.now.ratio.den }
-    ensures ok { IfOk result (λ r. IsFramedBlock (form H.hash64 H.hash128 config.now) offset items.now payload.new.items r.0 r.1) }
-    ensures cause { IfErr result (IsWriteRefusal (FrameFits (form H.hash64 H.hash128 config.now) offset items.now → ⊥)) }
+    ensures ok { IfOk result
+        (λ r.
+        IsFramedBlock (form H.hash64 H.hash128 config.now) offset items.now payload.new.items r.0
+        r.1) }
+    ensures cause { IfErr result
+        (IsWriteRefusal (FrameFits (form H.hash64 H.hash128 config.now) offset items.now → ⊥)) }
     ensures not_io { IfErr result (λ e. e ≢ Io) }
 {
     payload.clear();
@@ -240,7 +271,8 @@ fn frame_end(payload_len: usize, offset: u64) -> Option<(u32, u64)>
     ensures framed { IfSome result (λ r. payload_len ≤ 4294967262) }
     ensures size { IfSome result (λ r. r.0 ≡ 33 + payload_len) }
     ensures end { IfSome result (λ r. (r.1 ≡ offset + (33 + payload_len)) × (r.1 < 2 ^ 64)) }
-    ensures none { IsNone result → (4294967262 < payload_len) ⊎ (2 ^ 64 ≤ offset + (33 + payload_len)) }
+    ensures none { IsNone result
+        → (4294967262 < payload_len) ⊎ (2 ^ 64 ≤ offset + (33 + payload_len)) }
 {
     if payload_len > MAX_PAYLOAD {
         return None;
@@ -259,7 +291,9 @@ fn write_frame<H: BlockHash, W: Write>(
     block_type: BlockType,
 ) -> Result<()>
     requires { IsFramed payload.now }
-    ensures bytes { OnOk result (Appends (W.contents writer.old) (W.contents writer.new) (frame H.hash128 block_type payload.now)) }
+    ensures bytes { OnOk result
+        (Appends (W.contents writer.old) (W.contents writer.new)
+        (frame H.hash128 block_type payload.now)) }
     ensures io { IsOkUnless result Error.Io }
 {
     Block::write_into::<H, W>(writer, payload, block_type)?;
@@ -277,7 +311,8 @@ fn write_part<H: BlockHash, W: Write>(
     ensures written { IfOk result (λ r. IsFrameAppended H.hash128 block_type offset payload.now
         (W.contents writer.old) (W.contents writer.new) r.0) }
     ensures end { IfOk result (λ r. r.1 ≡ offset + (33 + length payload.now)) }
-    ensures cause { IfErr result (λ e. (e ≡ Io) ⊎ ((e ≡ TooLong) × (PartFits offset payload.now → ⊥))) }
+    ensures cause { IfErr result
+        (λ e. (e ≡ Io) ⊎ ((e ≡ TooLong) × (PartFits offset payload.now → ⊥))) }
 {
     let Some((size, end)) = frame_end(payload.len(), offset) else {
         return Err(Error::TooLong);

@@ -1,5 +1,6 @@
 //! Sources of frames: memory and files.
-ghost use Rattle.std.specs.Prelude.{◌≡◌, ◌≢◌, ◌⊎◌, ℕ, ◌+◌, ◌≤◌, ◌<◌, ◌^◌, List, Option, Some, None};
+ghost use Rattle.std.specs.Prelude.{◌≡◌, ◌≢◌, ◌⊎◌, ℕ, ◌+◌, ◌≤◌};
+ghost use Rattle.std.specs.Prelude.{◌<◌, ◌^◌, List, Option, Some, None};
 ghost use Rattle.std.specs.Prelude.{length, IfOk, IfErr, IfSome};
 ghost use Rattle.sst_base.specs.BlockHandle.{HandleParts};
 ghost use Rattle.sst_base.specs.declared.error.Error.TheVariants.{Io, BadHandle, Memory};
@@ -37,7 +38,8 @@ pub trait FrameSource {
         ensures errors { IfErr result (λ e. (e ≡ Io) ⊎ (e ≡ Memory)
             ⊎ ((e ≡ BadHandle) × may_refuse self.old handle.now)) }
         ensures size { IfOk result (λ s. length s ≡ handle.now.size) }
-        ensures range { IfSome (bytes self.old) (λ all. GivesOr (failures self.old < failures self.new)
+        ensures range { IfSome (bytes self.old)
+            (λ all. GivesOr (failures self.old < failures self.new)
             (λ s. s) result (range_at all handle.now)) };
 }
 

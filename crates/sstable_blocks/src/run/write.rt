@@ -1,5 +1,6 @@
 //! Writing a run whose entries are all at hand.
-ghost use Rattle.std.specs.Prelude.{◌≡◌, ◌↔◌, ℕ, ◌≤◌, length, IsTrue, IfOk, IfErr};
+ghost use Rattle.std.specs.Prelude.{◌≡◌, ◌↔◌, ℕ, ◌≤◌, length, IsTrue, IfOk};
+ghost use Rattle.std.specs.Prelude.{IfErr};
 ghost use Rattle.sst_block_core.specs.Entries.{entries};
 ghost use Rattle.sst_block_core.specs.Kind.{IsOrdered};
 ghost use Rattle.sstable_blocks.specs.Blocks.{CutsFit, blocks_of};
@@ -53,9 +54,12 @@ pub fn write_run<H: BlockHash, W: Write>(
     requires interval { 1 ≤ config.restart_interval }
     requires index_interval { 1 ≤ config.index_interval }
     requires den { 1 ≤ config.ratio.den }
-    ensures layout { IfOk result (AppendsLayout (form H.hash64 H.hash128 config) (blocks_of cuts.now items.now)
+    ensures layout { IfOk result
+        (AppendsLayout (form H.hash64 H.hash128 config) (blocks_of cuts.now items.now)
         (W.contents writer.old) (W.contents writer.new)) }
-    ensures cause { IfErr result (IsWriteRefusal (RunFits (form H.hash64 H.hash128 config) (blocks_of cuts.now items.now) → ⊥)) }
+    ensures cause { IfErr result
+        (IsWriteRefusal
+        (RunFits (form H.hash64 H.hash128 config) (blocks_of cuts.now items.now) → ⊥)) }
 {
     blocks_are_the_list::<InternalValue>();
     let mut core = RunCore::<H>::new(alloc, config);

@@ -1,5 +1,6 @@
 //! Writing a run block by block.
-ghost use Rattle.std.specs.Prelude.{◌≡◌, ◌≢◌, ◌↔◌, ℕ, ◌≤◌, List, [], ◌∷◌, ◌++◌, length, IsTrue, None, Some};
+ghost use Rattle.std.specs.Prelude.{◌≡◌, ◌≢◌, ◌↔◌, ℕ, ◌≤◌, List, []};
+ghost use Rattle.std.specs.Prelude.{◌∷◌, ◌++◌, length, IsTrue, None, Some};
 ghost use Rattle.std.specs.Prelude.{OnOk, OnErr, IfOk, IfErr, IfSome, Err};
 ghost use Rattle.std.specs.Io.KnownBytes.{Appends};
 ghost use Rattle.sst_base.specs.declared.error.Error.TheVariants.{Io};
@@ -43,7 +44,8 @@ impl<H: BlockHash, W: Write> Model for RunWriter<H, W> {
       writer = w.writer;
     } };
 
-    ghost invariant = { λ w. IsUnderWay (form H.hash64 H.hash128 w.core.config) w.core.blocks w.refusal
+    ghost invariant = { λ w.
+        IsUnderWay (form H.hash64 H.hash128 w.core.config) w.core.blocks w.refusal
         w.start (W.contents w.writer) };
 }
 
@@ -102,12 +104,15 @@ impl<H: BlockHash, W: Write> RunWriter<H, W> {
         ensures open { OnOk result (self.new.refusal ≡ None) }
         ensures refused { IfErr result (λ e. self.new.refusal ≡ Some e) }
         ensures repeated { IfSome self.old.refusal (λ e. result ≡ Err e) }
-        ensures bytes { OnOk result (Appends (W.contents self.old.writer) (W.contents self.new.writer)
+        ensures bytes { OnOk result
+            (Appends (W.contents self.old.writer) (W.contents self.new.writer)
             (block_frame (form H.hash64 H.hash128 self.old.config) items.now)) }
         ensures silent { IfSome self.old.refusal (λ e. self.new.writer ≡ self.old.writer) }
         ensures untouched { IfErr result (λ e. e ≢ Io → self.new.writer ≡ self.old.writer) }
         ensures cause { let f = form H.hash64 H.hash128 self.old.config in self.old.refusal ≡ None
-            → IfErr result (IsWriteRefusal (FrameFits f (length (block_frames f self.old.blocks)) items.now → ⊥)) }
+            → IfErr result
+            (IsWriteRefusal
+            (FrameFits f (length (block_frames f self.old.blocks)) items.now → ⊥)) }
     {
         if let Some(refusal) = self.refusal {
             return Err(refusal);
@@ -130,9 +135,14 @@ impl<H: BlockHash, W: Write + Drop> RunWriter<H, W> {
     /// see `write_run`; `Error::Memory` if an allocation fails, `Error::Io` if the writer fails.
     pub fn finish(self) -> Result<(RunHandles, W)>
         requires { self.refusal ≡ None → 1 ≤ length self.blocks }
-        ensures layout { IfOk result (λ r. AppendsLayout (form H.hash64 H.hash128 self.config) self.blocks self.start (W.contents r.1) r.0) }
+        ensures layout { IfOk result
+            (λ r.
+            AppendsLayout (form H.hash64 H.hash128 self.config) self.blocks self.start
+            (W.contents r.1) r.0) }
         ensures repeated { IfSome self.refusal (λ e. result ≡ Err e) }
-        ensures cause { self.refusal ≡ None → IfErr result (IsWriteRefusal (RunFits (form H.hash64 H.hash128 self.config) self.blocks → ⊥)) }
+        ensures cause { self.refusal ≡ None
+            → IfErr result
+            (IsWriteRefusal (RunFits (form H.hash64 H.hash128 self.config) self.blocks → ⊥)) }
     {
         let RunWriter {
             core,

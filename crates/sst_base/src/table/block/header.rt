@@ -1,10 +1,12 @@
 //! Block headers.
-ghost use Rattle.std.specs.Prelude.{◌≡◌, ◌+◌, ◌≤◌, ◌%◌, ◌^◌, ℕ, List, ◌∷◌, ◌++◌, length, drop, Some, OnOk};
+ghost use Rattle.std.specs.Prelude.{◌≡◌, ◌+◌, ◌≤◌, ◌%◌, ◌^◌, ℕ, List};
+ghost use Rattle.std.specs.Prelude.{◌∷◌, ◌++◌, length, drop, Some, OnOk};
 ghost use Rattle.std.specs.Prelude.{IsOkUnless, take};
 ghost use Rattle.byteorder.specs.Endian.{little_number};
 ghost use Rattle.std.specs.Io.KnownBytes.{Appends};
 ghost use Rattle.sst_base.specs.BlockType.{block_type_byte};
-ghost use Rattle.sst_base.specs.Header.{magic, header, header_front, header_at, header_of, header_with};
+ghost use Rattle.sst_base.specs.Header.{magic, header, header_front, header_at, header_of};
+ghost use Rattle.sst_base.specs.Header.{header_with};
 ghost use Rattle.sst_base.specs.Header.{magic_at, block_type_at};
 ghost use Rattle.sst_base.specs.Frame.{has_length};
 ghost use Rattle.sst_base.specs.Inputs.{Reads};
@@ -123,9 +125,9 @@ impl Header {
     ///
     /// # Errors
     ///
-    /// In the order of the bytes: `Error::InvalidHeader` if the magic differs, `Error::InvalidTag` if
-    /// the byte of the block type is none, `Error::ChecksumMismatch` if the header's own checksum
-    /// differs. `Error::Io` if the reader fails, or ends inside a field.
+    /// In the order of the bytes: `Error::InvalidHeader` if the magic differs, `Error::InvalidTag`
+    /// if the byte of the block type is none, `Error::ChecksumMismatch` if the header's own
+    /// checksum differs. `Error::Io` if the reader fails, or ends inside a field.
     #[tactic(auto, unfolding(crate::specs::Header::header_at))]
     pub fn decode_from<H: BlockHash, R: Input>(reader: &mut R) -> Result<Header>
         ensures read { (bytes : List ℕ) → R.remaining reader.old ≡ Some bytes

@@ -1,5 +1,6 @@
 //! Blocks: a header and a payload.
-ghost use Rattle.std.specs.Prelude.{◌≡◌, ◌≢◌, ◌↔◌, ℕ, ◌+◌, ◌^◌, ◌<◌, ◌≤◌, List, ◌++◌, length, Some, OnOk};
+ghost use Rattle.std.specs.Prelude.{◌≡◌, ◌≢◌, ◌↔◌, ℕ, ◌+◌, ◌^◌};
+ghost use Rattle.std.specs.Prelude.{◌<◌, ◌≤◌, List, ◌++◌, length, Some, OnOk};
 ghost use Rattle.std.specs.Prelude.{drop, IfOk, IfErr, IsErrOf, IsOkUnless, MatchResult};
 ghost use Rattle.std.specs.Io.KnownBytes.{Appends};
 ghost use Rattle.sst_base.specs.Block.{BlockParts};
@@ -118,8 +119,9 @@ impl Block {
     ///
     /// # Errors
     ///
-    /// In the order of the bytes: those of `Header::decode_from`, `Error::LengthMismatch` if the two
-    /// lengths of the header differ, `Error::ChecksumMismatch` if the payload's checksum differs.
+    /// In the order of the bytes: those of `Header::decode_from`, `Error::LengthMismatch` if the
+    /// two lengths of the header differ, `Error::ChecksumMismatch` if the payload's checksum
+    /// differs.
     /// `Error::Io` if the reader fails, or ends before, `Error::Memory` if an allocation fails.
     pub fn from_reader<H: BlockHash, R: Input>(alloc: Global, reader: &mut R) -> Result<Block>
         ensures read { (bytes : List ℕ) → R.remaining reader.old ≡ Some bytes
@@ -127,7 +129,8 @@ impl Block {
             (frame_at H.hash128 bytes) }
 
         // What is read is a front of the input that is a frame, and the rest is left.
-        ensures found { (bytes : List ℕ) → IsBytes bytes → R.remaining reader.old ≡ Some bytes
+        ensures found { (bytes : List ℕ) → IsBytes bytes
+            → R.remaining reader.old ≡ Some bytes
             → IfOk result (λ b. (rest : List ℕ) × (R.remaining reader.new ≡ Some rest)
             × (bytes ≡ frame H.hash128 b.header.block_type b.payload ++ rest)
             × (b ≡ block_for H.hash128 b.header.block_type b.payload)) }
@@ -200,10 +203,10 @@ impl Block {
     ///
     /// # Errors
     ///
-    /// In this order: `Error::Truncated` below 33 bytes, `Error::InvalidHeader`, `Error::InvalidTag`
-    /// and `Error::ChecksumMismatch` of the header, `Error::LengthMismatch` if its two lengths differ
-    /// or the payload has another, `Error::ChecksumMismatch` of the payload. `Error::Memory` if an
-    /// allocation fails.
+    /// In this order: `Error::Truncated` below 33 bytes, `Error::InvalidHeader`,
+    /// `Error::InvalidTag` and `Error::ChecksumMismatch` of the header, `Error::LengthMismatch` if
+    /// its two lengths differ or the payload has another, `Error::ChecksumMismatch` of the payload.
+    /// `Error::Memory` if an allocation fails.
     pub fn from_frame<H: BlockHash>(bytes: Slice) -> Result<Block>
         ensures read { Gives result (frame_in H.hash128 bytes) }
 
@@ -216,13 +219,14 @@ impl Block {
         // A frame is read.
         ensures only { (t : BlockType) (payload : List ℕ) → length payload < 2 ^ 32
             → bytes ≡ frame H.hash128 t payload
-            → MatchResult result (λ b. b ≡ block_for H.hash128 t payload) (λ e. e ≡ Error.Memory) }
+            → MatchResult result (λ b. b ≡ block_for H.hash128 t payload)
+            (λ e. e ≡ Error.Memory) }
     {
         Block::in_frame::<H>(&bytes)
     }
 
-    /// Reads the frame that a handle names: moves the file to its offset, and reads as many bytes as
-    /// its size says.
+    /// Reads the frame that a handle names: moves the file to its offset, and reads as many bytes
+    /// as its size says.
     ///
     /// # Errors
     ///

@@ -1,5 +1,6 @@
 //! The back of an iterator over a block.
-ghost use Rattle.std.specs.Prelude.{◌≡◌, ◌+◌, ◌-◌, ◌<◌, ◌≤◌, [], length, slice_get, Some};
+ghost use Rattle.std.specs.Prelude.{◌≡◌, ◌+◌, ◌-◌, ◌<◌, ◌≤◌, [], length};
+ghost use Rattle.std.specs.Prelude.{slice_get, Some};
 ghost use Rattle.sst_block_core.specs.Backs.{first_of, back_cost, StackStands, IsBack};
 ghost use Rattle.sst_block_core.specs.Landings.{scan_cost};
 
@@ -46,11 +47,14 @@ impl<'a, Item: Decodable<Parsed>, Parsed: ParsedItem<Item> + Drop> Intervals<'a,
         requires inside { end ≤ length self.old.list.items }
         requires empty { stack.old.items ≡ [] }
         ensures list { self.new.list ≡ self.old.list }
-        ensures places { StackStands Item.kind self.old.list stack.new.items result (first_of self.old.list.interval end) }
+        ensures places { StackStands Item.kind self.old.list stack.new.items result
+            (first_of self.old.list.interval end) }
         ensures count { first_of self.old.list.interval end + length stack.new.items ≡ end }
-        ensures bounded { self.new.steps.entries ≤ self.old.steps.entries + self.old.list.interval }
+        ensures bounded { self.new.steps.entries
+            ≤ self.old.steps.entries + self.old.list.interval }
         ensures heads { self.new.steps.heads ≡ self.old.steps.heads }
-        ensures entries { self.new.steps.entries ≡ self.old.steps.entries + (end - first_of self.old.list.interval end) }
+        ensures entries { self.new.steps.entries
+            ≡ self.old.steps.entries + (end - first_of self.old.list.interval end) }
     {
         let number = (end - 1) / usize::from(self.interval());
         let mut at = self.start(number);
@@ -68,11 +72,14 @@ impl<'a, Item: Decodable<Parsed>, Parsed: ParsedItem<Item> + Drop> Intervals<'a,
         requires { end ≤ length self.old.list.items }
         ensures list { self.new.list ≡ self.old.list }
         ensures hi { back.new.hi ≡ end }
-        ensures back { IsBack Item.kind self.old.list back.new.hi back.new.stack.items back.new.base }
+        ensures back { IsBack Item.kind self.old.list back.new.hi back.new.stack.items
+            back.new.base }
         ensures some { 0 < end → 0 < length back.new.stack.items }
-        ensures bounded { self.new.steps.entries ≤ self.old.steps.entries + self.old.list.interval }
+        ensures bounded { self.new.steps.entries
+            ≤ self.old.steps.entries + self.old.list.interval }
         ensures heads { self.new.steps.heads ≡ self.old.steps.heads }
-        ensures entries { self.new.steps.entries ≡ self.old.steps.entries + (end - first_of self.old.list.interval end) }
+        ensures entries { self.new.steps.entries
+            ≡ self.old.steps.entries + (end - first_of self.old.list.interval end) }
     {
         back.hi = end;
         back.stack.clear();
@@ -86,9 +93,11 @@ impl<'a, Item: Decodable<Parsed>, Parsed: ParsedItem<Item> + Drop> Intervals<'a,
         requires { end ≤ length self.old.list.items }
         ensures list { self.new.list ≡ self.old.list }
         ensures hi { back.new.hi ≡ end }
-        ensures back { IsBack Item.kind self.old.list back.new.hi back.new.stack.items back.new.base }
+        ensures back { IsBack Item.kind self.old.list back.new.hi back.new.stack.items
+            back.new.base }
         ensures heads { self.new.steps.heads ≡ self.old.steps.heads }
-        ensures entries { self.new.steps.entries ≤ self.old.steps.entries + scan_cost self.old.list.interval }
+        ensures entries { self.new.steps.entries
+            ≤ self.old.steps.entries + scan_cost self.old.list.interval }
         ensures entries_grow { self.old.steps.entries ≤ self.new.steps.entries }
     {
         if end == self.item_count() || end % usize::from(self.interval()) == 0 {
@@ -103,13 +112,17 @@ impl<'a, Item: Decodable<Parsed>, Parsed: ParsedItem<Item> + Drop> Intervals<'a,
     #[inline(always)]
     fn load(&mut self, back: &mut Back)
         requires some { 0 < back.old.hi }
-        requires back { IsBack Item.kind self.old.list back.old.hi back.old.stack.items back.old.base }
+        requires back { IsBack Item.kind self.old.list back.old.hi back.old.stack.items
+            back.old.base }
         ensures list { self.new.list ≡ self.old.list }
         ensures hi { back.new.hi ≡ back.old.hi }
-        ensures back { IsBack Item.kind self.old.list back.new.hi back.new.stack.items back.new.base }
+        ensures back { IsBack Item.kind self.old.list back.new.hi back.new.stack.items
+            back.new.base }
         ensures some { 0 < length back.new.stack.items }
         ensures heads { self.new.steps.heads ≡ self.old.steps.heads }
-        ensures entries { self.new.steps.entries ≤ self.old.steps.entries + back_cost self.old.list.interval (length self.old.list.items) back.old.hi }
+        ensures entries { self.new.steps.entries
+            ≤ self.old.steps.entries
+            + back_cost self.old.list.interval (length self.old.list.items) back.old.hi }
         ensures entries_grow { self.old.steps.entries ≤ self.new.steps.entries }
     {
         if back.stack.is_empty() {
@@ -120,10 +133,12 @@ impl<'a, Item: Decodable<Parsed>, Parsed: ParsedItem<Item> + Drop> Intervals<'a,
     /// Decodes the last item of a back whose offsets are known. Counts an entry.
     #[inline(always)]
     pub(crate) fn peek_back(&mut self, back: &Back) -> Parsed
-        requires back { IsBack Item.kind self.old.list back.now.hi back.now.stack.items back.now.base }
+        requires back { IsBack Item.kind self.old.list back.now.hi back.now.stack.items
+            back.now.base }
         requires some { 0 < length back.now.stack.items }
         ensures list { self.new.list ≡ self.old.list }
-        ensures item { slice_get self.old.list.items (back.now.hi - 1) ≡ Some (Parsed.item_of self.old.list.payload result) }
+        ensures item { slice_get self.old.list.items (back.now.hi - 1)
+            ≡ Some (Parsed.item_of self.old.list.payload result) }
         ensures found { Parsed.is_found self.old.list.payload result }
         ensures heads { self.new.steps.heads ≡ self.old.steps.heads }
         ensures entries { self.new.steps.entries ≡ self.old.steps.entries + 1 }
@@ -143,14 +158,19 @@ impl<'a, Item: Decodable<Parsed>, Parsed: ParsedItem<Item> + Drop> Intervals<'a,
     #[inline(always)]
     pub(crate) fn take_back(&mut self, back: &mut Back) -> Parsed
         requires some { 0 < back.old.hi }
-        requires back { IsBack Item.kind self.old.list back.old.hi back.old.stack.items back.old.base }
+        requires back { IsBack Item.kind self.old.list back.old.hi back.old.stack.items
+            back.old.base }
         ensures list { self.new.list ≡ self.old.list }
-        ensures item { slice_get self.old.list.items (back.old.hi - 1) ≡ Some (Parsed.item_of self.old.list.payload result) }
+        ensures item { slice_get self.old.list.items (back.old.hi - 1)
+            ≡ Some (Parsed.item_of self.old.list.payload result) }
         ensures found { Parsed.is_found self.old.list.payload result }
         ensures hi { back.new.hi ≡ back.old.hi - 1 }
-        ensures back { IsBack Item.kind self.old.list back.new.hi back.new.stack.items back.new.base }
+        ensures back { IsBack Item.kind self.old.list back.new.hi back.new.stack.items
+            back.new.base }
         ensures heads { self.new.steps.heads ≡ self.old.steps.heads }
-        ensures entries { self.new.steps.entries ≤ self.old.steps.entries + (1 + back_cost self.old.list.interval (length self.old.list.items) back.old.hi) }
+        ensures entries { self.new.steps.entries
+            ≤ self.old.steps.entries
+            + (1 + back_cost self.old.list.interval (length self.old.list.items) back.old.hi) }
         ensures entries_grow { self.old.steps.entries < self.new.steps.entries }
     {
         self.load(back);

@@ -1,5 +1,6 @@
 //! The bound of a search.
-ghost use Rattle.std.specs.Prelude.{◌≡◌, ◌≤◌, ◌==◌, if◌then◌else◌, nat_lt, length, drop};
+ghost use Rattle.std.specs.Prelude.{◌≡◌, ◌≤◌, ◌==◌, if◌then◌else◌, nat_lt};
+ghost use Rattle.std.specs.Prelude.{length, drop};
 ghost use Rattle.std.specs.Prelude.{Some, None};
 ghost use Rattle.std.specs.Ordering.{nat_cmp};
 ghost use Rattle.std.specs.Cmp.Lexicographic.{slice_cmp};
@@ -72,7 +73,9 @@ impl<'n> Bound<'n> {
     #[inline(always)]
     pub(crate) fn compare_behind(&self, shared: usize, rest: &[u8], alike: usize) -> Ordering
         requires { alike ≤ length self.now.needle.now }
-        ensures { result ≡ (if shared == alike then slice_cmp nat_cmp rest.now (drop alike self.now.needle.now) else if nat_lt alike shared then Less else Greater) }
+        ensures { result
+            ≡ (if shared == alike then slice_cmp nat_cmp rest.now (drop alike self.now.needle.now)
+            else if nat_lt alike shared then Less else Greater) }
     {
         if shared == alike {
             let (_, wanted) = self.needle.split_at(alike);

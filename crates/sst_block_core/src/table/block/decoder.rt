@@ -1,6 +1,8 @@
 //! The block decoder.
-ghost use Rattle.std.specs.Prelude.{◌≡◌, ◌≢◌, ℕ, ◌+◌, ◌-◌, ◌*◌, ◌<◌, ◌≤◌, List, [], ◌∷◌};
-ghost use Rattle.std.specs.Prelude.{length, drop, slice_get, Some, None, IfSome, IfOk, IsSome, IsSomeAnd};
+ghost use Rattle.std.specs.Prelude.{◌≡◌, ◌≢◌, ℕ, ◌+◌, ◌-◌, ◌*◌, ◌<◌};
+ghost use Rattle.std.specs.Prelude.{◌≤◌, List, [], ◌∷◌};
+ghost use Rattle.std.specs.Prelude.{length, drop, slice_get, Some, None, IfSome, IfOk, IsSome};
+ghost use Rattle.std.specs.Prelude.{IsSomeAnd};
 ghost use Rattle.std.specs.Prelude.{IsOkUnless};
 ghost use Rattle.std.specs.Ordering.{nat_cmp};
 ghost use Rattle.std.specs.Cmp.Lexicographic.{slice_cmp};
@@ -45,7 +47,8 @@ pub trait ParsedItem<Item: BlockItem> {
     /// Compares its key with a needle, without joining prefix and rest.
     fn compare_key(&self, needle: &[u8], payload: &[u8]) -> Ordering
         requires { is_found payload.now self.now }
-        ensures { result ≡ slice_cmp nat_cmp (Item.kind.key (item_of payload.now self.now)) needle.now };
+        ensures { result
+            ≡ slice_cmp nat_cmp (Item.kind.key (item_of payload.now self.now)) needle.now };
 
     /// Returns its sequence number.
     fn seqno(&self) -> u64
@@ -63,7 +66,8 @@ pub trait ParsedItem<Item: BlockItem> {
     /// Returns the key's own bytes: those behind the shared prefix.
     fn own_key<'a>(&self, payload: &'a [u8]) -> &'a [u8]
         requires { is_found payload.now self.now }
-        ensures { result.now ≡ drop (shared_len self.now) (Item.kind.key (item_of payload.now self.now)) };
+        ensures { result.now
+            ≡ drop (shared_len self.now) (Item.kind.key (item_of payload.now self.now)) };
 
     /// Makes the item. Only a truncated key is joined and copied.
     ///
@@ -89,8 +93,10 @@ pub trait Decodable<Parsed: ParsedItem<Self>>: BlockItem + Sized {
         steps: &mut Steps,
     ) -> Option<(&'a [u8], u64)>
         requires { offset ≤ length payload.now }
-        ensures head { (x : Self) (rest : List ℕ) → Self.kind.full_at (drop offset payload.now) ≡ Some (x, rest)
-            → IsSomeAnd result (λ f. (f.0.now ≡ Self.kind.key x) × (f.1 ≡ Self.kind.seqno x)) }
+        ensures head { (x : Self) (rest : List ℕ)
+            → Self.kind.full_at (drop offset payload.now) ≡ Some (x, rest)
+            → IsSomeAnd result
+            (λ f. (f.0.now ≡ Self.kind.key x) × (f.1 ≡ Self.kind.seqno x)) }
         ensures marker { StandsAt payload.now offset (255 ∷ []) → result ≡ None }
         ensures heads { steps.new.heads ≡ steps.old.heads + 1 }
         ensures entries { steps.new.entries ≡ steps.old.entries };
@@ -100,10 +106,12 @@ pub trait Decodable<Parsed: ParsedItem<Self>>: BlockItem + Sized {
     /// answers an item.
     fn parse_full(payload: &[u8], offset: usize, steps: &mut Steps) -> Option<(Parsed, usize)>
         requires { offset ≤ length payload.now }
-        ensures exact { Finds (Parsed.item_of payload.now) payload.now result (Self.kind.full_at (drop offset payload.now)) }
+        ensures exact { Finds (Parsed.item_of payload.now) payload.now result
+            (Self.kind.full_at (drop offset payload.now)) }
         ensures found { IfSome result (λ f. Parsed.is_found payload.now f.0) }
         ensures key { IfSome result
-            (λ f. StandsAt payload.now (Parsed.key_start f.0) (Self.kind.key (Parsed.item_of payload.now f.0))) }
+            (λ f. StandsAt payload.now (Parsed.key_start f.0)
+            (Self.kind.key (Parsed.item_of payload.now f.0))) }
         ensures shared { IfSome result (λ f. Parsed.shared_len f.0 ≡ 0) }
         ensures marker { StandsAt payload.now offset (255 ∷ []) → result ≡ None }
         ensures heads { steps.new.heads ≡ steps.old.heads }
@@ -121,11 +129,17 @@ pub trait Decodable<Parsed: ParsedItem<Self>>: BlockItem + Sized {
     ) -> Option<(Parsed, usize)>
         requires { offset ≤ length payload.now }
         ensures item { (base : List ℕ) → StandsAt payload.now base_key_offset base
-            → (x : Self) (rest : List ℕ) → Self.kind.truncated_at base (drop offset payload.now) ≡ Some (x, rest)
-            → IsSomeAnd result (λ f. (f.1 ≤ length payload.now) × (Parsed.item_of payload.now f.0 ≡ x) × (drop f.1 payload.now ≡ rest)) }
+            → (x : Self) (rest : List ℕ)
+            → Self.kind.truncated_at base (drop offset payload.now) ≡ Some (x, rest)
+            → IsSomeAnd result
+            (λ f. (f.1 ≤ length payload.now) × (Parsed.item_of payload.now f.0 ≡ x)
+            × (drop f.1 payload.now ≡ rest)) }
         ensures read { (base : List ℕ) → StandsAt payload.now base_key_offset base
-            → IfSome result (λ f. Parsed.shared_len f.0 ≡ shared_prefix_length base (Self.kind.key (Parsed.item_of payload.now f.0))
-            → Self.kind.truncated_at base (drop offset payload.now) ≡ Some (Parsed.item_of payload.now f.0, drop f.1 payload.now)) }
+            → IfSome result
+            (λ f. Parsed.shared_len f.0
+            ≡ shared_prefix_length base (Self.kind.key (Parsed.item_of payload.now f.0))
+            → Self.kind.truncated_at base (drop offset payload.now)
+            ≡ Some (Parsed.item_of payload.now f.0, drop f.1 payload.now)) }
         ensures within { IfSome result (λ f. f.1 ≤ length payload.now) }
         ensures found { IfSome result (λ f. Parsed.is_found payload.now f.0) }
         ensures marker { StandsAt payload.now offset (255 ∷ []) → result ≡ None }
@@ -136,9 +150,11 @@ pub trait Decodable<Parsed: ParsedItem<Self>>: BlockItem + Sized {
     /// ends. Tests nothing.
     fn read_full(payload: &[u8], offset: usize) -> (Parsed, usize)
         requires { IsSome (Self.kind.full_at (drop offset payload.now)) }
-        ensures exact { Takes (Parsed.item_of payload.now) payload.now result (Self.kind.full_at (drop offset payload.now)) }
+        ensures exact { Takes (Parsed.item_of payload.now) payload.now result
+            (Self.kind.full_at (drop offset payload.now)) }
         ensures found { Parsed.is_found payload.now result.0 }
-        ensures key { StandsAt payload.now (Parsed.key_start result.0) (Self.kind.key (Parsed.item_of payload.now result.0)) }
+        ensures key { StandsAt payload.now (Parsed.key_start result.0)
+            (Self.kind.key (Parsed.item_of payload.now result.0)) }
         ensures shared { Parsed.shared_len result.0 ≡ 0 };
 
     /// Decodes the item whose truncated form stands at an offset, behind a head whose key begins at
@@ -147,7 +163,8 @@ pub trait Decodable<Parsed: ParsedItem<Self>>: BlockItem + Sized {
         requires { (base : List ℕ) × StandsAt payload.now base_key_offset base
             × IsSome (Self.kind.truncated_at base (drop offset payload.now)) }
         ensures inside { result.1 ≤ length payload.now }
-        ensures item { (base : List ℕ) (x : Self) (rest : List ℕ) → StandsAt payload.now base_key_offset base
+        ensures item { (base : List ℕ) (x : Self) (rest : List ℕ)
+            → StandsAt payload.now base_key_offset base
             → Self.kind.truncated_at base (drop offset payload.now) ≡ Some (x, rest)
             → (Parsed.item_of payload.now result.0 ≡ x) × (drop result.1 payload.now ≡ rest)
             × (Parsed.shared_len result.0 ≡ shared_prefix_length base (Self.kind.key x)) }
@@ -156,7 +173,8 @@ pub trait Decodable<Parsed: ParsedItem<Self>>: BlockItem + Sized {
     /// Decodes the key and the sequence number of the head that stands at an offset. Tests nothing.
     fn read_head<'a>(payload: &'a [u8], offset: usize) -> (&'a [u8], u64)
         requires { IsSome (Self.kind.full_at (drop offset payload.now)) }
-        ensures { (x : Self) (rest : List ℕ) → Self.kind.full_at (drop offset payload.now) ≡ Some (x, rest)
+        ensures { (x : Self) (rest : List ℕ)
+            → Self.kind.full_at (drop offset payload.now) ≡ Some (x, rest)
             → (result.0.now ≡ Self.kind.key x) × (result.1 ≡ Self.kind.seqno x) };
 }
 
@@ -223,9 +241,14 @@ impl<'a, Item: Decodable<Parsed>, Parsed: ParsedItem<Item>> Decoder<'a, Item, Pa
         ensures interval { self.new.interval ≡ self.old.interval }
         ensures list { self.new.window.list ≡ self.old.window.list }
         ensures back { self.new.window.hi ≡ self.old.window.hi }
-        ensures step { (p : ℕ) → Splits Item.kind (F.post pred.now) self.old.interval self.old.window.list (head_count self.old.interval (length self.old.window.list)) p
-            → ◌≡◌ {A = Window Item × Answer Item} (self.new.window, found result) (seek_picked self.old.interval second_partition p self.old.window) }
-        ensures heads { self.new.steps.heads ≤ self.old.steps.heads + digits (head_count self.old.interval (length self.old.window.list)) }
+        ensures step { (p : ℕ)
+            → Splits Item.kind (F.post pred.now) self.old.interval self.old.window.list
+            (head_count self.old.interval (length self.old.window.list)) p
+            → ◌≡◌ {A = Window Item × Answer Item} (self.new.window, found result)
+            (seek_picked self.old.interval second_partition p self.old.window) }
+        ensures heads { self.new.steps.heads
+            ≤ self.old.steps.heads
+            + digits (head_count self.old.interval (length self.old.window.list)) }
         ensures heads_grow { self.old.steps.heads ≤ self.new.steps.heads }
         ensures entries { self.new.steps.entries ≡ self.old.steps.entries }
     {
@@ -254,9 +277,14 @@ impl<'a, Item: Decodable<Parsed>, Parsed: ParsedItem<Item>> Decoder<'a, Item, Pa
         ensures interval { self.new.interval ≡ self.old.interval }
         ensures list { self.new.window.list ≡ self.old.window.list }
         ensures front { self.new.window.lo ≡ self.old.window.lo }
-        ensures step { (p : ℕ) → Splits Item.kind (F.post pred.now) self.old.interval self.old.window.list (head_count self.old.interval (length self.old.window.list)) p
-            → ◌≡◌ {A = Window Item × Answer Item} (self.new.window, found result) (seek_upper_picked self.old.interval second_partition p self.old.window) }
-        ensures heads { self.new.steps.heads ≤ self.old.steps.heads + digits (head_count self.old.interval (length self.old.window.list)) }
+        ensures step { (p : ℕ)
+            → Splits Item.kind (F.post pred.now) self.old.interval self.old.window.list
+            (head_count self.old.interval (length self.old.window.list)) p
+            → ◌≡◌ {A = Window Item × Answer Item} (self.new.window, found result)
+            (seek_upper_picked self.old.interval second_partition p self.old.window) }
+        ensures heads { self.new.steps.heads
+            ≤ self.old.steps.heads
+            + digits (head_count self.old.interval (length self.old.window.list)) }
         ensures heads_grow { self.old.steps.heads ≤ self.new.steps.heads }
         ensures entries { self.new.steps.entries ≡ self.old.steps.entries }
     {
@@ -273,12 +301,21 @@ impl<'a, Item: Decodable<Parsed>, Parsed: ParsedItem<Item>> Decoder<'a, Item, Pa
     /// Moves the front to the head at an offset. The back stays, and nothing is counted.
     pub fn set_lo_offset(&mut self, offset: usize)
         requires { (j : ℕ) × (j * self.old.interval < length self.old.window.list)
-            × (offset ≡ place_offset Item.kind self.old.interval self.old.window.list (j * self.old.interval)) }
+            × (offset
+            ≡ place_offset Item.kind self.old.interval self.old.window.list
+            (j * self.old.interval)) }
         ensures payload { self.new.payload ≡ self.old.payload }
         ensures interval { self.new.interval ≡ self.old.interval }
         ensures window { (j : ℕ) → j * self.old.interval < length self.old.window.list
-            → offset ≡ place_offset Item.kind self.old.interval self.old.window.list (j * self.old.interval)
-            → self.new.window ≡ record { list = self.old.window.list; lo = j * self.old.interval; hi = self.old.window.hi } }
+            → offset
+            ≡ place_offset Item.kind self.old.interval self.old.window.list
+            (j * self.old.interval)
+            → self.new.window
+            ≡ record {
+              list = self.old.window.list;
+              lo = j * self.old.interval;
+              hi = self.old.window.hi;
+            } }
         ensures heads { self.new.steps.heads ≡ self.old.steps.heads }
         ensures entries { self.new.steps.entries ≡ self.old.steps.entries }
     {

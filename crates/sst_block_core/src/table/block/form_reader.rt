@@ -1,5 +1,6 @@
 //! The one way from the bytes of a block to its heads and items.
-ghost use Rattle.std.specs.Prelude.{◌≡◌, ℕ, ◌+◌, ◌≤◌, List, length, drop, Some, IsSome};
+ghost use Rattle.std.specs.Prelude.{◌≡◌, ℕ, ◌+◌, ◌≤◌, List, length, drop, Some};
+ghost use Rattle.std.specs.Prelude.{IsSome};
 ghost use Rattle.std.specs.Ordering.{nat_cmp};
 ghost use Rattle.std.specs.Cmp.Lexicographic.{slice_cmp};
 ghost use Rattle.sst_base.specs.SharedPrefix.{shared_prefix_length};
@@ -54,7 +55,8 @@ impl<'a, Item: Decodable<Parsed>, Parsed: ParsedItem<Item>> FormReader<'a, Item,
     pub(crate) fn read_head(&mut self, offset: usize) -> (&'a [u8], u64)
         requires { IsSome (Item.kind.full_at (drop offset self.old.payload)) }
         ensures payload { self.new.payload ≡ self.old.payload }
-        ensures head { (x : Item) (rest : List ℕ) → Item.kind.full_at (drop offset self.old.payload) ≡ Some (x, rest)
+        ensures head { (x : Item) (rest : List ℕ)
+            → Item.kind.full_at (drop offset self.old.payload) ≡ Some (x, rest)
             → (result.0.now ≡ Item.kind.key x) × (result.1 ≡ Item.kind.seqno x) }
         ensures heads { self.new.steps.heads ≡ self.old.steps.heads + 1 }
         ensures entries { self.new.steps.entries ≡ self.old.steps.entries }
@@ -69,9 +71,11 @@ impl<'a, Item: Decodable<Parsed>, Parsed: ParsedItem<Item>> FormReader<'a, Item,
     pub(crate) fn read_full(&mut self, offset: usize) -> (Parsed, usize)
         requires { IsSome (Item.kind.full_at (drop offset self.old.payload)) }
         ensures payload { self.new.payload ≡ self.old.payload }
-        ensures exact { Takes (Parsed.item_of self.old.payload) self.old.payload result (Item.kind.full_at (drop offset self.old.payload)) }
+        ensures exact { Takes (Parsed.item_of self.old.payload) self.old.payload result
+            (Item.kind.full_at (drop offset self.old.payload)) }
         ensures found { Parsed.is_found self.old.payload result.0 }
-        ensures key { StandsAt self.old.payload (Parsed.key_start result.0) (Item.kind.key (Parsed.item_of self.old.payload result.0)) }
+        ensures key { StandsAt self.old.payload (Parsed.key_start result.0)
+            (Item.kind.key (Parsed.item_of self.old.payload result.0)) }
         ensures shared { Parsed.shared_len result.0 ≡ 0 }
         ensures heads { self.new.steps.heads ≡ self.old.steps.heads }
         ensures entries { self.new.steps.entries ≡ self.old.steps.entries + 1 }
@@ -92,9 +96,11 @@ impl<'a, Item: Decodable<Parsed>, Parsed: ParsedItem<Item>> FormReader<'a, Item,
             × IsSome (Item.kind.truncated_at base (drop offset self.old.payload)) }
         ensures payload { self.new.payload ≡ self.old.payload }
         ensures inside { result.1 ≤ length self.old.payload }
-        ensures item { (base : List ℕ) (x : Item) (rest : List ℕ) → StandsAt self.old.payload base_key_offset base
+        ensures item { (base : List ℕ) (x : Item) (rest : List ℕ)
+            → StandsAt self.old.payload base_key_offset base
             → Item.kind.truncated_at base (drop offset self.old.payload) ≡ Some (x, rest)
-            → (Parsed.item_of self.old.payload result.0 ≡ x) × (drop result.1 self.old.payload ≡ rest)
+            → (Parsed.item_of self.old.payload result.0 ≡ x)
+            × (drop result.1 self.old.payload ≡ rest)
             × (Parsed.shared_len result.0 ≡ shared_prefix_length base (Item.kind.key x)) }
         ensures found { Parsed.is_found self.old.payload result.0 }
         ensures heads { self.new.steps.heads ≡ self.old.steps.heads }
@@ -117,7 +123,9 @@ impl<'a, Item: Decodable<Parsed>, Parsed: ParsedItem<Item>> FormReader<'a, Item,
     #[inline(always)]
     pub(crate) fn own_key(&self, item: &Parsed) -> &'a [u8]
         requires { Parsed.is_found self.now.payload item.now }
-        ensures { result.now ≡ drop (Parsed.shared_len item.now) (Item.kind.key (Parsed.item_of self.now.payload item.now)) }
+        ensures { result.now
+            ≡ drop (Parsed.shared_len item.now)
+            (Item.kind.key (Parsed.item_of self.now.payload item.now)) }
     {
         item.own_key(self.payload)
     }
@@ -126,7 +134,9 @@ impl<'a, Item: Decodable<Parsed>, Parsed: ParsedItem<Item>> FormReader<'a, Item,
     #[inline(always)]
     pub(crate) fn compare_key(&self, item: &Parsed, needle: &[u8]) -> Ordering
         requires { Parsed.is_found self.now.payload item.now }
-        ensures { result ≡ slice_cmp nat_cmp (Item.kind.key (Parsed.item_of self.now.payload item.now)) needle.now }
+        ensures { result
+            ≡ slice_cmp nat_cmp (Item.kind.key (Parsed.item_of self.now.payload item.now))
+            needle.now }
     {
         item.compare_key(needle, self.payload)
     }

@@ -1,5 +1,6 @@
 //! The restart intervals of a block.
-ghost use Rattle.std.specs.Prelude.{◌≡◌, ℕ, ◌+◌, ◌-◌, ◌*◌, ◌<◌, ◌≤◌, List, length, drop, slice_get, Some, min};
+ghost use Rattle.std.specs.Prelude.{◌≡◌, ℕ, ◌+◌, ◌-◌, ◌*◌, ◌<◌, ◌≤◌};
+ghost use Rattle.std.specs.Prelude.{List, length, drop, slice_get, Some, min};
 ghost use Rattle.std.specs.Prelude.{true, false};
 ghost use Rattle.std.specs.Ordering.{nat_cmp};
 ghost use Rattle.std.specs.Cmp.Lexicographic.{slice_cmp};
@@ -40,12 +41,20 @@ impl<'a, Item: Decodable<Parsed>, Parsed: ParsedItem<Item>> Model for Intervals<
     ghost Value = { IntervalsParts Item };
 
     ghost view = { λ i. record {
-      list = record { payload = i.forms.payload; interval = i.restart_interval; items = items_in Item.kind i.forms.payload };
+      list = record {
+        payload = i.forms.payload;
+        interval = i.restart_interval;
+        items = items_in Item.kind i.forms.payload;
+      };
       steps = i.forms.steps;
     } };
 
     ghost invariant = { λ i. IsIndexed Item.kind
-        (record { payload = i.forms.payload; interval = i.restart_interval; items = items_in Item.kind i.forms.payload })
+        (record {
+          payload = i.forms.payload;
+          interval = i.restart_interval;
+          items = items_in Item.kind i.forms.payload;
+        })
         i.pointers i.item_count };
 }
 
@@ -126,7 +135,9 @@ impl<'a, Item: Decodable<Parsed>, Parsed: ParsedItem<Item>> Intervals<'a, Item, 
         ensures place { result.place ≡ j * self.now.list.interval }
         ensures phase { result.phase ≡ 0 }
         ensures stands { Stands Item.kind self.now.list result }
-        ensures offset { result.offset ≡ place_offset Item.kind self.now.list.interval self.now.list.items (j * self.now.list.interval) }
+        ensures offset { result.offset
+            ≡ place_offset Item.kind self.now.list.interval self.now.list.items
+            (j * self.now.list.interval) }
     {
         Place {
             place: j * usize::from(self.restart_interval),
@@ -165,7 +176,8 @@ impl<'a, Item: Decodable<Parsed>, Parsed: ParsedItem<Item>> Intervals<'a, Item, 
     #[inline(always)]
     pub(crate) fn start_or_last(&self, j: usize) -> Place
         requires { j ≤ head_count self.now.list.interval (length self.now.list.items) }
-        ensures place { result.place ≡ min (length self.now.list.items) (j * self.now.list.interval) }
+        ensures place { result.place
+            ≡ min (length self.now.list.items) (j * self.now.list.interval) }
         ensures stands { Stands Item.kind self.now.list result }
     {
         if j < self.count() {
@@ -178,9 +190,14 @@ impl<'a, Item: Decodable<Parsed>, Parsed: ParsedItem<Item>> Intervals<'a, Item, 
     /// Returns the place of the head at an offset, by halves over the pointers.
     pub(crate) fn place_at(&self, offset: usize) -> Place
         requires { (j : ℕ) × (j * self.now.list.interval < length self.now.list.items)
-            × (offset ≡ place_offset Item.kind self.now.list.interval self.now.list.items (j * self.now.list.interval)) }
+            × (offset
+            ≡ place_offset Item.kind self.now.list.interval self.now.list.items
+            (j * self.now.list.interval)) }
         ensures place { (j : ℕ) → j * self.now.list.interval < length self.now.list.items
-            → offset ≡ place_offset Item.kind self.now.list.interval self.now.list.items (j * self.now.list.interval) → result.place ≡ j * self.now.list.interval }
+            → offset
+            ≡ place_offset Item.kind self.now.list.interval self.now.list.items
+            (j * self.now.list.interval)
+            → result.place ≡ j * self.now.list.interval }
         ensures stands { Stands Item.kind self.now.list result }
     {
         let mut left = 0;
@@ -200,7 +217,8 @@ impl<'a, Item: Decodable<Parsed>, Parsed: ParsedItem<Item>> Intervals<'a, Item, 
     #[inline(always)]
     pub(crate) fn end(&self, j: usize) -> usize
         requires { j * self.now.list.interval < length self.now.list.items }
-        ensures value { result ≡ min (length self.now.list.items) ((j + 1) * self.now.list.interval) }
+        ensures value { result
+            ≡ min (length self.now.list.items) ((j + 1) * self.now.list.interval) }
         ensures listed { IsListed self.now.list }
     {
         let count = self.item_count();
@@ -213,7 +231,8 @@ impl<'a, Item: Decodable<Parsed>, Parsed: ParsedItem<Item>> Intervals<'a, Item, 
     pub(crate) fn read_head(&mut self, j: usize) -> (&'a [u8], u64)
         requires { j * self.old.list.interval < length self.old.list.items }
         ensures list { self.new.list ≡ self.old.list }
-        ensures head { (x : Item) → slice_get self.old.list.items (j * self.old.list.interval) ≡ Some x
+        ensures head { (x : Item)
+            → slice_get self.old.list.items (j * self.old.list.interval) ≡ Some x
             → (result.0.now ≡ Item.kind.key x) × (result.1 ≡ Item.kind.seqno x) }
         ensures heads { self.new.steps.heads ≡ self.old.steps.heads + 1 }
         ensures entries { self.new.steps.entries ≡ self.old.steps.entries }
@@ -229,11 +248,13 @@ impl<'a, Item: Decodable<Parsed>, Parsed: ParsedItem<Item>> Intervals<'a, Item, 
         requires head { at.old.phase ≡ 0 }
         requires stands { Stands Item.kind self.old.list at.old }
         ensures list { self.new.list ≡ self.old.list }
-        ensures item { slice_get self.old.list.items at.old.place ≡ Some (Parsed.item_of self.old.list.payload result) }
+        ensures item { slice_get self.old.list.items at.old.place
+            ≡ Some (Parsed.item_of self.old.list.payload result) }
         ensures found { Parsed.is_found self.old.list.payload result }
         ensures shared { Parsed.shared_len result ≡ 0 }
         ensures place { at.new.place ≡ at.old.place + 1 }
-        ensures stands { StandsBehind Item.kind self.old.list at.new (Item.kind.key (Parsed.item_of self.old.list.payload result)) }
+        ensures stands { StandsBehind Item.kind self.old.list at.new
+            (Item.kind.key (Parsed.item_of self.old.list.payload result)) }
         ensures heads { self.new.steps.heads ≡ self.old.steps.heads }
         ensures entries { self.new.steps.entries ≡ self.old.steps.entries + 1 }
     {
@@ -250,13 +271,16 @@ impl<'a, Item: Decodable<Parsed>, Parsed: ParsedItem<Item>> Intervals<'a, Item, 
         requires rest { 0 < at.old.phase }
         requires stands { Stands Item.kind self.old.list at.old }
         ensures list { self.new.list ≡ self.old.list }
-        ensures item { slice_get self.old.list.items at.old.place ≡ Some (Parsed.item_of self.old.list.payload result) }
+        ensures item { slice_get self.old.list.items at.old.place
+            ≡ Some (Parsed.item_of self.old.list.payload result) }
         ensures found { Parsed.is_found self.old.list.payload result }
         ensures place { at.new.place ≡ at.old.place + 1 }
         ensures base { at.new.base ≡ at.old.base }
         ensures stands { (head : List ℕ) → StandsBehind Item.kind self.old.list at.old head
             → StandsBehind Item.kind self.old.list at.new head
-            × (Parsed.shared_len result ≡ shared_prefix_length head (Item.kind.key (Parsed.item_of self.old.list.payload result))) }
+            × (Parsed.shared_len result
+            ≡ shared_prefix_length head
+            (Item.kind.key (Parsed.item_of self.old.list.payload result))) }
         ensures heads { self.new.steps.heads ≡ self.old.steps.heads }
         ensures entries { self.new.steps.entries ≡ self.old.steps.entries + 1 }
     {
@@ -278,7 +302,9 @@ impl<'a, Item: Decodable<Parsed>, Parsed: ParsedItem<Item>> Intervals<'a, Item, 
     #[inline(always)]
     pub(crate) fn own_key(&self, item: &Parsed) -> &'a [u8]
         requires { Parsed.is_found self.now.list.payload item.now }
-        ensures { result.now ≡ drop (Parsed.shared_len item.now) (Item.kind.key (Parsed.item_of self.now.list.payload item.now)) }
+        ensures { result.now
+            ≡ drop (Parsed.shared_len item.now)
+            (Item.kind.key (Parsed.item_of self.now.list.payload item.now)) }
     {
         self.forms.own_key(item)
     }
@@ -287,7 +313,9 @@ impl<'a, Item: Decodable<Parsed>, Parsed: ParsedItem<Item>> Intervals<'a, Item, 
     #[inline(always)]
     pub(crate) fn compare_key(&self, item: &Parsed, needle: &[u8]) -> Ordering
         requires { Parsed.is_found self.now.list.payload item.now }
-        ensures { result ≡ slice_cmp nat_cmp (Item.kind.key (Parsed.item_of self.now.list.payload item.now)) needle.now }
+        ensures { result
+            ≡ slice_cmp nat_cmp (Item.kind.key (Parsed.item_of self.now.list.payload item.now))
+            needle.now }
     {
         self.forms.compare_key(item, needle)
     }
@@ -298,7 +326,8 @@ impl<'a, Item: Decodable<Parsed>, Parsed: ParsedItem<Item>> Intervals<'a, Item, 
         requires inside { at.old.place < length self.old.list.items }
         requires stands { Stands Item.kind self.old.list at.old }
         ensures list { self.new.list ≡ self.old.list }
-        ensures item { slice_get self.old.list.items at.old.place ≡ Some (Parsed.item_of self.old.list.payload result) }
+        ensures item { slice_get self.old.list.items at.old.place
+            ≡ Some (Parsed.item_of self.old.list.payload result) }
         ensures found { Parsed.is_found self.old.list.payload result }
         ensures place { at.new.place ≡ at.old.place + 1 }
         ensures stands { Stands Item.kind self.old.list at.new }

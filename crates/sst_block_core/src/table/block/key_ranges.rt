@@ -2,7 +2,8 @@
 ghost use Rattle.std.specs.Prelude.{◌≡◌, ◌++◌, IfOk, IsOkUnless};
 ghost use Rattle.std.specs.Ordering.{nat_cmp};
 ghost use Rattle.std.specs.Cmp.Lexicographic.{slice_cmp};
-ghost use Rattle.sst_block_core.specs.Found.{IsRange, IsOptionalRange, range_of, optional_range, range_len};
+ghost use Rattle.sst_block_core.specs.Found.{IsRange, IsOptionalRange, range_of, optional_range};
+ghost use Rattle.sst_block_core.specs.Found.{range_len};
 
 use sst_base::table::util::{SliceIndexes, compare_bytes, compare_prefixed_slice};
 use sst_base::{Error, Result, Slice};
@@ -40,7 +41,9 @@ pub fn compare_ranges(
 ) -> Ordering
     requires prefix { IsOptionalRange payload.now prefix.now }
     requires rest { IsRange payload.now rest.now }
-    ensures { result ≡ slice_cmp nat_cmp (optional_range payload.now prefix.now ++ range_of payload.now rest.now) needle.now }
+    ensures { result
+        ≡ slice_cmp nat_cmp
+        (optional_range payload.now prefix.now ++ range_of payload.now rest.now) needle.now }
 {
     let rest = bytes_of(payload, rest);
     match prefix {
@@ -62,7 +65,8 @@ pub fn join_ranges(
 ) -> Result<Slice>
     requires prefix { IsOptionalRange payload.now prefix.now }
     requires rest { IsRange payload.now rest.now }
-    ensures ok { IfOk result (λ key. key ≡ optional_range payload.now prefix.now ++ range_of payload.now rest.now) }
+    ensures ok { IfOk result
+        (λ key. key ≡ optional_range payload.now prefix.now ++ range_of payload.now rest.now) }
     ensures memory { IsOkUnless result Error.Memory }
 {
     match prefix {

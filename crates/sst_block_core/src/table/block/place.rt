@@ -21,7 +21,8 @@ impl Place {
         requires phase { self.old.phase < restart_interval }
         requires room { self.old.place + 1 < 2 ^ 64 }
         ensures place { self.new.place ≡ self.old.place + 1 }
-        ensures phase { self.old.phase ≡ self.old.place % restart_interval → self.new.phase ≡ (self.old.place + 1) % restart_interval }
+        ensures phase { self.old.phase ≡ self.old.place % restart_interval
+            → self.new.phase ≡ (self.old.place + 1) % restart_interval }
         ensures offset { self.new.offset ≡ end }
         ensures base { self.new.base ≡ self.old.base }
     {
@@ -36,7 +37,8 @@ impl Place {
 #[tactic(auto, using(crate::proofs::Places::next_in_interval))]
 pub(crate) fn next_phase(phase: u8, restart_interval: u8) -> u8
     requires { phase < restart_interval }
-    ensures phase { (n : ℕ) → phase ≡ n % restart_interval → result ≡ (n + 1) % restart_interval }
+    ensures phase { (n : ℕ) → phase ≡ n % restart_interval
+        → result ≡ (n + 1) % restart_interval }
     ensures below { result < restart_interval }
 {
     let next = phase + 1;

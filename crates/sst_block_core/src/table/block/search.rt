@@ -1,6 +1,8 @@
 //! The search for an item over the heads of a block and within one interval.
-ghost use Rattle.std.specs.Prelude.{◌≡◌, ℕ, ◌+◌, ◌-◌, ◌*◌, ◌<◌, ◌≤◌, List, length, slice_get, Some, min};
-ghost use Rattle.std.specs.Prelude.{true, false, MatchOption, None, filter, IfSome, if◌then◌else◌};
+ghost use Rattle.std.specs.Prelude.{◌≡◌, ℕ, ◌+◌, ◌-◌, ◌*◌, ◌<◌, ◌≤◌};
+ghost use Rattle.std.specs.Prelude.{List, length, slice_get, Some, min};
+ghost use Rattle.std.specs.Prelude.{true, false, MatchOption, None, filter, IfSome};
+ghost use Rattle.std.specs.Prelude.{if◌then◌else◌};
 ghost use Rattle.std.specs.Ordering.{nat_cmp, is_eq};
 ghost use Rattle.std.specs.Cmp.Lexicographic.{slice_cmp};
 ghost use Rattle.sst_base.specs.SharedPrefix.{shared_prefix_length};
@@ -30,10 +32,19 @@ impl<'a, Item: Decodable<Parsed>, Parsed: ParsedItem<Item>> Intervals<'a, Item, 
         requires callable { F.IsAlwaysCallable pred.now }
         ensures list { self.new.list ≡ self.old.list }
         ensures within { result ≤ head_count self.old.list.interval (length self.old.list.items) }
-        ensures before { 0 < result → Answered Item.kind (F.post pred.now) self.old.list.interval self.old.list.items (result - 1) true }
-        ensures after { result < head_count self.old.list.interval (length self.old.list.items) → Answered Item.kind (F.post pred.now) self.old.list.interval self.old.list.items result false }
-        ensures point { (p : ℕ) → Splits Item.kind (F.post pred.now) self.old.list.interval self.old.list.items (head_count self.old.list.interval (length self.old.list.items)) p → result ≡ p }
-        ensures heads { self.new.steps.heads ≤ self.old.steps.heads + digits (head_count self.old.list.interval (length self.old.list.items)) }
+        ensures before { 0 < result
+            → Answered Item.kind (F.post pred.now) self.old.list.interval self.old.list.items
+            (result - 1) true }
+        ensures after { result < head_count self.old.list.interval (length self.old.list.items)
+            → Answered Item.kind (F.post pred.now) self.old.list.interval self.old.list.items
+            result false }
+        ensures point { (p : ℕ)
+            → Splits Item.kind (F.post pred.now) self.old.list.interval self.old.list.items
+            (head_count self.old.list.interval (length self.old.list.items)) p
+            → result ≡ p }
+        ensures heads { self.new.steps.heads
+            ≤ self.old.steps.heads
+            + digits (head_count self.old.list.interval (length self.old.list.items)) }
         ensures heads_grow { self.old.steps.heads ≤ self.new.steps.heads }
         ensures entries { self.new.steps.entries ≡ self.old.steps.entries }
     {
@@ -58,10 +69,16 @@ impl<'a, Item: Decodable<Parsed>, Parsed: ParsedItem<Item>> Intervals<'a, Item, 
         requires { IsOrdered Item.kind self.old.list.items }
         ensures list { self.new.list ≡ self.old.list }
         ensures within { result ≤ head_count self.old.list.interval (length self.old.list.items) }
-        ensures low { 0 < result → (result - 1) * self.old.list.interval < count_passed Item.kind bound.now.needle.now bound.now.from self.old.list.items }
-        ensures high { count_passed Item.kind bound.now.needle.now bound.now.from self.old.list.items ≤ result * self.old.list.interval }
+        ensures low { 0 < result
+            → (result - 1) * self.old.list.interval
+            < count_passed Item.kind bound.now.needle.now bound.now.from self.old.list.items }
+        ensures high { count_passed Item.kind bound.now.needle.now bound.now.from
+            self.old.list.items
+            ≤ result * self.old.list.interval }
         ensures start { (result - 1) * self.old.list.interval < length self.old.list.items }
-        ensures heads { self.new.steps.heads ≤ self.old.steps.heads + digits (head_count self.old.list.interval (length self.old.list.items)) }
+        ensures heads { self.new.steps.heads
+            ≤ self.old.steps.heads
+            + digits (head_count self.old.list.interval (length self.old.list.items)) }
         ensures heads_grow { self.old.steps.heads ≤ self.new.steps.heads }
         ensures entries { self.new.steps.entries ≡ self.old.steps.entries }
     {
@@ -83,15 +100,22 @@ impl<'a, Item: Decodable<Parsed>, Parsed: ParsedItem<Item> + Drop> Intervals<'a,
         bound: &Bound<'_>,
     ) -> (Place, Option<Landing<Parsed>>)
         requires ordered { IsOrdered Item.kind self.old.list.items }
-        requires entered { IsEntered Item.kind bound.now.needle.now bound.now.from self.old.list from alike end }
+        requires entered { IsEntered Item.kind bound.now.needle.now bound.now.from self.old.list
+            from alike end }
         ensures list { self.new.list ≡ self.old.list }
-        ensures place { result.0.place ≡ min end (count_passed Item.kind bound.now.needle.now bound.now.from self.old.list.items) }
+        ensures place { result.0.place
+            ≡ min end
+            (count_passed Item.kind bound.now.needle.now bound.now.from self.old.list.items) }
         ensures stands { Stands Item.kind self.old.list result.0 }
         ensures landing { MatchOption result.1 (result.0.place ≡ end)
-            (λ l. IsLandedAt Parsed.item_of Parsed.is_found Item.kind bound.now.needle.now self.old.list result.0.place l × (result.0.place < end)) }
+            (λ l.
+            IsLandedAt Parsed.item_of Parsed.is_found Item.kind bound.now.needle.now self.old.list
+            result.0.place l
+            × (result.0.place < end)) }
         ensures heads { self.new.steps.heads ≡ self.old.steps.heads }
         ensures entries { self.new.steps.entries ≤ self.old.steps.entries + (end - from.place) }
-        ensures entries_grow { self.old.steps.entries + found_item result.1 ≤ self.new.steps.entries }
+        ensures entries_grow { self.old.steps.entries + found_item result.1
+            ≤ self.new.steps.entries }
     {
         let mut at = from;
         while at.place < end {
@@ -113,12 +137,16 @@ impl<'a, Item: Decodable<Parsed>, Parsed: ParsedItem<Item> + Drop> Intervals<'a,
     fn enter(&mut self, j: usize, needle: &[u8]) -> (Place, Parsed, usize)
         requires { j * self.old.list.interval < length self.old.list.items }
         ensures list { self.new.list ≡ self.old.list }
-        ensures item { slice_get self.old.list.items (j * self.old.list.interval) ≡ Some (Parsed.item_of self.old.list.payload result.1) }
+        ensures item { slice_get self.old.list.items (j * self.old.list.interval)
+            ≡ Some (Parsed.item_of self.old.list.payload result.1) }
         ensures found { Parsed.is_found self.old.list.payload result.1 }
         ensures shared { Parsed.shared_len result.1 ≡ 0 }
         ensures place { result.0.place ≡ j * self.old.list.interval + 1 }
-        ensures stands { StandsBehind Item.kind self.old.list result.0 (Item.kind.key (Parsed.item_of self.old.list.payload result.1)) }
-        ensures alike { result.2 ≡ shared_prefix_length (Item.kind.key (Parsed.item_of self.old.list.payload result.1)) needle.now }
+        ensures stands { StandsBehind Item.kind self.old.list result.0
+            (Item.kind.key (Parsed.item_of self.old.list.payload result.1)) }
+        ensures alike { result.2
+            ≡ shared_prefix_length (Item.kind.key (Parsed.item_of self.old.list.payload result.1))
+            needle.now }
         ensures heads { self.new.steps.heads ≡ self.old.steps.heads }
         ensures entries { self.new.steps.entries ≡ self.old.steps.entries + 1 }
     {
@@ -134,16 +162,25 @@ impl<'a, Item: Decodable<Parsed>, Parsed: ParsedItem<Item> + Drop> Intervals<'a,
     fn seek_in(&mut self, j: usize, bound: &Bound<'_>) -> (Place, Option<Landing<Parsed>>)
         requires ordered { IsOrdered Item.kind self.old.list.items }
         requires inside { j * self.old.list.interval < length self.old.list.items }
-        requires passed { j * self.old.list.interval < count_passed Item.kind bound.now.needle.now bound.now.from self.old.list.items }
+        requires passed { j * self.old.list.interval
+            < count_passed Item.kind bound.now.needle.now bound.now.from self.old.list.items }
         ensures list { self.new.list ≡ self.old.list }
-        ensures place { result.0.place ≡ min (min (length self.old.list.items) ((j + 1) * self.old.list.interval)) (count_passed Item.kind bound.now.needle.now bound.now.from self.old.list.items) }
+        ensures place { result.0.place
+            ≡ min (min (length self.old.list.items) ((j + 1) * self.old.list.interval))
+            (count_passed Item.kind bound.now.needle.now bound.now.from self.old.list.items) }
         ensures stands { Stands Item.kind self.old.list result.0 }
-        ensures landing { MatchOption result.1 (result.0.place ≡ min (length self.old.list.items) ((j + 1) * self.old.list.interval))
-            (λ l. IsLandedAt Parsed.item_of Parsed.is_found Item.kind bound.now.needle.now self.old.list result.0.place l
-            × (result.0.place < min (length self.old.list.items) ((j + 1) * self.old.list.interval))) }
+        ensures landing { MatchOption result.1
+            (result.0.place ≡ min (length self.old.list.items) ((j + 1) * self.old.list.interval))
+            (λ l.
+            IsLandedAt Parsed.item_of Parsed.is_found Item.kind bound.now.needle.now self.old.list
+            result.0.place l
+            × (result.0.place
+            < min (length self.old.list.items) ((j + 1) * self.old.list.interval))) }
         ensures heads { self.new.steps.heads ≡ self.old.steps.heads }
-        ensures entries { self.new.steps.entries ≤ self.old.steps.entries + self.old.list.interval }
-        ensures entries_grow { self.old.steps.entries + found_item result.1 ≤ self.new.steps.entries }
+        ensures entries { self.new.steps.entries
+            ≤ self.old.steps.entries + self.old.list.interval }
+        ensures entries_grow { self.old.steps.entries + found_item result.1
+            ≤ self.new.steps.entries }
     {
         let end = self.end(j);
         let (from, _, alike) = self.enter(j, bound.needle);
@@ -154,7 +191,10 @@ impl<'a, Item: Decodable<Parsed>, Parsed: ParsedItem<Item> + Drop> Intervals<'a,
     #[inline(always)]
     fn with_key(&self, item: Parsed, needle: &[u8]) -> Option<Parsed>
         requires { Parsed.is_found self.now.list.payload item }
-        ensures { result ≡ (if is_eq (slice_cmp nat_cmp (Item.kind.key (Parsed.item_of self.now.list.payload item)) needle.now) then Some item else None) }
+        ensures { result
+            ≡ (if is_eq
+            (slice_cmp nat_cmp (Item.kind.key (Parsed.item_of self.now.list.payload item))
+            needle.now) then Some item else None) }
     {
         if_equal(self.compare_key(&item, needle), item)
     }
@@ -167,7 +207,8 @@ impl<'a, Item: Decodable<Parsed>, Parsed: ParsedItem<Item> + Drop> Intervals<'a,
         requires stands { Stands Item.kind self.old.list at }
         ensures list { self.new.list ≡ self.old.list }
         ensures item { MatchOption result
-            ((x : Item) → slice_get self.old.list.items at.place ≡ Some x → is_eq (slice_cmp nat_cmp (Item.kind.key x) needle.now) ≡ false)
+            ((x : Item) → slice_get self.old.list.items at.place ≡ Some x
+            → is_eq (slice_cmp nat_cmp (Item.kind.key x) needle.now) ≡ false)
             (IsFoundAt Parsed.item_of Parsed.is_found Item.kind needle.now self.old.list at.place) }
         ensures heads { self.new.steps.heads ≡ self.old.steps.heads }
         ensures entries { self.new.steps.entries ≡ self.old.steps.entries + 1 }
@@ -183,15 +224,22 @@ impl<'a, Item: Decodable<Parsed>, Parsed: ParsedItem<Item> + Drop> Intervals<'a,
     pub(crate) fn seek(&mut self, bound: &Bound<'_>) -> (Place, Option<Parsed>)
         requires { IsOrdered Item.kind self.old.list.items }
         ensures list { self.new.list ≡ self.old.list }
-        ensures place { result.0.place ≡ count_passed Item.kind bound.now.needle.now bound.now.from self.old.list.items }
+        ensures place { result.0.place
+            ≡ count_passed Item.kind bound.now.needle.now bound.now.from self.old.list.items }
         ensures stands { Stands Item.kind self.old.list result.0 }
         ensures item { MatchOption result.1
-            ((x : Item) → slice_get self.old.list.items result.0.place ≡ Some x → is_eq (slice_cmp nat_cmp (Item.kind.key x) bound.now.needle.now) ≡ false)
-            (IsFoundAt Parsed.item_of Parsed.is_found Item.kind bound.now.needle.now self.old.list result.0.place) }
-        ensures heads { self.new.steps.heads ≤ self.old.steps.heads + digits (head_count self.old.list.interval (length self.old.list.items)) }
+            ((x : Item) → slice_get self.old.list.items result.0.place ≡ Some x
+            → is_eq (slice_cmp nat_cmp (Item.kind.key x) bound.now.needle.now) ≡ false)
+            (IsFoundAt Parsed.item_of Parsed.is_found Item.kind bound.now.needle.now self.old.list
+            result.0.place) }
+        ensures heads { self.new.steps.heads
+            ≤ self.old.steps.heads
+            + digits (head_count self.old.list.interval (length self.old.list.items)) }
         ensures heads_grow { self.old.steps.heads ≤ self.new.steps.heads }
-        ensures entries { self.new.steps.entries ≤ self.old.steps.entries + (self.old.list.interval + 1) }
-        ensures entries_grow { self.old.steps.entries + found_item result.1 ≤ self.new.steps.entries }
+        ensures entries { self.new.steps.entries
+            ≤ self.old.steps.entries + (self.old.list.interval + 1) }
+        ensures entries_grow { self.old.steps.entries + found_item result.1
+            ≤ self.new.steps.entries }
     {
         let heads = self.heads_passed(bound);
         if heads > 0 {
@@ -210,12 +258,17 @@ impl<'a, Item: Decodable<Parsed>, Parsed: ParsedItem<Item> + Drop> Intervals<'a,
     pub(crate) fn seek_place(&mut self, bound: &Bound<'_>) -> (Place, Option<Landing<Parsed>>)
         requires { IsOrdered Item.kind self.old.list.items }
         ensures list { self.new.list ≡ self.old.list }
-        ensures place { result.0.place ≡ count_passed Item.kind bound.now.needle.now bound.now.from self.old.list.items }
+        ensures place { result.0.place
+            ≡ count_passed Item.kind bound.now.needle.now bound.now.from self.old.list.items }
         ensures stands { Stands Item.kind self.old.list result.0 }
-        ensures landing { IfSome result.1 (IsHeldAt Parsed.item_of Parsed.is_found Item.kind self.old.list result.0.place) }
-        ensures heads { self.new.steps.heads ≤ self.old.steps.heads + digits (head_count self.old.list.interval (length self.old.list.items)) }
+        ensures landing { IfSome result.1
+            (IsHeldAt Parsed.item_of Parsed.is_found Item.kind self.old.list result.0.place) }
+        ensures heads { self.new.steps.heads
+            ≤ self.old.steps.heads
+            + digits (head_count self.old.list.interval (length self.old.list.items)) }
         ensures heads_grow { self.old.steps.heads ≤ self.new.steps.heads }
-        ensures entries { self.new.steps.entries ≤ self.old.steps.entries + scan_cost self.old.list.interval }
+        ensures entries { self.new.steps.entries
+            ≤ self.old.steps.entries + scan_cost self.old.list.interval }
         ensures entries_grow { self.old.steps.entries ≤ self.new.steps.entries }
     {
         let heads = self.heads_passed(bound);
@@ -234,12 +287,17 @@ impl<'a, Item: Decodable<Parsed>, Parsed: ParsedItem<Item> + Drop> Intervals<'a,
     pub fn first_version(&mut self, needle: &[u8], seqno: SeqNo) -> Option<Parsed>
         requires { IsOrdered Item.kind self.old.list.items }
         ensures list { self.new.list ≡ self.old.list }
-        ensures item { option_map (Parsed.item_of self.old.list.payload) result ≡ slice_get (filter (is_version Item.kind needle.now seqno) self.old.list.items) 0 }
+        ensures item { option_map (Parsed.item_of self.old.list.payload) result
+            ≡ slice_get (filter (is_version Item.kind needle.now seqno) self.old.list.items) 0 }
         ensures found { IfSome result (Parsed.is_found self.old.list.payload) }
-        ensures heads { self.new.steps.heads ≤ self.old.steps.heads + digits (head_count self.old.list.interval (length self.old.list.items)) }
+        ensures heads { self.new.steps.heads
+            ≤ self.old.steps.heads
+            + digits (head_count self.old.list.interval (length self.old.list.items)) }
         ensures heads_grow { self.old.steps.heads ≤ self.new.steps.heads }
-        ensures entries { self.new.steps.entries ≤ self.old.steps.entries + (self.old.list.interval + 1) }
-        ensures entries_grow { self.old.steps.entries + found_item result ≤ self.new.steps.entries }
+        ensures entries { self.new.steps.entries
+            ≤ self.old.steps.entries + (self.old.list.interval + 1) }
+        ensures entries_grow { self.old.steps.entries + found_item result
+            ≤ self.new.steps.entries }
     {
         let bound = Bound {
             needle,
@@ -255,14 +313,18 @@ impl<'a, Item: Decodable<Parsed>, Parsed: ParsedItem<Item> + Drop> Intervals<'a,
     pub fn first_version_in(&mut self, j: usize, needle: &[u8], seqno: SeqNo) -> Option<Parsed>
         requires ordered { IsOrdered Item.kind self.old.list.items }
         requires inside { j * self.old.list.interval < length self.old.list.items }
-        requires alone { (i : ℕ) (x : Item) → slice_get self.old.list.items i ≡ Some x → Item.kind.key x ≡ needle.now
+        requires alone { (i : ℕ) (x : Item) → slice_get self.old.list.items i ≡ Some x
+            → Item.kind.key x ≡ needle.now
             → (j * self.old.list.interval ≤ i) × (i < (j + 1) * self.old.list.interval) }
         ensures list { self.new.list ≡ self.old.list }
-        ensures item { option_map (Parsed.item_of self.old.list.payload) result ≡ slice_get (filter (is_version Item.kind needle.now seqno) self.old.list.items) 0 }
+        ensures item { option_map (Parsed.item_of self.old.list.payload) result
+            ≡ slice_get (filter (is_version Item.kind needle.now seqno) self.old.list.items) 0 }
         ensures found { IfSome result (Parsed.is_found self.old.list.payload) }
         ensures heads { self.new.steps.heads ≡ self.old.steps.heads }
-        ensures entries { self.new.steps.entries ≤ self.old.steps.entries + self.old.list.interval }
-        ensures entries_grow { self.old.steps.entries + found_item result ≤ self.new.steps.entries }
+        ensures entries { self.new.steps.entries
+            ≤ self.old.steps.entries + self.old.list.interval }
+        ensures entries_grow { self.old.steps.entries + found_item result
+            ≤ self.new.steps.entries }
     {
         let bound = Bound {
             needle,

@@ -1,8 +1,10 @@
 //! Seeks of a decoder by key.
-ghost use Rattle.std.specs.Prelude.{◌≡◌, ◌+◌, ◌*◌, ◌≤◌, length, min, nat_lt, IfSome};
+ghost use Rattle.std.specs.Prelude.{◌≡◌, ◌+◌, ◌*◌, ◌≤◌, length, min, nat_lt};
+ghost use Rattle.std.specs.Prelude.{IfSome};
 ghost use Rattle.sst_block_core.specs.Kind.{IsOrdered};
 ghost use Rattle.sst_block_core.specs.Pointers.{head_count};
-ghost use Rattle.sst_block_core.specs.Window.{count_passed, has_key, first_left, last_left, some_left};
+ghost use Rattle.sst_block_core.specs.Window.{count_passed, has_key, first_left, last_left};
+ghost use Rattle.sst_block_core.specs.Window.{some_left};
 ghost use Rattle.sst_block_core.specs.Intervals.{digits};
 ghost use Rattle.sst_block_core.specs.Landings.{IsHeldAt, GivesNextHeld, listed_of, scan_cost};
 
@@ -39,11 +41,15 @@ impl<'a, Item: Decodable<Parsed>, Parsed: ParsedItem<Item> + Drop> Decoder<'a, I
           lo = count_passed Item.kind bound.now.needle.now bound.now.from self.old.window.list;
           hi = self.old.window.hi;
         } }
-        ensures landing { IfSome result (IsHeldAt Parsed.item_of Parsed.is_found Item.kind (listed_of self.old)
+        ensures landing { IfSome result
+            (IsHeldAt Parsed.item_of Parsed.is_found Item.kind (listed_of self.old)
             (count_passed Item.kind bound.now.needle.now bound.now.from self.old.window.list)) }
-        ensures heads { self.new.steps.heads ≤ self.old.steps.heads + digits (head_count self.old.interval (length self.old.window.list)) }
+        ensures heads { self.new.steps.heads
+            ≤ self.old.steps.heads
+            + digits (head_count self.old.interval (length self.old.window.list)) }
         ensures heads_grow { self.old.steps.heads ≤ self.new.steps.heads }
-        ensures entries { self.new.steps.entries ≤ self.old.steps.entries + scan_cost self.old.interval }
+        ensures entries { self.new.steps.entries
+            ≤ self.old.steps.entries + scan_cost self.old.interval }
         ensures entries_grow { self.old.steps.entries ≤ self.new.steps.entries }
     {
         let (first, landing) = self.intervals.seek_place(bound);
@@ -60,11 +66,15 @@ impl<'a, Item: Decodable<Parsed>, Parsed: ParsedItem<Item> + Drop> Decoder<'a, I
         ensures window { self.new.window ≡ record {
           list = self.old.window.list;
           lo = self.old.window.lo;
-          hi = min (length self.old.window.list) (count_passed Item.kind bound.now.needle.now bound.now.from self.old.window.list + 1);
+          hi = min (length self.old.window.list)
+              (count_passed Item.kind bound.now.needle.now bound.now.from self.old.window.list + 1);
         } }
-        ensures heads { self.new.steps.heads ≤ self.old.steps.heads + digits (head_count self.old.interval (length self.old.window.list)) }
+        ensures heads { self.new.steps.heads
+            ≤ self.old.steps.heads
+            + digits (head_count self.old.interval (length self.old.window.list)) }
         ensures heads_grow { self.old.steps.heads ≤ self.new.steps.heads }
-        ensures entries { self.new.steps.entries ≤ self.old.steps.entries + 2 * scan_cost self.old.interval }
+        ensures entries { self.new.steps.entries
+            ≤ self.old.steps.entries + 2 * scan_cost self.old.interval }
         ensures entries_grow { self.old.steps.entries ≤ self.new.steps.entries }
     {
         let (place, _) = self.intervals.seek_place(bound);
@@ -75,7 +85,8 @@ impl<'a, Item: Decodable<Parsed>, Parsed: ParsedItem<Item> + Drop> Decoder<'a, I
     /// Returns the item at the front, which is held, if it is left. Counts nothing.
     #[inline(always)]
     pub fn next_held(&mut self, held: Landing<Parsed>) -> Option<Parsed>
-        requires { IsHeldAt Parsed.item_of Parsed.is_found Item.kind (listed_of self.old) self.old.window.lo held }
+        requires { IsHeldAt Parsed.item_of Parsed.is_found Item.kind (listed_of self.old)
+            self.old.window.lo held }
         ensures { GivesNextHeld Parsed.item_of Parsed.is_found self.old result self.new }
     {
         if self.front.place >= self.back.hi {
@@ -97,10 +108,14 @@ impl<'a, Item: Decodable<Parsed>, Parsed: ParsedItem<Item> + Drop> Decoder<'a, I
           lo = count_passed Item.kind bound.now.needle.now bound.now.from self.old.window.list;
           hi = self.old.window.hi;
         } }
-        ensures answer { result ≡ has_key Item.kind bound.now.needle.now (first_left self.new.window) }
-        ensures heads { self.new.steps.heads ≤ self.old.steps.heads + digits (head_count self.old.interval (length self.old.window.list)) }
+        ensures answer { result
+            ≡ has_key Item.kind bound.now.needle.now (first_left self.new.window) }
+        ensures heads { self.new.steps.heads
+            ≤ self.old.steps.heads
+            + digits (head_count self.old.interval (length self.old.window.list)) }
         ensures heads_grow { self.old.steps.heads ≤ self.new.steps.heads }
-        ensures entries { self.new.steps.entries ≤ self.old.steps.entries + (self.old.interval + 1) }
+        ensures entries { self.new.steps.entries
+            ≤ self.old.steps.entries + (self.old.interval + 1) }
         ensures entries_grow { self.old.steps.entries ≤ self.new.steps.entries }
     {
         let (place, item) = self.intervals.seek(bound);
@@ -123,10 +138,14 @@ impl<'a, Item: Decodable<Parsed>, Parsed: ParsedItem<Item> + Drop> Decoder<'a, I
           lo = self.old.window.lo;
           hi = count_passed Item.kind bound.now.needle.now bound.now.from self.old.window.list;
         } }
-        ensures answer { result ≡ has_key Item.kind bound.now.needle.now (last_left self.new.window) }
-        ensures heads { self.new.steps.heads ≤ self.old.steps.heads + digits (head_count self.old.interval (length self.old.window.list)) }
+        ensures answer { result
+            ≡ has_key Item.kind bound.now.needle.now (last_left self.new.window) }
+        ensures heads { self.new.steps.heads
+            ≤ self.old.steps.heads
+            + digits (head_count self.old.interval (length self.old.window.list)) }
         ensures heads_grow { self.old.steps.heads ≤ self.new.steps.heads }
-        ensures entries { self.new.steps.entries ≤ self.old.steps.entries + (2 * self.old.interval + 2) }
+        ensures entries { self.new.steps.entries
+            ≤ self.old.steps.entries + (2 * self.old.interval + 2) }
         ensures entries_grow { self.old.steps.entries ≤ self.new.steps.entries }
     {
         let (place, _) = self.intervals.seek(bound);

@@ -1,7 +1,8 @@
 //! The trailer of a block: the 31 bytes at its end that say where its parts are.
 #![tactic(auto, unfolding(crate::specs::Trailer::trailer_from))]
 
-ghost use Rattle.std.specs.Prelude.{◌≡◌, ◌+◌, ◌-◌, ◌≤◌, ◌++◌, drop, length, OnOk, IsOkUnless};
+ghost use Rattle.std.specs.Prelude.{◌≡◌, ◌+◌, ◌-◌, ◌≤◌, ◌++◌, drop, length};
+ghost use Rattle.std.specs.Prelude.{OnOk, IsOkUnless};
 ghost use Rattle.byteorder.specs.Endian.{little_number};
 ghost use Rattle.sst_block_core.specs.Passes.{trailer_by};
 ghost use Rattle.sst_block_core.specs.Trailer.{trailer, trailer_bytes, trailer_in};

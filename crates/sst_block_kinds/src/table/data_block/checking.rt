@@ -72,11 +72,15 @@ impl Checkable<DataBlockParsedItem> for InternalValue {
 /// That of the first stage that fails. `Error::Memory` if an allocation fails, which is asked for
 /// only where buckets are stored.
 pub(super) fn check_block<H: BlockHash>(alloc: Global, block: &Block) -> Result<()>
-    ensures checked { OnOk result (data_check H.hash64 block.now.payload ≡ Ok (items_in entries block.now.payload)) }
-    ensures block { OnOk result (IsBlock entries IsEntry H.hash64 block.now.payload (items_in entries block.now.payload)
+    ensures checked { OnOk result
+        (data_check H.hash64 block.now.payload ≡ Ok (items_in entries block.now.payload)) }
+    ensures block { OnOk result
+        (IsBlock entries IsEntry H.hash64 block.now.payload (items_in entries block.now.payload)
         (trailer_in block.now.payload).interval (trailer_in block.now.payload).hash_len) }
-    ensures refused { IfErr result (λ e. e ≢ Error.Memory → data_check H.hash64 block.now.payload ≡ Err e) }
-    ensures memory { IfErr result (λ e. e ≡ Error.Memory → 0 < (trailer_in block.now.payload).hash_len) }
+    ensures refused { IfErr result
+        (λ e. e ≢ Error.Memory → data_check H.hash64 block.now.payload ≡ Err e) }
+    ensures memory { IfErr result
+        (λ e. e ≡ Error.Memory → 0 < (trailer_in block.now.payload).hash_len) }
 {
     let numbers = parts_of(block)?;
     let payload = block.data().as_slice();

@@ -1,6 +1,8 @@
 //! Entries as items of a block: how they are decoded.
-ghost use Rattle.std.specs.Prelude.{◌≡◌, ◌+◌, ◌-◌, ◌^◌, ◌<◌, ◌≤◌, length, drop, IfSome, IfNone, IsSome, None};
-ghost use Rattle.sst_block_core.specs.Found.{Finds, Takes, IsRange, IsOptionalRange, optional_range};
+ghost use Rattle.std.specs.Prelude.{◌≡◌, ◌+◌, ◌-◌, ◌^◌, ◌<◌, ◌≤◌};
+ghost use Rattle.std.specs.Prelude.{length, drop, IfSome, IfNone, IsSome, None};
+ghost use Rattle.sst_block_core.specs.Found.{Finds, Takes, IsRange, IsOptionalRange};
+ghost use Rattle.sst_block_core.specs.Found.{optional_range};
 ghost use Rattle.sst_block_core.specs.Entries.{value_at, full_at, truncated_form_at};
 ghost use Rattle.sst_block_kinds.specs.ParsedEntry.{entry_of, truncated_of, IsKeyLength};
 
@@ -22,7 +24,8 @@ fn value_from(
     value_type: ValueType,
 ) -> Option<(Option<SliceIndexes>, usize)>
     requires { at ≤ length payload.now }
-    ensures exact { Finds (optional_range payload.now) payload.now result (value_at value_type (drop at payload.now)) }
+    ensures exact { Finds (optional_range payload.now) payload.now result
+        (value_at value_type (drop at payload.now)) }
     ensures range { IfSome result (λ f. IsOptionalRange payload.now f.0) }
     ensures bound { IfSome result (λ f. length (optional_range payload.now f.0) < 2 ^ 32) }
 {
@@ -50,7 +53,8 @@ pub(super) struct TruncatedForm {
 #[tactic(auto, unfolding(sst_block_core::specs::Entries::truncated_form_at))]
 pub(super) fn truncated_form_from(payload: &[u8], offset: usize) -> Option<(TruncatedForm, usize)>
     requires { offset ≤ length payload.now }
-    ensures exact { Finds (truncated_of payload.now) payload.now result (truncated_form_at (drop offset payload.now)) }
+    ensures exact { Finds (truncated_of payload.now) payload.now result
+        (truncated_form_at (drop offset payload.now)) }
     ensures key { IfSome result (λ f. IsRange payload.now f.0.key) }
     ensures value { IfSome result (λ f. IsOptionalRange payload.now f.0.value) }
     ensures bound { IfSome result (λ f. length (optional_range payload.now f.0.value) < 2 ^ 32) }
@@ -81,9 +85,11 @@ pub(super) fn entry_prefix_from(
     shared: u64,
     rest: usize,
 ) -> Option<SliceIndexes>
-    ensures found { IfSome result (λ p. (p ≡ record { 0 = base; 1 = base + shared }) × IsRange payload.now p
+    ensures found { IfSome result
+        (λ p. (p ≡ record { 0 = base; 1 = base + shared }) × IsRange payload.now p
         × IsKeyLength (shared + rest)) }
-    ensures none { IfNone result (base + shared ≤ length payload.now → IsKeyLength (shared + rest) → ⊥) }
+    ensures none { IfNone result
+        (base + shared ≤ length payload.now → IsKeyLength (shared + rest) → ⊥) }
 {
     if shared == 0 && rest == 0 {
         return None;
@@ -101,9 +107,11 @@ pub(super) fn entry_prefix_within(
 ) -> Option<SliceIndexes>
     requires base { IsRange payload.now base.now }
     requires inside { shared ≤ base.now.1 - base.now.0 }
-    ensures found { IfSome result (λ p. (p ≡ record { 0 = base.now.0; 1 = base.now.0 + shared }) × IsRange payload.now p
+    ensures found { IfSome result
+        (λ p. (p ≡ record { 0 = base.now.0; 1 = base.now.0 + shared }) × IsRange payload.now p
         × IsKeyLength (shared + rest)) }
-    ensures none { IfNone result (base.now.0 + shared ≤ length payload.now → IsKeyLength (shared + rest) → ⊥) }
+    ensures none { IfNone result
+        (base.now.0 + shared ≤ length payload.now → IsKeyLength (shared + rest) → ⊥) }
 {
     if shared == 0 && rest == 0 {
         return None;
@@ -116,7 +124,8 @@ pub(super) fn entry_prefix_within(
 fn read_value(payload: &[u8], at: usize, value_type: ValueType) -> (Option<SliceIndexes>, usize)
     requires inside { at ≤ length payload.now }
     requires stands { IsSome (value_at value_type (drop at payload.now)) }
-    ensures exact { Takes (optional_range payload.now) payload.now result (value_at value_type (drop at payload.now)) }
+    ensures exact { Takes (optional_range payload.now) payload.now result
+        (value_at value_type (drop at payload.now)) }
     ensures range { IsOptionalRange payload.now result.0 }
 {
     match value_type {
@@ -132,7 +141,8 @@ fn read_value(payload: &[u8], at: usize, value_type: ValueType) -> (Option<Slice
 #[inline(always)]
 fn read_full_form(payload: &[u8], offset: usize) -> (DataBlockParsedItem, usize)
     requires { IsSome (full_at (drop offset payload.now)) }
-    ensures exact { Takes (entry_of payload.now) payload.now result (full_at (drop offset payload.now)) }
+    ensures exact { Takes (entry_of payload.now) payload.now result
+        (full_at (drop offset payload.now)) }
     ensures key { IsRange payload.now result.0.key }
     ensures value { IsOptionalRange payload.now result.0.value }
     ensures prefix { result.0.prefix ≡ None }
@@ -155,7 +165,8 @@ fn read_full_form(payload: &[u8], offset: usize) -> (DataBlockParsedItem, usize)
 #[inline(always)]
 fn read_truncated_form(payload: &[u8], offset: usize) -> (TruncatedForm, usize)
     requires { IsSome (truncated_form_at (drop offset payload.now)) }
-    ensures exact { Takes (truncated_of payload.now) payload.now result (truncated_form_at (drop offset payload.now)) }
+    ensures exact { Takes (truncated_of payload.now) payload.now result
+        (truncated_form_at (drop offset payload.now)) }
     ensures key { IsRange payload.now result.0.key }
     ensures value { IsOptionalRange payload.now result.0.value }
 {

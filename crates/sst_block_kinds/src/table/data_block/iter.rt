@@ -1,5 +1,6 @@
 //! The iterator over the entries of a data block, as ranges of its payload.
-ghost use Rattle.std.specs.Prelude.{◌≡◌, ℕ, ◌+◌, ◌-◌, ◌*◌, ◌<◌, ◌≤◌, length, true};
+ghost use Rattle.std.specs.Prelude.{◌≡◌, ℕ, ◌+◌, ◌-◌, ◌*◌, ◌<◌, ◌≤◌};
+ghost use Rattle.std.specs.Prelude.{length, true};
 ghost use Rattle.std.specs.Iterator.{at_most};
 ghost use Rattle.sst_block_core.specs.Body.{place_offset};
 ghost use Rattle.sst_block_core.specs.Kind.{IsOrdered};
@@ -60,10 +61,14 @@ impl<'a> Iter<'a> {
     /// Moves the front to the first entry whose key is at least the needle. Returns whether an
     /// entry is left, and the first has the needle as its key.
     pub fn seek(&mut self, needle: &[u8]) -> bool
-        ensures step { GivesStep self.old self.new (found result) (seek entries needle.now self.old.window) }
-        ensures heads { self.new.steps.heads ≤ self.old.steps.heads + digits (head_count self.old.interval (length self.old.window.list)) }
+        ensures step { GivesStep self.old self.new (found result)
+            (seek entries needle.now self.old.window) }
+        ensures heads { self.new.steps.heads
+            ≤ self.old.steps.heads
+            + digits (head_count self.old.interval (length self.old.window.list)) }
         ensures heads_grow { self.old.steps.heads ≤ self.new.steps.heads }
-        ensures entries { self.new.steps.entries ≤ self.old.steps.entries + (self.old.interval + 1) }
+        ensures entries { self.new.steps.entries
+            ≤ self.old.steps.entries + (self.old.interval + 1) }
         ensures entries_grow { self.old.steps.entries ≤ self.new.steps.entries }
     {
         let bound = Bound::below(needle);
@@ -73,10 +78,14 @@ impl<'a> Iter<'a> {
     /// Moves the front to the first entry whose key is above the needle. Returns whether an entry
     /// is left.
     pub fn seek_exclusive(&mut self, needle: &[u8]) -> bool
-        ensures step { GivesStep self.old self.new (found result) (seek_exclusive entries needle.now self.old.window) }
-        ensures heads { self.new.steps.heads ≤ self.old.steps.heads + digits (head_count self.old.interval (length self.old.window.list)) }
+        ensures step { GivesStep self.old self.new (found result)
+            (seek_exclusive entries needle.now self.old.window) }
+        ensures heads { self.new.steps.heads
+            ≤ self.old.steps.heads
+            + digits (head_count self.old.interval (length self.old.window.list)) }
         ensures heads_grow { self.old.steps.heads ≤ self.new.steps.heads }
-        ensures entries { self.new.steps.entries ≤ self.old.steps.entries + (self.old.interval + 1) }
+        ensures entries { self.new.steps.entries
+            ≤ self.old.steps.entries + (self.old.interval + 1) }
         ensures entries_grow { self.old.steps.entries ≤ self.new.steps.entries }
     {
         let passed = Bound::up_to(needle);
@@ -87,10 +96,14 @@ impl<'a> Iter<'a> {
     /// Moves the back behind the last entry whose key is at most the needle. Returns whether an
     /// entry is left, and the last has the needle as its key.
     pub fn seek_upper(&mut self, needle: &[u8]) -> bool
-        ensures step { GivesStep self.old self.new (found result) (seek_upper entries needle.now self.old.window) }
-        ensures heads { self.new.steps.heads ≤ self.old.steps.heads + digits (head_count self.old.interval (length self.old.window.list)) }
+        ensures step { GivesStep self.old self.new (found result)
+            (seek_upper entries needle.now self.old.window) }
+        ensures heads { self.new.steps.heads
+            ≤ self.old.steps.heads
+            + digits (head_count self.old.interval (length self.old.window.list)) }
         ensures heads_grow { self.old.steps.heads ≤ self.new.steps.heads }
-        ensures entries { self.new.steps.entries ≤ self.old.steps.entries + (2 * self.old.interval + 2) }
+        ensures entries { self.new.steps.entries
+            ≤ self.old.steps.entries + (2 * self.old.interval + 2) }
         ensures entries_grow { self.old.steps.entries ≤ self.new.steps.entries }
     {
         let bound = Bound::up_to(needle);
@@ -100,10 +113,14 @@ impl<'a> Iter<'a> {
     /// Moves the back behind the last entry whose key is below the needle. Returns whether an entry
     /// is left.
     pub fn seek_upper_exclusive(&mut self, needle: &[u8]) -> bool
-        ensures step { GivesStep self.old self.new (found result) (seek_upper_exclusive entries needle.now self.old.window) }
-        ensures heads { self.new.steps.heads ≤ self.old.steps.heads + digits (head_count self.old.interval (length self.old.window.list)) }
+        ensures step { GivesStep self.old self.new (found result)
+            (seek_upper_exclusive entries needle.now self.old.window) }
+        ensures heads { self.new.steps.heads
+            ≤ self.old.steps.heads
+            + digits (head_count self.old.interval (length self.old.window.list)) }
         ensures heads_grow { self.old.steps.heads ≤ self.new.steps.heads }
-        ensures entries { self.new.steps.entries ≤ self.old.steps.entries + (2 * self.old.interval + 2) }
+        ensures entries { self.new.steps.entries
+            ≤ self.old.steps.entries + (2 * self.old.interval + 2) }
         ensures entries_grow { self.old.steps.entries ≤ self.new.steps.entries }
     {
         let passed = Bound::below(needle);
@@ -114,12 +131,20 @@ impl<'a> Iter<'a> {
     /// Moves the front to the head at an offset. Returns `true`. Nothing is counted.
     pub fn seek_to_offset(&mut self, offset: usize) -> bool
         requires { (j : ℕ) × (j * self.old.interval < length self.old.window.list)
-            × (offset ≡ place_offset entries self.old.interval self.old.window.list (j * self.old.interval)) }
+            × (offset
+            ≡ place_offset entries self.old.interval self.old.window.list
+            (j * self.old.interval)) }
         ensures payload { self.new.payload ≡ self.old.payload }
         ensures interval { self.new.interval ≡ self.old.interval }
         ensures window { (j : ℕ) → j * self.old.interval < length self.old.window.list
-            → offset ≡ place_offset entries self.old.interval self.old.window.list (j * self.old.interval)
-            → self.new.window ≡ record { list = self.old.window.list; lo = j * self.old.interval; hi = self.old.window.hi } }
+            → offset
+            ≡ place_offset entries self.old.interval self.old.window.list (j * self.old.interval)
+            → self.new.window
+            ≡ record {
+              list = self.old.window.list;
+              lo = j * self.old.interval;
+              hi = self.old.window.hi;
+            } }
         ensures answer { result ≡ true }
         ensures heads { self.new.steps.heads ≡ self.old.steps.heads }
         ensures entries { self.new.steps.entries ≡ self.old.steps.entries }

@@ -1,5 +1,6 @@
 //! Data blocks: blocks of entries.
-ghost use Rattle.std.specs.Prelude.{◌≡◌, ◌↔◌, ℕ, ◌+◌, ◌^◌, ◌<◌, ◌≤◌, List, length, map, [], IsTrue};
+ghost use Rattle.std.specs.Prelude.{◌≡◌, ◌↔◌, ℕ, ◌+◌, ◌^◌, ◌<◌};
+ghost use Rattle.std.specs.Prelude.{◌≤◌, List, length, map, [], IsTrue};
 ghost use Rattle.std.specs.Prelude.{IsSome, OnOk, OnErr, IfOk, IfErr, IsOkUnless, None, Some};
 ghost use Rattle.std.specs.Prelude.{IfSome, ◌==◌, if◌then◌else◌, ◌≢◌, Ok, Err};
 ghost use Rattle.sst_base.specs.Bytes.{IsBytes};
@@ -98,13 +99,18 @@ impl<H: BlockHash> DataBlock<H> {
         requires interval { 1 ≤ restart_interval }
         requires den { 1 ≤ ratio.den }
         ensures payload { OnOk result (writer.new.items
-            ≡ data_payload H.hash64 items.now restart_interval (bucket_count ratio.num ratio.den (length items.now))) }
-        ensures block { OnOk result (IsBlock entries IsEntry H.hash64 writer.new.items items.now restart_interval
+            ≡ data_payload H.hash64 items.now restart_interval
+            (bucket_count ratio.num ratio.den (length items.now))) }
+        ensures block { OnOk result
+            (IsBlock entries IsEntry H.hash64 writer.new.items items.now restart_interval
             (bucket_count ratio.num ratio.den (length items.now))) }
         ensures fits { OnOk result (length writer.new.items < 2 ^ 32) }
         ensures empty { OnErr result (writer.new.items ≡ []) }
         ensures cause { IfErr result (IsRefusal None
-            (2 ^ 32 ≤ length (data_payload H.hash64 items.now restart_interval (bucket_count ratio.num ratio.den (length items.now))))) }
+            (2 ^ 32
+            ≤ length
+            (data_payload H.hash64 items.now restart_interval
+            (bucket_count ratio.num ratio.den (length items.now))))) }
     {
         encode_all::<InternalValue, H>(writer, items, restart_interval, ratio)
     }
@@ -127,12 +133,17 @@ impl<H: BlockHash> DataBlock<H> {
         requires interval { 1 ≤ restart_interval }
         requires den { 1 ≤ ratio.den }
         ensures payload { IfOk result (λ v. v.items
-            ≡ data_payload H.hash64 items.now restart_interval (bucket_count ratio.num ratio.den (length items.now))) }
-        ensures block { IfOk result (λ v. IsBlock entries IsEntry H.hash64 v.items items.now restart_interval
+            ≡ data_payload H.hash64 items.now restart_interval
+            (bucket_count ratio.num ratio.den (length items.now))) }
+        ensures block { IfOk result
+            (λ v. IsBlock entries IsEntry H.hash64 v.items items.now restart_interval
             (bucket_count ratio.num ratio.den (length items.now))) }
         ensures fits { IfOk result (λ v. length v.items < 2 ^ 32) }
         ensures cause { IfErr result (IsRefusal None
-            (2 ^ 32 ≤ length (data_payload H.hash64 items.now restart_interval (bucket_count ratio.num ratio.den (length items.now))))) }
+            (2 ^ 32
+            ≤ length
+            (data_payload H.hash64 items.now restart_interval
+            (bucket_count ratio.num ratio.den (length items.now))))) }
     {
         let mut writer = Vec::new(alloc);
         DataBlock::<H>::encode_into(&mut writer, items, restart_interval, ratio)?;
@@ -147,8 +158,10 @@ impl<H: BlockHash> DataBlock<H> {
         ensures inner { block_of result ≡ block }
         ensures payload { result.payload ≡ block.payload }
         ensures parts { result ≡ data_block_of block }
-        ensures read { (items : List Entry) (r b : ℕ) → IsBlock entries IsEntry H.hash64 block.payload items r b
-            → (result.items ≡ map plain items) × (result.interval ≡ r) × (result.stored ≡ stored_count r (length items) b) }
+        ensures read { (items : List Entry) (r b : ℕ)
+            → IsBlock entries IsEntry H.hash64 block.payload items r b
+            → (result.items ≡ map plain items) × (result.interval ≡ r)
+            × (result.stored ≡ stored_count r (length items) b) }
     {
         // The proof needs the bound on the payload's length.
         let _fits = block.size();
@@ -174,9 +187,12 @@ impl<H: BlockHash> DataBlock<H> {
     pub fn check(alloc: Global, block: Block) -> Result<DataBlock<H>>
         ensures checked { IfOk result (λ b. data_check H.hash64 block.payload ≡ Ok b.items) }
         ensures parts { IfOk result (λ b. b ≡ data_block_of block) }
-        ensures encoded { IfOk result (λ b. IsBlock entries IsEntry H.hash64 block.payload b.items b.interval b.stored) }
-        ensures refused { IfErr result (λ e. e ≢ Error.Memory → data_check H.hash64 block.payload ≡ Err e) }
-        ensures memory { IfErr result (λ e. e ≡ Error.Memory → 0 < (trailer_in block.payload).hash_len) }
+        ensures encoded { IfOk result
+            (λ b. IsBlock entries IsEntry H.hash64 block.payload b.items b.interval b.stored) }
+        ensures refused { IfErr result
+            (λ e. e ≢ Error.Memory → data_check H.hash64 block.payload ≡ Err e) }
+        ensures memory { IfErr result
+            (λ e. e ≡ Error.Memory → 0 < (trailer_in block.payload).hash_len) }
     {
         check_block::<H>(alloc, &block)?;
         Ok(DataBlock::new(block))
@@ -186,7 +202,8 @@ impl<H: BlockHash> DataBlock<H> {
     /// number of buckets.
     pub fn as_slice(&self) -> &Slice
         ensures value { result.now ≡ self.now.payload }
-        ensures encoded { IsBlock entries IsEntry H.hash64 self.now.payload self.now.items self.now.interval self.now.stored }
+        ensures encoded { IsBlock entries IsEntry H.hash64 self.now.payload self.now.items
+            self.now.interval self.now.stored }
         ensures fits { length self.now.payload < 2 ^ 32 }
     {
         // The proof needs the bound on the payload's length, and that its cells are bytes.
@@ -215,7 +232,8 @@ impl<H: BlockHash> DataBlock<H> {
         ensures trailer { 31 ≤ length self.now.payload }
         ensures count { (trailer_in self.now.payload).item_count ≡ length self.now.items }
         ensures some { 1 ≤ length self.now.items }
-        ensures indexes { HasIndexes entries H.hash64 self.now.payload self.now.items self.now.interval self.now.stored }
+        ensures indexes { HasIndexes entries H.hash64 self.now.payload self.now.items
+            self.now.interval self.now.stored }
     {
         // The proof needs the bound on the payload's length.
         let _fits = self.inner.size();
@@ -248,7 +266,9 @@ impl<H: BlockHash> DataBlock<H> {
     /// Returns a view of the hash index, which has at least one bucket, or `None` if none is
     /// stored. Takes no memory.
     pub fn get_hash_index_reader(&self) -> Option<hash_index::Reader<'_, H>>
-        ensures buckets { result ≡ (if self.now.stored == 0 then None else Some (buckets entries H.hash64 self.now.interval self.now.items self.now.stored)) }
+        ensures buckets { result
+            ≡ (if self.now.stored == 0 then None
+            else Some (buckets entries H.hash64 self.now.interval self.now.items self.now.stored)) }
         ensures some { IfSome result (λ reader. 0 < length reader) }
     {
         let inner = self.opened();
@@ -316,12 +336,16 @@ impl<H: BlockHash> DataBlock<H> {
         seqno: SeqNo,
         steps: &mut Steps,
     ) -> Result<Option<InternalValue>>
-        ensures found { IfOk result (λ item. item ≡ first_match entries needle.now seqno self.now.items) }
+        ensures found { IfOk result
+            (λ item. item ≡ first_match entries needle.now seqno self.now.items) }
         ensures memory { IsOkUnless result Error.Memory }
-        ensures only_found { OnErr result (IsSome (first_match entries needle.now seqno self.now.items)) }
-        ensures heads { steps.new.heads ≤ steps.old.heads + read_heads H.hash64 self.now needle.now }
+        ensures only_found { OnErr result
+            (IsSome (first_match entries needle.now seqno self.now.items)) }
+        ensures heads { steps.new.heads
+            ≤ steps.old.heads + read_heads H.hash64 self.now needle.now }
         ensures heads_grow { steps.old.heads ≤ steps.new.heads }
-        ensures entries { steps.new.entries ≤ steps.old.entries + read_entries H.hash64 self.now needle.now }
+        ensures entries { steps.new.entries
+            ≤ steps.old.entries + read_entries H.hash64 self.now needle.now }
         ensures entries_grow { steps.old.entries ≤ steps.new.entries }
         ensures counted { IsSome (first_match entries needle.now seqno self.now.items)
             → steps.old.entries + 1 ≤ steps.new.entries }

@@ -41,7 +41,8 @@ pub enum Answer {
 // Makes the entry of an item, if there is one.
 fn made(alloc: Global, payload: &Slice, parsed: Option<DataBlockParsedItem>) -> Result<Answer>
     requires { IfSome parsed (IsParsedEntry payload.now) }
-    ensures ok { IfOk result (λ a. answer_of a ≡ item (option_map (entry_of payload.now) parsed)) }
+    ensures ok { IfOk result
+        (λ a. answer_of a ≡ item (option_map (entry_of payload.now) parsed)) }
     ensures memory { IsOkUnless result Error.Memory }
 {
     match parsed {
@@ -76,7 +77,9 @@ fn perform(alloc: Global, iter: &mut Iter<'_>, payload: &Slice, op: &Op) -> Resu
 ///
 /// `Error::Memory` if an allocation fails.
 pub fn walk<H: BlockHash>(alloc: Global, block: &DataBlock<H>, ops: &[Op]) -> Result<Vec<Answer>>
-    ensures ok { IfOk result (λ all. map answer_of all.items ≡ answers (map step_of ops.now) (whole block.now.items)) }
+    ensures ok { IfOk result
+        (λ all. map answer_of all.items
+        ≡ answers (map step_of ops.now) (whole block.now.items)) }
     ensures memory { IsOkUnless result Error.Memory }
 {
     let payload = block.as_slice();

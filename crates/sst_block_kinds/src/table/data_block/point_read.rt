@@ -21,7 +21,8 @@ impl<H: BlockHash> DataBlock<H> {
     #[inline(always)]
     fn lookup(&self, needle: &[u8]) -> Lookup
         ensures value { result ≡ lookup H.hash64 self.now needle.now }
-        ensures few_heads { 0 < self.now.stored → head_count self.now.interval (length self.now.items) ≤ 254 }
+        ensures few_heads { 0 < self.now.stored
+            → head_count self.now.interval (length self.now.items) ≤ 254 }
     {
         // The proof needs how many heads a block with a hash index has.
         let _opened = self.opened();
@@ -57,11 +58,14 @@ impl<H: BlockHash> DataBlock<H> {
         seqno: SeqNo,
         steps: &mut Steps,
     ) -> Option<DataBlockParsedItem>
-        ensures item { option_map (entry_of self.now.payload) result ≡ first_match entries needle.now seqno self.now.items }
+        ensures item { option_map (entry_of self.now.payload) result
+            ≡ first_match entries needle.now seqno self.now.items }
         ensures found { IfSome result (IsParsedEntry self.now.payload) }
-        ensures heads { steps.new.heads ≤ steps.old.heads + read_heads H.hash64 self.now needle.now }
+        ensures heads { steps.new.heads
+            ≤ steps.old.heads + read_heads H.hash64 self.now needle.now }
         ensures heads_grow { steps.old.heads ≤ steps.new.heads }
-        ensures entries { steps.new.entries ≤ steps.old.entries + read_entries H.hash64 self.now needle.now }
+        ensures entries { steps.new.entries
+            ≤ steps.old.entries + read_entries H.hash64 self.now needle.now }
         ensures entries_grow { steps.old.entries + found_item result ≤ steps.new.entries }
     {
         let mut intervals = self.intervals();

@@ -29,9 +29,17 @@ impl Model for KeyedBlockHandle {
 
     ghost Value = { Handle };
 
-    ghost view = { λ h. record { offset = h.inner.offset; size = h.inner.size; seqno = h.seqno; end_key = h.end_key } };
+    ghost view = { λ h.
+        record {
+          offset = h.inner.offset;
+          size = h.inner.size;
+          seqno = h.seqno;
+          end_key = h.end_key;
+        } };
 
-    ghost invariant = { λ h. IsHandle (record { offset = h.inner.offset; size = h.inner.size; seqno = h.seqno; end_key = h.end_key }) };
+    ghost invariant = { λ h. IsHandle
+        (record
+        { offset = h.inner.offset; size = h.inner.size; seqno = h.seqno; end_key = h.end_key }) };
 }
 
 impl KeyedBlockHandle {
@@ -39,7 +47,13 @@ impl KeyedBlockHandle {
     /// sequence number.
     pub fn new(end_key: UserKey, seqno: SeqNo, handle: BlockHandle) -> KeyedBlockHandle
         requires { length end_key ≤ 65535 }
-        ensures { result ≡ record { offset = handle.offset; size = handle.size; seqno = seqno; end_key = end_key } }
+        ensures { result
+            ≡ record {
+              offset = handle.offset;
+              size = handle.size;
+              seqno = seqno;
+              end_key = end_key;
+            } }
     {
         // The proof needs the ranges of the numbers.
         let _offset = handle.offset();
@@ -123,7 +137,8 @@ impl KeyedBlockHandle {
 
 /// Two handles are equal where their end keys, sequence numbers, offsets and sizes are.
 impl PartialEq for KeyedBlockHandle {
-    ghost eq = { eq_of_both (on (λ h. h.end_key) (pointwise nat_eq)) (eq_of_both (on (λ h. h.seqno) nat_eq)
+    ghost eq = { eq_of_both (on (λ h. h.end_key) (pointwise nat_eq))
+        (eq_of_both (on (λ h. h.seqno) nat_eq)
         (eq_of_both (on (λ h. h.offset) nat_eq) (on (λ h. h.size) nat_eq))) };
 
     ghost laws = { Prim.search (comparing, rules, nat_list_eq_equiv) depth 12 };

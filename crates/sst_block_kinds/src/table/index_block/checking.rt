@@ -65,8 +65,11 @@ impl Checkable<IndexBlockParsedItem> for KeyedBlockHandle {
 ///
 /// That of the first stage that fails.
 pub(super) fn check_block(block: &Block) -> Result<()>
-    ensures checked { OnOk result (index_check block.now.payload ≡ Ok (items_in handles block.now.payload)) }
-    ensures block { OnOk result (IsIndexBlock block.now.payload (items_in handles block.now.payload) (trailer_in block.now.payload).interval) }
+    ensures checked { OnOk result
+        (index_check block.now.payload ≡ Ok (items_in handles block.now.payload)) }
+    ensures block { OnOk result
+        (IsIndexBlock block.now.payload (items_in handles block.now.payload)
+        (trailer_in block.now.payload).interval) }
     ensures refused { IfErr result (λ e. index_check block.now.payload ≡ Err e) }
 {
     let numbers = parts_of(block)?;

@@ -1,5 +1,6 @@
 //! Handles as items of a block: how they are decoded.
-ghost use Rattle.std.specs.Prelude.{◌≡◌, ◌+◌, ◌^◌, ◌<◌, ◌≤◌, length, drop, IfSome, IsSome};
+ghost use Rattle.std.specs.Prelude.{◌≡◌, ◌+◌, ◌^◌, ◌<◌, ◌≤◌, length, drop};
+ghost use Rattle.std.specs.Prelude.{IfSome, IsSome};
 ghost use Rattle.sst_block_core.specs.Found.{Finds, Takes};
 ghost use Rattle.sst_block_kinds.specs.Handles.{marker_at, front_at};
 ghost use Rattle.sst_block_kinds.specs.ParsedHandle.{front_by};
@@ -55,7 +56,9 @@ impl HandleFront {
 fn marker_from(payload: &[u8], at: usize) -> Option<usize>
     requires { at ≤ length payload.now }
     ensures none { result ≡ None → marker_at (drop at payload.now) ≡ None }
-    ensures some { IfSome result (λ end. (end ≤ length payload.now) × (marker_at (drop at payload.now) ≡ Some (drop end payload.now))) }
+    ensures some { IfSome result
+        (λ end. (end ≤ length payload.now)
+        × (marker_at (drop at payload.now) ≡ Some (drop end payload.now))) }
 {
     if at >= payload.len() || payload[at] != HANDLE_MARKER {
         return None;

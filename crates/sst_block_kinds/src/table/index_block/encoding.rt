@@ -46,12 +46,10 @@ fn push_front(writer: &mut Vec<u8>, item: &KeyedBlockHandle)
 
 /// The forms of a handle.
 ///
-/// | Form | Parts in order |
-/// |---|---|
-/// | full | 00, offset (varint 64), size (varint 32), sequence number (varint 64), key length (varint
-/// 16), end key |
-/// | truncated | 00, offset, size, sequence number, shared length (varint 16), rest length (varint
-/// 16), rest of the end key |
+/// - Full: 00, offset (varint 64), size (varint 32), sequence number (varint 64), key length
+///   (varint 16), end key.
+/// - Truncated: 00, offset, size, sequence number, shared length (varint 16), rest length
+///   (varint 16), rest of the end key.
 impl Encodable for KeyedBlockHandle {
     fn key(&self) -> &[u8] {
         self.end_key().as_slice()

@@ -43,7 +43,8 @@ impl<'a> Model for Iter<'a> {
     ghost view = { λ i. i.decoder };
 
     ghost invariant = { λ i. IsOrdered handles i.decoder.window.list
-        × IfSome i.held (IsHeldAt handle_of IsParsedHandle handles (listed_of i.decoder) i.decoder.window.lo) };
+        × IfSome i.held
+        (IsHeldAt handle_of IsParsedHandle handles (listed_of i.decoder) i.decoder.window.lo) };
 }
 
 impl<'a> Iter<'a> {
@@ -70,10 +71,14 @@ impl<'a> Iter<'a> {
     /// least `seqno`. Returns whether there is such a handle in the block, wherever the back is.
     #[inline(always)]
     pub fn seek(&mut self, needle: &[u8], seqno: SeqNo) -> bool
-        ensures step { GivesStep self.old self.new (found result) (seek_index handles needle.now seqno self.old.window) }
-        ensures heads { self.new.steps.heads ≤ self.old.steps.heads + digits (head_count self.old.interval (length self.old.window.list)) }
+        ensures step { GivesStep self.old self.new (found result)
+            (seek_index handles needle.now seqno self.old.window) }
+        ensures heads { self.new.steps.heads
+            ≤ self.old.steps.heads
+            + digits (head_count self.old.interval (length self.old.window.list)) }
         ensures heads_grow { self.old.steps.heads ≤ self.new.steps.heads }
-        ensures entries { self.new.steps.entries ≤ self.old.steps.entries + scan_cost self.old.interval }
+        ensures entries { self.new.steps.entries
+            ≤ self.old.steps.entries + scan_cost self.old.interval }
         ensures entries_grow { self.old.steps.entries ≤ self.new.steps.entries }
     {
         let passed = Bound {
@@ -87,10 +92,14 @@ impl<'a> Iter<'a> {
     /// Moves the back behind the first handle whose end key is above the needle, or behind the last
     /// handle. Returns `true`. The sequence number is not looked at.
     pub fn seek_upper(&mut self, needle: &[u8], _seqno: SeqNo) -> bool
-        ensures step { GivesStep self.old self.new (found result) (seek_upper_index handles needle.now self.old.window) }
-        ensures heads { self.new.steps.heads ≤ self.old.steps.heads + digits (head_count self.old.interval (length self.old.window.list)) }
+        ensures step { GivesStep self.old self.new (found result)
+            (seek_upper_index handles needle.now self.old.window) }
+        ensures heads { self.new.steps.heads
+            ≤ self.old.steps.heads
+            + digits (head_count self.old.interval (length self.old.window.list)) }
         ensures heads_grow { self.old.steps.heads ≤ self.new.steps.heads }
-        ensures entries { self.new.steps.entries ≤ self.old.steps.entries + 2 * scan_cost self.old.interval }
+        ensures entries { self.new.steps.entries
+            ≤ self.old.steps.entries + 2 * scan_cost self.old.interval }
         ensures entries_grow { self.old.steps.entries ≤ self.new.steps.entries }
     {
         let passed = Bound::up_to(needle);

@@ -1,5 +1,6 @@
 //! Index blocks: blocks of handles.
-ghost use Rattle.std.specs.Prelude.{◌≡◌, ◌↔◌, ℕ, ◌^◌, ◌<◌, ◌≤◌, List, length, [], IsTrue};
+ghost use Rattle.std.specs.Prelude.{◌≡◌, ◌↔◌, ℕ, ◌^◌, ◌<◌, ◌≤◌, List};
+ghost use Rattle.std.specs.Prelude.{length, [], IsTrue};
 ghost use Rattle.std.specs.Prelude.{OnOk, OnErr, IfOk, IfErr, None, Ok, Err};
 ghost use Rattle.std.specs.List.{AllByRecursion};
 ghost use Rattle.sst_base.specs.Bytes.{IsBytes};
@@ -51,7 +52,8 @@ impl Model for IndexBlock {
 
     ghost view = { λ b. index_block_of b.inner };
 
-    ghost invariant = { λ b. (items : List Handle) × (r : ℕ) × IsIndexBlock b.inner.payload items r };
+    ghost invariant = { λ b. (items : List Handle) × (r : ℕ)
+        × IsIndexBlock b.inner.payload items r };
 }
 
 impl IndexBlock {
@@ -94,7 +96,8 @@ impl IndexBlock {
         ensures block { OnOk result (IsIndexBlock writer.new.items items.now 1) }
         ensures fits { OnOk result (length writer.new.items < 2 ^ 32) }
         ensures empty { OnErr result (writer.new.items ≡ []) }
-        ensures cause { IfErr result (IsRefusal None (2 ^ 32 ≤ length (index_payload items.now 1))) }
+        ensures cause { IfErr result
+            (IsRefusal None (2 ^ 32 ≤ length (index_payload items.now 1))) }
     {
         IndexBlock::encode_into_with(writer, items, 1)
     }
@@ -112,7 +115,8 @@ impl IndexBlock {
         ensures payload { IfOk result (λ v. v.items ≡ index_payload items.now 1) }
         ensures block { IfOk result (λ v. IsIndexBlock v.items items.now 1) }
         ensures fits { IfOk result (λ v. length v.items < 2 ^ 32) }
-        ensures cause { IfErr result (IsRefusal None (2 ^ 32 ≤ length (index_payload items.now 1))) }
+        ensures cause { IfErr result
+            (IsRefusal None (2 ^ 32 ≤ length (index_payload items.now 1))) }
     {
         IndexBlock::encode_into_vec_with(alloc, items, 1)
     }
@@ -134,11 +138,13 @@ impl IndexBlock {
         requires ordered { IsOrdered handles items.now }
         requires ends { AllByRecursion EndFits items.now }
         requires interval { 1 ≤ restart_interval }
-        ensures payload { OnOk result (writer.new.items ≡ index_payload items.now restart_interval) }
+        ensures payload { OnOk result
+            (writer.new.items ≡ index_payload items.now restart_interval) }
         ensures block { OnOk result (IsIndexBlock writer.new.items items.now restart_interval) }
         ensures fits { OnOk result (length writer.new.items < 2 ^ 32) }
         ensures empty { OnErr result (writer.new.items ≡ []) }
-        ensures cause { IfErr result (IsRefusal None (2 ^ 32 ≤ length (index_payload items.now restart_interval))) }
+        ensures cause { IfErr result
+            (IsRefusal None (2 ^ 32 ≤ length (index_payload items.now restart_interval))) }
     {
         // No key is hashed, since there are no buckets.
         let no_buckets = HashRatio { num: 0, den: 1 };
@@ -164,7 +170,8 @@ impl IndexBlock {
         ensures payload { IfOk result (λ v. v.items ≡ index_payload items.now restart_interval) }
         ensures block { IfOk result (λ v. IsIndexBlock v.items items.now restart_interval) }
         ensures fits { IfOk result (λ v. length v.items < 2 ^ 32) }
-        ensures cause { IfErr result (IsRefusal None (2 ^ 32 ≤ length (index_payload items.now restart_interval))) }
+        ensures cause { IfErr result
+            (IsRefusal None (2 ^ 32 ≤ length (index_payload items.now restart_interval))) }
     {
         let mut writer = Vec::new(alloc);
         IndexBlock::encode_into_with(&mut writer, items, restart_interval)?;

@@ -38,7 +38,8 @@ pub enum IndexAnswer {
 // Makes the handle of an item, if there is one.
 fn made(alloc: Global, payload: &Slice, parsed: Option<IndexBlockParsedItem>) -> Result<IndexAnswer>
     requires { IfSome parsed (IsParsedHandle payload.now) }
-    ensures ok { IfOk result (λ a. answer_of a ≡ item (option_map (handle_of payload.now) parsed)) }
+    ensures ok { IfOk result
+        (λ a. answer_of a ≡ item (option_map (handle_of payload.now) parsed)) }
     ensures memory { IsOkUnless result Error.Memory }
 {
     match parsed {
@@ -71,7 +72,9 @@ fn perform(alloc: Global, iter: &mut Iter<'_>, payload: &Slice, op: &IndexOp) ->
 ///
 /// `Error::Memory` if an allocation fails.
 pub fn walk(alloc: Global, block: &IndexBlock, ops: &[IndexOp]) -> Result<Vec<IndexAnswer>>
-    ensures ok { IfOk result (λ all. map answer_of all.items ≡ answers (map step_of ops.now) (whole block.now.items)) }
+    ensures ok { IfOk result
+        (λ all. map answer_of all.items
+        ≡ answers (map step_of ops.now) (whole block.now.items)) }
     ensures memory { IsOkUnless result Error.Memory }
 {
     let payload = block.as_slice();

@@ -1,5 +1,6 @@
 //! How large a filter is.
-ghost use Rattle.std.specs.Prelude.{◌≡◌, ◌↔◌, ◌*◌, ◌/◌, ◌≤◌, ◌<◌, ◌^◌, [], IsTrue, IfOk};
+ghost use Rattle.std.specs.Prelude.{◌≡◌, ◌↔◌, ◌*◌, ◌/◌, ◌≤◌, ◌<◌};
+ghost use Rattle.std.specs.Prelude.{◌^◌, [], IsTrue, IfOk};
 ghost use Rattle.std.specs.Prelude.{IsOkUnless};
 ghost use Rattle.sstable_blocks.specs.Filter.{empty_filter, IsFilterOf};
 ghost use Rattle.sstable_blocks.specs.Policy.{bits_per_key};

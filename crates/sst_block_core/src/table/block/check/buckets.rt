@@ -2,7 +2,8 @@
 ghost use Rattle.std.specs.Prelude.{OnOk, IfErr};
 ghost use Rattle.std.specs.List.{AllByRecursion};
 ghost use Rattle.sst_block_core.specs.Passes.{trailer_by, IsRefusal};
-ghost use Rattle.sst_block_core.specs.Stages.{HasParts, HasForms, HasOrder, HasPointers, HasBuckets, items_by};
+ghost use Rattle.sst_block_core.specs.Stages.{HasParts, HasForms, HasOrder, HasPointers};
+ghost use Rattle.sst_block_core.specs.Stages.{HasBuckets, items_by};
 
 use crate::table::block::ParsedItem;
 use crate::table::block::check::Checkable;
@@ -18,9 +19,9 @@ use std::alloc::Global;
 ///
 /// # Errors
 ///
-/// Those of [`check_items`], and then `Error::BadHashIndex` if a bucket is not that of the items: the
-/// first of these that holds. `Error::Memory` if an allocation fails; never where no buckets are
-/// stored.
+/// Those of [`check_items`], and then `Error::BadHashIndex` if a bucket is not that of the items:
+/// the first of these that holds. `Error::Memory` if an allocation fails; never where no buckets
+/// are stored.
 pub fn check_items_and_buckets<
     Item: Checkable<Parsed>,
     Parsed: ParsedItem<Item> + Drop,
@@ -28,11 +29,13 @@ pub fn check_items_and_buckets<
 >(alloc: Global, payload: &[u8], t: &TrailerNumbers) -> Result<()>
     requires { HasParts (trailer_by t.now) payload.now }
     ensures forms { OnOk result (HasForms Item.kind (trailer_by t.now) payload.now) }
-    ensures fit { OnOk result (AllByRecursion Item.fits (items_by Item.kind (trailer_by t.now) payload.now)) }
+    ensures fit { OnOk result
+        (AllByRecursion Item.fits (items_by Item.kind (trailer_by t.now) payload.now)) }
     ensures order { OnOk result (HasOrder Item.kind (trailer_by t.now) payload.now) }
     ensures pointers { OnOk result (HasPointers Item.kind (trailer_by t.now) payload.now) }
     ensures buckets { OnOk result (HasBuckets Item.kind H.hash64 (trailer_by t.now) payload.now) }
-    ensures refused { IfErr result (IsRefusal Item.kind Item.fits H.hash64 (trailer_by t.now) payload.now) }
+    ensures refused { IfErr result
+        (IsRefusal Item.kind Item.fits H.hash64 (trailer_by t.now) payload.now) }
 {
     if t.hash_len == 0 {
         return check_items::<Item, Parsed>(payload, t);

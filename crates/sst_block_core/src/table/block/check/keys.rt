@@ -1,5 +1,6 @@
 //! The order of two keys by their ranges of a payload.
-ghost use Rattle.std.specs.Prelude.{◌≡◌, ◌≢◌, ◌↔◌, ◌+◌, ◌≤◌, ◌++◌, [], ℕ, List, length, take, drop, IsTrue, IfSome};
+ghost use Rattle.std.specs.Prelude.{◌≡◌, ◌≢◌, ◌↔◌, ◌+◌, ◌≤◌, ◌++◌};
+ghost use Rattle.std.specs.Prelude.{[], ℕ, List, length, take, drop, IsTrue, IfSome};
 ghost use Rattle.std.specs.Ordering.{nat_cmp};
 ghost use Rattle.std.specs.Cmp.Lexicographic.{slice_cmp};
 ghost use Rattle.std.specs.declared.cmp.Ordering.TheVariants.{Less};
@@ -39,7 +40,8 @@ fn compare_whole(a: &[u8], b: &[u8]) -> Ordering
 #[inline(always)]
 #[tactic(auto, using(crate::proofs::KeyOrders::first_decides))]
 fn compare_first(more: &[u8], rest: &[u8]) -> Option<Ordering>
-    ensures { IfSome result (λ o. (tail : List ℕ) → o ≡ slice_cmp nat_cmp (more.now ++ tail) rest.now) }
+    ensures { IfSome result
+        (λ o. (tail : List ℕ) → o ≡ slice_cmp nat_cmp (more.now ++ tail) rest.now) }
 {
     if more.is_empty() || rest.is_empty() {
         return None;
@@ -73,7 +75,8 @@ fn compare_rests(a: &[u8], b: &[u8]) -> Ordering
 fn compare_fronts(payload: &[u8], a: usize, b: usize, len: usize) -> Ordering
     requires left { a + len ≤ length payload.now }
     requires right { b + len ≤ length payload.now }
-    ensures { result ≡ slice_cmp nat_cmp (take len (drop a payload.now)) (take len (drop b payload.now)) }
+    ensures { result
+        ≡ slice_cmp nat_cmp (take len (drop a payload.now)) (take len (drop b payload.now)) }
 {
     if a == b {
         return Ordering::Equal;
@@ -132,7 +135,8 @@ fn compare_behind(payload: &[u8], a: &KeyRanges, b: &KeyRanges) -> Option<Orderi
     requires left { IsKeyRanges payload.now a.now }
     requires right { IsKeyRanges payload.now b.now }
     requires place { a.now.front.0 ≡ b.now.front.0 }
-    ensures { IfSome result (λ o. o ≡ slice_cmp nat_cmp (key_by payload.now a.now) (key_by payload.now b.now)) }
+    ensures { IfSome result
+        (λ o. o ≡ slice_cmp nat_cmp (key_by payload.now a.now) (key_by payload.now b.now)) }
 {
     if a.front.1 < b.front.1 {
         let more = bytes_of(payload, &SliceIndexes(a.front.1, b.front.1));
@@ -181,7 +185,8 @@ impl KeyVersion {
     // Returns whether this is surely the version of `least`, under which no item sorts.
     #[inline(always)]
     fn is_least(&self) -> bool
-        ensures key { IsTrue result → (payload : List ℕ) → key_by payload self.now.key ≡ [] }
+        ensures key { IsTrue result → (payload : List ℕ)
+            → key_by payload self.now.key ≡ [] }
         ensures seqno { IsTrue result → self.now.seqno ≡ 18446744073709551615 }
     {
         self.key.front.1 == 0 && self.key.rest.1 == 0 && self.seqno == u64::MAX

@@ -1,5 +1,6 @@
 //! The check of a block's payload, stage by stage.
-ghost use Rattle.std.specs.Prelude.{◌≡◌, ◌↔◌, ℕ, ◌-◌, ◌≤◌, List, length, drop, IfSome, IsTrue};
+ghost use Rattle.std.specs.Prelude.{◌≡◌, ◌↔◌, ℕ, ◌-◌, ◌≤◌, List, length};
+ghost use Rattle.std.specs.Prelude.{drop, IfSome, IsTrue};
 ghost use Rattle.sst_block_core.specs.Found.{Finds, IsRange, range_of};
 ghost use Rattle.sst_block_core.specs.KeyRanges.{key_by, IsKeyRanges};
 
@@ -21,12 +22,15 @@ pub trait Checkable<Parsed: ParsedItem<Self>>: Decodable<Parsed> {
 
     /// Returns whether an item is what the check asks beyond its form.
     fn fits(item: &Parsed) -> bool
-        ensures { (payload : List ℕ) → IsTrue result ↔ fits (Parsed.item_of payload item.now) };
+        ensures { (payload : List ℕ) → IsTrue result
+            ↔ fits (Parsed.item_of payload item.now) };
 
     /// Returns the ranges of an item's key.
     fn key_ranges(item: &Parsed) -> KeyRanges
-        ensures inside { (payload : List ℕ) → Parsed.is_found payload item.now → IsKeyRanges payload result }
-        ensures key { (payload : List ℕ) → Self.kind.key (Parsed.item_of payload item.now) ≡ key_by payload result }
+        ensures inside { (payload : List ℕ) → Parsed.is_found payload item.now
+            → IsKeyRanges payload result }
+        ensures key { (payload : List ℕ)
+            → Self.kind.key (Parsed.item_of payload item.now) ≡ key_by payload result }
         ensures front { result.front.1 - result.front.0 ≡ Parsed.shared_len item.now };
 
     /// Decodes the item in truncated form at an offset, behind a head with this key; the second
@@ -35,6 +39,7 @@ pub trait Checkable<Parsed: ParsedItem<Self>>: Decodable<Parsed> {
     fn parse_exactly(payload: &[u8], offset: usize, base: &SliceIndexes) -> Option<(Parsed, usize)>
         requires inside { offset ≤ length payload.now }
         requires base { IsRange payload.now base.now }
-        ensures exact { Finds (Parsed.item_of payload.now) payload.now result (Self.kind.truncated_at (range_of payload.now base.now) (drop offset payload.now)) }
+        ensures exact { Finds (Parsed.item_of payload.now) payload.now result
+            (Self.kind.truncated_at (range_of payload.now base.now) (drop offset payload.now)) }
         ensures found { IfSome result (λ f. Parsed.is_found payload.now f.0) };
 }

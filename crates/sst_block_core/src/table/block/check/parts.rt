@@ -69,7 +69,8 @@ pub fn parts_of(block: &Block) -> Result<TrailerNumbers>
     ensures long { OnOk result (HasTrailer block.now.payload) }
     ensures parts { OnOk result (HasParts (trailer_in block.now.payload) block.now.payload) }
     ensures bytes { IsBytes block.now.payload }
-    ensures refused { IfErr result (IsPartsRefusal (trailer_in block.now.payload) block.now.payload) }
+    ensures refused { IfErr result
+        (IsPartsRefusal (trailer_in block.now.payload) block.now.payload) }
 {
     let payload = block.data().as_slice();
     note_bytes(payload);

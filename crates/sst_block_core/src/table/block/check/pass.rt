@@ -1,12 +1,16 @@
 //! One pass over the items of a body.
-ghost use Rattle.std.specs.Prelude.{◌≡◌, ◌↔◌, ℕ, ◌+◌, ◌-◌, ◌*◌, ◌/◌, ◌<◌, ◌≤◌, [], List, length, None, Some};
-ghost use Rattle.std.specs.Prelude.{IfSome, OnSome, IsTrue, MatchOption, slice_index, OnOk, IfErr, nat_le, if◌then◌else◌};
+ghost use Rattle.std.specs.Prelude.{◌≡◌, ◌↔◌, ℕ, ◌+◌, ◌-◌, ◌*◌, ◌/◌};
+ghost use Rattle.std.specs.Prelude.{◌<◌, ◌≤◌, [], List, length, None, Some};
+ghost use Rattle.std.specs.Prelude.{IfSome, OnSome, IsTrue, MatchOption, slice_index, OnOk, IfErr};
+ghost use Rattle.std.specs.Prelude.{nat_le, if◌then◌else◌};
 ghost use Rattle.std.specs.List.{AllByRecursion};
 ghost use Rattle.sst_block_core.specs.Body.{items_at};
 ghost use Rattle.sst_block_core.specs.Found.{IsRange, range_of};
 ghost use Rattle.sst_block_core.specs.KeyRanges.{IsKeyRanges, IsVersion};
-ghost use Rattle.sst_block_core.specs.Passes.{HasNoHead, IsAlong, GoesOn, IsPassed, IsFound, trailer_by, IsItemsRefusal};
-ghost use Rattle.sst_block_core.specs.Stages.{HasParts, HasForms, HasOrder, HasPointers, body_in, items_by};
+ghost use Rattle.sst_block_core.specs.Passes.{HasNoHead, IsAlong, GoesOn, IsPassed, IsFound};
+ghost use Rattle.sst_block_core.specs.Passes.{trailer_by, IsItemsRefusal};
+ghost use Rattle.sst_block_core.specs.Stages.{HasParts, HasForms, HasOrder, HasPointers, body_in};
+ghost use Rattle.sst_block_core.specs.Stages.{items_by};
 
 use crate::table::block::ParsedItem;
 use crate::table::block::binary_index::Reader;
@@ -20,7 +24,8 @@ use sst_base::{Error, Result, Steps};
 // Returns the key and the sequence number of an item.
 #[inline(always)]
 fn version_of<Item: Checkable<Parsed>, Parsed: ParsedItem<Item>>(item: &Parsed) -> KeyVersion
-    ensures { (payload : List ℕ) → Parsed.is_found payload item.now → IsVersion Item.kind payload (Parsed.item_of payload item.now) result }
+    ensures { (payload : List ℕ) → Parsed.is_found payload item.now
+        → IsVersion Item.kind payload (Parsed.item_of payload item.now) result }
 {
     KeyVersion {
         key: Item::key_ranges(item),
@@ -31,7 +36,8 @@ fn version_of<Item: Checkable<Parsed>, Parsed: ParsedItem<Item>>(item: &Parsed) 
 // The same of an item in full form, its key as the prefix that those behind it share.
 #[inline(always)]
 fn head_version_of<Item: Checkable<Parsed>, Parsed: ParsedItem<Item>>(item: &Parsed) -> KeyVersion
-    ensures version { (payload : List ℕ) → Parsed.is_found payload item.now → Parsed.shared_len item.now ≡ 0
+    ensures version { (payload : List ℕ) → Parsed.is_found payload item.now
+        → Parsed.shared_len item.now ≡ 0
         → IsVersion Item.kind payload (Parsed.item_of payload item.now) result }
     ensures front { (payload : List ℕ) → Parsed.shared_len item.now ≡ 0
         → Item.kind.key (Parsed.item_of payload item.now) ≡ range_of payload result.key.front }
@@ -90,11 +96,14 @@ fn pass_head<Item: Checkable<Parsed>, Parsed: ParsedItem<Item> + Drop, Sink: Key
     requires number { number < length pointers.now }
     requires inside { from.now.offset ≤ length body.now }
     requires last { IsKeyRanges body.now from.now.last.key }
-    ensures exact { (r : ℕ) (xs : List Item) (base : SliceIndexes) → 0 < r → length xs ≡ number * r
+    ensures exact { (r : ℕ) (xs : List Item) (base : SliceIndexes) → 0 < r
+        → length xs ≡ number * r
         → IsAlong Item.kind Item.fits r body.now pointers.now xs base from.now
-        → MatchOption result ((n : ℕ) → length xs < n → items_at Item.kind r 0 n [] body.now ≡ None)
+        → MatchOption result
+        ((n : ℕ) → length xs < n → items_at Item.kind r 0 n [] body.now ≡ None)
         (λ h. GoesOn Item.kind Item.fits r body.now pointers.now (length xs + 1) h.0 h.1
-        (λ ys. (b : ℕ) → Sink.has_taken r b body.now sink.old xs → Sink.has_taken r b body.now sink.new ys)) }
+        (λ ys. (b : ℕ) → Sink.has_taken r b body.now sink.old xs
+        → Sink.has_taken r b body.now sink.new ys)) }
     ensures base { IfSome result (λ h. IsRange body.now h.0) }
 {
     let mut steps = Steps::new();
@@ -126,11 +135,14 @@ fn pass_rest<Item: Checkable<Parsed>, Parsed: ParsedItem<Item> + Drop, Sink: Key
     requires base { IsRange body.now base.now }
     requires inside { from.now.offset ≤ length body.now }
     requires last { IsKeyRanges body.now from.now.last.key }
-    ensures exact { (r : ℕ) (pointers : List ℕ) (xs : List Item) → 0 < r → HasNoHead r (length xs) len
+    ensures exact { (r : ℕ) (pointers : List ℕ) (xs : List Item) → 0 < r
+        → HasNoHead r (length xs) len
         → IsAlong Item.kind Item.fits r body.now pointers xs base.now from.now
-        → MatchOption result ((n : ℕ) → length xs + len ≤ n → items_at Item.kind r 0 n [] body.now ≡ None)
+        → MatchOption result
+        ((n : ℕ) → length xs + len ≤ n → items_at Item.kind r 0 n [] body.now ≡ None)
         (λ to. GoesOn Item.kind Item.fits r body.now pointers (length xs + len) base.now to
-        (λ ys. (b : ℕ) → Sink.has_taken r b body.now sink.old xs → Sink.has_taken r b body.now sink.new ys)) }
+        (λ ys. (b : ℕ) → Sink.has_taken r b body.now sink.old xs
+        → Sink.has_taken r b body.now sink.new ys)) }
 {
     let mut at = *from;
     for step in 0..len {
@@ -178,11 +190,18 @@ pub(crate) fn pass_over<
     sink: &mut Sink,
 ) -> Option<Passed>
     requires some { 0 < restart_interval }
-    requires pointers { (place : ℕ) → place < count → place / restart_interval < length pointers.now }
-    ensures exact { MatchOption result ((xs : List Item) → items_at Item.kind restart_interval 0 count [] body.now ≡ Some (xs, []) → ⊥)
-        (λ p. IsPassed Item.kind Item.fits restart_interval count body.now pointers.now p.all_fit p.is_ordered p.is_indexed) }
-    ensures taken { OnSome result ((b : ℕ) (xs : List Item) → Sink.has_taken restart_interval b body.now sink.old []
-        → items_at Item.kind restart_interval 0 count [] body.now ≡ Some (xs, []) → Sink.has_taken restart_interval b body.now sink.new xs) }
+    requires pointers { (place : ℕ) → place < count
+        → place / restart_interval < length pointers.now }
+    ensures exact { MatchOption result
+        ((xs : List Item)
+        → items_at Item.kind restart_interval 0 count [] body.now ≡ Some (xs, []) → ⊥)
+        (λ p.
+        IsPassed Item.kind Item.fits restart_interval count body.now pointers.now p.all_fit
+        p.is_ordered p.is_indexed) }
+    ensures taken { OnSome result
+        ((b : ℕ) (xs : List Item) → Sink.has_taken restart_interval b body.now sink.old []
+        → items_at Item.kind restart_interval 0 count [] body.now ≡ Some (xs, [])
+        → Sink.has_taken restart_interval b body.now sink.new xs) }
 {
     let mut place = 0;
     let mut number = 0;
@@ -230,9 +249,14 @@ fn pass_payload<Item: Checkable<Parsed>, Parsed: ParsedItem<Item> + Drop, Sink: 
 ) -> Option<Passed>
     requires { HasParts (trailer_by t.now) payload.now }
     ensures exact { MatchOption result (HasForms Item.kind (trailer_by t.now) payload.now → ⊥)
-        (λ p. IsFound Item.kind Item.fits (trailer_by t.now) payload.now p.all_fit p.is_ordered p.is_indexed) }
-    ensures taken { OnSome result ((b : ℕ) → Sink.has_taken t.now.interval b (body_in (trailer_by t.now) payload.now) sink.old []
-        → Sink.has_taken t.now.interval b (body_in (trailer_by t.now) payload.now) sink.new (items_by Item.kind (trailer_by t.now) payload.now)) }
+        (λ p.
+        IsFound Item.kind Item.fits (trailer_by t.now) payload.now p.all_fit p.is_ordered
+        p.is_indexed) }
+    ensures taken { OnSome result
+        ((b : ℕ)
+        → Sink.has_taken t.now.interval b (body_in (trailer_by t.now) payload.now) sink.old []
+        → Sink.has_taken t.now.interval b (body_in (trailer_by t.now) payload.now) sink.new
+        (items_by Item.kind (trailer_by t.now) payload.now)) }
 {
     let (body, _) = payload.split_at(t.index_offset as usize - 1);
     let pointers = Reader::new(payload, t.index_offset, t.heads, t.width);
@@ -259,12 +283,17 @@ pub(crate) fn check_items_with<
 >(payload: &[u8], t: &TrailerNumbers, sink: &mut Sink) -> Result<()>
     requires { HasParts (trailer_by t.now) payload.now }
     ensures forms { OnOk result (HasForms Item.kind (trailer_by t.now) payload.now) }
-    ensures fit { OnOk result (AllByRecursion Item.fits (items_by Item.kind (trailer_by t.now) payload.now)) }
+    ensures fit { OnOk result
+        (AllByRecursion Item.fits (items_by Item.kind (trailer_by t.now) payload.now)) }
     ensures order { OnOk result (HasOrder Item.kind (trailer_by t.now) payload.now) }
     ensures pointers { OnOk result (HasPointers Item.kind (trailer_by t.now) payload.now) }
-    ensures taken { OnOk result ((b : ℕ) → Sink.has_taken t.now.interval b (body_in (trailer_by t.now) payload.now) sink.old []
-        → Sink.has_taken t.now.interval b (body_in (trailer_by t.now) payload.now) sink.new (items_by Item.kind (trailer_by t.now) payload.now)) }
-    ensures refused { IfErr result (IsItemsRefusal Item.kind Item.fits (trailer_by t.now) payload.now) }
+    ensures taken { OnOk result
+        ((b : ℕ)
+        → Sink.has_taken t.now.interval b (body_in (trailer_by t.now) payload.now) sink.old []
+        → Sink.has_taken t.now.interval b (body_in (trailer_by t.now) payload.now) sink.new
+        (items_by Item.kind (trailer_by t.now) payload.now)) }
+    ensures refused { IfErr result
+        (IsItemsRefusal Item.kind Item.fits (trailer_by t.now) payload.now) }
 {
     let Some(passed) = pass_payload::<Item, Parsed, Sink>(payload, t, sink) else {
         return Err(Error::BadEntry);
@@ -296,10 +325,12 @@ pub fn check_items<Item: Checkable<Parsed>, Parsed: ParsedItem<Item> + Drop>(
 ) -> Result<()>
     requires { HasParts (trailer_by t.now) payload.now }
     ensures forms { OnOk result (HasForms Item.kind (trailer_by t.now) payload.now) }
-    ensures fit { OnOk result (AllByRecursion Item.fits (items_by Item.kind (trailer_by t.now) payload.now)) }
+    ensures fit { OnOk result
+        (AllByRecursion Item.fits (items_by Item.kind (trailer_by t.now) payload.now)) }
     ensures order { OnOk result (HasOrder Item.kind (trailer_by t.now) payload.now) }
     ensures pointers { OnOk result (HasPointers Item.kind (trailer_by t.now) payload.now) }
-    ensures refused { IfErr result (IsItemsRefusal Item.kind Item.fits (trailer_by t.now) payload.now) }
+    ensures refused { IfErr result
+        (IsItemsRefusal Item.kind Item.fits (trailer_by t.now) payload.now) }
 {
     let mut tally = NoTally;
     check_items_with::<Item, Parsed, NoTally>(payload, t, &mut tally)

@@ -1,5 +1,6 @@
 //! What a pass does with the keys of its items: nothing, or the buckets of a hash index.
-ghost use Rattle.std.specs.Prelude.{◌≡◌, ◌↔◌, ℕ, ◌+◌, ◌%◌, ◌<◌, ◌++◌, [], ◌∷◌, List, length};
+ghost use Rattle.std.specs.Prelude.{◌≡◌, ◌↔◌, ℕ, ◌+◌, ◌%◌, ◌<◌, ◌++◌};
+ghost use Rattle.std.specs.Prelude.{[], ◌∷◌, List, length};
 ghost use Rattle.std.specs.Prelude.{IsTrue, IfOk, IfSome, IsOkUnless, replicate, true};
 ghost use Rattle.sst_block_core.specs.Found.{IsRange};
 ghost use Rattle.sst_block_core.specs.KeyRanges.{key_by, IsKeyRanges};
@@ -16,14 +17,17 @@ use std::marker::Model;
 
 /// Takes the key of each item of a pass, in turn.
 pub(crate) trait KeySink<Item: BlockItem> {
-    // in restart intervals of this length, and with this many buckets, it took the keys of these items of a body
+    // in restart intervals of this length, and with this many buckets, it took the keys of these
+    // items of a body
     ghost has_taken: { ℕ → ℕ → List ℕ → Self → List Item → Type 0 };
 
     /// Takes a key, whose item is the head of its restart interval or not.
     fn take(&mut self, body: &[u8], key: &KeyRanges, is_head: bool)
         requires { IsKeyRanges body.now key.now }
-        ensures { (r b : ℕ) (items : List Item) (x : Item) → 0 < r → has_taken r b body.now self.old items
-            → IsTrue is_head ↔ (length items % r ≡ 0) → Item.kind.key x ≡ key_by body.now key.now
+        ensures { (r b : ℕ) (items : List Item) (x : Item) → 0 < r
+            → has_taken r b body.now self.old items
+            → IsTrue is_head ↔ (length items % r ≡ 0)
+            → Item.kind.key x ≡ key_by body.now key.now
             → has_taken r b body.now self.new (items ++ x ∷ []) };
 }
 
@@ -68,7 +72,8 @@ impl<H: BlockHash> Model for Tally<H> {
 
     ghost Value = { TallyState };
 
-    ghost view = { λ t. record { table = t.buckets; heads = t.heads; has_memory = t.has_memory; front = t.front } };
+    ghost view = { λ t.
+        record { table = t.buckets; heads = t.heads; has_memory = t.has_memory; front = t.front } };
 
     ghost invariant = { λ t. (t.bucket_count ≡ length t.buckets) × (0 < length t.buckets) };
 }
@@ -112,7 +117,9 @@ fn hash_of<H: BlockHash>(
 ) -> Option<u64>
     requires ranges { IsKeyRanges body.now key.now }
     requires front { front.now.range ≡ key.now.front }
-    ensures { IfSome result (λ hash. IsHashed H.hash64 body.now front.now → hash ≡ H.hash64 (key_by body.now key.now)) }
+    ensures { IfSome result
+        (λ hash. IsHashed H.hash64 body.now front.now
+        → hash ≡ H.hash64 (key_by body.now key.now)) }
 {
     match H::hash64_behind(front.hash, bytes_of(body, &key.rest)) {
         Some(hash) => Some(hash),
@@ -157,7 +164,14 @@ impl<H: BlockHash> Tally<H> {
     /// `Error::Memory` if an allocation fails.
     pub(crate) fn new(alloc: Global, bucket_count: u32) -> Result<Tally<H>>
         requires { 0 < bucket_count }
-        ensures ok { IfOk result (λ t. t ≡ record { table = replicate bucket_count 254; heads = 0; has_memory = true; front = record { range = record { 0 = 0; 1 = 0 }; hash = H.hash64 [] } }) }
+        ensures ok { IfOk result
+            (λ t. t
+            ≡ record {
+              table = replicate bucket_count 254;
+              heads = 0;
+              has_memory = true;
+              front = record { range = record { 0 = 0; 1 = 0 }; hash = H.hash64 [] };
+            }) }
         ensures memory { IsOkUnless result Error.Memory }
     {
         Ok(Tally {
@@ -189,7 +203,8 @@ impl<H: BlockHash> Tally<H> {
 }
 
 impl<Item: BlockItem, H: BlockHash> KeySink<Item> for Tally<H> {
-    ghost has_taken = { λ r b body tally items. HasTallied Item.kind H.hash64 r b body tally items };
+    ghost has_taken = { λ r b body tally items.
+        HasTallied Item.kind H.hash64 r b body tally items };
 
     #[inline(always)]
     fn take(&mut self, body: &[u8], key: &KeyRanges, is_head: bool) {

@@ -1,5 +1,6 @@
 //! Whether a shared length is the greatest.
-ghost use Rattle.std.specs.Prelude.{◌≡◌, ◌++◌, ◌≤◌, length, nat_eq, nat_lt, take, IsTrue};
+ghost use Rattle.std.specs.Prelude.{◌≡◌, ◌++◌, ◌≤◌, length, nat_eq, nat_lt, take};
+ghost use Rattle.std.specs.Prelude.{IsTrue};
 ghost use Rattle.sst_base.specs.SharedPrefix.{shared_prefix_length};
 
 // Returns whether both begin with one byte.
@@ -19,7 +20,8 @@ fn begin_alike(a: &[u8], b: &[u8]) -> bool
 #[inline(always)]
 #[tactic(auto, using(crate::proofs::Greatest::greatest_far, crate::proofs::Greatest::greatest_alike, crate::proofs::Greatest::greatest_is))]
 pub fn is_greatest(base: &[u8], shared: u64, rest: &[u8]) -> bool
-    ensures greatest { result ≡ nat_eq (shared_prefix_length base.now (take shared base.now ++ rest.now)) shared }
+    ensures greatest { result
+        ≡ nat_eq (shared_prefix_length base.now (take shared base.now ++ rest.now)) shared }
     ensures inside { IsTrue result → shared ≤ length base.now }
 {
     if shared > base.len() as u64 {

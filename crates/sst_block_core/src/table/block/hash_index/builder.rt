@@ -1,7 +1,9 @@
 //! Collecting the hash index of a block.
-ghost use Rattle.std.specs.Prelude.{◌≡◌, ◌≢◌, ◌↔◌, ◌++◌, ◌≤◌, ◌<◌, ◌%◌, ◌^◌, length, slice_index, slice_set};
+ghost use Rattle.std.specs.Prelude.{◌≡◌, ◌≢◌, ◌↔◌, ◌++◌, ◌≤◌, ◌<◌};
+ghost use Rattle.std.specs.Prelude.{◌%◌, ◌^◌, length, slice_index, slice_set};
 ghost use Rattle.std.specs.Prelude.{replicate, IsTrue, IfOk, OnOk, IsOkUnless, []};
-ghost use Rattle.sst_block_core.specs.Buckets.{bucket_count, bucket_byte_with, begun, noted, AreFew};
+ghost use Rattle.sst_block_core.specs.Buckets.{bucket_count, bucket_byte_with, begun, noted};
+ghost use Rattle.sst_block_core.specs.Buckets.{AreFew};
 
 use super::{MARKER_CONFLICT, MARKER_FREE};
 use sst_base::{BlockHash, Error, HashRatio, Result};
@@ -63,7 +65,8 @@ impl<H: BlockHash> Builder<H> {
     /// `Error::Memory` if an allocation fails.
     pub fn with_hash_ratio(alloc: Global, item_count: usize, ratio: HashRatio) -> Result<Builder<H>>
         requires { 1 ≤ ratio.den }
-        ensures ok { IfOk result (λ b. b ≡ replicate (bucket_count ratio.num ratio.den item_count) 254) }
+        ensures ok { IfOk result
+            (λ b. b ≡ replicate (bucket_count ratio.num ratio.den item_count) 254) }
         ensures memory { IsOkUnless result Error.Memory }
     {
         Builder::with_bucket_count(alloc, bucket_count(item_count, ratio))
@@ -81,19 +84,25 @@ impl<H: BlockHash> Builder<H> {
     pub fn set(&mut self, key: &[u8], interval_number: u8) -> bool
         requires some { 0 < length self.old }
         requires number { interval_number ≤ 253 }
-        ensures bytes { self.new ≡ slice_set self.old (H.hash64 key.now % length self.old) (bucket_byte_with (slice_index self.old (H.hash64 key.now % length self.old)) interval_number) }
-        ensures free { IsTrue result ↔ (slice_index self.new (H.hash64 key.now % length self.old) ≢ 255) }
+        ensures bytes { self.new
+            ≡ slice_set self.old (H.hash64 key.now % length self.old)
+            (bucket_byte_with (slice_index self.old (H.hash64 key.now % length self.old))
+            interval_number) }
+        ensures free { IsTrue result
+            ↔ (slice_index self.new (H.hash64 key.now % length self.old) ≢ 255) }
     {
         let index = bucket_index::<H>(key, self.buckets.len());
         self.set_at(index, interval_number)
     }
 
-    /// Notes that a key of the bucket at this index stands in the restart interval with this number.
-    /// Returns `false` exactly if the bucket has a conflict now.
+    /// Notes that a key of the bucket at this index stands in the restart interval with this
+    /// number. Returns `false` exactly if the bucket has a conflict now.
     #[inline(always)]
     pub(crate) fn set_at(&mut self, index: usize, interval_number: u8) -> bool
         requires { index < length self.old }
-        ensures bytes { self.new ≡ slice_set self.old index (bucket_byte_with (slice_index self.old index) interval_number) }
+        ensures bytes { self.new
+            ≡ slice_set self.old index
+            (bucket_byte_with (slice_index self.old index) interval_number) }
         ensures free { IsTrue result ↔ (slice_index self.new index ≢ 255) }
     {
         let byte = byte_with(self.buckets[index], interval_number);
@@ -101,8 +110,9 @@ impl<H: BlockHash> Builder<H> {
         byte != MARKER_CONFLICT
     }
 
-    /// Begins the last of this many restart intervals, for the encoder: makes this many buckets, all
-    /// free, at the first interval, and drops them at the first for which no bucket has a number.
+    /// Begins the last of this many restart intervals, for the encoder: makes this many buckets,
+    /// all free, at the first interval, and drops them at the first for which no bucket has a
+    /// number.
     ///
     /// # Errors
     ///
@@ -185,8 +195,9 @@ fn byte_with(byte: u8, interval_number: u8) -> u8
     }
 }
 
-/// Returns the number of buckets that a ratio gives for a number of items: none for a numerator of 0,
-/// else the product rounded down, at least 1 and at most 2^32 - 1. The denominator is at least 1.
+/// Returns the number of buckets that a ratio gives for a number of items: none for a numerator of
+/// 0, else the product rounded down, at least 1 and at most 2^32 - 1. The denominator is at least
+/// 1.
 pub fn bucket_count(item_count: usize, ratio: HashRatio) -> u32
     requires { 1 ≤ ratio.den }
     ensures { result ≡ bucket_count ratio.num ratio.den item_count }

@@ -1,5 +1,5 @@
-//! The hash index of a block: a bucket of one byte for keys of equal hash, which names their restart
-//! interval.
+//! The hash index of a block: a bucket of one byte for keys of equal hash, which names their
+//! restart interval.
 pub mod builder;
 pub mod reader;
 

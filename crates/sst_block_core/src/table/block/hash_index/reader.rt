@@ -1,5 +1,6 @@
 //! Reading the hash index of a block.
-ghost use Rattle.std.specs.Prelude.{◌≡◌, ◌+◌, ◌==◌, ◌≤◌, ◌<◌, ◌%◌, take, drop, length, slice_index};
+ghost use Rattle.std.specs.Prelude.{◌≡◌, ◌+◌, ◌==◌, ◌≤◌, ◌<◌, ◌%◌};
+ghost use Rattle.std.specs.Prelude.{take, drop, length, slice_index};
 ghost use Rattle.std.specs.Prelude.{count_by};
 ghost use Rattle.sst_block_core.specs.Lookups.{lookup_in};
 

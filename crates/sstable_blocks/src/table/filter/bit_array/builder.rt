@@ -1,5 +1,6 @@
 //! Building a bit array.
-ghost use Rattle.std.specs.Prelude.{◌≡◌, ◌↔◌, ◌⊎◌, ◌-◌, ◌*◌, ◌^◌, ◌<◌, ℕ, length, replicate};
+ghost use Rattle.std.specs.Prelude.{◌≡◌, ◌↔◌, ◌⊎◌, ◌-◌, ◌*◌, ◌^◌};
+ghost use Rattle.std.specs.Prelude.{◌<◌, ℕ, length, replicate};
 ghost use Rattle.std.specs.Prelude.{bit_or, IfOk, IsOkUnless};
 ghost use Rattle.sstable_blocks.specs.Bits.{HasBit};
 

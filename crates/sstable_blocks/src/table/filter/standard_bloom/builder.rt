@@ -1,5 +1,6 @@
 //! Building a standard Bloom filter.
-ghost use Rattle.std.specs.Prelude.{◌≡◌, ◌↔◌, ◌⊎◌, ℕ, ◌*◌, ◌≤◌, List, [], ◌∷◌, ◌++◌, length, IfOk};
+ghost use Rattle.std.specs.Prelude.{◌≡◌, ◌↔◌, ◌⊎◌, ℕ, ◌*◌, ◌≤◌, List};
+ghost use Rattle.std.specs.Prelude.{[], ◌∷◌, ◌++◌, length, IfOk};
 ghost use Rattle.std.specs.Prelude.{IsOkUnless};
 ghost use Rattle.sstable_blocks.specs.Bits.{HasBit};
 ghost use Rattle.sstable_blocks.specs.Probes.{secondary_hash, IsProbe};
