@@ -27,12 +27,12 @@ pub trait BlockHash: Drop {
     /// Continues a hash: given the hash of any byte string, returns the hash of that string
     /// followed by these bytes, in 64 bits. Returns `None` if the hash function cannot be
     /// continued, as the provided body does.
-    fn hash64_behind(front: u64, rest: &[u8]) -> Option<u64>
+    fn hash64_behind(so_far: u64, rest: &[u8]) -> Option<u64>
         ensures { IfSome result
-            (λ hash. (bytes : List ℕ) → hash64 bytes ≡ front
+            (λ hash. (bytes : List ℕ) → hash64 bytes ≡ so_far
             → hash ≡ hash64 (bytes ++ rest.now)) }
     {
-        let _ = front;
+        let _ = so_far;
         let _ = rest;
         None
     }
@@ -201,8 +201,8 @@ impl BlockHash for Poly31 {
     }
 
     #[inline(always)]
-    fn hash64_behind(front: u64, rest: &[u8]) -> Option<u64> {
-        Some(continued64_by_eight(front, rest))
+    fn hash64_behind(so_far: u64, rest: &[u8]) -> Option<u64> {
+        Some(continued64_by_eight(so_far, rest))
     }
 
     fn hash128(bytes: &[u8]) -> u128 {
@@ -259,8 +259,8 @@ impl BlockHash for ByteSum {
         sum64_from(0, bytes)
     }
 
-    fn hash64_behind(front: u64, rest: &[u8]) -> Option<u64> {
-        Some(sum64_from(front, rest))
+    fn hash64_behind(so_far: u64, rest: &[u8]) -> Option<u64> {
+        Some(sum64_from(so_far, rest))
     }
 
     fn hash128(bytes: &[u8]) -> u128 {

@@ -63,111 +63,111 @@ range_split payload range n h =
     ap (λ k. take k (drop range.0 payload)) e ∙ take-add n (range.1 - (range.0 + n)) (drop range.0 payload)
     ∙ ap (λ ys. take n (drop range.0 payload) ++ take (range.1 - (range.0 + n)) ys) (drop-drop n range.0 payload)
 
-front_length : (payload : List ℕ) (range : SliceIndexes) (n : ℕ) → IsRange payload range → n ≤ range.1 - range.0 → length (take n (drop range.0 payload)) ≡ n
-front_length payload range n is h = length-take-le n (drop range.0 payload) (let d = length-drop range.0 payload in let i = is.inside in let o = is.order in omega arith)
+prefix_length : (payload : List ℕ) (range : SliceIndexes) (n : ℕ) → IsRange payload range → n ≤ range.1 - range.0 → length (take n (drop range.0 payload)) ≡ n
+prefix_length payload range n is h = length-take-le n (drop range.0 payload) (let d = length-drop range.0 payload in let i = is.inside in let o = is.order in omega arith)
 
-module _ (payload : List ℕ) (a b : KeyRanges) (left : IsRange payload a.front) (right : IsRange payload b.front) where
-  split : (n : ℕ) → n ≤ a.front.1 - a.front.0 → n ≤ b.front.1 - b.front.0
+module _ (payload : List ℕ) (a b : KeyRanges) (left : IsRange payload a.prefix) (right : IsRange payload b.prefix) where
+  split : (n : ℕ) → n ≤ a.prefix.1 - a.prefix.0 → n ≤ b.prefix.1 - b.prefix.0
       → slice_cmp nat_cmp (key_by payload a) (key_by payload b)
-      ≡ ordering_then (slice_cmp nat_cmp (take n (drop a.front.0 payload)) (take n (drop b.front.0 payload)))
-      (slice_cmp nat_cmp (range_of payload (behind a.front n) ++ range_of payload a.rest) (range_of payload (behind b.front n) ++ range_of payload b.rest))
+      ≡ ordering_then (slice_cmp nat_cmp (take n (drop a.prefix.0 payload)) (take n (drop b.prefix.0 payload)))
+      (slice_cmp nat_cmp (range_of payload (behind a.prefix n) ++ range_of payload a.rest) (range_of payload (behind b.prefix n) ++ range_of payload b.rest))
   split n h k =
-      let x = take n (drop a.front.0 payload) in
-      let y = take n (drop b.front.0 payload) in
-      let same : length x ≡ length y = front_length payload a.front n left h ∙ sym (front_length payload b.front n right k) in
-      let u : key_by payload a ≡ x ++ (range_of payload (behind a.front n) ++ range_of payload a.rest) =
-      ap (λ f. f ++ range_of payload a.rest) (range_split payload a.front n h) ∙ append_assoc x (range_of payload (behind a.front n)) (range_of payload a.rest) in
-      let v : key_by payload b ≡ y ++ (range_of payload (behind b.front n) ++ range_of payload b.rest) =
-      ap (λ f. f ++ range_of payload b.rest) (range_split payload b.front n k) ∙ append_assoc y (range_of payload (behind b.front n)) (range_of payload b.rest) in
+      let x = take n (drop a.prefix.0 payload) in
+      let y = take n (drop b.prefix.0 payload) in
+      let same : length x ≡ length y = prefix_length payload a.prefix n left h ∙ sym (prefix_length payload b.prefix n right k) in
+      let u : key_by payload a ≡ x ++ (range_of payload (behind a.prefix n) ++ range_of payload a.rest) =
+      ap (λ f. f ++ range_of payload a.rest) (range_split payload a.prefix n h) ∙ append_assoc x (range_of payload (behind a.prefix n)) (range_of payload a.rest) in
+      let v : key_by payload b ≡ y ++ (range_of payload (behind b.prefix n) ++ range_of payload b.rest) =
+      ap (λ f. f ++ range_of payload b.rest) (range_split payload b.prefix n k) ∙ append_assoc y (range_of payload (behind b.prefix n)) (range_of payload b.rest) in
       (λ i. slice_cmp nat_cmp (u i) (v i)) ∙ slice_cmp-append x y _ _ same
 
   none_behind : (range : SliceIndexes) (rest : List ℕ) → range_of payload (behind range (range.1 - range.0)) ++ rest ≡ rest
   none_behind range rest = let z : range.1 - (range.0 + (range.1 - range.0)) ≡ 0 = omega arith in ap (λ n. take n (drop (range.0 + (range.1 - range.0)) payload) ++ rest) z
 
-  -- the fronts decide
-  pub fronts_decide : (n : ℕ) (o : Ordering) → n ≤ a.front.1 - a.front.0 → n ≤ b.front.1 - b.front.0
-      → o ≡ slice_cmp nat_cmp (take n (drop a.front.0 payload)) (take n (drop b.front.0 payload)) → o ≢ Equal → o ≡ slice_cmp nat_cmp (key_by payload a) (key_by payload b)
-  fronts_decide n o h k e ne =
-      let w = slice_cmp nat_cmp (range_of payload (behind a.front n) ++ range_of payload a.rest) (range_of payload (behind b.front n) ++ range_of payload b.rest) in
+  -- the prefixes decide
+  pub prefixes_decide : (n : ℕ) (o : Ordering) → n ≤ a.prefix.1 - a.prefix.0 → n ≤ b.prefix.1 - b.prefix.0
+      → o ≡ slice_cmp nat_cmp (take n (drop a.prefix.0 payload)) (take n (drop b.prefix.0 payload)) → o ≢ Equal → o ≡ slice_cmp nat_cmp (key_by payload a) (key_by payload b)
+  prefixes_decide n o h k e ne =
+      let w = slice_cmp nat_cmp (range_of payload (behind a.prefix n) ++ range_of payload a.rest) (range_of payload (behind b.prefix n) ++ range_of payload b.rest) in
       decided o w ne ∙ ap (λ p. ordering_then p w) e ∙ sym (split n h k)
 
-  -- the fronts are one
-  pub same_fronts : (o w : Ordering) (ra rb : List ℕ) → a.front.1 - a.front.0 ≡ b.front.1 - b.front.0
-      → o ≡ slice_cmp nat_cmp (take (a.front.1 - a.front.0) (drop a.front.0 payload)) (take (a.front.1 - a.front.0) (drop b.front.0 payload)) → o ≡ Equal
+  -- the prefixes are one
+  pub same_prefixes : (o w : Ordering) (ra rb : List ℕ) → a.prefix.1 - a.prefix.0 ≡ b.prefix.1 - b.prefix.0
+      → o ≡ slice_cmp nat_cmp (take (a.prefix.1 - a.prefix.0) (drop a.prefix.0 payload)) (take (a.prefix.1 - a.prefix.0) (drop b.prefix.0 payload)) → o ≡ Equal
       → ra ≡ range_of payload a.rest → rb ≡ range_of payload b.rest → w ≡ slice_cmp nat_cmp ra rb → w ≡ slice_cmp nat_cmp (key_by payload a) (key_by payload b)
-  same_fronts o w ra rb h e tie p q cw =
-      let n = a.front.1 - a.front.0 in
+  same_prefixes o w ra rb h e tie p q cw =
+      let n = a.prefix.1 - a.prefix.0 in
       let s = split n (omega arith) (omega arith) in
-      let other : range_of payload (behind b.front n) ++ range_of payload b.rest ≡ range_of payload b.rest = ap (λ m. range_of payload (behind b.front m) ++ range_of payload b.rest) h ∙ none_behind b.front (range_of payload b.rest) in
+      let other : range_of payload (behind b.prefix n) ++ range_of payload b.rest ≡ range_of payload b.rest = ap (λ m. range_of payload (behind b.prefix m) ++ range_of payload b.rest) h ∙ none_behind b.prefix (range_of payload b.rest) in
       cw ∙ (λ i. slice_cmp nat_cmp (p i) (q i))
-      ∙ (λ i. slice_cmp nat_cmp (sym (none_behind a.front (range_of payload a.rest)) i) (sym other i))
-      ∙ ap (λ t. ordering_then t (slice_cmp nat_cmp (range_of payload (behind a.front n) ++ range_of payload a.rest) (range_of payload (behind b.front n) ++ range_of payload b.rest))) (sym tie ∙ e)
+      ∙ (λ i. slice_cmp nat_cmp (sym (none_behind a.prefix (range_of payload a.rest)) i) (sym other i))
+      ∙ ap (λ t. ordering_then t (slice_cmp nat_cmp (range_of payload (behind a.prefix n) ++ range_of payload a.rest) (range_of payload (behind b.prefix n) ++ range_of payload b.rest))) (sym tie ∙ e)
       ∙ sym s
 
-  -- the fronts are one range
-  pub one_front : (w : Ordering) (ra rb : List ℕ) → a.front.0 ≡ b.front.0 → a.front.1 ≡ b.front.1
+  -- the prefixes are one range
+  pub one_prefix : (w : Ordering) (ra rb : List ℕ) → a.prefix.0 ≡ b.prefix.0 → a.prefix.1 ≡ b.prefix.1
       → ra ≡ range_of payload a.rest → rb ≡ range_of payload b.rest → w ≡ slice_cmp nat_cmp ra rb → w ≡ slice_cmp nat_cmp (key_by payload a) (key_by payload b)
-  one_front w ra rb s e p q cw =
-      let n = a.front.1 - a.front.0 in
-      let same = (slice_cmp-equal (take n (drop a.front.0 payload)) (take n (drop b.front.0 payload))).1 (ap (λ k. take n (drop k payload)) s) in
-      same_fronts Equal w ra rb (omega (arith, s, e)) (sym same) refl p q cw
+  one_prefix w ra rb s e p q cw =
+      let n = a.prefix.1 - a.prefix.0 in
+      let same = (slice_cmp-equal (take n (drop a.prefix.0 payload)) (take n (drop b.prefix.0 payload))).1 (ap (λ k. take n (drop k payload)) s) in
+      same_prefixes Equal w ra rb (omega (arith, s, e)) (sym same) refl p q cw
 
-  -- the left front is the shorter, and the right one begins with it
-  pub left_shorter : (o w v : Ordering) (more ra rb : List ℕ) → a.front.1 - a.front.0 ≤ b.front.1 - b.front.0
-      → o ≡ slice_cmp nat_cmp (take (a.front.1 - a.front.0) (drop a.front.0 payload)) (take (a.front.1 - a.front.0) (drop b.front.0 payload)) → o ≡ Equal
-      → more ≡ range_of payload (behind b.front (a.front.1 - a.front.0)) → ra ≡ range_of payload a.rest → rb ≡ range_of payload b.rest
+  -- the left prefix is the shorter, and the right one begins with it
+  pub left_shorter : (o w v : Ordering) (more ra rb : List ℕ) → a.prefix.1 - a.prefix.0 ≤ b.prefix.1 - b.prefix.0
+      → o ≡ slice_cmp nat_cmp (take (a.prefix.1 - a.prefix.0) (drop a.prefix.0 payload)) (take (a.prefix.1 - a.prefix.0) (drop b.prefix.0 payload)) → o ≡ Equal
+      → more ≡ range_of payload (behind b.prefix (a.prefix.1 - a.prefix.0)) → ra ≡ range_of payload a.rest → rb ≡ range_of payload b.rest
       → w ≡ slice_cmp nat_cmp (more ++ rb) ra → v ≡ ordering_reverse w → v ≡ slice_cmp nat_cmp (key_by payload a) (key_by payload b)
   left_shorter o w v more ra rb h e tie m p q cw cv =
-      let n = a.front.1 - a.front.0 in
+      let n = a.prefix.1 - a.prefix.0 in
       let s = split n (omega arith) h in
       cv ∙ ap ordering_reverse (cw ∙ (λ i. slice_cmp nat_cmp (m i ++ q i) (p i)))
-      ∙ sym (nat_list_cmp_total.antisymm (range_of payload a.rest) (range_of payload (behind b.front n) ++ range_of payload b.rest))
-      ∙ ap (λ x. slice_cmp nat_cmp x (range_of payload (behind b.front n) ++ range_of payload b.rest)) (sym (none_behind a.front (range_of payload a.rest)))
-      ∙ ap (λ t. ordering_then t (slice_cmp nat_cmp (range_of payload (behind a.front n) ++ range_of payload a.rest) (range_of payload (behind b.front n) ++ range_of payload b.rest))) (sym tie ∙ e)
+      ∙ sym (nat_list_cmp_total.antisymm (range_of payload a.rest) (range_of payload (behind b.prefix n) ++ range_of payload b.rest))
+      ∙ ap (λ x. slice_cmp nat_cmp x (range_of payload (behind b.prefix n) ++ range_of payload b.rest)) (sym (none_behind a.prefix (range_of payload a.rest)))
+      ∙ ap (λ t. ordering_then t (slice_cmp nat_cmp (range_of payload (behind a.prefix n) ++ range_of payload a.rest) (range_of payload (behind b.prefix n) ++ range_of payload b.rest))) (sym tie ∙ e)
       ∙ sym s
 
-  -- the right front is the shorter
-  pub right_shorter : (o w : Ordering) (more ra rb : List ℕ) → b.front.1 - b.front.0 ≤ a.front.1 - a.front.0
-      → o ≡ slice_cmp nat_cmp (take (b.front.1 - b.front.0) (drop a.front.0 payload)) (take (b.front.1 - b.front.0) (drop b.front.0 payload)) → o ≡ Equal
-      → more ≡ range_of payload (behind a.front (b.front.1 - b.front.0)) → ra ≡ range_of payload a.rest → rb ≡ range_of payload b.rest
+  -- the right prefix is the shorter
+  pub right_shorter : (o w : Ordering) (more ra rb : List ℕ) → b.prefix.1 - b.prefix.0 ≤ a.prefix.1 - a.prefix.0
+      → o ≡ slice_cmp nat_cmp (take (b.prefix.1 - b.prefix.0) (drop a.prefix.0 payload)) (take (b.prefix.1 - b.prefix.0) (drop b.prefix.0 payload)) → o ≡ Equal
+      → more ≡ range_of payload (behind a.prefix (b.prefix.1 - b.prefix.0)) → ra ≡ range_of payload a.rest → rb ≡ range_of payload b.rest
       → w ≡ slice_cmp nat_cmp (more ++ ra) rb → w ≡ slice_cmp nat_cmp (key_by payload a) (key_by payload b)
   right_shorter o w more ra rb h e tie m p q cw =
-      let n = b.front.1 - b.front.0 in
+      let n = b.prefix.1 - b.prefix.0 in
       let s = split n h (omega arith) in
       cw ∙ (λ i. slice_cmp nat_cmp (m i ++ p i) (q i))
-      ∙ ap (slice_cmp nat_cmp (range_of payload (behind a.front n) ++ range_of payload a.rest)) (sym (none_behind b.front (range_of payload b.rest)))
-      ∙ ap (λ t. ordering_then t (slice_cmp nat_cmp (range_of payload (behind a.front n) ++ range_of payload a.rest) (range_of payload (behind b.front n) ++ range_of payload b.rest))) (sym tie ∙ e)
+      ∙ ap (slice_cmp nat_cmp (range_of payload (behind a.prefix n) ++ range_of payload a.rest)) (sym (none_behind b.prefix (range_of payload b.rest)))
+      ∙ ap (λ t. ordering_then t (slice_cmp nat_cmp (range_of payload (behind a.prefix n) ++ range_of payload a.rest) (range_of payload (behind b.prefix n) ++ range_of payload b.rest))) (sym tie ∙ e)
       ∙ sym s
 
-  -- the fronts begin at one place
-  front_at_one_place : (n : ℕ) → a.front.0 ≡ b.front.0 → Equal ≡ slice_cmp nat_cmp (take n (drop a.front.0 payload)) (take n (drop b.front.0 payload))
-  front_at_one_place n place = sym ((slice_cmp-equal (take n (drop a.front.0 payload)) (take n (drop b.front.0 payload))).1 (ap (λ k. take n (drop k payload)) place))
+  -- the prefixes begin at one place
+  prefix_at_one_place : (n : ℕ) → a.prefix.0 ≡ b.prefix.0 → Equal ≡ slice_cmp nat_cmp (take n (drop a.prefix.0 payload)) (take n (drop b.prefix.0 payload))
+  prefix_at_one_place n place = sym ((slice_cmp-equal (take n (drop a.prefix.0 payload)) (take n (drop b.prefix.0 payload))).1 (ap (λ k. take n (drop k payload)) place))
 
-  pub left_behind : (w v : Ordering) (more ra rb : List ℕ) → a.front.0 ≡ b.front.0 → a.front.1 < b.front.1
-      → more ≡ range_of payload (record { 0 = a.front.1; 1 = b.front.1 }) → ra ≡ range_of payload a.rest → rb ≡ range_of payload b.rest
+  pub left_behind : (w v : Ordering) (more ra rb : List ℕ) → a.prefix.0 ≡ b.prefix.0 → a.prefix.1 < b.prefix.1
+      → more ≡ range_of payload (record { 0 = a.prefix.1; 1 = b.prefix.1 }) → ra ≡ range_of payload a.rest → rb ≡ range_of payload b.rest
       → w ≡ slice_cmp nat_cmp (more ++ rb) ra → v ≡ ordering_reverse w → v ≡ slice_cmp nat_cmp (key_by payload a) (key_by payload b)
   left_behind w v more ra rb place shorter m p q cw cv =
-      let n = a.front.1 - a.front.0 in
+      let n = a.prefix.1 - a.prefix.0 in
       let o = left.order in
-      let at : a.front.1 ≡ b.front.0 + n = omega (arith, place, o) in
-      left_shorter Equal w v more ra rb (omega (arith, place, shorter)) (front_at_one_place n place) refl (m ∙ (λ i. range_of payload (record { 0 = at i; 1 = b.front.1 }))) p q cw cv
+      let at : a.prefix.1 ≡ b.prefix.0 + n = omega (arith, place, o) in
+      left_shorter Equal w v more ra rb (omega (arith, place, shorter)) (prefix_at_one_place n place) refl (m ∙ (λ i. range_of payload (record { 0 = at i; 1 = b.prefix.1 }))) p q cw cv
 
-  pub right_behind : (w : Ordering) (more ra rb : List ℕ) → a.front.0 ≡ b.front.0 → b.front.1 ≤ a.front.1
-      → more ≡ range_of payload (record { 0 = b.front.1; 1 = a.front.1 }) → ra ≡ range_of payload a.rest → rb ≡ range_of payload b.rest
+  pub right_behind : (w : Ordering) (more ra rb : List ℕ) → a.prefix.0 ≡ b.prefix.0 → b.prefix.1 ≤ a.prefix.1
+      → more ≡ range_of payload (record { 0 = b.prefix.1; 1 = a.prefix.1 }) → ra ≡ range_of payload a.rest → rb ≡ range_of payload b.rest
       → w ≡ slice_cmp nat_cmp (more ++ ra) rb → w ≡ slice_cmp nat_cmp (key_by payload a) (key_by payload b)
   right_behind w more ra rb place shorter m p q cw =
-      let n = b.front.1 - b.front.0 in
+      let n = b.prefix.1 - b.prefix.0 in
       let o = right.order in
-      let at : b.front.1 ≡ a.front.0 + n = omega (arith, place, o) in
-      right_shorter Equal w more ra rb (omega (arith, place, shorter)) (front_at_one_place n place) refl (m ∙ (λ i. range_of payload (record { 0 = at i; 1 = a.front.1 }))) p q cw
+      let at : b.prefix.1 ≡ a.prefix.0 + n = omega (arith, place, o) in
+      right_shorter Equal w more ra rb (omega (arith, place, shorter)) (prefix_at_one_place n place) refl (m ∙ (λ i. range_of payload (record { 0 = at i; 1 = a.prefix.1 }))) p q cw
 
--- where the front is empty, the key is what is behind it
-pub whole_key : (payload : List ℕ) (k : KeyRanges) → k.front.1 - k.front.0 ≡ 0 → key_by payload k ≡ range_of payload k.rest
-whole_key payload k e = ap (λ n. take n (drop k.front.0 payload) ++ range_of payload k.rest) e
+-- where the prefix is empty, the key is what is behind it
+pub whole_key : (payload : List ℕ) (k : KeyRanges) → k.prefix.1 - k.prefix.0 ≡ 0 → key_by payload k ≡ range_of payload k.rest
+whole_key payload k e = ap (λ n. take n (drop k.prefix.0 payload) ++ range_of payload k.rest) e
 
--- the same key as a front with nothing behind it
-pub front_alone : (payload : List ℕ) (k : KeyRanges) → k.front.1 - k.front.0 ≡ 0 → key_by payload k ≡ key_by payload (record { front = k.rest; rest = record { 0 = k.rest.1; 1 = k.rest.1 } })
-front_alone payload k e =
+-- the same key as a prefix with nothing behind it
+pub prefix_alone : (payload : List ℕ) (k : KeyRanges) → k.prefix.1 - k.prefix.0 ≡ 0 → key_by payload k ≡ key_by payload (record { prefix = k.rest; rest = record { 0 = k.rest.1; 1 = k.rest.1 } })
+prefix_alone payload k e =
     let none : k.rest.1 - k.rest.1 ≡ 0 = omega arith in
     whole_key payload k e ∙ sym (append-nil (range_of payload k.rest)) ∙ sym (ap (λ n. range_of payload k.rest ++ take n (drop k.rest.1 payload)) none)
 

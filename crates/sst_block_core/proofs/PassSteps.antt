@@ -123,7 +123,7 @@ keeps_by kind bytes l (Some y) v x t small seen is keeps =
 -- and its key lies in the bytes
 pub last_ranges : {X : Type 0} (kind : Kind X) (bytes : List ℕ) (last : KeyVersion) (y : Option X) → IsLast kind bytes last y → IsKeyRanges bytes last.key
 last_ranges kind bytes l None seen =
-    let least : IsKeyRanges bytes least_version.key = record { front = record { order = omega arith; inside = omega arith }; rest = record { order = omega arith; inside = omega arith } } in
+    let least : IsKeyRanges bytes least_version.key = record { prefix = record { order = omega arith; inside = omega arith }; rest = record { order = omega arith; inside = omega arith } } in
     subst (λ w. IsKeyRanges bytes w.key) (sym seen) least
 last_ranges kind bytes l (Some y) seen = seen.ranges
 

@@ -41,9 +41,9 @@ few_before r place pos few =
     ]
 
 module _ {X : Type 0} (kind : Kind X) (hash : List ℕ → ℕ) (r b : ℕ) (pos : 0 < r) where
-  pub tally_none : (body : List ℕ) (tally : TallyState) → tally ≡ record { table = replicate b 254; heads = 0; has_memory = true; front = record { range = record { 0 = 0; 1 = 0 }; hash = hash [] } } → HasTallied kind hash r b body tally []
+  pub tally_none : (body : List ℕ) (tally : TallyState) → tally ≡ record { table = replicate b 254; heads = 0; has_memory = true; prefix = record { range = record { 0 = 0; 1 = 0 }; hash = hash [] } } → HasTallied kind hash r b body tally []
   tally_none body tally e = λ memory. (
-    subst (IsHashed hash body) (sym (ap (λ t. t.front) e)) refl,
+    subst (IsHashed hash body) (sym (ap (λ t. t.prefix) e)) refl,
     λ few. record {
       count = ap (λ t. length t.table) e ∙ length-replicate b 254;
       heads_is = ap (λ t. t.heads) e ∙ sym (div-eq_of_lt (omega arith));
@@ -89,11 +89,11 @@ module _ {X : Type 0} (kind : Kind X) (hash : List ℕ → ℕ) (r b : ℕ) (pos
     -- a key more, where memory was there for it
     pub tally_push : (phase n h : ℕ) (key : List ℕ) → HasTallied kind hash r b body old xs → 0 < length old.table → phase ≡ length xs % r → (phase ≡ 0 → new.heads ≡ (old.heads + 1) % 256) → (0 < phase → new.heads ≡ old.heads)
         → (0 < new.heads → n + 1 ≡ new.heads) → kind.key x ≡ key → new.has_memory ≡ old.has_memory
-        → (IsHashed hash body new.front → h ≡ hash key) → (IsHashed hash body old.front → IsHashed hash body new.front)
+        → (IsHashed hash body new.prefix → h ≡ hash key) → (IsHashed hash body old.prefix → IsHashed hash body new.prefix)
         → new.table ≡ set old.table (h % length old.table) (bucket_byte_with (get_or old.table (h % length old.table) 0) n) → HasTallied kind hash r b body new (xs ++ x ∷ [])
-    tally_push phase n h key taken some in_row head rest number key_is memory_is hash_is front_is table_is = λ memory.
+    tally_push phase n h key taken some in_row head rest number key_is memory_is hash_is prefix_is table_is = λ memory.
         let before = taken (sym memory_is ∙ memory) in
-        let hashed = front_is before.0 in (
+        let hashed = prefix_is before.0 in (
           hashed,
           λ many.
               let few : head_count r (length xs + 1) ≤ 254 = subst (λ k. head_count r k ≤ 254) (length_push xs x) many in

@@ -7,13 +7,13 @@ use Rattle.sst_block_core.specs.Found.{range_of, IsRange}
 use Rattle.sst_block_core.specs.declared.table.block.check.keys.KeyRanges.{KeyRanges}
 use Rattle.sst_block_core.specs.declared.table.block.check.keys.KeyVersion.{KeyVersion}
 
--- the key: a front, and what is behind it
+-- the key: a prefix, and what is behind it
 abbrev pub key_by : List ℕ → KeyRanges → List ℕ
-key_by payload k = range_of payload k.front ++ range_of payload k.rest
+key_by payload k = range_of payload k.prefix ++ range_of payload k.rest
 
 -- both ranges lie in a payload
 pub record IsKeyRanges (payload : List ℕ) (k : KeyRanges) : Type 0 where
-  pub front : IsRange payload k.front
+  pub prefix : IsRange payload k.prefix
   pub rest : IsRange payload k.rest
 
 -- the order of versions: by key rising, then by sequence number falling
@@ -28,7 +28,7 @@ pub record IsVersion {X : Type 0} (kind : Kind X) (payload : List ℕ) (x : X) (
 
 -- the empty key with the greatest sequence number: no item sorts before it
 abbrev pub least_version : KeyVersion
-least_version = record { key = record { front = record { 0 = 0; 1 = 0 }; rest = record { 0 = 0; 1 = 0 } }; seqno = 18446744073709551615 }
+least_version = record { key = record { prefix = record { 0 = 0; 1 = 0 }; rest = record { 0 = 0; 1 = 0 } }; seqno = 18446744073709551615 }
 
 -- those of the last item; the least where there is none
 abbrev pub IsLast : {X : Type 0} → Kind X → List ℕ → KeyVersion → Option X → Type 0

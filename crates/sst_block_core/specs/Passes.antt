@@ -13,7 +13,7 @@ use Rattle.sst_block_core.specs.KeyRanges.{IsLast}
 use Rattle.sst_base.specs.declared.table.util.SliceIndexes.{SliceIndexes}
 use Rattle.sst_block_core.specs.Stages.{items_by, HasTrailer, HasParts, HasForms, HasOrder, HasPointers, HasBuckets}
 use Rattle.sst_block_core.specs.declared.table.block.check.pass.Standing.{Standing}
-use Rattle.sst_block_core.specs.declared.table.block.check.tally.Front.{Front}
+use Rattle.sst_block_core.specs.declared.table.block.check.tally.HashedPrefix.{HashedPrefix}
 use Rattle.sst_block_core.specs.declared.table.block.trailer.TrailerNumbers.{TrailerNumbers}
 
 -- the numbers of a trailer, as code has them
@@ -87,16 +87,16 @@ pub record IsFound {X : Type 0} (kind : Kind X) (fits : X → Type 0) (t : Trail
   pub indexed : IsTrue is_indexed ↔ HasPointers kind t p
 
 -- a tally: the bytes of its buckets, the number of heads modulo 2 ^ 8, whether all memory that it asked for was there, and the
--- front of the last key
+-- prefix of the last key
 pub record TallyState : Type 0 where
   pub table : List ℕ
   pub heads : ℕ
   pub has_memory : Bool
-  pub front : Front
+  pub prefix : HashedPrefix
 
--- a front has the hash of its range of a body
-abbrev pub IsHashed : (List ℕ → ℕ) → List ℕ → Front → Type 0
-IsHashed hash body front = hash (range_of body front.range) ≡ front.hash
+-- a hashed prefix has the hash of its range of a body
+abbrev pub IsHashed : (List ℕ → ℕ) → List ℕ → HashedPrefix → Type 0
+IsHashed hash body prefix = hash (range_of body prefix.range) ≡ prefix.hash
 
 -- the bytes of b buckets are those of these items, which have so many heads
 pub record IsTallied {X : Type 0} (kind : Kind X) (hash : List ℕ → ℕ) (r b : ℕ) (table : List ℕ) (heads : ℕ) (items : List X) : Type 0 where
@@ -106,7 +106,7 @@ pub record IsTallied {X : Type 0} (kind : Kind X) (hash : List ℕ → ℕ) (r b
 
 -- a tally took the keys of these items of a body: where memory was there and they have at most 254 heads, it has their buckets
 abbrev pub HasTallied : {X : Type 0} → Kind X → (List ℕ → ℕ) → ℕ → ℕ → List ℕ → TallyState → List X → Type 0
-HasTallied kind hash r b body tally items = tally.has_memory ≡ true → IsHashed hash body tally.front
+HasTallied kind hash r b body tally items = tally.has_memory ≡ true → IsHashed hash body tally.prefix
     × (head_count r (length items) ≤ 254 → IsTallied kind hash r b tally.table tally.heads items)
 
 -- why the numbers of a trailer are refused: which of the first two stages fails first

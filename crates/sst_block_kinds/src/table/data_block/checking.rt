@@ -31,12 +31,12 @@ impl Checkable<DataBlockParsedItem> for InternalValue {
 
     #[inline(always)]
     fn key_ranges(item: &DataBlockParsedItem) -> KeyRanges {
-        let front = match &item.prefix {
+        let prefix = match &item.prefix {
             Some(prefix) => *prefix,
             None => SliceIndexes(0, 0),
         };
         KeyRanges {
-            front,
+            prefix,
             rest: item.key,
         }
     }

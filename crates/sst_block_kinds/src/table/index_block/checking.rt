@@ -32,12 +32,12 @@ impl Checkable<IndexBlockParsedItem> for KeyedBlockHandle {
 
     #[inline(always)]
     fn key_ranges(item: &IndexBlockParsedItem) -> KeyRanges {
-        let front = match &item.prefix {
+        let prefix = match &item.prefix {
             Some(prefix) => *prefix,
             None => SliceIndexes(0, 0),
         };
         KeyRanges {
-            front,
+            prefix,
             rest: item.end_key,
         }
     }

@@ -15,7 +15,7 @@ use std::cmp::Ordering;
 /// full form, and its own bytes behind them.
 #[derive(Clone, Copy)]
 pub struct KeyRanges {
-    pub front: SliceIndexes,
+    pub prefix: SliceIndexes,
     pub rest: SliceIndexes,
 }
 
@@ -72,7 +72,7 @@ fn compare_rests(a: &[u8], b: &[u8]) -> Ordering
 // Compares two byte strings of one length at these offsets. At one offset they are the same and are
 // not looked at.
 #[inline(always)]
-fn compare_fronts(payload: &[u8], a: usize, b: usize, len: usize) -> Ordering
+fn compare_prefixes(payload: &[u8], a: usize, b: usize, len: usize) -> Ordering
     requires left { a + len ≤ length payload.now }
     requires right { b + len ≤ length payload.now }
     ensures { result
@@ -91,7 +91,7 @@ fn compare_fronts(payload: &[u8], a: usize, b: usize, len: usize) -> Ordering
     compare_bytes(left, right)
 }
 
-// The same as `compare_keys`, whatever the fronts are. Out of line.
+// The same as `compare_keys`, whatever the prefixes are. Out of line.
 #[cold]
 #[inline(never)]
 fn compare_apart(payload: &[u8], a: KeyRanges, b: KeyRanges) -> Ordering
@@ -99,28 +99,28 @@ fn compare_apart(payload: &[u8], a: KeyRanges, b: KeyRanges) -> Ordering
     requires right { IsKeyRanges payload.now b }
     ensures { result ≡ slice_cmp nat_cmp (key_by payload.now a) (key_by payload.now b) }
 {
-    let left = a.front.1 - a.front.0;
-    let right = b.front.1 - b.front.0;
+    let left = a.prefix.1 - a.prefix.0;
+    let right = b.prefix.1 - b.prefix.0;
     let left_rest = bytes_of(payload, &a.rest);
     let right_rest = bytes_of(payload, &b.rest);
     if left == right {
-        return match compare_fronts(payload, a.front.0, b.front.0, left) {
+        return match compare_prefixes(payload, a.prefix.0, b.prefix.0, left) {
             Ordering::Equal => compare_bytes(left_rest, right_rest),
             decided => decided,
         };
     }
     if left < right {
-        match compare_fronts(payload, a.front.0, b.front.0, left) {
+        match compare_prefixes(payload, a.prefix.0, b.prefix.0, left) {
             Ordering::Equal => {
-                let more = bytes_of(payload, &SliceIndexes(b.front.0 + left, b.front.1));
+                let more = bytes_of(payload, &SliceIndexes(b.prefix.0 + left, b.prefix.1));
                 compare_prefixed_slice(more, right_rest, left_rest).reverse()
             }
             decided => decided,
         }
     } else {
-        match compare_fronts(payload, a.front.0, b.front.0, right) {
+        match compare_prefixes(payload, a.prefix.0, b.prefix.0, right) {
             Ordering::Equal => {
-                let more = bytes_of(payload, &SliceIndexes(a.front.0 + right, a.front.1));
+                let more = bytes_of(payload, &SliceIndexes(a.prefix.0 + right, a.prefix.1));
                 compare_prefixed_slice(more, left_rest, right_rest)
             }
             decided => decided,
@@ -128,22 +128,22 @@ fn compare_apart(payload: &[u8], a: KeyRanges, b: KeyRanges) -> Ordering
     }
 }
 
-// Compares two keys whose fronts begin at one place, by the bytes behind the shorter front. Returns
+// Compares two keys whose prefixes begin at one place, by the bytes behind the shorter prefix. Returns
 // `None` where these do not decide.
 #[inline(always)]
 fn compare_behind(payload: &[u8], a: &KeyRanges, b: &KeyRanges) -> Option<Ordering>
     requires left { IsKeyRanges payload.now a.now }
     requires right { IsKeyRanges payload.now b.now }
-    requires place { a.now.front.0 ≡ b.now.front.0 }
+    requires place { a.now.prefix.0 ≡ b.now.prefix.0 }
     ensures { IfSome result
         (λ o. o ≡ slice_cmp nat_cmp (key_by payload.now a.now) (key_by payload.now b.now)) }
 {
-    if a.front.1 < b.front.1 {
-        let more = bytes_of(payload, &SliceIndexes(a.front.1, b.front.1));
+    if a.prefix.1 < b.prefix.1 {
+        let more = bytes_of(payload, &SliceIndexes(a.prefix.1, b.prefix.1));
         let decided = compare_first(more, bytes_of(payload, &a.rest))?;
         Some(decided.reverse())
     } else {
-        let more = bytes_of(payload, &SliceIndexes(b.front.1, a.front.1));
+        let more = bytes_of(payload, &SliceIndexes(b.prefix.1, a.prefix.1));
         compare_first(more, bytes_of(payload, &b.rest))
     }
 }
@@ -156,8 +156,8 @@ pub(crate) fn compare_keys(payload: &[u8], a: &KeyRanges, b: &KeyRanges) -> Orde
     requires right { IsKeyRanges payload.now b.now }
     ensures { result ≡ slice_cmp nat_cmp (key_by payload.now a.now) (key_by payload.now b.now) }
 {
-    if a.front.0 == b.front.0 {
-        if a.front.1 == b.front.1 {
+    if a.prefix.0 == b.prefix.0 {
+        if a.prefix.1 == b.prefix.1 {
             return compare_rests(bytes_of(payload, &a.rest), bytes_of(payload, &b.rest));
         }
         if let Some(decided) = compare_behind(payload, a, b) {
@@ -175,7 +175,7 @@ impl KeyVersion {
     {
         KeyVersion {
             key: KeyRanges {
-                front: SliceIndexes(0, 0),
+                prefix: SliceIndexes(0, 0),
                 rest: SliceIndexes(0, 0),
             },
             seqno: u64::MAX,
@@ -189,7 +189,7 @@ impl KeyVersion {
             → key_by payload self.now.key ≡ [] }
         ensures seqno { IsTrue result → self.now.seqno ≡ 18446744073709551615 }
     {
-        self.key.front.1 == 0 && self.key.rest.1 == 0 && self.seqno == u64::MAX
+        self.key.prefix.1 == 0 && self.key.rest.1 == 0 && self.seqno == u64::MAX
     }
 }
 

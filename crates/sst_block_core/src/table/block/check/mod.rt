@@ -31,7 +31,7 @@ pub trait Checkable<Parsed: ParsedItem<Self>>: Decodable<Parsed> {
             → IsKeyRanges payload result }
         ensures key { (payload : List ℕ)
             → Self.kind.key (Parsed.item_of payload item.now) ≡ key_by payload result }
-        ensures front { result.front.1 - result.front.0 ≡ Parsed.shared_len item.now };
+        ensures prefix { result.prefix.1 - result.prefix.0 ≡ Parsed.shared_len item.now };
 
     /// Decodes the item in truncated form at an offset, behind a head with this key; the second
     /// answer is where the form ends. Returns `None` wherever no truncated form stands, also

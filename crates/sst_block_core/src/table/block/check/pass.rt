@@ -39,13 +39,13 @@ fn head_version_of<Item: Checkable<Parsed>, Parsed: ParsedItem<Item>>(item: &Par
     ensures version { (payload : List ℕ) → Parsed.is_found payload item.now
         → Parsed.shared_len item.now ≡ 0
         → IsVersion Item.kind payload (Parsed.item_of payload item.now) result }
-    ensures front { (payload : List ℕ) → Parsed.shared_len item.now ≡ 0
-        → Item.kind.key (Parsed.item_of payload item.now) ≡ range_of payload result.key.front }
+    ensures prefix { (payload : List ℕ) → Parsed.shared_len item.now ≡ 0
+        → Item.kind.key (Parsed.item_of payload item.now) ≡ range_of payload result.key.prefix }
 {
     let key = Item::key_ranges(item).rest;
     KeyVersion {
         key: KeyRanges {
-            front: key,
+            prefix: key,
             rest: SliceIndexes(key.1, key.1),
         },
         seqno: item.seqno(),
@@ -120,7 +120,7 @@ fn pass_head<Item: Checkable<Parsed>, Parsed: ParsedItem<Item> + Drop, Sink: Key
         last: version,
         passed,
     };
-    Some((version.key.front, to))
+    Some((version.key.prefix, to))
 }
 
 // Passes over this many truncated forms behind a head, whose key has this range. Returns `None`

@@ -48,18 +48,18 @@ impl<Item: BlockItem> KeySink<Item> for NoTally {
 
 /// The shared prefix of a key: its range of a body, and its hash.
 #[derive(Clone, Copy)]
-pub(crate) struct Front {
+pub(crate) struct HashedPrefix {
     range: SliceIndexes,
     hash: u64,
 }
 
 /// The buckets of the keys that it took. Clauses see their bytes, the number of heads modulo 2^8,
-/// whether all memory that it asked for was there, and the front of the last key.
+/// whether all memory that it asked for was there, and the prefix of the last key.
 #[derive(Drop)]
 pub(crate) struct Tally<H: BlockHash> {
     buckets: Builder<H>,
     bucket_count: Divisor,
-    front: Front,
+    prefix: HashedPrefix,
     // Room for a joined key, where the hash function cannot be continued.
     joined: Vec<u8>,
     heads: u8,
@@ -73,14 +73,14 @@ impl<H: BlockHash> Model for Tally<H> {
     ghost Value = { TallyState };
 
     ghost view = { λ t.
-        record { table = t.buckets; heads = t.heads; has_memory = t.has_memory; front = t.front } };
+        record { table = t.buckets; heads = t.heads; has_memory = t.has_memory; prefix = t.prefix } };
 
     ghost invariant = { λ t. (t.bucket_count ≡ length t.buckets) × (0 < length t.buckets) };
 }
 
 // The shared prefix of a key with its hash, given that of the key before: mostly they are the same.
 #[inline(always)]
-fn front_at<H: BlockHash>(last: &Front, body: &[u8], range: &SliceIndexes) -> Front
+fn prefix_at<H: BlockHash>(last: &HashedPrefix, body: &[u8], range: &SliceIndexes) -> HashedPrefix
     requires { IsRange body.now range.now }
     ensures range { result.range ≡ range.now }
     ensures hash { IsHashed H.hash64 body.now last.now → IsHashed H.hash64 body.now result }
@@ -88,7 +88,7 @@ fn front_at<H: BlockHash>(last: &Front, body: &[u8], range: &SliceIndexes) -> Fr
     if last.range.0 == range.0 && last.range.1 == range.1 {
         return *last;
     }
-    Front {
+    HashedPrefix {
         range: *range,
         hash: H::hash64(bytes_of(body, range)),
     }
@@ -102,7 +102,7 @@ fn joined_hash<H: BlockHash>(joined: &mut Vec<u8>, body: &[u8], key: &KeyRanges)
     ensures { IfSome result (λ hash. hash ≡ H.hash64 (key_by body.now key.now)) }
 {
     joined.clear();
-    joined.extend_from_slice(bytes_of(body, &key.front)).ok()?;
+    joined.extend_from_slice(bytes_of(body, &key.prefix)).ok()?;
     joined.extend_from_slice(bytes_of(body, &key.rest)).ok()?;
     Some(H::hash64(joined.as_slice()))
 }
@@ -111,17 +111,17 @@ fn joined_hash<H: BlockHash>(joined: &mut Vec<u8>, body: &[u8], key: &KeyRanges)
 #[inline(always)]
 fn hash_of<H: BlockHash>(
     joined: &mut Vec<u8>,
-    front: &Front,
+    prefix: &HashedPrefix,
     body: &[u8],
     key: &KeyRanges,
 ) -> Option<u64>
     requires ranges { IsKeyRanges body.now key.now }
-    requires front { front.now.range ≡ key.now.front }
+    requires prefix { prefix.now.range ≡ key.now.prefix }
     ensures { IfSome result
-        (λ hash. IsHashed H.hash64 body.now front.now
+        (λ hash. IsHashed H.hash64 body.now prefix.now
         → hash ≡ H.hash64 (key_by body.now key.now)) }
 {
-    match H::hash64_behind(front.hash, bytes_of(body, &key.rest)) {
+    match H::hash64_behind(prefix.hash, bytes_of(body, &key.rest)) {
         Some(hash) => Some(hash),
         None => joined_hash::<H>(joined, body, key),
     }
@@ -170,14 +170,14 @@ impl<H: BlockHash> Tally<H> {
               table = replicate bucket_count 254;
               heads = 0;
               has_memory = true;
-              front = record { range = record { 0 = 0; 1 = 0 }; hash = H.hash64 [] };
+              prefix = record { range = record { 0 = 0; 1 = 0 }; hash = H.hash64 [] };
             }) }
         ensures memory { IsOkUnless result Error.Memory }
     {
         Ok(Tally {
             buckets: Builder::with_bucket_count(alloc, bucket_count)?,
             bucket_count: Divisor::new(u64::from(bucket_count)),
-            front: Front {
+            prefix: HashedPrefix {
                 range: SliceIndexes(0, 0),
                 hash: H::hash64(&[]),
             },
@@ -209,8 +209,8 @@ impl<Item: BlockItem, H: BlockHash> KeySink<Item> for Tally<H> {
     #[inline(always)]
     fn take(&mut self, body: &[u8], key: &KeyRanges, is_head: bool) {
         self.heads = heads_with(self.heads, is_head);
-        self.front = front_at::<H>(&self.front, body, &key.front);
-        let Some(hash) = hash_of::<H>(&mut self.joined, &self.front, body, key) else {
+        self.prefix = prefix_at::<H>(&self.prefix, body, &key.prefix);
+        let Some(hash) = hash_of::<H>(&mut self.joined, &self.prefix, body, key) else {
             self.has_memory = false;
             return;
         };

@@ -28,15 +28,15 @@ returns-clause-exact g c = λ r xs base pos place k.
     let head = c.head_version_of-version in
     let version = head.ensures.version body e.found e.shared in
     let p = head_place r c.args.number (length xs) pos place in
-    let read = read_head kind r body xs (length xs) c.args.from.now.offset _ k.read item c.in_ok-item.offset (range_of body head.result.key.front) p.0 e.exact.0 e.exact.1
-    (sym (head.ensures.front body e.shared)) in
+    let read = read_head kind r body xs (length xs) c.args.from.now.offset _ k.read item c.in_ok-item.offset (range_of body head.result.key.prefix) p.0 e.exact.0 e.exact.1
+    (sym (head.ensures.prefix body e.shared)) in
     let here = c.is_pointed.ensures in
     record {
       items = _;
       count = length_push xs item;
       along = along_head kind g.Item.BlockItem.valid g.Item.Checkable.fits g.Item.BlockItem.is_kind r pos body c.args.pointers.now (λ i. let f = c.type_inv.body i in omega arith)
           xs base c.args.from.now k item head.result c.in_ok-item.offset c.fits.result c.head_keeps_order.result (let f = head.type_inv in omega arith) version
-          (c.fits.ensures body) c.head_keeps_order.ensures head.result.key.front c.is_pointed.result read
+          (c.fits.ensures body) c.head_keeps_order.ensures head.result.key.prefix c.is_pointed.result read
           ((λ h. λ z. ap (λ n. get_or c.args.pointers.now n 0) p.1 ∙ here.0 h), (λ h. here.1 (ap (λ n. get_or c.args.pointers.now n 0) (sym p.1) ∙ h p.0)));
       besides = λ b taken. c.take.ensures r b xs item pos taken ((λ h. p.0), (λ h. refl)) version.key;
     }
