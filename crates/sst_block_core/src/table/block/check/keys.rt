@@ -128,8 +128,8 @@ fn compare_apart(payload: &[u8], a: KeyRanges, b: KeyRanges) -> Ordering
     }
 }
 
-// Compares two keys whose prefixes begin at one place, by the bytes behind the shorter prefix. Returns
-// `None` where these do not decide.
+// Compares two keys whose prefixes begin at one place, by the bytes behind the shorter prefix.
+// Returns `None` where these do not decide.
 #[inline(always)]
 fn compare_behind(payload: &[u8], a: &KeyRanges, b: &KeyRanges) -> Option<Ordering>
     requires left { IsKeyRanges payload.now a.now }
