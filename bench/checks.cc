@@ -34,9 +34,8 @@ void Must(bool holds, const Input& input) {
 }
 
 // The numerator of the hash ratio of a data block; the denominator is 100.
-Input DataInput(BlockShape shape, uint32_t buckets) {
-  const Entries entries(shape.Count(), shape.key_len, shape.value_len);
-  Input input{shape.Name(), entries.list.size(), entries.Bytes(), ""};
+Input DataInput(const std::string& name, const Entries& entries, uint32_t buckets) {
+  Input input{name, entries.list.size(), entries.Bytes(), ""};
   std::string out(4 * input.bytes.size() + 1000, '\0');
   uint8_t* to = reinterpret_cast<uint8_t*>(out.data());
   uint64_t len = sst_encode(At(input.bytes), input.bytes.size(), input.count, kInterval, buckets,
@@ -94,48 +93,65 @@ void PrintHead(const char* title) {
   printf("\n| %s | Items | Check, ns | Walk, ns | Ratio |\n|---|---|---|---|---|\n", title);
 }
 
-void PrintData(uint32_t buckets, const char* title) {
+void PrintData(const Input& input, uint32_t buckets, Worst* worst) {
+  const Repeated check = [&](uint64_t times) {
+    return sst_check(At(input.payload), input.payload.size(), times);
+  };
+  const Repeated walk = [&](uint64_t times) {
+    return sst_walk(At(input.bytes), input.bytes.size(), input.count, kInterval, buckets, 100,
+                    times);
+  };
+  Print(input, check, walk, worst);
+}
+
+void PrintIndex(const Input& input, Worst* worst) {
+  const Repeated check = [&](uint64_t times) {
+    return sst_index_check(At(input.payload), input.payload.size(), times);
+  };
+  const Repeated walk = [&](uint64_t times) {
+    return sst_index_walk(At(input.bytes), input.bytes.size(), input.count, kInterval, times);
+  };
+  Print(input, check, walk, worst);
+}
+
+void PrintDataBlocks(uint32_t buckets, const char* title) {
   PrintHead(title);
   Worst worst;
   for (const BlockShape& shape : AllBlocks()) {
     if (shape.interval != kInterval) continue;
-    const Input input = DataInput(shape, buckets);
-    const Repeated check = [&](uint64_t times) {
-      return sst_check(At(input.payload), input.payload.size(), times);
-    };
-    const Repeated walk = [&](uint64_t times) {
-      return sst_walk(At(input.bytes), input.bytes.size(), input.count, kInterval, buckets, 100,
-                      times);
-    };
-    Print(input, check, walk, &worst);
+    const Entries entries(shape.Count(), shape.key_len, shape.value_len);
+    PrintData(DataInput(shape.Name(), entries, buckets), buckets, &worst);
   }
   printf("\n%s: %.2f to %.2f\n", title, worst.least, worst.most);
 }
 
-void PrintIndex() {
-  PrintHead("Index blocks");
+// Blocks of so few entries that what a check costs once shows.
+void PrintSmallDataBlocks(uint32_t buckets, const char* title) {
+  PrintHead(title);
+  for (size_t count : {1, 2, 5, 10, 16, 20, 30}) {
+    Worst worst;
+    PrintData(DataInput("k16.v32", Entries(count, 16, 32), buckets), buckets, &worst);
+  }
+}
+
+void PrintIndexBlocks(const char* title, const std::vector<size_t>& counts) {
+  PrintHead(title);
   Worst worst;
   for (size_t key_len : {16, 32}) {
-    for (size_t count : {64, 256, 1000, 4096}) {
-      const Input input = IndexInput(count, key_len);
-      const Repeated check = [&](uint64_t times) {
-        return sst_index_check(At(input.payload), input.payload.size(), times);
-      };
-      const Repeated walk = [&](uint64_t times) {
-        return sst_index_walk(At(input.bytes), input.bytes.size(), input.count, kInterval, times);
-      };
-      Print(input, check, walk, &worst);
-    }
+    for (size_t count : counts) PrintIndex(IndexInput(count, key_len), &worst);
   }
-  printf("\nIndex blocks: %.2f to %.2f\n", worst.least, worst.most);
+  printf("\n%s: %.2f to %.2f\n", title, worst.least, worst.most);
 }
 
 }  // namespace
 
 int main() {
   PinToCore(-1);
-  PrintData(0, "Data blocks without buckets");
-  PrintData(133, "Data blocks with 133 buckets for 100 entries");
-  PrintIndex();
+  PrintDataBlocks(0, "Data blocks without buckets");
+  PrintDataBlocks(133, "Data blocks with 133 buckets for 100 entries");
+  PrintIndexBlocks("Index blocks", {64, 256, 1000, 4096});
+  PrintSmallDataBlocks(0, "Small data blocks without buckets");
+  PrintSmallDataBlocks(133, "Small data blocks with 133 buckets for 100 entries");
+  PrintIndexBlocks("Small index blocks", {1, 2, 5, 10, 16, 20, 30});
   return 0;
 }

@@ -26,30 +26,26 @@ fn block_of(alloc: Global, payload: &[u8], block_type: BlockType) -> Option<Bloc
     Some(Block::from_parts(header, Slice::new(alloc, payload).ok()?))
 }
 
-// Checks a block, and adds the number of its entries. Gives the block back.
+// Checks a block, and adds the number of its entries.
 #[inline(never)]
-fn add_checked(so_far: u64, block: Block, alloc: Global) -> Option<(u64, Block)>
-    ensures sum { IfSome result
-        (λ s. (items : List Entry) × (data_check (poly31 64) block.payload ≡ Ok items)
-        × (s.0 ≡ (so_far + length items) % 2 ^ 64)) }
-    ensures block { IfSome result (λ s. s.1.payload ≡ block.payload) }
+fn add_checked(so_far: u64, block: &Block, alloc: Global) -> Option<u64>
+    ensures { IfSome result (λ sum. (items : List Entry)
+        × (data_check (poly31 64) block.now.payload ≡ Ok items)
+        × (sum ≡ (so_far + length items) % 2 ^ 64)) }
 {
-    let checked = DataBlock::<Poly31>::check(alloc, block).ok()?;
-    let sum = so_far.wrapping_add(checked.len() as u64);
-    Some((sum, checked.into_inner()))
+    let count = DataBlock::<Poly31>::check_ref(alloc, block).ok()?;
+    Some(so_far.wrapping_add(count as u64))
 }
 
-// Checks an index block, and adds the number of its handles. Gives the block back.
+// Checks an index block, and adds the number of its handles.
 #[inline(never)]
-fn add_checked_index(so_far: u64, block: Block) -> Option<(u64, Block)>
-    ensures sum { IfSome result
-        (λ s. (items : List Handle) × (index_check block.payload ≡ Ok items)
-        × (s.0 ≡ (so_far + length items) % 2 ^ 64)) }
-    ensures block { IfSome result (λ s. s.1.payload ≡ block.payload) }
+fn add_checked_index(so_far: u64, block: &Block) -> Option<u64>
+    ensures { IfSome result (λ sum. (items : List Handle)
+        × (index_check block.now.payload ≡ Ok items)
+        × (sum ≡ (so_far + length items) % 2 ^ 64)) }
 {
-    let checked = IndexBlock::check(block).ok()?;
-    let sum = so_far.wrapping_add(checked.len() as u64);
-    Some((sum, checked.into_inner()))
+    let count = IndexBlock::check_ref(block).ok()?;
+    Some(so_far.wrapping_add(count as u64))
 }
 
 /// Checks the payload of a data block as bytes from outside, and adds the number of its entries.
@@ -59,16 +55,13 @@ pub extern "C" fn sst_check(payload: &[u8], times: u64, alloc: Global) -> u64
     ensures { OrRefused result
         (0 < times → (items : List Entry) × (data_check (poly31 64) payload.now ≡ Ok items)) }
 {
-    let Some(mut block) = block_of(alloc, payload, BlockType::Data) else {
+    let Some(block) = block_of(alloc, payload, BlockType::Data) else {
         return REFUSED;
     };
     let mut sum = 0;
     for turn in 0..times {
-        match add_checked(sum, block, alloc) {
-            Some((more, same)) => {
-                sum = more;
-                block = same;
-            }
+        match add_checked(sum, &block, alloc) {
+            Some(more) => sum = more,
             None => return REFUSED,
         }
     }
@@ -82,16 +75,13 @@ pub extern "C" fn sst_index_check(payload: &[u8], times: u64, alloc: Global) -> 
     ensures { OrRefused result
         (0 < times → (items : List Handle) × (index_check payload.now ≡ Ok items)) }
 {
-    let Some(mut block) = block_of(alloc, payload, BlockType::Index) else {
+    let Some(block) = block_of(alloc, payload, BlockType::Index) else {
         return REFUSED;
     };
     let mut sum = 0;
     for turn in 0..times {
-        match add_checked_index(sum, block) {
-            Some((more, same)) => {
-                sum = more;
-                block = same;
-            }
+        match add_checked_index(sum, &block) {
+            Some(more) => sum = more,
             None => return REFUSED,
         }
     }

@@ -1,19 +1,21 @@
 -- What the parts of a check refuse, as the refusal of the whole check.
-use Rattle.std.proofs.Common.{◌≡◌, ◌≢◌, ℕ, List, [], ◌∷◌, subst, Ok, Err, refl}
+use Rattle.std.proofs.Common.{◌≡◌, ◌≢◌, ℕ, List, [], ◌∷◌, length, subst, sym, Ok, Err, refl}
 use Rattle.std.specs.List.{AllByRecursion}
 use Rattle.sst_base.specs.Entry.{Entry, IsEntry}
 use Rattle.sst_base.specs.Bytes.{IsBytes}
 use Rattle.sst_base.specs.declared.error.Error.{Error}
 use Rattle.sst_base.specs.declared.error.Error.TheVariants.{Truncated, BadTrailer, BadEntry, OutOfOrder, BadIndex, BadHashIndex, BadHandle, Memory}
 use Rattle.sst_block_core.specs.Trailer.{Trailer, trailer_in}
+use Rattle.sst_block_core.specs.Kind.{Kind}
 use Rattle.sst_block_core.specs.Payload.{IsBlock}
-use Rattle.sst_block_core.specs.Stages.{items_by, items_in, HasTrailer, HasParts, HasForms, HasOrder, HasPointers, HasBuckets, Passes}
+use Rattle.sst_block_core.specs.Stages.{items_by, items_in, body_in, HasTrailer, HasParts, HasForms, HasOrder, HasPointers, HasBuckets, Passes}
 use Rattle.sst_block_core.specs.Entries.{entries}
 use Rattle.sst_block_core.specs.EntryLaws.{IsKind-entries}
 use Rattle.sst_block_kinds.specs.Handles.{EndFits, handles, HasIndexParts, IndexPasses, IsIndexBlock}
 use Rattle.sst_block_kinds.specs.Checks.{data_check, index_check}
 use Rattle.sst_block_core.specs.Passes.{IsPartsRefusal, IsItemsRefusal, IsRefusal}
 use Rattle.sst_block_core.proofs.Canonical.{block_from}
+use Rattle.sst_block_core.proofs.Openings.{length-items_at}
 use Rattle.sst_block_kinds.proofs.IndexBlocks.{index_block_from}
 use Rattle.sst_block_kinds.proofs.CheckAnswers.{data_is, index_is}
 
@@ -29,6 +31,10 @@ all_any (x ∷ xs) = (tt, all_any xs)
 module _ (t : Trailer) (p q : List ℕ) (t_is : t ≡ trailer_in p) (q_is : q ≡ p) where
   pub moved : (S : Trailer → List ℕ → Type 0) → S t q → S (trailer_in p) p
   moved S h = subst (λ s. S s p) t_is (subst (S t) q_is h)
+
+-- where the forms stand, there are as many items as the trailer says
+pub items_counted : {X : Type 0} (kind : Kind X) (p : List ℕ) → HasForms kind (trailer_in p) p → (trailer_in p).item_count ≡ length (items_in kind p)
+items_counted kind p forms = sym (length-items_at kind (trailer_in p).interval 0 (trailer_in p).item_count [] (body_in (trailer_in p) p) (items_in kind p) [] forms)
 
 module _ (hash64 : List ℕ → ℕ) (p : List ℕ) where
   pub data_parts : (e : Error) → IsPartsRefusal (trailer_in p) p e → data_check hash64 p ≡ Err e

@@ -243,6 +243,23 @@ fn truncated_handles_are_checked(rt: HostRuntime) {
     assert!(&rt; found == Some(Error::BadTrailer), "{found:?}");
 }
 
+/// Blocks that are only lent to their check: how many items they have, or what is wrong.
+#[test]
+fn lent_blocks_are_checked(rt: HostRuntime) -> std::result::Result<(), Fail> {
+    let alloc = rt.alloc();
+    let entries = made_of(alloc, BlockType::Data, &HASH_PAIR)?;
+    let found = DataBlock::<ByteSum>::check_ref(alloc, &entries);
+    assert!(&rt; found == Ok(3), "{found:?}");
+    let handles = made_of(alloc, BlockType::Index, &THREE_HANDLES)?;
+    let found = IndexBlock::check_ref(&handles);
+    assert!(&rt; found == Ok(3), "{found:?}");
+    let found = IndexBlock::check_ref(&entries);
+    assert!(&rt; found == Err(Error::BadTrailer), "{found:?}");
+    let found = DataBlock::<ByteSum>::check_ref(alloc, &handles);
+    assert!(&rt; found == Err(Error::BadEntry), "{found:?}");
+    Ok(())
+}
+
 /// The three handles with a shared length of 0 where the longest is 1.
 const SHORTER_HANDLES: [u8; 66] = [
     0, 0, 240, 46, 0, 1, 98, 0, 240, 46, 216, 54, 0, 0, 5, 98, 99, 100, 101, 102, 0, 200, 101, 136,

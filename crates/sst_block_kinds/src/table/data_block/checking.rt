@@ -1,5 +1,5 @@
 //! The check of a data block, and entries as items that are checked.
-ghost use Rattle.std.specs.Prelude.{◌≡◌, ◌≢◌, ◌<◌, OnOk, IfErr, Ok, Err};
+ghost use Rattle.std.specs.Prelude.{◌≡◌, ◌≢◌, ◌<◌, length, OnOk, IfOk, IfErr, Ok, Err};
 ghost use Rattle.sst_base.specs.Entry.{IsEntry};
 ghost use Rattle.sst_block_kinds.specs.Checks.{data_check};
 ghost use Rattle.sst_block_core.specs.Entries.{entries};
@@ -7,6 +7,7 @@ ghost use Rattle.sst_block_core.specs.Payload.{IsBlock};
 ghost use Rattle.sst_block_core.specs.Stages.{items_in};
 ghost use Rattle.sst_block_core.specs.Trailer.{trailer_in};
 
+use crate::table::data_block::DataBlock;
 use crate::table::data_block::decoding::{entry_prefix_within, truncated_form_from};
 use crate::table::data_block::parsed_item::DataBlockParsedItem;
 use sst_base::table::block::Block;
@@ -65,25 +66,29 @@ impl Checkable<DataBlockParsedItem> for InternalValue {
     }
 }
 
-/// Checks the payload of a block of any bytes, stage by stage.
-///
-/// # Errors
-///
-/// That of the first stage that fails. `Error::Memory` if an allocation fails, which is asked for
-/// only where buckets are stored.
-pub(super) fn check_block<H: BlockHash>(alloc: Global, block: &Block) -> Result<()>
-    ensures checked { OnOk result
-        (data_check H.hash64 block.now.payload ≡ Ok (items_in entries block.now.payload)) }
-    ensures block { OnOk result
-        (IsBlock entries IsEntry H.hash64 block.now.payload (items_in entries block.now.payload)
-        (trailer_in block.now.payload).interval (trailer_in block.now.payload).hash_len) }
-    ensures refused { IfErr result
-        (λ e. e ≢ Error.Memory → data_check H.hash64 block.now.payload ≡ Err e) }
-    ensures memory { IfErr result
-        (λ e. e ≡ Error.Memory → 0 < (trailer_in block.now.payload).hash_len) }
-{
-    let numbers = parts_of(block)?;
-    let payload = block.data().as_slice();
-    check_items_and_buckets::<InternalValue, DataBlockParsedItem, H>(alloc, payload, &numbers)?;
-    Ok(())
+impl<H: BlockHash> DataBlock<H> {
+    /// Checks a block of any bytes as [`DataBlock::check`] does, but is only lent it. Returns the
+    /// number of its entries. A block that passes is one that [`DataBlock::new`] takes.
+    ///
+    /// # Errors
+    ///
+    /// Those of [`DataBlock::check`].
+    pub fn check_ref(alloc: Global, block: &Block) -> Result<usize>
+        ensures checked { OnOk result (data_check H.hash64 block.now.payload
+            ≡ Ok (items_in entries block.now.payload)) }
+        ensures count { IfOk result (λ n. n ≡ length (items_in entries block.now.payload)) }
+        ensures block { OnOk result
+            (IsBlock entries IsEntry H.hash64 block.now.payload
+            (items_in entries block.now.payload) (trailer_in block.now.payload).interval
+            (trailer_in block.now.payload).hash_len) }
+        ensures refused { IfErr result
+            (λ e. e ≢ Error.Memory → data_check H.hash64 block.now.payload ≡ Err e) }
+        ensures memory { IfErr result
+            (λ e. e ≡ Error.Memory → 0 < (trailer_in block.now.payload).hash_len) }
+    {
+        let numbers = parts_of(block)?;
+        let payload = block.data().as_slice();
+        check_items_and_buckets::<InternalValue, DataBlockParsedItem, H>(alloc, payload, &numbers)?;
+        Ok(numbers.item_count as usize)
+    }
 }

@@ -26,7 +26,6 @@ pub mod ops;
 pub mod parsed_item;
 mod point_read;
 
-use checking::check_block;
 pub use entry_ref::{Entries, EntryRef};
 pub use iter::Iter;
 pub use ops::{Answer, Op, walk};
@@ -194,7 +193,7 @@ impl<H: BlockHash> DataBlock<H> {
         ensures memory { IfErr result
             (λ e. e ≡ Error.Memory → 0 < (trailer_in block.payload).hash_len) }
     {
-        check_block::<H>(alloc, &block)?;
+        DataBlock::<H>::check_ref(alloc, &block)?;
         Ok(DataBlock::new(block))
     }
 

@@ -1,10 +1,11 @@
 //! The check of an index block, and handles as items that are checked.
-ghost use Rattle.std.specs.Prelude.{◌≡◌, ◌≢◌, OnOk, IfErr, Ok, Err};
+ghost use Rattle.std.specs.Prelude.{◌≡◌, ◌≢◌, length, OnOk, IfOk, IfErr, Ok, Err};
 ghost use Rattle.sst_block_kinds.specs.Checks.{index_check};
 ghost use Rattle.sst_block_kinds.specs.Handles.{handles, IsIndexBlock};
 ghost use Rattle.sst_block_core.specs.Stages.{items_in};
 ghost use Rattle.sst_block_core.specs.Trailer.{trailer_in};
 
+use crate::table::index_block::IndexBlock;
 use crate::table::index_block::block_handle::KeyedBlockHandle;
 use crate::table::index_block::decoding::front_from;
 use crate::table::index_block::parsed_item::IndexBlockParsedItem;
@@ -59,23 +60,29 @@ impl Checkable<IndexBlockParsedItem> for KeyedBlockHandle {
     }
 }
 
-/// Checks the payload of a block of any bytes, stage by stage. Takes no memory.
-///
-/// # Errors
-///
-/// That of the first stage that fails.
-pub(super) fn check_block(block: &Block) -> Result<()>
-    ensures checked { OnOk result
-        (index_check block.now.payload ≡ Ok (items_in handles block.now.payload)) }
-    ensures block { OnOk result
-        (IsIndexBlock block.now.payload (items_in handles block.now.payload)
-        (trailer_in block.now.payload).interval) }
-    ensures refused { IfErr result (λ e. index_check block.now.payload ≡ Err e) }
-{
-    let numbers = parts_of(block)?;
-    if numbers.hash_len != 0 {
-        return Err(Error::BadTrailer);
+impl IndexBlock {
+    /// Checks a block of any bytes as [`IndexBlock::check`] does, but is only lent it. Returns the
+    /// number of its handles. Takes no memory. A block that passes is one that [`IndexBlock::new`]
+    /// takes.
+    ///
+    /// # Errors
+    ///
+    /// Those of [`IndexBlock::check`].
+    pub fn check_ref(block: &Block) -> Result<usize>
+        ensures checked { OnOk result
+            (index_check block.now.payload ≡ Ok (items_in handles block.now.payload)) }
+        ensures count { IfOk result (λ n. n ≡ length (items_in handles block.now.payload)) }
+        ensures block { OnOk result
+            (IsIndexBlock block.now.payload (items_in handles block.now.payload)
+            (trailer_in block.now.payload).interval) }
+        ensures refused { IfErr result (λ e. index_check block.now.payload ≡ Err e) }
+    {
+        let numbers = parts_of(block)?;
+        if numbers.hash_len != 0 {
+            return Err(Error::BadTrailer);
+        }
+        let payload = block.data().as_slice();
+        check_items::<KeyedBlockHandle, IndexBlockParsedItem>(payload, &numbers)?;
+        Ok(numbers.item_count as usize)
     }
-    check_items::<KeyedBlockHandle, IndexBlockParsedItem>(block.data().as_slice(), &numbers)?;
-    Ok(())
 }

@@ -22,7 +22,6 @@ pub mod ops;
 pub mod parsed_item;
 
 pub use block_handle::{BlockHandle, KeyedBlockHandle};
-use checking::check_block;
 pub use iter::Iter;
 pub use ops::{IndexAnswer, IndexOp, walk};
 pub use parsed_item::IndexBlockParsedItem;
@@ -211,7 +210,7 @@ impl IndexBlock {
         ensures encoded { IfOk result (λ b. IsIndexBlock block.payload b.items b.interval) }
         ensures refused { IfErr result (λ e. index_check block.payload ≡ Err e) }
     {
-        check_block(&block)?;
+        IndexBlock::check_ref(&block)?;
         Ok(IndexBlock::new(block))
     }
 
