@@ -6,4 +6,6 @@ mod checked;
 #[cfg(test)]
 mod filter;
 #[cfg(test)]
+mod random_runs;
+#[cfg(test)]
 mod runs;
