@@ -121,13 +121,3 @@ module _ {X : Type 0} (kind : Kind X) (hash : List ℕ → ℕ) (t : Trailer) (p
 
   pub buckets_from : tally.table ≡ buckets_in t p → HasBuckets kind hash t p
   buckets_from e q below = ap (λ xs. get_or xs q 0) (sym e) ∙ tallied.buckets q below
-
--- what the items are refused for, the whole is
-pub items_refused : {X : Type 0} (kind : Kind X) (fits : X → Type 0) (hash : List ℕ → ℕ) (t : Trailer) (p : List ℕ) (e : Error) → IsItemsRefusal kind fits t p e → IsRefusal kind fits hash t p e
-items_refused kind fits hash t p BadHashIndex h = absurd h
-items_refused kind fits hash t p Memory h = absurd h
-items_refused kind fits hash t p BadEntry h = h
-items_refused kind fits hash t p BadHandle h = h
-items_refused kind fits hash t p OutOfOrder h = h
-items_refused kind fits hash t p BadIndex h = h
-items_refused kind fits hash t p _ h = absurd h

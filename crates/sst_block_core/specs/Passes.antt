@@ -1,8 +1,8 @@
 -- What a pass over a body has read so far, and what it found of it.
-use Rattle.std.specs.Prelude.{◌≡◌, ◌↔◌, ℕ, ◌+◌, ◌*◌, ◌%◌, ◌==◌, ◌<◌, ◌≤◌, if◌then◌else◌, Bool, true, IsTrue, List, [], ◌∷◌, length, drop, slice_index, Option, Some, None}
+use Rattle.std.specs.Prelude.{◌≡◌, ◌↔◌, ℕ, ◌+◌, ◌*◌, ◌%◌, ◌==◌, ◌<◌, ◌≤◌, if◌then◌else◌, Bool, true, IsTrue, List, [], ◌∷◌, length, drop, slice_index, Option, Some, None, ◌⊎◌}
 use Rattle.std.specs.List.{AllByRecursion}
 use Rattle.sst_base.specs.declared.error.Error.{Error}
-use Rattle.sst_base.specs.declared.error.Error.TheVariants.{Truncated, BadTrailer, BadEntry, BadHandle, OutOfOrder, BadIndex, BadHashIndex, Memory}
+use Rattle.sst_base.specs.declared.error.Error.TheVariants.{Truncated, BadTrailer, BadEntry, OutOfOrder, BadIndex, BadHashIndex, Memory}
 use Rattle.sst_block_core.specs.Kind.{Kind, IsOrdered}
 use Rattle.sst_block_core.specs.Body.{items_at, place_offset}
 use Rattle.sst_block_core.specs.Trailer.{Trailer}
@@ -115,17 +115,21 @@ IsPartsRefusal t p Truncated = HasTrailer p → ⊥
 IsPartsRefusal t p BadTrailer = HasTrailer p × (HasParts t p → ⊥)
 IsPartsRefusal t p _ = ⊥
 
--- why a pass over the items refuses a payload whose first two stages hold: which of the next ones fails first
-abbrev pub IsItemsRefusal : {X : Type 0} → Kind X → (X → Type 0) → Trailer → List ℕ → Error → Type 0
-IsItemsRefusal kind fits t p BadEntry = HasForms kind t p → ⊥
-IsItemsRefusal kind fits t p BadHandle = HasForms kind t p × (AllByRecursion fits (items_by kind t p) → ⊥)
-IsItemsRefusal kind fits t p OutOfOrder = HasForms kind t p × AllByRecursion fits (items_by kind t p) × (HasOrder kind t p → ⊥)
-IsItemsRefusal kind fits t p BadIndex = HasForms kind t p × AllByRecursion fits (items_by kind t p) × HasOrder kind t p × (HasPointers kind t p → ⊥)
-IsItemsRefusal kind fits t p _ = ⊥
+-- why a pass over the items refuses a payload whose first two stages hold: which of the next ones fails first. An item
+-- that does not fit has the error that its kind names
+abbrev pub IsItemsRefusal : {X : Type 0} → Kind X → (X → Type 0) → Error → Trailer → List ℕ → Error → Type 0
+IsItemsRefusal kind fits unfit t p e =
+    ((e ≡ BadEntry) × (HasForms kind t p → ⊥))
+    ⊎ ((e ≡ unfit) × HasForms kind t p × (AllByRecursion fits (items_by kind t p) → ⊥))
+    ⊎ ((e ≡ OutOfOrder) × HasForms kind t p × AllByRecursion fits (items_by kind t p) × (HasOrder kind t p → ⊥))
+    ⊎ ((e ≡ BadIndex) × HasForms kind t p × AllByRecursion fits (items_by kind t p) × HasOrder kind t p × (HasPointers kind t p → ⊥))
 
--- the same with the stored buckets
-abbrev pub IsRefusal : {X : Type 0} → Kind X → (X → Type 0) → (List ℕ → ℕ) → Trailer → List ℕ → Error → Type 0
-IsRefusal kind fits hash t p BadHashIndex =
-    HasForms kind t p × AllByRecursion fits (items_by kind t p) × HasOrder kind t p × HasPointers kind t p × (HasBuckets kind hash t p → ⊥)
-IsRefusal kind fits hash t p Memory = 0 < t.hash_len
-IsRefusal kind fits hash t p e = IsItemsRefusal kind fits t p e
+-- why the stored buckets of a payload are refused, all of whose other stages hold, or that no memory was there for them
+abbrev pub IsBucketsRefusal : {X : Type 0} → Kind X → (X → Type 0) → (List ℕ → ℕ) → Trailer → List ℕ → Error → Type 0
+IsBucketsRefusal kind fits hash t p e =
+    ((e ≡ BadHashIndex) × HasForms kind t p × AllByRecursion fits (items_by kind t p) × HasOrder kind t p × HasPointers kind t p × (HasBuckets kind hash t p → ⊥))
+    ⊎ ((e ≡ Memory) × (0 < t.hash_len))
+
+-- why the items of a payload or its stored buckets are refused
+abbrev pub IsRefusal : {X : Type 0} → Kind X → (X → Type 0) → Error → (List ℕ → ℕ) → Trailer → List ℕ → Error → Type 0
+IsRefusal kind fits unfit hash t p e = IsItemsRefusal kind fits unfit t p e ⊎ IsBucketsRefusal kind fits hash t p e

@@ -1,5 +1,5 @@
 -- What the parts of a check refuse, as the refusal of the whole check.
-use Rattle.std.proofs.Common.{◌≡◌, ◌≢◌, ℕ, List, [], ◌∷◌, length, subst, sym, Ok, Err, refl}
+use Rattle.std.proofs.Common.{◌≡◌, ◌≢◌, ℕ, List, [], ◌∷◌, length, subst, sym, ap, ◌∙◌, inl, inr, Ok, Err, refl}
 use Rattle.std.specs.List.{AllByRecursion}
 use Rattle.sst_base.specs.Entry.{Entry, IsEntry}
 use Rattle.sst_base.specs.Bytes.{IsBytes}
@@ -43,14 +43,16 @@ module _ (hash64 : List ℕ → ℕ) (p : List ℕ) where
   data_parts _ h = absurd h
 
   module _ (a : HasTrailer p) (b : HasParts (trailer_in p) p) where
-    pub data_refused : (e : Error) → IsRefusal entries Any hash64 (trailer_in p) p e → e ≢ Memory → data_check hash64 p ≡ Err e
-    data_refused BadEntry h other = data_is hash64 p (Err BadEntry) (a, b, h)
-    data_refused BadHandle h other = absurd (h.1 (all_any (items_by entries (trailer_in p) p)))
-    data_refused OutOfOrder h other = data_is hash64 p (Err OutOfOrder) (a, b, h.0, h.2)
-    data_refused BadIndex h other = data_is hash64 p (Err BadIndex) (a, b, h.0, h.2, h.3)
-    data_refused BadHashIndex h other = data_is hash64 p (Err BadHashIndex) (a, b, h.0, h.2, h.3, h.4)
-    data_refused Memory h other = absurd (other refl)
-    data_refused _ h other = absurd h
+    data_items_refused : (e : Error) → IsItemsRefusal entries Any BadEntry (trailer_in p) p e → data_check hash64 p ≡ Err e
+    data_items_refused e (inl h) = data_is hash64 p (Err BadEntry) (a, b, h.1) ∙ ap Err (sym h.0)
+    data_items_refused e (inr (inl h)) = absurd (h.2 (all_any (items_by entries (trailer_in p) p)))
+    data_items_refused e (inr (inr (inl h))) = data_is hash64 p (Err OutOfOrder) (a, b, h.1, h.3) ∙ ap Err (sym h.0)
+    data_items_refused e (inr (inr (inr h))) = data_is hash64 p (Err BadIndex) (a, b, h.1, h.3, h.4) ∙ ap Err (sym h.0)
+
+    pub data_refused : (e : Error) → IsRefusal entries Any BadEntry hash64 (trailer_in p) p e → e ≢ Memory → data_check hash64 p ≡ Err e
+    data_refused e (inl h) other = data_items_refused e h
+    data_refused e (inr (inl h)) other = data_is hash64 p (Err BadHashIndex) (a, b, h.1, h.3, h.4, h.5) ∙ ap Err (sym h.0)
+    data_refused e (inr (inr h)) other = absurd (other h.0)
 
     pub data_passes : HasForms entries (trailer_in p) p → HasOrder entries (trailer_in p) p → HasPointers entries (trailer_in p) p → HasBuckets entries hash64 (trailer_in p) p → Passes entries hash64 p
     data_passes c d f g = record { encoded = record { trailer = a; parts = b; forms = c; pointers = f; buckets = g }; order = d }
@@ -75,12 +77,11 @@ module _ (p : List ℕ) where
       parts : HasIndexParts (trailer_in p).interval (trailer_in p) p
       parts = record { parts = b; interval = refl; no_buckets = none }
 
-      pub index_items : (e : Error) → IsItemsRefusal handles EndFits (trailer_in p) p e → index_check p ≡ Err e
-      index_items BadEntry h = index_is p (Err BadEntry) (a, parts, h)
-      index_items BadHandle h = index_is p (Err BadHandle) (a, parts, h.0, h.1)
-      index_items OutOfOrder h = index_is p (Err OutOfOrder) (a, parts, h.0, h.1, h.2)
-      index_items BadIndex h = index_is p (Err BadIndex) (a, parts, h.0, h.1, h.2, h.3)
-      index_items _ h = absurd h
+      pub index_items : (e : Error) → IsItemsRefusal handles EndFits BadHandle (trailer_in p) p e → index_check p ≡ Err e
+      index_items e (inl h) = index_is p (Err BadEntry) (a, parts, h.1) ∙ ap Err (sym h.0)
+      index_items e (inr (inl h)) = index_is p (Err BadHandle) (a, parts, h.1, h.2) ∙ ap Err (sym h.0)
+      index_items e (inr (inr (inl h))) = index_is p (Err OutOfOrder) (a, parts, h.1, h.2, h.3) ∙ ap Err (sym h.0)
+      index_items e (inr (inr (inr h))) = index_is p (Err BadIndex) (a, parts, h.1, h.2, h.3, h.4) ∙ ap Err (sym h.0)
 
       pub index_passes : HasForms handles (trailer_in p) p → AllByRecursion EndFits (items_by handles (trailer_in p) p) → HasOrder handles (trailer_in p) p → HasPointers handles (trailer_in p) p
           → IndexPasses (trailer_in p).interval p

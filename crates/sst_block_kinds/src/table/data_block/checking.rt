@@ -21,13 +21,22 @@ use sst_block_core::table::block::check::truncation::is_greatest;
 use sst_block_core::table::block::key_ranges::bytes_of;
 use std::alloc::Global;
 
+/// Every entry fits, so its error is never returned.
 impl Checkable<DataBlockParsedItem> for InternalValue {
+    ghost use Rattle.sst_base.specs.declared.error.Error.TheVariants.{BadEntry};
+
     ghost fits = { λ e. Unit {0} };
+
+    ghost unfit = { BadEntry };
 
     #[inline(always)]
     fn fits(item: &DataBlockParsedItem) -> bool {
         let _ = item;
         true
+    }
+
+    fn unfit() -> Error {
+        Error::BadEntry
     }
 
     #[inline(always)]

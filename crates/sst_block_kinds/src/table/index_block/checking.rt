@@ -23,12 +23,19 @@ use sst_block_core::table::block::reading::{length_prefixed_from, number_from, p
 /// A handle's block has to end within 64 bits.
 impl Checkable<IndexBlockParsedItem> for KeyedBlockHandle {
     ghost use Rattle.sst_block_kinds.specs.Handles.{EndFits};
+    ghost use Rattle.sst_base.specs.declared.error.Error.TheVariants.{BadHandle};
 
     ghost fits = { EndFits };
+
+    ghost unfit = { BadHandle };
 
     #[inline(always)]
     fn fits(item: &IndexBlockParsedItem) -> bool {
         item.offset.0 <= u64::MAX - u64::from(item.size)
+    }
+
+    fn unfit() -> Error {
+        Error::BadHandle
     }
 
     #[inline(always)]

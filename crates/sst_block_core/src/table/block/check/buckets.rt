@@ -35,7 +35,7 @@ pub fn check_items_and_buckets<
     ensures pointers { OnOk result (HasPointers Item.kind (trailer_by t.now) payload.now) }
     ensures buckets { OnOk result (HasBuckets Item.kind H.hash64 (trailer_by t.now) payload.now) }
     ensures refused { IfErr result
-        (IsRefusal Item.kind Item.fits H.hash64 (trailer_by t.now) payload.now) }
+        (IsRefusal Item.kind Item.fits Item.unfit H.hash64 (trailer_by t.now) payload.now) }
 {
     if t.hash_len == 0 {
         return check_items::<Item, Parsed>(payload, t);

@@ -1,6 +1,7 @@
 //! The check of a block's payload, stage by stage.
 ghost use Rattle.std.specs.Prelude.{◌≡◌, ◌↔◌, ℕ, ◌-◌, ◌≤◌, List, length};
 ghost use Rattle.std.specs.Prelude.{drop, IfSome, IsTrue};
+ghost use Rattle.sst_base.specs.declared.error.Error.{Error};
 ghost use Rattle.sst_block_core.specs.Found.{Finds, IsRange, range_of};
 ghost use Rattle.sst_block_core.specs.KeyRanges.{key_by, IsKeyRanges};
 
@@ -13,6 +14,7 @@ pub mod truncation;
 
 use crate::table::block::{Decodable, ParsedItem};
 use keys::KeyRanges;
+use sst_base::Error;
 use sst_base::table::util::SliceIndexes;
 
 /// Items whose forms can be checked.
@@ -20,10 +22,17 @@ pub trait Checkable<Parsed: ParsedItem<Self>>: Decodable<Parsed> {
     /// What the check asks of an item beyond its form.
     ghost fits: { Self → Type 0 };
 
+    /// The error for an item that does not fit.
+    ghost unfit: { Error };
+
     /// Returns whether an item is what the check asks beyond its form.
     fn fits(item: &Parsed) -> bool
         ensures { (payload : List ℕ) → IsTrue result
             ↔ fits (Parsed.item_of payload item.now) };
+
+    /// Returns the error for an item that does not fit.
+    fn unfit() -> Error
+        ensures { result ≡ unfit };
 
     /// Returns the ranges of an item's key.
     fn key_ranges(item: &Parsed) -> KeyRanges

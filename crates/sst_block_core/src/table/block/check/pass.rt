@@ -273,9 +273,9 @@ fn pass_payload<Item: Checkable<Parsed>, Parsed: ParsedItem<Item> + Drop, Sink: 
 /// # Errors
 ///
 /// `Error::BadEntry` if the body is not as many forms as the trailer says, and nothing else;
-/// `Error::BadHandle` if an item is not what the check asks beyond its form; `Error::OutOfOrder` if
-/// an item sorts before its predecessor; `Error::BadIndex` if a pointer is not the offset of its
-/// head, or the pointer width is not the least that serves. The first of these that holds.
+/// that of [`Checkable::unfit`] if an item does not fit; `Error::OutOfOrder` if an item sorts before
+/// its predecessor; `Error::BadIndex` if a pointer is not the offset of its head, or the pointer
+/// width is not the least that serves. The first of these that holds.
 pub(crate) fn check_items_with<
     Item: Checkable<Parsed>,
     Parsed: ParsedItem<Item> + Drop,
@@ -293,13 +293,13 @@ pub(crate) fn check_items_with<
         → Sink.has_taken t.now.interval b (body_in (trailer_by t.now) payload.now) sink.new
         (items_by Item.kind (trailer_by t.now) payload.now)) }
     ensures refused { IfErr result
-        (IsItemsRefusal Item.kind Item.fits (trailer_by t.now) payload.now) }
+        (IsItemsRefusal Item.kind Item.fits Item.unfit (trailer_by t.now) payload.now) }
 {
     let Some(passed) = pass_payload::<Item, Parsed, Sink>(payload, t, sink) else {
         return Err(Error::BadEntry);
     };
     if !passed.all_fit {
-        return Err(Error::BadHandle);
+        return Err(Item::unfit());
     }
     if !passed.is_ordered {
         return Err(Error::OutOfOrder);
@@ -316,9 +316,9 @@ pub(crate) fn check_items_with<
 /// # Errors
 ///
 /// `Error::BadEntry` if the body is not as many forms as the trailer says, and nothing else;
-/// `Error::BadHandle` if an item is not what the check asks beyond its form; `Error::OutOfOrder` if
-/// an item sorts before its predecessor; `Error::BadIndex` if a pointer is not the offset of its
-/// head, or the pointer width is not the least that serves. The first of these that holds.
+/// that of [`Checkable::unfit`] if an item does not fit; `Error::OutOfOrder` if an item sorts before
+/// its predecessor; `Error::BadIndex` if a pointer is not the offset of its head, or the pointer
+/// width is not the least that serves. The first of these that holds.
 pub fn check_items<Item: Checkable<Parsed>, Parsed: ParsedItem<Item> + Drop>(
     payload: &[u8],
     t: &TrailerNumbers,
@@ -330,7 +330,7 @@ pub fn check_items<Item: Checkable<Parsed>, Parsed: ParsedItem<Item> + Drop>(
     ensures order { OnOk result (HasOrder Item.kind (trailer_by t.now) payload.now) }
     ensures pointers { OnOk result (HasPointers Item.kind (trailer_by t.now) payload.now) }
     ensures refused { IfErr result
-        (IsItemsRefusal Item.kind Item.fits (trailer_by t.now) payload.now) }
+        (IsItemsRefusal Item.kind Item.fits Item.unfit (trailer_by t.now) payload.now) }
 {
     let mut tally = NoTally;
     check_items_with::<Item, Parsed, NoTally>(payload, t, &mut tally)

@@ -1,5 +1,6 @@
 use Rattle.std.proofs.Common.{◌∙◌, ap, sym, rules}
 use Rattle.std.specs.List.{AllByRecursion}
+use Rattle.sst_base.specs.declared.error.Error.TheVariants.{BadHandle}
 use Rattle.sst_block_kinds.specs.Handles.{handles, EndFits}
 use Rattle.sst_block_core.specs.Stages.{items_by, HasForms, HasOrder, HasPointers}
 use Rattle.sst_block_core.specs.Trailer.{Trailer}
@@ -25,7 +26,7 @@ returns-in_err-check_items-clause-refused c =
     let same = c.as_slice-payload.ensures ∙ c.data.ensures.value in
     let e = c.in_err-check_items.field-0.0 in
     let r = index_items p n.long n.parts none e
-    (moved (trailer_by c.in_ok-numbers.numbers) p _ n.trailer same (λ s x. IsItemsRefusal handles EndFits s x e) c.in_err-check_items.ensures.refused) in
+    (moved (trailer_by c.in_ok-numbers.numbers) p _ n.trailer same (λ s x. IsItemsRefusal handles EndFits BadHandle s x e) c.in_err-check_items.ensures.refused) in
     search (rules, r)
 
 pub returns-clause-checked : goal.returns-clause-checked

@@ -1,4 +1,4 @@
-use Rattle.std.proofs.Common.{◌≡◌, ◌∙◌, take, drop, arith, sym, ap, true}
+use Rattle.std.proofs.Common.{◌≡◌, ◌∙◌, take, drop, arith, sym, ap, true, refl, inl, inr}
 use Rattle.std.proofs.lemmas.Bool.{false≢true}
 use Rattle.sst_block_core.specs.Stages.{body_in, buckets_in}
 use Rattle.sst_block_core.specs.Passes.{trailer_by}
@@ -29,7 +29,9 @@ returns-then-not-has_buckets-clause-refused g c =
     let tally = c.check_items_with.new.sink in
     let taken = found.taken t.hash_len (tally_none kind hash t.interval t.hash_len c.requires.interval (body_in t p) _ c.in_ok-tally.ensures.ok) in
     let memory : tally.has_memory ≡ true = sym c.has_memory.ensures ∙ c.if-not-has_memory.false in
-    let stored : c.split_at-2.result.0.now ≡ buckets_in t p = c.split_at-2.ensures.front ∙ ap (take t.hash_len) (c.split_at.ensures.back ∙ ap (λ o. drop o p) (c.requires.hash_offset (omega arith))) in (
+    let stored : c.split_at-2.result.0.now ≡ buckets_in t p = c.split_at-2.ensures.front ∙ ap (take t.hash_len) (c.split_at.ensures.back ∙ ap (λ o. drop o p) (c.requires.hash_offset (omega arith))) in
+    inr (inl (
+      refl,
       found.forms,
       found.fit,
       found.order,
@@ -37,4 +39,4 @@ returns-then-not-has_buckets-clause-refused g c =
       λ h.
           let same = c.has_buckets.ensures.1 (buckets_to kind hash t p c.requires (omega arith) found.forms tally taken memory h ∙ sym stored) in
           false≢true (sym c.if-not-has_buckets.true ∙ same),
-    )
+    ))
