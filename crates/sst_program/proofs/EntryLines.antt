@@ -1,0 +1,51 @@
+-- The entries of lines, as a loop over the lines reads them.
+use Rattle.std.proofs.Common.{◌≡◌, ℕ, ◌+◌, List, [], ◌∷◌, ◌++◌, refl, ap, sym, ◌∙◌, append_assoc, append-nil, length, true, arith}
+use Rattle.std.specs.Prelude.{Some, None, Result, Ok, Err, nat_eq}
+use Rattle.sst_base.specs.Entry.{Entry}
+use Rattle.sst_program.specs.declared.fault.Fault.{Fault}
+use Rattle.sst_program.specs.declared.fault.Fault.TheVariants.{Entry as NoEntry}
+use Rattle.sst_program.specs.Line.{entry_of_line}
+use Rattle.sst_program.specs.Lines.{lines_of, entry_then, entries_from}
+use Rattle.sst_program.proofs.Cuts.{lines-empty}
+use Rattle.sst_program.proofs.Outcomes.{none-from_test}
+
+-- the entries so far, and those of the lines that are left
+abbrev pub after : List Entry → Result (List Entry) Fault → Result (List Entry) Fault
+after items (Ok more) = Ok (items ++ more)
+after items (Err fault) = Err fault
+
+pub after-none : (r : Result (List Entry) Fault) → after [] r ≡ r
+after-none (Ok more) = refl
+after-none (Err fault) = refl
+
+after-one : (items : List Entry) (e : Entry) (n : ℕ) (r : Result (List Entry) Fault) → after items (entry_then n (Some e) r) ≡ after (items ++ (e ∷ [])) r
+after-one items e n (Ok more) = ap Ok (sym (append_assoc items (e ∷ []) more))
+after-one items e n (Err fault) = refl
+
+entries-line : (n : ℕ) (line : List ℕ) (lines : List (List ℕ)) → entries_from n (line ∷ lines) ≡ entry_then n (entry_of_line line) (entries_from (n + 1) lines)
+unfolding entries_from
+entries-line n line lines = refl
+
+pub entries-step : (n : ℕ) (items : List Entry) (rest line behind : List ℕ) (e : Entry) → lines_of rest ≡ line ∷ lines_of behind → entry_of_line line ≡ Some e
+    → after items (entries_from n (lines_of rest)) ≡ after (items ++ (e ∷ [])) (entries_from (n + 1) (lines_of behind))
+entries-step n items rest line behind e h k =
+    ap (λ ls. after items (entries_from n ls)) h
+    ∙ ap (after items) (entries-line n line (lines_of behind))
+    ∙ ap (λ o. after items (entry_then n o (entries_from (n + 1) (lines_of behind)))) k
+    ∙ after-one items e n (entries_from (n + 1) (lines_of behind))
+
+pub entries-fault : (n : ℕ) (items : List Entry) (rest line behind : List ℕ) → lines_of rest ≡ line ∷ lines_of behind → entry_of_line line ≡ None
+    → after items (entries_from n (lines_of rest)) ≡ Err (NoEntry n)
+entries-fault n items rest line behind h k =
+    ap (λ ls. after items (entries_from n ls)) h
+    ∙ ap (after items) (entries-line n line (lines_of behind))
+    ∙ ap (λ o. after items (entry_then n o (entries_from (n + 1) (lines_of behind)))) k
+
+pub entries-end : (n : ℕ) (items : List Entry) → after items (entries_from n (lines_of [])) ≡ Ok items
+unfolding entries_from
+entries-end n items = rw (lines-empty, append-nil items) refl
+
+-- nothing is left, by the test of its length
+pub nothing-left : (rest : List ℕ) → true ≡ nat_eq (length rest) 0 → rest ≡ []
+nothing-left [] h = refl
+nothing-left (b ∷ rest) h = let none : length (b ∷ rest) ≡ 0 = none-from_test (length (b ∷ rest)) h in absurd (omega arith)

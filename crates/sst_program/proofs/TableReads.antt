@@ -1,0 +1,266 @@
+-- Reading the blocks of an index one by one.
+use Rattle.std.proofs.Common.{◌≡◌, ◌≢◌, ◌⊎◌, ℕ, ◌+◌, ◌-◌, ◌^◌, ◌≤◌, inl, inr, List, [], ◌∷◌, ◌++◌, length, take, drop, min, arith, refl, sym, ◌∙◌, ap, subst, append_assoc, append-nil, length-append, length-drop, Option, Some, None, Result, Ok, Err, IfSome, IfErr, true, false, if◌then◌else◌}
+use Rattle.std.proofs.Math.Seq.{take-append_seam, take-length}
+use Rattle.std.specs.Prelude.{IsOk, nat_lt, nat_le}
+use Rattle.std.proofs.lemmas.Bool.Decides.{nat_tests}
+use Rattle.std.proofs.KnownBytes.{Appends-nil, Appends-trans, Appends-kept}
+use Rattle.std.specs.Io.KnownBytes.{Appends, Keeps}
+use Rattle.sst_base.specs.BlockHandle.{HandleParts}
+use Rattle.sst_base.specs.Entry.{Entry}
+use Rattle.sst_base.specs.FrameErrors.{NotIo}
+use Rattle.sst_base.specs.Header.{◌>>=◌}
+use Rattle.sst_base.specs.declared.error.Error.{Error}
+use Rattle.sst_base.specs.declared.error.Error.TheVariants.{Io, Truncated}
+use Rattle.sst_block_core.specs.Landings.{GivesNextHeld}
+use Rattle.sst_block_core.specs.Scan.{Scan}
+use Rattle.sst_block_core.specs.Window.{Window, items_left, whole}
+use Rattle.sst_block_core.specs.WindowLaws.{next_some, next_none, items_left-whole}
+use Rattle.sst_block_kinds.specs.Handles.{Handle}
+use Rattle.sst_block_kinds.specs.ParsedHandle.{handle_of, IsParsedHandle}
+use Rattle.sst_block_kinds.specs.declared.table.index_block.parsed_item.IndexBlockParsedItem.{IndexBlockParsedItem}
+use Rattle.sstable_blocks.specs.Blocks.{joined}
+use Rattle.sstable_blocks.specs.RunReading.{range_at}
+use Rattle.sstable_blocks.specs.Sources.{FailsAs, GivesOr}
+use Rattle.sstable_blocks.specs.declared.run.RunHandles.{RunHandles}
+use Rattle.sst_program.specs.Footer.{handles_at, parts_at, filter_of}
+use Rattle.sst_program.specs.Outcome.{lines_text_of}
+use Rattle.sst_program.specs.TableReads.{block_read, block_count, blocks_read, before_refusal, first_refusal, entry_count, entries_counted, table_handles, PrintsUntil, PrintsFirst}
+use Rattle.sst_program.proofs.Outcomes.{lines-append}
+use Rattle.sst_program.proofs.Tables.{joined-next}
+
+-- what is read of each of some blocks
+abbrev pub Reads : Type 0
+Reads = List (Result (List Entry) Error)
+
+-- facts of known bytes give another
+pub known_both : (o o' : Option (List ℕ)) (P Q R : List ℕ → Type 0) → o' ≡ o → ((all : List ℕ) → P all → Q all → R all) → IfSome o P → IfSome o' Q → IfSome o R
+known_both None o' P Q R same f p q = tt
+known_both (Some all) o' P Q R same f p q = f all p (subst (λ x. IfSome x Q) same q)
+
+pub known_one : (o : Option (List ℕ)) (P R : List ℕ → Type 0) → ((all : List ℕ) → P all → R all) → IfSome o P → IfSome o R
+known_one None P R f p = tt
+known_one (Some all) P R f p = f all p
+
+pub known_all : (o : Option (List ℕ)) (R : List ℕ → Type 0) → ((all : List ℕ) → R all) → IfSome o R
+known_all None R f = tt
+known_all (Some all) R f = f all
+
+-- a step of the iterator over an index, and what is read of its block: one block fewer is left to read
+pub read_step : (all : List ℕ) (s t : Scan Handle) (p : IndexBlockParsedItem) (h : HandleParts) (read : Result (List Entry) Error) → h ≡ record { offset = p.offset.0; size = p.size } → GivesNextHeld handle_of IsParsedHandle s (Some p) t
+    → block_read all h ≡ read → blocks_read all (items_left s.window) ≡ read ∷ blocks_read all (items_left t.window)
+read_step all s t p h read is gives e =
+    ap (blocks_read all) (next_some s.window t.window (handle_of s.payload p) gives.step).0
+    ∙ ap (λ (r : Result (List Entry) Error). r ∷ blocks_read all (items_left t.window)) (ap (block_read all) (sym is) ∙ e)
+
+-- all are left at the start
+pub read_whole : (all : List ℕ) (w : Window Handle) (hs : List Handle) → w ≡ whole hs → blocks_read all (items_left w) ≡ blocks_read all hs
+read_whole all w hs e = ap (λ (v : Window Handle). blocks_read all (items_left v)) e ∙ ap (blocks_read all) (items_left-whole hs)
+
+-- none is left at the end
+pub read_over : (all : List ℕ) (s t : Scan Handle) → GivesNextHeld handle_of IsParsedHandle s None t → blocks_read all (items_left s.window) ≡ []
+read_over all s t gives = ap (blocks_read all) (next_none s.window t.window gives.step).0
+
+-- these blocks were read, and what is left decides the rest
+pub record IsReadTo (reads left : Reads) (done : List (List Entry)) : Type 0 where
+  pub before : before_refusal reads ≡ done ++ before_refusal left
+  pub refusal : first_refusal reads ≡ first_refusal left
+
+read_next : (reads left more : Reads) (done : List (List Entry)) (items : List Entry) → IsReadTo reads left done → left ≡ Ok items ∷ more → IsReadTo reads more (done ++ (items ∷ []))
+read_next reads left more done items r e = record {
+  before = r.before ∙ ap (λ (q : Reads). done ++ before_refusal q) e ∙ sym (append_assoc done (items ∷ []) (before_refusal more));
+  refusal = r.refusal ∙ ap (λ (q : Reads). first_refusal q) e;
+}
+
+-- where a refusal or nothing is left, what was read is all before it
+read_end : (reads left : Reads) (done : List (List Entry)) (refusal : Option Error) → IsReadTo reads left done → before_refusal left ≡ [] → first_refusal left ≡ refusal
+    → (before_refusal reads ≡ done) × (first_refusal reads ≡ refusal)
+read_end reads left done refusal r none is = (r.before ∙ ap (λ q. done ++ q) none ∙ append-nil done, r.refusal ∙ is)
+
+-- the lines of the blocks that were read were printed
+pub record PrintsTo (old new : Option (List ℕ)) (reads left : Reads) : Type 0 where
+  pub done : List (List Entry)
+  pub read : IsReadTo reads left done
+  pub lines : Appends old new (lines_text_of (joined done))
+
+pub prints_start : (old : Option (List ℕ)) (reads left : Reads) → left ≡ reads → PrintsTo old old reads left
+prints_start old reads left e = record { done = []; read = record { before = ap (λ (q : Reads). before_refusal q) (sym e); refusal = ap (λ (q : Reads). first_refusal q) (sym e) }; lines = Appends-nil old }
+
+pub prints_next : (old now new : Option (List ℕ)) (reads left more : Reads) (items : List Entry) → PrintsTo old now reads left → left ≡ Ok items ∷ more → Appends now new (lines_text_of items) → PrintsTo old new reads more
+prints_next old now new reads left more items p e next = record {
+  done = p.done ++ (items ∷ []);
+  read = read_next reads left more p.done items p.read e;
+  lines = subst (Appends old new) (lines-append (joined p.done) items ∙ ap lines_text_of (sym (joined-next p.done items))) (Appends-trans old now new (lines_text_of (joined p.done)) (lines_text_of items) p.lines next);
+}
+
+prints_until : (old now new : Option (List ℕ)) (reads left : Reads) (refusal : Option Error) → PrintsTo old now reads left → before_refusal left ≡ [] → first_refusal left ≡ refusal → Keeps now new → PrintsUntil old new reads refusal
+prints_until old now new reads left refusal p none is kept =
+    let e = read_end reads left p.done refusal p.read none is in
+    record { until = e.1; lines = subst (λ q. Appends old new (lines_text_of (joined q))) (sym e.0) (Appends-kept old now new (lines_text_of (joined p.done)) p.lines kept) }
+
+-- all lines were printed where nothing is left
+pub prints_all : (old now : Option (List ℕ)) (reads left : Reads) → PrintsTo old now reads left → left ≡ [] → Keeps now now → PrintsUntil old now reads None
+prints_all old now reads left p e kept = prints_until old now now reads left None p (ap (λ (q : Reads). before_refusal q) e) (ap (λ (q : Reads). first_refusal q) e) kept
+
+-- and those before a refusal where that is left
+pub prints_refused : (old now new : Option (List ℕ)) (reads left more : Reads) (error : Error) → PrintsTo old now reads left → left ≡ Err error ∷ more → Keeps now new → PrintsUntil old new reads (Some error)
+prints_refused old now new reads left more error p e kept =
+    prints_until old now new reads left (Some error) p (ap (λ (q : Reads). before_refusal q) e) (ap (λ (q : Reads). first_refusal q) e) kept
+
+pub prints_first : (old now new : Option (List ℕ)) (reads left : Reads) → PrintsTo old now reads left → Keeps now new → PrintsFirst old new reads
+prints_first old now new reads left p kept = record {
+  count = length p.done;
+  lines = subst (λ q. Appends old new (lines_text_of (joined q))) (sym (ap (take (length p.done)) p.read.before ∙ take-append_seam p.done (before_refusal left))) (Appends-kept old now new (lines_text_of (joined p.done)) p.lines kept);
+}
+
+-- the entries of the blocks that were read were counted
+pub record CountsTo (reads left : Reads) (count : ℕ) : Type 0 where
+  pub done : List (List Entry)
+  pub read : IsReadTo reads left done
+  pub counted : count ≡ entry_count done
+
+pub counts_start : (reads left : Reads) → left ≡ reads → CountsTo reads left 0
+counts_start reads left e = record { done = []; read = record { before = ap (λ (q : Reads). before_refusal q) (sym e); refusal = ap (λ (q : Reads). first_refusal q) (sym e) }; counted = refl }
+
+pub counts_next : (reads left more : Reads) (items : List Entry) (count n : ℕ) → CountsTo reads left count → left ≡ Ok items ∷ more → n ≡ min (count + length items) (2 ^ 64 - 1) → CountsTo reads more n
+counts_next reads left more items count n p e is = record {
+  done = p.done ++ (items ∷ []);
+  read = read_next reads left more p.done items p.read e;
+  counted =
+      let whole : length (joined (p.done ++ (items ∷ []))) ≡ length (joined p.done) + length items = ap length (joined-next p.done items) ∙ length-append (joined p.done) items in
+      let before = p.counted in
+      omega (arith, whole, before, is);
+}
+
+-- all were counted where nothing is left
+pub counts_all : (all : List ℕ) (hs : List Handle) (left : Reads) (count : ℕ) → CountsTo (blocks_read all hs) left count → left ≡ [] → entries_counted all hs ≡ Ok count
+unfolding entries_counted
+counts_all all hs left count p e =
+    let is = read_end (blocks_read all hs) left p.done None p.read (ap (λ (q : Reads). before_refusal q) e) (ap (λ (q : Reads). first_refusal q) e) in
+    rw (is.1, is.0) (ap (λ n. Ok n) (sym p.counted))
+
+-- a refusal that is left is that of the count
+pub counts_refused : (all : List ℕ) (hs : List Handle) (left more : Reads) (count : ℕ) (error : Error) → CountsTo (blocks_read all hs) left count → left ≡ Err error ∷ more
+    → entries_counted all hs ≡ Err error
+unfolding entries_counted
+counts_refused all hs left more count error p e =
+    let end = read_end (blocks_read all hs) left p.done (Some error) p.read (ap (λ (q : Reads). before_refusal q) e) (ap (λ (q : Reads). first_refusal q) e) in
+    rw end.1 refl
+
+-- what was printed stays, unless printing failed
+pub kept_unless : (a b : Option (List ℕ)) (error : Error) → error ≢ Io → (error ≡ Io) ⊎ Keeps a b → Keeps a b
+kept_unless a b error other (inl io) = absurd (other io)
+kept_unless a b error other (inr kept) = kept
+
+-- a footer is never refused as failed input
+pub handles_not_io : (bytes : List ℕ) → NotIo (handles_at bytes)
+unfolding handles_at
+handles_not_io bytes = elim (nat_lt (length bytes) 24) as (λ b. NotIo {A = RunHandles} (if b then Err Truncated else Ok (record { index = parts_at bytes; filter = filter_of (parts_at (drop 12 bytes)) }))) [
+  | true ↦ (λ e. cc)
+  | false ↦ tt
+]
+
+-- a footer is refused as truncated alone
+pub handles_truncated : (P : Error → Type 0) → P Truncated → (r : Result RunHandles Error) (bytes : List ℕ) → r ≡ handles_at bytes → IfErr r P
+unfolding handles_at
+handles_truncated P truncated r bytes e = rw e (elim (nat_lt (length bytes) 24) as (λ b. IfErr {T = RunHandles} (if b then Err Truncated else Ok (record { index = parts_at bytes; filter = filter_of (parts_at (drop 12 bytes)) })) P) [
+  | true ↦ truncated
+  | false ↦ tt
+])
+
+-- in the range of the footer are the last 24 bytes
+pub footer_range : (all : List ℕ) (len size : ℕ) (h : HandleParts) → len ≡ length all → size ≡ min len 24 → h ≡ record { offset = len - size; size = size } → range_at all h ≡ Ok (drop (length all - 24) all)
+unfolding range_at
+footer_range all len size h is least at =
+    let inside : nat_le ((len - size) + size) (length all) ≡ true = grind (arith, nat_tests) in
+    let start : len - size ≡ length all - 24 = omega (arith, is, least) in
+    let rest : length (drop (length all - 24) all) ≡ size = omega (arith, length-drop (length all - 24) all, is, least) in
+    rw at (rw inside (ap (λ x. Ok x) (ap (λ n. take size (drop n all)) start ∙ ap (λ n. take n (drop (length all - 24) all)) (sym rest) ∙ take-length (drop (length all - 24) all))))
+
+pub gives_same : {X : Type 0} (P : Type 0) (r read : Result X Error) → read ≡ r → GivesOr P (λ x. x) r read
+gives_same P (Ok x) read e = e
+gives_same P (Err d) read e = λ other. inr e
+
+pub footer_read : (all frame bytes : List ℕ) (h : HandleParts) (r : Result RunHandles Error) (P : Type 0) → range_at all h ≡ Ok (drop (length all - 24) all) → range_at all h ≡ Ok frame → bytes ≡ frame → r ≡ handles_at bytes
+    → GivesOr P (λ x. x) r (table_handles all)
+unfolding table_handles
+footer_read all frame bytes h r P whole found is e =
+    let same : ◌≡◌ {A = Result (List ℕ) Error} (Ok (drop (length all - 24) all)) (Ok frame) = sym whole ∙ found in
+    let last : drop (length all - 24) all ≡ frame = cc in
+    gives_same P r (handles_at (drop (length all - 24) all)) (ap handles_at (last ∙ sym is) ∙ sym e)
+
+pub footer_fails : (all : List ℕ) (h : HandleParts) (error : Error) (P : Type 0) (read : Result RunHandles Error) → range_at all h ≡ Ok (drop (length all - 24) all) → FailsAs P (range_at all h) error → FailsAs P read error
+footer_fails all h error P read whole fails = λ other. elim (fails other) [
+  | inl failed ↦ inl failed
+  | inr same ↦ absurd (let wrong : ◌≡◌ {A = Result (List ℕ) Error} (Ok (drop (length all - 24) all)) (Err error) = sym whole ∙ same in cc)
+]
+
+-- what is no failed input says nothing of a failure
+pub failed_not_io : {X : Type 0} (r : Result X Error) (P : Type 0) → NotIo r → IfErr r (λ e. e ≡ Io → P)
+failed_not_io (Ok x) P h = tt
+failed_not_io (Err e) P h = λ io. absurd (h io)
+
+-- the same where the bytes are known
+pub footer_read_on : (o : Option (List ℕ)) (len size : ℕ) (frame bytes : List ℕ) (h : HandleParts) (r : Result RunHandles Error) (P : Type 0) → size ≡ min len 24 → h ≡ record { offset = len - size; size = size }
+    → IfSome o (λ all. range_at all h ≡ Ok frame) → bytes ≡ frame → r ≡ handles_at bytes → IfSome o (λ all. len ≡ length all → GivesOr P (λ x. x) r (table_handles all))
+footer_read_on None len size frame bytes h r P least at found is e = tt
+footer_read_on (Some all) len size frame bytes h r P least at found is e = λ whole. footer_read all frame bytes h r P (footer_range all len size h whole least at) found is e
+
+pub footer_fails_on : (o : Option (List ℕ)) (len size : ℕ) (h : HandleParts) (error : Error) (P : Type 0) → size ≡ min len 24 → h ≡ record { offset = len - size; size = size }
+    → IfSome o (λ all. FailsAs P (range_at all h) error) → IfSome o (λ all. len ≡ length all → FailsAs P (table_handles all) error)
+footer_fails_on None len size h error P least at fails = tt
+footer_fails_on (Some all) len size h error P least at fails = λ whole. footer_fails all h error P (table_handles all) (footer_range all len size h whole least at) fails
+
+pub counts_all_on : (o : Option (List ℕ)) (hs : List Handle) (s t : Scan Handle) (count : ℕ) → IfSome o (λ all. CountsTo (blocks_read all hs) (blocks_read all (items_left s.window)) count)
+    → GivesNextHeld handle_of IsParsedHandle s None t → IfSome o (λ all. entries_counted all hs ≡ Ok count)
+counts_all_on None hs s t count p gives = tt
+counts_all_on (Some all) hs s t count p gives = counts_all all hs (blocks_read all (items_left s.window)) count p (read_over all s t gives)
+
+-- a number of entries is that of entries that were read
+pub count_read : (read : Result (List Entry) Error) (n : ℕ) → (read >>= (λ items. Ok (length items))) ≡ Ok n → (items : List Entry) × (read ≡ Ok items) × (length items ≡ n)
+count_read (Ok items) n e = (items, refl, cc)
+count_read (Err d) n e = absurd (let wrong : ◌≡◌ {A = Result ℕ Error} (Err d) (Ok n) = e in cc)
+
+pub count_refused : (read : Result (List Entry) Error) (error : Error) → (read >>= (λ items. Ok (length items))) ≡ Err error → read ≡ Err error
+count_refused (Ok items) error e = absurd (let wrong : ◌≡◌ {A = Result ℕ Error} (Ok (length items)) (Err error) = e in cc)
+count_refused (Err d) error e = let same : ◌≡◌ {A = Result ℕ Error} (Err d) (Err error) = e in cc
+
+-- a step of the count
+pub counts_step_on : (o o' : Option (List ℕ)) (hs : List Handle) (s t : Scan Handle) (p : IndexBlockParsedItem) (h : HandleParts) (count len n : ℕ) → o' ≡ o
+    → IfSome o (λ all. CountsTo (blocks_read all hs) (blocks_read all (items_left s.window)) count) → h ≡ record { offset = p.offset.0; size = p.size } → GivesNextHeld handle_of IsParsedHandle s (Some p) t
+    → IfSome o' (λ all. block_count all h ≡ Ok len) → n ≡ min (count + len) (2 ^ 64 - 1) → IfSome o (λ all. CountsTo (blocks_read all hs) (blocks_read all (items_left t.window)) n)
+counts_step_on None o' hs s t p h count len n same to is gives read e = tt
+counts_step_on (Some all) o' hs s t p h count len n same to is gives read e =
+    let r = count_read (block_read all h) len (subst (λ x. IfSome x (λ bytes. block_count bytes h ≡ Ok len)) same read) in
+    counts_next (blocks_read all hs) (blocks_read all (items_left s.window)) (blocks_read all (items_left t.window)) r.0 count n to (read_step all s t p h (Ok r.0) is gives r.1) (rw r.2 e)
+
+pub counts_fail_on : (o o' : Option (List ℕ)) (hs : List Handle) (s t : Scan Handle) (p : IndexBlockParsedItem) (h : HandleParts) (count : ℕ) (error : Error) (P Q : Type 0) → o' ≡ o
+    → IfSome o (λ all. CountsTo (blocks_read all hs) (blocks_read all (items_left s.window)) count) → h ≡ record { offset = p.offset.0; size = p.size } → GivesNextHeld handle_of IsParsedHandle s (Some p) t
+    → (P → Q) → IfSome o' (λ all. FailsAs P (block_count all h) error) → IfSome o (λ all. FailsAs Q (entries_counted all hs) error)
+counts_fail_on None o' hs s t p h count error P Q same to is gives later fails = tt
+counts_fail_on (Some all) o' hs s t p h count error P Q same to is gives later fails = λ other.
+    elim ((subst (λ x. IfSome x (λ bytes. FailsAs P (block_count bytes h) error)) same fails) other) [
+      | inl failed ↦ inl (failed.0, later failed.1)
+      | inr refused ↦ inr (counts_refused all hs (blocks_read all (items_left s.window)) (blocks_read all (items_left t.window)) count error to
+          (read_step all s t p h (Err error) is gives (count_refused (block_read all h) error refused)))
+    ]
+
+ok_read : (read : Result (List Entry) Error) → IsOk read → (items : List Entry) × (read ≡ Ok items)
+ok_read (Ok items) h = (items, refl)
+ok_read (Err d) h = absurd (let wrong : false ≡ true = h in cc)
+
+-- printing fails only where a block was read, or the source failed
+pub prints_io_on : (o o' old now : Option (List ℕ)) (hs : List Handle) (s t : Scan Handle) (p : IndexBlockParsedItem) (h : HandleParts) (P Q : Type 0) (error : Error) → o' ≡ o
+    → IfSome o (λ all. PrintsTo old now (blocks_read all hs) (blocks_read all (items_left s.window))) → h ≡ record { offset = p.offset.0; size = p.size } → GivesNextHeld handle_of IsParsedHandle s (Some p) t
+    → (P → Q) → IfSome o' (λ all. error ≡ Io → P ⊎ IsOk (block_read all h)) → IfSome o (λ all. error ≡ Io → Q ⊎ (1 ≤ length (before_refusal (blocks_read all hs))))
+prints_io_on None o' old now hs s t p h P Q error same to is gives later fails = tt
+prints_io_on (Some all) o' old now hs s t p h P Q error same to is gives later fails = λ io.
+    elim ((subst (λ x. IfSome x (λ bytes. error ≡ Io → P ⊎ IsOk (block_read bytes h))) same fails) io) [
+      | inl failed ↦ inl (later failed)
+      | inr ok ↦ (
+          let r = ok_read (block_read all h) ok in
+          let next = read_next (blocks_read all hs) (blocks_read all (items_left s.window)) (blocks_read all (items_left t.window)) to.done r.0 to.read (read_step all s t p h (Ok r.0) is gives r.1) in
+          let whole = ap length next.before in
+          let parts = length-append (to.done ++ (r.0 ∷ [])) (before_refusal (blocks_read all (items_left t.window))) in
+          let front = length-append to.done (r.0 ∷ []) in
+          inr (omega (arith, whole, parts, front)))
+    ]

@@ -1,0 +1,12 @@
+use Rattle.std.proofs.Common.{◌≡◌, ◌≤◌, IfSome}
+use Rattle.sst_block_core.specs.Window.{items_left}
+use Rattle.sst_program.specs.TableReads.{blocks_read}
+use Rattle.sst_program.proofs.TableReads.{CountsTo}
+use Rattle.sst_program.proofs.check.check_blocks.Given as goal
+
+abbrev pub invariant-loop-item : goal.invariant-loop-item
+invariant-loop-item g l = record {
+  same : g.S.FrameSource.bytes l.source ≡ g.S.FrameSource.bytes l.initial.source;
+  failures_grow : g.S.FrameSource.failures l.initial.source ≤ g.S.FrameSource.failures l.source;
+  known : IfSome (g.S.FrameSource.bytes l.initial.source) (λ all. CountsTo (blocks_read all l.index.items) (blocks_read all (items_left l.item-iterator.window)) l.entries);
+}

@@ -1,0 +1,10 @@
+use Rattle.std.proofs.Common.{sym, subst}
+use Rattle.std.proofs.lemmas.Result.{err_from_is_err_and}
+use Rattle.sst_base.specs.FrameErrors.{NotIo}
+use Rattle.sstable_blocks.proofs.CheckedReads.{filter_not_io}
+use Rattle.sst_program.proofs.check.check_filter.Goals as goal
+
+pub returns-in_err-new-clause-io : goal.returns-in_err-new-clause-io
+returns-in_err-new-clause-io g c =
+    let r = err_from_is_err_and c.from_residual-in_err-new.result c.from_residual-in_err-new.ensures.1 in
+    rw (r.1, r.2) (λ io. absurd (subst NotIo (sym c.in_err-new.ensures) (filter_not_io _) io))

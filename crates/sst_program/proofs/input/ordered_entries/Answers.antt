@@ -1,0 +1,21 @@
+use Rattle.std.proofs.Common.{sym}
+use Rattle.std.proofs.lemmas.Result.{err_from_is_err_and}
+use Rattle.sst_program.proofs.Outcomes.{run-read, run-refused, fault-of_line}
+use Rattle.sst_program.proofs.input.ordered_entries.Goals as goal
+
+pub returns-in_err-items-clause-err : goal.returns-in_err-items-clause-err
+returns-in_err-items-clause-err g c =
+    let p = err_from_is_err_and c.from_residual-in_err-items.result c.from_residual-in_err-items.ensures.1 in
+    let fault = fault-of_line (g.I.Read.remaining c.args.input.now) c.in_ok-bytes.bytes.items c.as_slice.result.now c.in_err-items.field-0.0
+    c.in_ok-bytes.ensures.bytes c.as_slice.ensures.value c.in_err-items.ensures.err in
+    rw (p.1, p.2) fault
+
+pub returns-in-Some-clause-err : goal.returns-in-Some-clause-err
+returns-in-Some-clause-err g c =
+    run-refused (g.I.Read.remaining c.args.input.now) c.in_ok-bytes.bytes.items c.as_slice.result.now c.in_ok-items.items.items c.as_slice-2.result.now c.in-Some.fault
+    c.in_ok-bytes.ensures.bytes c.as_slice.ensures.value c.in_ok-items.ensures.ok c.as_slice-2.ensures.value (sym c.in-Some.ensures.fault)
+
+pub returns-clause-ok : goal.returns-clause-ok
+returns-clause-ok g c =
+    run-read (g.I.Read.remaining c.args.input.now) c.in_ok-bytes.bytes.items c.as_slice.result.now c.in_ok-items.items.items c.as_slice-2.result.now
+    c.in_ok-bytes.ensures.bytes c.as_slice.ensures.value c.in_ok-items.ensures.ok c.as_slice-2.ensures.value (sym c.in-None.ensures.fault)

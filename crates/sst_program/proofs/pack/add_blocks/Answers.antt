@@ -1,0 +1,28 @@
+use Rattle.std.proofs.Common.{◌≤◌, length, ◌∙◌, arith}
+use Rattle.sst_program.proofs.Outcomes.{some-from_test}
+use Rattle.sst_program.proofs.Tables.{all-next, ordered-next, size-next, full-next}
+use Rattle.sst_program.proofs.pack.add_blocks.Goals as goal
+
+pub add_block-requires : goal.add_block-requires
+add_block-requires g c =
+    let some : 1 ≤ length c.loop-rest.rest.now = some-from_test _ c.loop-rest-test.ensures in
+    record {
+      some = omega (arith, c.split_at.ensures.front_len, c.min.ensures, c.requires.per_block);
+      ordered = ordered-next c.loop-rest.run.blocks c.split_at.result.0.now c.split_at.result.1.now c.loop-rest.rest.now c.args.items.now c.loop-rest.invariant.all c.split_at.ensures.by_index.0 c.requires.ordered;
+    }
+
+pub loop-rest-preserved : goal.loop-rest-preserved
+loop-rest-preserved g c =
+    let i = c.loop-rest.invariant in
+    let e = c.in_ok-add_block.ensures in
+    let some : 1 ≤ length c.loop-rest.rest.now = some-from_test _ c.loop-rest-test.ensures in
+    let front : 1 ≤ length c.split_at.result.0.now = omega (arith, c.split_at.ensures.front_len, c.min.ensures, c.requires.per_block) in
+    let most : length c.split_at.result.0.now ≤ c.args.per_block = omega (arith, c.split_at.ensures.front_len, c.min.ensures) in
+    record {
+      config = e.config ∙ i.config;
+      start = e.start ∙ i.start;
+      accepting = e.«open»;
+      all = rw e.accepted (all-next c.loop-rest.run.blocks c.split_at.result.0.now c.split_at.result.1.now c.loop-rest.rest.now c.args.items.now i.all c.split_at.ensures.by_index.0);
+      sizes = rw e.accepted (size-next c.args.per_block c.loop-rest.run.blocks c.split_at.result.0.now (i.full some) front most);
+      full = λ more. rw e.accepted (full-next c.args.per_block c.loop-rest.run.blocks c.split_at.result.0.now (i.full some) (omega (arith, c.split_at.ensures.front_len, c.split_at.ensures.back_len, c.min.ensures, more)));
+    }

@@ -1,0 +1,138 @@
+-- Reading a table from bytes: its footer, its filter, its index, and its blocks in order, each with its check. The first refusal ends it.
+use Rattle.std.specs.Prelude.{◌≡◌, ℕ, ◌-◌, ◌^◌, min, List, [], ◌∷◌, length, take, drop, map, Option, Some, None, Result, Ok, Err}
+use Rattle.std.specs.Io.KnownBytes.{Appends}
+use Rattle.sst_base.specs.BlockHandle.{HandleParts}
+use Rattle.sst_base.specs.Entry.{Entry}
+use Rattle.sst_base.specs.Hashes.{poly31}
+use Rattle.sst_base.specs.Header.{◌>>=◌}
+use Rattle.sst_base.specs.declared.error.Error.{Error}
+use Rattle.sst_base.specs.declared.table.block.block_type.BlockType.TheVariants as types
+use Rattle.sst_block_kinds.specs.Checks.{data_check, index_check}
+use Rattle.sst_block_kinds.specs.Handles.{Handle}
+use Rattle.sstable_blocks.specs.Blocks.{joined}
+use Rattle.sstable_blocks.specs.Filter.{filter_at}
+use Rattle.sstable_blocks.specs.Opened.{range_of}
+use Rattle.sstable_blocks.specs.RunReading.{Hashes, hashes, payload_at}
+use Rattle.sstable_blocks.specs.declared.run.RunHandles.{RunHandles}
+use Rattle.sst_program.specs.Footer.{handles_at}
+use Rattle.sst_program.specs.Outcome.{lines_text_of, answer_text_of, checked_text_of}
+
+-- the hashes that `sst` reads a run by
+abbrev pub sst_hashes : Hashes
+sst_hashes = hashes (poly31 64) (poly31 128)
+
+-- where the footer of a table of this length is: its last 24 bytes
+abbrev pub footer_place : ℕ → HandleParts
+footer_place len = record { offset = len - min len 24; size = min len 24 }
+
+-- the handles in the footer of a table
+unfoldable pub table_handles : List ℕ → Result RunHandles Error
+table_handles bytes = handles_at (drop (length bytes - 24) bytes)
+
+-- the handles of the index in the range of a handle
+unfoldable pub index_read : List ℕ → HandleParts → Result (List Handle) Error
+index_read bytes h = do
+  p ← payload_at sst_hashes types.Index bytes h
+  index_check p
+
+-- the entries of the data block in the range of a handle
+unfoldable pub block_read : List ℕ → HandleParts → Result (List Entry) Error
+block_read bytes h = do
+  p ← payload_at sst_hashes types.Data bytes h
+  data_check (poly31 64) p
+
+-- the number of its entries
+abbrev pub block_count : List ℕ → HandleParts → Result ℕ Error
+block_count bytes h = do
+  items ← block_read bytes h
+  Ok (length items)
+
+-- is there a filter in the range of a handle?
+unfoldable pub filter_check : List ℕ → HandleParts → Result (Unit {0}) Error
+filter_check bytes h = do
+  p ← payload_at sst_hashes types.Filter bytes h
+  f ← filter_at p
+  Ok tt
+
+-- the same of the filter of a run, if it has one
+abbrev pub run_filter_check : List ℕ → Option HandleParts → Result (Unit {0}) Error
+run_filter_check bytes None = Ok tt
+run_filter_check bytes (Some h) = filter_check bytes h
+
+-- what is read of the blocks of these handles, in order
+abbrev pub blocks_read : List ℕ → List Handle → List (Result (List Entry) Error)
+blocks_read bytes hs = map (λ h. block_read bytes (range_of h)) hs
+
+-- the same of the handles of an index. Where that is refused, the refusal is all.
+abbrev pub blocks_by : List ℕ → Result (List Handle) Error → List (Result (List Entry) Error)
+blocks_by bytes (Ok hs) = blocks_read bytes hs
+blocks_by bytes (Err e) = Err e ∷ []
+
+-- the same of a run, by the range of its index
+abbrev pub run_blocks : List ℕ → HandleParts → List (Result (List Entry) Error)
+run_blocks bytes index = blocks_by bytes (index_read bytes index)
+
+-- what is read before the first refusal
+abbrev pub before_refusal : {X : Type 0} → List (Result X Error) → List X
+before_refusal [] = []
+before_refusal (Ok x ∷ reads) = x ∷ before_refusal reads
+before_refusal (Err e ∷ reads) = []
+
+-- the first refusal, if there is one
+abbrev pub first_refusal : {X : Type 0} → List (Result X Error) → Option Error
+first_refusal [] = None
+first_refusal (Ok x ∷ reads) = first_refusal reads
+first_refusal (Err e ∷ reads) = Some e
+
+-- a value, unless something is refused
+abbrev pub unless_refused : {X : Type 0} → Option Error → X → Result X Error
+unless_refused None x = Ok x
+unless_refused (Some e) x = Err e
+
+-- all that is read, or the first refusal
+abbrev pub all_read : {X : Type 0} → List (Result X Error) → Result (List X) Error
+all_read reads = unless_refused (first_refusal reads) (before_refusal reads)
+
+-- the number of the entries of blocks, at most 2 ^ 64 - 1
+abbrev pub entry_count : List (List Entry) → ℕ
+entry_count blocks = min (length (joined blocks)) (2 ^ 64 - 1)
+
+-- the number of the entries of the blocks of these handles, or the first refusal
+unfoldable pub entries_counted : List ℕ → List Handle → Result ℕ Error
+entries_counted bytes hs = do
+  blocks ← all_read (blocks_read bytes hs)
+  Ok (entry_count blocks)
+
+-- the numbers of the blocks of a run and of their entries, or the first refusal: that of its filter, of its index or of a block
+unfoldable pub run_counts : List ℕ → RunHandles → Result (ℕ × ℕ) Error
+run_counts bytes h = do
+  filter ← run_filter_check bytes h.filter
+  hs ← index_read bytes h.index
+  entries ← entries_counted bytes hs
+  Ok (length hs, entries)
+
+-- a reading gave some value, and of that value this holds
+abbrev pub ReadAnd : {X : Type 0} → Result X Error → (X → Type 0) → Type 0
+ReadAnd {X} read P = (x : X) × (read ≡ Ok x) × P x
+
+-- the output grew by the lines of the entries that a reading gave
+abbrev pub PrintsLinesOf : Result (List Entry) Error → Option (List ℕ) → Option (List ℕ) → Type 0
+PrintsLinesOf read old new = ReadAnd read (λ items. Appends old new (lines_text_of items))
+
+-- by the text of the entry that it found, or found not
+abbrev pub PrintsAnswerOf : Result (Option Entry) Error → Option (List ℕ) → Option (List ℕ) → Type 0
+PrintsAnswerOf read old new = ReadAnd read (λ found. Appends old new (answer_text_of found))
+
+-- by the numbers that it gave
+abbrev pub PrintsCountsOf : Result (ℕ × ℕ) Error → Option (List ℕ) → Option (List ℕ) → Type 0
+PrintsCountsOf read old new = ReadAnd read (λ counts. Appends old new (checked_text_of counts.0 counts.1))
+
+-- the output grew by the lines of all entries of the blocks before the first refusal, which is this, if there is one
+pub record PrintsUntil (old new : Option (List ℕ)) (reads : List (Result (List Entry) Error)) (refusal : Option Error) : Type 0 where
+  pub until : first_refusal reads ≡ refusal
+  pub lines : Appends old new (lines_text_of (joined (before_refusal reads)))
+
+-- by the lines of the first of these blocks
+pub record PrintsFirst (old new : Option (List ℕ)) (reads : List (Result (List Entry) Error)) : Type 0 where
+  pub count : ℕ
+  pub lines : Appends old new (lines_text_of (joined (take count (before_refusal reads))))

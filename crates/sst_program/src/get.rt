@@ -1,0 +1,104 @@
+//! `get`: one look-up in a table file.
+ghost use Rattle.std.specs.Prelude.{◌≡◌, ◌≢◌, ◌⊎◌, ◌≤◌, ◌<◌, Err, OnOk};
+ghost use Rattle.std.specs.Prelude.{IfOk, IfErr, IfSome, IsOk};
+ghost use Rattle.std.specs.Prelude.{IsOkUnless, Option, string_bytes};
+ghost use Rattle.std.specs.Io.KnownBytes.{Keeps};
+ghost use Rattle.sst_base.specs.declared.error.Error.TheVariants.{Io, Memory};
+ghost use Rattle.sstable_blocks.specs.RunReading.{read_checked};
+ghost use Rattle.sstable_blocks.specs.Sources.{GivesOr};
+ghost use Rattle.sst_program.specs.TableReads.{sst_hashes, PrintsAnswerOf};
+ghost use Rattle.sst_program.specs.Outcome.{answer_text_of, PrintsAnswer, PrintsNothing, IsRefused};
+
+use crate::fault::Fault;
+use crate::lines::answer_line;
+use crate::output::print_text;
+use crate::table::open_table;
+use crate::words::GetWords;
+use sstable_blocks::{
+    Error, FrameSource, InternalValue, Poly31, Result, RunHandles, read_entry_checked,
+};
+use std::alloc::Global;
+use std::io::Write;
+use std::rt::Files;
+
+// The first match in a run.
+fn find<S: FrameSource>(
+    alloc: Global,
+    source: &mut S,
+    handles: &RunHandles,
+    words: &GetWords<'_>,
+) -> Result<Option<InternalValue>>
+    ensures same { S.bytes source.new ≡ S.bytes source.old }
+    ensures failures_grow { S.failures source.old ≤ S.failures source.new }
+    ensures io { IfErr result (λ e. e ≡ Io → S.failures source.old < S.failures source.new) }
+    ensures exact { IfSome (S.bytes source.old) (λ all.
+        GivesOr (S.failures source.old < S.failures source.new) (λ x. x) result
+        (read_checked sst_hashes all handles.now words.now.needle words.now.seqno)) }
+{
+    read_entry_checked::<Poly31, S>(alloc, source, handles, words.needle(), words.seqno())
+}
+
+// The line of what is found, with its line feed.
+fn answer_text(alloc: Global, found: Option<InternalValue>) -> Result<String>
+    ensures ok { IfOk result (λ text. string_bytes text ≡ answer_text_of found) }
+    ensures memory { IsOkUnless result Error.Memory }
+{
+    let mut text = answer_line(alloc, found)?;
+    text.push('\n')?;
+    Ok(text)
+}
+
+/// Prints the entry that is found in a run, or `none`.
+///
+/// # Errors
+///
+/// As [`get`], once the file is open.
+pub fn print_found<S: FrameSource, O: Write>(
+    alloc: Global,
+    source: &mut S,
+    handles: &RunHandles,
+    words: &GetWords<'_>,
+    output: &mut O,
+) -> Result<()>
+    ensures same { S.bytes source.new ≡ S.bytes source.old }
+    ensures failures_grow { S.failures source.old ≤ S.failures source.new }
+    ensures printed { OnOk result (PrintsAnswer (O.contents output.old) (O.contents output.new)) }
+    ensures kept { IfErr result
+        (λ e. (e ≡ Io) ⊎ Keeps (O.contents output.old) (O.contents output.new)) }
+    ensures exact { IfSome (S.bytes source.old) (λ all. OnOk result (PrintsAnswerOf
+        (read_checked sst_hashes all handles.now words.now.needle words.now.seqno)
+        (O.contents output.old) (O.contents output.new))) }
+    ensures refused { IfSome (S.bytes source.old)
+        (λ all. IfErr result (λ e. e ≢ Memory → e ≢ Io
+        → read_checked sst_hashes all handles.now words.now.needle words.now.seqno ≡ Err e)) }
+    ensures io { IfSome (S.bytes source.old) (λ all. IfErr result (λ e. e ≡ Io
+        → (S.failures source.old < S.failures source.new)
+        ⊎ IsOk (read_checked sst_hashes all handles.now words.now.needle words.now.seqno))) }
+{
+    let found = find(alloc, source, handles, words)?;
+    let text = answer_text(alloc, found)?;
+    print_text(output, text.as_bytes())
+}
+
+/// Prints the entry that is found in a table file, or `none`. A needle that is too long for a key
+/// is looked up like any other. Of the file its footer is read, and the frames that
+/// `read_entry_checked` reads.
+///
+/// # Errors
+///
+/// `Error::Io` if the file or the output fails, `Error::Truncated` if the file is shorter than a
+/// footer, those of `read_entry_checked`, and `Error::Memory` if an allocation fails.
+pub fn get<R: Files, O: Write>(
+    rt: &R,
+    alloc: Global,
+    words: &GetWords<'_>,
+    output: &mut O,
+) -> std::result::Result<(), Fault>
+    ensures printed { OnOk result (PrintsAnswer (O.contents output.old) (O.contents output.new)) }
+    ensures err { IfErr result IsRefused }
+    ensures kept { IfErr result (PrintsNothing (O.contents output.old) (O.contents output.new)) }
+{
+    let mut table = open_table(rt, alloc, words.file())?;
+    print_found(alloc, &mut table.source, &table.handles, words, output)?;
+    Ok(())
+}

@@ -1,0 +1,164 @@
+//! `pack`: a table file of all entries.
+ghost use Rattle.std.specs.Prelude.{◌≡◌, ◌+◌, ◌≤◌, OnOk, IfOk, IfErr, IfSome};
+ghost use Rattle.std.specs.Prelude.{IsOkUnless, length};
+ghost use Rattle.std.specs.Prelude.{List, [], None, string_bytes};
+ghost use Rattle.sst_base.specs.Entry.{Entry};
+ghost use Rattle.sst_block_core.specs.Entries.{entries};
+ghost use Rattle.sst_block_core.specs.Kind.{IsOrdered};
+ghost use Rattle.sst_program.specs.Outcome.{packed_text_of, PrintsPacked, PrintsNothing, IsPackFault};
+ghost use Rattle.sst_program.specs.Table.{IsCutBy, AppendsTable, IsWriteFault, end_of, run_end};
+
+use crate::fault::Fault;
+use crate::footer::{FOOTER_LEN, footer_of};
+use crate::input::ordered_entries;
+use crate::output::print_text;
+use crate::words::PackWords;
+use sstable_blocks::{
+    BlockHandle, Error, InternalValue, Poly31, Result, RunConfig, RunHandles, RunWriter,
+};
+use std::alloc::Global;
+use std::fs;
+use std::io::{BufWriter, Read, Write};
+use std::rt::Files;
+
+/// What was written of a table.
+#[derive(Clone, Copy, Debug, PartialEq, Eq)]
+pub struct Packed {
+    /// The number of blocks.
+    pub blocks: usize,
+    /// The number of bytes, those of the footer included.
+    pub len: u64,
+}
+
+// Writes the blocks of a run, each of `per_block` entries, the last perhaps of fewer.
+fn add_blocks<W: Write>(
+    run: &mut RunWriter<Poly31, W>,
+    items: &[InternalValue],
+    per_block: usize,
+) -> Result<()>
+    requires fresh { run.old.blocks ≡ [] }
+    requires accepting { run.old.refusal ≡ None }
+    requires per_block { 1 ≤ per_block }
+    requires ordered { IsOrdered entries items.now }
+    ensures cut { OnOk result (IsCutBy per_block items.now run.new.blocks) }
+    ensures accepting { OnOk result (run.new.refusal ≡ None) }
+    ensures config { run.new.config ≡ run.old.config }
+    ensures start { run.new.start ≡ run.old.start }
+    ensures cause { IfErr result IsWriteFault }
+{
+    let mut rest = items;
+    while !rest.is_empty() {
+        let (block, behind) = rest.split_at(per_block.min(rest.len()));
+        run.add_block(block)?;
+        rest = behind;
+    }
+    Ok(())
+}
+
+// The offset behind a frame.
+fn end_of(handle: &BlockHandle) -> Option<u64>
+    ensures { IfSome result (λ end. end ≡ end_of handle.now) }
+{
+    handle.offset().checked_add(u64::from(handle.size()))
+}
+
+// The length of the table of a run with these handles.
+fn table_len(handles: &RunHandles) -> Result<u64>
+    ensures len { IfOk result (λ len. len ≡ run_end handles.now + 24) }
+    ensures too_long { IsOkUnless result Error.TooLong }
+{
+    let last = handles.filter.as_ref().unwrap_or(&handles.index);
+    match end_of(last).and_then(|end| end.checked_add(FOOTER_LEN as u64)) {
+        Some(len) => Ok(len),
+        None => Err(Error::TooLong),
+    }
+}
+
+/// Writes a table: the run of ordered entries, in blocks of `per_block` entries, the last perhaps
+/// of fewer, and its footer. Returns what was written, and the writer.
+///
+/// # Errors
+///
+/// Those of `RunWriter::add_block` and `RunWriter::finish`; `Error::TooLong` too where the table
+/// has 2^64 bytes or more.
+pub fn write_table<W: Write + Drop>(
+    alloc: Global,
+    writer: W,
+    items: &[InternalValue],
+    config: RunConfig,
+    per_block: usize,
+) -> Result<(Packed, W)>
+    requires interval { 1 ≤ config.restart_interval }
+    requires index_interval { 1 ≤ config.index_interval }
+    requires den { 1 ≤ config.ratio.den }
+    requires per_block { 1 ≤ per_block }
+    requires some { 1 ≤ length items.now }
+    requires ordered { IsOrdered entries items.now }
+    ensures table { IfOk result
+        (λ r. AppendsTable config per_block items.now (W.contents writer) (W.contents r.1) r.0) }
+    ensures cause { IfErr result IsWriteFault }
+{
+    let mut run = RunWriter::<Poly31, W>::new(alloc, writer, config);
+    add_blocks(&mut run, items, per_block)?;
+    let blocks = run.block_count();
+    let (handles, mut writer) = run.finish()?;
+    let len = table_len(&handles)?;
+    writer.write_all(&footer_of(&handles))?;
+    writer.flush()?;
+    Ok((Packed { blocks, len }, writer))
+}
+
+// Makes the file of a table, or empties the one that is there, and writes the table.
+fn write_file<R: Files>(
+    rt: &R,
+    alloc: Global,
+    words: &PackWords<'_>,
+    items: &[InternalValue],
+) -> Result<Packed>
+    requires some { 1 ≤ length items.now }
+    requires ordered { IsOrdered entries items.now }
+    ensures blocks { IfOk result (λ p. (blocks : List (List Entry))
+        × IsCutBy words.now.per_block items.now blocks × (p.blocks ≡ length blocks)) }
+    ensures cause { IfErr result IsWriteFault }
+{
+    let file = fs::create(rt, words.file())?;
+    let writer = BufWriter::new(alloc, file).map_err(|_| Error::Memory)?;
+    let (packed, _) = write_table(alloc, writer, items, words.config(), words.per_block())?;
+    Ok(packed)
+}
+
+// The line of what was packed, with its line feed.
+fn packed_text(alloc: Global, entries: usize, packed: &Packed) -> Result<String>
+    ensures ok { IfOk result
+        (λ text. string_bytes text ≡ packed_text_of entries packed.now.blocks packed.now.len) }
+    ensures memory { IsOkUnless result Error.Memory }
+{
+    let Packed { blocks, len } = *packed;
+    Ok(format!(in alloc; "packed {entries} entries in {blocks} blocks, {len} bytes\n")?)
+}
+
+/// Reads entries, writes their table file, and prints how much was packed.
+///
+/// # Errors
+///
+/// `Fault::NoEntries`, `Fault::Entry` and `Fault::Order` as the input demands; the file is not
+/// touched then. `Error::Io` if the input, the file or the output fails, `Error::TooLong` if the
+/// run does not fit: see `RunWriter`. `Error::Memory` if an allocation fails.
+pub fn pack<R: Files, I: Read, O: Write>(
+    rt: &R,
+    alloc: Global,
+    words: &PackWords<'_>,
+    input: &mut I,
+    output: &mut O,
+) -> std::result::Result<(), Fault>
+    ensures printed { OnOk result (PrintsPacked words.now.per_block (I.remaining input.old)
+        (O.contents output.old) (O.contents output.new)) }
+    ensures err { IfErr result (IsPackFault (I.remaining input.old)) }
+    ensures kept { IfErr result (PrintsNothing (O.contents output.old) (O.contents output.new)) }
+{
+    let items = ordered_entries(alloc, input)?;
+    let packed = write_file(rt, alloc, words, items.as_slice())?;
+    let text = packed_text(alloc, items.len(), &packed)?;
+    print_text(output, text.as_bytes())?;
+    Ok(())
+}

@@ -1,0 +1,139 @@
+//! Table files: a run and its footer.
+ghost use Rattle.std.specs.Prelude.{◌≡◌, ◌⊎◌, ◌≤◌, ◌<◌, length, IfErr};
+ghost use Rattle.std.specs.Prelude.{IfSome};
+ghost use Rattle.sst_base.specs.declared.error.Error.TheVariants.{Io, Truncated, BadHandle, Memory};
+ghost use Rattle.sst_program.specs.TableReads.{footer_place, table_handles, index_read, block_read};
+ghost use Rattle.sstable_blocks.specs.Sources.{GivesOr};
+
+use crate::footer::{FOOTER_LEN, handles_in};
+use sstable_blocks::run::checked::{block_from, check_data, check_index};
+use sstable_blocks::{
+    BlockHandle, BlockOffset, BlockType, DataBlock, Error, FileSource, FrameSource, IndexBlock,
+    Input, Poly31, Result, RunHandles, SeekInput,
+};
+use std::alloc::Global;
+use std::io::{Read, Seek, SeekFrom};
+use std::rt::Files;
+use std::{fs, io};
+
+/// An open file. Nothing is known of its bytes.
+#[derive(Drop)]
+pub struct TableFile<F> {
+    file: F,
+}
+
+impl<F: Read> Read for TableFile<F> {
+    fn read(&mut self, buf: &mut [u8]) -> io::Result<usize> {
+        self.file.read(buf)
+    }
+}
+
+impl<F: Seek> Seek for TableFile<F> {
+    fn seek(&mut self, to: SeekFrom) -> io::Result<u64> {
+        self.file.seek(to)
+    }
+}
+
+impl<F: Read> Input for TableFile<F> {
+    fn fill(&mut self, buf: &mut [u8]) -> Result<()> {
+        Ok(self.read_exact(buf)?)
+    }
+}
+
+impl<F: Read + Seek> SeekInput for TableFile<F> {
+    ghost left_at_position = { λ s at bytes position. Prim.cc };
+}
+
+/// The frames of a table file, and where its index and its filter are.
+#[derive(Drop)]
+pub struct Table<F> {
+    /// The frames.
+    pub source: FileSource<TableFile<F>>,
+    /// The frames of the index and of the filter, as the footer says.
+    pub handles: RunHandles,
+}
+
+/// Opens a table file and reads its footer.
+///
+/// # Errors
+///
+/// `Error::Io` if the file cannot be opened or read, `Error::Truncated` below 24 bytes, and
+/// `Error::Memory` if an allocation fails.
+pub fn open_table<R: Files>(rt: &R, alloc: Global, name: &str) -> Result<Table<R::File>>
+    ensures err { IfErr result (λ e. (e ≡ Io) ⊎ (e ≡ Truncated) ⊎ (e ≡ Memory)) }
+{
+    let mut file = TableFile {
+        file: fs::open(rt, name)?,
+    };
+    let len = file.seek(SeekFrom::End(0))?;
+    let mut source = FileSource::new(file);
+    let handles = read_footer(alloc, &mut source, len)?;
+    Ok(Table { source, handles })
+}
+
+/// Reads the footer of a table of this length.
+///
+/// # Errors
+///
+/// Those of `FrameSource::read_frame`, then `Error::Truncated` below 24 bytes.
+pub fn read_footer<S: FrameSource>(alloc: Global, source: &mut S, len: u64) -> Result<RunHandles>
+    ensures same { S.bytes source.new ≡ S.bytes source.old }
+    ensures failures_grow { S.failures source.old ≤ S.failures source.new }
+    ensures io { IfErr result (λ e. e ≡ Io → S.failures source.old < S.failures source.new) }
+    ensures exact { IfSome (S.bytes source.old) (λ all. len ≡ length all
+        → GivesOr (S.failures source.old < S.failures source.new) (λ h. h) result
+        (table_handles all)) }
+    ensures errors { IfErr result (λ e. (e ≡ Io) ⊎ (e ≡ Truncated) ⊎ (e ≡ Memory)
+        ⊎ ((e ≡ BadHandle) × S.may_refuse source.old (footer_place len))) }
+{
+    let size = len.min(FOOTER_LEN as u64);
+    let footer = BlockHandle::new(BlockOffset(len - size), size as u32);
+    let footer = source.read_frame(alloc, &footer)?;
+    handles_in(footer.as_slice())
+}
+
+/// Reads and checks the index of a run.
+///
+/// # Errors
+///
+/// Those of its frame, then `Error::InvalidTag` if it is of another type, then those of
+/// `IndexBlock::check`. `Error::Memory` if an allocation fails.
+#[tactic(auto, unfolding(crate::specs::TableReads::index_read))]
+pub fn index_at<S: FrameSource>(
+    alloc: Global,
+    source: &mut S,
+    handle: &BlockHandle,
+) -> Result<IndexBlock>
+    ensures same { S.bytes source.new ≡ S.bytes source.old }
+    ensures failures_grow { S.failures source.old ≤ S.failures source.new }
+    ensures io { IfErr result (λ e. e ≡ Io → S.failures source.old < S.failures source.new) }
+    ensures exact { IfSome (S.bytes source.old) (λ all.
+        GivesOr (S.failures source.old < S.failures source.new) (λ b. b.items) result
+        (index_read all handle.now)) }
+{
+    let block = block_from::<Poly31, S>(alloc, source, handle, BlockType::Index)?;
+    check_index(block)
+}
+
+/// Reads and checks a data block of a run.
+///
+/// # Errors
+///
+/// Those of its frame, then `Error::InvalidTag` if it is of another type, then those of
+/// `DataBlock::check`. `Error::Memory` if an allocation fails.
+#[tactic(auto, unfolding(crate::specs::TableReads::block_read))]
+pub fn data_block_at<S: FrameSource>(
+    alloc: Global,
+    source: &mut S,
+    handle: &BlockHandle,
+) -> Result<DataBlock<Poly31>>
+    ensures same { S.bytes source.new ≡ S.bytes source.old }
+    ensures failures_grow { S.failures source.old ≤ S.failures source.new }
+    ensures io { IfErr result (λ e. e ≡ Io → S.failures source.old < S.failures source.new) }
+    ensures exact { IfSome (S.bytes source.old) (λ all.
+        GivesOr (S.failures source.old < S.failures source.new) (λ b. b.items) result
+        (block_read all handle.now)) }
+{
+    let block = block_from::<Poly31, S>(alloc, source, handle, BlockType::Data)?;
+    check_data::<Poly31>(alloc, block)
+}

@@ -1,0 +1,153 @@
+//! `walk`: all entries of a table file.
+ghost use Rattle.std.specs.Prelude.{◌≡◌, ◌≢◌, ◌⊎◌, ◌≤◌, ◌<◌, None};
+ghost use Rattle.std.specs.Prelude.{Some, Err, OnOk, IfOk, IfErr};
+ghost use Rattle.std.specs.Prelude.{IfSome, IsOk, length, IsOkUnless, string_bytes};
+ghost use Rattle.std.specs.Io.KnownBytes.{Keeps};
+ghost use Rattle.sst_base.specs.declared.error.Error.TheVariants.{Io, Memory};
+ghost use Rattle.sst_program.specs.declared.fault.Fault.TheVariants.{Refused};
+ghost use Rattle.sst_program.specs.Outcome.{lines_text_of, PrintsLines, IsRefused};
+ghost use Rattle.sst_program.specs.TableReads.{block_read, blocks_read, run_blocks, before_refusal};
+ghost use Rattle.sst_program.specs.TableReads.{PrintsLinesOf, PrintsUntil, PrintsFirst};
+
+use crate::fault::Fault;
+use crate::lines::entry_line;
+use crate::output::print_text;
+use crate::table::{data_block_at, index_at, open_table};
+use sstable_blocks::{BlockHandle, DataBlock, Error, FrameSource, IndexBlock, Poly31, Result};
+use std::alloc::Global;
+use std::io::Write;
+use std::rt::Files;
+
+// The lines of the entries of a block.
+fn lines_of(alloc: Global, block: &DataBlock<Poly31>) -> Result<String>
+    ensures ok { IfOk result (λ text. string_bytes text ≡ lines_text_of block.now.items) }
+    ensures memory { IsOkUnless result Error.Memory }
+{
+    let mut text = String::new(alloc);
+    for entry in block.entries() {
+        let line = entry_line(alloc, &entry.materialize(alloc)?)?;
+        text.push_str(line.as_str())?;
+        text.push('\n')?;
+    }
+    Ok(text)
+}
+
+// Prints the entries of the block of a handle, after its check.
+fn print_block<S: FrameSource, O: Write>(
+    alloc: Global,
+    source: &mut S,
+    handle: &BlockHandle,
+    output: &mut O,
+) -> Result<()>
+    ensures same { S.bytes source.new ≡ S.bytes source.old }
+    ensures failures_grow { S.failures source.old ≤ S.failures source.new }
+    ensures printed { OnOk result (PrintsLines (O.contents output.old) (O.contents output.new)) }
+    ensures kept { IfErr result
+        (λ e. (e ≡ Io) ⊎ Keeps (O.contents output.old) (O.contents output.new)) }
+    ensures exact { IfSome (S.bytes source.old) (λ all. OnOk result
+        (PrintsLinesOf (block_read all handle.now) (O.contents output.old)
+        (O.contents output.new))) }
+    ensures refused { IfSome (S.bytes source.old)
+        (λ all. IfErr result (λ e. e ≢ Memory → e ≢ Io
+        → block_read all handle.now ≡ Err e)) }
+    ensures io { IfSome (S.bytes source.old) (λ all. IfErr result (λ e. e ≡ Io
+        → (S.failures source.old < S.failures source.new) ⊎ IsOk (block_read all handle.now))) }
+{
+    let block = data_block_at(alloc, source, handle)?;
+    let text = lines_of(alloc, &block)?;
+    print_text(output, text.as_bytes())
+}
+
+// Prints the entries of the blocks of an index, each after its check.
+#[tactic(auto, using(crate::proofs::Outcomes::prints_kept))]
+fn print_blocks<S: FrameSource, O: Write>(
+    alloc: Global,
+    source: &mut S,
+    index: &IndexBlock,
+    output: &mut O,
+) -> Result<()>
+    ensures same { S.bytes source.new ≡ S.bytes source.old }
+    ensures failures_grow { S.failures source.old ≤ S.failures source.new }
+    ensures printed { OnOk result (PrintsLines (O.contents output.old) (O.contents output.new)) }
+    ensures kept { IfErr result
+        (λ e. (e ≡ Io) ⊎ PrintsLines (O.contents output.old) (O.contents output.new)) }
+    ensures exact { IfSome (S.bytes source.old) (λ all. OnOk result
+        (PrintsUntil (O.contents output.old) (O.contents output.new)
+        (blocks_read all index.now.items) None)) }
+    ensures refused { IfSome (S.bytes source.old)
+        (λ all. IfErr result (λ e. e ≢ Memory → e ≢ Io
+        → PrintsUntil (O.contents output.old) (O.contents output.new)
+        (blocks_read all index.now.items) (Some e))) }
+    ensures first { IfSome (S.bytes source.old) (λ all. IfErr result (λ e. (e ≡ Io)
+        ⊎ PrintsFirst (O.contents output.old) (O.contents output.new)
+        (blocks_read all index.now.items))) }
+    ensures io { IfSome (S.bytes source.old) (λ all. IfErr result (λ e. e ≡ Io
+        → (S.failures source.old < S.failures source.new)
+        ⊎ (1 ≤ length (before_refusal (blocks_read all index.now.items))))) }
+{
+    for item in index.iter() {
+        let handle = BlockHandle::new(item.offset, item.size);
+        print_block(alloc, source, &handle, output)?;
+    }
+    Ok(())
+}
+
+/// Prints all entries of a run in order, by the handle of its index.
+///
+/// # Errors
+///
+/// As [`walk`], once the file is open.
+pub fn print_entries<S: FrameSource, O: Write>(
+    alloc: Global,
+    source: &mut S,
+    index: &BlockHandle,
+    output: &mut O,
+) -> Result<()>
+    ensures same { S.bytes source.new ≡ S.bytes source.old }
+    ensures failures_grow { S.failures source.old ≤ S.failures source.new }
+    ensures printed { OnOk result (PrintsLines (O.contents output.old) (O.contents output.new)) }
+    ensures kept { IfErr result
+        (λ e. (e ≡ Io) ⊎ PrintsLines (O.contents output.old) (O.contents output.new)) }
+    ensures exact { IfSome (S.bytes source.old) (λ all. OnOk result
+        (PrintsUntil (O.contents output.old) (O.contents output.new)
+        (run_blocks all index.now) None)) }
+    ensures refused { IfSome (S.bytes source.old)
+        (λ all. IfErr result (λ e. e ≢ Memory → e ≢ Io
+        → PrintsUntil (O.contents output.old) (O.contents output.new)
+        (run_blocks all index.now) (Some e))) }
+    ensures first { IfSome (S.bytes source.old) (λ all. IfErr result (λ e. (e ≡ Io)
+        ⊎ PrintsFirst (O.contents output.old) (O.contents output.new)
+        (run_blocks all index.now))) }
+    ensures io { IfSome (S.bytes source.old) (λ all. IfErr result (λ e. e ≡ Io
+        → (S.failures source.old < S.failures source.new)
+        ⊎ (1 ≤ length (before_refusal (run_blocks all index.now))))) }
+{
+    let index = index_at(alloc, source, index)?;
+    print_blocks(alloc, source, &index, output)
+}
+
+/// Prints all entries of a table file in order, a line each, block by block. The filter is not
+/// read.
+///
+/// # Errors
+///
+/// `Error::Io` if the file or the output fails, `Error::Truncated` if the file is shorter than a
+/// footer, then those of the index and of its blocks in order: see `index_at` and `data_block_at`.
+/// `Error::Memory` if an allocation fails. The entries of the blocks before are printed, unless the
+/// output failed.
+pub fn walk<R: Files, O: Write>(
+    rt: &R,
+    alloc: Global,
+    file: &str,
+    output: &mut O,
+) -> std::result::Result<(), Fault>
+    ensures printed { OnOk result (PrintsLines (O.contents output.old) (O.contents output.new)) }
+    ensures err { IfErr result IsRefused }
+    ensures kept { IfErr result
+        (λ fault. (fault ≡ Refused Io)
+        ⊎ PrintsLines (O.contents output.old) (O.contents output.new)) }
+{
+    let mut table = open_table(rt, alloc, file)?;
+    print_entries(alloc, &mut table.source, &table.handles.index, output)?;
+    Ok(())
+}

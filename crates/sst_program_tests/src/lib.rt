@@ -1,0 +1,25 @@
+//! Tests of the program by its public calls. What the clauses do not say: the printed text, whose
+//! expected lines come from outside; that a run with ample memory ends well; and that a stream that
+//! fails, or an allocation, changes no answer.
+#![tactic(auto)]
+
+#[cfg(test)]
+mod damage;
+#[cfg(test)]
+mod faults;
+#[cfg(test)]
+mod lines;
+#[cfg(test)]
+mod long;
+#[cfg(test)]
+mod memory;
+#[cfg(test)]
+mod runs;
+#[cfg(test)]
+mod streams;
+#[cfg(test)]
+mod success;
+#[cfg(test)]
+mod tables;
+#[cfg(test)]
+mod words;
