@@ -1,5 +1,0 @@
-//! Tests that cross crates.
-#![tactic(auto)]
-
-#[cfg(test)]
-mod sources;
