@@ -1,10 +1,9 @@
 //! The program `sst`: blocks of entries and table files from the command line.
 #![tactic(auto)]
 
-pub use sst_program::{entry_line, sst_main};
-
 use sst_program::status_of;
 use sst_program::words::words_of;
+pub use sst_program::{entry_line, sst_main};
 use std::process::ExitCode;
 
 fn main(rt: HostRuntime) -> ExitCode {

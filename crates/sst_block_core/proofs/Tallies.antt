@@ -4,14 +4,12 @@ use Rattle.std.proofs.lemmas.Bool.{cases_eq, cases_lt, eq-eqb, ne_eqb}
 use Rattle.std.proofs.lemmas.Nat.{mod_below}
 use Rattle.std.proofs.Math.Nat.{div-eq_of_lt, mod-eq_of_lt}
 use Rattle.std.proofs.lemmas.List.{get_or-replicate, length-replicate, get_or-set_same, get_or-set_other, length-take-le, length_push}
-use Rattle.sst_base.specs.declared.error.Error.{Error}
-use Rattle.sst_base.specs.declared.error.Error.TheVariants.{BadEntry, BadHandle, OutOfOrder, BadIndex, BadHashIndex, Memory}
 use Rattle.sst_block_core.specs.Kind.{Kind}
 use Rattle.sst_block_core.specs.Trailer.{Trailer}
 use Rattle.sst_block_core.specs.Pointers.{head_count}
 use Rattle.sst_block_core.specs.Buckets.{bucket, bucket_byte_with}
 use Rattle.sst_block_core.specs.Stages.{HasParts, HasForms, HasBuckets, body_in, buckets_in, items_by}
-use Rattle.sst_block_core.specs.Passes.{TallyState, IsHashed, IsTallied, HasTallied, IsItemsRefusal, IsRefusal}
+use Rattle.sst_block_core.specs.Passes.{TallyState, IsHashed, IsTallied, HasTallied}
 use Rattle.sst_block_core.proofs.BucketLaws.{bucket_push}
 use Rattle.sst_block_core.proofs.Openings.{length-items_at}
 use Rattle.sst_block_core.proofs.Tables.{each_alike, each_whole}

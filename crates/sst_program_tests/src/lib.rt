@@ -4,22 +4,16 @@
 #![tactic(auto)]
 
 #[cfg(test)]
-mod damage;
-#[cfg(test)]
-mod faults;
-#[cfg(test)]
-mod lines;
+mod arguments;
 #[cfg(test)]
 mod long;
 #[cfg(test)]
 mod memory;
 #[cfg(test)]
-mod runs;
+mod point;
+#[cfg(test)]
+mod scripts;
 #[cfg(test)]
 mod streams;
 #[cfg(test)]
-mod success;
-#[cfg(test)]
 mod tables;
-#[cfg(test)]
-mod words;

@@ -1,31 +1,24 @@
-// Long keys, long values and long lists. What is printed is compared by its length and its hash,
-// which come from outside.
-use crate::runs::{Run, check_fault, long_text, make_run};
+//! Long keys, long values and long lists. What is printed is compared by its length and its hash,
+//! which come from outside.
+use crate::scripts::{Run, check_run, make_run};
 use sstable_blocks::{BlockHash, Poly31};
 use std::alloc::{AllocError, Global};
 use std::process::Abort;
 use std::rt::Files;
 use std::test::Fail;
 
-// The length and the hash of what a run prints, where it tells no fault.
-fn digest_of(run: &Run) -> Option<(usize, u64)> {
-    if run.status != 0 || !run.faults.is_empty() {
-        return None;
-    }
-    Some((run.output.len(), Poly31::hash64(run.output.as_slice())))
-}
+// A text: a part so many times, between two others.
+type Text = (&'static str, &'static str, usize, &'static str);
 
-// The run prints a text of this length with this hash, and its status is 0.
-fn check_digest<R: Files + Abort>(
-    rt: &R,
-    alloc: Global,
-    words: &[&str],
-    input: &str,
-    digest: (usize, u64),
-) -> Result<(), Fail> {
-    let found = digest_of(&make_run(rt, alloc, words, input.as_bytes())?);
-    assert_eq!(rt; found, Some(digest));
-    Ok(())
+// The text of these parts.
+fn text_of(alloc: Global, parts: &Text) -> Result<String, AllocError> {
+    let (front, part, count, back) = *parts;
+    let mut text = String::from_str(alloc, front)?;
+    for _ in 0..count {
+        text.push_str(part)?;
+    }
+    text.push_str(back)?;
+    Ok(text)
 }
 
 // So many entries, whose keys are their indexes in three bytes.
@@ -37,86 +30,97 @@ fn many_lines(alloc: Global, count: u32) -> Result<String, AllocError> {
     Ok(lines)
 }
 
-// A list of so many entries, read with these words, prints a text of this length and hash.
-fn check_list(
-    rt: &(impl Files + AllocGlobal + Abort),
-    count: u32,
-    words: &[&str],
-    digest: (usize, u64),
-) -> Result<(), Fail> {
-    let lines = many_lines(rt.alloc(), count)?;
-    check_digest(rt, rt.alloc(), words, lines.as_str(), digest)
+// The length and the hash of what a run prints, where it has no fault.
+fn digest_of(run: &Run) -> Option<(usize, u64)> {
+    if run.status != 0 || !run.faults.is_empty() {
+        return None;
+    }
+    Some((run.output.len(), Poly31::hash64(run.output.as_slice())))
 }
 
+// Words and input of a run, and length and hash of what it prints.
+const DIGESTS: [(Text, Text, usize, u64); 3] = [
+    (
+        ("point 1 ", "61", 65535, " 1"),
+        ("V 0 ", "61", 65535, " -\n"),
+        262228,
+        10107164034470755337,
+    ),
+    // Pointers of two bytes, and of four.
+    (
+        ("point 1 62 1", "", 0, ""),
+        ("V 0 61 ", "76", 65528, "\nV 0 62 -\n"),
+        131162,
+        5918048098629472769,
+    ),
+    (
+        ("point 1 62 1", "", 0, ""),
+        ("V 0 61 ", "76", 65529, "\nV 0 62 -\n"),
+        131172,
+        13317889324456644325,
+    ),
+];
+
 #[test]
-fn long_lists_are_read_whole(rt: HostRuntime) -> Result<(), Fail> {
-    let rows = [
-        (300, "255", "00012b", (3778, 18132384338127674951)),
-        (300, "1", "00012b", (5478, 12056167577444799160)),
-        (1100, "16", "00044b", (13692, 6185446288403498059)),
-        (1100, "255", "00044b", (14978, 79852367979378339)),
-    ];
-    for (count, interval, key, digest) in rows {
-        check_list(&rt, count, &["point", interval, key, "1"], digest)?;
+fn long_keys_and_values_are_printed(rt: HostRuntime) -> Result<(), Fail> {
+    for (words, input, len, hash) in &DIGESTS {
+        let words = text_of(rt.alloc(), words)?;
+        let input = text_of(rt.alloc(), input)?;
+        let run = make_run(&rt, rt.alloc(), words.as_str(), input.as_bytes())?;
+        let found = digest_of(&run);
+        assert_eq!(rt; found, Some((*len, *hash)));
     }
     Ok(())
 }
 
-#[test]
-fn the_longest_key_is_found(rt: HostRuntime) -> Result<(), Fail> {
-    let alloc = rt.alloc();
-    let key = long_text(alloc, "", "61", 65535, "")?;
-    let line = format!(in alloc; "V 0 {key} -\n")?;
-    let words = ["point", "1", key.as_str(), "1"];
-    check_digest(
-        &rt,
-        alloc,
-        &words,
-        line.as_str(),
-        (262228, 10107164034470755337),
-    )
-}
+// The number of entries, the words, and length and hash of what is printed.
+const LISTS: [(u32, &str, usize, u64); 4] = [
+    (300, "point 255 00012b 1", 3778, 18132384338127674951),
+    (300, "point 1 00012b 1", 5478, 12056167577444799160),
+    (1100, "point 16 00044b 1", 13692, 6185446288403498059),
+    (1100, "point 255 00044b 1", 14978, 79852367979378339),
+];
 
 #[test]
-fn a_longer_key_is_no_entry(rt: HostRuntime) -> Result<(), Fail> {
-    let line = long_text(rt.alloc(), "V 0 ", "61", 65536, " -\n")?;
-    let words = ["point", "1", "-", "1"];
-    check_fault(
-        &rt,
-        rt.alloc(),
-        &words,
-        line.as_bytes(),
-        "sst: line 1: entry",
-    )
-}
-
-// Whether a run prints the answer of nobody, and tells no fault.
-fn finds_none(run: &Run) -> bool {
-    run.status == 0 && run.output.as_slice().ends_with(b"01000000\nnone\n")
-}
-
-#[test]
-fn nobody_has_a_longer_key(rt: HostRuntime) -> Result<(), Fail> {
-    let key = long_text(rt.alloc(), "", "61", 65536, "")?;
-    let words = ["point", "1", key.as_str(), "1"];
-    let found = finds_none(&make_run(&rt, rt.alloc(), &words, b"V 0 62 62\n")?);
-    assert!(rt; found);
+fn long_lists_are_read_whole(rt: HostRuntime) -> Result<(), Fail> {
+    for (count, words, len, hash) in LISTS {
+        let lines = many_lines(rt.alloc(), count)?;
+        let run = make_run(&rt, rt.alloc(), words, lines.as_bytes())?;
+        let found = digest_of(&run);
+        assert_eq!(rt; found, Some((len, hash)), "{words}");
+    }
     Ok(())
 }
 
-// A value of so many bytes before another entry prints a text of this length and hash.
-fn check_value(
-    rt: &(impl Files + AllocGlobal + Abort),
-    len: usize,
-    digest: (usize, u64),
-) -> Result<(), Fail> {
-    let input = long_text(rt.alloc(), "V 0 61 ", "76", len, "\nV 0 62 -\n")?;
-    let words = ["point", "1", "62", "1"];
-    check_digest(rt, rt.alloc(), &words, input.as_str(), digest)
-}
+const ONE: Text = ("V 0 62 62\n", "", 0, "");
+
+const NOBODY: &str =
+    "000001620162ff000001020100000007000000000000000000000001000000000000000001000000\nnone\n";
+
+// Words and input of a run, and what comes of it.
+const OUTCOMES: [(Text, Text, &str); 6] = [
+    (
+        ("point 1 -", "", 0, " 1"),
+        ("V 0 ", "61", 65536, " -\n"),
+        "sst: line 1: entry",
+    ),
+    (("point 1 ", "61", 65536, " 1"), ONE, NOBODY),
+    (
+        ("pack longer 1 0 1 10 1", "", 0, ""),
+        ONE,
+        "packed 1 entries in 1 blocks, 227 bytes\n",
+    ),
+    (("get longer ", "61", 65535, " 9"), ONE, "none\n"),
+    (("get longer ", "61", 65536, " 9"), ONE, "none\n"),
+    (("get longer ", "61", 70000, " 9"), ONE, "none\n"),
+];
 
 #[test]
-fn pointers_grow_with_the_offsets(rt: HostRuntime) -> Result<(), Fail> {
-    check_value(&rt, 65528, (131162, 5918048098629472769))?;
-    check_value(&rt, 65529, (131172, 13317889324456644325))
+fn longer_keys_are_nowhere(rt: HostRuntime) -> Result<(), Fail> {
+    for (words, input, outcome) in &OUTCOMES {
+        let words = text_of(rt.alloc(), words)?;
+        let input = text_of(rt.alloc(), input)?;
+        check_run(&rt, words.as_str(), input.as_bytes(), outcome)?;
+    }
+    Ok(())
 }

@@ -1,9 +1,8 @@
-// Streams that are slow, interrupted or fail.
+//! Streams that are slow, interrupted or fail.
 ghost use Rattle.std.specs.Prelude.{◌≤◌};
 
-use crate::runs::{Run, check_run};
+use crate::scripts::words_of;
 use sst_program::sst_main;
-use std::alloc::{AllocError, Global};
 use std::io;
 use std::io::{ErrorKind, Read, Write};
 use std::process::Abort;
@@ -12,8 +11,8 @@ use std::test::Fail;
 
 const WORDS: [&str; 4] = ["point", "1", "62", "1"];
 
-const PRINTED: &str =
-    "000001620162ff000001020100000007000000000000000000000001000000000000000001000000\nV 0 62 62\n";
+const PRINTED: &[u8] =
+    b"000001620162ff000001020100000007000000000000000000000001000000000000000001000000\nV 0 62 62\n";
 
 // A reader that is interrupted before each byte, gives a byte at a time, and then ends or fails.
 #[derive(Drop)]
@@ -43,47 +42,35 @@ impl Read for Slow<'_> {
     }
 }
 
-fn make_slow_run<R: Files + AllocGlobal>(
-    rt: &R,
-    failure: Option<ErrorKind>,
-) -> Result<Run, AllocError> {
-    let mut input = Slow {
-        bytes: b"V 0 62 62\n",
-        is_interrupted: true,
-        failure,
-    };
-    let mut output = Vec::new(rt.alloc());
-    let mut faults = Vec::with_capacity(rt.alloc(), 256)?;
-    let status = sst_main(rt, rt.alloc(), &WORDS, &mut input, &mut output, &mut faults);
-    Ok(Run {
-        status,
-        output,
-        faults,
-    })
-}
+// How a reader ends, and what comes of the run.
+const ENDS: [(Option<ErrorKind>, u8, &[u8], &[u8]); 3] = [
+    (None, 0, PRINTED, b""),
+    (Some(ErrorKind::Other), 1, b"", b"sst: E1 Io\n"),
+    (Some(ErrorKind::OutOfMemory), 1, b"", b"sst: E15 Memory\n"),
+];
 
 #[test]
-fn an_interrupted_reader_is_read_whole(rt: HostRuntime) -> Result<(), Fail> {
-    let run = make_slow_run(&rt, None)?;
-    check_run(&rt, &run, &WORDS, 0, (PRINTED, ""));
+fn a_slow_reader_is_read_whole_and_may_fail(rt: HostRuntime) -> Result<(), Fail> {
+    for (failure, status, printed, told) in ENDS {
+        let mut input = Slow {
+            bytes: b"V 0 62 62\n",
+            is_interrupted: true,
+            failure,
+        };
+        let mut output = Vec::new(rt.alloc());
+        let mut faults = Vec::with_capacity(rt.alloc(), 256)?;
+        let found = sst_main(
+            &rt,
+            rt.alloc(),
+            &WORDS,
+            &mut input,
+            &mut output,
+            &mut faults,
+        );
+        assert_eq!(rt; found, status);
+        assert!(rt; output.as_slice() == printed && faults.as_slice() == told);
+    }
     Ok(())
-}
-
-// A reader that fails so is told by this line.
-fn check_failure<R: Files + AllocGlobal + Abort>(
-    rt: &R,
-    failure: ErrorKind,
-    line: &str,
-) -> Result<(), Fail> {
-    let run = make_slow_run(rt, Some(failure))?;
-    check_run(rt, &run, &WORDS, 1, ("", line));
-    Ok(())
-}
-
-#[test]
-fn a_reader_may_fail(rt: HostRuntime) -> Result<(), Fail> {
-    check_failure(&rt, ErrorKind::Other, "sst: E1 Io\n")?;
-    check_failure(&rt, ErrorKind::OutOfMemory, "sst: E15 Memory\n")
 }
 
 // What a writer does when it has no room left.
@@ -123,26 +110,41 @@ impl Write for Narrow {
     }
 }
 
-// A run of these words with this output has this status, and its faults begin with this line.
-fn check_output<R: Files + Abort>(
+// Words of a run, and how many bytes it prints.
+const PRINTS: [(&str, usize); 6] = [
+    ("point 1 62 1", 91),
+    ("pack fails 1 0 1 10 1", 40),
+    ("get fails 62 1", 10),
+    ("get fails 61 1", 5),
+    ("walk fails", 10),
+    ("check fails", 22),
+];
+
+// Runs the program with this output, and returns its status, and whether its faults begin with a
+// line.
+fn run_into<R: Files + AllocGlobal>(
     rt: &R,
-    alloc: Global,
-    words: &[&str],
+    words: &str,
     mut output: Narrow,
-    expected: u8,
     line: &[u8],
-) {
+) -> Result<(u8, bool), Fail> {
+    let words = words_of(rt.alloc(), words)?;
     let mut input: &[u8] = b"V 0 62 62\n";
     let mut place = [0u8; 32];
     let mut faults: &mut [u8] = &mut place;
-    let status = sst_main(rt, alloc, words, &mut input, &mut output, &mut faults);
-    assert_eq!(rt; status, expected);
-    assert!(rt; place.starts_with(line));
+    let status = sst_main(
+        rt,
+        rt.alloc(),
+        words.as_slice(),
+        &mut input,
+        &mut output,
+        &mut faults,
+    );
+    Ok((status, place.starts_with(line)))
 }
 
-// A run of these words prints so many bytes: where there is less room, or the output cannot be
-// flushed, the output fails.
-fn check_rooms<R: Files + Abort>(rt: &R, alloc: Global, words: &[&str], len: usize)
+// With less room than what is printed the output fails.
+fn check_rooms<R: Files + AllocGlobal + Abort>(rt: &R, words: &str, len: usize) -> Result<(), Fail>
     requires { 1 ≤ len }
 {
     for room in [0, 1, len / 2, len - 1] {
@@ -152,9 +154,19 @@ fn check_rooms<R: Files + Abort>(rt: &R, alloc: Global, words: &[&str], len: usi
                 at_end,
                 flushes: true,
             };
-            check_output(rt, alloc, words, output, 1, b"sst: E1 Io\n\0");
+            let found = run_into(rt, words, output, b"sst: E1 Io\n\0")?;
+            assert_eq!(rt; found, (1, true), "{words} {room}");
         }
     }
+    Ok(())
+}
+
+// With room for what is printed the run fails where the output cannot be flushed.
+fn check_flushes<R: Files + AllocGlobal + Abort>(
+    rt: &R,
+    words: &str,
+    len: usize,
+) -> Result<(), Fail> {
     for flushes in [true, false] {
         let output = Narrow {
             room: len,
@@ -162,19 +174,20 @@ fn check_rooms<R: Files + Abort>(rt: &R, alloc: Global, words: &[&str], len: usi
             flushes,
         };
         let line: &[u8] = if flushes { b"\0" } else { b"sst: E1 Io\n\0" };
-        check_output(rt, alloc, words, output, u8::from(!flushes), line);
+        let found = run_into(rt, words, output, line)?;
+        assert_eq!(rt; found, (u8::from(!flushes), true), "{words}");
     }
+    Ok(())
 }
 
 #[test]
-fn a_writer_may_fail(rt: HostRuntime) {
-    let alloc = rt.alloc();
-    check_rooms(&rt, alloc, &["point", "1", "62", "1"], 91);
-    check_rooms(&rt, alloc, &["pack", "fails", "1", "0", "1", "10", "1"], 40);
-    check_rooms(&rt, alloc, &["get", "fails", "62", "1"], 10);
-    check_rooms(&rt, alloc, &["get", "fails", "61", "1"], 5);
-    check_rooms(&rt, alloc, &["walk", "fails"], 10);
-    check_rooms(&rt, alloc, &["check", "fails"], 22);
+fn a_writer_may_fail(rt: HostRuntime) -> Result<(), Fail> {
+    for (words, len) in PRINTS {
+        assert!(rt; 1 <= len);
+        check_rooms(&rt, words, len)?;
+        check_flushes(&rt, words, len)?;
+    }
+    Ok(())
 }
 
 #[test]
@@ -186,11 +199,10 @@ fn faults_that_cannot_be_told_leave_the_status(rt: HostRuntime) {
         at_end: AtEnd::Fails,
         flushes: true,
     };
-    let words = ["point", "1", "62", "1"];
     let status = sst_main(
         &rt,
         rt.alloc(),
-        &words,
+        &WORDS,
         &mut input,
         &mut output,
         &mut faults,

@@ -1,16 +1,27 @@
-// Table files: packed, looked up, walked and checked. The bytes of the files come from outside.
-use crate::runs::{Run, check_fault, check_prints, make_run};
-use sstable_blocks::{BlockHash, Poly31};
-use std::alloc::Global;
+//! Table files: packed, looked up, walked and checked, whole and damaged. The bytes of the files
+//! come from outside.
+use crate::scripts::Step::{Change, Cut, Digest, Run, Write};
+use crate::scripts::{Step, make_run, perform_all};
+use std::alloc::{AllocError, Global};
 use std::fs;
 use std::process::Abort;
 use std::rt::Files;
 use std::test::Fail;
 
-/// Three entries, of two keys.
-pub const THREE: &str = "V 3 61 78\nV 1 61 79\nV 4 62 7a\n";
+// Three entries, of two keys.
+const THREE: &str = "V 3 61 78\nV 1 61 79\nV 4 62 7a\n";
 
-// Their table file in blocks of one entry, with a filter: its frames, and the footer.
+// The same as input.
+const THREE_LINES: &[u8] = b"V 3 61 78\nV 1 61 79\nV 4 62 7a\n";
+
+// Packs them in blocks of one entry with a filter.
+const PACK_THREE: Step<'static> = Run(
+    "pack three 1 0 1 10 1",
+    THREE_LINES,
+    "packed 3 entries in 3 blocks, 392 bytes\n",
+);
+
+// Their table file: its frames, and the footer.
 const THREE_BLOCKS: [&str; 6] = [
     // the block of (a, x, 3)
     "4c534d0300e2b5d186afd6a10e961a3e2ec79c6a4e2800000028000000bc522e61000301610178ff000001020100000007000000000000000000000001000000000000000001000000",
@@ -26,27 +37,211 @@ const THREE_BLOCKS: [&str; 6] = [
     "db000000000000005a00000035010000000000003b000000",
 ];
 
-// The bytes of a file in hex.
-fn hex_of_file(rt: &(impl Files + AllocGlobal), name: &str) -> Result<String, Fail> {
-    let bytes = fs::read(rt, name)?;
-    Ok(hex::encode(rt.alloc(), bytes.as_slice())?)
-}
+// How the three entries are packed into a file `forms`: the words of `pack`, what it prints, what
+// `check` prints, and length and hash of the file.
+type Packing = (&'static str, &'static str, &'static str, usize, u64);
 
-/// Packs the three entries with these words into their table file in blocks of one entry.
-pub fn pack_three(rt: &(impl Files + Abort), alloc: Global, name: &str) -> Result<(), Fail> {
-    check_prints(
-        rt,
-        alloc,
-        &["pack", name, "1", "0", "1", "10", "1"],
-        THREE.as_bytes(),
+const PACKINGS: [Packing; 6] = [
+    (
+        "pack forms 1 0 1 10 1",
         "packed 3 entries in 3 blocks, 392 bytes\n",
-    )
-}
+        "ok 3 blocks 3 entries\n",
+        392,
+        8431732402431712977,
+    ),
+    (
+        "pack forms 1 0 1 10 1 2",
+        "packed 3 entries in 3 blocks, 390 bytes\n",
+        "ok 3 blocks 3 entries\n",
+        390,
+        8649880124923391196,
+    ),
+    (
+        "pack forms 1 0 1 0 1",
+        "packed 3 entries in 3 blocks, 333 bytes\n",
+        "ok 3 blocks 3 entries\n",
+        333,
+        1498006521497239398,
+    ),
+    (
+        "pack forms 02 1 1 10 2 001",
+        "packed 3 entries in 2 blocks, 319 bytes\n",
+        "ok 2 blocks 3 entries\n",
+        319,
+        16852295934852537604,
+    ),
+    (
+        "pack forms 16 0 1 0 3",
+        "packed 3 entries in 1 blocks, 183 bytes\n",
+        "ok 1 blocks 3 entries\n",
+        183,
+        16782956025666295848,
+    ),
+    (
+        "pack forms 16 0 4294967295 0 4294967295 255",
+        "packed 3 entries in 1 blocks, 183 bytes\n",
+        "ok 1 blocks 3 entries\n",
+        183,
+        18156521083596343086,
+    ),
+];
+
+// What `get`, `walk` and a refused look-up print of the three entries in the file `forms`.
+const READS: [Step<'static>; 11] = [
+    Run("get forms 61 4", b"", "V 3 61 78\n"),
+    Run("get forms 61 18446744073709551615", b"", "V 3 61 78\n"),
+    Run("get forms 61 3", b"", "V 1 61 79\n"),
+    Run("get forms 61 1", b"", "none\n"),
+    Run("get forms 61 0", b"", "none\n"),
+    Run("get forms 62 5", b"", "V 4 62 7a\n"),
+    Run("get forms 62 4", b"", "none\n"),
+    Run("get forms 6161 9", b"", "none\n"),
+    Run("get forms 63 9", b"", "none\n"),
+    Run("get forms - 9", b"", "none\n"),
+    Run("walk forms", b"", THREE),
+];
+
+// Bytes of the table file that are changed, and what comes then of `get` of (61, 3), `walk` and
+// `check`. The index is at 219, the filter at 309, the footer at 368: offset and size of the index
+// at 368 and 376, of the filter at 380 and 388.
+type Damage = (
+    &'static [(usize, u8)],
+    &'static str,
+    &'static str,
+    &'static str,
+);
+
+const FOUND: &str = "V 1 61 79\n";
+
+const WHOLE: &str = "ok 3 blocks 3 entries\n";
+
+const TRUNCATED: &str = "sst: E7 Truncated";
+
+const CHECKSUM: &str = "sst: E4 ChecksumMismatch";
+
+const LENGTH: &str = "sst: E5 LengthMismatch";
+
+const HEADER: &str = "sst: E2 InvalidHeader";
+
+const HANDLE: &str = "sst: E14 BadHandle";
+
+const IO: &str = "sst: E1 Io";
+
+const TAG: &str = "sst: E3 InvalidTag";
+
+const DAMAGES: [Damage; 19] = [
+    (&[], FOUND, THREE, WHOLE),
+    // the first block, which `get` does not read
+    (&[(33, 1)], FOUND, CHECKSUM, CHECKSUM),
+    (&[(4, 2)], FOUND, CHECKSUM, CHECKSUM),
+    (&[(4, 4)], FOUND, TAG, TAG),
+    (&[(0, 0)], FOUND, HEADER, HEADER),
+    // the index
+    (&[(255, 0)], CHECKSUM, CHECKSUM, CHECKSUM),
+    // the filter, which `walk` does not read
+    (&[(350, 255)], CHECKSUM, THREE, CHECKSUM),
+    // a size or an offset of 0 in the footer
+    (&[(376, 0)], TRUNCATED, TRUNCATED, TRUNCATED),
+    (&[(368, 0)], LENGTH, LENGTH, LENGTH),
+    (&[(388, 0)], FOUND, THREE, WHOLE),
+    (&[(388, 0), (380, 255), (387, 255)], FOUND, THREE, WHOLE),
+    // a size that is too small or too large for the frame
+    (&[(376, 32)], TRUNCATED, TRUNCATED, TRUNCATED),
+    (&[(376, 91)], LENGTH, LENGTH, LENGTH),
+    (&[(379, 255)], IO, IO, IO),
+    // frames of another type
+    (&[(368, 0), (376, 73)], TAG, TAG, TAG),
+    (&[(380, 0), (381, 0), (388, 73)], TAG, THREE, TAG),
+    (&[(380, 219), (381, 0), (388, 90)], TAG, THREE, TAG),
+    // the handle of the filter is judged before that of the index
+    (&[(387, 255), (376, 0)], IO, TRUNCATED, IO),
+    (
+        &[
+            (380, 255),
+            (381, 255),
+            (382, 255),
+            (383, 255),
+            (384, 255),
+            (385, 255),
+            (386, 255),
+            (387, 255),
+        ],
+        HANDLE,
+        THREE,
+        HANDLE,
+    ),
+];
+
+// Of 500 bytes 7.
+const KEPT_HASH: u64 = 16241953971456033472;
+
+const FILES: [Step<'static>; 38] = [
+    // Files that cannot be opened.
+    Run("pack no_folder/t 1 0 1 10 1", THREE_LINES, IO),
+    Run("get no_folder/t 61 3", THREE_LINES, IO),
+    Run("walk no_folder/t", THREE_LINES, IO),
+    Run("check no_folder/t", THREE_LINES, IO),
+    Run("get no_file 61 3", THREE_LINES, IO),
+    Run("walk no_file", THREE_LINES, IO),
+    Run("check no_file", THREE_LINES, IO),
+    Run("check ", THREE_LINES, IO),
+    // A refused input leaves the file as it is.
+    Write("kept", &[7; 500]),
+    Run("pack kept 1 0 0 10 1", THREE_LINES, "sst: usage"),
+    Digest("kept", 500, KEPT_HASH),
+    Run("pack kept 1 0 1 10 1", b"", "sst: no entries"),
+    Digest("kept", 500, KEPT_HASH),
+    Run(
+        "pack kept 1 0 1 10 1",
+        b"V 3 61 78\nV 4 61 78\nV 4",
+        "sst: line 3: entry",
+    ),
+    Digest("kept", 500, KEPT_HASH),
+    Run(
+        "pack kept 1 0 1 10 1",
+        b"V 3 61 78\nV 4 62 7a\nV 1 61 79\n",
+        "sst: line 3: order",
+    ),
+    Digest("kept", 500, KEPT_HASH),
+    // A longer file is replaced whole.
+    Run("check kept", b"", IO),
+    Run(
+        "pack kept 1 0 1 10 1",
+        THREE_LINES,
+        "packed 3 entries in 3 blocks, 392 bytes\n",
+    ),
+    Digest("kept", 392, 8431732402431712977),
+    // Lines before a refusal stay.
+    PACK_THREE,
+    Change("three", "stay", &[(179, 1)]),
+    Run(
+        "walk stay",
+        b"",
+        "V 3 61 78\nV 1 61 79\nsst: E4 ChecksumMismatch",
+    ),
+    Run("check stay", b"", CHECKSUM),
+    Run("get stay 61 3", b"", FOUND),
+    Run("get stay 62 5", b"", CHECKSUM),
+    // Parts of a file.
+    Cut("three", "part", 0, 0),
+    Run("get part 61 3", b"", TRUNCATED),
+    Run("walk part", b"", TRUNCATED),
+    Run("check part", b"", TRUNCATED),
+    Cut("three", "part", 0, 23),
+    Run("get part 61 3", b"", TRUNCATED),
+    Run("walk part", b"", TRUNCATED),
+    Run("check part", b"", TRUNCATED),
+    Cut("three", "part", 368, 392),
+    Run("get part 61 3", b"", IO),
+    Run("walk part", b"", IO),
+    Run("check part", b"", IO),
+];
 
 #[test]
 fn a_table_file_is_a_run_and_a_footer(rt: HostRuntime) -> Result<(), Fail> {
-    pack_three(&rt, rt.alloc(), "frames")?;
-    let hex = hex_of_file(&rt, "frames")?;
+    perform_all(&rt, &[PACK_THREE])?;
+    let bytes = fs::read(&rt, "three")?;
+    let hex = hex::encode(rt.alloc(), bytes.as_slice())?;
     let mut rest = hex.as_str();
     for part in THREE_BLOCKS {
         assert!(rt; rest.starts_with(part), "{part}");
@@ -56,119 +251,54 @@ fn a_table_file_is_a_run_and_a_footer(rt: HostRuntime) -> Result<(), Fail> {
     Ok(())
 }
 
-// How three entries are packed, and what is printed of that and of the check.
-#[derive(Clone, Copy)]
-struct Packing<'a> {
-    words: &'a [&'a str],
-    packed: &'a str,
-    checked: &'a str,
-    digest: (usize, u64),
-}
-
-// Look-ups of the three entries, and what they print.
-const LOOK_UPS: [(&str, &str, &str); 10] = [
-    ("61", "4", "V 3 61 78\n"),
-    ("61", "18446744073709551615", "V 3 61 78\n"),
-    ("61", "3", "V 1 61 79\n"),
-    ("61", "1", "none\n"),
-    ("61", "0", "none\n"),
-    ("62", "5", "V 4 62 7a\n"),
-    ("62", "4", "none\n"),
-    ("6161", "9", "none\n"),
-    ("63", "9", "none\n"),
-    ("-", "9", "none\n"),
-];
-
-// The length and the hash of a file.
-fn digest_of(rt: &(impl Files + AllocGlobal), name: &str) -> Result<(usize, u64), Fail> {
-    let bytes = fs::read(rt, name)?;
-    Ok((bytes.len(), Poly31::hash64(bytes.as_slice())))
-}
-
-// The entries of the file are looked up, walked and checked.
-fn check_reads(
-    rt: &(impl Files + AllocGlobal + Abort),
-    file: &str,
-    checked: &str,
-) -> Result<(), Fail> {
-    let alloc = rt.alloc();
-    for (key, seqno, printed) in LOOK_UPS {
-        check_prints(rt, alloc, &["get", file, key, seqno], b"", printed)?;
-    }
-    check_prints(rt, alloc, &["walk", file], b"", THREE)?;
-    check_prints(rt, alloc, &["check", file], b"", checked)
-}
-
-// The file is packed and read.
-fn check_packing(
-    rt: &(impl Files + AllocGlobal + Abort),
-    file: &str,
-    packing: &Packing<'_>,
-) -> Result<(), Fail> {
-    let words = packing.words;
-    check_prints(rt, rt.alloc(), words, THREE.as_bytes(), packing.packed)?;
-    let digest = digest_of(rt, file)?;
-    assert_eq!(rt; digest, packing.digest, "{words:?}");
-    check_reads(rt, file, packing.checked)
+// Packs the three entries, and reads them.
+fn check_packing<R: Files + AllocGlobal + Abort>(rt: &R, packing: &Packing) -> Result<(), Fail> {
+    let (words, packed, checked, len, hash) = *packing;
+    let steps = [
+        Run(words, THREE_LINES, packed),
+        Digest("forms", len, hash),
+        Run("check forms", b"", checked),
+    ];
+    perform_all(rt, &steps)?;
+    perform_all(rt, &READS)
 }
 
 #[test]
 fn tables_are_read_in_every_form(rt: HostRuntime) -> Result<(), Fail> {
-    let packings = [
-        Packing {
-            words: &["pack", "forms", "1", "0", "1", "10", "1"],
-            packed: "packed 3 entries in 3 blocks, 392 bytes\n",
-            checked: "ok 3 blocks 3 entries\n",
-            digest: (392, 8431732402431712977),
-        },
-        Packing {
-            words: &["pack", "forms", "1", "0", "1", "10", "1", "2"],
-            packed: "packed 3 entries in 3 blocks, 390 bytes\n",
-            checked: "ok 3 blocks 3 entries\n",
-            digest: (390, 8649880124923391196),
-        },
-        Packing {
-            words: &["pack", "forms", "1", "0", "1", "0", "1"],
-            packed: "packed 3 entries in 3 blocks, 333 bytes\n",
-            checked: "ok 3 blocks 3 entries\n",
-            digest: (333, 1498006521497239398),
-        },
-        Packing {
-            words: &["pack", "forms", "02", "1", "1", "10", "2", "001"],
-            packed: "packed 3 entries in 2 blocks, 319 bytes\n",
-            checked: "ok 2 blocks 3 entries\n",
-            digest: (319, 16852295934852537604),
-        },
-        Packing {
-            words: &["pack", "forms", "16", "0", "1", "0", "3"],
-            packed: "packed 3 entries in 1 blocks, 183 bytes\n",
-            checked: "ok 1 blocks 3 entries\n",
-            digest: (183, 16782956025666295848),
-        },
-        Packing {
-            words: &[
-                "pack",
-                "forms",
-                "16",
-                "0",
-                "4294967295",
-                "0",
-                "4294967295",
-                "255",
-            ],
-            packed: "packed 3 entries in 1 blocks, 183 bytes\n",
-            checked: "ok 1 blocks 3 entries\n",
-            digest: (183, 18156521083596343086),
-        },
+    for packing in &PACKINGS {
+        check_packing(&rt, packing)?;
+    }
+    Ok(())
+}
+
+#[test]
+fn files_are_opened_replaced_and_cut(rt: HostRuntime) -> Result<(), Fail> {
+    perform_all(&rt, &FILES)
+}
+
+// Damages the table file, and does the commands on it.
+fn check_damage<R: Files + AllocGlobal + Abort>(rt: &R, damage: &Damage) -> Result<(), Fail> {
+    let (changes, get, walk, check) = *damage;
+    let steps = [
+        Change("three", "damaged", changes),
+        Run("get damaged 61 3", b"", get),
+        Run("walk damaged", b"", walk),
+        Run("check damaged", b"", check),
     ];
-    for packing in &packings {
-        check_packing(&rt, "forms", packing)?;
+    perform_all(rt, &steps)
+}
+
+#[test]
+fn damaged_files_are_refused(rt: HostRuntime) -> Result<(), Fail> {
+    perform_all(&rt, &[PACK_THREE])?;
+    for damage in &DAMAGES {
+        check_damage(&rt, damage)?;
     }
     Ok(())
 }
 
 // Lines of entries of all types, so many.
-fn many_lines(alloc: Global, count: u32) -> Result<String, Fail> {
+fn many_lines(alloc: Global, count: u32) -> Result<String, AllocError> {
     let mut lines = String::new(alloc);
     for i in 0..count {
         let line = match i % 4 {
@@ -182,95 +312,18 @@ fn many_lines(alloc: Global, count: u32) -> Result<String, Fail> {
     Ok(lines)
 }
 
-// Whether what a run prints begins with this text.
-fn prints_first(run: &Run, text: &[u8]) -> bool {
-    run.output.as_slice().starts_with(text)
-}
-
 #[test]
 fn what_is_packed_is_walked(rt: HostRuntime) -> Result<(), Fail> {
     let alloc = rt.alloc();
     let lines = many_lines(alloc, 3000)?;
-    let words = ["pack", "many", "16", "4", "3", "10", "7", "3"];
-    let run = make_run(&rt, alloc, &words, lines.as_bytes())?;
-    assert!(rt; prints_first(&run, b"packed 3000 entries in 429 blocks, "));
-    check_prints(&rt, alloc, &["walk", "many"], b"", lines.as_str())?;
-    let checked = "ok 429 blocks 3000 entries\n";
-    check_prints(&rt, alloc, &["check", "many"], b"", checked)?;
-    let found = "T 7 00000bb5 -\n";
-    check_prints(&rt, alloc, &["get", "many", "00000bb5", "8"], b"", found)
-}
-
-#[test]
-fn a_longer_key_is_in_no_table(rt: HostRuntime) -> Result<(), Fail> {
-    let alloc = rt.alloc();
-    pack_three(&rt, alloc, "longer")?;
-    for count in [65535, 65536, 70000] {
-        let key = crate::runs::long_text(alloc, "", "61", count, "")?;
-        let words = ["get", "longer", key.as_str(), "9"];
-        check_prints(&rt, alloc, &words, b"", "none\n")?;
-    }
-    Ok(())
-}
-
-// The file has these bytes.
-fn check_bytes(
-    rt: &(impl Files + AllocGlobal + Abort),
-    name: &str,
-    wanted: &[u8],
-) -> Result<(), Fail> {
-    let bytes = fs::read(rt, name)?;
-    assert!(rt; bytes.as_slice() == wanted, "{name}");
-    Ok(())
-}
-
-#[test]
-fn a_refused_input_leaves_the_file(rt: HostRuntime) -> Result<(), Fail> {
-    let alloc = rt.alloc();
-    let kept = [7u8; 500];
-    fs::write(&rt, "kept", &kept)?;
-    let rows: [(&str, &[u8], &str); 4] = [
-        ("0", THREE.as_bytes(), "sst: usage"),
-        ("1", b"", "sst: no entries"),
-        ("1", b"V 3 61 78\nV 4 61 78\nV 4", "sst: line 3: entry"),
-        (
-            "1",
-            b"V 3 61 78\nV 4 62 7a\nV 1 61 79\n",
-            "sst: line 3: order",
-        ),
+    let run = make_run(&rt, alloc, "pack many 16 4 3 10 7 3", lines.as_bytes())?;
+    let packed = b"packed 3000 entries in 429 blocks, ".as_slice();
+    let is_packed = run.output.as_slice().starts_with(packed);
+    assert!(rt; is_packed);
+    let steps = [
+        Run("walk many", b"", lines.as_str()),
+        Run("check many", b"", "ok 429 blocks 3000 entries\n"),
+        Run("get many 00000bb5 8", b"", "T 7 00000bb5 -\n"),
     ];
-    for (den, input, fault) in rows {
-        let words = ["pack", "kept", "1", "0", den, "10", "1"];
-        check_fault(&rt, alloc, &words, input, fault)?;
-        check_bytes(&rt, "kept", &kept)?;
-    }
-    Ok(())
-}
-
-#[test]
-fn a_file_is_written_over(rt: HostRuntime) -> Result<(), Fail> {
-    fs::write(&rt, "over", &[7u8; 500])?;
-    check_fault(&rt, rt.alloc(), &["check", "over"], b"", "sst: E1 Io")?;
-    pack_three(&rt, rt.alloc(), "over")?;
-    let (len, _) = digest_of(&rt, "over")?;
-    assert_eq!(rt; len, 392);
-    Ok(())
-}
-
-#[test]
-fn files_that_cannot_be_opened(rt: HostRuntime) -> Result<(), Fail> {
-    let commands: [&[&str]; 8] = [
-        &["pack", "no_folder/t", "1", "0", "1", "10", "1"],
-        &["get", "no_folder/t", "61", "3"],
-        &["walk", "no_folder/t"],
-        &["check", "no_folder/t"],
-        &["get", "no_file", "61", "3"],
-        &["walk", "no_file"],
-        &["check", "no_file"],
-        &["check", ""],
-    ];
-    for words in commands {
-        check_fault(&rt, rt.alloc(), words, THREE.as_bytes(), "sst: E1 Io")?;
-    }
-    Ok(())
+    perform_all(&rt, &steps)
 }
