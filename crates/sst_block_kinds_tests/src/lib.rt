@@ -3,22 +3,14 @@
 #![tactic(auto)]
 
 #[cfg(test)]
-mod blocks;
-#[cfg(test)]
-mod both_ends;
-#[cfg(test)]
 mod checks;
 #[cfg(test)]
-mod first_matches;
-#[cfg(test)]
-mod hash_indexes;
-#[cfg(test)]
 mod index_blocks;
-pub mod plain;
 #[cfg(test)]
-mod point_reads;
+mod lists;
+pub mod plain;
 pub mod random;
 #[cfg(test)]
-mod searches;
+mod reads;
 #[cfg(test)]
-mod windows;
+mod seeks;

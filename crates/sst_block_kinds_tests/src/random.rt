@@ -1,22 +1,22 @@
-//! Random numbers and keys, the same in every run.
+//! Pseudo-random numbers and keys, the same in every run.
 ghost use Rattle.std.specs.Prelude.{◌≤◌, ◌<◌};
 
 use sst_base::Result;
 use std::alloc::Global;
 
-/// A generator of numbers without order, always the same.
+/// A pseudo-random generator, which gives the same numbers in every run.
 #[derive(Drop)]
 pub struct Random {
     state: u64,
 }
 
 impl Random {
-    /// Begins at a number.
-    pub fn new(state: u64) -> Random {
-        Random { state }
+    /// Makes a generator with a seed.
+    pub fn new(seed: u64) -> Random {
+        Random { state: seed }
     }
 
-    /// The next number.
+    /// Returns the next number.
     pub fn next(&mut self) -> u64 {
         self.state = self.state.wrapping_add(0x9e37_79b9_7f4a_7c15);
         let z = (self.state ^ (self.state >> 30)).wrapping_mul(0xbf58_476d_1ce4_e5b9);
@@ -24,7 +24,7 @@ impl Random {
         z ^ (z >> 31)
     }
 
-    /// A number below a bound.
+    /// Returns the next number below a bound, which is at least 1.
     pub fn below(&mut self, bound: u64) -> u64
         requires { 1 ≤ bound }
         ensures { result < bound }
@@ -33,8 +33,12 @@ impl Random {
     }
 }
 
-/// The key of a number. Keys rise with their numbers, and some are prefixes of others: the empty
-/// key, a, b, c, m, ma, mb, mc, mm, mma and so on.
+/// Returns the key of a number. Keys rise with their numbers, and some are prefixes of others: the
+/// empty key, a, b, c, m, ma, mb, mc, mm, mma and so on.
+///
+/// # Errors
+///
+/// `Error::Memory` if an allocation fails.
 pub fn key_of(alloc: Global, number: u64) -> Result<Vec<u8>> {
     let mut key = vec![in alloc; b'm'; (number / 4) as usize]?;
     match number % 4 {

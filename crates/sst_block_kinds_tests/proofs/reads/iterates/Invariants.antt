@@ -1,5 +1,5 @@
 use Rattle.std.proofs.Common.{◌≡◌}
-use Rattle.sst_block_kinds_tests.proofs.blocks.iterates.Given as goal
+use Rattle.sst_block_kinds_tests.proofs.reads.iterates.Given as goal
 
 abbrev pub invariant-loop-item : goal.invariant-loop-item
 invariant-loop-item g l = record {

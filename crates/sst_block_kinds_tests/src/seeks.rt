@@ -1,0 +1,853 @@
+//! Seeks, steps and moves over data blocks, by iterators and by decoders: scripts against what is
+//! written beside them, and random steps beside a plain window.
+ghost use Rattle.std.specs.Prelude.{◌≡◌, ◌+◌, ◌*◌, ◌≤◌, ◌<◌, length, IfOk, IfSome, IsTrue};
+ghost use Rattle.sst_block_core.specs.Body.{place_offset};
+ghost use Rattle.sst_block_core.specs.Entries.{entries};
+ghost use Rattle.sst_block_core.specs.Window.{whole};
+ghost use Rattle.sst_block_kinds.specs.ParsedEntry.{IsParsedEntry};
+
+use crate::lists::{List, NO_BUCKETS, Row, block_of, is_same, list_of, push};
+use crate::plain::plain_offset;
+use crate::random::{Random, key_of};
+use crate::reads::check_list;
+use sst_base::{InternalValue, Poly31, Result, Slice, ValueType, compare_bytes};
+use sst_block_core::{Decoder, ParsedItem};
+use sst_block_kinds::laws::data_block_is_read;
+use sst_block_kinds::table::data_block::{Answer, Iter, Op, walk};
+use sst_block_kinds::{DataBlock, DataBlockParsedItem};
+use std::alloc::Global;
+use std::process::Abort;
+use std::test::Fail;
+
+/// A call of an iterator.
+#[derive(Clone, Copy, Debug)]
+enum Step<'a> {
+    Next,
+    NextBack,
+    Seek(&'a [u8]),
+    SeekUpper(&'a [u8]),
+    SeekExclusive(&'a [u8]),
+    SeekUpperExclusive(&'a [u8]),
+    /// Moves the front to a head, which is at this offset.
+    Move(usize, usize),
+}
+
+/// What a call returns: an answer, the entry at an index of the list, or none.
+#[derive(Clone, Copy, Debug)]
+enum Wanted {
+    Found(bool),
+    At(usize),
+    End,
+}
+
+/// A call, and what it returns.
+type Line<'a> = (Step<'a>, Wanted);
+
+/// Calls over the block of a list at an interval.
+#[derive(Clone, Copy)]
+struct Script {
+    list: List,
+    interval: u8,
+    lines: &'static [Line<'static>],
+}
+
+/// The keys a to e.
+const LETTERS: List = List::Bytes(97, 101);
+
+/// Two entries with long sequence numbers.
+const TWO: [Row; 2] = [
+    (b"o", b"w", 8602264972526186597, ValueType::Value),
+    (b"yxc", b"eeeeeeeeeee", 11426548769907, ValueType::Value),
+];
+
+/// Both ends of an iterator.
+const SCRIPTS: [Script; 8] = [
+    // An upper bound after all keys gives back the entry that was taken from the back.
+    Script {
+        list: LETTERS,
+        interval: 2,
+        lines: &[
+            (Step::NextBack, Wanted::At(4)),
+            (Step::SeekUpper(b"z"), Wanted::Found(false)),
+            (Step::NextBack, Wanted::At(4)),
+            (Step::Seek(b"e"), Wanted::Found(false)),
+            (Step::Next, Wanted::End),
+        ],
+    },
+    // An upper bound below what was taken leaves nothing, and a later one what is between.
+    Script {
+        list: LETTERS,
+        interval: 2,
+        lines: &[
+            (Step::Next, Wanted::At(0)),
+            (Step::SeekUpperExclusive(b"a"), Wanted::Found(false)),
+            (Step::Next, Wanted::End),
+            (Step::SeekUpper(b"c"), Wanted::Found(true)),
+            (Step::NextBack, Wanted::At(2)),
+            (Step::Next, Wanted::At(1)),
+            (Step::Next, Wanted::End),
+        ],
+    },
+    // A bound after the upper one empties the window, and a wider upper bound opens it again.
+    Script {
+        list: LETTERS,
+        interval: 2,
+        lines: &[
+            (Step::SeekUpper(b"b"), Wanted::Found(true)),
+            (Step::Seek(b"d"), Wanted::Found(false)),
+            (Step::Next, Wanted::End),
+            (Step::SeekUpper(b"z"), Wanted::Found(false)),
+            (Step::Next, Wanted::At(3)),
+            (Step::NextBack, Wanted::At(4)),
+            (Step::Next, Wanted::End),
+        ],
+    },
+    // A seek sets the front back after some were taken.
+    Script {
+        list: LETTERS,
+        interval: 2,
+        lines: &[
+            (Step::Next, Wanted::At(0)),
+            (Step::Next, Wanted::At(1)),
+            (Step::Next, Wanted::At(2)),
+            (Step::Seek(b"a"), Wanted::Found(true)),
+            (Step::Next, Wanted::At(0)),
+            (Step::NextBack, Wanted::At(4)),
+        ],
+    },
+    // Both ends meet in one interval, and no entry is taken twice.
+    Script {
+        list: LETTERS,
+        interval: 16,
+        lines: &[
+            (Step::Next, Wanted::At(0)),
+            (Step::NextBack, Wanted::At(4)),
+            (Step::Next, Wanted::At(1)),
+            (Step::NextBack, Wanted::At(3)),
+            (Step::Next, Wanted::At(2)),
+            (Step::NextBack, Wanted::End),
+            (Step::Next, Wanted::End),
+        ],
+    },
+    // Bounds that leave out their key leave one entry, which is taken once.
+    Script {
+        list: LETTERS,
+        interval: 2,
+        lines: &[
+            (Step::SeekExclusive(b"b"), Wanted::Found(true)),
+            (Step::SeekUpperExclusive(b"d"), Wanted::Found(true)),
+            (Step::Next, Wanted::At(2)),
+            (Step::Next, Wanted::End),
+            (Step::NextBack, Wanted::End),
+        ],
+    },
+    // A move to the head c gives back the entry between two bounds.
+    Script {
+        list: LETTERS,
+        interval: 2,
+        lines: &[
+            (Step::SeekExclusive(b"b"), Wanted::Found(true)),
+            (Step::SeekUpperExclusive(b"d"), Wanted::Found(true)),
+            (Step::Next, Wanted::At(2)),
+            (Step::Next, Wanted::End),
+            (Step::NextBack, Wanted::End),
+            (Step::Move(1, 11), Wanted::Found(true)),
+            (Step::Next, Wanted::At(2)),
+            (Step::Next, Wanted::End),
+        ],
+    },
+    // Two heads: the one from the back, the other from the front.
+    Script {
+        list: List::Rows(&TWO),
+        interval: 1,
+        lines: &[
+            (Step::NextBack, Wanted::At(1)),
+            (Step::Next, Wanted::At(0)),
+            (Step::NextBack, Wanted::End),
+            (Step::Next, Wanted::End),
+        ],
+    },
+];
+
+/// The operations of some lines up to a move.
+fn ops_of(alloc: Global, lines: &[Line<'_>]) -> Result<Vec<Op>> {
+    let mut ops = Vec::new(alloc);
+    for (step, _) in lines {
+        ops.push(match step {
+            Step::Next => Op::Next,
+            Step::NextBack => Op::NextBack,
+            Step::Seek(key) => Op::Seek(Slice::new(alloc, key)?),
+            Step::SeekUpper(key) => Op::SeekUpper(Slice::new(alloc, key)?),
+            Step::SeekExclusive(key) => Op::SeekExclusive(Slice::new(alloc, key)?),
+            Step::SeekUpperExclusive(key) => Op::SeekUpperExclusive(Slice::new(alloc, key)?),
+            Step::Move(_, _) => return Ok(ops),
+        })?;
+    }
+    Ok(ops)
+}
+
+/// The offset of a head of a block.
+fn offset_of(
+    rt: &impl Abort,
+    alloc: Global,
+    block: &DataBlock<Poly31>,
+    interval: u8,
+    head: usize,
+) -> Result<usize>
+    requires interval { block.now.interval ≡ interval }
+    ensures inside { IfOk result (λ _. head * interval < length block.now.items) }
+    ensures offset { IfOk result
+        (λ offset. offset ≡ place_offset entries interval block.now.items (head * interval)) }
+{
+    let list = block.to_vec(alloc)?;
+    assert!(rt; interval >= 1);
+    assert!(rt; head <= 100);
+    let place = head * usize::from(interval);
+    assert!(rt; place < list.len());
+    Ok(plain_offset(alloc, &list, usize::from(interval), place)? as usize)
+}
+
+/// What a step of an iterator over a payload takes.
+fn taken(alloc: Global, payload: &Slice, item: Option<DataBlockParsedItem>) -> Result<Answer>
+    requires { IfSome item (IsParsedEntry payload.now) }
+{
+    match item {
+        Some(item) => Ok(Answer::Item(Some(item.materialize(alloc, payload)?))),
+        None => Ok(Answer::Item(None)),
+    }
+}
+
+/// Makes a call of an iterator over a block.
+fn perform(
+    rt: &impl Abort,
+    alloc: Global,
+    block: &DataBlock<Poly31>,
+    interval: u8,
+    iter: &mut Iter<'_>,
+    step: &Step<'_>,
+) -> Result<Answer>
+    requires block { block.now.interval ≡ interval }
+    requires payload { iter.old.payload ≡ block.now.payload }
+    requires interval { iter.old.interval ≡ interval }
+    requires list { iter.old.window.list ≡ block.now.items }
+    ensures payload { iter.new.payload ≡ block.now.payload }
+    ensures interval { iter.new.interval ≡ interval }
+    ensures list { iter.new.window.list ≡ block.now.items }
+{
+    match step {
+        Step::Next => taken(alloc, block.as_slice(), iter.next()),
+        Step::NextBack => taken(alloc, block.as_slice(), iter.next_back()),
+        Step::Seek(key) => Ok(Answer::Found(iter.seek(key))),
+        Step::SeekUpper(key) => Ok(Answer::Found(iter.seek_upper(key))),
+        Step::SeekExclusive(key) => Ok(Answer::Found(iter.seek_exclusive(key))),
+        Step::SeekUpperExclusive(key) => Ok(Answer::Found(iter.seek_upper_exclusive(key))),
+        Step::Move(head, offset) => {
+            let found = offset_of(rt, alloc, block, interval, *head)?;
+            assert!(rt; found == *offset);
+            Ok(Answer::Found(iter.seek_to_offset(found)))
+        }
+    }
+}
+
+/// Makes calls of one iterator over a block.
+fn perform_all(
+    rt: &impl Abort,
+    alloc: Global,
+    block: &DataBlock<Poly31>,
+    interval: u8,
+    lines: &[Line<'_>],
+) -> Result<Vec<Answer>>
+    requires { block.now.interval ≡ interval }
+{
+    let mut iter = block.iter();
+    let mut all = Vec::new(alloc);
+    for (step, _) in lines {
+        all.push(perform(rt, alloc, block, interval, &mut iter, step)?)?;
+    }
+    Ok(all)
+}
+
+/// Checks that calls over a list returned what is written.
+fn compare(rt: &impl Abort, list: &[InternalValue], lines: &[Line<'_>], found: &[Answer]) {
+    for ((step, wanted), answer) in lines.iter().zip(found.iter()) {
+        let is_wanted = match (wanted, answer) {
+            (Wanted::Found(wanted), Answer::Found(found)) => wanted == found,
+            (Wanted::At(at), Answer::Item(Some(read))) => is_same(list.get(*at), Some(read)),
+            (Wanted::End, Answer::Item(None)) => true,
+            _ => false,
+        };
+        assert!(rt; is_wanted, "{step:?}: {wanted:?}");
+    }
+}
+
+/// Makes calls over the block of a list at an interval, by an iterator and by `walk`.
+fn check_lines(
+    rt: &impl Abort,
+    alloc: Global,
+    list: &[InternalValue],
+    interval: u8,
+    lines: &[Line<'_>],
+) -> Result<()> {
+    let block = block_of::<Poly31>(rt, alloc, list, interval, NO_BUCKETS)?;
+    let found = perform_all(rt, alloc, &block, interval, lines)?;
+    assert!(rt; found.len() == lines.len());
+    compare(rt, list, lines, &found);
+    let ops = ops_of(alloc, lines)?;
+    let found = walk(alloc, &block, &ops)?;
+    assert!(rt; found.len() == ops.len());
+    compare(rt, list, lines, &found);
+    Ok(())
+}
+
+/// Each call of each script returns what is written beside it.
+#[test]
+fn scripts_return_what_is_written(rt: HostRuntime) -> std::result::Result<(), Fail> {
+    for script in &SCRIPTS {
+        let list = list_of(&rt, rt.alloc(), script.list)?;
+        check_lines(&rt, rt.alloc(), &list, script.interval, script.lines)?;
+    }
+    Ok(())
+}
+
+/// The plain window: the entries of a list from `lo` up to, not including, `hi`, moved as the
+/// definitions say, each key counted, one by one.
+#[derive(Drop)]
+struct Window<'a> {
+    list: &'a [InternalValue],
+    lo: usize,
+    hi: usize,
+}
+
+impl Window<'_> {
+    /// How many keys are below the needle, or equal to it where `with_equal`.
+    fn count(&self, needle: &[u8], with_equal: bool) -> usize {
+        let mut count = 0usize;
+        for item in self.list {
+            let key = item.key().user_key().as_slice();
+            if key < needle || with_equal && key == needle {
+                count = count.saturating_add(1);
+            }
+        }
+        count
+    }
+
+    /// Returns whether an entry of the window has this key: the first or the last.
+    fn has_key(&self, at: usize, needle: &[u8]) -> bool {
+        match self.list.get(at) {
+            Some(item) => self.lo < self.hi && item.key().user_key().as_slice() == needle,
+            None => false,
+        }
+    }
+
+    /// Takes the first entry left.
+    fn next(&mut self) -> Wanted {
+        if self.lo >= self.hi {
+            return Wanted::End;
+        }
+        self.lo += 1;
+        Wanted::At(self.lo - 1)
+    }
+
+    /// Takes the last entry left.
+    fn next_back(&mut self) -> Wanted {
+        if self.lo >= self.hi {
+            return Wanted::End;
+        }
+        self.hi -= 1;
+        Wanted::At(self.hi)
+    }
+
+    /// Makes a call.
+    fn perform(&mut self, step: &Step<'_>) -> Wanted {
+        match step {
+            Step::Next => return self.next(),
+            Step::NextBack => return self.next_back(),
+            Step::Seek(key) => {
+                self.lo = self.count(key, false);
+                return Wanted::Found(self.has_key(self.lo, key));
+            }
+            Step::SeekUpper(key) => {
+                self.hi = self.count(key, true);
+                return Wanted::Found(self.has_key(self.hi.wrapping_sub(1), key));
+            }
+            Step::SeekExclusive(key) => self.lo = self.count(key, true),
+            Step::SeekUpperExclusive(key) => self.hi = self.count(key, false),
+            Step::Move(_, _) => {}
+        }
+        Wanted::Found(self.lo < self.hi)
+    }
+}
+
+/// A random list of `count` entries: some keys in several versions, some numbers of keys left out,
+/// every fourth entry a tombstone, the others with values of up to three bytes.
+fn random_list(
+    rt: &impl Abort,
+    alloc: Global,
+    random: &mut Random,
+    count: u64,
+) -> Result<Vec<InternalValue>>
+    requires { count ≤ 100 }
+{
+    let mut list = Vec::new(alloc);
+    let mut number = 1u64;
+    for place in 0..count {
+        number = number.wrapping_add(random.below(3));
+        let key = key_of(alloc, number)?;
+        let seqno = (count - place) * 70;
+        if random.below(4) == 0 {
+            push(rt, &mut list, &key, b"", seqno, ValueType::Tombstone)?;
+        } else {
+            let length = random.below(4) as usize;
+            push(
+                rt,
+                &mut list,
+                &key,
+                &b"xyz".as_slice()[..length],
+                seqno,
+                ValueType::Value,
+            )?;
+        }
+    }
+    Ok(list)
+}
+
+/// 200 random calls with some keys, steps as often as seeks, and what the plain window returns.
+fn random_lines<'a>(
+    rt: &impl Abort,
+    alloc: Global,
+    random: &mut Random,
+    list: &[InternalValue],
+    keys: &'a [Vec<u8>],
+) -> Result<Vec<Line<'a>>> {
+    assert!(rt; !keys.is_empty());
+    let hi = list.len();
+    let mut window = Window { list, lo: 0, hi };
+    let mut lines = Vec::new(alloc);
+    for _ in 0..200 {
+        let kind = random.below(8);
+        let key = keys[random.below(keys.len() as u64) as usize].as_slice();
+        let step = match kind {
+            0 | 1 => Step::Next,
+            2 | 3 => Step::NextBack,
+            4 => Step::Seek(key),
+            5 => Step::SeekUpper(key),
+            6 => Step::SeekExclusive(key),
+            _ => Step::SeekUpperExclusive(key),
+        };
+        lines.push((step, window.perform(&step)))?;
+    }
+    Ok(lines)
+}
+
+/// The keys of the numbers below a count.
+fn keys_of(alloc: Global, count: u64) -> Result<Vec<Vec<u8>>> {
+    let mut keys = Vec::new(alloc);
+    for number in 0..count {
+        keys.push(key_of(alloc, number)?)?;
+    }
+    Ok(keys)
+}
+
+/// Three times 200 random calls over random lists of 1 to 40 entries return what the plain window
+/// does, at each interval up to 16, and at 255.
+#[test]
+fn random_calls_return_what_the_window_does(rt: HostRuntime) -> std::result::Result<(), Fail> {
+    let alloc = rt.alloc();
+    let mut random = Random::new(1);
+    for _ in 0..3 {
+        for interval in [1, 2, 3, 4, 5, 6, 7, 8, 9, 10, 11, 12, 13, 14, 15, 16, 255] {
+            let count = 1 + random.below(40);
+            let list = random_list(&rt, alloc, &mut random, count)?;
+            let keys = keys_of(alloc, count + 4)?;
+            let lines = random_lines(&rt, alloc, &mut random, &list, &keys)?;
+            check_lines(&rt, alloc, &list, interval, &lines)?;
+        }
+    }
+    Ok(())
+}
+
+/// All entries of a list from the back, and then a step from each end.
+fn lines_back(alloc: Global, count: usize) -> Result<Vec<Line<'static>>> {
+    let mut lines = Vec::new(alloc);
+    for place in 0..count {
+        lines.push((Step::NextBack, Wanted::At(count - 1 - place)))?;
+    }
+    lines.push((Step::NextBack, Wanted::End))?;
+    lines.push((Step::Next, Wanted::End))?;
+    Ok(lines)
+}
+
+/// All entries of a list from the front, and from the back, at several intervals.
+#[test]
+fn all_from_the_back_are_those_from_the_front(rt: HostRuntime) -> std::result::Result<(), Fail> {
+    let alloc = rt.alloc();
+    let mut random = Random::new(7);
+    let lists = [
+        random_list(&rt, alloc, &mut random, 40)?,
+        list_of(&rt, alloc, LETTERS)?,
+        list_of(&rt, alloc, List::Rows(&TWO))?,
+    ];
+    for list in &lists {
+        let lines = lines_back(alloc, list.len())?;
+        for interval in [1, 2, 3, 16, 255] {
+            check_list::<Poly31>(&rt, alloc, list, &[], interval, NO_BUCKETS)?;
+            check_lines(&rt, alloc, list, interval, &lines)?;
+        }
+    }
+    Ok(())
+}
+
+/// A decoder of the entries of a data block.
+type Keys<'a> = Decoder<'a, InternalValue, DataBlockParsedItem>;
+
+/// A predicate over keys and sequence numbers.
+#[derive(Clone, Copy, Debug)]
+enum Pred {
+    /// Keys below this one.
+    Below(&'static [u8]),
+    /// Sequence numbers above this one.
+    Above(u64),
+    All,
+}
+
+impl Pred {
+    /// Returns whether it is true of a key and a sequence number.
+    fn holds(&self, key: &[u8], seqno: u64) -> bool {
+        match self {
+            Pred::Below(bound) => compare_bytes(key, bound).is_lt(),
+            Pred::Above(bound) => seqno > *bound,
+            Pred::All => true,
+        }
+    }
+}
+
+/// A call of a decoder, and what it returns.
+#[derive(Clone, Copy, Debug)]
+enum Call {
+    /// A seek by a predicate, in the second form or not, and its answer.
+    Seek(Pred, bool, bool),
+    /// Steps that take entries with these keys of one byte and this sequence number.
+    Take(&'static [u8], u64),
+    /// A step that takes nothing.
+    End,
+    /// A move to a head, which is at this offset.
+    Move(usize, usize),
+}
+
+/// Calls of a decoder of the block of a list at an interval.
+#[derive(Clone, Copy)]
+struct Calls {
+    list: List,
+    interval: u8,
+    calls: &'static [Call],
+}
+
+/// Five versions of a key.
+const FIVE: [Row; 5] = [
+    (b"k", b"", 5, ValueType::Value),
+    (b"k", b"", 4, ValueType::Value),
+    (b"k", b"", 3, ValueType::Value),
+    (b"k", b"", 2, ValueType::Value),
+    (b"k", b"", 1, ValueType::Value),
+];
+
+/// The first form of a seek picks the last head that the predicate is true of, the second the first
+/// that it is false of.
+const CALLS: [Calls; 10] = [
+    // The heads are a, c and e. Each seek but the first begins at the end.
+    Calls {
+        list: LETTERS,
+        interval: 2,
+        calls: &[
+            Call::Seek(Pred::Below(b"c"), false, true),
+            Call::Take(b"abcde", 0),
+            Call::End,
+            Call::Seek(Pred::Below(b"c"), true, true),
+            Call::Take(b"cde", 0),
+            Call::End,
+            Call::Seek(Pred::Below(b"z"), false, true),
+            Call::Take(b"e", 0),
+            Call::End,
+            Call::Seek(Pred::Below(b"z"), true, true),
+            Call::Take(b"e", 0),
+            Call::End,
+            Call::Seek(Pred::Below(b""), false, true),
+            Call::Take(b"abcde", 0),
+            Call::End,
+            Call::Seek(Pred::Below(b""), true, true),
+            Call::Take(b"abcde", 0),
+            Call::End,
+            Call::Seek(Pred::Below(b"b"), false, true),
+            Call::Take(b"abcde", 0),
+            Call::End,
+            Call::Seek(Pred::Below(b"b"), true, true),
+            Call::Take(b"cde", 0),
+            Call::End,
+            Call::Seek(Pred::Below(b"d"), false, true),
+            Call::Take(b"cde", 0),
+            Call::End,
+            Call::Seek(Pred::Below(b"d"), true, true),
+            Call::Take(b"e", 0),
+            Call::End,
+        ],
+    },
+    // Every key is a head. The second form finds none where the predicate is true of all.
+    Calls {
+        list: LETTERS,
+        interval: 1,
+        calls: &[
+            Call::Seek(Pred::Below(b"z"), true, false),
+            Call::End,
+            Call::Seek(Pred::Below(b"z"), false, true),
+            Call::Take(b"e", 0),
+            Call::End,
+            Call::Seek(Pred::Below(b"e"), true, true),
+            Call::Take(b"e", 0),
+            Call::End,
+            Call::Seek(Pred::Below(b"d"), false, true),
+            Call::Take(b"cde", 0),
+            Call::End,
+            Call::Seek(Pred::Below(b"d"), true, true),
+            Call::Take(b"de", 0),
+            Call::End,
+            Call::Seek(Pred::Below(b""), false, true),
+            Call::Take(b"abcde", 0),
+            Call::End,
+            Call::Seek(Pred::Below(b""), true, true),
+            Call::Take(b"abcde", 0),
+            Call::End,
+        ],
+    },
+    // A seek forgets where the front was: after an entry, within an interval, at a head.
+    Calls {
+        list: LETTERS,
+        interval: 2,
+        calls: &[
+            Call::Take(b"a", 0),
+            Call::Seek(Pred::Below(b"c"), false, true),
+            Call::Take(b"abcde", 0),
+            Call::End,
+        ],
+    },
+    Calls {
+        list: LETTERS,
+        interval: 2,
+        calls: &[
+            Call::Take(b"abc", 0),
+            Call::Seek(Pred::Below(b"c"), true, true),
+            Call::Take(b"cde", 0),
+            Call::End,
+        ],
+    },
+    Calls {
+        list: LETTERS,
+        interval: 2,
+        calls: &[
+            Call::Seek(Pred::All, false, true),
+            Call::Seek(Pred::Below(b""), true, true),
+            Call::Take(b"abcde", 0),
+            Call::End,
+        ],
+    },
+    // After a seek to no head nothing is left, and the next seek finds all entries again.
+    Calls {
+        list: LETTERS,
+        interval: 1,
+        calls: &[
+            Call::Take(b"a", 0),
+            Call::Seek(Pred::All, true, false),
+            Call::End,
+            Call::Seek(Pred::Below(b"b"), false, true),
+            Call::Take(b"abcde", 0),
+            Call::End,
+        ],
+    },
+    // A predicate sees the sequence numbers of the heads too.
+    Calls {
+        list: List::Rows(&FIVE),
+        interval: 2,
+        calls: &[
+            Call::Seek(Pred::Above(2), false, true),
+            Call::Take(b"k", 3),
+            Call::Seek(Pred::Above(3), true, true),
+            Call::Take(b"k", 3),
+        ],
+    },
+    // The heads a, c and e are at the offsets 0, 11 and 22.
+    Calls {
+        list: LETTERS,
+        interval: 2,
+        calls: &[
+            Call::Move(1, 11),
+            Call::Take(b"cde", 0),
+            Call::End,
+            Call::Move(2, 22),
+            Call::Take(b"e", 0),
+            Call::End,
+            Call::Move(0, 0),
+            Call::Take(b"abcde", 0),
+            Call::End,
+        ],
+    },
+    // A decoder moves from after an entry, and from after a seek.
+    Calls {
+        list: LETTERS,
+        interval: 2,
+        calls: &[
+            Call::Take(b"a", 0),
+            Call::Move(0, 0),
+            Call::Take(b"abcde", 0),
+            Call::End,
+        ],
+    },
+    Calls {
+        list: LETTERS,
+        interval: 2,
+        calls: &[
+            Call::Seek(Pred::All, false, true),
+            Call::Move(1, 11),
+            Call::Take(b"cde", 0),
+            Call::End,
+        ],
+    },
+];
+
+/// A decoder of a block, at its first entry.
+fn decoder_of(block: &DataBlock<Poly31>) -> Keys<'_>
+    ensures payload { result.payload ≡ block.now.payload }
+    ensures interval { result.interval ≡ block.now.interval }
+    ensures window { result.window ≡ whole block.now.items }
+{
+    // The proof needs that the payload is the encoding of the entries as decoded.
+    let _encoded = block.as_slice();
+    let _plain = block.iter();
+    data_block_is_read();
+    Decoder::new(block.inner())
+}
+
+/// Takes entries, and finds these keys of one byte, in this order, and this sequence number.
+fn take(rt: &impl Abort, decoder: &mut Keys<'_>, payload: &[u8], keys: &[u8], seqno: u64)
+    requires { decoder.old.payload ≡ payload.now }
+    ensures payload { decoder.new.payload ≡ payload.now }
+    ensures interval { decoder.new.interval ≡ decoder.old.interval }
+    ensures list { decoder.new.window.list ≡ decoder.old.window.list }
+{
+    for key in keys {
+        let Some(item) = decoder.next() else {
+            assert!(rt; false, "no entry where {key} is left");
+            return;
+        };
+        let order = item.compare_key([*key].as_slice(), payload);
+        assert!(rt; order.is_eq(), "not {key}");
+        assert!(rt; item.seqno() == seqno, "not {key}");
+    }
+}
+
+/// Makes a call of a decoder of a block.
+fn make_call(
+    rt: &impl Abort,
+    alloc: Global,
+    block: &DataBlock<Poly31>,
+    interval: u8,
+    decoder: &mut Keys<'_>,
+    call: &Call,
+) -> Result<()>
+    requires block { block.now.interval ≡ interval }
+    requires payload { decoder.old.payload ≡ block.now.payload }
+    requires interval { decoder.old.interval ≡ interval }
+    requires list { decoder.old.window.list ≡ block.now.items }
+    ensures payload { decoder.new.payload ≡ block.now.payload }
+    ensures interval { decoder.new.interval ≡ interval }
+    ensures list { decoder.new.window.list ≡ block.now.items }
+{
+    match call {
+        Call::Seek(pred, second, wanted) => {
+            let found = decoder.seek(&|key: &[u8], seqno: u64| pred.holds(key, seqno), *second);
+            assert!(rt; found == *wanted, "{call:?}");
+        }
+        Call::Take(keys, seqno) => {
+            take(rt, decoder, block.as_slice().as_slice(), keys, *seqno);
+        }
+        Call::End => assert!(rt; decoder.next().is_none()),
+        Call::Move(head, offset) => {
+            let found = offset_of(rt, alloc, block, interval, *head)?;
+            assert!(rt; found == *offset, "{call:?}");
+            decoder.set_lo_offset(found);
+        }
+    }
+    Ok(())
+}
+
+/// Makes calls of one decoder of a block.
+fn make_calls(
+    rt: &impl Abort,
+    alloc: Global,
+    block: &DataBlock<Poly31>,
+    interval: u8,
+    calls: &[Call],
+) -> Result<()>
+    requires { block.now.interval ≡ interval }
+{
+    let mut decoder = decoder_of(block);
+    for call in calls {
+        make_call(rt, alloc, block, interval, &mut decoder, call)?;
+    }
+    Ok(())
+}
+
+/// Each call of a decoder returns what is written in it.
+#[test]
+fn decoders_return_what_is_written(rt: HostRuntime) -> std::result::Result<(), Fail> {
+    let alloc = rt.alloc();
+    for script in &CALLS {
+        let list = list_of(&rt, alloc, script.list)?;
+        let block = block_of::<Poly31>(&rt, alloc, &list, script.interval, NO_BUCKETS)?;
+        make_calls(&rt, alloc, &block, script.interval, script.calls)?;
+    }
+    Ok(())
+}
+
+/// Takes the first entry left: an entry is counted where there is one, and no head.
+fn next_counts_one(iter: &mut Iter<'_>) -> bool
+    ensures heads { iter.new.steps.heads ≡ iter.old.steps.heads }
+    ensures entries { IsTrue result → iter.new.steps.entries ≡ iter.old.steps.entries + 1 }
+{
+    match iter.next() {
+        Some(_) => true,
+        None => false,
+    }
+}
+
+/// Takes the last entry left: no head is counted.
+fn next_back_counts_no_head(iter: &mut Iter<'_>) -> bool
+    ensures heads { iter.new.steps.heads ≡ iter.old.steps.heads }
+{
+    iter.next_back().is_some()
+}
+
+/// A seek over 40 entries, each a head, counts at most 6 heads.
+fn seek_counts_six_of_forty(iter: &mut Iter<'_>, needle: &[u8]) -> bool
+    requires count { length iter.old.window.list ≡ 40 }
+    requires interval { iter.old.interval ≡ 1 }
+    ensures heads { iter.new.steps.heads ≤ iter.old.steps.heads + 6 }
+{
+    iter.seek(needle)
+}
+
+/// A seek over 40 entries in intervals of 4 counts at most 4 heads.
+fn seek_counts_four_of_ten(iter: &mut Iter<'_>, needle: &[u8]) -> bool
+    requires count { length iter.old.window.list ≡ 40 }
+    requires interval { iter.old.interval ≡ 4 }
+    ensures heads { iter.new.steps.heads ≤ iter.old.steps.heads + 4 }
+{
+    iter.seek(needle)
+}
+
+/// A seek over 40 entries in intervals of 16 counts at most 2 heads.
+fn seek_counts_two_of_three(iter: &mut Iter<'_>, needle: &[u8]) -> bool
+    requires count { length iter.old.window.list ≡ 40 }
+    requires interval { iter.old.interval ≡ 16 }
+    ensures heads { iter.new.steps.heads ≤ iter.old.steps.heads + 2 }
+{
+    iter.seek(needle)
+}
