@@ -270,7 +270,7 @@ fn a_byte_a_call_is_read_and_written(rt: HostRuntime) {
 #[derive(Drop)]
 struct Written(&'static [u8], BlockType, u128, u32, &'static [u8]);
 
-const WRITTEN: [Written; 2] = [
+static WRITTEN: [Written; 2] = [
     Written(b"abc", BlockType::Data, 294, 3, &ABC),
     Written(b"", BlockType::Meta, 0, 0, &EMPTY),
 ];
@@ -338,7 +338,7 @@ fn frames_are_read_from_a_file(rt: HostRuntime) -> std::result::Result<(), Fail>
 #[derive(Drop)]
 struct HeaderByte(u8, Option<(u128, u128)>);
 
-const HEADERS: [HeaderByte; 2] = [HeaderByte(5, None), HeaderByte(6, Some((1240, 1239)))];
+static HEADERS: [HeaderByte; 2] = [HeaderByte(5, None), HeaderByte(6, Some((1240, 1239)))];
 
 impl Row for HeaderByte {
     fn holds(&self, alloc: Global) -> Result<bool> {
@@ -385,18 +385,18 @@ fn hash_written(alloc: Global) -> std::io::Result<(usize, Checksum, bool, Checks
     Ok((taken, first, is_refused, second, is_kept))
 }
 
-// Reads two bytes and two more of five: the number of the first, the checksum, after the second the
-// checksum, and whether the last byte is left.
-fn hash_read() -> std::io::Result<(usize, Checksum, Checksum, bool)> {
+// Reads two bytes and two more of five: the number of the first, the checksum, whether the second are
+// read, the checksum, and whether the last byte is left.
+fn hash_read() -> (Option<usize>, Checksum, bool, Checksum, bool) {
     let bytes = b"abcde".as_slice();
     let mut reader: ChecksummedReader<&[u8], ByteSum> = ChecksummedReader::new(bytes);
     let mut buf = [0u8; 2];
-    let given = reader.read(&mut buf)?;
+    let given = reader.read(&mut buf).ok();
     let first = reader.checksum();
-    reader.read_exact(&mut buf)?;
+    let is_read = reader.read_exact(&mut buf).is_ok();
     let second = reader.checksum();
     let is_left = reader.into_inner() == b"e".as_slice();
-    Ok((given, first, second, is_left))
+    (given, first, is_read, second, is_left)
 }
 
 #[test]
@@ -404,7 +404,7 @@ fn accepted_and_given_bytes_are_hashed(rt: HostRuntime) -> std::result::Result<(
     let (one, three) = (Checksum::from_raw(97), Checksum::from_raw(294));
     assert!(rt; hash_written(rt.alloc())? == (1, one, true, three, true));
     let (two, four) = (Checksum::from_raw(195), Checksum::from_raw(394));
-    assert!(rt; hash_read()? == (2, two, four, true));
+    assert!(rt; hash_read() == (Some(2), two, true, four, true));
     Ok(())
 }
 

@@ -115,7 +115,7 @@ fn answers<T: Byte, I: ListIterator<Item = T>>(
 #[derive(Drop)]
 struct Walk(&'static [u8], &'static [(Step, Option<u8>)]);
 
-const WALKS: [Walk; 5] = [
+static WALKS: [Walk; 5] = [
     Walk(
         &[1, 2, 3],
         &[
@@ -166,14 +166,25 @@ const WALKS: [Walk; 5] = [
     ),
 ];
 
-/// Whether iterators that borrow the items, own them, and are wrapped again have these answers.
+impl Walk {
+    /// Whether an iterator that borrows the items has these answers.
+    fn is_of_borrowed(&self) -> bool {
+        answers(self.0.iter().double_ended_peekable(), self.1)
+    }
+
+    /// Whether an iterator that is wrapped again has these answers.
+    fn is_of_wrapped_again(&self) -> bool {
+        let once = self.0.iter().double_ended_peekable();
+        answers(once.double_ended_peekable(), self.1)
+    }
+}
+
+/// Whether an iterator that owns the items has these answers, and so have the others.
 impl Row for Walk {
     fn holds(&self, alloc: Global) -> Result<bool> {
-        let Walk(items, steps) = self;
-        let borrowed = items.iter().double_ended_peekable();
-        let owned = items.to_vec(alloc)?.into_iter().double_ended_peekable();
-        let again = items.iter().double_ended_peekable().double_ended_peekable();
-        Ok(answers(borrowed, steps) && answers(owned, steps) && answers(again, steps))
+        let owned = self.0.to_vec(alloc)?.into_iter();
+        let is_of_owned = answers(owned.double_ended_peekable(), self.1);
+        Ok(is_of_owned && self.is_of_borrowed() && self.is_of_wrapped_again())
     }
 }
 
@@ -193,7 +204,7 @@ struct Added(
     &'static [Option<u8>],
 );
 
-const QUEUES: [Added; 2] = [
+static QUEUES: [Added; 2] = [
     Added(&[], None, None, 4, &[Some(4), None, None, None]),
     Added(
         &[1, 3],

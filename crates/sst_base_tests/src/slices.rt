@@ -14,10 +14,10 @@ enum Constructor {
     Text(&'static str),
     /// `Slice::from_string`.
     OwnedText(&'static str),
-    /// `Slice::from_array` of two bytes.
-    Two([u8; 2]),
-    /// `Slice::from_array` of fifty bytes.
-    Fifty([u8; 50]),
+    /// `Slice::from_array` of `ab`.
+    Two,
+    /// `Slice::from_array` of fifty sevens.
+    Fifty,
     /// `Slice::from_vec`.
     Owned(&'static [u8]),
     /// `Slice::collect_bytes`.
@@ -43,8 +43,8 @@ fn make(alloc: Global, call: &Constructor) -> Result<Slice> {
         Constructor::New(bytes) => Slice::new(alloc, bytes),
         Constructor::Text(text) => Slice::from_text(alloc, text),
         Constructor::OwnedText(text) => Slice::from_string(String::from_str(alloc, text)?),
-        Constructor::Two(bytes) => Slice::from_array(alloc, *bytes),
-        Constructor::Fifty(bytes) => Slice::from_array(alloc, *bytes),
+        Constructor::Two => Slice::from_array(alloc, *b"ab"),
+        Constructor::Fifty => Slice::from_array(alloc, [7; 50]),
         Constructor::Owned(bytes) => Slice::from_vec(bytes.to_vec(alloc)?),
         Constructor::Collected(bytes) => Slice::collect_bytes(alloc, bytes.iter().copied()),
         Constructor::Fused(left, right) => Slice::fused(alloc, left, right),
@@ -64,17 +64,17 @@ fn make(alloc: Global, call: &Constructor) -> Result<Slice> {
 struct Made(Constructor, &'static [u8]);
 
 /// Each call.
-const MADE: [Made; 16] = [
+static MADE: [Made; 16] = [
     Made(Constructor::Empty, b""),
     Made(Constructor::New(b"ab"), b"ab"),
     Made(Constructor::Text("ab"), b"ab"),
     Made(Constructor::OwnedText("ab"), b"ab"),
-    Made(Constructor::Two(*b"ab"), b"ab"),
+    Made(Constructor::Two, b"ab"),
     Made(Constructor::Owned(b"ab"), b"ab"),
     Made(Constructor::Collected(b"ab"), b"ab"),
     Made(Constructor::Fused(b"a", b"b"), b"ab"),
     Made(Constructor::New(&[7; 50]), &[7; 50]),
-    Made(Constructor::Fifty([7; 50]), &[7; 50]),
+    Made(Constructor::Fifty, &[7; 50]),
     Made(Constructor::Owned(&[7; 50]), &[7; 50]),
     Made(Constructor::Collected(&[7; 50]), &[7; 50]),
     Made(Constructor::Fused(&[7; 10], &[7; 40]), &[7; 50]),
@@ -83,17 +83,18 @@ const MADE: [Made; 16] = [
     Made(Constructor::Between(&[7; 50], 5, 45), &[7; 40]),
 ];
 
-/// Whether a slice has its bytes.
+/// Whether a slice has these bytes.
+fn has_bytes(slice: Result<Slice>, bytes: &[u8]) -> Result<bool> {
+    let slice = slice?;
+    let is_len = slice.len() == bytes.len() && slice.is_empty() == bytes.is_empty();
+    Ok(is_len && slice.eq_bytes(bytes))
+}
+
 impl Row for Made {
     fn holds(&self, alloc: Global) -> Result<bool> {
         let Made(call, bytes) = self;
-        let slice = make(alloc, call)?;
-        Ok(
-            slice == Slice::new(alloc, bytes)?
-                && slice.eq_bytes(bytes)
-                && slice.len() == bytes.len()
-                && slice.is_empty() == bytes.is_empty(),
-        )
+        let is_made = has_bytes(make(alloc, call), bytes)?;
+        Ok(is_made && make(alloc, call) == Slice::new(alloc, bytes))
     }
 }
 
@@ -102,12 +103,11 @@ fn slices_have_their_bytes(rt: HostRuntime) {
     check_rows(&rt, rt.alloc(), &MADE);
 }
 
-/// Whether the slices of bytes up to a length, in place or shared, and of those behind are the same
-/// however they are made.
-fn is_split(alloc: Global, at: usize) -> Result<bool> {
+/// The first bytes of a list and those behind, made in each way.
+fn rows_at(at: usize) -> [Made; 7] {
     let bytes = b"0123456789abcdefghijklmnopqrstuvwxyzABCDEFGHIJKLMNOPQRSTUVWXYZ".as_slice();
     let (front, rest) = bytes.split_at(bytes.len().min(at));
-    for row in [
+    [
         Made(Constructor::New(front), front),
         Made(Constructor::Clone(front), front),
         Made(Constructor::Whole(front), front),
@@ -115,27 +115,33 @@ fn is_split(alloc: Global, at: usize) -> Result<bool> {
         Made(Constructor::Fused(front, rest), bytes),
         Made(Constructor::First(bytes, at), front),
         Made(Constructor::Behind(bytes, at), rest),
-    ] {
-        if !row.holds(alloc)? {
-            return Ok(false);
-        }
-    }
-    Ok(true)
+    ]
 }
 
+/// Whether each row holds.
+fn all_hold(alloc: Global, rows: &[Made]) -> bool {
+    for row in rows {
+        if row.holds(alloc) != Ok(true) {
+            return false;
+        }
+    }
+    true
+}
+
+// Slices of up to 39 bytes hold them in place, and longer ones share them.
 #[test]
 fn short_and_long_slices_are_the_same(rt: HostRuntime) {
     for at in [0, 1, 38, 39, 40, 41, 62] {
-        assert!(rt; is_split(rt.alloc(), at) == Ok(true), "{at}");
+        assert!(rt; all_hold(rt.alloc(), &rows_at(at)), "{at}");
     }
 }
 
 /// Whether a call that fails for memory succeeds when it is made again.
 fn is_made_again(alloc: Global, row: &Made) -> Result<bool> {
     let Made(call, bytes) = row;
-    match make(alloc, call) {
-        Err(Error::Memory) => Ok(make(alloc, call)?.eq_bytes(bytes)),
-        made => Ok(made?.eq_bytes(bytes)),
+    match has_bytes(make(alloc, call), bytes) {
+        Err(Error::Memory) => has_bytes(make(alloc, call), bytes),
+        made => made,
     }
 }
 

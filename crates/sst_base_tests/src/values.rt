@@ -16,7 +16,7 @@ use std::mem::size_of;
 #[derive(Drop)]
 struct Written(&'static [u64], &'static [u8]);
 
-const WRITTEN: [Written; 4] = [
+static WRITTEN: [Written; 4] = [
     Written(&[5, 300], &[5, 0xac, 2]),
     Written(&[7], &[7]),
     Written(&[300], &[0xac, 2]),
@@ -73,7 +73,7 @@ fn a_failed_growth_leaves_the_vector(rt: HostRuntime) {
 #[derive(Drop)]
 struct SplitKey(&'static [u8], &'static [u8], &'static [u8], Ordering);
 
-const SPLIT_KEYS: [SplitKey; 24] = [
+static SPLIT_KEYS: [SplitKey; 24] = [
     SplitKey(b"abcd", b"zz", b"abc", Ordering::Greater),
     SplitKey(b"\x00\xa1", b"", b"\x00", Ordering::Greater),
     SplitKey(b"yyyy", b"a", b"yyyyb", Ordering::Less),
@@ -114,7 +114,7 @@ const SPLIT_KEYS: [SplitKey; 24] = [
 #[derive(Drop)]
 struct Pair(&'static [u8], &'static [u8], Ordering, usize);
 
-const PAIRS: [Pair; 8] = [
+static PAIRS: [Pair; 8] = [
     Pair(b"abcdefgh", b"abcdefgh", Ordering::Equal, 8),
     Pair(b"abcdefg\x80", b"abcdefg\x7f", Ordering::Greater, 7),
     Pair(b"\x01bcdefgh", b"\x00\xffcdefgh", Ordering::Greater, 0),
@@ -154,7 +154,7 @@ fn byte_strings_compare(rt: HostRuntime) {
 #[derive(Drop)]
 struct Varint(&'static [u8], u32, Option<(u64, usize)>);
 
-const VARINTS: [Varint; 23] = [
+static VARINTS: [Varint; 23] = [
     Varint(b"\x00", 16, Some((0, 1))),
     Varint(b"\x7f\xff", 16, Some((127, 1))),
     Varint(b"\x80\x01", 16, Some((128, 2))),
@@ -232,7 +232,7 @@ const LETTERS: &[u8] = b"abcdefghijklmnopqrstuvwxyz";
 #[derive(Drop)]
 struct Hashed(HashFunction, &'static [u8], u128);
 
-const HASHES: [Hashed; 15] = [
+static HASHES: [Hashed; 15] = [
     Hashed(HashFunction::Poly64, b"", 0),
     Hashed(HashFunction::Poly64, b"a", 97),
     Hashed(HashFunction::Poly64, b"ab", 3105),
@@ -303,12 +303,21 @@ const KEYS: [Keys; 2] = [
     ),
 ];
 
+// The key `a` with a sequence number and a type.
+fn key(alloc: Global, parts: &(u64, ValueType)) -> Result<InternalKey> {
+    Ok(InternalKey::new(Slice::new(alloc, b"a")?, parts.0, parts.1))
+}
+
+// How two keys compare, and whether they are equal.
+fn compare(a: &InternalKey, b: &InternalKey) -> (Ordering, bool) {
+    (a.cmp(b), a == b)
+}
+
 impl Row for Keys {
     fn holds(&self, alloc: Global) -> Result<bool> {
         let Keys(a, b, order, is_same) = self;
-        let a = InternalKey::new(Slice::new(alloc, b"a")?, a.0, a.1);
-        let b = InternalKey::new(Slice::new(alloc, b"a")?, b.0, b.1);
-        Ok(a.cmp(&b) == *order && (a == b) == *is_same)
+        let (a, b) = (key(alloc, a)?, key(alloc, b)?);
+        Ok(compare(&a, &b) == (*order, *is_same))
     }
 }
 
