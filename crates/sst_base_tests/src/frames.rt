@@ -1,8 +1,9 @@
 // Frames, headers, handles and streams: worked values, damaged bytes, slow and failing devices.
 use crate::devices::{SlowReader, SlowWriter};
+use crate::rows::{Row, check_rows};
 use sst_base::checksum::{ChecksummedReader, ChecksummedWriter};
 use sst_base::coding::{Decode, Encode};
-use sst_base::hash::{BlockHash, ByteSum, Poly31};
+use sst_base::hash::{ByteSum, Poly31};
 use sst_base::table::block::{Block, BlockHandle, BlockOffset, BlockType, Header};
 use sst_base::{Checksum, Error, HeaderName, Result, Slice, TagName};
 use std::alloc::Global;
@@ -11,16 +12,16 @@ use std::fs::File;
 use std::io::{Read, Write};
 use std::test::Fail;
 
+// The frame of `abc`, and two bytes behind.
+const LONGER: [u8; 38] = [
+    0x4c, 0x53, 0x4d, 0x03, 0x00, 0x26, 0x01, 0, 0, 0, 0, 0, 0, 0, 0, 0, 0, 0, 0, 0, 0, 3, 0, 0, 0,
+    3, 0, 0, 0, 0x1c, 0x01, 0, 0, 0x61, 0x62, 0x63, 7, 8,
+];
+
 // The frame of `abc`.
 const ABC: [u8; 36] = [
     0x4c, 0x53, 0x4d, 0x03, 0x00, 0x26, 0x01, 0, 0, 0, 0, 0, 0, 0, 0, 0, 0, 0, 0, 0, 0, 3, 0, 0, 0,
     3, 0, 0, 0, 0x1c, 0x01, 0, 0, 0x61, 0x62, 0x63,
-];
-
-// The same, and two bytes behind.
-const LONGER: [u8; 38] = [
-    0x4c, 0x53, 0x4d, 0x03, 0x00, 0x26, 0x01, 0, 0, 0, 0, 0, 0, 0, 0, 0, 0, 0, 0, 0, 0, 3, 0, 0, 0,
-    3, 0, 0, 0, 0x1c, 0x01, 0, 0, 0x61, 0x62, 0x63, 7, 8,
 ];
 
 // The frame of no bytes.
@@ -35,35 +36,22 @@ const HEADER_ONLY: [u8; 33] = [
     0x03, 0x00, 0xdc, 0xfb, 0x65, 0x07, 0xd7, 0x04, 0x00, 0x00,
 ];
 
-// What a test sees of a block: its header, and whether its payload is `abc`.
-type Seen = (Header, bool);
-
-fn see(block: Result<Block>) -> Result<Seen> {
-    let block = block?;
-    Ok((*block.header(), block.data().eq_bytes(b"abc")))
-}
-
-fn abc() -> Result<Seen> {
-    Ok((abc_header(), true))
-}
-
-fn read(alloc: Global, mut bytes: &[u8]) -> Result<Seen> {
-    see(Block::from_reader::<ByteSum, &[u8]>(alloc, &mut bytes))
-}
-
-fn read_whole(alloc: Global, bytes: &[u8]) -> Result<Seen> {
-    see(Block::from_frame::<ByteSum>(Slice::new(alloc, bytes)?))
-}
-
+// The header of `abc`.
 fn abc_header() -> Header {
+    header_of(BlockType::Data, 294, 3)
+}
+
+// The header of a payload with a checksum and a length.
+fn header_of(block_type: BlockType, checksum: u128, len: u32) -> Header {
     Header {
-        block_type: BlockType::Data,
-        checksum: Checksum::from_raw(294),
-        data_length: 3,
-        uncompressed_length: 3,
+        block_type,
+        checksum: Checksum::from_raw(checksum),
+        data_length: len,
+        uncompressed_length: len,
     }
 }
 
+// The error of two checksums.
 fn mismatch(got: u128, expected: u128) -> Error {
     Error::ChecksumMismatch {
         got: Checksum::from_raw(got),
@@ -71,241 +59,317 @@ fn mismatch(got: u128, expected: u128) -> Error {
     }
 }
 
-#[test]
-fn hashes_of_128_bits(rt: HostRuntime) {
-    let rows = [
-        (b"".as_slice(), 0),
-        (b"ab".as_slice(), 3105),
-        (
-            b"abcdefghijklmnopqrstuvwxyz".as_slice(),
-            227017528821858468687363687910949414317,
-        ),
-        (
-            [255; 40].as_slice(),
-            246238872108508821882583427385243299200,
-        ),
-    ];
-    for (bytes, hash) in rows {
-        assert_eq!(rt; Poly31::hash128(bytes), hash, "{bytes:?}");
-    }
-    assert_eq!(rt; ByteSum::hash128(&[255; 40]), 10200);
+// What a test sees of a block that was read: its header, whether its payload is `abc`, and the
+// number of bytes left.
+type Seen = (Header, bool, usize);
+
+// The header of a block, whether its payload is `abc`, and the number of bytes left.
+fn see(block: Result<Block>, left: usize) -> Result<Seen> {
+    let block = block?;
+    Ok((*block.header(), block.data().eq_bytes(b"abc"), left))
 }
 
-// The hash of a stream that bytes come to in pieces.
-fn hash_in_pieces<H: BlockHash>(bytes: &[u8]) -> u128 {
-    let mut stream = H::start();
-    for piece in bytes.chunks(9) {
-        stream.update(piece);
-    }
-    stream.digest128()
+// Reads a frame in memory.
+fn read_memory(alloc: Global, mut bytes: &[u8]) -> Result<Seen> {
+    let block = Block::from_reader::<ByteSum, &[u8]>(alloc, &mut bytes);
+    see(block, bytes.len())
 }
 
-#[test]
-fn streams_hash_all_bytes(rt: HostRuntime) {
-    let letters = b"abcdefghijklmnopqrstuvwxyz";
-    assert_eq!(rt; hash_in_pieces::<Poly31>(letters), Poly31::hash128(letters));
-    assert_eq!(rt; hash_in_pieces::<ByteSum>(letters), 2847);
+// Reads a frame from a reader.
+fn read_slowly(alloc: Global, reader: &mut SlowReader<'_>) -> Result<Seen> {
+    let block = Block::from_reader::<ByteSum, SlowReader<'_>>(alloc, reader);
+    see(block, reader.bytes.len())
 }
 
-// Writes a frame; the second answer is whether its bytes are these.
-fn write(alloc: Global, payload: &[u8], of: BlockType, bytes: &[u8]) -> Result<Seen> {
-    let mut frame = Vec::new(alloc);
-    let header = Block::write_into::<ByteSum, Vec<u8>>(&mut frame, payload, of)?;
-    Ok((header, frame.as_slice() == bytes))
+// Reads a frame whole.
+fn read_frame(alloc: Global, bytes: &[u8]) -> Result<Seen> {
+    see(Block::from_frame::<ByteSum>(Slice::new(alloc, bytes)?), 0)
 }
 
-#[test]
-fn frames_are_written(rt: HostRuntime) {
-    let alloc = rt.alloc();
-    assert_eq!(rt; write(alloc, b"abc", BlockType::Data, &ABC), abc());
-    let empty = write(alloc, b"", BlockType::Meta, &EMPTY);
-    assert!(rt; empty.is_ok_and(|(_, is_same)| is_same));
+// What is wanted of a read: the block of `abc` and the number of bytes left, an error, or that of
+// two checksums, the computed and the stored.
+#[derive(Drop)]
+enum Wanted {
+    Abc(usize),
+    Refused(Error),
+    Mismatch(u128, u128),
 }
 
-#[test]
-fn frames_are_read(rt: HostRuntime) {
-    let alloc = rt.alloc();
-    let rows = [
-        (ABC.as_slice(), abc(), abc()),
-        (LONGER.as_slice(), abc(), Err(Error::LengthMismatch)),
-        (&ABC[..32], Err(Error::Io), Err(Error::Truncated)),
-        (&ABC[..35], Err(Error::Io), Err(Error::LengthMismatch)),
-    ];
-    for (bytes, front, whole) in rows {
-        assert_eq!(rt; read(alloc, bytes), front, "{bytes:?}");
-        assert_eq!(rt; read_whole(alloc, bytes), whole, "{bytes:?}");
+// The same as a result.
+fn wanted_result(wanted: &Wanted) -> Result<Seen> {
+    match wanted {
+        Wanted::Abc(left) => Ok((abc_header(), true, *left)),
+        Wanted::Refused(error) => Err(*error),
+        Wanted::Mismatch(got, expected) => Err(mismatch(*got, *expected)),
     }
 }
 
-// What is left of these bytes behind the frame at their front.
-fn rest_of(alloc: Global, bytes: &[u8]) -> Result<&[u8]> {
-    let mut rest = bytes;
-    Block::from_reader::<ByteSum, &[u8]>(alloc, &mut rest)?;
-    Ok(rest)
-}
+// Other bytes at some offsets of a frame.
+type Changes = &'static [(usize, u8)];
 
-#[test]
-fn what_follows_a_frame_is_left(rt: HostRuntime) {
-    assert_eq!(rt; rest_of(rt.alloc(), &LONGER), Ok([7, 8].as_slice()));
-}
-
-// The frame of `abc` with other bytes at some offsets.
-fn damaged(changes: &[(usize, u8)]) -> [u8; 36] {
-    let mut frame = ABC;
+// The frame of `abc` and the bytes behind, changed.
+fn changed(changes: Changes) -> [u8; 38] {
+    let mut frame = LONGER;
     for (at, byte) in changes {
-        if *at < frame.len() {
-            frame[*at] = *byte;
+        if let Some(place) = frame.get_mut(*at) {
+            *place = *byte;
         }
     }
     frame
 }
 
-#[test]
-fn damaged_frames_are_refused(rt: HostRuntime) {
-    let alloc = rt.alloc();
-    let rows = [
-        ([(35, 0x64)].as_slice(), mismatch(295, 294)),
-        ([(25, 4), (29, 0x1d)].as_slice(), Error::LengthMismatch),
-        (
-            [(0, 0x4d)].as_slice(),
-            Error::InvalidHeader(HeaderName::Block),
-        ),
-        (
-            [(4, 4)].as_slice(),
-            Error::InvalidTag(TagName::BlockType, 4),
-        ),
-        ([(5, 0x27)].as_slice(), mismatch(285, 284)),
-    ];
-    for (changes, error) in rows {
-        let frame = damaged(changes);
-        let refused = Err(error);
-        assert_eq!(rt; read(alloc, &frame), refused);
-        assert_eq!(rt; read_whole(alloc, &frame), refused);
+// Both lengths are 2^32 - 1.
+const TOO_LONG: Changes = &[
+    (5, 5),
+    (6, 0),
+    (21, 0xff),
+    (22, 0xff),
+    (23, 0xff),
+    (24, 0xff),
+    (25, 0xff),
+    (26, 0xff),
+    (27, 0xff),
+    (28, 0xff),
+    (29, 0xec),
+    (30, 0x08),
+];
+
+const NO_HEADER: Wanted = Wanted::Refused(Error::InvalidHeader(HeaderName::Block));
+
+const NO_TYPE: Wanted = Wanted::Refused(Error::InvalidTag(TagName::BlockType, 4));
+
+// The changes of the frame of `abc`, its length or that of its front, what is read from a reader,
+// and what is read of the frame.
+#[derive(Drop)]
+struct Damaged(Changes, usize, Wanted, Wanted);
+
+const FRAMES: [Damaged; 10] = [
+    Damaged(&[], 36, Wanted::Abc(0), Wanted::Abc(0)),
+    Damaged(
+        &[],
+        38,
+        Wanted::Abc(2),
+        Wanted::Refused(Error::LengthMismatch),
+    ),
+    Damaged(
+        &[],
+        32,
+        Wanted::Refused(Error::Io),
+        Wanted::Refused(Error::Truncated),
+    ),
+    Damaged(
+        &[],
+        35,
+        Wanted::Refused(Error::Io),
+        Wanted::Refused(Error::LengthMismatch),
+    ),
+    Damaged(
+        &[(35, 0x64)],
+        36,
+        Wanted::Mismatch(295, 294),
+        Wanted::Mismatch(295, 294),
+    ),
+    Damaged(
+        &[(25, 4), (29, 0x1d)],
+        36,
+        Wanted::Refused(Error::LengthMismatch),
+        Wanted::Refused(Error::LengthMismatch),
+    ),
+    Damaged(&[(0, 0x4d)], 36, NO_HEADER, NO_HEADER),
+    Damaged(&[(4, 4)], 36, NO_TYPE, NO_TYPE),
+    Damaged(
+        &[(5, 0x27)],
+        36,
+        Wanted::Mismatch(285, 284),
+        Wanted::Mismatch(285, 284),
+    ),
+    Damaged(
+        TOO_LONG,
+        36,
+        Wanted::Refused(Error::Io),
+        Wanted::Refused(Error::LengthMismatch),
+    ),
+];
+
+// Whether a frame is read from memory, from a reader that gives a byte a call, and whole.
+impl Row for Damaged {
+    fn holds(&self, alloc: Global) -> Result<bool> {
+        let Damaged(changes, len, from_reader, of_frame) = self;
+        let bytes = changed(changes);
+        let (bytes, _) = bytes.as_slice().split_at(bytes.len().min(*len));
+        let slowly = read_slowly(alloc, &mut SlowReader::new(bytes, usize::MAX));
+        let wanted = wanted_result(from_reader);
+        let is_read = read_memory(alloc, bytes) == wanted && slowly == wanted;
+        Ok(is_read && read_frame(alloc, bytes) == wanted_result(of_frame))
     }
 }
 
-// Writes a header; the answer is whether its bytes are these.
-fn is_written(alloc: Global, header: &Header, bytes: &[u8]) -> Result<bool> {
-    let mut out = Vec::new(alloc);
-    header.encode_into::<ByteSum, Vec<u8>>(&mut out)?;
-    Ok(out.as_slice() == bytes)
+#[test]
+fn frames_are_read_or_refused(rt: HostRuntime) {
+    check_rows(&rt, rt.alloc(), &FRAMES);
+}
+
+// Reads the frame of `abc`, whole or from memory.
+fn read_abc(alloc: Global, is_whole: bool) -> Result<Seen> {
+    if is_whole {
+        return read_frame(alloc, &ABC);
+    }
+    read_memory(alloc, &ABC)
+}
+
+// Whether a read that fails for memory succeeds when it is made again.
+fn is_read_again(alloc: Global, is_whole: bool) -> bool {
+    let seen = match read_abc(alloc, is_whole) {
+        Err(Error::Memory) => read_abc(alloc, is_whole),
+        seen => seen,
+    };
+    seen == wanted_result(&Wanted::Abc(0))
+}
+
+// For a run in which one allocation fails.
+#[test]
+fn refused_memory_is_named(rt: HostRuntime) {
+    for is_whole in [false, true] {
+        assert!(rt; is_read_again(rt.alloc(), is_whole), "{is_whole}");
+    }
 }
 
 #[test]
-fn headers_are_written_and_read(rt: HostRuntime) {
-    let header = Header {
-        block_type: BlockType::Data,
-        checksum: Checksum::from_raw(5),
-        data_length: 252356,
-        uncompressed_length: 124124124,
-    };
-    assert_eq!(rt; is_written(rt.alloc(), &header, &HEADER_ONLY), Ok(true));
-    let read = Header::decode_from::<ByteSum, &[u8]>(&mut HEADER_ONLY.as_slice());
-    assert_eq!(rt; read, Ok(header));
-    let mut changed = HEADER_ONLY;
-    changed[5] = 6;
-    let refused = Header::decode_from::<ByteSum, &[u8]>(&mut changed.as_slice());
-    assert_eq!(rt; refused, Err(mismatch(1240, 1239)));
-    assert_eq!(rt; Header::serialized_len(), 33);
+fn a_false_length_asks_for_little(rt: HostRuntime) {
+    let frame = changed(TOO_LONG);
+    let mut reader = SlowReader::new(&frame, usize::MAX);
+    let seen = read_slowly(rt.alloc(), &mut reader);
+    assert!(rt; seen == Err(Error::Io) && reader.most == 65536);
 }
 
-// Reads the frame at the front of a file by a handle of this size.
-fn read_file(rt: &HostRuntime, name: &str, size: u32) -> std::result::Result<Result<Seen>, Fail> {
-    let mut file = File::open(rt, name)?;
+// Whether the frame of `abc` is written to a writer that takes a byte a call, and read from a reader
+// that gives one, up to the call that fails.
+fn is_moved(alloc: Global, fails_at: usize) -> bool {
+    let mut writer = SlowWriter::new(Vec::new(alloc), fails_at);
+    let mut reader = SlowReader::new(&ABC, fails_at);
+    let written = Block::write_into::<ByteSum, SlowWriter>(&mut writer, b"abc", BlockType::Data);
+    let read = read_slowly(alloc, &mut reader);
+    let is_counted = reader.calls == fails_at;
+    let is_taken = Some(writer.taken.as_slice()) == ABC.get(..fails_at);
+    let is_done = if fails_at < ABC.len() {
+        written == Err(Error::Io) && read == Err(Error::Io)
+    } else {
+        written == Ok(abc_header()) && read == wanted_result(&Wanted::Abc(0))
+    };
+    is_done && is_counted && is_taken
+}
+
+#[test]
+fn a_byte_a_call_is_read_and_written(rt: HostRuntime) {
+    for fails_at in 0..37 {
+        assert!(rt; is_moved(rt.alloc(), fails_at), "{fails_at}");
+    }
+}
+
+// A payload, its type, its checksum, its length and its frame.
+#[derive(Drop)]
+struct Written(&'static [u8], BlockType, u128, u32, &'static [u8]);
+
+static WRITTEN: [Written; 2] = [
+    Written(b"abc", BlockType::Data, 294, 3, &ABC),
+    Written(b"", BlockType::Meta, 0, 0, &EMPTY),
+];
+
+impl Row for Written {
+    fn holds(&self, alloc: Global) -> Result<bool> {
+        let Written(payload, block_type, checksum, len, frame) = self;
+        let mut bytes = Vec::new(alloc);
+        let header = Block::write_into::<ByteSum, Vec<u8>>(&mut bytes, payload, *block_type);
+        Ok(header == Ok(header_of(*block_type, *checksum, *len)) && bytes.as_slice() == *frame)
+    }
+}
+
+#[test]
+fn frames_are_written(rt: HostRuntime) {
+    check_rows(&rt, rt.alloc(), &WRITTEN);
+}
+
+// Whether a payload of a length is read, and what follows its frame is left.
+fn is_read_in_pieces(alloc: Global, len: usize) -> Result<bool> {
+    let payload = vec![in alloc; 7u8; len]?;
+    let mut frame = Vec::new(alloc);
+    Block::write_into::<Poly31, Vec<u8>>(&mut frame, &payload, BlockType::Filter)?;
+    frame.extend_from_slice(&[7, 8])?;
+    let mut rest = frame.as_slice();
+    let block = Block::from_reader::<Poly31, &[u8]>(alloc, &mut rest)?;
+    Ok(block.data().eq_bytes(&payload) && rest == [7, 8].as_slice())
+}
+
+#[test]
+fn long_payloads_are_read_in_pieces(rt: HostRuntime) {
+    for len in [3, 200_000] {
+        assert!(rt; is_read_in_pieces(rt.alloc(), len) == Ok(true), "{len}");
+    }
+}
+
+// The size of a handle, and what is read by it from a file of the frame of `abc`.
+const SIZES: [(u32, Wanted); 4] = [
+    (36, Wanted::Abc(0)),
+    (35, Wanted::Refused(Error::LengthMismatch)),
+    (20, Wanted::Refused(Error::Truncated)),
+    (40, Wanted::Refused(Error::Io)),
+];
+
+// Reads the frame at the front of a file by a handle of a size.
+fn read_file(alloc: Global, mut file: File, size: u32) -> Result<Seen> {
     let handle = BlockHandle::new(BlockOffset(0), size);
-    let block = Block::from_file::<ByteSum, File>(rt.alloc(), &mut file, handle);
-    Ok(see(block))
+    see(
+        Block::from_file::<ByteSum, File>(alloc, &mut file, handle),
+        0,
+    )
 }
 
 #[test]
 fn frames_are_read_from_a_file(rt: HostRuntime) -> std::result::Result<(), Fail> {
     fs::write(&rt, "frame", ABC)?;
-    let rows = [
-        (36, abc()),
-        (35, Err(Error::LengthMismatch)),
-        (20, Err(Error::Truncated)),
-        (40, Err(Error::Io)),
-    ];
-    for (size, seen) in rows {
-        assert_eq!(rt; read_file(&rt, "frame", size)?, seen, "{size}");
+    for (size, wanted) in &SIZES {
+        let seen = read_file(rt.alloc(), File::open(&rt, "frame")?, *size);
+        assert!(rt; seen == wanted_result(wanted), "{size}");
     }
     Ok(())
 }
 
-// Reads a frame from a reader that gives a byte a call; the second answer is the number of calls,
-// the third the most that was asked for.
-fn read_slowly(alloc: Global, bytes: &[u8], fails_at: usize) -> (Result<Seen>, usize, usize) {
-    let mut reader = SlowReader::new(bytes, fails_at);
-    let seen = see(Block::from_reader::<ByteSum, SlowReader<'_>>(alloc, &mut reader));
-    (seen, reader.calls, reader.most)
-}
+// The byte at offset 5 of the header alone, and the two checksums if they differ.
+#[derive(Drop)]
+struct HeaderByte(u8, Option<(u128, u128)>);
 
-#[test]
-fn a_byte_a_call_is_read(rt: HostRuntime) {
-    let alloc = rt.alloc();
-    for calls in 0..ABC.len() {
-        let (seen, _, _) = read_slowly(alloc, &ABC, calls);
-        assert_eq!(rt; seen, Err(Error::Io), "{calls}");
+static HEADERS: [HeaderByte; 2] = [HeaderByte(5, None), HeaderByte(6, Some((1240, 1239)))];
+
+impl Row for HeaderByte {
+    fn holds(&self, alloc: Global) -> Result<bool> {
+        let HeaderByte(byte, error) = self;
+        let header = Header {
+            block_type: BlockType::Data,
+            checksum: Checksum::from_raw(5),
+            data_length: 252356,
+            uncompressed_length: 124124124,
+        };
+        let mut out = Vec::new(alloc);
+        let is_encoded = header.encode_into::<ByteSum, Vec<u8>>(&mut out) == Ok(());
+        let mut bytes = HEADER_ONLY;
+        bytes[5] = *byte;
+        let read = Header::decode_from::<ByteSum, &[u8]>(&mut bytes.as_slice());
+        let is_read = match error {
+            None => read == Ok(header),
+            Some((got, expected)) => read == Err(mismatch(*got, *expected)),
+        };
+        Ok(
+            is_read
+                && is_encoded
+                && out.as_slice() == HEADER_ONLY.as_slice()
+                && Header::serialized_len() == 33,
+        )
     }
-    let (seen, calls, _) = read_slowly(alloc, &ABC, ABC.len());
-    assert_eq!(rt; (seen, calls), (abc(), ABC.len()));
-}
-
-// Writes a frame to a writer that takes a byte a call; the second answer is whether it took the
-// front of the frame that has so many bytes.
-fn write_slowly(alloc: Global, fails_at: usize) -> (Result<Header>, bool) {
-    let mut writer = SlowWriter::new(Vec::new(alloc), fails_at);
-    let header = Block::write_into::<ByteSum, SlowWriter>(&mut writer, b"abc", BlockType::Data);
-    (header, Some(writer.taken.as_slice()) == ABC.get(..fails_at))
 }
 
 #[test]
-fn a_byte_a_call_is_written(rt: HostRuntime) {
-    let alloc = rt.alloc();
-    for calls in 0..ABC.len() {
-        assert_eq!(rt;
-            write_slowly(alloc, calls),
-            (Err(Error::Io), true),
-            "{calls}"
-        );
-    }
-    assert_eq!(rt; write_slowly(alloc, ABC.len()), (Ok(abc_header()), true));
-}
-
-#[test]
-fn a_false_length_asks_for_little(rt: HostRuntime) {
-    let mut frame = ABC;
-    frame[5] = 5;
-    frame[6] = 0;
-    frame[21..29].copy_from_slice(&[0xff; 8]);
-    frame[29..33].copy_from_slice(&[0xec, 0x08, 0, 0]);
-    let (seen, _, most) = read_slowly(rt.alloc(), &frame, usize::MAX);
-    assert_eq!(rt; (seen, most), (Err(Error::Io), 65536));
-}
-
-// Writes a frame and reads it again: whether the payload is the same, and how much is left.
-fn round_trip(alloc: Global, payload: &[u8]) -> Result<(bool, usize)> {
-    let mut frame = Vec::new(alloc);
-    Block::write_into::<Poly31, Vec<u8>>(&mut frame, payload, BlockType::Filter)?;
-    let mut rest = frame.as_slice();
-    let block = Block::from_reader::<Poly31, &[u8]>(alloc, &mut rest)?;
-    Ok((block.data().eq_bytes(payload), rest.len()))
-}
-
-#[test]
-fn long_payloads_are_read_in_pieces(rt: HostRuntime) -> std::result::Result<(), Fail> {
-    let payload = vec![in rt.alloc(); 7u8; 200_000]?;
-    let read = round_trip(rt.alloc(), payload.as_slice());
-    assert_eq!(rt; read, Ok((true, 0)));
-    Ok(())
-}
-
-#[test]
-fn refused_memory_is_named(rt: HostRuntime) {
-    let alloc = rt.alloc();
-    for seen in [read(alloc, &ABC), read_whole(alloc, &ABC)] {
-        assert!(rt; seen == abc() || seen == Err(Error::Memory), "{seen:?}");
-    }
+fn headers_are_written_and_read(rt: HostRuntime) {
+    check_rows(&rt, rt.alloc(), &HEADERS);
 }
 
 // A slow writer that hashes: what it takes of three bytes, and the checksum; whether three more are
@@ -321,48 +385,56 @@ fn hash_written(alloc: Global) -> std::io::Result<(usize, Checksum, bool, Checks
     Ok((taken, first, is_refused, second, is_kept))
 }
 
-#[test]
-fn only_accepted_bytes_are_hashed(rt: HostRuntime) -> std::result::Result<(), Fail> {
-    let (one, three) = (Checksum::from_raw(97), Checksum::from_raw(294));
-    assert_eq!(rt; hash_written(rt.alloc())?, (1, one, true, three, true));
-    Ok(())
-}
-
-#[test]
-fn given_bytes_are_hashed(rt: HostRuntime) -> std::result::Result<(), Fail> {
-    let mut reader: ChecksummedReader<&[u8], ByteSum> = ChecksummedReader::new(b"abcde".as_slice());
+// Reads two bytes and two more of five: the number of the first, the checksum, whether the second are
+// read, the checksum, and whether the last byte is left.
+fn hash_read() -> (Option<usize>, Checksum, bool, Checksum, bool) {
+    let bytes = b"abcde".as_slice();
+    let mut reader: ChecksummedReader<&[u8], ByteSum> = ChecksummedReader::new(bytes);
     let mut buf = [0u8; 2];
-    assert_eq!(rt; reader.read(&mut buf)?, 2);
-    assert_eq!(rt; reader.checksum(), Checksum::from_raw(195));
-    reader.read_exact(&mut buf)?;
-    assert_eq!(rt; reader.checksum(), Checksum::from_raw(394));
-    assert_eq!(rt; reader.into_inner(), b"e".as_slice());
-    Ok(())
-}
-
-// Whether a handle is encoded as these bytes, in a vector of its own and behind others.
-fn is_encoded(alloc: Global, handle: &BlockHandle, bytes: &[u8]) -> Result<(bool, bool)> {
-    let alone = handle.encode_into_vec(alloc)?;
-    let mut behind = Vec::new(alloc);
-    handle.encode_into(&mut behind)?;
-    Ok((alone.as_slice() == bytes, behind.as_slice() == bytes))
+    let given = reader.read(&mut buf).ok();
+    let first = reader.checksum();
+    let is_read = reader.read_exact(&mut buf).is_ok();
+    let second = reader.checksum();
+    let is_left = reader.into_inner() == b"e".as_slice();
+    (given, first, is_read, second, is_left)
 }
 
 #[test]
-fn handles_are_encoded(rt: HostRuntime) {
-    let handle = BlockHandle::new(BlockOffset(146), 73);
-    let bytes = [0x92, 0x01, 0x49];
-    assert_eq!(rt; is_encoded(rt.alloc(), &handle, &bytes), Ok((true, true)));
-    let rows = [
-        (bytes.as_slice(), Ok(handle)),
-        ([0x80, 0x00, 0x49].as_slice(), Err(Error::BadHandle)),
-        ([0x00].as_slice(), Err(Error::Io)),
-    ];
-    for (bytes, decoded) in rows {
-        assert_eq!(rt;
-            BlockHandle::decode_from(&mut &*bytes),
-            decoded,
-            "{bytes:?}"
-        );
+fn accepted_and_given_bytes_are_hashed(rt: HostRuntime) -> std::result::Result<(), Fail> {
+    let (one, three) = (Checksum::from_raw(97), Checksum::from_raw(294));
+    assert!(rt; hash_written(rt.alloc())? == (1, one, true, three, true));
+    let (two, four) = (Checksum::from_raw(195), Checksum::from_raw(394));
+    assert!(rt; hash_read() == (Some(2), two, true, four, true));
+    Ok(())
+}
+
+// Bytes, and the offset and the size of the handle that they are decoded as.
+#[derive(Drop)]
+struct Handle(&'static [u8], Result<(u64, u32)>);
+
+const HANDLES: [Handle; 3] = [
+    Handle(&[0x92, 0x01, 0x49], Ok((146, 73))),
+    Handle(&[0x80, 0x00, 0x49], Err(Error::BadHandle)),
+    Handle(&[0x00], Err(Error::Io)),
+];
+
+impl Row for Handle {
+    fn holds(&self, alloc: Global) -> Result<bool> {
+        let Handle(bytes, wanted) = self;
+        let decoded = BlockHandle::decode_from(&mut &**bytes);
+        let (offset, size) = match wanted {
+            Ok(parts) => *parts,
+            Err(error) => return Ok(decoded == Err(*error)),
+        };
+        let handle = BlockHandle::new(BlockOffset(offset), size);
+        let mut appended = Vec::new(alloc);
+        let is_encoded = handle.encode_into(&mut appended) == Ok(());
+        let is_vector = handle.encode_into_vec(alloc)?.as_slice() == *bytes;
+        Ok(decoded == Ok(handle) && is_encoded && is_vector && appended.as_slice() == *bytes)
     }
+}
+
+#[test]
+fn handles_are_encoded_and_decoded(rt: HostRuntime) {
+    check_rows(&rt, rt.alloc(), &HANDLES);
 }

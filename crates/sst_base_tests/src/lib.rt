@@ -1,9 +1,16 @@
-//! Tests of `sst_base` by its public calls.
+//! Tests of `sst_base` by its public calls: what no clause says, as values from outside, printed
+//! text, and that a call succeeds where memory is ample.
 #![tactic(auto)]
 
 #[cfg(test)]
 mod devices;
 #[cfg(test)]
 mod frames;
+#[cfg(test)]
+mod peekable;
+#[cfg(test)]
+mod rows;
+#[cfg(test)]
+mod slices;
 #[cfg(test)]
 mod values;

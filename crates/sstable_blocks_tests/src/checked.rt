@@ -1,57 +1,32 @@
 // Checked reads of a worked run, whole, with a byte changed, and by other handles.
-use crate::runs::{THREE_BLOCKS, handle};
-use sst_base::{BlockHandle, ByteSum, Error, HeaderName, InternalValue, Result, Slice, TagName};
-use sstable_blocks::run::{FileSource, FrameSource, MemorySource, RunHandles, read_entry_checked};
+use crate::rows::{Row, check_rows};
+use crate::runs::{Places, THREE_BLOCKS, handles_of, value_of};
+use sst_base::{ByteSum, Error, HeaderName, Result, Slice, TagName};
+use sstable_blocks::run::{FileSource, MemorySource, read_entry_checked};
 use std::alloc::Global;
 use std::io::Cursor;
-use std::process::Abort;
 
-fn handles(index: BlockHandle, filter: Option<BlockHandle>) -> RunHandles {
-    RunHandles { index, filter }
+/// The handles of the worked run.
+const WORKED: Places = ((219, 90), Some((309, 59)));
+
+/// Reads (a, 3) from a run in memory.
+fn read_memory(alloc: Global, bytes: &[u8], places: &Places) -> Result<Option<u8>> {
+    let mut source = MemorySource::new(Slice::new(alloc, bytes)?);
+    let handles = handles_of(places);
+    let found = read_entry_checked::<ByteSum, _>(alloc, &mut source, &handles, b"a", 3)?;
+    Ok(value_of(&found))
 }
 
-fn worked_handles() -> RunHandles {
-    handles(handle(219, 90), Some(handle(309, 59)))
+/// Reads (a, 3) from the file of the worked run.
+fn read_file(alloc: Global, places: &Places) -> Result<Option<u8>> {
+    let mut source = FileSource::new(Cursor::new(THREE_BLOCKS.as_slice()));
+    let handles = handles_of(places);
+    let found = read_entry_checked::<ByteSum, _>(alloc, &mut source, &handles, b"a", 3)?;
+    Ok(value_of(&found))
 }
 
-// Reads (a, 3) from a source.
-fn read_from<S: FrameSource>(
-    alloc: Global,
-    source: &mut S,
-    handles: &RunHandles,
-) -> Result<Option<InternalValue>> {
-    read_entry_checked::<ByteSum, S>(alloc, source, handles, b"a", 3)
-}
-
-// Reads (a, 3) from the worked run with a byte changed.
-fn read_changed(alloc: Global, at: usize, byte: u8) -> Result<Option<InternalValue>> {
-    let mut bytes = THREE_BLOCKS;
-    if let Some(place) = bytes.get_mut(at) {
-        *place = byte;
-    }
-    let mut source = MemorySource::new(Slice::new(alloc, &bytes)?);
-    read_from(alloc, &mut source, &worked_handles())
-}
-
-fn is_y(found: &Option<InternalValue>) -> bool {
-    match found {
-        Some(entry) => entry.value().eq_bytes(b"y"),
-        None => false,
-    }
-}
-
-// The error of a read, by the offset of the byte in its frame.
-fn is_wanted(error: &Error, in_frame: usize, byte: u8) -> bool {
-    match error {
-        Error::InvalidHeader(HeaderName::Block) => in_frame < 4,
-        Error::InvalidTag(TagName::BlockType, found) => in_frame == 4 && *found == byte && byte > 3,
-        Error::ChecksumMismatch { .. } => in_frame > 4 || in_frame == 4 && byte <= 3,
-        _ => false,
-    }
-}
-
-// Where a byte is in its frame, if that frame is met: those of the first and the third block are
-// not.
+/// Where a byte is in its frame, if that frame is met: those of the first and the third block are
+/// not.
 fn place_in_frame(at: usize) -> Option<usize> {
     match at {
         73..=145 => Some(at - 73),
@@ -61,85 +36,107 @@ fn place_in_frame(at: usize) -> Option<usize> {
     }
 }
 
-fn check_kept(rt: &impl Abort, read: Result<Option<InternalValue>>, at: usize) {
-    match read {
-        Ok(found) => assert!(rt; is_y(&found), "byte {at}"),
-        Err(e) => assert!(rt; false, "byte {at}: {e}"),
+/// Whether a read is that of a run in which the byte at an offset is this one.
+fn is_wanted(read: &Result<Option<u8>>, at: usize, byte: u8) -> bool {
+    match (read, place_in_frame(at)) {
+        (Ok(found), None) => *found == Some(b'y'),
+        (Err(Error::InvalidHeader(HeaderName::Block)), Some(place)) => place < 4,
+        (Err(Error::InvalidTag(TagName::BlockType, found)), Some(place)) => {
+            place == 4 && *found == byte && byte > 3
+        }
+        (Err(Error::ChecksumMismatch { .. }), Some(place)) => {
+            place > 4 || place == 4 && byte <= 3
+        }
+        _ => false,
     }
 }
 
-fn check_refused(rt: &impl Abort, read: Result<Option<InternalValue>>, in_frame: usize, byte: u8) {
-    match read.err() {
-        None => assert!(rt; false, "byte {in_frame} made {byte} is read"),
-        Some(e) => assert!(rt;
-            is_wanted(&e, in_frame, byte),
-            "byte {in_frame} made {byte}: {e}"
-        ),
+/// Whether a read of the worked run with a byte changed is the wanted one.
+fn is_changed(alloc: Global, at: usize, byte: u8) -> bool {
+    let mut bytes = THREE_BLOCKS;
+    if let Some(place) = bytes.get_mut(at) {
+        *place = byte;
     }
-}
-
-fn check_changed(rt: &impl Abort, alloc: Global, at: usize, byte: u8) {
-    match place_in_frame(at) {
-        None => check_kept(rt, read_changed(alloc, at, byte), at),
-        Some(in_frame) => check_refused(rt, read_changed(alloc, at, byte), in_frame, byte),
-    }
+    is_wanted(&read_memory(alloc, &bytes, &WORKED), at, byte)
 }
 
 #[test]
 fn each_byte_is_changed(rt: HostRuntime) {
     for (at, old) in THREE_BLOCKS.iter().enumerate() {
         for byte in [0, 1, 2, 3, 4, 76, 255] {
-            if byte != *old {
-                check_changed(&rt, rt.alloc(), at, byte);
-            }
+            assert!(rt;
+                byte == *old || is_changed(rt.alloc(), at, byte),
+                "{byte} at {at}"
+            );
         }
     }
 }
 
-// The error of a read by other handles.
-fn refusal(alloc: Global, handles: &RunHandles) -> Option<Error> {
-    let bytes = Slice::new(alloc, &THREE_BLOCKS).ok()?;
-    read_from(alloc, &mut MemorySource::new(bytes), handles).err()
+/// Where a run is.
+#[derive(Drop)]
+enum Source {
+    Memory,
+    File,
 }
 
-// The error of a read whose index is elsewhere.
-fn refusal_at(alloc: Global, offset: u64, size: u32) -> Option<Error> {
-    refusal(alloc, &handles(handle(offset, size), Some(handle(309, 59))))
+/// A source, the index and the filter by which the worked run is read, and what is read.
+#[derive(Drop)]
+struct Handles(Source, Places, Result<Option<u8>>);
+
+const HANDLES: [Handles; 11] = [
+    Handles(Source::Memory, WORKED, Ok(Some(b'y'))),
+    Handles(
+        Source::Memory,
+        ((219, 91), Some((309, 59))),
+        Err(Error::LengthMismatch),
+    ),
+    Handles(
+        Source::Memory,
+        ((219, 20), Some((309, 59))),
+        Err(Error::Truncated),
+    ),
+    Handles(
+        Source::Memory,
+        ((400, 1), Some((309, 59))),
+        Err(Error::BadHandle),
+    ),
+    Handles(
+        Source::Memory,
+        ((368, 0), Some((309, 59))),
+        Err(Error::Truncated),
+    ),
+    Handles(
+        Source::Memory,
+        ((369, 0), Some((309, 59))),
+        Err(Error::BadHandle),
+    ),
+    Handles(
+        Source::Memory,
+        ((0, 73), Some((309, 59))),
+        Err(Error::InvalidTag(TagName::BlockType, 0)),
+    ),
+    Handles(
+        Source::Memory,
+        ((219, 90), Some((0, 73))),
+        Err(Error::InvalidTag(TagName::BlockType, 0)),
+    ),
+    Handles(Source::File, WORKED, Ok(Some(b'y'))),
+    Handles(Source::File, ((300, 90), None), Err(Error::Io)),
+    Handles(Source::File, ((u64::MAX, 1), None), Err(Error::BadHandle)),
+];
+
+impl Row for Handles {
+    fn holds(&self, alloc: Global) -> Result<bool> {
+        let Handles(source, places, wanted) = self;
+        let read = match source {
+            Source::Memory => read_memory(alloc, &THREE_BLOCKS, places),
+            Source::File => read_file(alloc, places),
+        };
+        Ok(read == *wanted)
+    }
 }
 
 #[test]
-fn handles_are_changed(rt: HostRuntime) {
-    let alloc = rt.alloc();
-    let rows = [
-        (219, 90, None),
-        (219, 91, Some(Error::LengthMismatch)),
-        (219, 20, Some(Error::Truncated)),
-        (400, 1, Some(Error::BadHandle)),
-        (368, 0, Some(Error::Truncated)),
-        (369, 0, Some(Error::BadHandle)),
-        (0, 73, Some(Error::InvalidTag(TagName::BlockType, 0))),
-    ];
-    for (offset, size, error) in rows {
-        assert_eq!(rt; refusal_at(alloc, offset, size), error, "{offset} {size}");
-    }
-    let by_filter = refusal(alloc, &handles(handle(219, 90), Some(handle(0, 73))));
-    assert_eq!(rt; by_filter, Some(Error::InvalidTag(TagName::BlockType, 0)));
-}
-
-// Whether (a, 3) is read from a file, by these handles.
-fn is_read_from_file(alloc: Global, handles: &RunHandles) -> Result<bool> {
-    let mut source = FileSource::new(Cursor::new(THREE_BLOCKS.as_slice()));
-    Ok(is_y(&read_from(alloc, &mut source, handles)?))
-}
-
-#[test]
-fn files_are_read(rt: HostRuntime) {
-    let rows = [
-        (worked_handles(), Ok(true)),
-        (handles(handle(300, 90), None), Err(Error::Io)),
-        (handles(handle(u64::MAX, 1), None), Err(Error::BadHandle)),
-    ];
-    for (handles, is_read) in rows {
-        assert_eq!(rt; is_read_from_file(rt.alloc(), &handles), is_read);
-    }
+fn handles_are_followed(rt: HostRuntime) {
+    check_rows(&rt, rt.alloc(), &HANDLES);
 }

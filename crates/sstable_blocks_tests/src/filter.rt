@@ -1,6 +1,5 @@
-// What no clause says: values from outside, and that a call succeeds where memory is ample.
-ghost use Rattle.std.specs.Prelude.{◌<◌};
-
+// Filters: their bytes, what is refused, and what they say of keys and hashes.
+use crate::rows::{Row, check_rows};
 use sst_base::{
     Block, BlockHash, BlockType, ByteSum, Checksum, Error, Header, HeaderName, Poly31, Result,
     Slice, TagName,
@@ -11,197 +10,266 @@ use sstable_blocks::table::filter::standard_bloom::{
 };
 use sstable_blocks::table::filter::{BloomConstructionPolicy, FilterBlock, FilterType};
 use std::alloc::Global;
-use std::process::Abort;
 use std::test::Fail;
 
-// The payload for one key at 10 bits, with the hash 97 inserted.
+/// The payload for one key at 10 bits, with the hash 97 inserted.
 const ONE_KEY: [u8; 24] = [
     0x4c, 0x53, 0x4d, 0x03, 0x00, 0x00, 0x10, 0x00, 0x00, 0x00, 0x00, 0x00, 0x00, 0x00, 0x06, 0x00,
     0x00, 0x00, 0x00, 0x00, 0x00, 0x00, 0x40, 0x00,
 ];
 
-// The payload for one key at 10 bits.
-fn payload_of(alloc: Global, hash: u64) -> Result<Vec<u8>> {
-    let mut builder = BloomConstructionPolicy::BitsPerKey(10).init(alloc, 1)?;
-    builder.set_with_hash(hash);
-    builder.build(alloc)
-}
+/// The payload of one key with other bytes at some offsets, up to a length, and what it says of a
+/// hash.
+#[derive(Drop)]
+struct Payload(&'static [(usize, u8)], usize, u64, Result<bool>);
 
-// The payload with a byte changed is refused.
-fn check_refused(rt: &impl Abort, index: usize, byte: u8, error: Error)
-    requires { index < 24 }
-{
+const PAYLOADS: [Payload; 13] = [
+    Payload(&[], 24, 97, Ok(true)),
+    Payload(&[], 24, 98, Ok(false)),
+    Payload(&[(14, 0x10)], 24, 97, Ok(true)),
+    Payload(&[], 21, 97, Err(Error::Truncated)),
+    Payload(&[], 0, 97, Err(Error::Truncated)),
+    Payload(
+        &[(0, 0x4d)],
+        24,
+        97,
+        Err(Error::InvalidHeader(HeaderName::BloomFilter)),
+    ),
+    Payload(
+        &[(4, 0x01)],
+        24,
+        97,
+        Err(Error::InvalidTag(TagName::FilterType, 1)),
+    ),
+    Payload(
+        &[(4, 0x02)],
+        24,
+        97,
+        Err(Error::InvalidTag(TagName::FilterType, 2)),
+    ),
+    Payload(
+        &[(5, 0x01)],
+        24,
+        97,
+        Err(Error::InvalidTag(TagName::HashType, 1)),
+    ),
+    Payload(&[(6, 0x18)], 24, 97, Err(Error::BadFilter)),
+    Payload(&[(14, 0x00)], 24, 97, Err(Error::BadFilter)),
+    Payload(&[(14, 0x11)], 24, 97, Err(Error::BadFilter)),
+    Payload(&[(6, 0x00)], 22, 97, Err(Error::BadFilter)),
+];
+
+/// The payload of one key with other bytes at some offsets.
+fn changed(changes: &[(usize, u8)]) -> [u8; 24] {
     let mut bytes = ONE_KEY;
-    bytes[index] = byte;
-    check_error(rt, &bytes, error);
+    for (at, byte) in changes {
+        if let Some(place) = bytes.get_mut(*at) {
+            *place = *byte;
+        }
+    }
+    bytes
 }
 
-fn check_error(rt: &impl Abort, bytes: &[u8], error: Error) {
+/// What a payload says of a hash.
+fn read(bytes: &[u8], hash: u64) -> Result<bool> {
     match StandardBloomFilterReader::new(bytes) {
-        Ok(_) => assert!(rt; false, "read in place of {error:?}"),
-        Err(found) => assert_eq!(rt; found, error),
+        Ok(reader) => Ok(reader.contains_hash(hash)),
+        Err(error) => Err(error),
     }
 }
 
-// A filter without hashes has this front and as many bytes of bits, all zero.
-fn check_empty(rt: &impl Abort, payload: &[u8], m: u8, k: u8) {
-    let (front, bits) = payload.split_at(payload.len().min(22));
-    assert_eq!(rt;
-        front,
-        [
-            0x4c, 0x53, 0x4d, 3, 0, 0, m, 0, 0, 0, 0, 0, 0, 0, k, 0, 0, 0, 0, 0, 0, 0
-        ]
-        .as_slice()
-    );
-    assert_eq!(rt; bits.len(), (m / 8) as usize);
-    assert!(rt; bits.iter().all(|byte| *byte == 0));
-}
-
-#[test]
-fn one_key_is_found(rt: HostRuntime) -> std::result::Result<(), Fail> {
-    let alloc = rt.alloc();
-    let hash = Builder::get_hash::<ByteSum>(b"a");
-    assert_eq!(rt; hash, 97);
-    let payload = payload_of(alloc, hash)?;
-    assert_eq!(rt; payload.as_slice(), ONE_KEY.as_slice());
-    let reader = StandardBloomFilterReader::new(payload.as_slice())?;
-    assert_eq!(rt; reader.len(), 2);
-    assert!(rt; reader.contains::<ByteSum>(b"a"));
-    assert!(rt; reader.contains::<ByteSum>(b"q"));
-    assert!(rt; !reader.contains::<ByteSum>(b"b"));
-    assert!(rt; reader.contains_hash(97));
-    assert!(rt; !reader.contains_hash(98));
-    Ok(())
-}
-
-#[test]
-fn high_hash_has_five_bits(rt: HostRuntime) -> std::result::Result<(), Fail> {
-    assert_eq!(rt; secondary_hash(4294967296), 0x517c_c1b7_2722_0a95);
-    let payload = payload_of(rt.alloc(), 4294967296)?;
-    assert!(rt; payload.as_slice().ends_with(&[0xac, 0x20]));
-    let bits = BitArrayReader::new(&[0xac, 0x20]);
-    for index in 0..16 {
-        let probed = matches!(index, 0 | 2 | 4 | 5 | 10);
-        assert_eq!(rt; bits.get(index), probed, "{index}");
+/// The clone of a filter block of at most 24 bytes.
+fn block_of(alloc: Global, bytes: &[u8]) -> Result<FilterBlock> {
+    if bytes.len() > 24 {
+        return Err(Error::TooLong);
     }
-    Ok(())
-}
-
-#[test]
-fn changed_payloads_are_refused(rt: HostRuntime) {
-    let (front, _) = ONE_KEY.as_slice().split_at(21);
-    check_error(&rt, front, Error::Truncated);
-    check_error(&rt, &[], Error::Truncated);
-    check_refused(&rt, 0, 0x4d, Error::InvalidHeader(HeaderName::BloomFilter));
-    check_refused(&rt, 4, 0x01, Error::InvalidTag(TagName::FilterType, 1));
-    check_refused(&rt, 4, 0x02, Error::InvalidTag(TagName::FilterType, 2));
-    check_refused(&rt, 5, 0x01, Error::InvalidTag(TagName::HashType, 1));
-    check_refused(&rt, 6, 0x18, Error::BadFilter);
-    check_refused(&rt, 14, 0x00, Error::BadFilter);
-    check_refused(&rt, 14, 0x11, Error::BadFilter);
-    let mut no_bits = ONE_KEY;
-    no_bits[6] = 0;
-    let (front, _) = no_bits.as_slice().split_at(22);
-    check_error(&rt, front, Error::BadFilter);
-}
-
-#[test]
-fn as_many_probes_as_bits_are_read(rt: HostRuntime) -> std::result::Result<(), Fail> {
-    let mut bytes = ONE_KEY;
-    bytes[14] = 0x10;
-    let reader = StandardBloomFilterReader::new(&bytes)?;
-    assert!(rt; reader.contains_hash(97));
-    Ok(())
-}
-
-// A filter for so many keys, without hashes, has so many bits and probes.
-fn check_size(
-    rt: &impl Abort,
-    alloc: Global,
-    (keys, bits_per_key): (usize, u32),
-    (m, k): (u8, u8),
-) -> Result<()> {
-    let policy = BloomConstructionPolicy::BitsPerKey(bits_per_key);
-    assert!(rt; keys >= 1 && policy.is_active() && policy.fits(keys));
-    let payload = Builder::with_bpk(alloc, keys, bits_per_key)?.build(alloc)?;
-    check_empty(rt, payload.as_slice(), m, k);
-    Ok(())
-}
-
-#[test]
-fn filters_have_their_sizes(rt: HostRuntime) -> std::result::Result<(), Fail> {
-    let alloc = rt.alloc();
-    check_size(&rt, alloc, (3, 1), (8, 1))?;
-    check_size(&rt, alloc, (9, 1), (16, 1))?;
-    check_size(&rt, alloc, (1, 10), (16, 6))?;
-    Ok(())
-}
-
-#[test]
-fn policies_are_sized(rt: HostRuntime) {
-    let standard = BloomConstructionPolicy::default();
-    assert_eq!(rt; standard, BloomConstructionPolicy::BitsPerKey(10));
-    assert_eq!(rt; standard.estimated_filter_size(1000000), 1250000);
-    assert_eq!(rt; standard.estimated_filter_size(0), 0);
-    assert!(rt; standard.is_active());
-    assert!(rt; !BloomConstructionPolicy::BitsPerKey(0).is_active());
-    let most = BloomConstructionPolicy::BitsPerKey(4294967295);
-    assert!(rt; most.fits(7));
-    assert!(rt; !most.fits(8));
-    assert!(rt; !most.fits(usize::MAX));
-}
-
-#[test]
-fn bits_are_set(rt: HostRuntime) -> std::result::Result<(), Fail> {
-    let alloc = rt.alloc();
-    assert_eq!(rt; enable_bit(6, 1), 70);
-    let mut bits = bit_array::Builder::with_capacity(alloc, 2)?;
-    bits.enable_bit(8);
-    assert_eq!(rt; bits.bytes(), [0x00, 0x80].as_slice());
-    let mut bits = bit_array::Builder::from_bytes(vec![in alloc; 0x01u8]?);
-    bits.enable_bit(0);
-    assert_eq!(rt; bits.bytes(), [0x81].as_slice());
-    Ok(())
-}
-
-#[test]
-fn filter_types_have_their_bytes(rt: HostRuntime) {
-    assert_eq!(rt; u8::from(FilterType::StandardBloom), 0);
-    assert_eq!(rt; u8::from(FilterType::BlockedBloom), 1);
-    assert!(rt; FilterType::try_from(1) == Ok(FilterType::BlockedBloom));
-    assert!(rt; FilterType::try_from(2) == Err(Error::InvalidTag(TagName::FilterType, 2)));
-}
-
-// A block with this payload, of at most 24 bytes.
-fn block_of(alloc: Global, payload: [u8; 24]) -> Result<FilterBlock> {
     let header = Header {
         block_type: BlockType::Filter,
         checksum: Checksum::from_raw(0),
         data_length: 24,
         uncompressed_length: 24,
     };
-    let payload = Slice::from_array(alloc, payload)?;
-    Ok(FilterBlock::new(Block::from_parts(header, payload)))
+    let payload = Slice::new(alloc, bytes)?;
+    Ok(FilterBlock::new(Block::from_parts(header, payload)).clone()?)
 }
 
-// The size of a block with this payload, and what its filter says of a hash.
-fn ask(alloc: Global, payload: [u8; 24], hash: u64) -> Result<(u32, bool)> {
-    let block = block_of(alloc, payload)?.clone()?;
-    Ok((block.size(), block.maybe_contains_hash(hash)?))
+impl Row for Payload {
+    fn holds(&self, alloc: Global) -> Result<bool> {
+        let Payload(changes, len, hash, wanted) = self;
+        let bytes = changed(changes);
+        let (bytes, _) = bytes.as_slice().split_at(bytes.len().min(*len));
+        let block = block_of(alloc, bytes)?;
+        let is_read = read(bytes, *hash) == *wanted;
+        let is_in_block = block.maybe_contains_hash(*hash) == *wanted;
+        Ok(is_read && is_in_block && block.size() as usize == *len)
+    }
 }
 
 #[test]
-fn filter_blocks_are_asked(rt: HostRuntime) {
-    let alloc = rt.alloc();
-    assert_eq!(rt; ask(alloc, ONE_KEY, 97), Ok((24, true)));
-    assert_eq!(rt; ask(alloc, ONE_KEY, 98), Ok((24, false)));
-    let mut changed = ONE_KEY;
-    changed[5] = 1;
-    let refused = Err(Error::InvalidTag(TagName::HashType, 1));
-    assert_eq!(rt; ask(alloc, changed, 97), refused);
+fn payloads_are_read_or_refused(rt: HostRuntime) {
+    check_rows(&rt, rt.alloc(), &PAYLOADS);
 }
 
-// The hash of a number as a key.
+/// A number of keys, the bits for each, the hash inserted, and the numbers of bits and of probes and
+/// the bits of the filter.
+#[derive(Drop)]
+struct Built(usize, u32, Option<u64>, u8, u8, &'static [u8]);
+
+const BUILT: [Built; 5] = [
+    Built(3, 1, None, 8, 1, &[0]),
+    Built(9, 1, None, 16, 1, &[0, 0]),
+    Built(1, 10, None, 16, 6, &[0, 0]),
+    Built(1, 10, Some(97), 16, 6, &[0x40, 0]),
+    Built(1, 10, Some(4294967296), 16, 6, &[0xac, 0x20]),
+];
+
+/// The payload of a filter of a hash.
+fn payload_of(alloc: Global, mut builder: Builder, hash: Option<u64>) -> Result<Vec<u8>> {
+    if let Some(hash) = hash {
+        builder.set_with_hash(hash);
+    }
+    builder.build(alloc)
+}
+
+impl Row for Built {
+    fn holds(&self, alloc: Global) -> Result<bool> {
+        let Built(keys, bits_per_key, hash, m, k, bits) = self;
+        let policy = BloomConstructionPolicy::BitsPerKey(*bits_per_key);
+        if *keys == 0 || !policy.is_active() || !policy.fits(*keys) {
+            return Ok(false);
+        }
+        let payload = payload_of(
+            alloc,
+            Builder::with_bpk(alloc, *keys, *bits_per_key)?,
+            *hash,
+        )?;
+        let by_policy = payload_of(alloc, policy.init(alloc, *keys)?, *hash)?;
+        let wanted = [
+            0x4c, 0x53, 0x4d, 3, 0, 0, *m, 0, 0, 0, 0, 0, 0, 0, *k, 0, 0, 0, 0, 0, 0, 0,
+        ];
+        let (front, rest) = payload.as_slice().split_at(payload.len().min(22));
+        Ok(front == wanted.as_slice() && rest == *bits && by_policy == payload)
+    }
+}
+
+#[test]
+fn filters_have_their_bytes(rt: HostRuntime) {
+    check_rows(&rt, rt.alloc(), &BUILT);
+}
+
+/// A key, and whether the filter of one key says that it may be there.
+const KEYS: [(&[u8], bool); 3] = [(b"a", true), (b"q", true), (b"b", false)];
+
+#[test]
+fn one_key_is_found(rt: HostRuntime) -> std::result::Result<(), Fail> {
+    let reader = StandardBloomFilterReader::new(&ONE_KEY)?;
+    assert!(rt; reader.len() == 2 && Builder::get_hash::<ByteSum>(b"a") == 97);
+    for (key, is_found) in &KEYS {
+        assert!(rt; reader.contains::<ByteSum>(key) == *is_found, "{key:?}");
+    }
+    Ok(())
+}
+
+#[test]
+fn a_high_hash_has_five_bits(rt: HostRuntime) {
+    assert!(rt; secondary_hash(4294967296) == 0x517c_c1b7_2722_0a95);
+    let bits = BitArrayReader::new(&[0xac, 0x20]);
+    for index in 0..16 {
+        let is_probed = matches!(index, 0 | 2 | 4 | 5 | 10);
+        assert!(rt; bits.get(index) == is_probed, "{index}");
+    }
+}
+
+/// The bits for each key, a number of keys, whether there is a filter, and its bytes if it fits.
+#[derive(Drop)]
+struct Policy(u32, usize, bool, Option<usize>);
+
+const POLICIES: [Policy; 6] = [
+    Policy(10, 1000000, true, Some(1250000)),
+    Policy(10, 0, true, Some(0)),
+    Policy(0, 7, false, Some(0)),
+    Policy(4294967295, 7, true, Some(3758096383)),
+    Policy(4294967295, 8, true, None),
+    Policy(4294967295, usize::MAX, true, None),
+];
+
+impl Row for Policy {
+    fn holds(&self, _alloc: Global) -> Result<bool> {
+        let Policy(bits, keys, is_active, size) = self;
+        let policy = BloomConstructionPolicy::BitsPerKey(*bits);
+        let is_default = policy == BloomConstructionPolicy::default();
+        let found = if policy.fits(*keys) {
+            Some(policy.estimated_filter_size(*keys))
+        } else {
+            None
+        };
+        Ok(is_default == (*bits == 10) && policy.is_active() == *is_active && found == *size)
+    }
+}
+
+#[test]
+fn policies_are_sized(rt: HostRuntime) {
+    check_rows(&rt, rt.alloc(), &POLICIES);
+}
+
+/// Bytes, the index of a bit, and the bytes once it is set.
+#[derive(Drop)]
+struct Set(&'static [u8], usize, &'static [u8]);
+
+const SET: [Set; 3] = [
+    Set(&[0, 0], 8, &[0, 0x80]),
+    Set(&[1], 0, &[0x81]),
+    Set(&[6], 1, &[70]),
+];
+
+impl Row for Set {
+    fn holds(&self, alloc: Global) -> Result<bool> {
+        let Set(bytes, index, wanted) = self;
+        let mut bits = bit_array::Builder::from_bytes(bytes.to_vec(alloc)?);
+        if *index / 8 >= bits.bytes().len() {
+            return Ok(false);
+        }
+        bits.enable_bit(*index);
+        Ok(bits.bytes() == *wanted)
+    }
+}
+
+#[test]
+fn bits_are_set(rt: HostRuntime) -> std::result::Result<(), Fail> {
+    check_rows(&rt, rt.alloc(), &SET);
+    let mut bits = bit_array::Builder::with_capacity(rt.alloc(), 2)?;
+    bits.enable_bit(8);
+    assert!(rt; bits.bytes() == [0, 0x80].as_slice() && enable_bit(6, 1) == 70);
+    Ok(())
+}
+
+/// A byte, and the filter type that has it.
+#[derive(Drop)]
+struct TypeByte(u8, Result<FilterType>);
+
+const TYPES: [TypeByte; 3] = [
+    TypeByte(0, Ok(FilterType::StandardBloom)),
+    TypeByte(1, Ok(FilterType::BlockedBloom)),
+    TypeByte(2, Err(Error::InvalidTag(TagName::FilterType, 2))),
+];
+
+impl Row for TypeByte {
+    fn holds(&self, _alloc: Global) -> Result<bool> {
+        let TypeByte(byte, wanted) = self;
+        let is_byte = match wanted {
+            Ok(filter_type) => u8::from(*filter_type) == *byte,
+            Err(_) => true,
+        };
+        Ok(is_byte && FilterType::try_from(*byte) == *wanted)
+    }
+}
+
+#[test]
+fn filter_types_have_their_bytes(rt: HostRuntime) {
+    check_rows(&rt, rt.alloc(), &TYPES);
+}
+
+/// The hash of a number as a key.
 fn hash_of(number: u64) -> u64 {
     Poly31::hash64(&number.to_be_bytes())
 }
@@ -214,7 +282,7 @@ fn no_key_is_hidden(rt: HostRuntime) -> std::result::Result<(), Fail> {
         builder.set_with_hash(hash_of(number));
     }
     let payload = builder.build(alloc)?;
-    assert_eq!(rt; payload.len(), 12522);
+    assert!(rt; payload.len() == 12522);
     let reader = StandardBloomFilterReader::new(payload.as_slice())?;
     for number in 0..10000 {
         assert!(rt; reader.contains_hash(hash_of(number)), "{number}");

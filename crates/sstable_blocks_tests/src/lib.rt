@@ -1,4 +1,5 @@
-//! Tests of filters and runs by the public calls of `sstable_blocks`.
+//! Tests of filters and runs by the public calls of `sstable_blocks`: what no clause says, as values
+//! from outside, and that a call succeeds where memory is ample.
 #![tactic(auto)]
 
 #[cfg(test)]
@@ -6,6 +7,10 @@ mod checked;
 #[cfg(test)]
 mod filter;
 #[cfg(test)]
+mod lists;
+#[cfg(test)]
 mod random_runs;
+#[cfg(test)]
+mod rows;
 #[cfg(test)]
 mod runs;

@@ -1,35 +1,32 @@
-//! Runs of random lists, cut at random, in every form: each read is the first match of the list.
-ghost use Rattle.std.specs.Prelude.{◌≤◌, ◌<◌, ◌^◌, List, length};
-ghost use Rattle.sst_base.specs.Entry.{Entry};
-ghost use Rattle.sstable_blocks.specs.Run.{form, IsLayout};
-ghost use Rattle.sstable_blocks.specs.declared.run.RunConfig.{RunConfig};
-
+// Runs of random lists, cut at random, in every form: each read is the first match of the list.
+use crate::lists::{NO_BUCKETS, NoHash, ONE_EACH, can_be_written, is_found, push};
+use sst_base::{BlockHash, ByteSum, InternalValue, Poly31, Result, Slice, Steps, ValueType};
 use sst_block_kinds_tests::plain::plain_first_match;
 use sst_block_kinds_tests::random::{Random, key_of};
-use sst_base::{BlockHash, ByteSum, InternalValue, Poly31, Result, Slice, Steps, ValueType};
-use sst_block_kinds::DataBlock;
-use sstable_blocks::{RunConfig, RunHandles, cuts_fit, read_entry, write_run};
+use sstable_blocks::{RunConfig, read_entry, write_run};
 use std::alloc::Global;
 use std::process::Abort;
-use std::test::Fail;
+
+/// The value and the type of an entry of a sequence number.
+fn parts_of(seqno: u64) -> (&'static [u8], ValueType) {
+    let value = if seqno % 2 == 0 {
+        b"value".as_slice()
+    } else {
+        b""
+    };
+    let value_type = if seqno % 7 == 0 {
+        ValueType::Tombstone
+    } else {
+        ValueType::Value
+    };
+    (value, value_type)
+}
 
 /// Appends up to nine versions of a key; some have one sequence number together.
 fn push_versions(list: &mut Vec<InternalValue>, key: &[u8], random: &mut Random) -> Result<()> {
-    if key.is_empty() || key.len() > 65535 {
-        return Ok(());
-    }
     let mut seqno = random.below(1000);
     for _ in 0..random.below(9) + 1 {
-        let value = if seqno % 2 == 0 {
-            b"value".as_slice()
-        } else {
-            b""
-        };
-        let value_type = if seqno % 7 == 0 {
-            ValueType::Tombstone
-        } else {
-            ValueType::Value
-        };
+        let (value, value_type) = parts_of(seqno);
         push(list, key, value, seqno, value_type)?;
         seqno = seqno.saturating_sub(random.below(3));
     }
@@ -57,115 +54,98 @@ fn random_cuts(alloc: Global, len: usize, random: &mut Random) -> Result<Vec<usi
     Ok(cuts)
 }
 
-/// Reads a key below a sequence number, and finds the first match of the list.
-fn check_read<H: BlockHash>(
-    rt: &impl Abort,
-    alloc: Global,
-    run: &Slice,
-    handles: &RunHandles,
-    list: &[InternalValue],
-    query: (&[u8], u64),
-)
-    requires { (config : RunConfig) × (blocks : List (List Entry))
-        × IsLayout (form H.hash64 H.hash128 config) blocks run.now handles.now }
-{
-    let (needle, below) = query;
-    let wanted = plain_first_match(list, needle, below);
-    match read_entry::<H>(alloc, run, handles, needle, below, &mut Steps::new()) {
-        Ok(found) => assert!(rt; is_same(wanted, found.as_ref()), "{needle:?} below {below}"),
-        Err(_) => assert!(rt; false, "no memory"),
+/// A read of a list: each key at and above its sequence number, and then a key behind all.
+fn query_at(list: &[InternalValue], number: usize) -> (&[u8], u64) {
+    match list.get(number / 2) {
+        Some(entry) => {
+            let below = entry.key().seqno().wrapping_add((number % 2) as u64);
+            (entry.key().user_key().as_slice(), below)
+        }
+        None => (b"zz", u64::MAX),
     }
 }
 
-/// Reads each key at and above its sequence number, and a key behind all.
-fn check_reads<H: BlockHash>(
-    rt: &impl Abort,
-    alloc: Global,
-    run: &Slice,
-    handles: &RunHandles,
-    list: &[InternalValue],
-)
-    requires { (config : RunConfig) × (blocks : List (List Entry))
-        × IsLayout (form H.hash64 H.hash128 config) blocks run.now handles.now }
-{
-    for entry in list {
-        let (key, seqno) = (entry.key().user_key().as_slice(), entry.key().seqno());
-        check_read::<H>(rt, alloc, run, handles, list, (key, seqno));
-        check_read::<H>(rt, alloc, run, handles, list, (key, seqno.wrapping_add(1)));
-    }
-    check_read::<H>(rt, alloc, run, handles, list, (b"zz", u64::MAX));
-}
-
-/// Writes a list as a run, and reads from it.
-fn check_run<H: BlockHash>(
-    rt: &impl Abort,
+/// Whether each read of the run of a list finds the first match of the list.
+fn is_read<H: BlockHash>(
     alloc: Global,
     list: &[InternalValue],
     cuts: &[usize],
     config: RunConfig,
-) -> Result<()>
-    requires interval { 1 ≤ config.restart_interval }
-    requires index_interval { 1 ≤ config.index_interval }
-    requires den { 1 ≤ config.ratio.den }
-{
-    assert!(rt; DataBlock::<H>::is_ordered(list) && cuts_fit(list.len(), cuts));
+) -> Result<bool> {
+    if !can_be_written(list, cuts, &config) {
+        return Ok(false);
+    }
     let mut bytes = Vec::new(alloc);
     let handles = write_run::<H, Vec<u8>>(alloc, &mut bytes, list, cuts, config)?;
     let run = Slice::from_vec(bytes)?;
-    check_reads::<H>(rt, alloc, &run, &handles, list);
-    Ok(())
+    for number in 0..list.len().saturating_mul(2).saturating_add(1) {
+        let (needle, below) = query_at(list, number);
+        let found = read_entry::<H>(alloc, &run, &handles, needle, below, &mut Steps::new())?;
+        if !is_found(plain_first_match(list, needle, below), found.as_ref()) {
+            return Ok(false);
+        }
+    }
+    Ok(true)
 }
 
-/// A random list, cut at random, at one interval, in every other form.
-fn check_interval<H: BlockHash>(
-    rt: &impl Abort,
-    alloc: Global,
-    interval: u8,
-    seed: u64,
-) -> Result<()>
-    requires { 1 ≤ interval }
-{
+/// A random configuration, with some intervals and bits for each key.
+fn config_of(
+    restart_interval: u8,
+    index_interval: u8,
+    bits_per_key: u32,
+    random: &mut Random,
+) -> RunConfig {
+    let ratio = if random.next() % 2 == 0 {
+        NO_BUCKETS
+    } else {
+        ONE_EACH
+    };
+    RunConfig {
+        restart_interval,
+        ratio,
+        bits_per_key,
+        index_interval,
+    }
+}
+
+/// Whether random lists are read at an interval, in every other form.
+fn is_read_at<H: BlockHash>(alloc: Global, interval: u8, seed: u64) -> Result<bool> {
     let mut random = Random::new(seed);
     for index_interval in [1, 2, 5, 255] {
         for bits_per_key in [0, 1, 10] {
             let list = random_list(alloc, &mut random)?;
             let cuts = random_cuts(alloc, list.len(), &mut random)?;
-            let ratio = if random.next() % 2 == 0 {
-                NO_BUCKETS
-            } else {
-                ONE_EACH
-            };
-            let config = RunConfig {
-                restart_interval: interval,
-                ratio,
-                bits_per_key,
-                index_interval,
-            };
-            check_run::<H>(rt, alloc, &list, &cuts, config)?;
+            let config = config_of(interval, index_interval, bits_per_key, &mut random);
+            if !is_read::<H>(alloc, &list, &cuts, config)? {
+                return Ok(false);
+            }
         }
     }
-    Ok(())
+    Ok(true)
 }
 
 /// The intervals 1 to 16, and 255.
-fn check_intervals<H: BlockHash>(rt: &impl Abort, alloc: Global, seed: u64) -> Result<()> {
-    for interval in 1..17 {
-        check_interval::<H>(rt, alloc, interval, seed.wrapping_add(u64::from(interval)))?;
+const INTERVALS: [u8; 17] = [1, 2, 3, 4, 5, 6, 7, 8, 9, 10, 11, 12, 13, 14, 15, 16, 255];
+
+/// Checks that random lists are read at each interval.
+fn check_intervals<H: BlockHash>(rt: &impl Abort, alloc: Global, seed: u64) {
+    for interval in INTERVALS {
+        let is_read = is_read_at::<H>(alloc, interval, seed.wrapping_add(u64::from(interval)));
+        assert!(rt; is_read == Ok(true), "interval {interval}");
     }
-    check_interval::<H>(rt, alloc, 255, seed)
 }
 
 #[test]
-fn random_runs_are_read(rt: HostRuntime) -> std::result::Result<(), Fail> {
-    Ok(check_intervals::<Poly31>(&rt, rt.alloc(), 1000)?)
+fn random_runs_are_read(rt: HostRuntime) {
+    check_intervals::<Poly31>(&rt, rt.alloc(), 1000);
 }
 
 #[test]
-fn random_runs_of_sums_are_read(rt: HostRuntime) -> std::result::Result<(), Fail> {
-    Ok(check_intervals::<ByteSum>(&rt, rt.alloc(), 2000)?)
+fn random_runs_of_sums_are_read(rt: HostRuntime) {
+    check_intervals::<ByteSum>(&rt, rt.alloc(), 2000);
 }
 
 #[test]
-fn random_runs_of_one_hash_are_read(rt: HostRuntime) -> std::result::Result<(), Fail> {
-    Ok(check_intervals::<NoHash>(&rt, rt.alloc(), 3000)?)
+fn random_runs_of_one_hash_are_read(rt: HostRuntime) {
+    check_intervals::<NoHash>(&rt, rt.alloc(), 3000);
 }

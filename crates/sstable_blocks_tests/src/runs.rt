@@ -1,23 +1,12 @@
 // Worked runs: their bytes, their handles, and what is read from them.
-ghost use Rattle.std.specs.Prelude.{◌≡◌, ◌↔◌, ◌≤◌, length, None, IsTrue};
-ghost use Rattle.sst_block_core.specs.Entries.{entries};
-ghost use Rattle.sst_block_core.specs.Kind.{IsOrdered};
-ghost use Rattle.sstable_blocks.specs.Blocks.{CutsFit};
-
-use sst_base::{
-    BlockHandle, BlockHash, BlockOffset, ByteSum, Error, HashRatio, InternalValue, Result, Slice,
-    ValueType,
-};
-use sst_block_kinds::DataBlock;
+use crate::lists::{NO_BUCKETS, can_be_written, push};
+use crate::rows::{Row, check_rows};
+use sst_base::{BlockHandle, BlockOffset, ByteSum, Error, InternalValue, Result, ValueType};
 use sstable_blocks::run::round_trip::write_and_read;
-use sstable_blocks::run::{RunConfig, RunHandles, RunWriter, cuts_fit, write_run};
+use sstable_blocks::run::{RunConfig, RunHandles, RunWriter, write_run};
 use std::alloc::Global;
 use std::io;
 use std::io::{ErrorKind, Write};
-use std::process::Abort;
-use std::test::Fail;
-
-const NO_BUCKETS: HashRatio = HashRatio { num: 0, den: 1 };
 
 // (a, x, 3), (a, y, 1) and (b, z, 4) in a block each, with index and filter.
 pub(crate) const THREE_BLOCKS: [u8; 368] = [
@@ -70,225 +59,224 @@ const ONE_BLOCK: [u8; 159] = [
     0x00, 0x00, 0x01, 0x00, 0x00, 0x00, 0x00, 0x00, 0x00, 0x00, 0x00, 0x01, 0x00, 0x00, 0x00,
 ];
 
-fn entry(alloc: Global, key: u8, value: u8, seqno: u64) -> Result<InternalValue> {
-    let key = Slice::from_array(alloc, [key])?;
-    let value = Slice::from_array(alloc, [value])?;
-    Ok(InternalValue::from_components(key, value, seqno, ValueType::Value))
+/// An entry: a key, a value and a sequence number.
+type Entry = (&'static [u8], &'static [u8], u64);
+
+/// The entries of the worked runs.
+const THREE: &[Entry] = &[(b"a", b"x", 3), (b"a", b"y", 1), (b"b", b"z", 4)];
+
+/// Two entries that compare equal.
+const EQUAL: &[Entry] = &[(b"a", b"x", 5), (b"a", b"y", 5)];
+
+/// Eight versions of a key.
+const EIGHT: &[Entry] = &[
+    (b"a", b"x", 8),
+    (b"a", b"x", 7),
+    (b"a", b"x", 6),
+    (b"a", b"x", 5),
+    (b"a", b"x", 4),
+    (b"a", b"x", 3),
+    (b"a", b"x", 2),
+    (b"a", b"x", 1),
+];
+
+/// The list of entries.
+fn list_of(alloc: Global, entries: &[Entry]) -> Result<Vec<InternalValue>> {
+    let mut list = Vec::new(alloc);
+    for (key, value, seqno) in entries {
+        push(&mut list, key, value, *seqno, ValueType::Value)?;
+    }
+    Ok(list)
 }
 
-fn three_entries(alloc: Global) -> Result<[InternalValue; 3]> {
-    let first = entry(alloc, b'a', b'x', 3)?;
-    let second = entry(alloc, b'a', b'y', 1)?;
-    Ok([first, second, entry(alloc, b'b', b'z', 4)?])
-}
+/// The restart interval, the bits for each key, and the interval of the index.
+type Form = (u8, u32, u8);
 
-fn config(restart_interval: u8, bits_per_key: u32, index_interval: u8) -> RunConfig
-    ensures interval { result.restart_interval ≡ restart_interval }
-    ensures index_interval { result.index_interval ≡ index_interval }
-    ensures den { result.ratio.den ≡ 1 }
-{
-    let mut config = RunConfig::new(restart_interval, NO_BUCKETS, bits_per_key);
-    config.index_interval = index_interval;
-    config
+fn config_of(form: &Form) -> RunConfig {
+    let (restart_interval, bits_per_key, index_interval) = form;
+    RunConfig {
+        restart_interval: *restart_interval,
+        ratio: NO_BUCKETS,
+        bits_per_key: *bits_per_key,
+        index_interval: *index_interval,
+    }
 }
 
 pub(crate) fn handle(offset: u64, size: u32) -> BlockHandle {
     BlockHandle::new(BlockOffset(offset), size)
 }
 
-// Whether a run of these can be written.
-fn can_be_written(items: &[InternalValue], cuts: &[usize], config: &RunConfig) -> bool
-    ensures { IsTrue result
-        ↔ (IsOrdered entries items.now × CutsFit 0 (length items.now) cuts.now
-        × (1 ≤ config.now.restart_interval) × (1 ≤ config.now.index_interval)
-        × (1 ≤ config.now.ratio.den)) }
-{
-    DataBlock::<ByteSum>::is_ordered(items)
-        && cuts_fit(items.len(), cuts)
-        && config.restart_interval >= 1
-        && config.index_interval >= 1
-        && config.ratio.den >= 1
+/// Offset and size of the index and of the filter.
+pub(crate) type Places = ((u64, u32), Option<(u64, u32)>);
+
+pub(crate) fn handles_of(places: &Places) -> RunHandles {
+    let index = handle(places.0.0, places.0.1);
+    let filter = match places.1 {
+        None => None,
+        Some((offset, size)) => Some(handle(offset, size)),
+    };
+    RunHandles { index, filter }
 }
 
-fn written(
-    rt: &impl Abort,
-    alloc: Global,
-    items: &[InternalValue],
-    cuts: &[usize],
-    config: RunConfig,
-) -> Result<(Vec<u8>, RunHandles)> {
-    assert!(rt; can_be_written(items, cuts, &config));
-    let mut bytes = Vec::new(alloc);
-    let handles = write_run::<ByteSum, Vec<u8>>(alloc, &mut bytes, items, cuts, config)?;
-    Ok((bytes, handles))
+/// Some of the worked bytes: all of them, and the offsets between which they are.
+type Part = (&'static [u8], usize, usize);
+
+/// Entries, cuts and a form, the handles of the run or an error, and the bytes of the run in parts.
+#[derive(Drop)]
+struct Written(
+    &'static [Entry],
+    &'static [usize],
+    Form,
+    Result<Places>,
+    &'static [Part],
+);
+
+const WRITTEN: [Written; 5] = [
+    Written(
+        THREE,
+        &[1, 2],
+        (1, 10, 1),
+        Ok(((219, 90), Some((309, 59)))),
+        &[(&THREE_BLOCKS, 0, 368)],
+    ),
+    Written(
+        THREE,
+        &[1, 2],
+        (1, 0, 1),
+        Ok(((219, 90), None)),
+        &[(&THREE_BLOCKS, 0, 309)],
+    ),
+    Written(
+        THREE,
+        &[1, 2],
+        (1, 10, 2),
+        Ok(((219, 88), Some((307, 59)))),
+        &[
+            (&THREE_BLOCKS, 0, 219),
+            (&TRUNCATED_INDEX, 0, 88),
+            (&THREE_BLOCKS, 309, 368),
+        ],
+    ),
+    Written(
+        THREE,
+        &[],
+        (16, 0, 1),
+        Ok(((86, 73), None)),
+        &[(&ONE_BLOCK, 0, 159)],
+    ),
+    Written(EIGHT, &[], (16, 4294967295, 1), Err(Error::TooLong), &[]),
+];
+
+/// Whether bytes are these parts, one behind the other.
+fn are_parts(bytes: &[u8], parts: &[Part]) -> bool {
+    let mut rest = bytes;
+    for (whole, start, end) in parts {
+        let (front, behind) = rest.split_at(rest.len().min(end.saturating_sub(*start)));
+        if whole.get(*start..*end) != Some(front) {
+            return false;
+        }
+        rest = behind;
+    }
+    rest.is_empty()
 }
 
-// What is read from a run is this value, or nothing.
-fn check_read(
-    rt: &impl Abort,
-    alloc: Global,
-    items: &[InternalValue],
-    cuts: &[usize],
-    config: RunConfig,
-    query: (&[u8], u64),
-    expected: Option<u8>,
-) {
-    assert!(rt; can_be_written(items, cuts, &config));
-    match write_and_read::<ByteSum>(alloc, items, cuts, config, query.0, query.1) {
-        Ok(Some(found)) => assert_eq!(rt; found.value().as_slice().first().copied(), expected),
-        Ok(None) => assert!(rt; expected.is_none(), "nothing is found"),
-        Err(e) => assert!(rt; false, "{e}"),
+impl Row for Written {
+    fn holds(&self, alloc: Global) -> Result<bool> {
+        let Written(entries, cuts, form, wanted, parts) = self;
+        let (list, config) = (list_of(alloc, entries)?, config_of(form));
+        if !can_be_written(&list, cuts, &config) {
+            return Ok(false);
+        }
+        let mut bytes = Vec::new(alloc);
+        let handles = write_run::<ByteSum, Vec<u8>>(alloc, &mut bytes, &list, cuts, config);
+        Ok(match wanted {
+            Ok(places) => handles == Ok(handles_of(places)) && are_parts(&bytes, parts),
+            Err(error) => handles == Err(*error),
+        })
     }
 }
 
-// The reads of the three entries.
-fn check_reads(
-    rt: &impl Abort,
-    alloc: Global,
-    items: &[InternalValue],
-    cuts: &[usize],
-    config: RunConfig,
-) {
-    check_read(rt, alloc, items, cuts, config, (b"a", 3), Some(b'y'));
-    check_read(rt, alloc, items, cuts, config, (b"a", 1), None);
-    check_read(rt, alloc, items, cuts, config, (b"b", 5), Some(b'z'));
-    check_read(rt, alloc, items, cuts, config, (b"a", 0), None);
-    check_read(rt, alloc, items, cuts, config, (b"", 9), None);
-}
-
-fn check_handles(
-    rt: &impl Abort,
-    handles: &RunHandles,
-    index: BlockHandle,
-    filter: Option<BlockHandle>,
-) {
-    assert_eq!(rt; handles.index, index);
-    assert_eq!(rt; handles.filter, filter);
-}
-
-fn check_three_blocks(rt: &impl Abort, bytes: &[u8], handles: &RunHandles) {
-    assert_eq!(rt; bytes, THREE_BLOCKS.as_slice());
-    check_handles(rt, handles, handle(219, 90), Some(handle(309, 59)));
-}
-
-// The run of the three entries whose index is truncated.
-fn check_truncated(rt: &impl Abort, bytes: &[u8], handles: &RunHandles) {
-    let (data, rest) = bytes.split_at(bytes.len().min(219));
-    let (index, filter) = rest.split_at(rest.len().min(88));
-    assert_eq!(rt; data, &THREE_BLOCKS[..219]);
-    assert_eq!(rt; index, TRUNCATED_INDEX.as_slice());
-    assert_eq!(rt; filter, &THREE_BLOCKS[309..]);
-    check_handles(rt, handles, handle(219, 88), Some(handle(307, 59)));
-}
-
 #[test]
-fn three_blocks_are_written(rt: HostRuntime) -> std::result::Result<(), Fail> {
-    let alloc = rt.alloc();
-    let items = three_entries(alloc)?;
-    let (bytes, handles) = written(&rt, alloc, &items, &[1, 2], config(1, 10, 1))?;
-    check_three_blocks(&rt, &bytes, &handles);
-    Ok(())
+fn runs_are_written(rt: HostRuntime) {
+    check_rows(&rt, rt.alloc(), &WRITTEN);
 }
 
-#[test]
-fn three_blocks_are_read(rt: HostRuntime) -> std::result::Result<(), Fail> {
-    let alloc = rt.alloc();
-    let items = three_entries(alloc)?;
-    check_reads(&rt, alloc, &items, &[1, 2], config(1, 10, 1));
-    check_reads(&rt, alloc, &items, &[1, 2], config(1, 0, 1));
-    check_reads(&rt, alloc, &items, &[1, 2], config(1, 10, 2));
-    Ok(())
-}
+/// A key, a sequence number, and the value that is read below it.
+type Query = (&'static [u8], u64, Option<u8>);
 
-#[test]
-fn without_bits_there_is_no_filter(rt: HostRuntime) -> std::result::Result<(), Fail> {
-    let alloc = rt.alloc();
-    let items = three_entries(alloc)?;
-    let (bytes, handles) = written(&rt, alloc, &items, &[1, 2], config(1, 0, 1))?;
-    assert_eq!(rt; bytes.as_slice(), &THREE_BLOCKS[..309]);
-    check_handles(&rt, &handles, handle(219, 90), None);
-    Ok(())
-}
+/// The reads of the three entries.
+const READS: &[Query] = &[
+    (b"a", 3, Some(b'y')),
+    (b"a", 1, None),
+    (b"b", 5, Some(b'z')),
+    (b"a", 0, None),
+    (b"", 9, None),
+];
 
-#[test]
-fn an_index_is_truncated(rt: HostRuntime) -> std::result::Result<(), Fail> {
-    let alloc = rt.alloc();
-    let items = three_entries(alloc)?;
-    let (bytes, handles) = written(&rt, alloc, &items, &[1, 2], config(1, 10, 2))?;
-    check_truncated(&rt, &bytes, &handles);
-    Ok(())
-}
+/// Entries, cuts and a form, and what is read from the run.
+#[derive(Drop)]
+struct Read(&'static [Entry], &'static [usize], Form, &'static [Query]);
 
-#[test]
-fn one_block_is_written_and_read(rt: HostRuntime) -> std::result::Result<(), Fail> {
-    let alloc = rt.alloc();
-    let items = three_entries(alloc)?;
-    let (bytes, handles) = written(&rt, alloc, &items, &[], config(16, 0, 1))?;
-    assert_eq!(rt; bytes.as_slice(), ONE_BLOCK.as_slice());
-    check_handles(&rt, &handles, handle(86, 73), None);
-    check_reads(&rt, alloc, &items, &[], config(16, 0, 1));
-    Ok(())
-}
-
-#[test]
-fn equal_keys_are_cut(rt: HostRuntime) -> std::result::Result<(), Fail> {
-    let alloc = rt.alloc();
-    let items = [entry(alloc, b'a', b'x', 5)?, entry(alloc, b'a', b'y', 5)?];
-    check_read(
-        &rt,
-        alloc,
-        &items,
+const READ: [Read; 5] = [
+    Read(THREE, &[1, 2], (1, 10, 1), READS),
+    Read(THREE, &[1, 2], (1, 0, 1), READS),
+    Read(THREE, &[1, 2], (1, 10, 2), READS),
+    Read(THREE, &[], (16, 0, 1), READS),
+    Read(
+        EQUAL,
         &[1],
-        config(1, 10, 1),
-        (b"a", 6),
-        Some(b'x'),
-    );
-    check_read(&rt, alloc, &items, &[1], config(1, 10, 1), (b"a", 5), None);
-    Ok(())
-}
+        (1, 10, 1),
+        &[(b"a", 6, Some(b'x')), (b"a", 5, None)],
+    ),
+];
 
-// As many entries with one key.
-fn versions(alloc: Global, count: u64) -> Result<Vec<InternalValue>> {
-    let mut items = Vec::new(alloc);
-    for i in 0..count {
-        items.push(entry(alloc, b'a', b'x', count - i)?)?;
+/// The first byte of the value of an entry.
+pub(crate) fn value_of(found: &Option<InternalValue>) -> Option<u8> {
+    match found {
+        Some(entry) => entry.value().as_slice().first().copied(),
+        None => None,
     }
-    Ok(items)
 }
 
-// Why a run without cuts is not written.
-fn refusal(
-    rt: &impl Abort,
-    alloc: Global,
-    items: &[InternalValue],
-    config: RunConfig,
-) -> Option<Error> {
-    written(rt, alloc, items, &[], config).err()
+impl Row for Read {
+    fn holds(&self, alloc: Global) -> Result<bool> {
+        let Read(entries, cuts, form, queries) = self;
+        let (list, config) = (list_of(alloc, entries)?, config_of(form));
+        if !can_be_written(&list, cuts, &config) {
+            return Ok(false);
+        }
+        for (key, seqno, wanted) in *queries {
+            let found = write_and_read::<ByteSum>(alloc, &list, cuts, config, key, *seqno)?;
+            if value_of(&found) != *wanted {
+                return Ok(false);
+            }
+        }
+        Ok(true)
+    }
 }
 
 #[test]
-fn too_many_bits_are_refused(rt: HostRuntime) -> std::result::Result<(), Fail> {
-    let alloc = rt.alloc();
-    let items = versions(alloc, 8)?;
-    let refused = refusal(&rt, alloc, &items, config(16, 4294967295, 1));
-    assert_eq!(rt; refused, Some(Error::TooLong));
-    Ok(())
+fn runs_are_read(rt: HostRuntime) {
+    check_rows(&rt, rt.alloc(), &READ);
 }
 
-// Takes bytes as long as there is room, and then fails; counts the calls.
+/// Takes bytes as long as there is room, and then fails.
 #[derive(Drop)]
 struct Room {
+    taken: Vec<u8>,
     left: usize,
-    calls: usize,
 }
 
 impl Write for Room {
     fn write(&mut self, buf: &[u8]) -> io::Result<usize> {
-        self.calls = self.calls.wrapping_add(1);
         if self.left == 0 {
             return Err(io::Error::from(ErrorKind::Other));
         }
         let n = self.left.min(buf.len());
+        let (front, _) = buf.split_at(n);
+        if self.taken.extend_from_slice(front).is_err() {
+            return Err(io::Error::from(ErrorKind::OutOfMemory));
+        }
         self.left -= n;
         Ok(n)
     }
@@ -298,78 +286,99 @@ impl Write for Room {
     }
 }
 
-// Adds a block, which fits behind those before.
-fn add<W: Write>(
-    rt: &impl Abort,
-    writer: &mut RunWriter<ByteSum, W>,
-    items: &[InternalValue],
-) -> Result<()>
-    ensures { writer.new.refusal ≡ None → 1 ≤ length writer.new.blocks }
-{
-    assert!(rt; writer.fits_after(items));
-    writer.add_block(items)
-}
+/// The room of a writer, what is answered as each of the three entries is added as a block, the
+/// number of blocks then, and what is answered at the end. The writer took as many bytes of the
+/// worked run as it has room for.
+#[derive(Drop)]
+struct Added(usize, [Result<()>; 3], usize, Result<Places>);
 
-#[test]
-fn three_blocks_are_added(rt: HostRuntime) -> std::result::Result<(), Fail> {
-    let alloc = rt.alloc();
-    let mut writer = RunWriter::new(alloc, Vec::new(alloc), config(1, 10, 1));
-    add(&rt, &mut writer, &[entry(alloc, b'a', b'x', 3)?])?;
-    add(&rt, &mut writer, &[entry(alloc, b'a', b'y', 1)?])?;
-    add(&rt, &mut writer, &[entry(alloc, b'b', b'z', 4)?])?;
-    assert_eq!(rt; writer.block_count(), 3);
-    let finished = writer.finish()?;
-    let r = &finished;
-    check_three_blocks(&rt, &r.1, &r.0);
-    Ok(())
-}
+const ADDED: [Added; 2] = [
+    Added(
+        368,
+        [Ok(()), Ok(()), Ok(())],
+        3,
+        Ok(((219, 90), Some((309, 59)))),
+    ),
+    Added(
+        100,
+        [Ok(()), Err(Error::Io), Err(Error::Io)],
+        1,
+        Err(Error::Io),
+    ),
+];
 
-// The writer fails in the second block: 73 bytes and 27 more are taken.
-#[test]
-fn a_failure_is_repeated(rt: HostRuntime) -> std::result::Result<(), Fail> {
-    let alloc = rt.alloc();
-    let first = [entry(alloc, b'a', b'x', 3)?];
-    let second = [entry(alloc, b'a', b'y', 1)?];
-    let third = [entry(alloc, b'b', b'z', 4)?];
-    let mut room = Room {
-        left: 100,
-        calls: 0,
-    };
-    let mut writer = RunWriter::new(alloc, &mut room, config(1, 10, 1));
-    assert_eq!(rt; add(&rt, &mut writer, &first), Ok(()));
-    assert_eq!(rt; add(&rt, &mut writer, &second), Err(Error::Io));
-    assert_eq!(rt; add(&rt, &mut writer, &third), Err(Error::Io));
-    assert_eq!(rt; writer.block_count(), 1);
-    match writer.finish() {
-        Ok(_) => assert!(rt; false, "finished"),
-        Err(e) => assert_eq!(rt; e, Error::Io),
+impl Row for Added {
+    fn holds(&self, alloc: Global) -> Result<bool> {
+        let Added(left, answers, count, wanted) = self;
+        let list = list_of(alloc, THREE)?;
+        let mut room = Room {
+            taken: Vec::new(alloc),
+            left: *left,
+        };
+        let mut writer: RunWriter<ByteSum, _> = RunWriter::new(
+            alloc,
+            &mut room,
+            RunConfig::new(1, NO_BUCKETS, 10),
+        );
+        for (block, answer) in list.chunks(1).zip(answers.iter()) {
+            if !writer.fits_after(block) || writer.add_block(block) != *answer {
+                return Ok(false);
+            }
+        }
+        if writer.block_count() == 0 || writer.block_count() != *count {
+            return Ok(false);
+        }
+        let is_finished = match (writer.finish(), wanted) {
+            (Ok((handles, _)), Ok(places)) => handles == handles_of(places),
+            (Err(error), Err(wanted)) => error == *wanted,
+            _ => false,
+        };
+        Ok(is_finished && THREE_BLOCKS.get(..*left) == Some(room.taken.as_slice()))
     }
-    Ok(())
 }
 
-// Whether a block of this entry fits behind one of (b, z, 4).
-fn fits_behind(rt: &impl Abort, alloc: Global, key: u8, value: u8, seqno: u64) -> Result<bool> {
-    let mut writer = RunWriter::new(alloc, Vec::new(alloc), config(1, 10, 1));
-    add(rt, &mut writer, &[entry(alloc, b'b', b'z', 4)?])?;
-    Ok(writer.fits_after(&[entry(alloc, key, value, seqno)?]))
+#[test]
+fn blocks_are_added(rt: HostRuntime) {
+    check_rows(&rt, rt.alloc(), &ADDED);
+}
+
+/// The entries of a block, those of another, and whether this fits behind the first.
+#[derive(Drop)]
+struct Next(&'static [Entry], &'static [Entry], bool);
+
+const BZ: &[Entry] = &[(b"b", b"z", 4)];
+
+const NEXT: [Next; 6] = [
+    Next(&[], &[], false),
+    Next(BZ, &[], false),
+    Next(BZ, &[(b"a", b"x", 3)], false),
+    Next(BZ, &[(b"b", b"w", 4)], true),
+    Next(BZ, &[(b"b", b"w", 5)], false),
+    Next(BZ, &[(b"c", b"w", 9)], true),
+];
+
+/// Adds a block, if it fits at the start: the number of blocks then, and whether another fits behind.
+fn add_one(alloc: Global, first: &[InternalValue], next: &[InternalValue]) -> (usize, bool) {
+    let mut writer: RunWriter<ByteSum, _> = RunWriter::new(
+        alloc,
+        Vec::new(alloc),
+        RunConfig::new(1, NO_BUCKETS, 10),
+    );
+    if writer.fits_after(first) {
+        let _ = writer.add_block(first);
+    }
+    (writer.block_count(), writer.fits_after(next))
+}
+
+impl Row for Next {
+    fn holds(&self, alloc: Global) -> Result<bool> {
+        let Next(first, next, fits) = self;
+        let (list, next) = (list_of(alloc, first)?, list_of(alloc, next)?);
+        Ok(add_one(alloc, &list, &next) == (first.len(), *fits))
+    }
 }
 
 #[test]
 fn blocks_fit_behind_the_last(rt: HostRuntime) {
-    let alloc = rt.alloc();
-    let rows = [
-        (b'a', b'x', 3, false),
-        (b'b', b'w', 4, true),
-        (b'b', b'w', 5, false),
-        (b'c', b'w', 9, true),
-    ];
-    for (key, value, seqno, fits) in rows {
-        assert_eq!(rt;
-            fits_behind(&rt, alloc, key, value, seqno),
-            Ok(fits),
-            "{seqno}"
-        );
-    }
-    let writer = RunWriter::<ByteSum, _>::new(alloc, Vec::new(alloc), config(1, 10, 1));
-    assert!(rt; !writer.fits_after(&[]));
+    check_rows(&rt, rt.alloc(), &NEXT);
 }
