@@ -289,15 +289,21 @@ fn frames_are_written(rt: HostRuntime) {
     check_rows(&rt, rt.alloc(), &WRITTEN);
 }
 
+// Whether a block has a payload.
+fn has_payload(block: Result<Block>, payload: &[u8]) -> Result<bool> {
+    Ok(block?.data().eq_bytes(payload))
+}
+
 // Whether a payload of a length is read, and what follows its frame is left.
 fn is_read_in_pieces(alloc: Global, len: usize) -> Result<bool> {
     let payload = vec![in alloc; 7u8; len]?;
     let mut frame = Vec::new(alloc);
-    Block::write_into::<Poly31, Vec<u8>>(&mut frame, &payload, BlockType::Filter)?;
+    let written = Block::write_into::<Poly31, Vec<u8>>(&mut frame, &payload, BlockType::Filter);
     frame.extend_from_slice(&[7, 8])?;
     let mut rest = frame.as_slice();
-    let block = Block::from_reader::<Poly31, &[u8]>(alloc, &mut rest)?;
-    Ok(block.data().eq_bytes(&payload) && rest == [7, 8].as_slice())
+    let block = Block::from_reader::<Poly31, &[u8]>(alloc, &mut rest);
+    let is_left = written.is_ok() && rest == [7, 8].as_slice();
+    Ok(is_left && has_payload(block, &payload)?)
 }
 
 #[test]
@@ -374,15 +380,15 @@ fn headers_are_written_and_read(rt: HostRuntime) {
 
 // A slow writer that hashes: what it takes of three bytes, and the checksum; whether three more are
 // refused, the checksum, and whether the writer has what was hashed.
-fn hash_written(alloc: Global) -> std::io::Result<(usize, Checksum, bool, Checksum, bool)> {
+fn hash_written(alloc: Global) -> (Option<usize>, Checksum, bool, Checksum, bool) {
     let slow = SlowWriter::new(Vec::new(alloc), 3);
     let mut writer: ChecksummedWriter<SlowWriter, ByteSum> = ChecksummedWriter::new(slow);
-    let taken = writer.write(b"abc")?;
+    let taken = writer.write(b"abc").ok();
     let first = writer.checksum();
     let is_refused = writer.write_all(b"bcd").is_err();
     let second = writer.checksum();
     let is_kept = writer.inner_mut().taken.as_slice() == b"abc".as_slice();
-    Ok((taken, first, is_refused, second, is_kept))
+    (taken, first, is_refused, second, is_kept)
 }
 
 // Reads two bytes and two more of five: the number of the first, the checksum, whether the second are
@@ -400,12 +406,11 @@ fn hash_read() -> (Option<usize>, Checksum, bool, Checksum, bool) {
 }
 
 #[test]
-fn accepted_and_given_bytes_are_hashed(rt: HostRuntime) -> std::result::Result<(), Fail> {
+fn accepted_and_given_bytes_are_hashed(rt: HostRuntime) {
     let (one, three) = (Checksum::from_raw(97), Checksum::from_raw(294));
-    assert!(rt; hash_written(rt.alloc())? == (1, one, true, three, true));
+    assert!(rt; hash_written(rt.alloc()) == (Some(1), one, true, three, true));
     let (two, four) = (Checksum::from_raw(195), Checksum::from_raw(394));
     assert!(rt; hash_read() == (Some(2), two, true, four, true));
-    Ok(())
 }
 
 // Bytes, and the offset and the size of the handle that they are decoded as.

@@ -4,7 +4,7 @@ use sst_base::{Error, Result, Slice};
 use std::alloc::Global;
 
 /// A call that makes a slice, and the bytes that it is given.
-#[derive(Clone, Copy)]
+#[derive(Drop)]
 enum Constructor {
     /// `Slice::empty`.
     Empty,
@@ -24,16 +24,37 @@ enum Constructor {
     Collected(&'static [u8]),
     /// `Slice::fused`.
     Fused(&'static [u8], &'static [u8]),
-    /// The clone of a slice.
-    Clone(&'static [u8]),
+    /// A part of a slice.
+    Cut(&'static [u8], Part),
+}
+
+/// A call that makes a slice of another.
+#[derive(Drop)]
+enum Part {
+    /// The clone.
+    Clone,
     /// The sub-slice without ends.
-    Whole(&'static [u8]),
+    Whole,
     /// The sub-slice of the first bytes.
-    First(&'static [u8], usize),
+    First(usize),
     /// The sub-slice behind the first bytes.
-    Behind(&'static [u8], usize),
+    Behind(usize),
     /// The sub-slice between two offsets.
-    Between(&'static [u8], usize, usize),
+    Between(usize, usize),
+}
+
+/// Makes a slice of another.
+fn cut(whole: &Slice, part: &Part) -> Result<Slice> {
+    match part {
+        Part::Clone => Ok(whole.clone()?),
+        Part::Whole => whole.slice(..),
+        Part::First(at) => whole.slice(..whole.len().min(*at)),
+        Part::Behind(at) => whole.slice(whole.len().min(*at)..),
+        Part::Between(start, end) => {
+            let end = whole.len().min(*end);
+            whole.slice(end.min(*start)..end)
+        }
+    }
 }
 
 /// Makes a slice.
@@ -48,14 +69,7 @@ fn make(alloc: Global, call: &Constructor) -> Result<Slice> {
         Constructor::Owned(bytes) => Slice::from_vec(bytes.to_vec(alloc)?),
         Constructor::Collected(bytes) => Slice::collect_bytes(alloc, bytes.iter().copied()),
         Constructor::Fused(left, right) => Slice::fused(alloc, left, right),
-        Constructor::Clone(bytes) => Ok(Slice::new(alloc, bytes)?.clone()?),
-        Constructor::Whole(bytes) => Slice::new(alloc, bytes)?.slice(..),
-        Constructor::First(bytes, at) => Slice::new(alloc, bytes)?.slice(..bytes.len().min(*at)),
-        Constructor::Behind(bytes, at) => Slice::new(alloc, bytes)?.slice(bytes.len().min(*at)..),
-        Constructor::Between(bytes, start, end) => {
-            let end = bytes.len().min(*end);
-            Slice::new(alloc, bytes)?.slice(end.min(*start)..end)
-        }
+        Constructor::Cut(bytes, part) => cut(&Slice::new(alloc, bytes)?, part),
     }
 }
 
@@ -78,9 +92,9 @@ static MADE: [Made; 16] = [
     Made(Constructor::Owned(&[7; 50]), &[7; 50]),
     Made(Constructor::Collected(&[7; 50]), &[7; 50]),
     Made(Constructor::Fused(&[7; 10], &[7; 40]), &[7; 50]),
-    Made(Constructor::Clone(&[7; 50]), &[7; 50]),
-    Made(Constructor::Whole(&[7; 50]), &[7; 50]),
-    Made(Constructor::Between(&[7; 50], 5, 45), &[7; 40]),
+    Made(Constructor::Cut(&[7; 50], Part::Clone), &[7; 50]),
+    Made(Constructor::Cut(&[7; 50], Part::Whole), &[7; 50]),
+    Made(Constructor::Cut(&[7; 50], Part::Between(5, 45)), &[7; 40]),
 ];
 
 /// Whether a slice has these bytes.
@@ -109,12 +123,12 @@ fn rows_at(at: usize) -> [Made; 7] {
     let (front, rest) = bytes.split_at(bytes.len().min(at));
     [
         Made(Constructor::New(front), front),
-        Made(Constructor::Clone(front), front),
-        Made(Constructor::Whole(front), front),
+        Made(Constructor::Cut(front, Part::Clone), front),
+        Made(Constructor::Cut(front, Part::Whole), front),
         Made(Constructor::Owned(front), front),
         Made(Constructor::Fused(front, rest), bytes),
-        Made(Constructor::First(bytes, at), front),
-        Made(Constructor::Behind(bytes, at), rest),
+        Made(Constructor::Cut(bytes, Part::First(at)), front),
+        Made(Constructor::Cut(bytes, Part::Behind(at)), rest),
     ]
 }
 

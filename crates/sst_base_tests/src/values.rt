@@ -334,24 +334,12 @@ enum Constructor {
     WeakTombstone,
 }
 
-// An entry of a user key of one byte; a tombstone does not take the value.
-fn make(
-    alloc: Global,
-    call: &Constructor,
-    user_key: Slice,
-    seqno: u64,
-    value: Slice,
-) -> InternalValue
-    requires key { length user_key ≡ 1 }
-    requires value { length value ≡ 1 }
+// An entry with the value `x`, of a user key of one byte.
+fn with_value(alloc: Global, user_key: Slice, seqno: u64) -> Result<InternalValue>
+    requires { length user_key ≡ 1 }
 {
-    match call {
-        Constructor::Value => {
-            InternalValue::new(InternalKey::new(user_key, seqno, ValueType::Value), value)
-        }
-        Constructor::Tombstone => InternalValue::new_tombstone(alloc, user_key, seqno),
-        Constructor::WeakTombstone => InternalValue::new_weak_tombstone(alloc, user_key, seqno),
-    }
+    let key = InternalKey::new(user_key, seqno, ValueType::Value);
+    Ok(InternalValue::new(key, Slice::new(alloc, b"x")?))
 }
 
 // A constructor, a sequence number, the type, the value, and how the entry prints.
@@ -395,13 +383,24 @@ impl Parts {
     }
 }
 
+impl Parts {
+    // Whether an entry and its clone have the parts, and it prints like this.
+    fn are_kept(&self, alloc: Global, entry: Result<InternalValue>) -> Result<bool> {
+        let entry = entry?;
+        let is_printed = format!(in alloc; "{entry:?}")?.as_str() == self.4;
+        Ok(is_printed && self.are_of(&entry) && self.are_of(&entry.clone()?))
+    }
+}
+
 impl Row for Parts {
     fn holds(&self, alloc: Global) -> Result<bool> {
-        let Parts(call, seqno, _, _, printed) = self;
-        let (key, value) = (Slice::new(alloc, b"a")?, Slice::new(alloc, b"x")?);
-        let entry = make(alloc, call, key, *seqno, value);
-        let is_printed = format!(in alloc; "{entry:?}")?.as_str() == *printed;
-        Ok(is_printed && self.are_of(&entry) && self.are_of(&entry.clone()?))
+        let (seqno, key) = (self.1, Slice::new(alloc, b"a")?);
+        let entry = match self.0 {
+            Constructor::Value => with_value(alloc, key, seqno),
+            Constructor::Tombstone => Ok(InternalValue::new_tombstone(alloc, key, seqno)),
+            Constructor::WeakTombstone => Ok(InternalValue::new_weak_tombstone(alloc, key, seqno)),
+        };
+        self.are_kept(alloc, entry)
     }
 }
 
@@ -456,7 +455,7 @@ fn sizes_are_known(rt: HostRuntime) {
         size_of::<History<u64>>(),
         size_of::<Slice>(),
     ];
-    assert_eq!(rt; sizes, [0, 0, 48]);
+    assert!(rt; sizes == [0, 0, 48]);
     let mut steps = Steps::new();
     steps.count_head();
     steps.count_entry();
