@@ -1,4 +1,4 @@
-//! Checks of blocks of any bytes: worked damage, and every change of one byte of small blocks.
+//! Checks of blocks of any bytes: damaged test vectors, and every change of one byte of small blocks.
 ghost use Rattle.std.specs.Prelude.{◌<◌, ◌^◌, length};
 ghost use Rattle.sst_block_kinds.specs.ParsedHandle.{IsParsedHandle};
 

@@ -1,4 +1,4 @@
-//! Index blocks: worked payloads, seeks and steps against lists of answers, and random operations
+//! Index blocks: test vectors, seeks and steps against lists of answers, and random operations
 //! beside a plain window.
 ghost use Rattle.std.specs.Prelude.{◌≡◌, ◌+◌, ◌≤◌, length};
 ghost use Rattle.sst_block_core.specs.Landings.{scan_cost};
@@ -91,7 +91,7 @@ fn block_of(
 /// The payloads of the three handles: each a head, which is also the encoding without an interval,
 /// and the second truncated.
 #[test]
-fn payloads_are_the_worked_ones(rt: HostRuntime) -> std::result::Result<(), Fail> {
+fn payloads_are_the_test_vectors(rt: HostRuntime) -> std::result::Result<(), Fail> {
     let list = handles_of(&rt, rt.alloc(), &THREE)?;
     assert!(&rt; !list.is_empty());
     assert!(&rt; IndexBlock::is_ordered(&list));
@@ -422,7 +422,7 @@ fn random_operations_return_what_the_window_does(rt: HostRuntime) -> std::result
     Ok(())
 }
 
-/// A seek and the step behind it decode at most one handle more than an interval holds, and over
+/// A seek and the step after it decode at most one handle more than an interval holds, and over
 /// heads alone only the one that the step gives.
 fn seek_and_next(iter: &mut Iter<'_>, needle: &[u8], seqno: u64) -> bool
     ensures { iter.new.steps.entries
@@ -431,7 +431,7 @@ fn seek_and_next(iter: &mut Iter<'_>, needle: &[u8], seqno: u64) -> bool
     iter.seek(needle, seqno) && iter.next().is_some()
 }
 
-/// A seek over 40 heads decodes no handle and looks at no more than 6 heads.
+/// A seek over 40 heads decodes no handle and examines at most 6 heads.
 fn seek_counts_six_of_forty(iter: &mut Iter<'_>, needle: &[u8], seqno: u64) -> bool
     requires count { length iter.old.window.list ≡ 40 }
     requires interval { iter.old.interval ≡ 1 }

@@ -5,6 +5,8 @@
 #[cfg(test)]
 mod checks;
 #[cfg(test)]
+mod decoders;
+#[cfg(test)]
 mod index_blocks;
 #[cfg(test)]
 mod lists;

@@ -91,7 +91,7 @@ pub(crate) enum List {
     Bytes(u16, u16),
     /// Keys of two bytes, from the first to the last, each with itself as its sequence number.
     Pairs(u16, u16),
-    /// Keys of one byte k and more, up to a length, each in so many versions.
+    /// The keys k, kk, kkk and so on, up to a length, and a number of versions of each.
     Prefixes(usize, usize),
     /// The entries of [`VERSIONS`].
     Versions,

@@ -1,4 +1,4 @@
-//! Data blocks: worked bytes, buckets and point reads, and blocks of many lists at many intervals,
+//! Data blocks: examples with their bytes, buckets and point reads, and blocks of many lists at many intervals,
 //! ratios and hashes beside the plain program.
 ghost use Rattle.sst_block_kinds.specs.ParsedEntry.{IsParsedEntry};
 
@@ -89,7 +89,7 @@ enum Hash {
 
 /// A block, and what is known of it.
 #[derive(Clone, Copy)]
-struct Worked {
+struct Example {
     list: List,
     hash: Hash,
     interval: u8,
@@ -129,8 +129,8 @@ const VERSION_READS: [(&[u8], u64, Option<usize>); 7] = [
 ];
 
 /// With 254 heads buckets are stored, with 255 they are not.
-const WORKED: [Worked; 12] = [
-    Worked {
+const EXAMPLES: [Example; 12] = [
+    Example {
         list: List::Rows(&PAIR),
         hash: Hash::ByteSum,
         interval: 2,
@@ -143,7 +143,7 @@ const WORKED: [Worked; 12] = [
         reads: &PAIR_READS,
     },
     // The versions of ab are in two intervals.
-    Worked {
+    Example {
         list: List::Rows(&PAIR),
         hash: Hash::ByteSum,
         interval: 1,
@@ -160,7 +160,7 @@ const WORKED: [Worked; 12] = [
         ],
         reads: &PAIR_READS,
     },
-    Worked {
+    Example {
         list: List::Rows(&THREE_VERSIONS),
         hash: Hash::ByteSum,
         interval: 1,
@@ -177,7 +177,7 @@ const WORKED: [Worked; 12] = [
         ],
         reads: &VERSION_READS,
     },
-    Worked {
+    Example {
         list: List::Rows(&THREE_VERSIONS),
         hash: Hash::NoHash,
         interval: 1,
@@ -189,7 +189,7 @@ const WORKED: [Worked; 12] = [
         keys: &[(b"a", 255, Lookup::Anywhere), (b"c", 255, Lookup::Anywhere)],
         reads: &VERSION_READS,
     },
-    Worked {
+    Example {
         list: List::Bytes(1, 254),
         hash: Hash::ByteSum,
         interval: 1,
@@ -201,7 +201,7 @@ const WORKED: [Worked; 12] = [
         keys: &[],
         reads: &[],
     },
-    Worked {
+    Example {
         list: List::Bytes(1, 255),
         hash: Hash::ByteSum,
         interval: 1,
@@ -213,7 +213,7 @@ const WORKED: [Worked; 12] = [
         keys: &[],
         reads: &[],
     },
-    Worked {
+    Example {
         list: List::Rows(&PREFIX),
         hash: Hash::ByteSum,
         interval: 2,
@@ -226,7 +226,7 @@ const WORKED: [Worked; 12] = [
         reads: &[(b"ab", 1, Some(0)), (b"abc", 1, Some(1))],
     },
     // Buckets name the intervals of truncated entries.
-    Worked {
+    Example {
         list: List::Bytes(1, 255),
         hash: Hash::ByteSum,
         interval: 2,
@@ -243,7 +243,7 @@ const WORKED: [Worked; 12] = [
         reads: &[],
     },
     // The newest version below a sequence number is read, a tombstone too.
-    Worked {
+    Example {
         list: List::Rows(&FOUR_VERSIONS),
         hash: Hash::ByteSum,
         interval: 2,
@@ -262,7 +262,7 @@ const WORKED: [Worked; 12] = [
         ],
     },
     // A key after all, and the last.
-    Worked {
+    Example {
         list: List::Bytes(97, 104),
         hash: Hash::ByteSum,
         interval: 2,
@@ -275,7 +275,7 @@ const WORKED: [Worked; 12] = [
         reads: &[(b"z", 1, None), (b"h", 1, Some(7))],
     },
     // The version is in an interval after those whose heads have its key.
-    Worked {
+    Example {
         list: List::Rows(&EIGHT_VERSIONS),
         hash: Hash::ByteSum,
         interval: 2,
@@ -288,7 +288,7 @@ const WORKED: [Worked; 12] = [
         reads: &[(b"k", 7, Some(2)), (b"k", 2, Some(7))],
     },
     // Without hash index the heads are searched.
-    Worked {
+    Example {
         list: List::Pairs(0, 299),
         hash: Hash::ByteSum,
         interval: 1,
@@ -319,7 +319,7 @@ fn check_read<H: BlockHash>(
 }
 
 /// Checks the numbers and some bytes of a block.
-fn check_bytes<H: BlockHash>(rt: &impl Abort, block: &DataBlock<H>, case: &Worked) {
+fn check_bytes<H: BlockHash>(rt: &impl Abort, block: &DataBlock<H>, case: &Example) {
     let bytes = block.as_slice().as_slice();
     let (offset, wanted) = case.bytes;
     assert!(rt; bytes.len() == case.length);
@@ -329,7 +329,7 @@ fn check_bytes<H: BlockHash>(rt: &impl Abort, block: &DataBlock<H>, case: &Worke
 }
 
 /// Checks the hash index of a block.
-fn check_buckets<H: BlockHash>(rt: &impl Abort, block: &DataBlock<H>, case: &Worked) {
+fn check_buckets<H: BlockHash>(rt: &impl Abort, block: &DataBlock<H>, case: &Example) {
     let count = block.hash_bucket_count();
     let (Some(reader), Some((wanted, conflicts))) = (block.get_hash_index_reader(), case.buckets)
     else {
@@ -348,7 +348,7 @@ fn check_buckets<H: BlockHash>(rt: &impl Abort, block: &DataBlock<H>, case: &Wor
 }
 
 /// Checks a block by what is known of it.
-fn check_worked<H: BlockHash>(rt: &impl Abort, alloc: Global, case: &Worked) -> Result<()> {
+fn check_example<H: BlockHash>(rt: &impl Abort, alloc: Global, case: &Example) -> Result<()> {
     let list = list_of(rt, alloc, case.list)?;
     let block = block_of::<H>(rt, alloc, &list, case.interval, case.ratio)?;
     check_bytes(rt, &block, case);
@@ -366,19 +366,19 @@ fn check_worked<H: BlockHash>(rt: &impl Abort, alloc: Global, case: &Worked) -> 
     Ok(())
 }
 
-/// Bytes, buckets and reads of worked blocks.
+/// Each example has its bytes, its buckets and its reads.
 #[test]
-fn worked_blocks_have_their_bytes(rt: HostRuntime) -> std::result::Result<(), Fail> {
-    for case in &WORKED {
+fn examples_have_their_bytes(rt: HostRuntime) -> std::result::Result<(), Fail> {
+    for case in &EXAMPLES {
         match case.hash {
-            Hash::ByteSum => check_worked::<ByteSum>(&rt, rt.alloc(), case)?,
-            Hash::NoHash => check_worked::<NoHash>(&rt, rt.alloc(), case)?,
+            Hash::ByteSum => check_example::<ByteSum>(&rt, rt.alloc(), case)?,
+            Hash::NoHash => check_example::<NoHash>(&rt, rt.alloc(), case)?,
         }
     }
     Ok(())
 }
 
-/// A list of so many entries, written at each of some intervals and at each of some ratios.
+/// A list, its number of entries, and the intervals and ratios at which it is encoded.
 #[derive(Clone, Copy)]
 struct Many {
     list: List,

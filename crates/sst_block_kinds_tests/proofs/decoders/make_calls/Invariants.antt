@@ -1,5 +1,5 @@
 use Rattle.std.proofs.Common.{◌≡◌}
-use Rattle.sst_block_kinds_tests.proofs.seeks.make_calls.Given as goal
+use Rattle.sst_block_kinds_tests.proofs.decoders.make_calls.Given as goal
 
 abbrev pub invariant-loop-call : goal.invariant-loop-call
 invariant-loop-call g l = record {

@@ -1,5 +1,5 @@
 use Rattle.std.proofs.Common.{◌≡◌}
-use Rattle.sst_block_kinds_tests.proofs.seeks.take.Given as goal
+use Rattle.sst_block_kinds_tests.proofs.decoders.take.Given as goal
 
 abbrev pub invariant-loop-key : goal.invariant-loop-key
 invariant-loop-key g l = record {
