@@ -1,6 +1,6 @@
 -- Reading a frame in memory, step by step.
-use Rattle.std.proofs.Common.{◌≡◌, ℕ, ◌+◌, ◌≤◌, ◌-◌, List, ◌++◌, length, drop, refl, arith, sym, ◌∙◌, ap, subst, Result, Ok, Err, Some, Option, Bool, true, false, nat_eq, ◌&&◌, length-drop}
-use Rattle.std.specs.Result.{IfOk, MatchResult}
+use Rattle.std.proofs.Common.{◌≡◌, ℕ, ◌+◌, ◌≤◌, ◌-◌, List, ◌++◌, length, take, drop, refl, arith, sym, ◌∙◌, ap, subst, Result, Ok, Err, Some, Option, Bool, true, false, nat_eq, ◌&&◌, length-drop}
+use Rattle.std.specs.Result.{IfOk, OnOk, MatchResult}
 use Rattle.std.specs.List.{slice_range}
 use Rattle.std.proofs.lemmas.Bool.{eqb-true, le-leb}
 use Rattle.std.proofs.lemmas.List.{take_all}
@@ -48,7 +48,7 @@ frame_in_by hash128 all rest payload h r long e l p q =
     rw (le-leb 33 (length all) long, e, l) (q ∙ ap (block_of hash128 h) p)
 
 -- what is read is a front that is a frame
-pub found_front : (hash128 : List ℕ → ℕ) (m : Type 0) (r : Result BlockParts Error) (left : Option (List ℕ)) (bytes : List ℕ) → IsBytes bytes → ReadsAllocating m r left (frame_at hash128 bytes)
+pub found_front : (hash128 : List ℕ → ℕ) (m : Type 0) (r : Result BlockParts Error) (left : Option (List ℕ)) (bytes : List ℕ) → IfOk r (λ _. IsBytes (take 28 (drop 5 bytes))) → ReadsAllocating m r left (frame_at hash128 bytes)
     → IfOk r (λ b. (rest : List ℕ) × (left ≡ Some rest) × (bytes ≡ frame hash128 b.header.block_type b.payload ++ rest) × (b ≡ block_for hash128 b.header.block_type b.payload))
 found_front hash128 m (Ok b) left bytes small h =
     let takes = frame_at_takes hash128 bytes b h.0 small h.2 in
@@ -79,26 +79,29 @@ only_whole (Err Memory) read b e h = refl
 only_whole (Err d) read b e h = cc (h, e)
 
 -- a file's frame is that of the bytes that were read
-pub file_unread : (hash128 : List ℕ → ℕ) (m : Type 0) (r : Result BlockParts Error) (e : Error) (left : Option (List ℕ)) (offset size : ℕ) (bytes : List ℕ) → r ≡ Err e → ReadsAllocating {A = List ℕ} m (Err e) left (bytes_at size (drop offset bytes)) → GivesOrFails r (frame_in_file hash128 offset size bytes)
+pub file_unread : (hash128 : List ℕ → ℕ) (m n : Type 0) (r : Result BlockParts Error) (e : Error) (left : Option (List ℕ)) (offset size : ℕ) (bytes : List ℕ) → (m → n) → r ≡ Err e → ReadsAllocating {A = List ℕ} n (Err e) left (bytes_at size (drop offset bytes)) → GivesOrFails m r (frame_in_file hash128 offset size bytes)
 unfolding frame_in_file
-file_unread hash128 m (Ok b) e left offset size bytes s h = cc
-file_unread hash128 m (Err Memory) e left offset size bytes s h = tt
-file_unread hash128 m (Err Io) e left offset size bytes s h = tt
-file_unread hash128 m (Err d) e left offset size bytes s h =
+file_unread hash128 m n (Ok b) e left offset size bytes k s h = cc
+file_unread hash128 m n (Err Memory) e left offset size bytes k s h = tt
+file_unread hash128 m n (Err Io) e left offset size bytes k s h = λ over.
+    let same : Io ≡ e = cc (s) in
+    let refused = subst (λ (x : Error). ReadsAllocating {A = List ℕ} n (Err x) left (bytes_at size (drop offset bytes))) (sym same) h (k over) in
+    ap (λ q. q >>= (λ (found : List ℕ × List ℕ). frame_in hash128 found.0)) refused
+file_unread hash128 m n (Err d) e left offset size bytes k s h =
     let same : d ≡ e = cc (s) in
-    let refused = subst (λ (x : Error). ReadsAllocating {A = List ℕ} m (Err x) left (bytes_at size (drop offset bytes))) (sym same) h in
+    let refused = subst (λ (x : Error). ReadsAllocating {A = List ℕ} n (Err x) left (bytes_at size (drop offset bytes))) (sym same) h in
     sym (ap (λ q. q >>= (λ (found : List ℕ × List ℕ). frame_in hash128 found.0)) refused)
 
-gives_or_fails : (r a b : Result BlockParts Error) → b ≡ a → Gives r a → GivesOrFails r b
-gives_or_fails (Ok c) a b s h = h ∙ sym s
-gives_or_fails (Err Memory) a b s h = tt
-gives_or_fails (Err Io) a b s h = tt
-gives_or_fails (Err e) a b s h = h ∙ sym s
+gives_or_fails : (m : Type 0) (r a b : Result BlockParts Error) → b ≡ a → Gives r a → GivesOrFails m r b
+gives_or_fails m (Ok c) a b s h = h ∙ sym s
+gives_or_fails m (Err Memory) a b s h = tt
+gives_or_fails m (Err Io) a b s h = λ _. s ∙ sym h
+gives_or_fails m (Err e) a b s h = h ∙ sym s
 
-pub file_read : (hash128 : List ℕ → ℕ) (m : Type 0) (r : Result BlockParts Error) (found : List ℕ) (left : Option (List ℕ)) (offset size : ℕ) (bytes : List ℕ) → ReadsAllocating m (Ok found) left (bytes_at size (drop offset bytes)) → Gives r (frame_in hash128 found) → GivesOrFails r (frame_in_file hash128 offset size bytes)
+pub file_read : (hash128 : List ℕ → ℕ) (m n : Type 0) (r : Result BlockParts Error) (found : List ℕ) (left : Option (List ℕ)) (offset size : ℕ) (bytes : List ℕ) → ReadsAllocating n (Ok found) left (bytes_at size (drop offset bytes)) → Gives r (frame_in hash128 found) → GivesOrFails m r (frame_in_file hash128 offset size bytes)
 unfolding frame_in_file
-file_read hash128 m r found left offset size bytes h g =
-    gives_or_fails r (frame_in hash128 found) _ (ap (λ q. q >>= (λ (x : List ℕ × List ℕ). frame_in hash128 x.0)) h.2) g
+file_read hash128 m n r found left offset size bytes h g =
+    gives_or_fails m r (frame_in hash128 found) _ (ap (λ q. q >>= (λ (x : List ℕ × List ℕ). frame_in hash128 x.0)) h.2) g
 
 -- a frame of so many bytes has that payload
 pub found_size : (hash128 : List ℕ → ℕ) (r : Result BlockParts Error) (bytes : List ℕ) (size : ℕ) → length bytes ≡ size → IfOk r (λ b. (bytes ≡ frame hash128 b.header.block_type b.payload) × (b ≡ block_for hash128 b.header.block_type b.payload)) → IfOk r (λ b. 33 + length b.payload ≡ size)
@@ -112,3 +115,8 @@ checked_own hash128 h payload (Ok b) equal len s =
     let found = block_of_takes hash128 h payload b (sym s) in
     let P : BlockParts → Type 0 = λ c. c ≡ block_for hash128 c.header.block_type c.payload in
     subst P (found.1) (block_for_lem hash128 (record { header = h; payload = payload }) (record { equal = equal; len = len; sum = found.0 }))
+
+-- what holds of all bytes wherever an answer is Ok holds of these
+pub cells_if_ok : {A : Type 0} (P Q : List ℕ → Type 0) (r : Result A Error) → OnOk r ((bytes : List ℕ) → P bytes → Q bytes) → (bytes : List ℕ) → P bytes → IfOk r (λ _. Q bytes)
+cells_if_ok P Q (Ok x) h bytes p = h bytes p
+cells_if_ok P Q (Err e) h bytes p = tt

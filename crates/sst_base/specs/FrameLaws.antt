@@ -1,9 +1,10 @@
 -- Laws of frames: what was written is read again, whatever follows, and what is read was written so.
-use Rattle.std.proofs.Common.{◌≡◌, ℕ, ◌+◌, ◌≤◌, ◌<◌, ◌^◌, List, [], ◌++◌, length, refl, arith, sym, ◌∙◌, ap, subst, Ok, true, false, Bool, nat_eq, nat_le, ◌&&◌, length-append, append_assoc}
+use Rattle.std.proofs.Common.{◌≡◌, ℕ, ◌+◌, ◌≤◌, ◌<◌, ◌^◌, List, [], ◌++◌, length, take, drop, refl, arith, sym, ◌∙◌, ap, subst, Ok, true, false, Bool, nat_eq, nat_le, ◌&&◌, length-append, append_assoc}
 use Rattle.std.proofs.lemmas.Bool.{eqb-true, eq-eqb, le-leb}
 use Rattle.std.proofs.lemmas.List.{append-nil}
 use Rattle.sst_base.specs.Bytes.{IsBytes}
 use Rattle.sst_base.specs.Block.{BlockParts}
+use Rattle.sst_base.specs.BytesLaws.{IsBytes-take, IsBytes-drop}
 use Rattle.sst_base.specs.Header.{header_front, header, IsHeader, bytes_at, header_at}
 use Rattle.sst_base.specs.HeaderLaws.{bind_ok, guard_ok, bytes_at-append, bytes_at_takes, header_at-header, header_at_takes}
 use Rattle.sst_base.specs.Frame.{header_for, block_for, frame, demand, block_of, block_at, frame_at, has_length, frame_in}
@@ -102,7 +103,7 @@ frame_of_own hash128 b h bytes rest same own e =
     ∙ sym (append_assoc (header hash128 (header_for hash128 b.header.block_type b.payload)) b.payload rest)
 
 -- what is read was written so
-pub frame_at_takes : (hash128 : List ℕ → ℕ) (bytes : List ℕ) (b : BlockParts) (rest : List ℕ) → IsBytes bytes → frame_at hash128 bytes ≡ Ok (b, rest) → (bytes ≡ frame hash128 b.header.block_type b.payload ++ rest) × (b ≡ block_for hash128 b.header.block_type b.payload) × (length b.payload < 2 ^ 32)
+pub frame_at_takes : (hash128 : List ℕ → ℕ) (bytes : List ℕ) (b : BlockParts) (rest : List ℕ) → IsBytes (take 28 (drop 5 bytes)) → frame_at hash128 bytes ≡ Ok (b, rest) → (bytes ≡ frame hash128 b.header.block_type b.payload ++ rest) × (b ≡ block_for hash128 b.header.block_type b.payload) × (length b.payload < 2 ^ 32)
 unfolding frame_at
 frame_at_takes hash128 bytes b rest small e =
     let h = bind_ok (header_at hash128 bytes) _ (b, rest) e in
@@ -120,7 +121,7 @@ unfolding frame_in
 frame_in_takes hash128 bytes b small e =
     let d = bind_ok (demand (nat_le 33 (length bytes)) Truncated) _ b e in
     let h = bind_ok (header_at hash128 bytes) _ b d.2 in
-    let head = header_at_takes hash128 bytes h.0.0 h.0.1 small h.1 in
+    let head = header_at_takes hash128 bytes h.0.0 h.0.1 (IsBytes-take 28 (drop 5 bytes) (IsBytes-drop 5 bytes small)) h.1 in
     let l = bind_ok (demand (has_length h.0.0 (length h.0.1)) LengthMismatch) _ b h.2 in
     let lengths = guard_ok (has_length h.0.0 (length h.0.1)) tt l.0 LengthMismatch l.1 in
     let both = and_parts (nat_eq h.0.0.data_length h.0.0.uncompressed_length) (nat_eq h.0.0.data_length (length h.0.1)) lengths.0 in

@@ -2,6 +2,7 @@
 use Rattle.std.proofs.Common.{◌≡◌, ℕ, ◌%◌, ◌≤◌, ◌^◌, inl, inr, List, [], ◌∷◌, ◌++◌, length, get_or, take, drop, refl, arith, sym, ◌∙◌, ap, subst, Result, Ok, Err, Bool, true, false, nat_eq, ltb, eqb, length-append, length-drop, append_assoc, if◌then◌else◌}
 use Rattle.std.proofs.lemmas.Bool.Decides.{nat_tests}
 use Rattle.std.proofs.lemmas.Bool.{eqb-true, ltb-false}
+use lib.Seq.{take-append_seam}
 use Rattle.std.proofs.lemmas.List.{take_at, drop_at, take-append-drop, length-take-le, take_all, append-nil}
 use Rattle.std.proofs.lemmas.Nat.{mod_below}
 use Rattle.std.specs.Cmp.Lexicographic.{pointwise, same_text}
@@ -181,7 +182,7 @@ IsHeader-header_with t fields b = record {
 }
 
 -- what is decoded was encoded so
-pub header_at_takes : (hash128 : List ℕ → ℕ) (bytes : List ℕ) (h : Header) (rest : List ℕ) → IsBytes bytes → header_at hash128 bytes ≡ Ok (h, rest) → IsHeader h × (bytes ≡ header hash128 h ++ rest)
+pub header_at_takes : (hash128 : List ℕ → ℕ) (bytes : List ℕ) (h : Header) (rest : List ℕ) → IsBytes (take 28 (drop 5 bytes)) → header_at hash128 bytes ≡ Ok (h, rest) → IsHeader h × (bytes ≡ header hash128 h ++ rest)
 unfolding header_at
 header_at_takes hash128 bytes h rest small e =
     let m = bind_ok (magic_at bytes) _ _ e in
@@ -192,7 +193,9 @@ header_at_takes hash128 bytes h rest small e =
     let cut = bytes_at_takes 28 t.0.1 f.0 f.1 in
     let all : bytes ≡ magic ++ (block_type_byte t.0.0 ∷ (tail ++ f.0.1)) =
     magic_at_takes bytes m.0 m.1 ∙ ap (λ ys. magic ++ ys) (block_type_at_takes m.0.1 t.0 t.1 ∙ ap (λ ys. block_type_byte t.0.0 ∷ ys) cut.0) in
-    let b : IsBytes tail = IsBytes-front tail f.0.1 (IsBytes-back (magic ++ (block_type_byte t.0.0 ∷ [])) (tail ++ f.0.1) (subst IsBytes all small)) in
+    let whole_tail : take 28 (drop 5 bytes) ≡ tail =
+    ap (λ ys. take 28 (drop 5 ys)) all ∙ ap (λ n. take n (tail ++ f.0.1)) (sym cut.1) ∙ take-append_seam tail f.0.1 in
+    let b : IsBytes tail = subst IsBytes whole_tail small in
     let found = header_of_takes hash128 t.0.0 (take 24 tail) (little_number 4 (drop 24 tail)) o.0 o.1 in
     let l : length (take 24 tail) ≡ 24 = length-take-le 24 tail (omega (arith, cut.1)) in
     let sum : little_bytes 4 (hash128 (magic ++ (block_type_byte t.0.0 ∷ take 24 tail)) % 2 ^ 32) ≡ drop 24 tail =

@@ -20,8 +20,8 @@ abbrev pub Gives : {A : Type 0} → Result A Error → Result A Error → Type 0
 Gives (Err Memory) answer = ⊤
 Gives r answer = r ≡ answer
 
--- an answer is this one, unless an allocation or the reader failed
-abbrev pub GivesOrFails : {A : Type 0} → Result A Error → Result A Error → Type 0
-GivesOrFails (Err Memory) answer = ⊤
-GivesOrFails (Err Io) answer = ⊤
-GivesOrFails r answer = r ≡ answer
+-- an answer is this one, unless an allocation failed, or a reader that isn't over memory
+abbrev pub GivesOrFails : {A : Type 0} → Type 0 → Result A Error → Result A Error → Type 0
+GivesOrFails over_memory (Err Memory) answer = ⊤
+GivesOrFails over_memory (Err Io) answer = over_memory → answer ≡ Err Io
+GivesOrFails over_memory r answer = r ≡ answer

@@ -18,7 +18,6 @@ pub mod HashLaws
 pub mod Streams
 pub mod Block
 pub mod Inputs
-pub mod InputLaws
 pub mod Frame
 pub mod BlockHandle
 pub mod OrderLaws

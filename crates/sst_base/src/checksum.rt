@@ -186,7 +186,9 @@ impl<W: Write, H: BlockHash> Write for ChecksummedWriter<W, H> {
             (Appends (W.contents self.old.inner) (W.contents self.new.inner) buf.now) }
         ensures accepted { OnOk result (self.new.passed ≡ self.old.passed ++ buf.now) }
         ensures cut_short { OnErr result
-            ((n : ℕ) × (self.new.passed ≡ self.old.passed ++ take n buf.now)) }
+            ((n : ℕ)
+            × Appends (W.contents self.old.inner) (W.contents self.new.inner) (take n buf.now)
+            × (self.new.passed ≡ self.old.passed ++ take n buf.now)) }
     {
         let mut at = 0usize;
         for _ in 0..u64::MAX {
@@ -284,6 +286,8 @@ impl<R: Input, H: BlockHash> Input for ChecksummedReader<R, H> {
 
     ghost is_memory = { λ r. R.is_memory r.inner };
 
+    ghost whole = { λ r. R.whole r.inner };
+
     fn fill(&mut self, buf: &mut [u8]) -> Result<()>
         ensures ok { OnOk result
             (Consumes (R.remaining self.old.inner) (R.remaining self.new.inner) buf.new) }
@@ -291,6 +295,7 @@ impl<R: Input, H: BlockHash> Input for ChecksummedReader<R, H> {
         ensures end { OnErr result (R.is_memory self.old.inner
             → IfSome (R.remaining self.old.inner) (λ bytes. length bytes < length buf.old)) }
         ensures kept { R.is_memory self.old.inner → R.is_memory self.new.inner }
+        ensures whole { R.whole self.new.inner ≡ R.whole self.old.inner }
         ensures given { OnOk result (self.new.passed ≡ self.old.passed ++ buf.new) }
         ensures refused { OnErr result (self.new.passed ≡ self.old.passed) }
     {

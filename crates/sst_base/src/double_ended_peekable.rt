@@ -1,6 +1,6 @@
 //! Peeking at both ends of an iterator.
 ghost use Rattle.std.specs.Prelude.{◌≡◌, ◌⊎◌, List, [], ◌∷◌, ◌++◌, Option};
-ghost use Rattle.std.specs.Prelude.{Some, option_map};
+ghost use Rattle.std.specs.Prelude.{Some, None, option_map, refl};
 ghost use Rattle.std.specs.Prelude.{IsNone, IfSome, IfNone, slice_get, true, false};
 ghost use Rattle.std.specs.Iterator.{YieldsFirstBy, YieldsLastBy, item_count};
 ghost use Rattle.std.specs.List.{last_or};
@@ -12,7 +12,8 @@ ghost use Rattle.std.specs.Borrow.{sem, Lends};
 ghost use Rattle.sst_base.specs.contracts.double_ended_peekable.DoubleEndedPeekable.{the_row};
 ghost use Rattle.sst_base.specs.ListIterators.{slice_gives_first, slice_gives_last};
 ghost use Rattle.sst_base.specs.ListIterators.{vec_gives_first, vec_gives_last};
-ghost use Rattle.sst_base.specs.Peekable.{peekable_items, inner_of, with_inner, KeepsItems};
+ghost use Rattle.sst_base.specs.Peekable.{peekable_items, inner_of, peeked_front, peeked_back};
+ghost use Rattle.sst_base.specs.Peekable.{with_inner, KeepsItems, LeavesBack, LeavesFront};
 
 use std::alloc::Allocator;
 use std::{slice, vec};
@@ -23,8 +24,8 @@ pub trait ListIterator: DoubleEndedIterator {
     /// What clauses see of an item.
     type Value;
 
-    // the value of an item
-    ghost value_of: { Self.Item → Self.Value };
+    // the value of an item of the iterator
+    ghost value_of: { Self → Self.Item → Self.Value };
 
     // the values of the items left, front to back
     ghost items: { Self → List Self.Value };
@@ -37,18 +38,26 @@ pub trait ListIterator: DoubleEndedIterator {
 
     // `next` takes the first item, or there is none
     ghost gives_first: { (s : Self) (r : Option Self.Item) (t : Self)
-        → Self.next_gives s r t → YieldsFirstBy value_of items s r t };
+        → Self.next_gives s r t → YieldsFirstBy (value_of s) items s r t };
 
     // `next_back` takes the last item, or there is none
     ghost gives_last: { (s : Self) (r : Option Self.Item) (t : Self)
-        → Self.next_back_gives s r t → YieldsLastBy value_of items s r t };
+        → Self.next_back_gives s r t → YieldsLastBy (value_of s) items s r t };
+
+    // the value of an item stays as the iterator moves
+    ghost keeps_values: { (s : Self) (r : Option Self.Item) (t : Self)
+        → Self.next_gives s r t → value_of t ≡ value_of s };
+
+    // also at the back
+    ghost keeps_values_back: { (s : Self) (r : Option Self.Item) (t : Self)
+        → Self.next_back_gives s r t → value_of t ≡ value_of s };
 }
 
 /// An iterator over a slice. Clauses see the elements behind the references.
 impl<'a, T> ListIterator for slice::Iter<'a, T> {
     type Value = T;
 
-    ghost value_of = { λ x. x.now };
+    ghost value_of = { λ _ x. x.now };
 
     ghost items = { iter_rest };
 
@@ -59,13 +68,17 @@ impl<'a, T> ListIterator for slice::Iter<'a, T> {
     ghost gives_first = { slice_gives_first };
 
     ghost gives_last = { slice_gives_last };
+
+    ghost keeps_values = { λ _ _ _ _. refl };
+
+    ghost keeps_values_back = { λ _ _ _ _. refl };
 }
 
 /// An iterator that owns the elements of a vector.
 impl<T: Drop, A: Allocator> ListIterator for vec::IntoIter<T, A> {
     type Value = T;
 
-    ghost value_of = { λ x. x };
+    ghost value_of = { λ _ x. x };
 
     ghost items = { into_iter_items };
 
@@ -76,13 +89,20 @@ impl<T: Drop, A: Allocator> ListIterator for vec::IntoIter<T, A> {
     ghost gives_first = { vec_gives_first };
 
     ghost gives_last = { vec_gives_last };
+
+    ghost keeps_values = { λ _ _ _ _. refl };
+
+    ghost keeps_values_back = { λ _ _ _ _. refl };
 }
 
 /// Makes a [`DoubleEndedPeekable`] of each [`ListIterator`].
 pub trait DoubleEndedPeekableExt: ListIterator {
     /// Wraps the iterator, with nothing peeked.
     fn double_ended_peekable(self) -> DoubleEndedPeekable<Self::Item, Self>
-        ensures { peekable_items Self.value_of Self.items result ≡ Self.items self };
+        ensures items { peekable_items Self.value_of Self.items result ≡ Self.items self }
+        ensures inner { inner_of result ≡ self }
+        ensures front { peeked_front result ≡ None }
+        ensures back { peeked_back result ≡ None };
 }
 
 impl<I: ListIterator<Item: Drop>> DoubleEndedPeekableExt for I {
@@ -97,7 +117,8 @@ impl<I: ListIterator<Item: Drop>> DoubleEndedPeekableExt for I {
 
 /// An iterator whose first and last item can be looked at before they are taken. Clauses see the
 /// items left: the peeked front item, if any, those of the inner iterator, and the peeked back
-/// item, if any. That the inner iterator ended is not remembered.
+/// item, if any. No item is taken from the inner iterator before it is asked for. That the inner
+/// iterator ended is not remembered.
 #[derive(Drop)]
 pub struct DoubleEndedPeekable<T, I> {
     iter: I,
@@ -117,10 +138,10 @@ impl<T: Drop, I: ListIterator<Item = T>> DoubleEndedPeekable<T, I> {
 
     /// Returns the first item, which stays.
     pub fn peek(&mut self) -> Option<&T>
-        ensures first { option_map I.value_of (option_copied result)
+        ensures first { option_map (I.value_of (inner_of self.old)) (option_copied result)
             ≡ slice_get (peekable_items I.value_of I.items self.old) 0 }
         ensures* same { sem 𝓛 (KeepsItems (the_row T.row I.row)
-            (peekable_items I.value_of I.items) self.entry) }
+            (peekable_items I.value_of I.items) peeked_back self.entry) }
     {
         self.fill_front();
         self.first_peeked()
@@ -128,10 +149,10 @@ impl<T: Drop, I: ListIterator<Item = T>> DoubleEndedPeekable<T, I> {
 
     /// Returns the last item, which stays.
     pub fn peek_back(&mut self) -> Option<&T>
-        ensures last { option_map I.value_of (option_copied result)
+        ensures last { option_map (I.value_of (inner_of self.old)) (option_copied result)
             ≡ last_or None (peekable_items I.value_of I.items self.old) }
         ensures* same { sem 𝓛 (KeepsItems (the_row T.row I.row)
-            (peekable_items I.value_of I.items) self.entry) }
+            (peekable_items I.value_of I.items) peeked_front self.entry) }
     {
         self.fill_back();
         self.last_peeked()
@@ -141,14 +162,16 @@ impl<T: Drop, I: ListIterator<Item = T>> DoubleEndedPeekable<T, I> {
     pub fn next_if<F: FnOnce(&T) -> bool>(&mut self, func: F) -> Option<T>
         requires { F.IsAlwaysCallable func }
         ensures taken { IfSome result (λ x. peekable_items I.value_of I.items self.old
-            ≡ I.value_of x ∷ peekable_items I.value_of I.items self.new) }
+            ≡ I.value_of (inner_of self.old) x ∷ peekable_items I.value_of I.items self.new) }
         ensures accepted { IfSome result (λ x. FnOnceReturnsAt F.FnOnce func x true) }
         ensures same { IfNone result (peekable_items I.value_of I.items self.new
             ≡ peekable_items I.value_of I.items self.old) }
         ensures refused { IfNone result ((peekable_items I.value_of I.items self.old ≡ [])
             ⊎ ((x : T)
-            × (slice_get (peekable_items I.value_of I.items self.old) 0 ≡ Some (I.value_of x))
+            × (slice_get (peekable_items I.value_of I.items self.old) 0
+            ≡ Some (I.value_of (inner_of self.old) x))
             × FnOnceReturnsAt F.FnOnce func x false)) }
+        ensures back { LeavesBack I.items self.old self.new }
     {
         let item = self.take_first()?;
         if func(&item) {
@@ -163,6 +186,8 @@ impl<T: Drop, I: ListIterator<Item = T>> DoubleEndedPeekable<T, I> {
         ensures same { peekable_items I.value_of I.items self.new
             ≡ peekable_items I.value_of I.items self.old }
         ensures filled { IsNone self.new.front → I.items self.new.iter ≡ [] }
+        ensures values { I.value_of self.new.iter ≡ I.value_of self.old.iter }
+        ensures back { self.new.back ≡ self.old.back }
     {
         if self.front.is_none() {
             self.front = self.iter.next();
@@ -174,6 +199,8 @@ impl<T: Drop, I: ListIterator<Item = T>> DoubleEndedPeekable<T, I> {
         ensures same { peekable_items I.value_of I.items self.new
             ≡ peekable_items I.value_of I.items self.old }
         ensures filled { IsNone self.new.back → I.items self.new.iter ≡ [] }
+        ensures values { I.value_of self.new.iter ≡ I.value_of self.old.iter }
+        ensures front { self.new.front ≡ self.old.front }
     {
         if self.back.is_none() {
             self.back = self.iter.next_back();
@@ -183,7 +210,7 @@ impl<T: Drop, I: ListIterator<Item = T>> DoubleEndedPeekable<T, I> {
     // The first item, once the front is filled.
     fn first_peeked(&self) -> Option<&T>
         requires { IsNone self.now.front → I.items self.now.iter ≡ [] }
-        ensures { option_map I.value_of (option_copied result)
+        ensures { option_map (I.value_of (inner_of self.now)) (option_copied result)
             ≡ slice_get (peekable_items I.value_of I.items self.now) 0 }
     {
         match &self.front {
@@ -195,7 +222,7 @@ impl<T: Drop, I: ListIterator<Item = T>> DoubleEndedPeekable<T, I> {
     // The last item, once the back is filled.
     fn last_peeked(&self) -> Option<&T>
         requires { IsNone self.now.back → I.items self.now.iter ≡ [] }
-        ensures { option_map I.value_of (option_copied result)
+        ensures { option_map (I.value_of (inner_of self.now)) (option_copied result)
             ≡ last_or None (peekable_items I.value_of I.items self.now) }
     {
         match &self.back {
@@ -206,9 +233,11 @@ impl<T: Drop, I: ListIterator<Item = T>> DoubleEndedPeekable<T, I> {
 
     // Takes the first item, after which none is peeked at the front.
     fn take_first(&mut self) -> Option<T>
-        ensures first { YieldsFirstBy I.value_of (peekable_items I.value_of I.items)
-            self.old result self.new }
-        ensures unpeeked { IsNone self.new.front }
+        ensures first { YieldsFirstBy (I.value_of self.old.iter)
+            (peekable_items I.value_of I.items) self.old result self.new }
+        ensures unpeeked { self.new.front ≡ None }
+        ensures values { I.value_of self.new.iter ≡ I.value_of self.old.iter }
+        ensures back { LeavesBack I.items self.old self.new }
     {
         if let Some(item) = self.front.take() {
             return Some(item);
@@ -218,26 +247,15 @@ impl<T: Drop, I: ListIterator<Item = T>> DoubleEndedPeekable<T, I> {
             None => self.back.take(),
         }
     }
-}
 
-/// Takes items from the front.
-impl<T: Drop, I: ListIterator<Item = T>> Iterator for DoubleEndedPeekable<T, I> {
-    type Item = T;
-
-    ghost next_gives = { YieldsFirstBy I.value_of (peekable_items I.value_of I.items) };
-
-    ghost remaining = { item_count (peekable_items I.value_of I.items) };
-
-    fn next(&mut self) -> Option<T> {
-        self.take_first()
-    }
-}
-
-/// Takes items from the back.
-impl<T: Drop, I: ListIterator<Item = T>> DoubleEndedIterator for DoubleEndedPeekable<T, I> {
-    ghost next_back_gives = { YieldsLastBy I.value_of (peekable_items I.value_of I.items) };
-
-    fn next_back(&mut self) -> Option<T> {
+    // Takes the last item, after which none is peeked at the back.
+    fn take_last(&mut self) -> Option<T>
+        ensures last { YieldsLastBy (I.value_of self.old.iter) (peekable_items I.value_of I.items)
+            self.old result self.new }
+        ensures unpeeked { self.new.back ≡ None }
+        ensures values { I.value_of self.new.iter ≡ I.value_of self.old.iter }
+        ensures front { LeavesFront I.items self.old self.new }
+    {
         if let Some(item) = self.back.take() {
             return Some(item);
         }
@@ -248,11 +266,39 @@ impl<T: Drop, I: ListIterator<Item = T>> DoubleEndedIterator for DoubleEndedPeek
     }
 }
 
+/// Takes items from the front. The peeked back item stays, unless it is the last one left.
+impl<T: Drop, I: ListIterator<Item = T>> Iterator for DoubleEndedPeekable<T, I> {
+    type Item = T;
+
+    ghost next_gives = { λ s r t. YieldsFirstBy (I.value_of (inner_of s))
+        (peekable_items I.value_of I.items) s r t
+        × (I.value_of (inner_of t) ≡ I.value_of (inner_of s))
+        × (peeked_front t ≡ None) × LeavesBack I.items s t };
+
+    ghost remaining = { item_count (peekable_items I.value_of I.items) };
+
+    fn next(&mut self) -> Option<T> {
+        self.take_first()
+    }
+}
+
+/// Takes items from the back. The peeked front item stays, unless it is the last one left.
+impl<T: Drop, I: ListIterator<Item = T>> DoubleEndedIterator for DoubleEndedPeekable<T, I> {
+    ghost next_back_gives = { λ s r t. YieldsLastBy (I.value_of (inner_of s))
+        (peekable_items I.value_of I.items) s r t
+        × (I.value_of (inner_of t) ≡ I.value_of (inner_of s))
+        × (peeked_back t ≡ None) × LeavesFront I.items s t };
+
+    fn next_back(&mut self) -> Option<T> {
+        self.take_last()
+    }
+}
+
 /// The items left, so that a peekable iterator may be wrapped again.
 impl<T: Drop, I: ListIterator<Item = T>> ListIterator for DoubleEndedPeekable<T, I> {
     type Value = I::Value;
 
-    ghost value_of = { I.value_of };
+    ghost value_of = { λ p. I.value_of (inner_of p) };
 
     ghost items = { peekable_items I.value_of I.items };
 
@@ -260,7 +306,11 @@ impl<T: Drop, I: ListIterator<Item = T>> ListIterator for DoubleEndedPeekable<T,
 
     ghost may_next_back = { λ _. tt };
 
-    ghost gives_first = { λ s r t h. h };
+    ghost gives_first = { λ s r t h. h.0 };
 
-    ghost gives_last = { λ s r t h. h };
+    ghost gives_last = { λ s r t h. h.0 };
+
+    ghost keeps_values = { λ s r t h. h.1 };
+
+    ghost keeps_values_back = { λ s r t h. h.1 };
 }

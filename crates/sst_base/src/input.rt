@@ -1,16 +1,17 @@
 //! Readers whose end over memory is known exactly.
 ghost use Rattle.std.specs.Prelude.{◌≡◌, ◌<◌, ℕ, List, length, drop, Some, IfSome};
-ghost use Rattle.std.specs.Prelude.{OnOk, OnErr};
+ghost use Rattle.std.specs.Prelude.{None, OnOk, OnErr, IfOk, IsOk, Option};
 ghost use Rattle.std.specs.Prelude.{IsOkUnless};
-ghost use Rattle.std.specs.Io.Cursor.{cursor_position, cursor_inner};
+ghost use Rattle.std.specs.Io.Cursor.{cursor_inner};
 ghost use Rattle.std.specs.Io.KnownBytes.{Consumes};
+ghost use Rattle.sst_base.specs.Bytes.{IsBytes};
 ghost use Rattle.sst_base.specs.Header.{bytes_at};
-ghost use Rattle.sst_base.specs.InputLaws.{left_from};
 ghost use Rattle.sst_base.specs.Inputs.{Reads};
 
 use crate::error::{Error, Result};
+use std::alloc::Allocator;
 use std::fs::File;
-use std::io::{AsBytes, Cursor, Read, Seek};
+use std::io::{AsBytes, BufReader, Cursor, Read, Seek, SeekFrom, Stdin, StdinLock};
 
 /// A reader that fills whole buffers.
 ///
@@ -18,6 +19,9 @@ use std::io::{AsBytes, Cursor, Read, Seek};
 pub trait Input: Read {
     // a reader over memory
     ghost is_memory: { Self → Type 0 } = { λ _. ⊥ };
+
+    // all bytes from position 0 on, also those read already, where they are known
+    ghost whole: { Self → Option (List ℕ) } = { λ _. None };
 
     /// Fills the buffer with the next bytes.
     ///
@@ -30,7 +34,8 @@ pub trait Input: Read {
         ensures io { IsOkUnless result Error.Io }
         ensures end { OnErr result (is_memory self.old
             → IfSome (Self.remaining self.old) (λ bytes. length bytes < length buf.old)) }
-        ensures kept { is_memory self.old → is_memory self.new };
+        ensures kept { is_memory self.old → is_memory self.new }
+        ensures whole { whole self.new ≡ whole self.old };
 }
 
 impl Input for &[u8] {
@@ -51,6 +56,8 @@ impl Input for &[u8] {
 impl<R: Input> Input for &mut R {
     ghost is_memory = { λ r. R.is_memory r.now };
 
+    ghost whole = { λ r. R.whole r.now };
+
     fn fill(&mut self, buf: &mut [u8]) -> Result<()> {
         Input::fill(&mut **self, buf)
     }
@@ -62,31 +69,123 @@ impl Input for File {
     }
 }
 
-impl<T: AsBytes> Input for Cursor<T> {
+impl Input for Stdin {
     fn fill(&mut self, buf: &mut [u8]) -> Result<()> {
         Ok(self.read_exact(buf)?)
     }
 }
 
+impl Input for StdinLock<'_> {
+    fn fill(&mut self, buf: &mut [u8]) -> Result<()> {
+        Ok(self.read_exact(buf)?)
+    }
+}
+
+impl<R: Read, A: Allocator> Input for BufReader<R, A> {
+    fn fill(&mut self, buf: &mut [u8]) -> Result<()> {
+        Ok(self.read_exact(buf)?)
+    }
+}
+
+/// A reader over memory.
+impl<T: AsBytes> Input for Cursor<T> {
+    ghost is_memory = { λ _. Unit {0} };
+
+    ghost whole = { λ c. T.bytes (cursor_inner c) };
+
+    fn fill(&mut self, buf: &mut [u8]) -> Result<()> {
+        let rest = bytes_from(self.get_ref().as_byte_slice(), self.position());
+        if rest.len() < buf.len() {
+            return Err(Error::Io);
+        }
+        let (front, _) = rest.split_at(buf.len());
+        buf.copy_from_slice(front);
+        self.set_position(self.position() + buf.len() as u64);
+        Ok(())
+    }
+}
+
+// The bytes from a position on: none where it is behind the end.
+fn bytes_from(bytes: &[u8], position: u64) -> &[u8]
+    ensures { result.now ≡ drop position bytes.now }
+{
+    let start = bytes.len().min(position as usize);
+    let (_, rest) = bytes.split_at(start);
+    rest
+}
+
 /// A reader that can be moved, as a file.
 pub trait SeekInput: Input + Seek {
-    // where position and bytes are known, the bytes from the position on are left
-    ghost left_at_position: { (s : Self) (at : ℕ) (bytes : List ℕ)
-        → Self.stream_position s ≡ Some at → Self.stream_bytes s ≡ Some bytes
-        → Self.remaining s ≡ Some (drop at bytes) };
+    /// Moves to an offset from the beginning.
+    ///
+    /// # Errors
+    ///
+    /// `Error::Io` if the reader fails, which one over memory never does.
+    fn move_to(&mut self, offset: u64) -> Result<()>
+        ensures left { OnOk result (IfSome (Self.whole self.old)
+            (λ bytes. Self.remaining self.new ≡ Some (drop offset bytes))) }
+        ensures whole { Self.whole self.new ≡ Self.whole self.old }
+        ensures cells { OnOk result (IfSome (Self.whole self.old) IsBytes) }
+        ensures io { IsOkUnless result Error.Io }
+        ensures memory { Self.is_memory self.old → IsOk result }
+        ensures kept { Self.is_memory self.old → Self.is_memory self.new };
+
+    /// Returns the length in bytes. The reader may then be anywhere.
+    ///
+    /// # Errors
+    ///
+    /// `Error::Io` if the reader fails, which one over memory never does.
+    fn stream_len(&mut self) -> Result<u64>
+        ensures len { IfOk result (λ len. IfSome (Self.whole self.old)
+            (λ bytes. len ≡ length bytes)) }
+        ensures whole { Self.whole self.new ≡ Self.whole self.old }
+        ensures io { IsOkUnless result Error.Io }
+        ensures memory { Self.is_memory self.old → IsOk result }
+        ensures kept { Self.is_memory self.old → Self.is_memory self.new };
+
+    // where position and bytes are known, so is the whole
+    ghost whole_is_known: { (s : Self) (at : ℕ) (bytes : List ℕ)
+        → Self.Seek.stream_position s ≡ Some at → Self.Seek.stream_bytes s ≡ Some bytes
+        → Self.Input.whole s ≡ Some bytes };
 }
 
 impl<R: SeekInput> SeekInput for &mut R {
-    ghost left_at_position = { λ r at bytes. R.left_at_position r.now at bytes };
+    ghost whole_is_known = { λ r at bytes. R.whole_is_known r.now at bytes };
+
+    fn move_to(&mut self, offset: u64) -> Result<()> {
+        SeekInput::move_to(&mut **self, offset)
+    }
+
+    fn stream_len(&mut self) -> Result<u64> {
+        SeekInput::stream_len(&mut **self)
+    }
 }
 
 impl SeekInput for File {
-    ghost left_at_position = { λ s at bytes position. Prim.cc };
+    ghost whole_is_known = { λ s at bytes position. Prim.cc };
+
+    fn move_to(&mut self, offset: u64) -> Result<()> {
+        self.seek(SeekFrom::Start(offset))?;
+        Ok(())
+    }
+
+    fn stream_len(&mut self) -> Result<u64> {
+        Ok(self.seek(SeekFrom::End(0))?)
+    }
 }
 
 impl<T: AsBytes> SeekInput for Cursor<T> {
-    ghost left_at_position = { λ c at bytes.
-        left_from (cursor_position c) at (T.bytes (cursor_inner c)) bytes };
+    ghost whole_is_known = { λ c at bytes position known. known };
+
+    fn move_to(&mut self, offset: u64) -> Result<()> {
+        note_bytes(self.get_ref().as_byte_slice());
+        self.set_position(offset);
+        Ok(())
+    }
+
+    fn stream_len(&mut self) -> Result<u64> {
+        Ok(self.get_ref().as_byte_slice().len() as u64)
+    }
 }
 
 // The next bytes of a reader.
@@ -98,4 +197,12 @@ pub(crate) fn array_from<const N: usize, R: Input>(reader: &mut R) -> Result<[u8
     let mut bytes = [0u8; N];
     reader.fill(&mut bytes)?;
     Ok(bytes)
+}
+
+/// Tells a proof that the cells of a slice are bytes. Does nothing.
+#[inline(always)]
+pub(crate) fn note_bytes(bytes: &[u8])
+    ensures { IsBytes bytes.now }
+{
+    let _ = bytes;
 }

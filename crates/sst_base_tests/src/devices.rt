@@ -53,12 +53,13 @@ impl Input for SlowReader<'_> {
     }
 }
 
-/// Takes a byte a call. The call `fails_at` fails.
+/// Takes a byte a call, and counts the flushes. The call `fails_at` fails.
 #[derive(Drop)]
 pub struct SlowWriter {
     pub taken: Vec<u8>,
     pub calls: usize,
     pub fails_at: usize,
+    pub flushes: usize,
 }
 
 impl SlowWriter {
@@ -68,6 +69,7 @@ impl SlowWriter {
             taken,
             calls: 0,
             fails_at,
+            flushes: 0,
         }
     }
 }
@@ -88,6 +90,7 @@ impl Write for SlowWriter {
     }
 
     fn flush(&mut self) -> io::Result<()> {
+        self.flushes = self.flushes.wrapping_add(1);
         Ok(())
     }
 }

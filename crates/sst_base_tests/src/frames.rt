@@ -443,3 +443,16 @@ impl Row for Handle {
 fn handles_are_encoded_and_decoded(rt: HostRuntime) {
     check_rows(&rt, rt.alloc(), &HANDLES);
 }
+
+// Whether a stream that hashes flushes its writer, once.
+fn is_flushed(alloc: Global) -> bool {
+    let slow = SlowWriter::new(Vec::new(alloc), 3);
+    let mut writer: ChecksummedWriter<SlowWriter, ByteSum> = ChecksummedWriter::new(slow);
+    let is_ok = writer.flush().is_ok();
+    is_ok && writer.inner_mut().flushes == 1
+}
+
+#[test]
+fn a_flush_is_passed_on(rt: HostRuntime) {
+    assert!(rt; is_flushed(rt.alloc()));
+}

@@ -1,4 +1,5 @@
 // Peekable iterators: lists of steps against lists of answers.
+ghost use Rattle.std.specs.Prelude.{refl};
 ghost use Rattle.std.specs.Iterator.{YieldsFirst, YieldsLast, item_count};
 
 use crate::rows::{Row, check_rows};
@@ -38,7 +39,7 @@ impl DoubleEndedIterator for Queue {
 impl ListIterator for Queue {
     type Value = u8;
 
-    ghost value_of = { λ x. x };
+    ghost value_of = { λ _ x. x };
 
     ghost items = { λ q. q.items.items };
 
@@ -49,6 +50,10 @@ impl ListIterator for Queue {
     ghost gives_first = { λ s r t h. h };
 
     ghost gives_last = { λ s r t h. h };
+
+    ghost keeps_values = { λ s r t h. refl };
+
+    ghost keeps_values_back = { λ s r t h. refl };
 }
 
 /// An item that is a byte, or borrows one.

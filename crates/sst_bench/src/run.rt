@@ -50,6 +50,7 @@ fn written(
     cuts: &[usize],
     config: RunConfig,
 ) -> Option<(Vec<u8>, RunHandles)>
+    requires some { 1 ≤ length items.now }
     requires ordered { IsOrdered entries items.now }
     requires cuts { CutsFit 0 (length items.now) cuts.now }
     requires interval { 1 ≤ config.restart_interval }

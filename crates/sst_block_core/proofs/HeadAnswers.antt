@@ -1,5 +1,5 @@
 -- Where a predicate over heads turns.
-use Rattle.std.proofs.Common.{◌≡◌, ℕ, ◌-◌, ◌*◌, ◌<◌, ◌≤◌, inl, inr, Bool, true, false, List, length, sym, arith, Some}
+use Rattle.std.proofs.Common.{◌≡◌, ℕ, zero, suc, ◌-◌, ◌*◌, ◌<◌, ◌≤◌, inl, inr, Bool, true, false, List, length, sym, arith, Some}
 use Rattle.std.specs.Borrow.{Bor}
 use Rattle.std.specs.List.{slice_get}
 use Rattle.std.proofs.lemmas.Bool.{cases_lt, false≢true}
@@ -35,3 +35,8 @@ answered_head kind post r items j b h found is got = elim (slice_get_cases items
 
 pub times_upto : (j k n : ℕ) → j ≤ k → j * n ≤ k * n
 times_upto j k n h = mul-le j n k n h (omega arith)
+
+-- where there are items there is a head
+pub some_heads : (n count r : ℕ) → 0 < n → n ≤ count * r → 0 < count
+some_heads n zero r some all = omega arith
+some_heads n (suc count) r some all = omega arith

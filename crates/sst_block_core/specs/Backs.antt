@@ -37,9 +37,10 @@ pub record GivesStep {X : Type 0} (s t : Scan X) (answer : Answer X) (step : Win
   pub interval : t.interval ≡ s.interval
   pub step_is : ◌≡◌ {A = Window X × Answer X} (t.window, answer) step
 
--- A call of `next_back` is that step of the window. It counts an entry for an item, and those of the item's interval where
+-- A call of `next_back` is that step of the window, whose end lies within the list. It counts an entry for an item, and those of the item's interval where
 -- that ends with it.
 pub record GivesNextBack {X P : Type 0} (item_of : List ℕ → P → X) (is_found : List ℕ → P → Type 0) (s : Scan X) (r : Option P) (t : Scan X) : Type 0 where
+  pub within : s.window.hi ≤ length s.window.list
   pub payload : t.payload ≡ s.payload
   pub interval : t.interval ≡ s.interval
   pub step : ◌≡◌ {A = Window X × Answer X} (t.window, item (option_map (item_of s.payload) r)) (next_back s.window)

@@ -13,6 +13,7 @@ pub mod Digits
 pub mod Scan
 pub mod Intervals
 pub mod Landings
+pub mod ListSteps
 pub mod Backs
 pub mod Lookups
 pub mod Encoders

@@ -3,6 +3,7 @@ mod StandingForms
 mod BothEnds
 mod BackCosts
 mod OwnKeys
+mod OwnPrefixes
 mod EntryReads
 mod HandleReads
 mod OrderedSteps
@@ -11,6 +12,7 @@ mod LookupReads
 mod CheckTests
 mod Verdicts
 mod CheckAnswers
+mod Accepted
 mod Truncations
 mod ExactEntries
 mod ExactHandles

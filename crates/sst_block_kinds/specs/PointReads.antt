@@ -25,9 +25,27 @@ entries_most Nowhere interval = 0
 entries_most (Interval n) interval = interval
 entries_most Anywhere interval = interval + 1
 
+-- how many heads a point read looks at, at least: one where it searches over them
+abbrev pub heads_least : Lookup → ℕ
+heads_least Nowhere = 0
+heads_least (Interval n) = 0
+heads_least Anywhere = 1
+
+-- how many entries a point read decodes, at least: the head of the interval that it is sent to
+abbrev pub entries_least : Lookup → ℕ
+entries_least Nowhere = 0
+entries_least (Interval n) = 1
+entries_least Anywhere = 0
+
 -- the same for a key in a data block
 abbrev pub read_heads : (List ℕ → ℕ) → DataBlockParts → List ℕ → ℕ
 read_heads hash d key = heads_most (lookup hash d key) (head_count d.interval (length d.items))
 
 abbrev pub read_entries : (List ℕ → ℕ) → DataBlockParts → List ℕ → ℕ
 read_entries hash d key = entries_most (lookup hash d key) d.interval
+
+abbrev pub read_heads_least : (List ℕ → ℕ) → DataBlockParts → List ℕ → ℕ
+read_heads_least hash d key = heads_least (lookup hash d key)
+
+abbrev pub read_entries_least : (List ℕ → ℕ) → DataBlockParts → List ℕ → ℕ
+read_entries_least hash d key = entries_least (lookup hash d key)

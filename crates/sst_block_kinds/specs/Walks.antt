@@ -1,44 +1,65 @@
 -- What the answers to steps from both ends give together, and what steps from the back cost.
-use Rattle.std.specs.Prelude.{ℕ, zero, suc, ◌+◌, List, [], ◌∷◌, ◌++◌}
+use Rattle.std.specs.Prelude.{ℕ, zero, suc, ◌+◌, List, [], ◌∷◌, ◌++◌, Option, Some, None, IsSome}
 use Rattle.std.specs.Option.{option_to_list}
-use Rattle.sst_base.specs.Entry.{Entry}
 use Rattle.sst_block_core.specs.Window.{Window, Answer, item, found}
 use Rattle.sst_block_core.specs.Backs.{back_cost}
-use Rattle.sst_block_kinds.specs.Ops.{step_of}
 use Rattle.sst_block_kinds.specs.declared.table.data_block.ops.Op.{Op}
-use Rattle.sst_block_kinds.specs.declared.table.data_block.ops.Op.TheVariants.{Next, NextBack, Seek, SeekUpper, SeekExclusive, SeekUpperExclusive}
+use Rattle.sst_block_kinds.specs.declared.table.data_block.ops.Op.TheVariants as entry_ops
+use Rattle.sst_block_kinds.specs.declared.table.index_block.ops.IndexOp.{IndexOp}
+use Rattle.sst_block_kinds.specs.declared.table.index_block.ops.IndexOp.TheVariants as index_ops
 
--- no operation is a seek
-abbrev pub AreSteps : List Op → Type 0
-AreSteps [] = Unit {0}
-AreSteps (Next ∷ ops) = AreSteps ops
-AreSteps (NextBack ∷ ops) = AreSteps ops
-AreSteps (Seek key ∷ ops) = ⊥
-AreSteps (SeekUpper key ∷ ops) = ⊥
-AreSteps (SeekExclusive key ∷ ops) = ⊥
-AreSteps (SeekUpperExclusive key ∷ ops) = ⊥
+-- the end from which a step takes
+pub data End : Type 0 where
+  front : End
+  back : End
 
--- the window behind some operations
-abbrev pub window_after : List Op → Window Entry → Window Entry
-window_after [] w = w
-window_after (op ∷ ops) w = window_after ops (step_of op w).0
+-- the end from which an operation on entries takes, if it is no seek
+abbrev pub end_of : Op → Option End
+end_of entry_ops.Next = Some front
+end_of entry_ops.NextBack = Some back
+end_of (entry_ops.Seek key) = None
+end_of (entry_ops.SeekUpper key) = None
+end_of (entry_ops.SeekExclusive key) = None
+end_of (entry_ops.SeekUpperExclusive key) = None
 
--- the entry that an answer has, if any
+-- the same of an operation on handles
+abbrev pub index_end_of : IndexOp → Option End
+index_end_of index_ops.Next = Some front
+index_end_of index_ops.NextBack = Some back
+index_end_of (index_ops.Seek key seqno) = None
+index_end_of (index_ops.SeekUpper key seqno) = None
+
+module _ {O : Type 0} (end_of : O → Option End) where
+  -- no operation is a seek
+  abbrev pub AreSteps : List O → Type 0
+  AreSteps [] = Unit {0}
+  AreSteps (op ∷ ops) = IsSome (end_of op) × AreSteps ops
+
+-- the item that an answer has, if any
 abbrev pub taken : {X : Type 0} → Answer X → List X
 taken (item o) = option_to_list o
 taken (found b) = []
 
--- the entries answered to steps from the front, in order
-abbrev pub fronts : {X : Type 0} → List Op → List (Answer X) → List X
-fronts (Next ∷ ops) (a ∷ answers) = taken a ++ fronts ops answers
-fronts (NextBack ∷ ops) (a ∷ answers) = fronts ops answers
-fronts ops answers = []
+-- what an answer gives to a step from the front
+abbrev pub given_front : {X : Type 0} → Option End → Answer X → List X
+given_front (Some front) a = taken a
+given_front o a = []
 
--- the entries answered to steps from the back, the last one first
-abbrev pub backs : {X : Type 0} → List Op → List (Answer X) → List X
-backs (Next ∷ ops) (a ∷ answers) = backs ops answers
-backs (NextBack ∷ ops) (a ∷ answers) = backs ops answers ++ taken a
-backs ops answers = []
+-- what an answer gives to a step from the back, behind what later steps gave
+abbrev pub with_given_back : {X : Type 0} → List X → Option End → Answer X → List X
+with_given_back later (Some back) a = later ++ taken a
+with_given_back later o a = later
+
+module _ {O X : Type 0} (end_of : O → Option End) where
+  -- the items answered to steps from the front, in order
+  abbrev pub fronts : List O → List (Answer X) → List X
+  fronts (op ∷ ops) (a ∷ answers) = given_front (end_of op) a ++ fronts ops answers
+  fronts ops answers = []
+
+  -- the items answered to steps from the back, the last one first
+  abbrev pub backs : List O → List (Answer X) → List X
+  backs (op ∷ ops) (a ∷ answers) = with_given_back (backs ops answers) (end_of op) a
+  backs ops answers = []
 
 -- the most entries that a walk from the back decodes, from an end on to the front, in a block of n items in intervals of r
 unfoldable pub back_walk_cost : ℕ → ℕ → ℕ → ℕ

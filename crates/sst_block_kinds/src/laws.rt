@@ -8,11 +8,13 @@ ghost use Rattle.sst_block_core.specs.Kind.{IsKind};
 ghost use Rattle.sst_block_core.specs.Trailer.{trailer_in};
 ghost use Rattle.sst_block_core.specs.Buckets.{buckets, stored_count};
 ghost use Rattle.sst_block_core.specs.Payload.{IsBlock};
-ghost use Rattle.sst_block_core.specs.Window.{Window, answers, items_left};
+ghost use Rattle.sst_block_core.specs.Window.{Window, answers, items_left, window_after};
 ghost use Rattle.sst_block_kinds.specs.Ops.{step_of};
-ghost use Rattle.sst_block_kinds.specs.Walks.{AreSteps, window_after, fronts, backs};
+ghost use Rattle.sst_block_kinds.specs.IndexOps.{step_of as index_step_of};
+ghost use Rattle.sst_block_kinds.specs.Walks.{AreSteps, end_of, index_end_of, fronts, backs};
 ghost use Rattle.sst_block_kinds.specs.Walks.{back_walk_cost};
 ghost use Rattle.sst_block_kinds.specs.declared.table.data_block.ops.Op.{Op};
+ghost use Rattle.sst_block_kinds.specs.declared.table.index_block.ops.IndexOp.{IndexOp};
 ghost use Rattle.sst_block_core.specs.Stages.{Passes};
 ghost use Rattle.sst_block_core.specs.Stages.{items_in};
 ghost use Rattle.sst_block_core.specs.Entries.{entries};
@@ -34,12 +36,39 @@ pub fn handles_are_a_kind()
 
 /// Between two seeks, what was answered to steps from the front, what is then left, and what was
 /// answered to steps from the back, the last first, are together the window at the start.
-#[tactic(auto, using(crate::proofs::BothEnds::window_given))]
 pub fn window_is_given()
-    ensures { (ops : List Op) (w : Window Entry) → w.hi ≤ length w.list → AreSteps ops
-        → fronts ops (answers (map step_of ops) w)
-        ++ (items_left (window_after ops w) ++ backs ops (answers (map step_of ops) w))
+    ensures { (ops : List Op) (w : Window Entry) → w.hi ≤ length w.list → AreSteps end_of ops
+        → fronts end_of ops (answers (map step_of ops) w)
+        ++ (items_left (window_after (map step_of ops) w)
+        ++ backs end_of ops (answers (map step_of ops) w))
         ≡ items_left w }
+{}
+
+/// The same of an index block.
+pub fn index_window_is_given()
+    ensures { (ops : List IndexOp) (w : Window Handle) → w.hi ≤ length w.list
+        → AreSteps index_end_of ops
+        → fronts index_end_of ops (answers (map index_step_of ops) w)
+        ++ (items_left (window_after (map index_step_of ops) w)
+        ++ backs index_end_of ops (answers (map index_step_of ops) w))
+        ≡ items_left w }
+{}
+
+/// The answers to operations on a data block and to more operations are those to the first, and
+/// then those to the others from the window where the first left off.
+pub fn walk_goes_on()
+    ensures { (first others : List Op) (w : Window Entry)
+        → answers (map step_of (first ++ others)) w
+        ≡ answers (map step_of first) w
+        ++ answers (map step_of others) (window_after (map step_of first) w) }
+{}
+
+/// The same of an index block.
+pub fn index_walk_goes_on()
+    ensures { (first others : List IndexOp) (w : Window Handle)
+        → answers (map index_step_of (first ++ others)) w
+        ≡ answers (map index_step_of first) w
+        ++ answers (map index_step_of others) (window_after (map index_step_of first) w) }
 {}
 
 /// A whole walk from the back decodes no entry more than twice.

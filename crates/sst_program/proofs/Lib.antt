@@ -8,4 +8,5 @@ pub mod NumberText
 pub mod Numbers
 pub mod Outcomes
 pub mod TableReads
+pub mod TableFaults
 pub mod Tables

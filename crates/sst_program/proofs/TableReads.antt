@@ -3,14 +3,14 @@ use Rattle.std.proofs.Common.{◌≡◌, ◌≢◌, ◌⊎◌, ℕ, ◌+◌, ◌
 use Rattle.std.proofs.Math.Seq.{take-append_seam, take-length}
 use Rattle.std.specs.Prelude.{IsOk, nat_lt, nat_le}
 use Rattle.std.proofs.lemmas.Bool.Decides.{nat_tests}
-use Rattle.std.proofs.KnownBytes.{Appends-nil, Appends-trans, Appends-kept}
+use Rattle.std.proofs.KnownBytes.{Appends-nil, Appends-trans, Appends-kept, Keeps-refl}
 use Rattle.std.specs.Io.KnownBytes.{Appends, Keeps}
 use Rattle.sst_base.specs.BlockHandle.{HandleParts}
 use Rattle.sst_base.specs.Entry.{Entry}
 use Rattle.sst_base.specs.FrameErrors.{NotIo}
 use Rattle.sst_base.specs.Header.{◌>>=◌}
 use Rattle.sst_base.specs.declared.error.Error.{Error}
-use Rattle.sst_base.specs.declared.error.Error.TheVariants.{Io, Truncated}
+use Rattle.sst_base.specs.declared.error.Error.TheVariants.{Io, Memory, Truncated, BadHandle}
 use Rattle.sst_block_core.specs.Landings.{GivesNextHeld}
 use Rattle.sst_block_core.specs.Scan.{Scan}
 use Rattle.sst_block_core.specs.Window.{Window, items_left, whole}
@@ -24,7 +24,7 @@ use Rattle.sstable_blocks.specs.Sources.{FailsAs, GivesOr}
 use Rattle.sstable_blocks.specs.declared.run.RunHandles.{RunHandles}
 use Rattle.sst_program.specs.Footer.{handles_at, parts_at, filter_of}
 use Rattle.sst_program.specs.Outcome.{lines_text_of}
-use Rattle.sst_program.specs.TableReads.{block_read, block_count, blocks_read, before_refusal, first_refusal, entry_count, entries_counted, table_handles, PrintsUntil, PrintsFirst}
+use Rattle.sst_program.specs.TableReads.{block_read, block_count, blocks_read, before_refusal, first_refusal, entry_count, entries_counted, table_handles, PrintsUntil, PrintsFirst, FailsAround, FailsAmong}
 use Rattle.sst_program.proofs.Outcomes.{lines-append}
 use Rattle.sst_program.proofs.Tables.{joined-next}
 
@@ -176,21 +176,21 @@ footer_range all len size h is least at =
     let rest : length (drop (length all - 24) all) ≡ size = omega (arith, length-drop (length all - 24) all, is, least) in
     rw at (rw inside (ap (λ x. Ok x) (ap (λ n. take size (drop n all)) start ∙ ap (λ n. take n (drop (length all - 24) all)) (sym rest) ∙ take-length (drop (length all - 24) all))))
 
-pub gives_same : {X : Type 0} (P : Type 0) (r read : Result X Error) → read ≡ r → GivesOr P (λ x. x) r read
-gives_same P (Ok x) read e = e
-gives_same P (Err d) read e = λ other. inr e
+pub gives_same : {X : Type 0} (P R : Type 0) (r read : Result X Error) → read ≡ r → GivesOr P R (λ x. x) r read
+gives_same P R (Ok x) read e = e
+gives_same P R (Err d) read e = λ other. inr e
 
-pub footer_read : (all frame bytes : List ℕ) (h : HandleParts) (r : Result RunHandles Error) (P : Type 0) → range_at all h ≡ Ok (drop (length all - 24) all) → range_at all h ≡ Ok frame → bytes ≡ frame → r ≡ handles_at bytes
-    → GivesOr P (λ x. x) r (table_handles all)
+pub footer_read : (all frame bytes : List ℕ) (h : HandleParts) (r : Result RunHandles Error) (P R : Type 0) → range_at all h ≡ Ok (drop (length all - 24) all) → range_at all h ≡ Ok frame → bytes ≡ frame → r ≡ handles_at bytes
+    → GivesOr P R (λ x. x) r (table_handles all)
 unfolding table_handles
-footer_read all frame bytes h r P whole found is e =
+footer_read all frame bytes h r P R whole found is e =
     let same : ◌≡◌ {A = Result (List ℕ) Error} (Ok (drop (length all - 24) all)) (Ok frame) = sym whole ∙ found in
     let last : drop (length all - 24) all ≡ frame = cc in
-    gives_same P r (handles_at (drop (length all - 24) all)) (ap handles_at (last ∙ sym is) ∙ sym e)
+    gives_same P R r (handles_at (drop (length all - 24) all)) (ap handles_at (last ∙ sym is) ∙ sym e)
 
-pub footer_fails : (all : List ℕ) (h : HandleParts) (error : Error) (P : Type 0) (read : Result RunHandles Error) → range_at all h ≡ Ok (drop (length all - 24) all) → FailsAs P (range_at all h) error → FailsAs P read error
-footer_fails all h error P read whole fails = λ other. elim (fails other) [
-  | inl failed ↦ inl failed
+pub footer_fails : (all : List ℕ) (h : HandleParts) (error : Error) (P R : Type 0) (read : Result RunHandles Error) → range_at all h ≡ Ok (drop (length all - 24) all) → FailsAs P R (range_at all h) error → FailsAs (P × (R → ⊥)) ⊥ read error
+footer_fails all h error P R read whole fails = λ other. elim (fails other) [
+  | inl failed ↦ inl (failed.0, (failed.1, λ r. let wrong : ◌≡◌ {A = Result (List ℕ) Error} (Ok (drop (length all - 24) all)) (Err BadHandle) = sym whole ∙ failed.2 r in cc), λ no. absurd no)
   | inr same ↦ absurd (let wrong : ◌≡◌ {A = Result (List ℕ) Error} (Ok (drop (length all - 24) all)) (Err error) = sym whole ∙ same in cc)
 ]
 
@@ -200,15 +200,15 @@ failed_not_io (Ok x) P h = tt
 failed_not_io (Err e) P h = λ io. absurd (h io)
 
 -- the same where the bytes are known
-pub footer_read_on : (o : Option (List ℕ)) (len size : ℕ) (frame bytes : List ℕ) (h : HandleParts) (r : Result RunHandles Error) (P : Type 0) → size ≡ min len 24 → h ≡ record { offset = len - size; size = size }
-    → IfSome o (λ all. range_at all h ≡ Ok frame) → bytes ≡ frame → r ≡ handles_at bytes → IfSome o (λ all. len ≡ length all → GivesOr P (λ x. x) r (table_handles all))
-footer_read_on None len size frame bytes h r P least at found is e = tt
-footer_read_on (Some all) len size frame bytes h r P least at found is e = λ whole. footer_read all frame bytes h r P (footer_range all len size h whole least at) found is e
+pub footer_read_on : (o : Option (List ℕ)) (len size : ℕ) (frame bytes : List ℕ) (h : HandleParts) (r : Result RunHandles Error) (P R : Type 0) → size ≡ min len 24 → h ≡ record { offset = len - size; size = size }
+    → IfSome o (λ all. range_at all h ≡ Ok frame) → bytes ≡ frame → r ≡ handles_at bytes → IfSome o (λ all. len ≡ length all → GivesOr P R (λ x. x) r (table_handles all))
+footer_read_on None len size frame bytes h r P R least at found is e = tt
+footer_read_on (Some all) len size frame bytes h r P R least at found is e = λ whole. footer_read all frame bytes h r P R (footer_range all len size h whole least at) found is e
 
-pub footer_fails_on : (o : Option (List ℕ)) (len size : ℕ) (h : HandleParts) (error : Error) (P : Type 0) → size ≡ min len 24 → h ≡ record { offset = len - size; size = size }
-    → IfSome o (λ all. FailsAs P (range_at all h) error) → IfSome o (λ all. len ≡ length all → FailsAs P (table_handles all) error)
-footer_fails_on None len size h error P least at fails = tt
-footer_fails_on (Some all) len size h error P least at fails = λ whole. footer_fails all h error P (table_handles all) (footer_range all len size h whole least at) fails
+pub footer_fails_on : (o : Option (List ℕ)) (len size : ℕ) (h : HandleParts) (error : Error) (P R : Type 0) → size ≡ min len 24 → h ≡ record { offset = len - size; size = size }
+    → IfSome o (λ all. FailsAs P R (range_at all h) error) → IfSome o (λ all. len ≡ length all → FailsAs (P × (R → ⊥)) ⊥ (table_handles all) error)
+footer_fails_on None len size h error P R least at fails = tt
+footer_fails_on (Some all) len size h error P R least at fails = λ whole. footer_fails all h error P R (table_handles all) (footer_range all len size h whole least at) fails
 
 pub counts_all_on : (o : Option (List ℕ)) (hs : List Handle) (s t : Scan Handle) (count : ℕ) → IfSome o (λ all. CountsTo (blocks_read all hs) (blocks_read all (items_left s.window)) count)
     → GivesNextHeld handle_of IsParsedHandle s None t → IfSome o (λ all. entries_counted all hs ≡ Ok count)
@@ -233,13 +233,18 @@ counts_step_on (Some all) o' hs s t p h count len n same to is gives read e =
     let r = count_read (block_read all h) len (subst (λ x. IfSome x (λ bytes. block_count bytes h ≡ Ok len)) same read) in
     counts_next (blocks_read all hs) (blocks_read all (items_left s.window)) (blocks_read all (items_left t.window)) r.0 count n to (read_step all s t p h (Ok r.0) is gives r.1) (rw r.2 e)
 
-pub counts_fail_on : (o o' : Option (List ℕ)) (hs : List Handle) (s t : Scan Handle) (p : IndexBlockParsedItem) (h : HandleParts) (count : ℕ) (error : Error) (P Q : Type 0) → o' ≡ o
+pub counts_fail_on : (o o' : Option (List ℕ)) (hs : List Handle) (s t : Scan Handle) (p : IndexBlockParsedItem) (h : HandleParts) (count : ℕ) (error : Error) (P Q R T : Type 0) → o' ≡ o
     → IfSome o (λ all. CountsTo (blocks_read all hs) (blocks_read all (items_left s.window)) count) → h ≡ record { offset = p.offset.0; size = p.size } → GivesNextHeld handle_of IsParsedHandle s (Some p) t
-    → (P → Q) → IfSome o' (λ all. FailsAs P (block_count all h) error) → IfSome o (λ all. FailsAs Q (entries_counted all hs) error)
-counts_fail_on None o' hs s t p h count error P Q same to is gives later fails = tt
-counts_fail_on (Some all) o' hs s t p h count error P Q same to is gives later fails = λ other.
-    elim ((subst (λ x. IfSome x (λ bytes. FailsAs P (block_count bytes h) error)) same fails) other) [
-      | inl failed ↦ inl (failed.0, later failed.1)
+    → (P → Q) → (T → R) → IfSome o' (λ all. FailsAs P R (block_count all h) error) → IfSome o (λ all. FailsAs Q T (entries_counted all hs) error)
+counts_fail_on None o' hs s t p h count error P Q R T same to is gives later kept fails = tt
+counts_fail_on (Some all) o' hs s t p h count error P Q R T same to is gives later kept fails = λ other.
+    elim ((subst (λ x. IfSome x (λ bytes. FailsAs P R (block_count bytes h) error)) same fails) other) [
+      | inl failed ↦ inl (
+        failed.0,
+        later failed.1,
+        λ r. counts_refused all hs (blocks_read all (items_left s.window)) (blocks_read all (items_left t.window)) count BadHandle to
+            (read_step all s t p h (Err BadHandle) is gives (count_refused (block_read all h) BadHandle (failed.2 (kept r)))),
+      )
       | inr refused ↦ inr (counts_refused all hs (blocks_read all (items_left s.window)) (blocks_read all (items_left t.window)) count error to
           (read_step all s t p h (Err error) is gives (count_refused (block_read all h) error refused)))
     ]
@@ -249,13 +254,21 @@ ok_read (Ok items) h = (items, refl)
 ok_read (Err d) h = absurd (let wrong : false ≡ true = h in cc)
 
 -- printing fails only where a block was read, or the source failed
-pub prints_io_on : (o o' old now : Option (List ℕ)) (hs : List Handle) (s t : Scan Handle) (p : IndexBlockParsedItem) (h : HandleParts) (P Q : Type 0) (error : Error) → o' ≡ o
+pub prints_io_on : (o o' old now : Option (List ℕ)) (hs : List Handle) (s t : Scan Handle) (p : IndexBlockParsedItem) (h : HandleParts) (P Q R T : Type 0) (error : Error) → o' ≡ o
     → IfSome o (λ all. PrintsTo old now (blocks_read all hs) (blocks_read all (items_left s.window))) → h ≡ record { offset = p.offset.0; size = p.size } → GivesNextHeld handle_of IsParsedHandle s (Some p) t
-    → (P → Q) → IfSome o' (λ all. error ≡ Io → P ⊎ IsOk (block_read all h)) → IfSome o (λ all. error ≡ Io → Q ⊎ (1 ≤ length (before_refusal (blocks_read all hs))))
-prints_io_on None o' old now hs s t p h P Q error same to is gives later fails = tt
-prints_io_on (Some all) o' old now hs s t p h P Q error same to is gives later fails = λ io.
-    elim ((subst (λ x. IfSome x (λ bytes. error ≡ Io → P ⊎ IsOk (block_read bytes h))) same fails) io) [
-      | inl failed ↦ inl (later failed)
+    → (P → Q) → (T → R) → IfSome o' (λ all. error ≡ Io → FailsAround P R (block_read all h)) → IfSome o (λ all. error ≡ Io → FailsAmong Q T (blocks_read all hs))
+prints_io_on None o' old now hs s t p h P Q R T error same to is gives later kept fails = tt
+prints_io_on (Some all) o' old now hs s t p h P Q R T error same to is gives later kept fails = λ io.
+    elim ((subst (λ x. IfSome x (λ bytes. error ≡ Io → FailsAround P R (block_read bytes h))) same fails) io) [
+      | inl failed ↦ inl (
+        later failed.0,
+        λ r. elim (failed.1 (kept r)) [
+          | inl outside ↦ inl ((prints_refused old now now (blocks_read all hs) (blocks_read all (items_left s.window)) (blocks_read all (items_left t.window)) BadHandle to
+              (read_step all s t p h (Err BadHandle) is gives outside) (Keeps-refl now)).until)
+          | inr io ↦ inr ((prints_refused old now now (blocks_read all hs) (blocks_read all (items_left s.window)) (blocks_read all (items_left t.window)) Io to
+              (read_step all s t p h (Err Io) is gives io) (Keeps-refl now)).until)
+        ],
+      )
       | inr ok ↦ (
           let r = ok_read (block_read all h) ok in
           let next = read_next (blocks_read all hs) (blocks_read all (items_left s.window)) (blocks_read all (items_left t.window)) to.done r.0 to.read (read_step all s t p h (Ok r.0) is gives r.1) in

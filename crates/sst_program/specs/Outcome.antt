@@ -15,8 +15,9 @@ use Rattle.sst_program.specs.declared.words.Command.TheVariants.{Point, Pack, Ge
 use Rattle.sst_program.specs.Line.{entry_line_of}
 use Rattle.sst_program.specs.Lines.{entries_of_input}
 use Rattle.sst_program.specs.Point.{point_payload, point_text_of, answer_line_of}
-use Rattle.sst_program.specs.Query.{Query}
-use Rattle.sst_program.specs.Table.{IsCutBy}
+use Rattle.sst_program.specs.Query.{Query, Packing}
+use Rattle.sst_program.specs.Table.{IsPacked}
+use Rattle.sst_program.specs.declared.pack.Packed.{Packed}
 
 -- the index of the first entry that sorts before its predecessor, where the list begins at this index
 unfoldable pub disorder_from : ℕ → List Entry → Option ℕ
@@ -110,18 +111,18 @@ PrintsLines old new = (items : List Entry) × Appends old new (lines_text_of ite
 abbrev pub PrintsCounts : Option (List ℕ) → Option (List ℕ) → Type 0
 PrintsCounts old new = (blocks : ℕ) × (items : ℕ) × Appends old new (checked_text_of blocks items)
 
--- by the numbers of the input's entries, of their blocks of n, and of the bytes of a file
-abbrev pub PrintsPacked : ℕ → Option (List ℕ) → Option (List ℕ) → Option (List ℕ) → Type 0
-PrintsPacked n known old new =
+-- by the numbers of the input's entries, and of the blocks and bytes of their table
+abbrev pub PrintsPacked : Packing → Option (List ℕ) → Option (List ℕ) → Option (List ℕ) → Type 0
+PrintsPacked packing known old new =
     (items : List Entry) × IsOutcomeOf run_of_input known items
-    × (blocks : List (List Entry)) × IsCutBy n items blocks
-    × (len : ℕ) × Appends old new (packed_text_of (length items) (length blocks) len)
+    × (p : Packed) × IsPacked packing.config packing.per_block items p
+    × Appends old new (packed_text_of (length items) p.blocks p.len)
 
 -- what a run without fault has printed. Of a file nothing is known.
 abbrev pub HasPrinted : Option Command → Option (List ℕ) → Option (List ℕ) → Option (List ℕ) → Type 0
 HasPrinted None known old new = ⊥
 HasPrinted (Some (Point query)) known old new = (text : List ℕ) × IsOutcomeOf (outcome_of_query query) known text × Appends old new text
-HasPrinted (Some (Pack packing)) known old new = PrintsPacked packing.per_block known old new
+HasPrinted (Some (Pack packing)) known old new = PrintsPacked packing known old new
 HasPrinted (Some (Get lookup)) known old new = PrintsAnswer old new
 HasPrinted (Some (Walk file)) known old new = PrintsLines old new
 HasPrinted (Some (Check file)) known old new = PrintsCounts old new

@@ -60,3 +60,12 @@ pub record AppendsTable (config : RunConfig) (n : ℕ) (items : List Entry) (old
   pub appended : Appends old new bytes
   pub block_count : p.blocks ≡ length blocks
   pub len : p.len ≡ length bytes
+
+-- so many blocks and bytes has the table of entries in blocks of n, written so
+pub record IsPacked (config : RunConfig) (n : ℕ) (items : List Entry) (p : Packed) : Type 0 where
+  pub blocks : List (List Entry)
+  pub bytes : List ℕ
+  pub cut : IsCutBy n items blocks
+  pub table : IsTable config blocks bytes
+  pub block_count : p.blocks ≡ length blocks
+  pub len : p.len ≡ length bytes

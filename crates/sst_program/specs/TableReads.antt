@@ -1,18 +1,21 @@
 -- Reading a table from bytes: its footer, its filter, its index, and its blocks in order, each with its check. The first refusal ends it.
-use Rattle.std.specs.Prelude.{◌≡◌, ℕ, ◌-◌, ◌^◌, min, List, [], ◌∷◌, length, take, drop, map, Option, Some, None, Result, Ok, Err}
+use Rattle.std.specs.Prelude.{◌≡◌, ◌≢◌, ◌⊎◌, ◌≤◌, IsOk, ℕ, ◌-◌, ◌^◌, min, List, [], ◌∷◌, length, take, drop, map, Option, Some, None, Result, Ok, Err}
 use Rattle.std.specs.Io.KnownBytes.{Appends}
 use Rattle.sst_base.specs.BlockHandle.{HandleParts}
 use Rattle.sst_base.specs.Entry.{Entry}
 use Rattle.sst_base.specs.Hashes.{poly31}
 use Rattle.sst_base.specs.Header.{◌>>=◌}
 use Rattle.sst_base.specs.declared.error.Error.{Error}
+use Rattle.sst_base.specs.declared.error.Error.TheVariants.{Io, Memory, BadHandle}
+use Rattle.sst_program.specs.declared.fault.Fault.{Fault}
+use Rattle.sst_program.specs.declared.fault.Fault.TheVariants.{Refused}
 use Rattle.sst_base.specs.declared.table.block.block_type.BlockType.TheVariants as types
 use Rattle.sst_block_kinds.specs.Checks.{data_check, index_check}
 use Rattle.sst_block_kinds.specs.Handles.{Handle}
 use Rattle.sstable_blocks.specs.Blocks.{joined}
 use Rattle.sstable_blocks.specs.Filter.{filter_at}
 use Rattle.sstable_blocks.specs.Opened.{range_of}
-use Rattle.sstable_blocks.specs.RunReading.{Hashes, hashes, payload_at}
+use Rattle.sstable_blocks.specs.RunReading.{Hashes, hashes, payload_at, read_checked}
 use Rattle.sstable_blocks.specs.declared.run.RunHandles.{RunHandles}
 use Rattle.sst_program.specs.Footer.{handles_at}
 use Rattle.sst_program.specs.Outcome.{lines_text_of, answer_text_of, checked_text_of}
@@ -111,6 +114,51 @@ run_counts bytes h = do
   entries ← entries_counted bytes hs
   Ok (length hs, entries)
 
+-- what is read of a table: its entry by key and sequence number
+abbrev pub table_answer : List ℕ → List ℕ → ℕ → Result (Option Entry) Error
+table_answer bytes needle seqno = do
+  h ← table_handles bytes
+  read_checked sst_hashes bytes h needle seqno
+
+-- its numbers of blocks and entries
+abbrev pub table_counts : List ℕ → Result (ℕ × ℕ) Error
+table_counts bytes = do
+  h ← table_handles bytes
+  run_counts bytes h
+
+-- its blocks, in order. Where its footer is refused, the refusal is all.
+abbrev pub blocks_behind : List ℕ → Result RunHandles Error → List (Result (List Entry) Error)
+blocks_behind bytes (Ok h) = run_blocks bytes h.index
+blocks_behind bytes (Err e) = Err e ∷ []
+
+abbrev pub table_blocks : List ℕ → List (Result (List Entry) Error)
+table_blocks bytes = blocks_behind bytes (table_handles bytes)
+
+-- a reading meets a range that isn't inside
+abbrev pub IsCutOff : {X : Type 0} → Result X Error → Type 0
+IsCutOff read = (read ≡ Err BadHandle) ⊎ (read ≡ Err Io)
+
+-- so does the reading of blocks, one after the other
+abbrev pub AreCutOff : List (Result (List Entry) Error) → Type 0
+AreCutOff reads = (first_refusal reads ≡ Some BadHandle) ⊎ (first_refusal reads ≡ Some Io)
+
+-- A call failed: the source, which if it is reliable fails only where the reading meets a range that isn't inside; or
+-- the output, once the reading gave something.
+abbrev pub FailsAround : {X : Type 0} → Type 0 → Type 0 → Result X Error → Type 0
+FailsAround failed reliable read = (failed × (reliable → IsCutOff read)) ⊎ IsOk read
+
+-- the same of the reading of blocks
+abbrev pub FailsAmong : Type 0 → Type 0 → List (Result (List Entry) Error) → Type 0
+FailsAmong failed reliable reads = (failed × (reliable → AreCutOff reads)) ⊎ (1 ≤ length (before_refusal reads))
+
+-- A fault of a command over a table: that of the reading, or a failed allocation, or a failure. Over memory that is of the
+-- output, or the reading meets a range that isn't inside.
+pub record IsTableFault {X : Type 0} (over_memory : Type 0) (read : Result X Error) (fault : Fault) : Type 0 where
+  pub error : Error
+  pub told : fault ≡ Refused error
+  pub read_is : error ≢ Memory → error ≢ Io → read ≡ Err error
+  pub failed : error ≡ Io → over_memory → IsCutOff read ⊎ IsOk read
+
 -- a reading gave some value, and of that value this holds
 abbrev pub ReadAnd : {X : Type 0} → Result X Error → (X → Type 0) → Type 0
 ReadAnd {X} read P = (x : X) × (read ≡ Ok x) × P x
@@ -136,3 +184,10 @@ pub record PrintsUntil (old new : Option (List ℕ)) (reads : List (Result (List
 pub record PrintsFirst (old new : Option (List ℕ)) (reads : List (Result (List Entry) Error)) : Type 0 where
   pub count : ℕ
   pub lines : Appends old new (lines_text_of (joined (take count (before_refusal reads))))
+
+-- a fault of a walk over a table, which has printed the blocks before
+pub record IsWalkFault (over_memory : Type 0) (old new : Option (List ℕ)) (reads : List (Result (List Entry) Error)) (fault : Fault) : Type 0 where
+  pub error : Error
+  pub told : fault ≡ Refused error
+  pub until : error ≢ Memory → error ≢ Io → PrintsUntil old new reads (Some error)
+  pub failed : error ≡ Io → over_memory → AreCutOff reads ⊎ (1 ≤ length (before_refusal reads))

@@ -1,21 +1,22 @@
 //! `check`: the frames of a table file, one after the other.
 ghost use Rattle.std.specs.Prelude.{◌≡◌, ◌≢◌, ◌⊎◌, ◌≤◌, ◌<◌, Err, OnOk};
-ghost use Rattle.std.specs.Prelude.{IfOk, IfErr, IfSome, IsOk};
+ghost use Rattle.std.specs.Prelude.{IfOk, IfErr, IfSome};
 ghost use Rattle.std.specs.Prelude.{IsOkUnless, string_bytes};
 ghost use Rattle.std.specs.Io.KnownBytes.{Keeps};
 ghost use Rattle.sst_base.specs.declared.error.Error.TheVariants.{Io, Memory};
 ghost use Rattle.sstable_blocks.specs.Sources.{GivesOr};
 ghost use Rattle.sst_program.specs.TableReads.{block_count, filter_check, run_filter_check};
 ghost use Rattle.sst_program.specs.TableReads.{entries_counted, run_counts, PrintsCountsOf};
+ghost use Rattle.sst_program.specs.TableReads.{FailsAround, table_counts, IsTableFault};
 ghost use Rattle.sst_program.specs.Outcome.{checked_text_of, PrintsCounts, PrintsNothing, IsRefused};
 
 use crate::fault::Fault;
 use crate::output::print_text;
-use crate::table::{data_block_at, index_at, open_table};
+use crate::table::{data_block_at, index_at, open_file, open_run};
 use sstable_blocks::filter::standard_bloom::StandardBloomFilterReader;
 use sstable_blocks::run::checked::block_from;
 use sstable_blocks::{
-    BlockHandle, BlockType, Error, FrameSource, IndexBlock, Poly31, Result, RunHandles,
+    BlockHandle, BlockType, Error, FrameSource, IndexBlock, Poly31, Result, RunHandles, SeekInput,
 };
 use std::alloc::Global;
 use std::io::Write;
@@ -26,9 +27,10 @@ use std::rt::Files;
 fn check_filter<S: FrameSource>(alloc: Global, source: &mut S, handle: &BlockHandle) -> Result<()>
     ensures same { S.bytes source.new ≡ S.bytes source.old }
     ensures failures_grow { S.failures source.old ≤ S.failures source.new }
+    ensures kept_reliable { S.is_reliable source.old → S.is_reliable source.new }
     ensures io { IfErr result (λ e. e ≡ Io → S.failures source.old < S.failures source.new) }
     ensures exact { IfSome (S.bytes source.old) (λ all.
-        GivesOr (S.failures source.old < S.failures source.new) (λ u. u) result
+        GivesOr (S.failures source.old < S.failures source.new) (S.is_reliable source.old) (λ u. u) result
         (filter_check all handle.now)) }
 {
     let block = block_from::<Poly31, S>(alloc, source, handle, BlockType::Filter)?;
@@ -44,9 +46,10 @@ fn check_run_filter<S: FrameSource>(
 ) -> Result<()>
     ensures same { S.bytes source.new ≡ S.bytes source.old }
     ensures failures_grow { S.failures source.old ≤ S.failures source.new }
+    ensures kept_reliable { S.is_reliable source.old → S.is_reliable source.new }
     ensures io { IfErr result (λ e. e ≡ Io → S.failures source.old < S.failures source.new) }
     ensures exact { IfSome (S.bytes source.old) (λ all.
-        GivesOr (S.failures source.old < S.failures source.new) (λ u. u) result
+        GivesOr (S.failures source.old < S.failures source.new) (S.is_reliable source.old) (λ u. u) result
         (run_filter_check all filter.now)) }
 {
     match filter {
@@ -59,9 +62,10 @@ fn check_run_filter<S: FrameSource>(
 fn check_block<S: FrameSource>(alloc: Global, source: &mut S, handle: &BlockHandle) -> Result<usize>
     ensures same { S.bytes source.new ≡ S.bytes source.old }
     ensures failures_grow { S.failures source.old ≤ S.failures source.new }
+    ensures kept_reliable { S.is_reliable source.old → S.is_reliable source.new }
     ensures io { IfErr result (λ e. e ≡ Io → S.failures source.old < S.failures source.new) }
     ensures exact { IfSome (S.bytes source.old) (λ all.
-        GivesOr (S.failures source.old < S.failures source.new) (λ n. n) result
+        GivesOr (S.failures source.old < S.failures source.new) (S.is_reliable source.old) (λ n. n) result
         (block_count all handle.now)) }
 {
     let block = data_block_at(alloc, source, handle)?;
@@ -72,9 +76,10 @@ fn check_block<S: FrameSource>(alloc: Global, source: &mut S, handle: &BlockHand
 fn check_blocks<S: FrameSource>(alloc: Global, source: &mut S, index: &IndexBlock) -> Result<u64>
     ensures same { S.bytes source.new ≡ S.bytes source.old }
     ensures failures_grow { S.failures source.old ≤ S.failures source.new }
+    ensures kept_reliable { S.is_reliable source.old → S.is_reliable source.new }
     ensures io { IfErr result (λ e. e ≡ Io → S.failures source.old < S.failures source.new) }
     ensures exact { IfSome (S.bytes source.old) (λ all.
-        GivesOr (S.failures source.old < S.failures source.new) (λ n. n) result
+        GivesOr (S.failures source.old < S.failures source.new) (S.is_reliable source.old) (λ n. n) result
         (entries_counted all index.now.items)) }
 {
     let mut entries = 0u64;
@@ -95,9 +100,10 @@ fn check_run<S: FrameSource>(
 ) -> Result<(usize, u64)>
     ensures same { S.bytes source.new ≡ S.bytes source.old }
     ensures failures_grow { S.failures source.old ≤ S.failures source.new }
+    ensures kept_reliable { S.is_reliable source.old → S.is_reliable source.new }
     ensures io { IfErr result (λ e. e ≡ Io → S.failures source.old < S.failures source.new) }
     ensures exact { IfSome (S.bytes source.old) (λ all.
-        GivesOr (S.failures source.old < S.failures source.new) (λ counts. counts) result
+        GivesOr (S.failures source.old < S.failures source.new) (S.is_reliable source.old) (λ counts. counts) result
         (run_counts all handles.now)) }
 {
     check_run_filter(alloc, source, &handles.filter)?;
@@ -127,6 +133,7 @@ pub fn print_counts<S: FrameSource, O: Write>(
 ) -> Result<()>
     ensures same { S.bytes source.new ≡ S.bytes source.old }
     ensures failures_grow { S.failures source.old ≤ S.failures source.new }
+    ensures kept_reliable { S.is_reliable source.old → S.is_reliable source.new }
     ensures printed { OnOk result (PrintsCounts (O.contents output.old) (O.contents output.new)) }
     ensures kept { IfErr result
         (λ e. (e ≡ Io) ⊎ Keeps (O.contents output.old) (O.contents output.new)) }
@@ -137,8 +144,8 @@ pub fn print_counts<S: FrameSource, O: Write>(
         (λ all. IfErr result (λ e. e ≢ Memory → e ≢ Io
         → run_counts all handles.now ≡ Err e)) }
     ensures io { IfSome (S.bytes source.old) (λ all. IfErr result (λ e. e ≡ Io
-        → (S.failures source.old < S.failures source.new)
-        ⊎ IsOk (run_counts all handles.now))) }
+        → FailsAround (S.failures source.old < S.failures source.new) (S.is_reliable source.old)
+        (run_counts all handles.now))) }
 {
     let (blocks, entries) = check_run(alloc, source, handles)?;
     let text = counts_text(alloc, blocks, entries)?;
@@ -154,6 +161,31 @@ pub fn print_counts<S: FrameSource, O: Write>(
 /// `Error::Io` if the file or the output fails, `Error::Truncated` if the file is shorter than a
 /// footer, then those of the filter, if there is one, of the index, and of its blocks in order.
 /// `Error::Memory` if an allocation fails.
+pub fn check_from<F: SeekInput + Drop, O: Write>(
+    alloc: Global,
+    file: F,
+    output: &mut O,
+) -> std::result::Result<(), Fault>
+    ensures printed { OnOk result (PrintsCounts (O.contents output.old) (O.contents output.new)) }
+    ensures err { IfErr result IsRefused }
+    ensures kept { IfErr result (PrintsNothing (O.contents output.old) (O.contents output.new)) }
+
+    // Of a file whose bytes are known.
+    ensures exact { IfSome (F.whole file) (λ all. OnOk result
+        (PrintsCountsOf (table_counts all) (O.contents output.old) (O.contents output.new))) }
+    ensures fault { IfSome (F.whole file) (λ all. IfErr result
+        (IsTableFault (F.is_memory file) (table_counts all))) }
+{
+    let mut table = open_run(alloc, file)?;
+    print_counts(alloc, &mut table.source, &table.handles, output)?;
+    Ok(())
+}
+
+/// Opens a table file, and checks it: see [`check_from`].
+///
+/// # Errors
+///
+/// `Error::Io` if the file cannot be opened; then those of [`check_from`].
 pub fn check<R: Files, O: Write>(
     rt: &R,
     alloc: Global,
@@ -164,7 +196,5 @@ pub fn check<R: Files, O: Write>(
     ensures err { IfErr result IsRefused }
     ensures kept { IfErr result (PrintsNothing (O.contents output.old) (O.contents output.new)) }
 {
-    let mut table = open_table(rt, alloc, file)?;
-    print_counts(alloc, &mut table.source, &table.handles, output)?;
-    Ok(())
+    check_from(alloc, open_file(rt, file)?, output)
 }

@@ -1,21 +1,22 @@
 //! `get`: one look-up in a table file.
-ghost use Rattle.std.specs.Prelude.{◌≡◌, ◌≢◌, ◌⊎◌, ◌≤◌, ◌<◌, Err, OnOk};
-ghost use Rattle.std.specs.Prelude.{IfOk, IfErr, IfSome, IsOk};
+ghost use Rattle.std.specs.Prelude.{◌≡◌, ◌≢◌, ◌⊎◌, ◌+◌, ◌≤◌, ◌<◌, Err, OnOk};
+ghost use Rattle.std.specs.Prelude.{IfOk, IfErr, IfSome};
 ghost use Rattle.std.specs.Prelude.{IsOkUnless, Option, string_bytes};
 ghost use Rattle.std.specs.Io.KnownBytes.{Keeps};
 ghost use Rattle.sst_base.specs.declared.error.Error.TheVariants.{Io, Memory};
 ghost use Rattle.sstable_blocks.specs.RunReading.{read_checked};
-ghost use Rattle.sstable_blocks.specs.Sources.{GivesOr};
-ghost use Rattle.sst_program.specs.TableReads.{sst_hashes, PrintsAnswerOf};
+ghost use Rattle.sstable_blocks.specs.Sources.{GivesOr, filter_frames};
+ghost use Rattle.sst_program.specs.TableReads.{sst_hashes, PrintsAnswerOf, FailsAround};
+ghost use Rattle.sst_program.specs.TableReads.{table_answer, IsTableFault};
 ghost use Rattle.sst_program.specs.Outcome.{answer_text_of, PrintsAnswer, PrintsNothing, IsRefused};
 
 use crate::fault::Fault;
 use crate::lines::answer_line;
 use crate::output::print_text;
-use crate::table::open_table;
+use crate::table::{open_file, open_run};
 use crate::words::GetWords;
 use sstable_blocks::{
-    Error, FrameSource, InternalValue, Poly31, Result, RunHandles, read_entry_checked,
+    Error, FrameSource, InternalValue, Poly31, Result, RunHandles, SeekInput, read_entry_checked,
 };
 use std::alloc::Global;
 use std::io::Write;
@@ -30,9 +31,12 @@ fn find<S: FrameSource>(
 ) -> Result<Option<InternalValue>>
     ensures same { S.bytes source.new ≡ S.bytes source.old }
     ensures failures_grow { S.failures source.old ≤ S.failures source.new }
+    ensures kept_reliable { S.is_reliable source.old → S.is_reliable source.new }
+    ensures reads { S.reads source.new
+        ≤ S.reads source.old + (2 + filter_frames handles.now.filter) }
     ensures io { IfErr result (λ e. e ≡ Io → S.failures source.old < S.failures source.new) }
     ensures exact { IfSome (S.bytes source.old) (λ all.
-        GivesOr (S.failures source.old < S.failures source.new) (λ x. x) result
+        GivesOr (S.failures source.old < S.failures source.new) (S.is_reliable source.old) (λ x. x) result
         (read_checked sst_hashes all handles.now words.now.needle words.now.seqno)) }
 {
     read_entry_checked::<Poly31, S>(alloc, source, handles, words.needle(), words.seqno())
@@ -62,6 +66,7 @@ pub fn print_found<S: FrameSource, O: Write>(
 ) -> Result<()>
     ensures same { S.bytes source.new ≡ S.bytes source.old }
     ensures failures_grow { S.failures source.old ≤ S.failures source.new }
+    ensures kept_reliable { S.is_reliable source.old → S.is_reliable source.new }
     ensures printed { OnOk result (PrintsAnswer (O.contents output.old) (O.contents output.new)) }
     ensures kept { IfErr result
         (λ e. (e ≡ Io) ⊎ Keeps (O.contents output.old) (O.contents output.new)) }
@@ -72,8 +77,10 @@ pub fn print_found<S: FrameSource, O: Write>(
         (λ all. IfErr result (λ e. e ≢ Memory → e ≢ Io
         → read_checked sst_hashes all handles.now words.now.needle words.now.seqno ≡ Err e)) }
     ensures io { IfSome (S.bytes source.old) (λ all. IfErr result (λ e. e ≡ Io
-        → (S.failures source.old < S.failures source.new)
-        ⊎ IsOk (read_checked sst_hashes all handles.now words.now.needle words.now.seqno))) }
+        → FailsAround (S.failures source.old < S.failures source.new) (S.is_reliable source.old)
+        (read_checked sst_hashes all handles.now words.now.needle words.now.seqno))) }
+    ensures reads { S.reads source.new
+        ≤ S.reads source.old + (2 + filter_frames handles.now.filter) }
 {
     let found = find(alloc, source, handles, words)?;
     let text = answer_text(alloc, found)?;
@@ -88,6 +95,33 @@ pub fn print_found<S: FrameSource, O: Write>(
 ///
 /// `Error::Io` if the file or the output fails, `Error::Truncated` if the file is shorter than a
 /// footer, those of `read_entry_checked`, and `Error::Memory` if an allocation fails.
+pub fn get_from<F: SeekInput + Drop, O: Write>(
+    alloc: Global,
+    file: F,
+    words: &GetWords<'_>,
+    output: &mut O,
+) -> std::result::Result<(), Fault>
+    ensures printed { OnOk result (PrintsAnswer (O.contents output.old) (O.contents output.new)) }
+    ensures err { IfErr result IsRefused }
+    ensures kept { IfErr result (PrintsNothing (O.contents output.old) (O.contents output.new)) }
+
+    // Of a file whose bytes are known.
+    ensures exact { IfSome (F.whole file) (λ all. OnOk result
+        (PrintsAnswerOf (table_answer all words.now.needle words.now.seqno)
+        (O.contents output.old) (O.contents output.new))) }
+    ensures fault { IfSome (F.whole file) (λ all. IfErr result
+        (IsTableFault (F.is_memory file) (table_answer all words.now.needle words.now.seqno))) }
+{
+    let mut table = open_run(alloc, file)?;
+    print_found(alloc, &mut table.source, &table.handles, words, output)?;
+    Ok(())
+}
+
+/// Opens a table file, and prints the entry that is found in it, or `none`: see [`get_from`].
+///
+/// # Errors
+///
+/// `Error::Io` if the file cannot be opened; then those of [`get_from`].
 pub fn get<R: Files, O: Write>(
     rt: &R,
     alloc: Global,
@@ -98,7 +132,5 @@ pub fn get<R: Files, O: Write>(
     ensures err { IfErr result IsRefused }
     ensures kept { IfErr result (PrintsNothing (O.contents output.old) (O.contents output.new)) }
 {
-    let mut table = open_table(rt, alloc, words.file())?;
-    print_found(alloc, &mut table.source, &table.handles, words, output)?;
-    Ok(())
+    get_from(alloc, open_file(rt, words.file())?, words, output)
 }

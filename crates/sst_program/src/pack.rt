@@ -1,12 +1,12 @@
 //! `pack`: a table file of all entries.
 ghost use Rattle.std.specs.Prelude.{◌≡◌, ◌+◌, ◌≤◌, OnOk, IfOk, IfErr, IfSome};
 ghost use Rattle.std.specs.Prelude.{IsOkUnless, length};
-ghost use Rattle.std.specs.Prelude.{List, [], None, string_bytes};
-ghost use Rattle.sst_base.specs.Entry.{Entry};
+ghost use Rattle.std.specs.Prelude.{[], None, string_bytes};
 ghost use Rattle.sst_block_core.specs.Entries.{entries};
 ghost use Rattle.sst_block_core.specs.Kind.{IsOrdered};
 ghost use Rattle.sst_program.specs.Outcome.{packed_text_of, PrintsPacked, PrintsNothing, IsPackFault};
-ghost use Rattle.sst_program.specs.Table.{IsCutBy, AppendsTable, IsWriteFault, end_of, run_end};
+ghost use Rattle.sst_program.specs.Table.{IsCutBy, AppendsTable, IsPacked, IsWriteFault};
+ghost use Rattle.sst_program.specs.Table.{end_of, run_end};
 
 use crate::fault::Fault;
 use crate::footer::{FOOTER_LEN, footer_of};
@@ -117,8 +117,7 @@ fn write_file<R: Files>(
 ) -> Result<Packed>
     requires some { 1 ≤ length items.now }
     requires ordered { IsOrdered entries items.now }
-    ensures blocks { IfOk result (λ p. (blocks : List (List Entry))
-        × IsCutBy words.now.per_block items.now blocks × (p.blocks ≡ length blocks)) }
+    ensures table { IfOk result (IsPacked words.now.config words.now.per_block items.now) }
     ensures cause { IfErr result IsWriteFault }
 {
     let file = fs::create(rt, words.file())?;
@@ -151,7 +150,7 @@ pub fn pack<R: Files, I: Read, O: Write>(
     input: &mut I,
     output: &mut O,
 ) -> std::result::Result<(), Fault>
-    ensures printed { OnOk result (PrintsPacked words.now.per_block (I.remaining input.old)
+    ensures printed { OnOk result (PrintsPacked words.now (I.remaining input.old)
         (O.contents output.old) (O.contents output.new)) }
     ensures err { IfErr result (IsPackFault (I.remaining input.old)) }
     ensures kept { IfErr result (PrintsNothing (O.contents output.old) (O.contents output.new)) }

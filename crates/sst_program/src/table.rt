@@ -1,6 +1,6 @@
 //! Table files: a run and its footer.
 ghost use Rattle.std.specs.Prelude.{◌≡◌, ◌⊎◌, ◌≤◌, ◌<◌, length, IfErr};
-ghost use Rattle.std.specs.Prelude.{IfSome};
+ghost use Rattle.std.specs.Prelude.{IfSome, IfOk, IsOkUnless};
 ghost use Rattle.sst_base.specs.declared.error.Error.TheVariants.{Io, Truncated, BadHandle, Memory};
 ghost use Rattle.sst_program.specs.TableReads.{footer_place, table_handles, index_read, block_read};
 ghost use Rattle.sstable_blocks.specs.Sources.{GivesOr};
@@ -16,13 +16,15 @@ use std::io::{Read, Seek, SeekFrom};
 use std::rt::Files;
 use std::{fs, io};
 
-/// An open file. Nothing is known of its bytes.
+/// An open file. Of its bytes clauses see those that are left, if they are known.
 #[derive(Drop)]
 pub struct TableFile<F> {
     file: F,
 }
 
 impl<F: Read> Read for TableFile<F> {
+    ghost remaining = { λ t. F.remaining t.file };
+
     fn read(&mut self, buf: &mut [u8]) -> io::Result<usize> {
         self.file.read(buf)
     }
@@ -41,31 +43,55 @@ impl<F: Read> Input for TableFile<F> {
 }
 
 impl<F: Read + Seek> SeekInput for TableFile<F> {
-    ghost left_at_position = { λ s at bytes position. Prim.cc };
+    ghost whole_is_known = { λ s at bytes position. Prim.cc };
+
+    fn move_to(&mut self, offset: u64) -> Result<()> {
+        self.seek(SeekFrom::Start(offset))?;
+        Ok(())
+    }
+
+    fn stream_len(&mut self) -> Result<u64> {
+        Ok(self.seek(SeekFrom::End(0))?)
+    }
 }
 
 /// The frames of a table file, and where its index and its filter are.
 #[derive(Drop)]
 pub struct Table<F> {
     /// The frames.
-    pub source: FileSource<TableFile<F>>,
+    pub source: FileSource<F>,
     /// The frames of the index and of the filter, as the footer says.
     pub handles: RunHandles,
 }
 
-/// Opens a table file and reads its footer.
+/// Opens a file.
 ///
 /// # Errors
 ///
-/// `Error::Io` if the file cannot be opened or read, `Error::Truncated` below 24 bytes, and
-/// `Error::Memory` if an allocation fails.
-pub fn open_table<R: Files>(rt: &R, alloc: Global, name: &str) -> Result<Table<R::File>>
+/// `Error::Io` if it cannot be opened.
+pub fn open_file<R: Files>(rt: &R, name: &str) -> Result<TableFile<R::File>>
+    ensures { IsOkUnless result Error.Io }
+{
+    Ok(TableFile {
+        file: fs::open(rt, name)?,
+    })
+}
+
+/// Reads the footer of a table file.
+///
+/// # Errors
+///
+/// `Error::Io` if the file fails, `Error::Truncated` below 24 bytes, and `Error::Memory` if an
+/// allocation fails.
+pub fn open_run<F: SeekInput + Drop>(alloc: Global, file: F) -> Result<Table<F>>
+    ensures whole { IfOk result (λ t. F.whole t.source.inner ≡ F.whole file) }
+    ensures kept { F.is_memory file → IfOk result (λ t. F.is_memory t.source.inner) }
+    ensures exact { IfSome (F.whole file) (λ all.
+        GivesOr (F.is_memory file → ⊥) ⊥ (λ t. t.handles) result (table_handles all)) }
     ensures err { IfErr result (λ e. (e ≡ Io) ⊎ (e ≡ Truncated) ⊎ (e ≡ Memory)) }
 {
-    let mut file = TableFile {
-        file: fs::open(rt, name)?,
-    };
-    let len = file.seek(SeekFrom::End(0))?;
+    let mut file = file;
+    let len = file.stream_len()?;
     let mut source = FileSource::new(file);
     let handles = read_footer(alloc, &mut source, len)?;
     Ok(Table { source, handles })
@@ -79,10 +105,11 @@ pub fn open_table<R: Files>(rt: &R, alloc: Global, name: &str) -> Result<Table<R
 pub fn read_footer<S: FrameSource>(alloc: Global, source: &mut S, len: u64) -> Result<RunHandles>
     ensures same { S.bytes source.new ≡ S.bytes source.old }
     ensures failures_grow { S.failures source.old ≤ S.failures source.new }
+    ensures kept_reliable { S.is_reliable source.old → S.is_reliable source.new }
     ensures io { IfErr result (λ e. e ≡ Io → S.failures source.old < S.failures source.new) }
     ensures exact { IfSome (S.bytes source.old) (λ all. len ≡ length all
-        → GivesOr (S.failures source.old < S.failures source.new) (λ h. h) result
-        (table_handles all)) }
+        → GivesOr ((S.failures source.old < S.failures source.new)
+        × (S.is_reliable source.old → ⊥)) ⊥ (λ h. h) result (table_handles all)) }
     ensures errors { IfErr result (λ e. (e ≡ Io) ⊎ (e ≡ Truncated) ⊎ (e ≡ Memory)
         ⊎ ((e ≡ BadHandle) × S.may_refuse source.old (footer_place len))) }
 {
@@ -106,9 +133,10 @@ pub fn index_at<S: FrameSource>(
 ) -> Result<IndexBlock>
     ensures same { S.bytes source.new ≡ S.bytes source.old }
     ensures failures_grow { S.failures source.old ≤ S.failures source.new }
+    ensures kept_reliable { S.is_reliable source.old → S.is_reliable source.new }
     ensures io { IfErr result (λ e. e ≡ Io → S.failures source.old < S.failures source.new) }
     ensures exact { IfSome (S.bytes source.old) (λ all.
-        GivesOr (S.failures source.old < S.failures source.new) (λ b. b.items) result
+        GivesOr (S.failures source.old < S.failures source.new) (S.is_reliable source.old) (λ b. b.items) result
         (index_read all handle.now)) }
 {
     let block = block_from::<Poly31, S>(alloc, source, handle, BlockType::Index)?;
@@ -129,9 +157,10 @@ pub fn data_block_at<S: FrameSource>(
 ) -> Result<DataBlock<Poly31>>
     ensures same { S.bytes source.new ≡ S.bytes source.old }
     ensures failures_grow { S.failures source.old ≤ S.failures source.new }
+    ensures kept_reliable { S.is_reliable source.old → S.is_reliable source.new }
     ensures io { IfErr result (λ e. e ≡ Io → S.failures source.old < S.failures source.new) }
     ensures exact { IfSome (S.bytes source.old) (λ all.
-        GivesOr (S.failures source.old < S.failures source.new) (λ b. b.items) result
+        GivesOr (S.failures source.old < S.failures source.new) (S.is_reliable source.old) (λ b. b.items) result
         (block_read all handle.now)) }
 {
     let block = block_from::<Poly31, S>(alloc, source, handle, BlockType::Data)?;

@@ -1,19 +1,22 @@
 //! `walk`: all entries of a table file.
 ghost use Rattle.std.specs.Prelude.{◌≡◌, ◌≢◌, ◌⊎◌, ◌≤◌, ◌<◌, None};
 ghost use Rattle.std.specs.Prelude.{Some, Err, OnOk, IfOk, IfErr};
-ghost use Rattle.std.specs.Prelude.{IfSome, IsOk, length, IsOkUnless, string_bytes};
+ghost use Rattle.std.specs.Prelude.{IfSome, IsOkUnless, string_bytes};
 ghost use Rattle.std.specs.Io.KnownBytes.{Keeps};
 ghost use Rattle.sst_base.specs.declared.error.Error.TheVariants.{Io, Memory};
 ghost use Rattle.sst_program.specs.declared.fault.Fault.TheVariants.{Refused};
 ghost use Rattle.sst_program.specs.Outcome.{lines_text_of, PrintsLines, IsRefused};
-ghost use Rattle.sst_program.specs.TableReads.{block_read, blocks_read, run_blocks, before_refusal};
+ghost use Rattle.sst_program.specs.TableReads.{block_read, blocks_read, run_blocks};
+ghost use Rattle.sst_program.specs.TableReads.{FailsAround, FailsAmong, table_blocks, IsWalkFault};
 ghost use Rattle.sst_program.specs.TableReads.{PrintsLinesOf, PrintsUntil, PrintsFirst};
 
 use crate::fault::Fault;
 use crate::lines::entry_line;
 use crate::output::print_text;
-use crate::table::{data_block_at, index_at, open_table};
-use sstable_blocks::{BlockHandle, DataBlock, Error, FrameSource, IndexBlock, Poly31, Result};
+use crate::table::{data_block_at, index_at, open_file, open_run};
+use sstable_blocks::{
+    BlockHandle, DataBlock, Error, FrameSource, IndexBlock, Poly31, Result, SeekInput,
+};
 use std::alloc::Global;
 use std::io::Write;
 use std::rt::Files;
@@ -41,6 +44,7 @@ fn print_block<S: FrameSource, O: Write>(
 ) -> Result<()>
     ensures same { S.bytes source.new ≡ S.bytes source.old }
     ensures failures_grow { S.failures source.old ≤ S.failures source.new }
+    ensures kept_reliable { S.is_reliable source.old → S.is_reliable source.new }
     ensures printed { OnOk result (PrintsLines (O.contents output.old) (O.contents output.new)) }
     ensures kept { IfErr result
         (λ e. (e ≡ Io) ⊎ Keeps (O.contents output.old) (O.contents output.new)) }
@@ -51,7 +55,8 @@ fn print_block<S: FrameSource, O: Write>(
         (λ all. IfErr result (λ e. e ≢ Memory → e ≢ Io
         → block_read all handle.now ≡ Err e)) }
     ensures io { IfSome (S.bytes source.old) (λ all. IfErr result (λ e. e ≡ Io
-        → (S.failures source.old < S.failures source.new) ⊎ IsOk (block_read all handle.now))) }
+        → FailsAround (S.failures source.old < S.failures source.new) (S.is_reliable source.old)
+        (block_read all handle.now))) }
 {
     let block = data_block_at(alloc, source, handle)?;
     let text = lines_of(alloc, &block)?;
@@ -68,6 +73,7 @@ fn print_blocks<S: FrameSource, O: Write>(
 ) -> Result<()>
     ensures same { S.bytes source.new ≡ S.bytes source.old }
     ensures failures_grow { S.failures source.old ≤ S.failures source.new }
+    ensures kept_reliable { S.is_reliable source.old → S.is_reliable source.new }
     ensures printed { OnOk result (PrintsLines (O.contents output.old) (O.contents output.new)) }
     ensures kept { IfErr result
         (λ e. (e ≡ Io) ⊎ PrintsLines (O.contents output.old) (O.contents output.new)) }
@@ -82,8 +88,8 @@ fn print_blocks<S: FrameSource, O: Write>(
         ⊎ PrintsFirst (O.contents output.old) (O.contents output.new)
         (blocks_read all index.now.items))) }
     ensures io { IfSome (S.bytes source.old) (λ all. IfErr result (λ e. e ≡ Io
-        → (S.failures source.old < S.failures source.new)
-        ⊎ (1 ≤ length (before_refusal (blocks_read all index.now.items))))) }
+        → FailsAmong (S.failures source.old < S.failures source.new) (S.is_reliable source.old)
+        (blocks_read all index.now.items))) }
 {
     for item in index.iter() {
         let handle = BlockHandle::new(item.offset, item.size);
@@ -105,6 +111,7 @@ pub fn print_entries<S: FrameSource, O: Write>(
 ) -> Result<()>
     ensures same { S.bytes source.new ≡ S.bytes source.old }
     ensures failures_grow { S.failures source.old ≤ S.failures source.new }
+    ensures kept_reliable { S.is_reliable source.old → S.is_reliable source.new }
     ensures printed { OnOk result (PrintsLines (O.contents output.old) (O.contents output.new)) }
     ensures kept { IfErr result
         (λ e. (e ≡ Io) ⊎ PrintsLines (O.contents output.old) (O.contents output.new)) }
@@ -119,8 +126,8 @@ pub fn print_entries<S: FrameSource, O: Write>(
         ⊎ PrintsFirst (O.contents output.old) (O.contents output.new)
         (run_blocks all index.now))) }
     ensures io { IfSome (S.bytes source.old) (λ all. IfErr result (λ e. e ≡ Io
-        → (S.failures source.old < S.failures source.new)
-        ⊎ (1 ≤ length (before_refusal (run_blocks all index.now))))) }
+        → FailsAmong (S.failures source.old < S.failures source.new) (S.is_reliable source.old)
+        (run_blocks all index.now))) }
 {
     let index = index_at(alloc, source, index)?;
     print_blocks(alloc, source, &index, output)
@@ -135,6 +142,34 @@ pub fn print_entries<S: FrameSource, O: Write>(
 /// footer, then those of the index and of its blocks in order: see `index_at` and `data_block_at`.
 /// `Error::Memory` if an allocation fails. The entries of the blocks before are printed, unless the
 /// output failed.
+pub fn walk_from<F: SeekInput + Drop, O: Write>(
+    alloc: Global,
+    file: F,
+    output: &mut O,
+) -> std::result::Result<(), Fault>
+    ensures printed { OnOk result (PrintsLines (O.contents output.old) (O.contents output.new)) }
+    ensures err { IfErr result IsRefused }
+    ensures kept { IfErr result
+        (λ fault. (fault ≡ Refused Io)
+        ⊎ PrintsLines (O.contents output.old) (O.contents output.new)) }
+
+    // Of a file whose bytes are known.
+    ensures exact { IfSome (F.whole file) (λ all. OnOk result
+        (PrintsUntil (O.contents output.old) (O.contents output.new) (table_blocks all) None)) }
+    ensures fault { IfSome (F.whole file) (λ all. IfErr result
+        (IsWalkFault (F.is_memory file) (O.contents output.old) (O.contents output.new)
+        (table_blocks all))) }
+{
+    let mut table = open_run(alloc, file)?;
+    print_entries(alloc, &mut table.source, &table.handles.index, output)?;
+    Ok(())
+}
+
+/// Opens a table file, and prints all its entries: see [`walk_from`].
+///
+/// # Errors
+///
+/// `Error::Io` if the file cannot be opened; then those of [`walk_from`].
 pub fn walk<R: Files, O: Write>(
     rt: &R,
     alloc: Global,
@@ -147,7 +182,5 @@ pub fn walk<R: Files, O: Write>(
         (λ fault. (fault ≡ Refused Io)
         ⊎ PrintsLines (O.contents output.old) (O.contents output.new)) }
 {
-    let mut table = open_table(rt, alloc, file)?;
-    print_entries(alloc, &mut table.source, &table.handles.index, output)?;
-    Ok(())
+    walk_from(alloc, open_file(rt, file)?, output)
 }

@@ -1,116 +1,144 @@
 //! Checks the sources of the repository: that the code which reads blocks gets at their bytes by
-//! the counting reader alone, a rule that no contract can state.
+//! the calls that count alone, a rule that no contract can state.
 //!
-//! Its one argument is the folder of the crates; with none it tries the rules on planted texts
-//! alone. Prints a line for each rule that is broken, and then how many there are; the status is 1
-//! if one is broken or a source cannot be read.
+//! The words are the folder of the crates, and the sources below it that the rules cover. With none
+//! the rules are tried on planted texts alone. Prints a line for each rule that is broken, and then
+//! how many sources keep them; the status is 1 if one is broken or a source cannot be read.
 #![tactic(auto)]
 
+mod payloads;
 mod planted;
 mod rules;
+mod tokens;
 
-use planted::PLANTED;
-use rules::{COUNTS, READERS, TOTALS, count, direct_read};
+use payloads::{count, first_misuse};
+use planted::{COUNTED, PLANTED};
+use rules::{CHECKS, MADE, MAKERS, READERS};
 use std::env::Env;
 use std::process::ExitCode;
 use std::rt::Files;
 use std::{env, fs, io};
+use tokens::tokens_of;
 
-/// Returns the text of a source below the folder of the crates.
-fn source<R: Files + AllocGlobal>(rt: &R, folder: &str, name: &str) -> io::Result<String> {
+/// Returns the tokens of a source below the folder of the crates.
+fn source<R: Files + AllocGlobal>(rt: &R, folder: &str, name: &str) -> io::Result<Vec<String>> {
     let path = format!(in rt.alloc(); "{folder}/{name}")?;
-    fs::read_to_string(rt, path.as_str())
+    tokens_of(rt, fs::read_to_string(rt, path.as_str())?.as_str())
 }
 
-/// Returns how many lines of code of all the readers have a word.
-fn count_all<R: Files + AllocGlobal>(rt: &R, folder: &str, word: &str) -> io::Result<usize> {
-    let mut found = 0usize;
-    for name in READERS {
-        let text = source(rt, folder, name)?;
-        found = found.saturating_add(count(text.as_str(), word));
-    }
-    Ok(found)
-}
-
-/// Returns whether no reader reads bytes directly, and prints those that do.
-fn readers_hold<R: Files + AllocGlobal + Print>(rt: &R, folder: &str) -> io::Result<bool> {
-    let mut holds = true;
-    for name in READERS {
-        if let Some(word) = direct_read(source(rt, folder, name)?.as_str()) {
-            println!(rt; "{name}: names {word}")?;
-            holds = false;
+/// Returns how often a source may have what makes a reader, an iterator or counters.
+fn allowed(name: &str, maker: &str) -> usize {
+    for (source, made, number) in MADE {
+        if source == name && made == maker {
+            return number;
         }
     }
-    Ok(holds)
+    0
 }
 
-/// Returns whether a source has each word in as many lines as it should, and prints where not.
-fn counts_hold<R: Files + AllocGlobal + Print>(rt: &R, folder: &str) -> io::Result<bool> {
-    let mut holds = true;
-    for (name, word, wanted) in COUNTS {
-        let found = count(source(rt, folder, name)?.as_str(), word);
-        if found != wanted {
-            println!(rt; "{name}: {found} lines with {word}, not {wanted}")?;
-            holds = false;
-        }
-    }
-    Ok(holds)
-}
-
-/// Returns whether all readers together have each word in as many lines as they should, and prints
+/// Returns whether a source makes readers, iterators and counters only where it may, and prints
 /// where not.
-fn totals_hold<R: Files + AllocGlobal + Print>(rt: &R, folder: &str) -> io::Result<bool> {
+fn makers_hold<R: AllocGlobal + Print>(rt: &R, name: &str, tokens: &[String]) -> io::Result<bool> {
     let mut holds = true;
-    for (word, wanted) in TOTALS {
-        let found = count_all(rt, folder, word)?;
+    for maker in MAKERS {
+        let (found, wanted) = (count(rt, tokens, maker)?, allowed(name, maker));
         if found != wanted {
-            println!(rt; "all readers: {found} lines with {word}, not {wanted}")?;
+            println!(rt; "{name}: {found} times {maker}, not {wanted}")?;
             holds = false;
         }
     }
     Ok(holds)
 }
 
-/// Returns whether a direct read is found in each planted text that has one, and in no other, and
-/// prints where not.
-fn planted_hold(rt: &impl Print) -> io::Result<bool> {
+/// Returns whether a source leaves the bytes of blocks alone, and prints where not.
+fn payloads_hold<R: AllocGlobal + Print>(
+    rt: &R,
+    name: &str,
+    tokens: &[String],
+) -> io::Result<bool> {
+    let Some(at) = first_misuse(rt, tokens)? else {
+        return Ok(true);
+    };
+    println!(rt; "{name}: the bytes of a block are got at, about:")?;
+    for token in tokens.iter().skip(at.saturating_sub(8)).take(16) {
+        println!(rt; "    {token}")?;
+    }
+    Ok(false)
+}
+
+/// Returns whether the rules hold for a source.
+fn holds<R: Files + AllocGlobal + Print>(rt: &R, folder: &str, name: &str) -> io::Result<bool> {
+    if READERS.iter().any(|reader| *reader == name) || CHECKS.iter().any(|check| *check == name) {
+        return Ok(true);
+    }
+    let tokens = source(rt, folder, name)?;
+    let makers = makers_hold(rt, name, tokens.as_slice())?;
+    let payloads = payloads_hold(rt, name, tokens.as_slice())?;
+    Ok(makers && payloads)
+}
+
+/// Returns whether the rules tell the planted texts apart, and prints where not.
+fn planted_hold<R: AllocGlobal + Print>(rt: &R) -> io::Result<bool> {
     let mut holds = true;
-    for (text, is_direct) in PLANTED {
-        if direct_read(text).is_some() != is_direct {
+    for (text, is_misuse) in PLANTED {
+        let tokens = tokens_of(rt, text)?;
+        if first_misuse(rt, tokens.as_slice())?.is_some() != is_misuse {
             println!(rt; "planted text told wrong: {text}")?;
             holds = false;
         }
     }
+    for (text, maker, number) in COUNTED {
+        let tokens = tokens_of(rt, text)?;
+        if count(rt, tokens.as_slice(), maker)? != number {
+            println!(rt; "planted text counted wrong: {text}")?;
+            holds = false;
+        }
+    }
     Ok(holds)
 }
 
-/// Returns whether all rules hold for the sources below a folder, and prints those that do not.
-fn check<R: Files + AllocGlobal + Print>(rt: &R, folder: &str) -> io::Result<bool> {
-    let readers = readers_hold(rt, folder)?;
-    let counts = counts_hold(rt, folder)?;
-    let totals = totals_hold(rt, folder)?;
-    Ok(readers && counts && totals)
+/// Returns whether each source of [`MADE`] is among the names, and prints those that are not.
+fn all_named(rt: &impl Print, names: &[String]) -> io::Result<bool> {
+    let mut holds = true;
+    for (source, _, _) in MADE {
+        if !names.iter().any(|name| name.as_str() == source) {
+            println!(rt; "{source}: not among the sources")?;
+            holds = false;
+        }
+    }
+    Ok(holds)
 }
 
-/// Returns the program's one argument, if it has one.
-fn folder_of<R: Env + AllocGlobal>(rt: &R) -> io::Result<Option<String>> {
-    let mut words = env::args(rt)?.skip(1);
-    Ok(words.next())
+/// Returns whether the rules hold for all sources of these names.
+fn check<R: Files + AllocGlobal + Print>(
+    rt: &R,
+    folder: &str,
+    names: &[String],
+) -> io::Result<bool> {
+    let mut hold = all_named(rt, names)?;
+    for name in names {
+        if !holds(rt, folder, name.as_str())? {
+            hold = false;
+        }
+    }
+    Ok(hold)
 }
 
 fn main(rt: HostRuntime) -> io::Result<ExitCode> {
     if !planted_hold(&rt)? {
         return Ok(ExitCode::FAILURE);
     }
-    let planted = PLANTED.len();
+    let planted = PLANTED.len() + COUNTED.len();
     println!(rt; "{planted} planted texts are told apart")?;
-    let Some(folder) = folder_of(&rt)? else {
+    let mut words = env::args(&rt)?.skip(1);
+    let Some(folder) = words.next() else {
         return Ok(ExitCode::SUCCESS);
     };
-    if !check(&rt, folder.as_str())? {
+    let names: Vec<String> = words.collect(rt.alloc())?;
+    if !check(&rt, folder.as_str(), names.as_slice())? {
         return Ok(ExitCode::FAILURE);
     }
-    let rules = READERS.len() + COUNTS.len() + TOTALS.len();
-    println!(rt; "{rules} rules hold for the sources")?;
+    let sources = names.len();
+    println!(rt; "the rules hold for {sources} sources")?;
     Ok(ExitCode::SUCCESS)
 }

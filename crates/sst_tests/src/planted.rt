@@ -1,18 +1,71 @@
 //! Planted texts: reads that the rules must find, and lines that they must leave alone.
 
-/// A text, and whether it names a direct read.
-pub const PLANTED: [(&str, bool); 13] = [
+/// A text, and whether it gets at the bytes of a block where it may not.
+pub const PLANTED: [(&str, bool); 30] = [
     ("let b = payload[at];", true),
     ("        let b = self.payload[at];\n", true),
-    ("use sst_base::decode_varint;\nlet x = 1;", true),
-    ("let (key, seqno) = Item::read_head(payload, offset);", true),
-    ("let steps = Steps::new();", true),
-    ("// A comment.\nlet byte = bytes[0];", true),
+    ("let (_, rest) = payload.split_at(at);", true),
+    (
+        "let Some((first, rest)) = self.payload.split_first() else {",
+        true,
+    ),
+    ("let byte = payload.first();", true),
+    ("match payload { [first, ..] => *first }", true),
+    ("for byte in payload { sum += byte; }", true),
+    ("let sum = payload.iter().count();", true),
+    ("let copy = payload;", true),
+    ("scan(payload, at)", true),
+    ("scan(\n    payload,\n    at,\n)", true),
+    ("compare_bytes(self.payload, needle)", true),
+    ("Item::read_head(&payload[1..], offset, steps)", true),
+    ("fn leak(payload: &[u8]) -> &[u8] { payload }", true),
+    ("let bytes = self.inner.data().as_slice();", true),
+    ("self.inner.data().as_slice()[0]", true),
+    ("let first = self.as_slice().as_slice()[0];", true),
+    ("hash(block.as_slice())", true),
+    ("let found = iter.payload;", true),
+    (
+        "Item::read_head(self.payload, offset, &mut self.steps)",
+        false,
+    ),
+    (
+        "FormReader {\n    kinds: PhantomData,\n    payload,\n    steps,\n}",
+        false,
+    ),
+    ("let payload = block.data().as_slice();", false),
+    ("fn new(payload: &'a [u8]) -> FormReader<'a> {", false),
+    ("let fits = payload.len() < 9;", false),
+    ("Some(item.materialize(alloc, self.as_slice())?)", false),
+    (
+        "self.item.compare_key(needle, self.payload.as_slice())",
+        false,
+    ),
+    ("EntryRef { payload: self.payload, item }", false),
     ("// let b = payload[at];", false),
-    ("    /// Decodes `Item::read_head`.", false),
-    ("    ensures head { payload[at] }", false),
-    ("    requires { decode_varint }", false),
-    ("    ghost item_of: { Item::read_ };", false),
-    ("self.forms.read_head(at.offset)", false),
-    ("", false),
+    (
+        "    ensures head { payload[at] }\n    /// Decodes `payload[at]`.",
+        false,
+    ),
+    (
+        "    ensures exact { f payload\n        payload[at] }\nlet x = 1;",
+        false,
+    ),
+];
+
+/// A text, what makes a reader, an iterator or counters, and how often it stands there.
+pub const COUNTED: [(&str, &str, usize); 6] = [
+    ("let walked = self.entries().count();", ". entries (", 1),
+    (
+        "let walked = self.entries()\n    .filter(|e| self.entries().count() > 0);",
+        ". entries (",
+        2,
+    ),
+    ("let mut steps = Steps::default();", "Steps : : default", 1),
+    ("use sst_base::decode_varint;", "decode_varint", 1),
+    (
+        "// Steps::new\nlet steps = Steps::new();",
+        "Steps : : new",
+        1,
+    ),
+    ("    ensures none { Steps::new }", "Steps : : new", 0),
 ];

@@ -1,164 +1,198 @@
-//! What the code that reads blocks may name: the bytes of a block are read by one counting reader
-//! alone, so no head and no entry is examined that the counters do not count.
+//! What the code that reads blocks may name: the bytes of a block are read by the calls of the item
+//! traits alone, which count, so no head and no entry is examined that the counters do not count.
 
-/// The sources that read heads and entries by the counting reader, below the folder of the crates.
-pub const READERS: [&str; 12] = [
-    "sst_block_core/src/table/block/decoder.rt",
-    "sst_block_core/src/table/block/intervals.rt",
-    "sst_block_core/src/table/block/search.rt",
-    "sst_block_core/src/table/block/seeks.rt",
-    "sst_block_core/src/table/block/back.rt",
-    "sst_block_core/src/table/block/bound.rt",
-    "sst_block_core/src/table/block/place.rt",
-    "sst_block_kinds/src/table/data_block/mod.rt",
-    "sst_block_kinds/src/table/data_block/point_read.rt",
-    "sst_block_kinds/src/table/data_block/iter.rt",
-    "sst_block_kinds/src/table/data_block/ops.rt",
-    "sst_block_kinds/src/table/data_block/entry_ref.rt",
+/// Sources that read bytes themselves, or write them: the check and what it alone calls, the
+/// encoder and the writer of runs, the trailer and the two indexes, and the implementations of the
+/// item traits with what they call.
+pub const READERS: [&str; 21] = [
+    "sst_block_core/src/table/block/check/buckets.rt",
+    "sst_block_core/src/table/block/check/keys.rt",
+    "sst_block_core/src/table/block/check/mod.rt",
+    "sst_block_core/src/table/block/check/parts.rt",
+    "sst_block_core/src/table/block/check/pass.rt",
+    "sst_block_core/src/table/block/check/tally.rt",
+    "sst_block_core/src/table/block/check/truncation.rt",
+    "sst_block_core/src/table/block/encoder.rt",
+    "sst_block_core/src/table/block/writing.rt",
+    "sstable_blocks/src/run/run_core.rt",
+    "sst_block_core/src/table/block/trailer.rt",
+    "sst_block_core/src/table/block/binary_index/builder.rt",
+    "sst_block_core/src/table/block/binary_index/reader.rt",
+    "sst_block_core/src/table/block/hash_index/builder.rt",
+    "sst_block_core/src/table/block/hash_index/reader.rt",
+    "sst_block_core/src/table/block/key_ranges.rt",
+    "sst_block_core/src/table/block/reading.rt",
+    "sst_block_kinds/src/table/data_block/decoding.rt",
+    "sst_block_kinds/src/table/data_block/parsed_item.rt",
+    "sst_block_kinds/src/table/index_block/decoding.rt",
+    "sst_block_kinds/src/table/index_block/parsed_item.rt",
 ];
 
-/// What code names that reads the bytes of a block by itself, or makes counters of its own. No
-/// reader names any.
-pub const DIRECT: [&str; 25] = [
+/// Sources of the check in the kinds, which call nothing but parsers.
+pub const CHECKS: [&str; 2] = [
+    "sst_block_kinds/src/table/data_block/checking.rt",
+    "sst_block_kinds/src/table/index_block/checking.rt",
+];
+
+/// The calls that a payload may be handed to: those of the item traits, of the decoder, of the index
+/// readers, of the one reader that counts, of blocks, and of the two that make an item of its ranges.
+pub const CALLS: [&str; 13] = [
+    "Item::read_head",
+    "Item::read_full",
+    "Item::read_truncated",
+    "item.prefix_len",
+    "item.own_key",
+    "item.compare_key",
+    "item.materialize",
+    "FormReader::new",
+    "Reader::new",
+    "Decoder::new",
+    "Block::from_parts",
+    "made",
+    "perform",
+];
+
+/// What makes a reader, a decoder, an iterator or counters, gets at the payload, or reads numbers;
+/// each as it stands in tokens.
+pub const MAKERS: [&str; 23] = [
+    "FormReader : : new (",
+    "Intervals : : new (",
+    "Decoder : : new (",
+    "Iter : : new (",
+    "Entries : : new (",
+    "Reader : : new (",
+    "FormReader {",
+    "Intervals {",
+    "Decoder {",
+    ". iter (",
+    ". into_iter (",
+    ". entries (",
+    ". intervals (",
+    ". data (",
+    "Steps : : new",
+    "Steps : : default",
+    "Default : : default",
     "decode_varint",
-    "read_number",
-    "read_long_number",
-    "read_length_prefixed",
-    "read_full_form",
-    "read_truncated_form",
-    "read_head(payload",
-    "Item::read_",
-    "Item::parse_",
-    "InternalValue::read_",
-    "InternalValue::parse_",
-    "Decodable::",
-    "number_from",
-    "from_le_bytes",
-    "LittleEndian",
-    "payload[",
-    "payload.get(",
-    "bytes[",
-    ".as_slice()[",
-    "get_unchecked",
-    "as_ptr",
-    "Steps::new",
     "count_head",
     "count_entry",
-    "FormReader {",
+    "read_number",
+    "from_le_bytes",
+    "unsafe",
 ];
 
-/// In how many lines of code of all readers together a word stands.
-pub const TOTALS: [(&str, usize); 3] = [
-    ("FormReader::new", 1),
-    (".data()", 4),
-    ("Intervals::new", 2),
-];
-
-/// A source, and in how many lines of its code a word stands.
-pub const COUNTS: [(&str, &str, usize); 26] = [
-    // The one counting reader is made where intervals are opened.
+/// A source, one of [`MAKERS`], and how often it stands there. Where none is given it stands
+/// nowhere.
+pub const MADE: [(&str, &str, usize); 27] = [
+    // The one reader that counts is made where intervals are opened.
+    (
+        "sst_block_core/src/table/block/form_reader.rt",
+        "FormReader {",
+        1,
+    ),
+    (
+        "sst_block_core/src/table/block/form_reader.rt",
+        "Steps : : new",
+        1,
+    ),
     (
         "sst_block_core/src/table/block/intervals.rt",
-        "FormReader::new",
-        1,
-    ),
-    ("sst_block_core/src/table/block/intervals.rt", ".data()", 1),
-    // Its payload is a private field, and only it makes counters.
-    (
-        "sst_block_core/src/table/block/form_reader.rt",
-        "    payload: &'a [u8],",
+        "FormReader : : new (",
         1,
     ),
     (
-        "sst_block_core/src/table/block/form_reader.rt",
-        "fn payload",
-        0,
-    ),
-    (
-        "sst_block_core/src/table/block/form_reader.rt",
-        "pub payload",
-        0,
-    ),
-    (
-        "sst_block_core/src/table/block/form_reader.rt",
-        ") payload",
-        0,
-    ),
-    (
-        "sst_block_core/src/table/block/form_reader.rt",
-        "Steps::new",
+        "sst_block_core/src/table/block/intervals.rt",
+        "Reader : : new (",
         1,
     ),
-    // A point read opens the intervals of its block once, and walks over them by no iterator.
     (
-        "sst_block_kinds/src/table/data_block/point_read.rt",
-        ".iter()",
-        0,
-    ),
-    (
-        "sst_block_kinds/src/table/data_block/point_read.rt",
-        "entries()",
-        0,
-    ),
-    (
-        "sst_block_kinds/src/table/data_block/point_read.rt",
-        "Decoder",
-        0,
-    ),
-    (
-        "sst_block_kinds/src/table/data_block/point_read.rt",
-        ".next()",
-        0,
-    ),
-    (
-        "sst_block_kinds/src/table/data_block/point_read.rt",
-        ".next_back()",
-        0,
-    ),
-    (
-        "sst_block_kinds/src/table/data_block/point_read.rt",
-        "self.intervals()",
+        "sst_block_core/src/table/block/intervals.rt",
+        "Intervals {",
         1,
     ),
-    // A read of a run opens one index block and one data block, and reads each by one call.
-    ("sstable_blocks/src/run/read.rt", "IndexBlock::new", 1),
-    ("sstable_blocks/src/run/read.rt", "index.iter()", 1),
-    ("sstable_blocks/src/run/read.rt", "iter.seek(", 1),
-    ("sstable_blocks/src/run/read.rt", ".next()", 1),
-    ("sstable_blocks/src/run/read.rt", "DataBlock::<H>::new", 1),
-    ("sstable_blocks/src/run/read.rt", "block.point_read(", 1),
-    ("sstable_blocks/src/run/read.rt", ".iter()", 1),
-    ("sstable_blocks/src/run/read.rt", "entries()", 0),
-    ("sstable_blocks/src/run/read.rt", "Decoder", 0),
-    ("sstable_blocks/src/run/read.rt", "Steps::new", 0),
-    ("sstable_blocks/src/run/read.rt", "read_number", 0),
-    ("sstable_blocks/src/run/read.rt", "decode_varint", 0),
-    ("sstable_blocks/src/run/read.rt", "parse_", 0),
+    ("sst_block_core/src/table/block/intervals.rt", ". data (", 1),
+    (
+        "sst_block_core/src/table/block/decoder.rt",
+        "Intervals : : new (",
+        1,
+    ),
+    ("sst_block_core/src/table/block/decoder.rt", "Decoder {", 1),
+    // A block makes an iterator over itself, and a point read opens its intervals once.
+    (
+        "sst_block_kinds/src/table/data_block/mod.rt",
+        "Iter : : new (",
+        1,
+    ),
+    (
+        "sst_block_kinds/src/table/data_block/mod.rt",
+        "Decoder : : new (",
+        1,
+    ),
+    (
+        "sst_block_kinds/src/table/data_block/mod.rt",
+        "Entries : : new (",
+        1,
+    ),
+    (
+        "sst_block_kinds/src/table/data_block/mod.rt",
+        "Reader : : new (",
+        1,
+    ),
+    (
+        "sst_block_kinds/src/table/data_block/mod.rt",
+        ". entries (",
+        1,
+    ),
+    (
+        "sst_block_kinds/src/table/data_block/mod.rt",
+        ". intervals (",
+        1,
+    ),
+    ("sst_block_kinds/src/table/data_block/mod.rt", ". data (", 2),
+    (
+        "sst_block_kinds/src/table/data_block/point_read.rt",
+        "Intervals : : new (",
+        1,
+    ),
+    (
+        "sst_block_kinds/src/table/data_block/point_read.rt",
+        ". intervals (",
+        1,
+    ),
+    (
+        "sst_block_kinds/src/table/data_block/entry_ref.rt",
+        ". iter (",
+        1,
+    ),
+    ("sst_block_kinds/src/table/data_block/ops.rt", ". iter (", 1),
+    (
+        "sst_block_kinds/src/table/index_block/mod.rt",
+        "Iter : : new (",
+        1,
+    ),
+    (
+        "sst_block_kinds/src/table/index_block/mod.rt",
+        "Decoder : : new (",
+        1,
+    ),
+    (
+        "sst_block_kinds/src/table/index_block/mod.rt",
+        ". data (",
+        1,
+    ),
+    // (over handles that are to be written)
+    (
+        "sst_block_kinds/src/table/index_block/mod.rt",
+        ". iter (",
+        1,
+    ),
+    (
+        "sst_block_kinds/src/table/index_block/ops.rt",
+        ". iter (",
+        1,
+    ),
+    // A read of a run opens one index block and one data block, and reads each by one call. One
+    // that checks counts what it looks at for nobody.
+    ("sstable_blocks/src/run/read.rt", ". iter (", 1),
+    ("sstable_blocks/src/run/checked.rt", "Steps : : new", 2),
+    ("sstable_blocks/src/run/round_trip.rt", "Steps : : new", 1),
 ];
-
-/// Returns whether a line is code: no comment, contract or ghost line.
-pub fn is_code(line: &str) -> bool {
-    let text = line.trim_start();
-    let is_other = text.starts_with("//")
-        || text.starts_with("ghost")
-        || text.starts_with("requires")
-        || text.starts_with("ensures");
-    !is_other
-}
-
-/// Returns how many lines of code of a text have a word.
-pub fn count(text: &str, word: &str) -> usize {
-    text.lines()
-        .filter(|line| is_code(line) && line.contains(word))
-        .count()
-}
-
-/// Returns the first word of [`DIRECT`] that a text's code names.
-pub fn direct_read(text: &str) -> Option<&'static str> {
-    for word in DIRECT {
-        if count(text, word) > 0 {
-            return Some(word);
-        }
-    }
-    None
-}

@@ -1,5 +1,5 @@
 -- From an exact answer of a checked read to what it means.
-use Rattle.std.proofs.Common.{◌≡◌, ℕ, ◌∙◌, sym, List, Option, Some, None, Result, Ok, Err, IfOk, IfSome}
+use Rattle.std.proofs.Common.{◌≡◌, ℕ, ◌∙◌, sym, List, Option, Some, None, Result, Ok, Err, OnOk, IfOk, IfSome}
 use Rattle.sst_base.specs.Bytes.{IsBytes}
 use Rattle.sst_base.specs.Entry.{Entry}
 use Rattle.sst_base.specs.declared.error.Error.{Error}
@@ -12,24 +12,21 @@ use Rattle.sstable_blocks.specs.Sources.{GivesOr}
 use Rattle.sstable_blocks.specs.declared.run.RunConfig.{RunConfig}
 use Rattle.sstable_blocks.specs.declared.run.RunHandles.{RunHandles}
 
-given_on : {X : Type 0} (failed : Type 0) (r read : Result X Error) (Q : X → Type 0) → ((x : X) → read ≡ Ok x → Q x) → GivesOr failed (λ x. x) r read → IfOk r Q
-given_on failed (Ok x) read Q f h = f x h
-given_on failed (Err e) read Q f h = tt
+given_is : {X : Type 0} (failed reliable : Type 0) (r read : Result X Error) (y : X) → read ≡ Ok y → GivesOr failed reliable (λ x. x) r read → IfOk r (λ x. x ≡ y)
+given_is {X = X} failed reliable (Ok x) read y e h = let k : ◌≡◌ {A = Result X Error} (Ok x) (Ok y) = sym h ∙ e in cc
+given_is failed reliable (Err d) read y e h = tt
 
-given_is : {X : Type 0} (failed : Type 0) (r read : Result X Error) (y : X) → read ≡ Ok y → GivesOr failed (λ x. x) r read → IfOk r (λ x. x ≡ y)
-given_is {X = X} failed (Ok x) read y e h = let k : ◌≡◌ {A = Result X Error} (Ok x) (Ok y) = sym h ∙ e in cc
-given_is failed (Err d) read y e h = tt
-
-pub means_on : (c : Hashes) (o : Option (List ℕ)) (failed : Type 0) (r : Result (Option Entry) Error) (h : RunHandles) (needle : List ℕ) (seqno : ℕ)
+pub means_on : (c : Hashes) (o : Option (List ℕ)) (failed reliable : Type 0) (r : Result (Option Entry) Error) (h : RunHandles) (needle : List ℕ) (seqno : ℕ)
     → ((all : List ℕ) (answer : Option Entry) → IsBytes all → read_checked c all h needle seqno ≡ Ok answer → AnswerMeans c all h needle seqno answer)
-    → IfSome o (λ all. GivesOr failed (λ x. x) r (read_checked c all h needle seqno)) → IfSome o (λ all. IsBytes all → IfOk r (AnswerMeans c all h needle seqno))
-means_on c None failed r h needle seqno law given = tt
-means_on c (Some all) failed r h needle seqno law given = λ bytes. given_on failed r (read_checked c all h needle seqno) (AnswerMeans c all h needle seqno) (λ x. law all x bytes) given
+    → OnOk r (IfSome o IsBytes) → IfSome o (λ all. GivesOr failed reliable (λ x. x) r (read_checked c all h needle seqno)) → IfSome o (λ all. IfOk r (AnswerMeans c all h needle seqno))
+means_on c None failed reliable r h needle seqno law cells given = tt
+means_on c (Some all) failed reliable (Ok x) h needle seqno law cells given = law all x cells given
+means_on c (Some all) failed reliable (Err e) h needle seqno law cells given = tt
 
-pub layout_on : (hash64 hash128 : List ℕ → ℕ) (o : Option (List ℕ)) (failed : Type 0) (r : Result (Option Entry) Error) (h : RunHandles) (needle : List ℕ) (seqno : ℕ)
+pub layout_on : (hash64 hash128 : List ℕ → ℕ) (o : Option (List ℕ)) (failed reliable : Type 0) (r : Result (Option Entry) Error) (h : RunHandles) (needle : List ℕ) (seqno : ℕ)
     → ((all : List ℕ) (config : RunConfig) (blocks : List (List Entry)) → IsLayout (form hash64 hash128 config) blocks all h → read_checked (hashes hash64 hash128) all h needle seqno ≡ Ok (first_match entries needle seqno (joined blocks)))
-    → IfSome o (λ all. GivesOr failed (λ x. x) r (read_checked (hashes hash64 hash128) all h needle seqno))
+    → IfSome o (λ all. GivesOr failed reliable (λ x. x) r (read_checked (hashes hash64 hash128) all h needle seqno))
     → IfSome o (λ all. (config : RunConfig) (blocks : List (List Entry)) → IsLayout (form hash64 hash128 config) blocks all h → IfOk r (λ found. found ≡ first_match entries needle seqno (joined blocks)))
-layout_on hash64 hash128 None failed r h needle seqno law given = tt
-layout_on hash64 hash128 (Some all) failed r h needle seqno law given = λ config blocks layout.
-    given_is failed r (read_checked (hashes hash64 hash128) all h needle seqno) (first_match entries needle seqno (joined blocks)) (law all config blocks layout) given
+layout_on hash64 hash128 None failed reliable r h needle seqno law given = tt
+layout_on hash64 hash128 (Some all) failed reliable r h needle seqno law given = λ config blocks layout.
+    given_is failed reliable r (read_checked (hashes hash64 hash128) all h needle seqno) (first_match entries needle seqno (joined blocks)) (law all config blocks layout) given

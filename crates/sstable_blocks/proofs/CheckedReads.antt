@@ -15,7 +15,8 @@ use Rattle.sst_base.specs.declared.table.block.block_type.BlockType.TheVariants 
 use Rattle.sst_block_kinds.specs.Handles.{handles}
 use Rattle.sstable_blocks.specs.Lookup.{handle_for}
 use Rattle.sstable_blocks.specs.Opened.{range_of}
-use Rattle.sstable_blocks.specs.RunReading.{Hashes, payload_at, read_block, read_blocks}
+use Rattle.sstable_blocks.specs.RunReading.{Hashes, payload_at, filter_says, read_block, read_blocks, read_checked}
+use Rattle.sstable_blocks.specs.declared.run.RunHandles.{RunHandles}
 use Rattle.sstable_blocks.specs.Sources.{GivesOr}
 use Rattle.sst_base.specs.Entry.{Entry}
 use Rattle.sst_block_kinds.specs.Checks.{all_below, data_check, index_check, DataVerdict, DataRefusal, IndexVerdict, IndexRefusal}
@@ -87,23 +88,36 @@ pub asked_not_io : (p : List ℕ) (r : Result Bool Error) → IfErr r (λ e. fil
 asked_not_io p (Ok b) err = tt
 asked_not_io p (Err e) err = subst NotIo err (filter_not_io p)
 
--- a source that failed later failed
-gives_or_later : {X Y : Type 0} (P Q : Type 0) (view : X → Y) (r : Result X Error) (read : Result Y Error) → (P → Q) → GivesOr P view r read → GivesOr Q view r read
-gives_or_later P Q view (Ok x) read f h = h
-gives_or_later P Q view (Err e) read f h = λ other. elim (h other) [
-  | inl failed ↦ inl (failed.0, f failed.1)
+-- a source that failed later failed, and what a reading behind others meets they meet
+gives_or_later : {X Y : Type 0} (P Q R T : Type 0) (view : X → Y) (r : Result X Error) (read : Result Y Error) → (P → Q) → (T → R) → GivesOr P R view r read → GivesOr Q T view r read
+gives_or_later P Q R T view (Ok x) read f k h = h
+gives_or_later P Q R T view (Err e) read f k h = λ other. elim (h other) [
+  | inl failed ↦ inl (failed.0, f failed.1, λ t. failed.2 (k t))
   | inr same ↦ inr same
 ]
 
 -- the read by an index whose block was read and checked is that of the block of its handle
-pub by_index : (c : Hashes) (before after : Option (List ℕ)) (old mid new : ℕ) (index : HandleParts) (p : List ℕ) (items : List Handle) (o : Option HandleParts) (needle : List ℕ) (seqno : ℕ) (r : Result (Option Entry) Error)
-    → after ≡ before → old ≤ mid → IfSome before (λ all. payload_at c types.Index all index ≡ Ok p) → index_check p ≡ Ok items → o ≡ option_map range_of (handle_for handles needle seqno items)
-    → IfSome after (λ all. (h : Option Handle) → o ≡ option_map range_of h → GivesOr (mid < new) (λ x. x) r (read_block c all h needle seqno))
-    → IfSome before (λ all. GivesOr (old < new) (λ x. x) r (read_blocks c all index needle seqno))
-by_index c None after old mid new index p items o needle seqno r same le at checked is read = tt
-by_index c (Some all) after old mid new index p items o needle seqno r same le at checked is read =
-    let here = subst (λ b. IfSome b (λ all. (h : Option Handle) → o ≡ option_map range_of h → GivesOr (mid < new) (λ x. x) r (read_block c all h needle seqno))) same read in
-    let given = gives_or_later (mid < new) (old < new) (λ x. x) r (read_block c all (handle_for handles needle seqno items) needle seqno) (λ less. omega arith) (here (handle_for handles needle seqno items) is) in
+pub by_index : (c : Hashes) (before after : Option (List ℕ)) (old mid new : ℕ) (R T : Type 0) (index : HandleParts) (p : List ℕ) (items : List Handle) (o : Option HandleParts) (needle : List ℕ) (seqno : ℕ) (r : Result (Option Entry) Error)
+    → after ≡ before → old ≤ mid → (T → R) → IfSome before (λ all. payload_at c types.Index all index ≡ Ok p) → index_check p ≡ Ok items → o ≡ option_map range_of (handle_for handles needle seqno items)
+    → IfSome after (λ all. (h : Option Handle) → o ≡ option_map range_of h → GivesOr (mid < new) R (λ x. x) r (read_block c all h needle seqno))
+    → IfSome before (λ all. GivesOr (old < new) T (λ x. x) r (read_blocks c all index needle seqno))
+by_index c None after old mid new R T index p items o needle seqno r same le kept at checked is read = tt
+by_index c (Some all) after old mid new R T index p items o needle seqno r same le kept at checked is read =
+    let here = subst (λ b. IfSome b (λ all. (h : Option Handle) → o ≡ option_map range_of h → GivesOr (mid < new) R (λ x. x) r (read_block c all h needle seqno))) same read in
+    let given = gives_or_later (mid < new) (old < new) R T (λ x. x) r (read_block c all (handle_for handles needle seqno items) needle seqno) (λ less. omega arith) kept (here (handle_for handles needle seqno items) is) in
     let go : List Handle → Result (Option Entry) Error = λ (hs : List Handle). read_block c all (handle_for handles needle seqno hs) needle seqno in
     let whole : read_blocks c all index needle seqno ≡ go items = ap (λ q. q >>= (λ (x : List ℕ). index_check x >>= go)) at ∙ ap (λ q. q >>= go) checked in
-    subst (GivesOr (old < new) (λ x. x) r) (sym whole) given
+    subst (GivesOr (old < new) T (λ x. x) r) (sym whole) given
+
+-- the read by a filter that allows the needle is that by the index
+pub by_filter : (c : Hashes) (before after : Option (List ℕ)) (old mid new : ℕ) (R T : Type 0) (h : RunHandles) (needle : List ℕ) (seqno : ℕ) (may : Bool) (r : Result (Option Entry) Error)
+    → after ≡ before → old ≤ mid → (T → R) → may ≡ true → IfSome before (λ all. filter_says c all h.filter needle ≡ Ok may)
+    → IfSome after (λ all. GivesOr (mid < new) R (λ x. x) r (read_blocks c all h.index needle seqno))
+    → IfSome before (λ all. GivesOr (old < new) T (λ x. x) r (read_checked c all h needle seqno))
+unfolding read_checked
+by_filter c None after old mid new R T h needle seqno may r same le kept allows says read = tt
+by_filter c (Some all) after old mid new R T h needle seqno may r same le kept allows says read =
+    let here = subst (λ b. IfSome b (λ all. GivesOr (mid < new) R (λ x. x) r (read_blocks c all h.index needle seqno))) same read in
+    let whole : read_checked c all h needle seqno ≡ read_blocks c all h.index needle seqno =
+    ap (λ q. q >>= (λ (b : Bool). if b then read_blocks c all h.index needle seqno else Ok None)) (says ∙ ap (λ b. Ok b) allows) in
+    subst (GivesOr (old < new) T (λ x. x) r) (sym whole) (gives_or_later (mid < new) (old < new) R T (λ x. x) r (read_blocks c all h.index needle seqno) (λ less. omega arith) kept here)

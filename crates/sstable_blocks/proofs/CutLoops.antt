@@ -9,18 +9,26 @@ use Rattle.sst_block_core.specs.Entries.{entries}
 use Rattle.sst_block_core.specs.Kind.{IsOrdered, item_cmp}
 use Rattle.sstable_blocks.specs.Blocks.{joined, CutsFit, blocks_from}
 use Rattle.sstable_blocks.specs.Run.{Form, block_payload, block_frame, block_frames, IsFramed, RunFits}
-use Rattle.sstable_blocks.proofs.Cuts.{cuts_below}
+use Rattle.sstable_blocks.proofs.Cuts.{CutsLeft, cuts_below}
 use Rattle.sstable_blocks.proofs.Ends.{front_in_order}
 use Rattle.sstable_blocks.specs.Writing.{FrameFits, IsWriteRefusal, AppendsLayout, AppendsEnd}
 use Rattle.sstable_blocks.specs.declared.run.RunHandles.{RunHandles}
 
+-- the next of cuts that fit
+pub next_fit : (start end i : ℕ) (cuts : List ℕ) → i < length cuts → CutsFit start end (drop i cuts) → (start < get_or cuts i 0) × (get_or cuts i 0 < end) × CutsFit (get_or cuts i 0) end (drop (i + 1) cuts)
+next_fit start end i cuts h fit = subst (CutsFit start end) (drop_more cuts i 0 h) fit
+
+-- and one more of them
+pub before_fit : (start end i : ℕ) (cuts : List ℕ) → i < length cuts → start < get_or cuts i 0 → get_or cuts i 0 < end → CutsFit (get_or cuts i 0) end (drop (i + 1) cuts) → CutsFit start end (drop i cuts)
+before_fit start end i cuts h less below fit = subst (CutsFit start end) (sym (drop_more cuts i 0 h)) (less, below, fit)
+
 -- the next cut
-pub next_cut : (start end i : ℕ) (cuts : List ℕ) → i < length cuts → CutsFit start end (drop i cuts) → (start < get_or cuts i 0) × (get_or cuts i 0 < end) × CutsFit (get_or cuts i 0) end (drop (i + 1) cuts)
+pub next_cut : (start end i : ℕ) (cuts : List ℕ) → i < length cuts → CutsLeft start end (drop i cuts) → (start < get_or cuts i 0) × (get_or cuts i 0 < end) × CutsLeft (get_or cuts i 0) end (drop (i + 1) cuts)
 next_cut start end i cuts h fit =
-    let f = subst (CutsFit start end) (drop_more cuts i 0 h) fit in
+    let f = subst (CutsLeft start end) (drop_more cuts i 0 h) fit in
     (f.0, cuts_below (get_or cuts i 0) end (drop (i + 1) cuts) f.1, f.1)
 
-pub no_cut : (start end i : ℕ) (cuts : List ℕ) → length cuts ≤ i → CutsFit start end (drop i cuts) → start < end
+pub no_cut : (start end i : ℕ) (cuts : List ℕ) → length cuts ≤ i → CutsLeft start end (drop i cuts) → start < end
 no_cut start end i cuts h fit = cuts_below start end (drop i cuts) fit
 
 pub next_block : (start i : ℕ) (cuts : List ℕ) (items : List Entry) → i < length cuts
@@ -109,5 +117,5 @@ pub layout_end : (f : Form) (a b c : Option (List ℕ)) (blocks all : List (List
 layout_end f a b c blocks all (Ok h) e front end = subst (λ bs. AppendsLayout f bs a c h) e (layout_joined f blocks a b c h front end)
 layout_end f a b c blocks all (Err x) e front end = tt
 
-pub before_cut : (start end i : ℕ) (cuts : List ℕ) → i < length cuts → start < get_or cuts i 0 → CutsFit (get_or cuts i 0) end (drop (i + 1) cuts) → CutsFit start end (drop i cuts)
-before_cut start end i cuts h less fit = subst (CutsFit start end) (sym (drop_more cuts i 0 h)) (less, fit)
+pub before_cut : (start end i : ℕ) (cuts : List ℕ) → i < length cuts → start < get_or cuts i 0 → CutsLeft (get_or cuts i 0) end (drop (i + 1) cuts) → CutsLeft start end (drop i cuts)
+before_cut start end i cuts h less fit = subst (CutsLeft start end) (sym (drop_more cuts i 0 h)) (less, fit)

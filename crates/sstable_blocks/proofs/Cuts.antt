@@ -4,14 +4,23 @@ use Rattle.std.specs.List.{AllByRecursion}
 use Rattle.std.proofs.lemmas.List.{append-nil, length-take-le, take-append-drop, drop-drop}
 use Rattle.sstable_blocks.specs.Blocks.{joined, IsNotEmpty, CutsFit, blocks_from}
 
+-- cuts that fit, of a list that goes on behind them
+abbrev pub CutsLeft : ℕ → ℕ → List ℕ → Type 0
+CutsLeft start end [] = start < end
+CutsLeft start end (cut ∷ cuts) = (start < cut) × CutsLeft cut end cuts
+
+pub cuts_left : (start end : ℕ) (cuts : List ℕ) → start < end → CutsFit start end cuts → CutsLeft start end cuts
+cuts_left start end [] some h = some
+cuts_left start end (cut ∷ cuts) some h = (h.0, cuts_left cut end cuts h.1 h.2)
+
 -- a place from which cuts rise lies below the end
-pub cuts_below : (start end : ℕ) (cuts : List ℕ) → CutsFit start end cuts → start < end
+pub cuts_below : (start end : ℕ) (cuts : List ℕ) → CutsLeft start end cuts → start < end
 cuts_below start end [] h = h
 cuts_below start end (cut ∷ cuts) h = let k = cuts_below cut end cuts h.1 in omega arith
 
 module _ {X : Type 0} where
   -- blocks from a place on, joined, are the list from there on
-  pub joined-blocks_from : (items : List X) (start : ℕ) (cuts : List ℕ) → CutsFit start (length items) cuts → joined (blocks_from start cuts items) ≡ drop start items
+  pub joined-blocks_from : (items : List X) (start : ℕ) (cuts : List ℕ) → CutsLeft start (length items) cuts → joined (blocks_from start cuts items) ≡ drop start items
   joined-blocks_from items start [] h = append-nil (drop start items)
   joined-blocks_from items start (cut ∷ cuts) h =
       let n : start + (cut - start) ≡ cut = omega arith in
@@ -19,7 +28,7 @@ module _ {X : Type 0} where
       ∙ take-append-drop (cut - start) (drop start items)
 
   -- none of them is empty
-  pub blocks_from-some : (items : List X) (start : ℕ) (cuts : List ℕ) → CutsFit start (length items) cuts → AllByRecursion IsNotEmpty (blocks_from start cuts items)
+  pub blocks_from-some : (items : List X) (start : ℕ) (cuts : List ℕ) → CutsLeft start (length items) cuts → AllByRecursion IsNotEmpty (blocks_from start cuts items)
   blocks_from-some items start [] h = (let l = length-drop start items in omega arith, tt)
   blocks_from-some items start (cut ∷ cuts) h =
       let below = cuts_below cut (length items) cuts h.1 in

@@ -18,3 +18,4 @@ pub mod CheckedReads
 pub mod ReadLayouts
 pub mod Meanings
 pub mod Answered
+pub mod FileRanges

@@ -10,10 +10,10 @@ joined (block ∷ blocks) = block ++ joined blocks
 abbrev pub IsNotEmpty : {X : Type 0} → List X → Type 0
 IsNotEmpty block = 1 ≤ length block
 
--- cuts rise strictly from a place on, and are below an end
+-- cuts rise strictly, from above a place on, and are below an end
 abbrev pub CutsFit : ℕ → ℕ → List ℕ → Type 0
-CutsFit start end [] = start < end
-CutsFit start end (cut ∷ cuts) = (start < cut) × CutsFit cut end cuts
+CutsFit start end [] = Unit {0}
+CutsFit start end (cut ∷ cuts) = (start < cut) × (cut < end) × CutsFit cut end cuts
 
 -- the blocks between a place, the cuts, and the end of a list
 abbrev pub blocks_from : {X : Type 0} → ℕ → List ℕ → List X → List (List X)

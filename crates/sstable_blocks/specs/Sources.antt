@@ -1,13 +1,37 @@
 -- How a clause says that a call over a source of frames answers exactly this, where an allocation or the source may fail.
-use Rattle.std.specs.Prelude.{◌≡◌, ◌≢◌, ◌⊎◌, Result, Ok, Err}
+use Rattle.std.specs.Prelude.{◌≡◌, ◌≢◌, ◌⊎◌, ℕ, ◌+◌, Option, None, Some, Result, Ok, Err}
+use Rattle.sst_base.specs.BlockHandle.{HandleParts}
 use Rattle.sst_base.specs.declared.error.Error.{Error}
-use Rattle.sst_base.specs.declared.error.Error.TheVariants.{Memory, Io}
+use Rattle.sst_base.specs.declared.error.Error.TheVariants.{Memory, Io, BadHandle}
 
--- an error is a failed allocation, or a failure of the source, or that of the reading
-abbrev pub FailsAs : {Y : Type 0} → Type 0 → Result Y Error → Error → Type 0
-FailsAs failed read e = e ≢ Memory → ((e ≡ Io) × failed) ⊎ (read ≡ Err e)
+-- what is read, how often that failed, and how many frames were asked for
+pub record SourceParts (F : Type 0) : Type 0 where
+  pub inner : F
+  pub failures : ℕ
+  pub reads : ℕ
+
+-- An error is a failed allocation, or a failure of the source, or that of the reading. A reliable source, as one over
+-- memory, fails only where the reading meets a range that isn't inside.
+abbrev pub FailsAs : {Y : Type 0} → Type 0 → Type 0 → Result Y Error → Error → Type 0
+FailsAs failed reliable read e = e ≢ Memory → ((e ≡ Io) × failed × (reliable → read ≡ Err BadHandle)) ⊎ (read ≡ Err e)
 
 -- an answer, seen by `view`, is exactly that of the reading, unless an allocation or the source failed
-abbrev pub GivesOr : {X Y : Type 0} → Type 0 → (X → Y) → Result X Error → Result Y Error → Type 0
-GivesOr failed view (Ok x) read = read ≡ Ok (view x)
-GivesOr failed view (Err e) read = FailsAs failed read e
+abbrev pub GivesOr : {X Y : Type 0} → Type 0 → Type 0 → (X → Y) → Result X Error → Result Y Error → Type 0
+GivesOr failed reliable view (Ok x) read = read ≡ Ok (view x)
+GivesOr failed reliable view (Err e) read = FailsAs failed reliable read e
+
+-- the range isn't inside, or an allocation failed, or a file that isn't over memory
+abbrev pub IsRangeRefused : {Y : Type 0} → Type 0 → Error → Result Y Error → Type 0
+IsRangeRefused over_memory Io range = over_memory → range ≡ Err BadHandle
+IsRangeRefused over_memory Memory range = Unit {0}
+IsRangeRefused over_memory e range = range ≡ Err e
+
+-- or its bytes were read
+abbrev pub IsRangeRead : {Y : Type 0} → Type 0 → Result Y Error → Result Y Error → Type 0
+IsRangeRead over_memory (Ok y) range = range ≡ Ok y
+IsRangeRead over_memory (Err e) range = IsRangeRefused over_memory e range
+
+-- how many frames are asked for a filter, if there is one
+abbrev pub filter_frames : Option HandleParts → ℕ
+filter_frames None = 0
+filter_frames (Some h) = 1

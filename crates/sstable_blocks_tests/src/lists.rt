@@ -72,11 +72,13 @@ pub(crate) fn push(
 /// Whether a run of these entries, cut like this, can be written.
 pub(crate) fn can_be_written(items: &[InternalValue], cuts: &[usize], config: &RunConfig) -> bool
     ensures { IsTrue result
-        ↔ (IsOrdered entries items.now × CutsFit 0 (length items.now) cuts.now
+        ↔ ((1 ≤ length items.now) × IsOrdered entries items.now
+        × CutsFit 0 (length items.now) cuts.now
         × (1 ≤ config.now.restart_interval) × (1 ≤ config.now.index_interval)
         × (1 ≤ config.now.ratio.den)) }
 {
-    DataBlock::<ByteSum>::is_ordered(items)
+    items.len() >= 1
+        && DataBlock::<ByteSum>::is_ordered(items)
         && cuts_fit(items.len(), cuts)
         && config.restart_interval >= 1
         && config.index_interval >= 1

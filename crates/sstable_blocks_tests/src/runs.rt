@@ -3,7 +3,7 @@ use crate::lists::{NO_BUCKETS, can_be_written, push};
 use crate::rows::{Row, check_rows};
 use sst_base::{BlockHandle, BlockOffset, ByteSum, Error, InternalValue, Result, ValueType};
 use sstable_blocks::run::round_trip::write_and_read;
-use sstable_blocks::run::{RunConfig, RunHandles, RunWriter, write_run};
+use sstable_blocks::run::{RunConfig, RunHandles, RunWriter, cuts_fit, write_run};
 use std::alloc::Global;
 use std::io;
 use std::io::{ErrorKind, Write};
@@ -381,4 +381,31 @@ impl Row for Next {
 #[test]
 fn blocks_fit_behind_the_last(rt: HostRuntime) {
     check_rows(&rt, rt.alloc(), &NEXT);
+}
+
+/// A length, the places of cuts, and whether they fit.
+#[derive(Drop)]
+struct Cuts(usize, &'static [usize], bool);
+
+const CUTS: [Cuts; 8] = [
+    Cuts(0, &[], true),
+    Cuts(3, &[], true),
+    Cuts(3, &[1, 2], true),
+    Cuts(0, &[1], false),
+    Cuts(3, &[0], false),
+    Cuts(3, &[3], false),
+    Cuts(3, &[2, 2], false),
+    Cuts(3, &[2, 1], false),
+];
+
+impl Row for Cuts {
+    fn holds(&self, _alloc: Global) -> Result<bool> {
+        let Cuts(len, cuts, wanted) = self;
+        Ok(cuts_fit(*len, cuts) == *wanted)
+    }
+}
+
+#[test]
+fn cuts_fit_lists(rt: HostRuntime) {
+    check_rows(&rt, rt.alloc(), &CUTS);
 }

@@ -13,13 +13,14 @@ ghost use Rattle.std.specs.Cmp.{partial_equiv_from_equiv};
 ghost use Rattle.std.specs.Cmp.Rules.{hashing};
 ghost use Rattle.std.proofs.Common.{rules};
 ghost use Rattle.sst_base.specs.declared.error.Error.TheVariants.{Io, Memory};
+ghost use Rattle.sst_base.specs.Bytes.{IsBytes};
 ghost use Rattle.sst_base.specs.Header.{bytes_at};
 ghost use Rattle.sst_base.specs.Inputs.{ReadsAllocating};
 
 mod short;
 
 use crate::error::{Error, Result};
-use crate::input::Input;
+use crate::input::{Input, note_bytes};
 use crate::table::util::compare_bytes;
 use bytes::Bytes;
 use short::{SHORT_LEN, ShortBytes};
@@ -51,11 +52,14 @@ pub struct Slice {
 
 impl Model for Slice {
     ghost use Rattle.std.specs.Prelude.{ℕ, List};
+    ghost use Rattle.sst_base.specs.Bytes.{IsBytes};
     ghost use Rattle.sst_base.specs.SliceBytes.{held_bytes};
 
     ghost Value = { List ℕ };
 
     ghost view = { λ s. held_bytes s.held };
+
+    ghost invariant = { λ s. IsBytes (held_bytes s.held) };
 }
 
 impl Slice {
@@ -64,6 +68,7 @@ impl Slice {
     fn short(bytes: ShortBytes) -> Slice
         ensures { result ≡ bytes }
     {
+        note_bytes(bytes.as_slice());
         Slice {
             held: Held::Short(bytes),
         }
@@ -74,6 +79,7 @@ impl Slice {
     fn shared(bytes: Bytes<Global>) -> Slice
         ensures { result ≡ bytes }
     {
+        note_bytes(bytes.as_slice());
         Slice {
             held: Held::Shared(bytes),
         }
@@ -178,6 +184,7 @@ impl Slice {
         ensures read { (bytes : List ℕ) → R.remaining reader.old ≡ Some bytes
             → ReadsAllocating (R.is_memory reader.old) result (R.remaining reader.new)
             (bytes_at len bytes) }
+        ensures whole { R.whole reader.new ≡ R.whole reader.old }
         ensures len { IfOk result (λ s. length s ≡ len) }
         ensures errors { IfErr result (λ e. (e ≡ Io) ⊎ (e ≡ Memory)) }
         ensures kept { R.is_memory reader.old → R.is_memory reader.new }
@@ -269,8 +276,11 @@ impl Slice {
     pub fn len(&self) -> usize
         ensures value { result ≡ length self.now }
         ensures bound { result < 2 ^ 63 }
+        ensures cells { IsBytes self.now }
     {
-        self.as_slice().len()
+        let bytes = self.as_slice();
+        note_bytes(bytes);
+        bytes.len()
     }
 
     /// Returns whether there is no byte.

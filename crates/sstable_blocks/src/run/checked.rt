@@ -1,6 +1,6 @@
 //! Reading runs from bytes of any kind.
-ghost use Rattle.std.specs.Prelude.{◌≡◌, ◌≢◌, ℕ, ◌+◌, ◌≤◌, ◌<◌, List};
-ghost use Rattle.std.specs.Prelude.{length, Option, Ok, IfOk, IfErr, IfSome};
+ghost use Rattle.std.specs.Prelude.{◌≡◌, ◌≢◌, ◌⊎◌, ℕ, ◌+◌, ◌≤◌, ◌<◌, List, None};
+ghost use Rattle.std.specs.Prelude.{length, Option, Ok, OnOk, IfOk, IfErr, IfSome, false};
 ghost use Rattle.std.specs.Option.{option_map};
 ghost use Rattle.sst_base.specs.Bytes.{IsBytes};
 ghost use Rattle.sst_base.specs.Entry.{Entry};
@@ -15,7 +15,7 @@ ghost use Rattle.sstable_blocks.specs.RunReading.{hashes, payload_at, filter_say
 ghost use Rattle.sstable_blocks.specs.RunReading.{read_block};
 ghost use Rattle.sst_block_kinds.specs.Checks.{data_check, index_check};
 ghost use Rattle.sstable_blocks.specs.RunReading.{read_blocks, read_checked, AnswerMeans};
-ghost use Rattle.sstable_blocks.specs.Sources.{GivesOr};
+ghost use Rattle.sstable_blocks.specs.Sources.{GivesOr, filter_frames};
 ghost use Rattle.sstable_blocks.specs.declared.run.RunConfig.{RunConfig};
 
 use super::RunHandles;
@@ -44,10 +44,13 @@ pub fn block_from<H: BlockHash, S: FrameSource>(
     block_type: BlockType,
 ) -> Result<Block>
     ensures same { S.bytes source.new ≡ S.bytes source.old }
+    ensures reads { S.reads source.new ≡ S.reads source.old + 1 }
     ensures failures_grow { S.failures source.old ≤ S.failures source.new }
+    ensures kept { S.is_reliable source.old → S.is_reliable source.new }
     ensures io { IfErr result (λ e. e ≡ Io → S.failures source.old < S.failures source.new) }
+    ensures cells { OnOk result (IfSome (S.bytes source.old) IsBytes) }
     ensures exact { IfSome (S.bytes source.old)
-        (λ all. GivesOr (S.failures source.old < S.failures source.new) (λ b. b.payload) result
+        (λ all. GivesOr (S.failures source.old < S.failures source.new) (S.is_reliable source.old) (λ b. b.payload) result
         (payload_at (hashes H.hash64 H.hash128) block_type all handle.now)) }
 {
     let frame = source.read_frame(alloc, handle)?;
@@ -74,7 +77,7 @@ fn ask_filter(block: Block, hash: u64) -> Result<bool>
 ///
 /// Those of `DataBlock::check`, and never `Error::Io`.
 pub fn check_data<H: BlockHash>(alloc: Global, block: Block) -> Result<DataBlock<H>>
-    ensures exact { GivesOr ⊥ (λ b. b.items) result (data_check H.hash64 block.payload) }
+    ensures exact { GivesOr ⊥ ⊥ (λ b. b.items) result (data_check H.hash64 block.payload) }
     ensures not_io { IfErr result (λ e. e ≢ Io) }
 {
     data_check_is_by_stages();
@@ -87,7 +90,7 @@ pub fn check_data<H: BlockHash>(alloc: Global, block: Block) -> Result<DataBlock
 ///
 /// Those of `IndexBlock::check`, and never `Error::Io`.
 pub fn check_index(block: Block) -> Result<IndexBlock>
-    ensures exact { GivesOr ⊥ (λ b. b.items) result (index_check block.payload) }
+    ensures exact { GivesOr ⊥ ⊥ (λ b. b.items) result (index_check block.payload) }
     ensures not_io { IfErr result (λ e. e ≢ Io) }
 {
     index_check_is_by_stages();
@@ -102,10 +105,13 @@ fn may_have<H: BlockHash, S: FrameSource>(
     needle: &[u8],
 ) -> Result<bool>
     ensures same { S.bytes source.new ≡ S.bytes source.old }
+    ensures reads { S.reads source.new ≡ S.reads source.old + filter_frames filter.now }
     ensures failures_grow { S.failures source.old ≤ S.failures source.new }
+    ensures kept { S.is_reliable source.old → S.is_reliable source.new }
     ensures io { IfErr result (λ e. e ≡ Io → S.failures source.old < S.failures source.new) }
+    ensures cells { OnOk result ((filter.now ≡ None) ⊎ IfSome (S.bytes source.old) IsBytes) }
     ensures exact { IfSome (S.bytes source.old)
-        (λ all. GivesOr (S.failures source.old < S.failures source.new) (λ b. b) result
+        (λ all. GivesOr (S.failures source.old < S.failures source.new) (S.is_reliable source.old) (λ b. b) result
         (filter_says (hashes H.hash64 H.hash128) all filter.now needle.now)) }
 {
     match filter {
@@ -126,11 +132,14 @@ fn read_in_block<H: BlockHash, S: FrameSource>(
     seqno: SeqNo,
 ) -> Result<Option<InternalValue>>
     ensures same { S.bytes source.new ≡ S.bytes source.old }
+    ensures reads { S.reads source.new ≤ S.reads source.old + 1 }
+    ensures reads_grow { S.reads source.old ≤ S.reads source.new }
     ensures failures_grow { S.failures source.old ≤ S.failures source.new }
+    ensures kept { S.is_reliable source.old → S.is_reliable source.new }
     ensures io { IfErr result (λ e. e ≡ Io → S.failures source.old < S.failures source.new) }
     ensures exact { IfSome (S.bytes source.old)
         (λ all. (h : Option Handle) → handle.now ≡ option_map range_of h
-        → GivesOr (S.failures source.old < S.failures source.new) (λ x. x) result
+        → GivesOr (S.failures source.old < S.failures source.new) (S.is_reliable source.old) (λ x. x) result
         (read_block (hashes H.hash64 H.hash128) all h needle.now seqno)) }
 {
     match handle {
@@ -152,10 +161,14 @@ fn read_by_index<H: BlockHash, S: FrameSource>(
     seqno: SeqNo,
 ) -> Result<Option<InternalValue>>
     ensures same { S.bytes source.new ≡ S.bytes source.old }
+    ensures reads { S.reads source.new ≤ S.reads source.old + 2 }
+    ensures reads_grow { S.reads source.old ≤ S.reads source.new }
     ensures failures_grow { S.failures source.old ≤ S.failures source.new }
+    ensures kept { S.is_reliable source.old → S.is_reliable source.new }
     ensures io { IfErr result (λ e. e ≡ Io → S.failures source.old < S.failures source.new) }
+    ensures cells { OnOk result (IfSome (S.bytes source.old) IsBytes) }
     ensures exact { IfSome (S.bytes source.old)
-        (λ all. GivesOr (S.failures source.old < S.failures source.new) (λ x. x) result
+        (λ all. GivesOr (S.failures source.old < S.failures source.new) (S.is_reliable source.old) (λ x. x) result
         (read_blocks (hashes H.hash64 H.hash128) all index.now needle.now seqno)) }
 {
     let block = block_from::<H, S>(alloc, source, index, BlockType::Index)?;
@@ -174,10 +187,17 @@ fn read_in_stages<H: BlockHash, S: FrameSource>(
     seqno: SeqNo,
 ) -> Result<Option<InternalValue>>
     ensures same { S.bytes source.new ≡ S.bytes source.old }
+    ensures reads { S.reads source.new
+        ≤ S.reads source.old + (2 + filter_frames handles.now.filter) }
+    ensures denied { IfSome (S.bytes source.old)
+        (λ all. filter_says (hashes H.hash64 H.hash128) all handles.now.filter needle.now ≡ Ok false
+        → S.reads source.new ≤ S.reads source.old + 1) }
     ensures failures_grow { S.failures source.old ≤ S.failures source.new }
+    ensures kept { S.is_reliable source.old → S.is_reliable source.new }
     ensures io { IfErr result (λ e. e ≡ Io → S.failures source.old < S.failures source.new) }
+    ensures cells { OnOk result (IfSome (S.bytes source.old) IsBytes) }
     ensures exact { IfSome (S.bytes source.old)
-        (λ all. GivesOr (S.failures source.old < S.failures source.new) (λ x. x) result
+        (λ all. GivesOr (S.failures source.old < S.failures source.new) (S.is_reliable source.old) (λ x. x) result
         (read_checked (hashes H.hash64 H.hash128) all handles.now needle.now seqno)) }
 {
     if may_have::<H, S>(alloc, source, &handles.filter, needle)? {
@@ -189,7 +209,8 @@ fn read_in_stages<H: BlockHash, S: FrameSource>(
 
 /// Returns the first entry of a run with this key whose sequence number is strictly below `seqno`,
 /// from bytes of any kind: the filter's frame, if there is one, that of the index and that of the
-/// one block are read, and each is verified and checked.
+/// one block are read, and each is verified and checked. No frame is read twice, and where the
+/// filter denies the key none but its own.
 ///
 /// # Errors
 ///
@@ -207,14 +228,19 @@ pub fn read_entry_checked<H: BlockHash, S: FrameSource>(
     seqno: SeqNo,
 ) -> Result<Option<InternalValue>>
     ensures same { S.bytes source.new ≡ S.bytes source.old }
+    ensures reads { S.reads source.new
+        ≤ S.reads source.old + (2 + filter_frames handles.now.filter) }
+    ensures denied { IfSome (S.bytes source.old)
+        (λ all. filter_says (hashes H.hash64 H.hash128) all handles.now.filter needle.now ≡ Ok false
+        → S.reads source.new ≤ S.reads source.old + 1) }
     ensures failures_grow { S.failures source.old ≤ S.failures source.new }
+    ensures kept { S.is_reliable source.old → S.is_reliable source.new }
     ensures io { IfErr result (λ e. e ≡ Io → S.failures source.old < S.failures source.new) }
     ensures exact { IfSome (S.bytes source.old)
-        (λ all. GivesOr (S.failures source.old < S.failures source.new) (λ x. x) result
+        (λ all. GivesOr (S.failures source.old < S.failures source.new) (S.is_reliable source.old) (λ x. x) result
         (read_checked (hashes H.hash64 H.hash128) all handles.now needle.now seqno)) }
     ensures means { IfSome (S.bytes source.old)
-        (λ all. IsBytes all
-        → IfOk result
+        (λ all. IfOk result
         (AnswerMeans (hashes H.hash64 H.hash128) all handles.now needle.now seqno)) }
     ensures layout { IfSome (S.bytes source.old)
         (λ all. (config : RunConfig) (blocks : List (List Entry))

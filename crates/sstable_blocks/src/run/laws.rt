@@ -1,5 +1,5 @@
 //! Laws of runs. Each function states one law, and does nothing.
-ghost use Rattle.std.specs.Prelude.{◌≡◌, ℕ, ◌<◌, ◌^◌, List, length, slice_get, Ok};
+ghost use Rattle.std.specs.Prelude.{◌≤◌, ◌≡◌, ℕ, ◌<◌, ◌^◌, List, length, slice_get, Ok};
 ghost use Rattle.sst_block_core.specs.Entries.{entries};
 ghost use Rattle.sstable_blocks.specs.RunReading.{Hashes, hashes, read_checked, AnswerMeans};
 ghost use Rattle.sst_base.specs.Bytes.{IsBytes};
@@ -24,7 +24,8 @@ use sst_block_kinds::laws::{
 
 /// The blocks of a list, joined, are the list, and none is empty.
 pub fn blocks_are_the_list<T>()
-    ensures { (items : List T) (cuts : List ℕ) → CutsFit 0 (length items) cuts
+    ensures { (items : List T) (cuts : List ℕ) → 1 ≤ length items
+        → CutsFit 0 (length items) cuts
         → (joined (blocks_of cuts items) ≡ items)
         × AllByRecursion IsNotEmpty (blocks_of cuts items) }
 {}

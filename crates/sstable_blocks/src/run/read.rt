@@ -1,7 +1,7 @@
 //! Reading runs.
 ghost use Rattle.std.specs.Prelude.{◌≡◌, ◌↔◌, ℕ, ◌+◌, ◌≤◌, ◌<◌};
 ghost use Rattle.std.specs.Prelude.{◌^◌, List, length, Some, None};
-ghost use Rattle.std.specs.Prelude.{Ok, false, IfOk, IfSome, IsOkUnless};
+ghost use Rattle.std.specs.Prelude.{Ok, false, OnOk, IfOk, IfSome, IsOkUnless};
 ghost use Rattle.std.specs.Option.{option_map};
 ghost use Rattle.sst_base.specs.Entry.{Entry, IsEntry};
 ghost use Rattle.sst_block_core.specs.Entries.{entries};
@@ -92,7 +92,7 @@ pub(crate) fn find_handle(
         ≡ option_map range_of (handle_for handles needle.now seqno index.now.items) }
     ensures heads { steps.new.heads
         ≤ steps.old.heads + digits (head_count index.now.interval (length index.now.items)) }
-    ensures heads_grow { steps.old.heads ≤ steps.new.heads }
+    ensures heads_grow { steps.old.heads < steps.new.heads }
     ensures entries { steps.new.entries ≤ steps.old.entries + handles_most index.now.interval }
     ensures entries_grow { steps.old.entries ≤ steps.new.entries }
 {
@@ -126,6 +126,7 @@ fn handle_in_index(
         steps.new.heads
         ≤ steps.old.heads
         + digits (head_count (trailer_in p).interval (length (index_in bytes.now handle.now))) }
+    ensures looked { OnOk result (steps.old.heads < steps.new.heads) }
     ensures heads_grow { steps.old.heads ≤ steps.new.heads }
     ensures entries { steps.new.entries
         ≤ steps.old.entries
@@ -175,8 +176,8 @@ fn match_in<H: BlockHash>(
 /// bytes.
 ///
 /// The filter is asked first. Where it denies the key, nothing else is looked at. Else the index
-/// leads to the one block that can hold the key. What was looked at is added to `steps`: at most as
-/// many heads as the numbers of heads of the index and of the block have binary digits; one handle,
+/// leads to the one block that can hold the key. What was looked at is added to `steps`: at least a
+/// head of the index, and at most as many heads as the numbers of heads of the index and of the block have binary digits; one handle,
 /// and those of a restart interval of the index where not each handle is a head; and the entries of
 /// a restart interval of the block, and one more.
 ///
@@ -207,6 +208,9 @@ pub fn read_entry<H: BlockHash>(
         → steps.new.entries
         ≤ steps.old.entries + entries_most (form H.hash64 H.hash128 config) }
     ensures entries_grow { steps.old.entries ≤ steps.new.entries }
+    ensures looked { OnOk result
+        ((IsDenied bytes.now handles.now.filter (H.hash64 needle.now) → ⊥)
+        → steps.old.heads < steps.new.heads) }
     ensures denied { IsDenied bytes.now handles.now.filter (H.hash64 needle.now)
         → (steps.new.heads ≡ steps.old.heads) × (steps.new.entries ≡ steps.old.entries) }
 {

@@ -1,9 +1,11 @@
 //! Writing a run and reading from it, as one call.
-ghost use Rattle.std.specs.Prelude.{◌≡◌, ◌≤◌, length, IfOk};
+ghost use Rattle.std.specs.Prelude.{◌≡◌, ◌≤◌, length, IfOk, IfErr};
 ghost use Rattle.sst_block_core.specs.Entries.{entries};
 ghost use Rattle.sst_block_core.specs.Kind.{IsOrdered};
 ghost use Rattle.sst_block_core.specs.Window.{first_match};
-ghost use Rattle.sstable_blocks.specs.Blocks.{CutsFit};
+ghost use Rattle.sstable_blocks.specs.Blocks.{CutsFit, blocks_of};
+ghost use Rattle.sstable_blocks.specs.Run.{form, RunFits};
+ghost use Rattle.sstable_blocks.specs.Writing.{IsWriteRefusal};
 
 use super::laws::blocks_are_the_list;
 use super::{RunConfig, read_entry, write_run};
@@ -25,12 +27,17 @@ pub fn write_and_read<H: BlockHash>(
     needle: &[u8],
     seqno: SeqNo,
 ) -> Result<Option<InternalValue>>
+    requires some { 1 ≤ length items.now }
     requires ordered { IsOrdered entries items.now }
     requires cuts { CutsFit 0 (length items.now) cuts.now }
     requires interval { 1 ≤ config.restart_interval }
     requires index_interval { 1 ≤ config.index_interval }
     requires den { 1 ≤ config.ratio.den }
-    ensures { IfOk result (λ found. found ≡ first_match entries needle.now seqno items.now) }
+    ensures found { IfOk result
+        (λ found. found ≡ first_match entries needle.now seqno items.now) }
+    ensures cause { IfErr result
+        (IsWriteRefusal
+        (RunFits (form H.hash64 H.hash128 config) (blocks_of cuts.now items.now) → ⊥)) }
 {
     blocks_are_the_list::<InternalValue>();
     let mut bytes = Vec::new(alloc);

@@ -1,26 +1,33 @@
 //! Sources of frames: memory and files.
 ghost use Rattle.std.specs.Prelude.{◌≡◌, ◌≢◌, ◌⊎◌, ℕ, ◌+◌, ◌≤◌};
 ghost use Rattle.std.specs.Prelude.{◌<◌, ◌^◌, List, Option, Some, None};
-ghost use Rattle.std.specs.Prelude.{length, IfOk, IfErr, IfSome};
+ghost use Rattle.std.specs.Prelude.{length, OnOk, IfOk, IfErr, IfSome, MatchResult};
 ghost use Rattle.sst_base.specs.BlockHandle.{HandleParts};
+ghost use Rattle.sst_base.specs.Bytes.{IsBytes};
 ghost use Rattle.sst_base.specs.declared.error.Error.TheVariants.{Io, BadHandle, Memory};
 ghost use Rattle.sstable_blocks.specs.RunReading.{range_at};
-ghost use Rattle.sstable_blocks.specs.Sources.{GivesOr};
+ghost use Rattle.sstable_blocks.specs.Sources.{GivesOr, IsRangeRead, IsRangeRefused};
 
 use sst_base::{BlockHandle, Count, Error, Result, SeekInput, Slice};
 use std::alloc::Global;
-use std::io::SeekFrom;
 use std::marker::Model;
 
 /// Where the frames of a run are read from.
 ///
-/// Clauses see the bytes, if they are known, and the number of the source's failures.
+/// Clauses see the bytes, if they are known, how often the source failed, and how many frames it
+/// was asked for. A reliable source, as one over memory, fails only at a range that is not inside.
 pub trait FrameSource {
     // the bytes of the source, if they are known
     ghost bytes: { Self → Option (List ℕ) };
 
     // how often the source failed
     ghost failures: { Self → ℕ };
+
+    // how many frames it was asked for
+    ghost reads: { Self → ℕ };
+
+    // does it fail only at a range that is not inside?
+    ghost is_reliable: { Self → Type 0 } = { λ _. ⊥ };
 
     // may the range of a handle not be inside?
     ghost may_refuse: { Self → HandleParts → Type 0 } = { λ _ _. Unit {0} };
@@ -33,13 +40,16 @@ pub trait FrameSource {
     /// fails, or ends before, `Error::Memory` if an allocation fails.
     fn read_frame(&mut self, alloc: Global, handle: &BlockHandle) -> Result<Slice>
         ensures same { bytes self.new ≡ bytes self.old }
+        ensures reads { reads self.new ≡ reads self.old + 1 }
         ensures failures_grow { failures self.old ≤ failures self.new }
+        ensures kept { is_reliable self.old → is_reliable self.new }
         ensures io { IfErr result (λ e. e ≡ Io → failures self.old < failures self.new) }
         ensures errors { IfErr result (λ e. (e ≡ Io) ⊎ (e ≡ Memory)
             ⊎ ((e ≡ BadHandle) × may_refuse self.old handle.now)) }
         ensures size { IfOk result (λ s. length s ≡ handle.now.size) }
+        ensures cells { OnOk result (IfSome (bytes self.old) IsBytes) }
         ensures range { IfSome (bytes self.old)
-            (λ all. GivesOr (failures self.old < failures self.new)
+            (λ all. GivesOr (failures self.old < failures self.new) (is_reliable self.old)
             (λ s. s) result (range_at all handle.now)) };
 }
 
@@ -47,36 +57,51 @@ pub trait FrameSource {
 #[derive(Drop)]
 pub struct MemorySource {
     bytes: Slice,
+    reads: Count,
 }
 
 impl Model for MemorySource {
     ghost use Rattle.std.specs.Prelude.{ℕ, List};
+    ghost use Rattle.sst_base.specs.Bytes.{IsBytes};
+    ghost use Rattle.sstable_blocks.specs.Sources.{SourceParts};
 
-    ghost Value = { List ℕ };
+    ghost Value = { SourceParts (List ℕ) };
 
-    ghost view = { λ s. s.bytes };
+    ghost view = { λ s. record { inner = s.bytes; failures = 0; reads = s.reads } };
+
+    ghost invariant = { λ s. IsBytes s.bytes };
 }
 
 impl MemorySource {
     /// Wraps the bytes of a run.
     pub fn new(bytes: Slice) -> MemorySource
-        ensures { result ≡ bytes }
+        ensures { result ≡ record { inner = bytes; failures = 0; reads = 0 } }
     {
-        MemorySource { bytes }
+        // The proof needs that the cells are bytes.
+        let _len = bytes.len();
+        MemorySource {
+            bytes,
+            reads: Count::new(),
+        }
     }
 }
 
 /// `Error::BadHandle` and `Error::Memory` alone.
 impl FrameSource for MemorySource {
-    ghost bytes = { λ s. Some s };
+    ghost bytes = { λ s. Some s.inner };
 
-    ghost failures = { λ s. 0 };
+    ghost failures = { λ s. s.failures };
 
-    ghost may_refuse = { λ s h. length s < h.offset + h.size };
+    ghost reads = { λ s. s.reads };
+
+    ghost is_reliable = { λ s. Unit {0} };
+
+    ghost may_refuse = { λ s h. length s.inner < h.offset + h.size };
 
     #[tactic(auto, unfolding(crate::specs::RunReading::range_at))]
     fn read_frame(&mut self, alloc: Global, handle: &BlockHandle) -> Result<Slice> {
         let _ = alloc;
+        self.reads.add_one();
         let len = self.bytes.len() as u64;
         let (offset, size) = (*handle.offset(), u64::from(handle.size()));
         if offset > len || size > len - offset {
@@ -86,48 +111,53 @@ impl FrameSource for MemorySource {
     }
 }
 
-/// A run in a file, or in anything else that can be read and moved. Clauses see how often it
-/// failed.
+/// A run in a file, or in anything else that can be read and moved.
+///
+/// Clauses see the file, with its bytes where they are known, how often it failed, and how many
+/// frames it was asked for.
 #[derive(Drop)]
 pub struct FileSource<F> {
     file: F,
     failures: Count,
+    reads: Count,
 }
 
 impl<F> Model for FileSource<F> {
-    ghost use Rattle.std.specs.Prelude.{ℕ};
+    ghost use Rattle.sstable_blocks.specs.Sources.{SourceParts};
 
-    ghost Value = { ℕ };
+    ghost Value = { SourceParts F };
 
-    ghost view = { λ s. s.failures };
+    ghost view = { λ s. record { inner = s.file; failures = s.failures; reads = s.reads } };
 }
 
 impl<F: SeekInput> FileSource<F> {
     /// Wraps a file. It has not failed yet.
     pub fn new(file: F) -> FileSource<F>
-        ensures { result ≡ 0 }
+        ensures { result ≡ record { inner = file; failures = 0; reads = 0 } }
     {
         FileSource {
             file,
             failures: Count::new(),
+            reads: Count::new(),
         }
     }
 }
 
 /// `Error::BadHandle` if the range ends at 2^64 or above.
 impl<F: SeekInput> FrameSource for FileSource<F> {
-    ghost bytes = { λ s. None };
+    ghost bytes = { λ s. F.whole s.inner };
 
-    ghost failures = { λ s. s };
+    ghost failures = { λ s. s.failures };
+
+    ghost reads = { λ s. s.reads };
+
+    ghost is_reliable = { λ s. F.is_memory s.inner };
 
     ghost may_refuse = { λ s h. 2 ^ 64 ≤ h.offset + h.size };
 
     fn read_frame(&mut self, alloc: Global, handle: &BlockHandle) -> Result<Slice> {
-        let offset = *handle.offset();
-        if offset.checked_add(u64::from(handle.size())).is_none() {
-            return Err(Error::BadHandle);
-        }
-        let read = read_at(alloc, &mut self.file, offset, handle.size() as usize);
+        self.reads.add_one();
+        let read = read_at(alloc, &mut self.file, handle);
         if let Err(Error::Io) = &read {
             self.failures.add_one();
         }
@@ -135,11 +165,42 @@ impl<F: SeekInput> FrameSource for FileSource<F> {
     }
 }
 
-// Moves a file to an offset, and reads `len` bytes.
-fn read_at<F: SeekInput>(alloc: Global, file: &mut F, offset: u64, len: usize) -> Result<Slice>
-    ensures len { IfOk result (λ s. length s ≡ len) }
-    ensures errors { IfErr result (λ e. (e ≡ Io) ⊎ (e ≡ Memory)) }
+// Refuses the range of a handle that ends at 2^64 or above, and one of no bytes behind the end.
+fn check_range<F: SeekInput>(file: &mut F, handle: &BlockHandle) -> Result<()>
+    ensures whole { F.whole file.new ≡ F.whole file.old }
+    ensures kept { F.is_memory file.old → F.is_memory file.new }
+    ensures errors { IfErr result (λ e. (e ≡ Io)
+        ⊎ ((e ≡ BadHandle) × (2 ^ 64 ≤ handle.now.offset + handle.now.size))) }
+    ensures range { IfSome (F.whole file.old) (λ all. MatchResult result
+        (λ _. handle.now.size ≡ 0 → handle.now.offset ≤ length all)
+        (λ e. IsRangeRefused (F.is_memory file.old) e (range_at all handle.now))) }
 {
-    file.seek(SeekFrom::Start(offset))?;
-    Slice::from_reader(alloc, file, len)
+    let (offset, size) = (*handle.offset(), handle.size());
+    if offset.checked_add(u64::from(size)).is_none() {
+        file.stream_len()?;
+        return Err(Error::BadHandle);
+    }
+    if size > 0 {
+        return Ok(());
+    }
+    if file.stream_len()? < offset {
+        return Err(Error::Io);
+    }
+    Ok(())
+}
+
+// Reads the bytes of a file that a handle names.
+fn read_at<F: SeekInput>(alloc: Global, file: &mut F, handle: &BlockHandle) -> Result<Slice>
+    ensures whole { F.whole file.new ≡ F.whole file.old }
+    ensures kept { F.is_memory file.old → F.is_memory file.new }
+    ensures size { IfOk result (λ s. length s ≡ handle.now.size) }
+    ensures errors { IfErr result (λ e. (e ≡ Io) ⊎ (e ≡ Memory)
+        ⊎ ((e ≡ BadHandle) × (2 ^ 64 ≤ handle.now.offset + handle.now.size))) }
+    ensures cells { OnOk result (IfSome (F.whole file.old) IsBytes) }
+    ensures range { IfSome (F.whole file.old)
+        (λ all. IsRangeRead (F.is_memory file.old) result (range_at all handle.now)) }
+{
+    check_range(file, handle)?;
+    file.move_to(*handle.offset())?;
+    Slice::from_reader(alloc, file, handle.size() as usize)
 }

@@ -15,23 +15,23 @@ use std::alloc::Global;
 use std::io::Write;
 
 /// Returns whether a list of this length can be cut at these places into blocks that are not empty:
-/// they rise strictly, and are at least 1 and below the length. Without cuts any list that is not
-/// empty can.
+/// they rise strictly, and are at least 1 and below the length. No cuts fit every list; one that is
+/// not empty is then one block.
 pub fn cuts_fit(len: usize, cuts: &[usize]) -> bool
     ensures { IsTrue result ↔ CutsFit 0 len cuts.now }
 {
     let mut start = 0;
     for cut in cuts {
-        if *cut <= start {
+        if *cut <= start || len <= *cut {
             return false;
         }
         start = *cut;
     }
-    start < len
+    true
 }
 
-/// Writes a run: an ordered list of entries, cut into blocks where `cuts` says. The frames of the
-/// blocks come first, then that of the index, then, if there are bits for it, that of the filter.
+/// Writes a run: an ordered list of entries, at least one, cut into blocks where `cuts` says. The
+/// frames of the blocks come first, then that of the index, then, if there are bits for it, that of the filter.
 ///
 /// Both intervals and the denominator of the ratio are at least 1. See [`cuts_fit`] and
 /// `DataBlock::is_ordered`.
@@ -49,6 +49,7 @@ pub fn write_run<H: BlockHash, W: Write>(
     cuts: &[usize],
     config: RunConfig,
 ) -> Result<RunHandles>
+    requires some { 1 ≤ length items.now }
     requires ordered { IsOrdered entries items.now }
     requires cuts { CutsFit 0 (length items.now) cuts.now }
     requires interval { 1 ≤ config.restart_interval }

@@ -1,5 +1,7 @@
+use Rattle.sst_base.specs.BytesLaws.{IsBytes-take, IsBytes-drop}
 use Rattle.sst_base.specs.FrameLaws.{frame_at_takes}
 use Rattle.sst_base.proofs.laws.frame_was_written.Goals as goal
+use Rattle.std.proofs.Common.{drop}
 
 pub returns : goal.returns
-returns c = frame_at_takes
+returns c hash128 bytes b rest small = frame_at_takes hash128 bytes b rest (IsBytes-take 28 (drop 5 bytes) (IsBytes-drop 5 bytes small))

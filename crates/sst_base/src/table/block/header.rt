@@ -5,6 +5,7 @@ ghost use Rattle.std.specs.Prelude.{IsOkUnless, take};
 ghost use Rattle.byteorder.specs.Endian.{little_number};
 ghost use Rattle.std.specs.Io.KnownBytes.{Appends};
 ghost use Rattle.sst_base.specs.BlockType.{block_type_byte};
+ghost use Rattle.sst_base.specs.Bytes.{IsBytes};
 ghost use Rattle.sst_base.specs.Header.{magic, header, header_front, header_at, header_of};
 ghost use Rattle.sst_base.specs.Header.{header_with};
 ghost use Rattle.sst_base.specs.Header.{magic_at, block_type_at};
@@ -14,7 +15,7 @@ ghost use Rattle.sst_base.specs.Inputs.{Reads};
 use crate::checksum::Checksum;
 use crate::error::{Error, HeaderName, Result};
 use crate::hash::BlockHash;
-use crate::input::{Input, array_from};
+use crate::input::{Input, array_from, note_bytes};
 use crate::table::block::block_type::BlockType;
 use byteorder::{ByteOrder, LittleEndian};
 use std::io::Write;
@@ -133,11 +134,14 @@ impl Header {
         ensures read { (bytes : List ℕ) → R.remaining reader.old ≡ Some bytes
             → Reads (R.is_memory reader.old) result (R.remaining reader.new)
             (header_at H.hash128 bytes) }
+        ensures cells { OnOk result ((bytes : List ℕ) → R.remaining reader.old ≡ Some bytes
+            → IsBytes (take 28 (drop 5 bytes))) }
         ensures kept { R.is_memory reader.old → R.is_memory reader.new }
     {
         magic_from(reader)?;
         let block_type = block_type_from(reader)?;
         let tail = array_from::<28, R>(reader)?;
+        note_bytes(&tail);
         header_of::<H>(block_type, &tail)
     }
 }

@@ -1,7 +1,7 @@
 //! Blocks: a header and a payload.
 ghost use Rattle.std.specs.Prelude.{◌≡◌, ◌≢◌, ◌↔◌, ℕ, ◌+◌, ◌^◌};
 ghost use Rattle.std.specs.Prelude.{◌<◌, ◌≤◌, List, ◌++◌, length, Some, OnOk};
-ghost use Rattle.std.specs.Prelude.{drop, IfOk, IfErr, IsErrOf, IsOkUnless, MatchResult};
+ghost use Rattle.std.specs.Prelude.{drop, take, IfOk, IfErr, IsErrOf, MatchResult};
 ghost use Rattle.std.specs.Io.KnownBytes.{Appends};
 ghost use Rattle.sst_base.specs.Block.{BlockParts};
 ghost use Rattle.sst_base.specs.Bytes.{IsBytes};
@@ -27,7 +27,7 @@ pub use header::Header;
 pub use offset::BlockOffset;
 use std::alloc::{AllocError, Global};
 use std::fmt;
-use std::io::{SeekFrom, Write};
+use std::io::Write;
 use std::marker::Model;
 
 /// A block in memory: a header, and a payload of at most 2^32 - 1 bytes.
@@ -40,12 +40,13 @@ pub struct Block {
 impl Model for Block {
     ghost use Rattle.std.specs.Prelude.{◌^◌, ◌<◌, length};
     ghost use Rattle.sst_base.specs.Block.{BlockParts};
+    ghost use Rattle.sst_base.specs.Bytes.{IsBytes};
 
     ghost Value = { BlockParts };
 
     ghost view = { λ b. record { header = b.header; payload = b.payload } };
 
-    ghost invariant = { λ b. length b.payload < 2 ^ 32 };
+    ghost invariant = { λ b. (length b.payload < 2 ^ 32) × IsBytes b.payload };
 }
 
 impl Block {
@@ -61,6 +62,7 @@ impl Block {
     pub fn size(&self) -> u32
         ensures value { result ≡ length self.now.payload }
         ensures fits { length self.now.payload < 2 ^ 32 }
+        ensures cells { IsBytes self.now.payload }
     {
         self.payload.len() as u32
     }
@@ -76,6 +78,7 @@ impl Block {
     pub fn data(&self) -> &Slice
         ensures value { result.now ≡ self.now.payload }
         ensures fits { length self.now.payload < 2 ^ 32 }
+        ensures cells { IsBytes self.now.payload }
     {
         &self.payload
     }
@@ -129,8 +132,7 @@ impl Block {
             (frame_at H.hash128 bytes) }
 
         // What is read is a front of the input that is a frame, and the rest is left.
-        ensures found { (bytes : List ℕ) → IsBytes bytes
-            → R.remaining reader.old ≡ Some bytes
+        ensures found { (bytes : List ℕ) → R.remaining reader.old ≡ Some bytes
             → IfOk result (λ b. (rest : List ℕ) × (R.remaining reader.new ≡ Some rest)
             × (bytes ≡ frame H.hash128 b.header.block_type b.payload ++ rest)
             × (b ≡ block_for H.hash128 b.header.block_type b.payload)) }
@@ -156,6 +158,8 @@ impl Block {
         ensures read { (bytes : List ℕ) → R.remaining reader.old ≡ Some bytes
             → ReadsAllocating (R.is_memory reader.old) result (R.remaining reader.new)
             (frame_at H.hash128 bytes) }
+        ensures cells { OnOk result ((bytes : List ℕ) → R.remaining reader.old ≡ Some bytes
+            → IsBytes (take 28 (drop 5 bytes))) }
         ensures own { IfOk result (λ b. b ≡ block_for H.hash128 b.header.block_type b.payload) }
         ensures kept { R.is_memory reader.old → R.is_memory reader.new }
     {
@@ -230,8 +234,8 @@ impl Block {
     ///
     /// # Errors
     ///
-    /// `Error::Io` if the file fails, or ends before, `Error::Memory` if an allocation fails; else
-    /// those of `from_frame`.
+    /// `Error::Io` if the file fails, or ends before (over memory only that), `Error::Memory` if an
+    /// allocation fails; else those of `from_frame`.
     pub fn from_file<H: BlockHash, F: SeekInput>(
         alloc: Global,
         file: &mut F,
@@ -240,13 +244,14 @@ impl Block {
         // Of a file whose bytes are known.
         ensures read { (at : ℕ) (bytes : List ℕ) → F.stream_position file.old ≡ Some at
             → F.stream_bytes file.old ≡ Some bytes
-            → GivesOrFails result (frame_in_file H.hash128 handle.offset handle.size bytes) }
+            → GivesOrFails (F.is_memory file.old) result
+            (frame_in_file H.hash128 handle.offset handle.size bytes) }
 
         // Of any file.
         ensures size { IfOk result (λ b. 33 + length b.payload ≡ handle.size) }
         ensures own { IfOk result (λ b. b ≡ block_for H.hash128 b.header.block_type b.payload) }
     {
-        move_to(file, *handle.offset())?;
+        file.move_to(*handle.offset())?;
         let bytes = Slice::from_reader(alloc, file, handle.size() as usize)?;
         Block::from_frame::<H>(bytes)
     }
@@ -268,17 +273,6 @@ impl Block {
         let payload = bytes.slice(HEADER_LEN..)?;
         Block::checked::<H>(header, payload)
     }
-}
-
-// Moves a file to an offset.
-fn move_to<F: SeekInput>(file: &mut F, offset: u64) -> Result<()>
-    ensures ok { (at : ℕ) (bytes : List ℕ) → F.stream_position file.old ≡ Some at
-        → F.stream_bytes file.old ≡ Some bytes
-        → OnOk result (F.remaining file.new ≡ Some (drop offset bytes)) }
-    ensures io { IsOkUnless result Error.Io }
-{
-    file.seek(SeekFrom::Start(offset))?;
-    Ok(())
 }
 
 impl Clone for Block {

@@ -1,12 +1,14 @@
 //! The block decoder.
 ghost use Rattle.std.specs.Prelude.{◌≡◌, ◌≢◌, ℕ, ◌+◌, ◌-◌, ◌*◌, ◌<◌};
 ghost use Rattle.std.specs.Prelude.{◌≤◌, List, [], ◌∷◌};
-ghost use Rattle.std.specs.Prelude.{length, drop, slice_get, Some, None, IfSome, IfOk, IsSome};
-ghost use Rattle.std.specs.Prelude.{IsSomeAnd};
+ghost use Rattle.std.specs.Prelude.{length, take, drop, slice_get, Some, None, IfSome, IfOk};
+ghost use Rattle.std.specs.Prelude.{Option, IsSome, IsSomeAnd};
+ghost use Rattle.std.specs.Option.{option_map};
 ghost use Rattle.std.specs.Prelude.{IsOkUnless};
 ghost use Rattle.std.specs.Ordering.{nat_cmp};
 ghost use Rattle.std.specs.Cmp.Lexicographic.{slice_cmp};
 ghost use Rattle.std.specs.Iterator.{at_most};
+ghost use Rattle.std.proofs.Common.{ap};
 ghost use Rattle.sst_base.specs.Counted.{found_item};
 ghost use Rattle.sst_base.specs.SharedPrefix.{shared_prefix_length};
 ghost use Rattle.sst_block_core.specs.Found.{Finds, Takes, StandsAt, IsRange, range_of};
@@ -15,7 +17,8 @@ ghost use Rattle.sst_block_core.specs.Stages.{items_in};
 ghost use Rattle.sst_block_core.specs.Body.{place_offset};
 ghost use Rattle.sst_block_core.specs.Pointers.{head_count};
 ghost use Rattle.sst_block_core.specs.Intervals.{Splits, digits, seek_picked};
-ghost use Rattle.sst_block_core.specs.Window.{Window, Answer, found, whole, picked_head};
+ghost use Rattle.sst_block_core.specs.ListSteps.{scan_gives_first, scan_gives_last};
+ghost use Rattle.sst_block_core.specs.Window.{Window, Answer, found, items_left, whole, picked_head};
 ghost use Rattle.sst_block_core.specs.Scan.{GivesNext};
 ghost use Rattle.sst_block_core.specs.Backs.{GivesNextBack, seek_upper_picked};
 ghost use Rattle.sst_block_core.specs.Trailer.{trailer_in};
@@ -24,6 +27,7 @@ use crate::block_item::BlockItem;
 use crate::table::block::back::Back;
 use crate::table::block::intervals::Intervals;
 use crate::table::block::place::Place;
+use sst_base::double_ended_peekable::ListIterator;
 use sst_base::table::block::Block;
 use sst_base::{Error, Result, Slice, Steps};
 use std::alloc::Global;
@@ -85,18 +89,17 @@ pub trait ParsedItem<Item: BlockItem> {
 /// The parsers whose names begin with `parse` take any bytes. The others are for the bytes of a
 /// block, where a form is known to stand: they test nothing.
 pub trait Decodable<Parsed: ParsedItem<Self>>: BlockItem + Sized {
-    /// Decodes the key and the sequence number of the head at an offset. Returns `None` at the
-    /// marker. Counts a head.
+    /// Decodes the key and the sequence number of the head whose full form is at an offset. Returns
+    /// `None` at the marker, and wherever no full form stands. Counts a head.
     fn parse_restart_key<'a>(
         payload: &'a [u8],
         offset: usize,
         steps: &mut Steps,
     ) -> Option<(&'a [u8], u64)>
         requires { offset ≤ length payload.now }
-        ensures head { (x : Self) (rest : List ℕ)
-            → Self.kind.full_at (drop offset payload.now) ≡ Some (x, rest)
-            → IsSomeAnd result
-            (λ f. (f.0.now ≡ Self.kind.key x) × (f.1 ≡ Self.kind.seqno x)) }
+        ensures exact { option_map {U = List ℕ × ℕ} (λ f. (f.0.now, f.1)) result
+            ≡ option_map {U = List ℕ × ℕ} (λ f. (Self.kind.key f.0, Self.kind.seqno f.0))
+            (Self.kind.full_at (drop offset payload.now)) }
         ensures marker { StandsAt payload.now offset (255 ∷ []) → result ≡ None }
         ensures heads { steps.new.heads ≡ steps.old.heads + 1 }
         ensures entries { steps.new.entries ≡ steps.old.entries };
@@ -118,9 +121,10 @@ pub trait Decodable<Parsed: ParsedItem<Self>>: BlockItem + Sized {
         ensures entries { steps.new.entries ≡ steps.old.entries + found_item result };
 
     /// Decodes the item in truncated form at an offset, behind a head whose key begins at
-    /// `base_key_offset`; the second answer is where the form ends. Returns `None` at the marker.
-    /// Whether the shared prefix is the longest is not tested: where it is, the answer is the item.
-    /// Counts an entry where it answers an item.
+    /// `base_key_offset`; the second answer is where the form ends. Returns `None` at the marker,
+    /// and wherever no truncated form stands. How long the head's key is, is not asked: the form is
+    /// read as one behind a head whose key ends with the shared prefix. Counts an entry where it
+    /// answers an item.
     fn parse_truncated(
         payload: &[u8],
         offset: usize,
@@ -140,6 +144,11 @@ pub trait Decodable<Parsed: ParsedItem<Self>>: BlockItem + Sized {
             ≡ shared_prefix_length base (Self.kind.key (Parsed.item_of payload.now f.0))
             → Self.kind.truncated_at base (drop offset payload.now)
             ≡ Some (Parsed.item_of payload.now f.0, drop f.1 payload.now)) }
+        ensures stands { IfSome result
+            (λ f. Self.kind.truncated_at
+            (take (Parsed.shared_len f.0) (drop base_key_offset payload.now))
+            (drop offset payload.now)
+            ≡ Some (Parsed.item_of payload.now f.0, drop f.1 payload.now)) }
         ensures within { IfSome result (λ f. f.1 ≤ length payload.now) }
         ensures found { IfSome result (λ f. Parsed.is_found payload.now f.0) }
         ensures marker { StandsAt payload.now offset (255 ∷ []) → result ≡ None }
@@ -147,19 +156,26 @@ pub trait Decodable<Parsed: ParsedItem<Self>>: BlockItem + Sized {
         ensures entries { steps.new.entries ≡ steps.old.entries + found_item result };
 
     /// Decodes the item whose full form stands at an offset; the second answer is where the form
-    /// ends. Tests nothing.
-    fn read_full(payload: &[u8], offset: usize) -> (Parsed, usize)
+    /// ends. Tests nothing. Counts an entry.
+    fn read_full(payload: &[u8], offset: usize, steps: &mut Steps) -> (Parsed, usize)
         requires { IsSome (Self.kind.full_at (drop offset payload.now)) }
         ensures exact { Takes (Parsed.item_of payload.now) payload.now result
             (Self.kind.full_at (drop offset payload.now)) }
         ensures found { Parsed.is_found payload.now result.0 }
         ensures key { StandsAt payload.now (Parsed.key_start result.0)
             (Self.kind.key (Parsed.item_of payload.now result.0)) }
-        ensures shared { Parsed.shared_len result.0 ≡ 0 };
+        ensures shared { Parsed.shared_len result.0 ≡ 0 }
+        ensures heads { steps.new.heads ≡ steps.old.heads }
+        ensures entries { steps.new.entries ≡ steps.old.entries + 1 };
 
     /// Decodes the item whose truncated form stands at an offset, behind a head whose key begins at
-    /// `base_key_offset`; the second answer is where the form ends. Tests nothing.
-    fn read_truncated(payload: &[u8], offset: usize, base_key_offset: usize) -> (Parsed, usize)
+    /// `base_key_offset`; the second answer is where the form ends. Tests nothing. Counts an entry.
+    fn read_truncated(
+        payload: &[u8],
+        offset: usize,
+        base_key_offset: usize,
+        steps: &mut Steps,
+    ) -> (Parsed, usize)
         requires { (base : List ℕ) × StandsAt payload.now base_key_offset base
             × IsSome (Self.kind.truncated_at base (drop offset payload.now)) }
         ensures inside { result.1 ≤ length payload.now }
@@ -168,14 +184,19 @@ pub trait Decodable<Parsed: ParsedItem<Self>>: BlockItem + Sized {
             → Self.kind.truncated_at base (drop offset payload.now) ≡ Some (x, rest)
             → (Parsed.item_of payload.now result.0 ≡ x) × (drop result.1 payload.now ≡ rest)
             × (Parsed.shared_len result.0 ≡ shared_prefix_length base (Self.kind.key x)) }
-        ensures found { Parsed.is_found payload.now result.0 };
+        ensures found { Parsed.is_found payload.now result.0 }
+        ensures heads { steps.new.heads ≡ steps.old.heads }
+        ensures entries { steps.new.entries ≡ steps.old.entries + 1 };
 
     /// Decodes the key and the sequence number of the head that stands at an offset. Tests nothing.
-    fn read_head<'a>(payload: &'a [u8], offset: usize) -> (&'a [u8], u64)
+    /// Counts a head.
+    fn read_head<'a>(payload: &'a [u8], offset: usize, steps: &mut Steps) -> (&'a [u8], u64)
         requires { IsSome (Self.kind.full_at (drop offset payload.now)) }
-        ensures { (x : Self) (rest : List ℕ)
+        ensures head { (x : Self) (rest : List ℕ)
             → Self.kind.full_at (drop offset payload.now) ≡ Some (x, rest)
-            → (result.0.now ≡ Self.kind.key x) × (result.1 ≡ Self.kind.seqno x) };
+            → (result.0.now ≡ Self.kind.key x) × (result.1 ≡ Self.kind.seqno x) }
+        ensures heads { steps.new.heads ≡ steps.old.heads + 1 }
+        ensures entries { steps.new.entries ≡ steps.old.entries };
 }
 
 /// The block decoder: an iterator over the items of a block, as ranges of its payload.
@@ -249,7 +270,7 @@ impl<'a, Item: Decodable<Parsed>, Parsed: ParsedItem<Item>> Decoder<'a, Item, Pa
         ensures heads { self.new.steps.heads
             ≤ self.old.steps.heads
             + digits (head_count self.old.interval (length self.old.window.list)) }
-        ensures heads_grow { self.old.steps.heads ≤ self.new.steps.heads }
+        ensures heads_grow { self.old.steps.heads < self.new.steps.heads }
         ensures entries { self.new.steps.entries ≡ self.old.steps.entries }
     {
         let passed = self.intervals.partition_point(pred);
@@ -285,7 +306,7 @@ impl<'a, Item: Decodable<Parsed>, Parsed: ParsedItem<Item>> Decoder<'a, Item, Pa
         ensures heads { self.new.steps.heads
             ≤ self.old.steps.heads
             + digits (head_count self.old.interval (length self.old.window.list)) }
-        ensures heads_grow { self.old.steps.heads ≤ self.new.steps.heads }
+        ensures heads_grow { self.old.steps.heads < self.new.steps.heads }
         ensures entries { self.new.steps.entries ≡ self.old.steps.entries }
     {
         let passed = self.intervals.partition_point(pred);
@@ -361,6 +382,29 @@ impl<'a, Item: Decodable<Parsed>, Parsed: ParsedItem<Item> + Drop> DoubleEndedIt
         }
         Some(self.intervals.take_back(&mut self.back))
     }
+}
+
+/// The items left, so that a decoder may be peeked at. Clauses see the items for which the ranges
+/// stand.
+impl<'a, Item: Decodable<Parsed>, Parsed: ParsedItem<Item> + Drop> ListIterator
+    for Decoder<'a, Item, Parsed> {
+    type Value = Item;
+
+    ghost value_of = { λ d. Parsed.item_of d.payload };
+
+    ghost items = { λ d. items_left d.window };
+
+    ghost may_next = { λ _. tt };
+
+    ghost may_next_back = { λ _. tt };
+
+    ghost gives_first = { scan_gives_first Parsed.item_of Parsed.is_found };
+
+    ghost gives_last = { scan_gives_last Parsed.item_of Parsed.is_found };
+
+    ghost keeps_values = { λ s r t step. ap Parsed.item_of step.payload };
+
+    ghost keeps_values_back = { λ s r t step. ap Parsed.item_of step.payload };
 }
 
 impl<'a, Item: Decodable<Parsed>, Parsed: ParsedItem<Item>> Drop for Decoder<'a, Item, Parsed> {

@@ -11,10 +11,11 @@ use sst_base::Steps;
 use std::cmp::Ordering;
 use std::marker::{Model, PhantomData};
 
-/// Reads the heads and items of a block where their forms are known to stand, and counts them.
+/// Reads the heads and items of a block where their forms are known to stand, by the calls of
+/// [`Decodable`], which count them.
 ///
-/// It keeps the payload to itself: who has a reader can look at nothing that isn't counted. Clauses
-/// see the payload and the counters.
+/// It keeps payload and counters together, and the payload to itself: who has a reader can look at
+/// nothing that isn't counted. Clauses see both.
 pub(crate) struct FormReader<'a, Item: Decodable<Parsed>, Parsed: ParsedItem<Item>> {
     kinds: PhantomData<(Item, Parsed)>,
     payload: &'a [u8],
@@ -61,8 +62,7 @@ impl<'a, Item: Decodable<Parsed>, Parsed: ParsedItem<Item>> FormReader<'a, Item,
         ensures heads { self.new.steps.heads ≡ self.old.steps.heads + 1 }
         ensures entries { self.new.steps.entries ≡ self.old.steps.entries }
     {
-        self.steps.count_head();
-        Item::read_head(self.payload, offset)
+        Item::read_head(self.payload, offset, &mut self.steps)
     }
 
     /// Decodes the item in full form at an offset; the second answer is where the form ends. Counts
@@ -80,8 +80,7 @@ impl<'a, Item: Decodable<Parsed>, Parsed: ParsedItem<Item>> FormReader<'a, Item,
         ensures heads { self.new.steps.heads ≡ self.old.steps.heads }
         ensures entries { self.new.steps.entries ≡ self.old.steps.entries + 1 }
     {
-        self.steps.count_entry();
-        Item::read_full(self.payload, offset)
+        Item::read_full(self.payload, offset, &mut self.steps)
     }
 
     /// Decodes the item in truncated form at an offset, behind a head whose key begins at
@@ -106,8 +105,7 @@ impl<'a, Item: Decodable<Parsed>, Parsed: ParsedItem<Item>> FormReader<'a, Item,
         ensures heads { self.new.steps.heads ≡ self.old.steps.heads }
         ensures entries { self.new.steps.entries ≡ self.old.steps.entries + 1 }
     {
-        self.steps.count_entry();
-        Item::read_truncated(self.payload, offset, base_key_offset)
+        Item::read_truncated(self.payload, offset, base_key_offset, &mut self.steps)
     }
 
     /// Returns the length of an item's shared prefix.

@@ -147,6 +147,19 @@ impl<'a, Item: Decodable<Parsed>, Parsed: ParsedItem<Item>> Intervals<'a, Item, 
         }
     }
 
+    /// Returns where the form of the head of interval j begins, which exists.
+    pub fn head_offset(&self, j: usize) -> usize
+        requires { j < head_count self.now.list.interval (length self.now.list.items) }
+        ensures value { result
+            ≡ place_offset Item.kind self.now.list.interval self.now.list.items
+            (j * self.now.list.interval) }
+        ensures inside { j * self.now.list.interval < length self.now.list.items }
+    {
+        // The proof needs that each interval but the last is full.
+        let _count = self.count();
+        self.start(j).offset
+    }
+
     /// Returns the number of items per interval; the last may hold fewer.
     #[inline(always)]
     pub(crate) fn interval(&self) -> u8

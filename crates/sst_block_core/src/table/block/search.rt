@@ -45,7 +45,7 @@ impl<'a, Item: Decodable<Parsed>, Parsed: ParsedItem<Item>> Intervals<'a, Item, 
         ensures heads { self.new.steps.heads
             ≤ self.old.steps.heads
             + digits (head_count self.old.list.interval (length self.old.list.items)) }
-        ensures heads_grow { self.old.steps.heads ≤ self.new.steps.heads }
+        ensures heads_grow { self.old.steps.heads < self.new.steps.heads }
         ensures entries { self.new.steps.entries ≡ self.old.steps.entries }
     {
         let mut left = 0;
@@ -79,7 +79,7 @@ impl<'a, Item: Decodable<Parsed>, Parsed: ParsedItem<Item>> Intervals<'a, Item, 
         ensures heads { self.new.steps.heads
             ≤ self.old.steps.heads
             + digits (head_count self.old.list.interval (length self.old.list.items)) }
-        ensures heads_grow { self.old.steps.heads ≤ self.new.steps.heads }
+        ensures heads_grow { self.old.steps.heads < self.new.steps.heads }
         ensures entries { self.new.steps.entries ≡ self.old.steps.entries }
     {
         let _ = self.count();
@@ -235,7 +235,7 @@ impl<'a, Item: Decodable<Parsed>, Parsed: ParsedItem<Item> + Drop> Intervals<'a,
         ensures heads { self.new.steps.heads
             ≤ self.old.steps.heads
             + digits (head_count self.old.list.interval (length self.old.list.items)) }
-        ensures heads_grow { self.old.steps.heads ≤ self.new.steps.heads }
+        ensures heads_grow { self.old.steps.heads < self.new.steps.heads }
         ensures entries { self.new.steps.entries
             ≤ self.old.steps.entries + (self.old.list.interval + 1) }
         ensures entries_grow { self.old.steps.entries + found_item result.1
@@ -266,7 +266,7 @@ impl<'a, Item: Decodable<Parsed>, Parsed: ParsedItem<Item> + Drop> Intervals<'a,
         ensures heads { self.new.steps.heads
             ≤ self.old.steps.heads
             + digits (head_count self.old.list.interval (length self.old.list.items)) }
-        ensures heads_grow { self.old.steps.heads ≤ self.new.steps.heads }
+        ensures heads_grow { self.old.steps.heads < self.new.steps.heads }
         ensures entries { self.new.steps.entries
             ≤ self.old.steps.entries + scan_cost self.old.list.interval }
         ensures entries_grow { self.old.steps.entries ≤ self.new.steps.entries }
@@ -293,7 +293,7 @@ impl<'a, Item: Decodable<Parsed>, Parsed: ParsedItem<Item> + Drop> Intervals<'a,
         ensures heads { self.new.steps.heads
             ≤ self.old.steps.heads
             + digits (head_count self.old.list.interval (length self.old.list.items)) }
-        ensures heads_grow { self.old.steps.heads ≤ self.new.steps.heads }
+        ensures heads_grow { self.old.steps.heads < self.new.steps.heads }
         ensures entries { self.new.steps.entries
             ≤ self.old.steps.entries + (self.old.list.interval + 1) }
         ensures entries_grow { self.old.steps.entries + found_item result
@@ -323,8 +323,7 @@ impl<'a, Item: Decodable<Parsed>, Parsed: ParsedItem<Item> + Drop> Intervals<'a,
         ensures heads { self.new.steps.heads ≡ self.old.steps.heads }
         ensures entries { self.new.steps.entries
             ≤ self.old.steps.entries + self.old.list.interval }
-        ensures entries_grow { self.old.steps.entries + found_item result
-            ≤ self.new.steps.entries }
+        ensures entries_grow { self.old.steps.entries < self.new.steps.entries }
     {
         let bound = Bound {
             needle,

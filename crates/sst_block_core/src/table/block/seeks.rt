@@ -1,5 +1,5 @@
 //! Seeks of a decoder by key.
-ghost use Rattle.std.specs.Prelude.{◌≡◌, ◌+◌, ◌*◌, ◌≤◌, length, min, nat_lt};
+ghost use Rattle.std.specs.Prelude.{◌≡◌, ◌+◌, ◌*◌, ◌<◌, ◌≤◌, length, min, nat_lt};
 ghost use Rattle.std.specs.Prelude.{IfSome};
 ghost use Rattle.sst_block_core.specs.Kind.{IsOrdered};
 ghost use Rattle.sst_block_core.specs.Pointers.{head_count};
@@ -47,7 +47,7 @@ impl<'a, Item: Decodable<Parsed>, Parsed: ParsedItem<Item> + Drop> Decoder<'a, I
         ensures heads { self.new.steps.heads
             ≤ self.old.steps.heads
             + digits (head_count self.old.interval (length self.old.window.list)) }
-        ensures heads_grow { self.old.steps.heads ≤ self.new.steps.heads }
+        ensures heads_grow { self.old.steps.heads < self.new.steps.heads }
         ensures entries { self.new.steps.entries
             ≤ self.old.steps.entries + scan_cost self.old.interval }
         ensures entries_grow { self.old.steps.entries ≤ self.new.steps.entries }
@@ -72,7 +72,7 @@ impl<'a, Item: Decodable<Parsed>, Parsed: ParsedItem<Item> + Drop> Decoder<'a, I
         ensures heads { self.new.steps.heads
             ≤ self.old.steps.heads
             + digits (head_count self.old.interval (length self.old.window.list)) }
-        ensures heads_grow { self.old.steps.heads ≤ self.new.steps.heads }
+        ensures heads_grow { self.old.steps.heads < self.new.steps.heads }
         ensures entries { self.new.steps.entries
             ≤ self.old.steps.entries + 2 * scan_cost self.old.interval }
         ensures entries_grow { self.old.steps.entries ≤ self.new.steps.entries }
@@ -113,7 +113,7 @@ impl<'a, Item: Decodable<Parsed>, Parsed: ParsedItem<Item> + Drop> Decoder<'a, I
         ensures heads { self.new.steps.heads
             ≤ self.old.steps.heads
             + digits (head_count self.old.interval (length self.old.window.list)) }
-        ensures heads_grow { self.old.steps.heads ≤ self.new.steps.heads }
+        ensures heads_grow { self.old.steps.heads < self.new.steps.heads }
         ensures entries { self.new.steps.entries
             ≤ self.old.steps.entries + (self.old.interval + 1) }
         ensures entries_grow { self.old.steps.entries ≤ self.new.steps.entries }
@@ -143,7 +143,7 @@ impl<'a, Item: Decodable<Parsed>, Parsed: ParsedItem<Item> + Drop> Decoder<'a, I
         ensures heads { self.new.steps.heads
             ≤ self.old.steps.heads
             + digits (head_count self.old.interval (length self.old.window.list)) }
-        ensures heads_grow { self.old.steps.heads ≤ self.new.steps.heads }
+        ensures heads_grow { self.old.steps.heads < self.new.steps.heads }
         ensures entries { self.new.steps.entries
             ≤ self.old.steps.entries + (2 * self.old.interval + 2) }
         ensures entries_grow { self.old.steps.entries ≤ self.new.steps.entries }

@@ -1,6 +1,7 @@
 //! The check of a data block, and entries as items that are checked.
-ghost use Rattle.std.specs.Prelude.{◌≡◌, ◌≢◌, ◌<◌, length, OnOk, IfOk, IfErr, Ok, Err};
-ghost use Rattle.sst_base.specs.Entry.{IsEntry};
+ghost use Rattle.std.specs.Prelude.{◌≡◌, ◌≢◌, ◌<◌, ℕ, List, length, OnOk, IfOk, IfErr, Ok, Err};
+ghost use Rattle.std.specs.Prelude.{MatchResult};
+ghost use Rattle.sst_base.specs.Entry.{Entry, IsEntry};
 ghost use Rattle.sst_block_kinds.specs.Checks.{data_check};
 ghost use Rattle.sst_block_core.specs.Entries.{entries};
 ghost use Rattle.sst_block_core.specs.Payload.{IsBlock};
@@ -83,6 +84,30 @@ impl<H: BlockHash> DataBlock<H> {
     ///
     /// Those of [`DataBlock::check`].
     pub fn check_ref(alloc: Global, block: &Block) -> Result<usize>
+        ensures checked { OnOk result (data_check H.hash64 block.now.payload
+            ≡ Ok (items_in entries block.now.payload)) }
+        ensures count { IfOk result (λ n. n ≡ length (items_in entries block.now.payload)) }
+        ensures block { OnOk result
+            (IsBlock entries IsEntry H.hash64 block.now.payload
+            (items_in entries block.now.payload) (trailer_in block.now.payload).interval
+            (trailer_in block.now.payload).hash_len) }
+        ensures refused { IfErr result
+            (λ e. e ≢ Error.Memory → data_check H.hash64 block.now.payload ≡ Err e) }
+        ensures memory { IfErr result
+            (λ e. e ≡ Error.Memory → 0 < (trailer_in block.now.payload).hash_len) }
+
+        // An encoding is accepted.
+        ensures accepts { (items : List Entry) (r b : ℕ)
+            → IsBlock entries IsEntry H.hash64 block.now.payload items r b
+            → MatchResult result (λ n. n ≡ length items) (λ e. e ≡ Error.Memory) }
+    {
+        // The proof needs the bound on the payload's length, and that its cells are bytes.
+        let _fits = block.size();
+        DataBlock::<H>::check_stages(alloc, block)
+    }
+
+    // The check, stage after stage.
+    fn check_stages(alloc: Global, block: &Block) -> Result<usize>
         ensures checked { OnOk result (data_check H.hash64 block.now.payload
             ≡ Ok (items_in entries block.now.payload)) }
         ensures count { IfOk result (λ n. n ≡ length (items_in entries block.now.payload)) }

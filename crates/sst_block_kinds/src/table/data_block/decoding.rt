@@ -1,10 +1,11 @@
 //! Entries as items of a block: how they are decoded.
 ghost use Rattle.std.specs.Prelude.{◌≡◌, ◌+◌, ◌-◌, ◌^◌, ◌<◌, ◌≤◌};
-ghost use Rattle.std.specs.Prelude.{length, drop, IfSome, IfNone, IsSome, None};
+ghost use Rattle.std.specs.Prelude.{length, drop, [], ◌∷◌, IfSome, IfNone, IsSome, None};
 ghost use Rattle.sst_block_core.specs.Found.{Finds, Takes, IsRange, IsOptionalRange};
-ghost use Rattle.sst_block_core.specs.Found.{optional_range};
+ghost use Rattle.sst_block_core.specs.Found.{optional_range, range_of, StandsAt};
 ghost use Rattle.sst_block_core.specs.Entries.{value_at, full_at, truncated_form_at};
 ghost use Rattle.sst_block_kinds.specs.ParsedEntry.{entry_of, truncated_of, IsKeyLength};
+ghost use Rattle.sst_block_kinds.specs.ParsedEntry.{IsParsedEntry};
 
 use crate::table::data_block::parsed_item::DataBlockParsedItem;
 use sst_base::table::util::SliceIndexes;
@@ -137,6 +138,36 @@ fn read_value(payload: &[u8], at: usize, value_type: ValueType) -> (Option<Slice
     }
 }
 
+// The entry whose full form is at an offset, and where the form ends.
+#[inline(always)]
+#[tactic(auto, using(sst_block_core::proofs::Ends::range_some, sst_block_core::proofs::Ends::range_stands), unfolding(sst_block_core::specs::Entries::full_at))]
+fn full_form_from(payload: &[u8], offset: usize) -> Option<(DataBlockParsedItem, usize)>
+    requires { offset ≤ length payload.now }
+    ensures exact { Finds (entry_of payload.now) payload.now result
+        (full_at (drop offset payload.now)) }
+    ensures found { IfSome result (λ f. IsParsedEntry payload.now f.0) }
+    ensures key { IfSome result
+        (λ f. StandsAt payload.now f.0.key.0 (range_of payload.now f.0.key)) }
+    ensures prefix { IfSome result (λ f. f.0.prefix ≡ None) }
+    ensures marker { StandsAt payload.now offset (255 ∷ []) → result ≡ None }
+{
+    let (value_type, at) = value_type_from(payload, offset)?;
+    let (seqno, at) = number_from(payload, at, 64)?;
+    let (key, at) = length_prefixed_from(payload, at, 16)?;
+    let (value, end) = value_from(payload, at, value_type)?;
+    if key.0 == key.1 {
+        return None;
+    }
+    let item = DataBlockParsedItem {
+        value_type,
+        seqno,
+        prefix: None,
+        key,
+        value,
+    };
+    Some((item, end))
+}
+
 // The entry whose full form stands at an offset, and where the form ends.
 #[inline(always)]
 fn read_full_form(payload: &[u8], offset: usize) -> (DataBlockParsedItem, usize)
@@ -193,35 +224,19 @@ impl Decodable<DataBlockParsedItem> for InternalValue {
         steps: &mut Steps,
     ) -> Option<(&'a [u8], u64)> {
         steps.count_head();
-        let (_, at) = value_type_from(payload, offset)?;
-        let (seqno, at) = number_from(payload, at, 64)?;
-        let (key, _) = length_prefixed_from(payload, at, 16)?;
-        Some((bytes_of(payload, &key), seqno))
+        let (item, _) = full_form_from(payload, offset)?;
+        Some((bytes_of(payload, &item.key), item.seqno))
     }
 
     #[inline(always)]
-    #[tactic(auto, using(sst_block_core::proofs::Ends::range_some, sst_block_core::proofs::Ends::range_stands), unfolding(sst_block_core::specs::Entries::full_at))]
     fn parse_full(
         payload: &[u8],
         offset: usize,
         steps: &mut Steps,
     ) -> Option<(DataBlockParsedItem, usize)> {
-        let (value_type, at) = value_type_from(payload, offset)?;
-        let (seqno, at) = number_from(payload, at, 64)?;
-        let (key, at) = length_prefixed_from(payload, at, 16)?;
-        let (value, end) = value_from(payload, at, value_type)?;
-        if key.0 == key.1 {
-            return None;
-        }
+        let found = full_form_from(payload, offset)?;
         steps.count_entry();
-        let item = DataBlockParsedItem {
-            value_type,
-            seqno,
-            prefix: None,
-            key,
-            value,
-        };
-        Some((item, end))
+        Some(found)
     }
 
     #[inline(always)]
@@ -246,7 +261,8 @@ impl Decodable<DataBlockParsedItem> for InternalValue {
     }
 
     #[inline(always)]
-    fn read_full(payload: &[u8], offset: usize) -> (DataBlockParsedItem, usize) {
+    fn read_full(payload: &[u8], offset: usize, steps: &mut Steps) -> (DataBlockParsedItem, usize) {
+        steps.count_entry();
         read_full_form(payload, offset)
     }
 
@@ -255,7 +271,9 @@ impl Decodable<DataBlockParsedItem> for InternalValue {
         payload: &[u8],
         offset: usize,
         base_key_offset: usize,
+        steps: &mut Steps,
     ) -> (DataBlockParsedItem, usize) {
+        steps.count_entry();
         let _size = payload.len();
         let (form, end) = read_truncated_form(payload, offset);
         let prefix = SliceIndexes(base_key_offset, base_key_offset + form.shared as usize);
@@ -270,7 +288,8 @@ impl Decodable<DataBlockParsedItem> for InternalValue {
     }
 
     #[inline(always)]
-    fn read_head<'a>(payload: &'a [u8], offset: usize) -> (&'a [u8], u64) {
+    fn read_head<'a>(payload: &'a [u8], offset: usize, steps: &mut Steps) -> (&'a [u8], u64) {
+        steps.count_head();
         let (_, at) = read_value_type(payload, offset);
         let (seqno, at) = read_number(payload, at, 64);
         let (key, _) = read_length_prefixed(payload, at, 16);

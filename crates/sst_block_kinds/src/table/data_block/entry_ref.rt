@@ -1,13 +1,14 @@
 //! Entries that borrow their block, and the iterator over them.
-ghost use Rattle.std.specs.Prelude.{◌≡◌, ◌↔◌, IfOk, IsOkUnless, IsTrue};
+ghost use Rattle.std.specs.Prelude.{◌≡◌, ◌↔◌, IfOk, IsOkUnless, IsTrue, refl};
 ghost use Rattle.std.specs.Ordering.{nat_cmp};
 ghost use Rattle.std.specs.Cmp.Lexicographic.{slice_cmp};
-ghost use Rattle.std.specs.Iterator.{YieldsFirst, item_count};
+ghost use Rattle.std.specs.Iterator.{YieldsFirst, YieldsLast, item_count};
 ghost use Rattle.sst_base.specs.ValueType.{IsTombstone};
 
 use crate::table::data_block::DataBlock;
 use crate::table::data_block::iter::Iter;
 use crate::table::data_block::parsed_item::DataBlockParsedItem;
+use sst_base::double_ended_peekable::ListIterator;
 use sst_base::{BlockHash, Error, InternalValue, Result, SeqNo, Slice, ValueType};
 use sst_block_core::table::block::ParsedItem;
 use std::alloc::Global;
@@ -124,4 +125,41 @@ impl<'a> Iterator for Entries<'a> {
             item,
         })
     }
+}
+
+/// Returns the last entry left, if there is one.
+impl<'a> DoubleEndedIterator for Entries<'a> {
+    ghost next_back_gives = { YieldsLast (λ s. s) };
+
+    #[inline(always)]
+    fn next_back(&mut self) -> Option<EntryRef<'a>> {
+        let Some(item) = self.iter.next_back() else {
+            return None;
+        };
+        Some(EntryRef {
+            payload: self.payload,
+            item,
+        })
+    }
+}
+
+/// The entries left, so that the iterator may be peeked at.
+impl<'a> ListIterator for Entries<'a> {
+    type Value = InternalValue;
+
+    ghost value_of = { λ _ entry. entry };
+
+    ghost items = { λ entries. entries };
+
+    ghost may_next = { λ _. tt };
+
+    ghost may_next_back = { λ _. tt };
+
+    ghost gives_first = { λ s r t step. step };
+
+    ghost gives_last = { λ s r t step. step };
+
+    ghost keeps_values = { λ s r t step. refl };
+
+    ghost keeps_values_back = { λ s r t step. refl };
 }

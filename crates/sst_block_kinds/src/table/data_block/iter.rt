@@ -2,6 +2,7 @@
 ghost use Rattle.std.specs.Prelude.{◌≡◌, ℕ, ◌+◌, ◌-◌, ◌*◌, ◌<◌, ◌≤◌};
 ghost use Rattle.std.specs.Prelude.{length, true};
 ghost use Rattle.std.specs.Iterator.{at_most};
+ghost use Rattle.std.proofs.Common.{ap};
 ghost use Rattle.sst_block_core.specs.Body.{place_offset};
 ghost use Rattle.sst_block_core.specs.Kind.{IsOrdered};
 ghost use Rattle.sst_block_core.specs.Entries.{entries};
@@ -10,10 +11,12 @@ ghost use Rattle.sst_block_kinds.specs.ParsedEntry.{entry_of, IsParsedEntry};
 ghost use Rattle.sst_block_core.specs.Scan.{Scan, GivesNext};
 ghost use Rattle.sst_block_core.specs.Intervals.{digits};
 ghost use Rattle.sst_block_core.specs.Backs.{GivesStep, GivesNextBack};
-ghost use Rattle.sst_block_core.specs.Window.{found, seek, seek_exclusive, seek_upper};
+ghost use Rattle.sst_block_core.specs.ListSteps.{scan_gives_first, scan_gives_last};
+ghost use Rattle.sst_block_core.specs.Window.{found, items_left, seek, seek_exclusive, seek_upper};
 ghost use Rattle.sst_block_core.specs.Window.{seek_upper_exclusive};
 
 use crate::table::data_block::parsed_item::DataBlockParsedItem;
+use sst_base::double_ended_peekable::ListIterator;
 use sst_base::{InternalValue, Steps};
 use sst_block_core::table::block::Decoder;
 use sst_block_core::table::block::bound::Bound;
@@ -66,7 +69,7 @@ impl<'a> Iter<'a> {
         ensures heads { self.new.steps.heads
             ≤ self.old.steps.heads
             + digits (head_count self.old.interval (length self.old.window.list)) }
-        ensures heads_grow { self.old.steps.heads ≤ self.new.steps.heads }
+        ensures heads_grow { self.old.steps.heads < self.new.steps.heads }
         ensures entries { self.new.steps.entries
             ≤ self.old.steps.entries + (self.old.interval + 1) }
         ensures entries_grow { self.old.steps.entries ≤ self.new.steps.entries }
@@ -83,7 +86,7 @@ impl<'a> Iter<'a> {
         ensures heads { self.new.steps.heads
             ≤ self.old.steps.heads
             + digits (head_count self.old.interval (length self.old.window.list)) }
-        ensures heads_grow { self.old.steps.heads ≤ self.new.steps.heads }
+        ensures heads_grow { self.old.steps.heads < self.new.steps.heads }
         ensures entries { self.new.steps.entries
             ≤ self.old.steps.entries + (self.old.interval + 1) }
         ensures entries_grow { self.old.steps.entries ≤ self.new.steps.entries }
@@ -101,7 +104,7 @@ impl<'a> Iter<'a> {
         ensures heads { self.new.steps.heads
             ≤ self.old.steps.heads
             + digits (head_count self.old.interval (length self.old.window.list)) }
-        ensures heads_grow { self.old.steps.heads ≤ self.new.steps.heads }
+        ensures heads_grow { self.old.steps.heads < self.new.steps.heads }
         ensures entries { self.new.steps.entries
             ≤ self.old.steps.entries + (2 * self.old.interval + 2) }
         ensures entries_grow { self.old.steps.entries ≤ self.new.steps.entries }
@@ -118,7 +121,7 @@ impl<'a> Iter<'a> {
         ensures heads { self.new.steps.heads
             ≤ self.old.steps.heads
             + digits (head_count self.old.interval (length self.old.window.list)) }
-        ensures heads_grow { self.old.steps.heads ≤ self.new.steps.heads }
+        ensures heads_grow { self.old.steps.heads < self.new.steps.heads }
         ensures entries { self.new.steps.entries
             ≤ self.old.steps.entries + (2 * self.old.interval + 2) }
         ensures entries_grow { self.old.steps.entries ≤ self.new.steps.entries }
@@ -177,4 +180,25 @@ impl<'a> DoubleEndedIterator for Iter<'a> {
     fn next_back(&mut self) -> Option<DataBlockParsedItem> {
         self.decoder.next_back()
     }
+}
+
+/// The entries left, so that the iterator may be peeked at.
+impl<'a> ListIterator for Iter<'a> {
+    type Value = InternalValue;
+
+    ghost value_of = { λ i. entry_of i.payload };
+
+    ghost items = { λ i. items_left i.window };
+
+    ghost may_next = { λ _. tt };
+
+    ghost may_next_back = { λ _. tt };
+
+    ghost gives_first = { scan_gives_first entry_of IsParsedEntry };
+
+    ghost gives_last = { scan_gives_last entry_of IsParsedEntry };
+
+    ghost keeps_values = { λ s r t step. ap entry_of step.payload };
+
+    ghost keeps_values_back = { λ s r t step. ap entry_of step.payload };
 }

@@ -1,11 +1,11 @@
 //! Data blocks: blocks of entries.
-ghost use Rattle.std.specs.Prelude.{◌≡◌, ◌↔◌, ℕ, ◌+◌, ◌^◌, ◌<◌};
+ghost use Rattle.std.specs.Prelude.{◌≡◌, ◌↔◌, ℕ, ◌+◌, ◌*◌, ◌^◌, ◌<◌, MatchResult};
 ghost use Rattle.std.specs.Prelude.{◌≤◌, List, length, map, [], IsTrue};
 ghost use Rattle.std.specs.Prelude.{IsSome, OnOk, OnErr, IfOk, IfErr, IsOkUnless, None, Some};
 ghost use Rattle.std.specs.Prelude.{IfSome, ◌==◌, if◌then◌else◌, ◌≢◌, Ok, Err};
-ghost use Rattle.sst_base.specs.Bytes.{IsBytes};
 ghost use Rattle.sst_base.specs.Entry.{Entry, IsEntry, plain};
 ghost use Rattle.sst_block_kinds.specs.Checks.{data_check};
+ghost use Rattle.sst_block_core.specs.Body.{place_offset};
 ghost use Rattle.sst_block_core.specs.Kind.{IsOrdered};
 ghost use Rattle.sst_block_core.specs.Entries.{entries, data_payload};
 ghost use Rattle.sst_block_core.specs.Pointers.{head_count};
@@ -15,6 +15,7 @@ ghost use Rattle.sst_block_core.specs.Stages.{HasIndexes};
 ghost use Rattle.sst_block_core.specs.Trailer.{trailer_in};
 ghost use Rattle.sst_block_core.specs.Encoders.{IsRefusal};
 ghost use Rattle.sst_block_kinds.specs.PointReads.{read_heads, read_entries};
+ghost use Rattle.sst_block_kinds.specs.PointReads.{read_heads_least, read_entries_least};
 ghost use Rattle.sst_block_core.specs.Window.{whole, first_match};
 ghost use Rattle.sst_block_kinds.specs.DataBlock.{block_of, data_block_of};
 
@@ -192,6 +193,12 @@ impl<H: BlockHash> DataBlock<H> {
             (λ e. e ≢ Error.Memory → data_check H.hash64 block.payload ≡ Err e) }
         ensures memory { IfErr result
             (λ e. e ≡ Error.Memory → 0 < (trailer_in block.payload).hash_len) }
+
+        // An encoding is accepted.
+        ensures accepts { (items : List Entry) (r b : ℕ)
+            → IsBlock entries IsEntry H.hash64 block.payload items r b
+            → MatchResult result (λ found. found.items ≡ map plain items)
+            (λ e. e ≡ Error.Memory) }
     {
         DataBlock::<H>::check_ref(alloc, &block)?;
         Ok(DataBlock::new(block))
@@ -207,7 +214,6 @@ impl<H: BlockHash> DataBlock<H> {
     {
         // The proof needs the bound on the payload's length, and that its cells are bytes.
         let _fits = self.inner.size();
-        note_bytes(self.inner.data().as_slice());
         self.inner.data()
     }
 
@@ -254,6 +260,18 @@ impl<H: BlockHash> DataBlock<H> {
         Trailer::new(self.opened()).heads()
     }
 
+    /// Returns where the form of a head begins, by the head's pointer in the binary index: an offset
+    /// that [`Iter::seek_to_offset`] takes.
+    pub fn head_offset(&self, index: usize) -> usize
+        requires { index < head_count self.now.interval (length self.now.items) }
+        ensures value { result
+            ≡ place_offset entries self.now.interval self.now.items
+            (index * self.now.interval) }
+        ensures inside { index * self.now.interval < length self.now.items }
+    {
+        self.intervals().head_offset(index)
+    }
+
     /// Returns the number of buckets in the hash index, or `None` if none is stored.
     pub fn hash_bucket_count(&self) -> Option<usize>
         ensures { result ≡ (if self.now.stored == 0 then None else Some self.now.stored) }
@@ -276,8 +294,8 @@ impl<H: BlockHash> DataBlock<H> {
         if stored == 0 {
             return None;
         }
-        let bytes = inner.data().as_slice();
-        Some(hash_index::Reader::new(bytes, trailer.hash_offset(), stored))
+        let payload = inner.data().as_slice();
+        Some(hash_index::Reader::new(payload, trailer.hash_offset(), stored))
     }
 
     /// Returns an iterator over the entries, as ranges of the payload. Takes no memory.
@@ -321,9 +339,9 @@ impl<H: BlockHash> DataBlock<H> {
     /// tombstone has no value.
     ///
     /// What was looked at is added to `steps`. Where the hash index says that the key is not there,
-    /// that is nothing; where it gives a restart interval, at most the entries of one; else at most
-    /// as many heads as their number has binary digits, and the entries of one interval and one
-    /// more.
+    /// that is nothing; where it gives a restart interval, at least one entry and at most those of
+    /// the interval; else at least one head and at most as many as their number has binary digits,
+    /// and at most the entries of one interval and one more.
     ///
     /// # Errors
     ///
@@ -342,10 +360,13 @@ impl<H: BlockHash> DataBlock<H> {
             (IsSome (first_match entries needle.now seqno self.now.items)) }
         ensures heads { steps.new.heads
             ≤ steps.old.heads + read_heads H.hash64 self.now needle.now }
-        ensures heads_grow { steps.old.heads ≤ steps.new.heads }
+        ensures heads_least { steps.old.heads + read_heads_least H.hash64 self.now needle.now
+            ≤ steps.new.heads }
         ensures entries { steps.new.entries
             ≤ steps.old.entries + read_entries H.hash64 self.now needle.now }
-        ensures entries_grow { steps.old.entries ≤ steps.new.entries }
+        ensures entries_least { steps.old.entries
+            + read_entries_least H.hash64 self.now needle.now
+            ≤ steps.new.entries }
         ensures counted { IsSome (first_match entries needle.now seqno self.now.items)
             → steps.old.entries + 1 ≤ steps.new.entries }
     {
@@ -354,14 +375,6 @@ impl<H: BlockHash> DataBlock<H> {
             None => Ok(None),
         }
     }
-}
-
-// Tells a proof that the cells of a slice are bytes. Does nothing.
-#[inline(always)]
-fn note_bytes(bytes: &[u8])
-    ensures { IsBytes bytes.now }
-{
-    let _ = bytes;
 }
 
 impl<H: BlockHash> Clone for DataBlock<H> {

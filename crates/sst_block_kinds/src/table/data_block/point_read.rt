@@ -6,6 +6,7 @@ ghost use Rattle.sst_base.specs.Entry.{plain};
 ghost use Rattle.sst_block_core.specs.Kind.{IsOrdered};
 ghost use Rattle.sst_block_core.specs.Entries.{entries};
 ghost use Rattle.sst_block_kinds.specs.PointReads.{lookup, read_heads, read_entries};
+ghost use Rattle.sst_block_kinds.specs.PointReads.{read_heads_least, read_entries_least};
 ghost use Rattle.sst_block_kinds.specs.ParsedEntry.{entry_of, IsParsedEntry};
 ghost use Rattle.sst_block_core.specs.Pointers.{head_count};
 ghost use Rattle.sst_block_core.specs.Window.{first_match};
@@ -32,9 +33,9 @@ impl<H: BlockHash> DataBlock<H> {
         }
     }
 
-    // The block's restart intervals, of which nothing is counted yet.
+    /// The block's restart intervals, of which nothing is counted yet.
     #[inline(always)]
-    fn intervals(&self) -> Intervals<'_, InternalValue, DataBlockParsedItem>
+    pub(crate) fn intervals(&self) -> Intervals<'_, InternalValue, DataBlockParsedItem>
         ensures payload { result.list.payload ≡ self.now.payload }
         ensures items { result.list.items ≡ self.now.items }
         ensures interval { result.list.interval ≡ self.now.interval }
@@ -63,10 +64,14 @@ impl<H: BlockHash> DataBlock<H> {
         ensures found { IfSome result (IsParsedEntry self.now.payload) }
         ensures heads { steps.new.heads
             ≤ steps.old.heads + read_heads H.hash64 self.now needle.now }
-        ensures heads_grow { steps.old.heads ≤ steps.new.heads }
+        ensures heads_least { steps.old.heads + read_heads_least H.hash64 self.now needle.now
+            ≤ steps.new.heads }
         ensures entries { steps.new.entries
             ≤ steps.old.entries + read_entries H.hash64 self.now needle.now }
-        ensures entries_grow { steps.old.entries + found_item result ≤ steps.new.entries }
+        ensures entries_least { steps.old.entries
+            + read_entries_least H.hash64 self.now needle.now
+            ≤ steps.new.entries }
+        ensures counted { steps.old.entries + found_item result ≤ steps.new.entries }
     {
         let mut intervals = self.intervals();
         let found = match self.lookup(needle) {

@@ -1,7 +1,7 @@
 //! The check of an index block, and handles as items that are checked.
-ghost use Rattle.std.specs.Prelude.{◌≡◌, ◌≢◌, length, OnOk, IfOk, IfErr, Ok, Err};
+ghost use Rattle.std.specs.Prelude.{◌≡◌, ℕ, List, length, OnOk, IfOk, IfErr, MatchResult, Ok, Err};
 ghost use Rattle.sst_block_kinds.specs.Checks.{index_check};
-ghost use Rattle.sst_block_kinds.specs.Handles.{handles, IsIndexBlock};
+ghost use Rattle.sst_block_kinds.specs.Handles.{Handle, handles, IsIndexBlock};
 ghost use Rattle.sst_block_core.specs.Stages.{items_in};
 ghost use Rattle.sst_block_core.specs.Trailer.{trailer_in};
 
@@ -76,6 +76,25 @@ impl IndexBlock {
     ///
     /// Those of [`IndexBlock::check`].
     pub fn check_ref(block: &Block) -> Result<usize>
+        ensures checked { OnOk result
+            (index_check block.now.payload ≡ Ok (items_in handles block.now.payload)) }
+        ensures count { IfOk result (λ n. n ≡ length (items_in handles block.now.payload)) }
+        ensures block { OnOk result
+            (IsIndexBlock block.now.payload (items_in handles block.now.payload)
+            (trailer_in block.now.payload).interval) }
+        ensures refused { IfErr result (λ e. index_check block.now.payload ≡ Err e) }
+
+        // An encoding is accepted.
+        ensures accepts { (items : List Handle) (r : ℕ) → IsIndexBlock block.now.payload items r
+            → MatchResult result (λ n. n ≡ length items) (λ e. e ≡ Error.Memory) }
+    {
+        // The proof needs the bound on the payload's length, and that its cells are bytes.
+        let _fits = block.size();
+        IndexBlock::check_stages(block)
+    }
+
+    // The check, stage after stage.
+    fn check_stages(block: &Block) -> Result<usize>
         ensures checked { OnOk result
             (index_check block.now.payload ≡ Ok (items_in handles block.now.payload)) }
         ensures count { IfOk result (λ n. n ≡ length (items_in handles block.now.payload)) }

@@ -1,9 +1,9 @@
 //! Handles as items of a block: how they are decoded.
 ghost use Rattle.std.specs.Prelude.{◌≡◌, ◌+◌, ◌^◌, ◌<◌, ◌≤◌, length, drop};
-ghost use Rattle.std.specs.Prelude.{IfSome, IsSome};
-ghost use Rattle.sst_block_core.specs.Found.{Finds, Takes};
-ghost use Rattle.sst_block_kinds.specs.Handles.{marker_at, front_at};
-ghost use Rattle.sst_block_kinds.specs.ParsedHandle.{front_by};
+ghost use Rattle.std.specs.Prelude.{[], ◌∷◌, None, IfSome, IsSome};
+ghost use Rattle.sst_block_core.specs.Found.{Finds, Takes, StandsAt, range_of};
+ghost use Rattle.sst_block_kinds.specs.Handles.{marker_at, front_at, full_at};
+ghost use Rattle.sst_block_kinds.specs.ParsedHandle.{front_by, handle_of, IsParsedHandle};
 
 use crate::table::index_block::block_handle::KeyedBlockHandle;
 use crate::table::index_block::encoding::HANDLE_MARKER;
@@ -85,6 +85,24 @@ pub(super) fn front_from(payload: &[u8], at: usize) -> Option<(HandleFront, usiz
     Some((front, end))
 }
 
+// The handle whose full form is at an offset, and where the form ends.
+#[inline(always)]
+#[tactic(auto, using(crate::proofs::HandleReads::full_no_front, crate::proofs::HandleReads::full_no_key))]
+fn full_form_from(payload: &[u8], offset: usize) -> Option<(IndexBlockParsedItem, usize)>
+    requires { offset ≤ length payload.now }
+    ensures exact { Finds (handle_of payload.now) payload.now result
+        (full_at (drop offset payload.now)) }
+    ensures found { IfSome result (λ f. IsParsedHandle payload.now f.0) }
+    ensures key { IfSome result
+        (λ f. StandsAt payload.now f.0.end_key.0 (range_of payload.now f.0.end_key)) }
+    ensures prefix { IfSome result (λ f. f.0.prefix ≡ None) }
+    ensures marker { StandsAt payload.now offset (255 ∷ []) → result ≡ None }
+{
+    let (front, at) = front_from(payload, offset)?;
+    let (key, end) = length_prefixed_from(payload, at, 16)?;
+    Some((front.with_key(None, key), end))
+}
+
 // The front that stands at an offset, and where it ends.
 #[inline(always)]
 fn read_front(payload: &[u8], at: usize) -> (HandleFront, usize)
@@ -110,22 +128,19 @@ impl Decodable<IndexBlockParsedItem> for KeyedBlockHandle {
         steps: &mut Steps,
     ) -> Option<(&'a [u8], u64)> {
         steps.count_head();
-        let (front, at) = front_from(payload, offset)?;
-        let (key, _) = length_prefixed_from(payload, at, 16)?;
-        Some((bytes_of(payload, &key), front.seqno))
+        let (item, _) = full_form_from(payload, offset)?;
+        Some((bytes_of(payload, &item.end_key), item.seqno))
     }
 
     #[inline(always)]
-    #[tactic(auto, using(crate::proofs::HandleReads::full_no_front, crate::proofs::HandleReads::full_no_key))]
     fn parse_full(
         payload: &[u8],
         offset: usize,
         steps: &mut Steps,
     ) -> Option<(IndexBlockParsedItem, usize)> {
-        let (front, at) = front_from(payload, offset)?;
-        let (key, end) = length_prefixed_from(payload, at, 16)?;
+        let found = full_form_from(payload, offset)?;
         steps.count_entry();
-        Some((front.with_key(None, key), end))
+        Some(found)
     }
 
     #[inline(always)]
@@ -144,7 +159,12 @@ impl Decodable<IndexBlockParsedItem> for KeyedBlockHandle {
     }
 
     #[inline(always)]
-    fn read_full(payload: &[u8], offset: usize) -> (IndexBlockParsedItem, usize) {
+    fn read_full(
+        payload: &[u8],
+        offset: usize,
+        steps: &mut Steps,
+    ) -> (IndexBlockParsedItem, usize) {
+        steps.count_entry();
         let (front, at) = read_front(payload, offset);
         let (key, end) = read_length_prefixed(payload, at, 16);
         (front.with_key(None, key), end)
@@ -155,7 +175,9 @@ impl Decodable<IndexBlockParsedItem> for KeyedBlockHandle {
         payload: &[u8],
         offset: usize,
         base_key_offset: usize,
+        steps: &mut Steps,
     ) -> (IndexBlockParsedItem, usize) {
+        steps.count_entry();
         let _size = payload.len();
         let (front, at) = read_front(payload, offset);
         let (shared, at) = read_number(payload, at, 16);
@@ -165,7 +187,8 @@ impl Decodable<IndexBlockParsedItem> for KeyedBlockHandle {
     }
 
     #[inline(always)]
-    fn read_head<'a>(payload: &'a [u8], offset: usize) -> (&'a [u8], u64) {
+    fn read_head<'a>(payload: &'a [u8], offset: usize, steps: &mut Steps) -> (&'a [u8], u64) {
+        steps.count_head();
         let (front, at) = read_front(payload, offset);
         let (key, _) = read_length_prefixed(payload, at, 16);
         (bytes_of(payload, &key), front.seqno)

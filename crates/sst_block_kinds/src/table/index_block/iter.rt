@@ -1,17 +1,20 @@
 //! The iterator over the handles of an index block, as ranges of its payload.
-ghost use Rattle.std.specs.Prelude.{◌≡◌, ◌+◌, ◌-◌, ◌*◌, ◌≤◌, length, true};
+ghost use Rattle.std.specs.Prelude.{◌≡◌, ◌+◌, ◌-◌, ◌*◌, ◌<◌, ◌≤◌, length, true};
 ghost use Rattle.std.specs.Iterator.{at_most};
+ghost use Rattle.std.proofs.Common.{ap};
 ghost use Rattle.sst_block_core.specs.Backs.{GivesStep, GivesNextBack};
 ghost use Rattle.sst_block_kinds.specs.Handles.{handles};
 ghost use Rattle.sst_block_core.specs.Intervals.{digits};
 ghost use Rattle.sst_block_core.specs.Kind.{IsOrdered};
 ghost use Rattle.sst_block_core.specs.Landings.{GivesNextHeld, scan_cost};
+ghost use Rattle.sst_block_core.specs.ListSteps.{held_gives_first, scan_gives_last};
 ghost use Rattle.sst_block_kinds.specs.ParsedHandle.{handle_of, IsParsedHandle};
 ghost use Rattle.sst_block_core.specs.Pointers.{head_count};
-ghost use Rattle.sst_block_core.specs.Window.{found, seek_index, seek_upper_index};
+ghost use Rattle.sst_block_core.specs.Window.{found, items_left, seek_index, seek_upper_index};
 
 use crate::table::index_block::block_handle::KeyedBlockHandle;
 use crate::table::index_block::parsed_item::IndexBlockParsedItem;
+use sst_base::double_ended_peekable::ListIterator;
 use sst_base::{SeqNo, Steps};
 use sst_block_core::table::block::Decoder;
 use sst_block_core::table::block::bound::Bound;
@@ -76,7 +79,7 @@ impl<'a> Iter<'a> {
         ensures heads { self.new.steps.heads
             ≤ self.old.steps.heads
             + digits (head_count self.old.interval (length self.old.window.list)) }
-        ensures heads_grow { self.old.steps.heads ≤ self.new.steps.heads }
+        ensures heads_grow { self.old.steps.heads < self.new.steps.heads }
         ensures entries { self.new.steps.entries
             ≤ self.old.steps.entries + scan_cost self.old.interval }
         ensures entries_grow { self.old.steps.entries ≤ self.new.steps.entries }
@@ -97,7 +100,7 @@ impl<'a> Iter<'a> {
         ensures heads { self.new.steps.heads
             ≤ self.old.steps.heads
             + digits (head_count self.old.interval (length self.old.window.list)) }
-        ensures heads_grow { self.old.steps.heads ≤ self.new.steps.heads }
+        ensures heads_grow { self.old.steps.heads < self.new.steps.heads }
         ensures entries { self.new.steps.entries
             ≤ self.old.steps.entries + 2 * scan_cost self.old.interval }
         ensures entries_grow { self.old.steps.entries ≤ self.new.steps.entries }
@@ -134,4 +137,25 @@ impl<'a> DoubleEndedIterator for Iter<'a> {
     fn next_back(&mut self) -> Option<IndexBlockParsedItem> {
         self.decoder.next_back()
     }
+}
+
+/// The handles left, so that the iterator may be peeked at.
+impl<'a> ListIterator for Iter<'a> {
+    type Value = KeyedBlockHandle;
+
+    ghost value_of = { λ i. handle_of i.payload };
+
+    ghost items = { λ i. items_left i.window };
+
+    ghost may_next = { λ _. tt };
+
+    ghost may_next_back = { λ _. tt };
+
+    ghost gives_first = { held_gives_first handle_of IsParsedHandle };
+
+    ghost gives_last = { scan_gives_last handle_of IsParsedHandle };
+
+    ghost keeps_values = { λ s r t step. ap handle_of step.payload };
+
+    ghost keeps_values_back = { λ s r t step. ap handle_of step.payload };
 }

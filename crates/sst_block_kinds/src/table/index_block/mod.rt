@@ -1,7 +1,7 @@
 //! Index blocks: blocks of handles.
 ghost use Rattle.std.specs.Prelude.{◌≡◌, ◌↔◌, ℕ, ◌^◌, ◌<◌, ◌≤◌, List};
 ghost use Rattle.std.specs.Prelude.{length, [], IsTrue};
-ghost use Rattle.std.specs.Prelude.{OnOk, OnErr, IfOk, IfErr, None, Ok, Err};
+ghost use Rattle.std.specs.Prelude.{OnOk, OnErr, IfOk, IfErr, MatchResult, None, Ok, Err};
 ghost use Rattle.std.specs.List.{AllByRecursion};
 ghost use Rattle.sst_base.specs.Bytes.{IsBytes};
 ghost use Rattle.sst_block_kinds.specs.Checks.{index_check};
@@ -26,7 +26,7 @@ pub use iter::Iter;
 pub use ops::{IndexAnswer, IndexOp, walk};
 pub use parsed_item::IndexBlockParsedItem;
 use sst_base::table::block::Block;
-use sst_base::{HashRatio, Poly31, Result, Slice};
+use sst_base::{Error, HashRatio, Poly31, Result, Slice};
 use sst_block_core::table::block::encoder::encode_all;
 use sst_block_core::table::block::{Decoder, Trailer};
 use std::alloc::{AllocError, Global};
@@ -209,6 +209,10 @@ impl IndexBlock {
         ensures parts { IfOk result (λ b. b ≡ index_block_of block) }
         ensures encoded { IfOk result (λ b. IsIndexBlock block.payload b.items b.interval) }
         ensures refused { IfErr result (λ e. index_check block.payload ≡ Err e) }
+
+        // An encoding is accepted.
+        ensures accepts { (items : List Handle) (r : ℕ) → IsIndexBlock block.payload items r
+            → MatchResult result (λ found. found.items ≡ items) (λ e. e ≡ Error.Memory) }
     {
         IndexBlock::check_ref(&block)?;
         Ok(IndexBlock::new(block))

@@ -1,5 +1,5 @@
 //! Lists of seeks and steps over an index block, answered one after the other.
-ghost use Rattle.std.specs.Prelude.{◌≡◌, map, IfOk, IfSome, IsOkUnless};
+ghost use Rattle.std.specs.Prelude.{◌≡◌, map, IfOk, IfSome, IsOk, IsOkUnless, []};
 ghost use Rattle.std.specs.Option.{option_map};
 ghost use Rattle.sst_block_kinds.specs.ParsedHandle.{handle_of, IsParsedHandle};
 ghost use Rattle.sst_block_core.specs.Window.{item, answers, whole};
@@ -70,12 +70,13 @@ fn perform(alloc: Global, iter: &mut Iter<'_>, payload: &Slice, op: &IndexOp) ->
 ///
 /// # Errors
 ///
-/// `Error::Memory` if an allocation fails.
+/// `Error::Memory` if an allocation fails, which needs an operation.
 pub fn walk(alloc: Global, block: &IndexBlock, ops: &[IndexOp]) -> Result<Vec<IndexAnswer>>
     ensures ok { IfOk result
         (λ all. map answer_of all.items
         ≡ answers (map step_of ops.now) (whole block.now.items)) }
     ensures memory { IsOkUnless result Error.Memory }
+    ensures none { ops.now ≡ [] → IsOk result }
 {
     let payload = block.as_slice();
     let mut iter = block.iter();

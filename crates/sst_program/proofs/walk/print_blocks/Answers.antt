@@ -9,6 +9,7 @@ pub loop-item-init : goal.loop-item-init
 loop-item-init g c = record {
   same = refl;
   failures_grow = omega arith;
+  kept = λ r. r;
   lines = prints_nothing _;
   known = known_all _ _ (λ all. prints_start _ _ _ (read_whole all _ _ (ap (λ s. s.window) c.into_iter-item-iterator.ensures.into_iter_gives ∙ c.iter-item-items.ensures.window)));
 }
@@ -20,6 +21,7 @@ loop-item-preserved g c =
     record {
       same = e.same ∙ i.same;
       failures_grow = omega (arith, i.failures_grow, e.failures_grow);
+      kept = λ r. e.kept_reliable (i.kept r);
       lines = prints_more _ _ _ i.lines e.printed;
       known = known_both _ _ _ _ _ i.same (λ all p q. prints_next _ _ _ _ _ _ q.0 p (read_step all _ _ _ _ (Ok q.0) c.new-handle.ensures c.in-Some.ensures.steps q.1) q.2) i.known e.exact;
     }
@@ -48,4 +50,4 @@ returns-in_err-print_block-clause-io g c =
     let i = c.loop-item.invariant in
     let e = c.in_err-print_block.ensures in
     let r = err_from_is_err_and c.from_residual.result c.from_residual.ensures.1 in
-    rw (r.1, r.2) (prints_io_on _ _ _ _ _ _ _ _ _ _ _ _ i.same i.known c.new-handle.ensures c.in-Some.ensures.steps (λ less. omega (arith, less, i.failures_grow)) e.io)
+    rw (r.1, r.2) (prints_io_on _ _ _ _ _ _ _ _ _ _ _ _ _ _ i.same i.known c.new-handle.ensures c.in-Some.ensures.steps (λ less. omega (arith, less, i.failures_grow)) i.kept e.io)

@@ -9,6 +9,7 @@ abbrev pub invariant-loop-item : goal.invariant-loop-item
 invariant-loop-item g l = record {
   same : g.S.FrameSource.bytes l.source ≡ g.S.FrameSource.bytes l.initial.source;
   failures_grow : g.S.FrameSource.failures l.initial.source ≤ g.S.FrameSource.failures l.source;
+  kept : g.S.FrameSource.is_reliable l.initial.source → g.S.FrameSource.is_reliable l.source;
   lines : PrintsLines (g.O.Write.contents l.initial.output) (g.O.Write.contents l.output);
   known : IfSome (g.S.FrameSource.bytes l.initial.source) (λ all. PrintsTo (g.O.Write.contents l.initial.output) (g.O.Write.contents l.output)
       (blocks_read all l.index.items) (blocks_read all (items_left l.item-iterator.window)));

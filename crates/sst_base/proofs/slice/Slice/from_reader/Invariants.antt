@@ -6,6 +6,7 @@ invariant-loop-bytes g l = record {
   room : length l.bytes.items ≤ l.len;
   so_far : (bytes : List ℕ) → g.R.Read.remaining l.fn.reader ≡ Some bytes → (rest : List ℕ) × (g.R.Read.remaining l.reader ≡ Some rest) × (bytes ≡ l.bytes.items ++ rest);
   kept : g.R.Input.is_memory l.fn.reader → g.R.Input.is_memory l.reader;
+  whole : g.R.Input.whole l.reader ≡ g.R.Input.whole l.fn.reader;
 }
 
 abbrev pub decreases-loop-bytes : goal.decreases-loop-bytes

@@ -73,7 +73,6 @@ pub fn parts_of(block: &Block) -> Result<TrailerNumbers>
         (IsPartsRefusal (trailer_in block.now.payload) block.now.payload) }
 {
     let payload = block.data().as_slice();
-    note_bytes(payload);
     if payload.len() < TRAILER_SIZE {
         return Err(Error::Truncated);
     }
@@ -82,12 +81,4 @@ pub fn parts_of(block: &Block) -> Result<TrailerNumbers>
         return Err(Error::BadTrailer);
     }
     Ok(numbers)
-}
-
-// Tells a proof that the cells of a slice are bytes. Does nothing.
-#[inline(always)]
-fn note_bytes(bytes: &[u8])
-    ensures { IsBytes bytes.now }
-{
-    let _ = bytes;
 }

@@ -1,9 +1,10 @@
-use Rattle.std.proofs.Common.{◌≡◌, sym, ◌∙◌, ap, arith, subst, length, length-drop, get_or, IfOk}
+use Rattle.std.proofs.Common.{◌≡◌, sym, ◌∙◌, ap, arith, rules, subst, length, length-drop, get_or, IfOk}
 use Rattle.std.proofs.lemmas.Result.{err_from_is_err_and}
 use Rattle.std.specs.Io.KnownBytes.{Appends}
 use Rattle.sstable_blocks.specs.Blocks.{blocks_of}
 use Rattle.sstable_blocks.specs.Run.{form, block_frames}
 use Rattle.sstable_blocks.specs.Writing.{Written, FrameFits, IsWriteRefusal, AppendsLayout}
+use Rattle.sstable_blocks.proofs.Cuts.{cuts_left}
 use Rattle.sstable_blocks.proofs.CutLoops.{next_cut, step_is, last_is, so_far_is, rest_is, order_next, bytes_next, layout_end, refusal_on, fits_next}
 use Rattle.sstable_blocks.proofs.run.write.write_run.Goals as goal
 
@@ -19,7 +20,7 @@ pub add_block-requires-clause-ordered : goal.add_block-requires-clause-ordered
 add_block-requires-clause-ordered g c =
     let i = c.loop-cut.invariant in
     let step = step_is c.loop-cut.core.blocks c.loop-cut.start c.loop-cut.cut-index c.args.cuts.now c.args.items.now _ _ _ c.loop-cut-test.true i.rest c.split_at.ensures.front i.so_far in
-    order_next _ _ _ _ _ step (c.blocks_are_the_list.ensures c.args.items.now c.args.cuts.now c.requires.cuts).0 c.requires.ordered
+    order_next _ _ _ _ _ step (c.blocks_are_the_list.ensures c.args.items.now c.args.cuts.now c.requires.some c.requires.cuts).0 c.requires.ordered
 
 pub returns-in_err-add_block-clause-cause : goal.returns-in_err-add_block-clause-cause
 returns-in_err-add_block-clause-cause g c =
@@ -63,3 +64,12 @@ returns-clause-layout g c =
     (bytes_next (form g.H.BlockHash.hash64 g.H.BlockHash.hash128 c.loop-cut.core.config) _ _ _ _ _ _ i.bytes e.bytes e.accepted) in
     subst (λ k. IfOk c.finish.result (AppendsLayout (form g.H.BlockHash.hash64 g.H.BlockHash.hash128 k) (blocks_of c.args.cuts.now c.args.items.now) (g.W.Write.contents c.args.writer.now) (g.W.Write.contents c.finish.new.writer))) (e.config ∙ same)
     (layout_end (form g.H.BlockHash.hash64 g.H.BlockHash.hash128 c.add_block-2.new.self.config) _ _ _ _ _ c.finish.result (e.accepted ∙ last) so_far c.finish.ensures.layout)
+
+pub loop-cut-init : goal.loop-cut-init
+loop-cut-init g c = record {
+  config = search rules;
+  so_far = search rules;
+  rest = search rules;
+  cuts_left = cuts_left 0 (length c.args.items.now) c.args.cuts.now c.requires.some c.requires.cuts;
+  bytes = search rules;
+}

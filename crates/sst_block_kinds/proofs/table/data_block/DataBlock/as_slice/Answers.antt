@@ -1,4 +1,4 @@
-use Rattle.std.proofs.Common.{◌∙◌, subst}
+use Rattle.std.proofs.Common.{subst}
 use Rattle.sst_base.specs.Bytes.{IsBytes}
 use Rattle.sst_base.specs.Entry.{IsEntry}
 use Rattle.sst_block_core.specs.Entries.{entries}
@@ -13,7 +13,7 @@ returns-clause-encoded g c =
     let hash = g.H.BlockHash.hash64 in
     let p = c.self.inside.inner.payload in
     let some = c.self.invariant in
-    let bytes : IsBytes p = subst IsBytes (c.as_slice.ensures ∙ c.data.ensures.value) c.note_bytes.ensures in
+    let bytes : IsBytes p = c.size-fits.ensures.cells in
     let passes = (passes_from entries IsEntry IsKind-entries hash p some.0 some.1 some.2 some.3 c.size-fits.ensures.fits).0 in
     let P : DataBlockParts → Type 0 = λ d. IsBlock entries IsEntry hash d.payload d.items d.interval d.stored in
     subst P c.self.view_is (block_from entries IsEntry IsKind-entries hash p bytes passes)

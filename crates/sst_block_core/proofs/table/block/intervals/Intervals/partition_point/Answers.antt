@@ -1,6 +1,6 @@
-use Rattle.std.proofs.Common.{◌≡◌, ◌+◌, ◌-◌, ◌*◌, ◌/◌, ◌<◌, ◌≤◌, length, true, false, ◌∙◌, arith}
+use Rattle.std.proofs.Common.{◌≡◌, ◌+◌, ◌-◌, ◌*◌, ◌/◌, ◌<◌, ◌≤◌, length, true, false, ◌∙◌, arith, sym}
 use Rattle.sst_block_core.proofs.Halves.{digits_step}
-use Rattle.sst_block_core.proofs.HeadAnswers.{times_upto, answered_head}
+use Rattle.sst_block_core.proofs.HeadAnswers.{times_upto, answered_head, some_heads}
 use Rattle.sst_block_core.proofs.table.block.intervals.Intervals.partition_point.Goals as goal
 
 pub loop-left-preserved-then-pred : goal.loop-left-preserved-then-pred
@@ -22,6 +22,7 @@ loop-left-preserved-then-pred g c =
       after = i.after;
       heads = omega (arith, step, i.heads, c.read_head-seqno.ensures.heads);
       grows = omega (arith, i.grows, c.read_head-seqno.ensures.heads);
+      looked = λ _. omega (arith, i.grows, c.read_head-seqno.ensures.heads);
       entries = c.read_head-seqno.ensures.entries ∙ i.entries;
     }
 
@@ -45,5 +46,13 @@ loop-left-preserved g c =
       after = λ h. answered_head g.Item.BlockItem.kind _ r items mid false inside c.read_head-seqno.result head c.if-pred.ensures;
       heads = omega (arith, step, i.heads, c.read_head-seqno.ensures.heads);
       grows = omega (arith, i.grows, c.read_head-seqno.ensures.heads);
+      looked = λ _. omega (arith, i.grows, c.read_head-seqno.ensures.heads);
       entries = c.read_head-seqno.ensures.entries ∙ i.entries;
     }
+
+pub returns-clause-heads_grow : goal.returns-clause-heads_grow
+returns-clause-heads_grow g c =
+    let n = length c.args.self.now.list.items in
+    let some : 0 < n = omega (arith, c.count-right.ensures.below) in
+    let heads = some_heads n c.count-right.result c.args.self.now.list.interval some c.count-right.ensures.all in
+    c.loop-left.invariant.looked (omega (arith, heads, c.count-right.ensures.value))

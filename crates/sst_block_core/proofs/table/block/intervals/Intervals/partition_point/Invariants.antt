@@ -13,6 +13,7 @@ invariant-loop-left g l = record {
   after : l.right < head_count l.fn.self.list.interval (length l.fn.self.list.items) → Answered g.Item.BlockItem.kind (λ key s b. goal.F-post g l.pred key s b) l.fn.self.list.interval l.fn.self.list.items l.right false;
   heads : l.self.steps.heads + digits (l.right - l.left) ≤ l.fn.self.steps.heads + digits (head_count l.fn.self.list.interval (length l.fn.self.list.items));
   grows : l.fn.self.steps.heads ≤ l.self.steps.heads;
+  looked : l.right - l.left < head_count l.fn.self.list.interval (length l.fn.self.list.items) → l.fn.self.steps.heads < l.self.steps.heads;
   entries : l.self.steps.entries ≡ l.fn.self.steps.entries;
 }
 

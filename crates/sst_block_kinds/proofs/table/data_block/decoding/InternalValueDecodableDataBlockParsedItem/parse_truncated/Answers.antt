@@ -2,6 +2,8 @@ use Rattle.std.proofs.Common.{◌∙◌, ap, drop, Some}
 use Rattle.sst_base.specs.declared.table.util.SliceIndexes.{SliceIndexes}
 use Rattle.sst_block_kinds.specs.ParsedEntry.{entry_of}
 use Rattle.sst_block_kinds.proofs.EntryReads.{truncated_parts, no_reading, truncated_found, truncated_read, marker_truncated}
+use Rattle.sst_block_core.specs.Found.{range_of}
+use Rattle.sst_block_kinds.proofs.OwnPrefixes.{own_base, own_stands, own_longest}
 use Rattle.sst_block_kinds.proofs.table.data_block.decoding.InternalValueDecodableDataBlockParsedItem.parse_truncated.Goals as goal
 
 pub returns-in_err-form-clause-item : goal.returns-in_err-form-clause-item
@@ -32,3 +34,13 @@ returns-clause-read c = λ base stands longest.
 
 pub returns-clause-marker : goal.returns-clause-marker
 returns-clause-marker c = λ stands. absurd (marker_truncated c.args.payload.now c.args.offset _ stands c.in_ok-form.ensures.exact.1)
+
+pub returns-clause-stands : goal.returns-clause-stands
+returns-clause-stands c =
+    let p = c.args.payload.now in
+    let found = c.in_ok-prefix.ensures.found in
+    let base = c.args.base_key_offset in
+    let n = c.in_ok-form.form.shared in
+    let prefix = c.in_ok-prefix.prefix in
+    truncated_read p (drop c.args.offset p) (own_base p base n prefix found.0 found.1) base c.in_ok-form.end c.in_ok-form.form prefix
+    (own_stands p base n prefix found.0 found.1) c.in_ok-form.ensures.key found.0 found.2 (own_longest p base n prefix found.0 found.1 (range_of p c.in_ok-form.form.key)) c.in_ok-form.ensures.exact.1

@@ -12,8 +12,8 @@ read_number-seqno-requires-clause-stands c = full_seqno (drop c.args.offset c.ar
 pub read_length_prefixed-requires-clause-stands : goal.read_length_prefixed-requires-clause-stands
 read_length_prefixed-requires-clause-stands c = full_key (drop c.args.offset c.args.payload.now) _ _ c.read_value_type-at.ensures.exact.1 c.requires _ _ c.read_number-seqno.ensures.exact.1
 
-pub returns : goal.returns
-returns c = λ x rest e.
+pub returns-clause-head : goal.returns-clause-head
+returns-clause-head c = λ x rest e.
     let p = full_parts (drop c.args.offset c.args.payload.now) x rest e in
     let s = key_and_seqno (drop c.args.offset c.args.payload.now) x p _ _ _ _ _ _ c.read_value_type-at.ensures.exact.1 c.read_number-seqno.ensures.exact.1 c.read_length_prefixed.ensures.exact.1 in
     (c.bytes_of.ensures ∙ s.0, s.1)

@@ -1,4 +1,4 @@
-use Rattle.std.proofs.Common.{◌≡◌, ◌∙◌, ◌++◌, drop, sym, ap, subst, Some}
+use Rattle.std.proofs.Common.{◌≡◌, ◌∙◌, ◌++◌, take, drop, sym, ap, subst, Some}
 use Rattle.sst_base.specs.SharedPrefix.{shared_prefix_length}
 use Rattle.sst_base.specs.declared.table.util.SliceIndexes.{SliceIndexes}
 use Rattle.sst_block_kinds.specs.Handles.{handle_with, truncated_at}
@@ -7,6 +7,7 @@ use Rattle.sst_block_kinds.specs.ParsedHandle.{handle_of, front_by}
 use Rattle.sst_block_kinds.specs.declared.table.index_block.parsed_item.IndexBlockParsedItem.{IndexBlockParsedItem}
 use Rattle.sst_block_kinds.proofs.EntryReads.{no_reading}
 use Rattle.sst_block_kinds.proofs.HandleReads.{truncated_no_front, truncated_no_shared, truncated_no_rest, truncated_found, truncated_read, marker_ends}
+use Rattle.sst_block_kinds.proofs.OwnPrefixes.{own_base, own_stands, own_longest}
 use Rattle.sst_block_kinds.proofs.table.index_block.decoding.KeyedBlockHandleDecodableIndexBlockParsedItem.parse_truncated.Goals as goal
 
 pub returns-in_err-front-clause-item : goal.returns-in_err-front-clause-item
@@ -52,3 +53,16 @@ returns-clause-read c = λ base stands.
 
 pub returns-clause-marker : goal.returns-clause-marker
 returns-clause-marker c = λ stands. absurd (marker_ends c.args.payload.now c.args.offset _ stands c.in_ok-front.ensures.1)
+
+pub returns-clause-stands : goal.returns-clause-stands
+returns-clause-stands c =
+    let p = c.args.payload.now in
+    let bytes = drop c.args.offset p in
+    let found = c.in_ok-prefix.ensures.found in
+    let base = c.args.base_key_offset in
+    let n = c.in_ok-shared.shared in
+    let prefix = c.in_ok-prefix.prefix in
+    let key = range_of p c.in_ok-key.key in
+    let P : IndexBlockParsedItem → Type 0 = λ q. ◌≡◌ (truncated_at (take (range_len q.prefix) (drop base p)) bytes) (Some (handle_of p q, drop c.in_ok-key.end p)) in
+    subst P (sym c.with_key.ensures) (truncated_read p bytes (own_base p base n prefix found.0 found.1) base c.in_ok-key.end n (front_by c.in_ok-front.front) _ _ c.in_ok-key.key
+    (own_stands p base n prefix found.0 found.1) c.in_ok-key.ensures.range c.in_ok-front.ensures.1 c.in_ok-shared.ensures.exact.1 c.in_ok-key.ensures.exact.1 prefix found.0 found.2 (own_longest p base n prefix found.0 found.1 key))

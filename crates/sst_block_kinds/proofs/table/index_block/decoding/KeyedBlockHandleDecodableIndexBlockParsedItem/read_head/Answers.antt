@@ -10,7 +10,7 @@ read_front-at-requires c = full_front (drop c.args.offset c.args.payload.now) c.
 pub read_length_prefixed-requires-clause-stands : goal.read_length_prefixed-requires-clause-stands
 read_length_prefixed-requires-clause-stands c = full_key (drop c.args.offset c.args.payload.now) _ _ c.read_front-at.ensures.1 c.requires
 
-pub returns : goal.returns
-returns c = λ x rest e.
+pub returns-clause-head : goal.returns-clause-head
+returns-clause-head c = λ x rest e.
     let is = full_is (drop c.args.offset c.args.payload.now) (front_by c.read_front-at.result.0) _ c.read_front-at.ensures.1 _ _ x rest c.read_length_prefixed.ensures.exact.1 e in
     (c.bytes_of.ensures ∙ ap (λ (h : Handle). h.end_key) is.0, ap (λ (h : Handle). h.seqno) is.0)

@@ -1,10 +1,10 @@
 use Rattle.std.proofs.Common.{◌∙◌, drop, sym, ap, subst, Some}
-use Rattle.sst_block_core.specs.Found.{StandsAt}
+use Rattle.sst_block_core.specs.Found.{StandsAt, range_of}
 use Rattle.sst_block_kinds.specs.ParsedHandle.{handle_of, front_by}
 use Rattle.sst_block_kinds.specs.declared.table.index_block.parsed_item.IndexBlockParsedItem.{IndexBlockParsedItem}
 use Rattle.sst_block_core.proofs.Ends.{range_stands}
 use Rattle.sst_block_kinds.proofs.HandleReads.{full_whole, marker_ends}
-use Rattle.sst_block_kinds.proofs.table.index_block.decoding.KeyedBlockHandleDecodableIndexBlockParsedItem.parse_full.Goals as goal
+use Rattle.sst_block_kinds.proofs.table.index_block.decoding.full_form_from.Goals as goal
 
 pub returns-clause-exact : goal.returns-clause-exact
 returns-clause-exact c = (
@@ -15,7 +15,7 @@ returns-clause-exact c = (
 
 pub returns-clause-key : goal.returns-clause-key
 returns-clause-key c =
-    let P : IndexBlockParsedItem → Type 0 = λ p. StandsAt c.args.payload.now p.end_key.0 (handle_of c.args.payload.now p).end_key in
+    let P : IndexBlockParsedItem → Type 0 = λ p. StandsAt c.args.payload.now p.end_key.0 (range_of c.args.payload.now p.end_key) in
     subst P (sym c.with_key.ensures) (range_stands c.args.payload.now c.in_ok-key.key c.in_ok-key.ensures.range.order c.in_ok-key.ensures.range.inside)
 
 pub returns-clause-marker : goal.returns-clause-marker
