@@ -14,15 +14,21 @@ uint64_t Generator::Next() {
 }
 
 std::string BlockShape::Name() const {
-  return "k" + std::to_string(key_len) + ".v" + std::to_string(value_len) + "." +
+  const char* keys = start == Start::kShared ? "k" : "s";
+  return keys + std::to_string(key_len) + ".v" + std::to_string(value_len) + "." +
          std::to_string(kib) + "K.r" + std::to_string(interval);
 }
 
 namespace {
 
-// The key of a number: a fixed front, and the number in hex.
-std::string KeyOf(uint64_t number, size_t key_len) {
+// The key of a number below 2^28: a fixed start, and the number in hex; or the number in hex, and
+// then zeros.
+std::string KeyOf(uint64_t number, size_t key_len, Start start) {
   char digits[17];
+  if (start == Start::kSpread) {
+    snprintf(digits, sizeof digits, "%016" PRIx64, number << 36);
+    return digits + std::string(key_len - 16, '0');
+  }
   if (key_len == 16) {
     snprintf(digits, sizeof digits, "%012" PRIx64, number);
     return std::string("tbl1") + digits;
@@ -43,7 +49,7 @@ void PutNumber(std::string* bytes, uint64_t number, int width) {
 
 }  // namespace
 
-Entries::Entries(size_t count, size_t key_len, size_t value_len) : key_len(key_len) {
+Entries::Entries(size_t count, size_t key_len, size_t value_len, Start start) : key_len(key_len) {
   Generator parts(1);
   std::vector<uint64_t> numbers;
   uint64_t number = 0;
@@ -53,7 +59,7 @@ Entries::Entries(size_t count, size_t key_len, size_t value_len) : key_len(key_l
     uint64_t word = parts.Next();
     number += 2 + 2 * gap;  // even, so that odd numbers are free for misses
     numbers.push_back(number);
-    list.push_back({KeyOf(number, key_len), ValueOf(word, value_len), seqno});
+    list.push_back({KeyOf(number, key_len, start), ValueOf(word, value_len), seqno});
   }
   Generator places(2), between(3);
   for (size_t i = 0; i < kNeedles; i++) {
@@ -61,7 +67,7 @@ Entries::Entries(size_t count, size_t key_len, size_t value_len) : key_len(key_l
     uint64_t before = place == 0 ? 0 : numbers[place - 1];
     uint64_t room = (numbers[place] - before) / 2;
     hits += list[place].key;
-    misses += KeyOf(before + 1 + 2 * (between.Next() % room), key_len);
+    misses += KeyOf(before + 1 + 2 * (between.Next() % room), key_len, start);
   }
 }
 
@@ -104,6 +110,14 @@ std::string Varints(Lengths lengths, size_t count) {
 std::vector<BlockShape> QuickBlocks() {
   return {{16, 32, 4, 1},   {16, 32, 4, 4},   {16, 32, 4, 16},  {32, 32, 4, 16},
           {16, 0, 4, 16},   {16, 128, 4, 16}, {16, 32, 16, 16}, {16, 32, 64, 16}};
+}
+
+std::vector<BlockShape> SpreadBlocks() {
+  std::vector<BlockShape> all;
+  for (size_t key_len : {16, 32})
+    for (size_t kib : {4, 16, 64})
+      for (int interval : {1, 16}) all.push_back({key_len, 32, kib, interval, Start::kSpread});
+  return all;
 }
 
 std::vector<BlockShape> AllBlocks() {

@@ -24,12 +24,16 @@ struct Entry {
   uint64_t seqno;
 };
 
+// How keys begin: all alike, or so that the first eight bytes tell most of them apart.
+enum class Start { kShared, kSpread };
+
 // What one data block is made of.
 struct BlockShape {
   size_t key_len;
   size_t value_len;
   size_t kib;
   int interval;
+  Start start = Start::kShared;
 
   size_t Count() const { return kib * 1024 / (key_len + value_len + 4); }
   std::string Name() const;
@@ -42,7 +46,7 @@ struct Entries {
   std::string misses;  // keys that are not
   size_t key_len;
 
-  Entries(size_t count, size_t key_len, size_t value_len);
+  Entries(size_t count, size_t key_len, size_t value_len, Start start = Start::kShared);
   std::string Bytes() const;  // as the library's calls take them
   std::string Keys() const;   // the keys alone, concatenated
 };
@@ -56,5 +60,6 @@ std::string Varints(Lengths lengths, size_t count);
 
 std::vector<BlockShape> QuickBlocks();
 std::vector<BlockShape> AllBlocks();
+std::vector<BlockShape> SpreadBlocks();  // searches alone are timed in these
 
 }  // namespace bench

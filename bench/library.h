@@ -24,9 +24,18 @@ uint64_t sst_iter(const uint8_t* entries, size_t entries_len, size_t count, uint
 uint64_t sst_get(const uint8_t* entries, size_t entries_len, size_t count, uint8_t interval,
                  uint32_t num, uint32_t den, uint64_t times, const uint8_t* needles,
                  size_t needles_len, size_t key_len);
+uint64_t sst_get_table(const uint8_t* entries, size_t entries_len, size_t count, uint8_t interval,
+                       uint32_t num, uint32_t den, uint64_t times, const uint8_t* needles,
+                       size_t needles_len, size_t key_len);
 uint64_t sst_seek_next(const uint8_t* entries, size_t entries_len, size_t count,
                        uint8_t interval, uint32_t num, uint32_t den, uint64_t times,
                        const uint8_t* needles, size_t needles_len, size_t key_len);
+uint64_t sst_seek_next_table(const uint8_t* entries, size_t entries_len, size_t count,
+                             uint8_t interval, uint32_t num, uint32_t den, uint64_t times,
+                             const uint8_t* needles, size_t needles_len, size_t key_len);
+
+uint64_t sst_make_table(const uint8_t* entries, size_t entries_len, size_t count, uint8_t interval,
+                        uint32_t num, uint32_t den, uint64_t times);
 
 uint64_t sst_check(const uint8_t* payload, size_t payload_len, uint64_t times);
 

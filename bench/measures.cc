@@ -56,9 +56,21 @@ class LibraryBlock {
     return sst_get(BytesOf(bytes_), bytes_.size(), count_, interval_, 0, 1, times,
                    BytesOf(needles), needles.size(), key_len_);
   }
+  uint64_t GetTable(const std::string& needles, uint64_t times) const {
+    return sst_get_table(BytesOf(bytes_), bytes_.size(), count_, interval_, 0, 1, times,
+                         BytesOf(needles), needles.size(), key_len_);
+  }
+  uint64_t MakeTable(uint64_t times) const {
+    return sst_make_table(BytesOf(bytes_), bytes_.size(), count_, interval_, 0, 1, times);
+  }
+  uint64_t Heads() const { return (count_ + interval_ - 1) / interval_; }
   uint64_t SeekNext(const std::string& needles, uint64_t times) const {
     return sst_seek_next(BytesOf(bytes_), bytes_.size(), count_, interval_, 0, 1, times,
                          BytesOf(needles), needles.size(), key_len_);
+  }
+  uint64_t SeekNextTable(const std::string& needles, uint64_t times) const {
+    return sst_seek_next_table(BytesOf(bytes_), bytes_.size(), count_, interval_, 0, 1, times,
+                               BytesOf(needles), needles.size(), key_len_);
   }
 
  private:
@@ -126,8 +138,34 @@ void Compare(const std::string& name, const Entries& entries, const LibraryBlock
     std::vector<bool> found = other.Found(*needles);
     for (bool hit : found) Agree(name + " get", hit == (needles == &entries.hits));
     Agree(name + " get", ours.Get(*needles, 1) == ReadSum(entries, *needles, found));
+    Agree(name + " get_table", ours.GetTable(*needles, 1) == ReadSum(entries, *needles, found));
   }
   Agree(name + " seek_next", ours.SeekNext(entries.hits, 1) == SeekSum(entries, items));
+  Agree(name + " seek_next_table", ours.SeekNextTable(entries.hits, 1) == SeekSum(entries, items));
+  Agree(name + " make_table", ours.MakeTable(1) == ours.Heads());
+}
+
+// Searches, by the payload and by a table of the heads, and what the table costs, a head.
+void SearchMeasures(const std::string& name, const Entries& entries, const LibraryBlock& ours,
+                    LevelTable& other, const std::function<void(const Measure&)>& take) {
+  const auto read = [&](const std::string& needles) {
+    return [&](uint64_t n) { return other.Get(needles, n); };
+  };
+  const auto seek = [&](uint64_t n) { return other.SeekNext(entries.hits, n); };
+  take({name + " get_hit", kNeedles, [&](uint64_t n) { return ours.Get(entries.hits, n); },
+        read(entries.hits)});
+  take({name + " get_miss", kNeedles, [&](uint64_t n) { return ours.Get(entries.misses, n); },
+        read(entries.misses)});
+  take({name + " seek_next", kNeedles, [&](uint64_t n) { return ours.SeekNext(entries.hits, n); },
+        seek});
+  take({name + " get_hit_table", kNeedles,
+        [&](uint64_t n) { return ours.GetTable(entries.hits, n); }, read(entries.hits)});
+  take({name + " get_miss_table", kNeedles,
+        [&](uint64_t n) { return ours.GetTable(entries.misses, n); }, read(entries.misses)});
+  take({name + " seek_next_table", kNeedles,
+        [&](uint64_t n) { return ours.SeekNextTable(entries.hits, n); }, seek});
+  take({name + " make_table", ours.Heads(), [&](uint64_t n) { return ours.MakeTable(n); },
+        nullptr});
 }
 
 void BlockMeasures(const BlockShape& shape, const std::function<void(const Measure&)>& take) {
@@ -147,12 +185,15 @@ void BlockMeasures(const BlockShape& shape, const std::function<void(const Measu
         [&](uint64_t n) { return other.Materialize(n); }});
   take({name + " iter", 1, [&](uint64_t n) { return ours.First(n); },
         [&](uint64_t n) { return other.First(n); }});
-  take({name + " get_hit", kNeedles, [&](uint64_t n) { return ours.Get(entries.hits, n); },
-        [&](uint64_t n) { return other.Get(entries.hits, n); }});
-  take({name + " get_miss", kNeedles, [&](uint64_t n) { return ours.Get(entries.misses, n); },
-        [&](uint64_t n) { return other.Get(entries.misses, n); }});
-  take({name + " seek_next", kNeedles, [&](uint64_t n) { return ours.SeekNext(entries.hits, n); },
-        [&](uint64_t n) { return other.SeekNext(entries.hits, n); }});
+  SearchMeasures(name, entries, ours, other, take);
+}
+
+void SpreadMeasures(const BlockShape& shape, const std::function<void(const Measure&)>& take) {
+  const Entries entries(shape.Count(), shape.key_len, shape.value_len, shape.start);
+  const LibraryBlock ours(entries, shape.interval);
+  LevelTable other(entries, shape.interval);
+  Compare(shape.Name(), entries, ours, other, shape.interval);
+  SearchMeasures(shape.Name(), entries, ours, other, take);
 }
 
 void KeyMeasures(size_t key_len, const std::function<void(const Measure&)>& take) {
@@ -209,6 +250,7 @@ void ForEachMeasure(Form form, const std::function<void(const Measure&)>& take) 
   for (const BlockShape& shape : form == Form::kFull ? AllBlocks() : QuickBlocks()) {
     BlockMeasures(shape, take);
   }
+  for (const BlockShape& shape : SpreadBlocks()) SpreadMeasures(shape, take);
   for (size_t key_len : {16, 32}) KeyMeasures(key_len, take);
   for (size_t key_len : {16, 32})
     for (size_t count : {1000, 100000}) FilterMeasures(key_len, count, take);

@@ -50,9 +50,9 @@ std::vector<Row> RowsIn(const char* path) {
 }
 
 void PrintLines(const std::vector<Row>& rows) {
-  printf("%-18s %-12s %12s %12s   %s\n", "nanoseconds", "", "library", "LevelDB", "ratio");
+  printf("%-18s %-15s %12s %12s   %s\n", "nanoseconds", "", "library", "LevelDB", "ratio");
   for (const Row& row : rows) {
-    printf("%-18s %-12s %12.2f", row.block.c_str(), row.operation.c_str(), MedianOf(row.ours));
+    printf("%-18s %-15s %12.2f", row.block.c_str(), row.operation.c_str(), MedianOf(row.ours));
     if (row.ratios.empty()) {
       printf(" %12s   -\n", "-");
       continue;
@@ -71,9 +71,11 @@ struct Group {
   double least = INFINITY, greatest = 0;
 };
 
+// The interval of a block, and whether its keys begin alike.
 std::string IntervalOf(const std::string& block) {
   const size_t at = block.find(".r");
-  return at == std::string::npos ? "" : block.substr(at + 2);
+  if (at == std::string::npos) return "";
+  return block.substr(at + 2) + (block[0] == 's' ? ", spread keys" : "");
 }
 
 std::vector<Group> GroupsOf(const std::vector<Row>& rows) {
@@ -106,6 +108,10 @@ const std::map<std::string, std::string> kTitles = {
     {"get_hit", "read a key that is there"},
     {"get_miss", "read a key that is not"},
     {"seek_next", "make an iterator, seek a key, take one item"},
+    {"get_hit_table", "read a key that is there, with a table"},
+    {"get_miss_table", "read a key that is not, with a table"},
+    {"seek_next_table", "iterator, seek, one item, with a table"},
+    {"make_table", "make the table, a head"},
     {"compare", "compare two keys"},
     {"shared", "shared prefix of two keys"},
     {"hash", "hash a key"},
@@ -125,7 +131,8 @@ void PrintMeans(std::vector<Group> groups) {
     const auto place = [](const Group& one) {
       const char* order[] = {"encode",   "walk",      "walk_back", "materialize",
                              "iter",     "get_hit",   "get_miss",  "seek_next",
-                             "compare",  "shared",    "hash",      "varint",
+                             "get_hit_table", "get_miss_table", "seek_next_table",
+                             "make_table", "compare",  "shared",    "hash",      "varint",
                              "filter_build", "filter_hit", "filter_miss"};
       return std::find(std::begin(order), std::end(order), one.operation) - std::begin(order);
     };
@@ -156,6 +163,9 @@ const std::map<std::string, std::string> kUnits = {
     {"get_hit", "read a key that is there"},
     {"get_miss", "read a key that is not"},
     {"seek_next", "make an iterator, seek a key, take one item"},
+    {"get_hit_table", "read a key that is there, with a table"},
+    {"get_miss_table", "read a key that is not, with a table"},
+    {"seek_next_table", "iterator, seek, one item, with a table"},
 };
 
 // Three blocks that differ in interval or size.

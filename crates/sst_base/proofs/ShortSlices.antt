@@ -1,6 +1,7 @@
 -- Bytes that are copied in place.
 use Rattle.std.proofs.Common.{◌≡◌, ℕ, ◌+◌, ◌-◌, ◌≤◌, List, ◌++◌, length, take, drop, refl, sym, ap, ◌∙◌, arith, append_assoc, length-append, length-drop}
-use Rattle.std.proofs.lemmas.List.{take_at, length-take-le}
+use Rattle.std.proofs.lemmas.List.{take_at, take-take, length-take-le}
+use Rattle.std.specs.Array.{IsFirstChunk}
 
 -- two byte strings, copied one behind the other into the front of an array
 pub joined_front : (left right l r z post : List ℕ) → l ≡ left → r ≡ right
@@ -14,3 +15,7 @@ joined_front left right l r z post e f =
 -- the length of a part
 pub length_part : (xs : List ℕ) (start end : ℕ) → end ≤ length xs → length (take (end - start) (drop start xs)) ≡ end - start
 length_part xs start end h = length-take-le (end - start) (drop start xs) (omega (arith, length-drop start xs))
+
+-- the front of an array that was copied
+pub cut_front : (xs ys : List ℕ) (n : ℕ) → n ≤ 39 → IsFirstChunk xs ys 39 → take n ys ≡ take n xs
+cut_front xs ys n h c = ap (take n) c.same ∙ take-take n 39 xs h

@@ -1,16 +1,23 @@
-// Readers and writers that move one byte a call, and fail at a call.
+//! Devices: a reader, a writer and a file that move a byte a call, and fail at a call by a fault
+//! that is no interruption.
+ghost use Rattle.std.specs.Prelude.{◌≤◌, length};
+
 use sst_base::error::Result;
-use sst_base::input::Input;
+use sst_base::input::{Input, SeekInput};
 use std::io;
-use std::io::{ErrorKind, Read, Write};
+use std::io::{ErrorKind, Read, Seek, SeekFrom, Write};
 
 /// Gives a byte a call, counts the calls, and keeps the greatest number of bytes asked for. The
 /// call `fails_at` fails.
 #[derive(Drop)]
 pub struct SlowReader<'a> {
+    /// The bytes that are left.
     pub bytes: &'a [u8],
+    /// The number of calls that did not fail.
     pub calls: usize,
+    /// The call that fails, from 0.
     pub fails_at: usize,
+    /// The greatest number of bytes that a call asked for.
     pub most: usize,
 }
 
@@ -26,6 +33,19 @@ impl SlowReader<'_> {
     }
 }
 
+/// Gives the first of the bytes, if there is one.
+fn give(byte: Option<&u8>, buf: &mut [u8]) -> usize
+    ensures { result ≤ length buf.old }
+{
+    match (byte, buf.first_mut()) {
+        (Some(byte), Some(place)) => {
+            *place = *byte;
+            1
+        }
+        _ => 0,
+    }
+}
+
 impl Read for SlowReader<'_> {
     fn read(&mut self, buf: &mut [u8]) -> io::Result<usize> {
         if self.most < buf.len() {
@@ -35,15 +55,9 @@ impl Read for SlowReader<'_> {
             return Err(io::Error::from(ErrorKind::Other));
         }
         self.calls = self.calls.wrapping_add(1);
-        let Some((byte, rest)) = self.bytes.split_first() else {
-            return Ok(0);
-        };
-        let Some(place) = buf.first_mut() else {
-            return Ok(0);
-        };
-        *place = *byte;
-        self.bytes = rest;
-        Ok(1)
+        let given = give(self.bytes.first(), buf);
+        self.bytes = self.bytes.get(given..).unwrap_or(b"");
+        Ok(given)
     }
 }
 
@@ -53,22 +67,45 @@ impl Input for SlowReader<'_> {
     }
 }
 
-/// Takes a byte a call, and counts the flushes. The call `fails_at` fails.
+/// How a writer fails.
+#[derive(Clone, Copy, Debug, PartialEq, Eq)]
+pub enum Failure {
+    /// A call returns an error.
+    Error,
+    /// A call takes no byte.
+    NoByte,
+    /// A flush returns an error, and no call does.
+    Flush,
+}
+
+/// Takes a byte a call, counts the flushes, and fails at the call `fails_at`, or at each flush.
 #[derive(Drop)]
 pub struct SlowWriter {
+    /// The bytes that it took.
     pub taken: Vec<u8>,
+    /// The number of calls that did not fail.
     pub calls: usize,
+    /// The call that fails, from 0.
     pub fails_at: usize,
+    /// How it fails.
+    pub failure: Failure,
+    /// The number of flushes.
     pub flushes: usize,
 }
 
 impl SlowWriter {
-    /// Makes a writer behind these bytes, whose call of this number fails.
+    /// Makes a writer behind these bytes, whose call of this number returns an error.
     pub fn new(taken: Vec<u8>, fails_at: usize) -> SlowWriter {
+        SlowWriter::failing(taken, fails_at, Failure::Error)
+    }
+
+    /// Makes a writer behind these bytes that fails like this.
+    pub fn failing(taken: Vec<u8>, fails_at: usize, failure: Failure) -> SlowWriter {
         SlowWriter {
             taken,
             calls: 0,
             fails_at,
+            failure,
             flushes: 0,
         }
     }
@@ -77,7 +114,11 @@ impl SlowWriter {
 impl Write for SlowWriter {
     fn write(&mut self, buf: &[u8]) -> io::Result<usize> {
         if self.calls == self.fails_at {
-            return Err(io::Error::from(ErrorKind::Other));
+            match self.failure {
+                Failure::Error => return Err(io::Error::from(ErrorKind::Other)),
+                Failure::NoByte => return Ok(0),
+                Failure::Flush => {}
+            }
         }
         self.calls = self.calls.wrapping_add(1);
         match buf.first() {
@@ -91,6 +132,81 @@ impl Write for SlowWriter {
 
     fn flush(&mut self) -> io::Result<()> {
         self.flushes = self.flushes.wrapping_add(1);
+        match self.failure {
+            Failure::Flush => Err(io::Error::from(ErrorKind::Other)),
+            _ => Ok(()),
+        }
+    }
+}
+
+/// A file that gives a byte a call. Moves are calls too, and the call `fails_at` fails.
+#[derive(Drop)]
+pub struct SlowFile<'a> {
+    bytes: &'a [u8],
+    at: u64,
+    /// The number of calls that did not fail.
+    pub calls: usize,
+    /// The call that fails, from 0.
+    pub fails_at: usize,
+}
+
+impl SlowFile<'_> {
+    /// Makes a file of these bytes, whose call of this number fails.
+    pub fn new(bytes: &[u8], fails_at: usize) -> SlowFile<'_> {
+        SlowFile {
+            bytes,
+            at: 0,
+            calls: 0,
+            fails_at,
+        }
+    }
+
+    /// Counts a call, unless it fails.
+    fn count(&mut self) -> io::Result<()> {
+        if self.calls == self.fails_at {
+            return Err(io::Error::from(ErrorKind::Other));
+        }
+        self.calls = self.calls.wrapping_add(1);
         Ok(())
+    }
+}
+
+impl Read for SlowFile<'_> {
+    fn read(&mut self, buf: &mut [u8]) -> io::Result<usize> {
+        self.count()?;
+        let given = give(self.bytes.get(self.at as usize), buf);
+        self.at = self.at.wrapping_add(given as u64);
+        Ok(given)
+    }
+}
+
+impl Seek for SlowFile<'_> {
+    fn seek(&mut self, to: SeekFrom) -> io::Result<u64> {
+        self.count()?;
+        self.at = match to {
+            SeekFrom::Start(at) => at,
+            SeekFrom::End(_) => self.bytes.len() as u64,
+            SeekFrom::Current(_) => self.at,
+        };
+        Ok(self.at)
+    }
+}
+
+impl Input for SlowFile<'_> {
+    fn fill(&mut self, buf: &mut [u8]) -> Result<()> {
+        Ok(self.read_exact(buf)?)
+    }
+}
+
+impl SeekInput for SlowFile<'_> {
+    ghost whole_is_known = { λ s at bytes position. Prim.cc };
+
+    fn move_to(&mut self, offset: u64) -> Result<()> {
+        self.seek(SeekFrom::Start(offset))?;
+        Ok(())
+    }
+
+    fn stream_len(&mut self) -> Result<u64> {
+        Ok(self.seek(SeekFrom::End(0))?)
     }
 }

@@ -2,10 +2,12 @@
 //! text, and that a call succeeds where memory is ample.
 #![tactic(auto)]
 
-#[cfg(test)]
-mod devices;
+pub mod changes;
+pub mod devices;
 #[cfg(test)]
 mod frames;
+#[cfg(test)]
+mod hostile;
 #[cfg(test)]
 mod peekable;
 #[cfg(test)]

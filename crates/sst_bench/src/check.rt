@@ -8,7 +8,7 @@ ghost use Rattle.sst_block_kinds.specs.Handles.{Handle};
 ghost use Rattle.sst_bench.specs.Turns.{OrRefused};
 
 use crate::REFUSED;
-use sst_base::{Block, BlockType, Checksum, Header, Poly31, Slice};
+use sst_base::{Block, BlockType, Poly31, Slice};
 use sst_block_kinds::{DataBlock, IndexBlock};
 use std::alloc::Global;
 
@@ -16,14 +16,8 @@ use std::alloc::Global;
 fn block_of(alloc: Global, payload: &[u8], block_type: BlockType) -> Option<Block>
     ensures { IfSome result (λ block. block.payload ≡ payload.now) }
 {
-    let len = u32::try_from(payload.len()).ok()?;
-    let header = Header {
-        block_type,
-        checksum: Checksum::from_raw(0),
-        data_length: len,
-        uncompressed_length: len,
-    };
-    Some(Block::from_parts(header, Slice::new(alloc, payload).ok()?))
+    u32::try_from(payload.len()).ok()?;
+    Some(Block::from_payload(block_type, Slice::new(alloc, payload).ok()?))
 }
 
 // Checks a block, and adds the number of its entries.

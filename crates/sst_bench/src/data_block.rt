@@ -16,10 +16,7 @@ use crate::REFUSED;
 use crate::entries::entries_in;
 use crate::keys::keys_in;
 use crate::sums::{entry_sum, item_sum};
-use sst_base::{
-    Block, BlockHash, BlockType, Checksum, HashRatio, Header, InternalValue, Poly31, SeqNo, Slice,
-    Steps,
-};
+use sst_base::{Block, BlockType, HashRatio, InternalValue, Poly31, SeqNo, Slice, Steps};
 use sst_block_core::ParsedItem;
 use sst_block_kinds::DataBlock;
 use std::alloc::Global;
@@ -69,14 +66,8 @@ fn block_in(
         interval,
         ratio,
     ).ok()?;
-    let len = u32::try_from(payload.len()).ok()?;
-    let header = Header {
-        block_type: BlockType::Data,
-        checksum: Checksum::from_raw(u128::from(Poly31::hash64(payload.as_slice()))),
-        data_length: len,
-        uncompressed_length: len,
-    };
-    Some(DataBlock::new(Block::from_parts(header, Slice::from_vec(payload).ok()?)))
+    let payload = Slice::from_vec(payload).ok()?;
+    Some(DataBlock::new(Block::from_payload(BlockType::Data, payload)))
 }
 
 // Copies as many bytes as fit.
@@ -331,6 +322,73 @@ pub extern "C" fn sst_get(
     add_found_often(&block, needles.as_slice(), times, alloc).unwrap_or(REFUSED)
 }
 
+// The block of the entries with the table of its heads, if it can be encoded and memory suffices.
+fn tabled_in(
+    alloc: Global,
+    bytes: &[u8],
+    count: usize,
+    interval: u8,
+    ratio: HashRatio,
+) -> Option<DataBlock<Poly31>>
+    ensures { IfSome result (λ block. (items : List Entry) × AreEntries bytes.now count items
+        × (block.items ≡ map plain items)) }
+{
+    block_in(alloc, bytes, count, interval, ratio)?
+        .with_heads(alloc)
+        .ok()
+}
+
+/// Does the point reads of [`sst_get`] in a block with the table of its heads.
+#[unsafe(no_mangle)]
+pub extern "C" fn sst_get_table(
+    bytes: &[u8],
+    count: usize,
+    interval: u8,
+    num: u32,
+    den: u32,
+    times: u64,
+    needles: &[u8],
+    key_len: usize,
+    alloc: Global,
+) -> u64
+    ensures { OrRefused result
+        ((items : List Entry) × (keys : List (List ℕ)) × AreEntries bytes.now count items
+        × AreKeys needles.now key_len keys
+        × (result ≡ repeated (add_found (map plain items) keys) times 0)) }
+{
+    let Some(block) = tabled_in(alloc, bytes, count, interval, HashRatio { num, den }) else {
+        return REFUSED;
+    };
+    let Some(needles) = keys_in(alloc, needles, key_len) else {
+        return REFUSED;
+    };
+    add_found_often(&block, needles.as_slice(), times, alloc).unwrap_or(REFUSED)
+}
+
+/// Makes the table of the block's heads `times` times, each in place of the one before, and returns
+/// the number of heads.
+#[unsafe(no_mangle)]
+pub extern "C" fn sst_make_table(
+    bytes: &[u8],
+    count: usize,
+    interval: u8,
+    num: u32,
+    den: u32,
+    times: u64,
+    alloc: Global,
+) -> u64 {
+    let Some(mut block) = block_in(alloc, bytes, count, interval, HashRatio { num, den }) else {
+        return REFUSED;
+    };
+    for _ in 0..times {
+        match block.with_heads(alloc) {
+            Ok(tabled) => block = tabled,
+            Err(_) => return REFUSED,
+        }
+    }
+    block.heads().map_or(0, |table| table.len() as u64)
+}
+
 // Seeks each needle with a new iterator, adds 1 where the seek answers `true`, and the next item.
 #[inline(never)]
 fn add_next(so_far: u64, block: &DataBlock<Poly31>, needles: &[&[u8]]) -> u64 {
@@ -370,6 +428,32 @@ pub extern "C" fn sst_seek_next(
     sum
 }
 
+/// Makes the seeks of [`sst_seek_next`] in a block with the table of its heads.
+#[unsafe(no_mangle)]
+pub extern "C" fn sst_seek_next_table(
+    bytes: &[u8],
+    count: usize,
+    interval: u8,
+    num: u32,
+    den: u32,
+    times: u64,
+    needles: &[u8],
+    key_len: usize,
+    alloc: Global,
+) -> u64 {
+    let Some(block) = tabled_in(alloc, bytes, count, interval, HashRatio { num, den }) else {
+        return REFUSED;
+    };
+    let Some(needles) = keys_in(alloc, needles, key_len) else {
+        return REFUSED;
+    };
+    let mut sum = 0;
+    for _ in 0..times {
+        sum = add_next(sum, &block, needles.as_slice());
+    }
+    sum
+}
+
 // Seeks each needle from the back with a new iterator, adds 1 where the seek answers `true`, and
 // the next item from the back.
 #[inline(never)]
@@ -379,6 +463,15 @@ fn add_next_back(so_far: u64, block: &DataBlock<Poly31>, needles: &[&[u8]]) -> u
         let mut iter = block.iter();
         sum = sum.wrapping_add(u64::from(iter.seek_upper(needle)));
         sum = sum.wrapping_add(iter.next_back().map_or(0, |item| item_sum(&item)));
+    }
+    sum
+}
+
+// Seeks all needles from the back `times` times, from 0.
+fn add_next_back_often(block: &DataBlock<Poly31>, needles: &[&[u8]], times: u64) -> u64 {
+    let mut sum = 0;
+    for _ in 0..times {
+        sum = add_next_back(sum, block, needles);
     }
     sum
 }
@@ -403,9 +496,27 @@ pub extern "C" fn sst_seek_upper_back(
     let Some(needles) = keys_in(alloc, needles, key_len) else {
         return REFUSED;
     };
-    let mut sum = 0;
-    for _ in 0..times {
-        sum = add_next_back(sum, &block, needles.as_slice());
-    }
-    sum
+    add_next_back_often(&block, needles.as_slice(), times)
+}
+
+/// Makes the seeks of [`sst_seek_upper_back`] in a block with the table of its heads.
+#[unsafe(no_mangle)]
+pub extern "C" fn sst_seek_upper_back_table(
+    bytes: &[u8],
+    count: usize,
+    interval: u8,
+    num: u32,
+    den: u32,
+    times: u64,
+    needles: &[u8],
+    key_len: usize,
+    alloc: Global,
+) -> u64 {
+    let Some(block) = tabled_in(alloc, bytes, count, interval, HashRatio { num, den }) else {
+        return REFUSED;
+    };
+    let Some(needles) = keys_in(alloc, needles, key_len) else {
+        return REFUSED;
+    };
+    add_next_back_often(&block, needles.as_slice(), times)
 }

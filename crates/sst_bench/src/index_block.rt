@@ -15,7 +15,7 @@ use crate::data_block::copy_front;
 use crate::handles::handles_in;
 use crate::keys::keys_in;
 use crate::sums::handle_sum;
-use sst_base::{Block, BlockHash, BlockType, Checksum, Header, Poly31, SeqNo, Slice};
+use sst_base::{Block, BlockType, SeqNo, Slice};
 use sst_block_kinds::{IndexBlock, KeyedBlockHandle};
 use std::alloc::Global;
 
@@ -51,14 +51,8 @@ fn block_in(alloc: Global, bytes: &[u8], count: usize, interval: u8) -> Option<I
 {
     let items = items_in(alloc, bytes, count, interval)?;
     let payload = IndexBlock::encode_into_vec_with(alloc, items.as_slice(), interval).ok()?;
-    let len = u32::try_from(payload.len()).ok()?;
-    let header = Header {
-        block_type: BlockType::Index,
-        checksum: Checksum::from_raw(u128::from(Poly31::hash64(payload.as_slice()))),
-        data_length: len,
-        uncompressed_length: len,
-    };
-    Some(IndexBlock::new(Block::from_parts(header, Slice::from_vec(payload).ok()?)))
+    let payload = Slice::from_vec(payload).ok()?;
+    Some(IndexBlock::new(Block::from_payload(BlockType::Index, payload)))
 }
 
 // Encodes the block `times` times, each time into the same vector, emptied first.
@@ -173,6 +167,15 @@ fn add_next(so_far: u64, block: &IndexBlock, needles: &[&[u8]]) -> u64 {
     sum
 }
 
+// Seeks all needles `times` times, from 0.
+fn add_next_often(block: &IndexBlock, needles: &[&[u8]], times: u64) -> u64 {
+    let mut sum = 0;
+    for _ in 0..times {
+        sum = add_next(sum, block, needles);
+    }
+    sum
+}
+
 /// Seeks each needle with a new iterator, adds 1 where the seek answers `true`, and adds the next
 /// handle if there is one.
 #[unsafe(no_mangle)]
@@ -191,9 +194,28 @@ pub extern "C" fn sst_index_seek_next(
     let Some(needles) = keys_in(alloc, needles, key_len) else {
         return REFUSED;
     };
-    let mut sum = 0;
-    for _ in 0..times {
-        sum = add_next(sum, &block, needles.as_slice());
-    }
-    sum
+    add_next_often(&block, needles.as_slice(), times)
+}
+
+/// Makes the seeks of [`sst_index_seek_next`] in a block with the table of its heads.
+#[unsafe(no_mangle)]
+pub extern "C" fn sst_index_seek_next_table(
+    bytes: &[u8],
+    count: usize,
+    interval: u8,
+    times: u64,
+    needles: &[u8],
+    key_len: usize,
+    alloc: Global,
+) -> u64 {
+    let Some(block) = block_in(alloc, bytes, count, interval) else {
+        return REFUSED;
+    };
+    let Ok(block) = block.with_heads(alloc) else {
+        return REFUSED;
+    };
+    let Some(needles) = keys_in(alloc, needles, key_len) else {
+        return REFUSED;
+    };
+    add_next_often(&block, needles.as_slice(), times)
 }

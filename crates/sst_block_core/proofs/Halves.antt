@@ -21,3 +21,7 @@ pub digits_step : (m n : ℕ) → 0 < n → m ≤ n / 2 → digits m + 1 ≤ dig
 digits_step m zero p q = absurd (omega arith)
 digits_step m (suc n) p q =
     let a = same_fuel m n m (omega arith) (omega arith) in let b = digits_mono n m (suc n / 2) q in omega arith
+
+pub digits_half : (n : ℕ) → 0 < n → digits n ≡ digits (n / 2) + 1
+digits_half zero p = absurd (omega arith)
+digits_half (suc n) p = ap (λ d. d + 1) (same_fuel n (suc n / 2) (suc n / 2) (omega arith) (omega arith))

@@ -184,3 +184,9 @@ pub not_before_least : (payload : List ℕ) (last v : KeyVersion) → key_by pay
 not_before_least payload last v none most small =
     subst (λ key. ordering_then (slice_cmp nat_cmp (key_by payload v.key) key) (nat_cmp last.seqno v.seqno) ≢ Less) (sym none)
     (not_before (key_by payload v.key) last.seqno v.seqno (omega (arith, most, small)))
+
+-- the key of a head is its prefix
+pub head_key : (payload : List ℕ) (key : KeyRanges) → key.rest.0 ≡ key.rest.1 → range_of payload key.prefix ≡ key_by payload key
+head_key payload key e =
+    let none : key.rest.1 - key.rest.0 ≡ 0 = omega (arith, e) in
+    sym ((λ i. range_of payload key.prefix ++ take (none i) (drop key.rest.0 payload)) ∙ append-nil (range_of payload key.prefix))

@@ -34,3 +34,7 @@ mod ReadOn
 mod PassSteps
 mod ItemStages
 mod Tallies
+mod Fronts
+mod HeadCounts
+mod HeadTies
+mod TableSteps

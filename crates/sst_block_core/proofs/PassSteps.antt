@@ -29,7 +29,7 @@ last_push [] x = refl
 last_push (y ∷ []) x = refl
 last_push (y ∷ z ∷ ys) x = last_push (z ∷ ys) x
 
-no_last : {X : Type 0} (xs : List X) → None ≡ last_of xs → xs ≡ []
+pub no_last : {X : Type 0} (xs : List X) → None ≡ last_of xs → xs ≡ []
 no_last [] e = refl
 no_last (x ∷ []) e = cc
 no_last (x ∷ y ∷ xs) e = let r = no_last (y ∷ xs) e in cc
@@ -40,7 +40,7 @@ both false b = ((λ h. cc (h.0)), (λ h. cc))
 
 module _ {X : Type 0} (cmp : X → X → Ordering) where
   -- one item more keeps the order exactly if it doesn't stand before the last
-  order_more : (xs : List X) (l x : X) → Some l ≡ last_of xs → (IsInOrder cmp xs × (cmp x l ≢ Less)) ↔ IsInOrder cmp (xs ++ x ∷ [])
+  pub order_more : (xs : List X) (l x : X) → Some l ≡ last_of xs → (IsInOrder cmp xs × (cmp x l ≢ Less)) ↔ IsInOrder cmp (xs ++ x ∷ [])
   order_more [] l x e = cc
   order_more (y ∷ []) l x e =
       let s : l ≡ y = cc in

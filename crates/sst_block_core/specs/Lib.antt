@@ -21,3 +21,5 @@ pub mod PointerLaws
 pub mod WindowLaws
 pub mod KeyRanges
 pub mod Passes
+pub mod Heads
+pub mod HeadLaws

@@ -1,5 +1,5 @@
 -- What a check answers of an encoding.
-use Rattle.std.proofs.Common.{◌≡◌, ◌≢◌, ℕ, ◌<◌, ◌^◌, List, length, map, refl, sym, ◌∙◌, ap, Result, Ok, Err}
+use Rattle.std.proofs.Common.{◌≡◌, ◌≢◌, ℕ, ◌<◌, ◌^◌, List, length, map, refl, ◌∙◌, ap, Result, Ok, Err}
 use Rattle.std.proofs.lemmas.List.{length-map}
 use Rattle.std.specs.Result.{OnOk, IfOk, IfErr, MatchResult}
 use Rattle.sst_base.specs.Bytes.{IsBytes}

@@ -17,3 +17,4 @@ mod Truncations
 mod ExactEntries
 mod ExactHandles
 mod CheckRefusals
+mod Disorder

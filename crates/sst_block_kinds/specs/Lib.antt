@@ -10,3 +10,4 @@ pub mod IndexOps
 pub mod Walks
 pub mod Checks
 pub mod PointReads
+pub mod Disorder

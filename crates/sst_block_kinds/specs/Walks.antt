@@ -1,7 +1,7 @@
 -- What the answers to steps from both ends give together, and what steps from the back cost.
 use Rattle.std.specs.Prelude.{ℕ, zero, suc, ◌+◌, List, [], ◌∷◌, ◌++◌, Option, Some, None, IsSome}
 use Rattle.std.specs.Option.{option_to_list}
-use Rattle.sst_block_core.specs.Window.{Window, Answer, item, found}
+use Rattle.sst_block_core.specs.Window.{Answer, item, found}
 use Rattle.sst_block_core.specs.Backs.{back_cost}
 use Rattle.sst_block_kinds.specs.declared.table.data_block.ops.Op.{Op}
 use Rattle.sst_block_kinds.specs.declared.table.data_block.ops.Op.TheVariants as entry_ops

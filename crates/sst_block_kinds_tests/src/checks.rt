@@ -1,10 +1,14 @@
-//! Checks of blocks of any bytes: damaged test vectors, and every change of one byte of small blocks.
+//! Checks of blocks of any bytes: damaged test vectors, and blocks beside worked ones: each byte
+//! changed to each other value, cut before each byte, and lengthened.
 ghost use Rattle.std.specs.Prelude.{◌<◌, ◌^◌, length};
 ghost use Rattle.sst_block_kinds.specs.ParsedHandle.{IsParsedHandle};
 
+use crate::index_blocks::THREE_HEADS;
 use crate::lists::{NO_BUCKETS, block_of, push};
-use sst_base::table::block::{Block, BlockType, Header};
-use sst_base::{ByteSum, Checksum, Error, HashRatio, InternalValue, Result, Slice, ValueType};
+use crate::stages::{Kind, judge};
+use sst_base::table::block::{Block, BlockType};
+use sst_base::{ByteSum, Error, HashRatio, InternalValue, Result, Slice, ValueType};
+use sst_base_tests::changes::{change_count, changed};
 use sst_block_core::ParsedItem;
 use sst_block_core::table::block::encoder::Encoder;
 use sst_block_kinds::{DataBlock, IndexBlock, IndexBlockParsedItem, KeyedBlockHandle};
@@ -40,6 +44,20 @@ const TRUNCATED_PAIR: [u8; 55] = [
 pub(crate) const HASH_PAIR: [u8; 58] = [
     0, 2, 2, 97, 98, 1, 120, 1, 1, 2, 0, 0, 172, 2, 2, 97, 99, 1, 121, 255, 0, 0, 11, 0, 0, 1, 254,
     2, 2, 2, 0, 0, 0, 20, 0, 0, 0, 3, 0, 0, 0, 24, 0, 0, 0, 1, 0, 0, 0, 0, 0, 0, 0, 0, 3, 0, 0, 0,
+];
+
+/// The same entries at interval 1, where the versions of ab are in two intervals.
+const HASH_HEADS: [u8; 61] = [
+    0, 2, 2, 97, 98, 1, 120, 1, 1, 2, 97, 98, 0, 172, 2, 2, 97, 99, 1, 121, 255, 0, 0, 7, 0, 12, 0,
+    255, 2, 254, 1, 2, 3, 0, 0, 0, 21, 0, 0, 0, 3, 0, 0, 0, 27, 0, 0, 0, 1, 0, 0, 0, 0, 0, 0, 0, 0,
+    3, 0, 0, 0,
+];
+
+/// (ab, indirection, 2^64 - 1), (abc, v, 7), (abc, weak tombstone, 5), (b, w, 5) at interval 255.
+const ONE_INTERVAL: [u8; 68] = [
+    4, 255, 255, 255, 255, 255, 255, 255, 255, 255, 1, 2, 97, 98, 0, 0, 7, 2, 1, 99, 1, 118, 2, 5,
+    2, 1, 99, 0, 5, 0, 1, 98, 1, 119, 255, 0, 0, 255, 2, 1, 0, 0, 0, 35, 0, 0, 0, 0, 0, 0, 0, 0, 0,
+    0, 0, 1, 0, 0, 0, 0, 0, 0, 0, 0, 4, 0, 0, 0,
 ];
 
 /// (ab, no value, 0), (abc, no value, 0) at interval 2, with a shared length of 1, not the longest.
@@ -79,19 +97,19 @@ pub(crate) const THREE_HANDLES: [u8; 65] = [
     1, 0, 0, 0, 0, 0, 0, 0, 0, 3, 0, 0, 0,
 ];
 
+/// The three handles at interval 255.
+const ONE_HEAD: [u8; 64] = [
+    0, 0, 240, 46, 0, 1, 98, 0, 240, 46, 216, 54, 0, 1, 4, 99, 100, 101, 102, 0, 200, 101, 136, 39,
+    0, 0, 3, 100, 101, 102, 255, 0, 0, 255, 2, 1, 0, 0, 0, 31, 0, 0, 0, 0, 0, 0, 0, 0, 0, 0, 0, 1,
+    0, 0, 0, 0, 0, 0, 0, 0, 3, 0, 0, 0,
+];
+
 /// The three handles with a shared length of 0 where the longest is 1.
 const SHORTER_HANDLES: [u8; 66] = [
     0, 0, 240, 46, 0, 1, 98, 0, 240, 46, 216, 54, 0, 0, 5, 98, 99, 100, 101, 102, 0, 200, 101, 136,
     39, 0, 3, 100, 101, 102, 255, 0, 0, 20, 0, 2, 2, 2, 0, 0, 0, 31, 0, 0, 0, 0, 0, 0, 0, 0, 0, 0,
     0, 1, 0, 0, 0, 0, 0, 0, 0, 0, 3, 0, 0, 0,
 ];
-
-/// The kinds of blocks.
-#[derive(Clone, Copy, Debug, PartialEq, Eq)]
-enum Kind {
-    Data,
-    Index,
-}
 
 /// A payload with a byte changed, and what its check as a block of a kind returns: the number of
 /// its items, or the error of the first stage that fails.
@@ -182,7 +200,7 @@ fn handles_of(alloc: Global, block: &IndexBlock) -> Result<Vec<KeyedBlockHandle>
 /// Checks a copy of a block as an index block. One that is accepted has the payload, encodes again
 /// to it, and is given back as it came.
 fn check_index(rt: &impl Abort, alloc: Global, block: &Block) -> Result<usize> {
-    let checked = IndexBlock::check(block.clone()?)?;
+    let checked = IndexBlock::check(alloc, block.clone()?)?;
     let list = handles_of(alloc, &checked)?;
     assert!(rt; checked.len() == list.len());
     assert!(rt; checked.as_slice() == block.data());
@@ -201,33 +219,14 @@ fn check_index(rt: &impl Abort, alloc: Global, block: &Block) -> Result<usize> {
     Ok(list.len())
 }
 
-/// The check of a block of a kind of these bytes, one of them changed. A check that is lent the
-/// block returns the same.
-fn check(
-    rt: &impl Abort,
-    alloc: Global,
-    kind: Kind,
-    bytes: &[u8],
-    at: usize,
-    byte: u8,
-) -> Result<usize> {
-    let mut changed = bytes.to_vec(alloc)?;
-    assert!(rt; changed.len() < 1000);
-    if at < changed.len() {
-        changed[at] = byte;
-    }
-    let length = changed.len() as u32;
-    let header = Header {
-        block_type: if kind == Kind::Data {
-            BlockType::Data
-        } else {
-            BlockType::Index
-        },
-        checksum: Checksum::from_raw(0),
-        data_length: length,
-        uncompressed_length: length,
+/// The check of a block of a kind of these bytes. A check that borrows the block returns the same.
+fn check(rt: &impl Abort, alloc: Global, kind: Kind, bytes: Vec<u8>) -> Result<usize> {
+    assert!(rt; bytes.len() < 1000);
+    let block_type = match kind {
+        Kind::Data => BlockType::Data,
+        Kind::Index => BlockType::Index,
     };
-    let block = Block::from_parts(header, Slice::from_vec(changed)?);
+    let block = Block::from_payload(block_type, Slice::from_vec(bytes)?);
     let (found, lent) = match kind {
         Kind::Data => (
             check_data(rt, alloc, &block),
@@ -242,38 +241,67 @@ fn check(
     found
 }
 
+/// A copy of bytes, one of them changed.
+fn with_byte(alloc: Global, bytes: &[u8], at: usize, byte: u8) -> Result<Vec<u8>> {
+    let mut all = bytes.to_vec(alloc)?;
+    if let Some(place) = all.get_mut(at) {
+        *place = byte;
+    }
+    Ok(all)
+}
+
 /// The first failing stage decides. Versions of one key may have one sequence number, and the end
 /// of a block may be 2^64 - 1.
 #[test]
-fn payloads_are_checked(rt: HostRuntime) {
+fn payloads_are_checked(rt: HostRuntime) -> std::result::Result<(), Fail> {
     for (kind, payload, at, byte, wanted) in CASES {
-        let found = check(&rt, rt.alloc(), kind, payload, at, byte);
+        let bytes = with_byte(rt.alloc(), payload, at, byte)?;
+        let judged = judge(kind, &bytes);
+        let found = check(&rt, rt.alloc(), kind, bytes);
         assert!(&rt;
             found == wanted,
             "{payload:?}, byte {at} as {byte}: {found:?}"
         );
+        assert!(&rt; judged == wanted, "{payload:?}, byte {at} as {byte}");
     }
+    Ok(())
 }
 
-/// Every change of one byte of a small block: each byte as it is, and some changes, are accepted.
+/// Blocks at the intervals 1, 2 and 255, with and without buckets.
+const WORKED: [(Kind, &[u8]); 9] = [
+    (Kind::Data, &ONE_ENTRY),
+    (Kind::Data, &TRUNCATED_PAIR),
+    (Kind::Data, &HASH_PAIR),
+    (Kind::Data, &HASH_HEADS),
+    (Kind::Data, &LONGEST_PREFIX),
+    (Kind::Data, &ONE_INTERVAL),
+    (Kind::Index, &THREE_HEADS),
+    (Kind::Index, &THREE_HANDLES),
+    (Kind::Index, &ONE_HEAD),
+];
+
+/// Checks that a payload with the change of a number is accepted or refused by the stages.
+fn check_change(
+    rt: &impl Abort,
+    alloc: Global,
+    kind: Kind,
+    payload: &[u8],
+    number: usize,
+) -> Result<bool> {
+    let bytes = changed(alloc, payload, number)?;
+    let wanted = judge(kind, &bytes);
+    Ok(check(rt, alloc, kind, bytes) == wanted)
+}
+
+/// Each change of a worked block is accepted, and then encodes again to itself, or refused with the
+/// error of the first stage that fails.
 #[test]
 fn changes_are_checked(rt: HostRuntime) {
-    let payloads = [
-        (Kind::Data, ONE_ENTRY.as_slice()),
-        (Kind::Data, TRUNCATED_PAIR.as_slice()),
-        (Kind::Data, HASH_PAIR.as_slice()),
-        (Kind::Index, THREE_HANDLES.as_slice()),
-    ];
-    for (kind, payload) in payloads {
-        let mut accepted = 0usize;
-        for at in 0..payload.len() {
-            for byte in 0..256u16 {
-                let found = check(&rt, rt.alloc(), kind, payload, at, byte as u8);
-                assert!(&rt; found != Err(Error::Memory));
-                accepted = accepted.saturating_add(usize::from(found.is_ok()));
-            }
+    for (kind, payload) in WORKED {
+        for number in 0..change_count(payload.len()) {
+            let is_wanted = check_change(&rt, rt.alloc(), kind, payload, number);
+            assert!(&rt; is_wanted == Ok(true), "{payload:?}, change {number}");
         }
-        assert!(&rt; accepted > payload.len(), "{payload:?}");
     }
 }
 

@@ -5,8 +5,8 @@ ghost use Rattle.sst_block_core.specs.Landings.{scan_cost};
 
 use crate::checks::THREE_HANDLES;
 use crate::random::{Random, key_of};
-use sst_base::table::block::{Block, BlockHandle, BlockOffset, BlockType, Header};
-use sst_base::{Checksum, Result, Slice};
+use sst_base::table::block::{Block, BlockHandle, BlockOffset, BlockType};
+use sst_base::{Error, Result, Slice};
 use sst_block_kinds::table::index_block::{IndexAnswer, IndexOp, Iter, walk};
 use sst_block_kinds::{IndexBlock, KeyedBlockHandle};
 use std::alloc::Global;
@@ -36,7 +36,7 @@ const LETTERS: [Row; 5] = [
 const EMPTY_KEY: [Row; 1] = [(b"", 0, 0, 6000)];
 
 /// The payload of the three handles at interval 1.
-const THREE_HEADS: [u8; 67] = [
+pub(crate) const THREE_HEADS: [u8; 67] = [
     0, 0, 240, 46, 0, 1, 98, 0, 240, 46, 216, 54, 0, 5, 98, 99, 100, 101, 102, 0, 200, 101, 136,
     39, 0, 3, 100, 101, 102, 255, 0, 0, 7, 0, 19, 0, 1, 2, 3, 0, 0, 0, 30, 0, 0, 0, 0, 0, 0, 0, 0,
     0, 0, 0, 1, 0, 0, 0, 0, 0, 0, 0, 0, 3, 0, 0, 0,
@@ -78,14 +78,27 @@ fn block_of(
     assert!(rt; IndexBlock::is_ordered(list));
     assert!(rt; IndexBlock::ends_fit(list));
     let bytes = IndexBlock::encode_into_vec_with(alloc, list, interval)?;
-    let length = bytes.len() as u32;
-    let header = Header {
-        block_type: BlockType::Index,
-        checksum: Checksum::from_raw(0),
-        data_length: length,
-        uncompressed_length: length,
-    };
-    Ok(IndexBlock::new(Block::from_parts(header, Slice::from_vec(bytes)?)))
+    Ok(IndexBlock::new(Block::from_payload(BlockType::Index, Slice::from_vec(bytes)?)))
+}
+
+/// The answers of operations over the block of a list of handles at an interval, with or without the
+/// table of its heads.
+fn answers_of(
+    rt: &impl Abort,
+    alloc: Global,
+    list: &[KeyedBlockHandle],
+    interval: u8,
+    has_table: bool,
+    ops: &[IndexOp],
+) -> Result<Vec<IndexAnswer>> {
+    let block = block_of(rt, alloc, list, interval)?;
+    assert!(rt; block.heads().is_none());
+    if !has_table {
+        return walk(alloc, &block, ops);
+    }
+    let block = block.with_heads(alloc).ok().ok_or(Error::Memory)?;
+    assert!(rt; block.heads().is_some_and(|table| !table.is_empty()));
+    walk(alloc, &block.clone()?, ops)
 }
 
 /// The payloads of the three handles: each a head, which is also the encoding without an interval,
@@ -252,8 +265,12 @@ fn scripts_return_what_is_written(rt: HostRuntime) -> std::result::Result<(), Fa
     for script in &SCRIPTS {
         let list = handles_of(&rt, alloc, script.rows)?;
         let ops = ops_of(alloc, script.steps)?;
-        for interval in script.intervals {
-            let found = walk(alloc, &block_of(&rt, alloc, &list, *interval)?, &ops)?;
+        for (interval, has_table) in script
+            .intervals
+            .iter()
+            .flat_map(|interval| [(*interval, false), (*interval, true)])
+        {
+            let found = answers_of(&rt, alloc, &list, interval, has_table, &ops)?;
             assert!(&rt; found.len() == script.steps.len());
             for (step, answer) in script.steps.iter().zip(found.iter()) {
                 assert!(&rt; returns(step, answer), "{} at {interval}", script.name);
@@ -407,16 +424,18 @@ fn random_operations_return_what_the_window_does(rt: HostRuntime) -> std::result
         let count = 1 + random.below(40);
         let list = random_list(&rt, alloc, &mut random, count)?;
         let ops = random_ops(alloc, &mut random, count + 4, 200)?;
-        let found = walk(alloc, &block_of(&rt, alloc, &list, interval)?, &ops)?;
-        assert!(&rt; found.len() == ops.len());
-        let hi = list.len();
-        let mut window = Window {
-            list: &list,
-            lo: 0,
-            hi,
-        };
-        for (op, answer) in ops.iter().zip(found.iter()) {
-            assert!(&rt; window.perform(op).is(answer), "{op:?} at {interval}");
+        for has_table in [false, true] {
+            let found = answers_of(&rt, alloc, &list, interval, has_table, &ops)?;
+            assert!(&rt; found.len() == ops.len());
+            let hi = list.len();
+            let mut window = Window {
+                list: &list,
+                lo: 0,
+                hi,
+            };
+            for (op, answer) in ops.iter().zip(found.iter()) {
+                assert!(&rt; window.perform(op).is(answer), "{op:?} at {interval}");
+            }
         }
     }
     Ok(())

@@ -7,6 +7,8 @@ mod checks;
 #[cfg(test)]
 mod decoders;
 #[cfg(test)]
+mod heads;
+#[cfg(test)]
 mod index_blocks;
 #[cfg(test)]
 mod lists;
@@ -16,3 +18,5 @@ pub mod random;
 mod reads;
 #[cfg(test)]
 mod seeks;
+#[cfg(test)]
+mod stages;

@@ -2,8 +2,8 @@
 ghost use Rattle.std.specs.Prelude.{◌≡◌, IfOk};
 ghost use Rattle.std.proofs.Common.{arith};
 
-use sst_base::table::block::{Block, BlockType, Header};
-use sst_base::{BlockHash, Checksum, HashRatio, InternalValue, Result, Slice, ValueType};
+use sst_base::table::block::{Block, BlockType};
+use sst_base::{BlockHash, Error, HashRatio, InternalValue, Result, Slice, ValueType};
 use sst_block_kinds::DataBlock;
 use std::alloc::Global;
 use std::process::Abort;
@@ -256,14 +256,20 @@ pub(crate) fn block_of<H: BlockHash>(
     assert!(rt; !list.is_empty());
     assert!(rt; DataBlock::<H>::is_ordered(list));
     let bytes = DataBlock::<H>::encode_into_vec(alloc, list, interval, ratio)?;
-    let length = bytes.len() as u32;
-    let header = Header {
-        block_type: BlockType::Data,
-        checksum: Checksum::from_raw(0),
-        data_length: length,
-        uncompressed_length: length,
-    };
-    Ok(DataBlock::new(Block::from_parts(header, Slice::from_vec(bytes)?)))
+    Ok(DataBlock::new(Block::from_payload(BlockType::Data, Slice::from_vec(bytes)?)))
+}
+
+/// Returns a block with the table of its heads.
+pub(crate) fn with_table<H: BlockHash>(
+    rt: &impl Abort,
+    alloc: Global,
+    block: DataBlock<H>,
+) -> Result<DataBlock<H>>
+    ensures { IfOk result (λ tabled. tabled.interval ≡ block.interval) }
+{
+    let block = block.with_heads(alloc).ok().ok_or(Error::Memory)?;
+    assert!(rt; block.heads().is_some());
+    Ok(block)
 }
 
 /// Returns whether an entry was decoded, or there is none of both: its key, its sequence number,

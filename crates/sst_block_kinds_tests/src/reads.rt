@@ -3,7 +3,10 @@
 ghost use Rattle.sst_block_kinds.specs.ParsedEntry.{IsParsedEntry};
 
 use crate::checks::{HASH_PAIR, LONGEST_PREFIX};
-use crate::lists::{List, NO_BUCKETS, NoHash, ONE_EACH, Row, block_of, is_same, list_of};
+use crate::heads::{counts_of, plain_counts};
+use crate::lists::{
+    List, NO_BUCKETS, NoHash, ONE_EACH, Row, block_of, is_same, list_of, with_table,
+};
 use crate::plain::{plain_first_match, plain_payload};
 use sst_base::{
     BlockHash, ByteSum, HashRatio, InternalValue, Poly31, Result, Slice, Steps, ValueType,
@@ -347,22 +350,35 @@ fn check_buckets<H: BlockHash>(rt: &impl Abort, block: &DataBlock<H>, case: &Exa
     }
 }
 
-/// Checks a block by what is known of it.
-fn check_example<H: BlockHash>(rt: &impl Abort, alloc: Global, case: &Example) -> Result<()> {
-    let list = list_of(rt, alloc, case.list)?;
-    let block = block_of::<H>(rt, alloc, &list, case.interval, case.ratio)?;
-    check_bytes(rt, &block, case);
-    check_buckets(rt, &block, case);
+/// Makes the reads of an example.
+fn check_reads<H: BlockHash>(
+    rt: &impl Abort,
+    alloc: Global,
+    block: &DataBlock<H>,
+    list: &[InternalValue],
+    case: &Example,
+) {
     for (key, below, at) in case.reads {
         check_read(
             rt,
             alloc,
-            &block,
+            block,
             key,
             *below,
             at.and_then(|at| list.get(at)),
         );
     }
+}
+
+/// Checks a block by what is known of it, and its reads with and without the table of its heads.
+fn check_example<H: BlockHash>(rt: &impl Abort, alloc: Global, case: &Example) -> Result<()> {
+    let list = list_of(rt, alloc, case.list)?;
+    let block = block_of::<H>(rt, alloc, &list, case.interval, case.ratio)?;
+    assert!(rt; block.heads().is_none());
+    check_bytes(rt, &block, case);
+    check_buckets(rt, &block, case);
+    check_reads(rt, alloc, &block, &list, case);
+    check_reads(rt, alloc, &with_table(rt, alloc, block)?, &list, case);
     Ok(())
 }
 
@@ -578,7 +594,45 @@ fn check_payload<H: BlockHash>(
     Ok(())
 }
 
-/// Writes a list at an interval and a ratio, iterates over it, and makes the reads. Without hash
+/// Makes reads of a block.
+fn check_queries<H: BlockHash>(
+    rt: &impl Abort,
+    alloc: Global,
+    block: &DataBlock<H>,
+    queries: &[Query<'_>],
+) {
+    for query in queries {
+        check_read(
+            rt,
+            alloc,
+            block,
+            query.key.as_slice(),
+            query.below,
+            query.wanted,
+        );
+    }
+}
+
+/// Counts the heads that each needle passes, by the table of the heads.
+fn check_counts<H: BlockHash>(
+    rt: &impl Abort,
+    block: &DataBlock<H>,
+    list: &[InternalValue],
+    interval: u8,
+    queries: &[Query<'_>],
+) {
+    for query in queries {
+        let needle = query.key.as_slice();
+        let wanted = plain_counts(list, interval, needle, query.below);
+        assert!(rt;
+            counts_of(block, needle, query.below) == Some(wanted),
+            "{needle:?}"
+        );
+    }
+}
+
+/// Writes a list at an interval and a ratio, iterates over it, and makes the reads, with and
+/// without the table of the heads. Without hash
 /// index the payload is the plain program's, which recurses over a key, so long ones are left out.
 pub(crate) fn check_list<H: BlockHash>(
     rt: &impl Abort,
@@ -594,16 +648,10 @@ pub(crate) fn check_list<H: BlockHash>(
     }
     iterates(rt, alloc, &block, list)?;
     makes(rt, alloc, &block, list)?;
-    for query in queries {
-        check_read(
-            rt,
-            alloc,
-            &block,
-            query.key.as_slice(),
-            query.below,
-            query.wanted,
-        );
-    }
+    check_queries(rt, alloc, &block, queries);
+    let tabled = with_table(rt, alloc, block)?;
+    check_queries(rt, alloc, &tabled, queries);
+    check_counts(rt, &tabled, list, interval, queries);
     Ok(())
 }
 

@@ -5,7 +5,7 @@ ghost use Rattle.sst_block_core.specs.Body.{place_offset};
 ghost use Rattle.sst_block_core.specs.Entries.{entries};
 ghost use Rattle.sst_block_kinds.specs.ParsedEntry.{IsParsedEntry};
 
-use crate::lists::{List, NO_BUCKETS, Row, block_of, is_same, list_of, push};
+use crate::lists::{List, NO_BUCKETS, Row, block_of, is_same, list_of, push, with_table};
 use crate::plain::plain_offset;
 use crate::random::{Random, key_of};
 use crate::reads::check_list;
@@ -278,7 +278,28 @@ fn compare(rt: &impl Abort, list: &[InternalValue], lines: &[Line<'_>], found: &
     }
 }
 
-/// Makes calls over the block of a list at an interval, by an iterator and by `walk`.
+/// Makes calls over a block of a list at an interval, by an iterator and by `walk`.
+fn check_block(
+    rt: &impl Abort,
+    alloc: Global,
+    block: &DataBlock<Poly31>,
+    list: &[InternalValue],
+    interval: u8,
+    lines: &[Line<'_>],
+) -> Result<()>
+    requires { block.now.interval ≡ interval }
+{
+    let found = perform_all(rt, alloc, block, interval, lines)?;
+    assert!(rt; found.len() == lines.len());
+    compare(rt, list, lines, &found);
+    let ops = ops_of(alloc, lines)?;
+    let found = walk(alloc, block, &ops)?;
+    assert!(rt; found.len() == ops.len());
+    compare(rt, list, lines, &found);
+    Ok(())
+}
+
+/// Makes calls over the block of a list at an interval, with and without the table of its heads.
 fn check_lines(
     rt: &impl Abort,
     alloc: Global,
@@ -287,14 +308,9 @@ fn check_lines(
     lines: &[Line<'_>],
 ) -> Result<()> {
     let block = block_of::<Poly31>(rt, alloc, list, interval, NO_BUCKETS)?;
-    let found = perform_all(rt, alloc, &block, interval, lines)?;
-    assert!(rt; found.len() == lines.len());
-    compare(rt, list, lines, &found);
-    let ops = ops_of(alloc, lines)?;
-    let found = walk(alloc, &block, &ops)?;
-    assert!(rt; found.len() == ops.len());
-    compare(rt, list, lines, &found);
-    Ok(())
+    check_block(rt, alloc, &block, list, interval, lines)?;
+    let block = with_table(rt, alloc, block)?;
+    check_block(rt, alloc, &block, list, interval, lines)
 }
 
 /// Each call of each script returns what is written beside it.

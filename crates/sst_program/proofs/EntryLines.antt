@@ -44,8 +44,3 @@ entries-fault n items rest line behind h k =
 pub entries-end : (n : ℕ) (items : List Entry) → after items (entries_from n (lines_of [])) ≡ Ok items
 unfolding entries_from
 entries-end n items = rw (lines-empty, append-nil items) refl
-
--- nothing is left, by the test of its length
-pub nothing-left : (rest : List ℕ) → true ≡ nat_eq (length rest) 0 → rest ≡ []
-nothing-left [] h = refl
-nothing-left (b ∷ rest) h = let none : length (b ∷ rest) ≡ 0 = none-from_test (length (b ∷ rest)) h in absurd (omega arith)

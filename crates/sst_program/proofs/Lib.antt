@@ -1,12 +1,13 @@
 pub mod CommandWords
 pub mod Cuts
-pub mod Disorder
 pub mod EntryLaw
 pub mod EntryLines
 pub mod EntryParts
+pub mod Inputs
 pub mod NumberText
 pub mod Numbers
 pub mod Outcomes
+pub mod Printing
 pub mod TableReads
 pub mod TableFaults
 pub mod Tables

@@ -13,7 +13,8 @@ use Rattle.sst_program.specs.declared.fault.Fault.TheVariants.{NoEntries, Order,
 use Rattle.sst_program.specs.Query.{Query}
 use Rattle.sst_program.specs.Lines.{entries_of_input}
 use Rattle.sst_program.specs.Point.{point_payload, point_text_of}
-use Rattle.sst_program.specs.Outcome.{disorder_from, fault_of_disorder, fault_of_items, run_of_input, outcome_of_items, outcome_of_query, Gave, IsOutcomeOf, IsFaultOf, lines_text_of, PrintsLines}
+use Rattle.sst_block_kinds.specs.Disorder.{disorder_from}
+use Rattle.sst_program.specs.Outcome.{fault_of_disorder, fault_of_items, run_of_input, outcome_of_items, outcome_of_query, IsOutcomeOf, IsFaultOf, lines_text_of, PrintsLines}
 
 pub fault-no_entries : (items : List Entry) → length items ≡ 0 → fault_of_items items ≡ Some NoEntries
 unfolding fault_of_items
@@ -43,21 +44,19 @@ run-line : (bytes : List ℕ) (fault : Fault) → entries_of_input bytes ≡ Err
 unfolding run_of_input
 run-line bytes fault e = rw e refl
 
--- the entries that a loop over the lines reads are those of the input
-pub run-read : (known : Option (List ℕ)) (bytes bytes' : List ℕ) (items items' : List Entry) → Gave known bytes → bytes' ≡ bytes → entries_of_input bytes' ≡ Ok items → items' ≡ items
-    → fault_of_items items' ≡ None → IsOutcomeOf run_of_input known items
-run-read known bytes bytes' items items' gave b e i f = (bytes, gave, run-items bytes items (ap entries_of_input (sym b) ∙ e) (ap fault_of_items (sym i) ∙ f))
+-- the entries of the lines of an input are those of the input
+pub run-read : (known : Option (List ℕ)) (items items' : List Entry) → IsOutcomeOf entries_of_input known items → items' ≡ items → fault_of_items items' ≡ None → IsOutcomeOf run_of_input known items
+run-read known items items' r i f = (r.0, r.1, run-items r.0 items r.2 (ap fault_of_items (sym i) ∙ f))
 
 -- so is their fault
-pub run-refused : (known : Option (List ℕ)) (bytes bytes' : List ℕ) (items items' : List Entry) (fault : Fault) → Gave known bytes → bytes' ≡ bytes → entries_of_input bytes' ≡ Ok items → items' ≡ items
-    → fault_of_items items' ≡ Some fault → IsFaultOf run_of_input known fault
-run-refused known bytes bytes' items items' fault gave b e i f = inr (bytes, gave, run-fault bytes items fault (ap entries_of_input (sym b) ∙ e) (ap fault_of_items (sym i) ∙ f))
+pub run-refused : (known : Option (List ℕ)) (items items' : List Entry) (fault : Fault) → IsOutcomeOf entries_of_input known items → items' ≡ items → fault_of_items items' ≡ Some fault
+    → IsFaultOf run_of_input known fault
+run-refused known items items' fault r i f = inr (r.0, r.1, run-fault r.0 items fault r.2 (ap fault_of_items (sym i) ∙ f))
 
 -- the fault of a line is the one of the input
-pub fault-of_line : (known : Option (List ℕ)) (bytes bytes' : List ℕ) (fault : Fault)
-    → Gave known bytes → bytes' ≡ bytes → (fault ≡ Refused Memory) ⊎ (entries_of_input bytes' ≡ Err fault) → IsFaultOf run_of_input known fault
-fault-of_line known bytes bytes' fault gave b (inl failed) = inl (inl failed)
-fault-of_line known bytes bytes' fault gave b (inr e) = inr (bytes, gave, run-line bytes fault (ap entries_of_input (sym b) ∙ e))
+pub fault-of_line : (known : Option (List ℕ)) (fault : Fault) → IsFaultOf entries_of_input known fault → IsFaultOf run_of_input known fault
+fault-of_line known fault (inl failed) = inl failed
+fault-of_line known fault (inr r) = inr (r.0, r.1, run-line r.0 fault r.2)
 
 outcome-items : (query : Query) (bytes : List ℕ) (items : List Entry) → run_of_input bytes ≡ Ok items → outcome_of_query query bytes ≡ outcome_of_items query items
 unfolding outcome_of_query

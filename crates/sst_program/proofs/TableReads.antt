@@ -1,5 +1,5 @@
 -- Reading the blocks of an index one by one.
-use Rattle.std.proofs.Common.{◌≡◌, ◌≢◌, ◌⊎◌, ℕ, ◌+◌, ◌-◌, ◌^◌, ◌≤◌, inl, inr, List, [], ◌∷◌, ◌++◌, length, take, drop, min, arith, refl, sym, ◌∙◌, ap, subst, append_assoc, append-nil, length-append, length-drop, Option, Some, None, Result, Ok, Err, IfSome, IfErr, true, false, if◌then◌else◌}
+use Rattle.std.proofs.Common.{◌≡◌, ◌≢◌, ◌⊎◌, ℕ, ◌+◌, ◌-◌, ◌^◌, inl, inr, List, [], ◌∷◌, ◌++◌, length, take, drop, min, arith, refl, sym, ◌∙◌, ap, subst, append_assoc, append-nil, length-append, length-drop, Option, Some, None, Result, Ok, Err, IfSome, IfErr, true, false, if◌then◌else◌}
 use Rattle.std.proofs.Math.Seq.{take-append_seam, take-length}
 use Rattle.std.specs.Prelude.{IsOk, nat_lt, nat_le}
 use Rattle.std.proofs.lemmas.Bool.Decides.{nat_tests}
@@ -10,7 +10,7 @@ use Rattle.sst_base.specs.Entry.{Entry}
 use Rattle.sst_base.specs.FrameErrors.{NotIo}
 use Rattle.sst_base.specs.Header.{◌>>=◌}
 use Rattle.sst_base.specs.declared.error.Error.{Error}
-use Rattle.sst_base.specs.declared.error.Error.TheVariants.{Io, Memory, Truncated, BadHandle}
+use Rattle.sst_base.specs.declared.error.Error.TheVariants.{Io, Truncated, BadHandle}
 use Rattle.sst_block_core.specs.Landings.{GivesNextHeld}
 use Rattle.sst_block_core.specs.Scan.{Scan}
 use Rattle.sst_block_core.specs.Window.{Window, items_left, whole}

@@ -1,13 +1,11 @@
 -- What a run prints, or the fault that it tells.
 use Rattle.std.specs.Prelude.{◌≡◌, ℕ, ◌+◌, ◌^◌, ◌⊎◌, nat_lt, if◌then◌else◌, codes, List, [], ◌∷◌, ◌++◌, length, Option, Some, None, Result, Ok, Err, IfSome}
 use Rattle.std.specs.Fmt.{decimal}
-use Rattle.std.specs.Io.KnownBytes.{Keeps, Appends}
-use Rattle.std.specs.Ordering.{is_lt}
+use Rattle.std.specs.Io.KnownBytes.{Keeps, Appends, append_known}
 use Rattle.sst_base.specs.declared.error.Error.{Error}
 use Rattle.sst_base.specs.declared.error.Error.TheVariants.{Memory, Io, TooLong}
 use Rattle.sst_base.specs.Entry.{Entry}
-use Rattle.sst_block_core.specs.Kind.{item_cmp}
-use Rattle.sst_block_core.specs.Entries.{entries}
+use Rattle.sst_block_kinds.specs.Disorder.{disorder_from}
 use Rattle.sst_program.specs.declared.fault.Fault.{Fault}
 use Rattle.sst_program.specs.declared.fault.Fault.TheVariants.{Usage, NoEntries, Order, Refused}
 use Rattle.sst_program.specs.declared.words.Command.{Command}
@@ -18,12 +16,6 @@ use Rattle.sst_program.specs.Point.{point_payload, point_text_of, answer_line_of
 use Rattle.sst_program.specs.Query.{Query, Packing}
 use Rattle.sst_program.specs.Table.{IsPacked}
 use Rattle.sst_program.specs.declared.pack.Packed.{Packed}
-
--- the index of the first entry that sorts before its predecessor, where the list begins at this index
-unfoldable pub disorder_from : ℕ → List Entry → Option ℕ
-disorder_from i [] = None
-disorder_from i (x ∷ []) = None
-disorder_from i (x ∷ y ∷ items) = if is_lt (item_cmp entries y x) then Some (i + 1) else disorder_from (i + 1) (y ∷ items)
 
 -- an entry that sorts before its predecessor: its line is its index and one
 abbrev pub fault_of_disorder : Option ℕ → Option Fault
@@ -98,6 +90,10 @@ answer_text_of found = answer_line_of found ++ (10 ∷ [])
 abbrev pub lines_text_of : List Entry → List ℕ
 lines_text_of [] = []
 lines_text_of (e ∷ items) = entry_line_of e ++ (10 ∷ lines_text_of items)
+
+-- an output, and behind it the bytes that wait for it in a buffer, grew by a text
+pub record Puts (old : Option (List ℕ)) (waiting : List ℕ) (new : Option (List ℕ)) (waiting' text : List ℕ) : Type 0 where
+  pub grown : Appends (append_known old waiting) (append_known new waiting') text
 
 -- the output grew by the text of what is found
 abbrev pub PrintsAnswer : Option (List ℕ) → Option (List ℕ) → Type 0

@@ -4,31 +4,19 @@ ghost use Rattle.std.specs.Prelude.{IfErr};
 ghost use Rattle.sst_base.specs.declared.error.Error.TheVariants.{Memory, Io};
 ghost use Rattle.sst_block_core.specs.Kind.{IsOrdered};
 ghost use Rattle.sst_block_core.specs.Entries.{entries};
-ghost use Rattle.sst_program.specs.Outcome.{Gave, IsOutcomeOf, IsFaultOf, run_of_input};
+ghost use Rattle.sst_program.specs.Lines.{entries_of_input};
+ghost use Rattle.sst_program.specs.Outcome.{IsOutcomeOf, IsFaultOf, run_of_input};
 
 use crate::fault::Fault;
-use crate::lines::entries_in;
+use crate::lines::entry_in;
 use crate::order::fault_of;
 use sstable_blocks::{Error, InternalValue, Result};
 use std::alloc::Global;
-use std::io::{ErrorKind, Read};
+use std::io;
+use std::io::{BufRead, BufReader, ErrorKind, Read};
 
-/// Returns all that a reader gives until it ends.
-///
-/// # Errors
-///
-/// `Error::Memory` if an allocation fails or the reader answers `ErrorKind::OutOfMemory`, and
-/// `Error::Io` if the reader fails in another way.
-pub fn read_all<I: Read>(alloc: Global, input: &mut I) -> Result<Vec<u8>>
-    ensures bytes { IfOk result (λ all. Gave (I.remaining input.old) all.items) }
-    ensures cause { IfErr result (λ e. (e ≡ Memory) ⊎ (e ≡ Io)) }
-{
-    let mut all = Vec::new(alloc);
-    match input.read_to_end(&mut all) {
-        Ok(_) => Ok(all),
-        Err(error) => Err(error_of(error.kind())),
-    }
-}
+// The number of bytes that are read of an input at once.
+const BUFFER_LEN: usize = 65536;
 
 // The error for a reader's failure of this kind.
 fn error_of(kind: ErrorKind) -> Error
@@ -40,6 +28,45 @@ fn error_of(kind: ErrorKind) -> Error
     } else {
         Error::Io
     }
+}
+
+// What a reader gave, unless it failed.
+fn read_part<T>(outcome: io::Result<T>) -> Result<T>
+    ensures ok { IfOk result (λ part. outcome ≡ Ok part) }
+    ensures cause { IfErr result (λ e. (e ≡ Memory) ⊎ (e ≡ Io)) }
+{
+    match outcome {
+        Ok(part) => Ok(part),
+        Err(error) => Err(error_of(error.kind())),
+    }
+}
+
+/// Returns the entries of an input, one a line. The last line may lack its line feed. Of the text a
+/// buffer of 64 KiB and a line are held at a time.
+///
+/// # Errors
+///
+/// `Fault::Entry` with the number of the first line that is no entry; the input is not read past its
+/// buffer then. `Error::Memory` if an allocation fails or the reader answers
+/// `ErrorKind::OutOfMemory`, and `Error::Io` if the reader fails in another way.
+pub fn read_entries<I: Read>(
+    alloc: Global,
+    input: &mut I,
+) -> std::result::Result<Vec<InternalValue>, Fault>
+    ensures ok { IfOk result
+        (λ items. IsOutcomeOf entries_of_input (I.remaining input.old) items.items) }
+    ensures err { IfErr result (IsFaultOf entries_of_input (I.remaining input.old)) }
+{
+    let mut items = Vec::new(alloc);
+    let reader = read_part(BufReader::with_capacity(alloc, BUFFER_LEN, input))?;
+    for line in reader.split(alloc, b'\n') {
+        let line = read_part(line)?;
+        match entry_in(alloc, line.as_slice())? {
+            Some(item) => items.push(item)?,
+            None => return Err(Fault::Entry(items.len() + 1)),
+        }
+    }
+    Ok(items)
 }
 
 /// Returns the entries of an input, one a line, of which there is at least one, and none sorts
@@ -59,8 +86,7 @@ pub fn ordered_entries<I: Read>(
     ensures some { IfOk result (λ items. 1 ≤ length items.items) }
     ensures ordered { IfOk result (λ items. IsOrdered entries items.items) }
 {
-    let bytes = read_all(alloc, input)?;
-    let items = entries_in(alloc, bytes.as_slice())?;
+    let items = read_entries(alloc, input)?;
     match fault_of(items.as_slice()) {
         Some(fault) => Err(fault),
         None => Ok(items),

@@ -2,6 +2,7 @@
 #![tactic(auto)]
 
 pub mod check;
+pub mod entry_printer;
 pub mod fault;
 pub mod footer;
 pub mod get;
@@ -10,7 +11,10 @@ pub mod lines;
 pub mod order;
 pub mod output;
 pub mod pack;
+pub mod pipe;
 pub mod point;
+pub mod replace;
+pub mod sync;
 pub mod table;
 pub mod text;
 pub mod walk;
@@ -27,16 +31,16 @@ use get::get;
 pub use lines::entry_line;
 use pack::pack;
 use point::point;
+use replace::LockFiles;
 use std::alloc::Global;
 use std::convert::AsSlice;
 use std::io::{Read, Write};
-use std::rt::Files;
 use walk::walk;
 use words::{Command, command_in};
 
 /// Runs the program on these words, which are those after its name, and returns its status: 0, or 1
 /// after one line on `faults`.
-pub fn sst_main<R: Files, W: AsSlice<u8>, I: Read, O: Write, F: Write>(
+pub fn sst_main<R: LockFiles, W: AsSlice<u8>, I: Read, O: Write, F: Write>(
     rt: &R,
     alloc: Global,
     words: &[W],
@@ -58,7 +62,7 @@ pub fn sst_main<R: Files, W: AsSlice<u8>, I: Read, O: Write, F: Write>(
 ///
 /// `Fault::Usage` if the words are no command, then those of the command, and `Error::Memory` if an
 /// allocation fails.
-pub fn run<R: Files, W: AsSlice<u8>, I: Read, O: Write>(
+pub fn run<R: LockFiles, W: AsSlice<u8>, I: Read, O: Write>(
     rt: &R,
     alloc: Global,
     words: &[W],

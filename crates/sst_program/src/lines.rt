@@ -17,8 +17,8 @@ use std::alloc::Global;
 // The greatest length of a value.
 const MAX_VALUE_LEN: usize = u32::MAX as usize;
 
-// The letter of a type.
-fn letter_of(value_type: ValueType) -> char
+/// Returns the letter of a type.
+pub fn letter_of(value_type: ValueType) -> char
     ensures { result ≡ letter_of value_type }
 {
     match value_type {
@@ -177,43 +177,4 @@ pub fn entry_in(alloc: Global, line: &[u8]) -> Result<Option<InternalValue>>
         Some(parts) => entry_from(alloc, parts),
         None => Ok(None),
     }
-}
-
-// The first line without its line feed, and the bytes behind that line feed.
-fn cut_line(bytes: &[u8]) -> (&[u8], &[u8])
-    requires some { 0 < length bytes.now }
-    ensures line { Lacks 10 result.0.now }
-    ensures joined { (bytes.now ≡ result.0.now ++ (10 ∷ result.1.now))
-        ⊎ ((bytes.now ≡ result.0.now) × (result.1.now ≡ [])) }
-    ensures lines { lines_of bytes.now ≡ result.0.now ∷ lines_of result.1.now }
-    ensures shorter { length result.1.now < length bytes.now }
-{
-    match cut_at(bytes, b'\n') {
-        Some((line, rest)) => (line, rest),
-        None => (bytes, &[]),
-    }
-}
-
-/// Returns the entries of an input, one a line. The last line may lack its line feed.
-///
-/// # Errors
-///
-/// `Fault::Entry` with the number of the first line that is no entry, and `Error::Memory` if an
-/// allocation fails.
-pub fn entries_in(alloc: Global, bytes: &[u8]) -> std::result::Result<Vec<InternalValue>, Fault>
-    ensures ok { IfOk result (λ items. entries_of_input bytes.now ≡ Ok items.items) }
-    ensures err { IfErr result (λ fault. (fault ≡ Fault.Refused Error.Memory)
-        ⊎ (entries_of_input bytes.now ≡ Err fault)) }
-{
-    let mut items = Vec::new(alloc);
-    let mut rest = bytes;
-    while !rest.is_empty() {
-        let (line, behind) = cut_line(rest);
-        match entry_in(alloc, line)? {
-            Some(item) => items.push(item)?,
-            None => return Err(Fault::Entry(items.len() + 1)),
-        }
-        rest = behind;
-    }
-    Ok(items)
 }

@@ -12,14 +12,14 @@ use crate::fault::Fault;
 use crate::footer::{FOOTER_LEN, footer_of};
 use crate::input::ordered_entries;
 use crate::output::print_text;
+use crate::replace::{LockFiles, write_file};
+use crate::sync::SyncWrite;
 use crate::words::PackWords;
 use sstable_blocks::{
     BlockHandle, Error, InternalValue, Poly31, Result, RunConfig, RunHandles, RunWriter,
 };
 use std::alloc::Global;
-use std::fs;
-use std::io::{BufWriter, Read, Write};
-use std::rt::Files;
+use std::io::{Read, Write};
 
 /// What was written of a table.
 #[derive(Clone, Copy, Debug, PartialEq, Eq)]
@@ -75,13 +75,13 @@ fn table_len(handles: &RunHandles) -> Result<u64>
 }
 
 /// Writes a table: the run of ordered entries, in blocks of `per_block` entries, the last perhaps
-/// of fewer, and its footer. Returns what was written, and the writer.
+/// of fewer, and its footer. Returns what was written, and the writer, which is synced.
 ///
 /// # Errors
 ///
 /// Those of `RunWriter::add_block` and `RunWriter::finish`; `Error::TooLong` too where the table
 /// has 2^64 bytes or more.
-pub fn write_table<W: Write + Drop>(
+pub fn write_table<W: SyncWrite + Drop>(
     alloc: Global,
     writer: W,
     items: &[InternalValue],
@@ -96,6 +96,7 @@ pub fn write_table<W: Write + Drop>(
     requires ordered { IsOrdered entries items.now }
     ensures table { IfOk result
         (λ r. AppendsTable config per_block items.now (W.contents writer) (W.contents r.1) r.0) }
+    ensures synced { IfOk result (λ r. W.is_synced r.1) }
     ensures cause { IfErr result IsWriteFault }
 {
     let mut run = RunWriter::<Poly31, W>::new(alloc, writer, config);
@@ -104,26 +105,8 @@ pub fn write_table<W: Write + Drop>(
     let (handles, mut writer) = run.finish()?;
     let len = table_len(&handles)?;
     writer.write_all(&footer_of(&handles))?;
-    writer.flush()?;
+    writer.sync()?;
     Ok((Packed { blocks, len }, writer))
-}
-
-// Makes the file of a table, or empties the one that is there, and writes the table.
-fn write_file<R: Files>(
-    rt: &R,
-    alloc: Global,
-    words: &PackWords<'_>,
-    items: &[InternalValue],
-) -> Result<Packed>
-    requires some { 1 ≤ length items.now }
-    requires ordered { IsOrdered entries items.now }
-    ensures table { IfOk result (IsPacked words.now.config words.now.per_block items.now) }
-    ensures cause { IfErr result IsWriteFault }
-{
-    let file = fs::create(rt, words.file())?;
-    let writer = BufWriter::new(alloc, file).map_err(|_| Error::Memory)?;
-    let (packed, _) = write_table(alloc, writer, items, words.config(), words.per_block())?;
-    Ok(packed)
 }
 
 // The line of what was packed, with its line feed.
@@ -143,7 +126,7 @@ fn packed_text(alloc: Global, entries: usize, packed: &Packed) -> Result<String>
 /// `Fault::NoEntries`, `Fault::Entry` and `Fault::Order` as the input demands; the file is not
 /// touched then. `Error::Io` if the input, the file or the output fails, `Error::TooLong` if the
 /// run does not fit: see `RunWriter`. `Error::Memory` if an allocation fails.
-pub fn pack<R: Files, I: Read, O: Write>(
+pub fn pack<R: LockFiles, I: Read, O: Write>(
     rt: &R,
     alloc: Global,
     words: &PackWords<'_>,

@@ -19,8 +19,8 @@ use crate::lines::answer_line;
 use crate::output::print_text;
 use crate::words::PointWords;
 use sstable_blocks::{
-    Block, BlockHash, BlockType, Checksum, DataBlock, Error, HashRatio, Header, InternalValue,
-    Poly31, Result, SeqNo, Slice, Steps,
+    Block, BlockType, DataBlock, Error, HashRatio, InternalValue, Poly31, Result, SeqNo, Slice,
+    Steps,
 };
 use std::alloc::Global;
 use std::io::{Read, Write};
@@ -31,14 +31,7 @@ fn block_of(bytes: Vec<u8>) -> Result<Block>
     ensures payload { IfOk result (λ block. block.payload ≡ bytes.items) }
     ensures memory { IsOkUnless result Error.Memory }
 {
-    let len = bytes.len() as u32;
-    let header = Header {
-        block_type: BlockType::Data,
-        checksum: Checksum::from_raw(u128::from(Poly31::hash64(bytes.as_slice()))),
-        data_length: len,
-        uncompressed_length: len,
-    };
-    Ok(Block::from_parts(header, Slice::from_vec(bytes)?))
+    Ok(Block::from_payload(BlockType::Data, Slice::from_vec(bytes)?))
 }
 
 // The block of these entries, without buckets.

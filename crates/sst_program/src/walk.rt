@@ -10,30 +10,13 @@ ghost use Rattle.sst_program.specs.TableReads.{block_read, blocks_read, run_bloc
 ghost use Rattle.sst_program.specs.TableReads.{FailsAround, FailsAmong, table_blocks, IsWalkFault};
 ghost use Rattle.sst_program.specs.TableReads.{PrintsLinesOf, PrintsUntil, PrintsFirst};
 
+use crate::entry_printer::print_entries_of;
 use crate::fault::Fault;
-use crate::lines::entry_line;
-use crate::output::print_text;
 use crate::table::{data_block_at, index_at, open_file, open_run};
-use sstable_blocks::{
-    BlockHandle, DataBlock, Error, FrameSource, IndexBlock, Poly31, Result, SeekInput,
-};
+use sstable_blocks::{BlockHandle, Error, FrameSource, IndexBlock, Poly31, Result, SeekInput};
 use std::alloc::Global;
 use std::io::Write;
 use std::rt::Files;
-
-// The lines of the entries of a block.
-fn lines_of(alloc: Global, block: &DataBlock<Poly31>) -> Result<String>
-    ensures ok { IfOk result (λ text. string_bytes text ≡ lines_text_of block.now.items) }
-    ensures memory { IsOkUnless result Error.Memory }
-{
-    let mut text = String::new(alloc);
-    for entry in block.entries() {
-        let line = entry_line(alloc, &entry.materialize(alloc)?)?;
-        text.push_str(line.as_str())?;
-        text.push('\n')?;
-    }
-    Ok(text)
-}
 
 // Prints the entries of the block of a handle, after its check.
 fn print_block<S: FrameSource, O: Write>(
@@ -59,8 +42,7 @@ fn print_block<S: FrameSource, O: Write>(
         (block_read all handle.now))) }
 {
     let block = data_block_at(alloc, source, handle)?;
-    let text = lines_of(alloc, &block)?;
-    print_text(output, text.as_bytes())
+    print_entries_of(alloc, &block, output)
 }
 
 // Prints the entries of the blocks of an index, each after its check.

@@ -1,6 +1,7 @@
 //! The words after the program's name.
 ghost use Rattle.std.specs.Prelude.{◌≡◌, ◌≤◌, ◌⊎◌, IfErr, IfOk, IfSome};
-ghost use Rattle.std.specs.Prelude.{IsOkUnless, map};
+ghost use Rattle.std.specs.Prelude.{IsOkUnless, map, drop, length};
+ghost use Rattle.std.specs.Vec.Iter.{into_iter_items, into_iter_len};
 ghost use Rattle.sst_base.specs.declared.error.Error.TheVariants.{Memory};
 ghost use Rattle.sst_program.specs.declared.fault.Fault.TheVariants.{Usage, Refused};
 ghost use Rattle.std.specs.Option.{option_map};
@@ -13,10 +14,10 @@ ghost use Rattle.sst_program.specs.declared.words.Command.TheVariants.{Point, Pa
 use crate::fault::Fault;
 use crate::text::{bytes_in, number_in, number_within};
 use sstable_blocks::{Error, HashRatio, Result, RunConfig};
-use std::alloc::Global;
+use std::alloc::{Allocator, Global};
 use std::convert::AsSlice;
 use std::env;
-use std::env::Env;
+use std::env::{Args, Env};
 use std::io::ErrorKind;
 use std::marker::Model;
 
@@ -471,7 +472,21 @@ fn file_word<W: AsSlice<u8>>(words: &[W]) -> Option<FileName<'_>>
     }
 }
 
-/// Returns the program's arguments without its name.
+/// Returns all words but the first, which is the program's name.
+///
+/// # Errors
+///
+/// `Error::Memory` if an allocation fails.
+pub fn words_after_name<A: Allocator>(alloc: A, words: Args<A>) -> Result<Vec<String<A>, A>>
+    // Every iterator has as many items as its length says, which std's clauses leave out.
+    ensures ok { IfOk result (λ rest. into_iter_len words ≡ length (into_iter_items words)
+        → rest.items ≡ drop 1 (into_iter_items words)) }
+    ensures memory { IsOkUnless result Error.Memory }
+{
+    Ok(words.skip(1).collect(alloc)?)
+}
+
+/// Returns the program's arguments without its name: see [`words_after_name`].
 ///
 /// # Errors
 ///
@@ -480,7 +495,7 @@ pub fn words_of<R: Env + Alloc>(rt: &R) -> std::result::Result<Vec<String<R::A>,
     ensures err { IfErr result (λ fault. (fault ≡ Usage) ⊎ (fault ≡ Refused Memory)) }
 {
     match env::args(rt) {
-        Ok(words) => Ok(words.skip(1).collect(rt.alloc())?),
+        Ok(words) => Ok(words_after_name(rt.alloc(), words)?),
         Err(error) if error.kind() == ErrorKind::InvalidData => Err(Fault::Usage),
         Err(_) => Err(Fault::Refused(Error::Memory)),
     }

@@ -1,10 +1,10 @@
 //! Long keys, long values and long lists. What is printed is compared by its length and its hash,
 //! which come from outside.
 use crate::scripts::{Run, check_run, make_run};
+use sst_program::replace::LockFiles;
 use sstable_blocks::{BlockHash, Poly31};
 use std::alloc::{AllocError, Global};
 use std::process::Abort;
-use std::rt::Files;
 use std::test::Fail;
 
 // A text: a part so many times, between two others.

@@ -1,4 +1,5 @@
 //! Scripts: runs of the program and changes of files, one after the other.
+use sst_program::replace::LockFiles;
 use sst_program::sst_main;
 use sstable_blocks::{BlockHash, Poly31};
 use std::alloc::{AllocError, Global};
@@ -44,7 +45,7 @@ pub fn words_of(alloc: Global, text: &str) -> Result<Vec<&str>, AllocError> {
 }
 
 /// Runs the program. The writer of faults has room before it starts.
-pub fn make_run<R: Files>(
+pub fn make_run<R: LockFiles>(
     rt: &R,
     alloc: Global,
     words: &str,
@@ -85,7 +86,7 @@ fn outcome_of(alloc: Global, run: &Run) -> Result<String, Fail> {
 }
 
 /// Checks what comes of a run.
-pub fn check_run<R: Files + AllocGlobal + Abort>(
+pub fn check_run<R: LockFiles + AllocGlobal + Abort>(
     rt: &R,
     words: &str,
     input: &[u8],
@@ -120,7 +121,7 @@ fn digest_of<R: Files + AllocGlobal>(rt: &R, file: &str) -> Result<(usize, u64),
 }
 
 /// Performs a step.
-fn perform<R: Files + AllocGlobal + Abort>(rt: &R, step: &Step<'_>) -> Result<(), Fail> {
+fn perform<R: LockFiles + AllocGlobal + Abort>(rt: &R, step: &Step<'_>) -> Result<(), Fail> {
     match step {
         Step::Run(words, input, outcome) => check_run(rt, words, input, outcome),
         Step::Write(file, bytes) => Ok(fs::write(rt, file, *bytes)?),
@@ -139,7 +140,10 @@ fn perform<R: Files + AllocGlobal + Abort>(rt: &R, step: &Step<'_>) -> Result<()
 }
 
 /// Performs steps one after the other.
-pub fn perform_all<R: Files + AllocGlobal + Abort>(rt: &R, steps: &[Step<'_>]) -> Result<(), Fail> {
+pub fn perform_all<R: LockFiles + AllocGlobal + Abort>(
+    rt: &R,
+    steps: &[Step<'_>],
+) -> Result<(), Fail> {
     for step in steps {
         perform(rt, step)?;
     }

@@ -2,11 +2,11 @@
 ghost use Rattle.std.specs.Prelude.{◌≤◌};
 
 use crate::scripts::words_of;
+use sst_program::replace::LockFiles;
 use sst_program::sst_main;
 use std::io;
 use std::io::{ErrorKind, Read, Write};
 use std::process::Abort;
-use std::rt::Files;
 use std::test::Fail;
 
 const WORDS: [&str; 4] = ["point", "1", "62", "1"];
@@ -122,7 +122,7 @@ const PRINTS: [(&str, usize); 6] = [
 
 // Runs the program with this output, and returns its status, and whether its faults begin with a
 // line.
-fn run_into<R: Files + AllocGlobal>(
+fn run_into<R: LockFiles + AllocGlobal>(
     rt: &R,
     words: &str,
     mut output: Narrow,
@@ -144,7 +144,11 @@ fn run_into<R: Files + AllocGlobal>(
 }
 
 // With less room than what is printed the output fails.
-fn check_rooms<R: Files + AllocGlobal + Abort>(rt: &R, words: &str, len: usize) -> Result<(), Fail>
+fn check_rooms<R: LockFiles + AllocGlobal + Abort>(
+    rt: &R,
+    words: &str,
+    len: usize,
+) -> Result<(), Fail>
     requires { 1 ≤ len }
 {
     for room in [0, 1, len / 2, len - 1] {
@@ -162,7 +166,7 @@ fn check_rooms<R: Files + AllocGlobal + Abort>(rt: &R, words: &str, len: usize) 
 }
 
 // With room for what is printed the run fails where the output cannot be flushed.
-fn check_flushes<R: Files + AllocGlobal + Abort>(
+fn check_flushes<R: LockFiles + AllocGlobal + Abort>(
     rt: &R,
     words: &str,
     len: usize,

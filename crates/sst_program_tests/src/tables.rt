@@ -2,10 +2,10 @@
 //! come from outside.
 use crate::scripts::Step::{Change, Cut, Digest, Run, Write};
 use crate::scripts::{Step, make_run, perform_all};
+use sst_program::replace::LockFiles;
 use std::alloc::{AllocError, Global};
 use std::fs;
 use std::process::Abort;
-use std::rt::Files;
 use std::test::Fail;
 
 // Three entries, of two keys.
@@ -252,7 +252,10 @@ fn a_table_file_is_a_run_and_a_footer(rt: HostRuntime) -> Result<(), Fail> {
 }
 
 // Packs the three entries, and reads them.
-fn check_packing<R: Files + AllocGlobal + Abort>(rt: &R, packing: &Packing) -> Result<(), Fail> {
+fn check_packing<R: LockFiles + AllocGlobal + Abort>(
+    rt: &R,
+    packing: &Packing,
+) -> Result<(), Fail> {
     let (words, packed, checked, len, hash) = *packing;
     let steps = [
         Run(words, THREE_LINES, packed),
@@ -277,7 +280,7 @@ fn files_are_opened_replaced_and_cut(rt: HostRuntime) -> Result<(), Fail> {
 }
 
 // Damages the table file, and does the commands on it.
-fn check_damage<R: Files + AllocGlobal + Abort>(rt: &R, damage: &Damage) -> Result<(), Fail> {
+fn check_damage<R: LockFiles + AllocGlobal + Abort>(rt: &R, damage: &Damage) -> Result<(), Fail> {
     let (changes, get, walk, check) = *damage;
     let steps = [
         Change("three", "damaged", changes),

@@ -35,8 +35,9 @@ pub const CHECKS: [&str; 2] = [
 ];
 
 /// The calls that a payload may be handed to: those of the item traits, of the decoder, of the index
-/// readers, of the one reader that counts, of blocks, and of the two that make an item of its ranges.
-pub const CALLS: [&str; 13] = [
+/// readers, of the one reader that counts, of blocks, of the two that make an item of its ranges, and
+/// of the table of heads, with what it calls itself.
+pub const CALLS: [&str; 23] = [
     "Item::read_head",
     "Item::read_full",
     "Item::read_truncated",
@@ -47,17 +48,29 @@ pub const CALLS: [&str; 13] = [
     "FormReader::new",
     "Reader::new",
     "Decoder::new",
-    "Block::from_parts",
+    "Block::from_payload",
     "made",
     "perform",
+    "table.head",
+    "table.count",
+    "table.push",
+    "self.count",
+    "self.count_behind",
+    "self.passes",
+    "self.compare_prefix",
+    "self.compare_rest",
+    "self.behind_prefix",
+    "bytes_of",
 ];
 
 /// What makes a reader, a decoder, an iterator or counters, gets at the payload, or reads numbers;
 /// each as it stands in tokens.
-pub const MAKERS: [&str; 23] = [
+pub const MAKERS: [&str; 26] = [
     "FormReader : : new (",
     "Intervals : : new (",
+    "Intervals : : with_table (",
     "Decoder : : new (",
+    "Decoder : : over (",
     "Iter : : new (",
     "Entries : : new (",
     "Reader : : new (",
@@ -77,12 +90,13 @@ pub const MAKERS: [&str; 23] = [
     "count_entry",
     "read_number",
     "from_le_bytes",
+    "bytes_of (",
     "unsafe",
 ];
 
 /// A source, one of [`MAKERS`], and how often it stands there. Where none is given it stands
 /// nowhere.
-pub const MADE: [(&str, &str, usize); 27] = [
+pub const MADE: [(&str, &str, usize); 35] = [
     // The one reader that counts is made where intervals are opened.
     (
         "sst_block_core/src/table/block/form_reader.rt",
@@ -116,7 +130,41 @@ pub const MADE: [(&str, &str, usize); 27] = [
         1,
     ),
     ("sst_block_core/src/table/block/decoder.rt", "Decoder {", 1),
-    // A block makes an iterator over itself, and a point read opens its intervals once.
+    // The table of heads reads the keys of heads, and counts each that it looks at.
+    (
+        "sst_block_core/src/table/block/decoder.rt",
+        "Intervals : : with_table (",
+        1,
+    ),
+    (
+        "sst_block_core/src/table/block/decoder.rt",
+        "Decoder : : over (",
+        2,
+    ),
+    (
+        "sst_block_core/src/table/block/intervals.rt",
+        "Intervals : : with_table (",
+        1,
+    ),
+    (
+        "sst_block_core/src/table/block/form_reader.rt",
+        "bytes_of (",
+        2,
+    ),
+    ("sst_block_core/src/table/block/heads.rt", "bytes_of (", 6),
+    ("sst_block_core/src/table/block/heads.rt", "count_head", 4),
+    (
+        "sst_block_kinds/src/table/index_block/mod.rt",
+        ". intervals (",
+        3,
+    ),
+    (
+        "sst_block_kinds/src/table/index_block/mod.rt",
+        "Intervals : : with_table (",
+        1,
+    ),
+    // A block makes an iterator over itself, and opens its intervals for an iterator, for the table
+    // of its heads (by two calls), and for the offset of a head; a point read opens them once.
     (
         "sst_block_kinds/src/table/data_block/mod.rt",
         "Iter : : new (",
@@ -124,7 +172,7 @@ pub const MADE: [(&str, &str, usize); 27] = [
     ),
     (
         "sst_block_kinds/src/table/data_block/mod.rt",
-        "Decoder : : new (",
+        "Decoder : : over (",
         1,
     ),
     (
@@ -145,12 +193,12 @@ pub const MADE: [(&str, &str, usize); 27] = [
     (
         "sst_block_kinds/src/table/data_block/mod.rt",
         ". intervals (",
-        1,
+        4,
     ),
     ("sst_block_kinds/src/table/data_block/mod.rt", ". data (", 2),
     (
         "sst_block_kinds/src/table/data_block/point_read.rt",
-        "Intervals : : new (",
+        "Intervals : : with_table (",
         1,
     ),
     (
@@ -171,7 +219,7 @@ pub const MADE: [(&str, &str, usize); 27] = [
     ),
     (
         "sst_block_kinds/src/table/index_block/mod.rt",
-        "Decoder : : new (",
+        "Decoder : : over (",
         1,
     ),
     (

@@ -11,11 +11,12 @@ ghost use Rattle.sst_block_core.specs.Kind.{IsOrdered};
 ghost use Rattle.sst_block_core.specs.Window.{first_match};
 
 use sstable_blocks::{
-    Block, BlockType, Checksum, DataBlock, Error, HashRatio, Header, InternalValue, Poly31, Result,
-    SeqNo, Slice, Steps,
+    Block, BlockType, DataBlock, Error, HashRatio, InternalValue, Poly31, Result, SeqNo, Slice,
+    Steps,
 };
 use std::alloc::Global;
 
+pub mod newest;
 #[cfg(test)]
 mod tests;
 
@@ -37,13 +38,7 @@ pub fn open_block(alloc: Global, items: &[InternalValue]) -> Result<DataBlock<Po
     ensures { IfOk result (λ block. block.items ≡ map plain items.now) }
 {
     let payload = DataBlock::<Poly31>::encode_into_vec(alloc, items, INTERVAL, NO_BUCKETS)?;
-    let header = Header {
-        block_type: BlockType::Data,
-        checksum: Checksum::from_raw(0),
-        data_length: payload.len() as u32,
-        uncompressed_length: payload.len() as u32,
-    };
-    Ok(DataBlock::new(Block::from_parts(header, Slice::from_vec(payload)?)))
+    Ok(DataBlock::new(Block::from_payload(BlockType::Data, Slice::from_vec(payload)?)))
 }
 
 /// Counts the entries of a block with a sequence number below another.

@@ -1,6 +1,7 @@
 // Each call with ample memory: success is demanded.
 ghost use Rattle.std.specs.Prelude.{◌≤◌, length};
 
+use crate::newest::newest_below;
 use crate::{append_entries, count_below, open_block, read};
 use sstable_blocks::{DataBlock, InternalValue, Poly31, Result, Slice, ValueType};
 use std::alloc::Global;
@@ -58,6 +59,18 @@ fn all_entries_are_appended(rt: HostRuntime) -> std::result::Result<(), Fail> {
 fn an_older_version_is_read(rt: HostRuntime) -> std::result::Result<(), Fail> {
     let block = block_of_three(&rt, rt.alloc())?;
     match read(rt.alloc(), &block, b"apple", 7)? {
+        Some(found) => assert!(rt; found.value().eq_bytes(b"green")),
+        None => assert!(rt; false, "no apple"),
+    }
+    Ok(())
+}
+
+#[test]
+fn an_older_version_is_read_from_a_list(rt: HostRuntime) -> std::result::Result<(), Fail> {
+    let list = three_entries(rt.alloc())?;
+    assert!(rt; !list.is_empty());
+    assert!(rt; DataBlock::<Poly31>::is_ordered(&list));
+    match newest_below(rt.alloc(), &list, b"apple", 7)? {
         Some(found) => assert!(rt; found.value().eq_bytes(b"green")),
         None => assert!(rt; false, "no apple"),
     }

@@ -2,6 +2,7 @@
 use crate::rows::{Row, check_rows};
 use crate::runs::{Places, THREE_BLOCKS, handles_of, value_of};
 use sst_base::{ByteSum, Error, HeaderName, Result, Slice, TagName};
+use sst_base_tests::changes::{change_count, changed};
 use sstable_blocks::run::{FileSource, MemorySource, read_entry_checked};
 use std::alloc::Global;
 use std::io::Cursor;
@@ -63,12 +64,38 @@ fn is_changed(alloc: Global, at: usize, byte: u8) -> bool {
 #[test]
 fn each_byte_is_changed(rt: HostRuntime) {
     for (at, old) in THREE_BLOCKS.iter().enumerate() {
-        for byte in [0, 1, 2, 3, 4, 76, 255] {
-            assert!(rt;
-                byte == *old || is_changed(rt.alloc(), at, byte),
-                "{byte} at {at}"
-            );
+        for by in 1..=255u8 {
+            let byte = *old ^ by;
+            assert!(rt; is_changed(rt.alloc(), at, byte), "{byte} at {at}");
         }
+    }
+}
+
+/// What is read of the first bytes of a run, so many: the first frame that is not inside is asked
+/// for by the filter's handle.
+fn cut_answer(len: usize) -> Result<Option<u8>> {
+    if len < THREE_BLOCKS.len() {
+        Err(Error::BadHandle)
+    } else {
+        Ok(Some(b'y'))
+    }
+}
+
+/// Whether a read of the worked run, cut to a length or lengthened, is the wanted one.
+fn is_cut(alloc: Global, number: usize) -> Result<bool> {
+    let bytes = changed(alloc, &THREE_BLOCKS, number)?;
+    Ok(read_memory(alloc, &bytes, &WORKED) == cut_answer(bytes.len()))
+}
+
+/// Each change of a whole run that is a cut, or lengthens it.
+#[test]
+fn a_run_is_cut_and_lengthened(rt: HostRuntime) {
+    for number in 0..change_count(THREE_BLOCKS.len()) {
+        let is_change = number % 256 > 0 && number / 256 < THREE_BLOCKS.len();
+        assert!(rt;
+            is_change || is_cut(rt.alloc(), number) == Ok(true),
+            "{number}"
+        );
     }
 }
 

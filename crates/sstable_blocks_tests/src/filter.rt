@@ -1,8 +1,7 @@
 // Filters: their bytes, what is refused, and what they say of keys and hashes.
 use crate::rows::{Row, check_rows};
 use sst_base::{
-    Block, BlockHash, BlockType, ByteSum, Checksum, Error, Header, HeaderName, Poly31, Result,
-    Slice, TagName,
+    Block, BlockHash, BlockType, ByteSum, Error, HeaderName, Poly31, Result, Slice, TagName,
 };
 use sstable_blocks::table::filter::bit_array::{self, BitArrayReader, enable_bit};
 use sstable_blocks::table::filter::standard_bloom::{
@@ -13,9 +12,15 @@ use std::alloc::Global;
 use std::test::Fail;
 
 /// The payload for one key at 10 bits, with the hash 97 inserted.
-const ONE_KEY: [u8; 24] = [
+pub(crate) const ONE_KEY: [u8; 24] = [
     0x4c, 0x53, 0x4d, 0x03, 0x00, 0x00, 0x10, 0x00, 0x00, 0x00, 0x00, 0x00, 0x00, 0x00, 0x06, 0x00,
     0x00, 0x00, 0x00, 0x00, 0x00, 0x00, 0x40, 0x00,
+];
+
+/// The payload for three keys at 10 bits, with the hashes 97, 97 and 98 inserted.
+pub(crate) const THREE_KEYS: [u8; 26] = [
+    0x4c, 0x53, 0x4d, 0x03, 0x00, 0x00, 0x20, 0x00, 0x00, 0x00, 0x00, 0x00, 0x00, 0x00, 0x06, 0x00,
+    0x00, 0x00, 0x00, 0x00, 0x00, 0x00, 0x60, 0x00, 0x00, 0x00,
 ];
 
 /// The payload of one key with other bytes at some offsets, up to a length, and what it says of a
@@ -83,14 +88,8 @@ fn block_of(alloc: Global, bytes: &[u8]) -> Result<FilterBlock> {
     if bytes.len() > 24 {
         return Err(Error::TooLong);
     }
-    let header = Header {
-        block_type: BlockType::Filter,
-        checksum: Checksum::from_raw(0),
-        data_length: 24,
-        uncompressed_length: 24,
-    };
     let payload = Slice::new(alloc, bytes)?;
-    Ok(FilterBlock::new(Block::from_parts(header, payload)).clone()?)
+    Ok(FilterBlock::new(Block::from_payload(BlockType::Filter, payload)).clone()?)
 }
 
 impl Row for Payload {

@@ -5,7 +5,11 @@
 #[cfg(test)]
 mod checked;
 #[cfg(test)]
+mod faults;
+#[cfg(test)]
 mod filter;
+#[cfg(test)]
+mod hostile;
 #[cfg(test)]
 mod lists;
 #[cfg(test)]

@@ -60,10 +60,10 @@ const ONE_BLOCK: [u8; 159] = [
 ];
 
 /// An entry: a key, a value and a sequence number.
-type Entry = (&'static [u8], &'static [u8], u64);
+pub(crate) type Entry = (&'static [u8], &'static [u8], u64);
 
 /// The entries of the worked runs.
-const THREE: &[Entry] = &[(b"a", b"x", 3), (b"a", b"y", 1), (b"b", b"z", 4)];
+pub(crate) const THREE: &[Entry] = &[(b"a", b"x", 3), (b"a", b"y", 1), (b"b", b"z", 4)];
 
 /// Two entries that compare equal.
 const EQUAL: &[Entry] = &[(b"a", b"x", 5), (b"a", b"y", 5)];
@@ -81,7 +81,7 @@ const EIGHT: &[Entry] = &[
 ];
 
 /// The list of entries.
-fn list_of(alloc: Global, entries: &[Entry]) -> Result<Vec<InternalValue>> {
+pub(crate) fn list_of(alloc: Global, entries: &[Entry]) -> Result<Vec<InternalValue>> {
     let mut list = Vec::new(alloc);
     for (key, value, seqno) in entries {
         push(&mut list, key, value, *seqno, ValueType::Value)?;

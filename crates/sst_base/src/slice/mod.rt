@@ -232,8 +232,8 @@ impl Slice {
                 Ok(Slice::shared(bytes.slice(range.start..range.end)?))
             }
             Held::Shared(bytes) => {
-                let part = &bytes.as_slice()[range.start..range.end];
-                Ok(Slice::short(ShortBytes::new(part)))
+                let cut = ShortBytes::cut(bytes.as_slice(), range.start, range.end);
+                Ok(Slice::short(cut))
             }
             Held::Short(bytes) => {
                 let part = &bytes.as_slice()[range.start..range.end];

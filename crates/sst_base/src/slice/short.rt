@@ -1,5 +1,5 @@
 //! Byte strings that are held in place.
-ghost use Rattle.std.specs.Prelude.{◌≡◌, ◌+◌, ◌≤◌, ◌++◌, length};
+ghost use Rattle.std.specs.Prelude.{◌≡◌, ◌+◌, ◌-◌, ◌≤◌, ◌++◌, length, take, drop};
 
 use std::marker::Model;
 
@@ -46,6 +46,29 @@ impl ShortBytes {
         ShortBytes {
             len: len as u8,
             bytes,
+        }
+    }
+
+    /// Copies the bytes from one index to another, where more follow as a whole array: so the copy
+    /// has one length, and goes by registers.
+    #[inline(always)]
+    pub(crate) fn cut(bytes: &[u8], start: usize, end: usize) -> ShortBytes
+        requires order { start ≤ end }
+        requires inside { end ≤ length bytes.now }
+        requires short { end - start ≤ 39 }
+        ensures { result ≡ take (end - start) (drop start bytes.now) }
+    {
+        let (_, rest) = bytes.split_at(start);
+        let len = end - start;
+        match rest.first_chunk::<SHORT_LEN>() {
+            Some(front) => ShortBytes {
+                len: len as u8,
+                bytes: *front,
+            },
+            None => {
+                let (part, _) = rest.split_at(len);
+                ShortBytes::new(part)
+            }
         }
     }
 

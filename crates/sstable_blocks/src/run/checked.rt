@@ -71,30 +71,34 @@ fn ask_filter(block: Block, hash: u64) -> Result<bool>
     filter.maybe_contains_hash(hash)
 }
 
-/// Takes a block of any bytes as a data block, if it passes `DataBlock::check`.
+/// Takes a block of any bytes as a data block, if it passes `DataBlock::check_ref`. It is read once,
+/// so no table of its heads is made.
 ///
 /// # Errors
 ///
-/// Those of `DataBlock::check`, and never `Error::Io`.
+/// Those of `DataBlock::check_ref`, and never `Error::Io`.
 pub fn check_data<H: BlockHash>(alloc: Global, block: Block) -> Result<DataBlock<H>>
     ensures exact { GivesOr ⊥ ⊥ (λ b. b.items) result (data_check H.hash64 block.payload) }
     ensures not_io { IfErr result (λ e. e ≢ Io) }
 {
     data_check_is_by_stages();
-    DataBlock::<H>::check(alloc, block)
+    DataBlock::<H>::check_ref(alloc, &block)?;
+    Ok(DataBlock::new(block))
 }
 
-/// Takes a block of any bytes as an index block, if it passes `IndexBlock::check`.
+/// Takes a block of any bytes as an index block, if it passes `IndexBlock::check_ref`. It is read
+/// once, so no table of its heads is made.
 ///
 /// # Errors
 ///
-/// Those of `IndexBlock::check`, and never `Error::Io`.
+/// Those of `IndexBlock::check_ref`, and never `Error::Io`.
 pub fn check_index(block: Block) -> Result<IndexBlock>
     ensures exact { GivesOr ⊥ ⊥ (λ b. b.items) result (index_check block.payload) }
     ensures not_io { IfErr result (λ e. e ≢ Io) }
 {
     index_check_is_by_stages();
-    IndexBlock::check(block)
+    IndexBlock::check_ref(&block)?;
+    Ok(IndexBlock::new(block))
 }
 
 // Whether a run can have a key, by its filter.
@@ -217,8 +221,8 @@ fn read_in_stages<H: BlockHash, S: FrameSource>(
 /// The first one met, in this order: for the filter, if there is one, those of its frame
 /// (`FrameSource::read_frame`, `Block::from_frame`), `Error::InvalidTag` if it is of another type,
 /// and those of `StandardBloomFilterReader::new`; then for the index those of its frame, its type,
-/// and `IndexBlock::check`; then for the block those of its frame, its type, and
-/// `DataBlock::check`. `Error::Io` only where the source failed. `Error::Memory` if an allocation
+/// and `IndexBlock::check_ref`; then for the block those of its frame, its type, and
+/// `DataBlock::check_ref`. `Error::Io` only where the source failed. `Error::Memory` if an allocation
 /// fails.
 pub fn read_entry_checked<H: BlockHash, S: FrameSource>(
     alloc: Global,

@@ -26,14 +26,12 @@ use crate::run::laws::layout_opens;
 use crate::table::filter::standard_bloom::StandardBloomFilterReader;
 use sst_base::table::block::header::HEADER_LEN;
 use sst_base::{
-    Block, BlockHandle, BlockHash, BlockType, Checksum, Error, Header, InternalValue, Result,
-    SeqNo, Slice, Steps,
+    Block, BlockHandle, BlockHash, BlockType, Error, InternalValue, Result, SeqNo, Slice, Steps,
 };
 use sst_block_kinds::{DataBlock, IndexBlock};
 use std::alloc::Global;
 
-// The block of a frame, by the frame's range alone. The checksum of its header is 0, since nobody
-// asks for it.
+// The block of a frame, by the frame's range alone.
 #[tactic(auto, using(crate::proofs::Points::payload_range), unfolding(crate::specs::Opened::payload_in))]
 fn block_at(bytes: &Slice, handle: &BlockHandle, block_type: BlockType) -> Result<Block>
     requires { IsFrameRange bytes.now handle.now }
@@ -45,14 +43,7 @@ fn block_at(bytes: &Slice, handle: &BlockHandle, block_type: BlockType) -> Resul
     let size = handle.size();
     let start = *handle.offset() as usize;
     let payload = bytes.slice(start + HEADER_LEN..start + size as usize)?;
-    let length = size - HEADER_LEN as u32;
-    let header = Header {
-        block_type,
-        checksum: Checksum::from_raw(0),
-        data_length: length,
-        uncompressed_length: length,
-    };
-    Ok(Block::from_parts(header, payload))
+    Ok(Block::from_payload(block_type, payload))
 }
 
 // The payload of a frame, by the frame's range alone.

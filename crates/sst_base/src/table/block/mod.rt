@@ -58,6 +58,23 @@ impl Block {
         Block { header, payload }
     }
 
+    /// Makes the block of a payload that was read from no frame: its header has the payload's
+    /// length, and the checksum 0, which no call compares. The payload has at most 2^32 - 1 bytes.
+    /// `write_into` writes a payload as a frame.
+    pub fn from_payload(block_type: BlockType, payload: Slice) -> Block
+        requires { length payload < 2 ^ 32 }
+        ensures { result ≡ block_for (λ _. 0) block_type payload }
+    {
+        let len = payload.len() as u32;
+        let header = Header {
+            block_type,
+            checksum: Checksum::from_raw(0),
+            data_length: len,
+            uncompressed_length: len,
+        };
+        Block { header, payload }
+    }
+
     /// Returns the length of the payload in bytes.
     pub fn size(&self) -> u32
         ensures value { result ≡ length self.now.payload }

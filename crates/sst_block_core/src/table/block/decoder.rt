@@ -22,9 +22,11 @@ ghost use Rattle.sst_block_core.specs.Window.{Window, Answer, found, items_left,
 ghost use Rattle.sst_block_core.specs.Scan.{GivesNext};
 ghost use Rattle.sst_block_core.specs.Backs.{GivesNextBack, seek_upper_picked};
 ghost use Rattle.sst_block_core.specs.Trailer.{trailer_in};
+ghost use Rattle.sst_block_core.specs.Heads.{IsTableOf, listed_in};
 
 use crate::block_item::BlockItem;
 use crate::table::block::back::Back;
+use crate::table::block::heads::HeadTable;
 use crate::table::block::intervals::Intervals;
 use crate::table::block::place::Place;
 use sst_base::double_ended_peekable::ListIterator;
@@ -238,7 +240,32 @@ impl<'a, Item: Decodable<Parsed>, Parsed: ParsedItem<Item>> Decoder<'a, Item, Pa
         ensures heads { result.steps.heads ≡ 0 }
         ensures entries { result.steps.entries ≡ 0 }
     {
-        let intervals = Intervals::new(block);
+        Decoder::over(Intervals::new(block))
+    }
+
+    /// Makes a decoder of a block as [`Decoder::new`] does, with the block's own table of heads.
+    /// Its seeks take keys and sequence numbers from the table, and decode no head for a predicate.
+    pub fn with_table(block: &'a Block, table: &'a HeadTable) -> Decoder<'a, Item, Parsed>
+        requires encoding { (hash : List ℕ → ℕ) × (items : List Item) × (r : ℕ) × (b : ℕ)
+            × IsEncoding Item.kind Item.valid hash block.now.payload items r b }
+        requires table { IsTableOf Item.kind (listed_in Item.kind block.now.payload)
+            table.now }
+        ensures payload { result.payload ≡ block.now.payload }
+        ensures interval { result.interval ≡ (trailer_in block.now.payload).interval }
+        ensures window { result.window ≡ whole (items_in Item.kind block.now.payload) }
+        ensures heads { result.steps.heads ≡ 0 }
+        ensures entries { result.steps.entries ≡ 0 }
+    {
+        Decoder::over(Intervals::with_table(block, Some(table)))
+    }
+
+    /// Makes a decoder of all items of opened intervals.
+    pub fn over(intervals: Intervals<'a, Item, Parsed>) -> Decoder<'a, Item, Parsed>
+        ensures payload { result.payload ≡ intervals.entry.list.payload }
+        ensures interval { result.interval ≡ intervals.entry.list.interval }
+        ensures window { result.window ≡ whole intervals.entry.list.items }
+        ensures steps { result.steps ≡ intervals.entry.steps }
+    {
         let hi = intervals.item_count();
         let front = intervals.first();
         Decoder {

@@ -1,15 +1,34 @@
 //! The one way from the bytes of a block to its heads and items.
-ghost use Rattle.std.specs.Prelude.{◌≡◌, ℕ, ◌+◌, ◌≤◌, List, length, drop, Some};
+ghost use Rattle.std.specs.Prelude.{◌≡◌, ℕ, ◌+◌, ◌≤◌, ◌<◌, ◌++◌, List, [], ◌∷◌, length, drop, slice_get, Some};
 ghost use Rattle.std.specs.Prelude.{IsSome};
 ghost use Rattle.std.specs.Ordering.{nat_cmp};
 ghost use Rattle.std.specs.Cmp.Lexicographic.{slice_cmp};
 ghost use Rattle.sst_base.specs.SharedPrefix.{shared_prefix_length};
-ghost use Rattle.sst_block_core.specs.Found.{Takes, StandsAt};
+ghost use Rattle.sst_block_core.specs.Found.{Takes, StandsAt, IsRange, range_of};
+ghost use Rattle.sst_block_core.specs.Heads.{IsTable, key_in, heads_before, IsBehindHead, Begins};
+ghost use Rattle.sst_block_core.specs.Passes.{last_of};
+ghost use Rattle.sst_block_core.specs.Intervals.{digits};
+ghost use Rattle.sst_block_core.specs.declared.table.block.heads.Head.{Head};
 
+use crate::table::block::bound::Bound;
 use crate::table::block::decoder::{Decodable, ParsedItem};
+use crate::table::block::heads::HeadTable;
+use crate::table::block::key_ranges::bytes_of;
 use sst_base::Steps;
+use sst_base::table::util::{SliceIndexes, longest_shared_prefix_length};
 use std::cmp::Ordering;
 use std::marker::{Model, PhantomData};
+
+// How much to take of a prefix of this length that two keys of these lengths share.
+fn prefix_before(shared: usize, left: usize, right: usize) -> usize
+    ensures { result ≤ shared }
+{
+    if left == right {
+        shared.min(left.saturating_sub(8))
+    } else {
+        shared
+    }
+}
 
 /// Reads the heads and items of a block where their forms are known to stand, by the calls of
 /// [`Decodable`], which count them.
@@ -63,6 +82,36 @@ impl<'a, Item: Decodable<Parsed>, Parsed: ParsedItem<Item>> FormReader<'a, Item,
         ensures entries { self.new.steps.entries ≡ self.old.steps.entries }
     {
         Item::read_head(self.payload, offset, &mut self.steps)
+    }
+
+    /// Returns the key and the sequence number of head j of a table. Counts a head.
+    #[inline(always)]
+    pub(crate) fn head_of(&mut self, table: &HeadTable, j: usize) -> (&'a [u8], u64)
+        requires table { IsTable self.old.payload table.now }
+        requires inside { j < length table.now.heads }
+        ensures payload { self.new.payload ≡ self.old.payload }
+        ensures head { (h : Head) → slice_get table.now.heads j ≡ Some h
+            → (result.0.now ≡ key_in self.old.payload h) × (result.1 ≡ h.seqno) }
+        ensures heads { self.new.steps.heads ≡ self.old.steps.heads + 1 }
+        ensures entries { self.new.steps.entries ≡ self.old.steps.entries }
+    {
+        table.head(self.payload, j, &mut self.steps)
+    }
+
+    /// Returns how many heads of a table a bound passes. Counts the heads that it looks at.
+    #[inline(always)]
+    pub(crate) fn count_heads(&mut self, table: &HeadTable, bound: &Bound<'_>) -> usize
+        requires { IsTable self.old.payload table.now }
+        ensures payload { self.new.payload ≡ self.old.payload }
+        ensures value { result
+            ≡ heads_before self.old.payload bound.now.needle.now bound.now.from table.now.heads }
+        ensures heads { self.new.steps.heads
+            ≤ self.old.steps.heads + digits (length table.now.heads) }
+        ensures heads_grow { 0 < length table.now.heads
+            → self.old.steps.heads < self.new.steps.heads }
+        ensures entries { self.new.steps.entries ≡ self.old.steps.entries }
+    {
+        table.count(self.payload, bound, &mut self.steps)
     }
 
     /// Decodes the item in full form at an offset; the second answer is where the form ends. Counts
@@ -137,6 +186,76 @@ impl<'a, Item: Decodable<Parsed>, Parsed: ParsedItem<Item>> FormReader<'a, Item,
             needle.now }
     {
         item.compare_key(needle, self.payload)
+    }
+}
+
+impl<'a, Item: Decodable<Parsed>, Parsed: ParsedItem<Item> + Drop> FormReader<'a, Item, Parsed> {
+    // Returns the range of the key, and the sequence number, of the item in full form at an offset.
+    // Counts an entry.
+    #[inline(always)]
+    fn key_range(&mut self, offset: usize) -> (SliceIndexes, u64)
+        requires { IsSome (Item.kind.full_at (drop offset self.old.payload)) }
+        ensures payload { self.new.payload ≡ self.old.payload }
+        ensures range { IsRange self.old.payload result.0 }
+        ensures key { (x : Item) (rest : List ℕ)
+            → Item.kind.full_at (drop offset self.old.payload) ≡ Some (x, rest)
+            → (range_of self.old.payload result.0 ≡ Item.kind.key x)
+            × (result.1 ≡ Item.kind.seqno x) }
+    {
+        let (item, _) = Item::read_full(self.payload, offset, &mut self.steps);
+        let start = item.key_offset();
+        let key = SliceIndexes(start, start + item.own_key(self.payload).len());
+        (key, item.seqno())
+    }
+
+    /// Returns the range of a prefix that the keys of two heads share: the longest, but of keys of
+    /// one length so much less that eight bytes follow it, which a head's number then holds.
+    pub(crate) fn shared_prefix(&mut self, first: usize, last: usize) -> SliceIndexes
+        requires first { IsSome (Item.kind.full_at (drop first self.old.payload)) }
+        requires last { IsSome (Item.kind.full_at (drop last self.old.payload)) }
+        ensures payload { self.new.payload ≡ self.old.payload }
+        ensures range { IsRange self.old.payload result }
+        ensures first { (x : Item) (rest : List ℕ)
+            → Item.kind.full_at (drop first self.old.payload) ≡ Some (x, rest)
+            → Begins (range_of self.old.payload result) (Item.kind.key x) }
+        ensures last { (x : Item) (rest : List ℕ)
+            → Item.kind.full_at (drop last self.old.payload) ≡ Some (x, rest)
+            → Begins (range_of self.old.payload result) (Item.kind.key x) }
+    {
+        let (first, _) = self.key_range(first);
+        let (last, _) = self.key_range(last);
+        let left = bytes_of(self.payload, &first);
+        let right = bytes_of(self.payload, &last);
+        let shared = longest_shared_prefix_length(left, right);
+        let length = prefix_before(shared, left.len(), right.len());
+        SliceIndexes(first.0, first.0 + length)
+    }
+
+    /// Adds to a table the head whose full form stands at an offset.
+    #[inline(always)]
+    pub(crate) fn push_head(&mut self, table: &mut HeadTable, offset: usize)
+        requires head { IsSome (Item.kind.full_at (drop offset self.old.payload)) }
+        requires room { length table.old.heads < table.old.room }
+        requires begins { (x : Item) (rest : List ℕ)
+            → Item.kind.full_at (drop offset self.old.payload) ≡ Some (x, rest)
+            → Begins (range_of self.old.payload table.old.prefix) (Item.kind.key x) }
+        requires order { (x : Item) (rest : List ℕ) (last : Head)
+            → Item.kind.full_at (drop offset self.old.payload) ≡ Some (x, rest)
+            → last_of table.old.heads ≡ Some last
+            → IsBehindHead Item.kind self.old.payload last x }
+        requires table { IsTable self.old.payload table.old }
+        ensures payload { self.new.payload ≡ self.old.payload }
+        ensures pushed { (x : Item) (rest : List ℕ)
+            → Item.kind.full_at (drop offset self.old.payload) ≡ Some (x, rest)
+            → (h : Head) × (table.new.heads ≡ table.old.heads ++ h ∷ [])
+            × (key_in self.old.payload h ≡ Item.kind.key x) × (h.seqno ≡ Item.kind.seqno x)
+            × (h.offset ≡ offset) }
+        ensures prefix { table.new.prefix ≡ table.old.prefix }
+        ensures room { table.old.room ≤ table.new.room }
+        ensures table { IsTable self.old.payload table.new }
+    {
+        let (key, seqno) = self.key_range(offset);
+        table.push(self.payload, offset, seqno, key);
     }
 }
 

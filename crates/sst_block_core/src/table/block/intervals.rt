@@ -1,26 +1,31 @@
 //! The restart intervals of a block.
 ghost use Rattle.std.specs.Prelude.{◌≡◌, ℕ, ◌+◌, ◌-◌, ◌*◌, ◌<◌, ◌≤◌};
 ghost use Rattle.std.specs.Prelude.{List, length, drop, slice_get, Some, min};
-ghost use Rattle.std.specs.Prelude.{true, false};
+ghost use Rattle.std.specs.Prelude.{true, false, IfSome, IfOk, IsOkUnless};
+ghost use Rattle.sst_block_core.specs.Kind.{IsOrdered};
 ghost use Rattle.std.specs.Ordering.{nat_cmp};
 ghost use Rattle.std.specs.Cmp.Lexicographic.{slice_cmp};
 ghost use Rattle.sst_base.specs.SharedPrefix.{shared_prefix_length};
 ghost use Rattle.sst_block_core.specs.Body.{place_offset};
-ghost use Rattle.sst_block_core.specs.Found.{StandsAt};
+ghost use Rattle.sst_block_core.specs.Found.{StandsAt, IsRange, range_of};
 ghost use Rattle.sst_block_core.specs.Payload.{IsEncoding};
 ghost use Rattle.sst_block_core.specs.Pointers.{head_count};
 ghost use Rattle.sst_block_core.specs.Scan.{StandsBehind, Stands};
 ghost use Rattle.sst_block_core.specs.Stages.{items_in};
 ghost use Rattle.sst_block_core.specs.Trailer.{trailer_in};
 ghost use Rattle.sst_block_core.specs.Intervals.{IsListed, Answered, Splits, digits};
+ghost use Rattle.sst_block_core.specs.Heads.{IsTableOf, IsTableUpto, HeadsBegin, listed_in};
 
 use crate::table::block::binary_index::Reader;
 use crate::table::block::decoder::{Decodable, ParsedItem};
 use crate::table::block::form_reader::FormReader;
+use crate::table::block::heads::HeadTable;
 use crate::table::block::place::Place;
 use crate::table::block::trailer::Trailer;
-use sst_base::Steps;
 use sst_base::table::block::Block;
+use sst_base::table::util::SliceIndexes;
+use sst_base::{Error, Result, Steps};
+use std::alloc::Global;
 use std::cmp::Ordering;
 use std::marker::Model;
 
@@ -28,15 +33,19 @@ use std::marker::Model;
 ///
 /// Clauses see the block's list, and the counters.
 pub struct Intervals<'a, Item: Decodable<Parsed>, Parsed: ParsedItem<Item>> {
-    forms: FormReader<'a, Item, Parsed>,
+    pub(crate) forms: FormReader<'a, Item, Parsed>,
     pointers: Reader<'a>,
     restart_interval: u8,
     item_count: usize,
+    // The table of the heads, if the block has one.
+    pub(crate) table: Option<&'a HeadTable>,
 }
 
 impl<'a, Item: Decodable<Parsed>, Parsed: ParsedItem<Item>> Model for Intervals<'a, Item, Parsed> {
     ghost use Rattle.sst_block_core.specs.Stages.{items_in};
+    ghost use Rattle.std.specs.Prelude.{IfSome};
     ghost use Rattle.sst_block_core.specs.Intervals.{IntervalsParts, IsIndexed};
+    ghost use Rattle.sst_block_core.specs.Heads.{IsTableOf};
 
     ghost Value = { IntervalsParts Item };
 
@@ -55,7 +64,14 @@ impl<'a, Item: Decodable<Parsed>, Parsed: ParsedItem<Item>> Model for Intervals<
           interval = i.restart_interval;
           items = items_in Item.kind i.forms.payload;
         })
-        i.pointers i.item_count };
+        i.pointers i.item_count
+        × IfSome i.table (λ t. IsTableOf Item.kind
+        (record {
+          payload = i.forms.payload;
+          interval = i.restart_interval;
+          items = items_in Item.kind i.forms.payload;
+        })
+        t.now) };
 }
 
 impl<'a, Item: Decodable<Parsed>, Parsed: ParsedItem<Item>> Intervals<'a, Item, Parsed> {
@@ -64,6 +80,22 @@ impl<'a, Item: Decodable<Parsed>, Parsed: ParsedItem<Item>> Intervals<'a, Item, 
     pub fn new(block: &'a Block) -> Intervals<'a, Item, Parsed>
         requires { (hash : List ℕ → ℕ) × (items : List Item) × (r : ℕ) × (b : ℕ)
             × IsEncoding Item.kind Item.valid hash block.now.payload items r b }
+        ensures payload { result.list.payload ≡ block.now.payload }
+        ensures items { result.list.items ≡ items_in Item.kind block.now.payload }
+        ensures interval { result.list.interval ≡ (trailer_in block.now.payload).interval }
+        ensures heads { result.steps.heads ≡ 0 }
+        ensures entries { result.steps.entries ≡ 0 }
+    {
+        Intervals::with_table(block, None)
+    }
+
+    /// Opens a block as [`Intervals::new`] does, with the block's own table of heads, if there is
+    /// one.
+    pub fn with_table(block: &'a Block, table: Option<&'a HeadTable>) -> Intervals<'a, Item, Parsed>
+        requires encoding { (hash : List ℕ → ℕ) × (items : List Item) × (r : ℕ) × (b : ℕ)
+            × IsEncoding Item.kind Item.valid hash block.now.payload items r b }
+        requires table { IfSome table (λ t. IsTableOf Item.kind
+            (listed_in Item.kind block.now.payload) t.now) }
         ensures payload { result.list.payload ≡ block.now.payload }
         ensures items { result.list.items ≡ items_in Item.kind block.now.payload }
         ensures interval { result.list.interval ≡ (trailer_in block.now.payload).interval }
@@ -82,6 +114,7 @@ impl<'a, Item: Decodable<Parsed>, Parsed: ParsedItem<Item>> Intervals<'a, Item, 
             ),
             restart_interval: trailer.interval(),
             item_count: trailer.item_count(),
+            table,
         }
     }
 
@@ -250,8 +283,13 @@ impl<'a, Item: Decodable<Parsed>, Parsed: ParsedItem<Item>> Intervals<'a, Item, 
         ensures heads { self.new.steps.heads ≡ self.old.steps.heads + 1 }
         ensures entries { self.new.steps.entries ≡ self.old.steps.entries }
     {
-        let at = self.start(j);
-        self.forms.read_head(at.offset)
+        match self.table {
+            Some(table) => self.forms.head_of(table, j),
+            None => {
+                let at = self.start(j);
+                self.forms.read_head(at.offset)
+            }
+        }
     }
 
     /// Decodes the item of a head, and moves behind it. Counts an entry.
@@ -355,6 +393,60 @@ impl<'a, Item: Decodable<Parsed>, Parsed: ParsedItem<Item>> Intervals<'a, Item, 
     }
 }
 
+impl<'a, Item: Decodable<Parsed>, Parsed: ParsedItem<Item> + Drop> Intervals<'a, Item, Parsed> {
+    // Returns the range of the longest prefix that the keys of the first and of the last head share,
+    // with which all between them begin, as they are in order.
+    fn shared_prefix(&mut self) -> SliceIndexes
+        requires { IsOrdered Item.kind self.old.list.items }
+        ensures list { self.new.list ≡ self.old.list }
+        ensures range { IsRange self.old.list.payload result }
+        ensures begins { HeadsBegin Item.kind self.old.list
+            (range_of self.old.list.payload result) }
+    {
+        let count = self.count();
+        let first = self.start(0);
+        let last = self.start(count - 1);
+        self.forms.shared_prefix(first.offset, last.offset)
+    }
+
+    // Adds to a table of the first heads the head of interval j, which exists.
+    #[inline(always)]
+    fn push_head(&mut self, table: &mut HeadTable, j: usize)
+        requires ordered { IsOrdered Item.kind self.old.list.items }
+        requires inside { j * self.old.list.interval < length self.old.list.items }
+        requires table { IsTableUpto Item.kind self.old.list j table.old }
+        requires begins { HeadsBegin Item.kind self.old.list
+            (range_of self.old.list.payload table.old.prefix) }
+        requires room { j < table.old.room }
+        ensures list { self.new.list ≡ self.old.list }
+        ensures table { IsTableUpto Item.kind self.old.list (j + 1) table.new }
+        ensures prefix { table.new.prefix ≡ table.old.prefix }
+        ensures room { table.old.room ≤ table.new.room }
+    {
+        let at = self.start(j);
+        self.forms.push_head(table, at.offset)
+    }
+
+    /// Makes the table of the heads.
+    ///
+    /// # Errors
+    ///
+    /// `Error::Memory` if an allocation fails.
+    pub fn make_table(&mut self, alloc: Global) -> Result<HeadTable>
+        requires { IsOrdered Item.kind self.old.list.items }
+        ensures ok { IfOk result (λ t. IsTableOf Item.kind self.old.list t) }
+        ensures memory { IsOkUnless result Error.Memory }
+    {
+        let count = self.count();
+        let prefix = self.shared_prefix();
+        let mut table = HeadTable::with_prefix(alloc, count, prefix)?;
+        for j in 0..count {
+            self.push_head(&mut table, j);
+        }
+        Ok(table)
+    }
+}
+
 impl<'a, Item: Decodable<Parsed>, Parsed: ParsedItem<Item>> Drop for Intervals<'a, Item, Parsed> {
     fn drop(self) {
         let Self {
@@ -362,6 +454,7 @@ impl<'a, Item: Decodable<Parsed>, Parsed: ParsedItem<Item>> Drop for Intervals<'
             pointers: _,
             restart_interval: _,
             item_count: _,
+            table: _,
         } = self;
     }
 }

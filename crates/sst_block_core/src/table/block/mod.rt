@@ -7,6 +7,7 @@ pub mod decoder;
 pub mod encoder;
 pub(crate) mod form_reader;
 pub mod hash_index;
+pub mod heads;
 pub mod intervals;
 pub mod key_ranges;
 pub mod landing;

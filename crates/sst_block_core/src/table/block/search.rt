@@ -83,7 +83,10 @@ impl<'a, Item: Decodable<Parsed>, Parsed: ParsedItem<Item>> Intervals<'a, Item, 
         ensures entries { self.new.steps.entries ≡ self.old.steps.entries }
     {
         let _ = self.count();
-        self.partition_point(&|key: &[u8], seqno: u64| bound.passes(key, seqno))
+        match self.table {
+            Some(table) => self.forms.count_heads(table, bound),
+            None => self.partition_point(&|key: &[u8], seqno: u64| bound.passes(key, seqno)),
+        }
     }
 }
 
@@ -218,6 +221,32 @@ impl<'a, Item: Decodable<Parsed>, Parsed: ParsedItem<Item> + Drop> Intervals<'a,
         self.with_key(item, needle)
     }
 
+    // The place behind so many heads where each item is a head, with the item there if its key is
+    // the needle.
+    #[inline(always)]
+    fn head_behind(&mut self, heads: usize, needle: &[u8]) -> (Place, Option<Parsed>)
+        requires interval { self.old.list.interval ≡ 1 }
+        requires within { heads ≤ head_count self.old.list.interval (length self.old.list.items) }
+        ensures list { self.new.list ≡ self.old.list }
+        ensures place { result.0.place ≡ heads }
+        ensures stands { Stands Item.kind self.old.list result.0 }
+        ensures item { MatchOption result.1
+            ((x : Item) → slice_get self.old.list.items result.0.place ≡ Some x
+            → is_eq (slice_cmp nat_cmp (Item.kind.key x) needle.now) ≡ false)
+            (IsFoundAt Parsed.item_of Parsed.is_found Item.kind needle.now self.old.list
+            result.0.place) }
+        ensures heads { self.new.steps.heads ≡ self.old.steps.heads }
+        ensures entries { self.new.steps.entries ≤ self.old.steps.entries + 1 }
+        ensures entries_grow { self.old.steps.entries + found_item result.1
+            ≤ self.new.steps.entries }
+    {
+        if heads >= self.count() {
+            return (self.last(), None);
+        }
+        let at = self.start(heads);
+        (at, self.head_with_key(at, needle))
+    }
+
     /// Returns the place of the first item that a bound doesn't pass, with that item if its key is
     /// the needle.
     #[inline(always)]
@@ -242,6 +271,9 @@ impl<'a, Item: Decodable<Parsed>, Parsed: ParsedItem<Item> + Drop> Intervals<'a,
             ≤ self.new.steps.entries }
     {
         let heads = self.heads_passed(bound);
+        if self.interval() == 1 {
+            return self.head_behind(heads, bound.needle);
+        }
         if heads > 0 {
             let (at, landing) = self.seek_in(heads - 1, bound);
             if at.place < self.end(heads - 1) || at.place >= self.item_count() {

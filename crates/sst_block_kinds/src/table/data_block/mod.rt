@@ -2,7 +2,7 @@
 ghost use Rattle.std.specs.Prelude.{◌≡◌, ◌↔◌, ℕ, ◌+◌, ◌*◌, ◌^◌, ◌<◌, MatchResult};
 ghost use Rattle.std.specs.Prelude.{◌≤◌, List, length, map, [], IsTrue};
 ghost use Rattle.std.specs.Prelude.{IsSome, OnOk, OnErr, IfOk, IfErr, IsOkUnless, None, Some};
-ghost use Rattle.std.specs.Prelude.{IfSome, ◌==◌, if◌then◌else◌, ◌≢◌, Ok, Err};
+ghost use Rattle.std.specs.Prelude.{IfSome, IsNone, take, ◌==◌, if◌then◌else◌, ◌≢◌, Ok, Err};
 ghost use Rattle.sst_base.specs.Entry.{Entry, IsEntry, plain};
 ghost use Rattle.sst_block_kinds.specs.Checks.{data_check};
 ghost use Rattle.sst_block_core.specs.Body.{place_offset};
@@ -13,11 +13,14 @@ ghost use Rattle.sst_block_core.specs.Buckets.{bucket_count, buckets, stored_cou
 ghost use Rattle.sst_block_core.specs.Payload.{IsBlock};
 ghost use Rattle.sst_block_core.specs.Stages.{HasIndexes};
 ghost use Rattle.sst_block_core.specs.Trailer.{trailer_in};
+ghost use Rattle.sst_block_core.specs.Heads.{IsTableOf, listed_in};
 ghost use Rattle.sst_block_core.specs.Encoders.{IsRefusal};
 ghost use Rattle.sst_block_kinds.specs.PointReads.{read_heads, read_entries};
 ghost use Rattle.sst_block_kinds.specs.PointReads.{read_heads_least, read_entries_least};
 ghost use Rattle.sst_block_core.specs.Window.{whole, first_match};
 ghost use Rattle.sst_block_kinds.specs.DataBlock.{block_of, data_block_of};
+ghost use Rattle.sst_block_kinds.specs.Disorder.{disorder_from};
+ghost use Rattle.sst_block_kinds.specs.ParsedEntry.{entry_of, IsParsedEntry};
 
 mod checking;
 mod decoding;
@@ -34,6 +37,7 @@ pub use parsed_item::DataBlockParsedItem;
 use sst_base::table::block::Block;
 use sst_base::{BlockHash, Error, HashRatio, InternalValue, Result, SeqNo, Slice, Steps};
 use sst_block_core::table::block::encoder::encode_all;
+use sst_block_core::table::block::heads::{HeadTable, clone_table};
 use sst_block_core::table::block::{Decoder, ParsedItem, Trailer, hash_index};
 use std::alloc::{AllocError, Global};
 use std::fmt;
@@ -48,21 +52,26 @@ use std::marker::{Model, PhantomData};
 pub struct DataBlock<H: BlockHash> {
     hash: PhantomData<H>,
     inner: Block,
+    // The table of the heads, if one was made.
+    heads: Option<HeadTable>,
 }
 
 impl<H: BlockHash> Model for DataBlock<H> {
     ghost use Rattle.std.specs.Prelude.{ℕ, List};
     ghost use Rattle.sst_base.specs.Entry.{Entry, IsEntry};
     ghost use Rattle.sst_block_core.specs.Entries.{entries};
+    ghost use Rattle.std.specs.Prelude.{IfSome};
     ghost use Rattle.sst_block_core.specs.Payload.{IsBlock};
+    ghost use Rattle.sst_block_core.specs.Heads.{IsTableOf, listed_in};
     ghost use Rattle.sst_block_kinds.specs.DataBlock.{DataBlockParts, data_block_of};
 
     ghost Value = { DataBlockParts };
 
     ghost view = { λ d. data_block_of d.inner };
 
-    ghost invariant = { λ d. (items : List Entry) × (r : ℕ) × (b : ℕ)
-        × IsBlock entries IsEntry H.hash64 d.inner.payload items r b };
+    ghost invariant = { λ d. ((items : List Entry) × (r : ℕ) × (b : ℕ)
+        × IsBlock entries IsEntry H.hash64 d.inner.payload items r b)
+        × IfSome d.heads (λ t. IsTableOf entries (listed_in entries d.inner.payload) t) };
 }
 
 impl<H: BlockHash> DataBlock<H> {
@@ -71,12 +80,24 @@ impl<H: BlockHash> DataBlock<H> {
     pub fn is_ordered(items: &[InternalValue]) -> bool
         ensures { IsTrue result ↔ IsOrdered entries items.now }
     {
+        Self::first_disorder(items).is_none()
+    }
+
+    /// Returns the index of the first entry that sorts before its predecessor, or `None` if the
+    /// entries are ordered.
+    pub fn first_disorder(items: &[InternalValue]) -> Option<usize>
+        ensures index { result ≡ disorder_from 0 items.now }
+        ensures none { IsNone result ↔ IsOrdered entries items.now }
+        ensures range { IfSome result (λ i. (1 ≤ i) × (i < length items.now)) }
+        ensures before { IfSome result (λ i. IsOrdered entries (take i items.now)) }
+        ensures at { IfSome result (λ i. IsOrdered entries (take (i + 1) items.now) → ⊥) }
+    {
         for i in 1..items.len() {
-            if InternalValue::key(&items[i]) < InternalValue::key(&items[i - 1]) {
-                return false;
+            if items[i].key() < items[i - 1].key() {
+                return Some(i);
             }
         }
-        true
+        None
     }
 
     /// Encodes a non-empty ordered list of entries into an empty vector, in restart intervals of at
@@ -168,12 +189,49 @@ impl<H: BlockHash> DataBlock<H> {
         DataBlock {
             hash: PhantomData,
             inner: block,
+            heads: None,
         }
     }
 
+    /// Makes the table of the block's heads: searches then compare numbers of the table, and look at
+    /// the payload only where these are equal. It pays for a block that is kept and searched more
+    /// than once, as an index or a cached block. 40 bytes a head.
+    ///
+    /// # Errors
+    ///
+    /// `Error::Memory` if an allocation fails, beside the block as it was.
+    pub fn with_heads(
+        self,
+        alloc: Global,
+    ) -> std::result::Result<DataBlock<H>, (Error, DataBlock<H>)>
+        ensures ok { IfOk result (λ b. b ≡ self) }
+        ensures err { IfErr result (λ e. (e.0 ≡ Error.Memory) × (e.1 ≡ self)) }
+    {
+        let made = self.intervals().make_table(alloc);
+        match made {
+            Ok(heads) => Ok(DataBlock {
+                hash: PhantomData,
+                inner: self.inner,
+                heads: Some(heads),
+            }),
+            Err(error) => Err((error, self)),
+        }
+    }
+
+    /// Returns the table of the block's heads, if one was made: by [`DataBlock::check`] or
+    /// [`DataBlock::with_heads`].
+    pub fn heads(&self) -> Option<&HeadTable>
+        ensures { IfSome result
+            (λ t. IsTableOf entries (listed_in entries self.now.payload) t.now) }
+    {
+        self.heads.as_ref()
+    }
+
     /// Takes a block of any bytes, if its payload is the encoding of some ordered, non-empty list
-    /// of entries. Takes memory only where buckets are stored: for the buckets, and for the longest
-    /// truncated key.
+    /// of entries, and makes the table of its heads, as [`DataBlock::with_heads`] does. Takes memory
+    /// for the table, and where buckets are stored for the buckets and for the longest truncated
+    /// key. A block that is read once is opened by [`DataBlock::check_ref`] and [`DataBlock::new`],
+    /// without the table.
     ///
     /// # Errors
     ///
@@ -191,8 +249,6 @@ impl<H: BlockHash> DataBlock<H> {
             (λ b. IsBlock entries IsEntry H.hash64 block.payload b.items b.interval b.stored) }
         ensures refused { IfErr result
             (λ e. e ≢ Error.Memory → data_check H.hash64 block.payload ≡ Err e) }
-        ensures memory { IfErr result
-            (λ e. e ≡ Error.Memory → 0 < (trailer_in block.payload).hash_len) }
 
         // An encoding is accepted.
         ensures accepts { (items : List Entry) (r b : ℕ)
@@ -201,7 +257,13 @@ impl<H: BlockHash> DataBlock<H> {
             (λ e. e ≡ Error.Memory) }
     {
         DataBlock::<H>::check_ref(alloc, &block)?;
-        Ok(DataBlock::new(block))
+        let block = DataBlock::<H>::new(block);
+        let heads = block.intervals().make_table(alloc)?;
+        Ok(DataBlock {
+            hash: PhantomData,
+            inner: block.inner,
+            heads: Some(heads),
+        })
     }
 
     /// Returns the payload, which is the encoding of the block's entries at its interval and stored
@@ -307,9 +369,7 @@ impl<H: BlockHash> DataBlock<H> {
         ensures heads { result.steps.heads ≡ 0 }
         ensures entries { result.steps.entries ≡ 0 }
     {
-        // The proof needs the bound on the payload's length.
-        let _fits = self.inner.size();
-        Iter::new(Decoder::new(&self.inner))
+        Iter::new(Decoder::over(self.intervals()))
     }
 
     /// Returns an iterator over the entries, each of which borrows the block. Takes no memory.
@@ -333,6 +393,17 @@ impl<H: BlockHash> DataBlock<H> {
             all.push(entry.materialize(alloc)?)?;
         }
         Ok(all)
+    }
+
+    // Makes the entry that a read found. Out of line, since a read that finds none needs no place
+    // for an entry.
+    #[inline(never)]
+    fn found(&self, alloc: Global, item: &DataBlockParsedItem) -> Result<Option<InternalValue>>
+        requires { IsParsedEntry self.now.payload item.now }
+        ensures made { IfOk result (λ entry. entry ≡ Some (entry_of self.now.payload item.now)) }
+        ensures memory { IsOkUnless result Error.Memory }
+    {
+        Ok(Some(item.materialize(alloc, self.as_slice())?))
     }
 
     /// Returns the first entry with this key whose sequence number is strictly below `seqno`. A
@@ -371,7 +442,7 @@ impl<H: BlockHash> DataBlock<H> {
             → steps.old.entries + 1 ≤ steps.new.entries }
     {
         match self.find_version(needle, seqno, steps) {
-            Some(item) => Ok(Some(item.materialize(alloc, self.as_slice())?)),
+            Some(item) => self.found(alloc, &item),
             None => Ok(None),
         }
     }
@@ -381,9 +452,11 @@ impl<H: BlockHash> Clone for DataBlock<H> {
     ghost is_clone = { λ d copy. copy ≡ d };
 
     fn clone(&self) -> std::result::Result<DataBlock<H>, AllocError> {
+        let heads = clone_table(&self.heads)?;
         Ok(DataBlock {
             hash: PhantomData,
             inner: self.inner.clone()?,
+            heads,
         })
     }
 }

@@ -56,6 +56,7 @@ impl ParsedItem<InternalValue> for DataBlockParsedItem {
         bytes_of(payload, &self.key)
     }
 
+    #[inline(always)]
     fn materialize(&self, alloc: Global, payload: &Slice) -> Result<InternalValue> {
         let user_key = join_ranges(alloc, payload, &self.prefix, &self.key)?;
         let value = match &self.value {

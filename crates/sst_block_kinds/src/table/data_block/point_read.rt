@@ -47,7 +47,7 @@ impl<H: BlockHash> DataBlock<H> {
     {
         // The proof needs the bound on the payload's length.
         let _fits = self.inner.size();
-        Intervals::new(&self.inner)
+        Intervals::with_table(&self.inner, self.heads.as_ref())
     }
 
     /// Finds the first entry with a key whose sequence number is strictly below `seqno`. What was

@@ -1,7 +1,7 @@
 //! Index blocks: blocks of handles.
 ghost use Rattle.std.specs.Prelude.{◌≡◌, ◌↔◌, ℕ, ◌^◌, ◌<◌, ◌≤◌, List};
 ghost use Rattle.std.specs.Prelude.{length, [], IsTrue};
-ghost use Rattle.std.specs.Prelude.{OnOk, OnErr, IfOk, IfErr, MatchResult, None, Ok, Err};
+ghost use Rattle.std.specs.Prelude.{OnOk, OnErr, IfOk, IfErr, IfSome, MatchResult, None, Ok, Err, ◌≢◌};
 ghost use Rattle.std.specs.List.{AllByRecursion};
 ghost use Rattle.sst_base.specs.Bytes.{IsBytes};
 ghost use Rattle.sst_block_kinds.specs.Checks.{index_check};
@@ -10,6 +10,7 @@ ghost use Rattle.sst_block_kinds.specs.Handles.{Handle, EndFits, handles, index_
 ghost use Rattle.sst_block_kinds.specs.Handles.{IsIndexBlock};
 ghost use Rattle.sst_block_kinds.specs.IndexBlock.{block_of, index_block_of};
 ghost use Rattle.sst_block_core.specs.Kind.{IsOrdered};
+ghost use Rattle.sst_block_core.specs.Heads.{IsTableOf, listed_in};
 ghost use Rattle.sst_block_core.specs.Trailer.{trailer_in};
 ghost use Rattle.sst_block_core.specs.Window.{whole};
 
@@ -28,6 +29,8 @@ pub use parsed_item::IndexBlockParsedItem;
 use sst_base::table::block::Block;
 use sst_base::{Error, HashRatio, Poly31, Result, Slice};
 use sst_block_core::table::block::encoder::encode_all;
+use sst_block_core::table::block::heads::{HeadTable, clone_table};
+use sst_block_core::table::block::intervals::Intervals;
 use sst_block_core::table::block::{Decoder, Trailer};
 use std::alloc::{AllocError, Global};
 use std::fmt;
@@ -40,19 +43,24 @@ use std::marker::Model;
 #[derive(Drop)]
 pub struct IndexBlock {
     inner: Block,
+    // The table of the heads, if one was made.
+    heads: Option<HeadTable>,
 }
 
 impl Model for IndexBlock {
     ghost use Rattle.std.specs.Prelude.{ℕ, List};
-    ghost use Rattle.sst_block_kinds.specs.Handles.{Handle, IsIndexBlock};
+    ghost use Rattle.std.specs.Prelude.{IfSome};
+    ghost use Rattle.sst_block_core.specs.Heads.{IsTableOf, listed_in};
+    ghost use Rattle.sst_block_kinds.specs.Handles.{Handle, handles, IsIndexBlock};
     ghost use Rattle.sst_block_kinds.specs.IndexBlock.{IndexBlockParts, index_block_of};
 
     ghost Value = { IndexBlockParts };
 
     ghost view = { λ b. index_block_of b.inner };
 
-    ghost invariant = { λ b. (items : List Handle) × (r : ℕ)
-        × IsIndexBlock b.inner.payload items r };
+    ghost invariant = { λ b. ((items : List Handle) × (r : ℕ)
+        × IsIndexBlock b.inner.payload items r)
+        × IfSome b.heads (λ t. IsTableOf handles (listed_in handles b.inner.payload) t) };
 }
 
 impl IndexBlock {
@@ -189,12 +197,61 @@ impl IndexBlock {
     {
         // The proof needs the bound on the payload's length.
         let _fits = block.size();
-        IndexBlock { inner: block }
+        IndexBlock {
+            inner: block,
+            heads: None,
+        }
+    }
+
+    /// Makes the table of the block's heads: seeks then compare numbers of the table, and look at
+    /// the payload only where these are equal. It pays for an index that is kept open. 40 bytes a
+    /// head.
+    ///
+    /// # Errors
+    ///
+    /// `Error::Memory` if an allocation fails, beside the block as it was.
+    pub fn with_heads(self, alloc: Global) -> std::result::Result<IndexBlock, (Error, IndexBlock)>
+        ensures ok { IfOk result (λ b. b ≡ self) }
+        ensures err { IfErr result (λ e. (e.0 ≡ Error.Memory) × (e.1 ≡ self)) }
+    {
+        let made = self.intervals().make_table(alloc);
+        match made {
+            Ok(heads) => Ok(IndexBlock {
+                inner: self.inner,
+                heads: Some(heads),
+            }),
+            Err(error) => Err((error, self)),
+        }
+    }
+
+    /// Returns the table of the block's heads, if one was made: by [`IndexBlock::check`] or
+    /// [`IndexBlock::with_heads`].
+    pub fn heads(&self) -> Option<&HeadTable>
+        ensures { IfSome result
+            (λ t. IsTableOf handles (listed_in handles self.now.payload) t.now) }
+    {
+        self.heads.as_ref()
+    }
+
+    // The block's restart intervals, of which nothing is counted yet.
+    #[inline(always)]
+    fn intervals(&self) -> Intervals<'_, KeyedBlockHandle, IndexBlockParsedItem>
+        ensures payload { result.list.payload ≡ self.now.payload }
+        ensures items { result.list.items ≡ self.now.items }
+        ensures interval { result.list.interval ≡ self.now.interval }
+        ensures ordered { IsOrdered handles self.now.items }
+        ensures heads { result.steps.heads ≡ 0 }
+        ensures entries { result.steps.entries ≡ 0 }
+    {
+        // The proof needs the bound on the payload's length.
+        let _fits = self.inner.size();
+        Intervals::with_table(&self.inner, self.heads.as_ref())
     }
 
     /// Takes a block of any bytes, if its payload is the encoding of some ordered, non-empty list
-    /// of handles at an interval from 1 to 255, each with an end of its block below 2^64. Takes no
-    /// memory.
+    /// of handles at an interval from 1 to 255, each with an end of its block below 2^64, and makes
+    /// the table of its heads, as [`IndexBlock::with_heads`] does. A block that is read once is
+    /// opened by [`IndexBlock::check_ref`] and [`IndexBlock::new`], without the table.
     ///
     /// # Errors
     ///
@@ -204,18 +261,25 @@ impl IndexBlock {
     /// their forms, and nothing else; `Error::BadHandle` if a block's end is 2^64 or above;
     /// `Error::OutOfOrder` if a handle sorts before its predecessor; `Error::BadIndex` if a pointer
     /// is not the offset of its head, or the pointer width not the least.
-    pub fn check(block: Block) -> Result<IndexBlock>
+    /// `Error::Memory` if the allocation of the table fails.
+    pub fn check(alloc: Global, block: Block) -> Result<IndexBlock>
         ensures checked { IfOk result (λ b. index_check block.payload ≡ Ok b.items) }
         ensures parts { IfOk result (λ b. b ≡ index_block_of block) }
         ensures encoded { IfOk result (λ b. IsIndexBlock block.payload b.items b.interval) }
-        ensures refused { IfErr result (λ e. index_check block.payload ≡ Err e) }
+        ensures refused { IfErr result
+            (λ e. e ≢ Error.Memory → index_check block.payload ≡ Err e) }
 
         // An encoding is accepted.
         ensures accepts { (items : List Handle) (r : ℕ) → IsIndexBlock block.payload items r
             → MatchResult result (λ found. found.items ≡ items) (λ e. e ≡ Error.Memory) }
     {
         IndexBlock::check_ref(&block)?;
-        Ok(IndexBlock::new(block))
+        let block = IndexBlock::new(block);
+        let heads = block.intervals().make_table(alloc)?;
+        Ok(IndexBlock {
+            inner: block.inner,
+            heads: Some(heads),
+        })
     }
 
     /// Returns the payload, which is the encoding of the block's handles at its interval.
@@ -271,9 +335,7 @@ impl IndexBlock {
         ensures heads { result.steps.heads ≡ 0 }
         ensures entries { result.steps.entries ≡ 0 }
     {
-        // The proof needs the bound on the payload's length.
-        let _fits = self.inner.size();
-        Iter::new(Decoder::new(&self.inner))
+        Iter::new(Decoder::over(self.intervals()))
     }
 }
 
@@ -281,8 +343,10 @@ impl Clone for IndexBlock {
     ghost is_clone = { λ b copy. copy ≡ b };
 
     fn clone(&self) -> std::result::Result<IndexBlock, AllocError> {
+        let heads = clone_table(&self.heads)?;
         Ok(IndexBlock {
             inner: self.inner.clone()?,
+            heads,
         })
     }
 }

@@ -208,6 +208,25 @@ pub(crate) fn keeps_order(payload: &[u8], last: &KeyVersion, version: &KeyVersio
     }
 }
 
+// The same for a head behind any item: where that is a head too, by the whole keys.
+#[inline(always)]
+#[tactic(auto, using(crate::proofs::KeyOrders::head_key, crate::proofs::KeyOrders::decided))]
+fn head_follows(payload: &[u8], last: &KeyVersion, version: &KeyVersion) -> bool
+    requires last { IsKeyRanges payload.now last.now.key }
+    requires version { IsKeyRanges payload.now version.now.key }
+    ensures { IsTrue result ↔ (version_cmp payload.now version.now last.now ≢ Less) }
+{
+    if last.key.rest.0 != last.key.rest.1 || version.key.rest.0 != version.key.rest.1 {
+        return keeps_order(payload, last, version);
+    }
+    let key = bytes_of(payload, &version.key.prefix);
+    match compare_bytes(key, bytes_of(payload, &last.key.prefix)) {
+        Ordering::Less => false,
+        Ordering::Equal => version.seqno <= last.seqno,
+        Ordering::Greater => true,
+    }
+}
+
 /// The same for the head of a restart interval: at once where no item is in front of it.
 #[inline(always)]
 pub(crate) fn head_keeps_order(payload: &[u8], last: &KeyVersion, version: KeyVersion) -> bool
@@ -215,5 +234,5 @@ pub(crate) fn head_keeps_order(payload: &[u8], last: &KeyVersion, version: KeyVe
     requires version { IsKeyRanges payload.now version.key }
     ensures { IsTrue result ↔ (version_cmp payload.now version last.now ≢ Less) }
 {
-    last.is_least() || keeps_order(payload, last, &version)
+    last.is_least() || head_follows(payload, last, &version)
 }

@@ -12,7 +12,7 @@ pub returns-clause-encoded : goal.returns-clause-encoded
 returns-clause-encoded g c =
     let hash = g.H.BlockHash.hash64 in
     let p = c.self.inside.inner.payload in
-    let some = c.self.invariant in
+    let some = c.self.invariant.0 in
     let bytes : IsBytes p = c.size-fits.ensures.cells in
     let passes = (passes_from entries IsEntry IsKind-entries hash p some.0 some.1 some.2 some.3 c.size-fits.ensures.fits).0 in
     let P : DataBlockParts → Type 0 = λ d. IsBlock entries IsEntry hash d.payload d.items d.interval d.stored in

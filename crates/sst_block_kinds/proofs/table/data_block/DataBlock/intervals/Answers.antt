@@ -9,9 +9,9 @@ use Rattle.sst_block_kinds.proofs.table.data_block.DataBlock.intervals.Goals as 
 pub returns-clause-ordered : goal.returns-clause-ordered
 returns-clause-ordered g c =
     let P : DataBlockParts → Type 0 = λ d. IsOrdered entries d.items in
-    subst P c.self.view_is (ordered_items_in g.H.BlockHash.hash64 c.self.inside.inner.payload c.size-fits.ensures.fits c.self.invariant)
+    subst P c.self.view_is (ordered_items_in g.H.BlockHash.hash64 c.self.inside.inner.payload c.size-fits.ensures.fits c.self.invariant.0)
 
 pub returns-clause-plain : goal.returns-clause-plain
 returns-clause-plain g c =
     let P : DataBlockParts → Type 0 = λ d. map plain d.items ≡ d.items in
-    subst P c.self.view_is (plain-items_in g.H.BlockHash.hash64 c.self.inside.inner.payload c.size-fits.ensures.fits c.self.invariant)
+    subst P c.self.view_is (plain-items_in g.H.BlockHash.hash64 c.self.inside.inner.payload c.size-fits.ensures.fits c.self.invariant.0)

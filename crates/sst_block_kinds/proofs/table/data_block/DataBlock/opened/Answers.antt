@@ -10,7 +10,7 @@ use Rattle.sst_block_kinds.proofs.table.data_block.DataBlock.opened.Goals as goa
 
 pub returns : goal.returns
 returns g c =
-    let some = c.self.invariant in
+    let some = c.self.invariant.0 in
     let o = opened entries IsEntry IsKind-entries g.H.BlockHash.hash64 c.self.inside.inner.payload some.0 some.1 some.2 c.size-fits.ensures.fits some.3.encoding in
     let Trailer' : DataBlockParts → Type 0 = λ d. 31 ≤ length d.payload in
     let Count : DataBlockParts → Type 0 = λ d. (trailer_in d.payload).item_count ≡ length d.items in

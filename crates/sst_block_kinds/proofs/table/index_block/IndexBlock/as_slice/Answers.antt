@@ -7,4 +7,4 @@ use Rattle.sst_block_kinds.proofs.table.index_block.IndexBlock.as_slice.Goals as
 pub returns-clause-encoded : goal.returns-clause-encoded
 returns-clause-encoded c =
     let P : IndexBlockParts → Type 0 = λ d. IsIndexBlock d.payload d.items d.interval in
-    subst P c.self.view_is (read_block c.self.inside.inner.payload c.size-fits.ensures.fits c.self.invariant)
+    subst P c.self.view_is (read_block c.self.inside.inner.payload c.size-fits.ensures.fits c.self.invariant.0)

@@ -8,7 +8,7 @@ use Rattle.sst_block_kinds.proofs.table.index_block.IndexBlock.opened.Goals as g
 
 pub returns : goal.returns
 returns c =
-    let some = c.self.invariant in
+    let some = c.self.invariant.0 in
     let o = opened handles IsHandle IsKind-handles no_hash c.self.inside.inner.payload some.0 some.1 0 c.size-fits.ensures.fits some.2.block.encoding in
     let Trailer' : IndexBlockParts → Type 0 = λ d. 31 ≤ length d.payload in
     let Count : IndexBlockParts → Type 0 = λ d. (trailer_in d.payload).item_count ≡ length d.items in

@@ -1,4 +1,4 @@
-use Rattle.std.proofs.Common.{◌≡◌, ◌+◌, ◌-◌, ◌*◌, ◌/◌, ◌<◌, ◌≤◌, length, true, false, ◌∙◌, arith, sym}
+use Rattle.std.proofs.Common.{◌≡◌, ◌+◌, ◌-◌, ◌*◌, ◌/◌, ◌<◌, ◌≤◌, length, true, false, ◌∙◌, arith}
 use Rattle.sst_block_core.proofs.Halves.{digits_step}
 use Rattle.sst_block_core.proofs.HeadAnswers.{times_upto, answered_head, some_heads}
 use Rattle.sst_block_core.proofs.table.block.intervals.Intervals.partition_point.Goals as goal

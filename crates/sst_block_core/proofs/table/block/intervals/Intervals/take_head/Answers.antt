@@ -6,7 +6,7 @@ pub read_full-item-requires : goal.read_full-item-requires
 read_full-item-requires g c =
     let s = rw (← c.self.view_is) at c.requires.stands in
     let h = rw (← c.self.view_is) at c.requires.inside in
-    head_is_there g.Item.BlockItem.kind _ c.self.invariant.listed.interval_some c.args.at.now h s c.requires.head
+    head_is_there g.Item.BlockItem.kind _ c.self.invariant.0.listed.interval_some c.args.at.now h s c.requires.head
 
 pub returns-clause-item : goal.returns-clause-item
 returns-clause-item g c =
@@ -14,7 +14,7 @@ returns-clause-item g c =
     let h = rw (← c.self.view_is) at c.requires.inside in
     let read = c.read_full-item.ensures in
     let m = c.move_on.ensures in
-    rw (← c.self.view_is) ((took_head g.Item.BlockItem.kind _ c.self.invariant.listed.interval_some c.args.at.now h _ c.move_on.new.self c.read_full-item.result.1
+    rw (← c.self.view_is) ((took_head g.Item.BlockItem.kind _ c.self.invariant.0.listed.interval_some c.args.at.now h _ c.move_on.new.self c.read_full-item.result.1
     m.place m.phase m.offset read.exact.0 _ (m.base ∙ c.key_offset-at.ensures) s c.requires.head read.exact.1 read.key).0)
 
 pub returns-clause-stands : goal.returns-clause-stands
@@ -23,5 +23,5 @@ returns-clause-stands g c =
     let h = rw (← c.self.view_is) at c.requires.inside in
     let read = c.read_full-item.ensures in
     let m = c.move_on.ensures in
-    rw (← c.self.view_is) ((took_head g.Item.BlockItem.kind _ c.self.invariant.listed.interval_some c.args.at.now h _ c.move_on.new.self c.read_full-item.result.1
+    rw (← c.self.view_is) ((took_head g.Item.BlockItem.kind _ c.self.invariant.0.listed.interval_some c.args.at.now h _ c.move_on.new.self c.read_full-item.result.1
     m.place m.phase m.offset read.exact.0 _ (m.base ∙ c.key_offset-at.ensures) s c.requires.head read.exact.1 read.key).1)

@@ -1,0 +1,123 @@
+-- Printing through a buffer: what is put behind what waits in it.
+use Rattle.std.specs.Prelude.{slice_index, nat_eq}
+use Rattle.std.proofs.Common.{◌≡◌, ◌/◌, ◌%◌, true, ℕ, length, arith, List, [], ◌∷◌, ◌++◌, refl, sym, ◌∙◌, ap, subst, append_assoc, append-nil, Option, Some, None}
+use Rattle.std.specs.Io.KnownBytes.{Appends, append_known}
+use Rattle.std.proofs.KnownBytes.{Appends-nil, Appends-trans}
+use Rattle.hex.specs.Hex.{encode_with, encode_lower, lower_digits}
+use Rattle.sst_base.specs.Entry.{Entry}
+use Rattle.sst_block_core.specs.Scan.{Scan, GivesNext}
+use Rattle.sst_block_core.specs.Window.{Window, items_left, whole}
+use Rattle.sst_block_core.specs.WindowLaws.{next_some, next_none, items_left-whole}
+use Rattle.sst_block_kinds.specs.ParsedEntry.{entry_of, IsParsedEntry}
+use Rattle.sst_block_kinds.specs.declared.table.data_block.parsed_item.DataBlockParsedItem.{DataBlockParsedItem}
+use Rattle.sst_program.specs.Line.{entry_line_of, letter_of, byte_text_of}
+use Rattle.sst_program.specs.Outcome.{Puts, lines_text_of}
+use Rattle.sst_program.proofs.Outcomes.{none-from_test}
+use Rattle.std.specs.Fmt.{decimal}
+
+-- what fits waits in the buffer
+held : (a : Option (List ℕ)) (u v text : List ℕ) → v ≡ u ++ text → Appends (append_known a u) (append_known a v) text
+held None u v text e = tt
+held (Some xs) u v text e = ap (λ t. xs ++ t) e ∙ sym (append_assoc xs u text)
+
+pub puts_held : (a : Option (List ℕ)) (u v text : List ℕ) → v ≡ u ++ text → Puts a u a v text
+puts_held a u v text e = record { grown = held a u v text e }
+
+-- what does not fit is printed, behind what waited
+through : (a b c : Option (List ℕ)) (u text : List ℕ) → Appends a b u → Appends b c text → Appends (append_known a u) (append_known c []) text
+through None b c u text p q = tt
+through (Some xs) None c u text p q = absurd p
+through (Some xs) (Some ys) None u text p q = absurd q
+through (Some xs) (Some ys) (Some zs) u text p q = append-nil zs ∙ q ∙ ap (λ t. t ++ text) p
+
+pub puts_through : (a b c : Option (List ℕ)) (u v text : List ℕ) → Appends a b u → Appends b c text → v ≡ [] → Puts a u c v text
+puts_through a b c u v text p q e = rw e (record { grown = through a b c u text p q })
+
+pub puts_nothing : (a : Option (List ℕ)) (u : List ℕ) → Puts a u a u []
+puts_nothing a u = record { grown = Appends-nil (append_known a u) }
+
+pub puts_then : (a b c : Option (List ℕ)) (u v w s t : List ℕ) → Puts a u b v s → Puts b v c w t → Puts a u c w (s ++ t)
+puts_then a b c u v w s t p q = record { grown = Appends-trans (append_known a u) (append_known b v) (append_known c w) s t p.grown q.grown }
+
+printed : (a b c : Option (List ℕ)) (v text : List ℕ) → Appends (append_known a []) (append_known b v) text → Appends b c v → Appends a c text
+printed None b c v text p q = tt
+printed (Some xs) None c v text p q = absurd p
+printed (Some xs) (Some ys) None v text p q = absurd q
+printed (Some xs) (Some ys) (Some zs) v text p q = q ∙ p ∙ ap (λ t. t ++ text) (append-nil xs)
+
+-- what waits in the end is printed
+pub puts_printed : (a b c : Option (List ℕ)) (u v text : List ℕ) → Puts a u b v text → u ≡ [] → Appends b c v → Appends a c text
+puts_printed a b c u v text p e q = printed a b c v text (subst (λ t. Appends (append_known a t) (append_known b v) text) e p.grown) q
+
+-- a part of a text was put, and this is left of it
+pub record PutsTo (a : Option (List ℕ)) (u : List ℕ) (b : Option (List ℕ)) (v left all : List ℕ) : Type 0 where
+  pub text : List ℕ
+  pub puts : Puts a u b v text
+  pub rest : text ++ left ≡ all
+
+pub puts_start : (a : Option (List ℕ)) (u left all : List ℕ) → left ≡ all → PutsTo a u a u left all
+puts_start a u left all e = record { text = []; puts = puts_nothing a u; rest = e }
+
+pub puts_next : (a b c : Option (List ℕ)) (u v w left more part all : List ℕ) → PutsTo a u b v left all → Puts b v c w part → left ≡ part ++ more → PutsTo a u c w more all
+puts_next a b c u v w left more part all p q e = record {
+  text = p.text ++ part;
+  puts = puts_then a b c u v w p.text part p.puts q;
+  rest = append_assoc p.text part more ∙ ap (λ t. p.text ++ t) (sym e) ∙ p.rest;
+}
+
+pub puts_end : (a b : Option (List ℕ)) (u v left all : List ℕ) → PutsTo a u b v left all → left ≡ [] → Puts a u b v all
+puts_end a b u v left all p e = subst (Puts a u b v) (sym (append-nil p.text) ∙ ap (λ t. p.text ++ t) (sym e) ∙ p.rest) p.puts
+
+-- hex digits of joined bytes
+pub encode-append : (t a b : List ℕ) → encode_with t (a ++ b) ≡ encode_with t a ++ encode_with t b
+unfolding encode_with
+encode-append t [] b = refl
+encode-append t (x ∷ a) b = ap (λ ys. slice_index t (x / 16) ∷ (slice_index t (x % 16) ∷ ys)) (encode-append t a b)
+
+pub encode-empty : encode_lower [] ≡ []
+unfolding encode_with
+encode-empty = refl
+
+pub encode-cut : (whole part behind : List ℕ) → whole ≡ part ++ behind → encode_lower whole ≡ encode_lower part ++ encode_lower behind
+encode-cut whole part behind e = ap (λ t. encode_lower t) e ∙ encode-append lower_digits part behind
+
+-- nothing is left, by the test of its length
+nothing-left : (rest : List ℕ) → true ≡ nat_eq (length rest) 0 → rest ≡ []
+nothing-left [] h = refl
+nothing-left (b ∷ rest) h = let none : length (b ∷ rest) ≡ 0 = none-from_test (length (b ∷ rest)) h in absurd (omega arith)
+
+pub encode-over : (rest : List ℕ) → true ≡ nat_eq (length rest) 0 → encode_lower rest ≡ []
+encode-over rest h = ap (λ t. encode_lower t) (nothing-left rest h) ∙ encode-empty
+
+-- a key of two ranges
+pub puts_joined : (a b c : Option (List ℕ)) (u v w p q p' q' : List ℕ) → Puts a u b v (encode_lower p) → Puts b v c w (encode_lower q) → p ≡ p' → q ≡ q' → Puts a u c w (encode_lower (p' ++ q'))
+puts_joined a b c u v w p q p' q' first second e f =
+    subst (Puts a u c w) (sym (encode-cut (p' ++ q') p q (ap (λ t. t ++ q') (sym e) ∙ ap (λ t. p ++ t) (sym f)))) (puts_then a b c u v w (encode_lower p) (encode_lower q) first second)
+
+-- the parts of a line
+pub puts_line : (e : Entry) (value : List ℕ) (a b c d f h : Option (List ℕ)) (u v w x y z : List ℕ)
+    → Puts a u b v ((letter_of e.key.value_type ∷ 32 ∷ []) ++ decimal e.key.seqno ++ (32 ∷ [])) → Puts b v c w (encode_lower e.key.user_key) → Puts c w d x (32 ∷ [])
+    → Puts d x f y (byte_text_of value) → value ≡ e.value → Puts f y h z (10 ∷ []) → Puts a u h z (entry_line_of e ++ (10 ∷ []))
+puts_line e value a b c d f h u v w x y z front key space text same feed =
+    let line = subst (λ t. Puts d x f y (byte_text_of t)) same text in
+    puts_then a f h u y z _ _ (puts_then a d f u x y _ _ (puts_then a c d u w x _ _ (puts_then a b c u v w _ _ front key) space) line) feed
+
+-- a step of the iterator over a block: the line of its entry, and those left
+pub lines_step : (s t : Scan Entry) (p : DataBlockParsedItem) → GivesNext entry_of IsParsedEntry s (Some p) t
+    → lines_text_of (items_left s.window) ≡ (entry_line_of (entry_of s.payload p) ++ (10 ∷ [])) ++ lines_text_of (items_left t.window)
+lines_step s t p gives =
+    ap lines_text_of (next_some s.window t.window (entry_of s.payload p) gives.step).0
+    ∙ sym (append_assoc (entry_line_of (entry_of s.payload p)) (10 ∷ []) (lines_text_of (items_left t.window)))
+
+pub lines_whole : (w : Window Entry) (items : List Entry) → w ≡ whole items → lines_text_of (items_left w) ≡ lines_text_of items
+lines_whole w items e = ap (λ (v : Window Entry). lines_text_of (items_left v)) e ∙ ap lines_text_of (items_left-whole items)
+
+pub lines_over : (s t : Scan Entry) → GivesNext entry_of IsParsedEntry s None t → lines_text_of (items_left s.window) ≡ []
+lines_over s t gives = ap lines_text_of (next_none s.window t.window gives.step).0
+
+-- the line of an entry, put behind those before it
+pub puts_entry : (s t : Scan Entry) (p : DataBlockParsedItem) (a b c : Option (List ℕ)) (u v w payload all : List ℕ) → PutsTo a u b v (lines_text_of (items_left s.window)) all
+    → Puts b v c w (entry_line_of (entry_of payload p) ++ (10 ∷ [])) → s.payload ≡ payload → GivesNext entry_of IsParsedEntry s (Some p) t → PutsTo a u c w (lines_text_of (items_left t.window)) all
+puts_entry s t p a b c u v w payload all before line same gives =
+    puts_next a b c u v w (lines_text_of (items_left s.window)) (lines_text_of (items_left t.window)) (entry_line_of (entry_of s.payload p) ++ (10 ∷ [])) all before
+    (subst (λ q. Puts b v c w (entry_line_of (entry_of q p) ++ (10 ∷ []))) (sym same) line) (lines_step s t p gives)

@@ -1,0 +1,66 @@
+//! Performs an operation of the library a number of times, and prints a line of what each returns:
+//! for runs in which an allocation fails, and for counts of allocations.
+#![tactic(auto)]
+
+mod blocks;
+mod lists;
+mod output;
+mod reads;
+mod runs;
+
+use sst_base::{Error, Result};
+use std::alloc::Global;
+use std::env;
+use std::process::ExitCode;
+use std::rt::Env;
+
+// Sets an operation on a block up, and performs it so many times.
+fn on_block(rt: &impl Print, alloc: Global, operation: &str, times: u32) -> Result<()> {
+    match operation {
+        "encode" => blocks::encode(rt, alloc, times),
+        "check_data" => blocks::check_data(rt, alloc, times),
+        "check_index" => blocks::check_index(rt, alloc, times),
+        "heads_data" => blocks::heads_data(rt, alloc, times),
+        "heads_index" => blocks::heads_index(rt, alloc, times),
+        "walk_data" => reads::walk_data(rt, alloc, times),
+        "walk_index" => reads::walk_index(rt, alloc, times),
+        "point_read" => reads::point_read(rt, alloc, times),
+        "free_bucket" => reads::free_bucket(rt, alloc, times),
+        "steps_data" => reads::steps_data(rt, alloc, times),
+        "steps_index" => reads::steps_index(rt, alloc, times),
+        "decoder" => reads::decoder(rt, alloc, times),
+        _ => Err(Error::TooLong),
+    }
+}
+
+// Sets an operation up, and performs it so many times.
+fn perform(rt: &impl Print, alloc: Global, operation: &str, times: u32) -> Result<()> {
+    match operation {
+        "write_run" => runs::write(rt, alloc, times),
+        "run_writer" => runs::add_blocks(rt, alloc, times),
+        "read_entry" => runs::read(rt, alloc, times),
+        "read_memory" => runs::read_memory(rt, alloc, times),
+        "read_file" => runs::read_file(rt, alloc, times),
+        "false_length" => runs::false_length(rt, alloc, times),
+        _ => on_block(rt, alloc, operation, times),
+    }
+}
+
+// Reads the words, an operation and a number, and performs it.
+fn run<R: Print + Env + AllocGlobal>(rt: &R) -> Result<()> {
+    let mut words = env::args(rt)?.skip(1);
+    let operation = words.next().ok_or(Error::TooLong)?;
+    let times = words.next().ok_or(Error::TooLong)?;
+    let times = times.as_str().parse::<u32>().ok().ok_or(Error::TooLong)?;
+    perform(rt, rt.alloc(), operation.as_str(), times)
+}
+
+fn main(rt: HostRuntime) -> ExitCode {
+    match run(&rt) {
+        Ok(()) => ExitCode::SUCCESS,
+        Err(error) => {
+            let _ = eprintln!(rt; "{error:?}");
+            ExitCode::FAILURE
+        }
+    }
+}

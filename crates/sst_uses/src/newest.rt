@@ -1,0 +1,34 @@
+//! Writes entries as a block, and reads one of them by its key.
+ghost use Rattle.std.specs.Prelude.{◌≡◌, ◌≤◌, length, map, IfOk};
+ghost use Rattle.sst_base.specs.Entry.{plain};
+ghost use Rattle.sst_block_core.specs.Entries.{entries};
+ghost use Rattle.sst_block_core.specs.Kind.{IsOrdered};
+ghost use Rattle.sst_block_core.specs.Window.{first_match};
+
+use sstable_blocks::{
+    Block, BlockType, DataBlock, HashRatio, InternalValue, Poly31, Result, SeqNo, Slice, Steps,
+};
+use std::alloc::Global;
+
+/// Writes a non-empty, ordered list of entries as a block, and returns the newest version of a key
+/// with a sequence number below `seqno`. `DataBlock::is_ordered` tests the order.
+///
+/// # Errors
+///
+/// `Error::TooLong` if the block would have 2^32 bytes or more; `Error::Memory` if an allocation
+/// fails.
+pub fn newest_below(
+    alloc: Global,
+    items: &[InternalValue],
+    key: &[u8],
+    seqno: SeqNo,
+) -> Result<Option<InternalValue>>
+    requires some { 1 ≤ length items.now }
+    requires ordered { IsOrdered entries items.now }
+    ensures { IfOk result (λ found. found ≡ first_match entries key.now seqno (map plain items.now)) }
+{
+    let no_buckets = HashRatio { num: 0, den: 1 };
+    let payload = DataBlock::<Poly31>::encode_into_vec(alloc, items, 16, no_buckets)?;
+    let block = Block::from_payload(BlockType::Data, Slice::from_vec(payload)?);
+    DataBlock::<Poly31>::new(block).point_read(alloc, key, seqno, &mut Steps::new())
+}
