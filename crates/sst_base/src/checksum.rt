@@ -5,8 +5,8 @@ ghost use Rattle.std.specs.Io.KnownBytes.{WriteAppends, Appends, ReadConsumes, C
 ghost use Rattle.std.specs.Io.Seek.{SeekMoves};
 
 use crate::error::{Error, Result};
+use crate::ghost_state::history::History;
 use crate::hash::BlockHash;
-use crate::history::History;
 use crate::input::Input;
 use std::io::{ErrorKind, Read, Seek, SeekFrom, Write};
 use std::marker::Model;

@@ -42,7 +42,7 @@ pub trait Encode {
 
 /// What can be decoded.
 pub trait Decode: Sized {
-    // what is encoded at the front of bytes and the bytes behind it, or the first refusal
+    // what is encoded at the start of bytes and the bytes after it, or the first refusal
     ghost decoded: { List ℕ → Outcome (Self × List ℕ) Error };
 
     /// Decodes what is next in a reader.
@@ -158,7 +158,7 @@ fn decode_behind(bytes: &[u8], first: u64, max: u64) -> Option<(u64, usize)>
     None
 }
 
-// Reads the number of at most `max` that a front of the bytes encodes, and the length of that
+// Reads the number of at most `max` that a prefix of the bytes encodes, and the length of that
 // front.
 #[tactic(auto, unfolding(crate::specs::Varint::varint_up_to))]
 fn decode_up_to(bytes: &[u8], max: u64) -> Option<(u64, usize)>
@@ -175,7 +175,7 @@ fn decode_up_to(bytes: &[u8], max: u64) -> Option<(u64, usize)>
     decode_behind(bytes, digit - 128, max)
 }
 
-// Reads the number within the width that a front of the bytes encodes, and the length of that
+// Reads the number within the width that a prefix of the bytes encodes, and the length of that
 // front: 0 where there is none. A pair is not answered by way of memory.
 #[cold]
 #[inline(never)]
@@ -191,7 +191,7 @@ fn decode_or_zero(bytes: &[u8], bits: u32) -> (u64, usize)
     }
 }
 
-// Reads the number within the width that a front of the bytes encodes, and the length of that
+// Reads the number within the width that a prefix of the bytes encodes, and the length of that
 // front.
 #[inline(always)]
 fn decode_within(bytes: &[u8], bits: u32) -> Option<(u64, usize)>
@@ -233,7 +233,7 @@ fn decode_some(bytes: &[u8], bits: u32) -> Option<(u64, usize)>
 /// Decodes the varint at the front of `bytes`: returns its number and how many bytes it takes.
 /// Bytes may follow it.
 ///
-/// `bits` is the width: 16, 32 or 64. Returns `None` exactly if no front of the bytes is the
+/// `bits` is the width: 16, 32 or 64. Returns `None` exactly if no prefix of the bytes is the
 /// minimal encoding of a number below 2^`bits`.
 #[inline(always)]
 pub fn decode_varint(bytes: &[u8], bits: u32) -> Option<(u64, usize)>

@@ -59,7 +59,7 @@ pub enum Error {
     /// E8: the trailer does not fit the block.
     #[error("bad trailer")]
     BadTrailer,
-    /// E9: the bytes in front of the end marker are not the forms of items.
+    /// E9: the bytes before the end marker are not the forms of items.
     #[error("bad entry")]
     BadEntry,
     /// E10: an item sorts before its predecessor.
@@ -84,6 +84,9 @@ pub enum Error {
 
 /// A result of the block layer.
 pub type Result<T> = std::result::Result<T, Error>;
+
+/// A result whose only error is a failed allocation.
+pub type AllocResult<T> = std::result::Result<T, AllocError>;
 
 impl From<AllocError> for Error {
     ghost from_gives = { λ _ e. e ≡ Memory };

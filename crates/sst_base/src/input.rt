@@ -105,7 +105,7 @@ impl<T: AsBytes> Input for Cursor<T> {
     }
 }
 
-// The bytes from a position on: none where it is behind the end.
+// The bytes from a position on: none where it is after the end.
 fn bytes_from(bytes: &[u8], position: u64) -> &[u8]
     ensures { result.now ≡ drop position bytes.now }
 {

@@ -94,12 +94,12 @@ pub struct SlowWriter {
 }
 
 impl SlowWriter {
-    /// Makes a writer behind these bytes, whose call of this number returns an error.
+    /// Makes a writer that holds these bytes, and whose call of this number returns an error.
     pub fn new(taken: Vec<u8>, fails_at: usize) -> SlowWriter {
         SlowWriter::failing(taken, fails_at, Failure::Error)
     }
 
-    /// Makes a writer behind these bytes that fails like this.
+    /// Makes a writer that holds these bytes and fails like this.
     pub fn failing(taken: Vec<u8>, fails_at: usize, failure: Failure) -> SlowWriter {
         SlowWriter {
             taken,

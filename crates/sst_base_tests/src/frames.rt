@@ -1,4 +1,5 @@
 // Frames, headers, handles and streams: worked values, damaged bytes, slow and failing devices.
+use crate::Tested;
 use crate::devices::{Failure, SlowFile, SlowReader, SlowWriter};
 use crate::rows::{Row, check_rows};
 use sst_base::checksum::{ChecksummedReader, ChecksummedWriter};
@@ -10,9 +11,8 @@ use std::alloc::Global;
 use std::fs;
 use std::fs::File;
 use std::io::{Read, Write};
-use std::test::Fail;
 
-// The frame of `abc`, and two bytes behind.
+// The frame of `abc`, and two more bytes.
 const LONGER: [u8; 38] = [
     0x4c, 0x53, 0x4d, 0x03, 0x00, 0x26, 0x01, 0, 0, 0, 0, 0, 0, 0, 0, 0, 0, 0, 0, 0, 0, 3, 0, 0, 0,
     3, 0, 0, 0, 0x1c, 0x01, 0, 0, 0x61, 0x62, 0x63, 7, 8,
@@ -107,7 +107,7 @@ fn wanted_result(wanted: &Wanted) -> Result<Seen> {
 // Other bytes at some offsets of a frame.
 type Changes = &'static [(usize, u8)];
 
-// The frame of `abc` and the bytes behind, changed.
+// The frame of `abc` and what follows, changed.
 fn changed(changes: Changes) -> [u8; 38] {
     let mut frame = LONGER;
     for (at, byte) in changes {
@@ -412,7 +412,7 @@ fn read_file(alloc: Global, mut file: File, size: u32) -> Result<Seen> {
 }
 
 #[test]
-fn frames_are_read_from_a_file(rt: HostRuntime) -> std::result::Result<(), Fail> {
+fn frames_are_read_from_a_file(rt: HostRuntime) -> Tested {
     fs::write(&rt, "frame", ABC)?;
     for (size, wanted) in &SIZES {
         let seen = read_file(rt.alloc(), File::open(&rt, "frame")?, *size);

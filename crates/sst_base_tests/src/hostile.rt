@@ -1,5 +1,6 @@
 // Headers, frames and handles beside worked ones: each byte changed to each other value, cut before
 // each byte, and lengthened. What is wanted comes from decoders written by the format.
+use crate::Tested;
 use crate::changes::{change_count, changed};
 use crate::frames::{ABC, EMPTY, HEADER_ONLY};
 use sst_base::coding::{Decode, Encode};
@@ -8,7 +9,6 @@ use sst_base::table::block::{Block, BlockHandle, BlockType, Header};
 use sst_base::{Checksum, Error, HeaderName, Result, Slice, TagName};
 use std::alloc::Global;
 use std::process::Abort;
-use std::test::Fail;
 
 // The sum of bytes.
 fn sum_of(bytes: &[u8]) -> u128 {
@@ -74,7 +74,7 @@ fn header_in(bytes: &[u8]) -> Result<Header> {
     })
 }
 
-// The header of a frame at the front of bytes, as a stream gives it.
+// The header of a frame at the start of bytes, as a stream gives it.
 fn stream_in(bytes: &[u8]) -> Result<Header> {
     let header = header_in(bytes)?;
     if header.data_length != header.uncompressed_length {
@@ -110,7 +110,7 @@ fn payload_of<'a>(bytes: &'a [u8], header: &Header) -> &'a [u8] {
 }
 
 // What is seen of a block that was read from bytes: its header, and whether it has the payload
-// after it and is written again to the bytes in front of those left.
+// after it and is written again to the bytes before those left.
 fn see(alloc: Global, block: Result<Block>, bytes: &[u8], left: usize) -> Result<(Header, bool)> {
     let block = block?;
     let payload = payload_of(bytes, block.header());
@@ -192,7 +192,7 @@ fn is_frame(alloc: Global, bytes: &[u8]) -> Result<bool> {
     Ok(found == wanted(stream_in(bytes)) && whole == wanted(frame_in(bytes)))
 }
 
-// The number at the front of bytes, and its length: of at most `most` bytes, the last of these at
+// The number at the start of bytes, and its length: of at most `most` bytes, the last of these at
 // most `top`.
 fn varint_in(bytes: &[u8], most: usize, top: u8) -> Result<(u128, usize)> {
     let (mut number, mut weight) = (0u128, 1u128);
@@ -210,7 +210,7 @@ fn varint_in(bytes: &[u8], most: usize, top: u8) -> Result<(u128, usize)> {
     Err(Error::Io)
 }
 
-// The handle at the front of bytes, as offset, size and length.
+// The handle at the start of bytes, as offset, size and length.
 fn handle_in(bytes: &[u8]) -> Result<(u128, u128, usize)> {
     let (offset, len) = varint_in(bytes, 10, 1)?;
     let rest = bytes.get(len..).ok_or(Error::Io)?;
@@ -312,7 +312,7 @@ fn check_changes(rt: &impl Abort, alloc: Global, worked: &Worked, mended: Mended
 }
 
 #[test]
-fn each_change_is_judged_by_the_format(rt: HostRuntime) -> std::result::Result<(), Fail> {
+fn each_change_is_judged_by_the_format(rt: HostRuntime) -> Tested {
     for worked in &WORKED {
         for mended in worked.2 {
             check_changes(&rt, rt.alloc(), worked, *mended)?;

@@ -16,3 +16,9 @@ mod rows;
 mod slices;
 #[cfg(test)]
 mod values;
+#[cfg(test)]
+mod vectors;
+
+/// What a test returns that ends early where a call fails.
+#[cfg(test)]
+type Tested = Result<(), std::test::Fail>;

@@ -220,7 +220,7 @@ static QUEUES: [Added; 2] = [
     ),
 ];
 
-/// Whether an item that is added after a peek comes behind what was peeked at the front, and before
+/// Whether an item that is added after a peek comes after what was peeked at the front, and before
 /// what was peeked at the back.
 impl Row for Added {
     fn holds(&self, alloc: Global) -> Result<bool> {

@@ -37,7 +37,7 @@ enum Part {
     Whole,
     /// The sub-slice of the first bytes.
     First(usize),
-    /// The sub-slice behind the first bytes.
+    /// The sub-slice after the first bytes.
     Behind(usize),
     /// The sub-slice between two offsets.
     Between(usize, usize),
@@ -117,7 +117,7 @@ fn slices_have_their_bytes(rt: HostRuntime) {
     check_rows(&rt, rt.alloc(), &MADE);
 }
 
-/// The first bytes of a list and those behind, made in each way.
+/// The first bytes of a list and those after, made in each way.
 fn rows_at(at: usize) -> [Made; 7] {
     let bytes = b"0123456789abcdefghijklmnopqrstuvwxyzABCDEFGHIJKLMNOPQRSTUVWXYZ".as_slice();
     let (front, rest) = bytes.split_at(bytes.len().min(at));

@@ -12,7 +12,7 @@ use std::alloc::Global;
 use std::cmp::Ordering;
 use std::mem::size_of;
 
-// Numbers, and their varints, one behind the other.
+// Numbers, and their varints, one after the other.
 #[derive(Drop)]
 struct Written(&'static [u64], &'static [u8]);
 

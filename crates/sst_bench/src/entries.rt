@@ -72,7 +72,7 @@ pub(crate) fn bytes_in(bytes: &[u8], len: usize) -> Option<(&[u8], &[u8])>
     Some(bytes.split_at(len))
 }
 
-// The entry at the front of bytes, and the bytes after it.
+// The entry at the start of bytes, and the bytes after it.
 #[tactic(auto, using(crate::proofs::Parts::six_parts), unfolding(crate::specs::Inputs::entry_bytes))]
 fn entry_in(alloc: Global, bytes: &[u8]) -> Option<(InternalValue, &[u8])>
     ensures { IfSome result (λ p. bytes.now ≡ entry_bytes p.0 ++ p.1.now) }

@@ -17,7 +17,7 @@ use sst_base::{BlockHandle, BlockOffset, Slice};
 use sst_block_kinds::KeyedBlockHandle;
 use std::alloc::Global;
 
-// The handle at the front of bytes, and the bytes after it.
+// The handle at the start of bytes, and the bytes after it.
 #[tactic(auto, using(crate::proofs::Parts::five_parts), unfolding(crate::specs::Inputs::handle_bytes))]
 fn handle_in(alloc: Global, bytes: &[u8]) -> Option<(KeyedBlockHandle, &[u8])>
     ensures { IfSome result (λ p. bytes.now ≡ handle_bytes p.0 ++ p.1.now) }

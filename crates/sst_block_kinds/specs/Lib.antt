@@ -1,6 +1,5 @@
 pub mod Handles
 pub mod HandleLaws
-pub mod Vectors
 pub mod ParsedEntry
 pub mod ParsedHandle
 pub mod DataBlock

@@ -3,7 +3,6 @@
 
 pub mod laws;
 pub mod table;
-pub mod vectors;
 
 pub use table::data_block::{DataBlock, DataBlockParsedItem};
 pub use table::index_block::{IndexBlock, IndexBlockParsedItem, KeyedBlockHandle};

@@ -3,6 +3,7 @@
 ghost use Rattle.std.specs.Prelude.{◌<◌, ◌^◌, length};
 ghost use Rattle.sst_block_kinds.specs.ParsedHandle.{IsParsedHandle};
 
+use crate::Tested;
 use crate::index_blocks::THREE_HEADS;
 use crate::lists::{NO_BUCKETS, block_of, push};
 use crate::stages::{Kind, judge};
@@ -14,7 +15,6 @@ use sst_block_core::table::block::encoder::Encoder;
 use sst_block_kinds::{DataBlock, IndexBlock, IndexBlockParsedItem, KeyedBlockHandle};
 use std::alloc::Global;
 use std::process::Abort;
-use std::test::Fail;
 
 /// (b, b, 0) at interval 1.
 const ONE_ENTRY: [u8; 40] = [
@@ -253,7 +253,7 @@ fn with_byte(alloc: Global, bytes: &[u8], at: usize, byte: u8) -> Result<Vec<u8>
 /// The first failing stage decides. Versions of one key may have one sequence number, and the end
 /// of a block may be 2^64 - 1.
 #[test]
-fn payloads_are_checked(rt: HostRuntime) -> std::result::Result<(), Fail> {
+fn payloads_are_checked(rt: HostRuntime) -> Tested {
     for (kind, payload, at, byte, wanted) in CASES {
         let bytes = with_byte(rt.alloc(), payload, at, byte)?;
         let judged = judge(kind, &bytes);
@@ -307,7 +307,7 @@ fn changes_are_checked(rt: HostRuntime) {
 
 /// An encoder takes entries out of order, which a check refuses.
 #[test]
-fn an_encoder_writes_entries_out_of_order(rt: HostRuntime) -> std::result::Result<(), Fail> {
+fn an_encoder_writes_entries_out_of_order(rt: HostRuntime) -> Tested {
     let mut list = Vec::new(rt.alloc());
     push(&rt, &mut list, b"b", b"", 0, ValueType::Value)?;
     push(&rt, &mut list, b"a", b"", 0, ValueType::Value)?;

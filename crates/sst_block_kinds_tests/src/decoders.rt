@@ -3,6 +3,7 @@
 ghost use Rattle.std.specs.Prelude.{◌≡◌};
 ghost use Rattle.sst_block_core.specs.Window.{whole};
 
+use crate::Tested;
 use crate::lists::{List, NO_BUCKETS, Row, block_of, list_of};
 use crate::seeks::{LETTERS, offset_of};
 use sst_base::{InternalValue, Poly31, Result, ValueType, compare_bytes};
@@ -11,7 +12,6 @@ use sst_block_kinds::laws::data_block_is_read;
 use sst_block_kinds::{DataBlock, DataBlockParsedItem};
 use std::alloc::Global;
 use std::process::Abort;
-use std::test::Fail;
 
 /// A decoder of the entries of a data block.
 type Keys<'a> = Decoder<'a, InternalValue, DataBlockParsedItem>;
@@ -313,7 +313,7 @@ fn make_calls(
 
 /// Each call of a decoder returns what is written in it.
 #[test]
-fn decoders_return_what_is_written(rt: HostRuntime) -> std::result::Result<(), Fail> {
+fn decoders_return_what_is_written(rt: HostRuntime) -> Tested {
     let alloc = rt.alloc();
     for script in &CALLS {
         let list = list_of(&rt, alloc, script.list)?;

@@ -2,13 +2,13 @@
 //! prefix that all heads share.
 ghost use Rattle.std.specs.Prelude.{◌≡◌, IfOk};
 
+use crate::Tested;
 use crate::lists::{NO_BUCKETS, block_of, push, with_table};
 use sst_base::{BlockHash, InternalValue, Poly31, Result, Steps, ValueType};
 use sst_block_core::table::block::heads::{HeadTable, front_of};
 use sst_block_kinds::DataBlock;
 use std::alloc::Global;
 use std::process::Abort;
-use std::test::Fail;
 
 /// How many heads have a key below a needle, how many at most it, and how many an index seek skips.
 pub(crate) type Counts = (usize, usize, usize);
@@ -139,7 +139,7 @@ fn check_needles(
 
 /// Heads that share 0, 7, 8, 9 and 300 bytes, one head alone among them.
 #[test]
-fn heads_are_counted(rt: HostRuntime) -> std::result::Result<(), Fail> {
+fn heads_are_counted(rt: HostRuntime) -> Tested {
     for prefix in [0, 7, 8, 9, 300] {
         for count in [1, 2, 3, 8] {
             let list = keys_sharing(&rt, rt.alloc(), prefix, count)?;
@@ -181,7 +181,7 @@ fn tabled(rt: &impl Abort, alloc: Global, keys: &[&[u8]]) -> Result<DataBlock<Po
 
 /// Keys with the same first 8 bytes are told apart.
 #[test]
-fn equal_fronts_are_told_apart(rt: HostRuntime) -> std::result::Result<(), Fail> {
+fn equal_fronts_are_told_apart(rt: HostRuntime) -> Tested {
     let alloc = rt.alloc();
     let block = tabled(&rt, alloc, &[b"aaaaaaaab", b"aaaaaaaac"])?;
     let found = block.point_read(alloc, b"aaaaaaaac", 1, &mut Steps::new())?;
@@ -198,7 +198,7 @@ fn equal_fronts_are_told_apart(rt: HostRuntime) -> std::result::Result<(), Fail>
 
 /// A check makes the table, a clone has its own, and a new block has none.
 #[test]
-fn a_check_makes_the_table(rt: HostRuntime) -> std::result::Result<(), Fail> {
+fn a_check_makes_the_table(rt: HostRuntime) -> Tested {
     let alloc = rt.alloc();
     let block = tabled(&rt, alloc, &[b"a", b"b", b"c"])?;
     let copy = block.clone()?;

@@ -3,6 +3,7 @@
 ghost use Rattle.std.specs.Prelude.{◌≡◌, ◌+◌, ◌≤◌, length};
 ghost use Rattle.sst_block_core.specs.Landings.{scan_cost};
 
+use crate::Tested;
 use crate::checks::THREE_HANDLES;
 use crate::random::{Random, key_of};
 use sst_base::table::block::{Block, BlockHandle, BlockOffset, BlockType};
@@ -11,7 +12,6 @@ use sst_block_kinds::table::index_block::{IndexAnswer, IndexOp, Iter, walk};
 use sst_block_kinds::{IndexBlock, KeyedBlockHandle};
 use std::alloc::Global;
 use std::process::Abort;
-use std::test::Fail;
 
 /// A handle: the end key, the sequence number, the block's offset and its size.
 type Row = (&'static [u8], u64, u64, u32);
@@ -104,7 +104,7 @@ fn answers_of(
 /// The payloads of the three handles: each a head, which is also the encoding without an interval,
 /// and the second truncated.
 #[test]
-fn payloads_are_the_test_vectors(rt: HostRuntime) -> std::result::Result<(), Fail> {
+fn payloads_are_the_test_vectors(rt: HostRuntime) -> Tested {
     let list = handles_of(&rt, rt.alloc(), &THREE)?;
     assert!(&rt; !list.is_empty());
     assert!(&rt; IndexBlock::is_ordered(&list));
@@ -260,7 +260,7 @@ fn returns(step: &Step, answer: &IndexAnswer) -> bool {
 
 /// Each step of each script returns what is written beside it.
 #[test]
-fn scripts_return_what_is_written(rt: HostRuntime) -> std::result::Result<(), Fail> {
+fn scripts_return_what_is_written(rt: HostRuntime) -> Tested {
     let alloc = rt.alloc();
     for script in &SCRIPTS {
         let list = handles_of(&rt, alloc, script.rows)?;
@@ -282,7 +282,7 @@ fn scripts_return_what_is_written(rt: HostRuntime) -> std::result::Result<(), Fa
 
 /// The calls of a handle of 73 bytes at 146, moved by 4.
 #[test]
-fn a_handle_has_its_parts(rt: HostRuntime) -> std::result::Result<(), Fail> {
+fn a_handle_has_its_parts(rt: HostRuntime) -> Tested {
     let plain = BlockHandle::new(BlockOffset(146), 73);
     let mut handle = KeyedBlockHandle::new(Slice::new(rt.alloc(), b"key")?, 5, plain);
     let before = handle.clone()?;
@@ -417,7 +417,7 @@ fn random_ops(alloc: Global, random: &mut Random, keys: u64, count: usize) -> Re
 /// 200 random operations over the block of a random list of 1 to 40 handles return what the plain
 /// window does, at each interval up to 16, and at 255.
 #[test]
-fn random_operations_return_what_the_window_does(rt: HostRuntime) -> std::result::Result<(), Fail> {
+fn random_operations_return_what_the_window_does(rt: HostRuntime) -> Tested {
     let alloc = rt.alloc();
     let mut random = Random::new(11);
     for interval in [1, 2, 3, 4, 5, 6, 7, 8, 9, 10, 11, 12, 13, 14, 15, 16, 255] {

@@ -20,3 +20,9 @@ mod reads;
 mod seeks;
 #[cfg(test)]
 mod stages;
+#[cfg(test)]
+mod vectors;
+
+/// What a test returns that ends early where a call fails.
+#[cfg(test)]
+type Tested = Result<(), std::test::Fail>;

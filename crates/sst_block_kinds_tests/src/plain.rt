@@ -20,7 +20,7 @@ ghost use Rattle.sst_block_core.specs.Window.{is_version, first_match};
 use sst_base::{Error, InternalValue, Result, ValueType, compare_bytes};
 use std::alloc::Global;
 
-// Writes the varint of a number that has at most so many digits behind the first.
+// Writes the varint of a number that has at most so many digits after the first.
 #[tactic(auto, using(crate::proofs::PlainLaws::small_varint, crate::proofs::PlainLaws::more_varint, crate::proofs::PlainLaws::fewer_digits))]
 fn plain_varint_within(out: &mut Vec<u8>, more: u32, n: u64) -> Result<()>
     requires { n < 128 ^ (more + 1) }
@@ -172,7 +172,7 @@ pub fn plain_body(
     Ok(out)
 }
 
-/// Where the form of a place begins: behind the body of the entries before it.
+/// Where the form of a place begins: after the body of the entries before it.
 pub fn plain_offset(
     alloc: Global,
     items: &[InternalValue],

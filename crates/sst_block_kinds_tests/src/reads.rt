@@ -2,6 +2,7 @@
 //! ratios and hashes beside the plain program.
 ghost use Rattle.sst_block_kinds.specs.ParsedEntry.{IsParsedEntry};
 
+use crate::Tested;
 use crate::checks::{HASH_PAIR, LONGEST_PREFIX};
 use crate::heads::{counts_of, plain_counts};
 use crate::lists::{
@@ -16,7 +17,6 @@ use sst_block_core::table::block::hash_index::Lookup;
 use sst_block_kinds::{DataBlock, DataBlockParsedItem};
 use std::alloc::Global;
 use std::process::Abort;
-use std::test::Fail;
 
 /// Two versions of a key, of which the older is a tombstone, and another key.
 const PAIR: [Row; 3] = [
@@ -384,7 +384,7 @@ fn check_example<H: BlockHash>(rt: &impl Abort, alloc: Global, case: &Example) -
 
 /// Each example has its bytes, its buckets and its reads.
 #[test]
-fn examples_have_their_bytes(rt: HostRuntime) -> std::result::Result<(), Fail> {
+fn examples_have_their_bytes(rt: HostRuntime) -> Tested {
     for case in &EXAMPLES {
         match case.hash {
             Hash::ByteSum => check_example::<ByteSum>(&rt, rt.alloc(), case)?,
@@ -672,14 +672,14 @@ fn check_lists<H: BlockHash>(rt: &impl Abort, alloc: Global) -> Result<()> {
 
 /// Blocks hashed by `Poly31`.
 #[test]
-fn lists_are_read_by_the_polynomial_hash(rt: HostRuntime) -> std::result::Result<(), Fail> {
+fn lists_are_read_by_the_polynomial_hash(rt: HostRuntime) -> Tested {
     check_lists::<Poly31>(&rt, rt.alloc())?;
     Ok(())
 }
 
 /// Blocks hashed by `ByteSum`, by which many keys share a bucket.
 #[test]
-fn lists_are_read_by_the_sum(rt: HostRuntime) -> std::result::Result<(), Fail> {
+fn lists_are_read_by_the_sum(rt: HostRuntime) -> Tested {
     check_lists::<ByteSum>(&rt, rt.alloc())?;
     Ok(())
 }

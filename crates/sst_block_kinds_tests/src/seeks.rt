@@ -5,6 +5,7 @@ ghost use Rattle.sst_block_core.specs.Body.{place_offset};
 ghost use Rattle.sst_block_core.specs.Entries.{entries};
 ghost use Rattle.sst_block_kinds.specs.ParsedEntry.{IsParsedEntry};
 
+use crate::Tested;
 use crate::lists::{List, NO_BUCKETS, Row, block_of, is_same, list_of, push, with_table};
 use crate::plain::plain_offset;
 use crate::random::{Random, key_of};
@@ -15,7 +16,6 @@ use sst_block_kinds::table::data_block::{Answer, Iter, Op, walk};
 use sst_block_kinds::{DataBlock, DataBlockParsedItem};
 use std::alloc::Global;
 use std::process::Abort;
-use std::test::Fail;
 
 /// A call of an iterator.
 #[derive(Clone, Copy, Debug)]
@@ -315,7 +315,7 @@ fn check_lines(
 
 /// Each call of each script returns what is written beside it.
 #[test]
-fn scripts_return_what_is_written(rt: HostRuntime) -> std::result::Result<(), Fail> {
+fn scripts_return_what_is_written(rt: HostRuntime) -> Tested {
     for script in &SCRIPTS {
         let list = list_of(&rt, rt.alloc(), script.list)?;
         check_lines(&rt, rt.alloc(), &list, script.interval, script.lines)?;
@@ -465,7 +465,7 @@ fn keys_of(alloc: Global, count: u64) -> Result<Vec<Vec<u8>>> {
 /// Three times 200 random calls over random lists of 1 to 40 entries return what the plain window
 /// does, at each interval up to 16, and at 255.
 #[test]
-fn random_calls_return_what_the_window_does(rt: HostRuntime) -> std::result::Result<(), Fail> {
+fn random_calls_return_what_the_window_does(rt: HostRuntime) -> Tested {
     let alloc = rt.alloc();
     let mut random = Random::new(1);
     for _ in 0..3 {
@@ -493,7 +493,7 @@ fn lines_back(alloc: Global, count: usize) -> Result<Vec<Line<'static>>> {
 
 /// All entries of a list from the front, and from the back, at several intervals.
 #[test]
-fn all_from_the_back_are_those_from_the_front(rt: HostRuntime) -> std::result::Result<(), Fail> {
+fn all_from_the_back_are_those_from_the_front(rt: HostRuntime) -> Tested {
     let alloc = rt.alloc();
     let mut random = Random::new(7);
     let lists = [

@@ -10,7 +10,7 @@ ghost use Rattle.sst_program.specs.TableReads.{entries_counted, run_counts, Prin
 ghost use Rattle.sst_program.specs.TableReads.{FailsAround, table_counts, IsTableFault};
 ghost use Rattle.sst_program.specs.Outcome.{checked_text_of, PrintsCounts, PrintsNothing, IsRefused};
 
-use crate::fault::Fault;
+use crate::fault;
 use crate::output::print_text;
 use crate::table::{data_block_at, index_at, open_file, open_run};
 use sstable_blocks::filter::standard_bloom::StandardBloomFilterReader;
@@ -165,7 +165,7 @@ pub fn check_from<F: SeekInput + Drop, O: Write>(
     alloc: Global,
     file: F,
     output: &mut O,
-) -> std::result::Result<(), Fault>
+) -> fault::Result<()>
     ensures printed { OnOk result (PrintsCounts (O.contents output.old) (O.contents output.new)) }
     ensures err { IfErr result IsRefused }
     ensures kept { IfErr result (PrintsNothing (O.contents output.old) (O.contents output.new)) }
@@ -191,7 +191,7 @@ pub fn check<R: Files, O: Write>(
     alloc: Global,
     file: &str,
     output: &mut O,
-) -> std::result::Result<(), Fault>
+) -> fault::Result<()>
     ensures printed { OnOk result (PrintsCounts (O.contents output.old) (O.contents output.new)) }
     ensures err { IfErr result IsRefused }
     ensures kept { IfErr result (PrintsNothing (O.contents output.old) (O.contents output.new)) }

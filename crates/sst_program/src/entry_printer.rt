@@ -28,7 +28,7 @@ const PART_LEN: usize = 256;
 
 const DIGITS_LEN: usize = 2 * PART_LEN;
 
-// Puts bytes behind those that wait in a buffer. Where they do not fit, both are printed.
+// Puts bytes after those that wait in a buffer. Where they do not fit, both are printed.
 fn put<O: Write>(buffer: &mut Vec<u8>, output: &mut O, bytes: &[u8]) -> Result<()>
     ensures put { OnOk result (Puts (O.contents output.old) buffer.old.items
         (O.contents output.new) buffer.new.items bytes.now) }
@@ -76,7 +76,7 @@ fn put_hex<O: Write>(buffer: &mut Vec<u8>, output: &mut O, bytes: &[u8]) -> Resu
     Ok(())
 }
 
-// Puts the letter of a type and a sequence number, each with the space behind it.
+// Puts the letter of a type and a sequence number, each with the space after it.
 fn put_front<O: Write>(
     buffer: &mut Vec<u8>,
     output: &mut O,

@@ -29,6 +29,9 @@ pub enum Fault {
     Refused(Error),
 }
 
+/// A result whose error is the fault that ends the run.
+pub type Result<T> = std::result::Result<T, Fault>;
+
 /// Returns the number and the bare name of a refusal, as in `E15 Memory`.
 pub fn refusal_name(error: Error) -> &'static str
     ensures { result.now ≡ refusal_name_of error }

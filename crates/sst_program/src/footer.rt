@@ -48,7 +48,7 @@ fn filter_parts(filter: &Option<BlockHandle>) -> BlockHandle
     }
 }
 
-/// Returns the handles of a footer, at the front of these bytes. If the size of the filter is 0
+/// Returns the handles of a footer, at the start of these bytes. If the size of the filter is 0
 /// there is none, wherever its offset is.
 ///
 /// # Errors

@@ -10,7 +10,7 @@ ghost use Rattle.sst_program.specs.TableReads.{sst_hashes, PrintsAnswerOf, Fails
 ghost use Rattle.sst_program.specs.TableReads.{table_answer, IsTableFault};
 ghost use Rattle.sst_program.specs.Outcome.{answer_text_of, PrintsAnswer, PrintsNothing, IsRefused};
 
-use crate::fault::Fault;
+use crate::fault;
 use crate::lines::answer_line;
 use crate::output::print_text;
 use crate::table::{open_file, open_run};
@@ -100,7 +100,7 @@ pub fn get_from<F: SeekInput + Drop, O: Write>(
     file: F,
     words: &GetWords<'_>,
     output: &mut O,
-) -> std::result::Result<(), Fault>
+) -> fault::Result<()>
     ensures printed { OnOk result (PrintsAnswer (O.contents output.old) (O.contents output.new)) }
     ensures err { IfErr result IsRefused }
     ensures kept { IfErr result (PrintsNothing (O.contents output.old) (O.contents output.new)) }
@@ -127,7 +127,7 @@ pub fn get<R: Files, O: Write>(
     alloc: Global,
     words: &GetWords<'_>,
     output: &mut O,
-) -> std::result::Result<(), Fault>
+) -> fault::Result<()>
     ensures printed { OnOk result (PrintsAnswer (O.contents output.old) (O.contents output.new)) }
     ensures err { IfErr result IsRefused }
     ensures kept { IfErr result (PrintsNothing (O.contents output.old) (O.contents output.new)) }

@@ -7,7 +7,7 @@ ghost use Rattle.sst_block_core.specs.Entries.{entries};
 ghost use Rattle.sst_program.specs.Lines.{entries_of_input};
 ghost use Rattle.sst_program.specs.Outcome.{IsOutcomeOf, IsFaultOf, run_of_input};
 
-use crate::fault::Fault;
+use crate::fault::{self, Fault};
 use crate::lines::entry_in;
 use crate::order::fault_of;
 use sstable_blocks::{Error, InternalValue, Result};
@@ -49,10 +49,7 @@ fn read_part<T>(outcome: io::Result<T>) -> Result<T>
 /// `Fault::Entry` with the number of the first line that is no entry; the input is not read past its
 /// buffer then. `Error::Memory` if an allocation fails or the reader answers
 /// `ErrorKind::OutOfMemory`, and `Error::Io` if the reader fails in another way.
-pub fn read_entries<I: Read>(
-    alloc: Global,
-    input: &mut I,
-) -> std::result::Result<Vec<InternalValue>, Fault>
+pub fn read_entries<I: Read>(alloc: Global, input: &mut I) -> fault::Result<Vec<InternalValue>>
     ensures ok { IfOk result
         (λ items. IsOutcomeOf entries_of_input (I.remaining input.old) items.items) }
     ensures err { IfErr result (IsFaultOf entries_of_input (I.remaining input.old)) }
@@ -76,10 +73,7 @@ pub fn read_entries<I: Read>(
 ///
 /// `Fault::NoEntries`, `Fault::Entry` and `Fault::Order` as the input demands, `Error::Memory` if
 /// an allocation fails, and `Error::Io` if the input fails.
-pub fn ordered_entries<I: Read>(
-    alloc: Global,
-    input: &mut I,
-) -> std::result::Result<Vec<InternalValue>, Fault>
+pub fn ordered_entries<I: Read>(alloc: Global, input: &mut I) -> fault::Result<Vec<InternalValue>>
     ensures ok { IfOk result
         (λ items. IsOutcomeOf run_of_input (I.remaining input.old) items.items) }
     ensures err { IfErr result (IsFaultOf run_of_input (I.remaining input.old)) }

@@ -95,7 +95,7 @@ struct Parts<'a> {
     value: &'a [u8],
 }
 
-// The bytes before the first one of this value, and those behind it.
+// The bytes before the first one of this value, and those after it.
 fn cut_at(bytes: &[u8], byte: u8) -> Option<(&[u8], &[u8])>
     ensures joined { IfSome result (λ p. bytes.now ≡ p.0.now ++ (byte ∷ p.1.now)) }
     ensures first { IfSome result (λ p. Lacks byte p.0.now) }
@@ -105,7 +105,7 @@ fn cut_at(bytes: &[u8], byte: u8) -> Option<(&[u8], &[u8])>
     Some((&bytes[..end], &bytes[end + 1..]))
 }
 
-// The parts of a line. The last has what is behind the third space.
+// The parts of a line. The last has what is after the third space.
 fn parts_of(line: &[u8]) -> Option<Parts<'_>>
     ensures joined { IfSome result (λ p. line.now
         ≡ joined_by_spaces p.letter.now p.seqno.now p.key.now p.value.now) }

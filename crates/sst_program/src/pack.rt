@@ -8,7 +8,7 @@ ghost use Rattle.sst_program.specs.Outcome.{packed_text_of, PrintsPacked, Prints
 ghost use Rattle.sst_program.specs.Table.{IsCutBy, AppendsTable, IsPacked, IsWriteFault};
 ghost use Rattle.sst_program.specs.Table.{end_of, run_end};
 
-use crate::fault::Fault;
+use crate::fault::{self, Fault};
 use crate::footer::{FOOTER_LEN, footer_of};
 use crate::input::ordered_entries;
 use crate::output::print_text;
@@ -55,7 +55,7 @@ fn add_blocks<W: Write>(
     Ok(())
 }
 
-// The offset behind a frame.
+// The offset after a frame.
 fn end_of(handle: &BlockHandle) -> Option<u64>
     ensures { IfSome result (λ end. end ≡ end_of handle.now) }
 {
@@ -132,7 +132,7 @@ pub fn pack<R: LockFiles, I: Read, O: Write>(
     words: &PackWords<'_>,
     input: &mut I,
     output: &mut O,
-) -> std::result::Result<(), Fault>
+) -> fault::Result<()>
     ensures printed { OnOk result (PrintsPacked words.now (I.remaining input.old)
         (O.contents output.old) (O.contents output.new)) }
     ensures err { IfErr result (IsPackFault (I.remaining input.old)) }

@@ -13,7 +13,7 @@ ghost use Rattle.sst_program.specs.Point.{point_payload, point_text_of, answer_l
 ghost use Rattle.sst_program.specs.Outcome.{outcome_of_query};
 ghost use Rattle.sst_program.specs.Outcome.{IsOutcomeOf, IsFaultOf, PrintsNothing};
 
-use crate::fault::Fault;
+use crate::fault::{self, Fault};
 use crate::input::ordered_entries;
 use crate::lines::answer_line;
 use crate::output::print_text;
@@ -99,11 +99,7 @@ pub fn point_text(
 }
 
 // What `point` prints for this input.
-fn text_for<I: Read>(
-    alloc: Global,
-    words: &PointWords,
-    input: &mut I,
-) -> std::result::Result<Vec<u8>, Fault>
+fn text_for<I: Read>(alloc: Global, words: &PointWords, input: &mut I) -> fault::Result<Vec<u8>>
     ensures ok { IfOk result
         (λ text. IsOutcomeOf (outcome_of_query words.now) (I.remaining input.old) text.items) }
     ensures err { IfErr result (IsFaultOf (outcome_of_query words.now) (I.remaining input.old)) }
@@ -130,7 +126,7 @@ pub fn point<I: Read, O: Write>(
     words: &PointWords,
     input: &mut I,
     output: &mut O,
-) -> std::result::Result<(), Fault>
+) -> fault::Result<()>
     ensures printed { OnOk result ((text : List ℕ)
         × IsOutcomeOf (outcome_of_query words.now) (I.remaining input.old) text
         × Appends (O.contents output.old) (O.contents output.new) text) }

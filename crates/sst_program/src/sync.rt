@@ -53,7 +53,7 @@ pub struct BufferedFile<F: Write + Drop> {
 }
 
 impl<F: Write + Drop> BufferedFile<F> {
-    /// Makes a buffer in front of a file.
+    /// Wraps a file in a buffer.
     ///
     /// # Errors
     ///

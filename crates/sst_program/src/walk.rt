@@ -11,7 +11,7 @@ ghost use Rattle.sst_program.specs.TableReads.{FailsAround, FailsAmong, table_bl
 ghost use Rattle.sst_program.specs.TableReads.{PrintsLinesOf, PrintsUntil, PrintsFirst};
 
 use crate::entry_printer::print_entries_of;
-use crate::fault::Fault;
+use crate::fault;
 use crate::table::{data_block_at, index_at, open_file, open_run};
 use sstable_blocks::{BlockHandle, Error, FrameSource, IndexBlock, Poly31, Result, SeekInput};
 use std::alloc::Global;
@@ -128,7 +128,7 @@ pub fn walk_from<F: SeekInput + Drop, O: Write>(
     alloc: Global,
     file: F,
     output: &mut O,
-) -> std::result::Result<(), Fault>
+) -> fault::Result<()>
     ensures printed { OnOk result (PrintsLines (O.contents output.old) (O.contents output.new)) }
     ensures err { IfErr result IsRefused }
     ensures kept { IfErr result
@@ -157,7 +157,7 @@ pub fn walk<R: Files, O: Write>(
     alloc: Global,
     file: &str,
     output: &mut O,
-) -> std::result::Result<(), Fault>
+) -> fault::Result<()>
     ensures printed { OnOk result (PrintsLines (O.contents output.old) (O.contents output.new)) }
     ensures err { IfErr result IsRefused }
     ensures kept { IfErr result

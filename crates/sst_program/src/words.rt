@@ -11,7 +11,7 @@ ghost use Rattle.sst_program.specs.Commands.{config_of, index_interval_of, packi
 ghost use Rattle.sst_program.specs.Commands.{lookup_of, get_of_words, file_of_words, command_of_words};
 ghost use Rattle.sst_program.specs.declared.words.Command.TheVariants.{Point, Pack, Get, Walk, Check};
 
-use crate::fault::Fault;
+use crate::fault::{self, Fault};
 use crate::text::{bytes_in, number_in, number_within};
 use sstable_blocks::{Error, HashRatio, Result, RunConfig};
 use std::alloc::{Allocator, Global};
@@ -491,7 +491,7 @@ pub fn words_after_name<A: Allocator>(alloc: A, words: Args<A>) -> Result<Vec<St
 /// # Errors
 ///
 /// `Fault::Usage` if an argument is not UTF-8, and `Error::Memory` if an allocation fails.
-pub fn words_of<R: Env + Alloc>(rt: &R) -> std::result::Result<Vec<String<R::A>, R::A>, Fault>
+pub fn words_of<R: Env + Alloc>(rt: &R) -> fault::Result<Vec<String<R::A>, R::A>>
     ensures err { IfErr result (λ fault. (fault ≡ Usage) ⊎ (fault ≡ Refused Memory)) }
 {
     match env::args(rt) {

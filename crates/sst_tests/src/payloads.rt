@@ -2,7 +2,7 @@
 use crate::rules::CALLS;
 use std::io;
 
-/// Returns the token at a distance behind an index, or nothing.
+/// Returns the token at a distance after an index, or nothing.
 fn behind(tokens: &[String], i: usize, distance: usize) -> &str {
     match i.checked_add(distance).and_then(|at| tokens.get(at)) {
         Some(token) => token.as_str(),
@@ -10,7 +10,7 @@ fn behind(tokens: &[String], i: usize, distance: usize) -> &str {
     }
 }
 
-/// Returns the token at a distance in front of an index, or nothing.
+/// Returns the token at a distance before an index, or nothing.
 fn before(tokens: &[String], i: usize, distance: usize) -> &str {
     match i.checked_sub(distance).and_then(|at| tokens.get(at)) {
         Some(token) => token.as_str(),
@@ -41,7 +41,7 @@ fn may_take(call: Option<&String>) -> bool {
     }
 }
 
-/// Returns the index behind a payload, and behind `.as_slice()` where that follows.
+/// Returns the index after a payload, and after `.as_slice()` where that follows.
 fn end_of(tokens: &[String], i: usize) -> usize {
     let as_slice = behind(tokens, i, 1) == "."
         && behind(tokens, i, 2) == "as_slice"
@@ -59,7 +59,7 @@ fn is_own(tokens: &[String], i: usize) -> bool {
     before(tokens, i, 1) == "." && before(tokens, i, 2) == "self"
 }
 
-/// Returns the token in front of a payload, of `self` where it is its own, and of a `&`.
+/// Returns the token before a payload, of `self` where it is its own, and of a `&`.
 fn lead_of(tokens: &[String], i: usize) -> &str {
     let start = if is_own(tokens, i) {
         i.saturating_sub(2)

@@ -52,7 +52,7 @@ pub const PLANTED: [(&str, bool); 30] = [
     ),
 ];
 
-/// A text, what makes a reader, an iterator or counters, and how often it stands there.
+/// A text, what makes a reader, an iterator or counters, and how often it occurs.
 pub const COUNTED: [(&str, &str, usize); 6] = [
     ("let walked = self.entries().count();", ". entries (", 1),
     (

@@ -64,7 +64,7 @@ pub const CALLS: [&str; 23] = [
 ];
 
 /// What makes a reader, a decoder, an iterator or counters, gets at the payload, or reads numbers;
-/// each as it stands in tokens.
+/// each as tokens.
 pub const MAKERS: [&str; 26] = [
     "FormReader : : new (",
     "Intervals : : new (",
@@ -94,7 +94,7 @@ pub const MAKERS: [&str; 26] = [
     "unsafe",
 ];
 
-/// A source, one of [`MAKERS`], and how often it stands there. Where none is given it stands
+/// A source, one of [`MAKERS`], and how often it occurs. Where none is given it occurs
 /// nowhere.
 pub const MADE: [(&str, &str, usize); 35] = [
     // The one reader that counts is made where intervals are opened.

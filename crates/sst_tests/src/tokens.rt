@@ -63,7 +63,7 @@ impl Reading {
         Ok(())
     }
 
-    /// Reads a line of code, up to a comment behind it.
+    /// Reads a line of code, up to a comment after it.
     fn take_line(&mut self, rt: &impl AllocGlobal, line: &str) -> io::Result<()> {
         let code = match line.split_once(" // ") {
             Some((code, _)) => code,

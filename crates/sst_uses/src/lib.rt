@@ -85,3 +85,7 @@ pub fn read(
 {
     block.point_read(alloc, key, seqno, &mut Steps::new())
 }
+
+/// What a test returns that ends early where a call fails.
+#[cfg(test)]
+type Tested = std::result::Result<(), std::test::Fail>;

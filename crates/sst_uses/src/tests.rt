@@ -2,11 +2,10 @@
 ghost use Rattle.std.specs.Prelude.{◌≤◌, length};
 
 use crate::newest::newest_below;
-use crate::{append_entries, count_below, open_block, read};
+use crate::{Tested, append_entries, count_below, open_block, read};
 use sstable_blocks::{DataBlock, InternalValue, Poly31, Result, Slice, ValueType};
 use std::alloc::Global;
 use std::process::Abort;
-use std::test::Fail;
 
 /// Appends an entry to a list.
 fn push(list: &mut Vec<InternalValue>, key: &[u8], value: &[u8], seqno: u64) -> Result<()>
@@ -39,14 +38,14 @@ fn block_of_three(rt: &impl Abort, alloc: Global) -> Result<DataBlock<Poly31>> {
 }
 
 #[test]
-fn entries_below_a_number_are_counted(rt: HostRuntime) -> std::result::Result<(), Fail> {
+fn entries_below_a_number_are_counted(rt: HostRuntime) -> Tested {
     let block = block_of_three(&rt, rt.alloc())?;
     assert_eq!(rt; count_below(&block, 6), 2);
     Ok(())
 }
 
 #[test]
-fn all_entries_are_appended(rt: HostRuntime) -> std::result::Result<(), Fail> {
+fn all_entries_are_appended(rt: HostRuntime) -> Tested {
     let alloc = rt.alloc();
     let block = block_of_three(&rt, alloc)?;
     let mut all = Vec::new(alloc);
@@ -56,7 +55,7 @@ fn all_entries_are_appended(rt: HostRuntime) -> std::result::Result<(), Fail> {
 }
 
 #[test]
-fn an_older_version_is_read(rt: HostRuntime) -> std::result::Result<(), Fail> {
+fn an_older_version_is_read(rt: HostRuntime) -> Tested {
     let block = block_of_three(&rt, rt.alloc())?;
     match read(rt.alloc(), &block, b"apple", 7)? {
         Some(found) => assert!(rt; found.value().eq_bytes(b"green")),
@@ -66,7 +65,7 @@ fn an_older_version_is_read(rt: HostRuntime) -> std::result::Result<(), Fail> {
 }
 
 #[test]
-fn an_older_version_is_read_from_a_list(rt: HostRuntime) -> std::result::Result<(), Fail> {
+fn an_older_version_is_read_from_a_list(rt: HostRuntime) -> Tested {
     let list = three_entries(rt.alloc())?;
     assert!(rt; !list.is_empty());
     assert!(rt; DataBlock::<Poly31>::is_ordered(&list));
@@ -78,7 +77,7 @@ fn an_older_version_is_read_from_a_list(rt: HostRuntime) -> std::result::Result<
 }
 
 #[test]
-fn an_absent_key_is_not_read(rt: HostRuntime) -> std::result::Result<(), Fail> {
+fn an_absent_key_is_not_read(rt: HostRuntime) -> Tested {
     let block = block_of_three(&rt, rt.alloc())?;
     assert!(rt; read(rt.alloc(), &block, b"plum", 9)?.is_none());
     Ok(())

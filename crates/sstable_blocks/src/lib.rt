@@ -8,7 +8,6 @@
 pub mod laws;
 pub mod run;
 pub mod table;
-pub mod vectors;
 
 pub use run::{
     FileSource, FrameSource, MemorySource, RunConfig, RunHandles, RunWriter, cuts_fit, read_entry,

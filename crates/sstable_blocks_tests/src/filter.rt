@@ -1,4 +1,5 @@
 // Filters: their bytes, what is refused, and what they say of keys and hashes.
+use crate::Tested;
 use crate::rows::{Row, check_rows};
 use sst_base::{
     Block, BlockHash, BlockType, ByteSum, Error, HeaderName, Poly31, Result, Slice, TagName,
@@ -9,7 +10,6 @@ use sstable_blocks::table::filter::standard_bloom::{
 };
 use sstable_blocks::table::filter::{BloomConstructionPolicy, FilterBlock, FilterType};
 use std::alloc::Global;
-use std::test::Fail;
 
 /// The payload for one key at 10 bits, with the hash 97 inserted.
 pub(crate) const ONE_KEY: [u8; 24] = [
@@ -160,7 +160,7 @@ fn filters_have_their_bytes(rt: HostRuntime) {
 const KEYS: [(&[u8], bool); 3] = [(b"a", true), (b"q", true), (b"b", false)];
 
 #[test]
-fn one_key_is_found(rt: HostRuntime) -> std::result::Result<(), Fail> {
+fn one_key_is_found(rt: HostRuntime) -> Tested {
     let reader = StandardBloomFilterReader::new(&ONE_KEY)?;
     assert!(rt; reader.len() == 2 && Builder::get_hash::<ByteSum>(b"a") == 97);
     for (key, is_found) in &KEYS {
@@ -234,7 +234,7 @@ impl Row for Set {
 }
 
 #[test]
-fn bits_are_set(rt: HostRuntime) -> std::result::Result<(), Fail> {
+fn bits_are_set(rt: HostRuntime) -> Tested {
     check_rows(&rt, rt.alloc(), &SET);
     let mut bits = bit_array::Builder::with_capacity(rt.alloc(), 2)?;
     bits.enable_bit(8);
@@ -274,7 +274,7 @@ fn hash_of(number: u64) -> u64 {
 }
 
 #[test]
-fn no_key_is_hidden(rt: HostRuntime) -> std::result::Result<(), Fail> {
+fn no_key_is_hidden(rt: HostRuntime) -> Tested {
     let alloc = rt.alloc();
     let mut builder = BloomConstructionPolicy::default().init(alloc, 10000)?;
     for number in 0..10000 {

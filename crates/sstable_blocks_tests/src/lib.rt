@@ -18,3 +18,9 @@ mod random_runs;
 mod rows;
 #[cfg(test)]
 mod runs;
+#[cfg(test)]
+mod vectors;
+
+/// What a test returns that ends early where a call fails.
+#[cfg(test)]
+type Tested = Result<(), std::test::Fail>;

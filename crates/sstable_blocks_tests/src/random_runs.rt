@@ -54,7 +54,7 @@ fn random_cuts(alloc: Global, len: usize, random: &mut Random) -> Result<Vec<usi
     Ok(cuts)
 }
 
-/// A read of a list: each key at and above its sequence number, and then a key behind all.
+/// A read of a list: each key at and above its sequence number, and then a key after all.
 fn query_at(list: &[InternalValue], number: usize) -> (&[u8], u64) {
     match list.get(number / 2) {
         Some(entry) => {

@@ -1,4 +1,4 @@
-// Tables of cases: one loop goes over each.
+// Tables of cases: one loop runs over each.
 use sst_base::Result;
 use std::alloc::Global;
 use std::process::Abort;

@@ -167,7 +167,7 @@ const WRITTEN: [Written; 5] = [
     Written(EIGHT, &[], (16, 4294967295, 1), Err(Error::TooLong), &[]),
 ];
 
-/// Whether bytes are these parts, one behind the other.
+/// Whether bytes are these parts, one after the other.
 fn are_parts(bytes: &[u8], parts: &[Part]) -> bool {
     let mut rest = bytes;
     for (whole, start, end) in parts {
@@ -342,7 +342,7 @@ fn blocks_are_added(rt: HostRuntime) {
     check_rows(&rt, rt.alloc(), &ADDED);
 }
 
-/// The entries of a block, those of another, and whether this fits behind the first.
+/// The entries of a block, those of another, and whether this fits after the first.
 #[derive(Drop)]
 struct Next(&'static [Entry], &'static [Entry], bool);
 
@@ -357,7 +357,7 @@ const NEXT: [Next; 6] = [
     Next(BZ, &[(b"c", b"w", 9)], true),
 ];
 
-/// Adds a block, if it fits at the start: the number of blocks then, and whether another fits behind.
+/// Adds a block, if it fits at the start: the number of blocks then, and whether another fits after.
 fn add_one(alloc: Global, first: &[InternalValue], next: &[InternalValue]) -> (usize, bool) {
     let mut writer: RunWriter<ByteSum, _> = RunWriter::new(
         alloc,

@@ -19,12 +19,12 @@ ghost use Rattle.sst_base.specs.Inputs.{ReadsAllocating};
 
 mod short;
 
-use crate::error::{Error, Result};
+use crate::error::{AllocResult, Error, Result};
 use crate::input::{Input, note_bytes};
 use crate::table::util::compare_bytes;
 use bytes::Bytes;
 use short::{SHORT_LEN, ShortBytes};
-use std::alloc::{AllocError, Global};
+use std::alloc::Global;
 use std::cmp::Ordering;
 use std::hash::{Hash, Hasher};
 use std::marker::Model;
@@ -242,7 +242,7 @@ impl Slice {
         }
     }
 
-    /// Copies two byte strings, the second behind the first.
+    /// Copies two byte strings, the second after the first.
     ///
     /// # Errors
     ///
@@ -309,7 +309,7 @@ impl Slice {
 impl Clone for Slice {
     ghost is_clone = { λ s copy. copy ≡ s };
 
-    fn clone(&self) -> std::result::Result<Slice, AllocError> {
+    fn clone(&self) -> AllocResult<Slice> {
         match &self.held {
             Held::Short(bytes) => Ok(Slice::short(bytes.again())),
             Held::Shared(bytes) => Ok(Slice::shared(bytes.clone()?)),

@@ -33,7 +33,7 @@ impl ShortBytes {
         ShortBytes::joined(bytes, &[])
     }
 
-    /// Copies two byte strings, the second behind the first.
+    /// Copies two byte strings, the second after the first.
     #[inline(always)]
     pub(crate) fn joined(left: &[u8], right: &[u8]) -> ShortBytes
         requires { length left.now + length right.now ≤ 39 }

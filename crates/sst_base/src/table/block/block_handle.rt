@@ -72,7 +72,7 @@ impl Encode for BlockHandle {
 }
 
 /// `Error::BadHandle` at the first byte with which no minimal encoding of a number within its width
-/// goes on; the byte behind it is not asked for.
+/// goes on; the byte after it is not asked for.
 impl Decode for BlockHandle {
     ghost decoded = { handle_at };
 

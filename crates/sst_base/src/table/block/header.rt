@@ -38,7 +38,7 @@ const DATA_LENGTH_AT: usize = 21;
 
 const UNCOMPRESSED_LENGTH_AT: usize = 25;
 
-/// The header of a block, 33 bytes in front of its payload.
+/// The header of a block, 33 bytes before its payload.
 ///
 /// | At | Bytes | Content |
 /// |---|---|---|
@@ -176,7 +176,7 @@ fn block_type_from<R: Input>(reader: &mut R) -> Result<BlockType>
     BlockType::try_from(tag[0])
 }
 
-// The header of a type and the 28 bytes behind it.
+// The header of a type and the 28 bytes after it.
 #[tactic(auto, unfolding(crate::specs::Header::header_of))]
 fn header_of<H: BlockHash>(block_type: BlockType, tail: &[u8; 28]) -> Result<Header>
     ensures { result ≡ header_of H.hash128 block_type (take 24 tail.now)

@@ -16,7 +16,7 @@ pub mod header;
 pub mod offset;
 
 use crate::checksum::Checksum;
-use crate::error::{Error, Result};
+use crate::error::{AllocResult, Error, Result};
 use crate::hash::BlockHash;
 use crate::input::{Input, SeekInput};
 use crate::slice::Slice;
@@ -25,7 +25,7 @@ pub use block_type::BlockType;
 use header::HEADER_LEN;
 pub use header::Header;
 pub use offset::BlockOffset;
-use std::alloc::{AllocError, Global};
+use std::alloc::Global;
 use std::fmt;
 use std::io::Write;
 use std::marker::Model;
@@ -148,7 +148,7 @@ impl Block {
             → ReadsAllocating (R.is_memory reader.old) result (R.remaining reader.new)
             (frame_at H.hash128 bytes) }
 
-        // What is read is a front of the input that is a frame, and the rest is left.
+        // What is read is a prefix of the input that is a frame, and the rest is left.
         ensures found { (bytes : List ℕ) → R.remaining reader.old ≡ Some bytes
             → IfOk result (λ b. (rest : List ℕ) × (R.remaining reader.new ≡ Some rest)
             × (bytes ≡ frame H.hash128 b.header.block_type b.payload ++ rest)
@@ -184,7 +184,7 @@ impl Block {
         Block::behind_header::<H, R>(alloc, reader, header)
     }
 
-    // Reads what is behind a header.
+    // Reads what is after a header.
     #[tactic(auto, unfolding(crate::specs::Frame::block_at))]
     fn behind_header<H: BlockHash, R: Input>(
         alloc: Global,
@@ -295,7 +295,7 @@ impl Block {
 impl Clone for Block {
     ghost is_clone = { λ b copy. copy ≡ b };
 
-    fn clone(&self) -> std::result::Result<Block, AllocError> {
+    fn clone(&self) -> AllocResult<Block> {
         Ok(Block {
             header: self.header,
             payload: self.payload.clone()?,

@@ -1,5 +1,0 @@
-use Rattle.std.proofs.Common.{[], ◌∷◌, ◌++◌}
-use Rattle.sst_base.proofs.history.History.push.Given as goal
-
-abbrev pub ghost-chosen_note : goal.ghost-chosen_note
-ghost-chosen_note g a = a.first.now.value ++ a.second.now ∷ []
