@@ -1,4 +1,5 @@
-//! Laws of the definitions that contracts cite. Each function states one law, and does nothing.
+//! Laws of the definitions that contracts cite. Each function does nothing, and its contract is one
+//! law: a caller has it in its proof by calling the function.
 ghost use Rattle.std.specs.Prelude.{◌≡◌, ◌↔◌, ◌⊎◌, ℕ, ◌+◌, ◌<◌};
 ghost use Rattle.std.specs.Prelude.{◌≤◌, ◌^◌, List, ◌++◌, length, take};
 ghost use Rattle.std.specs.Prelude.{nat_eq, true, Some, Ok};

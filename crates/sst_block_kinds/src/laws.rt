@@ -1,4 +1,5 @@
-//! Laws of the definitions: each function does nothing, and its contract is one law.
+//! Laws of the definitions that contracts cite. Each function does nothing, and its contract is one
+//! law: a caller has it in its proof by calling the function.
 ghost use Rattle.std.specs.Prelude.{◌≡◌, ◌↔◌, if◌then◌else◌, ℕ, ◌+◌};
 ghost use Rattle.std.specs.Prelude.{◌/◌, ◌≤◌, ◌<◌, ◌^◌};
 ghost use Rattle.std.specs.Prelude.{List, ◌++◌, map, length, ◌*◌, Ok};

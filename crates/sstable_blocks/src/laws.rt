@@ -1,4 +1,5 @@
-//! Laws of the definitions that contracts cite. Each function states one law, and does nothing.
+//! Laws of the definitions that contracts cite. Each function does nothing, and its contract is one
+//! law: a caller has it in its proof by calling the function.
 ghost use Rattle.std.specs.Prelude.{◌≡◌, ℕ, ◌+◌, ◌<◌, ◌^◌, List, length, Ok};
 ghost use Rattle.std.specs.List.{Contains};
 ghost use Rattle.sst_base.specs.Bytes.{IsBytes};

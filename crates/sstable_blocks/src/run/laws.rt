@@ -1,4 +1,5 @@
-//! Laws of runs. Each function states one law, and does nothing.
+//! Laws of runs. Each function does nothing, and its contract is one law: a caller has it in its
+//! proof by calling the function.
 ghost use Rattle.std.specs.Prelude.{◌≤◌, ◌≡◌, ℕ, ◌<◌, ◌^◌, List, length, slice_get, Ok};
 ghost use Rattle.sst_block_core.specs.Entries.{entries};
 ghost use Rattle.sstable_blocks.specs.RunReading.{Hashes, hashes, read_checked, AnswerMeans};

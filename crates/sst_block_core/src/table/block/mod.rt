@@ -1,4 +1,4 @@
-//! Blocks: what writes and reads the items of one.
+//! Blocks: the block encoder and decoder, the binary and the hash index, the check, and searches.
 pub(crate) mod back;
 pub mod binary_index;
 pub mod bound;
