@@ -12,3 +12,4 @@ pub mod ShortVarints
 pub mod ShortSlices
 pub mod LastItems
 mod Remainders
+pub mod FourHashes

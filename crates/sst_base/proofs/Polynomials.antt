@@ -1,5 +1,5 @@
 -- The polynomial hash, with or without the multiples of the modulus left out at each step.
-use Rattle.std.proofs.Common.{◌≡◌, ℕ, ◌+◌, ◌*◌, ◌%◌, ◌^◌, ◌≤◌, List, [], ◌∷◌, length, take, drop, refl, arith, sym, ◌∙◌, ap, take-add, length-drop}
+use Rattle.std.proofs.Common.{◌≡◌, ℕ, ◌+◌, ◌*◌, ◌%◌, ◌^◌, ◌≤◌, List, [], ◌∷◌, length, take, drop, ◌++◌, refl, arith, sym, ◌∙◌, ap, take-add, length-drop}
 use Rattle.std.specs.List.{fold}
 use Rattle.std.proofs.lemmas.List.{length-take-le, take-append-drop}
 use Rattle.std.proofs.lemmas.Nat.{mul-mod_first}
@@ -32,18 +32,36 @@ eight_steps h (a ∷ b ∷ c ∷ d ∷ e ∷ f ∷ g ∷ []) l = absurd (omega a
 eight_steps h (a ∷ b ∷ c ∷ d ∷ e ∷ f ∷ g ∷ i ∷ []) l = omega arith
 eight_steps h (a ∷ b ∷ c ∷ d ∷ e ∷ f ∷ g ∷ i ∷ j ∷ w) l = absurd (omega arith)
 
--- eight bytes more
-pub eight_more : (bits from : ℕ) (bytes : List ℕ) (i hash product next v : ℕ) → 8 * i + 8 ≤ length bytes → hash ≡ poly31_from bits from (take (8 * i) bytes) → product ≡ (hash * 852891037441) % 2 ^ bits → v ≡ fold times31 0 (take 8 (drop (8 * i) bytes)) → next ≡ (product + v) % 2 ^ bits → next ≡ poly31_from bits from (take (8 * (i + 1)) bytes)
-eight_more bits from bytes i hash product next v h e p q r =
-    let plain = fold times31 from (take (8 * i) bytes) in
-    let w = take 8 (drop (8 * i) bytes) in
-    let n : 8 * (i + 1) ≡ 8 * i + 8 = omega arith in
-    let l : length w ≡ 8 = length-take-le 8 (drop (8 * i) bytes) (omega (arith, length-drop (8 * i) bytes)) in
-    let longer : fold times31 from (take (8 * (i + 1)) bytes) ≡ plain * 852891037441 + v =
-    ap (λ k. fold times31 from (take k bytes)) n ∙ ap (fold times31 from) (take-add (8 * i) 8 bytes) ∙ fold-append times31 from (take (8 * i) bytes) w ∙ eight_steps plain w l ∙ ap (λ k. plain * 852891037441 + k) (sym q) in
-    r ∙ ap (λ k. (k + v) % 2 ^ bits) (p ∙ ap (λ k. (k * 852891037441) % 2 ^ bits) e ∙ mul-mod_first plain 852891037441 (2 ^ bits)) ∙ add-mod_first (plain * 852891037441) v (2 ^ bits) ∙ ap (λ k. k % 2 ^ bits) (sym longer)
+-- sixteen bytes more
+pub sixteen_steps : (h : ℕ) (w : List ℕ) → length w ≡ 16 → fold times31 h w ≡ h * 727423121747185263828481 + fold times31 0 w
+sixteen_steps h w l =
+    let first = take 8 w in
+    let last = drop 8 w in
+    let join : first ++ last ≡ w = take-append-drop 8 w in
+    let a : length first ≡ 8 = length-take-le 8 w (omega (arith, l)) in
+    let b : length last ≡ 8 = omega (arith, l, length-drop 8 w) in
+    let whole : (k : ℕ) → fold times31 k w ≡ (k * 852891037441 + fold times31 0 first) * 852891037441 + fold times31 0 last = λ k.
+    ap (fold times31 k) (sym join) ∙ fold-append times31 k first last ∙ eight_steps (fold times31 k first) last b
+    ∙ ap (λ m. m * 852891037441 + fold times31 0 last) (eight_steps k first a) in
+    let x = whole h in
+    let y = whole 0 in
+    omega (arith, x, y)
 
--- the bytes behind the last eight
+-- some bytes more, as many in each step, at which what was so far is multiplied by a power
+pub bytes_more : (n power : ℕ) → ((h : ℕ) (w : List ℕ) → length w ≡ n → fold times31 h w ≡ h * power + fold times31 0 w)
+    → (bits from : ℕ) (bytes : List ℕ) (i hash product next v : ℕ) → n * i + n ≤ length bytes → hash ≡ poly31_from bits from (take (n * i) bytes)
+    → product ≡ (hash * power) % 2 ^ bits → v ≡ fold times31 0 (take n (drop (n * i) bytes)) → next ≡ (product + v) % 2 ^ bits
+    → next ≡ poly31_from bits from (take (n * (i + 1)) bytes)
+bytes_more n power steps bits from bytes i hash product next v h e p q r =
+    let plain = fold times31 from (take (n * i) bytes) in
+    let w = take n (drop (n * i) bytes) in
+    let more : n * (i + 1) ≡ n * i + n = omega arith in
+    let l : length w ≡ n = length-take-le n (drop (n * i) bytes) (omega (arith, h, length-drop (n * i) bytes)) in
+    let longer : fold times31 from (take (n * (i + 1)) bytes) ≡ plain * power + v =
+    ap (λ k. fold times31 from (take k bytes)) more ∙ ap (fold times31 from) (take-add (n * i) n bytes) ∙ fold-append times31 from (take (n * i) bytes) w ∙ steps plain w l ∙ ap (λ k. plain * power + k) (sym q) in
+    r ∙ ap (λ k. (k + v) % 2 ^ bits) (p ∙ ap (λ k. (k * power) % 2 ^ bits) e ∙ mul-mod_first plain power (2 ^ bits)) ∙ add-mod_first (plain * power) v (2 ^ bits) ∙ ap (λ k. k % 2 ^ bits) (sym longer)
+
+-- the bytes after those hashed in steps
 pub tail_more : (bits from : ℕ) (bytes tail : List ℕ) (n hash r : ℕ) → hash ≡ poly31_from bits from (take n bytes) → tail ≡ drop n bytes → r ≡ poly31_from bits hash tail → r ≡ poly31_from bits from bytes
 tail_more bits from bytes tail n hash r e t p =
     let plain = fold times31 from (take n bytes) in

@@ -1,5 +1,5 @@
 -- The plain hash functions.
-use Rattle.std.specs.Prelude.{ℕ, ◌+◌, ◌*◌, ◌%◌, ◌^◌, List, fold}
+use Rattle.std.specs.Prelude.{◌≡◌, ℕ, ◌+◌, ◌*◌, ◌%◌, ◌^◌, List, [], ◌∷◌, fold, take, drop}
 
 -- one byte more: what was so far times 31, and the byte
 abbrev pub times31 : ℕ → ℕ → ℕ
@@ -24,3 +24,11 @@ byte_sum_from bits so_far bytes = fold plus so_far bytes % 2 ^ bits
 -- the sum of the bytes, modulo 2 ^ bits
 abbrev pub byte_sum : ℕ → List ℕ → ℕ
 byte_sum bits bytes = byte_sum_from bits 0 bytes
+
+-- the hash of four bytes
+abbrev pub four : List ℕ → ℕ
+four bytes = fold times31 0 (take 4 bytes)
+
+-- the hashes of the first four bytes, of the next four, and so on, of sixteen
+abbrev pub IsFours : List ℕ → List ℕ → Type 0
+IsFours bytes hashes = hashes ≡ four bytes ∷ four (drop 4 bytes) ∷ four (drop 8 bytes) ∷ four (drop 12 bytes) ∷ []

@@ -5,9 +5,11 @@ ghost use Rattle.std.specs.Prelude.{fold, IfSome};
 ghost use Rattle.byteorder.specs.Endian.{big_number};
 ghost use Rattle.sst_base.specs.Bytes.{IsBytes};
 ghost use Rattle.sst_base.specs.Hashes.{times31, poly31, poly31_from, byte_sum, byte_sum_from};
+ghost use Rattle.sst_base.specs.Hashes.{IsFours};
 ghost use Rattle.sst_base.specs.HashLaws.{poly31-below, byte_sum-below};
 
 use byteorder::{BigEndian, ByteOrder};
+use std::simd::prelude::*;
 
 /// The hash function of hash index and checksums, and a stream that hashes bytes as they come.
 pub trait BlockHash: Drop {
@@ -73,6 +75,13 @@ const BASE_2: u64 = 961;
 const BASE_4: u64 = 923521;
 
 const BASE_8: u64 = 852891037441;
+
+const BASE_16: u128 = 727423121747185263828481;
+
+// What each byte of four is multiplied by in the hash of the first two, and in that of the others.
+const FIRST_PAIRS: [u8; 16] = [31, 1, 0, 0, 31, 1, 0, 0, 31, 1, 0, 0, 31, 1, 0, 0];
+
+const SECOND_PAIRS: [u8; 16] = [0, 0, 31, 1, 0, 0, 31, 1, 0, 0, 31, 1, 0, 0, 31, 1];
 
 // Every other byte of a word, and every other pair of bytes.
 const BYTE_LANES: u64 = 0x00ff_00ff_00ff_00ff;
@@ -172,6 +181,32 @@ fn continued128(so_far: u128, bytes: &[u8]) -> u128
     })
 }
 
+// The hashes of the first four bytes, of the next four, and so on, of sixteen. The weights are those
+// of the first two bytes of each four, and of the other two.
+#[inline(always)]
+fn four_hashes(bytes: &[u8]) -> [u32; 4]
+    requires { 16 ≤ length bytes.now }
+    ensures { IsFours bytes.now result }
+{
+    let lanes = u8x16::from_slice(bytes);
+    let first = lanes.dot4(u8x16::from_array(FIRST_PAIRS));
+    let second = lanes.dot4(u8x16::from_array(SECOND_PAIRS));
+    (first * u32x4::splat(BASE_2 as u32) + second).to_array()
+}
+
+// The hash of sixteen bytes alone.
+#[inline(always)]
+fn sixteen_at(bytes: &[u8], at: usize) -> u128
+    requires { at + 16 ≤ length bytes.now }
+    ensures { result ≡ fold times31 0 (take 16 (drop at bytes.now)) }
+{
+    let (_, rest) = bytes.split_at(at);
+    let [a, b, c, d] = four_hashes(rest);
+    let high = u64::from(a) * BASE_4 + u64::from(b);
+    let low = u64::from(c) * BASE_4 + u64::from(d);
+    u128::from(high) * u128::from(BASE_8) + u128::from(low)
+}
+
 // The same, eight bytes a step.
 fn continued128_by_eight(so_far: u128, bytes: &[u8]) -> u128
     ensures { result ≡ poly31_from 128 so_far bytes.now }
@@ -185,6 +220,21 @@ fn continued128_by_eight(so_far: u128, bytes: &[u8]) -> u128
     }
     let (_, tail) = bytes.split_at(8 * words);
     continued128(hash, tail)
+}
+
+// The same, sixteen bytes a step.
+fn continued128_by_sixteen(so_far: u128, bytes: &[u8]) -> u128
+    ensures { result ≡ poly31_from 128 so_far bytes.now }
+{
+    let steps = bytes.len() / 16;
+    let mut hash = so_far;
+    for i in 0..steps {
+        hash = hash
+            .wrapping_mul(BASE_16)
+            .wrapping_add(sixteen_at(bytes, 16 * i));
+    }
+    let (_, tail) = bytes.split_at(16 * steps);
+    continued128_by_eight(hash, tail)
 }
 
 impl BlockHash for Poly31 {
@@ -206,7 +256,7 @@ impl BlockHash for Poly31 {
     }
 
     fn hash128(bytes: &[u8]) -> u128 {
-        continued128_by_eight(0, bytes)
+        continued128_by_sixteen(0, bytes)
     }
 
     fn start() -> Poly31 {
@@ -214,7 +264,7 @@ impl BlockHash for Poly31 {
     }
 
     fn update(&mut self, bytes: &[u8]) {
-        self.so_far = continued128_by_eight(self.so_far, bytes);
+        self.so_far = continued128_by_sixteen(self.so_far, bytes);
     }
 
     fn digest128(&self) -> u128 {

@@ -1,11 +1,11 @@
 use Rattle.std.proofs.Common.{arith, refl, ◌≡◌, ◌∙◌, ◌≤◌, ◌+◌, ◌*◌, ◌/◌, length}
-use Rattle.sst_base.proofs.Polynomials.{eight_more, tail_more}
+use Rattle.sst_base.proofs.Polynomials.{eight_steps, bytes_more, tail_more}
 use Rattle.sst_base.proofs.hash.continued128_by_eight.Goals as goal
 
 pub loop-i-preserved : goal.loop-i-preserved
 loop-i-preserved c =
     let inside : 8 * c.loop-i.i + 8 ≤ length c.args.bytes.now = omega arith in
-    eight_more 128 c.args.so_far c.args.bytes.now c.loop-i.i c.loop-i.hash _ _ c.from.result inside c.loop-i.invariant refl (c.from.ensures ∙ c.eight_at.ensures) refl
+    bytes_more 8 852891037441 eight_steps 128 c.args.so_far c.args.bytes.now c.loop-i.i c.loop-i.hash _ _ c.from.result inside c.loop-i.invariant refl (c.from.ensures ∙ c.eight_at.ensures) refl
 
 pub returns : goal.returns
 returns c =

@@ -1,0 +1,13 @@
+use Rattle.std.proofs.Common.{arith, refl, ◌≡◌, ◌≤◌, ◌+◌, ◌*◌, ◌/◌, length}
+use Rattle.sst_base.proofs.Polynomials.{sixteen_steps, bytes_more, tail_more}
+use Rattle.sst_base.proofs.hash.continued128_by_sixteen.Goals as goal
+
+pub loop-i-preserved : goal.loop-i-preserved
+loop-i-preserved c =
+    let inside : 16 * c.loop-i.i + 16 ≤ length c.args.bytes.now = omega arith in
+    bytes_more 16 727423121747185263828481 sixteen_steps 128 c.args.so_far c.args.bytes.now c.loop-i.i c.loop-i.hash _ _ c.sixteen_at.result inside c.loop-i.invariant refl c.sixteen_at.ensures refl
+
+pub returns : goal.returns
+returns c =
+    let all : c.loop-i.i ≡ length c.args.bytes.now / 16 = omega arith in
+    tail_more 128 c.args.so_far c.args.bytes.now _ (16 * (length c.args.bytes.now / 16)) c.loop-i.hash _ (rw all at c.loop-i.invariant) c.split_at.ensures.back c.continued128_by_eight.ensures
