@@ -16,6 +16,7 @@ use sstable_blocks::{
 };
 use std::alloc::Global;
 
+pub mod framed;
 pub mod newest;
 #[cfg(test)]
 mod tests;
