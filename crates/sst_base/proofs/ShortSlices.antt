@@ -12,10 +12,6 @@ joined_front left right l r z post e f =
     ∙ ap (take (length left + length right)) (sym (append_assoc left right post))
     ∙ take_at (left ++ right) post (length left + length right) (length-append left right)
 
--- the length of a part
-pub length_part : (xs : List ℕ) (start end : ℕ) → end ≤ length xs → length (take (end - start) (drop start xs)) ≡ end - start
-length_part xs start end h = length-take-le (end - start) (drop start xs) (omega (arith, length-drop start xs))
-
 -- the front of an array that was copied
 pub cut_front : (xs ys : List ℕ) (n : ℕ) → n ≤ 39 → IsFirstChunk xs ys 39 → take n ys ≡ take n xs
 cut_front xs ys n h c = ap (take n) c.same ∙ take-take n 39 xs h

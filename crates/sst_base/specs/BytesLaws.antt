@@ -1,7 +1,7 @@
 -- Laws of byte strings and of the fixed-width numbers in them.
-use Rattle.std.proofs.Common.{◌≡◌, ℕ, ◌+◌, ◌*◌, ◌/◌, ◌%◌, ◌≤◌, ◌^◌, zero, suc, List, [], ◌∷◌, ◌++◌, length, take, drop, refl, arith, sym, ◌∙◌, ap, subst, length-drop}
+use Rattle.std.proofs.Common.{◌≡◌, ℕ, ◌+◌, ◌-◌, ◌*◌, ◌/◌, ◌%◌, ◌≤◌, ◌^◌, zero, suc, List, [], ◌∷◌, ◌++◌, length, take, drop, refl, arith, sym, ◌∙◌, ap, subst, length-drop}
 use Rattle.std.proofs.Math.Nat.{pow-succ', div-div-eq-div-mul}
-use Rattle.std.proofs.lemmas.List.{take-append-drop, drop-drop, drop_at}
+use Rattle.std.proofs.lemmas.List.{take-append-drop, drop-drop, drop_at, length-take-le}
 use Rattle.std.specs.Int.{bytes_low_first, byte_at}
 use Rattle.byteorder.specs.Endian.{little_bytes, little_number}
 use Rattle.byteorder.specs.Numbers.{little_from-cons, little_from-append}
@@ -27,6 +27,10 @@ IsBytes-drop n xs b = IsBytes-back (take n xs) (drop n xs) (subst IsBytes (sym (
 -- a piece of bytes and what follows it
 pub take-drop-more : (at width : ℕ) (xs : List ℕ) → take width (drop at xs) ++ drop (at + width) xs ≡ drop at xs
 take-drop-more at width xs = ap (λ ys. take width (drop at xs) ++ ys) (sym (drop-drop width at xs)) ∙ take-append-drop width (drop at xs)
+
+-- the length of a part
+pub length_part : (xs : List ℕ) (start end : ℕ) → end ≤ length xs → length (take (end - start) (drop start xs)) ≡ end - start
+length_part xs start end h = length-take-le (end - start) (drop start xs) (omega (arith, length-drop start xs))
 
 -- a byte of a number, by its power
 byte_at-div : (i n : ℕ) → byte_at i n ≡ (n / 256 ^ i) % 256

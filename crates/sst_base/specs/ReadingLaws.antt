@@ -1,5 +1,6 @@
 -- Laws of reading: what was written is read again, whatever follows, and what is read was written so.
 use Rattle.std.proofs.Common.{◌≡◌, ℕ, ◌<◌, ◌≤◌, ◌^◌, ◌⊎◌, inl, inr, List, [], ◌∷◌, ◌++◌, length, take, drop, refl, arith, sym, ◌∙◌, ap, subst, Option, Some, None, Bool, true, false, cond, eqb, leb, append_assoc, length-append}
+use Rattle.std.specs.Option.{IsSome}
 use Rattle.std.proofs.lemmas.Bool.{leb-true, le-leb, eqb-true}
 use Rattle.std.proofs.lemmas.List.{take_at, drop_at, take-append-drop, length-take-le}
 use Rattle.std.proofs.lemmas.Option.{cond_some}
@@ -16,6 +17,21 @@ pub bind_some : {A B : Type 0} (o : Option A) (f : A → Option B) (y : B) → (
 bind_some (Some x) f y e = (x, refl, e)
 bind_some None f y e = cc
 
+-- what a reading that gives something gives
+pub some_value : {A : Type 0} (o : Option A) → IsSome o → (x : A) × (o ≡ Some x)
+some_value (Some x) h = (x, refl)
+some_value None h = cc
+
+-- in a chain that gives something, the first reading does
+pub chain_first : {A B : Type 0} (o : Option A) (f : A → Option B) → IsSome (o >>= f) → IsSome o
+chain_first (Some x) f h = refl
+chain_first None f h = cc
+
+-- and so does what follows it
+pub chain_next : {A B : Type 0} (o : Option A) (f : A → Option B) (x : A) → o ≡ Some x → IsSome (o >>= f) → IsSome (f x)
+chain_next o f x e h = subst (λ p. IsSome (p >>= f)) e h
+
+-- a pair is its parts
 pub pair_parts : {A B : Type 0} (a x : A) (b y : B) → ◌≡◌ {A = A × B} (a, b) (x, y) → (a ≡ x) × (b ≡ y)
 pair_parts {A = A} {B = B} a x b y e = (ap (λ (t : A × B). t.0) e, ap (λ (t : A × B). t.1) e)
 

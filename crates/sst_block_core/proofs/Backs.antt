@@ -1,13 +1,14 @@
 -- The back of a window: its stack of places.
-use Rattle.std.proofs.Common.{◌≡◌, ℕ, ◌+◌, ◌-◌, ◌*◌, ◌/◌, ◌%◌, ◌<◌, ◌≤◌, inl, inr, Bool, true, false, eqb, List, [], ◌∷◌, ◌++◌, length, min, refl, sym, ap, subst, ◌∙◌, arith}
-use Rattle.std.proofs.Math.Nat.{zero-mod, mul-mod_left, add-mul-mod_self_right, mod-add-div', mod-eq_of_lt, lt-div-mul-add, div-mul-le_self}
-use Rattle.std.specs.Prelude.{◌||◌}
-use Rattle.std.proofs.lemmas.Bool.{cases_lt}
+use Rattle.std.proofs.Common.{◌≡◌, ℕ, ◌+◌, ◌-◌, ◌*◌, ◌/◌, ◌%◌, ◌<◌, ◌≤◌, inl, inr, Bool, true, eqb, List, [], ◌∷◌, ◌++◌, length, min, refl, sym, ap, subst, ◌∙◌, arith}
+use Rattle.std.proofs.Math.Nat.{zero-mod, mul-mod_left, add-mul-mod_self_right, mod-add-div', mod-eq_of_lt}
+use Rattle.std.proofs.Math.Bool.{or-true}
+use Rattle.std.proofs.lemmas.Bool.{cases_lt, eq-eqb}
 use Rattle.std.proofs.lemmas.Bool.Decides.{nat_tests}
 use Rattle.std.proofs.lemmas.List.{length_push, get_or_push, get_or_append_left}
 use Rattle.sst_block_core.specs.Kind.{Kind}
 use Rattle.sst_block_core.specs.Scan.{Listed, IsBehind, Stands}
 use Rattle.sst_block_core.specs.Backs.{first_of, StackStands, IsBack, back_cost}
+use Rattle.sst_block_core.specs.BackLaws.{first_of_is, first_below}
 use Rattle.sst_block_core.specs.declared.table.block.place.Place.{Place}
 
 -- a place of an interval has its distance from the head as its remainder
@@ -15,16 +16,6 @@ pub mod_in_interval : (i k r : ℕ) → i % r ≡ 0 → k < r → (i + k) % r �
 mod_in_interval i k r head below =
     let e : i + k ≡ k + i / r * r = let d = mod-add-div' i r in omega (arith, d, head) in
     ap (λ n. n % r) e ∙ add-mul-mod_self_right k (i / r) r ∙ mod-eq_of_lt below
-
-pub first_of_is : (r end : ℕ) → first_of r end ≡ (end - 1) / r * r
-unfolding first_of
-first_of_is r end = refl
-
-pub first_below : (r end : ℕ) → 0 < end → (end - 1) / r * r < end
-first_below r end h = let d = div-mul-le_self (end - 1) r in omega (arith, d, h)
-
-pub first_near : (r end : ℕ) → 0 < r → end ≤ (end - 1) / r * r + r
-first_near r end h = let d = lt-div-mul-add {a = end - 1} {b = r} h in omega (arith, d)
 
 module _ {X : Type 0} (kind : Kind X) (list : Listed X) where
   -- a head's place stands with any base
@@ -93,18 +84,11 @@ module _ {X : Type 0} (kind : Kind X) (list : Listed X) where
         ends = λ z h. absurd (let r = b.head (omega (arith, n)) in let e : (hi - 1) % list.interval ≡ 0 = ap (λ k. k % list.interval) (let q : hi - 1 ≡ hi - length stack = omega (arith, n, z) in q) ∙ r in omega (arith, e, h));
       }
 
-pub eqb_same : (n : ℕ) → eqb n n ≡ true
-eqb_same n = grind (arith, nat_tests)
-
-pub or_true : (b : Bool) → (b || true) ≡ true
-or_true true = refl
-or_true false = refl
-
 -- what is decoded for an empty stack
 pub back_cost_ends : (r n hi : ℕ) → (0 < hi % r → hi ≡ n) → hi - first_of r hi ≤ back_cost r n hi
 unfolding back_cost
 back_cost_ends r n hi ends = elim (cases_lt 0 (hi % r)) [
-  | inl more ↦ let e : eqb hi n ≡ true = rw (ends more) (eqb_same n) in rw (e, or_true) (omega arith)
+  | inl more ↦ let e : eqb hi n ≡ true = rw (ends more) (eq-eqb n n refl) in rw (e, or-true) (omega arith)
   | inr none ↦ let e : hi % r ≡ 0 = omega (arith, none) in rw e (omega arith)
 ]
 

@@ -9,9 +9,8 @@ use Rattle.sst_block_core.specs.Kind.{Kind}
 use Rattle.sst_block_core.specs.Pointers.{each, head_count}
 use Rattle.sst_block_core.specs.Buckets.{bucket, bucket_byte_with, buckets, stored_count, begun, noted, added, AreFew}
 use Rattle.sst_block_core.specs.Encoders.{made_count}
-use Rattle.sst_block_core.proofs.BucketLaws.{bucket_push}
-use Rattle.sst_block_core.proofs.Tables.{length-each, get_of-each}
-use Rattle.sst_block_core.proofs.Written.{heads_behind, heads_before, heads_inside, heads_one}
+use Rattle.sst_block_core.specs.BucketLaws.{bucket_push}
+use Rattle.sst_block_core.specs.PointerLaws.{length-each, get_of-each, heads_behind, heads_before, heads_inside, heads_one}
 
 each_later : (f g : ℕ → ℕ) (i n : ℕ) → ((q : ℕ) → i ≤ q → g q ≡ f q) → each g i n ≡ each f i n
 each_later f g i zero h = refl

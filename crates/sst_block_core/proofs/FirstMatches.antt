@@ -2,8 +2,7 @@
 use Rattle.std.proofs.Common.{◌⊎◌, ◌≡◌, ℕ, zero, suc, ◌<◌, ◌≤◌, ◌&&◌, inl, inr, Bool, true, false, cond, ltb, List, [], ◌∷◌, length, filter, Option, Some, None, refl, sym, ap, ◌∙◌, arith}
 use Rattle.std.specs.List.{slice_get}
 use Rattle.std.specs.Option.{option_map}
-use Rattle.std.specs.Ordering.{nat_cmp, is_eq, ordering_then}
-use Rattle.std.specs.Cmp.{nat_cmp_is}
+use Rattle.std.specs.Ordering.{nat_cmp, is_eq}
 use Rattle.std.specs.Cmp.Lexicographic.{slice_cmp}
 use Rattle.std.specs.declared.cmp.Ordering.{Ordering}
 use Rattle.std.specs.declared.cmp.Ordering.TheVariants.{Less, Equal, Greater}
@@ -13,12 +12,9 @@ use Rattle.std.proofs.lemmas.Bool.Decides.{nat_tests}
 use Rattle.sst_block_core.specs.Kind.{Kind, IsOrdered}
 use Rattle.sst_block_core.specs.Window.{passes_cmp, count_passed, is_version}
 use Rattle.sst_block_core.proofs.Cuts.{cut_ordered, some_some}
-use Rattle.sst_block_core.proofs.WindowSteps.{first_filter}
-
--- none passes a test
-filter_none : {X : Type 0} (test : X → Bool) (items : List X) → ((j : ℕ) (x : X) → slice_get items j ≡ Some x → test x ≡ false) → slice_get (filter test items) 0 ≡ None
-filter_none test [] h = refl
-filter_none test (x ∷ xs) h = first_filter test x xs ∙ ap (λ t. cond t (Some x) (slice_get (filter test xs) 0)) (h 0 x refl) ∙ filter_none test xs (λ j y at. h (suc j) y at)
+use Rattle.std.proofs.Math.Bool.{and-false}
+use Rattle.sst_block_core.specs.ListLaws.{first_filter, filter_none}
+use Rattle.sst_block_core.specs.VersionLaws.{keys_equal}
 
 -- the first that does
 filter_at : {X : Type 0} (test : X → Bool) (items : List X) (c : ℕ) (x : X) → slice_get items c ≡ Some x → test x ≡ true → ((j : ℕ) (y : X) → j < c → slice_get items j ≡ Some y → test y ≡ false) → slice_get (filter test items) 0 ≡ Some x
@@ -52,37 +48,10 @@ not_above Less seqno s t h e = cc
 not_above Equal seqno s t h e = cc
 not_above Greater seqno s t h e = refl
 
-and_false : (b : Bool) → (b && false) ≡ false
-and_false true = refl
-and_false false = refl
-
--- strings that compare as equal are the same
-keys_equal : (xs ys : List ℕ) → is_eq (slice_cmp nat_cmp xs ys) ≡ true → xs ≡ ys
-keys_equal [] [] e = refl
-keys_equal [] (y ∷ ys) e = cc
-keys_equal (x ∷ xs) [] e = cc
-keys_equal (x ∷ xs) (y ∷ ys) e = elim (cases_lt x y) [
-  | inl less ↦ absurd (false≢true (ap (λ o. is_eq (ordering_then o (slice_cmp nat_cmp xs ys))) (nat_cmp_is x y Less less) ∙ e))
-  | inr ge ↦ elim (cases_lt y x) [
-    | inl more ↦ absurd (false≢true (ap (λ o. is_eq (ordering_then o (slice_cmp nat_cmp xs ys))) (nat_cmp_is x y Greater more) ∙ e))
-    | inr le ↦
-        (let same : x ≡ y = omega (arith, ge, le) in
-        let rest = keys_equal xs ys (ap (λ o. is_eq (ordering_then o (slice_cmp nat_cmp xs ys))) (nat_cmp_is x y Equal same) ∙ e) in
-        (λ i. same i ∷ rest i))
-  ]
-]
-
 -- what is kept where a test says so
 pub kept_if : {X P : Type 0} (f : P → X) (p : P) (b : Bool) (found : Option X) (r : Option P) → (b ≡ true → Some (f p) ≡ found) → (b ≡ false → None ≡ found) → r ≡ cond b (Some p) None → option_map f r ≡ found
 kept_if f p true found r good bad e = ap (option_map f) e ∙ good refl
 kept_if f p false found r good bad e = ap (option_map f) e ∙ bad refl
-
--- there is none, where no item has the key
-pub none_has_key : {X : Type 0} (kind : Kind X) (needle : List ℕ) (seqno : ℕ) (items : List X) → ((i : ℕ) (x : X) → slice_get items i ≡ Some x → kind.key x ≡ needle → ⊥) → None ≡ slice_get (filter (is_version kind needle seqno) items) 0
-none_has_key kind needle seqno items none = sym (filter_none (is_version kind needle seqno) items (λ j y at. elim (cases_Bool (is_eq (slice_cmp nat_cmp (kind.key y) needle))) [
-  | inl same ↦ absurd (none j y at (keys_equal (kind.key y) needle same))
-  | inr other ↦ ap (λ t. ltb (kind.seqno y) seqno && t) other ∙ and_false (ltb (kind.seqno y) seqno)
-]))
 
 module _ {X : Type 0} (kind : Kind X) (needle : List ℕ) (seqno : ℕ) (items : List X) (ordered : IsOrdered kind items) where
   before : (j : ℕ) (y : X) → j < count_passed kind needle (Some seqno) items → slice_get items j ≡ Some y → is_version kind needle seqno y ≡ false
@@ -114,7 +83,7 @@ module _ {X : Type 0} (kind : Kind X) (needle : List ℕ) (seqno : ℕ) (items :
           | inl less ↦ before j y less here
           | inr ge ↦ (
               let gone = above (slice_cmp nat_cmp (kind.key y) needle) (kind.seqno y) (cut.others j y (omega (arith, low, ge)) here) in
-              ap (λ t. ltb (kind.seqno y) seqno && t) gone ∙ and_false (ltb (kind.seqno y) seqno))
+              ap (λ t. ltb (kind.seqno y) seqno && t) gone ∙ and-false (ltb (kind.seqno y) seqno))
         ]))
 
   -- none, where the first that doesn't pass, if there is one, has another key
@@ -129,7 +98,7 @@ module _ {X : Type 0} (kind : Kind X) (needle : List ℕ) (seqno : ℕ) (items :
     outside : (j : ℕ) (y : X) → slice_get items j ≡ Some y → ((low ≤ j) × (j < high) → ⊥) → is_version kind needle seqno y ≡ false
     outside j y at out = elim (cases_Bool (is_eq (slice_cmp nat_cmp (kind.key y) needle))) [
       | inl same ↦ absurd (out (alone j y at (keys_equal (kind.key y) needle same)))
-      | inr other ↦ ap (λ t. ltb (kind.seqno y) seqno && t) other ∙ and_false (ltb (kind.seqno y) seqno)
+      | inr other ↦ ap (λ t. ltb (kind.seqno y) seqno && t) other ∙ and-false (ltb (kind.seqno y) seqno)
     ]
 
     -- there is none, where all of these pass
@@ -158,5 +127,5 @@ module _ {X : Type 0} (kind : Kind X) (needle : List ℕ) (seqno : ℕ) (items :
             | inl less ↦ outside j y here (λ k. omega (arith, less, k))
             | inr ge ↦ (
                 let gone = above (slice_cmp nat_cmp (kind.key y) needle) (kind.seqno y) (cut.others j y (omega (arith, low_enough, ge)) here) in
-                ap (λ t. ltb (kind.seqno y) seqno && t) gone ∙ and_false (ltb (kind.seqno y) seqno))
+                ap (λ t. ltb (kind.seqno y) seqno && t) gone ∙ and-false (ltb (kind.seqno y) seqno))
           ]))

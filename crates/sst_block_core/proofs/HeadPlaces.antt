@@ -13,10 +13,10 @@ use Rattle.sst_block_core.specs.Payload.{IsEncoding, trailer_of}
 use Rattle.sst_block_core.specs.Stages.{items_in, index_in, HasParts}
 use Rattle.sst_block_core.specs.Scan.{Listed, IsBehind, Stands}
 use Rattle.sst_block_core.specs.Intervals.{IsIndexed}
-use Rattle.sst_block_core.proofs.Forms.{forms_again}
-use Rattle.sst_block_core.proofs.Offsets.{body-append, place_inside, place_plain, body_long}
-use Rattle.sst_block_core.proofs.Canonical.{encoded_from}
-use Rattle.sst_block_core.proofs.Openings.{opened}
+use Rattle.sst_block_core.specs.BodyLaws.{forms_again}
+use Rattle.sst_block_core.specs.OffsetLaws.{body-append, place_inside, place_plain, body_long}
+use Rattle.sst_block_core.specs.CanonicalLaws.{encoded_from}
+use Rattle.sst_block_core.specs.OpeningLaws.{opened}
 use Rattle.sst_block_core.proofs.PointerReads.{pointers_count, pointer_is}
 
 all_drop : {X : Type 0} (P : X → Type 0) (n : ℕ) (xs : List X) → AllByRecursion P xs → AllByRecursion P (drop n xs)

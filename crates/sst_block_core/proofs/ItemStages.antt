@@ -12,9 +12,9 @@ use Rattle.sst_block_core.specs.Pointers.{head_count, head_offsets, last_pointer
 use Rattle.sst_block_core.specs.Stages.{HasParts, HasForms, HasOrder, HasPointers, body_in, index_in, items_by, items_read}
 use Rattle.sst_block_core.specs.Passes.{ArePointed, IsPassed, IsFound}
 use Rattle.sst_block_core.proofs.PassSteps.{both}
-use Rattle.sst_block_core.proofs.Openings.{length-items_at}
+use Rattle.sst_block_core.specs.OpeningLaws.{length-items_at}
 use Rattle.sst_block_core.proofs.HeadPlaces.{head_below}
-use Rattle.sst_block_core.proofs.LastHeads.{last_offset}
+use Rattle.sst_block_core.specs.PointerLaws.{last_offset}
 use Rattle.sst_block_core.proofs.PointerReads.{pointers_count, pointer_is}
 
 pub heads_some : (r n heads : ℕ) → 0 < r → 1 ≤ n → heads ≡ head_count r n → 0 < heads

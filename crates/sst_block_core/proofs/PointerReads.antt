@@ -3,7 +3,7 @@ use Rattle.std.proofs.Common.{◌≡◌, ℕ, ◌+◌, ◌-◌, ◌*◌, ◌/◌
 use Rattle.std.proofs.Math.Nat.{div-mul-le_self}
 use Rattle.byteorder.specs.Endian.{little_number}
 use Rattle.sst_block_core.specs.Pointers.{pointer_at, pointers_in}
-use Rattle.sst_block_core.proofs.Tables.{length-each, get_or-each}
+use Rattle.sst_block_core.specs.PointerLaws.{length-each, get_or-each}
 
 -- as many pointers as the bytes have room for
 pub pointers_count : (w : ℕ) (bytes : List ℕ) → length (pointers_in w bytes) ≡ length bytes / w

@@ -7,7 +7,7 @@ use Rattle.sst_base.specs.ReadingLaws.{bind_some, pair_parts}
 use Rattle.sst_block_core.specs.Kind.{Kind, IsKind}
 use Rattle.sst_block_core.specs.Body.{body, item_at, items_at}
 use Rattle.sst_block_core.specs.Passes.{base_behind, IsRead}
-use Rattle.sst_block_core.proofs.Forms.{body_takes}
+use Rattle.sst_block_core.specs.BodyLaws.{body_takes}
 
 some_same : {A : Type 0} (a b : A) → ◌≡◌ {A = Option A} (Some a) (Some b) → a ≡ b
 some_same a b e = cc

@@ -9,23 +9,10 @@ use Rattle.std.proofs.Math.Nat.{mul-le-mul_left}
 use Rattle.sst_base.specs.Varint.{IsWidth, varint_up_to, varint_at, with_digit, with_digits}
 use Rattle.sst_base.specs.VarintLaws.{varint_at_small, with_digit-with_digits, digits_end, digits_last, digits_zero, digits_wide, digits_full, digits_more, less_left}
 use Rattle.sst_base.specs.Reading.{◌>>=◌, number_at, length_prefixed_at}
+use Rattle.sst_base.specs.ReadingLaws.{chain_first, chain_next}
 use Rattle.sst_block_core.specs.Digits.{IsReadTo}
 use Rattle.sst_block_core.specs.Found.{Takes, range_of}
 use Rattle.sst_block_core.proofs.Ends.{number_some}
-
--- what a reading that gives something gives
-pub some_value : {A : Type 0} (o : Option A) → IsSome o → (x : A) × (o ≡ Some x)
-some_value (Some x) h = (x, refl)
-some_value None h = cc
-
--- in a chain that gives something, the first reading does
-pub chain_first : {A B : Type 0} (o : Option A) (f : A → Option B) → IsSome (o >>= f) → IsSome o
-chain_first (Some x) f h = refl
-chain_first None f h = cc
-
--- and so does what follows it
-pub chain_next : {A B : Type 0} (o : Option A) (f : A → Option B) (x : A) → o ≡ Some x → IsSome (o >>= f) → IsSome (f x)
-chain_next o f x e h = subst (λ p. IsSome (p >>= f)) e h
 
 -- where a number stands, a varint does
 varint_stands : (bits : ℕ) (bytes : List ℕ) → IsSome (number_at bits bytes) → IsSome (varint_at bits bytes)

@@ -10,10 +10,9 @@ use Rattle.sst_block_core.specs.Pointers.{head_count}
 use Rattle.sst_block_core.specs.Buckets.{bucket, bucket_byte_with}
 use Rattle.sst_block_core.specs.Stages.{HasParts, HasForms, HasBuckets, body_in, buckets_in, items_by}
 use Rattle.sst_block_core.specs.Passes.{TallyState, IsHashed, IsTallied, HasTallied}
-use Rattle.sst_block_core.proofs.BucketLaws.{bucket_push}
-use Rattle.sst_block_core.proofs.Openings.{length-items_at}
-use Rattle.sst_block_core.proofs.Tables.{each_alike, each_whole}
-use Rattle.sst_block_core.proofs.Written.{heads_behind, heads_before, heads_inside}
+use Rattle.sst_block_core.specs.BucketLaws.{bucket_push}
+use Rattle.sst_block_core.specs.OpeningLaws.{length-items_at}
+use Rattle.sst_block_core.specs.PointerLaws.{each_alike, each_whole, heads_behind, heads_before, heads_inside}
 
 -- the number of heads with one item more, by that before
 heads_next : (r place heads more phase : ℕ) → 0 < r → heads ≡ head_count r place → head_count r (place + 1) ≤ 254 → phase ≡ place % r → (phase ≡ 0 → more ≡ (heads + 1) % 256) → (0 < phase → more ≡ heads)

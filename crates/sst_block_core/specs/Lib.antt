@@ -23,3 +23,17 @@ pub mod KeyRanges
 pub mod Passes
 pub mod Heads
 pub mod HeadLaws
+pub mod TrailerLaws
+pub mod PayloadLaws
+pub mod PlaceLaws
+pub mod BodyLaws
+pub mod OffsetLaws
+pub mod PlainLaws
+pub mod BucketLaws
+pub mod BucketReadLaws
+pub mod CanonicalLaws
+pub mod OpeningLaws
+pub mod ListLaws
+pub mod VersionLaws
+pub mod FoundLaws
+pub mod BackLaws

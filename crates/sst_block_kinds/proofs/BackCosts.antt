@@ -2,11 +2,12 @@
 use Rattle.std.proofs.Common.{◌≡◌, ℕ, zero, suc, ◌+◌, ◌-◌, ◌*◌, ◌/◌, ◌%◌, ◌<◌, ◌≤◌, Bool, true, false, cond, eqb, refl, arith}
 use Rattle.std.specs.Prelude.{◌||◌}
 use Rattle.std.proofs.Math.Nat.{mod-add-div', le-div_iff_mul-le, div-mul-le_self, mul-le-mul_right}
-use Rattle.std.proofs.lemmas.Bool.{ne_eqb}
+use Rattle.std.proofs.Math.Bool.{or-true}
+use Rattle.std.proofs.lemmas.Bool.{ne_eqb, eq-eqb}
 use Rattle.std.proofs.lemmas.Bool.Decides.{nat_tests}
 use Rattle.sst_block_core.specs.Backs.{first_of, back_cost}
 use Rattle.sst_block_kinds.specs.Walks.{back_walk_cost}
-use Rattle.sst_block_core.proofs.Backs.{first_of_is, eqb_same, or_true}
+use Rattle.sst_block_core.specs.BackLaws.{first_of_is}
 
 -- at most how many entries the steps from the back decode, from a place down to 0
 unfoldable back_total_cost : ℕ → ℕ → ℕ → ℕ
@@ -44,7 +45,7 @@ back_step_cost r n hi pos some inside =
 -- the whole walk
 back_whole_cost : (r n : ℕ) → back_total_cost r n n ≡ 2 * n
 unfolding back_total_cost
-back_whole_cost r n = rw (eqb_same n, or_true (eqb (n % r) 0)) (omega arith)
+back_whole_cost r n = rw (eq-eqb n n refl, or-true (eqb (n % r) 0)) (omega arith)
 
 walk_upto : (r n hi : ℕ) → 0 < r → hi ≤ n → back_walk_cost r n hi ≤ back_total_cost r n hi
 unfolding back_walk_cost

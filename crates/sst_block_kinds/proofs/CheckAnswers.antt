@@ -15,7 +15,7 @@ use Rattle.sst_block_core.specs.Entries.{entries}
 use Rattle.sst_block_core.specs.EntryLaws.{IsKind-entries}
 use Rattle.sst_block_kinds.specs.Handles.{Handle, handles, IndexPasses, IsIndexBlock}
 use Rattle.sst_block_kinds.specs.Checks.{data_check, index_check, DataVerdict, IndexVerdict}
-use Rattle.sst_block_core.proofs.Canonical.{block_from, passes_from}
+use Rattle.sst_block_core.specs.CanonicalLaws.{block_from, passes_from}
 use Rattle.sst_block_kinds.proofs.IndexBlocks.{index_block_from, index_passes}
 use Rattle.sst_block_kinds.proofs.CheckTests.{parts_from, parts_to, decides_forms, decides_in_order, decides_pointers, decides_buckets, decides_ends}
 use Rattle.sst_block_kinds.proofs.Verdicts.{index_parts, data_verdict, index_verdict}

@@ -14,8 +14,8 @@ use Rattle.sst_block_core.specs.EntryLaws.{IsKind-entries}
 use Rattle.sst_block_kinds.specs.Handles.{EndFits, handles, HasIndexParts, IndexPasses, IsIndexBlock}
 use Rattle.sst_block_kinds.specs.Checks.{data_check, index_check}
 use Rattle.sst_block_core.specs.Passes.{IsPartsRefusal, IsItemsRefusal, IsRefusal}
-use Rattle.sst_block_core.proofs.Canonical.{block_from}
-use Rattle.sst_block_core.proofs.Openings.{length-items_at}
+use Rattle.sst_block_core.specs.CanonicalLaws.{block_from}
+use Rattle.sst_block_core.specs.OpeningLaws.{length-items_at}
 use Rattle.sst_block_kinds.proofs.IndexBlocks.{index_block_from}
 use Rattle.sst_block_kinds.proofs.CheckAnswers.{data_is, index_is}
 

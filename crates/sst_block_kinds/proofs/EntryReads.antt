@@ -16,7 +16,7 @@ use Rattle.sst_block_core.specs.Found.{StandsAt, IsRange, range_of, optional_ran
 use Rattle.sst_block_kinds.specs.ParsedEntry.{entry_of, truncated_of, IsKeyLength}
 use Rattle.sst_block_kinds.specs.declared.table.data_block.parsed_item.DataBlockParsedItem.{DataBlockParsedItem}
 use Rattle.sst_block_kinds.specs.declared.table.data_block.decoding.TruncatedForm.{TruncatedForm}
-use Rattle.sst_block_core.proofs.Ends.{length-range}
+use Rattle.sst_block_core.specs.FoundLaws.{length-range}
 
 -- two readings of one text give one thing
 pub one_reading : {A : Type 0} (o : Option (A × List ℕ)) (t : A × List ℕ) (a : A) (r : List ℕ) → o ≡ Some t → o ≡ Some (a, r) → (t.0 ≡ a) × (t.1 ≡ r)

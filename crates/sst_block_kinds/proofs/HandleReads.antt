@@ -7,16 +7,15 @@ use Rattle.std.proofs.lemmas.Option.{cond_some, same_Some}
 use Rattle.sst_base.specs.Bytes.{IsBytes}
 use Rattle.sst_base.specs.BytesLaws.{IsBytes-drop}
 use Rattle.sst_base.specs.Reading.{number_at, length_prefixed_at}
-use Rattle.sst_base.specs.ReadingLaws.{pair_parts}
+use Rattle.sst_base.specs.ReadingLaws.{pair_parts, some_value, chain_first, chain_next}
 use Rattle.sst_base.specs.SharedPrefix.{shared_prefix_length}
 use Rattle.sst_base.specs.SharedPrefixLaws.{shared_prefix_inside}
 use Rattle.sst_base.specs.declared.table.util.SliceIndexes.{SliceIndexes}
 use Rattle.sst_block_core.specs.Found.{StandsAt, IsRange, range_of}
 use Rattle.sst_block_kinds.specs.Handles.{Handle, IsHandle, Front, handle_with, marker_at, front_at, full_at, truncated_at, is_truncation}
 use Rattle.sst_block_kinds.specs.HandleLaws.{IsKind-handles, truncation_parts}
-use Rattle.sst_block_core.proofs.Ends.{length-range}
+use Rattle.sst_block_core.specs.FoundLaws.{length-range}
 use Rattle.sst_block_kinds.proofs.EntryReads.{no_reading, range_of-front}
-use Rattle.sst_block_core.proofs.StandingNumbers.{some_value, chain_first, chain_next}
 
 no_marker : marker_at [] ≡ None
 no_marker = refl

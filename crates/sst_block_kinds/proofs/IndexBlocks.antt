@@ -11,7 +11,7 @@ use Rattle.sst_block_core.specs.Payload.{IsBlock, payload, payload_with}
 use Rattle.sst_block_core.specs.Stages.{items_in, Passes}
 use Rattle.sst_block_kinds.specs.Handles.{Handle, IsHandle, EndFits, handles, no_hash, index_payload, IndexPasses, IsIndexBlock}
 use Rattle.sst_block_kinds.specs.HandleLaws.{IsKind-handles}
-use Rattle.sst_block_core.proofs.Canonical.{block_from, passes_from}
+use Rattle.sst_block_core.specs.CanonicalLaws.{block_from, passes_from}
 
 -- what passes is an index block of the handles that are read from it
 pub index_block_from : (r : ℕ) (p : List ℕ) → IsBytes p → IndexPasses r p → IsIndexBlock p (items_in handles p) r

@@ -10,8 +10,8 @@ use Rattle.sst_block_core.specs.Lookups.{lookup_of}
 use Rattle.sst_block_kinds.specs.PointReads.{lookup}
 use Rattle.sst_block_core.specs.declared.table.block.hash_index.reader.Lookup.{Lookup}
 use Rattle.sst_block_core.specs.declared.table.block.hash_index.reader.Lookup.TheVariants.{Nowhere, Interval, Anywhere}
-use Rattle.sst_block_core.proofs.Tables.{length-each}
-use Rattle.sst_block_core.proofs.BucketReads.{free_bucket, bucket_interval, interval_exists}
+use Rattle.sst_block_core.specs.PointerLaws.{length-each}
+use Rattle.sst_block_core.specs.BucketReadLaws.{free_bucket, bucket_interval, interval_exists}
 
 -- a free bucket has the byte 254
 nowhere_byte : (byte : ℕ) → lookup_of byte ≡ Nowhere → byte ≡ 254

@@ -11,7 +11,7 @@ use Rattle.sst_base.specs.Reading.{value_type_at, number_at, length_prefixed_at}
 use Rattle.sst_base.specs.SharedPrefix.{shared_prefix_length}
 use Rattle.sst_block_core.specs.Entries.{Truncated, value_at, full_at, truncated_form_at, truncated_at, joined_to}
 use Rattle.sst_block_core.specs.EntryLaws.{IsKind-entries}
-use Rattle.sst_block_core.proofs.StandingNumbers.{chain_first, chain_next}
+use Rattle.sst_base.specs.ReadingLaws.{chain_first, chain_next}
 use Rattle.sst_block_kinds.proofs.EntryReads.{one_reading, truncated_parts}
 
 -- where a full form stands, a value type does

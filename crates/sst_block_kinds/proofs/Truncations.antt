@@ -6,7 +6,7 @@ use Rattle.sst_base.specs.declared.table.util.SliceIndexes.{SliceIndexes}
 use Rattle.sst_base.specs.SharedPrefix.{shared_prefix_length}
 use Rattle.sst_base.specs.SharedPrefixLaws.{shared_prefix_inside}
 use Rattle.sst_block_core.specs.Found.{IsRange, range_of}
-use Rattle.sst_block_core.proofs.Ends.{length-range}
+use Rattle.sst_block_core.specs.FoundLaws.{length-range}
 
 -- the whole key of a shared length and a rest, behind a base key
 abbrev pub key_with : List ℕ → SliceIndexes → ℕ → SliceIndexes → List ℕ

@@ -7,8 +7,7 @@ use Rattle.std.proofs.lemmas.Bool.Decides.{nat_tests}
 use Rattle.std.specs.List.{flat_map}
 use Rattle.std.proofs.lemmas.Grind.{flat_map-append}
 use Rattle.sst_block_core.specs.Pointers.{each, head_count, head_offsets, last_pointer, pointer_width, pointers}
-use Rattle.sst_block_core.specs.PointerLaws.{each_push}
-use Rattle.sst_block_core.proofs.LastHeads.{last_offset}
+use Rattle.sst_block_core.specs.PointerLaws.{each_push, last_offset}
 use Rattle.sst_base.specs.BytesLaws.{little_bytes-suc}
 use Rattle.sst_block_core.specs.Buckets.{buckets}
 use Rattle.sst_block_core.specs.Trailer.{trailer}
@@ -22,7 +21,7 @@ use Rattle.std.specs.Option.{option_map}
 use Rattle.std.specs.List.{filter}
 use Rattle.sst_block_core.specs.Window.{is_version, first_match}
 use Rattle.sst_block_core.specs.Body.{body, form, forms, truncated_against, place_offset}
-use Rattle.sst_block_core.proofs.Offsets.{body-append}
+use Rattle.sst_block_core.specs.OffsetLaws.{body-append}
 use Rattle.sst_block_core.specs.Entries.{entries, data_payload}
 use Rattle.sst_block_kinds_tests.specs.Plain.{form_at, form_of}
 use Rattle.sst_base.specs.VarintLaws.{varint_within_small, varint_within_more}

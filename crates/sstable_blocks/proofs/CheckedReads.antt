@@ -1,16 +1,13 @@
 -- Reading frames of any bytes: which errors do not come, and what a filter says.
-use Rattle.std.proofs.Common.{◌≡◌, ◌≢◌, ◌⊎◌, ℕ, zero, suc, ◌+◌, ◌-◌, ◌/◌, ◌%◌, ◌<◌, ◌≤◌, List, length, take, drop, arith, refl, sym, ap, subst, ◌∙◌, inl, inr, Bool, true, false, nat_eq, eqb, ltb, not, ◌&&◌, if◌then◌else◌, get_or, Option, Some, None, Result, Ok, Err, IfOk, IfErr, IfSome, IsTrue, ◌↔◌}
+use Rattle.std.proofs.Common.{◌≡◌, ◌≢◌, ℕ, zero, suc, ◌<◌, ◌≤◌, List, arith, refl, sym, ap, subst, ◌∙◌, inl, inr, Bool, true, false, if◌then◌else◌, Option, Some, None, Result, Ok, Err, IfOk, IfErr, IfSome, IsTrue, ◌↔◌}
 use Rattle.std.proofs.lemmas.Bool.{eqb-true, eq-eqb, and_parts, and_from, cases_lt}
-use Rattle.std.specs.Int.{bit_at}
-use Rattle.sst_base.specs.FrameErrors.{NotIo, not_io_if}
+use Rattle.sst_base.specs.FrameErrors.{NotIo}
 use Rattle.sst_base.specs.declared.error.Error.{Error}
-use Rattle.sst_base.specs.declared.error.Error.TheVariants.{Io, Memory, Truncated, InvalidHeader, InvalidTag, BadFilter}
+use Rattle.sst_base.specs.declared.error.Error.TheVariants.{Io, Memory}
 use Rattle.sst_base.specs.declared.error.HeaderName.TheVariants as names
 use Rattle.sst_base.specs.declared.error.TagName.TheVariants as tags
-use Rattle.std.specs.Cmp.Lexicographic.{pointwise}
 use Rattle.std.specs.Option.{option_map}
 use Rattle.sst_base.specs.BlockHandle.{HandleParts}
-use Rattle.sst_base.specs.Header.{magic}
 use Rattle.sst_base.specs.declared.table.block.block_type.BlockType.TheVariants as types
 use Rattle.sst_block_kinds.specs.Handles.{handles}
 use Rattle.sstable_blocks.specs.Lookup.{handle_for}
@@ -22,10 +19,11 @@ use Rattle.sst_base.specs.Entry.{Entry}
 use Rattle.sst_block_kinds.specs.Checks.{all_below, data_check, index_check, DataVerdict, DataRefusal, IndexVerdict, IndexRefusal}
 use Rattle.sst_block_kinds.specs.Handles.{Handle}
 use Rattle.sst_block_core.specs.Trailer.{trailer_in}
-use Rattle.sstable_blocks.specs.Bits.{HasBit, has_bit}
+use Rattle.sstable_blocks.specs.Bits.{has_bit}
 use Rattle.sstable_blocks.specs.Probes.{probe}
 use Rattle.sst_base.specs.Header.{◌>>=◌}
-use Rattle.sstable_blocks.specs.Filter.{Filter, MayContain, may_contain, filter_at, filter_in, is_sized}
+use Rattle.sstable_blocks.specs.FilterLaws.{filter_not_io}
+use Rattle.sstable_blocks.specs.Filter.{Filter, MayContain, may_contain, filter_at}
 use Rattle.sstable_blocks.specs.RunReading.{filter_answer}
 
 -- a test that holds of all numbers below n
@@ -56,21 +54,7 @@ says_is f hash false says = elim (may_contain f hash) as (λ c. may_contain f ha
   | false ↦ (λ e. refl)
 ] refl
 
-not_io_else : {A : Type 0} (b : Bool) (r : Result A Error) (d : Error) → d ≢ Io → NotIo r → NotIo (if b then Err d else r)
-not_io_else true r d h k = h
-not_io_else false r d h k = k
-
--- a filter is never refused as failed input
-pub filter_not_io : (bytes : List ℕ) → NotIo (filter_at bytes)
-unfolding filter_at
-filter_not_io bytes =
-    not_io_else (ltb (length bytes) 22) _ Truncated (λ e. cc)
-    (not_io_else (not (pointwise nat_eq (take 4 bytes) magic)) _ (InvalidHeader names.BloomFilter) (λ e. cc)
-    (not_io_else (not (nat_eq (get_or bytes 4 0) 0)) _ (InvalidTag tags.FilterType (get_or bytes 4 0)) (λ e. cc)
-    (not_io_else (not (nat_eq (get_or bytes 5 0) 0)) _ (InvalidTag tags.HashType (get_or bytes 5 0)) (λ e. cc)
-    (not_io_if (is_sized (filter_in bytes)) (Ok (filter_in bytes)) BadFilter (λ e. cc) tt))))
-
--- nor is a block by its check
+-- a block is not refused as failed input by its check
 pub data_not_io : (hash64 : List ℕ → ℕ) (p : List ℕ) (e : Error) → DataVerdict hash64 (trailer_in p) p (data_check hash64 p) → (e ≢ Memory → data_check hash64 p ≡ Err e) → e ≢ Io
 data_not_io hash64 p e verdict refused k =
     let stage = subst (DataVerdict hash64 (trailer_in p) p) (refused (λ m. let wrong : Io ≡ Memory = sym k ∙ m in cc)) verdict in

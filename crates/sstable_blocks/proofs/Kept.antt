@@ -19,7 +19,7 @@ use Rattle.sst_base.specs.FrameLaws.{length-frame}
 use Rattle.sst_base.specs.declared.error.Error.{Error}
 use Rattle.sst_base.specs.declared.error.Error.TheVariants.{TooLong}
 use Rattle.sst_base.specs.declared.table.block.block_type.BlockType.TheVariants.{Data}
-use Rattle.sst_block_core.proofs.Written.{all_push}
+use Rattle.std.proofs.SliceLists.{all_by_recursion_push}
 use Rattle.sst_block_core.specs.Encoders.{IsRefusal}
 use Rattle.sstable_blocks.proofs.BlockHandles.{end_parts}
 use Rattle.sstable_blocks.proofs.Ends.{back_in_order}
@@ -164,10 +164,10 @@ module _ (f : Form) where
       record {
         interval = k.interval;
         index_interval = k.index_interval;
-        all_some = all_push IsNotEmpty blocks b k.all_some some;
+        all_some = all_by_recursion_push IsNotEmpty blocks b k.all_some some;
         valid = subst (AllByRecursion IsEntry) (sym j) (all_append IsEntry (joined blocks) b k.valid valid);
         ordered = ordered;
-        framed = all_push (λ block. IsFramed (block_payload f block)) blocks b k.framed framed;
+        framed = all_by_recursion_push (λ block. IsFramed (block_payload f block)) blocks b k.framed framed;
         handles = ap (λ xs. xs ++ h ∷ []) k.handles ∙ ap (λ x. handles_from f 0 blocks ++ x ∷ []) (is ∙ ap (λ n. handle_of f n b) start) ∙ sym (handles_from-push 0 blocks b);
         hashed = λ bits. ap (λ xs. hashes ++ key_hashes f.hash64 xs) (all bits) ∙ ap (λ xs. xs ++ key_hashes f.hash64 b) (k.hashed bits) ∙ sym (map-append _ (joined blocks) b) ∙ ap (key_hashes f.hash64) (sym j);
         offset = (let o = k.offset in omega arith);

@@ -1,5 +1,5 @@
--- Laws of filters: what was written is read again, what is read was written so, no inserted hash is hidden.
-use Rattle.std.proofs.Common.{zero, suc, ◌≡◌, ◌<◌, ◌≤◌, ℕ, ◌+◌, ◌-◌, ◌*◌, ◌/◌, ◌%◌, ◌^◌, ◌⊎◌, inl, inr, List, [], ◌∷◌, ◌++◌, length, get_or, take, drop, Result, Ok, Err, Bool, true, false, nat_eq, leb, eqb, ltb, not, ◌&&◌, if◌then◌else◌, sym, ap, subst, ◌∙◌, refl, arith, replicate}
+-- Laws of filters: what was written is read again, what is read was written so, no inserted hash is hidden, and none is refused as failed input.
+use Rattle.std.proofs.Common.{zero, suc, ◌≡◌, ◌≢◌, ◌<◌, ◌≤◌, ℕ, ◌+◌, ◌-◌, ◌*◌, ◌/◌, ◌%◌, ◌^◌, ◌⊎◌, inl, inr, List, [], ◌∷◌, ◌++◌, length, get_or, take, drop, Result, Ok, Err, Bool, true, false, nat_eq, leb, eqb, ltb, not, if◌then◌else◌, sym, ap, subst, ◌∙◌, refl, arith, replicate}
 use Rattle.std.specs.List.{Contains}
 use Rattle.std.specs.Int.{bit_at}
 use Rattle.std.specs.Prelude.{◌↔◌}
@@ -14,9 +14,13 @@ use Rattle.byteorder.specs.Numbers.{little_number-reads_back}
 use Rattle.sst_base.specs.FrameLaws.{and_parts}
 use Rattle.sst_base.specs.Bytes.{IsBytes}
 use Rattle.sst_base.specs.BytesLaws.{little_bytes-little_number_at, take-drop-more}
+use Rattle.sst_base.specs.FrameErrors.{NotIo, not_io_if}
 use Rattle.sst_base.specs.Header.{magic}
 use Rattle.sst_base.specs.HeaderLaws.{guard_ok}
 use Rattle.sst_base.specs.declared.error.Error.{Error}
+use Rattle.sst_base.specs.declared.error.Error.TheVariants.{Io, Truncated, InvalidHeader, InvalidTag, BadFilter}
+use Rattle.sst_base.specs.declared.error.HeaderName.TheVariants as names
+use Rattle.sst_base.specs.declared.error.TagName.TheVariants as tags
 use Rattle.sstable_blocks.specs.Bits.{HasBit}
 use Rattle.sstable_blocks.specs.Probes.{probe, IsProbe}
 use Rattle.sstable_blocks.specs.Filter.{Filter, IsSized, IsFilterOf, MayContain, is_sized, filter_in, filter_payload, filter_at}
@@ -177,3 +181,17 @@ filter_unique hashes f g p q c d m k =
     λ bit. ap (λ (t : ℕ × ℕ). (hash : ℕ) × Contains hashes hash × IsProbe t.0 t.1 hash bit) (λ i. (m i, k i)) in
     let bits = bytes_equal f.bits g.bits c d len (λ bit. (λ x. (q.set bit).1 (subst (λ T. T) (move bit) ((p.set bit).0 x)), λ y. (p.set bit).1 (subst (λ T. T) (sym (move bit)) ((q.set bit).0 y)))) in
     λ i. record { m = m i; k = k i; bits = bits i }
+
+not_io_else : {A : Type 0} (b : Bool) (r : Result A Error) (d : Error) → d ≢ Io → NotIo r → NotIo (if b then Err d else r)
+not_io_else true r d h k = h
+not_io_else false r d h k = k
+
+-- a filter is never refused as failed input
+pub filter_not_io : (bytes : List ℕ) → NotIo (filter_at bytes)
+unfolding filter_at
+filter_not_io bytes =
+    not_io_else (ltb (length bytes) 22) _ Truncated (λ e. cc)
+    (not_io_else (not (pointwise nat_eq (take 4 bytes) magic)) _ (InvalidHeader names.BloomFilter) (λ e. cc)
+    (not_io_else (not (nat_eq (get_or bytes 4 0) 0)) _ (InvalidTag tags.FilterType (get_or bytes 4 0)) (λ e. cc)
+    (not_io_else (not (nat_eq (get_or bytes 5 0) 0)) _ (InvalidTag tags.HashType (get_or bytes 5 0)) (λ e. cc)
+    (not_io_if (is_sized (filter_in bytes)) (Ok (filter_in bytes)) BadFilter (λ e. cc) tt))))

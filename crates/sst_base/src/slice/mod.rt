@@ -220,7 +220,7 @@ impl Slice {
 
     // The bytes in a range.
     #[inline(always)]
-    #[tactic(auto, using(crate::proofs::ShortSlices::length_part))]
+    #[tactic(auto, using(crate::specs::BytesLaws::length_part))]
     fn part(&self, range: Range<usize>) -> Result<Slice>
         requires start_le_end { range.start ≤ range.end }
         requires in_bounds { range.end ≤ length self.now }

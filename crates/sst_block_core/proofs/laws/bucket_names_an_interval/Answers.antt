@@ -1,4 +1,4 @@
-use Rattle.sst_block_core.proofs.BucketReads.{bucket_interval, interval_exists}
+use Rattle.sst_block_core.specs.BucketReadLaws.{bucket_interval, interval_exists}
 use Rattle.sst_block_core.proofs.laws.bucket_names_an_interval.Goals as goal
 
 pub returns : goal.returns

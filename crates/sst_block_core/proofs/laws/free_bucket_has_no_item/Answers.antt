@@ -1,4 +1,4 @@
-use Rattle.sst_block_core.proofs.BucketReads.{free_bucket}
+use Rattle.sst_block_core.specs.BucketReadLaws.{free_bucket}
 use Rattle.sst_block_core.proofs.laws.free_bucket_has_no_item.Goals as goal
 
 pub returns : goal.returns

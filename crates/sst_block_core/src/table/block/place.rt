@@ -34,7 +34,7 @@ impl Place {
 
 /// Returns the index in its interval of the item behind one at this index.
 #[inline(always)]
-#[tactic(auto, using(crate::proofs::Places::next_in_interval))]
+#[tactic(auto, using(crate::specs::PlaceLaws::next_in_interval))]
 pub(crate) fn next_phase(phase: u8, restart_interval: u8) -> u8
     requires { phase < restart_interval }
     ensures phase { (n : ℕ) → phase ≡ n % restart_interval

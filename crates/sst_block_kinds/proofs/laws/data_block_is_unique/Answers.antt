@@ -1,7 +1,7 @@
 use Rattle.sst_base.specs.Entry.{IsEntry}
 use Rattle.sst_block_core.specs.Entries.{entries}
 use Rattle.sst_block_core.specs.EntryLaws.{IsKind-entries}
-use Rattle.sst_block_core.proofs.Canonical.{unique_from}
+use Rattle.sst_block_core.specs.CanonicalLaws.{unique_from}
 use Rattle.sst_block_kinds.proofs.laws.data_block_is_unique.Goals as goal
 
 pub returns : goal.returns

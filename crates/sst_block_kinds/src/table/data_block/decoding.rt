@@ -140,7 +140,7 @@ fn read_value(payload: &[u8], at: usize, value_type: ValueType) -> (Option<Slice
 
 // The entry whose full form is at an offset, and where the form ends.
 #[inline(always)]
-#[tactic(auto, using(sst_block_core::proofs::Ends::range_some, sst_block_core::proofs::Ends::range_stands), unfolding(sst_block_core::specs::Entries::full_at))]
+#[tactic(auto, using(sst_block_core::specs::FoundLaws::range_some, sst_block_core::specs::FoundLaws::range_stands), unfolding(sst_block_core::specs::Entries::full_at))]
 fn full_form_from(payload: &[u8], offset: usize) -> Option<(DataBlockParsedItem, usize)>
     requires { offset ≤ length payload.now }
     ensures exact { Finds (entry_of payload.now) payload.now result

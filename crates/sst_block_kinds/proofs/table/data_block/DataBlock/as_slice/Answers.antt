@@ -5,7 +5,7 @@ use Rattle.sst_block_core.specs.Entries.{entries}
 use Rattle.sst_block_core.specs.EntryLaws.{IsKind-entries}
 use Rattle.sst_block_kinds.specs.DataBlock.{DataBlockParts}
 use Rattle.sst_block_core.specs.Payload.{IsBlock}
-use Rattle.sst_block_core.proofs.Canonical.{passes_from, block_from}
+use Rattle.sst_block_core.specs.CanonicalLaws.{passes_from, block_from}
 use Rattle.sst_block_kinds.proofs.table.data_block.DataBlock.as_slice.Goals as goal
 
 pub returns-clause-encoded : goal.returns-clause-encoded

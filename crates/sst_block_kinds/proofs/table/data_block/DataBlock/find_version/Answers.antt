@@ -2,7 +2,7 @@ use Rattle.std.proofs.Common.{◌∙◌, sym, ap, refl}
 use Rattle.std.specs.Option.{option_map}
 use Rattle.sst_block_core.specs.Entries.{entries}
 use Rattle.sst_block_kinds.specs.ParsedEntry.{entry_of}
-use Rattle.sst_block_core.proofs.FirstMatches.{none_has_key}
+use Rattle.sst_block_core.specs.VersionLaws.{none_has_key}
 use Rattle.sst_block_kinds.proofs.LookupReads.{nowhere_none, interval_alone}
 use Rattle.sst_block_kinds.proofs.PlainEntries.{first_match_search}
 use Rattle.sst_block_kinds.proofs.table.data_block.DataBlock.find_version.Goals.{in-Nowhere, in-Interval, in-Anywhere}

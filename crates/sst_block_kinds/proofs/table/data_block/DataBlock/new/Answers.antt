@@ -1,7 +1,7 @@
 use Rattle.sst_base.specs.Entry.{IsEntry}
 use Rattle.sst_block_core.specs.Entries.{entries}
 use Rattle.sst_block_core.specs.EntryLaws.{IsKind-entries}
-use Rattle.sst_block_core.proofs.Canonical.{passes_from}
+use Rattle.sst_block_core.specs.CanonicalLaws.{passes_from}
 use Rattle.sst_block_kinds.proofs.table.data_block.DataBlock.new.Goals as goal
 
 pub returns-clause-read : goal.returns-clause-read

@@ -5,7 +5,7 @@ use Rattle.sst_block_core.specs.Entries.{entries}
 use Rattle.sst_block_core.specs.Stages.{HasIndexes}
 use Rattle.sst_block_core.specs.EntryLaws.{IsKind-entries}
 use Rattle.sst_block_kinds.specs.DataBlock.{DataBlockParts}
-use Rattle.sst_block_core.proofs.Openings.{opened, indexed}
+use Rattle.sst_block_core.specs.OpeningLaws.{opened, indexed}
 use Rattle.sst_block_kinds.proofs.table.data_block.DataBlock.opened.Goals as goal
 
 pub returns : goal.returns

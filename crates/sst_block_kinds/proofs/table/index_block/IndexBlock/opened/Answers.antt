@@ -3,7 +3,7 @@ use Rattle.sst_block_core.specs.Trailer.{trailer_in}
 use Rattle.sst_block_kinds.specs.Handles.{IsHandle, handles, no_hash}
 use Rattle.sst_block_kinds.specs.HandleLaws.{IsKind-handles}
 use Rattle.sst_block_kinds.specs.IndexBlock.{IndexBlockParts}
-use Rattle.sst_block_core.proofs.Openings.{opened}
+use Rattle.sst_block_core.specs.OpeningLaws.{opened}
 use Rattle.sst_block_kinds.proofs.table.index_block.IndexBlock.opened.Goals as goal
 
 pub returns : goal.returns

@@ -2,7 +2,7 @@ use Rattle.std.proofs.Common.{◌∙◌, drop, sym, ap, subst, Some}
 use Rattle.sst_block_core.specs.Found.{StandsAt, range_of}
 use Rattle.sst_block_kinds.specs.ParsedHandle.{handle_of, front_by}
 use Rattle.sst_block_kinds.specs.declared.table.index_block.parsed_item.IndexBlockParsedItem.{IndexBlockParsedItem}
-use Rattle.sst_block_core.proofs.Ends.{range_stands}
+use Rattle.sst_block_core.specs.FoundLaws.{range_stands}
 use Rattle.sst_block_kinds.proofs.HandleReads.{full_whole, marker_ends}
 use Rattle.sst_block_kinds.proofs.table.index_block.decoding.full_form_from.Goals as goal
 

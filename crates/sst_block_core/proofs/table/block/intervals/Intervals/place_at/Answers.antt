@@ -1,7 +1,7 @@
 use Rattle.std.proofs.Common.{◌≡◌, ◌+◌, ◌-◌, ◌*◌, ◌/◌, ◌<◌, ◌≤◌, length, arith}
 use Rattle.sst_block_core.specs.Body.{place_offset}
 use Rattle.sst_block_core.proofs.HeadAnswers.{times_upto}
-use Rattle.sst_block_core.proofs.Offsets.{head_upto, head_behind}
+use Rattle.sst_block_core.specs.OffsetLaws.{head_upto, head_behind}
 use Rattle.sst_block_core.proofs.table.block.intervals.Intervals.place_at.Goals as goal
 
 pub loop-right-preserved-then-start-offset : goal.loop-right-preserved-then-start-offset

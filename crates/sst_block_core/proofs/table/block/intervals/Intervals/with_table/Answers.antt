@@ -3,7 +3,7 @@ use Rattle.sst_block_core.specs.Heads.{IsTableOf}
 use Rattle.sst_block_core.specs.Scan.{Listed}
 use Rattle.sst_block_core.specs.Stages.{items_in}
 use Rattle.sst_block_core.specs.Trailer.{trailer_in}
-use Rattle.sst_block_core.proofs.Openings.{opened}
+use Rattle.sst_block_core.specs.OpeningLaws.{opened}
 use Rattle.sst_block_core.proofs.HeadPlaces.{index_inside, indexed_along}
 use Rattle.sst_block_core.proofs.table.block.intervals.Intervals.with_table.Goals as goal
 

@@ -1,6 +1,6 @@
 use Rattle.std.proofs.Common.{◌∙◌, ap, refl, sym, length, drop, Some, arith, rules}
 use Rattle.sst_base.specs.declared.table.util.SliceIndexes.{SliceIndexes}
-use Rattle.sst_base.proofs.ShortSlices.{length_part}
+use Rattle.sst_base.specs.BytesLaws.{length_part}
 use Rattle.sst_block_core.specs.Found.{range_of}
 use Rattle.sst_block_kinds.specs.ParsedEntry.{entry_of}
 use Rattle.sst_block_kinds.proofs.ExactEntries.{no_form, not_longest, not_key, found_exactly}

@@ -1,7 +1,7 @@
 use Rattle.std.proofs.Common.{◌++◌, sym, subst, drop, arith}
 use Rattle.sst_block_core.specs.Found.{IsOptionalRange, StandsAt, optional_range, range_of}
 use Rattle.sst_block_kinds.specs.ParsedEntry.{entry_of}
-use Rattle.sst_block_core.proofs.Ends.{range_stands}
+use Rattle.sst_block_core.specs.FoundLaws.{range_stands}
 use Rattle.sst_block_kinds.proofs.StandingForms.{full_fits}
 use Rattle.sst_block_kinds.proofs.table.data_block.decoding.InternalValueDecodableDataBlockParsedItem.read_full.Goals as goal
 

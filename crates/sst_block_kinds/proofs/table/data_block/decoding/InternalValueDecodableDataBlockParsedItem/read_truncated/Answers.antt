@@ -2,7 +2,7 @@ use Rattle.std.proofs.Common.{drop, sym, subst, arith, rules}
 use Rattle.sst_base.specs.Entry.{IsEntry}
 use Rattle.sst_block_core.specs.Entries.{truncated_at}
 use Rattle.sst_block_kinds.specs.ParsedEntry.{truncated_of}
-use Rattle.sst_block_core.proofs.StandingNumbers.{some_value}
+use Rattle.sst_base.specs.ReadingLaws.{some_value}
 use Rattle.sst_block_kinds.proofs.EntryReads.{truncated_found}
 use Rattle.sst_block_kinds.proofs.StandingForms.{form_stands, form_key, truncated_fits}
 use Rattle.sst_block_kinds.proofs.table.data_block.decoding.InternalValueDecodableDataBlockParsedItem.read_truncated.Goals as goal

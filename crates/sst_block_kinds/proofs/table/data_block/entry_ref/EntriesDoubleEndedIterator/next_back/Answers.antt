@@ -1,6 +1,6 @@
 use Rattle.std.proofs.Common.{◌∙◌, sym}
 use Rattle.sst_block_kinds.specs.ParsedEntry.{entry_of, IsParsedEntry}
-use Rattle.sst_block_core.proofs.WindowSteps.{took_last}
+use Rattle.sst_block_core.specs.ListSteps.{took_last}
 use Rattle.sst_block_kinds.proofs.table.data_block.entry_ref.EntriesDoubleEndedIterator.next_back.Goals as goal
 
 pub returns-clause-steps : goal.returns-clause-steps

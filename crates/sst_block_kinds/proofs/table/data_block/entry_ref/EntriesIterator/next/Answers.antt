@@ -1,6 +1,7 @@
 use Rattle.std.proofs.Common.{◌∙◌, sym}
 use Rattle.sst_block_kinds.specs.ParsedEntry.{entry_of, IsParsedEntry}
-use Rattle.sst_block_core.proofs.WindowSteps.{took_some, one_fewer}
+use Rattle.sst_block_core.specs.ListSteps.{took_some}
+use Rattle.sst_block_core.specs.ListLaws.{one_fewer}
 use Rattle.sst_block_kinds.proofs.table.data_block.entry_ref.EntriesIterator.next.Goals as goal
 
 pub returns-clause-steps : goal.returns-clause-steps

@@ -2,7 +2,7 @@ use Rattle.std.proofs.Common.{◌∙◌, drop, sym, ap, subst, Some, arith}
 use Rattle.sst_block_core.specs.Found.{StandsAt}
 use Rattle.sst_block_kinds.specs.ParsedHandle.{handle_of, front_by, IsParsedHandle}
 use Rattle.sst_block_kinds.specs.declared.table.index_block.parsed_item.IndexBlockParsedItem.{IndexBlockParsedItem}
-use Rattle.sst_block_core.proofs.Ends.{range_stands}
+use Rattle.sst_block_core.specs.FoundLaws.{range_stands}
 use Rattle.sst_block_kinds.proofs.HandleReads.{full_front, full_key, full_whole, full_fits}
 use Rattle.sst_block_kinds.proofs.table.index_block.decoding.KeyedBlockHandleDecodableIndexBlockParsedItem.read_full.Goals as goal
 

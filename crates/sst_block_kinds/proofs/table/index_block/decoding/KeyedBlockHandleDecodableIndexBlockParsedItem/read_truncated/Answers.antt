@@ -3,7 +3,7 @@ use Rattle.sst_block_kinds.specs.Handles.{IsHandle, truncated_at}
 use Rattle.sst_block_core.specs.Found.{range_len}
 use Rattle.sst_block_kinds.specs.ParsedHandle.{handle_of, front_by, IsParsedHandle}
 use Rattle.sst_block_kinds.specs.declared.table.index_block.parsed_item.IndexBlockParsedItem.{IndexBlockParsedItem}
-use Rattle.sst_block_core.proofs.StandingNumbers.{some_value}
+use Rattle.sst_base.specs.ReadingLaws.{some_value}
 use Rattle.sst_block_kinds.proofs.HandleReads.{truncated_front, truncated_shared, truncated_rest, truncated_found, truncated_fits}
 use Rattle.sst_block_kinds.proofs.table.index_block.decoding.KeyedBlockHandleDecodableIndexBlockParsedItem.read_truncated.Goals as goal
 

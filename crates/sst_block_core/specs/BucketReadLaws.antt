@@ -1,4 +1,4 @@
--- What a bucket says of the items with a key: where they stand, or that there are none.
+-- Laws of reading buckets: what a bucket says of the items with a key: where they stand, or that there are none.
 use Rattle.std.proofs.Common.{◌≡◌, ℕ, ◌+◌, ◌-◌, ◌*◌, ◌/◌, ◌%◌, ◌<◌, ◌≤◌, zero, suc, cond, eqb, Bool, true, false, List, [], ◌∷◌, length, slice_get, slice_index, Some, sym, ap, subst, ◌∙◌, arith, inl, inr}
 use Rattle.std.specs.List.{AllByRecursion, list_all}
 use Rattle.std.proofs.lemmas.Bool.{cases_Bool, eq-eqb, eqb-true}
@@ -7,9 +7,8 @@ use Rattle.std.proofs.Math.Nat.{div-mul-le_self}
 use Rattle.sst_block_core.specs.Kind.{Kind}
 use Rattle.sst_block_core.specs.Pointers.{head_count}
 use Rattle.sst_block_core.specs.Buckets.{bucket_byte, bucket, buckets}
-use Rattle.sst_block_core.proofs.BucketLaws.{intervals_from, step}
-use Rattle.sst_block_core.proofs.Tables.{get_of-each}
-use Rattle.sst_block_core.proofs.Written.{heads_behind}
+use Rattle.sst_block_core.specs.BucketLaws.{intervals_from, step}
+use Rattle.sst_block_core.specs.PointerLaws.{get_of-each, heads_behind}
 
 all_map : (P Q : ℕ → Type 0) → ((n : ℕ) → P n → Q n) → (ns : List ℕ) → AllByRecursion P ns → AllByRecursion Q ns
 all_map P Q f [] all = tt

@@ -1,9 +1,9 @@
--- Where forms begin.
+-- Laws of offsets: where forms begin.
 use Rattle.std.proofs.Common.{◌≡◌, ℕ, ◌+◌, ◌-◌, ◌%◌, ◌<◌, ◌≤◌, suc, cond, eqb, List, [], ◌∷◌, ◌++◌, length, take, drop, refl, sym, ap, ◌∙◌, arith, append_assoc, length-append, map, length-drop, inl, inr, ◌*◌}
 use Rattle.std.proofs.lemmas.List.{get_or_append_left, take-append-drop, take-take, take-map, length-take-le}
 use Rattle.sst_block_core.specs.Kind.{Kind, IsKind}
 use Rattle.sst_block_core.specs.Body.{truncated_against, form, forms, body, place_offset}
-use Rattle.sst_block_core.proofs.Forms.{body-plain, cond_has}
+use Rattle.sst_block_core.specs.BodyLaws.{body-plain, cond_has}
 use Rattle.std.proofs.lemmas.Bool.{cases_lt}
 use Rattle.std.proofs.lemmas.Nat.{mul-le}
 
@@ -13,6 +13,7 @@ module _ {X : Type 0} (kind : Kind X) (r : ℕ) (pos : 0 < r) where
   form-append items more i x h =
       ap (λ head. cond (eqb (i % r) 0) (kind.full x) (truncated_against kind head x)) (get_or_append_left items more x (i - i % r) (omega arith))
 
+  -- the forms of two lists, one behind the other
   pub forms-append : (items : List X) (i : ℕ) (xs ys : List X) → forms kind r items i (xs ++ ys) ≡ forms kind r items i xs ++ forms kind r items (length xs + i) ys
   forms-append items i [] ys = ap (λ n. forms kind r items n ys) (omega arith)
   forms-append items i (x ∷ xs) ys =
@@ -40,9 +41,11 @@ module _ {X : Type 0} (kind : Kind X) (r : ℕ) (pos : 0 < r) where
   take_le : (n : ℕ) (xs : List X) → length (body kind r (take n xs)) ≤ length (body kind r xs)
   take_le n xs = let h = front_le (take n xs) (drop n xs) in let e = ap (λ ys. length (body kind r ys)) (take-append-drop n xs) in omega (arith, h, e)
 
+  -- each place begins within the body
   pub place_inside : (items : List X) (i : ℕ) → place_offset kind r items i ≤ length (body kind r items)
   place_inside items i = take_le i items
 
+  -- a later place begins no earlier
   pub place_rises : (items : List X) (i j : ℕ) → i ≤ j → place_offset kind r items i ≤ place_offset kind r items j
   place_rises items i j h =
       let k = take_le i (take j items) in
@@ -50,6 +53,7 @@ module _ {X : Type 0} (kind : Kind X) (r : ℕ) (pos : 0 < r) where
       omega (arith, k, e)
 
   module _ (valid : X → Type 0) (laws : IsKind kind valid) where
+    -- decoding moves no place
     pub place_plain : (items : List X) (i : ℕ) → place_offset kind r (map kind.plain items) i ≡ place_offset kind r items i
     place_plain items i = ap (λ ys. length (body kind r ys)) (take-map kind.plain i items) ∙ ap length (body-plain kind r pos valid laws (take i items))
 
@@ -91,6 +95,7 @@ module _ {X : Type 0} (kind : Kind X) (r : ℕ) (pos : 0 < r) where
       | inr ge ↦ ge
     ]
 
+    -- a head whose offset is less stands in front
     pub head_behind : (items : List X) (i j : ℕ) → i * r < length items → j * r < length items → place_offset kind r items (j * r) < place_offset kind r items (i * r) → j < i
     head_behind items i j h k lt = elim (cases_lt j i) [
       | inl less ↦ less

@@ -1,0 +1,25 @@
+-- Laws of ranges of a payload: how long they are, and what stands where they begin.
+use Rattle.std.proofs.Common.{◌≡◌, ◌<◌, ◌≤◌, ℕ, ◌-◌, List, drop, length, sym, ltb, true, arith, length-drop}
+use Rattle.std.proofs.lemmas.List.{length-take-le, take-append-drop}
+use Rattle.std.proofs.lemmas.Bool.{lt-ltb}
+use Rattle.sst_base.specs.declared.table.util.SliceIndexes.{SliceIndexes}
+use Rattle.sst_block_core.specs.Found.{range_of, StandsAt}
+
+-- how long a range is
+pub length-range : (bytes : List ℕ) (range : SliceIndexes) → range.0 ≤ range.1 → range.1 ≤ length bytes → length (range_of bytes range) ≡ range.1 - range.0
+length-range bytes range h k = length-take-le (range.1 - range.0) (drop range.0 bytes) (let d = length-drop range.0 bytes in omega arith)
+
+some_between : (a b : ℕ) → a ≤ b → (a ≡ b → ⊥) → a < b
+some_between a b h ne = omega arith
+
+-- a range whose ends differ is not empty
+pub range_some : (bytes : List ℕ) (range : SliceIndexes) → range.0 ≤ range.1 → range.1 ≤ length bytes → (range.0 ≡ range.1 → ⊥) → ltb 0 (length (range_of bytes range)) ≡ true
+range_some bytes range h k ne = let l = length-range bytes range h k in lt-ltb _ _ (omega (arith, l, some_between range.0 range.1 h ne))
+
+-- at its start stand the bytes of a range
+pub range_stands : (bytes : List ℕ) (range : SliceIndexes) → range.0 ≤ range.1 → range.1 ≤ length bytes → StandsAt bytes range.0 (range_of bytes range)
+range_stands bytes range h k = record {
+  inside = omega arith;
+  after = drop (range.1 - range.0) (drop range.0 bytes);
+  there = sym (take-append-drop (range.1 - range.0) (drop range.0 bytes));
+}
