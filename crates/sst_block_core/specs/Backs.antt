@@ -1,7 +1,7 @@
 -- What contracts see of the back of an iterator: an end, and the offsets of the forms in front of it.
 use Rattle.std.specs.Prelude.{◌≡◌, ℕ, ◌+◌, ◌-◌, ◌*◌, ◌/◌, ◌%◌, ◌<◌, ◌≤◌, ◌==◌, ◌||◌, if◌then◌else◌, Bool, true, List, length, slice_index, min, Option, IfSome}
 use Rattle.std.specs.Option.{option_map}
-use Rattle.sst_base.specs.Counted.{found_item}
+use Rattle.sst_base.specs.Counted.{CountsBetween, found_item}
 use Rattle.sst_block_core.specs.Kind.{Kind}
 use Rattle.sst_block_core.specs.Pointers.{head_count}
 use Rattle.sst_block_core.specs.Scan.{Listed, Scan, Stands}
@@ -45,6 +45,4 @@ pub record GivesNextBack {X P : Type 0} (item_of : List ℕ → P → X) (is_fou
   pub interval : t.interval ≡ s.interval
   pub step : ◌≡◌ {A = Window X × Answer X} (t.window, item (option_map (item_of s.payload) r)) (next_back s.window)
   pub found : IfSome r (is_found s.payload)
-  pub heads : t.steps.heads ≡ s.steps.heads
-  pub entries : t.steps.entries ≤ s.steps.entries + found_item r * (1 + back_cost s.interval (length s.window.list) s.window.hi)
-  pub entries_grow : s.steps.entries + found_item r ≤ t.steps.entries
+  pub counts : CountsBetween s.steps t.steps (0, found_item r) (0, found_item r * (1 + back_cost s.interval (length s.window.list) s.window.hi))

@@ -1,10 +1,10 @@
 -- What contracts see of an item at which a search stopped.
-use Rattle.std.specs.Prelude.{◌≡◌, ℕ, ◌+◌, ◌≤◌, ◌==◌, if◌then◌else◌, List, slice_get, Option, Some, None, IfSome}
+use Rattle.std.specs.Prelude.{◌≡◌, ℕ, ◌+◌, ◌==◌, if◌then◌else◌, List, slice_get, Option, Some, None, IfSome}
 use Rattle.std.specs.Option.{option_map}
 use Rattle.std.specs.Ordering.{nat_cmp, is_eq}
 use Rattle.std.specs.Cmp.Lexicographic.{slice_cmp}
 use Rattle.sst_block_core.specs.Kind.{Kind}
-use Rattle.sst_base.specs.Counted.{found_item}
+use Rattle.sst_base.specs.Counted.{CountsBetween, found_item}
 use Rattle.sst_block_core.specs.Scan.{Listed, Scan, Stands}
 use Rattle.sst_block_core.specs.Window.{Window, Answer, item, next}
 use Rattle.sst_block_core.specs.declared.table.block.landing.Landing.{Landing}
@@ -40,6 +40,4 @@ pub record GivesNextHeld {X P : Type 0} (item_of : List ℕ → P → X) (is_fou
   pub interval : t.interval ≡ s.interval
   pub step : ◌≡◌ {A = Window X × Answer X} (t.window, item (option_map (item_of s.payload) r)) (next s.window)
   pub found : IfSome r (is_found s.payload)
-  pub heads : t.steps.heads ≡ s.steps.heads
-  pub entries : t.steps.entries ≤ s.steps.entries + found_item r
-  pub entries_grow : s.steps.entries ≤ t.steps.entries
+  pub counts : CountsBetween s.steps t.steps (0, 0) (0, found_item r)

@@ -44,8 +44,10 @@ read_heads hash d key = heads_most (lookup hash d key) (head_count d.interval (l
 abbrev pub read_entries : (List ℕ → ℕ) → DataBlockParts → List ℕ → ℕ
 read_entries hash d key = entries_most (lookup hash d key) d.interval
 
-abbrev pub read_heads_least : (List ℕ → ℕ) → DataBlockParts → List ℕ → ℕ
-read_heads_least hash d key = heads_least (lookup hash d key)
+-- the most heads, and the most entries, that a point read of a key in a data block looks at
+abbrev pub read_most : (List ℕ → ℕ) → DataBlockParts → List ℕ → ℕ × ℕ
+read_most hash d key = (read_heads hash d key, read_entries hash d key)
 
-abbrev pub read_entries_least : (List ℕ → ℕ) → DataBlockParts → List ℕ → ℕ
-read_entries_least hash d key = entries_least (lookup hash d key)
+-- the least heads, and the least entries
+abbrev pub read_least : (List ℕ → ℕ) → DataBlockParts → List ℕ → ℕ × ℕ
+read_least hash d key = (heads_least (lookup hash d key), entries_least (lookup hash d key))

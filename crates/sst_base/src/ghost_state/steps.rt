@@ -1,6 +1,5 @@
 //! Counters of heads and entries.
-ghost use Rattle.std.specs.Prelude.{◌≡◌, ◌+◌};
-ghost use Rattle.sst_base.specs.Counted.{Counted};
+ghost use Rattle.sst_base.specs.Counted.{Counted, IsZero, CountsExactly};
 
 use crate::ghost_state::count::Count;
 use std::marker::Model;
@@ -22,8 +21,7 @@ impl Model for Steps {
 impl Steps {
     /// Makes counters at zero.
     pub fn new() -> Steps
-        ensures heads { result.heads ≡ 0 }
-        ensures entries { result.entries ≡ 0 }
+        ensures { IsZero result }
     {
         Steps {
             heads: Count::new(),
@@ -33,24 +31,21 @@ impl Steps {
 
     /// Counts a head.
     pub fn count_head(&mut self)
-        ensures heads { self.new.heads ≡ self.old.heads + 1 }
-        ensures entries { self.new.entries ≡ self.old.entries }
+        ensures { CountsExactly self.old self.new 1 0 }
     {
         self.heads.add_one();
     }
 
     /// Counts an entry.
     pub fn count_entry(&mut self)
-        ensures heads { self.new.heads ≡ self.old.heads }
-        ensures entries { self.new.entries ≡ self.old.entries + 1 }
+        ensures { CountsExactly self.old self.new 0 1 }
     {
         self.entries.add_one();
     }
 
     /// Adds other counters.
     pub fn add(&mut self, other: &Steps)
-        ensures heads { self.new.heads ≡ self.old.heads + other.now.heads }
-        ensures entries { self.new.entries ≡ self.old.entries + other.now.entries }
+        ensures { CountsExactly self.old self.new other.now.heads other.now.entries }
     {
         self.heads.add(&other.heads);
         self.entries.add(&other.entries);
@@ -59,7 +54,7 @@ impl Steps {
 
 /// Counters at zero.
 impl Default for Steps {
-    ghost is_default = { λ s. (s.heads ≡ 0) × (s.entries ≡ 0) };
+    ghost is_default = { λ s. IsZero s };
 
     fn default() -> Steps {
         Steps::new()

@@ -1,6 +1,7 @@
 //! The back of an iterator over a block.
 ghost use Rattle.std.specs.Prelude.{◌≡◌, ◌+◌, ◌-◌, ◌<◌, ◌≤◌, [], length};
 ghost use Rattle.std.specs.Prelude.{slice_get, Some};
+ghost use Rattle.sst_base.specs.Counted.{CountsExactly, CountsBetween};
 ghost use Rattle.sst_block_core.specs.Backs.{first_of, back_cost, StackStands, IsBack};
 ghost use Rattle.sst_block_core.specs.Landings.{scan_cost};
 
@@ -52,9 +53,8 @@ impl<'a, Item: Decodable<Parsed>, Parsed: ParsedItem<Item> + Drop> Intervals<'a,
         ensures count { first_of self.old.list.interval end + length stack.new.items ≡ end }
         ensures bounded { self.new.steps.entries
             ≤ self.old.steps.entries + self.old.list.interval }
-        ensures heads { self.new.steps.heads ≡ self.old.steps.heads }
-        ensures entries { self.new.steps.entries
-            ≡ self.old.steps.entries + (end - first_of self.old.list.interval end) }
+        ensures counts { CountsExactly self.old.steps self.new.steps 0
+            (end - first_of self.old.list.interval end) }
     {
         let number = (end - 1) / usize::from(self.interval());
         let mut at = self.start(number);
@@ -77,9 +77,8 @@ impl<'a, Item: Decodable<Parsed>, Parsed: ParsedItem<Item> + Drop> Intervals<'a,
         ensures some { 0 < end → 0 < length back.new.stack.items }
         ensures bounded { self.new.steps.entries
             ≤ self.old.steps.entries + self.old.list.interval }
-        ensures heads { self.new.steps.heads ≡ self.old.steps.heads }
-        ensures entries { self.new.steps.entries
-            ≡ self.old.steps.entries + (end - first_of self.old.list.interval end) }
+        ensures counts { CountsExactly self.old.steps self.new.steps 0
+            (end - first_of self.old.list.interval end) }
     {
         back.hi = end;
         back.stack.clear();
@@ -95,10 +94,8 @@ impl<'a, Item: Decodable<Parsed>, Parsed: ParsedItem<Item> + Drop> Intervals<'a,
         ensures hi { back.new.hi ≡ end }
         ensures back { IsBack Item.kind self.old.list back.new.hi back.new.stack.items
             back.new.base }
-        ensures heads { self.new.steps.heads ≡ self.old.steps.heads }
-        ensures entries { self.new.steps.entries
-            ≤ self.old.steps.entries + scan_cost self.old.list.interval }
-        ensures entries_grow { self.old.steps.entries ≤ self.new.steps.entries }
+        ensures counts { CountsBetween self.old.steps self.new.steps (0, 0)
+            (0, scan_cost self.old.list.interval) }
     {
         if end == self.item_count() || end % usize::from(self.interval()) == 0 {
             back.hi = end;
@@ -119,11 +116,8 @@ impl<'a, Item: Decodable<Parsed>, Parsed: ParsedItem<Item> + Drop> Intervals<'a,
         ensures back { IsBack Item.kind self.old.list back.new.hi back.new.stack.items
             back.new.base }
         ensures some { 0 < length back.new.stack.items }
-        ensures heads { self.new.steps.heads ≡ self.old.steps.heads }
-        ensures entries { self.new.steps.entries
-            ≤ self.old.steps.entries
-            + back_cost self.old.list.interval (length self.old.list.items) back.old.hi }
-        ensures entries_grow { self.old.steps.entries ≤ self.new.steps.entries }
+        ensures counts { CountsBetween self.old.steps self.new.steps (0, 0)
+            (0, back_cost self.old.list.interval (length self.old.list.items) back.old.hi) }
     {
         if back.stack.is_empty() {
             self.set_back(back, back.hi);
@@ -140,8 +134,7 @@ impl<'a, Item: Decodable<Parsed>, Parsed: ParsedItem<Item> + Drop> Intervals<'a,
         ensures item { slice_get self.old.list.items (back.now.hi - 1)
             ≡ Some (Parsed.item_of self.old.list.payload result) }
         ensures found { Parsed.is_found self.old.list.payload result }
-        ensures heads { self.new.steps.heads ≡ self.old.steps.heads }
-        ensures entries { self.new.steps.entries ≡ self.old.steps.entries + 1 }
+        ensures counts { CountsExactly self.old.steps self.new.steps 0 1 }
     {
         let last = back.stack.len() - 1;
         let mut at = Place {
@@ -167,11 +160,8 @@ impl<'a, Item: Decodable<Parsed>, Parsed: ParsedItem<Item> + Drop> Intervals<'a,
         ensures hi { back.new.hi ≡ back.old.hi - 1 }
         ensures back { IsBack Item.kind self.old.list back.new.hi back.new.stack.items
             back.new.base }
-        ensures heads { self.new.steps.heads ≡ self.old.steps.heads }
-        ensures entries { self.new.steps.entries
-            ≤ self.old.steps.entries
-            + (1 + back_cost self.old.list.interval (length self.old.list.items) back.old.hi) }
-        ensures entries_grow { self.old.steps.entries < self.new.steps.entries }
+        ensures counts { CountsBetween self.old.steps self.new.steps (0, 1)
+            (0, 1 + back_cost self.old.list.interval (length self.old.list.items) back.old.hi) }
     {
         self.load(back);
         let item = self.peek_back(back);

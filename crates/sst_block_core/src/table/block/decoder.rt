@@ -9,7 +9,7 @@ ghost use Rattle.std.specs.Ordering.{nat_cmp};
 ghost use Rattle.std.specs.Cmp.Lexicographic.{slice_cmp};
 ghost use Rattle.std.specs.Iterator.{at_most};
 ghost use Rattle.std.proofs.Common.{ap};
-ghost use Rattle.sst_base.specs.Counted.{found_item};
+ghost use Rattle.sst_base.specs.Counted.{found_item, IsZero, CountsExactly, CountsBetween};
 ghost use Rattle.sst_base.specs.SharedPrefix.{shared_prefix_length};
 ghost use Rattle.sst_block_core.specs.Found.{Finds, Takes, StandsAt, IsRange, range_of};
 ghost use Rattle.sst_block_core.specs.Payload.{IsEncoding};
@@ -103,8 +103,7 @@ pub trait Decodable<Parsed: ParsedItem<Self>>: BlockItem + Sized {
             ≡ option_map {U = List ℕ × ℕ} (λ f. (Self.kind.key f.0, Self.kind.seqno f.0))
             (Self.kind.full_at (drop offset payload.now)) }
         ensures marker { StandsAt payload.now offset (255 ∷ []) → result ≡ None }
-        ensures heads { steps.new.heads ≡ steps.old.heads + 1 }
-        ensures entries { steps.new.entries ≡ steps.old.entries };
+        ensures counts { CountsExactly steps.old steps.new 1 0 };
 
     /// Decodes the item in full form at an offset; the second answer is where the form ends.
     /// Returns `None` at the marker, and wherever no full form stands. Counts an entry where it
@@ -119,8 +118,7 @@ pub trait Decodable<Parsed: ParsedItem<Self>>: BlockItem + Sized {
             (Self.kind.key (Parsed.item_of payload.now f.0))) }
         ensures shared { IfSome result (λ f. Parsed.shared_len f.0 ≡ 0) }
         ensures marker { StandsAt payload.now offset (255 ∷ []) → result ≡ None }
-        ensures heads { steps.new.heads ≡ steps.old.heads }
-        ensures entries { steps.new.entries ≡ steps.old.entries + found_item result };
+        ensures counts { CountsExactly steps.old steps.new 0 (found_item result) };
 
     /// Decodes the item in truncated form at an offset, behind a head whose key begins at
     /// `base_key_offset`; the second answer is where the form ends. Returns `None` at the marker,
@@ -154,8 +152,7 @@ pub trait Decodable<Parsed: ParsedItem<Self>>: BlockItem + Sized {
         ensures within { IfSome result (λ f. f.1 ≤ length payload.now) }
         ensures found { IfSome result (λ f. Parsed.is_found payload.now f.0) }
         ensures marker { StandsAt payload.now offset (255 ∷ []) → result ≡ None }
-        ensures heads { steps.new.heads ≡ steps.old.heads }
-        ensures entries { steps.new.entries ≡ steps.old.entries + found_item result };
+        ensures counts { CountsExactly steps.old steps.new 0 (found_item result) };
 
     /// Decodes the item whose full form stands at an offset; the second answer is where the form
     /// ends. Tests nothing. Counts an entry.
@@ -167,8 +164,7 @@ pub trait Decodable<Parsed: ParsedItem<Self>>: BlockItem + Sized {
         ensures key { StandsAt payload.now (Parsed.key_start result.0)
             (Self.kind.key (Parsed.item_of payload.now result.0)) }
         ensures shared { Parsed.shared_len result.0 ≡ 0 }
-        ensures heads { steps.new.heads ≡ steps.old.heads }
-        ensures entries { steps.new.entries ≡ steps.old.entries + 1 };
+        ensures counts { CountsExactly steps.old steps.new 0 1 };
 
     /// Decodes the item whose truncated form stands at an offset, behind a head whose key begins at
     /// `base_key_offset`; the second answer is where the form ends. Tests nothing. Counts an entry.
@@ -187,8 +183,7 @@ pub trait Decodable<Parsed: ParsedItem<Self>>: BlockItem + Sized {
             → (Parsed.item_of payload.now result.0 ≡ x) × (drop result.1 payload.now ≡ rest)
             × (Parsed.shared_len result.0 ≡ shared_prefix_length base (Self.kind.key x)) }
         ensures found { Parsed.is_found payload.now result.0 }
-        ensures heads { steps.new.heads ≡ steps.old.heads }
-        ensures entries { steps.new.entries ≡ steps.old.entries + 1 };
+        ensures counts { CountsExactly steps.old steps.new 0 1 };
 
     /// Decodes the key and the sequence number of the head that stands at an offset. Tests nothing.
     /// Counts a head.
@@ -197,8 +192,7 @@ pub trait Decodable<Parsed: ParsedItem<Self>>: BlockItem + Sized {
         ensures head { (x : Self) (rest : List ℕ)
             → Self.kind.full_at (drop offset payload.now) ≡ Some (x, rest)
             → (result.0.now ≡ Self.kind.key x) × (result.1 ≡ Self.kind.seqno x) }
-        ensures heads { steps.new.heads ≡ steps.old.heads + 1 }
-        ensures entries { steps.new.entries ≡ steps.old.entries };
+        ensures counts { CountsExactly steps.old steps.new 1 0 };
 }
 
 /// The block decoder: an iterator over the items of a block, as ranges of its payload.
@@ -237,8 +231,7 @@ impl<'a, Item: Decodable<Parsed>, Parsed: ParsedItem<Item>> Decoder<'a, Item, Pa
         ensures payload { result.payload ≡ block.now.payload }
         ensures interval { result.interval ≡ (trailer_in block.now.payload).interval }
         ensures window { result.window ≡ whole (items_in Item.kind block.now.payload) }
-        ensures heads { result.steps.heads ≡ 0 }
-        ensures entries { result.steps.entries ≡ 0 }
+        ensures counts { IsZero result.steps }
     {
         Decoder::over(Intervals::new(block))
     }
@@ -253,8 +246,7 @@ impl<'a, Item: Decodable<Parsed>, Parsed: ParsedItem<Item>> Decoder<'a, Item, Pa
         ensures payload { result.payload ≡ block.now.payload }
         ensures interval { result.interval ≡ (trailer_in block.now.payload).interval }
         ensures window { result.window ≡ whole (items_in Item.kind block.now.payload) }
-        ensures heads { result.steps.heads ≡ 0 }
-        ensures entries { result.steps.entries ≡ 0 }
+        ensures counts { IsZero result.steps }
     {
         Decoder::over(Intervals::with_table(block, Some(table)))
     }
@@ -294,11 +286,8 @@ impl<'a, Item: Decodable<Parsed>, Parsed: ParsedItem<Item>> Decoder<'a, Item, Pa
             (head_count self.old.interval (length self.old.window.list)) p
             → ◌≡◌ {A = Window Item × Answer Item} (self.new.window, found result)
             (seek_picked self.old.interval second_partition p self.old.window) }
-        ensures heads { self.new.steps.heads
-            ≤ self.old.steps.heads
-            + digits (head_count self.old.interval (length self.old.window.list)) }
-        ensures heads_grow { self.old.steps.heads < self.new.steps.heads }
-        ensures entries { self.new.steps.entries ≡ self.old.steps.entries }
+        ensures counts { CountsBetween self.old.steps self.new.steps (1, 0)
+            (digits (head_count self.old.interval (length self.old.window.list)), 0) }
     {
         let passed = self.intervals.partition_point(pred);
         let count = self.intervals.count();
@@ -330,11 +319,8 @@ impl<'a, Item: Decodable<Parsed>, Parsed: ParsedItem<Item>> Decoder<'a, Item, Pa
             (head_count self.old.interval (length self.old.window.list)) p
             → ◌≡◌ {A = Window Item × Answer Item} (self.new.window, found result)
             (seek_upper_picked self.old.interval second_partition p self.old.window) }
-        ensures heads { self.new.steps.heads
-            ≤ self.old.steps.heads
-            + digits (head_count self.old.interval (length self.old.window.list)) }
-        ensures heads_grow { self.old.steps.heads < self.new.steps.heads }
-        ensures entries { self.new.steps.entries ≡ self.old.steps.entries }
+        ensures counts { CountsBetween self.old.steps self.new.steps (1, 0)
+            (digits (head_count self.old.interval (length self.old.window.list)), 0) }
     {
         let passed = self.intervals.partition_point(pred);
         let count = self.intervals.count();
@@ -364,8 +350,7 @@ impl<'a, Item: Decodable<Parsed>, Parsed: ParsedItem<Item>> Decoder<'a, Item, Pa
               lo = j * self.old.interval;
               hi = self.old.window.hi;
             } }
-        ensures heads { self.new.steps.heads ≡ self.old.steps.heads }
-        ensures entries { self.new.steps.entries ≡ self.old.steps.entries }
+        ensures counts { CountsExactly self.old.steps self.new.steps 0 0 }
     {
         self.front = self.intervals.place_at(offset);
     }

@@ -1,8 +1,9 @@
 //! The one way from the bytes of a block to its heads and items.
 ghost use Rattle.std.specs.Prelude.{◌≡◌, ℕ, ◌+◌, ◌≤◌, ◌<◌, ◌++◌, List, [], ◌∷◌, length, drop, slice_get, Some};
-ghost use Rattle.std.specs.Prelude.{IsSome};
+ghost use Rattle.std.specs.Prelude.{IsSome, min};
 ghost use Rattle.std.specs.Ordering.{nat_cmp};
 ghost use Rattle.std.specs.Cmp.Lexicographic.{slice_cmp};
+ghost use Rattle.sst_base.specs.Counted.{IsZero, CountsExactly, CountsBetween};
 ghost use Rattle.sst_base.specs.SharedPrefix.{shared_prefix_length};
 ghost use Rattle.sst_block_core.specs.Found.{Takes, StandsAt, IsRange, range_of};
 ghost use Rattle.sst_block_core.specs.Heads.{IsTable, key_in, heads_before, IsBehindHead, Begins};
@@ -53,8 +54,7 @@ impl<'a, Item: Decodable<Parsed>, Parsed: ParsedItem<Item>> FormReader<'a, Item,
     /// Makes a reader of a payload that has counted nothing.
     pub(crate) fn new(payload: &'a [u8]) -> FormReader<'a, Item, Parsed>
         ensures payload { result.payload ≡ payload.now }
-        ensures heads { result.steps.heads ≡ 0 }
-        ensures entries { result.steps.entries ≡ 0 }
+        ensures counts { IsZero result.steps }
     {
         FormReader {
             kinds: PhantomData,
@@ -78,8 +78,7 @@ impl<'a, Item: Decodable<Parsed>, Parsed: ParsedItem<Item>> FormReader<'a, Item,
         ensures head { (x : Item) (rest : List ℕ)
             → Item.kind.full_at (drop offset self.old.payload) ≡ Some (x, rest)
             → (result.0.now ≡ Item.kind.key x) × (result.1 ≡ Item.kind.seqno x) }
-        ensures heads { self.new.steps.heads ≡ self.old.steps.heads + 1 }
-        ensures entries { self.new.steps.entries ≡ self.old.steps.entries }
+        ensures counts { CountsExactly self.old.steps self.new.steps 1 0 }
     {
         Item::read_head(self.payload, offset, &mut self.steps)
     }
@@ -92,8 +91,7 @@ impl<'a, Item: Decodable<Parsed>, Parsed: ParsedItem<Item>> FormReader<'a, Item,
         ensures payload { self.new.payload ≡ self.old.payload }
         ensures head { (h : Head) → slice_get table.now.heads j ≡ Some h
             → (result.0.now ≡ key_in self.old.payload h) × (result.1 ≡ h.seqno) }
-        ensures heads { self.new.steps.heads ≡ self.old.steps.heads + 1 }
-        ensures entries { self.new.steps.entries ≡ self.old.steps.entries }
+        ensures counts { CountsExactly self.old.steps self.new.steps 1 0 }
     {
         table.head(self.payload, j, &mut self.steps)
     }
@@ -105,11 +103,8 @@ impl<'a, Item: Decodable<Parsed>, Parsed: ParsedItem<Item>> FormReader<'a, Item,
         ensures payload { self.new.payload ≡ self.old.payload }
         ensures value { result
             ≡ heads_before self.old.payload bound.now.needle.now bound.now.from table.now.heads }
-        ensures heads { self.new.steps.heads
-            ≤ self.old.steps.heads + digits (length table.now.heads) }
-        ensures heads_grow { 0 < length table.now.heads
-            → self.old.steps.heads < self.new.steps.heads }
-        ensures entries { self.new.steps.entries ≡ self.old.steps.entries }
+        ensures counts { CountsBetween self.old.steps self.new.steps
+            (min 1 (length table.now.heads), 0) (digits (length table.now.heads), 0) }
     {
         table.count(self.payload, bound, &mut self.steps)
     }
@@ -126,8 +121,7 @@ impl<'a, Item: Decodable<Parsed>, Parsed: ParsedItem<Item>> FormReader<'a, Item,
         ensures key { StandsAt self.old.payload (Parsed.key_start result.0)
             (Item.kind.key (Parsed.item_of self.old.payload result.0)) }
         ensures shared { Parsed.shared_len result.0 ≡ 0 }
-        ensures heads { self.new.steps.heads ≡ self.old.steps.heads }
-        ensures entries { self.new.steps.entries ≡ self.old.steps.entries + 1 }
+        ensures counts { CountsExactly self.old.steps self.new.steps 0 1 }
     {
         Item::read_full(self.payload, offset, &mut self.steps)
     }
@@ -151,8 +145,7 @@ impl<'a, Item: Decodable<Parsed>, Parsed: ParsedItem<Item>> FormReader<'a, Item,
             × (drop result.1 self.old.payload ≡ rest)
             × (Parsed.shared_len result.0 ≡ shared_prefix_length base (Item.kind.key x)) }
         ensures found { Parsed.is_found self.old.payload result.0 }
-        ensures heads { self.new.steps.heads ≡ self.old.steps.heads }
-        ensures entries { self.new.steps.entries ≡ self.old.steps.entries + 1 }
+        ensures counts { CountsExactly self.old.steps self.new.steps 0 1 }
     {
         Item::read_truncated(self.payload, offset, base_key_offset, &mut self.steps)
     }

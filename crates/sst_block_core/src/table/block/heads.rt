@@ -1,10 +1,11 @@
 //! Tables of the heads of a block.
 ghost use Rattle.std.specs.Prelude.{◌≡◌, ◌≢◌, ◌+◌, ◌*◌, ◌/◌, ◌^◌, ◌≤◌, ◌<◌, ◌++◌};
-ghost use Rattle.std.specs.Prelude.{[], ◌∷◌, List, ℕ, length, drop, nat_lt, if◌then◌else◌};
+ghost use Rattle.std.specs.Prelude.{[], ◌∷◌, List, ℕ, length, drop, nat_lt, min, if◌then◌else◌};
 ghost use Rattle.std.specs.Prelude.{slice_get, Some, None, slice_index, nat_eq, IfOk, IsOkUnless, IfSome};
 ghost use Rattle.std.specs.Ordering.{nat_cmp, ordering_then};
 ghost use Rattle.std.specs.Cmp.Lexicographic.{slice_cmp};
 ghost use Rattle.std.specs.declared.cmp.Ordering.TheVariants.{Less, Equal};
+ghost use Rattle.sst_base.specs.Counted.{CountsExactly, CountsBetween};
 ghost use Rattle.sst_base.specs.Order.{versions_cmp};
 ghost use Rattle.sst_block_core.specs.Found.{IsRange, range_of};
 ghost use Rattle.sst_block_core.specs.Heads.{front, key_in, Begins, IsTable, TellsBit, head_of};
@@ -212,8 +213,7 @@ impl HeadTable {
         requires inside { j < length self.now.heads }
         ensures head { (h : Head) → slice_get self.now.heads j ≡ Some h
             → (result.0.now ≡ key_in payload.now h) × (result.1 ≡ h.seqno) }
-        ensures heads { steps.new.heads ≡ steps.old.heads + 1 }
-        ensures entries { steps.new.entries ≡ steps.old.entries }
+        ensures counts { CountsExactly steps.old steps.new 1 0 }
     {
         steps.count_head();
         let head = self.heads[j];
@@ -279,8 +279,7 @@ impl HeadTable {
         requires number { number ≡ front rest.now / 2 }
         ensures tells { TellsBit payload.now bound.now.needle.now bound.now.from self.now.heads j
             result }
-        ensures heads { steps.new.heads ≡ steps.old.heads + 1 }
-        ensures entries { steps.new.entries ≡ steps.old.entries }
+        ensures counts { CountsExactly steps.old steps.new 1 0 }
     {
         steps.count_head();
         let own = self.fronts[j];
@@ -306,8 +305,7 @@ impl HeadTable {
             ≡ slice_cmp nat_cmp s rest.now }
         ensures value { result
             ≡ heads_before payload.now bound.now.needle.now bound.now.from self.now.heads }
-        ensures heads { steps.new.heads ≡ steps.old.heads + digits (length self.now.heads) }
-        ensures entries { steps.new.entries ≡ steps.old.entries }
+        ensures counts { CountsExactly steps.old steps.new (digits (length self.now.heads)) 0 }
     {
         let number = front_of(rest) / 2;
         let mut base = 0;
@@ -328,9 +326,8 @@ impl HeadTable {
         requires { IsTable payload.now self.now }
         ensures value { result
             ≡ heads_before payload.now bound.now.needle.now bound.now.from self.now.heads }
-        ensures heads { steps.new.heads ≤ steps.old.heads + digits (length self.now.heads) }
-        ensures heads_grow { 0 < length self.now.heads → steps.old.heads < steps.new.heads }
-        ensures entries { steps.new.entries ≡ steps.old.entries }
+        ensures counts { CountsBetween steps.old steps.new (min 1 (length self.now.heads), 0)
+            (digits (length self.now.heads), 0) }
     {
         if self.is_empty() {
             return 0;
@@ -355,9 +352,8 @@ impl HeadTable {
     pub fn count_below(&self, payload: &[u8], needle: &[u8], steps: &mut Steps) -> usize
         requires { IsTable payload.now self.now }
         ensures value { result ≡ heads_before payload.now needle.now None self.now.heads }
-        ensures heads { steps.new.heads ≤ steps.old.heads + digits (length self.now.heads) }
-        ensures heads_grow { 0 < length self.now.heads → steps.old.heads < steps.new.heads }
-        ensures entries { steps.new.entries ≡ steps.old.entries }
+        ensures counts { CountsBetween steps.old steps.new (min 1 (length self.now.heads), 0)
+            (digits (length self.now.heads), 0) }
     {
         self.count(payload, &Bound::below(needle), steps)
     }
@@ -366,9 +362,8 @@ impl HeadTable {
     pub fn count_at_most(&self, payload: &[u8], needle: &[u8], steps: &mut Steps) -> usize
         requires { IsTable payload.now self.now }
         ensures value { result ≡ heads_before payload.now needle.now (Some 0) self.now.heads }
-        ensures heads { steps.new.heads ≤ steps.old.heads + digits (length self.now.heads) }
-        ensures heads_grow { 0 < length self.now.heads → steps.old.heads < steps.new.heads }
-        ensures entries { steps.new.entries ≡ steps.old.entries }
+        ensures counts { CountsBetween steps.old steps.new (min 1 (length self.now.heads), 0)
+            (digits (length self.now.heads), 0) }
     {
         self.count(payload, &Bound::up_to(needle), steps)
     }
@@ -385,9 +380,8 @@ impl HeadTable {
         requires { IsTable payload.now self.now }
         ensures value { result
             ≡ heads_before payload.now needle.now (Some seqno) self.now.heads }
-        ensures heads { steps.new.heads ≤ steps.old.heads + digits (length self.now.heads) }
-        ensures heads_grow { 0 < length self.now.heads → steps.old.heads < steps.new.heads }
-        ensures entries { steps.new.entries ≡ steps.old.entries }
+        ensures counts { CountsBetween steps.old steps.new (min 1 (length self.now.heads), 0)
+            (digits (length self.now.heads), 0) }
     {
         let bound = Bound {
             needle,

@@ -2,6 +2,7 @@
 ghost use Rattle.std.specs.Prelude.{◌≡◌, ℕ, ◌+◌, ◌-◌, ◌*◌, ◌<◌, ◌≤◌};
 ghost use Rattle.std.specs.Prelude.{List, length, drop, slice_get, Some, min};
 ghost use Rattle.std.specs.Prelude.{true, false, IfSome, IfOk, IsOkUnless};
+ghost use Rattle.sst_base.specs.Counted.{IsZero, CountsExactly};
 ghost use Rattle.sst_block_core.specs.Kind.{IsOrdered};
 ghost use Rattle.std.specs.Ordering.{nat_cmp};
 ghost use Rattle.std.specs.Cmp.Lexicographic.{slice_cmp};
@@ -83,8 +84,7 @@ impl<'a, Item: Decodable<Parsed>, Parsed: ParsedItem<Item>> Intervals<'a, Item, 
         ensures payload { result.list.payload ≡ block.now.payload }
         ensures items { result.list.items ≡ items_in Item.kind block.now.payload }
         ensures interval { result.list.interval ≡ (trailer_in block.now.payload).interval }
-        ensures heads { result.steps.heads ≡ 0 }
-        ensures entries { result.steps.entries ≡ 0 }
+        ensures counts { IsZero result.steps }
     {
         Intervals::with_table(block, None)
     }
@@ -99,8 +99,7 @@ impl<'a, Item: Decodable<Parsed>, Parsed: ParsedItem<Item>> Intervals<'a, Item, 
         ensures payload { result.list.payload ≡ block.now.payload }
         ensures items { result.list.items ≡ items_in Item.kind block.now.payload }
         ensures interval { result.list.interval ≡ (trailer_in block.now.payload).interval }
-        ensures heads { result.steps.heads ≡ 0 }
-        ensures entries { result.steps.entries ≡ 0 }
+        ensures counts { IsZero result.steps }
     {
         let payload = block.data().as_slice();
         let trailer = Trailer::new(block);
@@ -280,8 +279,7 @@ impl<'a, Item: Decodable<Parsed>, Parsed: ParsedItem<Item>> Intervals<'a, Item, 
         ensures head { (x : Item)
             → slice_get self.old.list.items (j * self.old.list.interval) ≡ Some x
             → (result.0.now ≡ Item.kind.key x) × (result.1 ≡ Item.kind.seqno x) }
-        ensures heads { self.new.steps.heads ≡ self.old.steps.heads + 1 }
-        ensures entries { self.new.steps.entries ≡ self.old.steps.entries }
+        ensures counts { CountsExactly self.old.steps self.new.steps 1 0 }
     {
         match self.table {
             Some(table) => self.forms.head_of(table, j),
@@ -306,8 +304,7 @@ impl<'a, Item: Decodable<Parsed>, Parsed: ParsedItem<Item>> Intervals<'a, Item, 
         ensures place { at.new.place ≡ at.old.place + 1 }
         ensures stands { StandsBehind Item.kind self.old.list at.new
             (Item.kind.key (Parsed.item_of self.old.list.payload result)) }
-        ensures heads { self.new.steps.heads ≡ self.old.steps.heads }
-        ensures entries { self.new.steps.entries ≡ self.old.steps.entries + 1 }
+        ensures counts { CountsExactly self.old.steps self.new.steps 0 1 }
     {
         let (item, end) = self.forms.read_full(at.offset);
         at.base = item.key_offset();
@@ -332,8 +329,7 @@ impl<'a, Item: Decodable<Parsed>, Parsed: ParsedItem<Item>> Intervals<'a, Item, 
             × (Parsed.shared_len result
             ≡ shared_prefix_length head
             (Item.kind.key (Parsed.item_of self.old.list.payload result))) }
-        ensures heads { self.new.steps.heads ≡ self.old.steps.heads }
-        ensures entries { self.new.steps.entries ≡ self.old.steps.entries + 1 }
+        ensures counts { CountsExactly self.old.steps self.new.steps 0 1 }
     {
         let (item, end) = self.forms.read_truncated(at.offset, at.base);
         at.move_on(end, self.restart_interval);
@@ -382,8 +378,7 @@ impl<'a, Item: Decodable<Parsed>, Parsed: ParsedItem<Item>> Intervals<'a, Item, 
         ensures found { Parsed.is_found self.old.list.payload result }
         ensures place { at.new.place ≡ at.old.place + 1 }
         ensures stands { Stands Item.kind self.old.list at.new }
-        ensures heads { self.new.steps.heads ≡ self.old.steps.heads }
-        ensures entries { self.new.steps.entries ≡ self.old.steps.entries + 1 }
+        ensures counts { CountsExactly self.old.steps self.new.steps 0 1 }
     {
         if at.phase == 0 {
             self.take_head(at)

@@ -7,7 +7,7 @@ ghost use Rattle.std.specs.Ordering.{nat_cmp, is_eq};
 ghost use Rattle.std.specs.Cmp.Lexicographic.{slice_cmp};
 ghost use Rattle.sst_base.specs.SharedPrefix.{shared_prefix_length};
 ghost use Rattle.std.specs.Option.{option_map};
-ghost use Rattle.sst_base.specs.Counted.{found_item};
+ghost use Rattle.sst_base.specs.Counted.{found_item, CountsExactly, CountsBetween};
 ghost use Rattle.sst_block_core.specs.Kind.{IsOrdered};
 ghost use Rattle.sst_block_core.specs.Pointers.{head_count};
 ghost use Rattle.sst_block_core.specs.Scan.{Stands, StandsBehind};
@@ -42,11 +42,8 @@ impl<'a, Item: Decodable<Parsed>, Parsed: ParsedItem<Item>> Intervals<'a, Item, 
             → Splits Item.kind (F.post pred.now) self.old.list.interval self.old.list.items
             (head_count self.old.list.interval (length self.old.list.items)) p
             → result ≡ p }
-        ensures heads { self.new.steps.heads
-            ≤ self.old.steps.heads
-            + digits (head_count self.old.list.interval (length self.old.list.items)) }
-        ensures heads_grow { self.old.steps.heads < self.new.steps.heads }
-        ensures entries { self.new.steps.entries ≡ self.old.steps.entries }
+        ensures counts { CountsBetween self.old.steps self.new.steps (1, 0)
+            (digits (head_count self.old.list.interval (length self.old.list.items)), 0) }
     {
         let mut left = 0;
         let mut right = self.count();
@@ -76,11 +73,8 @@ impl<'a, Item: Decodable<Parsed>, Parsed: ParsedItem<Item>> Intervals<'a, Item, 
             self.old.list.items
             ≤ result * self.old.list.interval }
         ensures start { (result - 1) * self.old.list.interval < length self.old.list.items }
-        ensures heads { self.new.steps.heads
-            ≤ self.old.steps.heads
-            + digits (head_count self.old.list.interval (length self.old.list.items)) }
-        ensures heads_grow { self.old.steps.heads < self.new.steps.heads }
-        ensures entries { self.new.steps.entries ≡ self.old.steps.entries }
+        ensures counts { CountsBetween self.old.steps self.new.steps (1, 0)
+            (digits (head_count self.old.list.interval (length self.old.list.items)), 0) }
     {
         let _ = self.count();
         match self.table {
@@ -115,10 +109,8 @@ impl<'a, Item: Decodable<Parsed>, Parsed: ParsedItem<Item> + Drop> Intervals<'a,
             IsLandedAt Parsed.item_of Parsed.is_found Item.kind bound.now.needle.now self.old.list
             result.0.place l
             × (result.0.place < end)) }
-        ensures heads { self.new.steps.heads ≡ self.old.steps.heads }
-        ensures entries { self.new.steps.entries ≤ self.old.steps.entries + (end - from.place) }
-        ensures entries_grow { self.old.steps.entries + found_item result.1
-            ≤ self.new.steps.entries }
+        ensures counts { CountsBetween self.old.steps self.new.steps (0, found_item result.1)
+            (0, end - from.place) }
     {
         let mut at = from;
         while at.place < end {
@@ -150,8 +142,7 @@ impl<'a, Item: Decodable<Parsed>, Parsed: ParsedItem<Item> + Drop> Intervals<'a,
         ensures alike { result.2
             ≡ shared_prefix_length (Item.kind.key (Parsed.item_of self.old.list.payload result.1))
             needle.now }
-        ensures heads { self.new.steps.heads ≡ self.old.steps.heads }
-        ensures entries { self.new.steps.entries ≡ self.old.steps.entries + 1 }
+        ensures counts { CountsExactly self.old.steps self.new.steps 0 1 }
     {
         let mut at = self.start(j);
         let head = self.take_head(&mut at);
@@ -179,11 +170,8 @@ impl<'a, Item: Decodable<Parsed>, Parsed: ParsedItem<Item> + Drop> Intervals<'a,
             result.0.place l
             × (result.0.place
             < min (length self.old.list.items) ((j + 1) * self.old.list.interval))) }
-        ensures heads { self.new.steps.heads ≡ self.old.steps.heads }
-        ensures entries { self.new.steps.entries
-            ≤ self.old.steps.entries + self.old.list.interval }
-        ensures entries_grow { self.old.steps.entries + found_item result.1
-            ≤ self.new.steps.entries }
+        ensures counts { CountsBetween self.old.steps self.new.steps (0, found_item result.1)
+            (0, self.old.list.interval) }
     {
         let end = self.end(j);
         let (from, _, alike) = self.enter(j, bound.needle);
@@ -213,8 +201,7 @@ impl<'a, Item: Decodable<Parsed>, Parsed: ParsedItem<Item> + Drop> Intervals<'a,
             ((x : Item) → slice_get self.old.list.items at.place ≡ Some x
             → is_eq (slice_cmp nat_cmp (Item.kind.key x) needle.now) ≡ false)
             (IsFoundAt Parsed.item_of Parsed.is_found Item.kind needle.now self.old.list at.place) }
-        ensures heads { self.new.steps.heads ≡ self.old.steps.heads }
-        ensures entries { self.new.steps.entries ≡ self.old.steps.entries + 1 }
+        ensures counts { CountsExactly self.old.steps self.new.steps 0 1 }
     {
         let mut at = at;
         let item = self.take_head(&mut at);
@@ -235,10 +222,8 @@ impl<'a, Item: Decodable<Parsed>, Parsed: ParsedItem<Item> + Drop> Intervals<'a,
             → is_eq (slice_cmp nat_cmp (Item.kind.key x) needle.now) ≡ false)
             (IsFoundAt Parsed.item_of Parsed.is_found Item.kind needle.now self.old.list
             result.0.place) }
-        ensures heads { self.new.steps.heads ≡ self.old.steps.heads }
-        ensures entries { self.new.steps.entries ≤ self.old.steps.entries + 1 }
-        ensures entries_grow { self.old.steps.entries + found_item result.1
-            ≤ self.new.steps.entries }
+        ensures counts { CountsBetween self.old.steps self.new.steps (0, found_item result.1)
+            (0, 1) }
     {
         if heads >= self.count() {
             return (self.last(), None);
@@ -261,14 +246,10 @@ impl<'a, Item: Decodable<Parsed>, Parsed: ParsedItem<Item> + Drop> Intervals<'a,
             → is_eq (slice_cmp nat_cmp (Item.kind.key x) bound.now.needle.now) ≡ false)
             (IsFoundAt Parsed.item_of Parsed.is_found Item.kind bound.now.needle.now self.old.list
             result.0.place) }
-        ensures heads { self.new.steps.heads
-            ≤ self.old.steps.heads
-            + digits (head_count self.old.list.interval (length self.old.list.items)) }
-        ensures heads_grow { self.old.steps.heads < self.new.steps.heads }
-        ensures entries { self.new.steps.entries
-            ≤ self.old.steps.entries + (self.old.list.interval + 1) }
-        ensures entries_grow { self.old.steps.entries + found_item result.1
-            ≤ self.new.steps.entries }
+        ensures counts { CountsBetween self.old.steps self.new.steps (1, found_item result.1) (
+          digits (head_count self.old.list.interval (length self.old.list.items)),
+          self.old.list.interval + 1,
+        ) }
     {
         let heads = self.heads_passed(bound);
         if self.interval() == 1 {
@@ -295,13 +276,10 @@ impl<'a, Item: Decodable<Parsed>, Parsed: ParsedItem<Item> + Drop> Intervals<'a,
         ensures stands { Stands Item.kind self.old.list result.0 }
         ensures landing { IfSome result.1
             (IsHeldAt Parsed.item_of Parsed.is_found Item.kind self.old.list result.0.place) }
-        ensures heads { self.new.steps.heads
-            ≤ self.old.steps.heads
-            + digits (head_count self.old.list.interval (length self.old.list.items)) }
-        ensures heads_grow { self.old.steps.heads < self.new.steps.heads }
-        ensures entries { self.new.steps.entries
-            ≤ self.old.steps.entries + scan_cost self.old.list.interval }
-        ensures entries_grow { self.old.steps.entries ≤ self.new.steps.entries }
+        ensures counts { CountsBetween self.old.steps self.new.steps (1, 0) (
+          digits (head_count self.old.list.interval (length self.old.list.items)),
+          scan_cost self.old.list.interval,
+        ) }
     {
         let heads = self.heads_passed(bound);
         if heads > 0 && self.interval() > 1 {
@@ -322,14 +300,10 @@ impl<'a, Item: Decodable<Parsed>, Parsed: ParsedItem<Item> + Drop> Intervals<'a,
         ensures item { option_map (Parsed.item_of self.old.list.payload) result
             ≡ slice_get (filter (is_version Item.kind needle.now seqno) self.old.list.items) 0 }
         ensures found { IfSome result (Parsed.is_found self.old.list.payload) }
-        ensures heads { self.new.steps.heads
-            ≤ self.old.steps.heads
-            + digits (head_count self.old.list.interval (length self.old.list.items)) }
-        ensures heads_grow { self.old.steps.heads < self.new.steps.heads }
-        ensures entries { self.new.steps.entries
-            ≤ self.old.steps.entries + (self.old.list.interval + 1) }
-        ensures entries_grow { self.old.steps.entries + found_item result
-            ≤ self.new.steps.entries }
+        ensures counts { CountsBetween self.old.steps self.new.steps (1, found_item result) (
+          digits (head_count self.old.list.interval (length self.old.list.items)),
+          self.old.list.interval + 1,
+        ) }
     {
         let bound = Bound {
             needle,
@@ -352,10 +326,8 @@ impl<'a, Item: Decodable<Parsed>, Parsed: ParsedItem<Item> + Drop> Intervals<'a,
         ensures item { option_map (Parsed.item_of self.old.list.payload) result
             ≡ slice_get (filter (is_version Item.kind needle.now seqno) self.old.list.items) 0 }
         ensures found { IfSome result (Parsed.is_found self.old.list.payload) }
-        ensures heads { self.new.steps.heads ≡ self.old.steps.heads }
-        ensures entries { self.new.steps.entries
-            ≤ self.old.steps.entries + self.old.list.interval }
-        ensures entries_grow { self.old.steps.entries < self.new.steps.entries }
+        ensures counts { CountsBetween self.old.steps self.new.steps (0, 1)
+            (0, self.old.list.interval) }
     {
         let bound = Bound {
             needle,

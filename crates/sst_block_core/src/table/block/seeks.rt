@@ -1,6 +1,7 @@
 //! Seeks of a decoder by key.
-ghost use Rattle.std.specs.Prelude.{◌≡◌, ◌+◌, ◌*◌, ◌<◌, ◌≤◌, length, min, nat_lt};
+ghost use Rattle.std.specs.Prelude.{◌≡◌, ◌+◌, ◌*◌, ◌<◌, length, min, nat_lt};
 ghost use Rattle.std.specs.Prelude.{IfSome};
+ghost use Rattle.sst_base.specs.Counted.{CountsBetween};
 ghost use Rattle.sst_block_core.specs.Kind.{IsOrdered};
 ghost use Rattle.sst_block_core.specs.Pointers.{head_count};
 ghost use Rattle.sst_block_core.specs.Window.{count_passed, has_key, first_left, last_left};
@@ -44,13 +45,10 @@ impl<'a, Item: Decodable<Parsed>, Parsed: ParsedItem<Item> + Drop> Decoder<'a, I
         ensures landing { IfSome result
             (IsHeldAt Parsed.item_of Parsed.is_found Item.kind (listed_of self.old)
             (count_passed Item.kind bound.now.needle.now bound.now.from self.old.window.list)) }
-        ensures heads { self.new.steps.heads
-            ≤ self.old.steps.heads
-            + digits (head_count self.old.interval (length self.old.window.list)) }
-        ensures heads_grow { self.old.steps.heads < self.new.steps.heads }
-        ensures entries { self.new.steps.entries
-            ≤ self.old.steps.entries + scan_cost self.old.interval }
-        ensures entries_grow { self.old.steps.entries ≤ self.new.steps.entries }
+        ensures counts { CountsBetween self.old.steps self.new.steps (1, 0) (
+          digits (head_count self.old.interval (length self.old.window.list)),
+          scan_cost self.old.interval,
+        ) }
     {
         let (first, landing) = self.intervals.seek_place(bound);
         self.front = first;
@@ -69,13 +67,10 @@ impl<'a, Item: Decodable<Parsed>, Parsed: ParsedItem<Item> + Drop> Decoder<'a, I
           hi = min (length self.old.window.list)
               (count_passed Item.kind bound.now.needle.now bound.now.from self.old.window.list + 1);
         } }
-        ensures heads { self.new.steps.heads
-            ≤ self.old.steps.heads
-            + digits (head_count self.old.interval (length self.old.window.list)) }
-        ensures heads_grow { self.old.steps.heads < self.new.steps.heads }
-        ensures entries { self.new.steps.entries
-            ≤ self.old.steps.entries + 2 * scan_cost self.old.interval }
-        ensures entries_grow { self.old.steps.entries ≤ self.new.steps.entries }
+        ensures counts { CountsBetween self.old.steps self.new.steps (1, 0) (
+          digits (head_count self.old.interval (length self.old.window.list)),
+          2 * scan_cost self.old.interval,
+        ) }
     {
         let (place, _) = self.intervals.seek_place(bound);
         let end = self.intervals.item_count().min(place.place + 1);
@@ -110,13 +105,10 @@ impl<'a, Item: Decodable<Parsed>, Parsed: ParsedItem<Item> + Drop> Decoder<'a, I
         } }
         ensures answer { result
             ≡ has_key Item.kind bound.now.needle.now (first_left self.new.window) }
-        ensures heads { self.new.steps.heads
-            ≤ self.old.steps.heads
-            + digits (head_count self.old.interval (length self.old.window.list)) }
-        ensures heads_grow { self.old.steps.heads < self.new.steps.heads }
-        ensures entries { self.new.steps.entries
-            ≤ self.old.steps.entries + (self.old.interval + 1) }
-        ensures entries_grow { self.old.steps.entries ≤ self.new.steps.entries }
+        ensures counts { CountsBetween self.old.steps self.new.steps (1, 0) (
+          digits (head_count self.old.interval (length self.old.window.list)),
+          self.old.interval + 1,
+        ) }
     {
         let (place, item) = self.intervals.seek(bound);
         self.front = place;
@@ -140,13 +132,10 @@ impl<'a, Item: Decodable<Parsed>, Parsed: ParsedItem<Item> + Drop> Decoder<'a, I
         } }
         ensures answer { result
             ≡ has_key Item.kind bound.now.needle.now (last_left self.new.window) }
-        ensures heads { self.new.steps.heads
-            ≤ self.old.steps.heads
-            + digits (head_count self.old.interval (length self.old.window.list)) }
-        ensures heads_grow { self.old.steps.heads < self.new.steps.heads }
-        ensures entries { self.new.steps.entries
-            ≤ self.old.steps.entries + (2 * self.old.interval + 2) }
-        ensures entries_grow { self.old.steps.entries ≤ self.new.steps.entries }
+        ensures counts { CountsBetween self.old.steps self.new.steps (1, 0) (
+          digits (head_count self.old.interval (length self.old.window.list)),
+          2 * self.old.interval + 2,
+        ) }
     {
         let (place, _) = self.intervals.seek(bound);
         self.intervals.set_back(&mut self.back, place.place);

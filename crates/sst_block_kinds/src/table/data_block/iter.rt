@@ -1,8 +1,9 @@
 //! The iterator over the entries of a data block, as ranges of its payload.
-ghost use Rattle.std.specs.Prelude.{◌≡◌, ℕ, ◌+◌, ◌-◌, ◌*◌, ◌<◌, ◌≤◌};
+ghost use Rattle.std.specs.Prelude.{◌≡◌, ℕ, ◌+◌, ◌-◌, ◌*◌, ◌<◌};
 ghost use Rattle.std.specs.Prelude.{length, true};
 ghost use Rattle.std.specs.Iterator.{at_most};
 ghost use Rattle.std.proofs.Common.{ap};
+ghost use Rattle.sst_base.specs.Counted.{CountsExactly, CountsBetween};
 ghost use Rattle.sst_block_core.specs.Body.{place_offset};
 ghost use Rattle.sst_block_core.specs.Kind.{IsOrdered};
 ghost use Rattle.sst_block_core.specs.Entries.{entries};
@@ -66,13 +67,10 @@ impl<'a> Iter<'a> {
     pub fn seek(&mut self, needle: &[u8]) -> bool
         ensures step { GivesStep self.old self.new (found result)
             (seek entries needle.now self.old.window) }
-        ensures heads { self.new.steps.heads
-            ≤ self.old.steps.heads
-            + digits (head_count self.old.interval (length self.old.window.list)) }
-        ensures heads_grow { self.old.steps.heads < self.new.steps.heads }
-        ensures entries { self.new.steps.entries
-            ≤ self.old.steps.entries + (self.old.interval + 1) }
-        ensures entries_grow { self.old.steps.entries ≤ self.new.steps.entries }
+        ensures counts { CountsBetween self.old.steps self.new.steps (1, 0) (
+          digits (head_count self.old.interval (length self.old.window.list)),
+          self.old.interval + 1,
+        ) }
     {
         let bound = Bound::below(needle);
         self.decoder.seek_key(&bound)
@@ -83,13 +81,10 @@ impl<'a> Iter<'a> {
     pub fn seek_exclusive(&mut self, needle: &[u8]) -> bool
         ensures step { GivesStep self.old self.new (found result)
             (seek_exclusive entries needle.now self.old.window) }
-        ensures heads { self.new.steps.heads
-            ≤ self.old.steps.heads
-            + digits (head_count self.old.interval (length self.old.window.list)) }
-        ensures heads_grow { self.old.steps.heads < self.new.steps.heads }
-        ensures entries { self.new.steps.entries
-            ≤ self.old.steps.entries + (self.old.interval + 1) }
-        ensures entries_grow { self.old.steps.entries ≤ self.new.steps.entries }
+        ensures counts { CountsBetween self.old.steps self.new.steps (1, 0) (
+          digits (head_count self.old.interval (length self.old.window.list)),
+          self.old.interval + 1,
+        ) }
     {
         let passed = Bound::up_to(needle);
         self.decoder.seek_key(&passed);
@@ -101,13 +96,10 @@ impl<'a> Iter<'a> {
     pub fn seek_upper(&mut self, needle: &[u8]) -> bool
         ensures step { GivesStep self.old self.new (found result)
             (seek_upper entries needle.now self.old.window) }
-        ensures heads { self.new.steps.heads
-            ≤ self.old.steps.heads
-            + digits (head_count self.old.interval (length self.old.window.list)) }
-        ensures heads_grow { self.old.steps.heads < self.new.steps.heads }
-        ensures entries { self.new.steps.entries
-            ≤ self.old.steps.entries + (2 * self.old.interval + 2) }
-        ensures entries_grow { self.old.steps.entries ≤ self.new.steps.entries }
+        ensures counts { CountsBetween self.old.steps self.new.steps (1, 0) (
+          digits (head_count self.old.interval (length self.old.window.list)),
+          2 * self.old.interval + 2,
+        ) }
     {
         let bound = Bound::up_to(needle);
         self.decoder.seek_upper_key(&bound)
@@ -118,13 +110,10 @@ impl<'a> Iter<'a> {
     pub fn seek_upper_exclusive(&mut self, needle: &[u8]) -> bool
         ensures step { GivesStep self.old self.new (found result)
             (seek_upper_exclusive entries needle.now self.old.window) }
-        ensures heads { self.new.steps.heads
-            ≤ self.old.steps.heads
-            + digits (head_count self.old.interval (length self.old.window.list)) }
-        ensures heads_grow { self.old.steps.heads < self.new.steps.heads }
-        ensures entries { self.new.steps.entries
-            ≤ self.old.steps.entries + (2 * self.old.interval + 2) }
-        ensures entries_grow { self.old.steps.entries ≤ self.new.steps.entries }
+        ensures counts { CountsBetween self.old.steps self.new.steps (1, 0) (
+          digits (head_count self.old.interval (length self.old.window.list)),
+          2 * self.old.interval + 2,
+        ) }
     {
         let passed = Bound::below(needle);
         self.decoder.seek_upper_key(&passed);
@@ -149,8 +138,7 @@ impl<'a> Iter<'a> {
               hi = self.old.window.hi;
             } }
         ensures answer { result ≡ true }
-        ensures heads { self.new.steps.heads ≡ self.old.steps.heads }
-        ensures entries { self.new.steps.entries ≡ self.old.steps.entries }
+        ensures counts { CountsExactly self.old.steps self.new.steps 0 0 }
     {
         self.decoder.set_lo_offset(offset);
         true

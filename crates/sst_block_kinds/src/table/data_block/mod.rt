@@ -3,6 +3,7 @@ ghost use Rattle.std.specs.Prelude.{◌≡◌, ◌↔◌, ℕ, ◌+◌, ◌*◌,
 ghost use Rattle.std.specs.Prelude.{◌≤◌, List, length, map, [], IsTrue};
 ghost use Rattle.std.specs.Prelude.{IsSome, OnOk, OnErr, IfOk, IfErr, IsOkUnless, None, Some};
 ghost use Rattle.std.specs.Prelude.{IfSome, IsNone, take, ◌==◌, if◌then◌else◌, ◌≢◌, Ok, Err};
+ghost use Rattle.sst_base.specs.Counted.{IsZero, CountsBetween};
 ghost use Rattle.sst_base.specs.Entry.{Entry, IsEntry, plain};
 ghost use Rattle.sst_block_kinds.specs.Checks.{data_check};
 ghost use Rattle.sst_block_core.specs.Body.{place_offset};
@@ -15,8 +16,7 @@ ghost use Rattle.sst_block_core.specs.Stages.{HasIndexes};
 ghost use Rattle.sst_block_core.specs.Trailer.{trailer_in};
 ghost use Rattle.sst_block_core.specs.Heads.{IsTableOf, listed_in};
 ghost use Rattle.sst_block_core.specs.Encoders.{IsRefusal};
-ghost use Rattle.sst_block_kinds.specs.PointReads.{read_heads, read_entries};
-ghost use Rattle.sst_block_kinds.specs.PointReads.{read_heads_least, read_entries_least};
+ghost use Rattle.sst_block_kinds.specs.PointReads.{read_least, read_most};
 ghost use Rattle.sst_block_core.specs.Window.{whole, first_match};
 ghost use Rattle.sst_block_kinds.specs.DataBlock.{block_of, data_block_of};
 ghost use Rattle.sst_block_kinds.specs.Disorder.{disorder_from};
@@ -366,8 +366,7 @@ impl<H: BlockHash> DataBlock<H> {
         ensures interval { result.interval ≡ self.now.interval }
         ensures window { result.window ≡ whole self.now.items }
         ensures plain { map plain self.now.items ≡ self.now.items }
-        ensures heads { result.steps.heads ≡ 0 }
-        ensures entries { result.steps.entries ≡ 0 }
+        ensures counts { IsZero result.steps }
     {
         Iter::new(Decoder::over(self.intervals()))
     }
@@ -429,15 +428,8 @@ impl<H: BlockHash> DataBlock<H> {
         ensures memory { IsOkUnless result Error.Memory }
         ensures only_found { OnErr result
             (IsSome (first_match entries needle.now seqno self.now.items)) }
-        ensures heads { steps.new.heads
-            ≤ steps.old.heads + read_heads H.hash64 self.now needle.now }
-        ensures heads_least { steps.old.heads + read_heads_least H.hash64 self.now needle.now
-            ≤ steps.new.heads }
-        ensures entries { steps.new.entries
-            ≤ steps.old.entries + read_entries H.hash64 self.now needle.now }
-        ensures entries_least { steps.old.entries
-            + read_entries_least H.hash64 self.now needle.now
-            ≤ steps.new.entries }
+        ensures counts { CountsBetween steps.old steps.new
+            (read_least H.hash64 self.now needle.now) (read_most H.hash64 self.now needle.now) }
         ensures counted { IsSome (first_match entries needle.now seqno self.now.items)
             → steps.old.entries + 1 ≤ steps.new.entries }
     {

@@ -1,12 +1,11 @@
 //! The look-up of a point read.
 ghost use Rattle.std.specs.Prelude.{◌≡◌, ◌+◌, ◌<◌, ◌≤◌, IfSome, length, map};
 ghost use Rattle.std.specs.Option.{option_map};
-ghost use Rattle.sst_base.specs.Counted.{found_item};
+ghost use Rattle.sst_base.specs.Counted.{found_item, IsZero, CountsBetween};
 ghost use Rattle.sst_base.specs.Entry.{plain};
 ghost use Rattle.sst_block_core.specs.Kind.{IsOrdered};
 ghost use Rattle.sst_block_core.specs.Entries.{entries};
-ghost use Rattle.sst_block_kinds.specs.PointReads.{lookup, read_heads, read_entries};
-ghost use Rattle.sst_block_kinds.specs.PointReads.{read_heads_least, read_entries_least};
+ghost use Rattle.sst_block_kinds.specs.PointReads.{lookup, read_least, read_most};
 ghost use Rattle.sst_block_kinds.specs.ParsedEntry.{entry_of, IsParsedEntry};
 ghost use Rattle.sst_block_core.specs.Pointers.{head_count};
 ghost use Rattle.sst_block_core.specs.Window.{first_match};
@@ -42,8 +41,7 @@ impl<H: BlockHash> DataBlock<H> {
         ensures some { 0 < self.now.interval }
         ensures ordered { IsOrdered entries self.now.items }
         ensures plain { map plain self.now.items ≡ self.now.items }
-        ensures heads { result.steps.heads ≡ 0 }
-        ensures entries { result.steps.entries ≡ 0 }
+        ensures counts { IsZero result.steps }
     {
         // The proof needs the bound on the payload's length.
         let _fits = self.inner.size();
@@ -62,15 +60,8 @@ impl<H: BlockHash> DataBlock<H> {
         ensures item { option_map (entry_of self.now.payload) result
             ≡ first_match entries needle.now seqno self.now.items }
         ensures found { IfSome result (IsParsedEntry self.now.payload) }
-        ensures heads { steps.new.heads
-            ≤ steps.old.heads + read_heads H.hash64 self.now needle.now }
-        ensures heads_least { steps.old.heads + read_heads_least H.hash64 self.now needle.now
-            ≤ steps.new.heads }
-        ensures entries { steps.new.entries
-            ≤ steps.old.entries + read_entries H.hash64 self.now needle.now }
-        ensures entries_least { steps.old.entries
-            + read_entries_least H.hash64 self.now needle.now
-            ≤ steps.new.entries }
+        ensures counts { CountsBetween steps.old steps.new
+            (read_least H.hash64 self.now needle.now) (read_most H.hash64 self.now needle.now) }
         ensures counted { steps.old.entries + found_item result ≤ steps.new.entries }
     {
         let mut intervals = self.intervals();

@@ -1,7 +1,8 @@
 //! The iterator over the handles of an index block, as ranges of its payload.
-ghost use Rattle.std.specs.Prelude.{◌≡◌, ◌+◌, ◌-◌, ◌*◌, ◌<◌, ◌≤◌, length, true};
+ghost use Rattle.std.specs.Prelude.{◌≡◌, ◌-◌, ◌*◌, length, true};
 ghost use Rattle.std.specs.Iterator.{at_most};
 ghost use Rattle.std.proofs.Common.{ap};
+ghost use Rattle.sst_base.specs.Counted.{CountsBetween};
 ghost use Rattle.sst_block_core.specs.Backs.{GivesStep, GivesNextBack};
 ghost use Rattle.sst_block_kinds.specs.Handles.{handles};
 ghost use Rattle.sst_block_core.specs.Intervals.{digits};
@@ -76,13 +77,10 @@ impl<'a> Iter<'a> {
     pub fn seek(&mut self, needle: &[u8], seqno: SeqNo) -> bool
         ensures step { GivesStep self.old self.new (found result)
             (seek_index handles needle.now seqno self.old.window) }
-        ensures heads { self.new.steps.heads
-            ≤ self.old.steps.heads
-            + digits (head_count self.old.interval (length self.old.window.list)) }
-        ensures heads_grow { self.old.steps.heads < self.new.steps.heads }
-        ensures entries { self.new.steps.entries
-            ≤ self.old.steps.entries + scan_cost self.old.interval }
-        ensures entries_grow { self.old.steps.entries ≤ self.new.steps.entries }
+        ensures counts { CountsBetween self.old.steps self.new.steps (1, 0) (
+          digits (head_count self.old.interval (length self.old.window.list)),
+          scan_cost self.old.interval,
+        ) }
     {
         let passed = Bound {
             needle,
@@ -97,13 +95,10 @@ impl<'a> Iter<'a> {
     pub fn seek_upper(&mut self, needle: &[u8], _seqno: SeqNo) -> bool
         ensures step { GivesStep self.old self.new (found result)
             (seek_upper_index handles needle.now self.old.window) }
-        ensures heads { self.new.steps.heads
-            ≤ self.old.steps.heads
-            + digits (head_count self.old.interval (length self.old.window.list)) }
-        ensures heads_grow { self.old.steps.heads < self.new.steps.heads }
-        ensures entries { self.new.steps.entries
-            ≤ self.old.steps.entries + 2 * scan_cost self.old.interval }
-        ensures entries_grow { self.old.steps.entries ≤ self.new.steps.entries }
+        ensures counts { CountsBetween self.old.steps self.new.steps (1, 0) (
+          digits (head_count self.old.interval (length self.old.window.list)),
+          2 * scan_cost self.old.interval,
+        ) }
     {
         let passed = Bound::up_to(needle);
         self.decoder.seek_upper_place(&passed);

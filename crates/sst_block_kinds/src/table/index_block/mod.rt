@@ -3,6 +3,7 @@ ghost use Rattle.std.specs.Prelude.{◌≡◌, ◌↔◌, ℕ, ◌^◌, ◌<◌,
 ghost use Rattle.std.specs.Prelude.{length, [], IsTrue};
 ghost use Rattle.std.specs.Prelude.{OnOk, OnErr, IfOk, IfErr, IfSome, MatchResult, None, Ok, Err, ◌≢◌};
 ghost use Rattle.std.specs.List.{AllByRecursion};
+ghost use Rattle.sst_base.specs.Counted.{IsZero};
 ghost use Rattle.sst_base.specs.Bytes.{IsBytes};
 ghost use Rattle.sst_block_kinds.specs.Checks.{index_check};
 ghost use Rattle.sst_block_core.specs.Encoders.{IsRefusal};
@@ -240,8 +241,7 @@ impl IndexBlock {
         ensures items { result.list.items ≡ self.now.items }
         ensures interval { result.list.interval ≡ self.now.interval }
         ensures ordered { IsOrdered handles self.now.items }
-        ensures heads { result.steps.heads ≡ 0 }
-        ensures entries { result.steps.entries ≡ 0 }
+        ensures counts { IsZero result.steps }
     {
         // The proof needs the bound on the payload's length.
         let _fits = self.inner.size();
@@ -332,8 +332,7 @@ impl IndexBlock {
         ensures payload { result.payload ≡ self.now.payload }
         ensures interval { result.interval ≡ self.now.interval }
         ensures window { result.window ≡ whole self.now.items }
-        ensures heads { result.steps.heads ≡ 0 }
-        ensures entries { result.steps.entries ≡ 0 }
+        ensures counts { IsZero result.steps }
     {
         Iter::new(Decoder::over(self.intervals()))
     }

@@ -1,4 +1,4 @@
-use Rattle.std.proofs.Common.{◌∙◌, refl, inl, inr, arith}
+use Rattle.std.proofs.Common.{refl, inl, inr, arith}
 use Rattle.sst_block_core.proofs.Halves.{digits_half}
 use Rattle.sst_block_core.proofs.HeadCounts.{before_inside, cut_at}
 use Rattle.sst_block_core.proofs.table.block.heads.HeadTable.count_behind.Goals as goal
@@ -28,8 +28,8 @@ loop-size-preserved c =
             inside = omega (arith, i.inside, all);
             low = omega (arith, low, all);
             high = omega (arith, i.high, all);
-            looked = omega (arith, i.looked, c.passes-passed.ensures.heads, half);
-            entries = c.passes-passed.ensures.entries ∙ i.entries;
+            looked = omega (arith, i.looked, c.passes-passed.ensures.counts.heads, half);
+            entries = omega (arith, i.entries, c.passes-passed.ensures.counts.entries);
           }
       | inr at ↦
           let high = at.1 in
@@ -38,7 +38,7 @@ loop-size-preserved c =
             inside = omega (arith, i.inside, none);
             low = omega (arith, i.low, none);
             high = omega (arith, high, none);
-            looked = omega (arith, i.looked, c.passes-passed.ensures.heads, half);
-            entries = c.passes-passed.ensures.entries ∙ i.entries;
+            looked = omega (arith, i.looked, c.passes-passed.ensures.counts.heads, half);
+            entries = omega (arith, i.entries, c.passes-passed.ensures.counts.entries);
           }
     ]

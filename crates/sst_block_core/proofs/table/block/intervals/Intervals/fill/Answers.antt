@@ -25,8 +25,8 @@ loop-at-init g c =
       count = omega (arith, l, none, t.place, s.place);
       places = rw c.push.ensures.items (stack_push kind list c.args.stack.now.items c.take_head-head.new.at.base ((c.args.end - 1) / c.from.result * list.interval) at
           (λ k h. absurd (omega (arith, none, h))) (omega (arith, none, s.place)) (omega (arith, none)) refl (any_base kind list c.start-at.result at refl refl refl s.phase s.stands));
-      entries = omega (arith, t.entries, t.place, s.place);
-      heads = t.heads;
+      entries = omega (arith, t.counts.entries, t.place, s.place);
+      heads = omega (arith, t.counts.heads);
     }
 
 pub loop-at-preserved : goal.loop-at-preserved
@@ -54,8 +54,8 @@ loop-at-preserved g c =
       some = omega (arith, pushed);
       count = omega (arith, e.place, i.count, pushed);
       places = rw (c.push-in-loop-at.ensures.items, e.base) (stack_push kind list c.loop-at.stack.items c.loop-at.at.base first c.loop-at.at i.places (sym i.count) phase refl stands);
-      entries = omega (arith, e.entries, e.place, i.entries);
-      heads = e.heads ∙ i.heads;
+      entries = omega (arith, e.counts.entries, e.place, i.entries);
+      heads = omega (arith, e.counts.heads, i.heads);
     }
 
 pub returns-clause-places : goal.returns-clause-places
@@ -71,12 +71,12 @@ returns-clause-count g c =
     let is = first_of_is r c.args.end in
     omega (arith, n, is, c.loop-at.invariant.upto, c.loop-at-test.false)
 
-pub returns-clause-entries : goal.returns-clause-entries
-returns-clause-entries g c =
+pub returns-clause-counts : goal.returns-clause-counts
+returns-clause-counts g c =
     let r = c.args.self.now.list.interval in
     let same : c.from.result ≡ r = c.from.ensures ∙ c.interval.ensures.value in
     let i = c.loop-at.invariant in
     let m : c.loop-at.self.steps.entries + (c.args.end - 1) / r * r ≡ c.args.self.now.steps.entries + c.loop-at.at.place = rw same at i.entries in
     let is = first_of_is r c.args.end in
     let below = first_below r c.args.end c.requires.some in
-    omega (arith, m, is, below, i.upto, c.loop-at-test.false)
+    record { heads = omega (arith, i.heads); entries = omega (arith, m, is, below, i.upto, c.loop-at-test.false) }

@@ -20,10 +20,10 @@ loop-left-preserved-then-pred g c =
       inside = i.inside;
       before = λ h. let e : (mid + 1) - 1 ≡ mid = omega arith in rw e (answered_head g.Item.BlockItem.kind _ r items mid true inside c.read_head-seqno.result head c.if-pred.ensures);
       after = i.after;
-      heads = omega (arith, step, i.heads, c.read_head-seqno.ensures.heads);
-      grows = omega (arith, i.grows, c.read_head-seqno.ensures.heads);
-      looked = λ _. omega (arith, i.grows, c.read_head-seqno.ensures.heads);
-      entries = c.read_head-seqno.ensures.entries ∙ i.entries;
+      heads = omega (arith, step, i.heads, c.read_head-seqno.ensures.counts.heads);
+      grows = omega (arith, i.grows, c.read_head-seqno.ensures.counts.heads);
+      looked = λ _. omega (arith, i.grows, c.read_head-seqno.ensures.counts.heads);
+      entries = omega (arith, i.entries, c.read_head-seqno.ensures.counts.entries);
     }
 
 pub loop-left-preserved : goal.loop-left-preserved
@@ -44,15 +44,22 @@ loop-left-preserved g c =
       inside = omega (arith, low, inside);
       before = i.before;
       after = λ h. answered_head g.Item.BlockItem.kind _ r items mid false inside c.read_head-seqno.result head c.if-pred.ensures;
-      heads = omega (arith, step, i.heads, c.read_head-seqno.ensures.heads);
-      grows = omega (arith, i.grows, c.read_head-seqno.ensures.heads);
-      looked = λ _. omega (arith, i.grows, c.read_head-seqno.ensures.heads);
-      entries = c.read_head-seqno.ensures.entries ∙ i.entries;
+      heads = omega (arith, step, i.heads, c.read_head-seqno.ensures.counts.heads);
+      grows = omega (arith, i.grows, c.read_head-seqno.ensures.counts.heads);
+      looked = λ _. omega (arith, i.grows, c.read_head-seqno.ensures.counts.heads);
+      entries = omega (arith, i.entries, c.read_head-seqno.ensures.counts.entries);
     }
 
-pub returns-clause-heads_grow : goal.returns-clause-heads_grow
-returns-clause-heads_grow g c =
+pub returns-clause-counts : goal.returns-clause-counts
+returns-clause-counts g c =
+    let i = c.loop-left.invariant in
     let n = length c.args.self.now.list.items in
     let some : 0 < n = omega (arith, c.count-right.ensures.below) in
     let heads = some_heads n c.count-right.result c.args.self.now.list.interval some c.count-right.ensures.all in
-    c.loop-left.invariant.looked (omega (arith, heads, c.count-right.ensures.value))
+    let looked = i.looked (omega (arith, heads, c.count-right.ensures.value)) in
+    record {
+      heads_least = omega (arith, looked);
+      heads_most = omega (arith, i.heads);
+      entries_least = omega (arith, i.entries);
+      entries_most = omega (arith, i.entries);
+    }

@@ -53,7 +53,7 @@ loop-at-preserved g c =
     let behind = (rw i.same at took.stands) (kind.key e.head) e.stands in
     let shared = c.prefix_len-shared.ensures ∙ behind.1 in
     let rest = c.own_key.ensures ∙ (λ k. drop (sym c.prefix_len-shared.ensures k) (kind.key (g.Parsed.ParsedItem.item_of ((ap (λ l. l.payload) (took.list ∙ i.same)) k) c.take_rest-item.result))) in
-    let k = took.entries in
+    let k = took.counts.entries in
     let n = i.entries in
     let p = took.place in
     record {
@@ -62,6 +62,6 @@ loop-at-preserved g c =
           c.prefix_len-shared.result c.own_key.result.now shared rest c.compare_behind-order.result c.compare_behind-order.ensures
           c.seqno.result (c.seqno.ensures c.args.self.now.list.payload) c.take_rest-item.new.at c.loop-at-test.true (sym c.passes_order.ensures ∙ c.if-not-passes_order.false) took.place behind.0;
       onwards = let o = i.onwards in omega (arith, o, p);
-      heads = took.heads ∙ i.heads;
+      heads = omega (arith, took.counts.heads, i.heads);
       entries = omega (arith, k, n, p);
     }
