@@ -9,7 +9,7 @@ use sst_base::coding::MAX_VARINT_LEN;
 use sst_base::{InternalValue, ValueType, push_varint_reserved};
 use std::alloc::AllocError;
 
-// The greatest length of what stands in front of a key: the type, and up to three numbers.
+// The greatest length of what precedes a key: the type, and up to three numbers.
 const MAX_FRONT_LEN: usize = 31;
 
 impl BlockItem for InternalValue {

@@ -35,7 +35,7 @@ use std::collections::LinkedList;
 use std::io::Write;
 use std::marker::{Model, PhantomData};
 
-// The greatest length of a payload behind a handle: its frame has at most 2^32 - 1 bytes.
+// The greatest length of a payload after a handle: its frame has at most 2^32 - 1 bytes.
 const MAX_PAYLOAD: usize = 4294967262;
 
 /// What is kept while a run is written block by block. Each call takes the writer.
@@ -116,7 +116,7 @@ impl<H: BlockHash> RunCore<H> {
         self.handles.len()
     }
 
-    /// Writes one more block, not empty and ordered behind the blocks before. All growths of its
+    /// Writes one more block, not empty and ordered after the blocks before. All growths of its
     /// own come before the first byte. The denominator of the ratio is at least 1.
     ///
     /// # Errors
@@ -180,7 +180,7 @@ impl<H: BlockHash> RunCore<H> {
         Ok(RunHandles { index, filter })
     }
 
-    // Writes the index behind the blocks. Returns its handle, and the offset behind it.
+    // Writes the index after the blocks. Returns its handle, and the offset after it.
     fn write_index<W: Write>(&self, writer: &mut W) -> Result<(BlockHandle, u64)>
         requires { 1 ≤ length self.now.blocks }
         ensures written { let f = form H.hash64 H.hash128 self.now.config in
@@ -209,7 +209,7 @@ impl<H: BlockHash> RunCore<H> {
         write_part::<H, W>(writer, &payload, BlockType::Index, self.offset)
     }
 
-    // Writes the filter, if there are bits, behind the index. Returns its handle.
+    // Writes the filter, if there are bits, after the index. Returns its handle.
     fn write_filter<W: Write>(&self, writer: &mut W, offset: u64) -> Result<Option<BlockHandle>>
         requires some { 1 ≤ length self.now.blocks }
         requires offset { let f = form H.hash64 H.hash128 self.now.config in
@@ -237,7 +237,7 @@ impl<H: BlockHash> RunCore<H> {
     }
 }
 
-// Makes the payload of a block. Returns the length of its frame, and the offset behind it.
+// Makes the payload of a block. Returns the length of its frame, and the offset after it.
 fn framed_block<H: BlockHash>(
     payload: &mut Vec<u8>,
     items: &[InternalValue],
@@ -284,7 +284,7 @@ fn frame_end(payload_len: usize, offset: u64) -> Option<(u32, u64)>
     }
 }
 
-// Writes a frame whose payload is behind a handle.
+// Writes a frame whose payload is after a handle.
 fn write_frame<H: BlockHash, W: Write>(
     writer: &mut W,
     payload: &[u8],
@@ -300,7 +300,7 @@ fn write_frame<H: BlockHash, W: Write>(
     Ok(())
 }
 
-// Writes a frame, where the next one begins at `offset`. Returns its handle, and the offset behind
+// Writes a frame, where the next one begins at `offset`. Returns its handle, and the offset after
 // it.
 fn write_part<H: BlockHash, W: Write>(
     writer: &mut W,

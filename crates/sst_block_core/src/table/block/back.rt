@@ -17,7 +17,7 @@ const MAX_INTERVAL: usize = 255;
 /// on, as far as they are known.
 #[derive(Drop)]
 pub(crate) struct Back {
-    /// The index behind the last item.
+    /// The index after the last item.
     pub(crate) hi: usize,
     /// The offsets of the forms.
     pub(crate) stack: ArrayVec<u32, MAX_INTERVAL>,

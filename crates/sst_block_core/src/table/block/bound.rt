@@ -69,7 +69,7 @@ impl<'n> Bound<'n> {
     /// with the needle.
     ///
     /// A key that shares more with the head than the needle does sorts before the needle, one that
-    /// shares less behind it.
+    /// shares less after it.
     #[inline(always)]
     pub(crate) fn compare_behind(&self, shared: usize, rest: &[u8], alike: usize) -> Ordering
         requires { alike ≤ length self.now.needle.now }

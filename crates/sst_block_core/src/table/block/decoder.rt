@@ -36,7 +36,7 @@ use std::alloc::Global;
 use std::cmp::Ordering;
 use std::marker::Model;
 
-/// The answer of a parser: an item by its ranges of a payload.
+/// The result of a parser: an item by its ranges of a payload.
 pub trait ParsedItem<Item: BlockItem> {
     /// The item that it stands for in a payload.
     ghost item_of: { List ℕ → Self → Item };
@@ -69,7 +69,7 @@ pub trait ParsedItem<Item: BlockItem> {
         requires { is_found payload.now self.now }
         ensures { result ≡ shared_len self.now };
 
-    /// Returns the key's own bytes: those behind the shared prefix.
+    /// Returns the key's own bytes: those after the shared prefix.
     fn own_key<'a>(&self, payload: &'a [u8]) -> &'a [u8]
         requires { is_found payload.now self.now }
         ensures { result.now
@@ -105,9 +105,9 @@ pub trait Decodable<Parsed: ParsedItem<Self>>: BlockItem + Sized {
         ensures marker { StandsAt payload.now offset (255 ∷ []) → result ≡ None }
         ensures counts { CountsExactly steps.old steps.new 1 0 };
 
-    /// Decodes the item in full form at an offset; the second answer is where the form ends.
+    /// Decodes the item in full form at an offset; the second result is where the form ends.
     /// Returns `None` at the marker, and wherever no full form stands. Counts an entry where it
-    /// answers an item.
+    /// returns an item.
     fn parse_full(payload: &[u8], offset: usize, steps: &mut Steps) -> Option<(Parsed, usize)>
         requires { offset ≤ length payload.now }
         ensures exact { Finds (Parsed.item_of payload.now) payload.now result
@@ -120,11 +120,11 @@ pub trait Decodable<Parsed: ParsedItem<Self>>: BlockItem + Sized {
         ensures marker { StandsAt payload.now offset (255 ∷ []) → result ≡ None }
         ensures counts { CountsExactly steps.old steps.new 0 (found_item result) };
 
-    /// Decodes the item in truncated form at an offset, behind a head whose key begins at
-    /// `base_key_offset`; the second answer is where the form ends. Returns `None` at the marker,
+    /// Decodes the item in truncated form at an offset, after a head whose key begins at
+    /// `base_key_offset`; the second result is where the form ends. Returns `None` at the marker,
     /// and wherever no truncated form stands. How long the head's key is, is not asked: the form is
-    /// read as one behind a head whose key ends with the shared prefix. Counts an entry where it
-    /// answers an item.
+    /// read as one after a head whose key ends with the shared prefix. Counts an entry where it
+    /// returns an item.
     fn parse_truncated(
         payload: &[u8],
         offset: usize,
@@ -154,7 +154,7 @@ pub trait Decodable<Parsed: ParsedItem<Self>>: BlockItem + Sized {
         ensures marker { StandsAt payload.now offset (255 ∷ []) → result ≡ None }
         ensures counts { CountsExactly steps.old steps.new 0 (found_item result) };
 
-    /// Decodes the item whose full form stands at an offset; the second answer is where the form
+    /// Decodes the item whose full form stands at an offset; the second result is where the form
     /// ends. Tests nothing. Counts an entry.
     fn read_full(payload: &[u8], offset: usize, steps: &mut Steps) -> (Parsed, usize)
         requires { IsSome (Self.kind.full_at (drop offset payload.now)) }
@@ -166,8 +166,8 @@ pub trait Decodable<Parsed: ParsedItem<Self>>: BlockItem + Sized {
         ensures shared { Parsed.shared_len result.0 ≡ 0 }
         ensures counts { CountsExactly steps.old steps.new 0 1 };
 
-    /// Decodes the item whose truncated form stands at an offset, behind a head whose key begins at
-    /// `base_key_offset`; the second answer is where the form ends. Tests nothing. Counts an entry.
+    /// Decodes the item whose truncated form stands at an offset, after a head whose key begins at
+    /// `base_key_offset`; the second result is where the form ends. Tests nothing. Counts an entry.
     fn read_truncated(
         payload: &[u8],
         offset: usize,
@@ -301,7 +301,7 @@ impl<'a, Item: Decodable<Parsed>, Parsed: ParsedItem<Item>> Decoder<'a, Item, Pa
         true
     }
 
-    /// Moves the back behind the interval of a head, which a predicate picks as [`Decoder::seek`]
+    /// Moves the back after the interval of a head, which a predicate picks as [`Decoder::seek`]
     /// says. Returns `true`. The front stays. Counts at most as many heads as their number has
     /// binary digits, and no entry.
     pub fn seek_upper<F: Fn(&[u8], u64) -> bool>(

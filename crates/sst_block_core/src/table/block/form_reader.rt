@@ -109,7 +109,7 @@ impl<'a, Item: Decodable<Parsed>, Parsed: ParsedItem<Item>> FormReader<'a, Item,
         table.count(self.payload, bound, &mut self.steps)
     }
 
-    /// Decodes the item in full form at an offset; the second answer is where the form ends. Counts
+    /// Decodes the item in full form at an offset; the second result is where the form ends. Counts
     /// an entry.
     #[inline(always)]
     pub(crate) fn read_full(&mut self, offset: usize) -> (Parsed, usize)
@@ -126,8 +126,8 @@ impl<'a, Item: Decodable<Parsed>, Parsed: ParsedItem<Item>> FormReader<'a, Item,
         Item::read_full(self.payload, offset, &mut self.steps)
     }
 
-    /// Decodes the item in truncated form at an offset, behind a head whose key begins at
-    /// `base_key_offset`; the second answer is where the form ends. Counts an entry.
+    /// Decodes the item in truncated form at an offset, after a head whose key begins at
+    /// `base_key_offset`; the second result is where the form ends. Counts an entry.
     #[inline(always)]
     pub(crate) fn read_truncated(
         &mut self,

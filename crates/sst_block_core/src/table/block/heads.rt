@@ -290,7 +290,7 @@ impl HeadTable {
     }
 
     // Returns how many heads a bound passes, whose needle begins with the prefix and has this rest
-    // behind it.
+    // after it.
     #[inline(always)]
     fn count_behind(
         &self,

@@ -201,7 +201,7 @@ impl<'a, Item: Decodable<Parsed>, Parsed: ParsedItem<Item>> Intervals<'a, Item, 
         self.restart_interval
     }
 
-    /// Returns the place behind the last item.
+    /// Returns the place after the last item.
     #[inline(always)]
     pub(crate) fn last(&self) -> Place
         ensures place { result.place ≡ length self.now.list.items }
@@ -216,7 +216,7 @@ impl<'a, Item: Decodable<Parsed>, Parsed: ParsedItem<Item>> Intervals<'a, Item, 
         }
     }
 
-    /// Returns the place of the head of interval j, or behind the last item where j is the number
+    /// Returns the place of the head of interval j, or after the last item where j is the number
     /// of intervals.
     #[inline(always)]
     pub(crate) fn start_or_last(&self, j: usize) -> Place
@@ -258,7 +258,7 @@ impl<'a, Item: Decodable<Parsed>, Parsed: ParsedItem<Item>> Intervals<'a, Item, 
         self.start(left)
     }
 
-    /// Returns the index behind the last item of interval j, which exists.
+    /// Returns the index after the last item of interval j, which exists.
     #[inline(always)]
     pub(crate) fn end(&self, j: usize) -> usize
         requires { j * self.now.list.interval < length self.now.list.items }
@@ -290,7 +290,7 @@ impl<'a, Item: Decodable<Parsed>, Parsed: ParsedItem<Item>> Intervals<'a, Item, 
         }
     }
 
-    /// Decodes the item of a head, and moves behind it. Counts an entry.
+    /// Decodes the item of a head, and moves after it. Counts an entry.
     #[inline(always)]
     pub(crate) fn take_head(&mut self, at: &mut Place) -> Parsed
         requires inside { at.old.place < length self.old.list.items }
@@ -312,7 +312,7 @@ impl<'a, Item: Decodable<Parsed>, Parsed: ParsedItem<Item>> Intervals<'a, Item, 
         item
     }
 
-    /// Decodes the item at a place that isn't a head's, and moves behind it. Counts an entry.
+    /// Decodes the item at a place that isn't a head's, and moves after it. Counts an entry.
     #[inline(always)]
     pub(crate) fn take_rest(&mut self, at: &mut Place) -> Parsed
         requires inside { at.old.place < length self.old.list.items }
@@ -367,7 +367,7 @@ impl<'a, Item: Decodable<Parsed>, Parsed: ParsedItem<Item>> Intervals<'a, Item, 
         self.forms.compare_key(item, needle)
     }
 
-    /// Decodes the item at a place, and moves behind it. Counts an entry.
+    /// Decodes the item at a place, and moves after it. Counts an entry.
     #[inline(always)]
     pub(crate) fn take(&mut self, at: &mut Place) -> Parsed
         requires inside { at.old.place < length self.old.list.items }

@@ -1,4 +1,4 @@
-//! Keys by their ranges of a payload: a prefix, if there is one, and the bytes behind it.
+//! Keys by their ranges of a payload: a prefix, if there is one, and the bytes after it.
 ghost use Rattle.std.specs.Prelude.{◌≡◌, ◌++◌, IfOk, IsOkUnless};
 ghost use Rattle.std.specs.Ordering.{nat_cmp};
 ghost use Rattle.std.specs.Cmp.Lexicographic.{slice_cmp};

@@ -9,6 +9,6 @@ pub struct Landing<Parsed> {
     pub(crate) item: Parsed,
     /// How its key compares with the needle.
     pub(crate) order: Ordering,
-    /// The place behind it.
+    /// The place after it.
     pub(crate) after: Place,
 }

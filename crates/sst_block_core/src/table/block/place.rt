@@ -15,7 +15,7 @@ pub(crate) struct Place {
 }
 
 impl Place {
-    /// Moves behind the item, whose form ends at this offset.
+    /// Moves after the item, whose form ends at this offset.
     #[inline(always)]
     pub(crate) fn move_on(&mut self, end: usize, restart_interval: u8)
         requires phase { self.old.phase < restart_interval }
@@ -32,7 +32,7 @@ impl Place {
     }
 }
 
-/// Returns the index in its interval of the item behind one at this index.
+/// Returns the index in its interval of the item after one at this index.
 #[inline(always)]
 #[tactic(auto, using(crate::specs::PlaceLaws::next_in_interval))]
 pub(crate) fn next_phase(phase: u8, restart_interval: u8) -> u8

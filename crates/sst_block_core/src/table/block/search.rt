@@ -126,7 +126,7 @@ impl<'a, Item: Decodable<Parsed>, Parsed: ParsedItem<Item> + Drop> Intervals<'a,
         (at, None)
     }
 
-    // Reads the head of interval j, which exists, and moves behind it. The number is how many bytes
+    // Reads the head of interval j, which exists, and moves after it. The number is how many bytes
     // its key shares with the needle.
     #[inline(always)]
     fn enter(&mut self, j: usize, needle: &[u8]) -> (Place, Parsed, usize)
@@ -208,7 +208,7 @@ impl<'a, Item: Decodable<Parsed>, Parsed: ParsedItem<Item> + Drop> Intervals<'a,
         self.with_key(item, needle)
     }
 
-    // The place behind so many heads where each item is a head, with the item there if its key is
+    // The place after so many heads where each item is a head, with the item there if its key is
     // the needle.
     #[inline(always)]
     fn head_behind(&mut self, heads: usize, needle: &[u8]) -> (Place, Option<Parsed>)

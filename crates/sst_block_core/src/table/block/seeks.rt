@@ -55,7 +55,7 @@ impl<'a, Item: Decodable<Parsed>, Parsed: ParsedItem<Item> + Drop> Decoder<'a, I
         landing
     }
 
-    /// Moves the back behind the first item that a bound doesn't pass, or behind the last item.
+    /// Moves the back after the first item that a bound doesn't pass, or after the last item.
     #[inline(always)]
     pub fn seek_upper_place(&mut self, bound: &Bound<'_>)
         requires { IsOrdered Item.kind self.old.window.list }

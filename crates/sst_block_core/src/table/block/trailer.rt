@@ -12,7 +12,7 @@ use sst_base::table::block::Block;
 use sst_base::{Error, Result};
 use std::marker::Model;
 
-/// The byte behind the items of a block. No item begins with it.
+/// The byte after the items of a block. No item begins with it.
 pub const TRAILER_START_MARKER: u8 = 255;
 
 /// The length of a trailer in bytes.

@@ -91,7 +91,7 @@ impl<'a> Iter<'a> {
         self.decoder.has_left()
     }
 
-    /// Moves the back behind the last entry whose key is at most the needle. Returns whether an
+    /// Moves the back after the last entry whose key is at most the needle. Returns whether an
     /// entry is left, and the last has the needle as its key.
     pub fn seek_upper(&mut self, needle: &[u8]) -> bool
         ensures step { GivesStep self.old self.new (found result)
@@ -105,7 +105,7 @@ impl<'a> Iter<'a> {
         self.decoder.seek_upper_key(&bound)
     }
 
-    /// Moves the back behind the last entry whose key is below the needle. Returns whether an entry
+    /// Moves the back after the last entry whose key is below the needle. Returns whether an entry
     /// is left.
     pub fn seek_upper_exclusive(&mut self, needle: &[u8]) -> bool
         ensures step { GivesStep self.old self.new (found result)

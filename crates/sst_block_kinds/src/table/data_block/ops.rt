@@ -21,11 +21,11 @@ pub enum Op {
     NextBack,
     /// Moves the front to the first key that is at least this one.
     Seek(Slice),
-    /// Moves the back behind the last key that is at most this one.
+    /// Moves the back after the last key that is at most this one.
     SeekUpper(Slice),
     /// Moves the front to the first key above this one.
     SeekExclusive(Slice),
-    /// Moves the back behind the last key below this one.
+    /// Moves the back after the last key below this one.
     SeekUpperExclusive(Slice),
 }
 

@@ -7,7 +7,7 @@ use std::alloc::Global;
 use std::cmp::Ordering;
 
 /// An entry by its ranges of a payload: its key is the prefix, if there is one, and the key's own
-/// bytes behind it.
+/// bytes after it.
 #[derive(Clone, Copy, Debug, PartialEq, Eq)]
 pub struct DataBlockParsedItem {
     /// The value type.

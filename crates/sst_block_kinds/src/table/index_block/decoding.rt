@@ -17,7 +17,7 @@ use sst_block_core::table::block::reading::{
     length_prefixed_from, number_from, prefix_from, read_length_prefixed, read_number,
 };
 
-// What a form says in front of its end key.
+// What a form says before its end key.
 #[derive(Clone, Copy)]
 pub(super) struct HandleFront {
     pub(super) offset: u64,

@@ -11,10 +11,10 @@ use sst_block_core::table::block::Encodable;
 use sst_block_core::table::block::writing::push_length_prefixed;
 use std::alloc::AllocError;
 
-/// The byte in front of each handle.
+/// The byte before each handle.
 pub(crate) const HANDLE_MARKER: u8 = 0;
 
-// The greatest length of what stands in front of an end key's own bytes: the marker, and up to five
+// The greatest length of what precedes an end key's own bytes: the marker, and up to five
 // numbers.
 const MAX_FRONT_LEN: usize = 51;
 
@@ -29,7 +29,7 @@ impl BlockItem for KeyedBlockHandle {
     ghost is_kind = { IsKind-handles };
 }
 
-// Appends what is in front of an end key to a vector with room for it.
+// Appends what is before an end key to a vector with room for it.
 #[inline(always)]
 #[tactic(auto, unfolding(crate::specs::Handles::front))]
 fn push_front(writer: &mut Vec<u8>, item: &KeyedBlockHandle)

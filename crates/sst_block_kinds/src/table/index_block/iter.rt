@@ -90,7 +90,7 @@ impl<'a> Iter<'a> {
         self.decoder.is_at_item()
     }
 
-    /// Moves the back behind the first handle whose end key is above the needle, or behind the last
+    /// Moves the back after the first handle whose end key is above the needle, or after the last
     /// handle. Returns `true`. The sequence number is not looked at.
     pub fn seek_upper(&mut self, needle: &[u8], _seqno: SeqNo) -> bool
         ensures step { GivesStep self.old self.new (found result)

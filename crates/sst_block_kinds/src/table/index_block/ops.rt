@@ -22,7 +22,7 @@ pub enum IndexOp {
     NextBack,
     /// Moves the front to the first handle that can lead to this key below this sequence number.
     Seek(Slice, SeqNo),
-    /// Moves the back behind the first handle whose end key is above this one.
+    /// Moves the back after the first handle whose end key is above this one.
     SeekUpper(Slice, SeqNo),
 }
 

@@ -9,7 +9,7 @@ use std::alloc::Global;
 use std::cmp::Ordering;
 
 /// A handle by its ranges of a payload: its end key is the prefix, if there is one, and the key's
-/// own bytes behind it.
+/// own bytes after it.
 #[derive(Clone, Copy, Debug, PartialEq, Eq)]
 pub struct IndexBlockParsedItem {
     /// The offset of the block's frame.

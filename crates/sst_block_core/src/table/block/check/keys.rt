@@ -12,7 +12,7 @@ use sst_base::table::util::{SliceIndexes, compare_bytes, compare_prefixed_slice}
 use std::cmp::Ordering;
 
 /// A key by its ranges of a payload: the bytes that it shares with its interval's head, none in a
-/// full form, and its own bytes behind them.
+/// full form, and its own bytes after them.
 #[derive(Clone, Copy)]
 pub struct KeyRanges {
     pub prefix: SliceIndexes,
@@ -128,7 +128,7 @@ fn compare_apart(payload: &[u8], a: KeyRanges, b: KeyRanges) -> Ordering
     }
 }
 
-// Compares two keys whose prefixes begin at one place, by the bytes behind the shorter prefix.
+// Compares two keys whose prefixes begin at one place, by the bytes after the shorter prefix.
 // Returns `None` where these do not decide.
 #[inline(always)]
 fn compare_behind(payload: &[u8], a: &KeyRanges, b: &KeyRanges) -> Option<Ordering>
@@ -208,7 +208,7 @@ pub(crate) fn keeps_order(payload: &[u8], last: &KeyVersion, version: &KeyVersio
     }
 }
 
-// The same for a head behind any item: where that is a head too, by the whole keys.
+// The same for a head after any item: where that is a head too, by the whole keys.
 #[inline(always)]
 #[tactic(auto, using(crate::proofs::KeyOrders::head_key, crate::proofs::KeyOrders::decided))]
 fn head_follows(payload: &[u8], last: &KeyVersion, version: &KeyVersion) -> bool
@@ -227,7 +227,7 @@ fn head_follows(payload: &[u8], last: &KeyVersion, version: &KeyVersion) -> bool
     }
 }
 
-/// The same for the head of a restart interval: at once where no item is in front of it.
+/// The same for the head of a restart interval: at once where no item is before it.
 #[inline(always)]
 pub(crate) fn head_keeps_order(payload: &[u8], last: &KeyVersion, version: KeyVersion) -> bool
     requires last { IsKeyRanges payload.now last.now.key }

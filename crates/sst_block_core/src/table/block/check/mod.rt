@@ -42,7 +42,7 @@ pub trait Checkable<Parsed: ParsedItem<Self>>: Decodable<Parsed> {
             → Self.kind.key (Parsed.item_of payload item.now) ≡ key_by payload result }
         ensures prefix { result.prefix.1 - result.prefix.0 ≡ Parsed.shared_len item.now };
 
-    /// Decodes the item in truncated form at an offset, behind a head with this key; the second
+    /// Decodes the item in truncated form at an offset, after a head with this key; the second
     /// answer is where the form ends. Returns `None` wherever no truncated form stands, also
     /// where the shared prefix is not the longest.
     fn parse_exactly(payload: &[u8], offset: usize, base: &SliceIndexes) -> Option<(Parsed, usize)>

@@ -33,7 +33,7 @@ fn version_of<Item: Checkable<Parsed>, Parsed: ParsedItem<Item>>(item: &Parsed) 
     }
 }
 
-// The same of an item in full form, its key as the prefix that those behind it share.
+// The same of an item in full form, its key as the prefix that those after it share.
 #[inline(always)]
 fn head_version_of<Item: Checkable<Parsed>, Parsed: ParsedItem<Item>>(item: &Parsed) -> KeyVersion
     ensures version { (payload : List ℕ) → Parsed.is_found payload item.now
@@ -84,7 +84,7 @@ pub(crate) struct Standing {
 }
 
 // Passes over a head, whose interval has this number; the first answer is the range of its key.
-// Returns `None` where no full form stands.
+// Returns `None` where no full form is encoded.
 #[inline(always)]
 fn pass_head<Item: Checkable<Parsed>, Parsed: ParsedItem<Item> + Drop, Sink: KeySink<Item>>(
     body: &[u8],
@@ -123,7 +123,7 @@ fn pass_head<Item: Checkable<Parsed>, Parsed: ParsedItem<Item> + Drop, Sink: Key
     Some((version.key.prefix, to))
 }
 
-// Passes over this many truncated forms behind a head, whose key has this range. Returns `None`
+// Passes over this many truncated forms after a head, whose key has this range. Returns `None`
 // where one of them does not stand.
 fn pass_rest<Item: Checkable<Parsed>, Parsed: ParsedItem<Item> + Drop, Sink: KeySink<Item>>(
     body: &[u8],

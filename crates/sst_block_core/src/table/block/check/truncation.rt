@@ -15,7 +15,7 @@ fn begin_alike(a: &[u8], b: &[u8]) -> bool
     a[0] == b[0]
 }
 
-/// Returns whether a front of a base key, of this length, with these bytes behind it, is the
+/// Returns whether a prefix of a base key, of this length, with these bytes after it, is the
 /// longest that the two share.
 #[inline(always)]
 #[tactic(auto, using(crate::proofs::Greatest::greatest_far, crate::proofs::Greatest::greatest_alike, crate::proofs::Greatest::greatest_is))]

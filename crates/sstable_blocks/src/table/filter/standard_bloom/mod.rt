@@ -74,7 +74,7 @@ impl<'a> StandardBloomFilterReader<'a> {
     ///
     /// In this order: `Error::Truncated` below 22 bytes, `Error::InvalidHeader` if the magic
     /// differs, `Error::InvalidTag` if the filter type or the hash type is not 0,
-    /// `Error::BadFilter` if m is not 8 times the number of bytes behind, or k is not 1 to m.
+    /// `Error::BadFilter` if m is not 8 times the number of bytes that follow, or k is not 1 to m.
     #[tactic(auto, unfolding(crate::specs::Filter::filter_at))]
     pub fn new(bytes: &'a [u8]) -> Result<StandardBloomFilterReader<'a>>
         ensures { result ≡ filter_at bytes.now }
