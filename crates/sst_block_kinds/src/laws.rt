@@ -135,20 +135,20 @@ pub fn first_match_of_plain()
         ≡ first_match entries needle seqno items }
 {}
 
-/// The check of a data block answers the entries where all stages hold, else the error of the first
+/// The check of a data block returns the entries where all stages hold, else the error of the first
 /// that fails.
 pub fn data_check_is_by_stages()
     ensures { (hash64 : List ℕ → ℕ) (p : List ℕ)
         → DataVerdict hash64 (trailer_in p) p (data_check hash64 p) }
 {}
 
-/// The check of an index block, at any interval, answers the handles where all stages hold, else
+/// The check of an index block, at any interval, returns the handles where all stages hold, else
 /// the error of the first that fails.
 pub fn index_check_is_by_stages()
     ensures { (p : List ℕ) → IndexVerdict (trailer_in p) p (index_check p) }
 {}
 
-/// The check of a data block answers entries exactly where the bytes are the payload of some valid,
+/// The check of a data block returns entries exactly where the bytes are the payload of some valid,
 /// ordered, non-empty list at an interval from 1 to 255, for some count of buckets. They are that
 /// list without tombstones' values.
 pub fn data_check_accepts_encodings()
@@ -159,7 +159,7 @@ pub fn data_check_accepts_encodings()
         × IsBlock entries IsEntry hash64 p list r b × (items ≡ map plain list)) }
 {}
 
-/// The check of an index block answers handles exactly where the bytes are their payload at some
+/// The check of an index block returns handles exactly where the bytes are their payload at some
 /// interval from 1 to 255, each with its end within 64 bits.
 pub fn index_check_accepts_encodings()
     ensures { (p : List ℕ) (items : List Handle) → IsBytes p → length p < 2 ^ 32

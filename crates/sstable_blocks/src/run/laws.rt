@@ -79,9 +79,9 @@ pub fn layout_is_read()
     first_match_of_plain();
 }
 
-/// What an answer of a checked read on any bytes means: each frame met is a frame of the right
+/// What a result of a checked read on any bytes means: each frame met is a frame of the right
 /// type, whose payload the filter's reader or the check accepts; there is none where the filter
-/// denies the key, else the answer is by the handle at which the index seek stops.
+/// rules the key out, else the result is by the handle at which the index seek stops.
 pub fn checked_answer_means()
     ensures { (c : Hashes) (bytes : List ℕ) (h : RunHandles) (needle : List ℕ) (seqno : ℕ)
         (answer : Option Entry)

@@ -19,7 +19,7 @@ use std::marker::Model;
 
 /// Writes a run block by block into a writer of bytes.
 ///
-/// Clauses see the configuration, the blocks accepted, the refusal that is answered from now on, if
+/// Clauses see the configuration, the blocks accepted, the error that is returned from now on, if
 /// there is one, what the writer held when this was made, and the writer.
 #[derive(Drop)]
 pub struct RunWriter<H: BlockHash, W: Write> {
@@ -94,7 +94,7 @@ impl<H: BlockHash, W: Write> RunWriter<H, W> {
     /// `Error::TooLong` only where the payload of the block has more than 4294967262 bytes or the
     /// frames of all blocks 2^64 bytes or more, `Error::Memory` if an allocation fails; nothing is
     /// written then. `Error::Io` if the writer fails. The block is not accepted, and from then on
-    /// every call answers the same error, and does not touch the writer.
+    /// every call returns the same error, and does not touch the writer.
     pub fn add_block(&mut self, items: &[InternalValue]) -> Result<()>
         requires { Follows self.old.blocks items.now }
         ensures config { self.new.config ≡ self.old.config }

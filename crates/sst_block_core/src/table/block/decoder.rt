@@ -38,7 +38,7 @@ use std::marker::Model;
 
 /// The result of a parser: an item by its ranges of a payload.
 pub trait ParsedItem<Item: BlockItem> {
-    /// The item that it stands for in a payload.
+    /// The item of its ranges in a payload.
     ghost item_of: { List ℕ → Self → Item };
 
     /// It was found in a payload: its ranges lie there, and the item is valid.
@@ -89,10 +89,10 @@ pub trait ParsedItem<Item: BlockItem> {
 /// Items that can be read from a block.
 ///
 /// The parsers whose names begin with `parse` take any bytes. The others are for the bytes of a
-/// block, where a form is known to stand: they test nothing.
+/// block, where a form is known to be: they test nothing.
 pub trait Decodable<Parsed: ParsedItem<Self>>: BlockItem + Sized {
     /// Decodes the key and the sequence number of the head whose full form is at an offset. Returns
-    /// `None` at the marker, and wherever no full form stands. Counts a head.
+    /// `None` at the marker, and wherever no full form is encoded. Counts a head.
     fn parse_restart_key<'a>(
         payload: &'a [u8],
         offset: usize,
@@ -106,7 +106,7 @@ pub trait Decodable<Parsed: ParsedItem<Self>>: BlockItem + Sized {
         ensures counts { CountsExactly steps.old steps.new 1 0 };
 
     /// Decodes the item in full form at an offset; the second result is where the form ends.
-    /// Returns `None` at the marker, and wherever no full form stands. Counts an entry where it
+    /// Returns `None` at the marker, and wherever no full form is encoded. Counts an entry where it
     /// returns an item.
     fn parse_full(payload: &[u8], offset: usize, steps: &mut Steps) -> Option<(Parsed, usize)>
         requires { offset ≤ length payload.now }
@@ -122,7 +122,7 @@ pub trait Decodable<Parsed: ParsedItem<Self>>: BlockItem + Sized {
 
     /// Decodes the item in truncated form at an offset, after a head whose key begins at
     /// `base_key_offset`; the second result is where the form ends. Returns `None` at the marker,
-    /// and wherever no truncated form stands. How long the head's key is, is not asked: the form is
+    /// and wherever no truncated form is encoded. How long the head's key is, is not tested: the form is
     /// read as one after a head whose key ends with the shared prefix. Counts an entry where it
     /// returns an item.
     fn parse_truncated(
@@ -154,7 +154,7 @@ pub trait Decodable<Parsed: ParsedItem<Self>>: BlockItem + Sized {
         ensures marker { StandsAt payload.now offset (255 ∷ []) → result ≡ None }
         ensures counts { CountsExactly steps.old steps.new 0 (found_item result) };
 
-    /// Decodes the item whose full form stands at an offset; the second result is where the form
+    /// Decodes the item whose full form is at an offset; the second result is where the form
     /// ends. Tests nothing. Counts an entry.
     fn read_full(payload: &[u8], offset: usize, steps: &mut Steps) -> (Parsed, usize)
         requires { IsSome (Self.kind.full_at (drop offset payload.now)) }
@@ -166,7 +166,7 @@ pub trait Decodable<Parsed: ParsedItem<Self>>: BlockItem + Sized {
         ensures shared { Parsed.shared_len result.0 ≡ 0 }
         ensures counts { CountsExactly steps.old steps.new 0 1 };
 
-    /// Decodes the item whose truncated form stands at an offset, after a head whose key begins at
+    /// Decodes the item whose truncated form is at an offset, after a head whose key begins at
     /// `base_key_offset`; the second result is where the form ends. Tests nothing. Counts an entry.
     fn read_truncated(
         payload: &[u8],
@@ -185,7 +185,7 @@ pub trait Decodable<Parsed: ParsedItem<Self>>: BlockItem + Sized {
         ensures found { Parsed.is_found payload.now result.0 }
         ensures counts { CountsExactly steps.old steps.new 0 1 };
 
-    /// Decodes the key and the sequence number of the head that stands at an offset. Tests nothing.
+    /// Decodes the key and the sequence number of the head at an offset. Tests nothing.
     /// Counts a head.
     fn read_head<'a>(payload: &'a [u8], offset: usize, steps: &mut Steps) -> (&'a [u8], u64)
         requires { IsSome (Self.kind.full_at (drop offset payload.now)) }
@@ -273,7 +273,7 @@ impl<'a, Item: Decodable<Parsed>, Parsed: ParsedItem<Item>> Decoder<'a, Item, Pa
     /// is false, or the last head where it is true of all.
     ///
     /// Returns `true`. But with `second_partition`, where each item is a head and the predicate is
-    /// true of all, the front is emptied, and the answer is `false`. The back stays. Counts at most
+    /// true of all, the front is emptied, and the result is `false`. The back stays. Counts at most
     /// as many heads as their number has binary digits, and no entry.
     pub fn seek<F: Fn(&[u8], u64) -> bool>(&mut self, pred: &F, second_partition: bool) -> bool
         requires callable { F.IsAlwaysCallable pred.now }

@@ -31,7 +31,7 @@ fn prefix_before(shared: usize, left: usize, right: usize) -> usize
     }
 }
 
-/// Reads the heads and items of a block where their forms are known to stand, by the calls of
+/// Reads the heads and items of a block where their forms are known to be, by the calls of
 /// [`Decodable`], which count them.
 ///
 /// It keeps payload and counters together, and the payload to itself: who has a reader can look at
@@ -224,7 +224,7 @@ impl<'a, Item: Decodable<Parsed>, Parsed: ParsedItem<Item> + Drop> FormReader<'a
         SliceIndexes(first.0, first.0 + length)
     }
 
-    /// Adds to a table the head whose full form stands at an offset.
+    /// Adds to a table the head whose full form is at an offset.
     #[inline(always)]
     pub(crate) fn push_head(&mut self, table: &mut HeadTable, offset: usize)
         requires head { IsSome (Item.kind.full_at (drop offset self.old.payload)) }

@@ -77,7 +77,7 @@ impl Checkable<DataBlockParsedItem> for InternalValue {
 }
 
 impl<H: BlockHash> DataBlock<H> {
-    /// Checks a block of any bytes as [`DataBlock::check`] does, but is only lent it. Returns the
+    /// Checks a block of any bytes as [`DataBlock::check`] does, but only borrows it. Returns the
     /// number of its entries. A block that passes is one that [`DataBlock::new`] takes.
     ///
     /// # Errors

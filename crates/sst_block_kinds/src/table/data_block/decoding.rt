@@ -120,7 +120,7 @@ pub(super) fn entry_prefix_within(
     prefix_within(payload, base, shared, rest)
 }
 
-// The range of the value that stands at an offset, which a tombstone has not, and where it ends.
+// The range of the value at an offset, which a tombstone has not, and where it ends.
 #[inline(always)]
 fn read_value(payload: &[u8], at: usize, value_type: ValueType) -> (Option<SliceIndexes>, usize)
     requires inside { at ≤ length payload.now }
@@ -168,7 +168,7 @@ fn full_form_from(payload: &[u8], offset: usize) -> Option<(DataBlockParsedItem,
     Some((item, end))
 }
 
-// The entry whose full form stands at an offset, and where the form ends.
+// The entry whose full form is at an offset, and where the form ends.
 #[inline(always)]
 fn read_full_form(payload: &[u8], offset: usize) -> (DataBlockParsedItem, usize)
     requires { IsSome (full_at (drop offset payload.now)) }
@@ -192,7 +192,7 @@ fn read_full_form(payload: &[u8], offset: usize) -> (DataBlockParsedItem, usize)
     (item, end)
 }
 
-// The truncated form that stands at an offset, whatever its head, and where it ends.
+// The truncated form at an offset, whatever its head, and where it ends.
 #[inline(always)]
 fn read_truncated_form(payload: &[u8], offset: usize) -> (TruncatedForm, usize)
     requires { IsSome (truncated_form_at (drop offset payload.now)) }

@@ -29,7 +29,7 @@ pub enum Op {
     SeekUpperExclusive(Slice),
 }
 
-/// What an [`Op`] answers.
+/// The answer to an [`Op`].
 #[derive(Debug, Drop)]
 pub enum Answer {
     /// What a seek returns.

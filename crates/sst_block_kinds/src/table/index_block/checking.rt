@@ -68,7 +68,7 @@ impl Checkable<IndexBlockParsedItem> for KeyedBlockHandle {
 }
 
 impl IndexBlock {
-    /// Checks a block of any bytes as [`IndexBlock::check`] does, but is only lent it. Returns the
+    /// Checks a block of any bytes as [`IndexBlock::check`] does, but only borrows it. Returns the
     /// number of its handles. Takes no memory. A block that passes is one that [`IndexBlock::new`]
     /// takes.
     ///

@@ -103,7 +103,7 @@ fn full_form_from(payload: &[u8], offset: usize) -> Option<(IndexBlockParsedItem
     Some((front.with_key(None, key), end))
 }
 
-// The front that stands at an offset, and where it ends.
+// The front at an offset, and where it ends.
 #[inline(always)]
 fn read_front(payload: &[u8], at: usize) -> (HandleFront, usize)
     requires { IsSome (front_at (drop at payload.now)) }

@@ -26,7 +26,7 @@ pub enum IndexOp {
     SeekUpper(Slice, SeqNo),
 }
 
-/// What an [`IndexOp`] answers.
+/// The answer to an [`IndexOp`].
 #[derive(Debug, Drop)]
 pub enum IndexAnswer {
     /// What a seek returns.

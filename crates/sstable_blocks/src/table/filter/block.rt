@@ -7,7 +7,7 @@ use sst_base::{Block, Result};
 use std::alloc::AllocError;
 use std::marker::Model;
 
-/// A block whose payload is read as a filter each time that it is asked. Clauses see the block.
+/// A block whose payload is read as a filter each time that it is queried. Clauses see the block.
 #[derive(Drop)]
 pub struct FilterBlock {
     inner: Block,

@@ -19,13 +19,13 @@ use sst_base::table::util::SliceIndexes;
 
 /// Items whose forms can be checked.
 pub trait Checkable<Parsed: ParsedItem<Self>>: Decodable<Parsed> {
-    /// What the check asks of an item beyond its form.
+    /// What the check requires of an item beyond its form.
     ghost fits: { Self → Type 0 };
 
     /// The error for an item that does not fit.
     ghost unfit: { Error };
 
-    /// Returns whether an item is what the check asks beyond its form.
+    /// Returns whether an item is what the check requires beyond its form.
     fn fits(item: &Parsed) -> bool
         ensures { (payload : List ℕ) → IsTrue result
             ↔ fits (Parsed.item_of payload item.now) };
@@ -43,7 +43,7 @@ pub trait Checkable<Parsed: ParsedItem<Self>>: Decodable<Parsed> {
         ensures prefix { result.prefix.1 - result.prefix.0 ≡ Parsed.shared_len item.now };
 
     /// Decodes the item in truncated form at an offset, after a head with this key; the second
-    /// answer is where the form ends. Returns `None` wherever no truncated form stands, also
+    /// result is where the form ends. Returns `None` wherever no truncated form is encoded, also
     /// where the shared prefix is not the longest.
     fn parse_exactly(payload: &[u8], offset: usize, base: &SliceIndexes) -> Option<(Parsed, usize)>
         requires inside { offset ≤ length payload.now }

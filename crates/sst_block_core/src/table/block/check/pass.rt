@@ -64,7 +64,7 @@ fn is_pointed(pointers: &Reader<'_>, number: usize, offset: usize) -> bool
 /// What one pass over the items of a body found of them.
 #[derive(Clone, Copy)]
 pub(crate) struct Passed {
-    /// All items are what the check asks beyond their forms.
+    /// All items are what the check requires beyond their forms.
     pub(crate) all_fit: bool,
     /// No item sorts before its predecessor.
     pub(crate) is_ordered: bool,
@@ -72,7 +72,7 @@ pub(crate) struct Passed {
     pub(crate) is_indexed: bool,
 }
 
-/// Where a pass stands, and what it found of the items in front.
+/// How far a pass has read, and what it found of the items before.
 #[derive(Clone, Copy)]
 pub(crate) struct Standing {
     /// The offset of the next form.
@@ -83,7 +83,7 @@ pub(crate) struct Standing {
     pub(crate) passed: Passed,
 }
 
-// Passes over a head, whose interval has this number; the first answer is the range of its key.
+// Passes over a head, whose interval has this number; the first result is the range of its key.
 // Returns `None` where no full form is encoded.
 #[inline(always)]
 fn pass_head<Item: Checkable<Parsed>, Parsed: ParsedItem<Item> + Drop, Sink: KeySink<Item>>(
@@ -124,7 +124,7 @@ fn pass_head<Item: Checkable<Parsed>, Parsed: ParsedItem<Item> + Drop, Sink: Key
 }
 
 // Passes over this many truncated forms after a head, whose key has this range. Returns `None`
-// where one of them does not stand.
+// where one of them is not encoded.
 fn pass_rest<Item: Checkable<Parsed>, Parsed: ParsedItem<Item> + Drop, Sink: KeySink<Item>>(
     body: &[u8],
     base: &SliceIndexes,

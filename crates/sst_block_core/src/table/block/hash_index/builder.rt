@@ -79,7 +79,7 @@ impl<H: BlockHash> Builder<H> {
         self.buckets.len() as u32
     }
 
-    /// Notes that a key stands in the restart interval with this number, at most 253. There is at
+    /// Notes that a key is in the restart interval with this number, at most 253. There is at
     /// least one bucket. Returns `false` exactly if the key's bucket has a conflict now.
     pub fn set(&mut self, key: &[u8], interval_number: u8) -> bool
         requires some { 0 < length self.old }
@@ -95,7 +95,7 @@ impl<H: BlockHash> Builder<H> {
         self.set_at(index, interval_number)
     }
 
-    /// Notes that a key of the bucket at this index stands in the restart interval with this
+    /// Notes that a key of the bucket at this index is in the restart interval with this
     /// number. Returns `false` exactly if the bucket has a conflict now.
     #[inline(always)]
     pub(crate) fn set_at(&mut self, index: usize, interval_number: u8) -> bool
@@ -134,7 +134,7 @@ impl<H: BlockHash> Builder<H> {
         Ok(())
     }
 
-    /// Notes that a key stands in the last of this many restart intervals, if there are buckets.
+    /// Notes that a key is in the last of this many restart intervals, if there are buckets.
     #[inline(always)]
     pub(crate) fn note_key(&mut self, key: &[u8], heads: usize)
         requires { AreFew heads self.old }
