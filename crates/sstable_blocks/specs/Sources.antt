@@ -1,5 +1,5 @@
 -- How a clause says that a call over a source of frames answers exactly this, where an allocation or the source may fail.
-use Rattle.std.specs.Prelude.{◌≡◌, ◌≢◌, ◌⊎◌, ℕ, ◌+◌, Option, None, Some, Result, Ok, Err}
+use Rattle.std.specs.Prelude.{◌≡◌, ◌≢◌, ◌⊎◌, ◌≤◌, ℕ, ◌+◌, List, Option, None, Some, Result, Ok, Err}
 use Rattle.sst_base.specs.BlockHandle.{HandleParts}
 use Rattle.sst_base.specs.declared.error.Error.{Error}
 use Rattle.sst_base.specs.declared.error.Error.TheVariants.{Memory, Io, BadHandle}
@@ -9,6 +9,12 @@ pub record SourceParts (F : Type 0) : Type 0 where
   pub inner : F
   pub failures : ℕ
   pub reads : ℕ
+
+-- the bytes of a source stay the same, its failures are only added to, and a reliable one stays reliable
+pub record KeepsSource {S : Type 0} (bytes : S → Option (List ℕ)) (failures : S → ℕ) (is_reliable : S → Type 0) (old new : S) : Type 0 where
+  pub same : bytes new ≡ bytes old
+  pub failures_grow : failures old ≤ failures new
+  pub kept : is_reliable old → is_reliable new
 
 -- An error is a failed allocation, or a failure of the source, or that of the reading. A reliable source, as one over
 -- memory, fails only where the reading meets a range that isn't inside.

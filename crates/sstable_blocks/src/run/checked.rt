@@ -15,7 +15,7 @@ ghost use Rattle.sstable_blocks.specs.RunReading.{hashes, payload_at, filter_say
 ghost use Rattle.sstable_blocks.specs.RunReading.{read_block};
 ghost use Rattle.sst_block_kinds.specs.Checks.{data_check, index_check};
 ghost use Rattle.sstable_blocks.specs.RunReading.{read_blocks, read_checked, AnswerMeans};
-ghost use Rattle.sstable_blocks.specs.Sources.{GivesOr, filter_frames};
+ghost use Rattle.sstable_blocks.specs.Sources.{GivesOr, KeepsSource, filter_frames};
 ghost use Rattle.sstable_blocks.specs.declared.run.RunConfig.{RunConfig};
 
 use super::RunHandles;
@@ -43,10 +43,8 @@ pub fn block_from<H: BlockHash, S: FrameSource>(
     handle: &BlockHandle,
     block_type: BlockType,
 ) -> Result<Block>
-    ensures same { S.bytes source.new ≡ S.bytes source.old }
+    ensures source { KeepsSource S.bytes S.failures S.is_reliable source.old source.new }
     ensures reads { S.reads source.new ≡ S.reads source.old + 1 }
-    ensures failures_grow { S.failures source.old ≤ S.failures source.new }
-    ensures kept { S.is_reliable source.old → S.is_reliable source.new }
     ensures io { IfErr result (λ e. e ≡ Io → S.failures source.old < S.failures source.new) }
     ensures cells { OnOk result (IfSome (S.bytes source.old) IsBytes) }
     ensures exact { IfSome (S.bytes source.old)
@@ -108,10 +106,8 @@ fn may_have<H: BlockHash, S: FrameSource>(
     filter: &Option<BlockHandle>,
     needle: &[u8],
 ) -> Result<bool>
-    ensures same { S.bytes source.new ≡ S.bytes source.old }
+    ensures source { KeepsSource S.bytes S.failures S.is_reliable source.old source.new }
     ensures reads { S.reads source.new ≡ S.reads source.old + filter_frames filter.now }
-    ensures failures_grow { S.failures source.old ≤ S.failures source.new }
-    ensures kept { S.is_reliable source.old → S.is_reliable source.new }
     ensures io { IfErr result (λ e. e ≡ Io → S.failures source.old < S.failures source.new) }
     ensures cells { OnOk result ((filter.now ≡ None) ⊎ IfSome (S.bytes source.old) IsBytes) }
     ensures exact { IfSome (S.bytes source.old)
@@ -135,11 +131,9 @@ fn read_in_block<H: BlockHash, S: FrameSource>(
     needle: &[u8],
     seqno: SeqNo,
 ) -> Result<Option<InternalValue>>
-    ensures same { S.bytes source.new ≡ S.bytes source.old }
+    ensures source { KeepsSource S.bytes S.failures S.is_reliable source.old source.new }
     ensures reads { S.reads source.new ≤ S.reads source.old + 1 }
     ensures reads_grow { S.reads source.old ≤ S.reads source.new }
-    ensures failures_grow { S.failures source.old ≤ S.failures source.new }
-    ensures kept { S.is_reliable source.old → S.is_reliable source.new }
     ensures io { IfErr result (λ e. e ≡ Io → S.failures source.old < S.failures source.new) }
     ensures exact { IfSome (S.bytes source.old)
         (λ all. (h : Option Handle) → handle.now ≡ option_map range_of h
@@ -164,11 +158,9 @@ fn read_by_index<H: BlockHash, S: FrameSource>(
     needle: &[u8],
     seqno: SeqNo,
 ) -> Result<Option<InternalValue>>
-    ensures same { S.bytes source.new ≡ S.bytes source.old }
+    ensures source { KeepsSource S.bytes S.failures S.is_reliable source.old source.new }
     ensures reads { S.reads source.new ≤ S.reads source.old + 2 }
     ensures reads_grow { S.reads source.old ≤ S.reads source.new }
-    ensures failures_grow { S.failures source.old ≤ S.failures source.new }
-    ensures kept { S.is_reliable source.old → S.is_reliable source.new }
     ensures io { IfErr result (λ e. e ≡ Io → S.failures source.old < S.failures source.new) }
     ensures cells { OnOk result (IfSome (S.bytes source.old) IsBytes) }
     ensures exact { IfSome (S.bytes source.old)
@@ -190,14 +182,12 @@ fn read_in_stages<H: BlockHash, S: FrameSource>(
     needle: &[u8],
     seqno: SeqNo,
 ) -> Result<Option<InternalValue>>
-    ensures same { S.bytes source.new ≡ S.bytes source.old }
+    ensures source { KeepsSource S.bytes S.failures S.is_reliable source.old source.new }
     ensures reads { S.reads source.new
         ≤ S.reads source.old + (2 + filter_frames handles.now.filter) }
     ensures denied { IfSome (S.bytes source.old)
         (λ all. filter_says (hashes H.hash64 H.hash128) all handles.now.filter needle.now ≡ Ok false
         → S.reads source.new ≤ S.reads source.old + 1) }
-    ensures failures_grow { S.failures source.old ≤ S.failures source.new }
-    ensures kept { S.is_reliable source.old → S.is_reliable source.new }
     ensures io { IfErr result (λ e. e ≡ Io → S.failures source.old < S.failures source.new) }
     ensures cells { OnOk result (IfSome (S.bytes source.old) IsBytes) }
     ensures exact { IfSome (S.bytes source.old)
@@ -231,14 +221,12 @@ pub fn read_entry_checked<H: BlockHash, S: FrameSource>(
     needle: &[u8],
     seqno: SeqNo,
 ) -> Result<Option<InternalValue>>
-    ensures same { S.bytes source.new ≡ S.bytes source.old }
+    ensures source { KeepsSource S.bytes S.failures S.is_reliable source.old source.new }
     ensures reads { S.reads source.new
         ≤ S.reads source.old + (2 + filter_frames handles.now.filter) }
     ensures denied { IfSome (S.bytes source.old)
         (λ all. filter_says (hashes H.hash64 H.hash128) all handles.now.filter needle.now ≡ Ok false
         → S.reads source.new ≤ S.reads source.old + 1) }
-    ensures failures_grow { S.failures source.old ≤ S.failures source.new }
-    ensures kept { S.is_reliable source.old → S.is_reliable source.new }
     ensures io { IfErr result (λ e. e ≡ Io → S.failures source.old < S.failures source.new) }
     ensures exact { IfSome (S.bytes source.old)
         (λ all. GivesOr (S.failures source.old < S.failures source.new) (S.is_reliable source.old) (λ x. x) result

@@ -1,8 +1,9 @@
 //! Reading runs.
-ghost use Rattle.std.specs.Prelude.{◌≡◌, ◌↔◌, ℕ, ◌+◌, ◌≤◌, ◌<◌};
+ghost use Rattle.std.specs.Prelude.{◌≡◌, ◌↔◌, ℕ, ◌+◌, ◌<◌};
 ghost use Rattle.std.specs.Prelude.{◌^◌, List, length, Some, None};
 ghost use Rattle.std.specs.Prelude.{Ok, false, OnOk, IfOk, IfSome, IsOkUnless};
 ghost use Rattle.std.specs.Option.{option_map};
+ghost use Rattle.sst_base.specs.Counted.{CountsExactly, CountsBetween};
 ghost use Rattle.sst_base.specs.Entry.{Entry, IsEntry};
 ghost use Rattle.sst_block_core.specs.Entries.{entries};
 ghost use Rattle.sst_block_kinds.specs.Handles.{Handle, handles, IsIndexBlock};
@@ -81,11 +82,10 @@ pub(crate) fn find_handle(
 ) -> Option<BlockHandle>
     ensures found { result
         ≡ option_map range_of (handle_for handles needle.now seqno index.now.items) }
-    ensures heads { steps.new.heads
-        ≤ steps.old.heads + digits (head_count index.now.interval (length index.now.items)) }
-    ensures heads_grow { steps.old.heads < steps.new.heads }
-    ensures entries { steps.new.entries ≤ steps.old.entries + handles_most index.now.interval }
-    ensures entries_grow { steps.old.entries ≤ steps.new.entries }
+    ensures counts { CountsBetween steps.old steps.new (1, 0) (
+      digits (head_count index.now.interval (length index.now.items)),
+      handles_most index.now.interval,
+    ) }
 {
     let mut iter = index.iter();
     iter.seek(needle, seqno);
@@ -113,16 +113,12 @@ fn handle_in_index(
         ≡ option_map range_of
         (handle_for handles needle.now seqno (index_in bytes.now handle.now))) }
     ensures memory { IsOkUnless result Error.Memory }
-    ensures heads { let p = payload_in bytes.now handle.now in
-        steps.new.heads
-        ≤ steps.old.heads
-        + digits (head_count (trailer_in p).interval (length (index_in bytes.now handle.now))) }
+    ensures counts { let p = payload_in bytes.now handle.now in
+        CountsBetween steps.old steps.new (0, 0) (
+          digits (head_count (trailer_in p).interval (length (index_in bytes.now handle.now))),
+          handles_most (trailer_in p).interval,
+        ) }
     ensures looked { OnOk result (steps.old.heads < steps.new.heads) }
-    ensures heads_grow { steps.old.heads ≤ steps.new.heads }
-    ensures entries { steps.new.entries
-        ≤ steps.old.entries
-        + handles_most (trailer_in (payload_in bytes.now handle.now)).interval }
-    ensures entries_grow { steps.old.entries ≤ steps.new.entries }
 {
     let index = IndexBlock::new(block_at(bytes, handle, BlockType::Index)?);
     Ok(find_handle(&index, needle, seqno, steps))
@@ -146,14 +142,11 @@ fn match_in<H: BlockHash>(
         ≡ first_match entries needle.now seqno
         (items_in entries (payload_in bytes.now handle.now))) }
     ensures memory { IsOkUnless result Error.Memory }
-    ensures heads { let p = payload_in bytes.now handle.now in
-        steps.new.heads
-        ≤ steps.old.heads
-        + digits (head_count (trailer_in p).interval (length (items_in entries p))) }
-    ensures heads_grow { steps.old.heads ≤ steps.new.heads }
-    ensures entries { steps.new.entries
-        ≤ steps.old.entries + ((trailer_in (payload_in bytes.now handle.now)).interval + 1) }
-    ensures entries_grow { steps.old.entries ≤ steps.new.entries }
+    ensures counts { let p = payload_in bytes.now handle.now in
+        CountsBetween steps.old steps.new (0, 0) (
+          digits (head_count (trailer_in p).interval (length (items_in entries p))),
+          (trailer_in p).interval + 1,
+        ) }
 {
     let block = DataBlock::<H>::new(block_at(bytes, handle, BlockType::Data)?);
     block.point_read(alloc, needle, seqno, steps)
@@ -189,21 +182,17 @@ pub fn read_entry<H: BlockHash>(
         → IsLayout (form H.hash64 H.hash128 config) blocks bytes.now handles.now
         → IfOk result (λ item. item ≡ first_match entries needle.now seqno (joined blocks)) }
     ensures memory { IsOkUnless result Error.Memory }
-    ensures heads { (config : RunConfig) (blocks : List (List Entry))
+    ensures counts { (config : RunConfig) (blocks : List (List Entry))
         → IsLayout (form H.hash64 H.hash128 config) blocks bytes.now handles.now
-        → steps.new.heads
-        ≤ steps.old.heads + heads_most (form H.hash64 H.hash128 config) blocks needle.now seqno }
-    ensures heads_grow { steps.old.heads ≤ steps.new.heads }
-    ensures entries { (config : RunConfig) (blocks : List (List Entry))
-        → IsLayout (form H.hash64 H.hash128 config) blocks bytes.now handles.now
-        → steps.new.entries
-        ≤ steps.old.entries + entries_most (form H.hash64 H.hash128 config) }
-    ensures entries_grow { steps.old.entries ≤ steps.new.entries }
+        → CountsBetween steps.old steps.new (0, 0) (
+          heads_most (form H.hash64 H.hash128 config) blocks needle.now seqno,
+          entries_most (form H.hash64 H.hash128 config),
+        ) }
     ensures looked { OnOk result
         ((IsDenied bytes.now handles.now.filter (H.hash64 needle.now) → ⊥)
         → steps.old.heads < steps.new.heads) }
     ensures denied { IsDenied bytes.now handles.now.filter (H.hash64 needle.now)
-        → (steps.new.heads ≡ steps.old.heads) × (steps.new.entries ≡ steps.old.entries) }
+        → CountsExactly steps.old steps.new 0 0 }
 {
     layout_opens();
     if !may_have(bytes.as_slice(), &handles.filter, H::hash64(needle)) {

@@ -6,7 +6,7 @@ ghost use Rattle.sst_base.specs.BlockHandle.{HandleParts};
 ghost use Rattle.sst_base.specs.Bytes.{IsBytes};
 ghost use Rattle.sst_base.specs.declared.error.Error.TheVariants.{Io, BadHandle, Memory};
 ghost use Rattle.sstable_blocks.specs.RunReading.{range_at};
-ghost use Rattle.sstable_blocks.specs.Sources.{GivesOr, IsRangeRead, IsRangeRefused};
+ghost use Rattle.sstable_blocks.specs.Sources.{GivesOr, KeepsSource, IsRangeRead, IsRangeRefused};
 
 use sst_base::{BlockHandle, Count, Error, Result, SeekInput, Slice};
 use std::alloc::Global;
@@ -39,10 +39,8 @@ pub trait FrameSource {
     /// `Error::BadHandle` if the range of the handle is not inside, `Error::Io` if the source
     /// fails, or ends before, `Error::Memory` if an allocation fails.
     fn read_frame(&mut self, alloc: Global, handle: &BlockHandle) -> Result<Slice>
-        ensures same { bytes self.new ≡ bytes self.old }
+        ensures source { KeepsSource bytes failures is_reliable self.old self.new }
         ensures reads { reads self.new ≡ reads self.old + 1 }
-        ensures failures_grow { failures self.old ≤ failures self.new }
-        ensures kept { is_reliable self.old → is_reliable self.new }
         ensures io { IfErr result (λ e. e ≡ Io → failures self.old < failures self.new) }
         ensures errors { IfErr result (λ e. (e ≡ Io) ⊎ (e ≡ Memory)
             ⊎ ((e ≡ BadHandle) × may_refuse self.old handle.now)) }

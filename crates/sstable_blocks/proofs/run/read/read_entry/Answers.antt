@@ -26,17 +26,12 @@ handle_in_index-requires-clause-index g c =
     let l = c.requires.layout in
     (_, _, (c.layout_opens.ensures (form g.H.BlockHash.hash64 g.H.BlockHash.hash128 l.0) l.1 _ _ l.2).index_block)
 
-pub returns-in_err-handle_in_index-clause-heads : goal.returns-in_err-handle_in_index-clause-heads
-returns-in_err-handle_in_index-clause-heads g c = λ config blocks layout.
+pub returns-in_err-handle_in_index-clause-counts : goal.returns-in_err-handle_in_index-clause-counts
+returns-in_err-handle_in_index-clause-counts g c = λ config blocks layout.
     let o = c.layout_opens.ensures (form g.H.BlockHash.hash64 g.H.BlockHash.hash128 config) blocks _ _ layout in
     let d = index_digits _ _ _ _ c.args.needle.now c.args.seqno o in
-    omega arith
-
-pub returns-in_err-handle_in_index-clause-entries : goal.returns-in_err-handle_in_index-clause-entries
-returns-in_err-handle_in_index-clause-entries g c = λ config blocks layout.
-    let o = c.layout_opens.ensures (form g.H.BlockHash.hash64 g.H.BlockHash.hash128 config) blocks _ _ layout in
-    let i = index_handles _ _ _ _ c.args.needle.now c.args.seqno o in
-    omega arith
+    let n = index_handles _ _ _ _ c.args.needle.now c.args.seqno o in
+    record { heads_least = omega arith; heads_most = omega arith; entries_least = omega arith; entries_most = omega arith }
 
 pub match_in-requires-clause-range : goal.match_in-requires-clause-range
 match_in-requires-clause-range g c =
@@ -56,33 +51,23 @@ returns-in-None-clause-found g c = λ config blocks layout.
     let o = c.layout_opens.ensures (form g.H.BlockHash.hash64 g.H.BlockHash.hash128 config) blocks _ _ layout in
     found_none _ _ _ _ c.args.needle.now c.args.seqno o _ c.in_ok-handle_in_index.ensures.found c.in-None.is
 
-pub returns-in-None-clause-heads : goal.returns-in-None-clause-heads
-returns-in-None-clause-heads g c = λ config blocks layout.
+pub returns-in-None-clause-counts : goal.returns-in-None-clause-counts
+returns-in-None-clause-counts g c = λ config blocks layout.
     let o = c.layout_opens.ensures (form g.H.BlockHash.hash64 g.H.BlockHash.hash128 config) blocks _ _ layout in
     let d = index_digits _ _ _ _ c.args.needle.now c.args.seqno o in
-    omega arith
-
-pub returns-in-None-clause-entries : goal.returns-in-None-clause-entries
-returns-in-None-clause-entries g c = λ config blocks layout.
-    let o = c.layout_opens.ensures (form g.H.BlockHash.hash64 g.H.BlockHash.hash128 config) blocks _ _ layout in
-    let i = index_handles _ _ _ _ c.args.needle.now c.args.seqno o in
-    omega arith
+    let n = index_handles _ _ _ _ c.args.needle.now c.args.seqno o in
+    record { heads_least = omega arith; heads_most = omega arith; entries_least = omega arith; entries_most = omega arith }
 
 pub returns-in-Some-clause-found : goal.returns-in-Some-clause-found
 returns-in-Some-clause-found g c = λ config blocks layout.
     let o = c.layout_opens.ensures (form g.H.BlockHash.hash64 g.H.BlockHash.hash128 config) blocks _ _ layout in
     rw (found_some _ _ _ _ c.args.needle.now c.args.seqno o _ _ c.in_ok-handle_in_index.ensures.found c.in-Some.is) at c.match_in.ensures.found
 
-pub returns-in-Some-clause-heads : goal.returns-in-Some-clause-heads
-returns-in-Some-clause-heads g c = λ config blocks layout.
+pub returns-in-Some-clause-counts : goal.returns-in-Some-clause-counts
+returns-in-Some-clause-counts g c = λ config blocks layout.
     let o = c.layout_opens.ensures (form g.H.BlockHash.hash64 g.H.BlockHash.hash128 config) blocks _ _ layout in
     let d = index_digits _ _ _ _ c.args.needle.now c.args.seqno o in
-    let e = block_digits _ _ _ _ c.args.needle.now c.args.seqno o _ _ c.in_ok-handle_in_index.ensures.found c.in-Some.is in
-    omega arith
-
-pub returns-in-Some-clause-entries : goal.returns-in-Some-clause-entries
-returns-in-Some-clause-entries g c = λ config blocks layout.
-    let o = c.layout_opens.ensures (form g.H.BlockHash.hash64 g.H.BlockHash.hash128 config) blocks _ _ layout in
     let n = index_handles _ _ _ _ c.args.needle.now c.args.seqno o in
+    let e = block_digits _ _ _ _ c.args.needle.now c.args.seqno o _ _ c.in_ok-handle_in_index.ensures.found c.in-Some.is in
     let i = block_interval _ _ _ _ c.args.needle.now c.args.seqno o _ _ c.in_ok-handle_in_index.ensures.found c.in-Some.is in
-    omega arith
+    record { heads_least = omega arith; heads_most = omega arith; entries_least = omega arith; entries_most = omega arith }
