@@ -26,7 +26,6 @@ use crate::table::filter::FilterBlock;
 use sst_base::{
     Block, BlockHandle, BlockHash, BlockType, Error, InternalValue, Result, SeqNo, Steps, TagName,
 };
-use sst_block_kinds::laws::{data_check_is_by_stages, index_check_is_by_stages};
 use sst_block_kinds::{DataBlock, IndexBlock};
 use std::alloc::Global;
 
@@ -61,7 +60,7 @@ pub fn block_from<H: BlockHash, S: FrameSource>(
 }
 
 // What the filter in a block says of a hash.
-fn ask_filter(block: Block, hash: u64) -> Result<bool>
+fn query_filter(block: Block, hash: u64) -> Result<bool>
     ensures exact { result ≡ filter_answer block.payload hash }
     ensures not_io { IfErr result (λ e. e ≢ Io) }
 {
@@ -69,38 +68,8 @@ fn ask_filter(block: Block, hash: u64) -> Result<bool>
     filter.maybe_contains_hash(hash)
 }
 
-/// Takes a block of any bytes as a data block, if it passes `DataBlock::check_ref`. It is read once,
-/// so no table of its heads is made.
-///
-/// # Errors
-///
-/// Those of `DataBlock::check_ref`, and never `Error::Io`.
-pub fn check_data<H: BlockHash>(alloc: Global, block: Block) -> Result<DataBlock<H>>
-    ensures exact { GivesOr ⊥ ⊥ (λ b. b.items) result (data_check H.hash64 block.payload) }
-    ensures not_io { IfErr result (λ e. e ≢ Io) }
-{
-    data_check_is_by_stages();
-    DataBlock::<H>::check_ref(alloc, &block)?;
-    Ok(DataBlock::new(block))
-}
-
-/// Takes a block of any bytes as an index block, if it passes `IndexBlock::check_ref`. It is read
-/// once, so no table of its heads is made.
-///
-/// # Errors
-///
-/// Those of `IndexBlock::check_ref`, and never `Error::Io`.
-pub fn check_index(block: Block) -> Result<IndexBlock>
-    ensures exact { GivesOr ⊥ ⊥ (λ b. b.items) result (index_check block.payload) }
-    ensures not_io { IfErr result (λ e. e ≢ Io) }
-{
-    index_check_is_by_stages();
-    IndexBlock::check_ref(&block)?;
-    Ok(IndexBlock::new(block))
-}
-
-// Whether a run can have a key, by its filter.
-fn may_have<H: BlockHash, S: FrameSource>(
+// Whether a run can have a key, by its filter, whose frame is read.
+fn filter_allows<H: BlockHash, S: FrameSource>(
     alloc: Global,
     source: &mut S,
     filter: &Option<BlockHandle>,
@@ -118,7 +87,7 @@ fn may_have<H: BlockHash, S: FrameSource>(
         None => Ok(true),
         Some(handle) => {
             let block = block_from::<H, S>(alloc, source, handle, BlockType::Filter)?;
-            ask_filter(block, H::hash64(needle))
+            query_filter(block, H::hash64(needle))
         }
     }
 }
@@ -144,7 +113,7 @@ fn read_in_block<H: BlockHash, S: FrameSource>(
         None => Ok(None),
         Some(handle) => {
             let block = block_from::<H, S>(alloc, source, handle, BlockType::Data)?;
-            let block = check_data::<H>(alloc, block)?;
+            let block = DataBlock::<H>::check_once(alloc, block)?;
             block.point_read(alloc, needle, seqno, &mut Steps::new())
         }
     }
@@ -168,7 +137,7 @@ fn read_by_index<H: BlockHash, S: FrameSource>(
         (read_blocks (hashes H.hash64 H.hash128) all index.now needle.now seqno)) }
 {
     let block = block_from::<H, S>(alloc, source, index, BlockType::Index)?;
-    let index = check_index(block)?;
+    let index = IndexBlock::check_once(block)?;
     let handle = find_handle(&index, needle, seqno, &mut Steps::new());
     read_in_block::<H, S>(alloc, source, &handle, needle, seqno)
 }
@@ -194,7 +163,7 @@ fn read_in_stages<H: BlockHash, S: FrameSource>(
         (λ all. GivesOr (S.failures source.old < S.failures source.new) (S.is_reliable source.old) (λ x. x) result
         (read_checked (hashes H.hash64 H.hash128) all handles.now needle.now seqno)) }
 {
-    if may_have::<H, S>(alloc, source, &handles.filter, needle)? {
+    if filter_allows::<H, S>(alloc, source, &handles.filter, needle)? {
         read_by_index::<H, S>(alloc, source, &handles.index, needle, seqno)
     } else {
         Ok(None)
@@ -204,15 +173,15 @@ fn read_in_stages<H: BlockHash, S: FrameSource>(
 /// Returns the first entry of a run with this key whose sequence number is strictly below `seqno`,
 /// from bytes of any kind: the filter's frame, if there is one, that of the index and that of the
 /// one block are read, and each is verified and checked. No frame is read twice, and where the
-/// filter denies the key none but its own.
+/// filter rules the key out none but its own.
 ///
 /// # Errors
 ///
 /// The first one met, in this order: for the filter, if there is one, those of its frame
 /// (`FrameSource::read_frame`, `Block::from_frame`), `Error::InvalidTag` if it is of another type,
 /// and those of `StandardBloomFilterReader::new`; then for the index those of its frame, its type,
-/// and `IndexBlock::check_ref`; then for the block those of its frame, its type, and
-/// `DataBlock::check_ref`. `Error::Io` only where the source failed. `Error::Memory` if an allocation
+/// and `IndexBlock::check_once`; then for the block those of its frame, its type, and
+/// `DataBlock::check_once`. `Error::Io` only where the source failed. `Error::Memory` if an allocation
 /// fails.
 pub fn read_entry_checked<H: BlockHash, S: FrameSource>(
     alloc: Global,

@@ -59,7 +59,7 @@ fn payload_at<'a>(bytes: &'a [u8], handle: &BlockHandle) -> &'a [u8]
 }
 
 // Whether a run can have a key of this hash, by its filter. It can where there is none.
-fn may_have(bytes: &[u8], filter: &Option<BlockHandle>, hash: u64) -> bool
+fn is_allowed(bytes: &[u8], filter: &Option<BlockHandle>, hash: u64) -> bool
     requires { IfSome filter.now (IsFrameRange bytes.now) }
     ensures { (result ≡ false) ↔ IsDenied bytes.now filter.now hash }
 {
@@ -159,7 +159,7 @@ fn match_in<H: BlockHash>(
 /// is computed: the frames are taken by their ranges, and their payloads are sub-slices of the
 /// bytes.
 ///
-/// The filter is asked first. Where it denies the key, nothing else is looked at. Else the index
+/// The filter is queried first. Where it rules the key out, nothing else is read. Else the index
 /// leads to the one block that can hold the key. What was looked at is added to `steps`: at least a
 /// head of the index, and at most as many heads as the numbers of heads of the index and of the block have binary digits; one handle,
 /// and those of a restart interval of the index where not each handle is a head; and the entries of
@@ -195,7 +195,7 @@ pub fn read_entry<H: BlockHash>(
         → CountsExactly steps.old steps.new 0 0 }
 {
     layout_opens();
-    if !may_have(bytes.as_slice(), &handles.filter, H::hash64(needle)) {
+    if !is_allowed(bytes.as_slice(), &handles.filter, H::hash64(needle)) {
         return Ok(None);
     }
     match handle_in_index(bytes, &handles.index, needle, seqno, steps)? {

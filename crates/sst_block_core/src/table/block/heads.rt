@@ -18,8 +18,8 @@ use crate::table::block::bound::Bound;
 use crate::table::block::key_ranges::bytes_of;
 use byteorder::{BigEndian, ByteOrder};
 use sst_base::table::util::{SliceIndexes, compare_bytes};
-use sst_base::{Error, Result, SeqNo, Steps};
-use std::alloc::{AllocError, Global};
+use sst_base::{AllocResult, Error, Result, SeqNo, Steps};
+use std::alloc::Global;
 use std::cmp::Ordering;
 use std::marker::Model;
 
@@ -395,7 +395,7 @@ impl Clone for HeadTable {
     ghost is_clone = { λ t copy. (copy.heads ≡ t.heads) × (copy.prefix ≡ t.prefix)
         × (copy.fronts ≡ t.fronts) };
 
-    fn clone(&self) -> std::result::Result<HeadTable, AllocError> {
+    fn clone(&self) -> AllocResult<HeadTable> {
         Ok(HeadTable {
             heads: self.heads.clone()?,
             prefix: self.prefix,
@@ -409,7 +409,7 @@ impl Clone for HeadTable {
 /// # Errors
 ///
 /// `AllocError` if an allocation fails.
-pub fn clone_table(table: &Option<HeadTable>) -> std::result::Result<Option<HeadTable>, AllocError>
+pub fn clone_table(table: &Option<HeadTable>) -> AllocResult<Option<HeadTable>>
     ensures { IfOk result (λ copy. IsCopy table.now copy) }
 {
     match table {

@@ -30,16 +30,19 @@ pub mod ops;
 pub mod parsed_item;
 mod point_read;
 
+use crate::laws::data_check_is_by_stages;
 pub use entry_ref::{Entries, EntryRef};
 pub use iter::Iter;
 pub use ops::{Answer, Op, walk};
 pub use parsed_item::DataBlockParsedItem;
 use sst_base::table::block::Block;
-use sst_base::{BlockHash, Error, HashRatio, InternalValue, Result, SeqNo, Slice, Steps};
+use sst_base::{
+    AllocResult, BlockHash, Error, HashRatio, InternalValue, Result, SeqNo, Slice, Steps,
+};
 use sst_block_core::table::block::encoder::encode_all;
 use sst_block_core::table::block::heads::{HeadTable, clone_table};
 use sst_block_core::table::block::{Decoder, ParsedItem, Trailer, hash_index};
-use std::alloc::{AllocError, Global};
+use std::alloc::Global;
 use std::fmt;
 use std::marker::{Model, PhantomData};
 
@@ -230,8 +233,7 @@ impl<H: BlockHash> DataBlock<H> {
     /// Takes a block of any bytes, if its payload is the encoding of some ordered, non-empty list
     /// of entries, and makes the table of its heads, as [`DataBlock::with_heads`] does. Takes memory
     /// for the table, and where buckets are stored for the buckets and for the longest truncated
-    /// key. A block that is read once is opened by [`DataBlock::check_ref`] and [`DataBlock::new`],
-    /// without the table.
+    /// key. [`DataBlock::check_once`] makes no table: for a block that is read once.
     ///
     /// # Errors
     ///
@@ -256,14 +258,39 @@ impl<H: BlockHash> DataBlock<H> {
             → MatchResult result (λ found. found.items ≡ map plain items)
             (λ e. e ≡ Error.Memory) }
     {
-        DataBlock::<H>::check_ref(alloc, &block)?;
-        let block = DataBlock::<H>::new(block);
+        let block = DataBlock::<H>::check_once(alloc, block)?;
         let heads = block.intervals().make_table(alloc)?;
         Ok(DataBlock {
             hash: PhantomData,
             inner: block.inner,
             heads: Some(heads),
         })
+    }
+
+    /// Takes a block of any bytes as [`DataBlock::check`] does, and makes no table of its heads: for a
+    /// block that is read once. Takes memory where buckets are stored.
+    ///
+    /// # Errors
+    ///
+    /// Those of [`DataBlock::check`].
+    pub fn check_once(alloc: Global, block: Block) -> Result<DataBlock<H>>
+        ensures checked { IfOk result (λ b. data_check H.hash64 block.payload ≡ Ok b.items) }
+        ensures parts { IfOk result (λ b. b ≡ data_block_of block) }
+        ensures encoded { IfOk result
+            (λ b. IsBlock entries IsEntry H.hash64 block.payload b.items b.interval b.stored) }
+        ensures refused { IfErr result
+            (λ e. e ≢ Error.Memory → data_check H.hash64 block.payload ≡ Err e) }
+        ensures not_io { IfErr result (λ e. e ≢ Error.Io) }
+
+        // An encoding is accepted.
+        ensures accepts { (items : List Entry) (r b : ℕ)
+            → IsBlock entries IsEntry H.hash64 block.payload items r b
+            → MatchResult result (λ found. found.items ≡ map plain items)
+            (λ e. e ≡ Error.Memory) }
+    {
+        data_check_is_by_stages();
+        DataBlock::<H>::check_ref(alloc, &block)?;
+        Ok(DataBlock::new(block))
     }
 
     /// Returns the payload, which is the encoding of the block's entries at its interval and stored
@@ -443,7 +470,7 @@ impl<H: BlockHash> DataBlock<H> {
 impl<H: BlockHash> Clone for DataBlock<H> {
     ghost is_clone = { λ d copy. copy ≡ d };
 
-    fn clone(&self) -> std::result::Result<DataBlock<H>, AllocError> {
+    fn clone(&self) -> AllocResult<DataBlock<H>> {
         let heads = clone_table(&self.heads)?;
         Ok(DataBlock {
             hash: PhantomData,

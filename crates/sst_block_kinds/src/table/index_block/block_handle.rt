@@ -9,8 +9,7 @@ ghost use Rattle.sst_block_kinds.specs.Handles.{handles, IsHandle};
 ghost use Rattle.sst_block_core.specs.Kind.{item_cmp};
 
 pub use sst_base::table::block::{BlockHandle, BlockOffset};
-use sst_base::{SeqNo, UserKey};
-use std::alloc::AllocError;
+use sst_base::{AllocResult, SeqNo, UserKey};
 use std::cmp::Ordering;
 use std::fmt;
 use std::marker::Model;
@@ -158,7 +157,7 @@ impl Eq for KeyedBlockHandle {
 impl Clone for KeyedBlockHandle {
     ghost is_clone = { λ h copy. copy ≡ h };
 
-    fn clone(&self) -> std::result::Result<KeyedBlockHandle, AllocError> {
+    fn clone(&self) -> AllocResult<KeyedBlockHandle> {
         Ok(KeyedBlockHandle {
             end_key: self.end_key.clone()?,
             seqno: self.seqno,

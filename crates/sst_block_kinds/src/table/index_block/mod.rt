@@ -23,17 +23,18 @@ pub mod iter;
 pub mod ops;
 pub mod parsed_item;
 
+use crate::laws::index_check_is_by_stages;
 pub use block_handle::{BlockHandle, KeyedBlockHandle};
 pub use iter::Iter;
 pub use ops::{IndexAnswer, IndexOp, walk};
 pub use parsed_item::IndexBlockParsedItem;
 use sst_base::table::block::Block;
-use sst_base::{Error, HashRatio, Poly31, Result, Slice};
+use sst_base::{AllocResult, Error, HashRatio, Poly31, Result, Slice};
 use sst_block_core::table::block::encoder::encode_all;
 use sst_block_core::table::block::heads::{HeadTable, clone_table};
 use sst_block_core::table::block::intervals::Intervals;
 use sst_block_core::table::block::{Decoder, Trailer};
-use std::alloc::{AllocError, Global};
+use std::alloc::Global;
 use std::fmt;
 use std::marker::Model;
 
@@ -250,8 +251,8 @@ impl IndexBlock {
 
     /// Takes a block of any bytes, if its payload is the encoding of some ordered, non-empty list
     /// of handles at an interval from 1 to 255, each with an end of its block below 2^64, and makes
-    /// the table of its heads, as [`IndexBlock::with_heads`] does. A block that is read once is
-    /// opened by [`IndexBlock::check_ref`] and [`IndexBlock::new`], without the table.
+    /// the table of its heads, as [`IndexBlock::with_heads`] does. [`IndexBlock::check_once`] makes
+    /// no table: for a block that is read once.
     ///
     /// # Errors
     ///
@@ -273,13 +274,34 @@ impl IndexBlock {
         ensures accepts { (items : List Handle) (r : ℕ) → IsIndexBlock block.payload items r
             → MatchResult result (λ found. found.items ≡ items) (λ e. e ≡ Error.Memory) }
     {
-        IndexBlock::check_ref(&block)?;
-        let block = IndexBlock::new(block);
+        let block = IndexBlock::check_once(block)?;
         let heads = block.intervals().make_table(alloc)?;
         Ok(IndexBlock {
             inner: block.inner,
             heads: Some(heads),
         })
+    }
+
+    /// Takes a block of any bytes as [`IndexBlock::check`] does, and makes no table of its heads: for a
+    /// block that is read once. Takes no memory.
+    ///
+    /// # Errors
+    ///
+    /// Those of [`IndexBlock::check`], but for `Error::Memory`.
+    pub fn check_once(block: Block) -> Result<IndexBlock>
+        ensures checked { IfOk result (λ b. index_check block.payload ≡ Ok b.items) }
+        ensures parts { IfOk result (λ b. b ≡ index_block_of block) }
+        ensures encoded { IfOk result (λ b. IsIndexBlock block.payload b.items b.interval) }
+        ensures refused { IfErr result (λ e. index_check block.payload ≡ Err e) }
+        ensures not_io { IfErr result (λ e. e ≢ Error.Io) }
+
+        // An encoding is accepted.
+        ensures accepts { (items : List Handle) (r : ℕ) → IsIndexBlock block.payload items r
+            → MatchResult result (λ found. found.items ≡ items) (λ e. e ≡ Error.Memory) }
+    {
+        index_check_is_by_stages();
+        IndexBlock::check_ref(&block)?;
+        Ok(IndexBlock::new(block))
     }
 
     /// Returns the payload, which is the encoding of the block's handles at its interval.
@@ -341,7 +363,7 @@ impl IndexBlock {
 impl Clone for IndexBlock {
     ghost is_clone = { λ b copy. copy ≡ b };
 
-    fn clone(&self) -> std::result::Result<IndexBlock, AllocError> {
+    fn clone(&self) -> AllocResult<IndexBlock> {
         let heads = clone_table(&self.heads)?;
         Ok(IndexBlock {
             inner: self.inner.clone()?,

@@ -3,8 +3,7 @@ ghost use Rattle.std.specs.Prelude.{◌≡◌, ◌↔◌, length, Ok, Err, IfOk,
 ghost use Rattle.sstable_blocks.specs.Filter.{Filter, filter_at, MayContain};
 
 use super::standard_bloom::StandardBloomFilterReader;
-use sst_base::{Block, Result};
-use std::alloc::AllocError;
+use sst_base::{AllocResult, Block, Result};
 use std::marker::Model;
 
 /// A block whose payload is read as a filter each time that it is queried. Clauses see the block.
@@ -54,7 +53,7 @@ impl FilterBlock {
 impl Clone for FilterBlock {
     ghost is_clone = { λ b copy. copy ≡ b };
 
-    fn clone(&self) -> std::result::Result<FilterBlock, AllocError> {
+    fn clone(&self) -> AllocResult<FilterBlock> {
         Ok(FilterBlock {
             inner: self.inner.clone()?,
         })

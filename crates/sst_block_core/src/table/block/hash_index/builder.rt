@@ -6,8 +6,8 @@ ghost use Rattle.sst_block_core.specs.Buckets.{bucket_count, bucket_byte_with, b
 ghost use Rattle.sst_block_core.specs.Buckets.{AreFew};
 
 use super::{MARKER_CONFLICT, MARKER_FREE};
-use sst_base::{BlockHash, Error, HashRatio, Result};
-use std::alloc::{AllocError, Global};
+use sst_base::{AllocResult, BlockHash, Error, HashRatio, Result};
+use std::alloc::Global;
 use std::marker::{Model, PhantomData};
 
 /// The greatest number of heads for which a hash index is stored.
@@ -118,11 +118,7 @@ impl<H: BlockHash> Builder<H> {
     ///
     /// `AllocError` if an allocation fails.
     #[inline(always)]
-    pub(crate) fn begin_interval(
-        &mut self,
-        heads: usize,
-        bucket_count: u32,
-    ) -> std::result::Result<(), AllocError>
+    pub(crate) fn begin_interval(&mut self, heads: usize, bucket_count: u32) -> AllocResult<()>
         ensures { OnOk result (self.new ≡ begun heads bucket_count self.old) }
     {
         let alloc = *self.buckets.allocator();

@@ -4,16 +4,16 @@ use Rattle.sstable_blocks.specs.Run.{form}
 use Rattle.sstable_blocks.proofs.Points.{chosen, found_none, found_denied, found_some, index_digits, index_handles, block_digits, block_interval}
 use Rattle.sstable_blocks.proofs.run.read.read_entry.Goals as goal
 
-pub may_have-requires : goal.may_have-requires
-may_have-requires g c =
+pub is_allowed-requires : goal.is_allowed-requires
+is_allowed-requires g c =
     let l = c.requires.layout in
     let o = c.layout_opens.ensures (form g.H.BlockHash.hash64 g.H.BlockHash.hash128 l.0) l.1 _ _ l.2 in
     subst (λ xs. IfSome c.args.handles.now.filter (IsFrameRange xs)) (sym c.as_slice.ensures) o.filter_range
 
-pub returns-then-not-may_have-clause-found : goal.returns-then-not-may_have-clause-found
-returns-then-not-may_have-clause-found g c = λ config blocks layout.
+pub returns-then-not-is_allowed-clause-found : goal.returns-then-not-is_allowed-clause-found
+returns-then-not-is_allowed-clause-found g c = λ config blocks layout.
     let o = c.layout_opens.ensures (form g.H.BlockHash.hash64 g.H.BlockHash.hash128 config) blocks _ _ layout in
-    let denied = subst (λ xs. IsDenied xs c.args.handles.now.filter c.hash64.result) c.as_slice.ensures (c.may_have.ensures.0 c.if-not-may_have.true) in
+    let denied = subst (λ xs. IsDenied xs c.args.handles.now.filter c.hash64.result) c.as_slice.ensures (c.is_allowed.ensures.0 c.if-not-is_allowed.true) in
     found_denied _ _ _ _ c.args.needle.now c.args.seqno o _ c.hash64.ensures denied
 
 pub handle_in_index-requires-clause-range : goal.handle_in_index-requires-clause-range
