@@ -1,10 +1,10 @@
 //! `check`: the frames of a table file, one after the other.
-ghost use Rattle.std.specs.Prelude.{◌≡◌, ◌≢◌, ◌⊎◌, ◌≤◌, ◌<◌, Err, OnOk};
+ghost use Rattle.std.specs.Prelude.{◌≡◌, ◌≢◌, ◌⊎◌, ◌<◌, Err, OnOk};
 ghost use Rattle.std.specs.Prelude.{IfOk, IfErr, IfSome};
 ghost use Rattle.std.specs.Prelude.{IsOkUnless, string_bytes};
 ghost use Rattle.std.specs.Io.KnownBytes.{Keeps};
 ghost use Rattle.sst_base.specs.declared.error.Error.TheVariants.{Io, Memory};
-ghost use Rattle.sstable_blocks.specs.Sources.{GivesOr};
+ghost use Rattle.sstable_blocks.specs.Sources.{GivesOr, KeepsSource};
 ghost use Rattle.sst_program.specs.TableReads.{block_count, filter_check, run_filter_check};
 ghost use Rattle.sst_program.specs.TableReads.{entries_counted, run_counts, PrintsCountsOf};
 ghost use Rattle.sst_program.specs.TableReads.{FailsAround, table_counts, IsTableFault};
@@ -25,9 +25,7 @@ use std::rt::Files;
 // Checks a filter: its type and its fields.
 #[tactic(auto, unfolding(crate::specs::TableReads::filter_check))]
 fn check_filter<S: FrameSource>(alloc: Global, source: &mut S, handle: &BlockHandle) -> Result<()>
-    ensures same { S.bytes source.new ≡ S.bytes source.old }
-    ensures failures_grow { S.failures source.old ≤ S.failures source.new }
-    ensures kept_reliable { S.is_reliable source.old → S.is_reliable source.new }
+    ensures source { KeepsSource S.bytes S.failures S.is_reliable source.old source.new }
     ensures io { IfErr result (λ e. e ≡ Io → S.failures source.old < S.failures source.new) }
     ensures exact { IfSome (S.bytes source.old) (λ all.
         GivesOr (S.failures source.old < S.failures source.new) (S.is_reliable source.old) (λ u. u) result
@@ -44,9 +42,7 @@ fn check_run_filter<S: FrameSource>(
     source: &mut S,
     filter: &Option<BlockHandle>,
 ) -> Result<()>
-    ensures same { S.bytes source.new ≡ S.bytes source.old }
-    ensures failures_grow { S.failures source.old ≤ S.failures source.new }
-    ensures kept_reliable { S.is_reliable source.old → S.is_reliable source.new }
+    ensures source { KeepsSource S.bytes S.failures S.is_reliable source.old source.new }
     ensures io { IfErr result (λ e. e ≡ Io → S.failures source.old < S.failures source.new) }
     ensures exact { IfSome (S.bytes source.old) (λ all.
         GivesOr (S.failures source.old < S.failures source.new) (S.is_reliable source.old) (λ u. u) result
@@ -60,9 +56,7 @@ fn check_run_filter<S: FrameSource>(
 
 // Checks the block of a handle. Returns the number of its entries.
 fn check_block<S: FrameSource>(alloc: Global, source: &mut S, handle: &BlockHandle) -> Result<usize>
-    ensures same { S.bytes source.new ≡ S.bytes source.old }
-    ensures failures_grow { S.failures source.old ≤ S.failures source.new }
-    ensures kept_reliable { S.is_reliable source.old → S.is_reliable source.new }
+    ensures source { KeepsSource S.bytes S.failures S.is_reliable source.old source.new }
     ensures io { IfErr result (λ e. e ≡ Io → S.failures source.old < S.failures source.new) }
     ensures exact { IfSome (S.bytes source.old) (λ all.
         GivesOr (S.failures source.old < S.failures source.new) (S.is_reliable source.old) (λ n. n) result
@@ -74,9 +68,7 @@ fn check_block<S: FrameSource>(alloc: Global, source: &mut S, handle: &BlockHand
 
 // Checks the blocks of an index. Returns the number of their entries.
 fn check_blocks<S: FrameSource>(alloc: Global, source: &mut S, index: &IndexBlock) -> Result<u64>
-    ensures same { S.bytes source.new ≡ S.bytes source.old }
-    ensures failures_grow { S.failures source.old ≤ S.failures source.new }
-    ensures kept_reliable { S.is_reliable source.old → S.is_reliable source.new }
+    ensures source { KeepsSource S.bytes S.failures S.is_reliable source.old source.new }
     ensures io { IfErr result (λ e. e ≡ Io → S.failures source.old < S.failures source.new) }
     ensures exact { IfSome (S.bytes source.old) (λ all.
         GivesOr (S.failures source.old < S.failures source.new) (S.is_reliable source.old) (λ n. n) result
@@ -98,9 +90,7 @@ fn check_run<S: FrameSource>(
     source: &mut S,
     handles: &RunHandles,
 ) -> Result<(usize, u64)>
-    ensures same { S.bytes source.new ≡ S.bytes source.old }
-    ensures failures_grow { S.failures source.old ≤ S.failures source.new }
-    ensures kept_reliable { S.is_reliable source.old → S.is_reliable source.new }
+    ensures source { KeepsSource S.bytes S.failures S.is_reliable source.old source.new }
     ensures io { IfErr result (λ e. e ≡ Io → S.failures source.old < S.failures source.new) }
     ensures exact { IfSome (S.bytes source.old) (λ all.
         GivesOr (S.failures source.old < S.failures source.new) (S.is_reliable source.old) (λ counts. counts) result
@@ -131,9 +121,7 @@ pub fn print_counts<S: FrameSource, O: Write>(
     handles: &RunHandles,
     output: &mut O,
 ) -> Result<()>
-    ensures same { S.bytes source.new ≡ S.bytes source.old }
-    ensures failures_grow { S.failures source.old ≤ S.failures source.new }
-    ensures kept_reliable { S.is_reliable source.old → S.is_reliable source.new }
+    ensures source { KeepsSource S.bytes S.failures S.is_reliable source.old source.new }
     ensures printed { OnOk result (PrintsCounts (O.contents output.old) (O.contents output.new)) }
     ensures kept { IfErr result
         (λ e. (e ≡ Io) ⊎ Keeps (O.contents output.old) (O.contents output.new)) }

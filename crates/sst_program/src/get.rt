@@ -5,7 +5,7 @@ ghost use Rattle.std.specs.Prelude.{IsOkUnless, Option, string_bytes};
 ghost use Rattle.std.specs.Io.KnownBytes.{Keeps};
 ghost use Rattle.sst_base.specs.declared.error.Error.TheVariants.{Io, Memory};
 ghost use Rattle.sstable_blocks.specs.RunReading.{read_checked};
-ghost use Rattle.sstable_blocks.specs.Sources.{GivesOr, filter_frames};
+ghost use Rattle.sstable_blocks.specs.Sources.{GivesOr, KeepsSource, filter_frames};
 ghost use Rattle.sst_program.specs.TableReads.{sst_hashes, PrintsAnswerOf, FailsAround};
 ghost use Rattle.sst_program.specs.TableReads.{table_answer, IsTableFault};
 ghost use Rattle.sst_program.specs.Outcome.{answer_text_of, PrintsAnswer, PrintsNothing, IsRefused};
@@ -29,9 +29,7 @@ fn find<S: FrameSource>(
     handles: &RunHandles,
     words: &GetWords<'_>,
 ) -> Result<Option<InternalValue>>
-    ensures same { S.bytes source.new ≡ S.bytes source.old }
-    ensures failures_grow { S.failures source.old ≤ S.failures source.new }
-    ensures kept_reliable { S.is_reliable source.old → S.is_reliable source.new }
+    ensures source { KeepsSource S.bytes S.failures S.is_reliable source.old source.new }
     ensures reads { S.reads source.new
         ≤ S.reads source.old + (2 + filter_frames handles.now.filter) }
     ensures io { IfErr result (λ e. e ≡ Io → S.failures source.old < S.failures source.new) }
@@ -64,9 +62,7 @@ pub fn print_found<S: FrameSource, O: Write>(
     words: &GetWords<'_>,
     output: &mut O,
 ) -> Result<()>
-    ensures same { S.bytes source.new ≡ S.bytes source.old }
-    ensures failures_grow { S.failures source.old ≤ S.failures source.new }
-    ensures kept_reliable { S.is_reliable source.old → S.is_reliable source.new }
+    ensures source { KeepsSource S.bytes S.failures S.is_reliable source.old source.new }
     ensures printed { OnOk result (PrintsAnswer (O.contents output.old) (O.contents output.new)) }
     ensures kept { IfErr result
         (λ e. (e ≡ Io) ⊎ Keeps (O.contents output.old) (O.contents output.new)) }

@@ -1,9 +1,9 @@
 //! Table files: a run and its footer.
-ghost use Rattle.std.specs.Prelude.{◌≡◌, ◌⊎◌, ◌≤◌, ◌<◌, length, IfErr};
+ghost use Rattle.std.specs.Prelude.{◌≡◌, ◌⊎◌, ◌<◌, length, IfErr};
 ghost use Rattle.std.specs.Prelude.{IfSome, IfOk, IsOkUnless};
 ghost use Rattle.sst_base.specs.declared.error.Error.TheVariants.{Io, Truncated, BadHandle, Memory};
 ghost use Rattle.sst_program.specs.TableReads.{footer_place, table_handles, index_read, block_read};
-ghost use Rattle.sstable_blocks.specs.Sources.{GivesOr};
+ghost use Rattle.sstable_blocks.specs.Sources.{GivesOr, KeepsSource};
 
 use crate::footer::{FOOTER_LEN, handles_in};
 use sstable_blocks::run::checked::{block_from, check_data, check_index};
@@ -103,9 +103,7 @@ pub fn open_run<F: SeekInput + Drop>(alloc: Global, file: F) -> Result<Table<F>>
 ///
 /// Those of `FrameSource::read_frame`, then `Error::Truncated` below 24 bytes.
 pub fn read_footer<S: FrameSource>(alloc: Global, source: &mut S, len: u64) -> Result<RunHandles>
-    ensures same { S.bytes source.new ≡ S.bytes source.old }
-    ensures failures_grow { S.failures source.old ≤ S.failures source.new }
-    ensures kept_reliable { S.is_reliable source.old → S.is_reliable source.new }
+    ensures source { KeepsSource S.bytes S.failures S.is_reliable source.old source.new }
     ensures io { IfErr result (λ e. e ≡ Io → S.failures source.old < S.failures source.new) }
     ensures exact { IfSome (S.bytes source.old) (λ all. len ≡ length all
         → GivesOr ((S.failures source.old < S.failures source.new)
@@ -131,9 +129,7 @@ pub fn index_at<S: FrameSource>(
     source: &mut S,
     handle: &BlockHandle,
 ) -> Result<IndexBlock>
-    ensures same { S.bytes source.new ≡ S.bytes source.old }
-    ensures failures_grow { S.failures source.old ≤ S.failures source.new }
-    ensures kept_reliable { S.is_reliable source.old → S.is_reliable source.new }
+    ensures source { KeepsSource S.bytes S.failures S.is_reliable source.old source.new }
     ensures io { IfErr result (λ e. e ≡ Io → S.failures source.old < S.failures source.new) }
     ensures exact { IfSome (S.bytes source.old) (λ all.
         GivesOr (S.failures source.old < S.failures source.new) (S.is_reliable source.old) (λ b. b.items) result
@@ -155,9 +151,7 @@ pub fn data_block_at<S: FrameSource>(
     source: &mut S,
     handle: &BlockHandle,
 ) -> Result<DataBlock<Poly31>>
-    ensures same { S.bytes source.new ≡ S.bytes source.old }
-    ensures failures_grow { S.failures source.old ≤ S.failures source.new }
-    ensures kept_reliable { S.is_reliable source.old → S.is_reliable source.new }
+    ensures source { KeepsSource S.bytes S.failures S.is_reliable source.old source.new }
     ensures io { IfErr result (λ e. e ≡ Io → S.failures source.old < S.failures source.new) }
     ensures exact { IfSome (S.bytes source.old) (λ all.
         GivesOr (S.failures source.old < S.failures source.new) (S.is_reliable source.old) (λ b. b.items) result

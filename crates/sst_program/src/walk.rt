@@ -1,5 +1,5 @@
 //! `walk`: all entries of a table file.
-ghost use Rattle.std.specs.Prelude.{◌≡◌, ◌≢◌, ◌⊎◌, ◌≤◌, ◌<◌, None};
+ghost use Rattle.std.specs.Prelude.{◌≡◌, ◌≢◌, ◌⊎◌, ◌<◌, None};
 ghost use Rattle.std.specs.Prelude.{Some, Err, OnOk, IfOk, IfErr};
 ghost use Rattle.std.specs.Prelude.{IfSome, IsOkUnless, string_bytes};
 ghost use Rattle.std.specs.Io.KnownBytes.{Keeps};
@@ -9,6 +9,7 @@ ghost use Rattle.sst_program.specs.Outcome.{lines_text_of, PrintsLines, IsRefuse
 ghost use Rattle.sst_program.specs.TableReads.{block_read, blocks_read, run_blocks};
 ghost use Rattle.sst_program.specs.TableReads.{FailsAround, FailsAmong, table_blocks, IsWalkFault};
 ghost use Rattle.sst_program.specs.TableReads.{PrintsLinesOf, PrintsUntil, PrintsFirst};
+ghost use Rattle.sstable_blocks.specs.Sources.{KeepsSource};
 
 use crate::entry_printer::print_entries_of;
 use crate::fault;
@@ -25,9 +26,7 @@ fn print_block<S: FrameSource, O: Write>(
     handle: &BlockHandle,
     output: &mut O,
 ) -> Result<()>
-    ensures same { S.bytes source.new ≡ S.bytes source.old }
-    ensures failures_grow { S.failures source.old ≤ S.failures source.new }
-    ensures kept_reliable { S.is_reliable source.old → S.is_reliable source.new }
+    ensures source { KeepsSource S.bytes S.failures S.is_reliable source.old source.new }
     ensures printed { OnOk result (PrintsLines (O.contents output.old) (O.contents output.new)) }
     ensures kept { IfErr result
         (λ e. (e ≡ Io) ⊎ Keeps (O.contents output.old) (O.contents output.new)) }
@@ -53,9 +52,7 @@ fn print_blocks<S: FrameSource, O: Write>(
     index: &IndexBlock,
     output: &mut O,
 ) -> Result<()>
-    ensures same { S.bytes source.new ≡ S.bytes source.old }
-    ensures failures_grow { S.failures source.old ≤ S.failures source.new }
-    ensures kept_reliable { S.is_reliable source.old → S.is_reliable source.new }
+    ensures source { KeepsSource S.bytes S.failures S.is_reliable source.old source.new }
     ensures printed { OnOk result (PrintsLines (O.contents output.old) (O.contents output.new)) }
     ensures kept { IfErr result
         (λ e. (e ≡ Io) ⊎ PrintsLines (O.contents output.old) (O.contents output.new)) }
@@ -91,9 +88,7 @@ pub fn print_entries<S: FrameSource, O: Write>(
     index: &BlockHandle,
     output: &mut O,
 ) -> Result<()>
-    ensures same { S.bytes source.new ≡ S.bytes source.old }
-    ensures failures_grow { S.failures source.old ≤ S.failures source.new }
-    ensures kept_reliable { S.is_reliable source.old → S.is_reliable source.new }
+    ensures source { KeepsSource S.bytes S.failures S.is_reliable source.old source.new }
     ensures printed { OnOk result (PrintsLines (O.contents output.old) (O.contents output.new)) }
     ensures kept { IfErr result
         (λ e. (e ≡ Io) ⊎ PrintsLines (O.contents output.old) (O.contents output.new)) }

@@ -16,9 +16,9 @@ loop-item-preserved g c =
     let i = c.loop-item.invariant in
     let e = c.in_ok-count.ensures in
     record {
-      same = e.same ∙ i.same;
-      failures_grow = omega (arith, i.failures_grow, e.failures_grow);
-      kept = λ r. e.kept_reliable (i.kept r);
+      same = e.source.same ∙ i.same;
+      failures_grow = omega (arith, i.failures_grow, e.source.failures_grow);
+      kept = λ r. e.source.kept (i.kept r);
       known = counts_step_on _ _ _ _ _ _ _ _ _ _ i.same i.known c.new-handle.ensures c.in-Some.ensures.steps e.exact c.saturating_add-entries.ensures;
     }
 

@@ -9,4 +9,4 @@ returns-in_err-entries-clause-exact g c =
     let i = c.in_ok-index.ensures in
     let e = c.in_err-entries.ensures in
     let r = err_from_is_err_and c.from_residual-in_err-entries.result c.from_residual-in_err-entries.ensures.1 in
-    rw (r.1, r.2) (counts_late _ _ _ _ _ _ _ c.args.handles.now c.in_ok-index.index.items _ f.same i.same f.exact i.exact (λ less. omega (arith, less, f.failures_grow, i.failures_grow)) (λ t. i.kept_reliable (f.kept_reliable t)) e.exact)
+    rw (r.1, r.2) (counts_late _ _ _ _ _ _ _ c.args.handles.now c.in_ok-index.index.items _ f.source.same i.source.same f.exact i.exact (λ less. omega (arith, less, f.source.failures_grow, i.source.failures_grow)) (λ t. i.source.kept (f.source.kept t)) e.exact)

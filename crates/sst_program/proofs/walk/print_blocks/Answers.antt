@@ -19,9 +19,9 @@ loop-item-preserved g c =
     let i = c.loop-item.invariant in
     let e = c.in_ok-print_block.ensures in
     record {
-      same = e.same ∙ i.same;
-      failures_grow = omega (arith, i.failures_grow, e.failures_grow);
-      kept = λ r. e.kept_reliable (i.kept r);
+      same = e.source.same ∙ i.same;
+      failures_grow = omega (arith, i.failures_grow, e.source.failures_grow);
+      kept = λ r. e.source.kept (i.kept r);
       lines = prints_more _ _ _ i.lines e.printed;
       known = known_both _ _ _ _ _ i.same (λ all p q. prints_next _ _ _ _ _ _ q.0 p (read_step all _ _ _ _ (Ok q.0) c.new-handle.ensures c.in-Some.ensures.steps q.1) q.2) i.known e.exact;
     }
