@@ -6,7 +6,7 @@ ghost use Rattle.sst_program.specs.TableReads.{footer_place, table_handles, inde
 ghost use Rattle.sstable_blocks.specs.Sources.{GivesOr, KeepsSource};
 
 use crate::footer::{FOOTER_LEN, handles_in};
-use sstable_blocks::run::checked::{block_from, check_data, check_index};
+use sstable_blocks::run::checked::block_from;
 use sstable_blocks::{
     BlockHandle, BlockOffset, BlockType, DataBlock, Error, FileSource, FrameSource, IndexBlock,
     Input, Poly31, Result, RunHandles, SeekInput,
@@ -122,7 +122,7 @@ pub fn read_footer<S: FrameSource>(alloc: Global, source: &mut S, len: u64) -> R
 /// # Errors
 ///
 /// Those of its frame, then `Error::InvalidTag` if it is of another type, then those of
-/// `IndexBlock::check`. `Error::Memory` if an allocation fails.
+/// `IndexBlock::check_once`. `Error::Memory` if an allocation fails.
 #[tactic(auto, unfolding(crate::specs::TableReads::index_read))]
 pub fn index_at<S: FrameSource>(
     alloc: Global,
@@ -136,7 +136,7 @@ pub fn index_at<S: FrameSource>(
         (index_read all handle.now)) }
 {
     let block = block_from::<Poly31, S>(alloc, source, handle, BlockType::Index)?;
-    check_index(block)
+    IndexBlock::check_once(block)
 }
 
 /// Reads and checks a data block of a run.
@@ -144,7 +144,7 @@ pub fn index_at<S: FrameSource>(
 /// # Errors
 ///
 /// Those of its frame, then `Error::InvalidTag` if it is of another type, then those of
-/// `DataBlock::check`. `Error::Memory` if an allocation fails.
+/// `DataBlock::check_once`. `Error::Memory` if an allocation fails.
 #[tactic(auto, unfolding(crate::specs::TableReads::block_read))]
 pub fn data_block_at<S: FrameSource>(
     alloc: Global,
@@ -158,5 +158,5 @@ pub fn data_block_at<S: FrameSource>(
         (block_read all handle.now)) }
 {
     let block = block_from::<Poly31, S>(alloc, source, handle, BlockType::Data)?;
-    check_data::<Poly31>(alloc, block)
+    DataBlock::<Poly31>::check_once(alloc, block)
 }
