@@ -97,9 +97,6 @@ module _ {X : Type 0} (kind : Kind X) (t : Trailer) (p : List ℕ) (parts : HasP
 
 -- what a pass over parts of a payload knows, of the payload
 module _ {X : Type 0} (kind : Kind X) (fits : X → Type 0) (t : Trailer) (p bytes pointers : List ℕ) (parts : HasParts t p) (e : bytes ≡ body_in t p) (same : pointers ≡ pointers_in t.width (index_in t p)) where
-  pub not_forms : ((xs : List X) → items_at kind t.interval 0 t.item_count [] bytes ≡ Some (xs, []) → ⊥) → HasForms kind t p → ⊥
-  not_forms wrong forms = wrong (items_by kind t p) (ap (items_at kind t.interval 0 t.item_count []) e ∙ forms)
-
   passed_in : (a o i : Bool) → IsPassed kind fits t.interval t.item_count bytes pointers a o i → IsPassed kind fits t.interval t.item_count (body_in t p) (pointers_in t.width (index_in t p)) a o i
   passed_in a o i k =
       subst (λ b. IsPassed kind fits t.interval t.item_count b (pointers_in t.width (index_in t p)) a o i) e (subst (λ x. IsPassed kind fits t.interval t.item_count bytes x a o i) same k)

@@ -1,5 +1,5 @@
 //! Reading the binary index of a block.
-ghost use Rattle.std.specs.Prelude.{◌≡◌, ◌+◌, ◌*◌, ◌/◌, ◌≤◌, ◌<◌};
+ghost use Rattle.std.specs.Prelude.{◌≡◌, ◌+◌, ◌*◌, ◌≤◌, ◌<◌};
 ghost use Rattle.std.specs.Prelude.{◌⊎◌, take, drop, length};
 ghost use Rattle.std.specs.Prelude.{slice_index, nat_eq};
 ghost use Rattle.sst_block_core.specs.Pointers.{pointers_in};
