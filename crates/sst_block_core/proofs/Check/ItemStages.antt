@@ -11,11 +11,11 @@ use Rattle.sst_block_core.specs.Trailer.{Trailer}
 use Rattle.sst_block_core.specs.Pointers.{head_count, head_offsets, last_pointer, pointer_width, pointers_in}
 use Rattle.sst_block_core.specs.Stages.{HasParts, HasForms, HasOrder, HasPointers, body_in, index_in, items_by, items_read}
 use Rattle.sst_block_core.specs.Passes.{ArePointed, IsPassed, IsFound}
-use Rattle.sst_block_core.proofs.PassSteps.{both}
+use Rattle.sst_block_core.proofs.Check.PassSteps.{both}
 use Rattle.sst_block_core.specs.OpeningLaws.{length-items_at}
-use Rattle.sst_block_core.proofs.HeadPlaces.{head_below}
+use Rattle.sst_block_core.proofs.Places.HeadPlaces.{head_below}
 use Rattle.sst_block_core.specs.PointerLaws.{last_offset}
-use Rattle.sst_block_core.proofs.PointerReads.{pointers_count, pointer_is}
+use Rattle.sst_block_core.proofs.Places.PointerReads.{pointers_count, pointer_is}
 
 pub heads_some : (r n heads : ℕ) → 0 < r → 1 ≤ n → heads ≡ head_count r n → 0 < heads
 heads_some r n heads pos some e = let b = (head_below r n 0 pos).1 (omega arith) in omega (arith, b, e)

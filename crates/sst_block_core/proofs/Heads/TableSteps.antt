@@ -3,7 +3,7 @@ use Rattle.std.proofs.Common.{◌≡◌, ◌≢◌, ◌<◌, ◌≤◌, ◌+◌,
 use Rattle.std.proofs.lemmas.Bool.{cases_lt, leb-true}
 use Rattle.std.proofs.lemmas.Cmp.{nat_list_cmp_total, ranked}
 use Rattle.std.proofs.lemmas.List.{length_push}
-use Rattle.sst_block_core.proofs.HeadCounts.{begins_between, slice_get_front, slice_get_last}
+use Rattle.sst_block_core.proofs.Heads.TableSearches.{begins_between, slice_get_front, slice_get_last}
 use Rattle.std.proofs.lemmas.Option.{slice_get_cases, slice_get_within}
 use Rattle.std.specs.Ordering.{nat_cmp, ordering_then, ordering_reverse}
 use Rattle.std.specs.Cmp.Lexicographic.{slice_cmp}
@@ -17,9 +17,9 @@ use Rattle.sst_block_core.specs.Passes.{last_of}
 use Rattle.sst_block_core.specs.Pointers.{head_count}
 use Rattle.sst_block_core.specs.Scan.{Listed}
 use Rattle.sst_block_core.specs.Window.{passes, passes_cmp}
-use Rattle.sst_block_core.proofs.Cuts.{some_some, passed_below, cut_ordered}
-use Rattle.sst_block_core.proofs.HeadAnswers.{times_upto}
-use Rattle.sst_block_core.proofs.HeadPlaces.{head_below}
+use Rattle.sst_block_core.proofs.Search.Cuts.{some_some, passed_below, cut_ordered}
+use Rattle.sst_block_core.proofs.Search.HeadAnswers.{times_upto}
+use Rattle.sst_block_core.proofs.Places.HeadPlaces.{head_below}
 
 -- a key that a search passes sorts no later
 apart : (a b : Ordering) (m n : ℕ) → b ≡ ordering_reverse a → passes_cmp a (Some n) m ≡ true → ordering_then b (nat_cmp m n) ≢ Less
