@@ -1,6 +1,6 @@
 -- Bytes that are copied in place.
-use Rattle.std.proofs.Common.{◌≡◌, ℕ, ◌+◌, ◌-◌, ◌≤◌, List, ◌++◌, length, take, drop, refl, sym, ap, ◌∙◌, arith, append_assoc, length-append, length-drop}
-use Rattle.std.proofs.lemmas.List.{take_at, take-take, length-take-le}
+use Rattle.std.proofs.Common.{◌≡◌, ℕ, ◌+◌, ◌≤◌, List, ◌++◌, length, take, refl, sym, ap, ◌∙◌, append_assoc, length-append}
+use Rattle.std.proofs.lemmas.List.{take_at, take-take}
 use Rattle.std.specs.Array.{IsFirstChunk}
 
 -- two byte strings, copied one behind the other into the front of an array

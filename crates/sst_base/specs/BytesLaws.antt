@@ -18,9 +18,11 @@ pub IsBytes-back : (xs ys : List ℕ) → IsBytes (xs ++ ys) → IsBytes ys
 IsBytes-back [] ys h = h
 IsBytes-back (x ∷ xs) ys h = IsBytes-back xs ys (λ j. h (suc j))
 
+-- the same of as many as are taken
 pub IsBytes-take : (n : ℕ) (xs : List ℕ) → IsBytes xs → IsBytes (take n xs)
 IsBytes-take n xs b = IsBytes-front (take n xs) (drop n xs) (subst IsBytes (sym (take-append-drop n xs)) b)
 
+-- and of what is left
 pub IsBytes-drop : (n : ℕ) (xs : List ℕ) → IsBytes xs → IsBytes (drop n xs)
 IsBytes-drop n xs b = IsBytes-back (take n xs) (drop n xs) (subst IsBytes (sym (take-append-drop n xs)) b)
 

@@ -9,7 +9,7 @@ use Rattle.std.specs.Cmp.Lexicographic.{pointwise, same_text}
 use Rattle.byteorder.specs.Endian.{little_bytes, little_number}
 use Rattle.byteorder.specs.Numbers.{little_number-reads_back, little_from-lt}
 use Rattle.sst_base.specs.Bytes.{IsBytes}
-use Rattle.sst_base.specs.BytesLaws.{IsBytes-front, IsBytes-back, IsBytes-take, IsBytes-drop, little_bytes-little_number_at, little_number-between, take-drop-more}
+use Rattle.sst_base.specs.BytesLaws.{IsBytes-take, IsBytes-drop, little_bytes-little_number_at, little_number-between, take-drop-more}
 use Rattle.sst_base.specs.ReadingLaws.{chosen}
 use Rattle.sst_base.specs.BlockType.{block_type_byte, block_type_of}
 use Rattle.sst_base.specs.Header.{◌>>=◌, magic, header_front, header, IsHeader, bytes_at, magic_at, block_type_at, header_with, header_of, header_at}

@@ -40,12 +40,14 @@ pub chosen : {A : Type 0} (b : Bool) (x y z : A) → cond b x y ≡ z → ((b �
 chosen true x y z e = inl (refl, e)
 chosen false x y z e = inr (refl, e)
 
+-- the byte of a value type is read as it
 pub value_type_of-byte : (t : ValueType) → value_type_of (value_type_byte t) ≡ Some t
 value_type_of-byte Value = refl
 value_type_of-byte Tombstone = refl
 value_type_of-byte WeakTombstone = refl
 value_type_of-byte Indirection = refl
 
+-- and no other byte is
 pub value_type_of_takes : (b : ℕ) (t : ValueType) → value_type_of b ≡ Some t → b ≡ value_type_byte t
 value_type_of_takes b t e = elim (chosen (eqb b 0) _ _ _ e) [
   | inl h ↦ (let k : Value ≡ t = cc (h.1) in eqb-true b 0 h.0 ∙ ap value_type_byte k)
@@ -61,6 +63,7 @@ value_type_of_takes b t e = elim (chosen (eqb b 0) _ _ _ e) [
   ]
 ]
 
+-- a value type that is read at the start of bytes was written there
 pub value_type_at_takes : (bytes : List ℕ) (t : ValueType) (rest : List ℕ) → value_type_at bytes ≡ Some (t, rest) → bytes ≡ value_type_byte t ∷ rest
 value_type_at_takes [] t rest e = cc
 value_type_at_takes (b ∷ bs) t rest e =
@@ -71,11 +74,13 @@ value_type_at_takes (b ∷ bs) t rest e =
     let r = p.1 in
     cc
 
+-- a varint is read as its number
 pub number_at-varint : (bits n : ℕ) (rest : List ℕ) → n < 2 ^ bits → n < 2 ^ 64 → number_at bits (varint n ++ rest) ≡ Some (n, rest)
 unfolding number_at
 number_at-varint bits n rest h k =
     rw (varint_at-varint bits n rest h k, drop_at (varint n) rest (length (varint n)) refl) refl
 
+-- and a number that is read was written as its varint
 pub number_at_takes : (bits : ℕ) (bytes : List ℕ) (n : ℕ) (rest : List ℕ) → IsBytes bytes → bits ≤ 64 → number_at bits bytes ≡ Some (n, rest) → (bytes ≡ varint n ++ rest) × (n < 2 ^ bits)
 unfolding number_at
 number_at_takes bits bytes n rest b h e =
@@ -84,12 +89,14 @@ number_at_takes bits bytes n rest b h e =
     let r = varint_at_takes bytes bits f.0.0 f.0.1 b h f.1 in
     subst (λ (q : ℕ × List ℕ). (bytes ≡ varint q.0 ++ q.1) × (q.0 < 2 ^ bits)) s (sym (take-append-drop f.0.1 bytes) ∙ ap (λ xs. xs ++ drop f.0.1 bytes) r.0, r.1)
 
+-- length-prefixed bytes are read again
 pub length_prefixed_at-length_prefixed : (bits : ℕ) (t rest : List ℕ) → length t < 2 ^ bits → length t < 2 ^ 64 → length_prefixed_at bits (length_prefixed t ++ rest) ≡ Some (t, rest)
 unfolding length_prefixed_at
 length_prefixed_at-length_prefixed bits t rest h k =
     let fits : leb (length t) (length (t ++ rest)) ≡ true = le-leb _ _ (omega (arith, length-append t rest)) in
     rw (append_assoc (varint (length t)) t rest, number_at-varint bits (length t) (t ++ rest) h k, fits, take_at t rest (length t) refl, drop_at t rest (length t) refl) refl
 
+-- and what is read was written so
 pub length_prefixed_at_takes : (bits : ℕ) (bytes : List ℕ) (t : List ℕ) (rest : List ℕ) → IsBytes bytes → bits ≤ 64 → length_prefixed_at bits bytes ≡ Some (t, rest) → (bytes ≡ length_prefixed t ++ rest) × (length t < 2 ^ bits)
 unfolding length_prefixed_at
 length_prefixed_at_takes bits bytes t rest b h e =

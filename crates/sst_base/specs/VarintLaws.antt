@@ -48,17 +48,6 @@ IsVarint-varint_within (suc k) n h =
           subst (λ m. IsVarint ((n % 128 + 128) ∷ varint_within k (n / 128)) m) whole (IsVarint-more (n % 128) (n / 128) (varint_within k (n / 128)) digit some (IsVarint-varint_within k (n / 128) below)))
     ]
 
--- where the first byte isn't the last, the others encode the rest
-pub rest_of : (b : ℕ) (bs : List ℕ) (n : ℕ) → 128 ≤ b → IsVarint (b ∷ bs) n → (high : ℕ) × (0 < high) × (n + 128 ≡ b + 128 * high) × IsVarint bs high
-rest_of b [] n h v = absurd (omega arith)
-rest_of b (c ∷ bs) n h v = (v.2, v.3, v.4, v.5)
-
-pub none_longer : (b d : ℕ) (bs : List ℕ) (max : ℕ) → d ≡ b → 128 ≤ b → ((n len : ℕ) → n ≤ (max - (d - 128)) / 128 → IsVarint (take len bs) n → ⊥) → (n len : ℕ) → n ≤ max → IsVarint (take len (b ∷ bs)) n → ⊥
-none_longer b d bs max e h none n zero le v = v
-none_longer b d bs max e h none n (suc len) le v =
-    let r = rest_of b (take len bs) n h v in
-    none r.0 len (omega arith) r.3
-
 pub one_form_lem : (a b x y : List ℕ) (m n : ℕ) → IsVarint a m → IsVarint b n → a ++ x ≡ b ++ y → (a ≡ b) × (m ≡ n)
 one_form_lem [] b x y m n v w e = absurd v
 one_form_lem (c ∷ a) [] x y m n v w e = absurd w
@@ -70,26 +59,12 @@ one_form_lem (c ∷ c' ∷ a) (d ∷ d' ∷ b) x y m n v w e =
     let h : c ≡ d = cc in
     (cc (t.0), omega (arith, t.1))
 
--- two fronts of one list that are encodings encode one number
-pub same_number : (bs : List ℕ) (i j m n : ℕ) → IsVarint (take i bs) m → IsVarint (take j bs) n → m ≡ n
-same_number bs i j m n v w = (one_form_lem (take i bs) (take j bs) (drop i bs) (drop j bs) m n v w (take-append-drop i bs ∙ sym (take-append-drop j bs))).1
-
 -- room for seven bits less
 pub less_room : (n i : ℕ) → i < 9 → n < 2 ^ (64 - 7 * i) → n / 128 < 2 ^ (64 - 7 * (i + 1))
 less_room n i h l = div_below n 128 (2 ^ (64 - 7 * (i + 1))) (omega arith)
     (let e : 64 - 7 * i ≡ (64 - 7 * (i + 1)) + 7 = omega arith in
     let p = pow-add 2 (64 - 7 * (i + 1)) 7 in
     omega (arith, ap (λ k. 2 ^ k) e, p))
-
-pub no_other_front : (bs : List ℕ) (max len : ℕ) → IsVarint (take len bs) 0 → (n i : ℕ) → 0 < n → IsVarint (take i bs) n → ⊥
-no_other_front bs max len z n i h v = absurd (let e : 0 ≡ n = same_number bs len i 0 n z v in omega arith)
-
--- nor is there one where the rest is 0
-pub none_by_zero : (b : ℕ) (bs : List ℕ) (len : ℕ) → 128 ≤ b → IsVarint (take len bs) 0 → (n i : ℕ) → IsVarint (take i (b ∷ bs)) n → ⊥
-none_by_zero b bs len h z n zero v = v
-none_by_zero b bs len h z n (suc i) v =
-    let r = rest_of b (take i bs) n h v in
-    no_other_front bs 0 len z r.0 i r.1 r.3
 
 pub one_encoding : (a b : List ℕ) (n : ℕ) → IsVarint a n → IsVarint b n → a ≡ b
 one_encoding [] b n v w = absurd v

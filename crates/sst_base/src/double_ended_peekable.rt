@@ -1,5 +1,5 @@
 //! Peeking at both ends of an iterator.
-ghost use Rattle.std.specs.Prelude.{◌≡◌, ◌⊎◌, List, [], ◌∷◌, ◌++◌, Option};
+ghost use Rattle.std.specs.Prelude.{◌≡◌, ◌⊎◌, List, [], ◌∷◌, Option};
 ghost use Rattle.std.specs.Prelude.{Some, None, option_map, refl};
 ghost use Rattle.std.specs.Prelude.{IsNone, IfSome, IfNone, slice_get, true, false};
 ghost use Rattle.std.specs.Iterator.{YieldsFirstBy, YieldsLastBy, item_count};

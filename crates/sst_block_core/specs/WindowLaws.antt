@@ -7,6 +7,7 @@ use Rattle.std.proofs.lemmas.Option.{slice_get_within, get_or_from_slice_get}
 use Rattle.sst_base.specs.ReadingLaws.{pair_parts}
 use Rattle.sst_block_core.specs.Window.{Window, Answer, Step, item, next, next_back, items_left, whole, first_left, last_left, answers, window_after}
 
+-- an answer holds one item
 pub item_same : {X : Type 0} (a b : Option X) → ◌≡◌ {A = Answer X} (item a) (item b) → a ≡ b
 item_same a b e = cc
 

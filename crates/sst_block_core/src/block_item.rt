@@ -1,5 +1,4 @@
 //! Items that blocks hold.
-ghost use Rattle.std.specs.Prelude.{◌≡◌};
 ghost use Rattle.sst_block_core.specs.Kind.{Kind, IsKind};
 
 /// An item of a block, as clauses see it: how it is encoded and decoded, and which items are valid.

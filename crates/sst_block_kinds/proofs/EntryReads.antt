@@ -101,18 +101,6 @@ range_of-front payload offset n base stands h =
     let e : (offset + n) - offset ≡ n = omega arith in
     (omega arith, ap (λ k. take k (drop offset payload)) e ∙ ap (take n) stands.there ∙ take-append-le n base stands.after h)
 
--- where a full form stands, its parts are found
-pub no_seqno : (bytes : List ℕ) (x : Entry) (p : FullParts bytes x) (t : ValueType) (a : List ℕ) → value_type_at bytes ≡ Some (t, a) → number_at 64 a ≡ None → ⊥
-no_seqno bytes x p t a e none =
-    let s = one_reading (value_type_at bytes) p.value_type t a p.value_type_is e in
-    no_reading (number_at 64 p.value_type.1) p.seqno p.seqno_is (ap (number_at 64) s.1 ∙ none)
-
-pub no_key : (bytes : List ℕ) (x : Entry) (p : FullParts bytes x) (t : ValueType) (a : List ℕ) (n : ℕ) (b : List ℕ) → value_type_at bytes ≡ Some (t, a) → number_at 64 a ≡ Some (n, b) → length_prefixed_at 16 b ≡ None → ⊥
-no_key bytes x p t a n b e f none =
-    let s = one_reading (value_type_at bytes) p.value_type t a p.value_type_is e in
-    let r = one_reading (number_at 64 p.value_type.1) p.seqno n b p.seqno_is (ap (number_at 64) s.1 ∙ f) in
-    no_reading (length_prefixed_at 16 p.seqno.1) p.key p.key_is (ap (length_prefixed_at 16) r.1 ∙ none)
-
 pub key_and_seqno : (bytes : List ℕ) (x : Entry) (p : FullParts bytes x) (t : ValueType) (a : List ℕ) (n : ℕ) (b k c : List ℕ)
     → value_type_at bytes ≡ Some (t, a) → number_at 64 a ≡ Some (n, b) → length_prefixed_at 16 b ≡ Some (k, c) → (k ≡ x.key.user_key) × (n ≡ x.key.seqno)
 key_and_seqno bytes x p t a n b k c e f g =

@@ -17,9 +17,6 @@ use Rattle.sst_block_kinds.specs.HandleLaws.{IsKind-handles, truncation_parts}
 use Rattle.sst_block_core.specs.FoundLaws.{length-range}
 use Rattle.sst_block_kinds.proofs.EntryReads.{no_reading, range_of-front}
 
-no_marker : marker_at [] ≡ None
-no_marker = refl
-
 -- where a front stands, the marker of a handle does
 pub marker_stands : (at : ℕ) (payload : List ℕ) → IsSome (front_at (drop at payload)) → (at < length payload) × (marker_at (drop at payload) ≡ Some (drop (at + 1) payload))
 unfolding front_at

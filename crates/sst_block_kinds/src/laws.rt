@@ -1,13 +1,13 @@
 //! Laws of the definitions that contracts cite. Each function does nothing, and its contract is one
 //! law: a caller has it in its proof by calling the function.
-ghost use Rattle.std.specs.Prelude.{◌≡◌, ◌↔◌, if◌then◌else◌, ℕ, ◌+◌};
-ghost use Rattle.std.specs.Prelude.{◌/◌, ◌≤◌, ◌<◌, ◌^◌};
+ghost use Rattle.std.specs.Prelude.{◌≡◌, ◌↔◌, ℕ, ◌+◌};
+ghost use Rattle.std.specs.Prelude.{◌≤◌, ◌<◌, ◌^◌};
 ghost use Rattle.std.specs.Prelude.{List, ◌++◌, map, length, ◌*◌, Ok};
 ghost use Rattle.sst_base.specs.Bytes.{IsBytes};
 ghost use Rattle.sst_base.specs.Entry.{Entry, IsEntry, plain};
 ghost use Rattle.sst_block_core.specs.Kind.{IsKind};
 ghost use Rattle.sst_block_core.specs.Trailer.{trailer_in};
-ghost use Rattle.sst_block_core.specs.Buckets.{buckets, stored_count};
+ghost use Rattle.sst_block_core.specs.Buckets.{stored_count};
 ghost use Rattle.sst_block_core.specs.Payload.{IsBlock};
 ghost use Rattle.sst_block_core.specs.Window.{Window, answers, items_left, window_after};
 ghost use Rattle.sst_block_kinds.specs.Ops.{step_of};

@@ -1,13 +1,12 @@
 -- The entries of lines, as a loop over the lines reads them.
-use Rattle.std.proofs.Common.{◌≡◌, ℕ, ◌+◌, List, [], ◌∷◌, ◌++◌, refl, ap, sym, ◌∙◌, append_assoc, append-nil, length, true, arith}
-use Rattle.std.specs.Prelude.{Some, None, Result, Ok, Err, nat_eq}
+use Rattle.std.proofs.Common.{◌≡◌, ℕ, ◌+◌, List, [], ◌∷◌, ◌++◌, refl, ap, sym, ◌∙◌, append_assoc, append-nil}
+use Rattle.std.specs.Prelude.{Some, None, Result, Ok, Err}
 use Rattle.sst_base.specs.Entry.{Entry}
 use Rattle.sst_program.specs.declared.fault.Fault.{Fault}
 use Rattle.sst_program.specs.declared.fault.Fault.TheVariants.{Entry as NoEntry}
 use Rattle.sst_program.specs.Line.{entry_of_line}
 use Rattle.sst_program.specs.Lines.{lines_of, entry_then, entries_from}
 use Rattle.sst_program.proofs.Cuts.{lines-empty}
-use Rattle.sst_program.proofs.Outcomes.{none-from_test}
 
 -- the entries so far, and those of the lines that are left
 abbrev pub after : List Entry → Result (List Entry) Fault → Result (List Entry) Fault

@@ -7,9 +7,6 @@ use Rattle.std.specs.Str.Parse.{AllDigits, digits_value}
 use Rattle.std.proofs.lemmas.Bool.Decides.{nat_tests}
 use Rattle.sst_program.specs.Text.{IsNumberText, is_number_text, number_of}
 
-is_digit : ℕ → Bool
-is_digit c = nat_lt (digit_value c) 10
-
 digits-sound : (ds : List ℕ) → list_all (λ c. nat_lt (digit_value c) 10) ds ≡ true → AllDigits 10 ds
 digits-sound [] h = tt
 digits-sound (c ∷ ds) h =

@@ -101,11 +101,6 @@ some-from_test n h = grind (arith, nat_tests)
 pub none-from_test : (n : ℕ) → true ≡ nat_eq n 0 → n ≡ 0
 none-from_test n h = grind (arith, nat_tests)
 
--- what is known stays
-pub keeps_same : (known : Option (List ℕ)) → Keeps known known
-keeps_same None = tt
-keeps_same (Some bytes) = refl
-
 -- lines are printed behind lines
 pub prints_nothing : (a : Option (List ℕ)) → PrintsLines a a
 prints_nothing a = ([], Appends-nil a)
@@ -120,9 +115,3 @@ prints_more a b c p q =
 
 pub prints_kept : (a b c : Option (List ℕ)) → PrintsLines a b → Keeps b c → PrintsLines a c
 prints_kept a b c p k = (p.0, Appends-kept a b c (lines_text_of p.0) p.1 k)
-
--- the line of an entry behind the lines before
-pub lines-next : (text line text' : List ℕ) (e : Entry) (rest : List Entry) → line ≡ entry_line_of e → text' ≡ (text ++ line) ++ (10 ∷ []) → text' ++ lines_text_of rest ≡ text ++ lines_text_of (e ∷ rest)
-lines-next text line text' e rest l t =
-    ap (λ x. x ++ lines_text_of rest) t ∙ append_assoc (text ++ line) (10 ∷ []) (lines_text_of rest) ∙ append_assoc text line (10 ∷ lines_text_of rest)
-    ∙ ap (λ x. text ++ (x ++ (10 ∷ lines_text_of rest))) l

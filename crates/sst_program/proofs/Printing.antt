@@ -1,7 +1,7 @@
 -- Printing through a buffer: what is put behind what waits in it.
 use Rattle.std.specs.Prelude.{slice_index, nat_eq}
 use Rattle.std.proofs.Common.{◌≡◌, ◌/◌, ◌%◌, true, ℕ, length, arith, List, [], ◌∷◌, ◌++◌, refl, sym, ◌∙◌, ap, subst, append_assoc, append-nil, Option, Some, None}
-use Rattle.std.specs.Io.KnownBytes.{Appends, append_known}
+use Rattle.std.specs.Io.KnownBytes.{append_known}
 use Rattle.std.proofs.KnownBytes.{Appends-nil, Appends-trans}
 use Rattle.hex.specs.Hex.{encode_with, encode_lower, lower_digits}
 use Rattle.sst_base.specs.Entry.{Entry}
@@ -15,39 +15,11 @@ use Rattle.sst_program.specs.Outcome.{Puts, lines_text_of}
 use Rattle.sst_program.proofs.Outcomes.{none-from_test}
 use Rattle.std.specs.Fmt.{decimal}
 
--- what fits waits in the buffer
-held : (a : Option (List ℕ)) (u v text : List ℕ) → v ≡ u ++ text → Appends (append_known a u) (append_known a v) text
-held None u v text e = tt
-held (Some xs) u v text e = ap (λ t. xs ++ t) e ∙ sym (append_assoc xs u text)
-
-pub puts_held : (a : Option (List ℕ)) (u v text : List ℕ) → v ≡ u ++ text → Puts a u a v text
-puts_held a u v text e = record { grown = held a u v text e }
-
--- what does not fit is printed, behind what waited
-through : (a b c : Option (List ℕ)) (u text : List ℕ) → Appends a b u → Appends b c text → Appends (append_known a u) (append_known c []) text
-through None b c u text p q = tt
-through (Some xs) None c u text p q = absurd p
-through (Some xs) (Some ys) None u text p q = absurd q
-through (Some xs) (Some ys) (Some zs) u text p q = append-nil zs ∙ q ∙ ap (λ t. t ++ text) p
-
-pub puts_through : (a b c : Option (List ℕ)) (u v text : List ℕ) → Appends a b u → Appends b c text → v ≡ [] → Puts a u c v text
-puts_through a b c u v text p q e = rw e (record { grown = through a b c u text p q })
-
 pub puts_nothing : (a : Option (List ℕ)) (u : List ℕ) → Puts a u a u []
 puts_nothing a u = record { grown = Appends-nil (append_known a u) }
 
 pub puts_then : (a b c : Option (List ℕ)) (u v w s t : List ℕ) → Puts a u b v s → Puts b v c w t → Puts a u c w (s ++ t)
 puts_then a b c u v w s t p q = record { grown = Appends-trans (append_known a u) (append_known b v) (append_known c w) s t p.grown q.grown }
-
-printed : (a b c : Option (List ℕ)) (v text : List ℕ) → Appends (append_known a []) (append_known b v) text → Appends b c v → Appends a c text
-printed None b c v text p q = tt
-printed (Some xs) None c v text p q = absurd p
-printed (Some xs) (Some ys) None v text p q = absurd q
-printed (Some xs) (Some ys) (Some zs) v text p q = q ∙ p ∙ ap (λ t. t ++ text) (append-nil xs)
-
--- what waits in the end is printed
-pub puts_printed : (a b c : Option (List ℕ)) (u v text : List ℕ) → Puts a u b v text → u ≡ [] → Appends b c v → Appends a c text
-puts_printed a b c u v text p e q = printed a b c v text (subst (λ t. Appends (append_known a t) (append_known b v) text) e p.grown) q
 
 -- a part of a text was put, and this is left of it
 pub record PutsTo (a : Option (List ℕ)) (u : List ℕ) (b : Option (List ℕ)) (v left all : List ℕ) : Type 0 where

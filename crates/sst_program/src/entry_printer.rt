@@ -5,7 +5,7 @@ ghost use Rattle.std.specs.Io.KnownBytes.{Appends, Keeps};
 ghost use Rattle.std.specs.Fmt.{decimal};
 ghost use Rattle.hex.specs.Hex.{encode_lower};
 ghost use Rattle.sst_base.specs.declared.error.Error.TheVariants.{Io, Memory};
-ghost use Rattle.sst_block_core.specs.Found.{optional_range, range_of, IsRange, IsOptionalRange};
+ghost use Rattle.sst_block_core.specs.Found.{optional_range, IsOptionalRange};
 ghost use Rattle.sst_block_kinds.specs.ParsedEntry.{entry_of, IsParsedEntry};
 ghost use Rattle.sst_program.specs.Line.{letter_of, byte_text_of, entry_line_of};
 ghost use Rattle.sst_program.specs.Outcome.{Puts, lines_text_of};

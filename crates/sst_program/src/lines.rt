@@ -1,11 +1,10 @@
 //! Entry lines: `C S K V`, the letter of the type, the sequence number, the key and the value.
-ghost use Rattle.std.specs.Prelude.{◌≡◌, ◌⊎◌, ◌↔◌, ◌<◌, ◌≤◌, []};
-ghost use Rattle.std.specs.Prelude.{◌∷◌, ◌++◌, length, IfSome, IfNone};
-ghost use Rattle.std.specs.Prelude.{IfOk, IfErr, IsOkUnless, Some, string_bytes};
+ghost use Rattle.std.specs.Prelude.{◌≡◌, ◌↔◌, []};
+ghost use Rattle.std.specs.Prelude.{◌∷◌, ◌++◌, IfSome, IfNone};
+ghost use Rattle.std.specs.Prelude.{IfOk, IsOkUnless, Some, string_bytes};
 ghost use Rattle.sst_base.specs.Entry.{Entry, plain_value};
 ghost use Rattle.sst_program.specs.Line.{entry_line_of, letter_of, byte_text_of, joined_by_spaces, Encodes};
 ghost use Rattle.sst_program.specs.Line.{Lacks, type_of_letters, entry_of_parts, entry_of_line};
-ghost use Rattle.sst_program.specs.Lines.{lines_of, entries_of_input};
 ghost use Rattle.sst_program.specs.Point.{answer_line_of};
 
 use crate::fault::Fault;

@@ -5,7 +5,7 @@ ghost use Rattle.std.specs.Prelude.{[], None, string_bytes};
 ghost use Rattle.sst_block_core.specs.Entries.{entries};
 ghost use Rattle.sst_block_core.specs.Kind.{IsOrdered};
 ghost use Rattle.sst_program.specs.Outcome.{packed_text_of, PrintsPacked, PrintsNothing, IsPackFault};
-ghost use Rattle.sst_program.specs.Table.{IsCutBy, AppendsTable, IsPacked, IsWriteFault};
+ghost use Rattle.sst_program.specs.Table.{IsCutBy, AppendsTable, IsWriteFault};
 ghost use Rattle.sst_program.specs.Table.{end_of, run_end};
 
 use crate::fault::{self, Fault};

@@ -1,7 +1,7 @@
 //! `point`: one data block of all entries, and one look-up in it.
-ghost use Rattle.std.specs.Prelude.{◌≡◌, ℕ, ◌⊎◌, ◌↔◌, ◌≤◌, ◌<◌};
+ghost use Rattle.std.specs.Prelude.{◌≡◌, ℕ, ◌≤◌, ◌<◌};
 ghost use Rattle.std.specs.Prelude.{◌+◌, ◌^◌, List, [], ◌∷◌, ◌++◌};
-ghost use Rattle.std.specs.Prelude.{length, take, string_bytes, map, IsNone, IfSome, IfOk, IfErr};
+ghost use Rattle.std.specs.Prelude.{length, map, IfOk, IfErr};
 ghost use Rattle.std.specs.Prelude.{OnOk, IsOkUnless};
 ghost use Rattle.std.specs.Io.KnownBytes.{Appends};
 ghost use Rattle.sst_block_core.specs.Kind.{IsOrdered};
@@ -9,7 +9,7 @@ ghost use Rattle.sst_block_core.specs.Entries.{entries};
 ghost use Rattle.sst_block_core.specs.Encoders.{IsRefusal};
 ghost use Rattle.sst_base.specs.Entry.{plain};
 ghost use Rattle.hex.specs.Hex.{encode_lower};
-ghost use Rattle.sst_program.specs.Point.{point_payload, point_text_of, answer_line_of};
+ghost use Rattle.sst_program.specs.Point.{point_payload, point_text_of};
 ghost use Rattle.sst_program.specs.Outcome.{outcome_of_query};
 ghost use Rattle.sst_program.specs.Outcome.{IsOutcomeOf, IsFaultOf, PrintsNothing};
 

@@ -1,5 +1,5 @@
 //! Writers that can make durable what was written to them.
-ghost use Rattle.std.specs.Prelude.{◌≡◌, [], OnOk, IfOk, IfErr, IsTrue, IsOkUnless};
+ghost use Rattle.std.specs.Prelude.{◌≡◌, [], OnOk, IfOk, IsTrue, IsOkUnless};
 ghost use Rattle.std.specs.Io.KnownBytes.{Keeps};
 ghost use Rattle.std.specs.Io.Buffered.{writer_contents, writer_buffer, writer_inner};
 ghost use Rattle.sst_base.specs.declared.error.Error.TheVariants.{Memory};

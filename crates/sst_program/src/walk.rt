@@ -1,11 +1,11 @@
 //! `walk`: all entries of a table file.
 ghost use Rattle.std.specs.Prelude.{◌≡◌, ◌≢◌, ◌⊎◌, ◌<◌, None};
-ghost use Rattle.std.specs.Prelude.{Some, Err, OnOk, IfOk, IfErr};
-ghost use Rattle.std.specs.Prelude.{IfSome, IsOkUnless, string_bytes};
+ghost use Rattle.std.specs.Prelude.{Some, Err, OnOk, IfErr};
+ghost use Rattle.std.specs.Prelude.{IfSome};
 ghost use Rattle.std.specs.Io.KnownBytes.{Keeps};
 ghost use Rattle.sst_base.specs.declared.error.Error.TheVariants.{Io, Memory};
 ghost use Rattle.sst_program.specs.declared.fault.Fault.TheVariants.{Refused};
-ghost use Rattle.sst_program.specs.Outcome.{lines_text_of, PrintsLines, IsRefused};
+ghost use Rattle.sst_program.specs.Outcome.{PrintsLines, IsRefused};
 ghost use Rattle.sst_program.specs.TableReads.{block_read, blocks_read, run_blocks};
 ghost use Rattle.sst_program.specs.TableReads.{FailsAround, FailsAmong, table_blocks, IsWalkFault};
 ghost use Rattle.sst_program.specs.TableReads.{PrintsLinesOf, PrintsUntil, PrintsFirst};

@@ -3,7 +3,7 @@ use Rattle.std.proofs.Common.{◌≡◌, ◌≢◌, ℕ, zero, suc, ◌<◌, ◌
 use Rattle.std.proofs.lemmas.Bool.{eqb-true, eq-eqb, and_parts, and_from, cases_lt}
 use Rattle.sst_base.specs.FrameErrors.{NotIo}
 use Rattle.sst_base.specs.declared.error.Error.{Error}
-use Rattle.sst_base.specs.declared.error.Error.TheVariants.{Io, Memory}
+use Rattle.sst_base.specs.declared.error.Error.TheVariants.{Io}
 use Rattle.sst_base.specs.declared.error.HeaderName.TheVariants as names
 use Rattle.sst_base.specs.declared.error.TagName.TheVariants as tags
 use Rattle.std.specs.Option.{option_map}
@@ -16,9 +16,8 @@ use Rattle.sstable_blocks.specs.RunReading.{Hashes, payload_at, filter_says, rea
 use Rattle.sstable_blocks.specs.declared.run.RunHandles.{RunHandles}
 use Rattle.sstable_blocks.specs.Sources.{GivesOr}
 use Rattle.sst_base.specs.Entry.{Entry}
-use Rattle.sst_block_kinds.specs.Checks.{all_below, data_check, index_check, DataVerdict, DataRefusal, IndexVerdict, IndexRefusal}
+use Rattle.sst_block_kinds.specs.Checks.{all_below, index_check}
 use Rattle.sst_block_kinds.specs.Handles.{Handle}
-use Rattle.sst_block_core.specs.Trailer.{trailer_in}
 use Rattle.sstable_blocks.specs.Bits.{has_bit}
 use Rattle.sstable_blocks.specs.Probes.{probe}
 use Rattle.sst_base.specs.Header.{◌>>=◌}
@@ -53,15 +52,6 @@ says_is f hash false says = elim (may_contain f hash) as (λ c. may_contain f ha
   | true ↦ (λ e. let wrong : IsTrue false = says.1 (may_contain_from f hash e) in cc)
   | false ↦ (λ e. refl)
 ] refl
-
--- a block is not refused as failed input by its check
-pub data_not_io : (hash64 : List ℕ → ℕ) (p : List ℕ) (e : Error) → DataVerdict hash64 (trailer_in p) p (data_check hash64 p) → (e ≢ Memory → data_check hash64 p ≡ Err e) → e ≢ Io
-data_not_io hash64 p e verdict refused k =
-    let stage = subst (DataVerdict hash64 (trailer_in p) p) (refused (λ m. let wrong : Io ≡ Memory = sym k ∙ m in cc)) verdict in
-    subst (DataRefusal hash64 (trailer_in p) p) k stage
-
-pub index_not_io : (p : List ℕ) (e : Error) → IndexVerdict (trailer_in p) p (index_check p) → index_check p ≡ Err e → e ≢ Io
-index_not_io p e verdict refused k = subst (IndexRefusal (trailer_in p) p) k (subst (IndexVerdict (trailer_in p) p) refused verdict)
 
 -- an answer of a filter, and its errors
 pub asked : (p : List ℕ) (hash : ℕ) (r : Result Bool Error) → IfOk r (λ b. (f : Filter) × (filter_at p ≡ Ok f) × (IsTrue b ↔ MayContain f hash)) → IfErr r (λ e. filter_at p ≡ Err e) → r ≡ filter_answer p hash

@@ -28,9 +28,6 @@ next_cut start end i cuts h fit =
     let f = subst (CutsLeft start end) (drop_more cuts i 0 h) fit in
     (f.0, cuts_below (get_or cuts i 0) end (drop (i + 1) cuts) f.1, f.1)
 
-pub no_cut : (start end i : ℕ) (cuts : List ℕ) → length cuts ≤ i → CutsLeft start end (drop i cuts) → start < end
-no_cut start end i cuts h fit = cuts_below start end (drop i cuts) fit
-
 pub next_block : (start i : ℕ) (cuts : List ℕ) (items : List Entry) → i < length cuts
     → blocks_from start (drop i cuts) items ≡ take (get_or cuts i 0 - start) (drop start items) ∷ blocks_from (get_or cuts i 0) (drop (i + 1) cuts) items
 next_block start i cuts items h = ap (λ cs. blocks_from start cs items) (drop_more cuts i 0 h)
@@ -60,10 +57,6 @@ appends_then None b c x y h k = tt
 appends_then (Some p) None c x y h k = absurd h
 appends_then (Some p) (Some q) None x y h k = absurd k
 appends_then (Some p) (Some q) (Some r) x y h k = k ∙ ap (λ z. z ++ y) h ∙ append_assoc p x y
-
-pub appends_nothing : (a : Option (List ℕ)) → Appends a a []
-appends_nothing None = tt
-appends_nothing (Some p) = sym (append-nil p)
 
 module _ (f : Form) where
   block_frames-append : (xs ys : List (List Entry)) → block_frames f (xs ++ ys) ≡ block_frames f xs ++ block_frames f ys
@@ -116,6 +109,3 @@ pub layout_end : (f : Form) (a b c : Option (List ℕ)) (blocks all : List (List
     → IfOk r (AppendsEnd f blocks b c) → IfOk r (AppendsLayout f all a c)
 layout_end f a b c blocks all (Ok h) e front end = subst (λ bs. AppendsLayout f bs a c h) e (layout_joined f blocks a b c h front end)
 layout_end f a b c blocks all (Err x) e front end = tt
-
-pub before_cut : (start end i : ℕ) (cuts : List ℕ) → i < length cuts → start < get_or cuts i 0 → CutsLeft (get_or cuts i 0) end (drop (i + 1) cuts) → CutsLeft start end (drop i cuts)
-before_cut start end i cuts h less fit = subst (CutsLeft start end) (sym (drop_more cuts i 0 h)) (less, fit)

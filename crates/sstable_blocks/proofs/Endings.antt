@@ -1,5 +1,5 @@
 -- The end of a run: its index and its filter.
-use Rattle.std.proofs.Common.{◌≡◌, ℕ, ◌+◌, ◌*◌, ◌/◌, ◌<◌, ◌≤◌, ◌^◌, ◌⊎◌, cond, List, [], ◌++◌, length, refl, arith, sym, ◌∙◌, ap, subst, inl, inr, Option, Some, None, Result, Ok, Err, IfErr, OnOk}
+use Rattle.std.proofs.Common.{◌≡◌, ℕ, ◌+◌, ◌*◌, ◌/◌, ◌≤◌, ◌^◌, ◌⊎◌, cond, List, [], ◌++◌, length, refl, arith, sym, ◌∙◌, ap, subst, inl, inr, Option, Some, None, Result, Ok, Err, IfErr, OnOk}
 use Rattle.std.proofs.lemmas.Bool.{eq-eqb, ne_eqb}
 use Rattle.std.proofs.lemmas.List.{length-map}
 use Rattle.std.specs.Io.KnownBytes.{Appends}
@@ -137,9 +137,6 @@ module _ (f : Form) (blocks : List (List Entry)) (hs : List Handle) (hashes : Li
   pub run : IsRun f blocks
   run = record { some = some; all_some = k.all_some; valid = k.valid; ordered = k.ordered; interval = k.interval; index_interval = k.index_interval }
 
-  pub frames_end : length (block_frames f blocks) < 2 ^ 64
-  frames_end = let o = k.offset in let n = k.fits in omega arith
-
   pub index_is : index_payload hs f.config.index_interval ≡ index_text f blocks
   unfolding index_text
   index_is = ap (λ xs. index_payload xs f.config.index_interval) k.handles
@@ -171,6 +168,3 @@ module _ (f : Form) (blocks : List (List Entry)) (hs : List Handle) (hashes : Li
   -- a filter of the hashes kept is that of the keys
   pub filter_is : 1 ≤ f.config.bits_per_key → (xs : List ℕ) (bits : ℕ) (p : List ℕ) → xs ≡ hashes → bits ≡ f.config.bits_per_key → IsFilterText xs bits p → IsFilterText (key_hashes f.hash64 (joined blocks)) f.config.bits_per_key p
   filter_is active xs bits p x b is = subst (λ n. IsFilterText (key_hashes f.hash64 (joined blocks)) n p) b (subst (λ ys. IsFilterText ys bits p) (x ∙ k.hashed active) is)
-
-  pub bits_refused : 1 ≤ f.config.bits_per_key → (length hashes * f.config.bits_per_key ≤ 34359737920 → ⊥) → RunFits f blocks → ⊥
-  bits_refused bits h fits = h (let b = fits.bits in subst (λ n. n * f.config.bits_per_key ≤ 34359737920) (sym (hashes_long bits)) b)

@@ -1,5 +1,5 @@
 -- The range of a handle, read from a file.
-use Rattle.std.proofs.Common.{◌≡◌, ◌^◌, IfSome, None, ℕ, ◌+◌, ◌-◌, ◌<◌, ◌≤◌, List, ◌++◌, length, take, drop, true, false, leb, ltb, arith, refl, sym, ap, subst, ◌∙◌, Option, Some, Result, Ok, Err, length-append, length-drop, inl, inr}
+use Rattle.std.proofs.Common.{◌≡◌, ◌^◌, IfSome, None, ℕ, ◌+◌, ◌<◌, ◌≤◌, List, ◌++◌, length, take, drop, true, false, ltb, arith, refl, sym, ap, ◌∙◌, Option, Some, Result, Ok, Err, length-append, length-drop, inl, inr}
 use lib.Seq.{take-append_seam}
 use Rattle.std.proofs.lemmas.Bool.{le-leb, lt-leb, cases_lt}
 use Rattle.std.proofs.lemmas.Bool.Decides.{nat_tests}

@@ -1,6 +1,5 @@
 -- The filter of a run denies none of its keys.
-use Rattle.std.proofs.Common.{◌≡◌, ℕ, suc, ◌+◌, ◌*◌, ◌/◌, ◌<◌, ◌≤◌, ◌^◌, inl, inr, Bool, true, false, cond, ltb, List, [], ◌∷◌, length, filter, refl, arith, sym, ◌∙◌, ap, subst, Option, Some, None, Result, Ok, Err}
-use Rattle.std.specs.Prelude.{◌↔◌, IsTrue, IfOk}
+use Rattle.std.proofs.Common.{◌≡◌, ℕ, suc, ◌+◌, ◌*◌, ◌/◌, ◌<◌, ◌≤◌, ◌^◌, inl, inr, cond, ltb, List, [], ◌∷◌, length, filter, refl, arith, sym, ◌∙◌, ap, subst, Option, Some, None, Result, Ok}
 use Rattle.std.proofs.lemmas.Bool.{eq-eqb, ne_eqb, cases_Bool, and_parts}
 use Rattle.std.proofs.lemmas.List.{length-map}
 use Rattle.std.specs.List.{Contains, slice_get}
@@ -19,7 +18,6 @@ use Rattle.sst_block_core.specs.Window.{first_match, is_version}
 use Rattle.sstable_blocks.specs.Blocks.{joined}
 use Rattle.sstable_blocks.specs.Filter.{Filter, filter_at, MayContain, bit_count}
 use Rattle.sstable_blocks.specs.FilterLaws.{filter_at-payload, inserted_may_be_contained}
-use Rattle.sstable_blocks.specs.Opened.{payload_in, IsDenied}
 use Rattle.sstable_blocks.specs.Run.{Form, block_frames, filter_frame, index_frame, run_handles, key_hashes, IsFilterText}
 use Rattle.sstable_blocks.proofs.Search.{first-cons}
 
@@ -39,21 +37,6 @@ match_hash hash needle s (y ∷ ys) x e = elim (cases_Bool (is_version entries n
 none_from : {A : Type 0} (o : Option A) → ((x : A) → o ≡ Some x → ⊥) → o ≡ None
 none_from None h = refl
 none_from (Some x) h = absurd (h x refl)
-
--- what a filter in a frame answers: whether it denies a hash
-says_denied : (p : List ℕ) (hash : ℕ) (b : Bool) → (f : Filter) × (filter_at p ≡ Ok f) × (IsTrue b ↔ MayContain f hash) → (b ≡ false) ↔ ((f : Filter) × (filter_at p ≡ Ok f) × (MayContain f hash → ⊥))
-says_denied p hash true says = (
-  (λ e. cc),
-  (λ denied.
-      let same : says.0 ≡ denied.0 = (let e : ◌≡◌ {A = Result Filter Error} (Ok says.0) (Ok denied.0) = sym says.1 ∙ denied.1 in cc) in
-      absurd (denied.2 (subst (λ q. MayContain q hash) same (says.2.0 refl)))),
-)
-says_denied p hash false says = ((λ e. (says.0, says.1, (λ may. let wrong : false ≡ true = says.2.1 may in cc))), (λ denied. refl))
-
-pub answers_denied : (bytes p : List ℕ) (h : HandleParts) (hash : ℕ) (r : Result Bool Error) → p ≡ payload_in bytes h
-    → IfOk r (λ b. (f : Filter) × (filter_at p ≡ Ok f) × (IsTrue b ↔ MayContain f hash)) → IfOk r (λ b. (b ≡ false) ↔ IsDenied bytes (Some h) hash)
-answers_denied bytes p h hash (Ok b) is says = says_denied (payload_in bytes h) hash b (subst (λ q. (f : Filter) × (filter_at q ≡ Ok f) × (IsTrue b ↔ MayContain f hash)) is says)
-answers_denied bytes p h hash (Err e) is says = tt
 
 module _ (f : Form) where
   -- where the filter of a run stands

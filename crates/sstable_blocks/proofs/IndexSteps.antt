@@ -11,7 +11,7 @@ use Rattle.sst_block_core.specs.Landings.{GivesNextHeld, scan_cost}
 use Rattle.sst_block_kinds.specs.ParsedHandle.{handle_of, IsParsedHandle}
 use Rattle.sst_block_core.specs.Scan.{Scan}
 use Rattle.sst_block_core.specs.WindowLaws.{item_same}
-use Rattle.sst_block_core.specs.Window.{Window, Answer, item, found, whole, next, first_left, seek_index}
+use Rattle.sst_block_core.specs.Window.{Window, Answer, found, whole, next, first_left, seek_index}
 use Rattle.sst_block_kinds.specs.declared.table.index_block.parsed_item.IndexBlockParsedItem.{IndexBlockParsedItem}
 use Rattle.sstable_blocks.specs.Lookup.{handle_for, place_for}
 use Rattle.sstable_blocks.specs.Opened.{range_of}

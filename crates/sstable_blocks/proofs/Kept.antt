@@ -72,10 +72,6 @@ follows_behind blocks (x ∷ xs) first s follows =
     let same : x ≡ first = cc in
     subst (IsBehind blocks) same (behind_last (joined blocks) x xs (subst (IsOrdered entries) (joined-push blocks (x ∷ xs)) follows.ordered))
 
-pub follows_some : (blocks : List (List Entry)) (items : List Entry) → slice_get items 0 ≡ None → Follows blocks items → ⊥
-follows_some blocks [] s follows = let n = follows.some in absurd (omega arith)
-follows_some blocks (x ∷ xs) s follows = cc
-
 -- the last key of two lists is that of the second, if that is not empty
 end_of-append : (xs ys : List Entry) → 1 ≤ length ys → end_of (xs ++ ys) ≡ end_of ys
 end_of-append [] ys h = refl

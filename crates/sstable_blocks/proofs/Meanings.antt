@@ -1,7 +1,6 @@
 -- What an answer of a checked read on any bytes means.
-use Rattle.std.proofs.Common.{◌≡◌, ℕ, ◌+◌, ◌≤◌, inl, inr, Bool, true, false, eqb, leb, List, length, take, drop, refl, sym, ◌∙◌, ap, subst, if◌then◌else◌, Option, Some, None, Result, Ok, Err}
+use Rattle.std.proofs.Common.{◌≡◌, ℕ, ◌+◌, inl, inr, Bool, true, false, eqb, leb, List, length, take, drop, sym, ◌∙◌, ap, subst, if◌then◌else◌, Option, Some, None, Result, Ok}
 use Rattle.std.proofs.lemmas.Bool.{leb-true, eqb-true}
-use Rattle.sst_base.specs.Block.{BlockParts}
 use Rattle.sst_base.specs.BlockHandle.{HandleParts}
 use Rattle.sst_base.specs.BlockType.{block_type_byte, block_type_of}
 use Rattle.sst_base.specs.Bytes.{IsBytes}
@@ -9,7 +8,6 @@ use Rattle.sst_base.specs.BytesLaws.{IsBytes-take, IsBytes-drop}
 use Rattle.sst_base.specs.Entry.{Entry}
 use Rattle.sst_base.specs.Frame.{frame, frame_in, of_type, payload_of_type}
 use Rattle.sst_base.specs.FrameLaws.{frame_in_takes}
-use Rattle.sst_base.specs.Header.{◌>>=◌}
 use Rattle.sst_base.specs.HeaderLaws.{bind_ok, guard_ok, block_type_of-byte}
 use Rattle.sst_base.specs.declared.error.Error.{Error}
 use Rattle.sst_base.specs.declared.table.block.block_type.BlockType.{BlockType}
@@ -19,7 +17,7 @@ use Rattle.sst_block_core.specs.Entries.{entries}
 use Rattle.sst_block_kinds.specs.Handles.{Handle, handles}
 use Rattle.sst_block_core.specs.Trailer.{trailer_in}
 use Rattle.sst_block_core.specs.Window.{first_match}
-use Rattle.sstable_blocks.specs.Filter.{Filter, filter_at, may_contain, MayContain}
+use Rattle.sstable_blocks.specs.Filter.{Filter, filter_at, may_contain}
 use Rattle.sstable_blocks.specs.Lookup.{handle_for}
 use Rattle.sstable_blocks.specs.Opened.{range_of}
 use Rattle.sstable_blocks.specs.RunReading.{Hashes, range_at, payload_at, filter_answer, filter_says, read_block, read_blocks, read_checked, StandsFramed, FilterDenies, FilterAllows, BlockMeans, IndexMeans, AnswerMeans}

@@ -1,5 +1,5 @@
 -- Reading a layout, checked, gives the first match of its run.
-use Rattle.std.proofs.Common.{◌≡◌, ℕ, zero, suc, ◌+◌, ◌<◌, ◌≤◌, ◌^◌, inl, inr, Bool, true, false, eqb, leb, List, [], ◌∷◌, ◌++◌, length, map, take, drop, refl, arith, sym, ◌∙◌, ap, subst, if◌then◌else◌, Option, Some, None, Result, Ok, Err}
+use Rattle.std.proofs.Common.{◌≡◌, ℕ, zero, suc, ◌+◌, ◌<◌, ◌≤◌, ◌^◌, inl, inr, Bool, true, false, List, [], ◌∷◌, length, map, take, drop, refl, arith, sym, ◌∙◌, ap, subst, if◌then◌else◌, Option, Some, None, Result, Ok, Err}
 use Rattle.std.proofs.lemmas.Bool.{le-leb, eq-eqb, cases_eq}
 use Rattle.std.specs.List.{AllZip, AllByRecursion, slice_get}
 use Rattle.sst_base.specs.BlockHandle.{HandleParts}
@@ -21,11 +21,11 @@ use Rattle.sst_block_core.specs.Stages.{Passes, PassesBy, items_by, items_in}
 use Rattle.sst_block_core.specs.Trailer.{Trailer, trailer_in}
 use Rattle.sst_block_core.specs.Window.{first_match}
 use Rattle.sstable_blocks.specs.Blocks.{joined}
-use Rattle.sstable_blocks.specs.Filter.{Filter, filter_at, may_contain, MayContain}
+use Rattle.sstable_blocks.specs.Filter.{Filter, may_contain, MayContain}
 use Rattle.sstable_blocks.specs.Lookup.{first_in, place_for, handle_for}
 use Rattle.sstable_blocks.specs.Opened.{range_of}
-use Rattle.sstable_blocks.specs.Run.{Form, block_payload, block_frames, handles_from, index_text, index_frame, filter_frame, key_hashes, run_text, run_handles, IsFramed, IsFilterText, IsRun, RunFits, IsLayout}
-use Rattle.sstable_blocks.specs.RunReading.{Hashes, hashes, range_at, payload_at, filter_answer, filter_says, read_block, read_blocks, read_checked}
+use Rattle.sstable_blocks.specs.Run.{Form, block_payload, handles_from, index_text, key_hashes, run_text, run_handles, IsFramed, IsFilterText, IsRun, RunFits, IsLayout}
+use Rattle.sstable_blocks.specs.RunReading.{Hashes, hashes, range_at, payload_at, filter_says, read_block, read_blocks, read_checked}
 use Rattle.sstable_blocks.specs.declared.run.RunHandles.{RunHandles}
 use Rattle.sstable_blocks.proofs.BlockHandles.{handles_end}
 use Rattle.sstable_blocks.proofs.CheckedReads.{may_contain_to}

@@ -14,7 +14,7 @@ pub(crate) struct ShortBytes {
 }
 
 impl Model for ShortBytes {
-    ghost use Rattle.std.specs.Prelude.{ℕ, List, ◌≡◌, ◌≤◌, take, length};
+    ghost use Rattle.std.specs.Prelude.{ℕ, List, ◌≤◌, take};
 
     ghost Value = { List ℕ };
 

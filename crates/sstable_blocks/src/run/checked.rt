@@ -1,6 +1,6 @@
 //! Reading runs from bytes of any kind.
-ghost use Rattle.std.specs.Prelude.{◌≡◌, ◌≢◌, ◌⊎◌, ℕ, ◌+◌, ◌≤◌, ◌<◌, List, None};
-ghost use Rattle.std.specs.Prelude.{length, Option, Ok, OnOk, IfOk, IfErr, IfSome, false};
+ghost use Rattle.std.specs.Prelude.{◌≡◌, ◌≢◌, ◌⊎◌, ◌+◌, ◌≤◌, ◌<◌, List, None};
+ghost use Rattle.std.specs.Prelude.{Option, Ok, OnOk, IfOk, IfErr, IfSome, false};
 ghost use Rattle.std.specs.Option.{option_map};
 ghost use Rattle.sst_base.specs.Bytes.{IsBytes};
 ghost use Rattle.sst_base.specs.Entry.{Entry};

@@ -1,6 +1,6 @@
 //! Reading runs.
 ghost use Rattle.std.specs.Prelude.{◌≡◌, ◌↔◌, ℕ, ◌+◌, ◌<◌};
-ghost use Rattle.std.specs.Prelude.{◌^◌, List, length, Some, None};
+ghost use Rattle.std.specs.Prelude.{List, length, Some, None};
 ghost use Rattle.std.specs.Prelude.{Ok, false, OnOk, IfOk, IfSome, IsOkUnless};
 ghost use Rattle.std.specs.Option.{option_map};
 ghost use Rattle.sst_base.specs.Counted.{CountsExactly, CountsBetween};
@@ -14,7 +14,6 @@ ghost use Rattle.sst_block_core.specs.Stages.{items_in};
 ghost use Rattle.sst_block_core.specs.Trailer.{trailer_in};
 ghost use Rattle.sst_block_core.specs.Window.{first_match};
 ghost use Rattle.sstable_blocks.specs.Blocks.{joined};
-ghost use Rattle.sstable_blocks.specs.Filter.{Filter, filter_at};
 ghost use Rattle.sstable_blocks.specs.Lookup.{handle_for};
 ghost use Rattle.sstable_blocks.specs.Opened.{range_of, index_in, payload_in};
 ghost use Rattle.sstable_blocks.specs.Opened.{IsDenied, IsFrameRange};

@@ -1,6 +1,6 @@
 //! What is kept while a run is written.
-ghost use Rattle.std.specs.Prelude.{◌≡◌, ◌≢◌, ◌↔◌, ◌⊎◌, ℕ, ◌+◌};
-ghost use Rattle.std.specs.Prelude.{◌*◌, ◌≤◌, ◌<◌, List, [], ◌∷◌, ◌++◌};
+ghost use Rattle.std.specs.Prelude.{◌≡◌, ◌≢◌, ◌↔◌, ◌⊎◌, ◌+◌};
+ghost use Rattle.std.specs.Prelude.{◌*◌, ◌≤◌, ◌<◌, [], ◌∷◌, ◌++◌};
 ghost use Rattle.std.specs.Prelude.{length};
 ghost use Rattle.std.specs.Prelude.{OnOk, OnErr, IfOk, IfErr, IfSome, IsNone, IsTrue, IsOkUnless};
 ghost use Rattle.std.specs.Prelude.{◌^◌};

@@ -1,6 +1,6 @@
 //! Sources of frames: memory and files.
-ghost use Rattle.std.specs.Prelude.{◌≡◌, ◌≢◌, ◌⊎◌, ℕ, ◌+◌, ◌≤◌};
-ghost use Rattle.std.specs.Prelude.{◌<◌, ◌^◌, List, Option, Some, None};
+ghost use Rattle.std.specs.Prelude.{◌≡◌, ◌⊎◌, ℕ, ◌+◌, ◌≤◌};
+ghost use Rattle.std.specs.Prelude.{◌<◌, ◌^◌, List, Option, Some};
 ghost use Rattle.std.specs.Prelude.{length, OnOk, IfOk, IfErr, IfSome, MatchResult};
 ghost use Rattle.sst_base.specs.BlockHandle.{HandleParts};
 ghost use Rattle.sst_base.specs.Bytes.{IsBytes};

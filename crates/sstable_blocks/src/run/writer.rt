@@ -1,12 +1,9 @@
 //! Writing a run block by block.
-ghost use Rattle.std.specs.Prelude.{◌≡◌, ◌≢◌, ◌↔◌, ℕ, ◌≤◌, List, []};
+ghost use Rattle.std.specs.Prelude.{◌≡◌, ◌≢◌, ◌↔◌, ◌≤◌, []};
 ghost use Rattle.std.specs.Prelude.{◌∷◌, ◌++◌, length, IsTrue, None, Some};
 ghost use Rattle.std.specs.Prelude.{OnOk, OnErr, IfOk, IfErr, IfSome, Err};
 ghost use Rattle.std.specs.Io.KnownBytes.{Appends};
 ghost use Rattle.sst_base.specs.declared.error.Error.TheVariants.{Io};
-ghost use Rattle.sst_block_core.specs.Entries.{entries};
-ghost use Rattle.sst_block_core.specs.Kind.{IsOrdered};
-ghost use Rattle.sstable_blocks.specs.Blocks.{joined, IsNotEmpty};
 ghost use Rattle.sstable_blocks.specs.Run.{form, block_frame, block_frames, RunFits};
 ghost use Rattle.sstable_blocks.specs.Writing.{Follows, FrameFits, IsWriteRefusal, AppendsLayout};
 
@@ -30,7 +27,6 @@ pub struct RunWriter<H: BlockHash, W: Write> {
 }
 
 impl<H: BlockHash, W: Write> Model for RunWriter<H, W> {
-    ghost use Rattle.std.specs.Prelude.{◌≤◌};
     ghost use Rattle.sstable_blocks.specs.Run.{form};
     ghost use Rattle.sstable_blocks.specs.Writing.{Writing, IsUnderWay};
 

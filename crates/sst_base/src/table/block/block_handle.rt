@@ -1,5 +1,5 @@
 //! Handles of blocks.
-ghost use Rattle.std.specs.Prelude.{◌≡◌, ◌≤◌, ◌^◌, ℕ, List, Some, IfOk};
+ghost use Rattle.std.specs.Prelude.{◌≡◌, ◌≤◌, ℕ, List, Some, IfOk};
 ghost use Rattle.sst_base.specs.BlockHandle.{handle_bytes, handle_at, handle_number_at};
 ghost use Rattle.sst_base.specs.Inputs.{Reads};
 

@@ -1,5 +1,5 @@
 //! Block headers.
-ghost use Rattle.std.specs.Prelude.{◌≡◌, ◌+◌, ◌≤◌, ◌%◌, ◌^◌, ℕ, List};
+ghost use Rattle.std.specs.Prelude.{◌≡◌, ◌+◌, ◌%◌, ◌^◌, ℕ, List};
 ghost use Rattle.std.specs.Prelude.{◌∷◌, ◌++◌, length, drop, Some, OnOk};
 ghost use Rattle.std.specs.Prelude.{IsOkUnless, take};
 ghost use Rattle.byteorder.specs.Endian.{little_number};

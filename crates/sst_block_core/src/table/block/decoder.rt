@@ -1,8 +1,8 @@
 //! The block decoder.
-ghost use Rattle.std.specs.Prelude.{◌≡◌, ◌≢◌, ℕ, ◌+◌, ◌-◌, ◌*◌, ◌<◌};
+ghost use Rattle.std.specs.Prelude.{◌≡◌, ℕ, ◌+◌, ◌-◌, ◌*◌, ◌<◌};
 ghost use Rattle.std.specs.Prelude.{◌≤◌, List, [], ◌∷◌};
-ghost use Rattle.std.specs.Prelude.{length, take, drop, slice_get, Some, None, IfSome, IfOk};
-ghost use Rattle.std.specs.Prelude.{Option, IsSome, IsSomeAnd};
+ghost use Rattle.std.specs.Prelude.{length, take, drop, Some, None, IfSome, IfOk};
+ghost use Rattle.std.specs.Prelude.{IsSome, IsSomeAnd};
 ghost use Rattle.std.specs.Option.{option_map};
 ghost use Rattle.std.specs.Prelude.{IsOkUnless};
 ghost use Rattle.std.specs.Ordering.{nat_cmp};
@@ -11,7 +11,7 @@ ghost use Rattle.std.specs.Iterator.{at_most};
 ghost use Rattle.std.proofs.Common.{ap};
 ghost use Rattle.sst_base.specs.Counted.{found_item, IsZero, CountsExactly, CountsBetween};
 ghost use Rattle.sst_base.specs.SharedPrefix.{shared_prefix_length};
-ghost use Rattle.sst_block_core.specs.Found.{Finds, Takes, StandsAt, IsRange, range_of};
+ghost use Rattle.sst_block_core.specs.Found.{Finds, Takes, StandsAt};
 ghost use Rattle.sst_block_core.specs.Payload.{IsEncoding};
 ghost use Rattle.sst_block_core.specs.Stages.{items_in};
 ghost use Rattle.sst_block_core.specs.Body.{place_offset};

@@ -47,7 +47,7 @@ fn byte_or_zero(bytes: &[u8], index: usize) -> u64
 /// Returns the first 8 bytes as a big-endian number; fewer are filled with 00.
 ///
 /// Where the numbers of two byte strings differ, the strings have the order of the numbers.
-#[tactic(auto, using(crate::proofs::Fronts::front_short), unfolding(crate::specs::Heads::front))]
+#[tactic(auto, using(crate::proofs::Heads::Fronts::front_short), unfolding(crate::specs::Heads::front))]
 pub fn front_of(bytes: &[u8]) -> u64
     ensures { result ≡ front bytes.now }
 {

@@ -1,20 +1,20 @@
 //! The restart intervals of a block.
 ghost use Rattle.std.specs.Prelude.{◌≡◌, ℕ, ◌+◌, ◌-◌, ◌*◌, ◌<◌, ◌≤◌};
 ghost use Rattle.std.specs.Prelude.{List, length, drop, slice_get, Some, min};
-ghost use Rattle.std.specs.Prelude.{true, false, IfSome, IfOk, IsOkUnless};
+ghost use Rattle.std.specs.Prelude.{IfSome, IfOk, IsOkUnless};
 ghost use Rattle.sst_base.specs.Counted.{IsZero, CountsExactly};
 ghost use Rattle.sst_block_core.specs.Kind.{IsOrdered};
 ghost use Rattle.std.specs.Ordering.{nat_cmp};
 ghost use Rattle.std.specs.Cmp.Lexicographic.{slice_cmp};
 ghost use Rattle.sst_base.specs.SharedPrefix.{shared_prefix_length};
 ghost use Rattle.sst_block_core.specs.Body.{place_offset};
-ghost use Rattle.sst_block_core.specs.Found.{StandsAt, IsRange, range_of};
+ghost use Rattle.sst_block_core.specs.Found.{IsRange, range_of};
 ghost use Rattle.sst_block_core.specs.Payload.{IsEncoding};
 ghost use Rattle.sst_block_core.specs.Pointers.{head_count};
 ghost use Rattle.sst_block_core.specs.Scan.{StandsBehind, Stands};
 ghost use Rattle.sst_block_core.specs.Stages.{items_in};
 ghost use Rattle.sst_block_core.specs.Trailer.{trailer_in};
-ghost use Rattle.sst_block_core.specs.Intervals.{IsListed, Answered, Splits, digits};
+ghost use Rattle.sst_block_core.specs.Intervals.{IsListed};
 ghost use Rattle.sst_block_core.specs.Heads.{IsTableOf, IsTableUpto, HeadsBegin, listed_in};
 
 use crate::table::block::binary_index::Reader;

@@ -1,6 +1,6 @@
 //! The search for an item over the heads of a block and within one interval.
 ghost use Rattle.std.specs.Prelude.{◌≡◌, ℕ, ◌+◌, ◌-◌, ◌*◌, ◌<◌, ◌≤◌};
-ghost use Rattle.std.specs.Prelude.{List, length, slice_get, Some, min};
+ghost use Rattle.std.specs.Prelude.{length, slice_get, Some, min};
 ghost use Rattle.std.specs.Prelude.{true, false, MatchOption, None, filter, IfSome};
 ghost use Rattle.std.specs.Prelude.{if◌then◌else◌};
 ghost use Rattle.std.specs.Ordering.{nat_cmp, is_eq};

@@ -1,5 +1,5 @@
 //! Handles as items of a block: how they are decoded.
-ghost use Rattle.std.specs.Prelude.{◌≡◌, ◌+◌, ◌^◌, ◌<◌, ◌≤◌, length, drop};
+ghost use Rattle.std.specs.Prelude.{◌≡◌, ◌+◌, ◌≤◌, length, drop};
 ghost use Rattle.std.specs.Prelude.{[], ◌∷◌, None, IfSome, IsSome};
 ghost use Rattle.sst_block_core.specs.Found.{Finds, Takes, StandsAt, range_of};
 ghost use Rattle.sst_block_kinds.specs.Handles.{marker_at, front_at, full_at};

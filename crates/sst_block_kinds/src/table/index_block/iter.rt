@@ -1,5 +1,5 @@
 //! The iterator over the handles of an index block, as ranges of its payload.
-ghost use Rattle.std.specs.Prelude.{◌≡◌, ◌-◌, ◌*◌, length, true};
+ghost use Rattle.std.specs.Prelude.{◌≡◌, ◌-◌, ◌*◌, length};
 ghost use Rattle.std.specs.Iterator.{at_most};
 ghost use Rattle.std.proofs.Common.{ap};
 ghost use Rattle.sst_base.specs.Counted.{CountsBetween};

@@ -4,7 +4,6 @@ ghost use Rattle.std.specs.Prelude.{length, [], IsTrue};
 ghost use Rattle.std.specs.Prelude.{OnOk, OnErr, IfOk, IfErr, IfSome, MatchResult, None, Ok, Err, ◌≢◌};
 ghost use Rattle.std.specs.List.{AllByRecursion};
 ghost use Rattle.sst_base.specs.Counted.{IsZero};
-ghost use Rattle.sst_base.specs.Bytes.{IsBytes};
 ghost use Rattle.sst_block_kinds.specs.Checks.{index_check};
 ghost use Rattle.sst_block_core.specs.Encoders.{IsRefusal};
 ghost use Rattle.sst_block_kinds.specs.Handles.{Handle, EndFits, handles, index_payload};

@@ -1,5 +1,5 @@
 //! Reading the binary index of a block.
-ghost use Rattle.std.specs.Prelude.{◌≡◌, ◌+◌, ◌*◌, ◌/◌, ◌≤◌, ◌<◌};
+ghost use Rattle.std.specs.Prelude.{◌≡◌, ◌+◌, ◌*◌, ◌≤◌, ◌<◌};
 ghost use Rattle.std.specs.Prelude.{◌⊎◌, take, drop, length};
 ghost use Rattle.std.specs.Prelude.{slice_index, nat_eq};
 ghost use Rattle.sst_block_core.specs.Pointers.{pointers_in};
@@ -41,7 +41,7 @@ impl<'a> Reader<'a> {
     }
 
     /// Returns the number of pointers.
-    #[tactic(auto, using(crate::proofs::PointerReads::pointers_count))]
+    #[tactic(auto, using(crate::proofs::Places::PointerReads::pointers_count))]
     pub fn len(&self) -> usize
         ensures { result ≡ length self.now }
     {
@@ -56,7 +56,7 @@ impl<'a> Reader<'a> {
     }
 
     /// Returns the pointer at an index, which is below the number of pointers.
-    #[tactic(auto, using(crate::proofs::PointerReads::pointer_inside, crate::proofs::PointerReads::pointer_is))]
+    #[tactic(auto, using(crate::proofs::Places::PointerReads::pointer_inside, crate::proofs::Places::PointerReads::pointer_is))]
     pub fn get(&self, index: usize) -> usize
         requires { index < length self.now }
         ensures { result ≡ slice_index self.now index }

@@ -38,7 +38,7 @@ fn compare_whole(a: &[u8], b: &[u8]) -> Ordering
 // Compares a byte string that begins with these bytes with another by their first bytes. Returns
 // `None` where these do not decide.
 #[inline(always)]
-#[tactic(auto, using(crate::proofs::KeyOrders::first_decides))]
+#[tactic(auto, using(crate::proofs::Check::KeyOrders::first_decides))]
 fn compare_first(more: &[u8], rest: &[u8]) -> Option<Ordering>
     ensures { IfSome result
         (λ o. (tail : List ℕ) → o ≡ slice_cmp nat_cmp (more.now ++ tail) rest.now) }
@@ -195,7 +195,7 @@ impl KeyVersion {
 
 /// Returns whether a version does not sort before the last one.
 #[inline(always)]
-#[tactic(auto, using(crate::proofs::KeyOrders::decided))]
+#[tactic(auto, using(crate::proofs::Check::KeyOrders::decided))]
 pub(crate) fn keeps_order(payload: &[u8], last: &KeyVersion, version: &KeyVersion) -> bool
     requires last { IsKeyRanges payload.now last.now.key }
     requires version { IsKeyRanges payload.now version.now.key }
@@ -210,7 +210,7 @@ pub(crate) fn keeps_order(payload: &[u8], last: &KeyVersion, version: &KeyVersio
 
 // The same for a head after any item: where that is a head too, by the whole keys.
 #[inline(always)]
-#[tactic(auto, using(crate::proofs::KeyOrders::head_key, crate::proofs::KeyOrders::decided))]
+#[tactic(auto, using(crate::proofs::Check::KeyOrders::head_key, crate::proofs::Check::KeyOrders::decided))]
 fn head_follows(payload: &[u8], last: &KeyVersion, version: &KeyVersion) -> bool
     requires last { IsKeyRanges payload.now last.now.key }
     requires version { IsKeyRanges payload.now version.now.key }

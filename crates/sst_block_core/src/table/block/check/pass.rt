@@ -1,5 +1,5 @@
 //! One pass over the items of a body.
-ghost use Rattle.std.specs.Prelude.{◌≡◌, ◌↔◌, ℕ, ◌+◌, ◌-◌, ◌*◌, ◌/◌};
+ghost use Rattle.std.specs.Prelude.{◌≡◌, ◌↔◌, ℕ, ◌+◌, ◌*◌, ◌/◌};
 ghost use Rattle.std.specs.Prelude.{◌<◌, ◌≤◌, [], List, length, None, Some};
 ghost use Rattle.std.specs.Prelude.{IfSome, OnSome, IsTrue, MatchOption, slice_index, OnOk, IfErr};
 ghost use Rattle.std.specs.Prelude.{nat_le, if◌then◌else◌};

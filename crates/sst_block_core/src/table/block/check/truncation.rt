@@ -5,7 +5,7 @@ ghost use Rattle.sst_base.specs.SharedPrefix.{shared_prefix_length};
 
 // Returns whether both begin with one byte.
 #[inline(always)]
-#[tactic(auto, using(crate::proofs::Greatest::alike_first, crate::proofs::Greatest::alike_none, crate::proofs::Greatest::alike_none_right))]
+#[tactic(auto, using(crate::proofs::Check::SharedLengths::alike_first, crate::proofs::Check::SharedLengths::alike_none, crate::proofs::Check::SharedLengths::alike_none_right))]
 fn begin_alike(a: &[u8], b: &[u8]) -> bool
     ensures { result ≡ nat_lt 0 (shared_prefix_length a.now b.now) }
 {
@@ -18,7 +18,7 @@ fn begin_alike(a: &[u8], b: &[u8]) -> bool
 /// Returns whether a prefix of a base key, of this length, with these bytes after it, is the
 /// longest that the two share.
 #[inline(always)]
-#[tactic(auto, using(crate::proofs::Greatest::greatest_far, crate::proofs::Greatest::greatest_alike, crate::proofs::Greatest::greatest_is))]
+#[tactic(auto, using(crate::proofs::Check::SharedLengths::greatest_far, crate::proofs::Check::SharedLengths::greatest_alike, crate::proofs::Check::SharedLengths::greatest_is))]
 pub fn is_greatest(base: &[u8], shared: u64, rest: &[u8]) -> bool
     ensures greatest { result
         ≡ nat_eq (shared_prefix_length base.now (take shared base.now ++ rest.now)) shared }

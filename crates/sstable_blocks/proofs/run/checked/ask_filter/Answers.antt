@@ -1,4 +1,4 @@
-use Rattle.std.proofs.Common.{ap, sym, subst, ◌≡◌}
+use Rattle.std.proofs.Common.{subst, ◌≡◌}
 use Rattle.sst_base.specs.Block.{BlockParts}
 use Rattle.sstable_blocks.specs.RunReading.{filter_answer}
 use Rattle.sstable_blocks.proofs.CheckedReads.{asked, asked_not_io}

@@ -1,4 +1,3 @@
-use Rattle.std.proofs.Common.{ap, sym}
 use Rattle.sstable_blocks.specs.RunReading.{hashes}
 use Rattle.sstable_blocks.proofs.CheckedReads.{by_index}
 use Rattle.sstable_blocks.proofs.run.checked.read_by_index.Goals as goal

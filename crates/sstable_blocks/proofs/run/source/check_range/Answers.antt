@@ -1,4 +1,4 @@
-use Rattle.std.proofs.Common.{arith, rules, ◌≤◌, ◌<◌, ◌^◌, ◌+◌, IfSome, ◌≡◌, length}
+use Rattle.std.proofs.Common.{arith, rules, ◌≤◌, ◌<◌, ◌^◌, ◌+◌}
 use Rattle.sstable_blocks.proofs.FileRanges.{long_range, past_range, some_size, no_size}
 use Rattle.sstable_blocks.proofs.run.source.check_range.Goals as goal
 

@@ -1,4 +1,4 @@
-use Rattle.std.proofs.Common.{◌∙◌, ap, subst, Some, IfSome, drop, ◌≡◌, List, ℕ, Option}
+use Rattle.std.proofs.Common.{◌∙◌, subst, Some, IfSome, drop, ◌≡◌, List, ℕ, Option}
 use Rattle.sst_base.specs.Header.{bytes_at}
 use Rattle.sst_base.specs.Inputs.{ReadsAllocating}
 use Rattle.sstable_blocks.proofs.FileRanges.{file_range}

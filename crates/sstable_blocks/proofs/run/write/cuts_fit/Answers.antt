@@ -1,4 +1,4 @@
-use Rattle.std.proofs.Common.{arith, subst, sym, refl, false, ◌≡◌}
+use Rattle.std.proofs.Common.{arith, subst, sym, refl, false}
 use Rattle.std.specs.Bool.{IsTrue}
 use Rattle.std.proofs.lemmas.List.{drop_all}
 use Rattle.sstable_blocks.specs.Blocks.{CutsFit}

@@ -2,7 +2,7 @@ use Rattle.std.proofs.Common.{◌≡◌, ◌∙◌, take, drop, arith, sym, ap, 
 use Rattle.std.proofs.lemmas.Bool.{false≢true}
 use Rattle.sst_block_core.specs.Stages.{body_in, buckets_in}
 use Rattle.sst_block_core.specs.Passes.{trailer_by}
-use Rattle.sst_block_core.proofs.Tallies.{tally_none, buckets_to, buckets_from}
+use Rattle.sst_block_core.proofs.Check.BucketTallies.{tally_none, buckets_to, buckets_from}
 use Rattle.sst_block_core.proofs.table.block.check.buckets.check_items_and_buckets.Goals as goal
 
 pub returns-clause-buckets : goal.returns-clause-buckets

@@ -1,5 +1,5 @@
 use Rattle.std.proofs.Common.{arith}
-use Rattle.sst_block_core.proofs.KeyOrders.{prefixes_decide, same_prefixes, left_shorter, right_shorter}
+use Rattle.sst_block_core.proofs.Check.KeyOrders.{prefixes_decide, same_prefixes, left_shorter, right_shorter}
 use Rattle.sst_block_core.proofs.table.block.check.keys.compare_apart.Goals as goal
 
 pub returns-in-Equal : goal.returns-in-Equal

@@ -1,6 +1,6 @@
 use Rattle.std.proofs.Common.{refl, arith}
 use Rattle.sst_block_core.specs.Found.{range_of}
-use Rattle.sst_block_core.proofs.KeyOrders.{answer_says, left_behind, right_behind}
+use Rattle.sst_block_core.proofs.Check.KeyOrders.{answer_says, left_behind, right_behind}
 use Rattle.sst_block_core.proofs.table.block.check.keys.compare_behind.Goals as goal
 
 pub returns-in_ok-decided : goal.returns-in_ok-decided

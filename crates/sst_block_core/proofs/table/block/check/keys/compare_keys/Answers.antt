@@ -1,4 +1,4 @@
-use Rattle.sst_block_core.proofs.KeyOrders.{one_prefix}
+use Rattle.sst_block_core.proofs.Check.KeyOrders.{one_prefix}
 use Rattle.sst_block_core.proofs.table.block.check.keys.compare_keys.Goals as goal
 
 pub returns-then-a-b-2 : goal.returns-then-a-b-2

@@ -1,5 +1,5 @@
 use Rattle.std.proofs.Common.{arith, ◌∙◌}
-use Rattle.sst_block_core.proofs.KeyOrders.{first_four, rests_decided}
+use Rattle.sst_block_core.proofs.Check.KeyOrders.{first_four, rests_decided}
 use Rattle.sst_block_core.proofs.table.block.check.keys.compare_rests.Goals as goal
 
 pub returns-then-x-y : goal.returns-then-x-y

@@ -1,5 +1,5 @@
 use Rattle.std.proofs.Common.{arith}
-use Rattle.sst_block_core.proofs.KeyOrders.{not_before_least}
+use Rattle.sst_block_core.proofs.Check.KeyOrders.{not_before_least}
 use Rattle.sst_block_core.proofs.table.block.check.keys.head_keeps_order.Goals as goal
 
 pub returns-then-is_least : goal.returns-then-is_least

@@ -1,5 +1,5 @@
 use Rattle.std.proofs.Common.{arith, sym, ◌∙◌}
-use Rattle.sst_block_core.proofs.KeyOrders.{whole_key, prefix_alone}
+use Rattle.sst_block_core.proofs.Check.KeyOrders.{whole_key, prefix_alone}
 use Rattle.sst_block_core.proofs.table.block.check.pass.head_version_of.Goals as goal
 
 pub returns-clause-version : goal.returns-clause-version

@@ -2,8 +2,8 @@ use Rattle.std.proofs.Common.{ℕ, ◌≡◌, ◌<◌, [], None, length, get_or,
 use Rattle.std.proofs.lemmas.List.{length_push}
 use Rattle.sst_block_core.specs.Body.{items_at}
 use Rattle.sst_block_core.specs.Found.{range_of}
-use Rattle.sst_block_core.proofs.ReadOn.{read_head, stop_head}
-use Rattle.sst_block_core.proofs.PassSteps.{along_head, head_place}
+use Rattle.sst_block_core.proofs.Check.ItemReads.{read_head, stop_head}
+use Rattle.sst_block_core.proofs.Check.PassSteps.{along_head, head_place}
 use Rattle.sst_block_core.proofs.table.block.check.pass.pass_head.Goals as goal
 
 pub returns-in_err-item-clause-exact : goal.returns-in_err-item-clause-exact

@@ -1,7 +1,7 @@
 use Rattle.std.proofs.Common.{◌≡◌, ◌+◌, [], length, drop, Some, None, refl, arith, rules, sym, ap, ◌∙◌, subst}
 use Rattle.sst_block_core.specs.Body.{items_at}
 use Rattle.sst_block_core.specs.Passes.{last_of, HasNoHead}
-use Rattle.sst_block_core.proofs.PassSteps.{along_none, head_place, no_heads, last_ranges, not_filled, read_whole, read_to_end}
+use Rattle.sst_block_core.proofs.Check.PassSteps.{along_none, head_place, no_heads, last_ranges, not_filled, read_whole, read_to_end}
 use Rattle.sst_block_core.proofs.table.block.check.pass.pass_over.Goals as goal
 
 pub loop-place-init : goal.loop-place-init

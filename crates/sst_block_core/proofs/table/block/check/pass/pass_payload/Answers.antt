@@ -2,7 +2,7 @@ use Rattle.std.proofs.Common.{[], ap, sym, subst, ◌∙◌}
 use Rattle.sst_block_core.specs.Body.{items_at}
 use Rattle.sst_block_core.specs.Stages.{items_by}
 use Rattle.sst_block_core.specs.Passes.{trailer_by}
-use Rattle.sst_block_core.proofs.ItemStages.{found_from, pointers_inside, last_inside}
+use Rattle.sst_block_core.proofs.Check.ItemStages.{found_from, pointers_inside, last_inside}
 use Rattle.sst_block_core.proofs.table.block.check.pass.pass_payload.Goals as goal
 
 pub pass_over-requires-clause-pointers : goal.pass_over-requires-clause-pointers

@@ -1,8 +1,8 @@
 use Rattle.std.proofs.Common.{ℕ, ◌≡◌, ◌+◌, ◌%◌, ◌≤◌, [], None, length, arith, sym, ap, ◌∙◌, rules}
 use Rattle.std.proofs.lemmas.List.{length_push}
 use Rattle.sst_block_core.specs.Body.{items_at}
-use Rattle.sst_block_core.proofs.ReadOn.{read_rest, stop_rest}
-use Rattle.sst_block_core.proofs.PassSteps.{along_rest}
+use Rattle.sst_block_core.proofs.Check.ItemReads.{read_rest, stop_rest}
+use Rattle.sst_block_core.proofs.Check.PassSteps.{along_rest}
 use Rattle.sst_block_core.proofs.table.block.check.pass.pass_rest.Goals as goal
 
 pub loop-step-init : goal.loop-step-init

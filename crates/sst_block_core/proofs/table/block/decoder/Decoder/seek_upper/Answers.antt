@@ -1,7 +1,7 @@
 use Rattle.std.proofs.Common.{◌∙◌, ◌+◌, ◌*◌, length, min, true, ap, sym, subst}
 use Rattle.sst_block_core.specs.Scan.{Listed, Stands}
 use Rattle.sst_block_core.specs.Window.{picked_head, found}
-use Rattle.sst_block_core.proofs.Backs.{is_back_interval}
+use Rattle.sst_block_core.proofs.Places.BackStacks.{is_back_interval}
 use Rattle.sst_block_core.proofs.table.block.decoder.Decoder.seek_upper.Goals as goal
 
 pub invariant_of-self : goal.invariant_of-self

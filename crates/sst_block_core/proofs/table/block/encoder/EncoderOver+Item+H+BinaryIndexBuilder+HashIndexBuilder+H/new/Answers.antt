@@ -1,7 +1,7 @@
 use Rattle.std.proofs.Common.{[], refl, sym}
 use Rattle.std.proofs.Math.Nat.{zero-mod}
-use Rattle.sst_block_core.proofs.Written.{written_nothing}
-use Rattle.sst_block_core.proofs.BucketWrites.{no_buckets}
+use Rattle.sst_block_core.proofs.Writing.Written.{written_nothing}
+use Rattle.sst_block_core.proofs.Writing.BucketWrites.{no_buckets}
 use Rattle.sst_block_core.proofs.table.block.encoder.EncoderOver+Item+H+BinaryIndexBuilder+HashIndexBuilder+H.new.Goals as goal
 
 pub returns-clause-sound : goal.returns-clause-sound

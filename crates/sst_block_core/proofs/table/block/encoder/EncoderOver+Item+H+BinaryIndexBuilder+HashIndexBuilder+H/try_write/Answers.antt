@@ -1,9 +1,9 @@
 use Rattle.std.proofs.Common.{refl, ◌≡◌, ◌∙◌, ◌%◌, ◌≤◌, ◌^◌, eqb, false, is_err, arith, ap, subst, sym, length}
 use Rattle.std.proofs.lemmas.Nat.{mod_below}
-use Rattle.sst_block_core.proofs.Written.{written_push, body_more, pointers_inside, count_room}
+use Rattle.sst_block_core.proofs.Writing.Written.{written_push, body_more, pointers_inside, count_room}
 use Rattle.sst_block_core.specs.PointerLaws.{length-each}
-use Rattle.sst_block_core.proofs.BucketWrites.{table_push, heads_few}
-use Rattle.sst_block_core.proofs.Endings.{opened, opened_table, memory_first, long_first, not_refused, open_yet}
+use Rattle.sst_block_core.proofs.Writing.BucketWrites.{table_push, heads_few}
+use Rattle.sst_block_core.proofs.Writing.Endings.{opened, opened_table, memory_first, long_first, not_refused, open_yet}
 use Rattle.sst_block_core.proofs.table.block.encoder.EncoderOver+Item+H+BinaryIndexBuilder+HashIndexBuilder+H.try_write.Goals as goal
 
 pub add-added-requires-clause-pointers : goal.add-added-requires-clause-pointers

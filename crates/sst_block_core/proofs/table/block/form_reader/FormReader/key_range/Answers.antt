@@ -1,4 +1,4 @@
-use Rattle.sst_block_core.proofs.HeadTies.{stands_range}
+use Rattle.sst_block_core.proofs.Heads.TablesAndLists.{stands_range}
 use Rattle.sst_block_core.proofs.table.block.form_reader.FormReader.key_range.Goals as goal
 
 pub returns-clause-range : goal.returns-clause-range

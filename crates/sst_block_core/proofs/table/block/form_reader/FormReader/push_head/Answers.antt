@@ -1,5 +1,5 @@
 use Rattle.std.proofs.Common.{◌∙◌, ap}
-use Rattle.sst_block_core.proofs.HeadTies.{if_last, is_there}
+use Rattle.sst_block_core.proofs.Heads.TablesAndLists.{if_last, is_there}
 use Rattle.sst_block_core.proofs.table.block.form_reader.FormReader.push_head.Goals as goal
 
 pub push-requires-clause-begins : goal.push-requires-clause-begins

@@ -1,5 +1,5 @@
 use Rattle.std.proofs.Common.{◌≤◌, ◌∙◌, ap, subst, rules}
-use Rattle.sst_block_core.proofs.HeadTies.{shared_range}
+use Rattle.sst_block_core.proofs.Heads.TablesAndLists.{shared_range}
 use Rattle.sst_block_core.proofs.table.block.form_reader.FormReader.shared_prefix.Goals as goal
 
 pub overflow_add-result : goal.overflow_add-result

@@ -1,6 +1,6 @@
 use Rattle.std.proofs.Common.{arith}
 use Rattle.sst_base.specs.OrderLaws.{slice_cmp-prefix}
-use Rattle.sst_block_core.proofs.HeadCounts.{shorter_decides, shorter_differs}
+use Rattle.sst_block_core.proofs.Heads.TableSearches.{shorter_decides, shorter_differs}
 use Rattle.sst_block_core.proofs.table.block.heads.HeadTable.compare_prefix.Goals as goal
 
 pub returns-then-needle-prefix-clause-decides : goal.returns-then-needle-prefix-clause-decides

@@ -1,6 +1,6 @@
 use Rattle.std.proofs.Common.{◌≡◌, ◌∙◌, sym, ap, Some}
 use Rattle.std.proofs.lemmas.Option.{slice_get-get_or}
-use Rattle.sst_block_core.proofs.Cuts.{some_some}
+use Rattle.sst_block_core.proofs.Search.Cuts.{some_some}
 use Rattle.sst_block_core.proofs.table.block.heads.HeadTable.compare_rest.Goals as goal
 
 pub bytes_of-requires : goal.bytes_of-requires

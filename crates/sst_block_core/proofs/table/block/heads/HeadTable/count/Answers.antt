@@ -1,5 +1,5 @@
 use Rattle.std.proofs.Common.{◌≡◌, ◌∙◌, ◌<◌, length, arith, rules}
-use Rattle.sst_block_core.proofs.HeadCounts.{before_inside, all_before, none_before}
+use Rattle.sst_block_core.proofs.Heads.TableSearches.{before_inside, all_before, none_before}
 use Rattle.sst_block_core.proofs.table.block.heads.HeadTable.count.Goals as goal
 
 pub returns-then-is_empty-clause-value : goal.returns-then-is_empty-clause-value

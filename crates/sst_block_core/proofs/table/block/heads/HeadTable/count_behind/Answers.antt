@@ -1,6 +1,6 @@
 use Rattle.std.proofs.Common.{refl, inl, inr, arith}
-use Rattle.sst_block_core.proofs.Halves.{digits_half}
-use Rattle.sst_block_core.proofs.HeadCounts.{before_inside, cut_at}
+use Rattle.sst_block_core.proofs.Search.Halves.{digits_half}
+use Rattle.sst_block_core.proofs.Heads.TableSearches.{before_inside, cut_at}
 use Rattle.sst_block_core.proofs.table.block.heads.HeadTable.count_behind.Goals as goal
 
 pub loop-size-init : goal.loop-size-init

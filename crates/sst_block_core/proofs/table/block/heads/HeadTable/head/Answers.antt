@@ -2,7 +2,7 @@ use Rattle.std.proofs.Common.{◌≡◌, ◌∙◌, sym, ap, Some}
 use Rattle.sst_block_core.specs.declared.table.block.heads.Head.{Head}
 use Rattle.sst_block_core.specs.Heads.{key_in}
 use Rattle.std.proofs.lemmas.Option.{slice_get-get_or}
-use Rattle.sst_block_core.proofs.Cuts.{some_some}
+use Rattle.sst_block_core.proofs.Search.Cuts.{some_some}
 use Rattle.sst_block_core.proofs.table.block.heads.HeadTable.head.Goals as goal
 
 pub bytes_of-requires : goal.bytes_of-requires

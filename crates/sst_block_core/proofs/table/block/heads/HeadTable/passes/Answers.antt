@@ -3,9 +3,9 @@ use mir.Val.{bool_byte}
 use Rattle.std.proofs.lemmas.Option.{slice_get-get_or}
 use Rattle.std.proofs.lemmas.List.{get_or_read}
 use Rattle.sst_block_core.specs.declared.table.block.heads.Head.{Head}
-use Rattle.sst_block_core.proofs.Cuts.{some_some}
-use Rattle.sst_block_core.proofs.Fronts.{half_small}
-use Rattle.sst_block_core.proofs.HeadCounts.{told_apart, told_tied, number_small}
+use Rattle.sst_block_core.proofs.Search.Cuts.{some_some}
+use Rattle.sst_block_core.proofs.Heads.Fronts.{half_small}
+use Rattle.sst_block_core.proofs.Heads.TableSearches.{told_apart, told_tied, number_small}
 use Rattle.sst_block_core.proofs.table.block.heads.HeadTable.passes.Goals as goal
 
 -- a truth value as a byte

@@ -1,6 +1,6 @@
 use Rattle.std.proofs.Common.{refl, ◌∙◌, ◌/◌, ap}
 use Rattle.sst_block_core.specs.Heads.{head_of, front}
-use Rattle.sst_block_core.proofs.HeadCounts.{table_more}
+use Rattle.sst_block_core.proofs.Heads.TableSearches.{table_more}
 use Rattle.sst_block_core.proofs.table.block.heads.HeadTable.push.Goals as goal
 
 pub returns-clause-table : goal.returns-clause-table

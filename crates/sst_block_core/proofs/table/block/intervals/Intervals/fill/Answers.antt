@@ -3,7 +3,7 @@ use Rattle.std.proofs.Math.Nat.{mul-mod_left}
 use Rattle.std.proofs.lemmas.List.{length_push}
 use Rattle.sst_block_core.specs.declared.table.block.place.Place.{Place}
 use Rattle.sst_block_core.specs.BackLaws.{first_of_is, first_below, first_near}
-use Rattle.sst_block_core.proofs.Backs.{mod_in_interval, any_base, stack_push}
+use Rattle.sst_block_core.proofs.Places.BackStacks.{mod_in_interval, any_base, stack_push}
 use Rattle.sst_block_core.proofs.table.block.intervals.Intervals.fill.Goals as goal
 
 pub loop-at-init : goal.loop-at-init

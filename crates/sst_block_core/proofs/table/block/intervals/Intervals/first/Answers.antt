@@ -1,7 +1,7 @@
 use Rattle.sst_block_core.specs.Scan.{Stands}
 use Rattle.sst_block_core.specs.Intervals.{IntervalsParts}
 use Rattle.std.proofs.Common.{subst}
-use Rattle.sst_block_core.proofs.HeadPlaces.{first_stands}
+use Rattle.sst_block_core.proofs.Places.HeadPlaces.{first_stands}
 use Rattle.sst_block_core.proofs.table.block.intervals.Intervals.first.Goals as goal
 
 pub returns-clause-stands : goal.returns-clause-stands

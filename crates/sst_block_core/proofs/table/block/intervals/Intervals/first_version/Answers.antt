@@ -1,4 +1,4 @@
-use Rattle.sst_block_core.proofs.Versions.{version_found}
+use Rattle.sst_block_core.proofs.Search.Versions.{version_found}
 use Rattle.sst_block_core.proofs.table.block.intervals.Intervals.first_version.Goals as goal
 
 pub returns-clause-item : goal.returns-clause-item

@@ -2,9 +2,9 @@ use Rattle.std.proofs.Common.{◌∙◌, Some, sym, ap, subst, drop}
 use Rattle.sst_block_core.specs.Scan.{Listed}
 use Rattle.sst_block_core.specs.Window.{passes}
 use Rattle.sst_block_core.specs.Intervals.{IsEntered}
-use Rattle.sst_block_core.proofs.Scans.{enters, landed_match}
-use Rattle.sst_block_core.proofs.FirstMatches.{first_of_these, none_of_these, kept_if}
-use Rattle.sst_block_core.proofs.Versions.{version_found_in}
+use Rattle.sst_block_core.proofs.Search.Scans.{enters, landed_match}
+use Rattle.sst_block_core.proofs.Search.FirstMatches.{first_of_these, none_of_these, kept_if}
+use Rattle.sst_block_core.proofs.Search.Versions.{version_found_in}
 use Rattle.sst_block_core.proofs.table.block.intervals.Intervals.first_version_in.Goals as goal
 
 pub returns-then-not-passes-clause-item : goal.returns-then-not-passes-clause-item

@@ -3,9 +3,9 @@ use Rattle.std.proofs.lemmas.Bool.{cases_lt}
 use Rattle.sst_block_core.specs.Window.{passes, count_passed}
 use Rattle.sst_block_core.specs.Pointers.{head_count}
 use Rattle.sst_block_core.specs.Intervals.{IntervalsParts}
-use Rattle.sst_block_core.proofs.HeadTies.{passed_within, passed_low, passed_high, passed_start}
-use Rattle.sst_block_core.proofs.Cuts.{count_inside, passed_below, not_passed_above}
-use Rattle.sst_block_core.proofs.HeadAnswers.{times_upto}
+use Rattle.sst_block_core.proofs.Heads.TablesAndLists.{passed_within, passed_low, passed_high, passed_start}
+use Rattle.sst_block_core.proofs.Search.Cuts.{count_inside, passed_below, not_passed_above}
+use Rattle.sst_block_core.proofs.Search.HeadAnswers.{times_upto}
 use Rattle.sst_block_core.proofs.table.block.intervals.Intervals.heads_passed.Goals as goal
 
 pub returns-in-None-clause-low : goal.returns-in-None-clause-low

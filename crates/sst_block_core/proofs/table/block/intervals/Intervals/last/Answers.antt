@@ -1,6 +1,6 @@
 use Rattle.std.proofs.Common.{◌∙◌, ◌%◌, ℕ, ap}
 use Rattle.sst_block_core.specs.Intervals.{IntervalsParts}
-use Rattle.sst_block_core.proofs.HeadPlaces.{last_stands}
+use Rattle.sst_block_core.proofs.Places.HeadPlaces.{last_stands}
 use Rattle.sst_block_core.proofs.table.block.intervals.Intervals.last.Goals as goal
 
 pub returns-clause-stands : goal.returns-clause-stands

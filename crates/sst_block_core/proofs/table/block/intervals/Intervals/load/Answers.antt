@@ -1,5 +1,5 @@
 use Rattle.std.proofs.Common.{◌≡◌, length, refl, arith}
-use Rattle.sst_block_core.proofs.Backs.{back_cost_ends, zero_from_test}
+use Rattle.sst_block_core.proofs.Places.BackStacks.{back_cost_ends, zero_from_test}
 use Rattle.sst_block_core.proofs.table.block.intervals.Intervals.load.Goals as goal
 
 pub returns-then-is_empty-clause-counts : goal.returns-then-is_empty-clause-counts

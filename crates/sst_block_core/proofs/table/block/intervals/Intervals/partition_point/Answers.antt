@@ -1,6 +1,6 @@
 use Rattle.std.proofs.Common.{◌≡◌, ◌+◌, ◌-◌, ◌*◌, ◌/◌, ◌<◌, ◌≤◌, length, true, false, ◌∙◌, arith}
-use Rattle.sst_block_core.proofs.Halves.{digits_step}
-use Rattle.sst_block_core.proofs.HeadAnswers.{times_upto, answered_head, some_heads}
+use Rattle.sst_block_core.proofs.Search.Halves.{digits_step}
+use Rattle.sst_block_core.proofs.Search.HeadAnswers.{times_upto, answered_head, some_heads}
 use Rattle.sst_block_core.proofs.table.block.intervals.Intervals.partition_point.Goals as goal
 
 pub loop-left-preserved-then-pred : goal.loop-left-preserved-then-pred

@@ -1,6 +1,6 @@
 use Rattle.std.proofs.Common.{◌≡◌, ◌+◌, ◌-◌, ◌*◌, ◌/◌, ◌<◌, ◌≤◌, length, arith}
 use Rattle.sst_block_core.specs.Body.{place_offset}
-use Rattle.sst_block_core.proofs.HeadAnswers.{times_upto}
+use Rattle.sst_block_core.proofs.Search.HeadAnswers.{times_upto}
 use Rattle.sst_block_core.specs.OffsetLaws.{head_upto, head_behind}
 use Rattle.sst_block_core.proofs.table.block.intervals.Intervals.place_at.Goals as goal
 

@@ -1,9 +1,9 @@
 use Rattle.std.proofs.Common.{◌≡◌, ◌∙◌, ◌+◌, ap, sym, subst, slice_get, arith}
 use Rattle.sst_block_core.specs.Heads.{IsBehindHead, IsTableUpto}
 use Rattle.sst_block_core.specs.Intervals.{IntervalsParts}
-use Rattle.sst_block_core.proofs.Cuts.{some_some}
-use Rattle.sst_block_core.proofs.PlaceReads.{head_item, head_is_there}
-use Rattle.sst_block_core.proofs.TableSteps.{next_behind, upto_more}
+use Rattle.sst_block_core.proofs.Search.Cuts.{some_some}
+use Rattle.sst_block_core.proofs.Places.PlaceReads.{head_item, head_is_there}
+use Rattle.sst_block_core.proofs.Heads.TableSteps.{next_behind, upto_more}
 use Rattle.sst_block_core.proofs.table.block.intervals.Intervals.push_head.Goals as goal
 
 pub push_head-requires-clause-head : goal.push_head-requires-clause-head

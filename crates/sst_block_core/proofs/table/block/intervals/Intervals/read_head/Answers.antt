@@ -1,7 +1,7 @@
 use Rattle.std.proofs.Common.{◌∙◌, ap, sym, arith, slice_get}
 use Rattle.std.proofs.lemmas.Option.{same_Some}
-use Rattle.sst_block_core.proofs.HeadTies.{table_head}
-use Rattle.sst_block_core.proofs.PlaceReads.{head_item, head_is_there}
+use Rattle.sst_block_core.proofs.Heads.TablesAndLists.{table_head}
+use Rattle.sst_block_core.proofs.Places.PlaceReads.{head_item, head_is_there}
 use Rattle.sst_block_core.proofs.table.block.intervals.Intervals.read_head.Goals as goal
 
 pub read_head-requires : goal.read_head-requires

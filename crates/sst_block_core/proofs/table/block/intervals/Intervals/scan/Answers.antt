@@ -1,5 +1,5 @@
 use Rattle.std.proofs.Common.{◌∙◌, ap, sym, refl, drop, arith}
-use Rattle.sst_block_core.proofs.Scans.{alike_inside, order_is, stops_here, goes_on}
+use Rattle.sst_block_core.proofs.Search.Scans.{alike_inside, order_is, stops_here, goes_on}
 use Rattle.sst_block_core.proofs.table.block.intervals.Intervals.scan.Goals as goal
 
 pub loop-at-init : goal.loop-at-init

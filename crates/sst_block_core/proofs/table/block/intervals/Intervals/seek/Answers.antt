@@ -1,7 +1,7 @@
 use Rattle.std.proofs.Common.{◌∙◌, arith}
 use Rattle.std.proofs.lemmas.Option.{slice_get_within}
-use Rattle.sst_block_core.proofs.Cuts.{count_inside}
-use Rattle.sst_block_core.proofs.Scans.{stop_place, landed_found}
+use Rattle.sst_block_core.proofs.Search.Cuts.{count_inside}
+use Rattle.sst_block_core.proofs.Search.Scans.{stop_place, landed_found}
 use Rattle.sst_block_core.proofs.table.block.intervals.Intervals.seek.Goals.{then-at-end-via-then-at-end, then-at-end-via-else-at-end+then-at-item_count}
 use Rattle.sst_block_core.proofs.table.block.intervals.Intervals.seek.Goals as goal
 

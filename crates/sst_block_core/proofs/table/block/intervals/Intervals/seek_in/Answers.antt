@@ -1,7 +1,7 @@
 use Rattle.std.proofs.Common.{sym, subst}
 use Rattle.sst_block_core.specs.Scan.{Listed}
 use Rattle.sst_block_core.specs.Intervals.{IsEntered}
-use Rattle.sst_block_core.proofs.Scans.{head_passes, enters}
+use Rattle.sst_block_core.proofs.Search.Scans.{head_passes, enters}
 use Rattle.sst_block_core.proofs.table.block.intervals.Intervals.seek_in.Goals as goal
 
 pub scan-requires-clause-entered : goal.scan-requires-clause-entered

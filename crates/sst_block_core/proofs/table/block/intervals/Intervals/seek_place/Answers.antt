@@ -1,5 +1,5 @@
-use Rattle.sst_block_core.proofs.Cuts.{count_inside}
-use Rattle.sst_block_core.proofs.Scans.{stop_place}
+use Rattle.sst_block_core.proofs.Search.Cuts.{count_inside}
+use Rattle.sst_block_core.proofs.Search.Scans.{stop_place}
 use Rattle.sst_block_core.proofs.table.block.intervals.Intervals.seek_place.Goals as goal
 
 pub returns-then-first-end-clause-place : goal.returns-then-first-end-clause-place

@@ -1,4 +1,4 @@
-use Rattle.sst_block_core.proofs.Backs.{is_back_filled}
+use Rattle.sst_block_core.proofs.Places.BackStacks.{is_back_filled}
 use Rattle.sst_block_core.proofs.table.block.intervals.Intervals.set_back.Goals as goal
 
 pub returns-then-end-gt0-clause-back : goal.returns-then-end-gt0-clause-back

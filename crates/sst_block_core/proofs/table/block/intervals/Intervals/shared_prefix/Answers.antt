@@ -4,8 +4,8 @@ use Rattle.sst_block_core.specs.Found.{range_of}
 use Rattle.sst_block_core.specs.Intervals.{IntervalsParts}
 use Rattle.sst_block_core.specs.Scan.{Listed}
 use Rattle.sst_block_core.specs.Stages.{items_in}
-use Rattle.sst_block_core.proofs.PlaceReads.{head_item, head_is_there}
-use Rattle.sst_block_core.proofs.TableSteps.{all_begin}
+use Rattle.sst_block_core.proofs.Places.PlaceReads.{head_item, head_is_there}
+use Rattle.sst_block_core.proofs.Heads.TableSteps.{all_begin}
 use Rattle.sst_block_core.proofs.table.block.intervals.Intervals.shared_prefix.Goals as goal
 
 pub shared_prefix-requires-clause-first : goal.shared_prefix-requires-clause-first

@@ -1,5 +1,5 @@
 use Rattle.std.proofs.Common.{◌∙◌}
-use Rattle.sst_block_core.proofs.PlaceReads.{head_is_there, took_head}
+use Rattle.sst_block_core.proofs.Places.PlaceReads.{head_is_there, took_head}
 use Rattle.sst_block_core.proofs.table.block.intervals.Intervals.take_head.Goals as goal
 
 pub read_full-item-requires : goal.read_full-item-requires

@@ -1,4 +1,4 @@
-use Rattle.sst_block_core.proofs.PlaceReads.{rest_is_there, took_rest, took_behind}
+use Rattle.sst_block_core.proofs.Places.PlaceReads.{rest_is_there, took_rest, took_behind}
 use Rattle.sst_block_core.proofs.table.block.intervals.Intervals.take_rest.Goals as goal
 
 pub read_truncated-item-requires : goal.read_truncated-item-requires

@@ -4,7 +4,7 @@ use Rattle.sst_block_core.specs.Scan.{Listed}
 use Rattle.sst_block_core.specs.Stages.{items_in}
 use Rattle.sst_block_core.specs.Trailer.{trailer_in}
 use Rattle.sst_block_core.specs.OpeningLaws.{opened}
-use Rattle.sst_block_core.proofs.HeadPlaces.{index_inside, indexed_along}
+use Rattle.sst_block_core.proofs.Places.HeadPlaces.{index_inside, indexed_along}
 use Rattle.sst_block_core.proofs.table.block.intervals.Intervals.with_table.Goals as goal
 
 pub new-trailer-requires : goal.new-trailer-requires

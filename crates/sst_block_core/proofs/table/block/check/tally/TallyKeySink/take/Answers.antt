@@ -1,7 +1,7 @@
 use Rattle.std.proofs.Common.{◌≡◌, ◌∙◌, ◌%◌, arith, length, get_or, set, refl, ap, sym, subst}
 use Rattle.sst_block_core.specs.Buckets.{bucket_byte_with}
 use Rattle.sst_block_core.specs.Passes.{TallyState, HasTallied}
-use Rattle.sst_block_core.proofs.Tallies.{tally_push}
+use Rattle.sst_block_core.proofs.Check.BucketTallies.{tally_push}
 use Rattle.sst_block_core.proofs.table.block.check.tally.TallyKeySink.take.Goals as goal
 
 pub returns : goal.returns

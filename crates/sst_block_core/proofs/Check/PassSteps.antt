@@ -20,9 +20,9 @@ use Rattle.sst_base.specs.declared.table.util.SliceIndexes.{SliceIndexes}
 use Rattle.sst_block_core.specs.Found.{range_of}
 use Rattle.sst_block_core.specs.declared.table.block.check.keys.KeyVersion.{KeyVersion}
 use Rattle.sst_block_core.specs.declared.table.block.check.pass.Standing.{Standing}
-use Rattle.sst_block_core.proofs.KeyOrders.{not_before}
-use Rattle.sst_block_core.proofs.ReadOn.{read_offset, read_none}
-use Rattle.sst_block_core.proofs.Written.{place_same}
+use Rattle.sst_block_core.proofs.Check.KeyOrders.{not_before}
+use Rattle.sst_block_core.proofs.Check.ItemReads.{read_offset, read_none}
+use Rattle.sst_block_core.proofs.Writing.Written.{place_same}
 
 last_push : {X : Type 0} (xs : List X) (x : X) → last_of (xs ++ x ∷ []) ≡ Some x
 last_push [] x = refl

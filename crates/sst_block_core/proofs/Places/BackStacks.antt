@@ -1,6 +1,6 @@
 -- The back of a window: its stack of places.
 use Rattle.std.proofs.Common.{◌≡◌, ℕ, ◌+◌, ◌-◌, ◌*◌, ◌/◌, ◌%◌, ◌<◌, ◌≤◌, inl, inr, Bool, true, eqb, List, [], ◌∷◌, ◌++◌, length, min, refl, sym, ap, subst, ◌∙◌, arith}
-use Rattle.std.proofs.Math.Nat.{zero-mod, mul-mod_left, add-mul-mod_self_right, mod-add-div', mod-eq_of_lt}
+use Rattle.std.proofs.Math.Nat.{mul-mod_left, add-mul-mod_self_right, mod-add-div', mod-eq_of_lt}
 use Rattle.std.proofs.Math.Bool.{or-true}
 use Rattle.std.proofs.lemmas.Bool.{cases_lt, eq-eqb}
 use Rattle.std.proofs.lemmas.Bool.Decides.{nat_tests}
@@ -60,29 +60,6 @@ module _ {X : Type 0} (kind : Kind X) (list : Listed X) where
         },
         more,
       )
-
-  pub is_back_empty : (stack : List ℕ) (base : ℕ) → length stack ≡ 0 → IsBack kind list 0 stack base
-  is_back_empty stack base e = record {
-    inside = omega arith;
-    fits = omega (arith, e);
-    places = λ k h. absurd (omega (arith, e, h));
-    head = λ h. absurd (omega (arith, e, h));
-    ends = λ z h. absurd (let m = zero-mod list.interval in omega (arith, m, h));
-  }
-
-  -- without its last place
-  pub is_back_less : (hi : ℕ) (stack less : List ℕ) (top base : ℕ) → 0 < hi → IsBack kind list hi stack base → stack ≡ less ++ top ∷ [] → IsBack kind list (hi - 1) less base
-  is_back_less hi stack less top base some b is =
-      let n : length stack ≡ length less + 1 = ap length is ∙ length_push less top in
-      let inside = b.inside in let fits = b.fits in
-      let start : hi - length stack ≡ (hi - 1) - length less = omega (arith, n, fits) in
-      record {
-        inside = omega (arith, inside);
-        fits = omega (arith, fits, n);
-        places = λ k h. rw (get_or_append_left less (top ∷ []) 0 k h) at (rw is at (rw start at (b.places k (omega (arith, n, h)))));
-        head = λ h. rw start at (b.head (omega (arith, n)));
-        ends = λ z h. absurd (let r = b.head (omega (arith, n)) in let e : (hi - 1) % list.interval ≡ 0 = ap (λ k. k % list.interval) (let q : hi - 1 ≡ hi - length stack = omega (arith, n, z) in q) ∙ r in omega (arith, e, h));
-      }
 
 -- what is decoded for an empty stack
 pub back_cost_ends : (r n hi : ℕ) → (0 < hi % r → hi ≡ n) → hi - first_of r hi ≤ back_cost r n hi

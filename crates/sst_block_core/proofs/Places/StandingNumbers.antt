@@ -12,7 +12,7 @@ use Rattle.sst_base.specs.Reading.{◌>>=◌, number_at, length_prefixed_at}
 use Rattle.sst_base.specs.ReadingLaws.{chain_first, chain_next}
 use Rattle.sst_block_core.specs.Digits.{IsReadTo}
 use Rattle.sst_block_core.specs.Found.{Takes, range_of}
-use Rattle.sst_block_core.proofs.Ends.{number_some}
+use Rattle.sst_block_core.proofs.Places.OffsetReads.{number_some}
 
 -- where a number stands, a varint does
 varint_stands : (bits : ℕ) (bytes : List ℕ) → IsSome (number_at bits bytes) → IsSome (varint_at bits bytes)

@@ -11,7 +11,7 @@ use Rattle.std.proofs.lemmas.Bool.{cases_lt, cases_Bool, false≢true, le-leb}
 use Rattle.std.proofs.lemmas.Bool.Decides.{nat_tests}
 use Rattle.sst_block_core.specs.Kind.{Kind, IsOrdered}
 use Rattle.sst_block_core.specs.Window.{passes_cmp, count_passed, is_version}
-use Rattle.sst_block_core.proofs.Cuts.{cut_ordered, some_some}
+use Rattle.sst_block_core.proofs.Search.Cuts.{cut_ordered, some_some}
 use Rattle.std.proofs.Math.Bool.{and-false}
 use Rattle.sst_block_core.specs.ListLaws.{first_filter, filter_none}
 use Rattle.sst_block_core.specs.VersionLaws.{keys_equal}

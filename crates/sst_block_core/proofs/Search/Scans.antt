@@ -17,8 +17,8 @@ use Rattle.sst_block_core.specs.Intervals.{IsEntered, IsFoundAt}
 use Rattle.sst_block_core.specs.Landings.{IsLandedAt, with_needle}
 use Rattle.sst_block_core.specs.declared.table.block.landing.Landing.{Landing}
 use Rattle.sst_block_core.specs.declared.table.block.place.Place.{Place}
-use Rattle.sst_block_core.proofs.Cuts.{cut_ordered, passed_below, not_passed_above}
-use Rattle.sst_block_core.proofs.SharedFronts.{order_by_lengths}
+use Rattle.sst_block_core.proofs.Search.Cuts.{cut_ordered, passed_below, not_passed_above}
+use Rattle.sst_block_core.proofs.Search.SharedFronts.{order_by_lengths}
 
 -- what is kept where a test says so, by cases
 pub kept_match : {P : Type 0} (p : P) (b : Bool) (r : Option P) (None' : Type 0) (Some' : P → Type 0) → r ≡ cond b (Some p) None → (b ≡ false → None') → (b ≡ true → Some' p) → MatchOption r None' Some'

@@ -11,11 +11,11 @@ use Rattle.sst_block_core.specs.Trailer.{Trailer}
 use Rattle.sst_block_core.specs.Pointers.{head_count, head_offsets, last_pointer, pointer_width, pointers_in}
 use Rattle.sst_block_core.specs.Stages.{HasParts, HasForms, HasOrder, HasPointers, body_in, index_in, items_by, items_read}
 use Rattle.sst_block_core.specs.Passes.{ArePointed, IsPassed, IsFound}
-use Rattle.sst_block_core.proofs.PassSteps.{both}
+use Rattle.sst_block_core.proofs.Check.PassSteps.{both}
 use Rattle.sst_block_core.specs.OpeningLaws.{length-items_at}
-use Rattle.sst_block_core.proofs.HeadPlaces.{head_below}
+use Rattle.sst_block_core.proofs.Places.HeadPlaces.{head_below}
 use Rattle.sst_block_core.specs.PointerLaws.{last_offset}
-use Rattle.sst_block_core.proofs.PointerReads.{pointers_count, pointer_is}
+use Rattle.sst_block_core.proofs.Places.PointerReads.{pointers_count, pointer_is}
 
 pub heads_some : (r n heads : ℕ) → 0 < r → 1 ≤ n → heads ≡ head_count r n → 0 < heads
 heads_some r n heads pos some e = let b = (head_below r n 0 pos).1 (omega arith) in omega (arith, b, e)
@@ -97,9 +97,6 @@ module _ {X : Type 0} (kind : Kind X) (t : Trailer) (p : List ℕ) (parts : HasP
 
 -- what a pass over parts of a payload knows, of the payload
 module _ {X : Type 0} (kind : Kind X) (fits : X → Type 0) (t : Trailer) (p bytes pointers : List ℕ) (parts : HasParts t p) (e : bytes ≡ body_in t p) (same : pointers ≡ pointers_in t.width (index_in t p)) where
-  pub not_forms : ((xs : List X) → items_at kind t.interval 0 t.item_count [] bytes ≡ Some (xs, []) → ⊥) → HasForms kind t p → ⊥
-  not_forms wrong forms = wrong (items_by kind t p) (ap (items_at kind t.interval 0 t.item_count []) e ∙ forms)
-
   passed_in : (a o i : Bool) → IsPassed kind fits t.interval t.item_count bytes pointers a o i → IsPassed kind fits t.interval t.item_count (body_in t p) (pointers_in t.width (index_in t p)) a o i
   passed_in a o i k =
       subst (λ b. IsPassed kind fits t.interval t.item_count b (pointers_in t.width (index_in t p)) a o i) e (subst (λ x. IsPassed kind fits t.interval t.item_count bytes x a o i) same k)

@@ -1,29 +1,11 @@
 -- Where a predicate over heads turns.
-use Rattle.std.proofs.Common.{◌≡◌, ℕ, zero, suc, ◌-◌, ◌*◌, ◌<◌, ◌≤◌, inl, inr, Bool, true, false, List, length, sym, arith, Some}
+use Rattle.std.proofs.Common.{◌≡◌, ℕ, zero, suc, ◌*◌, ◌<◌, ◌≤◌, inl, inr, Bool, List, length, arith, Some}
 use Rattle.std.specs.Borrow.{Bor}
 use Rattle.std.specs.List.{slice_get}
-use Rattle.std.proofs.lemmas.Bool.{cases_lt, false≢true}
 use Rattle.std.proofs.lemmas.Nat.{mul-le}
 use Rattle.std.proofs.lemmas.Option.{slice_get_cases}
 use Rattle.sst_block_core.specs.Kind.{Kind}
-use Rattle.sst_block_core.specs.Intervals.{Answered, Splits}
-
--- where the predicate is true and then false, the search stops at its point
-pub split_point : {X : Type 0} (kind : Kind X) (post : Bor (List ℕ) → ℕ → Bool → Type 0) (r : ℕ) (items : List X) (heads n : ℕ) → n ≤ heads
-    → (0 < n → Answered kind post r items (n - 1) true) → (n < heads → Answered kind post r items n false)
-    → (p : ℕ) → Splits kind post r items heads p → n ≡ p
-split_point kind post r items heads n upto before after p s = elim (cases_lt n p) [
-  | inl less ↦
-      let b = s.bound in
-      let a = after (omega arith) in
-      absurd (false≢true (s.first n less a.item a.key false a.there a.is a.got))
-  | inr ge ↦ elim (cases_lt p n) [
-    | inl more ↦
-        let a = before (omega arith) in
-        absurd (false≢true (sym (s.others (n - 1) (omega arith) (omega arith) a.item a.key true a.there a.is a.got)))
-    | inr same ↦ omega arith
-  ]
-]
+use Rattle.sst_block_core.specs.Intervals.{Answered}
 
 -- an answer at a head that was read
 pub answered_head : {X : Type 0} (kind : Kind X) (post : Bor (List ℕ) → ℕ → Bool → Type 0) (r : ℕ) (items : List X) (j : ℕ) (b : Bool) → j * r < length items → (found : Bor (List ℕ) × ℕ)

@@ -9,7 +9,7 @@ use Rattle.sst_block_core.specs.Kind.{Kind, IsOrdered}
 use Rattle.sst_block_core.specs.Scan.{Listed}
 use Rattle.sst_block_core.specs.Window.{count_passed, is_version}
 use Rattle.sst_block_core.specs.Intervals.{IsFoundAt}
-use Rattle.sst_block_core.proofs.FirstMatches.{stops_at, none_at, none_between}
+use Rattle.sst_block_core.proofs.Search.FirstMatches.{stops_at, none_at, none_between}
 
 module _ {X P : Type 0} (item_of : List ℕ → P → X) (is_found : List ℕ → P → Type 0) (kind : Kind X) (needle : List ℕ) (seqno : ℕ) (list : Listed X) (ordered : IsOrdered kind list.items) (place : ℕ) where
   count : ℕ

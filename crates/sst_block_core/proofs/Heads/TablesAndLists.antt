@@ -16,10 +16,10 @@ use Rattle.sst_block_core.specs.Kind.{Kind, IsOrdered}
 use Rattle.sst_block_core.specs.Pointers.{head_count}
 use Rattle.sst_block_core.specs.Scan.{Listed}
 use Rattle.sst_block_core.specs.Window.{passes, count_passed}
-use Rattle.sst_block_core.proofs.Cuts.{count_inside, passed_below, not_passed_above, cut_ordered}
-use Rattle.sst_block_core.proofs.HeadAnswers.{times_upto}
-use Rattle.sst_block_core.proofs.HeadCounts.{as_items}
-use Rattle.sst_block_core.proofs.HeadPlaces.{head_below, heads_reach}
+use Rattle.sst_block_core.proofs.Search.Cuts.{count_inside, passed_below, not_passed_above, cut_ordered}
+use Rattle.sst_block_core.proofs.Search.HeadAnswers.{times_upto}
+use Rattle.sst_block_core.proofs.Heads.TableSearches.{as_items}
+use Rattle.sst_block_core.proofs.Places.HeadPlaces.{head_below, heads_reach}
 
 module _ {X : Type 0} (kind : Kind X) (list : Listed X) (pos : 0 < list.interval) (t : Table) (tie : IsTableOf kind list t) where
   -- an item that is a head has one in the table

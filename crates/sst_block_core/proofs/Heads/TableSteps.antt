@@ -3,9 +3,7 @@ use Rattle.std.proofs.Common.{◌≡◌, ◌≢◌, ◌<◌, ◌≤◌, ◌+◌,
 use Rattle.std.proofs.lemmas.Bool.{cases_lt, leb-true}
 use Rattle.std.proofs.lemmas.Cmp.{nat_list_cmp_total, ranked}
 use Rattle.std.proofs.lemmas.List.{length_push}
-use Rattle.sst_base.specs.Order.{versions_cmp, IsInOrder}
-use Rattle.sst_block_core.specs.Found.{IsRange}
-use Rattle.sst_block_core.proofs.HeadCounts.{begins_between, slice_get_front, slice_get_last}
+use Rattle.sst_block_core.proofs.Heads.TableSearches.{begins_between, slice_get_front, slice_get_last}
 use Rattle.std.proofs.lemmas.Option.{slice_get_cases, slice_get_within}
 use Rattle.std.specs.Ordering.{nat_cmp, ordering_then, ordering_reverse}
 use Rattle.std.specs.Cmp.Lexicographic.{slice_cmp}
@@ -13,15 +11,15 @@ use Rattle.std.specs.declared.cmp.Ordering.{Ordering}
 use Rattle.std.specs.declared.cmp.Ordering.TheVariants.{Less, Equal, Greater}
 use Rattle.sst_base.specs.KeyOrderLaws.{slice_cmp-equal}
 use Rattle.sst_block_core.specs.declared.table.block.heads.Head.{Head}
-use Rattle.sst_block_core.specs.Heads.{key_in, Begins, Table, IsTable, IsHeadOf, IsTableUpto, HeadsBegin, IsBehindHead}
+use Rattle.sst_block_core.specs.Heads.{Begins, Table, IsTable, IsHeadOf, IsTableUpto, HeadsBegin, IsBehindHead}
 use Rattle.sst_block_core.specs.Kind.{Kind, IsOrdered, item_cmp}
 use Rattle.sst_block_core.specs.Passes.{last_of}
 use Rattle.sst_block_core.specs.Pointers.{head_count}
 use Rattle.sst_block_core.specs.Scan.{Listed}
 use Rattle.sst_block_core.specs.Window.{passes, passes_cmp}
-use Rattle.sst_block_core.proofs.Cuts.{some_some, passed_below, cut_ordered}
-use Rattle.sst_block_core.proofs.HeadAnswers.{times_upto}
-use Rattle.sst_block_core.proofs.HeadPlaces.{head_below}
+use Rattle.sst_block_core.proofs.Search.Cuts.{some_some, passed_below, cut_ordered}
+use Rattle.sst_block_core.proofs.Search.HeadAnswers.{times_upto}
+use Rattle.sst_block_core.proofs.Places.HeadPlaces.{head_below}
 
 -- a key that a search passes sorts no later
 apart : (a b : Ordering) (m n : ℕ) → b ≡ ordering_reverse a → passes_cmp a (Some n) m ≡ true → ordering_then b (nat_cmp m n) ≢ Less
@@ -44,19 +42,6 @@ later kind items o i k y x h at there =
     let good = (cut_ordered kind needle from items o).first i y (omega (arith, h, below)) at in
     apart (slice_cmp nat_cmp (kind.key y) needle) (slice_cmp nat_cmp needle (kind.key y)) (kind.seqno y) (kind.seqno x)
     (nat_list_cmp_total.antisymm needle (kind.key y)) good
-
--- none yet
-pub upto_none : {X : Type 0} (kind : Kind X) (list : Listed X) (t : Table) → t.heads ≡ [] → t.fronts ≡ [] → IsRange list.payload t.prefix → IsTableUpto kind list 0 t
-upto_none kind list t e f range = record {
-  sound = record {
-    prefix_inside = range;
-    count = ap length f ∙ sym (ap length e);
-    each_is = λ k h got. absurd (let w = slice_get_within t.heads k h got in let l = ap length e in omega (arith, w, l));
-    ordered = subst (IsInOrder (versions_cmp (key_in list.payload) (λ (h : Head). h.seqno))) (sym e) tt;
-  };
-  count = ap length e;
-  same = λ k x h at got. absurd (let w = slice_get_within t.heads k h got in let l = ap length e in omega (arith, w, l));
-}
 
 -- all heads begin with what the first and the last begin with
 pub all_begin : {X : Type 0} (kind : Kind X) (list : Listed X) → 0 < list.interval → 0 < length list.items → IsOrdered kind list.items → (prefix : List ℕ) (first last : X)

@@ -14,14 +14,14 @@ use Rattle.std.specs.Cmp.{nat_cmp_is}
 use Rattle.std.proofs.lemmas.List.{get_or_append_left, get_or_at, length_push}
 use Rattle.sst_block_core.specs.Found.{IsRange, range_of}
 use Rattle.sst_block_core.specs.Heads.{key_in, Begins, front, Table, IsHead, IsTable, Tells, TellsBit, heads_before}
-use Rattle.sst_block_core.proofs.Fronts.{fronts_decide, half_small}
+use Rattle.sst_block_core.proofs.Heads.Fronts.{fronts_decide, half_small}
 use Rattle.std.specs.declared.cmp.Ordering.TheVariants.{Less, Equal, Greater}
 use Rattle.sst_base.specs.Order.{versions_cmp, IsInOrder}
 use Rattle.sst_block_core.specs.Passes.{last_of}
-use Rattle.sst_block_core.proofs.PassSteps.{order_more, no_last}
+use Rattle.sst_block_core.proofs.Check.PassSteps.{order_more, no_last}
 use Rattle.sst_block_core.specs.Kind.{Kind}
 use Rattle.sst_block_core.specs.Window.{passes_cmp, count_passed}
-use Rattle.sst_block_core.proofs.Cuts.{some_some, count_inside, passed_below, not_passed_above}
+use Rattle.sst_block_core.proofs.Search.Cuts.{some_some, count_inside, passed_below, not_passed_above}
 
 -- heads as items: of a kind without forms
 abbrev pub as_items : List ℕ → Kind Head

@@ -17,7 +17,7 @@ use Rattle.sst_block_core.specs.BodyLaws.{forms_again}
 use Rattle.sst_block_core.specs.OffsetLaws.{body-append, place_inside, place_plain, body_long}
 use Rattle.sst_block_core.specs.CanonicalLaws.{encoded_from}
 use Rattle.sst_block_core.specs.OpeningLaws.{opened}
-use Rattle.sst_block_core.proofs.PointerReads.{pointers_count, pointer_is}
+use Rattle.sst_block_core.proofs.Places.PointerReads.{pointers_count, pointer_is}
 
 all_drop : {X : Type 0} (P : X → Type 0) (n : ℕ) (xs : List X) → AllByRecursion P xs → AllByRecursion P (drop n xs)
 all_drop P zero xs h = h
