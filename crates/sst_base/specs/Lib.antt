@@ -23,7 +23,7 @@ pub mod BlockHandle
 pub mod OrderLaws
 pub mod HeaderLaws
 pub mod FrameLaws
-pub mod FrameErrors
+pub mod FrameErrorLaws
 pub mod BlockHandleLaws
 pub mod KeyOrderLaws
 pub mod SliceBytes

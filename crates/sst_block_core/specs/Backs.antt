@@ -13,7 +13,7 @@ first_of r end = (end - 1) / r * r
 
 -- offsets are those of the forms of an interval, from its head on; `first` is that head's index, and its key stands at `base`
 abbrev pub StackStands : {X : Type 0} → Kind X → Listed X → List ℕ → ℕ → ℕ → Type 0
-StackStands kind list stack base first = (k : ℕ) → k < length stack → Stands kind list (record { place = first + k; phase = k; offset = slice_index stack k; base = base })
+StackStands kind list stack base first = (k : ℕ) → k < length stack → Stands kind list (record { index = first + k; phase = k; offset = slice_index stack k; base = base })
 
 -- offsets are those of the items from a head up to an end, or there are none, and then an interval ends there
 pub record IsBack {X : Type 0} (kind : Kind X) (list : Listed X) (hi : ℕ) (stack : List ℕ) (base : ℕ) : Type 0 where

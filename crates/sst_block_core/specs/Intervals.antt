@@ -35,7 +35,7 @@ pub record IsIndexed {X : Type 0} (kind : Kind X) (list : Listed X) (pointers : 
   pub listed : IsListed list
   pub item_count : count ≡ length list.items
   pub head_total : length pointers ≡ head_count list.interval (length list.items)
-  pub are_heads : (j : ℕ) → j * list.interval < length list.items → Stands kind list (record { place = j * list.interval; phase = 0; offset = slice_index pointers j; base = 0 })
+  pub are_heads : (j : ℕ) → j * list.interval < length list.items → Stands kind list (record { index = j * list.interval; phase = 0; offset = slice_index pointers j; base = 0 })
   pub offsets : (j : ℕ) → j * list.interval < length list.items → slice_index pointers j ≡ place_offset kind list.interval list.items (j * list.interval)
 
 -- the number of binary digits, if they are no more than the fuel
@@ -77,16 +77,16 @@ seek_picked r second p w =
 -- with the needle: all items in front of it pass, and there is no head from it up to an end.
 pub record IsEntered {X : Type 0} (kind : Kind X) (needle : List ℕ) (from : Option ℕ) (list : Listed X) (at : Place) (shared end : ℕ) : Type 0 where
   pub index : ℕ
-  pub before : index < at.place
+  pub before : index < at.index
   pub head : X
   pub there : slice_get list.items index ≡ Some head
   pub passed : passes needle from (kind.key head) (kind.seqno head) ≡ true
   pub shared_is : shared ≡ shared_prefix_length (kind.key head) needle
   pub stands : StandsBehind kind list at (kind.key head)
-  pub reached : at.place ≤ count_passed kind needle from list.items
-  pub upto : at.place ≤ end
+  pub reached : at.index ≤ count_passed kind needle from list.items
+  pub upto : at.index ≤ end
   pub inside : end ≤ length list.items
-  pub no_head : (i : ℕ) → at.place ≤ i → i < end → 0 < i % list.interval
+  pub no_head : (i : ℕ) → at.index ≤ i → i < end → 0 < i % list.interval
 
 -- an item by its ranges was found at an index of a list, and has this key
 pub record IsFoundAt {X P : Type 0} (item_of : List ℕ → P → X) (is_found : List ℕ → P → Type 0) (kind : Kind X) (needle : List ℕ) (list : Listed X) (place : ℕ) (p : P) : Type 0 where

@@ -12,7 +12,7 @@ pub mod Found
 pub mod Digits
 pub mod Scan
 pub mod Intervals
-pub mod Landings
+pub mod Candidates
 pub mod ListSteps
 pub mod Backs
 pub mod Lookups

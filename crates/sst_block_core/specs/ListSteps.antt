@@ -2,7 +2,7 @@
 use Rattle.std.specs.Prelude.{List, ℕ, Option, Some, None}
 use Rattle.std.specs.Iterator.{YieldsFirstBy, YieldsLastBy}
 use Rattle.sst_block_core.specs.Backs.{GivesNextBack}
-use Rattle.sst_block_core.specs.Landings.{GivesNextHeld}
+use Rattle.sst_block_core.specs.Candidates.{GivesNextHeld}
 use Rattle.sst_block_core.specs.Scan.{Scan, GivesNext}
 use Rattle.sst_block_core.specs.Window.{items_left}
 use Rattle.sst_block_core.specs.WindowLaws.{next_some, next_none, back_some, back_none}

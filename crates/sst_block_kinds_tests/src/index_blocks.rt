@@ -1,7 +1,7 @@
 //! Index blocks: test vectors, seeks and steps against lists of answers, and random operations
 //! beside a plain window.
 ghost use Rattle.std.specs.Prelude.{◌≡◌, ◌+◌, ◌≤◌, length};
-ghost use Rattle.sst_block_core.specs.Landings.{scan_cost};
+ghost use Rattle.sst_block_core.specs.Candidates.{scan_cost};
 
 use crate::Tested;
 use crate::checks::THREE_HANDLES;

@@ -7,7 +7,7 @@ use Rattle.std.proofs.KnownBytes.{Appends-nil, Appends-trans, Appends-kept, Keep
 use Rattle.std.specs.Io.KnownBytes.{Appends, Keeps}
 use Rattle.sst_base.specs.BlockHandle.{HandleParts}
 use Rattle.sst_base.specs.Entry.{Entry}
-use Rattle.sst_base.specs.FrameErrors.{NotIo}
+use Rattle.sst_base.specs.FrameErrorLaws.{NotIo}
 use Rattle.sst_base.specs.Header.{◌>>=◌}
 use Rattle.sst_base.specs.declared.error.Error.{Error}
 use Rattle.sst_base.specs.declared.error.Error.TheVariants.{Io, Truncated, BadHandle}

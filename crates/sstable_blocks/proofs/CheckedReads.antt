@@ -1,7 +1,7 @@
 -- Reading frames of any bytes: which errors do not come, and what a filter says.
 use Rattle.std.proofs.Common.{◌≡◌, ◌≢◌, ℕ, zero, suc, ◌<◌, ◌≤◌, List, arith, refl, sym, ap, subst, ◌∙◌, inl, inr, Bool, true, false, if◌then◌else◌, Option, Some, None, Result, Ok, Err, IfOk, IfErr, IfSome, IsTrue, ◌↔◌}
 use Rattle.std.proofs.lemmas.Bool.{eqb-true, eq-eqb, and_parts, and_from, cases_lt}
-use Rattle.sst_base.specs.FrameErrors.{NotIo}
+use Rattle.sst_base.specs.FrameErrorLaws.{NotIo}
 use Rattle.sst_base.specs.declared.error.Error.{Error}
 use Rattle.sst_base.specs.declared.error.Error.TheVariants.{Io}
 use Rattle.sst_base.specs.declared.error.HeaderName.TheVariants as names

@@ -7,7 +7,7 @@ use Rattle.std.proofs.lemmas.Option.{slice_get_past}
 use Rattle.sst_base.specs.BlockHandle.{HandleParts}
 use Rattle.sst_block_core.specs.Backs.{GivesStep}
 use Rattle.sst_block_kinds.specs.Handles.{Handle, handles}
-use Rattle.sst_block_core.specs.Landings.{GivesNextHeld, scan_cost}
+use Rattle.sst_block_core.specs.Candidates.{GivesNextHeld, scan_cost}
 use Rattle.sst_block_kinds.specs.ParsedHandle.{handle_of, IsParsedHandle}
 use Rattle.sst_block_core.specs.Scan.{Scan}
 use Rattle.sst_block_core.specs.WindowLaws.{item_same}

@@ -14,7 +14,7 @@ use Rattle.byteorder.specs.Numbers.{little_number-reads_back}
 use Rattle.sst_base.specs.FrameLaws.{and_parts}
 use Rattle.sst_base.specs.Bytes.{IsBytes}
 use Rattle.sst_base.specs.BytesLaws.{little_bytes-little_number_at, take-drop-more}
-use Rattle.sst_base.specs.FrameErrors.{NotIo, not_io_if}
+use Rattle.sst_base.specs.FrameErrorLaws.{NotIo, not_io_if}
 use Rattle.sst_base.specs.Header.{magic}
 use Rattle.sst_base.specs.HeaderLaws.{guard_ok}
 use Rattle.sst_base.specs.declared.error.Error.{Error}

@@ -19,7 +19,7 @@ mod_in_interval i k r head below =
 
 module _ {X : Type 0} (kind : Kind X) (list : Listed X) where
   -- a head's place stands with any base
-  pub any_base : (at other : Place) → other.place ≡ at.place → other.offset ≡ at.offset → other.phase ≡ 0 → at.phase ≡ 0 → Stands kind list at → Stands kind list other
+  pub any_base : (at other : Place) → other.index ≡ at.index → other.offset ≡ at.offset → other.phase ≡ 0 → at.phase ≡ 0 → Stands kind list at → Stands kind list other
   any_base at other p o z q s =
       let b = s.stands in
       record {
@@ -27,12 +27,12 @@ module _ {X : Type 0} (kind : Kind X) (list : Listed X) where
         stands = record {
           phase = z ∙ sym q ∙ b.phase ∙ ap (λ n. n % list.interval) (sym p);
           base = λ some. absurd (omega (arith, some, z));
-          behind = subst (λ n. IsBehind kind list n other.offset s.head) (sym p) (subst (λ n. IsBehind kind list at.place n s.head) (sym o) b.behind);
+          behind = subst (λ n. IsBehind kind list n other.offset s.head) (sym p) (subst (λ n. IsBehind kind list at.index n s.head) (sym o) b.behind);
         };
       }
 
   -- one offset more
-  pub stack_push : (stack : List ℕ) (base first : ℕ) (at : Place) → StackStands kind list stack base first → at.place ≡ first + length stack → at.phase ≡ length stack → at.base ≡ base → Stands kind list at
+  pub stack_push : (stack : List ℕ) (base first : ℕ) (at : Place) → StackStands kind list stack base first → at.index ≡ first + length stack → at.phase ≡ length stack → at.base ≡ base → Stands kind list at
       → StackStands kind list (stack ++ at.offset ∷ []) base first
   stack_push stack base first at places p q e s = λ k h.
       let l = length_push stack at.offset in
@@ -40,7 +40,7 @@ module _ {X : Type 0} (kind : Kind X) (list : Listed X) where
         | inl less ↦ rw (get_or_append_left stack (at.offset ∷ []) 0 k less) (places k less)
         | inr ge ↦
             let n : k ≡ length stack = omega (arith, l, h, ge) in
-            rw (n, get_or_push stack at.offset 0 (length stack) refl) (subst (Stands kind list) (λ i. record { place = p i; phase = q i; offset = at.offset; base = e i }) s)
+            rw (n, get_or_push stack at.offset 0 (length stack) refl) (subst (Stands kind list) (λ i. record { index = p i; phase = q i; offset = at.offset; base = e i }) s)
       ]
 
   -- a filled stack

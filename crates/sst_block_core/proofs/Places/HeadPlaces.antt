@@ -159,18 +159,18 @@ module _ {X : Type 0} (kind : Kind X) (valid : X → Type 0) (laws : IsKind kind
       (indexed_from kind valid laws some.0 p some.1 some.2 some.3 some.4 room))))
 
 -- the first item stands at the front
-pub first_stands : {X : Type 0} (kind : Kind X) (list : Listed X) (ps : List ℕ) (n : ℕ) → IsIndexed kind list ps n → Stands kind list (record { place = 0; phase = 0; offset = 0; base = 0 })
+pub first_stands : {X : Type 0} (kind : Kind X) (list : Listed X) (ps : List ℕ) (n : ℕ) → IsIndexed kind list ps n → Stands kind list (record { index = 0; phase = 0; offset = 0; base = 0 })
 unfolding body
 first_stands kind list ps n i =
     let some = i.listed.some in
     let z : 0 * list.interval ≡ 0 = omega arith in
     let h : 0 * list.interval < length list.items = omega (arith, some, z) in
     let e : slice_index ps 0 ≡ 0 = i.offsets 0 h ∙ ap (place_offset kind list.interval list.items) z in
-    subst (λ o. Stands kind list (record { place = 0; phase = 0; offset = o; base = 0 })) e
-    (subst (λ n. Stands kind list (record { place = n; phase = 0; offset = slice_index ps 0; base = 0 })) z (i.are_heads 0 h))
+    subst (λ o. Stands kind list (record { index = 0; phase = 0; offset = o; base = 0 })) e
+    (subst (λ n. Stands kind list (record { index = n; phase = 0; offset = slice_index ps 0; base = 0 })) z (i.are_heads 0 h))
 
 -- behind the last item nothing is read, wherever
-pub last_stands : {X : Type 0} (kind : Kind X) (list : Listed X) (place phase : ℕ) → place ≡ length list.items → phase ≡ place % list.interval → Stands kind list (record { place = place; phase = phase; offset = 0; base = 0 })
+pub last_stands : {X : Type 0} (kind : Kind X) (list : Listed X) (place phase : ℕ) → place ≡ length list.items → phase ≡ place % list.interval → Stands kind list (record { index = place; phase = phase; offset = 0; base = 0 })
 unfolding items_at
 last_stands kind list place phase e p =
     let none : length list.items - place ≡ 0 = omega arith in

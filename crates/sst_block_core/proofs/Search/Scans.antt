@@ -14,8 +14,8 @@ use Rattle.sst_block_core.specs.Kind.{Kind, IsOrdered}
 use Rattle.sst_block_core.specs.Scan.{Listed, StandsBehind}
 use Rattle.sst_block_core.specs.Window.{passes_cmp, passes, count_passed}
 use Rattle.sst_block_core.specs.Intervals.{IsEntered, IsFoundAt}
-use Rattle.sst_block_core.specs.Landings.{IsLandedAt, with_needle}
-use Rattle.sst_block_core.specs.declared.table.block.landing.Landing.{Landing}
+use Rattle.sst_block_core.specs.Candidates.{IsCandidateAt, with_needle}
+use Rattle.sst_block_core.specs.declared.table.block.candidate.Candidate.{Candidate}
 use Rattle.sst_block_core.specs.declared.table.block.place.Place.{Place}
 use Rattle.sst_block_core.proofs.Search.Cuts.{cut_ordered, passed_below, not_passed_above}
 use Rattle.sst_block_core.proofs.Search.SharedFronts.{order_by_lengths}
@@ -39,29 +39,29 @@ stop_place n r heads place count some is high inside =
 
 module _ {X P : Type 0} (item_of : List ℕ → P → X) (is_found : List ℕ → P → Type 0) (kind : Kind X) (needle : List ℕ) (list : Listed X) (place end : ℕ) where
   -- where a search stopped at an item, or at an end, it found the needle's item or there is none
-  pub landed_match : (landing : Option (Landing P)) (r : Option P) → r ≡ with_needle landing
-      → MatchOption landing (place ≡ end) (λ l. IsLandedAt item_of is_found kind needle list place l × (place < end))
+  pub candidate_match : (candidate : Option (Candidate P)) (r : Option P) → r ≡ with_needle candidate
+      → MatchOption candidate (place ≡ end) (λ l. IsCandidateAt item_of is_found kind needle list place l × (place < end))
       → MatchOption r
       ((x : X) → place < end → slice_get list.items place ≡ Some x → is_eq (slice_cmp nat_cmp (kind.key x) needle) ≡ false)
       (λ p. IsFoundAt item_of is_found kind needle list place p × (place < end))
-  landed_match None r e m = subst (λ o. MatchOption o
+  candidate_match None r e m = subst (λ o. MatchOption o
       ((x : X) → place < end → slice_get list.items place ≡ Some x → is_eq (slice_cmp nat_cmp (kind.key x) needle) ≡ false)
       (λ p. IsFoundAt item_of is_found kind needle list place p × (place < end))) (sym e) (λ x less at. absurd (omega (arith, m, less)))
-  landed_match (Some l) r e m =
-      let landed = m.0 in
-      let held = landed.held in
+  candidate_match (Some l) r e m =
+      let candidate = m.0 in
+      let held = candidate.held in
       kept_match l.item (is_eq l.order) r _ _ e
-      (λ other x less at. ap (λ y. is_eq (slice_cmp nat_cmp (kind.key y) needle)) (same_Some x _ (sym at ∙ held.there)) ∙ ap is_eq (sym landed.order_is) ∙ other)
-      (λ equal. (record { there = held.there; found = held.found; same_key = ap is_eq (sym landed.order_is) ∙ equal }, m.1))
+      (λ other x less at. ap (λ y. is_eq (slice_cmp nat_cmp (kind.key y) needle)) (same_Some x _ (sym at ∙ held.there)) ∙ ap is_eq (sym candidate.order_is) ∙ other)
+      (λ equal. (record { there = held.there; found = held.found; same_key = ap is_eq (sym candidate.order_is) ∙ equal }, m.1))
 
   -- the same where there is no item at the end
-  pub landed_found : (landing : Option (Landing P)) (r : Option P) → r ≡ with_needle landing
-      → MatchOption landing (place ≡ end) (λ l. IsLandedAt item_of is_found kind needle list place l × (place < end))
+  pub candidate_found : (candidate : Option (Candidate P)) (r : Option P) → r ≡ with_needle candidate
+      → MatchOption candidate (place ≡ end) (λ l. IsCandidateAt item_of is_found kind needle list place l × (place < end))
       → ((x : X) → slice_get list.items place ≡ Some x → place < end)
       → MatchOption r
       ((x : X) → slice_get list.items place ≡ Some x → is_eq (slice_cmp nat_cmp (kind.key x) needle) ≡ false)
       (IsFoundAt item_of is_found kind needle list place)
-  landed_found landing r e m inside = match_less r _ _ _ _ (landed_match landing r e m) (λ other x at. other x (inside x at) at) (λ p both. both.0)
+  candidate_found candidate r e m inside = match_less r _ _ _ _ (candidate_match candidate r e m) (λ other x at. other x (inside x at) at) (λ p both. both.0)
 
 -- an index behind a head and before the next is no head's
 between_heads : (j r i : ℕ) → j * r < i → i < (j + 1) * r → 0 < i % r
@@ -77,7 +77,7 @@ module _ {X : Type 0} (kind : Kind X) (needle : List ℕ) (from : Option ℕ) (l
   head_passes below = (cut_ordered kind needle from list.items ordered).first (j * list.interval) x below there
 
   -- behind a head that passes a search has reached the next place
-  pub enters : (at : Place) (alike end : ℕ) → 0 < list.interval → passes needle from (kind.key x) (kind.seqno x) ≡ true → at.place ≡ j * list.interval + 1 → StandsBehind kind list at (kind.key x)
+  pub enters : (at : Place) (alike end : ℕ) → 0 < list.interval → passes needle from (kind.key x) (kind.seqno x) ≡ true → at.index ≡ j * list.interval + 1 → StandsBehind kind list at (kind.key x)
       → alike ≡ shared_prefix_length (kind.key x) needle → end ≡ min (length list.items) ((j + 1) * list.interval) → IsEntered kind needle from list at alike end
   enters at alike end pos passed place_is stands alike_is end_is =
       let below = passed_below kind needle from list.items ordered (j * list.interval) x there passed in
@@ -101,30 +101,30 @@ module _ {X : Type 0} (kind : Kind X) (needle : List ℕ) (from : Option ℕ) (l
   pub alike_inside : alike ≤ length needle
   alike_inside = let s = (shared_prefix_inside (kind.key e.head) needle).1 in let a = e.shared_is in omega (arith, s, a)
 
-  module _ (ordered : IsOrdered kind list.items) (x : X) (there : slice_get list.items at.place ≡ Some x) (shared : ℕ) (rest : List ℕ)
+  module _ (ordered : IsOrdered kind list.items) (x : X) (there : slice_get list.items at.index ≡ Some x) (shared : ℕ) (rest : List ℕ)
       (shared_is : shared ≡ shared_prefix_length (kind.key e.head) (kind.key x)) (rest_is : rest ≡ drop shared (kind.key x)) (order : Ordering)
       (is : order ≡ (if shared == alike then slice_cmp nat_cmp rest (drop alike needle) else if nat_lt alike shared then Less else Greater)) where
     -- the comparison by lengths is that of the item's key
     pub order_is : order ≡ slice_cmp nat_cmp (kind.key x) needle
     order_is =
         let b = e.before in
-        is ∙ order_by_lengths kind list.items ordered e.index at.place e.head x (omega (arith, b)) e.there there needle from rest shared alike e.passed e.shared_is shared_is rest_is
+        is ∙ order_by_lengths kind list.items ordered e.index at.index e.head x (omega (arith, b)) e.there there needle from rest shared alike e.passed e.shared_is shared_is rest_is
 
     module _ (seqno : ℕ) (seqno_is : seqno ≡ kind.seqno x) where
       test_is : passes_cmp order from seqno ≡ passes needle from (kind.key x) (kind.seqno x)
       test_is = (λ i. passes_cmp (order_is i) from (seqno_is i))
 
       -- where the item doesn't pass, the search ends
-      pub stops_here : at.place < end → passes_cmp order from seqno ≡ false → at.place ≡ min end (count_passed kind needle from list.items)
+      pub stops_here : at.index < end → passes_cmp order from seqno ≡ false → at.index ≡ min end (count_passed kind needle from list.items)
       stops_here more stopped =
-          let above = not_passed_above kind needle from list.items ordered at.place x there (sym test_is ∙ stopped) in
+          let above = not_passed_above kind needle from list.items ordered at.index x there (sym test_is ∙ stopped) in
           let r = e.reached in
           omega (arith, above, r, more)
 
       -- where it does, the search has reached the next place
-      pub goes_on : (next : Place) → at.place < end → passes_cmp order from seqno ≡ true → next.place ≡ at.place + 1 → StandsBehind kind list next (kind.key e.head) → IsEntered kind needle from list next alike end
+      pub goes_on : (next : Place) → at.index < end → passes_cmp order from seqno ≡ true → next.index ≡ at.index + 1 → StandsBehind kind list next (kind.key e.head) → IsEntered kind needle from list next alike end
       goes_on next more passed place_is stands =
-          let below = passed_below kind needle from list.items ordered at.place x there (sym test_is ∙ passed) in
+          let below = passed_below kind needle from list.items ordered at.index x there (sym test_is ∙ passed) in
           let b = e.before in
           record {
             index = e.index;

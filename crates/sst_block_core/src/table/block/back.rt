@@ -3,7 +3,7 @@ ghost use Rattle.std.specs.Prelude.{◌≡◌, ◌+◌, ◌-◌, ◌<◌, ◌≤
 ghost use Rattle.std.specs.Prelude.{slice_get, Some};
 ghost use Rattle.sst_base.specs.Counted.{CountsExactly, CountsBetween};
 ghost use Rattle.sst_block_core.specs.Backs.{first_of, back_cost, StackStands, IsBack};
-ghost use Rattle.sst_block_core.specs.Landings.{scan_cost};
+ghost use Rattle.sst_block_core.specs.Candidates.{scan_cost};
 
 use crate::table::block::decoder::{Decodable, ParsedItem};
 use crate::table::block::intervals::Intervals;
@@ -60,7 +60,7 @@ impl<'a, Item: Decodable<Parsed>, Parsed: ParsedItem<Item> + Drop> Intervals<'a,
         let mut at = self.start(number);
         stack.push(at.offset as u32);
         let _head = self.take_head(&mut at);
-        while at.place < end {
+        while at.index < end {
             stack.push(at.offset as u32);
             let _item = self.take_rest(&mut at);
         }
@@ -138,7 +138,7 @@ impl<'a, Item: Decodable<Parsed>, Parsed: ParsedItem<Item> + Drop> Intervals<'a,
     {
         let last = back.stack.len() - 1;
         let mut at = Place {
-            place: back.hi - 1,
+            index: back.hi - 1,
             phase: last as u8,
             offset: back.stack[last] as usize,
             base: back.base,

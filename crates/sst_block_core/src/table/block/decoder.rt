@@ -214,7 +214,7 @@ impl<'a, Item: Decodable<Parsed>, Parsed: ParsedItem<Item>> Model for Decoder<'a
     ghost view = { λ d. record {
       payload = d.intervals.list.payload;
       interval = d.intervals.list.interval;
-      window = record { list = d.intervals.list.items; lo = d.front.place; hi = d.back.hi };
+      window = record { list = d.intervals.list.items; lo = d.front.index; hi = d.back.hi };
       steps = d.intervals.steps;
     } };
 
@@ -292,7 +292,7 @@ impl<'a, Item: Decodable<Parsed>, Parsed: ParsedItem<Item>> Decoder<'a, Item, Pa
         let passed = self.intervals.partition_point(pred);
         let count = self.intervals.count();
         if second_partition && passed == count && self.intervals.interval() == 1 {
-            self.front = self.intervals.last();
+            self.front = self.intervals.end();
             return false;
         }
         self.front = self
@@ -326,7 +326,7 @@ impl<'a, Item: Decodable<Parsed>, Parsed: ParsedItem<Item>> Decoder<'a, Item, Pa
         let count = self.intervals.count();
         let end = self
             .intervals
-            .end(picked_head(second_partition, passed, count));
+            .interval_end(picked_head(second_partition, passed, count));
         self.back.hi = end;
         self.back.stack.clear();
         true
@@ -374,7 +374,7 @@ impl<'a, Item: Decodable<Parsed>, Parsed: ParsedItem<Item> + Drop> Iterator
 
     #[inline(always)]
     fn next(&mut self) -> Option<Parsed> {
-        if self.front.place >= self.back.hi {
+        if self.front.index >= self.back.hi {
             return None;
         }
         Some(self.intervals.take(&mut self.front))
@@ -389,7 +389,7 @@ impl<'a, Item: Decodable<Parsed>, Parsed: ParsedItem<Item> + Drop> DoubleEndedIt
 
     #[inline(always)]
     fn next_back(&mut self) -> Option<Parsed> {
-        if self.back.hi <= self.front.place {
+        if self.back.hi <= self.front.index {
             return None;
         }
         Some(self.intervals.take_back(&mut self.back))

@@ -147,13 +147,13 @@ impl<'a, Item: Decodable<Parsed>, Parsed: ParsedItem<Item>> Intervals<'a, Item, 
     /// Returns the place of the first item, which is the first head.
     #[inline(always)]
     pub(crate) fn first(&self) -> Place
-        ensures place { result.place ≡ 0 }
+        ensures place { result.index ≡ 0 }
         ensures stands { Stands Item.kind self.now.list result }
     {
         // The proof needs that the first pointer is 0.
         let _pointers = self.pointers.len();
         Place {
-            place: 0,
+            index: 0,
             phase: 0,
             offset: 0,
             base: 0,
@@ -164,7 +164,7 @@ impl<'a, Item: Decodable<Parsed>, Parsed: ParsedItem<Item>> Intervals<'a, Item, 
     #[inline(always)]
     pub(crate) fn start(&self, j: usize) -> Place
         requires { j * self.now.list.interval < length self.now.list.items }
-        ensures place { result.place ≡ j * self.now.list.interval }
+        ensures place { result.index ≡ j * self.now.list.interval }
         ensures phase { result.phase ≡ 0 }
         ensures stands { Stands Item.kind self.now.list result }
         ensures offset { result.offset
@@ -172,7 +172,7 @@ impl<'a, Item: Decodable<Parsed>, Parsed: ParsedItem<Item>> Intervals<'a, Item, 
             (j * self.now.list.interval) }
     {
         Place {
-            place: j * usize::from(self.restart_interval),
+            index: j * usize::from(self.restart_interval),
             phase: 0,
             offset: self.pointers.get(j),
             base: 0,
@@ -203,14 +203,14 @@ impl<'a, Item: Decodable<Parsed>, Parsed: ParsedItem<Item>> Intervals<'a, Item, 
 
     /// Returns the place after the last item.
     #[inline(always)]
-    pub(crate) fn last(&self) -> Place
-        ensures place { result.place ≡ length self.now.list.items }
+    pub(crate) fn end(&self) -> Place
+        ensures place { result.index ≡ length self.now.list.items }
         ensures stands { Stands Item.kind self.now.list result }
     {
-        let place = self.item_count();
+        let index = self.item_count();
         Place {
-            place,
-            phase: (place % usize::from(self.restart_interval)) as u8,
+            index,
+            phase: (index % usize::from(self.restart_interval)) as u8,
             offset: 0,
             base: 0,
         }
@@ -219,16 +219,16 @@ impl<'a, Item: Decodable<Parsed>, Parsed: ParsedItem<Item>> Intervals<'a, Item, 
     /// Returns the place of the head of interval j, or after the last item where j is the number
     /// of intervals.
     #[inline(always)]
-    pub(crate) fn start_or_last(&self, j: usize) -> Place
+    pub(crate) fn start_or_end(&self, j: usize) -> Place
         requires { j ≤ head_count self.now.list.interval (length self.now.list.items) }
-        ensures place { result.place
+        ensures place { result.index
             ≡ min (length self.now.list.items) (j * self.now.list.interval) }
         ensures stands { Stands Item.kind self.now.list result }
     {
         if j < self.count() {
             self.start(j)
         } else {
-            self.last()
+            self.end()
         }
     }
 
@@ -242,7 +242,7 @@ impl<'a, Item: Decodable<Parsed>, Parsed: ParsedItem<Item>> Intervals<'a, Item, 
             → offset
             ≡ place_offset Item.kind self.now.list.interval self.now.list.items
             (j * self.now.list.interval)
-            → result.place ≡ j * self.now.list.interval }
+            → result.index ≡ j * self.now.list.interval }
         ensures stands { Stands Item.kind self.now.list result }
     {
         let mut left = 0;
@@ -260,7 +260,7 @@ impl<'a, Item: Decodable<Parsed>, Parsed: ParsedItem<Item>> Intervals<'a, Item, 
 
     /// Returns the index after the last item of interval j, which exists.
     #[inline(always)]
-    pub(crate) fn end(&self, j: usize) -> usize
+    pub(crate) fn interval_end(&self, j: usize) -> usize
         requires { j * self.now.list.interval < length self.now.list.items }
         ensures value { result
             ≡ min (length self.now.list.items) ((j + 1) * self.now.list.interval) }
@@ -293,15 +293,15 @@ impl<'a, Item: Decodable<Parsed>, Parsed: ParsedItem<Item>> Intervals<'a, Item, 
     /// Decodes the item of a head, and moves after it. Counts an entry.
     #[inline(always)]
     pub(crate) fn take_head(&mut self, at: &mut Place) -> Parsed
-        requires inside { at.old.place < length self.old.list.items }
+        requires inside { at.old.index < length self.old.list.items }
         requires head { at.old.phase ≡ 0 }
         requires stands { Stands Item.kind self.old.list at.old }
         ensures list { self.new.list ≡ self.old.list }
-        ensures item { slice_get self.old.list.items at.old.place
+        ensures item { slice_get self.old.list.items at.old.index
             ≡ Some (Parsed.item_of self.old.list.payload result) }
         ensures found { Parsed.is_found self.old.list.payload result }
         ensures shared { Parsed.shared_len result ≡ 0 }
-        ensures place { at.new.place ≡ at.old.place + 1 }
+        ensures place { at.new.index ≡ at.old.index + 1 }
         ensures stands { StandsBehind Item.kind self.old.list at.new
             (Item.kind.key (Parsed.item_of self.old.list.payload result)) }
         ensures counts { CountsExactly self.old.steps self.new.steps 0 1 }
@@ -315,14 +315,14 @@ impl<'a, Item: Decodable<Parsed>, Parsed: ParsedItem<Item>> Intervals<'a, Item, 
     /// Decodes the item at a place that isn't a head's, and moves after it. Counts an entry.
     #[inline(always)]
     pub(crate) fn take_rest(&mut self, at: &mut Place) -> Parsed
-        requires inside { at.old.place < length self.old.list.items }
+        requires inside { at.old.index < length self.old.list.items }
         requires rest { 0 < at.old.phase }
         requires stands { Stands Item.kind self.old.list at.old }
         ensures list { self.new.list ≡ self.old.list }
-        ensures item { slice_get self.old.list.items at.old.place
+        ensures item { slice_get self.old.list.items at.old.index
             ≡ Some (Parsed.item_of self.old.list.payload result) }
         ensures found { Parsed.is_found self.old.list.payload result }
-        ensures place { at.new.place ≡ at.old.place + 1 }
+        ensures place { at.new.index ≡ at.old.index + 1 }
         ensures base { at.new.base ≡ at.old.base }
         ensures stands { (head : List ℕ) → StandsBehind Item.kind self.old.list at.old head
             → StandsBehind Item.kind self.old.list at.new head
@@ -370,13 +370,13 @@ impl<'a, Item: Decodable<Parsed>, Parsed: ParsedItem<Item>> Intervals<'a, Item, 
     /// Decodes the item at a place, and moves after it. Counts an entry.
     #[inline(always)]
     pub(crate) fn take(&mut self, at: &mut Place) -> Parsed
-        requires inside { at.old.place < length self.old.list.items }
+        requires inside { at.old.index < length self.old.list.items }
         requires stands { Stands Item.kind self.old.list at.old }
         ensures list { self.new.list ≡ self.old.list }
-        ensures item { slice_get self.old.list.items at.old.place
+        ensures item { slice_get self.old.list.items at.old.index
             ≡ Some (Parsed.item_of self.old.list.payload result) }
         ensures found { Parsed.is_found self.old.list.payload result }
-        ensures place { at.new.place ≡ at.old.place + 1 }
+        ensures place { at.new.index ≡ at.old.index + 1 }
         ensures stands { Stands Item.kind self.old.list at.new }
         ensures counts { CountsExactly self.old.steps self.new.steps 0 1 }
     {

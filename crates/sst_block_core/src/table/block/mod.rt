@@ -2,6 +2,7 @@
 pub(crate) mod back;
 pub mod binary_index;
 pub mod bound;
+pub mod candidate;
 pub mod check;
 pub mod decoder;
 pub mod encoder;
@@ -10,7 +11,6 @@ pub mod hash_index;
 pub mod heads;
 pub mod intervals;
 pub mod key_ranges;
-pub mod landing;
 pub(crate) mod place;
 pub mod reading;
 pub(crate) mod search;

@@ -5,7 +5,7 @@ ghost use Rattle.std.specs.Prelude.{◌≡◌, ◌+◌, ◌%◌, ◌^◌, ◌<�
 #[derive(Clone, Copy)]
 pub(crate) struct Place {
     /// The index.
-    pub(crate) place: usize,
+    pub(crate) index: usize,
     /// The index in the restart interval: 0 for a head.
     pub(crate) phase: u8,
     /// The offset of the form.
@@ -19,14 +19,14 @@ impl Place {
     #[inline(always)]
     pub(crate) fn move_on(&mut self, end: usize, restart_interval: u8)
         requires phase { self.old.phase < restart_interval }
-        requires room { self.old.place + 1 < 2 ^ 64 }
-        ensures place { self.new.place ≡ self.old.place + 1 }
-        ensures phase { self.old.phase ≡ self.old.place % restart_interval
-            → self.new.phase ≡ (self.old.place + 1) % restart_interval }
+        requires room { self.old.index + 1 < 2 ^ 64 }
+        ensures place { self.new.index ≡ self.old.index + 1 }
+        ensures phase { self.old.phase ≡ self.old.index % restart_interval
+            → self.new.phase ≡ (self.old.index + 1) % restart_interval }
         ensures offset { self.new.offset ≡ end }
         ensures base { self.new.base ≡ self.old.base }
     {
-        self.place += 1;
+        self.index += 1;
         self.phase = next_phase(self.phase, restart_interval);
         self.offset = end;
     }

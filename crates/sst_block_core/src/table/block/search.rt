@@ -13,12 +13,12 @@ ghost use Rattle.sst_block_core.specs.Pointers.{head_count};
 ghost use Rattle.sst_block_core.specs.Scan.{Stands, StandsBehind};
 ghost use Rattle.sst_block_core.specs.Window.{count_passed, is_version};
 ghost use Rattle.sst_block_core.specs.Intervals.{Answered, Splits, digits, IsEntered, IsFoundAt};
-ghost use Rattle.sst_block_core.specs.Landings.{IsHeldAt, IsLandedAt, with_needle, scan_cost};
+ghost use Rattle.sst_block_core.specs.Candidates.{IsHeldAt, IsCandidateAt, with_needle, scan_cost};
 
 use crate::table::block::bound::Bound;
+use crate::table::block::candidate::Candidate;
 use crate::table::block::decoder::{Decodable, ParsedItem};
 use crate::table::block::intervals::Intervals;
-use crate::table::block::landing::Landing;
 use crate::table::block::place::Place;
 use sst_base::SeqNo;
 use sst_base::table::util::longest_shared_prefix_length;
@@ -89,38 +89,38 @@ impl<'a, Item: Decodable<Parsed>, Parsed: ParsedItem<Item> + Drop> Intervals<'a,
     // item; or the end. No head is among them, and their head, which the bound passes, shares
     // `alike` bytes with the needle.
     #[inline(always)]
-    fn scan(
+    fn scan_interval(
         &mut self,
         from: Place,
         end: usize,
         alike: usize,
         bound: &Bound<'_>,
-    ) -> (Place, Option<Landing<Parsed>>)
+    ) -> (Place, Option<Candidate<Parsed>>)
         requires ordered { IsOrdered Item.kind self.old.list.items }
         requires entered { IsEntered Item.kind bound.now.needle.now bound.now.from self.old.list
             from alike end }
         ensures list { self.new.list ≡ self.old.list }
-        ensures place { result.0.place
+        ensures place { result.0.index
             ≡ min end
             (count_passed Item.kind bound.now.needle.now bound.now.from self.old.list.items) }
         ensures stands { Stands Item.kind self.old.list result.0 }
-        ensures landing { MatchOption result.1 (result.0.place ≡ end)
+        ensures candidate { MatchOption result.1 (result.0.index ≡ end)
             (λ l.
-            IsLandedAt Parsed.item_of Parsed.is_found Item.kind bound.now.needle.now self.old.list
-            result.0.place l
-            × (result.0.place < end)) }
+            IsCandidateAt Parsed.item_of Parsed.is_found Item.kind bound.now.needle.now self.old.list
+            result.0.index l
+            × (result.0.index < end)) }
         ensures counts { CountsBetween self.old.steps self.new.steps (0, found_item result.1)
-            (0, end - from.place) }
+            (0, end - from.index) }
     {
         let mut at = from;
-        while at.place < end {
+        while at.index < end {
             let here = at;
             let item = self.take_rest(&mut at);
             let shared = self.prefix_len(&item);
             let order = bound.compare_behind(shared, self.own_key(&item), alike);
             if !bound.passes_order(order, item.seqno()) {
                 let after = at;
-                return (here, Some(Landing { item, order, after }));
+                return (here, Some(Candidate { item, order, after }));
             }
         }
         (at, None)
@@ -136,7 +136,7 @@ impl<'a, Item: Decodable<Parsed>, Parsed: ParsedItem<Item> + Drop> Intervals<'a,
             ≡ Some (Parsed.item_of self.old.list.payload result.1) }
         ensures found { Parsed.is_found self.old.list.payload result.1 }
         ensures shared { Parsed.shared_len result.1 ≡ 0 }
-        ensures place { result.0.place ≡ j * self.old.list.interval + 1 }
+        ensures place { result.0.index ≡ j * self.old.list.interval + 1 }
         ensures stands { StandsBehind Item.kind self.old.list result.0
             (Item.kind.key (Parsed.item_of self.old.list.payload result.1)) }
         ensures alike { result.2
@@ -153,29 +153,33 @@ impl<'a, Item: Decodable<Parsed>, Parsed: ParsedItem<Item> + Drop> Intervals<'a,
     // The first place of interval j whose item a bound doesn't pass, with that item; or the end of
     // the interval. The bound passes its head.
     #[inline(always)]
-    fn seek_in(&mut self, j: usize, bound: &Bound<'_>) -> (Place, Option<Landing<Parsed>>)
+    fn seek_in_interval(
+        &mut self,
+        j: usize,
+        bound: &Bound<'_>,
+    ) -> (Place, Option<Candidate<Parsed>>)
         requires ordered { IsOrdered Item.kind self.old.list.items }
         requires inside { j * self.old.list.interval < length self.old.list.items }
         requires passed { j * self.old.list.interval
             < count_passed Item.kind bound.now.needle.now bound.now.from self.old.list.items }
         ensures list { self.new.list ≡ self.old.list }
-        ensures place { result.0.place
+        ensures place { result.0.index
             ≡ min (min (length self.old.list.items) ((j + 1) * self.old.list.interval))
             (count_passed Item.kind bound.now.needle.now bound.now.from self.old.list.items) }
         ensures stands { Stands Item.kind self.old.list result.0 }
-        ensures landing { MatchOption result.1
-            (result.0.place ≡ min (length self.old.list.items) ((j + 1) * self.old.list.interval))
+        ensures candidate { MatchOption result.1
+            (result.0.index ≡ min (length self.old.list.items) ((j + 1) * self.old.list.interval))
             (λ l.
-            IsLandedAt Parsed.item_of Parsed.is_found Item.kind bound.now.needle.now self.old.list
-            result.0.place l
-            × (result.0.place
+            IsCandidateAt Parsed.item_of Parsed.is_found Item.kind bound.now.needle.now self.old.list
+            result.0.index l
+            × (result.0.index
             < min (length self.old.list.items) ((j + 1) * self.old.list.interval))) }
         ensures counts { CountsBetween self.old.steps self.new.steps (0, found_item result.1)
             (0, self.old.list.interval) }
     {
-        let end = self.end(j);
+        let end = self.interval_end(j);
         let (from, _, alike) = self.enter(j, bound.needle);
-        self.scan(from, end, alike, bound)
+        self.scan_interval(from, end, alike, bound)
     }
 
     // An item, if it has a key.
@@ -193,14 +197,14 @@ impl<'a, Item: Decodable<Parsed>, Parsed: ParsedItem<Item> + Drop> Intervals<'a,
     // The item of a head, if it has a key.
     #[inline(always)]
     fn head_with_key(&mut self, at: Place, needle: &[u8]) -> Option<Parsed>
-        requires inside { at.place < length self.old.list.items }
+        requires inside { at.index < length self.old.list.items }
         requires head { at.phase ≡ 0 }
         requires stands { Stands Item.kind self.old.list at }
         ensures list { self.new.list ≡ self.old.list }
         ensures item { MatchOption result
-            ((x : Item) → slice_get self.old.list.items at.place ≡ Some x
+            ((x : Item) → slice_get self.old.list.items at.index ≡ Some x
             → is_eq (slice_cmp nat_cmp (Item.kind.key x) needle.now) ≡ false)
-            (IsFoundAt Parsed.item_of Parsed.is_found Item.kind needle.now self.old.list at.place) }
+            (IsFoundAt Parsed.item_of Parsed.is_found Item.kind needle.now self.old.list at.index) }
         ensures counts { CountsExactly self.old.steps self.new.steps 0 1 }
     {
         let mut at = at;
@@ -215,18 +219,18 @@ impl<'a, Item: Decodable<Parsed>, Parsed: ParsedItem<Item> + Drop> Intervals<'a,
         requires interval { self.old.list.interval ≡ 1 }
         requires within { heads ≤ head_count self.old.list.interval (length self.old.list.items) }
         ensures list { self.new.list ≡ self.old.list }
-        ensures place { result.0.place ≡ heads }
+        ensures place { result.0.index ≡ heads }
         ensures stands { Stands Item.kind self.old.list result.0 }
         ensures item { MatchOption result.1
-            ((x : Item) → slice_get self.old.list.items result.0.place ≡ Some x
+            ((x : Item) → slice_get self.old.list.items result.0.index ≡ Some x
             → is_eq (slice_cmp nat_cmp (Item.kind.key x) needle.now) ≡ false)
             (IsFoundAt Parsed.item_of Parsed.is_found Item.kind needle.now self.old.list
-            result.0.place) }
+            result.0.index) }
         ensures counts { CountsBetween self.old.steps self.new.steps (0, found_item result.1)
             (0, 1) }
     {
         if heads >= self.count() {
-            return (self.last(), None);
+            return (self.end(), None);
         }
         let at = self.start(heads);
         (at, self.head_with_key(at, needle))
@@ -235,17 +239,17 @@ impl<'a, Item: Decodable<Parsed>, Parsed: ParsedItem<Item> + Drop> Intervals<'a,
     /// Returns the place of the first item that a bound doesn't pass, with that item if its key is
     /// the needle.
     #[inline(always)]
-    pub(crate) fn seek(&mut self, bound: &Bound<'_>) -> (Place, Option<Parsed>)
+    pub(crate) fn seek_key(&mut self, bound: &Bound<'_>) -> (Place, Option<Parsed>)
         requires { IsOrdered Item.kind self.old.list.items }
         ensures list { self.new.list ≡ self.old.list }
-        ensures place { result.0.place
+        ensures place { result.0.index
             ≡ count_passed Item.kind bound.now.needle.now bound.now.from self.old.list.items }
         ensures stands { Stands Item.kind self.old.list result.0 }
         ensures item { MatchOption result.1
-            ((x : Item) → slice_get self.old.list.items result.0.place ≡ Some x
+            ((x : Item) → slice_get self.old.list.items result.0.index ≡ Some x
             → is_eq (slice_cmp nat_cmp (Item.kind.key x) bound.now.needle.now) ≡ false)
             (IsFoundAt Parsed.item_of Parsed.is_found Item.kind bound.now.needle.now self.old.list
-            result.0.place) }
+            result.0.index) }
         ensures counts { CountsBetween self.old.steps self.new.steps (1, found_item result.1) (
           digits (head_count self.old.list.interval (length self.old.list.items)),
           self.old.list.interval + 1,
@@ -256,9 +260,9 @@ impl<'a, Item: Decodable<Parsed>, Parsed: ParsedItem<Item> + Drop> Intervals<'a,
             return self.head_behind(heads, bound.needle);
         }
         if heads > 0 {
-            let (at, landing) = self.seek_in(heads - 1, bound);
-            if at.place < self.end(heads - 1) || at.place >= self.item_count() {
-                return (at, with_needle(landing));
+            let (at, candidate) = self.seek_in_interval(heads - 1, bound);
+            if at.index < self.interval_end(heads - 1) || at.index >= self.item_count() {
+                return (at, with_needle(candidate));
             }
         }
         let at = self.start(heads);
@@ -268,14 +272,14 @@ impl<'a, Item: Decodable<Parsed>, Parsed: ParsedItem<Item> + Drop> Intervals<'a,
     /// Returns the place of the first item that a bound doesn't pass, with that item where it was
     /// decoded. Where each item is a head, none is decoded.
     #[inline(always)]
-    pub(crate) fn seek_place(&mut self, bound: &Bound<'_>) -> (Place, Option<Landing<Parsed>>)
+    pub(crate) fn seek_item(&mut self, bound: &Bound<'_>) -> (Place, Option<Candidate<Parsed>>)
         requires { IsOrdered Item.kind self.old.list.items }
         ensures list { self.new.list ≡ self.old.list }
-        ensures place { result.0.place
+        ensures place { result.0.index
             ≡ count_passed Item.kind bound.now.needle.now bound.now.from self.old.list.items }
         ensures stands { Stands Item.kind self.old.list result.0 }
-        ensures landing { IfSome result.1
-            (IsHeldAt Parsed.item_of Parsed.is_found Item.kind self.old.list result.0.place) }
+        ensures candidate { IfSome result.1
+            (IsHeldAt Parsed.item_of Parsed.is_found Item.kind self.old.list result.0.index) }
         ensures counts { CountsBetween self.old.steps self.new.steps (1, 0) (
           digits (head_count self.old.list.interval (length self.old.list.items)),
           scan_cost self.old.list.interval,
@@ -283,12 +287,12 @@ impl<'a, Item: Decodable<Parsed>, Parsed: ParsedItem<Item> + Drop> Intervals<'a,
     {
         let heads = self.heads_passed(bound);
         if heads > 0 && self.interval() > 1 {
-            let (first, landing) = self.seek_in(heads - 1, bound);
-            if first.place < self.end(heads - 1) || first.place >= self.item_count() {
-                return (first, landing);
+            let (first, candidate) = self.seek_in_interval(heads - 1, bound);
+            if first.index < self.interval_end(heads - 1) || first.index >= self.item_count() {
+                return (first, candidate);
             }
         }
-        (self.start_or_last(heads), None)
+        (self.start_or_end(heads), None)
     }
 
     /// Finds the first item with a key whose sequence number is strictly below `seqno`, by a search
@@ -309,7 +313,7 @@ impl<'a, Item: Decodable<Parsed>, Parsed: ParsedItem<Item> + Drop> Intervals<'a,
             needle,
             from: Some(seqno),
         };
-        let (_, item) = self.seek(&bound);
+        let (_, item) = self.seek_key(&bound);
         item
     }
 
@@ -333,23 +337,23 @@ impl<'a, Item: Decodable<Parsed>, Parsed: ParsedItem<Item> + Drop> Intervals<'a,
             needle,
             from: Some(seqno),
         };
-        let end = self.end(j);
+        let end = self.interval_end(j);
         let (from, head, alike) = self.enter(j, needle);
         if !bound.passes(self.own_key(&head), head.seqno()) {
             return self.with_key(head, needle);
         }
-        let (_, landing) = self.scan(from, end, alike, &bound);
-        with_needle(landing)
+        let (_, candidate) = self.scan_interval(from, end, alike, &bound);
+        with_needle(candidate)
     }
 }
 
 // The item at which a search stopped, if its key is the needle.
 #[inline(always)]
-fn with_needle<T: Drop>(landing: Option<Landing<T>>) -> Option<T>
-    ensures { result ≡ with_needle landing }
+fn with_needle<T: Drop>(candidate: Option<Candidate<T>>) -> Option<T>
+    ensures { result ≡ with_needle candidate }
 {
-    match landing {
-        Some(landing) => if_equal(landing.order, landing.item),
+    match candidate {
+        Some(candidate) => if_equal(candidate.order, candidate.item),
         None => None,
     }
 }

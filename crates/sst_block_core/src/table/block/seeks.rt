@@ -7,11 +7,11 @@ ghost use Rattle.sst_block_core.specs.Pointers.{head_count};
 ghost use Rattle.sst_block_core.specs.Window.{count_passed, has_key, first_left, last_left};
 ghost use Rattle.sst_block_core.specs.Window.{some_left};
 ghost use Rattle.sst_block_core.specs.Intervals.{digits};
-ghost use Rattle.sst_block_core.specs.Landings.{IsHeldAt, GivesNextHeld, listed_of, scan_cost};
+ghost use Rattle.sst_block_core.specs.Candidates.{IsHeldAt, GivesNextHeld, listed_of, scan_cost};
 
 use crate::table::block::bound::Bound;
+use crate::table::block::candidate::Candidate;
 use crate::table::block::decoder::{Decodable, Decoder, ParsedItem};
-use crate::table::block::landing::Landing;
 
 impl<'a, Item: Decodable<Parsed>, Parsed: ParsedItem<Item> + Drop> Decoder<'a, Item, Parsed> {
     /// Returns whether an item is left.
@@ -19,7 +19,7 @@ impl<'a, Item: Decodable<Parsed>, Parsed: ParsedItem<Item> + Drop> Decoder<'a, I
     pub fn has_left(&self) -> bool
         ensures { result ≡ some_left self.now.window }
     {
-        self.front.place < self.back.hi
+        self.front.index < self.back.hi
     }
 
     /// Returns whether the front is at an item of the block, wherever the back is.
@@ -27,13 +27,13 @@ impl<'a, Item: Decodable<Parsed>, Parsed: ParsedItem<Item> + Drop> Decoder<'a, I
     pub fn is_at_item(&self) -> bool
         ensures { result ≡ nat_lt self.now.window.lo (length self.now.window.list) }
     {
-        self.front.place < self.intervals.item_count()
+        self.front.index < self.intervals.item_count()
     }
 
     /// Moves the front to the first item that a bound doesn't pass. Returns that item where it was
     /// decoded.
     #[inline(always)]
-    pub fn seek_place(&mut self, bound: &Bound<'_>) -> Option<Landing<Parsed>>
+    pub fn seek_item(&mut self, bound: &Bound<'_>) -> Option<Candidate<Parsed>>
         requires { IsOrdered Item.kind self.old.window.list }
         ensures payload { self.new.payload ≡ self.old.payload }
         ensures interval { self.new.interval ≡ self.old.interval }
@@ -42,7 +42,7 @@ impl<'a, Item: Decodable<Parsed>, Parsed: ParsedItem<Item> + Drop> Decoder<'a, I
           lo = count_passed Item.kind bound.now.needle.now bound.now.from self.old.window.list;
           hi = self.old.window.hi;
         } }
-        ensures landing { IfSome result
+        ensures candidate { IfSome result
             (IsHeldAt Parsed.item_of Parsed.is_found Item.kind (listed_of self.old)
             (count_passed Item.kind bound.now.needle.now bound.now.from self.old.window.list)) }
         ensures counts { CountsBetween self.old.steps self.new.steps (1, 0) (
@@ -50,14 +50,14 @@ impl<'a, Item: Decodable<Parsed>, Parsed: ParsedItem<Item> + Drop> Decoder<'a, I
           scan_cost self.old.interval,
         ) }
     {
-        let (first, landing) = self.intervals.seek_place(bound);
+        let (first, candidate) = self.intervals.seek_item(bound);
         self.front = first;
-        landing
+        candidate
     }
 
     /// Moves the back after the first item that a bound doesn't pass, or after the last item.
     #[inline(always)]
-    pub fn seek_upper_place(&mut self, bound: &Bound<'_>)
+    pub fn seek_upper_item(&mut self, bound: &Bound<'_>)
         requires { IsOrdered Item.kind self.old.window.list }
         ensures payload { self.new.payload ≡ self.old.payload }
         ensures interval { self.new.interval ≡ self.old.interval }
@@ -72,19 +72,19 @@ impl<'a, Item: Decodable<Parsed>, Parsed: ParsedItem<Item> + Drop> Decoder<'a, I
           2 * scan_cost self.old.interval,
         ) }
     {
-        let (place, _) = self.intervals.seek_place(bound);
-        let end = self.intervals.item_count().min(place.place + 1);
+        let (place, _) = self.intervals.seek_item(bound);
+        let end = self.intervals.item_count().min(place.index + 1);
         self.intervals.move_back(&mut self.back, end);
     }
 
     /// Returns the item at the front, which is held, if it is left. Counts nothing.
     #[inline(always)]
-    pub fn next_held(&mut self, held: Landing<Parsed>) -> Option<Parsed>
+    pub fn next_held(&mut self, held: Candidate<Parsed>) -> Option<Parsed>
         requires { IsHeldAt Parsed.item_of Parsed.is_found Item.kind (listed_of self.old)
             self.old.window.lo held }
         ensures { GivesNextHeld Parsed.item_of Parsed.is_found self.old result self.new }
     {
-        if self.front.place >= self.back.hi {
+        if self.front.index >= self.back.hi {
             return None;
         }
         self.front = held.after;
@@ -110,10 +110,10 @@ impl<'a, Item: Decodable<Parsed>, Parsed: ParsedItem<Item> + Drop> Decoder<'a, I
           self.old.interval + 1,
         ) }
     {
-        let (place, item) = self.intervals.seek(bound);
+        let (place, item) = self.intervals.seek_key(bound);
         self.front = place;
         match item {
-            Some(_) => self.front.place < self.back.hi,
+            Some(_) => self.front.index < self.back.hi,
             None => false,
         }
     }
@@ -137,9 +137,9 @@ impl<'a, Item: Decodable<Parsed>, Parsed: ParsedItem<Item> + Drop> Decoder<'a, I
           2 * self.old.interval + 2,
         ) }
     {
-        let (place, _) = self.intervals.seek(bound);
-        self.intervals.set_back(&mut self.back, place.place);
-        if self.front.place >= self.back.hi {
+        let (place, _) = self.intervals.seek_key(bound);
+        self.intervals.set_back(&mut self.back, place.index);
+        if self.front.index >= self.back.hi {
             return false;
         }
         let item = self.intervals.peek_back(&self.back);

@@ -7,7 +7,7 @@ ghost use Rattle.sst_block_core.specs.Backs.{GivesStep, GivesNextBack};
 ghost use Rattle.sst_block_kinds.specs.Handles.{handles};
 ghost use Rattle.sst_block_core.specs.Intervals.{digits};
 ghost use Rattle.sst_block_core.specs.Kind.{IsOrdered};
-ghost use Rattle.sst_block_core.specs.Landings.{GivesNextHeld, scan_cost};
+ghost use Rattle.sst_block_core.specs.Candidates.{GivesNextHeld, scan_cost};
 ghost use Rattle.sst_block_core.specs.ListSteps.{held_gives_first, scan_gives_last};
 ghost use Rattle.sst_block_kinds.specs.ParsedHandle.{handle_of, IsParsedHandle};
 ghost use Rattle.sst_block_core.specs.Pointers.{head_count};
@@ -19,7 +19,7 @@ use sst_base::double_ended_peekable::ListIterator;
 use sst_base::{SeqNo, Steps};
 use sst_block_core::table::block::Decoder;
 use sst_block_core::table::block::bound::Bound;
-use sst_block_core::table::block::landing::Landing;
+use sst_block_core::table::block::candidate::Candidate;
 use std::marker::Model;
 
 /// An iterator over the handles of an index block, as ranges of its payload.
@@ -31,14 +31,14 @@ use std::marker::Model;
 #[derive(Drop)]
 pub struct Iter<'a> {
     decoder: Decoder<'a, KeyedBlockHandle, IndexBlockParsedItem>,
-    held: Option<Landing<IndexBlockParsedItem>>,
+    held: Option<Candidate<IndexBlockParsedItem>>,
 }
 
 impl<'a> Model for Iter<'a> {
     ghost use Rattle.std.specs.Prelude.{IfSome};
     ghost use Rattle.sst_block_core.specs.Kind.{IsOrdered};
     ghost use Rattle.sst_block_kinds.specs.Handles.{Handle, handles};
-    ghost use Rattle.sst_block_core.specs.Landings.{IsHeldAt, listed_of};
+    ghost use Rattle.sst_block_core.specs.Candidates.{IsHeldAt, listed_of};
     ghost use Rattle.sst_block_kinds.specs.ParsedHandle.{handle_of, IsParsedHandle};
     ghost use Rattle.sst_block_core.specs.Scan.{Scan};
 
@@ -86,7 +86,7 @@ impl<'a> Iter<'a> {
             needle,
             from: Some(seqno),
         };
-        self.held = self.decoder.seek_place(&passed);
+        self.held = self.decoder.seek_item(&passed);
         self.decoder.is_at_item()
     }
 
@@ -101,7 +101,7 @@ impl<'a> Iter<'a> {
         ) }
     {
         let passed = Bound::up_to(needle);
-        self.decoder.seek_upper_place(&passed);
+        self.decoder.seek_upper_item(&passed);
         true
     }
 }

@@ -1,6 +1,6 @@
 use Rattle.std.proofs.Common.{sym, subst, refl, inl, inr}
 use Rattle.std.proofs.lemmas.Result.{err_from_is_err_and}
-use Rattle.sst_base.specs.FrameErrors.{NotIo}
+use Rattle.sst_base.specs.FrameErrorLaws.{NotIo}
 use Rattle.sst_program.proofs.TableReads.{handles_not_io, handles_truncated, failed_not_io, footer_read_on, footer_fails_on}
 use Rattle.sst_program.proofs.table.read_footer.Goals as goal
 

@@ -9,16 +9,16 @@ invariant_of-self g c =
     let same = c.partition_point-passed.ensures.list in
     let P : Listed g.row.Item.Denot → Type 0 = λ l. Stands g.Item.BlockItem.kind l c.self.inside.front in (
       subst P (sym same) c.self.invariant.0,
-      is_back_interval g.Item.BlockItem.kind c.partition_point-passed.new.self.list _ _ _ _ c.end-end.ensures.value (ap length c.clear.ensures),
+      is_back_interval g.Item.BlockItem.kind c.partition_point-passed.new.self.list _ _ _ _ c.interval_end-end.ensures.value (ap length c.clear.ensures),
     )
 
 pub returns-clause-step : goal.returns-clause-step
 returns-clause-step g c = rw (← c.self.view_is) (λ p splits.
     let same = c.partition_point-passed.ensures.list in
     let list = c.self.inside.intervals.list in
-    let value = rw same at c.end-end.ensures.value in
+    let value = rw same at c.interval_end-end.ensures.value in
     let count = rw same at c.count-count.ensures.value in
     let point = c.partition_point-passed.ensures.point p splits in
     let picked = c.picked_head.ensures ∙ (λ i. picked_head c.args.second_partition (point i) (count i)) in
     let hi = value ∙ ap (λ k. min (length list.items) ((k + 1) * list.interval)) picked in
-    (λ i. (record { list = (same i).items; lo = c.self.inside.front.place; hi = hi i }, found true)))
+    (λ i. (record { list = (same i).items; lo = c.self.inside.front.index; hi = hi i }, found true)))

@@ -14,7 +14,7 @@ loop-at-init g c =
     let t = c.take_head-head.ensures in
     let same : c.from.result ≡ list.interval = c.from.ensures ∙ c.interval.ensures.value in
     let below : (c.args.end - 1) / c.from.result * list.interval < c.args.end = rw same (first_below list.interval c.args.end c.requires.some) in
-    let at : Place = record { place = c.start-at.result.place; phase = 0; offset = c.start-at.result.offset; base = c.take_head-head.new.at.base } in
+    let at : Place = record { index = c.start-at.result.index; phase = 0; offset = c.start-at.result.offset; base = c.take_head-head.new.at.base } in
     let none : length c.args.stack.now.items ≡ 0 = ap length c.requires.empty in
     let l = ap length c.push.ensures.items ∙ length_push c.args.stack.now.items c.start-at.result.offset in
     record {
@@ -67,7 +67,7 @@ pub returns-clause-count : goal.returns-clause-count
 returns-clause-count g c =
     let r = c.args.self.now.list.interval in
     let same : c.from.result ≡ r = c.from.ensures ∙ c.interval.ensures.value in
-    let n : (c.args.end - 1) / r * r + length c.loop-at.stack.items ≡ c.loop-at.at.place = rw same at c.loop-at.invariant.count in
+    let n : (c.args.end - 1) / r * r + length c.loop-at.stack.items ≡ c.loop-at.at.index = rw same at c.loop-at.invariant.count in
     let is = first_of_is r c.args.end in
     omega (arith, n, is, c.loop-at.invariant.upto, c.loop-at-test.false)
 
@@ -76,7 +76,7 @@ returns-clause-counts g c =
     let r = c.args.self.now.list.interval in
     let same : c.from.result ≡ r = c.from.ensures ∙ c.interval.ensures.value in
     let i = c.loop-at.invariant in
-    let m : c.loop-at.self.steps.entries + (c.args.end - 1) / r * r ≡ c.args.self.now.steps.entries + c.loop-at.at.place = rw same at i.entries in
+    let m : c.loop-at.self.steps.entries + (c.args.end - 1) / r * r ≡ c.args.self.now.steps.entries + c.loop-at.at.index = rw same at i.entries in
     let is = first_of_is r c.args.end in
     let below = first_below r c.args.end c.requires.some in
     record { heads = omega (arith, i.heads); entries = omega (arith, m, is, below, i.upto, c.loop-at-test.false) }

@@ -7,13 +7,13 @@ abbrev pub invariant-loop-at : goal.invariant-loop-at
 invariant-loop-at g l = record {
   same : l.self.list ≡ l.fn.self.list;
   stands : Stands g.Item.BlockItem.kind l.fn.self.list l.at;
-  upto : l.at.place ≤ l.end;
+  upto : l.at.index ≤ l.end;
   some : 0 < length l.stack.items;
-  count : l.number * l.fn.self.list.interval + length l.stack.items ≡ l.at.place;
+  count : l.number * l.fn.self.list.interval + length l.stack.items ≡ l.at.index;
   places : StackStands g.Item.BlockItem.kind l.fn.self.list l.stack.items l.at.base (l.number * l.fn.self.list.interval);
-  entries : l.self.steps.entries + l.number * l.fn.self.list.interval ≡ l.fn.self.steps.entries + l.at.place;
+  entries : l.self.steps.entries + l.number * l.fn.self.list.interval ≡ l.fn.self.steps.entries + l.at.index;
   heads : l.self.steps.heads ≡ l.fn.self.steps.heads;
 }
 
 abbrev pub decreases-loop-at : goal.decreases-loop-at
-decreases-loop-at g l = l.end - l.at.place
+decreases-loop-at g l = l.end - l.at.index

@@ -7,22 +7,22 @@ use Rattle.sst_block_core.specs.Kind.{Kind}
 use Rattle.sst_base.specs.Counted.{CountsBetween, found_item}
 use Rattle.sst_block_core.specs.Scan.{Listed, Scan, Stands}
 use Rattle.sst_block_core.specs.Window.{Window, Answer, item, next}
-use Rattle.sst_block_core.specs.declared.table.block.landing.Landing.{Landing}
+use Rattle.sst_block_core.specs.declared.table.block.candidate.Candidate.{Candidate}
 
 -- the item at an index of a list was decoded, and the place behind it is known
-pub record IsHeldAt {X P : Type 0} (item_of : List ℕ → P → X) (is_found : List ℕ → P → Type 0) (kind : Kind X) (list : Listed X) (place : ℕ) (l : Landing P) : Type 0 where
+pub record IsHeldAt {X P : Type 0} (item_of : List ℕ → P → X) (is_found : List ℕ → P → Type 0) (kind : Kind X) (list : Listed X) (place : ℕ) (l : Candidate P) : Type 0 where
   pub there : slice_get list.items place ≡ Some (item_of list.payload l.item)
   pub found : is_found list.payload l.item
-  pub next : l.after.place ≡ place + 1
+  pub next : l.after.index ≡ place + 1
   pub stands : Stands kind list l.after
 
 -- the same, with how its key compares with a needle
-pub record IsLandedAt {X P : Type 0} (item_of : List ℕ → P → X) (is_found : List ℕ → P → Type 0) (kind : Kind X) (needle : List ℕ) (list : Listed X) (place : ℕ) (l : Landing P) : Type 0 where
+pub record IsCandidateAt {X P : Type 0} (item_of : List ℕ → P → X) (is_found : List ℕ → P → Type 0) (kind : Kind X) (needle : List ℕ) (list : Listed X) (place : ℕ) (l : Candidate P) : Type 0 where
   pub held : IsHeldAt item_of is_found kind list place l
   pub order_is : l.order ≡ slice_cmp nat_cmp (kind.key (item_of list.payload l.item)) needle
 
 -- the item, if its key is the needle
-abbrev pub with_needle : {P : Type 0} → Option (Landing P) → Option P
+abbrev pub with_needle : {P : Type 0} → Option (Candidate P) → Option P
 with_needle None = None
 with_needle (Some l) = if is_eq l.order then Some l.item else None
 

@@ -1,6 +1,6 @@
 use Rattle.std.proofs.Common.{◌∙◌, ap, sym, refl, drop, arith}
 use Rattle.sst_block_core.proofs.Search.Scans.{alike_inside, order_is, stops_here, goes_on}
-use Rattle.sst_block_core.proofs.table.block.intervals.Intervals.scan.Goals as goal
+use Rattle.sst_block_core.proofs.table.block.intervals.Intervals.scan_interval.Goals as goal
 
 pub loop-at-init : goal.loop-at-init
 loop-at-init g c = record {
@@ -29,8 +29,8 @@ returns-then-not-passes_order-clause-place g c =
     c.prefix_len-shared.result c.own_key.result.now shared rest c.compare_behind-order.result c.compare_behind-order.ensures
     c.seqno.result (c.seqno.ensures c.args.self.now.list.payload) c.loop-at-test.true (sym c.passes_order.ensures ∙ c.if-not-passes_order.true)
 
-pub returns-then-not-passes_order-clause-landing : goal.returns-then-not-passes_order-clause-landing
-returns-then-not-passes_order-clause-landing g c =
+pub returns-then-not-passes_order-clause-candidate : goal.returns-then-not-passes_order-clause-candidate
+returns-then-not-passes_order-clause-candidate g c =
     let i = c.loop-at.invariant in
     let e = i.entered in
     let kind = g.Item.BlockItem.kind in

@@ -4,7 +4,7 @@ use std::cmp::Ordering;
 
 /// An item at which a search stopped, as it was decoded.
 #[derive(Drop)]
-pub struct Landing<Parsed> {
+pub struct Candidate<Parsed> {
     /// The item.
     pub(crate) item: Parsed,
     /// How its key compares with the needle.
