@@ -7,7 +7,7 @@ use Rattle.sst_base.specs.Hashes.{times31, poly31_from}
 use Rattle.sst_base.specs.HashLaws.{add-mod_first}
 use Rattle.sst_base.proofs.Polynomials.{tail_more}
 
--- a 0 in front of bytes
+-- a 0 before bytes
 zero_first : (bytes : List ℕ) → IsBytes bytes → IsBytes (0 ∷ bytes)
 zero_first bytes small zero = omega arith
 zero_first bytes small (suc i) = small i
@@ -34,7 +34,7 @@ four_steps h (a ∷ b ∷ []) l = absurd (omega arith)
 four_steps h (a ∷ b ∷ c ∷ []) l = absurd (omega arith)
 four_steps h (a ∷ b ∷ c ∷ d ∷ bytes) l = omega arith
 
--- four bytes more, and those behind them
+-- four bytes more, and those after them
 pub four_more : (bits from : ℕ) (bytes tail : List ℕ) (product v hash r : ℕ) → 4 ≤ length bytes → product ≡ (from * 923521) % 2 ^ bits → v ≡ fold times31 0 (take 4 bytes)
     → hash ≡ (product + v) % 2 ^ bits → tail ≡ drop 4 bytes → r ≡ poly31_from bits hash tail → r ≡ poly31_from bits from bytes
 four_more bits from bytes tail product v hash r l p q h t e =

@@ -27,7 +27,7 @@ left_behind m x left read h =
     let same : h.0 ≡ left = cc (h.1) in
     h.2 ∙ ap (λ ys. Ok (x, ys)) same
 
--- the payload behind a header of 33 bytes
+-- the payload after a header of 33 bytes
 pub payload_behind : (hash128 : List ℕ → ℕ) (all rest payload : List ℕ) (h : Header) → header_at hash128 all ≡ Ok (h, rest) → payload ≡ slice_range all 33 (length all) → payload ≡ rest
 payload_behind hash128 all rest payload h e p =
     let begins = header_at_begins hash128 all h rest e in

@@ -3,7 +3,7 @@ use Rattle.std.proofs.Common.{◌≡◌, ℕ, ◌+◌, ◌≤◌, List, ◌++◌
 use Rattle.std.proofs.lemmas.List.{take_at, take-take}
 use Rattle.std.specs.Array.{IsFirstChunk}
 
--- two byte strings, copied one behind the other into the front of an array
+-- two byte strings, copied one after the other into the front of an array
 pub joined_front : (left right l r z post : List ℕ) → l ≡ left → r ≡ right
     → take (length left + length right) (take (length left) (l ++ z) ++ (r ++ post)) ≡ left ++ right
 joined_front left right l r z post e f =

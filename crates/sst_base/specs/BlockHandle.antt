@@ -14,11 +14,11 @@ pub record HandleParts : Type 0 where
 abbrev pub handle_bytes : HandleParts → List ℕ
 handle_bytes h = varint h.offset ++ varint h.size
 
--- a digit in front of what the bytes behind it encode, which isn't 0
+-- a digit before what the bytes after it encode, which isn't 0
 abbrev pub behind_digit : ℕ → ℕ × List ℕ → Result (ℕ × List ℕ) Error
 behind_digit digit high = if nat_eq high.0 0 then Err BadHandle else Ok (digit + 128 * high.0, high.1)
 
--- The number of at most `max` that a front of the bytes encodes, or the refusal of the first byte with which no
+-- The number of at most `max` that a prefix of the bytes encodes, or the refusal of the first byte with which no
 -- minimal encoding of such a number goes on.
 unfoldable pub handle_number_at : ℕ → List ℕ → Result (ℕ × List ℕ) Error
 handle_number_at max [] = Err Io
@@ -27,7 +27,7 @@ handle_number_at max (b ∷ bs) =
     else if nat_lt max 128 then Err BadHandle
     else handle_number_at ((max - (b - 128)) / 128) bs >>= behind_digit (b - 128)
 
--- the handle at the front of bytes
+-- the handle at the start of bytes
 unfoldable pub handle_at : List ℕ → Result (HandleParts × List ℕ) Error
 handle_at bytes = do
   offset ← handle_number_at (2 ^ 64 - 1) bytes

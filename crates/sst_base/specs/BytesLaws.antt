@@ -57,7 +57,7 @@ bytes_low_first-suc (suc width) i n =
 pub little_bytes-suc : (width n : ℕ) → little_bytes (suc width) n ≡ (n % 256) ∷ little_bytes width (n / 256)
 little_bytes-suc width n = ap (λ bs. (n % 256) ∷ bs) (bytes_low_first-suc width 0 n)
 
--- the number of bytes: the first, and what those behind it are
+-- the number of bytes: the first, and what those after it are
 little_number-cons : (width b : ℕ) (bs : List ℕ) → little_number (suc width) (b ∷ bs) ≡ b + 256 * little_number width bs
 little_number-cons width b bs = ap (λ m. b + 256 * m) (little_from-cons 0 width b bs)
 
@@ -78,7 +78,7 @@ little_bytes-little_number (suc width) (b ∷ bs) small h =
 pub little_bytes-little_number_at : (at width : ℕ) (xs : List ℕ) → IsBytes xs → at + width ≤ length xs → little_bytes width (little_number width (drop at xs)) ≡ take width (drop at xs)
 little_bytes-little_number_at at width xs b h = little_bytes-little_number width (drop at xs) (IsBytes-drop at xs b) (omega (arith, length-drop at xs))
 
--- the number of bytes that stand behind others, whatever follows
+-- the number of bytes that stand after others, whatever follows
 pub little_number-between : (before behind bytes : List ℕ) (at width : ℕ) → length before ≡ at → length bytes ≡ width → little_number width (drop at (before ++ (bytes ++ behind))) ≡ little_number width bytes
 little_number-between before behind bytes at width h l =
     ap (little_number width) (drop_at before (bytes ++ behind) at h) ∙ little_from-append width bytes behind (omega arith)

@@ -36,7 +36,7 @@ block_of hash128 h payload =
     if nat_eq (hash128 payload) h.checksum then Ok (record { header = h; payload = payload })
     else Err (ChecksumMismatch (hash128 payload) h.checksum)
 
--- the block of a header, whose payload is at the front of the bytes behind it
+-- the block of a header, whose payload is at the start of the bytes after it
 unfoldable pub block_at : (List ℕ → ℕ) → Header → List ℕ → Result (BlockParts × List ℕ) Error
 block_at hash128 h bytes = do
   equal ← demand (nat_eq h.data_length h.uncompressed_length) LengthMismatch
@@ -44,7 +44,7 @@ block_at hash128 h bytes = do
   block ← block_of hash128 h payload.0
   Ok (block, payload.1)
 
--- the block whose frame is at the front of bytes, or the first refusal in the order of the bytes
+-- the block whose frame is at the start of bytes, or the first refusal in the order of the bytes
 unfoldable pub frame_at : (List ℕ → ℕ) → List ℕ → Result (BlockParts × List ℕ) Error
 frame_at hash128 bytes = do
   h ← header_at hash128 bytes

@@ -41,7 +41,7 @@ bytes_at_long n bytes h = ap (λ b. if b then Err Io else Ok (take n bytes, drop
 bytes_at_not_io : (n : ℕ) (bytes : List ℕ) → n ≤ length bytes → NotIo (bytes_at n bytes)
 bytes_at_not_io n bytes h = rw (bytes_at_long n bytes h) tt
 
--- what is behind the first bytes is so much shorter
+-- what is after the first bytes is so much shorter
 bytes_at_rest : (n : ℕ) (bytes : List ℕ) (found : List ℕ × List ℕ) → bytes_at n bytes ≡ Ok found → length bytes ≡ n + length found.1
 bytes_at_rest n bytes found e = let t = bytes_at_takes n bytes found e in ap length t.0 ∙ length-append found.0 found.1 ∙ ap (λ k. k + length found.1) t.1
 

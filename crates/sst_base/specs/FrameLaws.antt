@@ -76,7 +76,7 @@ frame_in-frame hash128 t payload short sum =
     let long : 33 ≤ length (header hash128 h ++ payload) = omega (arith, length-append (header hash128 h) payload, length-header hash128 h) in
     rw (le-leb 33 (length (header hash128 h ++ payload)) long, head, eq-eqb (length payload) (length payload) refl, block_of-own hash128 h payload refl) refl
 
--- what is read behind a header
+-- what is read after a header
 block_at_takes : (hash128 : List ℕ → ℕ) (h : Header) (bytes : List ℕ) (b : BlockParts) (rest : List ℕ) → block_at hash128 h bytes ≡ Ok (b, rest) → (b.header ≡ h) × (bytes ≡ b.payload ++ rest) × IsOwn hash128 b
 unfolding block_at
 block_at_takes hash128 h bytes b rest e =

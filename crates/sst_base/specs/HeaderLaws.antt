@@ -94,7 +94,7 @@ block_type_at_takes bytes t e =
     let one : b.0.0 ++ b.0.1 ≡ block_type_byte k.0 ∷ b.0.1 = ap (λ ys. ys ++ b.0.1) (single b.0.0 f.1 ∙ ap (λ z. z ∷ []) (block_type_of_takes _ k.0 k.1)) in
     f.0 ∙ one ∙ ap (λ (p : BlockType × List ℕ). block_type_byte p.0 ∷ p.1) q
 
--- the fields behind the type
+-- the fields after the type
 fields_of : Header → List ℕ
 fields_of h = little_bytes 16 h.checksum ++ (little_bytes 4 h.data_length ++ little_bytes 4 h.uncompressed_length)
 

@@ -3,7 +3,7 @@ use Rattle.std.specs.Prelude.{◌≡◌, List, ℕ, ⊤, Option, Some, Result, O
 use Rattle.sst_base.specs.declared.error.Error.{Error}
 use Rattle.sst_base.specs.declared.error.Error.TheVariants.{Io, Memory}
 
--- The answer and the bytes left behind are those of reading; a reader that isn't over memory may have failed instead.
+-- The answer and the bytes left after are those of reading; a reader that isn't over memory may have failed instead.
 abbrev pub Reads : {A : Type 0} → Type 0 → Result A Error → Option (List ℕ) → Result (A × List ℕ) Error → Type 0
 Reads over_memory (Ok x) left read = (rest : List ℕ) × (left ≡ Some rest) × (read ≡ Ok (x, rest))
 Reads over_memory (Err Io) left read = over_memory → read ≡ Err Io

@@ -17,7 +17,7 @@ ordering_then_assoc Less b c = refl
 ordering_then_assoc Equal b c = refl
 ordering_then_assoc Greater b c = refl
 
--- fronts of one length decide first, and then what is behind them
+-- fronts of one length decide first, and then what is after them
 pub slice_cmp-append : (p q s t : List ℕ) → length p ≡ length q → slice_cmp nat_cmp (p ++ s) (q ++ t) ≡ ordering_then (slice_cmp nat_cmp p q) (slice_cmp nat_cmp s t)
 slice_cmp-append [] [] s t h = refl
 slice_cmp-append [] (y ∷ q) s t h = absurd (omega arith)
@@ -63,7 +63,7 @@ nat_cmp-add_left c m n = elim (cases_lt m n) [
 first_decides : (x y p r s : ℕ) → x < y → r < p → x * p + r < y * p + s
 first_decides x y p r s h k = let m : (x + 1) * p ≤ y * p = mul-le-mul_right p (omega arith) in omega arith
 
--- the number of bytes, the highest first: the first, and what those behind it are
+-- the number of bytes, the highest first: the first, and what those after it are
 big_number-cons : (n b : ℕ) (bs : List ℕ) → big_number (suc n) (b ∷ bs) ≡ b * 256 ^ n + big_number n bs
 big_number-cons n b bs = ap (λ m. b * 256 ^ n + m) (big_from-cons 0 n b bs)
 

@@ -1,4 +1,4 @@
--- What stands at the front of bytes: a value, and the bytes behind it.
+-- What stands at the start of bytes: a value, and the bytes after it.
 use Rattle.std.specs.Prelude.{ℕ, ◌∷◌, [], ◌++◌, List, length, take, drop, nat_le, if◌then◌else◌, Option, Some, None}
 use Rattle.sst_base.specs.Varint.{varint, varint_at}
 use Rattle.sst_base.specs.declared.value_type.ValueType.{ValueType}

@@ -20,7 +20,7 @@ shared_prefix_joins (x ∷ a) (y ∷ b) = elim (cases_eq x y) [
   | inr n ↦ rw (ne_eqb x y n) refl
 ]
 
--- fronts that agree, and what is shared behind them
+-- fronts that agree, and what is shared after them
 pub shared_prefix_behind : (n : ℕ) (a b : List ℕ) → n ≤ length a → n ≤ length b → take n a ≡ take n b → n + shared_prefix_length (drop n a) (drop n b) ≡ shared_prefix_length a b
 shared_prefix_behind zero a b h k e = omega arith
 shared_prefix_behind (suc n) [] b h k e = absurd (omega arith)

@@ -22,7 +22,7 @@ pub varint_within_more : (k n : ℕ) → 128 ≤ n → varint_within (suc k) n �
 unfolding varint_within
 varint_within_more k n h = search (arith, nat_tests)
 
--- a digit more, and the rest of the encoding behind it
+-- a digit more, and the rest of the encoding after it
 pub digit_pushed : (encoded xs : List ℕ) (rest more less : ℕ) → more ≡ suc less → 128 ≤ rest → xs ++ varint_within more rest ≡ encoded
     → (xs ++ (rest % 128 + 128) ∷ []) ++ varint_within less (rest / 128) ≡ encoded
 digit_pushed encoded xs rest more less e h so_far =

@@ -6,7 +6,7 @@ use Rattle.sst_base.specs.Entry.{Entry}
 use Rattle.sst_block_kinds.specs.Handles.{Handle}
 use Rattle.sst_bench.specs.Inputs.{entry_bytes, handle_bytes}
 
--- six parts, each in front of the next
+-- six parts, each before the next
 pub six_parts : (byte : ℕ) (a b c d e bytes p q r s t rest : List ℕ)
     → bytes ≡ byte ∷ p → p ≡ a ++ q → q ≡ b ++ r → r ≡ c ++ s → s ≡ d ++ t → t ≡ e ++ rest
     → bytes ≡ (byte ∷ (a ++ (b ++ (c ++ (d ++ e))))) ++ rest
@@ -21,7 +21,7 @@ pub entries_more : (items : List Entry) (e : Entry) (rest after bytes : List ℕ
     → flat_map entry_bytes (items ++ e ∷ []) ++ after ≡ bytes
 entries_more items e rest after bytes h g = grind (arith, common_steps, h, g, flat_map-append)
 
--- five parts, each in front of the next
+-- five parts, each before the next
 pub five_parts : (a b c d e bytes q r s t rest : List ℕ)
     → bytes ≡ a ++ q → q ≡ b ++ r → r ≡ c ++ s → s ≡ d ++ t → t ≡ e ++ rest
     → bytes ≡ (a ++ (b ++ (c ++ (d ++ e)))) ++ rest

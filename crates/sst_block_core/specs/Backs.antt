@@ -1,4 +1,4 @@
--- What contracts see of the back of an iterator: an end, and the offsets of the forms in front of it.
+-- What contracts see of the back of an iterator: an end, and the offsets of the forms before it.
 use Rattle.std.specs.Prelude.{◌≡◌, ℕ, ◌+◌, ◌-◌, ◌*◌, ◌/◌, ◌%◌, ◌<◌, ◌≤◌, ◌==◌, ◌||◌, if◌then◌else◌, Bool, true, List, length, slice_index, min, Option, IfSome}
 use Rattle.std.specs.Option.{option_map}
 use Rattle.sst_base.specs.Counted.{CountsBetween, found_item}

@@ -9,7 +9,7 @@ use Rattle.sst_block_core.specs.Scan.{Listed, Scan, Stands}
 use Rattle.sst_block_core.specs.Window.{Window, Answer, item, next}
 use Rattle.sst_block_core.specs.declared.table.block.candidate.Candidate.{Candidate}
 
--- the item at an index of a list was decoded, and the place behind it is known
+-- the item at an index of a list was decoded, and the place after it is known
 pub record IsHeldAt {X P : Type 0} (item_of : List ℕ → P → X) (is_found : List ℕ → P → Type 0) (kind : Kind X) (list : Listed X) (place : ℕ) (l : Candidate P) : Type 0 where
   pub there : slice_get list.items place ≡ Some (item_of list.payload l.item)
   pub found : is_found list.payload l.item
@@ -26,7 +26,7 @@ abbrev pub with_needle : {P : Type 0} → Option (Candidate P) → Option P
 with_needle None = None
 with_needle (Some l) = if is_eq l.order then Some l.item else None
 
--- the most items that are decoded to find a place behind its head: none where each item is a head
+-- the most items that are decoded to find a place after its head: none where each item is a head
 abbrev pub scan_cost : ℕ → ℕ
 scan_cost r = if r == 1 then 0 else r
 

@@ -3,7 +3,7 @@ use Rattle.std.specs.Prelude.{◌≡◌, ℕ, ◌+◌, ◌-◌, ◌*◌, ◌^◌
 use Rattle.sst_base.specs.Varint.{varint_up_to, varint_at, with_digits}
 
 -- The first `len` bytes of a varint within a width are read, and none of them is its last: their digits sum to `sum`,
--- the next one counts `scale` times, and what the bytes behind them encode, within some room, is the rest.
+-- the next one counts `scale` times, and what the bytes after them encode, within some room, is the rest.
 pub record IsReadTo (bits : ℕ) (bytes : List ℕ) (len sum scale : ℕ) : Type 0 where
   pub room : ℕ
   pub fits : sum + scale * room ≤ 2 ^ bits - 1

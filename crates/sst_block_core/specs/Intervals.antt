@@ -73,8 +73,8 @@ seek_picked r second p w =
     if is_past_all second r p c then (record w { lo = length w.list }, found false)
     else (record w { lo = picked_head second p c * r }, found true)
 
--- A search has reached a place behind the head of its interval, which the bound passes and which shares so many bytes
--- with the needle: all items in front of it pass, and there is no head from it up to an end.
+-- A search has reached a place after the head of its interval, which the bound passes and which shares so many bytes
+-- with the needle: all items before it pass, and there is no head from it up to an end.
 pub record IsEntered {X : Type 0} (kind : Kind X) (needle : List ℕ) (from : Option ℕ) (list : Listed X) (at : Place) (shared end : ℕ) : Type 0 where
   pub index : ℕ
   pub before : index < at.index

@@ -7,7 +7,7 @@ use Rattle.sst_block_core.specs.Found.{range_of, IsRange}
 use Rattle.sst_block_core.specs.declared.table.block.check.keys.KeyRanges.{KeyRanges}
 use Rattle.sst_block_core.specs.declared.table.block.check.keys.KeyVersion.{KeyVersion}
 
--- the key: a prefix, and what is behind it
+-- the key: a prefix, and what is after it
 abbrev pub key_by : List ℕ → KeyRanges → List ℕ
 key_by payload k = range_of payload k.prefix ++ range_of payload k.rest
 

@@ -24,7 +24,7 @@ module _ {X P : Type 0} (item_of : List ℕ → P → X) (is_found : List ℕ �
   scan_gives_last s None t gives = back_none s.window t.window gives.within gives.step
   scan_gives_last s (Some p) t gives = back_some s.window t.window (item_of s.payload p) gives.within gives.step
 
--- what is left behind a step that gives an item
+-- what is left after a step that gives an item
 module _ {X P : Type 0} (item_of : List ℕ → P → X) (is_found : List ℕ → P → Type 0) (s t : Scan X) where
   -- from the front
   pub took_some : (payload : List ℕ) (p : P) → payload ≡ s.payload → GivesNext item_of is_found s (Some p) t → items_left s.window ≡ item_of payload p ∷ items_left t.window

@@ -13,7 +13,7 @@ module _ {X : Type 0} (kind : Kind X) (r : ℕ) (pos : 0 < r) where
   form-append items more i x h =
       ap (λ head. cond (eqb (i % r) 0) (kind.full x) (truncated_against kind head x)) (get_or_append_left items more x (i - i % r) (omega arith))
 
-  -- the forms of two lists, one behind the other
+  -- the forms of two lists, one after the other
   pub forms-append : (items : List X) (i : ℕ) (xs ys : List X) → forms kind r items i (xs ++ ys) ≡ forms kind r items i xs ++ forms kind r items (length xs + i) ys
   forms-append items i [] ys = ap (λ n. forms kind r items n ys) (omega arith)
   forms-append items i (x ∷ xs) ys =
@@ -70,7 +70,7 @@ module _ {X : Type 0} (kind : Kind X) (r : ℕ) (pos : 0 < r) where
     unfolding body
     body_long items = length-forms items items 0
 
-    -- a place behind begins behind
+    -- a place after begins after
     pub place_gap : (items : List X) (i j : ℕ) → i ≤ j → j ≤ length items → place_offset kind r items i + (j - i) ≤ place_offset kind r items j
     place_gap items i j h inside =
         let xs = take j items in
@@ -84,7 +84,7 @@ module _ {X : Type 0} (kind : Kind X) (r : ℕ) (pos : 0 < r) where
         let e = ap (λ ys. length (body kind r ys)) front in
         omega (arith, whole, l, rest, n, m, e)
 
-    -- a head at most another stands at or in front of it, one below it in front of it
+    -- a head at most another stands at or before it, one below it before it
     pub head_upto : (items : List X) (i j : ℕ) → i * r < length items → j * r < length items → place_offset kind r items (i * r) ≤ place_offset kind r items (j * r) → i ≤ j
     head_upto items i j h k le = elim (cases_lt j i) [
       | inl less ↦ absurd (

@@ -28,7 +28,7 @@ trailer_by n = record {
   item_count = n.item_count;
 }
 
--- the key of the head in front of what follows these items, of which the first has index i; `base` is that in front of them
+-- the key of the head before what follows these items, of which the first has index i; `base` is that before them
 abbrev pub base_behind : {X : Type 0} → Kind X → ℕ → ℕ → List X → List ℕ → List ℕ
 base_behind kind r i [] base = base
 base_behind kind r i (x ∷ xs) base = base_behind kind r (i + 1) xs (if (i % r) == 0 then kind.key x else base)
@@ -39,7 +39,7 @@ last_of [] = None
 last_of (x ∷ []) = Some x
 last_of (x ∷ y ∷ xs) = last_of (y ∷ xs)
 
--- decoding as many items from the front of a body gives these, and ends at an offset, behind a head with this key
+-- decoding as many items from the front of a body gives these, and ends at an offset, after a head with this key
 pub record IsRead {X : Type 0} (kind : Kind X) (r : ℕ) (body : List ℕ) (xs : List X) (place offset : ℕ) (base : List ℕ) : Type 0 where
   pub count : place ≡ length xs
   pub inside : offset ≤ length body
@@ -56,13 +56,13 @@ pub record IsJudged {X : Type 0} (kind : Kind X) (fits : X → Type 0) (r : ℕ)
   pub ordered : IsTrue is_ordered ↔ IsOrdered kind xs
   pub indexed : IsTrue is_indexed ↔ ArePointed kind r pointers xs
 
--- a pass stands behind these items, of which the last head has its key in a range
+-- a pass stands after these items, of which the last head has its key in a range
 pub record IsAlong {X : Type 0} (kind : Kind X) (fits : X → Type 0) (r : ℕ) (body pointers : List ℕ) (xs : List X) (base : SliceIndexes) (at : Standing) : Type 0 where
   pub read : IsRead kind r body xs (length xs) at.offset (range_of body base)
   pub last_is : IsLast kind body at.last (last_of xs)
   pub judged : IsJudged kind fits r pointers xs at.passed.all_fit at.passed.is_ordered at.passed.is_indexed
 
--- a pass has come to stand behind so many items, of which this is known besides
+-- a pass has come to stand after so many items, of which this is known besides
 pub record GoesOn {X : Type 0} (kind : Kind X) (fits : X → Type 0) (r : ℕ) (body pointers : List ℕ) (n : ℕ) (base : SliceIndexes) (at : Standing) (known : List X → Type 0) : Type 0 where
   pub items : List X
   pub count : length items ≡ n

@@ -109,11 +109,11 @@ get_of-each f n q h = get_or-each f 0 n q 0 h ∙ ap f (omega arith)
 pub no_heads : (r : ℕ) → 1 ≤ r → head_count r 0 ≡ 0
 no_heads r pos = div-eq_of_lt (omega arith)
 
--- behind an item those up to its place
+-- after an item those up to its place
 pub heads_behind : (n r : ℕ) → 1 ≤ r → head_count r (n + 1) ≡ n / r + 1
 heads_behind n r pos = let e : (n + 1) + (r - 1) ≡ n + r = omega arith in ap (λ k. k / r) e ∙ add-div_right n pos
 
--- in front of a head as many as intervals
+-- before a head as many as intervals
 pub heads_before : (n r : ℕ) → 1 ≤ r → n % r ≡ 0 → head_count r n ≡ n / r
 heads_before n r pos z =
     let d = div-add-mod' n r in

@@ -49,7 +49,7 @@ module _ {O X : Type 0} (end_of : O → Option End) (step_of : O → Step X) (st
   abbrev after : List O → Window X → Window X
   after ops w = window_after (map step_of ops) w
 
-  -- what an operation and those behind it give and leave, where it takes from this end and is this step
+  -- what an operation and those after it give and leave, where it takes from this end and is this step
   abbrev Given : List O → Window X → Option End → Step X → Type 0
   Given ops w e step =
       (given_front e (step w).1 ++ fronts end_of ops (later ops (step w).0)) ++ (items_left (after ops (step w).0) ++ with_given_back (backs end_of ops (later ops (step w).0)) e (step w).1) ≡ items_left w
@@ -70,7 +70,7 @@ module _ {O X : Type 0} (end_of : O → Option End) (step_of : O → Step X) (st
   same_nothing : (a b c d : List X) → a ++ (b ++ c) ≡ d → a ++ (b ++ (c ++ [])) ≡ d
   same_nothing a b c d e = rw (append-nil c) e
 
-  -- a step from either end, where what is left behind it is given together
+  -- a step from either end, where what is left after it is given together
   one_given : (ops : List O) (w : Window X) (e : End) → w.hi ≤ length w.list
       → ((u : Window X) → u.list ≡ w.list → u.hi ≤ w.hi → fronts end_of ops (later ops u) ++ (items_left (after ops u) ++ backs end_of ops (later ops u)) ≡ items_left u) → Given ops w (Some e) (step_at e)
   one_given ops w front inside rest = elim (cases_lt w.lo w.hi) [

@@ -69,7 +69,7 @@ disorder-ordered i (x ∷ []) h = disorder-short i (x ∷ []) (omega arith)
 disorder-ordered i (x ∷ y ∷ items) h =
     disorder-later i x y items (test-from_not_less (item_cmp entries y x) h.0) ∙ disorder-ordered (i + 1) (y ∷ items) h.1
 
--- an item of that index: those before it are in order, and it is not in order behind its predecessor
+-- an item of that index: those before it are in order, and it is not in order after its predecessor
 pub record IsFirstDisorder (n : ℕ) (items : List Entry) (i : ℕ) : Type 0 where
   pub behind : n + 1 ≤ i
   pub within : i < n + length items

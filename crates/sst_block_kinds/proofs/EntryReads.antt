@@ -60,7 +60,7 @@ full_parts bytes x rest h =
       same_key = ap (λ (e : Entry). e.key.user_key) p.0;
     }
 
--- what a truncated form says behind a head with this key
+-- what a truncated form says after a head with this key
 pub record TruncatedParts (base bytes : List ℕ) (x : Entry) (rest : List ℕ) : Type 0 where
   pub said : Truncated
   pub form_is : truncated_form_at bytes ≡ Some (said, rest)
@@ -113,7 +113,7 @@ key_and_seqno bytes x p t a n b k c e f g =
 abbrev pub parsed_of : ℕ → TruncatedForm → DataBlockParsedItem
 parsed_of base_offset f = record { value_type = f.value_type; seqno = f.seqno; prefix = Some (record { 0 = base_offset; 1 = base_offset + f.shared }); key = f.key; value = f.value }
 
--- where a truncated form stands behind a head, the parser finds its prefix and its entry
+-- where a truncated form stands after a head, the parser finds its prefix and its entry
 pub truncated_found : (payload bytes base : List ℕ) (base_offset end : ℕ) (f : TruncatedForm) (x : Entry) (rest : List ℕ) → StandsAt payload base_offset base
     → IsRange payload f.key → truncated_at base bytes ≡ Some (x, rest) → truncated_form_at bytes ≡ Some (truncated_of payload f, drop end payload)
     → (base_offset + f.shared ≤ length payload) × IsKeyLength (f.shared + (f.key.1 - f.key.0)) × (entry_of payload (parsed_of base_offset f) ≡ x) × (drop end payload ≡ rest)

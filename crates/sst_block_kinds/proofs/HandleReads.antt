@@ -1,4 +1,4 @@
--- Forms of handles that are read or stand at an offset: their parts, one behind the other.
+-- Forms of handles that are read or stand at an offset: their parts, one after the other.
 use Rattle.std.proofs.Common.{◌≡◌, ℕ, ◌+◌, ◌-◌, ◌<◌, ◌≤◌, List, [], ◌∷◌, ◌++◌, length, take, drop, get_or, refl, sym, ap, ◌∙◌, inl, inr, Some, None, true, false, eqb, arith, length-append}
 use Rattle.std.specs.Option.{IsSome}
 use Rattle.std.proofs.lemmas.List.{drop_all, drop_more, length-take-le}
@@ -31,19 +31,19 @@ marker_stands at payload whole =
     ]
 
 module _ (bytes a : List ℕ) (marker_is : marker_at bytes ≡ Some a) (whole : IsSome (front_at bytes)) where
-  -- behind it the offset
+  -- after it the offset
   pub front_offset : IsSome (number_at 64 a)
   unfolding front_at
   front_offset = chain_first (number_at 64 a) _ (chain_next (marker_at bytes) _ a marker_is whole)
 
   module _ (o : ℕ) (b : List ℕ) (offset_is : number_at 64 a ≡ Some (o, b)) where
-    -- behind it the size
+    -- after it the size
     pub front_size : IsSome (number_at 32 b)
     unfolding front_at
     front_size = chain_first (number_at 32 b) _ (chain_next (number_at 64 a) _ (o, b) offset_is (chain_next (marker_at bytes) _ a marker_is whole))
 
     module _ (s : ℕ) (c : List ℕ) (size_is : number_at 32 b ≡ Some (s, c)) where
-      -- behind it the sequence number
+      -- after it the sequence number
       pub front_seqno : IsSome (number_at 64 c)
       unfolding front_at
       front_seqno = chain_first (number_at 64 c) _ (chain_next (number_at 32 b) _ (s, c) size_is (chain_next (number_at 64 a) _ (o, b) offset_is (chain_next (marker_at bytes) _ a marker_is whole)))
@@ -85,7 +85,7 @@ module _ (bytes : List ℕ) (f : Front) (a : List ℕ) (front_is : front_at byte
   unfolding truncated_at
   truncated_no_rest base n b shared_is none = rw (front_is, shared_is, none) refl
 
-  -- behind the front of a full form stands its end key
+  -- after the front of a full form stands its end key
   pub full_key : IsSome (full_at bytes) → IsSome (length_prefixed_at 16 a)
   unfolding full_at
   full_key whole = chain_first (length_prefixed_at 16 a) _ (chain_next (front_at bytes) _ (f, a) front_is whole)
@@ -100,13 +100,13 @@ module _ (bytes : List ℕ) (f : Front) (a : List ℕ) (front_is : front_at byte
   full_is k c x rest key_is read = let e : ◌≡◌ {A = Handle × List ℕ} (handle_with f k, c) (x, rest) = same_Some (handle_with f k, c) (x, rest) (sym (full_whole k c key_is) ∙ read) in pair_parts (handle_with f k) x c rest e
 
   module _ (base : List ℕ) where
-    -- behind the front of a truncated form stands the length of the shared prefix
+    -- after the front of a truncated form stands the length of the shared prefix
     pub truncated_shared : IsSome (truncated_at base bytes) → IsSome (number_at 16 a)
     unfolding truncated_at
     truncated_shared whole = chain_first (number_at 16 a) _ (chain_next (front_at bytes) _ (f, a) front_is whole)
 
     module _ (n : ℕ) (b : List ℕ) (shared_is : number_at 16 a ≡ Some (n, b)) where
-      -- behind it the rest of the end key
+      -- after it the rest of the end key
       pub truncated_rest : IsSome (truncated_at base bytes) → IsSome (length_prefixed_at 16 b)
       unfolding truncated_at
       truncated_rest whole = chain_first (length_prefixed_at 16 b) _ (chain_next (number_at 16 a) _ (n, b) shared_is (chain_next (front_at bytes) _ (f, a) front_is whole))
@@ -141,7 +141,7 @@ marker_ends payload offset t stands form =
 
 module _ (payload bytes base : List ℕ) (base_offset end n : ℕ) (f : Front) (a b : List ℕ) (key : SliceIndexes) (stands : StandsAt payload base_offset base) (range : IsRange payload key)
     (front_is : front_at bytes ≡ Some (f, a)) (shared_is : number_at 16 a ≡ Some (n, b)) (rest_is : length_prefixed_at 16 b ≡ Some (range_of payload key, drop end payload)) where
-  -- where a truncated form stands behind a head, its prefix is found, and with it the handle
+  -- where a truncated form stands after a head, its prefix is found, and with it the handle
   pub truncated_found : (x : Handle) (rest : List ℕ) → truncated_at base bytes ≡ Some (x, rest)
       → (base_offset + n ≤ length payload) × (n + (key.1 - key.0) ≤ 65535) × (handle_with f (range_of payload (record { 0 = base_offset; 1 = base_offset + n }) ++ range_of payload key) ≡ x)
       × (drop end payload ≡ rest) × (n ≡ shared_prefix_length base x.end_key)

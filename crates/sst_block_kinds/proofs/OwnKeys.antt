@@ -20,10 +20,10 @@ prefix_drops : (payload rest : List ℕ) (prefix : Option SliceIndexes) → IsOp
 prefix_drops payload rest None r = refl
 prefix_drops payload rest (Some range) r = sym (drop_at (range_of payload range) rest (range.1 - range.0) (range_length payload range r))
 
--- behind the shared prefix of an entry's key are its own bytes
+-- after the shared prefix of an entry's key are its own bytes
 pub own_key : (payload : List ℕ) (p : DataBlockParsedItem) → IsParsedEntry payload p → range_of payload p.key ≡ drop (prefix_len p) (entry_of payload p).key.user_key
 own_key payload p found = prefix_drops payload (range_of payload p.key) p.prefix found.prefix
 
--- behind the shared prefix of a handle's end key are its own bytes
+-- after the shared prefix of a handle's end key are its own bytes
 pub own_end_key : (payload : List ℕ) (p : IndexBlockParsedItem) → IsParsedHandle payload p → range_of payload p.end_key ≡ drop (range_len p.prefix) (handle_of payload p).end_key
 own_end_key payload p found = prefix_drops payload (range_of payload p.end_key) p.prefix found.prefix

@@ -1,4 +1,4 @@
--- A prefix that an item was found with stands in the payload, and is the whole key of a head behind which the form stands.
+-- A prefix that an item was found with stands in the payload, and is the whole key of a head after which the form stands.
 use Rattle.std.proofs.Common.{◌≡◌, ℕ, suc, ◌+◌, ◌-◌, cond, List, [], ◌∷◌, ◌++◌, length, take, drop, refl, arith, sym, ◌∙◌, ap, length-drop}
 use Rattle.std.proofs.lemmas.Bool.{eq-eqb}
 use Rattle.std.proofs.lemmas.List.{length-take-le, take-append-drop}
@@ -32,6 +32,6 @@ module _ (payload : List ℕ) (base_offset n : ℕ) (prefix : SliceIndexes) (is 
     there = sym (take-append-drop (prefix.1 - prefix.0) (drop base_offset payload));
   }
 
-  -- behind a head with this key the shared prefix is the longest
+  -- after a head with this key the shared prefix is the longest
   pub own_longest : (rest : List ℕ) → prefix.1 - prefix.0 ≡ shared_prefix_length own_base (range_of payload prefix ++ rest)
   own_longest rest = sym (ap (λ k. shared_prefix_length own_base (k ++ rest)) own_range ∙ shared_whole own_base rest ∙ length-own)

@@ -1,4 +1,4 @@
--- Forms of entries that stand at an offset: their parts stand, one behind the other.
+-- Forms of entries that stand at an offset: their parts stand, one after the other.
 use Rattle.std.proofs.Common.{◌≡◌, ℕ, ◌≤◌, List, ◌++◌, length, take, drop, refl, sym, ap, subst, ◌∙◌, inl, inr, Some, ltb}
 use Rattle.std.specs.Option.{IsSome}
 use Rattle.std.proofs.lemmas.List.{drop_at, length-take-le}
@@ -26,19 +26,19 @@ form_value_type bytes whole = chain_first (value_type_at bytes) _ whole
 
 module _ (bytes : List ℕ) (t : ValueType) (a : List ℕ) (type_is : value_type_at bytes ≡ Some (t, a)) where
   module _ (whole : IsSome (full_at bytes)) where
-    -- behind the value type of a full form stands its sequence number
+    -- after the value type of a full form stands its sequence number
     pub full_seqno : IsSome (number_at 64 a)
     unfolding full_at
     full_seqno = chain_first (number_at 64 a) _ (chain_next (value_type_at bytes) _ (t, a) type_is whole)
 
     module _ (n : ℕ) (b : List ℕ) (seqno_is : number_at 64 a ≡ Some (n, b)) where
-      -- behind it the key
+      -- after it the key
       pub full_key : IsSome (length_prefixed_at 16 b)
       unfolding full_at
       full_key = chain_first (length_prefixed_at 16 b) _ (chain_next (number_at 64 a) _ (n, b) seqno_is (chain_next (value_type_at bytes) _ (t, a) type_is whole))
 
       module _ (k c : List ℕ) (key_is : length_prefixed_at 16 b ≡ Some (k, c)) where
-        -- behind it the value
+        -- after it the value
         pub full_value : IsSome (value_at t c)
         unfolding full_at
         full_value = chain_first (value_at t c) _ (chain_next (length_prefixed_at 16 b) _ (k, c) key_is (chain_next (number_at 64 a) _ (n, b) seqno_is (chain_next (value_type_at bytes) _ (t, a) type_is whole)))
@@ -54,25 +54,25 @@ module _ (bytes : List ℕ) (t : ValueType) (a : List ℕ) (type_is : value_type
             ]
 
   module _ (whole : IsSome (truncated_form_at bytes)) where
-    -- behind the value type of a truncated form stands its sequence number
+    -- after the value type of a truncated form stands its sequence number
     pub form_seqno : IsSome (number_at 64 a)
     unfolding truncated_form_at
     form_seqno = chain_first (number_at 64 a) _ (chain_next (value_type_at bytes) _ (t, a) type_is whole)
 
     module _ (n : ℕ) (b : List ℕ) (seqno_is : number_at 64 a ≡ Some (n, b)) where
-      -- behind it the length of the shared prefix
+      -- after it the length of the shared prefix
       pub form_shared : IsSome (number_at 16 b)
       unfolding truncated_form_at
       form_shared = chain_first (number_at 16 b) _ (chain_next (number_at 64 a) _ (n, b) seqno_is (chain_next (value_type_at bytes) _ (t, a) type_is whole))
 
       module _ (m : ℕ) (c : List ℕ) (shared_is : number_at 16 b ≡ Some (m, c)) where
-        -- behind it the rest of the key
+        -- after it the rest of the key
         pub form_rest : IsSome (length_prefixed_at 16 c)
         unfolding truncated_form_at
         form_rest = chain_first (length_prefixed_at 16 c) _ (chain_next (number_at 16 b) _ (m, c) shared_is (chain_next (number_at 64 a) _ (n, b) seqno_is (chain_next (value_type_at bytes) _ (t, a) type_is whole)))
 
         module _ (k d : List ℕ) (rest_is : length_prefixed_at 16 c ≡ Some (k, d)) where
-          -- behind it the value
+          -- after it the value
           pub form_value : IsSome (value_at t d)
           unfolding truncated_form_at
           form_value = chain_first (value_at t d) _ (chain_next (length_prefixed_at 16 c) _ (k, d) rest_is (chain_next (number_at 16 b) _ (m, c) shared_is (chain_next (number_at 64 a) _ (n, b) seqno_is (chain_next (value_type_at bytes) _ (t, a) type_is whole))))
@@ -82,12 +82,12 @@ module _ (bytes : List ℕ) (t : ValueType) (a : List ℕ) (type_is : value_type
           unfolding truncated_form_at
           form_whole v e value_is = rw (type_is, seqno_is, shared_is, rest_is, value_is) refl
 
--- where a truncated form stands behind a head, one stands
+-- where a truncated form stands after a head, one stands
 pub form_stands : (base bytes : List ℕ) → IsSome (truncated_at base bytes) → IsSome (truncated_form_at bytes)
 unfolding truncated_at
 form_stands base bytes h = chain_first (truncated_form_at bytes) _ h
 
--- what a truncated form says of the key behind its head: the length of the shared prefix, and the rest
+-- what a truncated form says of the key after its head: the length of the shared prefix, and the rest
 pub form_key : (base bytes : List ℕ) (t : Truncated) (end : List ℕ) (x : Entry) (rest : List ℕ) → truncated_form_at bytes ≡ Some (t, end) → truncated_at base bytes ≡ Some (x, rest)
     → (t.shared ≡ shared_prefix_length base x.key.user_key) × (t.rest ≡ drop t.shared x.key.user_key) × (t.seqno ≡ x.key.seqno) × (end ≡ rest)
 form_key base bytes t end x rest form read =

@@ -8,7 +8,7 @@ use Rattle.sst_base.specs.SharedPrefixLaws.{shared_prefix_inside}
 use Rattle.sst_block_core.specs.Found.{IsRange, range_of}
 use Rattle.sst_block_core.specs.FoundLaws.{length-range}
 
--- the whole key of a shared length and a rest, behind a base key
+-- the whole key of a shared length and a rest, after a base key
 abbrev pub key_with : List ℕ → SliceIndexes → ℕ → SliceIndexes → List ℕ
 key_with payload base n key = take n (range_of payload base) ++ range_of payload key
 

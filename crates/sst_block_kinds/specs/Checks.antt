@@ -41,7 +41,7 @@ has_parts t p =
     && (if nat_eq t.hash_len 0 then nat_eq t.hash_offset 0
     else nat_le t.heads 254 && nat_eq t.hash_offset (t.index_offset + t.heads * t.width))
 
--- stage 3: is the body so many forms, and nothing behind them?
+-- stage 3: is the body so many forms, and nothing after them?
 abbrev pub has_forms : {X : Type 0} → Kind X → Trailer → List ℕ → Bool
 has_forms kind t p = reads_all (items_at kind t.interval 0 t.item_count [] (body_in t p))
 

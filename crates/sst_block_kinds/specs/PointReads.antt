@@ -19,7 +19,7 @@ heads_most Nowhere heads = 0
 heads_most (Interval n) heads = 0
 heads_most Anywhere heads = digits heads
 
--- how many entries a point read decodes, at most: those of an interval, and behind a search one more
+-- how many entries a point read decodes, at most: those of an interval, and after a search one more
 abbrev pub entries_most : Lookup → ℕ → ℕ
 entries_most Nowhere interval = 0
 entries_most (Interval n) interval = interval

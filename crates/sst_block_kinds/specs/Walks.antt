@@ -45,7 +45,7 @@ abbrev pub given_front : {X : Type 0} → Option End → Answer X → List X
 given_front (Some front) a = taken a
 given_front o a = []
 
--- what an answer gives to a step from the back, behind what later steps gave
+-- what an answer gives to a step from the back, after what later steps gave
 abbrev pub with_given_back : {X : Type 0} → List X → Option End → Answer X → List X
 with_given_back later (Some back) a = later ++ taken a
 with_given_back later o a = later

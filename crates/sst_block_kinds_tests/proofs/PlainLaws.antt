@@ -91,7 +91,7 @@ not_leb m n h = search (arith, nat_tests)
 pub rows_done : (front : List ℕ) (w v : ℕ) (f : ℕ → ℕ) (j n : ℕ) → w ≡ v → j ≡ n → front ++ flat_map (little_bytes w) (each f 0 j) ≡ front ++ flat_map (little_bytes v) (each f 0 n)
 rows_done front w v f j n e h = λ i. front ++ flat_map (little_bytes (e i)) (each f 0 (h i))
 
--- the parts of a trailer, one written behind the other
+-- the parts of a trailer, one written after the other
 pub trailer_parts : (old : List ℕ) (r : ℕ) (items : List Entry) →
     ((((((((old ++ r ∷ []) ++ pointer_width entries r items ∷ []) ++ little_bytes 4 (head_count r (length items))) ++ little_bytes 4 (place_offset entries r items (length items) + 1))
     ++ little_bytes 4 0) ++ little_bytes 4 0) ++ little_bytes 1 1) ++ little_bytes 8 0) ++ little_bytes 4 (length items) ≡ old ++ trailer (trailer_of entries r items 0)
@@ -104,7 +104,7 @@ no_stored : (few : Bool) → ◌≡◌ {A = ℕ} (cond few 0 0) 0
 no_stored true = refl
 no_stored false = refl
 
--- the parts of a payload without hash index, one written behind the other
+-- the parts of a payload without hash index, one written after the other
 pub payload_parts : (hash : List ℕ → ℕ) (r : ℕ) (items : List Entry)
     → ((body entries r (take (length items) items) ++ 255 ∷ []) ++ pointers entries r items) ++ trailer (trailer_of entries r items 0) ≡ data_payload hash items r 0
 unfolding buckets

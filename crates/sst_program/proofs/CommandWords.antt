@@ -43,7 +43,7 @@ map-three f (w ∷ x ∷ []) a b c h l p q r = absurd (omega arith)
 map-three f (w ∷ x ∷ y ∷ []) a b c h l p q r = rw (p, q, r) refl
 map-three f (w ∷ x ∷ y ∷ z ∷ ws) a b c h l p q r = absurd (omega arith)
 
--- six items, one by one, and those behind
+-- six items, one by one, and those after
 pub map-six : {A : Type 0} (f : A → List ℕ) (ws : List A) (a b c d e g : A) → 6 ≤ length ws
     → a ≡ get_or ws 0 a → b ≡ get_or ws 1 b → c ≡ get_or ws 2 c → d ≡ get_or ws 3 d → e ≡ get_or ws 4 e → g ≡ get_or ws 5 g
     → map f ws ≡ f a ∷ f b ∷ f c ∷ f d ∷ f e ∷ f g ∷ map f (drop 6 ws)

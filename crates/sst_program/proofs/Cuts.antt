@@ -4,7 +4,7 @@ use Rattle.std.specs.Prelude.{Some, None, nat_eq}
 use Rattle.sst_program.specs.Line.{Lacks, cut_at}
 use Rattle.sst_program.specs.Lines.{lines_of}
 
--- behind the first byte
+-- after the first byte
 behind_first : (c b : ℕ) (bytes : List ℕ) → Lacks c (b ∷ bytes) → Lacks c bytes
 behind_first c b bytes h k lt = h (suc k) (omega arith)
 

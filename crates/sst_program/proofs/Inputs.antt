@@ -18,7 +18,7 @@ use Rattle.sst_program.specs.Outcome.{Gave, IsOutcomeOf, IsFaultOf}
 use Rattle.sst_program.proofs.Cuts.{lines-joined, lines-only}
 use Rattle.sst_program.proofs.EntryLines.{after, after-none, entries-step, entries-fault, entries-end}
 
--- bytes with a line feed are those before the first one, and those behind it
+-- bytes with a line feed are those before the first one, and those after it
 abbrev HasFeed : List ℕ → Type 0
 HasFeed xs = (a : List ℕ) × Lacks 10 a × (take_through 10 xs ≡ a ++ (10 ∷ [])) × (xs ≡ a ++ (10 ∷ drop_through 10 xs))
 

@@ -101,7 +101,7 @@ some-from_test n h = grind (arith, nat_tests)
 pub none-from_test : (n : ℕ) → true ≡ nat_eq n 0 → n ≡ 0
 none-from_test n h = grind (arith, nat_tests)
 
--- lines are printed behind lines
+-- lines are printed after lines
 pub prints_nothing : (a : Option (List ℕ)) → PrintsLines a a
 prints_nothing a = ([], Appends-nil a)
 

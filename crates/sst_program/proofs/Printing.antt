@@ -1,4 +1,4 @@
--- Printing through a buffer: what is put behind what waits in it.
+-- Printing through a buffer: what is put after what waits in it.
 use Rattle.std.specs.Prelude.{slice_index, nat_eq}
 use Rattle.std.proofs.Common.{◌≡◌, ◌/◌, ◌%◌, true, ℕ, length, arith, List, [], ◌∷◌, ◌++◌, refl, sym, ◌∙◌, ap, subst, append_assoc, append-nil, Option, Some, None}
 use Rattle.std.specs.Io.KnownBytes.{append_known}
@@ -87,7 +87,7 @@ lines_whole w items e = ap (λ (v : Window Entry). lines_text_of (items_left v))
 pub lines_over : (s t : Scan Entry) → GivesNext entry_of IsParsedEntry s None t → lines_text_of (items_left s.window) ≡ []
 lines_over s t gives = ap lines_text_of (next_none s.window t.window gives.step).0
 
--- the line of an entry, put behind those before it
+-- the line of an entry, put after those before it
 pub puts_entry : (s t : Scan Entry) (p : DataBlockParsedItem) (a b c : Option (List ℕ)) (u v w payload all : List ℕ) → PutsTo a u b v (lines_text_of (items_left s.window)) all
     → Puts b v c w (entry_line_of (entry_of payload p) ++ (10 ∷ [])) → s.payload ≡ payload → GivesNext entry_of IsParsedEntry s (Some p) t → PutsTo a u c w (lines_text_of (items_left t.window)) all
 puts_entry s t p a b c u v w payload all before line same gives =

@@ -28,7 +28,7 @@ around (Some all) P R e read grew fails = λ io. elim (fails (not_memory e io)) 
   | inr same ↦ inl (grew io, λ r. inr (same ∙ ap (λ x. Err x) io))
 ]
 
--- a count of entries that failed, behind a filter and an index that were read
+-- a count of entries that failed, after a filter and an index that were read
 pub counts_late : (o o' o'' : Option (List ℕ)) (P Q R T : Type 0) (h : RunHandles) (hs : List Handle) (e : Error) → o' ≡ o → o'' ≡ o' → IfSome o (λ all. run_filter_check all h.filter ≡ Ok tt) → IfSome o' (λ all. index_read all h.index ≡ Ok hs)
     → (P → Q) → (T → R) → IfSome o'' (λ all. FailsAs P R (entries_counted all hs) e) → IfSome o (λ all. FailsAs Q T (run_counts all h) e)
 unfolding run_counts

@@ -19,7 +19,7 @@ parts_bytes h = little_bytes 8 h.offset ++ little_bytes 4 h.size
 unfoldable pub footer : RunHandles → List ℕ
 footer h = parts_bytes h.index ++ parts_bytes (parts_of h.filter)
 
--- the offset and the size at the front of bytes
+-- the offset and the size at the start of bytes
 abbrev pub parts_at : List ℕ → HandleParts
 parts_at bytes = record { offset = little_number 8 bytes; size = little_number 4 (drop 8 bytes) }
 
@@ -27,7 +27,7 @@ parts_at bytes = record { offset = little_number 8 bytes; size = little_number 4
 abbrev pub filter_of : HandleParts → Option HandleParts
 filter_of h = if h.size == 0 then None else Some h
 
--- the handles of the footer at the front of bytes
+-- the handles of the footer at the start of bytes
 unfoldable pub handles_at : List ℕ → Result RunHandles Error
 handles_at bytes =
     if nat_lt (length bytes) 24 then Err Truncated

@@ -60,7 +60,7 @@ pub record IsEncodedBy (letter number key value : List ℕ) (e : Entry) : Type 0
 abbrev pub Encodes : List ℕ → Entry → Type 0
 Encodes line e = (letter number key value : List ℕ) × IsEncodedBy letter number key value e × (line ≡ joined_by_spaces letter number key value)
 
--- the bytes before the first one of this value, and those behind it
+-- the bytes before the first one of this value, and those after it
 unfoldable pub cut_at : ℕ → List ℕ → Option (List ℕ × List ℕ)
 cut_at byte [] = None
 cut_at byte (b ∷ bytes) = if b == byte then Some ([], bytes) else option_map (λ p. (b ∷ p.0, p.1)) (cut_at byte bytes)
@@ -85,7 +85,7 @@ entry_of_parts letter number key value = do
   value_bytes ← hex_bytes value
   entry_within_limits value_type seqno key_bytes value_bytes
 
--- the entry that a line encodes: in the parts before, between and behind its first three spaces
+-- the entry that a line encodes: in the parts before, between and after its first three spaces
 unfoldable pub entry_of_line : List ℕ → Option Entry
 entry_of_line line = do
   letter ← cut_at 32 line

@@ -15,7 +15,7 @@ unfoldable pub lines_of : List ℕ → List (List ℕ)
 lines_of [] = []
 lines_of (b ∷ bytes) = if b == 10 then [] ∷ lines_of bytes else with_first_byte b (lines_of bytes)
 
--- the entry of a line, in front of those of the lines behind it
+-- the entry of a line, before those of the lines after it
 abbrev pub entry_then : ℕ → Option Entry → Result (List Entry) Fault → Result (List Entry) Fault
 entry_then n None more = Err (NoEntry n)
 entry_then n (Some e) (Ok items) = Ok (e ∷ items)

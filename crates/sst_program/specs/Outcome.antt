@@ -91,7 +91,7 @@ abbrev pub lines_text_of : List Entry → List ℕ
 lines_text_of [] = []
 lines_text_of (e ∷ items) = entry_line_of e ++ (10 ∷ lines_text_of items)
 
--- an output, and behind it the bytes that wait for it in a buffer, grew by a text
+-- an output, and after it the bytes that wait for it in a buffer, grew by a text
 pub record Puts (old : Option (List ℕ)) (waiting : List ℕ) (new : Option (List ℕ)) (waiting' text : List ℕ) : Type 0 where
   pub grown : Appends (append_known old waiting) (append_known new waiting') text
 

@@ -28,11 +28,11 @@ pub record IsCutBy {X : Type 0} (n : ℕ) (items : List X) (blocks : List (List 
 abbrev pub sst_form : RunConfig → Form
 sst_form config = form (poly31 64) (poly31 128) config
 
--- the offset behind a frame
+-- the offset after a frame
 abbrev pub end_of : HandleParts → ℕ
 end_of h = h.offset + h.size
 
--- the offset behind a run: behind its filter, or behind its index
+-- the offset after a run: after its filter, or after its index
 abbrev pub end_by : HandleParts → Option HandleParts → ℕ
 end_by index None = end_of index
 end_by index (Some filter) = end_of filter

@@ -4,7 +4,7 @@ use Rattle.std.specs.List.{AllByRecursion}
 use Rattle.std.proofs.lemmas.List.{append-nil, length-take-le, take-append-drop, drop-drop}
 use Rattle.sstable_blocks.specs.Blocks.{joined, IsNotEmpty, CutsFit, blocks_from}
 
--- cuts that fit, of a list that goes on behind them
+-- cuts that fit, of a list that goes on after them
 abbrev pub CutsLeft : ℕ → ℕ → List ℕ → Type 0
 CutsLeft start end [] = start < end
 CutsLeft start end (cut ∷ cuts) = (start < cut) × CutsLeft cut end cuts

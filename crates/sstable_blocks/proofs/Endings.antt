@@ -61,7 +61,7 @@ module _ (f : Form) (blocks : List (List Entry)) where
       let l = ap length is.text ∙ length-filter_payload is.filter in
       let e : length p ≤ 4294967262 = omega arith in e
 
-  -- a run that fits has a filter that fits behind its index
+  -- a run that fits has a filter that fits after its index
   pub filter_fits : 1 ≤ f.config.bits_per_key → (p : List ℕ) (at : ℕ) → IsFilterText (key_hashes f.hash64 (joined blocks)) f.config.bits_per_key p
       → at ≡ length (block_frames f blocks) + length (index_frame f blocks) → RunFits f blocks → PartFits at p
   filter_fits some p at is e fits =

@@ -61,7 +61,7 @@ module _ {X : Type 0} (kind : Kind X) where
   behind x (y ∷ front) last rest h = chain x y last h.0 (behind y front last rest h.1)
 
   module _ {Y : Type 0} (ends : Kind Y) where
-    -- a block and a list behind it
+    -- a block and a list after it
     pub block_behind : (block : List X) (h : Y) (e : IsEnd kind ends block h) (rest : List X) → block ++ rest ≡ e.front ++ e.last ∷ rest
     block_behind block h e rest = ap (λ xs. xs ++ rest) e.whole ∙ append_assoc e.front (e.last ∷ []) rest
 

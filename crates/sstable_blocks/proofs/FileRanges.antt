@@ -30,7 +30,7 @@ module _ (all : List ℕ) (h : HandleParts) where
   unfolding range_at
   inside le = rw (le-leb (h.offset + h.size) (length all) le) refl
 
-  -- a range that ends behind the bytes isn't inside
+  -- a range that ends after the bytes isn't inside
   pub outside : length all < h.offset + h.size → range_at all h ≡ Err BadHandle
   unfolding range_at
   outside less = rw (lt-leb (h.offset + h.size) (length all) less) refl
@@ -66,7 +66,7 @@ pub long_range : (o : Option (List ℕ)) (h : HandleParts) (m : Type 0) (len : �
 long_range None h m len long short is = tt
 long_range (Some all) h m len long short is = outside all h (omega arith)
 
--- and one of no bytes, behind the end
+-- and one of no bytes, after the end
 pub past_range : (o : Option (List ℕ)) (h : HandleParts) (m : Type 0) (len : ℕ) → len < h.offset → IfSome o (λ all. len ≡ length all) → IfSome o (λ all. IsRangeRefused m Io (range_at all h))
 past_range None h m len past is = tt
 past_range (Some all) h m len past is = λ over. outside all h (omega arith)

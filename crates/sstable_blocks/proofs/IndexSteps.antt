@@ -1,4 +1,4 @@
--- A seek in an index, and the step behind it.
+-- A seek in an index, and the step after it.
 use Rattle.std.proofs.Common.{◌≡◌, ℕ, ◌+◌, cond, eqb, ltb, List, length, refl, sym, ◌∙◌, ap, inl, inr, Option, Some, None, Bool}
 use Rattle.std.specs.List.{slice_get}
 use Rattle.std.specs.Option.{option_map}
@@ -33,7 +33,7 @@ left_at hs n = elim (cases_Bool (ltb n (length hs))) [
   | inr none ↦ ap (λ b. cond b (slice_get hs n) None) none ∙ sym (slice_get_past hs n (ltb-false n (length hs) none))
 ]
 
--- the step behind a seek from the whole list gives the handle of the needle
+-- the step after a seek from the whole list gives the handle of the needle
 pub found_range : (s t u : Scan Handle) (hs : List Handle) (needle : List ℕ) (seqno : ℕ) (b : Bool) (r : Option IndexBlockParsedItem) → s.window ≡ whole hs
     → GivesStep s t (found b) (seek_index handles needle seqno s.window) → GivesNextHeld handle_of IsParsedHandle t r u → option_map range_by r ≡ option_map range_of (handle_for handles needle seqno hs)
 found_range s t u hs needle seqno b r fresh sought given =

@@ -41,7 +41,7 @@ end_of-last (y ∷ z ∷ zs) x h e =
     let n : length (y ∷ z ∷ zs) - 1 ≡ suc (length (z ∷ zs) - 1) = omega arith in
     end_of-last (z ∷ zs) x (omega arith) (e ∙ ap (λ k. get_or (y ∷ z ∷ zs) k x) n)
 
--- a list behind a list in order, whose first item does not sort before the last of that, is in order
+-- a list after a list in order, whose first item does not sort before the last of that, is in order
 pub ordered_append : (xs : List Entry) (y : Entry) (ys : List Entry) → IsOrdered entries xs → IsOrdered entries (y ∷ ys) → ((front : List Entry) (last : Entry) → xs ≡ front ++ last ∷ [] → item_cmp entries y last ≢ Less) → IsOrdered entries (xs ++ y ∷ ys)
 ordered_append [] y ys o p h = p
 ordered_append (x ∷ []) y ys o p h = (h [] x refl, p)
@@ -53,7 +53,7 @@ behind_last xs y ys o front last e =
     let whole : xs ++ y ∷ ys ≡ front ++ (last ∷ y ∷ ys) = ap (λ zs. zs ++ y ∷ ys) e ∙ append_assoc front (last ∷ []) (y ∷ ys) in
     (back_in_order (item_cmp entries) front (last ∷ y ∷ ys) (subst (IsOrdered entries) whole o)).0
 
--- entries can be a next block exactly if there is a first one, they are in order, and the first is behind the others
+-- entries can be a next block exactly if there is a first one, they are in order, and the first is after the others
 pub follows_from : (blocks : List (List Entry)) (items : List Entry) (first : Entry) → slice_get items 0 ≡ Some first → IsOrdered entries (joined blocks) → IsOrdered entries items → IsBehind blocks first → Follows blocks items
 follows_from blocks [] first s o p behind = cc
 follows_from blocks (x ∷ xs) first s o p behind =

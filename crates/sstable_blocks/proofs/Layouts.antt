@@ -21,7 +21,7 @@ pub record IsPart (bytes : List ℕ) (offset : ℕ) (part : List ℕ) : Type 0 w
   pub inside : offset + length part ≤ length bytes
   pub is : take (length part) (drop offset bytes) ≡ part
 
--- a part stands behind what is in front of it
+-- a part stands after what is before it
 pub IsPart-between : (front part rest : List ℕ) → IsPart (front ++ (part ++ rest)) (length front) part
 IsPart-between front part rest = record {
   inside = omega (arith, length-append front (part ++ rest), length-append part rest);
@@ -58,12 +58,12 @@ module _ (f : Form) where
   unfolding run_text
   run_frames blocks p = frames_stand (run_text f blocks p) [] (index_frame f blocks ++ filter_frame f p) 0 blocks refl refl
 
-  -- the frame of the index stands behind those of the blocks
+  -- the frame of the index stands after those of the blocks
   pub index_stands : (blocks : List (List Entry)) (p : List ℕ) → IsPart (run_text f blocks p) (length (block_frames f blocks)) (index_frame f blocks)
   unfolding run_text
   index_stands blocks p = IsPart-between (block_frames f blocks) (index_frame f blocks) (filter_frame f p)
 
-  -- and that of the filter behind it
+  -- and that of the filter after it
   pub filter_stands : (blocks : List (List Entry)) (p : List ℕ) → IsPart (run_text f blocks p) (length (block_frames f blocks) + length (index_frame f blocks)) (filter_frame f p)
   unfolding run_text
   filter_stands blocks p =

@@ -41,7 +41,7 @@ frame_range hash128 t bytes p h part size =
           ∙ ap (λ n. drop n (head ++ p)) (sym (length-header hash128 (header_for hash128 t p))) ∙ drop_at head p (length head) refl,
     )
 
--- behind the handles of blocks there are no blocks
+-- after the handles of blocks there are no blocks
 none_at : (f : Form) (offset : ℕ) (blocks : List (List Entry)) (n : ℕ) → slice_get (handles_from f offset blocks) n ≡ None → slice_get blocks n ≡ None
 none_at f offset [] n e = refl
 none_at f offset (b ∷ bs) zero e = absurd (cc)

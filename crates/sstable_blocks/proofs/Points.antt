@@ -36,7 +36,7 @@ heads_by Anywhere n = omega arith
 pub block_heads : (hash : List ℕ → ℕ) (d : DataBlockParts) (key : List ℕ) → read_heads hash d key ≤ digits (head_count d.interval (length d.items))
 block_heads hash d key = heads_by (lookup hash d key) (head_count d.interval (length d.items))
 
--- and decodes no more entries than behind one
+-- and decodes no more entries than after one
 entries_by : (l : Lookup) (n : ℕ) → entries_most l n ≤ n + 1
 entries_by Nowhere n = omega arith
 entries_by (Interval i) n = omega arith

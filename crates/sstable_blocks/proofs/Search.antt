@@ -23,7 +23,7 @@ use Rattle.sstable_blocks.proofs.Ends.{turned, tail_in_order, back_in_order, blo
 abbrev version_cmp : List ℕ × ℕ → List ℕ × ℕ → Ordering
 version_cmp = versions_cmp (λ v. v.0) (λ v. v.1)
 
--- what is passed is not behind the bound
+-- what is passed is not after the bound
 passed_by : (o : Ordering) (s n : ℕ) → passes_cmp o (Some s) n ≡ true → is_gt (ordering_then o (nat_cmp s n)) ≡ false
 passed_by Less s n e = refl
 passed_by Equal s n e =
@@ -83,7 +83,7 @@ module _ {X : Type 0} (kind : Kind X) (needle : List ℕ) (s : ℕ) where
   abbrev test : X → Bool
   test x = is_version kind needle s x
 
-  -- an item that does not stand behind a passed one is passed
+  -- an item that does not stand after a passed one is passed
   passed_before : (a b : X) → item_cmp kind b a ≢ Less → pass b ≡ true → pass a ≡ true
   passed_before a b h e =
       let o = versions_cmp_total {X = List ℕ × ℕ} (λ v. v.0) (λ v. v.1) in
@@ -93,7 +93,7 @@ module _ {X : Type 0} (kind : Kind X) (needle : List ℕ) (s : ℕ) where
       let second : is_gt (version_cmp vb (needle, s)) ≡ false = passed_by (slice_cmp nat_cmp (kind.key b) needle) s (kind.seqno b) e in
       not_behind (slice_cmp nat_cmp (kind.key a) needle) s (kind.seqno a) (upto o va vb (needle, s) first second)
 
-  -- an item that does not stand before one with a greater key has a greater key
+  -- an item that does not sort before one with a greater key has a greater key
   greater_after : (y z : X) → item_cmp kind y z ≢ Less → slice_cmp nat_cmp (kind.key z) needle ≡ Greater → slice_cmp nat_cmp (kind.key y) needle ≡ Greater
   greater_after y z h g = elim (cases_Bool (is_gt (slice_cmp nat_cmp (kind.key y) needle))) [
     | inl passed ↦ gt_is (slice_cmp nat_cmp (kind.key y) needle) passed
@@ -106,7 +106,7 @@ module _ {X : Type 0} (kind : Kind X) (needle : List ℕ) (s : ℕ) where
         cc)
   ]
 
-  -- what stands in front of a passed item is passed
+  -- what sorts before a passed item is passed
   passed_front : (x : X) (front : List X) (last : X) (rest : List X) → IsOrdered kind (x ∷ (front ++ last ∷ rest)) → pass last ≡ true → pass x ≡ true
   passed_front x [] last rest h e = passed_before x last h.0 e
   passed_front x (y ∷ front) last rest h e = passed_before x y h.0 (passed_front y front last rest h.1 e)
@@ -122,7 +122,7 @@ module _ {X : Type 0} (kind : Kind X) (needle : List ℕ) (s : ℕ) where
       ∙ ap (λ t. cond t (Some x) (slice_get (filter test (front ++ last ∷ rest)) 0)) (passed_no_version (slice_cmp nat_cmp (kind.key x) needle) s (kind.seqno x) here)
       ∙ skip front last rest (tail_in_order (item_cmp kind) x (front ++ last ∷ rest) h) e
 
-  -- behind a greater key there is no version
+  -- after a greater key there is no version
   none_after : (z : X) (rest : List X) → IsOrdered kind (z ∷ rest) → slice_cmp nat_cmp (kind.key z) needle ≡ Greater → slice_get (filter test rest) 0 ≡ None
   none_after z [] h g = refl
   none_after z (y ∷ ys) h g =
@@ -131,7 +131,7 @@ module _ {X : Type 0} (kind : Kind X) (needle : List ℕ) (s : ℕ) where
       ∙ ap (λ t. cond t (Some y) (slice_get (filter test ys) 0)) (greater_no_version (slice_cmp nat_cmp (kind.key y) needle) s (kind.seqno y) k)
       ∙ none_after y ys h.1 k
 
-  -- behind an item that is not passed nothing counts
+  -- after an item that is not passed nothing counts
   stop : (front : List X) (last : X) (rest : List X) → IsOrdered kind (front ++ last ∷ rest) → pass last ≡ false → slice_get (filter test (front ++ last ∷ rest)) 0 ≡ slice_get (filter test (front ++ last ∷ [])) 0
   stop [] last rest h e =
       let behind : cond (test last) (Some last) (slice_get (filter test rest) 0) ≡ cond (test last) (Some last) None =
@@ -159,7 +159,7 @@ module _ {X : Type 0} (kind : Kind X) (needle : List ℕ) (s : ℕ) where
     count_one : (block : List X) (y : Y) (hs : List Y) (e : IsEnd kind ends block y) → pass e.last ≡ true → count_by end_pass (y ∷ hs) ≡ 1 + count_by end_pass hs
     count_one block y hs e passed = sum_by-cons (λ h. cond (end_pass h) 1 0) y hs ∙ ap (λ t. cond t 1 0 + count_by end_pass hs) (end_passes block y e ∙ passed)
 
-    -- behind an item that is not passed no end is passed
+    -- after an item that is not passed no end is passed
     none_passed : (z : X) (blocks : List (List X)) (hs : List Y) → AllZip (IsEnd kind ends) blocks hs → IsOrdered kind (z ∷ joined blocks) → pass z ≡ false → count_by end_pass hs ≡ 0
     none_passed z [] [] zip h e = refl
     none_passed z [] (y ∷ hs) zip h e = absurd zip

@@ -1,7 +1,7 @@
 -- Blocks of a run: a list cut into parts.
 use Rattle.std.specs.Prelude.{ℕ, ◌-◌, ◌<◌, ◌≤◌, List, [], ◌∷◌, ◌++◌, length, take, drop}
 
--- the blocks, one behind the other
+-- the blocks, one after the other
 abbrev pub joined : {X : Type 0} → List (List X) → List X
 joined [] = []
 joined (block ∷ blocks) = block ++ joined blocks

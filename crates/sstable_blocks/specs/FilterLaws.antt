@@ -106,7 +106,7 @@ filter_at-payload f sized m_fits =
     let long : ltb (length (filter_payload f)) 22 ≡ false = le-ltb _ 22 (omega arith) in
     rw long (taken (is_sized (filter_in (filter_payload f))) _ f _ (ap is_sized e ∙ is_sized_of f sized) e)
 
--- six bytes and those behind them
+-- six bytes and those after them
 six_bytes : (bytes : List ℕ) → 22 ≤ length bytes → bytes ≡ take 4 bytes ++ (get_or bytes 4 0 ∷ get_or bytes 5 0 ∷ drop 6 bytes)
 six_bytes [] h = absurd (omega arith)
 six_bytes (a ∷ []) h = absurd (omega arith)
@@ -116,7 +116,7 @@ six_bytes (a ∷ b ∷ c ∷ d ∷ []) h = absurd (omega arith)
 six_bytes (a ∷ b ∷ c ∷ d ∷ e ∷ []) h = absurd (omega arith)
 six_bytes (a ∷ b ∷ c ∷ d ∷ e ∷ f ∷ rest) h = refl
 
--- the two numbers and the bits behind them
+-- the two numbers and the bits after them
 two_numbers : (bytes : List ℕ) → IsBytes bytes → 22 ≤ length bytes → drop 6 bytes ≡ little_bytes 8 (little_number 8 (drop 6 bytes)) ++ (little_bytes 8 (little_number 8 (drop 14 bytes)) ++ drop 22 bytes)
 two_numbers bytes small h =
     sym (take-drop-more 6 8 bytes) ∙ ap (λ xs. take 8 (drop 6 bytes) ++ xs) (sym (take-drop-more 14 8 bytes))

@@ -32,7 +32,7 @@ block_payload f block = data_payload f.hash64 block f.config.restart_interval (b
 abbrev pub block_frame : Form → List Entry → List ℕ
 block_frame f block = frame f.hash128 Data (block_payload f block)
 
--- the frames of blocks, one behind the other
+-- the frames of blocks, one after the other
 abbrev pub block_frames : Form → List (List Entry) → List ℕ
 block_frames f [] = []
 block_frames f (block ∷ blocks) = block_frame f block ++ block_frames f blocks
@@ -47,7 +47,7 @@ end_of (x ∷ y ∷ ys) = end_of (y ∷ ys)
 abbrev pub handle_of : Form → ℕ → List Entry → Handle
 handle_of f offset block = record { offset = offset; size = length (block_frame f block); seqno = (end_of block).seqno; end_key = (end_of block).user_key }
 
--- the handles of blocks whose frames stand one behind the other from an offset on
+-- the handles of blocks whose frames stand one after the other from an offset on
 abbrev pub handles_from : Form → ℕ → List (List Entry) → List Handle
 handles_from f offset [] = []
 handles_from f offset (block ∷ blocks) = handle_of f offset block ∷ handles_from f (offset + length (block_frame f block)) blocks
@@ -94,7 +94,7 @@ filter_frame_length f blocks = if f.config.bits_per_key == 0 then 0 else 55 + fi
 abbrev pub run_length : Form → List (List Entry) → ℕ
 run_length f blocks = length (block_frames f blocks) + (length (index_frame f blocks) + filter_frame_length f blocks)
 
--- a payload behind a handle: with its header it has at most 2^32 - 1 bytes
+-- a payload after a handle: with its header it has at most 2^32 - 1 bytes
 abbrev pub IsFramed : List ℕ → Type 0
 IsFramed payload = length payload ≤ 4294967262
 

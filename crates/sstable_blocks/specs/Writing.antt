@@ -72,7 +72,7 @@ IsWriteRefusal long e = (e ≡ Io) ⊎ ((e ≡ TooLong) × long) ⊎ (e ≡ Memo
 abbrev pub AppendsLayout : Form → List (List Entry) → Option (List ℕ) → Option (List ℕ) → RunHandles → Type 0
 AppendsLayout f blocks old new h = (text : List ℕ) × IsLayout f blocks text h × Appends old new text
 
--- they grew by what a layout has behind the frames of its blocks
+-- they grew by what a layout has after the frames of its blocks
 abbrev pub AppendsEnd : Form → List (List Entry) → Option (List ℕ) → Option (List ℕ) → RunHandles → Type 0
 AppendsEnd f blocks old new h = (text : List ℕ) × IsLayout f blocks (block_frames f blocks ++ text) h × Appends old new text
 
@@ -90,7 +90,7 @@ AppendsFilter f blocks at old new (Some h) =
     (1 ≤ f.config.bits_per_key) × (length (joined blocks) * f.config.bits_per_key ≤ 34359737920)
     × ((p : List ℕ) × IsFilterText (key_hashes f.hash64 (joined blocks)) f.config.bits_per_key p × IsFrameAppended f.hash128 Filter at p old new h)
 
--- entries can be the block behind others: there is one, and all are in order
+-- entries can be the block after others: there is one, and all are in order
 pub record Follows (blocks : List (List Entry)) (items : List Entry) : Type 0 where
   pub some : IsNotEmpty items
   pub ordered : IsOrdered entries (joined (blocks ++ items ∷ []))

@@ -53,7 +53,7 @@ first_decides (x ∷ more) (y ∷ rest) tail h k ne = decided (nat_cmp x y) (sli
 pub rests_decided : (a b : List ℕ) (o : Ordering) → ((tail : List ℕ) → o ≡ slice_cmp nat_cmp (a ++ tail) b) → o ≡ slice_cmp nat_cmp a b
 rests_decided a b o h = h [] ∙ ap (λ xs. slice_cmp nat_cmp xs b) (append-nil a)
 
--- the range behind the first n bytes of a range
+-- the range after the first n bytes of a range
 abbrev pub behind : SliceIndexes → ℕ → SliceIndexes
 behind range n = record { 0 = range.0 + n; 1 = range.1 }
 
@@ -161,11 +161,11 @@ module _ (payload : List ℕ) (a b : KeyRanges) (left : IsRange payload a.prefix
       let at : b.prefix.1 ≡ a.prefix.0 + n = omega (arith, place, o) in
       right_shorter Equal w more ra rb (omega (arith, place, shorter)) (prefix_at_one_place n place) refl (m ∙ (λ i. range_of payload (record { 0 = at i; 1 = a.prefix.1 }))) p q cw
 
--- where the prefix is empty, the key is what is behind it
+-- where the prefix is empty, the key is what is after it
 pub whole_key : (payload : List ℕ) (k : KeyRanges) → k.prefix.1 - k.prefix.0 ≡ 0 → key_by payload k ≡ range_of payload k.rest
 whole_key payload k e = ap (λ n. take n (drop k.prefix.0 payload) ++ range_of payload k.rest) e
 
--- the same key as a prefix with nothing behind it
+-- the same key as a prefix with nothing after it
 pub prefix_alone : (payload : List ℕ) (k : KeyRanges) → k.prefix.1 - k.prefix.0 ≡ 0 → key_by payload k ≡ key_by payload (record { prefix = k.rest; rest = record { 0 = k.rest.1; 1 = k.rest.1 } })
 prefix_alone payload k e =
     let none : k.rest.1 - k.rest.1 ≡ 0 = omega arith in

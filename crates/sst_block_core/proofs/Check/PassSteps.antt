@@ -39,7 +39,7 @@ both true b = ((λ h. h.1), (λ h. (refl, h)))
 both false b = ((λ h. cc (h.0)), (λ h. cc))
 
 module _ {X : Type 0} (cmp : X → X → Ordering) where
-  -- one item more keeps the order exactly if it doesn't stand before the last
+  -- one item more keeps the order exactly if it doesn't sort before the last
   pub order_more : (xs : List X) (l x : X) → Some l ≡ last_of xs → (IsInOrder cmp xs × (cmp x l ≢ Less)) ↔ IsInOrder cmp (xs ++ x ∷ [])
   order_more [] l x e = cc
   order_more (y ∷ []) l x e =
@@ -166,7 +166,7 @@ head_place r number n pos e =
     let turned : n ≡ r * number = omega (arith, e) in
     (ap (λ k. k % r) e ∙ mul-mod_left number r, ap (λ k. k / r) turned ∙ mul-div_cancel_left number pos)
 
--- behind it stand no heads
+-- after it stand no heads
 pub no_heads : (r number n len : ℕ) → 0 < r → n ≡ number * r → len + 1 ≤ r → HasNoHead r (n + 1) len
 no_heads r number n len pos e few k below z =
     let e2 : n + 1 + k ≡ number * r + (k + 1) = omega (arith, e) in

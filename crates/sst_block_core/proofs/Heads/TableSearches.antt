@@ -129,7 +129,7 @@ module _ (payload needle : List ℕ) (from : Option ℕ) (t : Table) (table : Is
     | inr past ↦ absurd (omega (arith, h, past.0))
   ]
 
-  -- a needle that sorts behind the prefix of all keys, or before it
+  -- a needle that sorts after the prefix of all keys, or before it
   pub all_before : ((rest : List ℕ) → slice_cmp nat_cmp (range_of payload t.prefix ++ rest) needle ≡ Less) → length t.heads ≡ heads_before payload needle from t.heads
   all_before h =
       let within = before_inside in elim (cases_lt 0 (length t.heads)) [
@@ -158,7 +158,7 @@ module _ (payload needle : List ℕ) (from : Option ℕ) (t : Table) (table : Is
     | inr past ↦ absurd (omega (arith, h, past.0))
   ]
 
-  -- a needle that begins with the prefix, and has a rest behind it
+  -- a needle that begins with the prefix, and has a rest after it
   module _ (rest : List ℕ) (behind : (s : List ℕ) → slice_cmp nat_cmp (range_of payload t.prefix ++ s) needle ≡ slice_cmp nat_cmp s rest) where
     -- what follows the prefix decides
     pub by_rest : (h : Head) → Begins (range_of payload t.prefix) (key_in payload h) → slice_cmp nat_cmp (key_in payload h) needle ≡ slice_cmp nat_cmp (drop (length (range_of payload t.prefix)) (key_in payload h)) rest

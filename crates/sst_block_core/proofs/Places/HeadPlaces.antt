@@ -169,7 +169,7 @@ first_stands kind list ps n i =
     subst (λ o. Stands kind list (record { index = 0; phase = 0; offset = o; base = 0 })) e
     (subst (λ n. Stands kind list (record { index = n; phase = 0; offset = slice_index ps 0; base = 0 })) z (i.are_heads 0 h))
 
--- behind the last item nothing is read, wherever
+-- after the last item nothing is read, wherever
 pub last_stands : {X : Type 0} (kind : Kind X) (list : Listed X) (place phase : ℕ) → place ≡ length list.items → phase ≡ place % list.interval → Stands kind list (record { index = place; phase = phase; offset = 0; base = 0 })
 unfolding items_at
 last_stands kind list place phase e p =

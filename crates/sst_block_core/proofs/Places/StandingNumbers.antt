@@ -85,7 +85,7 @@ module _ (bits at : ℕ) (bytes : List ℕ) (stands : IsSome (number_at bits (dr
         }
 
   module _ (len sum scale : ℕ) (read : IsReadTo bits (drop at bytes) len sum scale) where
-    -- behind a byte that isn't the last one stands another
+    -- after a byte that isn't the last one stands another
     pub next_inside : at + len < length bytes
     next_inside = elim (cases_lt (at + len) (length bytes)) [
       | inl less ↦ less
@@ -156,7 +156,7 @@ module _ (bits at : ℕ) (bytes : List ℕ) (stands : IsSome (number_at bits (dr
           let f = read.fits in
           (omega (arith, pow_pos bits), omega (arith, pow_pos bits))
 
--- the bytes behind a length are there
+-- the bytes after a length are there
 length_stands : (bits : ℕ) (bytes : List ℕ) (n : ℕ) (rest : List ℕ) → number_at bits bytes ≡ Some (n, rest) → IsSome (length_prefixed_at bits bytes)
     → (n ≤ length rest) × (length_prefixed_at bits bytes ≡ Some (take n rest, drop n rest))
 unfolding length_prefixed_at
@@ -172,7 +172,7 @@ pub length_first : (bits : ℕ) (bytes : List ℕ) → IsSome (length_prefixed_a
 unfolding length_prefixed_at
 length_first bits bytes h = chain_first (number_at bits bytes) _ h
 
--- and behind it lie the bytes, a range of the payload
+-- and after it lie the bytes, a range of the payload
 pub length_range : (bits : ℕ) (payload bytes : List ℕ) (n start : ℕ) → start ≤ length payload → number_at bits bytes ≡ Some (n, drop start payload) → IsSome (length_prefixed_at bits bytes)
     → (start + n ≤ length payload) × (length_prefixed_at bits bytes ≡ Some (range_of payload (record { 0 = start; 1 = start + n }), drop (start + n) payload))
 length_range bits payload bytes n start inside e h =

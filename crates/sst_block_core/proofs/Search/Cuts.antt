@@ -12,13 +12,13 @@ use Rattle.std.proofs.lemmas.List.Recursion.{is_count_by}
 use Rattle.sst_block_core.specs.Kind.{Kind, item_cmp, IsOrdered}
 use Rattle.sst_block_core.specs.Window.{passes_cmp, passes, count_passed}
 
--- the items in front of a place pass, and the others do not
+-- the items before a place pass, and the others do not
 pub record IsCut {X : Type 0} (p : X → Bool) (items : List X) (i : ℕ) : Type 0 where
   pub inside : i ≤ length items
   pub first : (j : ℕ) (x : X) → j < i → slice_get items j ≡ Some x → p x ≡ true
   pub others : (j : ℕ) (x : X) → i ≤ j → slice_get items j ≡ Some x → p x ≡ false
 
--- where an item passes, the one in front of it does
+-- where an item passes, the one before it does
 IsFalling : {X : Type 0} → (X → Bool) → List X → Type 0
 IsFalling p [] = Unit {0}
 IsFalling p (x ∷ []) = Unit {0}
@@ -32,7 +32,7 @@ unfolding IsFalling
 falling_tail p x [] f = tt
 falling_tail p x (y ∷ xs) f = f.1
 
--- behind an item that doesn't pass none does
+-- after an item that doesn't pass none does
 none_behind : {X : Type 0} (p : X → Bool) (x : X) (xs : List X) → IsFalling p (x ∷ xs) → p x ≡ false → (j : ℕ) (y : X) → slice_get (x ∷ xs) j ≡ Some y → p y ≡ false
 unfolding IsFalling
 none_behind p x xs f bad zero y at = rw (← some_some at) bad
@@ -89,7 +89,7 @@ equal_passes from m n h q = elim (cases_lt m n) [
   | inr ge ↦ le-leb from m (let k = leb-true from n q in omega arith)
 ]
 
--- x in front of y, in the order a of their keys and with numbers m and n, where y stands as b to the needle and x as c
+-- x before y, in the order a of their keys and with numbers m and n, where y stands as b to the needle and x as c
 not_below : (a b c : Ordering) (from : Option ℕ) (m n : ℕ) → ordering_then (ordering_reverse a) (nat_cmp m n) ≢ Less → passes_cmp b from n ≡ true
     → (a ≡ Less → b ≡ Less → c ≡ Less) → (a ≡ Less → b ≡ Equal → c ≡ Less) → (a ≡ Equal → c ≡ b) → passes_cmp c from m ≡ true
 not_below Less Less c from m n h q l e s = rw (l refl refl) refl
@@ -126,7 +126,7 @@ module _ {X : Type 0} (kind : Kind X) (needle : List ℕ) (from : Option ℕ) wh
   pub count_inside : (items : List X) → IsOrdered kind items → count_passed kind needle from items ≤ length items
   count_inside items o = (cut_ordered items o).inside
 
-  -- an item that passes stands in front of the count, one that doesn't at it or behind
+  -- an item that passes sorts before the count, one that doesn't at it or after
   pub passed_below : (items : List X) → IsOrdered kind items → (i : ℕ) (x : X) → slice_get items i ≡ Some x → passes needle from (kind.key x) (kind.seqno x) ≡ true → i < count_passed kind needle from items
   passed_below items o i x at good = elim (cases_lt i (count_passed kind needle from items)) [
     | inl less ↦ less

@@ -63,7 +63,7 @@ module _ {X P : Type 0} (item_of : List ℕ → P → X) (is_found : List ℕ �
       (IsFoundAt item_of is_found kind needle list place)
   candidate_found candidate r e m inside = match_less r _ _ _ _ (candidate_match candidate r e m) (λ other x at. other x (inside x at) at) (λ p both. both.0)
 
--- an index behind a head and before the next is no head's
+-- an index after a head and before the next is no head's
 between_heads : (j r i : ℕ) → j * r < i → i < (j + 1) * r → 0 < i % r
 between_heads j r i low high =
     let e : i ≡ j * r + (i - j * r) = omega arith in
@@ -72,11 +72,11 @@ between_heads j r i low high =
     omega (arith, m)
 
 module _ {X : Type 0} (kind : Kind X) (needle : List ℕ) (from : Option ℕ) (list : Listed X) (ordered : IsOrdered kind list.items) (j : ℕ) (inside : j * list.interval < length list.items) (x : X) (there : slice_get list.items (j * list.interval) ≡ Some x) where
-  -- a head in front of the count passes
+  -- a head before the count passes
   pub head_passes : j * list.interval < count_passed kind needle from list.items → passes needle from (kind.key x) (kind.seqno x) ≡ true
   head_passes below = (cut_ordered kind needle from list.items ordered).first (j * list.interval) x below there
 
-  -- behind a head that passes a search has reached the next place
+  -- after a head that passes a search has reached the next place
   pub enters : (at : Place) (alike end : ℕ) → 0 < list.interval → passes needle from (kind.key x) (kind.seqno x) ≡ true → at.index ≡ j * list.interval + 1 → StandsBehind kind list at (kind.key x)
       → alike ≡ shared_prefix_length (kind.key x) needle → end ≡ min (length list.items) ((j + 1) * list.interval) → IsEntered kind needle from list at alike end
   enters at alike end pos passed place_is stands alike_is end_is =

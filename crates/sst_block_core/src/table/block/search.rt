@@ -76,6 +76,7 @@ impl<'a, Item: Decodable<Parsed>, Parsed: ParsedItem<Item>> Intervals<'a, Item, 
         ensures counts { CountsBetween self.old.steps self.new.steps (1, 0)
             (digits (head_count self.old.list.interval (length self.old.list.items)), 0) }
     {
+        // The proof needs that each interval but the last is full.
         let _ = self.count();
         match self.table {
             Some(table) => self.forms.count_heads(table, bound),

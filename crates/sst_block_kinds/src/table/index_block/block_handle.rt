@@ -56,6 +56,7 @@ impl KeyedBlockHandle {
     {
         // The proof needs the ranges of the numbers.
         let _offset = handle.offset();
+        // The proof needs the bound on the size.
         let _size = handle.size();
         KeyedBlockHandle {
             end_key,

@@ -178,6 +178,7 @@ impl Decodable<IndexBlockParsedItem> for KeyedBlockHandle {
         steps: &mut Steps,
     ) -> (IndexBlockParsedItem, usize) {
         steps.count_entry();
+        // The proof needs the bound on the payload's length.
         let _size = payload.len();
         let (front, at) = read_front(payload, offset);
         let (shared, at) = read_number(payload, at, 16);
