@@ -1,11 +1,10 @@
 -- Lists of keys, as they grow and as they are gone over.
-use Rattle.std.proofs.Common.{◌≡◌, ℕ, suc, ◌+◌, ◌%◌, ◌^◌, ◌<◌, List, [], ◌∷◌, ◌++◌, length, take, drop, get_or, map, Bor, sym, ap, ◌∙◌, arith, drop-cons}
+use Rattle.std.proofs.Common.{◌≡◌, ℕ, ◌+◌, ◌<◌, List, [], ◌∷◌, ◌++◌, length, take, get_or, map, Bor, ap, ◌∙◌, arith}
 use Rattle.std.proofs.lemmas.Grind.{common_steps}
 use Rattle.std.proofs.lemmas.List.{map-append, take_more}
 use Rattle.std.proofs.lemmas.List.Folds.{concat-append}
 use Rattle.std.proofs.lemmas.List.Elements.{All-push}
 use Rattle.std.specs.List.{All, concat}
-use Rattle.sst_bench.specs.Keys.{add_from}
 
 -- the bytes of keys
 abbrev pub now_of : List (Bor (List ℕ)) → List (List ℕ)
@@ -20,20 +19,6 @@ pub lengths_more : (keys : List (Bor (List ℕ))) (x : Bor (List ℕ)) (n : ℕ)
     → All (λ key. length key ≡ n) (now_of keys) → length x.now ≡ n
     → All (λ key. length key ≡ n) (now_of (keys ++ x ∷ []))
 lengths_more keys x n h e = rw (map-append (λ key. key.now) keys (x ∷ [])) (All-push (λ key. length key ≡ n) (now_of keys) x.now h e)
-
--- one key on
-pub from_more : (f : List ℕ → List ℕ → ℕ) (rest : List (Bor (List ℕ))) (i : ℕ) (x : Bor (List ℕ)) (key : List ℕ) (sum : ℕ)
-    → i < length rest → x ≡ get_or rest i x
-    → add_from f key (now_of (drop i rest)) sum ≡ add_from f x.now (now_of (drop (i + 1) rest)) ((sum + f key x.now) % 2 ^ 64)
-from_more f rest i x key sum h e =
-    ap (λ xs. add_from f key (now_of xs) sum) (drop-cons rest i x h ∙ ap (λ y. y ∷ drop (suc i) rest) (sym e))
-    ∙ (let q : suc i ≡ i + 1 = omega arith in ap (λ n. add_from f x.now (now_of (drop n rest)) ((sum + f key x.now) % 2 ^ 64)) q)
-
--- the keys from one on
-pub keys_from : (keys : List (Bor (List ℕ))) (i : ℕ) (x : Bor (List ℕ)) → i < length keys → x ≡ get_or keys i x → now_of (drop i keys) ≡ x.now ∷ now_of (drop (i + 1) keys)
-keys_from keys i x h e =
-    ap now_of (drop-cons keys i x h ∙ ap (λ y. y ∷ drop (suc i) keys) (sym e))
-    ∙ (let q : suc i ≡ i + 1 = omega arith in ap (λ n. x.now ∷ now_of (drop n keys)) q)
 
 -- the hashes of one key more
 pub hashes_more : (f : List ℕ → ℕ) (keys : List (Bor (List ℕ))) (i : ℕ) (d : Bor (List ℕ)) → i < length keys

@@ -1,5 +1,5 @@
 //! Bloom filters of keys, hashed with `Poly31`: building, and asking for keys.
-ghost use Rattle.std.specs.Prelude.{◌≡◌, ◌*◌, ◌<◌, ◌≤◌, List, ℕ, map, length};
+ghost use Rattle.std.specs.Prelude.{◌*◌, ◌<◌, ◌≤◌, List, ℕ, map, length};
 ghost use Rattle.std.specs.Prelude.{IfOk};
 ghost use Rattle.sst_bench.specs.Blocks.{Copied};
 ghost use Rattle.sst_bench.specs.Filters.{IsFilterPayload};

@@ -3,7 +3,7 @@
 //! Each call takes entries as bytes (see `entries`), the number of entries in a block, a restart
 //! interval, a hash ratio `num / den`, and the bits of the filter for each key. Each handle of the
 //! index is a head. It refuses what data blocks refuse, and blocks of no entries.
-ghost use Rattle.std.specs.Prelude.{◌≡◌, ℕ, ◌<◌, ◌≤◌, List, length, IfSome};
+ghost use Rattle.std.specs.Prelude.{◌≤◌, List, length, IfSome};
 ghost use Rattle.sst_base.specs.Entry.{Entry};
 ghost use Rattle.sst_base.specs.Hashes.{poly31};
 ghost use Rattle.sst_block_core.specs.Entries.{entries};
@@ -11,10 +11,7 @@ ghost use Rattle.sst_block_core.specs.Kind.{IsOrdered};
 ghost use Rattle.sstable_blocks.specs.Blocks.{CutsFit, blocks_of};
 ghost use Rattle.sstable_blocks.specs.Run.{form, IsLayout};
 ghost use Rattle.sstable_blocks.specs.declared.run.RunConfig.{RunConfig};
-ghost use Rattle.sst_bench.specs.Blocks.{Copied};
-ghost use Rattle.sst_bench.specs.Inputs.{AreEntries};
 ghost use Rattle.sst_bench.specs.Runs.{IsRunOf};
-ghost use Rattle.sst_bench.specs.Turns.{OrRefused};
 
 use crate::REFUSED;
 use crate::data_block::{NEWEST, copy_front, items_in};

@@ -11,7 +11,7 @@ use Rattle.sst_base.specs.FrameErrorLaws.{NotIo}
 use Rattle.sst_base.specs.Header.{◌>>=◌}
 use Rattle.sst_base.specs.declared.error.Error.{Error}
 use Rattle.sst_base.specs.declared.error.Error.TheVariants.{Io, Truncated, BadHandle}
-use Rattle.sst_block_core.specs.Landings.{GivesNextHeld}
+use Rattle.sst_block_core.specs.Candidates.{GivesNextHeld}
 use Rattle.sst_block_core.specs.Scan.{Scan}
 use Rattle.sst_block_core.specs.Window.{Window, items_left, whole}
 use Rattle.sst_block_core.specs.WindowLaws.{next_some, next_none, items_left-whole}

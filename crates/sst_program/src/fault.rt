@@ -1,4 +1,4 @@
-//! Why a run ends without an answer, and the line that says so.
+//! Why a run fails, and the line that reports it.
 ghost use Rattle.std.specs.Prelude.{◌≡◌};
 ghost use Rattle.sst_base.specs.declared.error.Error.TheVariants.{Memory};
 ghost use Rattle.sst_program.specs.declared.fault.Fault.TheVariants.{Refused};
@@ -7,7 +7,7 @@ ghost use Rattle.sst_program.specs.Refusal.{refusal_name_of};
 use sstable_blocks::Error;
 use std::alloc::{AllocError, AllocFailed};
 
-/// Why a run ends without an answer. It is displayed as its line without the line feed, as in `sst:
+/// Why a run fails. It is displayed as its line without the line feed, as in `sst:
 /// line 2: order`.
 #[derive(Clone, Copy, Debug, PartialEq, Eq, thiserror::Error)]
 pub enum Fault {

@@ -47,7 +47,7 @@ fn read_part<T>(outcome: io::Result<T>) -> Result<T>
 /// # Errors
 ///
 /// `Fault::Entry` with the number of the first line that is no entry; the input is not read past its
-/// buffer then. `Error::Memory` if an allocation fails or the reader answers
+/// buffer then. `Error::Memory` if an allocation fails or the reader returns
 /// `ErrorKind::OutOfMemory`, and `Error::Io` if the reader fails in another way.
 pub fn read_entries<I: Read>(alloc: Global, input: &mut I) -> fault::Result<Vec<InternalValue>>
     ensures ok { IfOk result

@@ -50,7 +50,7 @@ fn block_with(alloc: Global, items: &[InternalValue], interval: u8) -> Result<Da
     Ok(DataBlock::new(block_of(bytes)?))
 }
 
-// Bytes in lower-case hex, and an answer, a line each. The hex digits are written in place.
+// Bytes in lower-case hex, and a result, a line each. The hex digits are written in place.
 fn two_lines(alloc: Global, bytes: &[u8], answer: &str) -> Result<Vec<u8>>
     ensures ok { IfOk result
         (λ text. text.items ≡ encode_lower bytes.now ++ (10 ∷ []) ++ answer.now

@@ -42,7 +42,7 @@ pub enum Name {
     Check,
 }
 
-/// What the program is asked.
+/// A command, as the words after the program's name encode it.
 #[derive(Drop)]
 pub enum Command<'a> {
     /// One block of the input's entries, and a look-up in it.
@@ -80,7 +80,7 @@ impl<'a> FileName<'a> {
     }
 }
 
-/// What `point` is asked.
+/// The words of `point`.
 #[derive(Drop)]
 pub struct PointWords {
     interval: u8,
@@ -124,7 +124,7 @@ impl PointWords {
     }
 }
 
-/// What `pack` is asked.
+/// The words of `pack`.
 #[derive(Drop)]
 pub struct PackWords<'a> {
     file: FileName<'a>,
@@ -171,7 +171,7 @@ impl<'a> PackWords<'a> {
     }
 }
 
-/// What `get` is asked.
+/// The words of `get`.
 #[derive(Drop)]
 pub struct GetWords<'a> {
     file: FileName<'a>,
@@ -210,7 +210,7 @@ impl<'a> GetWords<'a> {
     }
 }
 
-/// Returns what the program is asked by these words, or `None` if they are no command. A word is
+/// Returns the command that these words encode, or `None` if they encode none. A word is
 /// any byte string.
 ///
 /// # Errors
@@ -278,7 +278,7 @@ fn point_words<'a, W: AsSlice<u8>>(alloc: Global, words: &'a [W]) -> Result<Opti
     }
 }
 
-// What `point` is asked by these three words.
+// The words of `point`, of which there are three.
 #[tactic(auto, unfolding(crate::specs::Commands::query_of))]
 fn query_in(alloc: Global, interval: &[u8], key: &[u8], seqno: &[u8]) -> Result<Option<PointWords>>
     ensures ok { IfOk result (λ found. found ≡ query_of interval.now key.now seqno.now) }
@@ -317,7 +317,7 @@ fn pack_words<'a, W: AsSlice<u8>>(words: &'a [W]) -> Option<Command<'a>>
     }
 }
 
-// What `pack` is asked by a file, how it is written, and PER_BLOCK.
+// The words of `pack`: a file, how it is written, and PER_BLOCK.
 #[tactic(auto, unfolding(crate::specs::Commands::packing_of))]
 fn packing_in<'a>(
     file: &'a [u8],
@@ -418,7 +418,7 @@ fn get_words<'a, W: AsSlice<u8>>(alloc: Global, words: &'a [W]) -> Result<Option
     }
 }
 
-// What `get` is asked by these three words.
+// The words of `get`, of which there are three.
 #[tactic(auto, unfolding(crate::specs::Commands::lookup_of))]
 fn lookup_in<'a>(
     alloc: Global,

@@ -1,5 +1,4 @@
 //! Walks, steps and reads of blocks.
-ghost use Rattle.std.specs.Prelude.{◌≡◌};
 
 use crate::lists::{LONG, LONG_KEY, NO_BUCKETS, ONE_EACH, SHORT, data_block, index_block};
 use sst_base::{ByteSum, InternalValue, Result, Slice, Steps};

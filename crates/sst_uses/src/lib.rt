@@ -2,9 +2,9 @@
 //! one is read by key.
 #![tactic(auto)]
 
-ghost use Rattle.std.specs.Prelude.{◌≡◌, ◌≤◌, ◌++◌, ◌<◌, ◌^◌, length, map};
+ghost use Rattle.std.specs.Prelude.{◌≡◌, ◌≤◌, ◌++◌, length, map};
 ghost use Rattle.std.specs.Prelude.{nat_lt, count_by, IfOk};
-ghost use Rattle.std.specs.Prelude.{IfErr, None, IsOkUnless};
+ghost use Rattle.std.specs.Prelude.{IsOkUnless};
 ghost use Rattle.sst_base.specs.Entry.{plain};
 ghost use Rattle.sst_block_core.specs.Entries.{entries};
 ghost use Rattle.sst_block_core.specs.Kind.{IsOrdered};

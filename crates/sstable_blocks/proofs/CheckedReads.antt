@@ -4,8 +4,6 @@ use Rattle.std.proofs.lemmas.Bool.{eqb-true, eq-eqb, and_parts, and_from, cases_
 use Rattle.sst_base.specs.FrameErrorLaws.{NotIo}
 use Rattle.sst_base.specs.declared.error.Error.{Error}
 use Rattle.sst_base.specs.declared.error.Error.TheVariants.{Io}
-use Rattle.sst_base.specs.declared.error.HeaderName.TheVariants as names
-use Rattle.sst_base.specs.declared.error.TagName.TheVariants as tags
 use Rattle.std.specs.Option.{option_map}
 use Rattle.sst_base.specs.BlockHandle.{HandleParts}
 use Rattle.sst_base.specs.declared.table.block.block_type.BlockType.TheVariants as types
