@@ -13,6 +13,7 @@ pub mod hash;
 pub mod input;
 pub mod key;
 pub mod laws;
+pub mod short_form;
 pub mod slice;
 pub mod table;
 pub mod value;

@@ -1,16 +1,13 @@
 //! Entries as items of a block: how they are encoded.
-ghost use Rattle.std.specs.Prelude.{◌≡◌, ◌++◌, OnOk};
+ghost use Rattle.std.specs.Prelude.{◌≡◌, ◌+◌, ◌≤◌, ◌++◌, ◌∷◌, take, IfOk};
+ghost use Rattle.sst_base.specs.ValueType.{value_type_byte};
+ghost use Rattle.sst_base.specs.Varint.{varint};
 ghost use Rattle.sst_block_core.specs.Entries.{value_part};
 
 use crate::block_item::BlockItem;
 use crate::table::block::Encodable;
-use crate::table::block::writing::push_length_prefixed;
-use sst_base::coding::MAX_VARINT_LEN;
-use sst_base::{InternalValue, ValueType, push_varint_reserved};
-use std::alloc::AllocError;
-
-// The greatest length of what precedes a key: the type, and up to three numbers.
-const MAX_FRONT_LEN: usize = 31;
+use sst_base::short_form::{SHORT_FORM_LEN, ShortForm, put_byte, put_length_prefixed, put_varint};
+use sst_base::{AllocResult, InternalKey, InternalValue, ValueType};
 
 impl BlockItem for InternalValue {
     ghost use Rattle.sst_base.specs.Entry.{IsEntry};
@@ -24,18 +21,37 @@ impl BlockItem for InternalValue {
     ghost is_kind = { IsKind-entries };
 }
 
-// Appends the value part of an entry: nothing for a tombstone.
+// Puts the type and the sequence number of an entry at the start of a form. Returns their length.
 #[inline(always)]
-fn push_value(writer: &mut Vec<u8>, item: &InternalValue) -> Result<(), AllocError>
-    ensures { OnOk result (writer.new.items ≡ writer.old.items
-        ++ value_part item.now.key.value_type item.now.value) }
+fn put_front(form: &mut ShortForm, key: &InternalKey) -> usize
+    ensures len { result ≤ 11 }
+    ensures bytes { take result form.new
+        ≡ value_type_byte key.now.value_type ∷ varint key.now.seqno }
+{
+    let len = put_byte(form, 0, u8::from(key.value_type()));
+    put_varint(form, len, key.seqno())
+}
+
+// Puts the value part of an entry after the first `at` bytes of a form: nothing for a tombstone.
+// What is long is appended, after what was put before. Returns how many bytes are put and have
+// still to be appended.
+#[inline(always)]
+fn put_value(
+    writer: &mut Vec<u8>,
+    form: &mut ShortForm,
+    at: usize,
+    item: &InternalValue,
+) -> AllocResult<usize>
+    requires { at + 49 ≤ 128 }
+    ensures ok { IfOk result (λ end. writer.new.items ++ take end form.new
+        ≡ writer.old.items
+        ++ (take at form.old ++ value_part item.now.key.value_type item.now.value)) }
+    ensures len { IfOk result (λ end. end ≤ 128) }
 {
     match item.key().value_type() {
-        ValueType::Tombstone | ValueType::WeakTombstone => Ok(()),
+        ValueType::Tombstone | ValueType::WeakTombstone => Ok(at),
         ValueType::Value | ValueType::Indirection => {
-            let value = item.value().as_slice();
-            writer.reserve(MAX_VARINT_LEN + value.len())?;
-            push_length_prefixed(writer, value)
+            put_length_prefixed(writer, form, at, item.value(), 0)
         }
     }
 }
@@ -55,25 +71,25 @@ impl Encodable for InternalValue {
     }
 
     #[tactic(auto, unfolding(crate::specs::Entries::full))]
-    fn push_full(&self, writer: &mut Vec<u8>) -> Result<(), AllocError> {
+    fn push_full(&self, writer: &mut Vec<u8>) -> AllocResult<()> {
         let key = InternalValue::key(self);
-        let user_key = key.user_key().as_slice();
-        writer.reserve(MAX_FRONT_LEN + user_key.len())?;
-        writer.push_reserved(u8::from(key.value_type()));
-        push_varint_reserved(writer, key.seqno());
-        push_length_prefixed(writer, user_key)?;
-        push_value(writer, self)
+        let mut form = [0u8; SHORT_FORM_LEN];
+        let len = put_front(&mut form, key);
+        let len = put_length_prefixed(writer, &mut form, len, key.user_key(), 0)?;
+        let len = put_value(writer, &mut form, len, self)?;
+        writer.extend_from_slice(&form[..len])?;
+        Ok(())
     }
 
     #[tactic(auto, unfolding(crate::specs::Entries::truncated))]
-    fn push_truncated(&self, writer: &mut Vec<u8>, shared_len: usize) -> Result<(), AllocError> {
+    fn push_truncated(&self, writer: &mut Vec<u8>, shared_len: usize) -> AllocResult<()> {
         let key = InternalValue::key(self);
-        let (_, rest) = key.user_key().as_slice().split_at(shared_len);
-        writer.reserve(MAX_FRONT_LEN + rest.len())?;
-        writer.push_reserved(u8::from(key.value_type()));
-        push_varint_reserved(writer, key.seqno());
-        push_varint_reserved(writer, shared_len as u64);
-        push_length_prefixed(writer, rest)?;
-        push_value(writer, self)
+        let mut form = [0u8; SHORT_FORM_LEN];
+        let len = put_front(&mut form, key);
+        let len = put_varint(&mut form, len, shared_len as u64);
+        let len = put_length_prefixed(writer, &mut form, len, key.user_key(), shared_len)?;
+        let len = put_value(writer, &mut form, len, self)?;
+        writer.extend_from_slice(&form[..len])?;
+        Ok(())
     }
 }

@@ -1,22 +1,17 @@
 //! Handles as items of a block: how they are encoded.
-ghost use Rattle.std.specs.Prelude.{◌≡◌, ◌++◌};
-ghost use Rattle.std.specs.Vec.{vec_len, vec_capacity};
-ghost use Rattle.std.specs.Prelude.{◌+◌, ◌≤◌};
+ghost use Rattle.std.specs.Prelude.{◌≡◌, ◌≤◌, take};
 ghost use Rattle.sst_block_kinds.specs.Handles.{front, front_of};
 
 use crate::table::index_block::block_handle::KeyedBlockHandle;
-use sst_base::push_varint_reserved;
+use sst_base::AllocResult;
+use sst_base::short_form::{
+    SHORT_FORM_LEN, ShortForm, put_byte, put_length_prefixed, put_varint,
+};
 use sst_block_core::BlockItem;
 use sst_block_core::table::block::Encodable;
-use sst_block_core::table::block::writing::push_length_prefixed;
-use std::alloc::AllocError;
 
 /// The byte before each handle.
 pub(crate) const HANDLE_MARKER: u8 = 0;
-
-// The greatest length of what precedes an end key's own bytes: the marker, and up to five
-// numbers.
-const MAX_FRONT_LEN: usize = 51;
 
 impl BlockItem for KeyedBlockHandle {
     ghost use Rattle.sst_block_kinds.specs.Handles.{IsHandle, handles};
@@ -29,19 +24,17 @@ impl BlockItem for KeyedBlockHandle {
     ghost is_kind = { IsKind-handles };
 }
 
-// Appends what is before an end key to a vector with room for it.
+// Puts what precedes an end key at the start of a form. Returns its length.
 #[inline(always)]
 #[tactic(auto, unfolding(crate::specs::Handles::front))]
-fn push_front(writer: &mut Vec<u8>, item: &KeyedBlockHandle)
-    requires { vec_len writer.old + 31 ≤ vec_capacity writer.old }
-    ensures ok { writer.new.items ≡ writer.old.items ++ front (front_of item.now) }
-    ensures len { vec_len writer.new ≤ vec_len writer.old + 31 }
-    ensures capacity { vec_capacity writer.new ≡ vec_capacity writer.old }
+fn put_front(form: &mut ShortForm, item: &KeyedBlockHandle) -> usize
+    ensures len { result ≤ 31 }
+    ensures bytes { take result form.new ≡ front (front_of item.now) }
 {
-    writer.push_reserved(HANDLE_MARKER);
-    push_varint_reserved(writer, *item.offset());
-    push_varint_reserved(writer, u64::from(item.size()));
-    push_varint_reserved(writer, item.seqno());
+    let len = put_byte(form, 0, HANDLE_MARKER);
+    let len = put_varint(form, len, *item.offset());
+    let len = put_varint(form, len, u64::from(item.size()));
+    put_varint(form, len, item.seqno())
 }
 
 /// The forms of a handle.
@@ -56,19 +49,21 @@ impl Encodable for KeyedBlockHandle {
     }
 
     #[tactic(auto, unfolding(crate::specs::Handles::full))]
-    fn push_full(&self, writer: &mut Vec<u8>) -> Result<(), AllocError> {
-        let key = self.end_key().as_slice();
-        writer.reserve(MAX_FRONT_LEN + key.len())?;
-        push_front(writer, self);
-        push_length_prefixed(writer, key)
+    fn push_full(&self, writer: &mut Vec<u8>) -> AllocResult<()> {
+        let mut form = [0u8; SHORT_FORM_LEN];
+        let len = put_front(&mut form, self);
+        let len = put_length_prefixed(writer, &mut form, len, self.end_key(), 0)?;
+        writer.extend_from_slice(&form[..len])?;
+        Ok(())
     }
 
     #[tactic(auto, unfolding(crate::specs::Handles::truncated))]
-    fn push_truncated(&self, writer: &mut Vec<u8>, shared_len: usize) -> Result<(), AllocError> {
-        let (_, rest) = self.end_key().as_slice().split_at(shared_len);
-        writer.reserve(MAX_FRONT_LEN + rest.len())?;
-        push_front(writer, self);
-        push_varint_reserved(writer, shared_len as u64);
-        push_length_prefixed(writer, rest)
+    fn push_truncated(&self, writer: &mut Vec<u8>, shared_len: usize) -> AllocResult<()> {
+        let mut form = [0u8; SHORT_FORM_LEN];
+        let len = put_front(&mut form, self);
+        let len = put_varint(&mut form, len, shared_len as u64);
+        let len = put_length_prefixed(writer, &mut form, len, self.end_key(), shared_len)?;
+        writer.extend_from_slice(&form[..len])?;
+        Ok(())
     }
 }
