@@ -4,9 +4,7 @@ ghost use Rattle.sst_block_kinds.specs.Handles.{front, front_of};
 
 use crate::table::index_block::block_handle::KeyedBlockHandle;
 use sst_base::AllocResult;
-use sst_base::short_form::{
-    SHORT_FORM_LEN, ShortForm, put_byte, put_length_prefixed, put_varint,
-};
+use sst_base::short_form::{SHORT_FORM_LEN, ShortForm, put_byte, put_length_prefixed, put_varint};
 use sst_block_core::BlockItem;
 use sst_block_core::table::block::Encodable;
 
