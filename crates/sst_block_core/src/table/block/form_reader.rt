@@ -6,8 +6,8 @@ ghost use Rattle.std.specs.Cmp.Lexicographic.{slice_cmp};
 ghost use Rattle.sst_base.specs.Counted.{IsZero, CountsExactly, CountsBetween};
 ghost use Rattle.sst_base.specs.SharedPrefix.{shared_prefix_length};
 ghost use Rattle.sst_block_core.specs.Found.{Takes, StandsAt, IsRange, range_of};
-ghost use Rattle.sst_block_core.specs.Heads.{IsTable, key_in, heads_before, IsBehindHead, Begins};
-ghost use Rattle.sst_block_core.specs.Passes.{last_of};
+ghost use Rattle.sst_block_core.specs.Heads.{IsTable, key_in, heads_before, Begins};
+ghost use Rattle.sst_block_core.specs.Heads.{IsNextHead, KeepsPrefixAndRoom};
 ghost use Rattle.sst_block_core.specs.Intervals.{digits};
 ghost use Rattle.sst_block_core.specs.declared.table.block.heads.Head.{Head};
 
@@ -229,13 +229,9 @@ impl<'a, Item: Decodable<Parsed>, Parsed: ParsedItem<Item> + Drop> FormReader<'a
     pub(crate) fn push_head(&mut self, table: &mut HeadTable, offset: usize)
         requires head { IsSome (Item.kind.full_at (drop offset self.old.payload)) }
         requires room { length table.old.heads < table.old.room }
-        requires begins { (x : Item) (rest : List ℕ)
+        requires next { (x : Item) (rest : List ℕ)
             → Item.kind.full_at (drop offset self.old.payload) ≡ Some (x, rest)
-            → Begins (range_of self.old.payload table.old.prefix) (Item.kind.key x) }
-        requires order { (x : Item) (rest : List ℕ) (last : Head)
-            → Item.kind.full_at (drop offset self.old.payload) ≡ Some (x, rest)
-            → last_of table.old.heads ≡ Some last
-            → IsBehindHead Item.kind self.old.payload last x }
+            → IsNextHead Item.kind self.old.payload table.old x }
         requires table { IsTable self.old.payload table.old }
         ensures payload { self.new.payload ≡ self.old.payload }
         ensures pushed { (x : Item) (rest : List ℕ)
@@ -243,8 +239,7 @@ impl<'a, Item: Decodable<Parsed>, Parsed: ParsedItem<Item> + Drop> FormReader<'a
             → (h : Head) × (table.new.heads ≡ table.old.heads ++ h ∷ [])
             × (key_in self.old.payload h ≡ Item.kind.key x) × (h.seqno ≡ Item.kind.seqno x)
             × (h.offset ≡ offset) }
-        ensures prefix { table.new.prefix ≡ table.old.prefix }
-        ensures room { table.old.room ≤ table.new.room }
+        ensures kept { KeepsPrefixAndRoom table.old table.new }
         ensures table { IsTable self.old.payload table.new }
     {
         let (key, seqno) = self.key_range(offset);

@@ -10,12 +10,14 @@ ghost use Rattle.sst_base.specs.SharedPrefix.{shared_prefix_length};
 ghost use Rattle.sst_block_core.specs.Body.{place_offset};
 ghost use Rattle.sst_block_core.specs.Found.{IsRange, range_of};
 ghost use Rattle.sst_block_core.specs.Payload.{IsEncoding};
+ghost use Rattle.sst_block_core.specs.Places.{IsItemPlace, IsItemAt};
 ghost use Rattle.sst_block_core.specs.Pointers.{head_count};
 ghost use Rattle.sst_block_core.specs.Scan.{StandsBehind, Stands};
 ghost use Rattle.sst_block_core.specs.Stages.{items_in};
 ghost use Rattle.sst_block_core.specs.Trailer.{trailer_in};
 ghost use Rattle.sst_block_core.specs.Intervals.{IsListed};
 ghost use Rattle.sst_block_core.specs.Heads.{IsTableOf, IsTableUpto, HeadsBegin, listed_in};
+ghost use Rattle.sst_block_core.specs.Heads.{KeepsPrefixAndRoom};
 
 use crate::table::block::binary_index::Reader;
 use crate::table::block::decoder::{Decodable, ParsedItem};
@@ -293,13 +295,10 @@ impl<'a, Item: Decodable<Parsed>, Parsed: ParsedItem<Item>> Intervals<'a, Item, 
     /// Decodes the item of a head, and moves after it. Counts an entry.
     #[inline(always)]
     pub(crate) fn take_head(&mut self, at: &mut Place) -> Parsed
-        requires inside { at.old.index < length self.old.list.items }
+        requires place { IsItemPlace Item.kind self.old.list at.old }
         requires head { at.old.phase ≡ 0 }
-        requires stands { Stands Item.kind self.old.list at.old }
         ensures list { self.new.list ≡ self.old.list }
-        ensures item { slice_get self.old.list.items at.old.index
-            ≡ Some (Parsed.item_of self.old.list.payload result) }
-        ensures found { Parsed.is_found self.old.list.payload result }
+        ensures item { IsItemAt Parsed.item_of Parsed.is_found self.old.list at.old.index result }
         ensures shared { Parsed.shared_len result ≡ 0 }
         ensures place { at.new.index ≡ at.old.index + 1 }
         ensures stands { StandsBehind Item.kind self.old.list at.new
@@ -315,13 +314,10 @@ impl<'a, Item: Decodable<Parsed>, Parsed: ParsedItem<Item>> Intervals<'a, Item, 
     /// Decodes the item at a place that isn't a head's, and moves after it. Counts an entry.
     #[inline(always)]
     pub(crate) fn take_rest(&mut self, at: &mut Place) -> Parsed
-        requires inside { at.old.index < length self.old.list.items }
+        requires place { IsItemPlace Item.kind self.old.list at.old }
         requires rest { 0 < at.old.phase }
-        requires stands { Stands Item.kind self.old.list at.old }
         ensures list { self.new.list ≡ self.old.list }
-        ensures item { slice_get self.old.list.items at.old.index
-            ≡ Some (Parsed.item_of self.old.list.payload result) }
-        ensures found { Parsed.is_found self.old.list.payload result }
+        ensures item { IsItemAt Parsed.item_of Parsed.is_found self.old.list at.old.index result }
         ensures place { at.new.index ≡ at.old.index + 1 }
         ensures base { at.new.base ≡ at.old.base }
         ensures stands { (head : List ℕ) → StandsBehind Item.kind self.old.list at.old head
@@ -370,12 +366,9 @@ impl<'a, Item: Decodable<Parsed>, Parsed: ParsedItem<Item>> Intervals<'a, Item, 
     /// Decodes the item at a place, and moves after it. Counts an entry.
     #[inline(always)]
     pub(crate) fn take(&mut self, at: &mut Place) -> Parsed
-        requires inside { at.old.index < length self.old.list.items }
-        requires stands { Stands Item.kind self.old.list at.old }
+        requires { IsItemPlace Item.kind self.old.list at.old }
         ensures list { self.new.list ≡ self.old.list }
-        ensures item { slice_get self.old.list.items at.old.index
-            ≡ Some (Parsed.item_of self.old.list.payload result) }
-        ensures found { Parsed.is_found self.old.list.payload result }
+        ensures item { IsItemAt Parsed.item_of Parsed.is_found self.old.list at.old.index result }
         ensures place { at.new.index ≡ at.old.index + 1 }
         ensures stands { Stands Item.kind self.old.list at.new }
         ensures counts { CountsExactly self.old.steps self.new.steps 0 1 }
@@ -415,8 +408,7 @@ impl<'a, Item: Decodable<Parsed>, Parsed: ParsedItem<Item> + Drop> Intervals<'a,
         requires room { j < table.old.room }
         ensures list { self.new.list ≡ self.old.list }
         ensures table { IsTableUpto Item.kind self.old.list (j + 1) table.new }
-        ensures prefix { table.new.prefix ≡ table.old.prefix }
-        ensures room { table.old.room ≤ table.new.room }
+        ensures kept { KeepsPrefixAndRoom table.old table.new }
     {
         let at = self.start(j);
         self.forms.push_head(table, at.offset)

@@ -9,6 +9,7 @@ ghost use Rattle.sst_base.specs.SharedPrefix.{shared_prefix_length};
 ghost use Rattle.std.specs.Option.{option_map};
 ghost use Rattle.sst_base.specs.Counted.{found_item, CountsExactly, CountsBetween};
 ghost use Rattle.sst_block_core.specs.Kind.{IsOrdered};
+ghost use Rattle.sst_block_core.specs.Places.{IsItemPlace, IsItemAt};
 ghost use Rattle.sst_block_core.specs.Pointers.{head_count};
 ghost use Rattle.sst_block_core.specs.Scan.{Stands, StandsBehind};
 ghost use Rattle.sst_block_core.specs.Window.{count_passed, is_version};
@@ -133,9 +134,8 @@ impl<'a, Item: Decodable<Parsed>, Parsed: ParsedItem<Item> + Drop> Intervals<'a,
     fn enter(&mut self, j: usize, needle: &[u8]) -> (Place, Parsed, usize)
         requires { j * self.old.list.interval < length self.old.list.items }
         ensures list { self.new.list ≡ self.old.list }
-        ensures item { slice_get self.old.list.items (j * self.old.list.interval)
-            ≡ Some (Parsed.item_of self.old.list.payload result.1) }
-        ensures found { Parsed.is_found self.old.list.payload result.1 }
+        ensures item { IsItemAt Parsed.item_of Parsed.is_found self.old.list
+            (j * self.old.list.interval) result.1 }
         ensures shared { Parsed.shared_len result.1 ≡ 0 }
         ensures place { result.0.index ≡ j * self.old.list.interval + 1 }
         ensures stands { StandsBehind Item.kind self.old.list result.0
@@ -198,9 +198,8 @@ impl<'a, Item: Decodable<Parsed>, Parsed: ParsedItem<Item> + Drop> Intervals<'a,
     // The item of a head, if it has a key.
     #[inline(always)]
     fn head_with_key(&mut self, at: Place, needle: &[u8]) -> Option<Parsed>
-        requires inside { at.index < length self.old.list.items }
+        requires place { IsItemPlace Item.kind self.old.list at }
         requires head { at.phase ≡ 0 }
-        requires stands { Stands Item.kind self.old.list at }
         ensures list { self.new.list ≡ self.old.list }
         ensures item { MatchOption result
             ((x : Item) → slice_get self.old.list.items at.index ≡ Some x
