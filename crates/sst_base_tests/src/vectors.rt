@@ -175,6 +175,11 @@ pub fn handles()
         ≡ Ok (record { offset = 146; size = 73 }, 7 ∷ []) }
     ensures not_minimal { handle_at (0x80 ∷ 0x00 ∷ 0x49 ∷ []) ≡ Err BadHandle }
     ensures without_size { handle_at (0x00 ∷ []) ≡ Err Io }
+{}
+
+/// Bytes whose varints are longer than 64 or 32 bits, or end early.
+#[tactic(auto, unfolding(sst_base::specs::BlockHandle::handle_at, sst_base::specs::BlockHandle::handle_number_at, sst_base::specs::Varint::varint, sst_base::specs::Varint::varint_within))]
+pub fn long_handles()
     ensures tenth_byte_of_2 { handle_at
         (0xff ∷ 0xff ∷ 0xff ∷ 0xff ∷ 0xff ∷ 0xff ∷ 0xff ∷ 0xff ∷ 0xff
         ∷ 0x02 ∷ []) ≡ Err BadHandle }

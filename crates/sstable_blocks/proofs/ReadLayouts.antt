@@ -21,7 +21,7 @@ use Rattle.sst_block_core.specs.Stages.{Passes, PassesBy, items_by, items_in}
 use Rattle.sst_block_core.specs.Trailer.{Trailer, trailer_in}
 use Rattle.sst_block_core.specs.Window.{first_match}
 use Rattle.sstable_blocks.specs.Blocks.{joined}
-use Rattle.sstable_blocks.specs.Filter.{Filter, may_contain, MayContain}
+use Rattle.sstable_blocks.specs.Filter.{may_contain, MayContain}
 use Rattle.sstable_blocks.specs.Lookup.{first_in, place_for, handle_for}
 use Rattle.sstable_blocks.specs.Opened.{range_of}
 use Rattle.sstable_blocks.specs.Run.{Form, block_payload, handles_from, index_text, key_hashes, run_text, run_handles, IsFramed, IsFilterText, IsRun, RunFits, IsLayout}

@@ -128,8 +128,7 @@ impl<H: BlockHash> RunCore<H> {
         writer: &mut W,
         items: &[InternalValue],
     ) -> Result<()>
-        requires some { IsNotEmpty items.now }
-        requires ordered { IsOrdered entries (joined (self.old.blocks ++ items.now ∷ [])) }
+        requires follows { Follows self.old.blocks items.now }
         requires den { 1 ≤ self.old.config.ratio.den }
         ensures config { self.new.config ≡ self.old.config }
         ensures accepted { OnOk result (self.new.blocks ≡ self.old.blocks ++ items.now ∷ []) }
