@@ -1,13 +1,13 @@
 //! Encodings: what has one, and varints, numbers in base 128, least significant digit first.
-ghost use Rattle.std.specs.Prelude.{◌≡◌, ℕ, ◌+◌, ◌-◌, ◌/◌, ◌^◌};
+ghost use Rattle.std.specs.Prelude.{◌≡◌, ℕ, ◌+◌, ◌^◌};
 ghost use Rattle.std.specs.Prelude.{◌<◌, ◌≤◌, ◌++◌, length, take};
-ghost use Rattle.std.specs.Prelude.{drop, OnOk, OnErr, IsOkUnless, IfSome, IfNone, None};
+ghost use Rattle.std.specs.Prelude.{OnOk, OnErr, IsOkUnless, IfSome, IfNone, None};
 ghost use Rattle.std.specs.Prelude.{List, Some, IfOk, Result as Outcome};
 ghost use Rattle.std.specs.Io.KnownBytes.{Appends};
 ghost use Rattle.std.specs.Vec.{vec_len, vec_capacity};
 ghost use Rattle.sst_base.specs.Inputs.{Reads};
 ghost use Rattle.sst_base.specs.declared.error.Error.{Error};
-ghost use Rattle.sst_base.specs.Varint.{IsVarint, IsWidth, varint, with_digits, varint_up_to};
+ghost use Rattle.sst_base.specs.Varint.{IsVarint, IsWidth, varint, varint_up_to};
 ghost use Rattle.sst_base.specs.Varint.{varint_at};
 
 use crate::error::{Error, Result};

@@ -35,7 +35,7 @@ pub fn hashes()
 {}
 
 /// A header under the sum of the bytes as the hash.
-#[tactic(auto, unfolding(sst_base::specs::Header::header, sst_base::specs::Header::header_front))]
+#[tactic(auto, unfolding(sst_base::specs::Header::header, sst_base::specs::Header::header_start))]
 pub fn headers()
     ensures { header sum (record {
       block_type = Data;
@@ -51,7 +51,7 @@ pub fn headers()
 {}
 
 /// Frames under the sum of the bytes as the hash: of `abc`, and of nothing.
-#[tactic(auto, unfolding(sst_base::specs::Frame::frame, sst_base::specs::Header::header, sst_base::specs::Header::header_front))]
+#[tactic(auto, unfolding(sst_base::specs::Frame::frame, sst_base::specs::Header::header, sst_base::specs::Header::header_start))]
 pub fn frames()
     ensures abc { frame sum Data (97 ∷ 98 ∷ 99 ∷ [])
         ≡ 0x4c ∷ 0x53 ∷ 0x4d ∷ 0x03 ∷ 0x00

@@ -111,5 +111,5 @@ pub record RepeatsError {T W : Type 0} (old new : Writing W) (result : Result T 
   pub untouched : new.writer ≡ old.writer
 
 -- an entry does not sort before the last one of blocks
-abbrev pub IsBehind : List (List Entry) → Entry → Type 0
-IsBehind blocks item = (front : List Entry) (last : Entry) → joined blocks ≡ front ++ last ∷ [] → item_cmp entries item last ≢ Less
+abbrev pub FollowsLast : List (List Entry) → Entry → Type 0
+FollowsLast blocks item = (front : List Entry) (last : Entry) → joined blocks ≡ front ++ last ∷ [] → item_cmp entries item last ≢ Less

@@ -17,7 +17,7 @@ ghost use Rattle.sstable_blocks.specs.Run.{form, block_frame, block_frames, key_
 ghost use Rattle.sstable_blocks.specs.Run.{block_payload, IsRun};
 ghost use Rattle.std.specs.List.{AllByRecursion};
 ghost use Rattle.sstable_blocks.specs.Run.{index_frame, index_text, IsFilterText, IsFramed};
-ghost use Rattle.sstable_blocks.specs.Writing.{Follows, IsBehind, FrameFits, PartFits};
+ghost use Rattle.sstable_blocks.specs.Writing.{Follows, FollowsLast, FrameFits, PartFits};
 ghost use Rattle.sstable_blocks.specs.Writing.{IsFramedBlock, IsWriteRefusal};
 ghost use Rattle.sstable_blocks.specs.Writing.{IsFrameAppended, AppendsFilter, AppendsEnd};
 
@@ -96,7 +96,7 @@ impl<H: BlockHash> RunCore<H> {
 
     // Returns whether an entry does not sort before the last one of the blocks accepted.
     fn is_behind(&self, item: &InternalValue) -> bool
-        ensures behind { IsTrue result ↔ IsBehind self.now.blocks item.now }
+        ensures behind { IsTrue result ↔ FollowsLast self.now.blocks item.now }
         ensures ordered { IsOrdered entries (joined self.now.blocks) }
     {
         match self.handles.last() {

@@ -5,7 +5,7 @@ ghost use Rattle.std.specs.Ordering.{nat_cmp};
 ghost use Rattle.std.specs.Cmp.Lexicographic.{slice_cmp};
 ghost use Rattle.sst_base.specs.Counted.{IsZero, CountsExactly, CountsBetween};
 ghost use Rattle.sst_base.specs.SharedPrefix.{shared_prefix_length};
-ghost use Rattle.sst_block_core.specs.Found.{Takes, StandsAt, IsRange, range_of};
+ghost use Rattle.sst_block_core.specs.Found.{Takes, IsEncodedAt, IsRange, range_of};
 ghost use Rattle.sst_block_core.specs.Heads.{IsTable, key_in, heads_before, Begins};
 ghost use Rattle.sst_block_core.specs.Heads.{IsNextHead, KeepsPrefixAndRoom};
 ghost use Rattle.sst_block_core.specs.Intervals.{digits};
@@ -118,7 +118,7 @@ impl<'a, Item: Decodable<Parsed>, Parsed: ParsedItem<Item>> FormReader<'a, Item,
         ensures exact { Takes (Parsed.item_of self.old.payload) self.old.payload result
             (Item.kind.full_at (drop offset self.old.payload)) }
         ensures found { Parsed.is_found self.old.payload result.0 }
-        ensures key { StandsAt self.old.payload (Parsed.key_start result.0)
+        ensures key { IsEncodedAt self.old.payload (Parsed.key_start result.0)
             (Item.kind.key (Parsed.item_of self.old.payload result.0)) }
         ensures shared { Parsed.shared_len result.0 ≡ 0 }
         ensures counts { CountsExactly self.old.steps self.new.steps 0 1 }
@@ -134,12 +134,12 @@ impl<'a, Item: Decodable<Parsed>, Parsed: ParsedItem<Item>> FormReader<'a, Item,
         offset: usize,
         base_key_offset: usize,
     ) -> (Parsed, usize)
-        requires { (base : List ℕ) × StandsAt self.old.payload base_key_offset base
+        requires { (base : List ℕ) × IsEncodedAt self.old.payload base_key_offset base
             × IsSome (Item.kind.truncated_at base (drop offset self.old.payload)) }
         ensures payload { self.new.payload ≡ self.old.payload }
         ensures inside { result.1 ≤ length self.old.payload }
         ensures item { (base : List ℕ) (x : Item) (rest : List ℕ)
-            → StandsAt self.old.payload base_key_offset base
+            → IsEncodedAt self.old.payload base_key_offset base
             → Item.kind.truncated_at base (drop offset self.old.payload) ≡ Some (x, rest)
             → (Parsed.item_of self.old.payload result.0 ≡ x)
             × (drop result.1 self.old.payload ≡ rest)

@@ -8,7 +8,7 @@ ghost use Rattle.std.specs.declared.cmp.Ordering.TheVariants.{Less, Equal};
 ghost use Rattle.sst_base.specs.Counted.{CountsExactly, CountsBetween};
 ghost use Rattle.sst_base.specs.Order.{versions_cmp};
 ghost use Rattle.sst_block_core.specs.Found.{IsRange, range_of};
-ghost use Rattle.sst_block_core.specs.Heads.{front, key_in, Begins, IsTable, TellsBit, head_of};
+ghost use Rattle.sst_block_core.specs.Heads.{front, key_in, Begins, IsTable, IsHeadPassedBit, head_of};
 ghost use Rattle.sst_block_core.specs.Heads.{heads_before, IsCopy, KeepsPrefixAndRoom};
 ghost use Rattle.sst_block_core.specs.Intervals.{digits};
 ghost use Rattle.sst_block_core.specs.Passes.{last_of};
@@ -276,7 +276,7 @@ impl HeadTable {
             → slice_cmp nat_cmp (range_of payload.now self.now.prefix ++ s) bound.now.needle.now
             ≡ slice_cmp nat_cmp s rest.now }
         requires number { number ≡ front rest.now / 2 }
-        ensures tells { TellsBit payload.now bound.now.needle.now bound.now.from self.now.heads j
+        ensures tells { IsHeadPassedBit payload.now bound.now.needle.now bound.now.from self.now.heads j
             result }
         ensures counts { CountsExactly steps.old steps.new 1 0 }
     {

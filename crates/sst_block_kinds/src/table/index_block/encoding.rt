@@ -2,7 +2,7 @@
 ghost use Rattle.std.specs.Prelude.{◌≡◌, ◌++◌};
 ghost use Rattle.std.specs.Vec.{vec_len, vec_capacity};
 ghost use Rattle.std.specs.Prelude.{◌+◌, ◌≤◌};
-ghost use Rattle.sst_block_kinds.specs.Handles.{front, front_of};
+ghost use Rattle.sst_block_kinds.specs.Handles.{fields, fields_of};
 
 use crate::table::index_block::block_handle::KeyedBlockHandle;
 use sst_base::push_varint_reserved;
@@ -31,10 +31,10 @@ impl BlockItem for KeyedBlockHandle {
 
 // Appends what is before an end key to a vector with room for it.
 #[inline(always)]
-#[tactic(auto, unfolding(crate::specs::Handles::front))]
-fn push_front(writer: &mut Vec<u8>, item: &KeyedBlockHandle)
+#[tactic(auto, unfolding(crate::specs::Handles::fields))]
+fn push_fields(writer: &mut Vec<u8>, item: &KeyedBlockHandle)
     requires { vec_len writer.old + 31 ≤ vec_capacity writer.old }
-    ensures ok { writer.new.items ≡ writer.old.items ++ front (front_of item.now) }
+    ensures ok { writer.new.items ≡ writer.old.items ++ fields (fields_of item.now) }
     ensures len { vec_len writer.new ≤ vec_len writer.old + 31 }
     ensures capacity { vec_capacity writer.new ≡ vec_capacity writer.old }
 {
@@ -59,7 +59,7 @@ impl Encodable for KeyedBlockHandle {
     fn push_full(&self, writer: &mut Vec<u8>) -> Result<(), AllocError> {
         let key = self.end_key().as_slice();
         writer.reserve(MAX_FRONT_LEN + key.len())?;
-        push_front(writer, self);
+        push_fields(writer, self);
         push_length_prefixed(writer, key)
     }
 
@@ -67,7 +67,7 @@ impl Encodable for KeyedBlockHandle {
     fn push_truncated(&self, writer: &mut Vec<u8>, shared_len: usize) -> Result<(), AllocError> {
         let (_, rest) = self.end_key().as_slice().split_at(shared_len);
         writer.reserve(MAX_FRONT_LEN + rest.len())?;
-        push_front(writer, self);
+        push_fields(writer, self);
         push_varint_reserved(writer, shared_len as u64);
         push_length_prefixed(writer, rest)
     }
