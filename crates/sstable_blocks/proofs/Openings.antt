@@ -23,7 +23,7 @@ use Rattle.sstable_blocks.specs.Run.{Form, block_payload, block_frame, handle_of
 use Rattle.sstable_blocks.specs.Opened.{range_of, IsFrameRange, payload_in, IsDenied, IsOpen, Opened}
 use Rattle.sstable_blocks.specs.declared.run.RunHandles.{RunHandles}
 use Rattle.sstable_blocks.proofs.BlockHandles.{handles_end, length-handles_from}
-use Rattle.sstable_blocks.proofs.Layouts.{IsPart, Stands, run_frames, index_stands, filter_stands, IsDataBlock, blocks_are_blocks, index_is_index}
+use Rattle.sstable_blocks.proofs.Layouts.{IsPart, IsPlace, run_frames, index_stands, filter_stands, IsDataBlock, blocks_are_blocks, index_is_index}
 use Rattle.sstable_blocks.proofs.Search.{first_match-joined}
 use Rattle.sstable_blocks.proofs.FilterReads.{filter_handle, no_filter, some_filter, filter_framed, filter_reads, denied}
 
@@ -76,7 +76,7 @@ module _ (f : Form) where
       (index_read : (r : ℕ) (p : List ℕ) (items : List Handle) → length p < 2 ^ 32 → IsIndexBlock p items r → (items_in handles p ≡ items) × ((trailer_in p).interval ≡ r))
     where
       -- a block, where its frame stands
-      open_one : (bytes : List ℕ) (h : Handle) (block : List Entry) → Stands f bytes block h → IsDataBlock f block → IsFramed (block_payload f block) → IsOpen f bytes (range_of h) block
+      open_one : (bytes : List ℕ) (h : Handle) (block : List Entry) → IsPlace f bytes block h → IsDataBlock f block → IsFramed (block_payload f block) → IsOpen f bytes (range_of h) block
       open_one bytes h block stands is small =
           let p = block_payload f block in
           let r = frame_range f.hash128 types.Data bytes p (range_of h) stands.part stands.size in
@@ -91,7 +91,7 @@ module _ (f : Form) where
           }
 
       -- the block of a handle
-      open_at : (bytes : List ℕ) (offset : ℕ) (blocks : List (List Entry)) → AllZip (Stands f bytes) blocks (handles_from f offset blocks) → AllByRecursion (IsDataBlock f) blocks
+      open_at : (bytes : List ℕ) (offset : ℕ) (blocks : List (List Entry)) → AllZip (IsPlace f bytes) blocks (handles_from f offset blocks) → AllByRecursion (IsDataBlock f) blocks
           → AllByRecursion (λ block. IsFramed (block_payload f block)) blocks → (n : ℕ) (g : Handle) → slice_get (handles_from f offset blocks) n ≡ Some g → (block : List Entry) × (slice_get blocks n ≡ Some block) × IsOpen f bytes (range_of g) block
       open_at bytes offset [] zip is small n g e = cc
       open_at bytes offset (b ∷ bs) zip is small zero g e =

@@ -21,7 +21,7 @@ use Rattle.sst_block_core.specs.Stages.{Passes, PassesBy, items_by, items_in}
 use Rattle.sst_block_core.specs.Trailer.{Trailer, trailer_in}
 use Rattle.sst_block_core.specs.Window.{first_match}
 use Rattle.sstable_blocks.specs.Blocks.{joined}
-use Rattle.sstable_blocks.specs.Filter.{Filter, may_contain, MayContain}
+use Rattle.sstable_blocks.specs.Filter.{may_contain, MayContain}
 use Rattle.sstable_blocks.specs.Lookup.{first_in, place_for, handle_for}
 use Rattle.sstable_blocks.specs.Opened.{range_of}
 use Rattle.sstable_blocks.specs.Run.{Form, block_payload, handles_from, index_text, key_hashes, run_text, run_handles, IsFramed, IsFilterText, IsRun, RunFits, IsLayout}
@@ -31,7 +31,7 @@ use Rattle.sstable_blocks.proofs.BlockHandles.{handles_end}
 use Rattle.sstable_blocks.proofs.CheckedReads.{may_contain_to}
 use Rattle.sstable_blocks.proofs.FilterReads.{filter_handle, no_filter, some_filter, filter_framed, filter_reads, denied}
 use Rattle.sstable_blocks.proofs.Endings.{filter_framed as filter_small}
-use Rattle.sstable_blocks.proofs.Layouts.{IsPart, Stands, run_frames, index_stands, filter_stands, IsDataBlock, blocks_are_blocks, index_is_index}
+use Rattle.sstable_blocks.proofs.Layouts.{IsPart, IsPlace, run_frames, index_stands, filter_stands, IsDataBlock, blocks_are_blocks, index_is_index}
 use Rattle.sstable_blocks.proofs.Search.{first_match-joined}
 
 -- one reading after another that gives something
@@ -104,7 +104,7 @@ module _ (f : Form) (sums : (bytes : List ℕ) → f.hash128 bytes < 2 ^ 128)
     payload_stands t bytes p h small at size =
         bind_to (range_at bytes h) (payload_of_type f.hash128 t) (frame f.hash128 t p) (Ok p) (range_of_part bytes (frame f.hash128 t p) h at size) (payload_is f.hash128 t p (omega arith) (sums p))
 
-    read_one : (bytes : List ℕ) (h : Handle) (block : List Entry) (needle : List ℕ) (s : ℕ) → Stands f bytes block h → IsDataBlock f block → IsFramed (block_payload f block) → read_block both bytes (Some h) needle s ≡ Ok (first_match entries needle s block)
+    read_one : (bytes : List ℕ) (h : Handle) (block : List Entry) (needle : List ℕ) (s : ℕ) → IsPlace f bytes block h → IsDataBlock f block → IsFramed (block_payload f block) → read_block both bytes (Some h) needle s ≡ Ok (first_match entries needle s block)
     read_one bytes h block needle s stands is small =
         let p = block_payload f block in
         let read = data_read p block _ _ (omega arith) is in
@@ -112,7 +112,7 @@ module _ (f : Form) (sums : (bytes : List ℕ) → f.hash128 bytes < 2 ^ 128)
         (bind_to _ _ (items_in entries p) _ (data_ok f.hash64 (trailer_in p) p (data_check f.hash64 p) (data_verdict p) read.0)
         (ap (λ xs. Ok (first_match entries needle s xs)) read.1 ∙ ap (λ o. Ok o) (plain_match needle s block)))
 
-    read_at : (bytes : List ℕ) (blocks : List (List Entry)) (hs : List Handle) (n : ℕ) (needle : List ℕ) (s : ℕ) → AllZip (Stands f bytes) blocks hs → AllByRecursion (IsDataBlock f) blocks
+    read_at : (bytes : List ℕ) (blocks : List (List Entry)) (hs : List Handle) (n : ℕ) (needle : List ℕ) (s : ℕ) → AllZip (IsPlace f bytes) blocks hs → AllByRecursion (IsDataBlock f) blocks
         → AllByRecursion (λ block. IsFramed (block_payload f block)) blocks → read_block both bytes (slice_get hs n) needle s ≡ Ok (first_in entries needle s (slice_get blocks n))
     read_at bytes [] [] n needle s zip is small = refl
     read_at bytes [] (h ∷ hs) n needle s zip is small = absurd zip

@@ -23,7 +23,7 @@ impl BlockItem for InternalValue {
 
 // Puts the type and the sequence number of an entry at the start of a form. Returns their length.
 #[inline(always)]
-fn put_front(form: &mut ShortForm, key: &InternalKey) -> usize
+fn put_fields(form: &mut ShortForm, key: &InternalKey) -> usize
     ensures len { result ≤ 11 }
     ensures bytes { take result form.new
         ≡ value_type_byte key.now.value_type ∷ varint key.now.seqno }
@@ -74,7 +74,7 @@ impl Encodable for InternalValue {
     fn push_full(&self, writer: &mut Vec<u8>) -> AllocResult<()> {
         let key = InternalValue::key(self);
         let mut form = [0u8; SHORT_FORM_LEN];
-        let len = put_front(&mut form, key);
+        let len = put_fields(&mut form, key);
         let len = put_length_prefixed(writer, &mut form, len, key.user_key(), 0)?;
         let len = put_value(writer, &mut form, len, self)?;
         writer.extend_from_slice(&form[..len])?;
@@ -85,7 +85,7 @@ impl Encodable for InternalValue {
     fn push_truncated(&self, writer: &mut Vec<u8>, shared_len: usize) -> AllocResult<()> {
         let key = InternalValue::key(self);
         let mut form = [0u8; SHORT_FORM_LEN];
-        let len = put_front(&mut form, key);
+        let len = put_fields(&mut form, key);
         let len = put_varint(&mut form, len, shared_len as u64);
         let len = put_length_prefixed(writer, &mut form, len, key.user_key(), shared_len)?;
         let len = put_value(writer, &mut form, len, self)?;

@@ -31,9 +31,10 @@ pub mod parsed_item;
 mod point_read;
 
 use crate::laws::data_check_is_by_stages;
+pub use crate::table::answer::Answer;
 pub use entry_ref::{Entries, EntryRef};
 pub use iter::Iter;
-pub use ops::{Answer, Op, walk};
+pub use ops::{Op, walk};
 pub use parsed_item::DataBlockParsedItem;
 use sst_base::table::block::Block;
 use sst_base::{

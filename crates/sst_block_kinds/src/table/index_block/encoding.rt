@@ -1,6 +1,6 @@
 //! Handles as items of a block: how they are encoded.
 ghost use Rattle.std.specs.Prelude.{◌≡◌, ◌≤◌, take};
-ghost use Rattle.sst_block_kinds.specs.Handles.{front, front_of};
+ghost use Rattle.sst_block_kinds.specs.Handles.{fields, fields_of};
 
 use crate::table::index_block::block_handle::KeyedBlockHandle;
 use sst_base::AllocResult;
@@ -24,10 +24,10 @@ impl BlockItem for KeyedBlockHandle {
 
 // Puts what precedes an end key at the start of a form. Returns its length.
 #[inline(always)]
-#[tactic(auto, unfolding(crate::specs::Handles::front))]
-fn put_front(form: &mut ShortForm, item: &KeyedBlockHandle) -> usize
+#[tactic(auto, unfolding(crate::specs::Handles::fields))]
+fn put_fields(form: &mut ShortForm, item: &KeyedBlockHandle) -> usize
     ensures len { result ≤ 31 }
-    ensures bytes { take result form.new ≡ front (front_of item.now) }
+    ensures bytes { take result form.new ≡ fields (fields_of item.now) }
 {
     let len = put_byte(form, 0, HANDLE_MARKER);
     let len = put_varint(form, len, *item.offset());
@@ -49,7 +49,7 @@ impl Encodable for KeyedBlockHandle {
     #[tactic(auto, unfolding(crate::specs::Handles::full))]
     fn push_full(&self, writer: &mut Vec<u8>) -> AllocResult<()> {
         let mut form = [0u8; SHORT_FORM_LEN];
-        let len = put_front(&mut form, self);
+        let len = put_fields(&mut form, self);
         let len = put_length_prefixed(writer, &mut form, len, self.end_key(), 0)?;
         writer.extend_from_slice(&form[..len])?;
         Ok(())
@@ -58,7 +58,7 @@ impl Encodable for KeyedBlockHandle {
     #[tactic(auto, unfolding(crate::specs::Handles::truncated))]
     fn push_truncated(&self, writer: &mut Vec<u8>, shared_len: usize) -> AllocResult<()> {
         let mut form = [0u8; SHORT_FORM_LEN];
-        let len = put_front(&mut form, self);
+        let len = put_fields(&mut form, self);
         let len = put_varint(&mut form, len, shared_len as u64);
         let len = put_length_prefixed(writer, &mut form, len, self.end_key(), shared_len)?;
         writer.extend_from_slice(&form[..len])?;

@@ -23,9 +23,10 @@ pub mod ops;
 pub mod parsed_item;
 
 use crate::laws::index_check_is_by_stages;
+pub use crate::table::answer::Answer;
 pub use block_handle::{BlockHandle, KeyedBlockHandle};
 pub use iter::Iter;
-pub use ops::{IndexAnswer, IndexOp, walk};
+pub use ops::{IndexOp, walk};
 pub use parsed_item::IndexBlockParsedItem;
 use sst_base::table::block::Block;
 use sst_base::{AllocResult, Error, HashRatio, Poly31, Result, Slice};

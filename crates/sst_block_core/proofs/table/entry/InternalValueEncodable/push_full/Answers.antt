@@ -14,9 +14,9 @@ returns c =
     let value = value_part c.args.self.now.key.value_type c.args.self.now.value in
     let front = value_type_byte c.key-key.result.now.value_type ∷ varint c.key-key.result.now.seqno in
     c.in_ok-extend_from_slice.ensures.items
-    ∙ part_after before c.put_length_prefixed.new.writer.items c.put_value.new.writer.items (take c.put_front-len.result c.put_front-len.new.form ++ key) (take c.in_ok-len.len c.put_length_prefixed.new.form) (take c.in_ok-len-2.len c.put_value.new.form) value
+    ∙ part_after before c.put_length_prefixed.new.writer.items c.put_value.new.writer.items (take c.put_fields-len.result c.put_fields-len.new.form ++ key) (take c.in_ok-len.len c.put_length_prefixed.new.form) (take c.in_ok-len-2.len c.put_value.new.form) value
         c.in_ok-len.ensures.ok c.in_ok-len-2.ensures.ok
-    ∙ ap (λ xs. before ++ ((xs ++ key) ++ value)) c.put_front-len.ensures.bytes
+    ∙ ap (λ xs. before ++ ((xs ++ key) ++ value)) c.put_fields-len.ensures.bytes
     ∙ ap (λ xs. before ++ xs) (append_assoc front key value)
     ∙ ap (λ u. before ++ (front ++ (length_prefixed u ++ value))) c.user_key.ensures.value
     ∙ ap (λ k. before ++ ((value_type_byte k.value_type ∷ varint k.seqno) ++ (length_prefixed k.user_key ++ value))) c.key-key.ensures.value

@@ -17,7 +17,7 @@ returns c =
     c.in_ok-extend_from_slice.ensures.items
     ∙ part_after before c.put_length_prefixed.new.writer.items c.put_value.new.writer.items (take c.put_varint-len.result c.put_varint-len.new.form ++ rest) (take c.in_ok-len.len c.put_length_prefixed.new.form) (take c.in_ok-len-2.len c.put_value.new.form) value
         c.in_ok-len.ensures.ok c.in_ok-len-2.ensures.ok
-    ∙ ap (λ xs. before ++ ((xs ++ rest) ++ value)) (c.put_varint-len.ensures.bytes ∙ ap (λ xs. xs ++ shared) c.put_front-len.ensures.bytes)
+    ∙ ap (λ xs. before ++ ((xs ++ rest) ++ value)) (c.put_varint-len.ensures.bytes ∙ ap (λ xs. xs ++ shared) c.put_fields-len.ensures.bytes)
     ∙ ap (λ xs. before ++ xs) (append_assoc (front ++ shared) rest value ∙ append_assoc front shared (rest ++ value))
     ∙ ap (λ u. before ++ (front ++ (shared ++ (length_prefixed (drop c.args.shared_len u) ++ value)))) c.user_key.ensures.value
     ∙ ap (λ k. before ++ ((value_type_byte k.value_type ∷ varint k.seqno) ++ (shared ++ (length_prefixed (drop c.args.shared_len k.user_key) ++ value)))) c.key-key.ensures.value

@@ -24,7 +24,7 @@ returns-then-is_too_long-clause-cause g c =
     let test = ap (λ k. eqb k 0) c.requires.phase in
     let fine : is_err c.add-added.result ≡ false = sym c.is_err.ensures.value ∙ c.if-is_err.false in
     let longer = not_refused _ fine c.add-added.ensures.ok in
-    let e = ap length (longer ∙ body_more _ _ c.requires.interval_some _ _ _ _ _ _ _ _ _ _ w test c.key-key.ensures.value c.base_behind-base_key.ensures) in
+    let e = ap length (longer ∙ body_more _ _ c.requires.interval_some _ _ _ _ _ _ _ _ _ _ w test c.key-key.ensures.value c.base_after-base_key.ensures) in
     rw c.refuse-then-is_too_long.ensures.kept (long_first _ _ (open_yet _ c.if-is_some.ensures) (subst (λ n. 2 ^ 32 ≤ n) e (c.is_too_long.ensures.long c.if-is_too_long.true)))
 
 pub overflow_add-self : goal.overflow_add-self
@@ -34,7 +34,7 @@ overflow_add-self g c =
     let fine : is_err c.add-added.result ≡ false = sym c.is_err.ensures.value ∙ c.if-is_err.false in
     let longer = not_refused _ fine c.add-added.ensures.ok in
     let room = c.is_too_long.ensures.short c.if-is_too_long.false in
-    let next = written_push _ _ c.requires.interval_some _ _ _ _ _ _ _ _ _ _ _ w c.key-key.ensures.valid test c.key-key.ensures.value c.base_behind-base_key.ensures longer room in
+    let next = written_push _ _ c.requires.interval_some _ _ _ _ _ _ _ _ _ _ _ w c.key-key.ensures.valid test c.key-key.ensures.value c.base_after-base_key.ensures longer room in
     let small = count_room _ _ c.requires.interval_some _ g.Item.BlockItem.is_kind _ _ _ _ _ next in
     omega (arith, small)
 
@@ -45,7 +45,7 @@ returns-clause-sound g c =
     let fine : is_err c.add-added.result ≡ false = sym c.is_err.ensures.value ∙ c.if-is_err.false in
     let longer = not_refused _ fine c.add-added.ensures.ok in
     let room = c.is_too_long.ensures.short c.if-is_too_long.false in
-    let next = written_push _ _ c.requires.interval_some _ _ _ _ _ _ _ _ _ _ _ w c.key-key.ensures.valid test c.key-key.ensures.value c.base_behind-base_key.ensures longer room in
+    let next = written_push _ _ c.requires.interval_some _ _ _ _ _ _ _ _ _ _ _ w c.key-key.ensures.valid test c.key-key.ensures.value c.base_after-base_key.ensures longer room in
     record {
       interval_some = c.requires.interval_some;
       phase = c.next_phase-self.ensures.phase c.args.self.now.item_count c.requires.phase;
