@@ -1,12 +1,12 @@
 -- The first byte in which two words differ, by the leading zeros of their difference.
 use Rattle.std.proofs.Common.{◌≡◌, ◌≢◌, ℕ, ◌+◌, ◌*◌, ◌/◌, ◌<◌, ◌≤◌, ◌^◌, zero, suc, List, [], ◌∷◌, length, take, drop, refl, arith, sym, ap, ◌∙◌, inl, inr, subst, length-drop}
 use Rattle.std.proofs.lemmas.Bool.{eq-eqb, ne_eqb, cases_eq, cases_lt}
-use Rattle.std.proofs.lemmas.Nat.{leading_top, leading_length, xor_block, and_le_l, and_le_r, xor_lt}
+use Rattle.std.proofs.lemmas.Nat.{leading_length, xor_block, and_le_l, and_le_r, xor_lt}
 use Rattle.std.proofs.Math.Pow.{pow_mono}
 use Rattle.std.proofs.Math.Nat.{mul-le-mul_right}
-use Rattle.std.specs.Int.Bits.{bit_xor, bit_and, xor_self, xor_add_and}
+use Rattle.std.specs.Int.Bits.{bit_xor, xor_self, xor_add_and}
 use Rattle.std.specs.Int.Count.{count_leading_zeros, leading_unique}
-use Rattle.byteorder.specs.Endian.{big_number, big_from}
+use Rattle.byteorder.specs.Endian.{big_number}
 use Rattle.byteorder.specs.Numbers.{big_from-cons, big_from-lt}
 use Rattle.byteorder.proofs.Bytes.{pow256}
 use Rattle.sst_base.specs.Bytes.{IsBytes}

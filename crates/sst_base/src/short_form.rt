@@ -1,6 +1,6 @@
-//! Short forms: what is encoded in at most 128 bytes is put together in an array, part after part,
-//! and then appended to a vector at once. So the parts are copied by registers, and the vector's
-//! length is read and written once.
+//! Forms written in place: room is made at the end of a vector, the parts of a form are put there
+//! one after the other, and what is left of the room is cut off. So short parts are copied by
+//! registers, and the vector's length is not read and written for each.
 ghost use Rattle.std.specs.Prelude.{◌≡◌, ◌+◌, ◌-◌, ◌≤◌, ◌<◌, ◌++◌, ◌∷◌, [], take, drop};
 ghost use Rattle.std.specs.Prelude.{length, IfOk, OnOk};
 ghost use Rattle.sst_base.specs.Reading.{length_prefixed};
@@ -9,11 +9,11 @@ ghost use Rattle.sst_base.specs.Varint.{varint};
 use crate::error::AllocResult;
 use crate::slice::{SHORT_LEN, Slice};
 
-/// The greatest length of a short form.
-pub const SHORT_FORM_LEN: usize = 128;
+/// The room that is made for a form.
+pub const FORM_ROOM: usize = 128;
 
-/// A short form, and bytes after it that say nothing.
-pub type ShortForm = [u8; SHORT_FORM_LEN];
+/// The room that a length and a short byte string take at most.
+pub const PREFIXED_ROOM: usize = 49;
 
 // How many bytes are copied at once.
 const CHUNK_LEN: usize = 16;
@@ -21,12 +21,28 @@ const CHUNK_LEN: usize = 16;
 // The last index from which a chunk of a short byte string can be copied.
 const LAST_CHUNK: usize = SHORT_LEN - CHUNK_LEN;
 
-/// Puts a byte after the first `at` bytes, of which there are less than 128. Returns the length
-/// with it.
+/// Makes room for a form: appends 128 bytes that say nothing. Returns the length before.
+///
+/// # Errors
+///
+/// `AllocError` if an allocation fails.
 #[inline(always)]
-pub fn put_byte(form: &mut ShortForm, at: usize, byte: u8) -> usize
-    requires room { at < 128 }
+pub fn make_room(writer: &mut Vec<u8>) -> AllocResult<usize>
+    ensures start { IfOk result (λ at. at ≡ length writer.old.items) }
+    ensures bytes { IfOk result (λ at. take at writer.new.items ≡ writer.old.items) }
+    ensures room { IfOk result (λ at. length writer.new.items ≡ at + 128) }
+{
+    let at = writer.len();
+    writer.extend_from_slice(&[0u8; FORM_ROOM])?;
+    Ok(at)
+}
+
+/// Puts a byte after the first `at` bytes, where there is room. Returns the length with it.
+#[inline(always)]
+pub fn put_byte(form: &mut [u8], at: usize, byte: u8) -> usize
+    requires room { at < length form.old }
     ensures len { result ≡ at + 1 }
+    ensures same_room { length form.new ≡ length form.old }
     ensures bytes { take result form.new ≡ take at form.old ++ byte ∷ [] }
 {
     form[at] = byte;
@@ -36,10 +52,11 @@ pub fn put_byte(form: &mut ShortForm, at: usize, byte: u8) -> usize
 /// Puts the minimal encoding of a number as a varint after the first `at` bytes, where there is
 /// room for ten more. Returns the length with it.
 #[inline(always)]
-pub fn put_varint(form: &mut ShortForm, at: usize, n: u64) -> usize
-    requires room { at + 10 ≤ 128 }
+pub fn put_varint(form: &mut [u8], at: usize, n: u64) -> usize
+    requires room { at + 10 ≤ length form.old }
     ensures start { at ≤ result }
     ensures len { result ≤ at + 10 }
+    ensures same_room { length form.new ≡ length form.old }
     ensures bytes { take result form.new ≡ take at form.old ++ varint n }
 {
     let mut rest = n;
@@ -56,10 +73,11 @@ pub fn put_varint(form: &mut ShortForm, at: usize, n: u64) -> usize
 
 // Copies a chunk of a short byte string over the bytes from an index.
 #[inline(always)]
-fn put_chunk(form: &mut ShortForm, at: usize, bytes: &[u8; SHORT_LEN], from: usize)
-    requires room { at + 16 ≤ 128 }
+fn put_chunk(form: &mut [u8], at: usize, bytes: &[u8; SHORT_LEN], from: usize)
+    requires room { at + 16 ≤ length form.old }
     requires inside { from + 16 ≤ 39 }
-    ensures { form.new ≡ take at form.old
+    ensures same_room { length form.new ≡ length form.old }
+    ensures bytes { form.new ≡ take at form.old
         ++ (take 16 (drop from bytes.now) ++ drop (at + 16) form.old) }
 {
     form[at..at + CHUNK_LEN].copy_from_slice(&bytes[from..from + CHUNK_LEN]);
@@ -67,10 +85,11 @@ fn put_chunk(form: &mut ShortForm, at: usize, bytes: &[u8; SHORT_LEN], from: usi
 
 // Copies the bytes of a short byte string from an index on, in three chunks that may overlap.
 #[inline(always)]
-fn put_chunks(form: &mut ShortForm, at: usize, bytes: &[u8; SHORT_LEN], from: usize)
-    requires room { at + 39 ≤ 128 }
+fn put_chunks(form: &mut [u8], at: usize, bytes: &[u8; SHORT_LEN], from: usize)
+    requires room { at + 39 ≤ length form.old }
     requires inside { from ≤ 23 }
-    ensures { take (at + (39 - from)) form.new ≡ take at form.old ++ drop from bytes.now }
+    ensures same_room { length form.new ≡ length form.old }
+    ensures bytes { take (at + (39 - from)) form.new ≡ take at form.old ++ drop from bytes.now }
 {
     let second = (from + CHUNK_LEN).min(LAST_CHUNK);
     put_chunk(form, at, bytes, from);
@@ -81,17 +100,12 @@ fn put_chunks(form: &mut ShortForm, at: usize, bytes: &[u8; SHORT_LEN], from: us
 // Puts the bytes `from..len` of a short byte string after the first `at` bytes, where there is room
 // for 39 more. Returns the length with them.
 #[inline(always)]
-fn put_part(
-    form: &mut ShortForm,
-    at: usize,
-    bytes: &[u8; SHORT_LEN],
-    from: usize,
-    len: usize,
-) -> usize
-    requires room { at + 39 ≤ 128 }
+fn put_part(form: &mut [u8], at: usize, bytes: &[u8; SHORT_LEN], from: usize, len: usize) -> usize
+    requires room { at + 39 ≤ length form.old }
     requires order { from ≤ len }
     requires inside { len ≤ 39 }
     ensures len { result ≡ at + (len - from) }
+    ensures same_room { length form.new ≡ length form.old }
     ensures bytes { take result form.new
         ≡ take at form.old ++ take (len - from) (drop from bytes.now) }
 {
@@ -104,57 +118,61 @@ fn put_part(
     end
 }
 
-// Appends what was put, and the rest of a byte string from an index on with its length before it.
-#[cold]
+// Puts the length of a long byte string from an index on after the first `at` bytes, where there
+// is room for ten more, appends the string, and makes room for `more` bytes. Returns the length
+// with the string.
 #[inline(never)]
-fn push_long(
+fn put_long(
     writer: &mut Vec<u8>,
-    form: &mut ShortForm,
     at: usize,
     bytes: &Slice,
     from: usize,
-) -> AllocResult<()>
-    requires room { at + 10 ≤ 128 }
+    more: usize,
+) -> AllocResult<usize>
+    requires room { at + 10 ≤ length writer.old.items }
     requires inside { from ≤ length bytes.now }
-    ensures { OnOk result (writer.new.items
-        ≡ writer.old.items ++ (take at form.old ++ length_prefixed (drop from bytes.now))) }
+    requires few { more ≤ 128 }
+    ensures bytes { IfOk result (λ end. take end writer.new.items
+        ≡ take at writer.old.items ++ length_prefixed (drop from bytes.now)) }
+    ensures room { IfOk result (λ end. end + more ≤ length writer.new.items) }
 {
     let (_, rest) = bytes.as_slice().split_at(from);
-    let end = put_varint(form, at, rest.len() as u64);
-    writer.extend_from_slice(&form[..end])?;
-    writer.extend_from_slice(rest)
+    let len = put_varint(writer.as_mut_slice(), at, rest.len() as u64);
+    writer.truncate(len);
+    writer.extend_from_slice(rest)?;
+    let end = writer.len();
+    writer.resize(end + more, 0)?;
+    Ok(end)
 }
 
 /// Puts the rest of a byte string, from an index on, with its length as a varint before it, after
-/// the first `at` bytes of a form, where there is room for 49 more. The rest of a long one is
-/// appended to the vector, after what was put before. Returns how many bytes are put and have
-/// still to be appended.
+/// the first `at` bytes, where there is room for 49 and `more` bytes. Returns the length with it,
+/// after which there is room for `more` bytes. The rest of a long string may move the vector.
 ///
 /// # Errors
 ///
-/// `AllocError` if an allocation fails. The vector may then hold a partial write.
+/// `AllocError` if an allocation fails.
 #[inline(always)]
 pub fn put_length_prefixed(
     writer: &mut Vec<u8>,
-    form: &mut ShortForm,
     at: usize,
     bytes: &Slice,
     from: usize,
+    more: usize,
 ) -> AllocResult<usize>
-    requires room { at + 49 ≤ 128 }
+    requires room { at + 49 + more ≤ length writer.old.items }
     requires inside { from ≤ length bytes.now }
-    ensures ok { IfOk result (λ end. writer.new.items ++ take end form.new
-        ≡ writer.old.items ++ (take at form.old ++ length_prefixed (drop from bytes.now))) }
-    ensures len { IfOk result (λ end. end ≤ at + 49) }
+    requires few { more ≤ 128 }
+    ensures bytes { IfOk result (λ end. take end writer.new.items
+        ≡ take at writer.old.items ++ length_prefixed (drop from bytes.now)) }
+    ensures room { IfOk result (λ end. end + more ≤ length writer.new.items) }
 {
     match bytes.as_short() {
         Some((short, len)) => {
+            let form = writer.as_mut_slice();
             let at = put_varint(form, at, (len - from) as u64);
             Ok(put_part(form, at, short, from, len))
         }
-        None => {
-            push_long(writer, form, at, bytes, from)?;
-            Ok(0)
-        }
+        None => put_long(writer, at, bytes, from, more),
     }
 }

@@ -3,4 +3,3 @@ pub mod Written
 pub mod Endings
 pub mod PointerOrders
 pub mod BucketWrites
-pub mod Parts

@@ -1,12 +1,12 @@
 //! Entries as items of a block: how they are encoded.
-ghost use Rattle.std.specs.Prelude.{◌≡◌, ◌+◌, ◌≤◌, ◌++◌, ◌∷◌, take, IfOk};
+ghost use Rattle.std.specs.Prelude.{◌≡◌, ◌+◌, ◌≤◌, ◌++◌, ◌∷◌, take, length, IfOk};
 ghost use Rattle.sst_base.specs.ValueType.{value_type_byte};
 ghost use Rattle.sst_base.specs.Varint.{varint};
 ghost use Rattle.sst_block_core.specs.Entries.{value_part};
 
 use crate::block_item::BlockItem;
 use crate::table::block::Encodable;
-use sst_base::short_form::{SHORT_FORM_LEN, ShortForm, put_byte, put_length_prefixed, put_varint};
+use sst_base::short_form::{PREFIXED_ROOM, make_room, put_byte, put_length_prefixed, put_varint};
 use sst_base::{AllocResult, InternalKey, InternalValue, ValueType};
 
 impl BlockItem for InternalValue {
@@ -21,37 +21,33 @@ impl BlockItem for InternalValue {
     ghost is_kind = { IsKind-entries };
 }
 
-// Puts the type and the sequence number of an entry at the start of a form. Returns their length.
+// Puts the type and the sequence number of an entry after the first `at` bytes, where there is room
+// for them. Returns the length with them.
 #[inline(always)]
-fn put_fields(form: &mut ShortForm, key: &InternalKey) -> usize
-    ensures len { result ≤ 11 }
+fn put_fields(form: &mut [u8], at: usize, key: &InternalKey) -> usize
+    requires room { at + 11 ≤ length form.old }
+    ensures len { result ≤ at + 11 }
+    ensures same_room { length form.new ≡ length form.old }
     ensures bytes { take result form.new
-        ≡ value_type_byte key.now.value_type ∷ varint key.now.seqno }
+        ≡ take at form.old ++ value_type_byte key.now.value_type ∷ varint key.now.seqno }
 {
-    let len = put_byte(form, 0, u8::from(key.value_type()));
-    put_varint(form, len, key.seqno())
+    let at = put_byte(form, at, u8::from(key.value_type()));
+    put_varint(form, at, key.seqno())
 }
 
-// Puts the value part of an entry after the first `at` bytes of a form: nothing for a tombstone.
-// What is long is appended, after what was put before. Returns how many bytes are put and have
-// still to be appended.
+// Puts the value part of an entry after the first `at` bytes: nothing for a tombstone. Returns the
+// length with it.
 #[inline(always)]
-fn put_value(
-    writer: &mut Vec<u8>,
-    form: &mut ShortForm,
-    at: usize,
-    item: &InternalValue,
-) -> AllocResult<usize>
-    requires { at + 49 ≤ 128 }
-    ensures ok { IfOk result (λ end. writer.new.items ++ take end form.new
-        ≡ writer.old.items
-        ++ (take at form.old ++ value_part item.now.key.value_type item.now.value)) }
-    ensures len { IfOk result (λ end. end ≤ 128) }
+fn put_value(writer: &mut Vec<u8>, at: usize, item: &InternalValue) -> AllocResult<usize>
+    requires { at + 49 ≤ length writer.old.items }
+    ensures bytes { IfOk result (λ end. take end writer.new.items
+        ≡ take at writer.old.items ++ value_part item.now.key.value_type item.now.value) }
+    ensures inside { IfOk result (λ end. end ≤ length writer.new.items) }
 {
     match item.key().value_type() {
         ValueType::Tombstone | ValueType::WeakTombstone => Ok(at),
         ValueType::Value | ValueType::Indirection => {
-            put_length_prefixed(writer, form, at, item.value(), 0)
+            put_length_prefixed(writer, at, item.value(), 0, 0)
         }
     }
 }
@@ -73,23 +69,23 @@ impl Encodable for InternalValue {
     #[tactic(auto, unfolding(crate::specs::Entries::full))]
     fn push_full(&self, writer: &mut Vec<u8>) -> AllocResult<()> {
         let key = InternalValue::key(self);
-        let mut form = [0u8; SHORT_FORM_LEN];
-        let len = put_fields(&mut form, key);
-        let len = put_length_prefixed(writer, &mut form, len, key.user_key(), 0)?;
-        let len = put_value(writer, &mut form, len, self)?;
-        writer.extend_from_slice(&form[..len])?;
+        let at = make_room(writer)?;
+        let at = put_fields(writer.as_mut_slice(), at, key);
+        let at = put_length_prefixed(writer, at, key.user_key(), 0, PREFIXED_ROOM)?;
+        let end = put_value(writer, at, self)?;
+        writer.truncate(end);
         Ok(())
     }
 
     #[tactic(auto, unfolding(crate::specs::Entries::truncated))]
     fn push_truncated(&self, writer: &mut Vec<u8>, shared_len: usize) -> AllocResult<()> {
         let key = InternalValue::key(self);
-        let mut form = [0u8; SHORT_FORM_LEN];
-        let len = put_fields(&mut form, key);
-        let len = put_varint(&mut form, len, shared_len as u64);
-        let len = put_length_prefixed(writer, &mut form, len, key.user_key(), shared_len)?;
-        let len = put_value(writer, &mut form, len, self)?;
-        writer.extend_from_slice(&form[..len])?;
+        let at = make_room(writer)?;
+        let at = put_fields(writer.as_mut_slice(), at, key);
+        let at = put_varint(writer.as_mut_slice(), at, shared_len as u64);
+        let at = put_length_prefixed(writer, at, key.user_key(), shared_len, PREFIXED_ROOM)?;
+        let end = put_value(writer, at, self)?;
+        writer.truncate(end);
         Ok(())
     }
 }

@@ -1,10 +1,10 @@
 //! Handles as items of a block: how they are encoded.
-ghost use Rattle.std.specs.Prelude.{◌≡◌, ◌≤◌, take};
+ghost use Rattle.std.specs.Prelude.{◌≡◌, ◌+◌, ◌≤◌, ◌++◌, take, length};
 ghost use Rattle.sst_block_kinds.specs.Handles.{fields, fields_of};
 
 use crate::table::index_block::block_handle::KeyedBlockHandle;
 use sst_base::AllocResult;
-use sst_base::short_form::{SHORT_FORM_LEN, ShortForm, put_byte, put_length_prefixed, put_varint};
+use sst_base::short_form::{make_room, put_byte, put_length_prefixed, put_varint};
 use sst_block_core::BlockItem;
 use sst_block_core::table::block::Encodable;
 
@@ -22,17 +22,20 @@ impl BlockItem for KeyedBlockHandle {
     ghost is_kind = { IsKind-handles };
 }
 
-// Puts what precedes an end key at the start of a form. Returns its length.
+// Puts what precedes an end key after the first `at` bytes, where there is room for it. Returns the
+// length with it.
 #[inline(always)]
 #[tactic(auto, unfolding(crate::specs::Handles::fields))]
-fn put_fields(form: &mut ShortForm, item: &KeyedBlockHandle) -> usize
-    ensures len { result ≤ 31 }
-    ensures bytes { take result form.new ≡ fields (fields_of item.now) }
+fn put_fields(form: &mut [u8], at: usize, item: &KeyedBlockHandle) -> usize
+    requires room { at + 31 ≤ length form.old }
+    ensures len { result ≤ at + 31 }
+    ensures same_room { length form.new ≡ length form.old }
+    ensures bytes { take result form.new ≡ take at form.old ++ fields (fields_of item.now) }
 {
-    let len = put_byte(form, 0, HANDLE_MARKER);
-    let len = put_varint(form, len, *item.offset());
-    let len = put_varint(form, len, u64::from(item.size()));
-    put_varint(form, len, item.seqno())
+    let at = put_byte(form, at, HANDLE_MARKER);
+    let at = put_varint(form, at, *item.offset());
+    let at = put_varint(form, at, u64::from(item.size()));
+    put_varint(form, at, item.seqno())
 }
 
 /// The forms of a handle.
@@ -48,20 +51,20 @@ impl Encodable for KeyedBlockHandle {
 
     #[tactic(auto, unfolding(crate::specs::Handles::full))]
     fn push_full(&self, writer: &mut Vec<u8>) -> AllocResult<()> {
-        let mut form = [0u8; SHORT_FORM_LEN];
-        let len = put_fields(&mut form, self);
-        let len = put_length_prefixed(writer, &mut form, len, self.end_key(), 0)?;
-        writer.extend_from_slice(&form[..len])?;
+        let at = make_room(writer)?;
+        let at = put_fields(writer.as_mut_slice(), at, self);
+        let end = put_length_prefixed(writer, at, self.end_key(), 0, 0)?;
+        writer.truncate(end);
         Ok(())
     }
 
     #[tactic(auto, unfolding(crate::specs::Handles::truncated))]
     fn push_truncated(&self, writer: &mut Vec<u8>, shared_len: usize) -> AllocResult<()> {
-        let mut form = [0u8; SHORT_FORM_LEN];
-        let len = put_fields(&mut form, self);
-        let len = put_varint(&mut form, len, shared_len as u64);
-        let len = put_length_prefixed(writer, &mut form, len, self.end_key(), shared_len)?;
-        writer.extend_from_slice(&form[..len])?;
+        let at = make_room(writer)?;
+        let at = put_fields(writer.as_mut_slice(), at, self);
+        let at = put_varint(writer.as_mut_slice(), at, shared_len as u64);
+        let end = put_length_prefixed(writer, at, self.end_key(), shared_len, 0)?;
+        writer.truncate(end);
         Ok(())
     }
 }
