@@ -1,6 +1,6 @@
 pub mod Shared
 pub mod FirstDifference
-pub mod ShortForms
+pub mod InPlace
 pub mod Joined
 pub mod Polynomials
 pub mod Fours

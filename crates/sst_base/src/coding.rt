@@ -11,6 +11,7 @@ ghost use Rattle.sst_base.specs.Varint.{IsVarint, IsWidth, varint, varint_up_to}
 ghost use Rattle.sst_base.specs.Varint.{varint_at};
 
 use crate::error::{Error, Result};
+use crate::in_place::put_varint;
 use crate::input::Input;
 use std::alloc::Global;
 use std::io::Write;
@@ -59,61 +60,14 @@ pub trait Decode: Sized {
 /// The greatest number of bytes that a varint takes.
 pub const MAX_VARINT_LEN: usize = 10;
 
-// Appends a varint of any length to a vector with room for the longest. It puts each digit in its
-// place: over `varint_digits`, they would be written twice.
-#[inline(always)]
-fn push_digits(out: &mut Vec<u8>, n: u64)
-    requires { vec_len out.old + 10 ≤ vec_capacity out.old }
-    ensures ok { out.new.items ≡ out.old.items ++ varint n }
-    ensures len { vec_len out.new ≤ vec_len out.old + 10 }
-    ensures capacity { vec_capacity out.new ≡ vec_capacity out.old }
-{
-    let mut rest = n;
-    for i in 0..9usize {
-        if rest < 128 {
-            out.push_reserved(rest as u8);
-            return;
-        }
-        out.push_reserved((rest % 128) as u8 + 128);
-        rest /= 128;
-    }
-    out.push_reserved(rest as u8);
-}
-
-/// Appends the minimal encoding of a number as a varint to a vector with room for 10 more bytes.
-#[inline(always)]
-#[tactic(auto, using(crate::specs::VarintLaws::varint_small))]
-pub fn push_varint_reserved(out: &mut Vec<u8>, n: u64)
-    requires { vec_len out.old + 10 ≤ vec_capacity out.old }
-    ensures ok { out.new.items ≡ out.old.items ++ varint n }
-    ensures len { vec_len out.new ≤ vec_len out.old + 10 }
-    ensures capacity { vec_capacity out.new ≡ vec_capacity out.old }
-{
-    if n < 128 {
-        out.push_reserved(n as u8);
-    } else {
-        push_digits(out, n);
-    }
-}
-
-// The varint of a number, and how many bytes it takes: for writers of bytes, to which a varint is
-// written whole. It has no vector for `push_digits`, and takes no memory.
+// The varint of a number, and how many bytes it takes. Takes no memory.
 pub(crate) fn varint_digits(n: u64) -> ([u8; MAX_VARINT_LEN], usize)
     ensures len { result.1 ≤ 10 }
     ensures bytes { take result.1 result.0 ≡ varint n }
 {
     let mut digits = [0u8; MAX_VARINT_LEN];
-    let mut rest = n;
-    for i in 0..9usize {
-        if rest < 128 {
-            digits[i] = rest as u8;
-            return (digits, i + 1);
-        }
-        digits[i] = (rest % 128) as u8 + 128;
-        rest /= 128;
-    }
-    digits[9] = rest as u8;
-    (digits, MAX_VARINT_LEN)
+    let len = put_varint(&mut digits, 0, n);
+    (digits, len)
 }
 
 /// Appends the minimal encoding of a number as a varint. On an error the vector is unchanged.
@@ -126,8 +80,8 @@ pub fn encode_varint(out: &mut Vec<u8>, n: u64) -> Result<()>
     ensures memory { IsOkUnless result Error.Memory }
     ensures unchanged { OnErr result (out.new.items ≡ out.old.items) }
 {
-    out.reserve(MAX_VARINT_LEN)?;
-    push_varint_reserved(out, n);
+    let (digits, len) = varint_digits(n);
+    out.extend_from_slice(&digits[..len])?;
     Ok(())
 }
 

@@ -6,7 +6,7 @@ ghost use Rattle.sst_block_core.specs.Entries.{value_part};
 
 use crate::block_item::BlockItem;
 use crate::table::block::Encodable;
-use sst_base::short_form::{PREFIXED_ROOM, make_room, put_byte, put_length_prefixed, put_varint};
+use sst_base::in_place::{PREFIXED_ROOM, make_room, put_byte, put_length_prefixed, put_varint};
 use sst_base::{AllocResult, InternalKey, InternalValue, ValueType};
 
 impl BlockItem for InternalValue {

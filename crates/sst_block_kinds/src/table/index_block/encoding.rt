@@ -4,7 +4,7 @@ ghost use Rattle.sst_block_kinds.specs.Handles.{fields, fields_of};
 
 use crate::table::index_block::block_handle::KeyedBlockHandle;
 use sst_base::AllocResult;
-use sst_base::short_form::{make_room, put_byte, put_length_prefixed, put_varint};
+use sst_base::in_place::{make_room, put_byte, put_length_prefixed, put_varint};
 use sst_block_core::BlockItem;
 use sst_block_core::table::block::Encodable;
 

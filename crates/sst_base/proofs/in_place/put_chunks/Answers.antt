@@ -1,5 +1,5 @@
-use Rattle.sst_base.proofs.ShortForms.{three_put}
-use Rattle.sst_base.proofs.short_form.put_chunks.Goals as goal
+use Rattle.sst_base.proofs.InPlace.{three_put}
+use Rattle.sst_base.proofs.in_place.put_chunks.Goals as goal
 
 pub returns-clause-bytes : goal.returns-clause-bytes
 returns-clause-bytes c = three_put c.args.bytes.now c.args.form.now c.put_chunk.new.form c.put_chunk-2.new.form c.put_chunk-3.new.form _ _ _ c.args.at c.args.from c.min-second.result

@@ -1,7 +1,7 @@
 use Rattle.std.proofs.Common.{◌≡◌, ◌+◌, ◌-◌, ◌/◌, ◌<◌, ◌∙◌, ◌++◌, arith, ap}
 use Rattle.sst_base.specs.Varint.{varint, varint_within}
 use Rattle.sst_base.specs.VarintLaws.{less_room, digit_pushed, last_pushed}
-use Rattle.sst_base.proofs.short_form.put_varint.Goals as goal
+use Rattle.sst_base.proofs.in_place.put_varint.Goals as goal
 
 pub loop-i-preserved : goal.loop-i-preserved
 loop-i-preserved c = record {

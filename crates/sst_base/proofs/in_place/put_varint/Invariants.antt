@@ -1,6 +1,6 @@
 use Rattle.std.proofs.Common.{◌≡◌, ◌+◌, ◌-◌, ◌*◌, ◌^◌, ◌<◌, ◌++◌, take}
 use Rattle.sst_base.specs.Varint.{varint_within}
-use Rattle.sst_base.proofs.short_form.put_varint.Given as goal
+use Rattle.sst_base.proofs.in_place.put_varint.Given as goal
 
 abbrev pub invariant-loop-i : goal.invariant-loop-i
 invariant-loop-i l = record {
