@@ -15,26 +15,43 @@ pub const FORM_ROOM: usize = 128;
 /// The room that a length and a short byte string take at most.
 pub const PREFIXED_ROOM: usize = 49;
 
+// How much room beside that of some forms is made at most.
+const MOST_ROOM: usize = 1 << 20;
+
 // How many bytes are copied at once.
 const CHUNK_LEN: usize = 16;
 
 // The last index from which a chunk of a short byte string can be copied.
 const LAST_CHUNK: usize = SHORT_LEN - CHUNK_LEN;
 
-/// Makes room for a form: appends 128 bytes that say nothing. Returns the length before.
+// Makes the vector longer by bytes that say nothing: room for some forms, and as many as it has, at
+// most a mebibyte, so that this is done seldom.
+#[cold]
+#[inline(never)]
+fn add_room(writer: &mut Vec<u8>) -> AllocResult<()>
+    ensures bytes { OnOk result
+        (take (length writer.old.items) writer.new.items ≡ writer.old.items) }
+    ensures room { OnOk result (length writer.old.items + 128 ≤ length writer.new.items) }
+{
+    let len = writer.len();
+    writer.resize(len + len.min(MOST_ROOM) + 4 * FORM_ROOM, 0)
+}
+
+/// Makes room for a form after the first `at` bytes: what follows them says nothing.
 ///
 /// # Errors
 ///
 /// `AllocError` if an allocation fails.
 #[inline(always)]
-pub fn make_room(writer: &mut Vec<u8>) -> AllocResult<usize>
-    ensures start { IfOk result (λ at. at ≡ length writer.old.items) }
-    ensures bytes { IfOk result (λ at. take at writer.new.items ≡ writer.old.items) }
-    ensures room { IfOk result (λ at. length writer.new.items ≡ at + 128) }
+pub fn make_room(writer: &mut Vec<u8>, at: usize) -> AllocResult<()>
+    requires { at ≤ length writer.old.items }
+    ensures bytes { OnOk result (take at writer.new.items ≡ take at writer.old.items) }
+    ensures room { OnOk result (at + 128 ≤ length writer.new.items) }
 {
-    let at = writer.len();
-    writer.extend_from_slice(&[0u8; FORM_ROOM])?;
-    Ok(at)
+    if writer.len() - at >= FORM_ROOM {
+        return Ok(());
+    }
+    add_room(writer)
 }
 
 /// Puts a byte after the first `at` bytes, where there is room. Returns the length with it.
@@ -71,7 +88,19 @@ pub fn put_varint(form: &mut [u8], at: usize, n: u64) -> usize
     put_byte(form, end, rest as u8)
 }
 
-// Copies a chunk of a short byte string over the bytes from an index.
+// The chunk of a short byte string at an index.
+#[inline(always)]
+fn chunk_at(bytes: &[u8; SHORT_LEN], from: usize) -> [u8; CHUNK_LEN]
+    requires { from + 16 ≤ 39 }
+    ensures { result ≡ take 16 (drop from bytes.now) }
+{
+    let mut chunk = [0u8; CHUNK_LEN];
+    chunk.copy_from_slice(&bytes[from..from + CHUNK_LEN]);
+    chunk
+}
+
+// Copies a chunk of a short byte string over the bytes from an index. It passes through registers,
+// so whether the two overlap is not tested.
 #[inline(always)]
 fn put_chunk(form: &mut [u8], at: usize, bytes: &[u8; SHORT_LEN], from: usize)
     requires room { at + 16 ≤ length form.old }
@@ -80,7 +109,8 @@ fn put_chunk(form: &mut [u8], at: usize, bytes: &[u8; SHORT_LEN], from: usize)
     ensures bytes { form.new ≡ take at form.old
         ++ (take 16 (drop from bytes.now) ++ drop (at + 16) form.old) }
 {
-    form[at..at + CHUNK_LEN].copy_from_slice(&bytes[from..from + CHUNK_LEN]);
+    let chunk = chunk_at(bytes, from);
+    form[at..at + CHUNK_LEN].copy_from_slice(&chunk);
 }
 
 // Copies the bytes of a short byte string from an index on, in three chunks that may overlap.

@@ -66,26 +66,29 @@ impl Encodable for InternalValue {
         InternalValue::key(self).user_key().as_slice()
     }
 
+    #[inline(always)]
     #[tactic(auto, unfolding(crate::specs::Entries::full))]
-    fn push_full(&self, writer: &mut Vec<u8>) -> AllocResult<()> {
+    fn put_full(&self, writer: &mut Vec<u8>, at: usize) -> AllocResult<usize> {
         let key = InternalValue::key(self);
-        let at = make_room(writer)?;
+        make_room(writer, at)?;
         let at = put_fields(writer.as_mut_slice(), at, key);
         let at = put_length_prefixed(writer, at, key.user_key(), 0, PREFIXED_ROOM)?;
-        let end = put_value(writer, at, self)?;
-        writer.truncate(end);
-        Ok(())
+        put_value(writer, at, self)
     }
 
+    #[inline(always)]
     #[tactic(auto, unfolding(crate::specs::Entries::truncated))]
-    fn push_truncated(&self, writer: &mut Vec<u8>, shared_len: usize) -> AllocResult<()> {
+    fn put_truncated(
+        &self,
+        writer: &mut Vec<u8>,
+        at: usize,
+        shared_len: usize,
+    ) -> AllocResult<usize> {
         let key = InternalValue::key(self);
-        let at = make_room(writer)?;
+        make_room(writer, at)?;
         let at = put_fields(writer.as_mut_slice(), at, key);
         let at = put_varint(writer.as_mut_slice(), at, shared_len as u64);
         let at = put_length_prefixed(writer, at, key.user_key(), shared_len, PREFIXED_ROOM)?;
-        let end = put_value(writer, at, self)?;
-        writer.truncate(end);
-        Ok(())
+        put_value(writer, at, self)
     }
 }

@@ -49,22 +49,25 @@ impl Encodable for KeyedBlockHandle {
         self.end_key().as_slice()
     }
 
+    #[inline(always)]
     #[tactic(auto, unfolding(crate::specs::Handles::full))]
-    fn push_full(&self, writer: &mut Vec<u8>) -> AllocResult<()> {
-        let at = make_room(writer)?;
+    fn put_full(&self, writer: &mut Vec<u8>, at: usize) -> AllocResult<usize> {
+        make_room(writer, at)?;
         let at = put_fields(writer.as_mut_slice(), at, self);
-        let end = put_length_prefixed(writer, at, self.end_key(), 0, 0)?;
-        writer.truncate(end);
-        Ok(())
+        put_length_prefixed(writer, at, self.end_key(), 0, 0)
     }
 
+    #[inline(always)]
     #[tactic(auto, unfolding(crate::specs::Handles::truncated))]
-    fn push_truncated(&self, writer: &mut Vec<u8>, shared_len: usize) -> AllocResult<()> {
-        let at = make_room(writer)?;
+    fn put_truncated(
+        &self,
+        writer: &mut Vec<u8>,
+        at: usize,
+        shared_len: usize,
+    ) -> AllocResult<usize> {
+        make_room(writer, at)?;
         let at = put_fields(writer.as_mut_slice(), at, self);
         let at = put_varint(writer.as_mut_slice(), at, shared_len as u64);
-        let end = put_length_prefixed(writer, at, self.end_key(), shared_len, 0)?;
-        writer.truncate(end);
-        Ok(())
+        put_length_prefixed(writer, at, self.end_key(), shared_len, 0)
     }
 }
