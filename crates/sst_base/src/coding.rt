@@ -137,6 +137,19 @@ fn decode_long(bytes: &[u8], bits: u32) -> (u64, usize)
     }
 }
 
+// The result of `decode_long` as an `Option`, apart from the cases of `decode_short`.
+#[inline(always)]
+fn decode_by_long(bytes: &[u8], bits: u32) -> Option<(u64, usize)>
+    requires { IsWidth bits }
+    ensures { result ≡ varint_at bits bytes.now }
+{
+    let (n, len) = decode_long(bytes, bits);
+    if len == 0 {
+        return None;
+    }
+    Some((n, len))
+}
+
 // Decodes a varint: of up to four bytes inline, with one test of length, where four bytes are
 // there; else out of line. Its one clause is the definition, from which `decode_varint` derives
 // its own.
@@ -160,10 +173,7 @@ fn decode_short(bytes: &[u8], bits: u32) -> Option<(u64, usize)>
             let low = low + 16384 * u64::from(*c - 128);
             Some((low + 2_097_152 * u64::from(*d), 4))
         }
-        _ => match decode_long(bytes, bits) {
-            (_, 0) => None,
-            found => Some(found),
-        },
+        _ => decode_by_long(bytes, bits),
     }
 }
 
