@@ -15,7 +15,7 @@ ghost use Rattle.sst_block_core.specs.Payload.{IsBlock};
 ghost use Rattle.sst_block_core.specs.Stages.{HasIndexes};
 ghost use Rattle.sst_block_core.specs.Trailer.{trailer_in};
 ghost use Rattle.sst_block_core.specs.Heads.{IsTableOf, listed_in};
-ghost use Rattle.sst_block_core.specs.Encoders.{IsRefusal};
+ghost use Rattle.sst_block_core.specs.Encoders.{IsRefusal, IsBlockPayload};
 ghost use Rattle.sst_block_kinds.specs.PointReads.{read_least, read_most};
 ghost use Rattle.sst_block_core.specs.Window.{whole, first_match};
 ghost use Rattle.sst_block_kinds.specs.DataBlock.{block_of, data_block_of};
@@ -123,13 +123,12 @@ impl<H: BlockHash> DataBlock<H> {
         requires ordered { IsOrdered entries items.now }
         requires interval { 1 ≤ restart_interval }
         requires den { 1 ≤ ratio.den }
-        ensures payload { OnOk result (writer.new.items
-            ≡ data_payload H.hash64 items.now restart_interval
-            (bucket_count ratio.num ratio.den (length items.now))) }
-        ensures block { OnOk result
+        ensures written { OnOk result (IsBlockPayload
             (IsBlock entries IsEntry H.hash64 writer.new.items items.now restart_interval
-            (bucket_count ratio.num ratio.den (length items.now))) }
-        ensures fits { OnOk result (length writer.new.items < 2 ^ 32) }
+            (bucket_count ratio.num ratio.den (length items.now)))
+            (data_payload H.hash64 items.now restart_interval
+            (bucket_count ratio.num ratio.den (length items.now)))
+            writer.new.items) }
         ensures empty { OnErr result (writer.new.items ≡ []) }
         ensures cause { IfErr result (IsRefusal None
             (2 ^ 32
