@@ -148,9 +148,39 @@ fn put_part(form: &mut [u8], at: usize, bytes: &[u8; SHORT_LEN], from: usize, le
     end
 }
 
+// Puts a byte string after the first `at` bytes, where there is room for it. Returns the length
+// with it.
+fn put_bytes(form: &mut [u8], at: usize, bytes: &[u8]) -> usize
+    requires { at + length bytes.now ≤ length form.old }
+    ensures len { result ≡ at + length bytes.now }
+    ensures same_room { length form.new ≡ length form.old }
+    ensures bytes { take result form.new ≡ take at form.old ++ bytes.now }
+{
+    let end = at + bytes.len();
+    form[at..end].copy_from_slice(bytes);
+    end
+}
+
+// Appends a byte string after the first `at` bytes, and makes room for a form. Returns the length
+// with it.
+#[cold]
+#[inline(never)]
+fn append_long(writer: &mut Vec<u8>, at: usize, bytes: &[u8]) -> AllocResult<usize>
+    requires { at ≤ length writer.old.items }
+    ensures bytes { IfOk result
+        (λ end. take end writer.new.items ≡ take at writer.old.items ++ bytes.now) }
+    ensures room { IfOk result (λ end. end + 128 ≤ length writer.new.items) }
+{
+    writer.truncate(at);
+    writer.extend_from_slice(bytes)?;
+    let end = writer.len();
+    add_room(writer)?;
+    Ok(end)
+}
+
 // Puts the length of a long byte string from an index on after the first `at` bytes, where there
-// is room for ten more, appends the string, and makes room for `more` bytes. Returns the length
-// with the string.
+// is room for ten more, and the string, in place where there is room for it and for `more` bytes.
+// Returns the length with the string, after which there is room for `more` bytes.
 #[inline(never)]
 fn put_long(
     writer: &mut Vec<u8>,
@@ -167,12 +197,11 @@ fn put_long(
     ensures room { IfOk result (λ end. end + more ≤ length writer.new.items) }
 {
     let (_, rest) = bytes.as_slice().split_at(from);
-    let len = put_varint(writer.as_mut_slice(), at, rest.len() as u64);
-    writer.truncate(len);
-    writer.extend_from_slice(rest)?;
-    let end = writer.len();
-    writer.resize(end + more, 0)?;
-    Ok(end)
+    let at = put_varint(writer.as_mut_slice(), at, rest.len() as u64);
+    if writer.len() - at < rest.len() + more {
+        return append_long(writer, at, rest);
+    }
+    Ok(put_bytes(writer.as_mut_slice(), at, rest))
 }
 
 /// Puts the rest of a byte string, from an index on, with its length as a varint before it, after
