@@ -150,6 +150,7 @@ fn put_part(form: &mut [u8], at: usize, bytes: &[u8; SHORT_LEN], from: usize, le
 
 // Puts a byte string after the first `at` bytes, where there is room for it. Returns the length
 // with it.
+#[inline(always)]
 fn put_bytes(form: &mut [u8], at: usize, bytes: &[u8]) -> usize
     requires { at + length bytes.now ≤ length form.old }
     ensures len { result ≡ at + length bytes.now }
@@ -181,7 +182,7 @@ fn append_long(writer: &mut Vec<u8>, at: usize, bytes: &[u8]) -> AllocResult<usi
 // Puts the length of a long byte string from an index on after the first `at` bytes, where there
 // is room for ten more, and the string, in place where there is room for it and for `more` bytes.
 // Returns the length with the string, after which there is room for `more` bytes.
-#[inline(never)]
+#[inline(always)]
 fn put_long(
     writer: &mut Vec<u8>,
     at: usize,
