@@ -12,3 +12,4 @@ pub mod ReadCosts
 pub mod Writing
 pub mod RunReading
 pub mod Sources
+pub mod Sound

@@ -1,5 +1,5 @@
 -- How a clause says that a call over a source of frames answers exactly this, where an allocation or the source may fail.
-use Rattle.std.specs.Prelude.{◌≡◌, ◌≢◌, ◌⊎◌, ◌≤◌, ℕ, Option, None, Some, Result, Ok, Err, List, ◌+◌}
+use Rattle.std.specs.Prelude.{◌≡◌, ◌≢◌, ◌⊎◌, ◌≤◌, ℕ, Option, None, Some, Result, Ok, Err, List}
 use Rattle.sst_base.specs.BlockHandle.{HandleParts}
 use Rattle.sst_base.specs.declared.error.Error.{Error}
 use Rattle.sst_base.specs.declared.error.Error.TheVariants.{Memory, Io, BadHandle}

@@ -10,16 +10,15 @@ ghost use Rattle.sst_block_kinds.specs.Handles.{Handle};
 ghost use Rattle.sst_block_core.specs.Window.{first_match};
 ghost use Rattle.sstable_blocks.specs.Blocks.{joined};
 ghost use Rattle.sstable_blocks.specs.Opened.{range_of};
-ghost use Rattle.sstable_blocks.specs.Run.{form, IsLayout};
 ghost use Rattle.sstable_blocks.specs.RunReading.{hashes, payload_at, filter_says, filter_answer};
 ghost use Rattle.sstable_blocks.specs.RunReading.{read_block};
 ghost use Rattle.sst_block_kinds.specs.Checks.{data_check, index_check};
 ghost use Rattle.sstable_blocks.specs.RunReading.{read_blocks, read_checked, AnswerMeans};
+ghost use Rattle.sstable_blocks.specs.Sound.{IsSound};
 ghost use Rattle.sstable_blocks.specs.Sources.{GivesOr, KeepsSource, filter_frames};
-ghost use Rattle.sstable_blocks.specs.declared.run.RunConfig.{RunConfig};
 
 use super::RunHandles;
-use super::laws::{checked_answer_means, layout_is_read};
+use super::laws::{checked_answer_means, sound_is_read};
 use super::read::find_handle;
 use super::source::FrameSource;
 use crate::table::filter::FilterBlock;
@@ -203,13 +202,13 @@ pub fn read_entry_checked<H: BlockHash, S: FrameSource>(
     ensures means { IfSome (S.bytes source.old)
         (λ all. IfOk result
         (AnswerMeans (hashes H.hash64 H.hash128) all handles.now needle.now seqno)) }
-    ensures layout { IfSome (S.bytes source.old)
-        (λ all. (config : RunConfig) (blocks : List (List Entry))
-        → IsLayout (form H.hash64 H.hash128 config) blocks all handles.now
+    ensures sound { IfSome (S.bytes source.old)
+        (λ all. (blocks : List (List Entry))
+        → IsSound (hashes H.hash64 H.hash128) blocks all handles.now
         → IfOk result
         (λ found. found ≡ first_match entries needle.now seqno (joined blocks))) }
 {
     checked_answer_means();
-    layout_is_read();
+    sound_is_read();
     read_in_stages::<H, S>(alloc, source, handles, needle, seqno)
 }

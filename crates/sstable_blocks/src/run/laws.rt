@@ -13,6 +13,9 @@ ghost use Rattle.sst_block_core.specs.Window.{first_match};
 ghost use Rattle.sstable_blocks.specs.Blocks.{joined, blocks_of, CutsFit, IsNotEmpty};
 ghost use Rattle.sstable_blocks.specs.Lookup.{IsEnd, first_in, place_for};
 ghost use Rattle.sstable_blocks.specs.Opened.{Opened};
+ghost use Rattle.sstable_blocks.specs.ReadCosts.{heads_most, entries_most};
+ghost use Rattle.sstable_blocks.specs.ReadCosts.{heads_most_in, entries_most_in};
+ghost use Rattle.sstable_blocks.specs.Sound.{IsSound};
 ghost use Rattle.sstable_blocks.specs.Run.{Form, IsLayout, IsRun, IsFramed, block_payload};
 ghost use Rattle.sstable_blocks.specs.Run.{block_frames, handles_from};
 ghost use Rattle.sstable_blocks.specs.declared.run.RunHandles.{RunHandles};
@@ -53,12 +56,45 @@ pub fn handles_are_ready()
         × AllByRecursion EndFits (handles_from f 0 blocks) }
 {}
 
-/// What a reader finds in a layout: the index with the handles of the blocks, the blocks where
-/// these say, and a filter that denies no key of the run.
-pub fn layout_opens()
+/// A layout is sound, whatever its configuration.
+pub fn layout_is_sound()
     ensures { (f : Form) (blocks : List (List Entry)) (bytes : List ℕ) (h : RunHandles)
-        → IsLayout f blocks bytes h → Opened f blocks bytes h }
+        → IsLayout f blocks bytes h → IsSound (hashes f.hash64 f.hash128) blocks bytes h }
+{}
+
+/// What a reader finds in a sound run: an index with a handle for each block, the blocks where
+/// these say, and a filter that denies no key of the run.
+pub fn sound_opens()
+    ensures { (c : Hashes) (blocks : List (List Entry)) (bytes : List ℕ) (h : RunHandles)
+        → IsSound c blocks bytes h → Opened c.hash64 blocks bytes h }
 {
+    data_block_is_read();
+    index_block_is_read();
+    first_match_of_plain();
+}
+
+/// How little a read of a layout looks at, by its configuration.
+pub fn layout_costs()
+    ensures { (f : Form) (blocks : List (List Entry)) (bytes : List ℕ) (h : RunHandles)
+        (needle : List ℕ) (seqno : ℕ)
+        → IsLayout f blocks bytes h
+        → (heads_most_in bytes h needle seqno ≡ heads_most f blocks needle seqno)
+        × (entries_most_in bytes h needle seqno ≤ entries_most f) }
+{
+    data_block_is_read();
+    index_block_is_read();
+}
+
+/// A checked read of a sound run gives the first match of its blocks.
+pub fn sound_is_read()
+    ensures { (c : Hashes) (blocks : List (List Entry)) (bytes : List ℕ) (h : RunHandles)
+        (needle : List ℕ) (seqno : ℕ)
+        → ((xs : List ℕ) → c.hash128 xs < 2 ^ 128) → IsSound c blocks bytes h
+        → read_checked c bytes h needle seqno
+        ≡ Ok (first_match entries needle seqno (joined blocks)) }
+{
+    data_check_is_by_stages();
+    index_check_is_by_stages();
     data_block_is_read();
     index_block_is_read();
     first_match_of_plain();
@@ -72,11 +108,8 @@ pub fn layout_is_read()
         → read_checked (hashes f.hash64 f.hash128) bytes h needle seqno
         ≡ Ok (first_match entries needle seqno (joined blocks)) }
 {
-    data_check_is_by_stages();
-    index_check_is_by_stages();
-    data_block_is_read();
-    index_block_is_read();
-    first_match_of_plain();
+    layout_is_sound();
+    sound_is_read();
 }
 
 /// What a result of a checked read on any bytes means: each frame met is a frame of the right
