@@ -21,3 +21,6 @@ pub mod SoundReads
 pub mod Meanings
 pub mod Answered
 pub mod FileRanges
+pub mod RunSummaries
+pub mod RunCheckLaws
+pub mod RunCheckSteps

@@ -13,3 +13,4 @@ pub mod Writing
 pub mod RunReading
 pub mod Sources
 pub mod Sound
+pub mod RunChecks

@@ -2,6 +2,7 @@
 ghost use Rattle.std.specs.Prelude.{◌≡◌};
 
 pub mod checked;
+pub mod checking;
 pub mod laws;
 pub mod read;
 pub mod round_trip;
@@ -11,6 +12,7 @@ pub mod write;
 pub mod writer;
 
 pub use checked::read_entry_checked;
+pub use checking::{RunSummary, check};
 pub use read::read_entry;
 pub use round_trip::write_and_read;
 pub use source::{FileSource, FrameSource, MemorySource};
