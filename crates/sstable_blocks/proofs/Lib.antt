@@ -24,3 +24,4 @@ pub mod FileRanges
 pub mod RunSummaries
 pub mod RunCheckLaws
 pub mod RunCheckSteps
+pub mod KeptReads

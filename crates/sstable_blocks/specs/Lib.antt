@@ -14,3 +14,4 @@ pub mod RunReading
 pub mod Sources
 pub mod Sound
 pub mod RunChecks
+pub mod Tables

@@ -57,3 +57,8 @@ pub record IsSound (c : Hashes) (blocks : List (List Entry)) (bytes : List ℕ) 
   pub contiguous : AreContiguous 0 handles
   pub ordered : IsOrdered entries (joined blocks)
   pub filter : IfSome h.filter (IsStoredFilter c bytes (joined blocks))
+
+-- what contracts see of a run in memory that was checked
+pub record RunParts : Type 0 where
+  pub bytes : List ℕ
+  pub handles : RunHandles

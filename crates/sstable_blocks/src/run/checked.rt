@@ -137,7 +137,7 @@ fn filter_allows<H: BlockHash, S: FrameSource>(
 }
 
 // The first match in the data block of a handle, if there is one.
-fn read_in_block<H: BlockHash, S: FrameSource>(
+pub(crate) fn read_in_block<H: BlockHash, S: FrameSource>(
     alloc: Global,
     source: &mut S,
     handle: &Option<BlockHandle>,
