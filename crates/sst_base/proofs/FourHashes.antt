@@ -1,12 +1,8 @@
 -- The polynomial hashes of four bytes each, in lanes.
-use Rattle.std.proofs.Common.{◌≡◌, ℕ, ◌+◌, ◌*◌, ◌%◌, ◌^◌, ◌<◌, ◌≤◌, List, [], ◌∷◌, length, take, drop, arith, ◌∙◌, ap, length-drop, take-add}
-use Rattle.std.proofs.lemmas.List.{length-take-le, drop-drop}
-use Rattle.std.specs.List.{fold}
+use Rattle.std.proofs.Common.{◌≡◌, ℕ, ◌+◌, ◌*◌, ◌%◌, ◌^◌, ◌<◌, ◌≤◌, List, [], ◌∷◌, length, take, arith}
 use lib.Lanes.{zip2, pair_sums, dots}
 use Rattle.sst_base.specs.Bytes.{IsBytes}
-use Rattle.sst_base.specs.Hashes.{times31, four, IsFours}
-use Rattle.sst_base.specs.HashLaws.{fold-append}
-use Rattle.sst_base.proofs.Polynomials.{eight_steps}
+use Rattle.sst_base.specs.Hashes.{IsFours}
 
 -- one lane: the weighted sums of two bytes and of the other two, joined
 lane : (a b c d : ℕ) → a < 256 → b < 256 → c < 256 → d < 256

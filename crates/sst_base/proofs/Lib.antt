@@ -1,4 +1,6 @@
 pub mod Shared
+pub mod FirstDifference
+pub mod InPlace
 pub mod Joined
 pub mod Polynomials
 pub mod Fours

@@ -5,7 +5,7 @@ use Rattle.std.proofs.lemmas.List.{append-nil}
 use Rattle.sst_base.specs.Bytes.{IsBytes}
 use Rattle.sst_base.specs.Block.{BlockParts}
 use Rattle.sst_base.specs.BytesLaws.{IsBytes-take, IsBytes-drop}
-use Rattle.sst_base.specs.Header.{header_front, header, IsHeader, bytes_at, header_at}
+use Rattle.sst_base.specs.Header.{header_start, header, IsHeader, bytes_at, header_at}
 use Rattle.sst_base.specs.HeaderLaws.{bind_ok, guard_ok, bytes_at-append, bytes_at_takes, header_at-header, header_at_takes}
 use Rattle.sst_base.specs.Frame.{header_for, block_for, frame, demand, block_of, block_at, frame_at, has_length, frame_in}
 use Rattle.sst_base.specs.declared.error.Error.TheVariants.{LengthMismatch, Truncated}
@@ -18,7 +18,7 @@ and_parts false b e = cc
 
 -- a header has 33 bytes
 pub length-header : (hash128 : List ℕ → ℕ) (h : Header) → length (header hash128 h) ≡ 33
-unfolding header header_front
+unfolding header header_start
 length-header hash128 h = refl
 
 -- a frame has 33 bytes more than its payload

@@ -14,12 +14,12 @@ abbrev pub magic : List ℕ
 magic = 76 ∷ 83 ∷ 77 ∷ 3 ∷ []
 
 -- the 29 bytes that the header's own checksum covers
-unfoldable pub header_front : Header → List ℕ
-header_front h = magic ++ (block_type_byte h.block_type ∷ (little_bytes 16 h.checksum ++ (little_bytes 4 h.data_length ++ little_bytes 4 h.uncompressed_length)))
+unfoldable pub header_start : Header → List ℕ
+header_start h = magic ++ (block_type_byte h.block_type ∷ (little_bytes 16 h.checksum ++ (little_bytes 4 h.data_length ++ little_bytes 4 h.uncompressed_length)))
 
 -- the 33 bytes of a header
 unfoldable pub header : (List ℕ → ℕ) → Header → List ℕ
-header hash128 h = header_front h ++ little_bytes 4 (hash128 (header_front h) % 2 ^ 32)
+header hash128 h = header_start h ++ little_bytes 4 (hash128 (header_start h) % 2 ^ 32)
 
 -- the numbers of a header fit their fields
 pub record IsHeader (h : Header) : Type 0 where

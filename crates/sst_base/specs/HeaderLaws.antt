@@ -12,7 +12,7 @@ use Rattle.sst_base.specs.Bytes.{IsBytes}
 use Rattle.sst_base.specs.BytesLaws.{IsBytes-take, IsBytes-drop, little_bytes-little_number_at, little_number-between, take-drop-more}
 use Rattle.sst_base.specs.ReadingLaws.{chosen}
 use Rattle.sst_base.specs.BlockType.{block_type_byte, block_type_of}
-use Rattle.sst_base.specs.Header.{◌>>=◌, magic, header_front, header, IsHeader, bytes_at, magic_at, block_type_at, header_with, header_of, header_at}
+use Rattle.sst_base.specs.Header.{◌>>=◌, magic, header_start, header, IsHeader, bytes_at, magic_at, block_type_at, header_with, header_of, header_at}
 use Rattle.sst_base.specs.declared.error.Error.{Error}
 use Rattle.sst_base.specs.declared.table.block.block_type.BlockType.{BlockType}
 use Rattle.sst_base.specs.declared.table.block.block_type.BlockType.TheVariants.{Data, Index, Filter, Meta}
@@ -142,9 +142,9 @@ header_of_takes hash128 t fields expected h e =
     (eqb-true _ _ g.0, g.1)
 
 -- the front by its fields
-header_front-fields_of : (h : Header) → header_front h ≡ magic ++ (block_type_byte h.block_type ∷ fields_of h)
-unfolding header_front fields_of
-header_front-fields_of h = refl
+header_start-fields_of : (h : Header) → header_start h ≡ magic ++ (block_type_byte h.block_type ∷ fields_of h)
+unfolding header_start fields_of
+header_start-fields_of h = refl
 
 header_at-pieces : (hash128 : List ℕ → ℕ) (t : BlockType) (fields sum rest : List ℕ) → length fields ≡ 24 → length sum ≡ 4 → hash128 (magic ++ (block_type_byte t ∷ fields)) % 2 ^ 32 ≡ little_number 4 sum → header_at hash128 (((magic ++ (block_type_byte t ∷ fields)) ++ sum) ++ rest) ≡ Ok (header_with t fields, rest)
 unfolding header_at
@@ -158,9 +158,9 @@ header_at-pieces hash128 t fields sum rest l k e =
 pub header_at-header : (hash128 : List ℕ → ℕ) (h : Header) (rest : List ℕ) → IsHeader h → header_at hash128 (header hash128 h ++ rest) ≡ Ok (h, rest)
 unfolding header
 header_at-header hash128 h rest fits =
-    let front = header_front-fields_of h in
-    let sum = hash128 (header_front h) % 2 ^ 32 in
-    let number : little_number 4 (little_bytes 4 sum) ≡ sum = little_number-reads_back 4 sum [] (mod_below (hash128 (header_front h)) (2 ^ 32) (omega arith)) in
+    let front = header_start-fields_of h in
+    let sum = hash128 (header_start h) % 2 ^ 32 in
+    let number : little_number 4 (little_bytes 4 sum) ≡ sum = little_number-reads_back 4 sum [] (mod_below (hash128 (header_start h)) (2 ^ 32) (omega arith)) in
     ap (λ xs. header_at hash128 ((xs ++ little_bytes 4 sum) ++ rest)) front
     ∙ header_at-pieces hash128 h.block_type (fields_of h) (little_bytes 4 sum) rest (length-fields_of h) refl (ap (λ xs. hash128 xs % 2 ^ 32) (sym front) ∙ sym number)
     ∙ ap (λ k. Ok (k, rest)) (header_with-fields_of h fits)
@@ -168,8 +168,8 @@ header_at-header hash128 h rest fits =
 header-header_with : (hash128 : List ℕ → ℕ) (t : BlockType) (fields sum rest : List ℕ) → IsBytes fields → length fields ≡ 24 → little_bytes 4 (hash128 (magic ++ (block_type_byte t ∷ fields)) % 2 ^ 32) ≡ sum → header hash128 (header_with t fields) ++ rest ≡ magic ++ (block_type_byte t ∷ ((fields ++ sum) ++ rest))
 unfolding header
 header-header_with hash128 t fields sum rest b l e =
-    let front : header_front (header_with t fields) ≡ magic ++ (block_type_byte t ∷ fields) =
-    header_front-fields_of (header_with t fields) ∙ ap (λ xs. magic ++ (block_type_byte t ∷ xs)) (fields_of-header_with t fields b l) in
+    let front : header_start (header_with t fields) ≡ magic ++ (block_type_byte t ∷ fields) =
+    header_start-fields_of (header_with t fields) ∙ ap (λ xs. magic ++ (block_type_byte t ∷ xs)) (fields_of-header_with t fields b l) in
     ap (λ xs. (xs ++ little_bytes 4 (hash128 xs % 2 ^ 32)) ++ rest) front
     ∙ ap (λ xs. ((magic ++ (block_type_byte t ∷ fields)) ++ xs) ++ rest) e
 

@@ -1,16 +1,17 @@
 //! Encodings: what has one, and varints, numbers in base 128, least significant digit first.
-ghost use Rattle.std.specs.Prelude.{◌≡◌, ℕ, ◌+◌, ◌-◌, ◌/◌, ◌^◌};
+ghost use Rattle.std.specs.Prelude.{◌≡◌, ℕ, ◌+◌, ◌^◌};
 ghost use Rattle.std.specs.Prelude.{◌<◌, ◌≤◌, ◌++◌, length, take};
-ghost use Rattle.std.specs.Prelude.{drop, OnOk, OnErr, IsOkUnless, IfSome, IfNone, None};
+ghost use Rattle.std.specs.Prelude.{OnOk, OnErr, IsOkUnless, IfSome, IfNone, None};
 ghost use Rattle.std.specs.Prelude.{List, Some, IfOk, Result as Outcome};
 ghost use Rattle.std.specs.Io.KnownBytes.{Appends};
 ghost use Rattle.std.specs.Vec.{vec_len, vec_capacity};
 ghost use Rattle.sst_base.specs.Inputs.{Reads};
 ghost use Rattle.sst_base.specs.declared.error.Error.{Error};
-ghost use Rattle.sst_base.specs.Varint.{IsVarint, IsWidth, varint, with_digits, varint_up_to};
+ghost use Rattle.sst_base.specs.Varint.{IsVarint, IsWidth, varint, varint_up_to};
 ghost use Rattle.sst_base.specs.Varint.{varint_at};
 
 use crate::error::{Error, Result};
+use crate::in_place::put_varint;
 use crate::input::Input;
 use std::alloc::Global;
 use std::io::Write;
@@ -59,59 +60,14 @@ pub trait Decode: Sized {
 /// The greatest number of bytes that a varint takes.
 pub const MAX_VARINT_LEN: usize = 10;
 
-// Appends a varint of any length to a vector with room for the longest.
-#[inline(always)]
-fn push_digits(out: &mut Vec<u8>, n: u64)
-    requires { vec_len out.old + 10 ≤ vec_capacity out.old }
-    ensures ok { out.new.items ≡ out.old.items ++ varint n }
-    ensures len { vec_len out.new ≤ vec_len out.old + 10 }
-    ensures capacity { vec_capacity out.new ≡ vec_capacity out.old }
-{
-    let mut rest = n;
-    for i in 0..9usize {
-        if rest < 128 {
-            out.push_reserved(rest as u8);
-            return;
-        }
-        out.push_reserved((rest % 128) as u8 + 128);
-        rest /= 128;
-    }
-    out.push_reserved(rest as u8);
-}
-
-/// Appends the minimal encoding of a number as a varint to a vector with room for 10 more bytes.
-#[inline(always)]
-#[tactic(auto, using(crate::specs::VarintLaws::varint_small))]
-pub fn push_varint_reserved(out: &mut Vec<u8>, n: u64)
-    requires { vec_len out.old + 10 ≤ vec_capacity out.old }
-    ensures ok { out.new.items ≡ out.old.items ++ varint n }
-    ensures len { vec_len out.new ≤ vec_len out.old + 10 }
-    ensures capacity { vec_capacity out.new ≡ vec_capacity out.old }
-{
-    if n < 128 {
-        out.push_reserved(n as u8);
-    } else {
-        push_digits(out, n);
-    }
-}
-
-// The varint of a number, and how many bytes it takes.
+// The varint of a number, and how many bytes it takes. Takes no memory.
 pub(crate) fn varint_digits(n: u64) -> ([u8; MAX_VARINT_LEN], usize)
     ensures len { result.1 ≤ 10 }
     ensures bytes { take result.1 result.0 ≡ varint n }
 {
     let mut digits = [0u8; MAX_VARINT_LEN];
-    let mut rest = n;
-    for i in 0..9usize {
-        if rest < 128 {
-            digits[i] = rest as u8;
-            return (digits, i + 1);
-        }
-        digits[i] = (rest % 128) as u8 + 128;
-        rest /= 128;
-    }
-    digits[9] = rest as u8;
-    (digits, MAX_VARINT_LEN)
+    let len = put_varint(&mut digits, 0, n);
+    (digits, len)
 }
 
 /// Appends the minimal encoding of a number as a varint. On an error the vector is unchanged.
@@ -124,21 +80,28 @@ pub fn encode_varint(out: &mut Vec<u8>, n: u64) -> Result<()>
     ensures memory { IsOkUnless result Error.Memory }
     ensures unchanged { OnErr result (out.new.items ≡ out.old.items) }
 {
-    out.reserve(MAX_VARINT_LEN)?;
-    push_varint_reserved(out, n);
+    let (digits, len) = varint_digits(n);
+    out.extend_from_slice(&digits[..len])?;
     Ok(())
 }
 
-// Reads what follows the first digit, a digit a step.
-fn decode_behind(bytes: &[u8], first: u64, max: u64) -> Option<(u64, usize)>
-    requires first { first < 128 }
-    requires max { 128 ≤ max }
-    ensures { result
-        ≡ with_digits 1 first 128 (varint_up_to ((max - first) / 128) (drop 1 bytes.now)) }
+// Decodes a varint of any length, a digit a step: the number of at most `max` that a prefix of the
+// bytes encodes, and the length of that prefix.
+#[tactic(auto, unfolding(crate::specs::Varint::varint_up_to))]
+fn decode_digits(bytes: &[u8], max: u64) -> Option<(u64, usize)>
+    ensures { result ≡ varint_up_to max bytes.now }
 {
-    let mut sum = first;
+    let (first, _) = bytes.split_first()?;
+    let first = u64::from(*first);
+    if first < 128 {
+        return if first <= max { Some((first, 1)) } else { None };
+    }
+    if max < 128 {
+        return None;
+    }
+    let mut sum = first - 128;
     let mut scale = 128;
-    let mut room = (max - first) / 128;
+    let mut room = (max - sum) / 128;
     for i in 1..bytes.len() {
         let byte = u64::from(bytes[i]);
         if byte < 128 {
@@ -158,56 +121,40 @@ fn decode_behind(bytes: &[u8], first: u64, max: u64) -> Option<(u64, usize)>
     None
 }
 
-// Reads the number of at most `max` that a prefix of the bytes encodes, and the length of that
-// front.
-#[tactic(auto, unfolding(crate::specs::Varint::varint_up_to))]
-fn decode_up_to(bytes: &[u8], max: u64) -> Option<(u64, usize)>
-    ensures { result ≡ varint_up_to max bytes.now }
-{
-    let (first, _) = bytes.split_first()?;
-    let digit = u64::from(*first);
-    if digit < 128 {
-        return if digit <= max { Some((digit, 1)) } else { None };
-    }
-    if max < 128 {
-        return None;
-    }
-    decode_behind(bytes, digit - 128, max)
-}
-
-// Reads the number within the width that a prefix of the bytes encodes, and the length of that
-// front: 0 where there is none. A pair is not answered by way of memory.
+// Decodes a varint of any length, out of line, so that callers stay small. The length 0 stands for
+// `None`: a pair of numbers is returned in registers, an `Option` of one by way of memory.
 #[cold]
 #[inline(never)]
 #[tactic(auto, using(crate::proofs::ShortVarints::takes_some), unfolding(crate::specs::Varint::varint_at))]
-fn decode_or_zero(bytes: &[u8], bits: u32) -> (u64, usize)
+fn decode_long(bytes: &[u8], bits: u32) -> (u64, usize)
     requires { IsWidth bits }
     ensures found { 0 < result.1 → varint_at bits bytes.now ≡ Some result }
     ensures none { result.1 ≡ 0 → varint_at bits bytes.now ≡ None }
 {
-    match decode_up_to(bytes, u64::MAX >> (64 - bits)) {
+    match decode_digits(bytes, u64::MAX >> (64 - bits)) {
         Some(found) => found,
         None => (0, 0),
     }
 }
 
-// Reads the number within the width that a prefix of the bytes encodes, and the length of that
-// front.
+// The result of `decode_long` as an `Option`, apart from the cases of `decode_short`.
 #[inline(always)]
-fn decode_within(bytes: &[u8], bits: u32) -> Option<(u64, usize)>
+fn decode_by_long(bytes: &[u8], bits: u32) -> Option<(u64, usize)>
     requires { IsWidth bits }
     ensures { result ≡ varint_at bits bytes.now }
 {
-    let (n, len) = decode_or_zero(bytes, bits);
+    let (n, len) = decode_long(bytes, bits);
     if len == 0 {
         return None;
     }
     Some((n, len))
 }
 
-// Reads a varint of up to four bytes with one test of length, where four bytes are there, or any.
+// Decodes a varint: of up to four bytes inline, with one test of length, where four bytes are
+// there; else out of line. Its one clause is the definition, from which `decode_varint` derives
+// its own.
 #[inline(always)]
-fn decode_some(bytes: &[u8], bits: u32) -> Option<(u64, usize)>
+fn decode_short(bytes: &[u8], bits: u32) -> Option<(u64, usize)>
     requires { IsWidth bits }
     ensures { result ≡ varint_at bits bytes.now }
 {
@@ -226,11 +173,11 @@ fn decode_some(bytes: &[u8], bits: u32) -> Option<(u64, usize)>
             let low = low + 16384 * u64::from(*c - 128);
             Some((low + 2_097_152 * u64::from(*d), 4))
         }
-        _ => decode_within(bytes, bits),
+        _ => decode_by_long(bytes, bits),
     }
 }
 
-/// Decodes the varint at the front of `bytes`: returns its number and how many bytes it takes.
+/// Decodes the varint at the start of `bytes`: returns its number and how many bytes it takes.
 /// Bytes may follow it.
 ///
 /// `bits` is the width: 16, 32 or 64. Returns `None` exactly if no prefix of the bytes is the
@@ -245,5 +192,5 @@ pub fn decode_varint(bytes: &[u8], bits: u32) -> Option<(u64, usize)>
     ensures none { IfNone result
         ((n len : ℕ) → n < 2 ^ bits → IsVarint (take len bytes.now) n → ⊥) }
 {
-    decode_some(bytes, bits)
+    decode_short(bytes, bits)
 }

@@ -10,6 +10,7 @@ pub mod double_ended_peekable;
 pub mod error;
 pub mod ghost_state;
 pub mod hash;
+pub mod in_place;
 pub mod input;
 pub mod key;
 pub mod laws;
@@ -19,7 +20,7 @@ pub mod value;
 pub mod value_type;
 
 pub use checksum::{Checksum, ChecksumType, ChecksummedReader, ChecksummedWriter};
-pub use coding::{Decode, Encode, decode_varint, encode_varint, push_varint_reserved};
+pub use coding::{Decode, Encode, decode_varint, encode_varint};
 pub use config::HashRatio;
 pub use divisor::Divisor;
 pub use error::{AllocResult, Error, HeaderName, Result, TagName};

@@ -3,6 +3,7 @@
 use crate::Tested;
 use crate::changes::{change_count, changed};
 use crate::frames::{ABC, EMPTY, HEADER_ONLY};
+use crate::numbers::{number_at, u32_at};
 use sst_base::coding::{Decode, Encode};
 use sst_base::hash::ByteSum;
 use sst_base::table::block::{Block, BlockHandle, BlockType, Header};
@@ -17,23 +18,6 @@ fn sum_of(bytes: &[u8]) -> u128 {
         sum = sum.wrapping_add(u128::from(*byte));
     }
     sum
-}
-
-// The number at an offset of a count of bytes, least significant byte first; bytes that are not
-// there are 0.
-fn number_at(bytes: &[u8], at: usize, count: usize) -> u128 {
-    let mut number = 0u128;
-    for place in 0..count {
-        let last = at.wrapping_add(count).wrapping_sub(place).wrapping_sub(1);
-        let byte = bytes.get(last).copied().unwrap_or(0);
-        number = number.wrapping_mul(256).wrapping_add(u128::from(byte));
-    }
-    number
-}
-
-// The number as 32 bits.
-fn length_at(bytes: &[u8], at: usize) -> u32 {
-    u32::try_from(number_at(bytes, at, 4)).unwrap_or(0)
 }
 
 // The error of two checksums.
@@ -69,8 +53,8 @@ fn header_in(bytes: &[u8]) -> Result<Header> {
     Ok(Header {
         block_type,
         checksum: Checksum::from_raw(number_at(bytes, 5, 16)),
-        data_length: length_at(bytes, 21),
-        uncompressed_length: length_at(bytes, 25),
+        data_length: u32_at(bytes, 21),
+        uncompressed_length: u32_at(bytes, 25),
     })
 }
 

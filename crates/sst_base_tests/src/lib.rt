@@ -8,6 +8,7 @@ pub mod devices;
 mod frames;
 #[cfg(test)]
 mod hostile;
+pub mod numbers;
 #[cfg(test)]
 mod peekable;
 #[cfg(test)]

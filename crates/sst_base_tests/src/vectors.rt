@@ -35,7 +35,7 @@ pub fn hashes()
 {}
 
 /// A header under the sum of the bytes as the hash.
-#[tactic(auto, unfolding(sst_base::specs::Header::header, sst_base::specs::Header::header_front))]
+#[tactic(auto, unfolding(sst_base::specs::Header::header, sst_base::specs::Header::header_start))]
 pub fn headers()
     ensures { header sum (record {
       block_type = Data;
@@ -51,7 +51,7 @@ pub fn headers()
 {}
 
 /// Frames under the sum of the bytes as the hash: of `abc`, and of nothing.
-#[tactic(auto, unfolding(sst_base::specs::Frame::frame, sst_base::specs::Header::header, sst_base::specs::Header::header_front))]
+#[tactic(auto, unfolding(sst_base::specs::Frame::frame, sst_base::specs::Header::header, sst_base::specs::Header::header_start))]
 pub fn frames()
     ensures abc { frame sum Data (97 ∷ 98 ∷ 99 ∷ [])
         ≡ 0x4c ∷ 0x53 ∷ 0x4d ∷ 0x03 ∷ 0x00
@@ -175,6 +175,11 @@ pub fn handles()
         ≡ Ok (record { offset = 146; size = 73 }, 7 ∷ []) }
     ensures not_minimal { handle_at (0x80 ∷ 0x00 ∷ 0x49 ∷ []) ≡ Err BadHandle }
     ensures without_size { handle_at (0x00 ∷ []) ≡ Err Io }
+{}
+
+/// Bytes whose varints are longer than 64 or 32 bits, or end early.
+#[tactic(auto, unfolding(sst_base::specs::BlockHandle::handle_at, sst_base::specs::BlockHandle::handle_number_at, sst_base::specs::Varint::varint, sst_base::specs::Varint::varint_within))]
+pub fn long_handles()
     ensures tenth_byte_of_2 { handle_at
         (0xff ∷ 0xff ∷ 0xff ∷ 0xff ∷ 0xff ∷ 0xff ∷ 0xff ∷ 0xff ∷ 0xff
         ∷ 0x02 ∷ []) ≡ Err BadHandle }

@@ -4,22 +4,22 @@ use Rattle.std.specs.Option.{option_map}
 use Rattle.sst_base.specs.Counted.{CountsBetween, found_item}
 use Rattle.sst_block_core.specs.Kind.{Kind}
 use Rattle.sst_block_core.specs.Pointers.{head_count}
-use Rattle.sst_block_core.specs.Scan.{Listed, Scan, Stands}
+use Rattle.sst_block_core.specs.Scan.{Listed, Scan, IsPlace}
 use Rattle.sst_block_core.specs.Window.{Window, Answer, item, found, picked_head, next_back}
 
 -- the index of the head of the interval in which the item before an end is
 unfoldable pub first_of : ℕ → ℕ → ℕ
 first_of r end = (end - 1) / r * r
 
--- offsets are those of the forms of an interval, from its head on; `first` is that head's index, and its key stands at `base`
-abbrev pub StackStands : {X : Type 0} → Kind X → Listed X → List ℕ → ℕ → ℕ → Type 0
-StackStands kind list stack base first = (k : ℕ) → k < length stack → Stands kind list (record { index = first + k; phase = k; offset = slice_index stack k; base = base })
+-- offsets are those of the forms of an interval, from its head on; `first` is that head's index, and its key begins at `base`
+abbrev pub ArePlaces : {X : Type 0} → Kind X → Listed X → List ℕ → ℕ → ℕ → Type 0
+ArePlaces kind list stack base first = (k : ℕ) → k < length stack → IsPlace kind list (record { index = first + k; phase = k; offset = slice_index stack k; base = base })
 
 -- offsets are those of the items from a head up to an end, or there are none, and then an interval ends there
 pub record IsBack {X : Type 0} (kind : Kind X) (list : Listed X) (hi : ℕ) (stack : List ℕ) (base : ℕ) : Type 0 where
   pub inside : hi ≤ length list.items
   pub fits : length stack ≤ hi
-  pub places : StackStands kind list stack base (hi - length stack)
+  pub places : ArePlaces kind list stack base (hi - length stack)
   pub head : 0 < length stack → (hi - length stack) % list.interval ≡ 0
   pub ends : length stack ≡ 0 → 0 < hi % list.interval → hi ≡ length list.items
 

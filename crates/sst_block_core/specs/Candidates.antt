@@ -5,7 +5,7 @@ use Rattle.std.specs.Ordering.{nat_cmp, is_eq}
 use Rattle.std.specs.Cmp.Lexicographic.{slice_cmp}
 use Rattle.sst_block_core.specs.Kind.{Kind}
 use Rattle.sst_base.specs.Counted.{CountsBetween, found_item}
-use Rattle.sst_block_core.specs.Scan.{Listed, Scan, Stands}
+use Rattle.sst_block_core.specs.Scan.{Listed, Scan, IsPlace}
 use Rattle.sst_block_core.specs.Window.{Window, Answer, item, next}
 use Rattle.sst_block_core.specs.declared.table.block.candidate.Candidate.{Candidate}
 
@@ -14,7 +14,7 @@ pub record IsHeldAt {X P : Type 0} (item_of : List ℕ → P → X) (is_found : 
   pub there : slice_get list.items place ≡ Some (item_of list.payload l.item)
   pub found : is_found list.payload l.item
   pub next : l.after.index ≡ place + 1
-  pub stands : Stands kind list l.after
+  pub stands : IsPlace kind list l.after
 
 -- the same, with how its key compares with a needle
 pub record IsCandidateAt {X P : Type 0} (item_of : List ℕ → P → X) (is_found : List ℕ → P → Type 0) (kind : Kind X) (needle : List ℕ) (list : Listed X) (place : ℕ) (l : Candidate P) : Type 0 where

@@ -3,7 +3,7 @@ use Rattle.std.proofs.Common.{◌≡◌, ◌<◌, ◌≤◌, ℕ, ◌-◌, List,
 use Rattle.std.proofs.lemmas.List.{length-take-le, take-append-drop}
 use Rattle.std.proofs.lemmas.Bool.{lt-ltb}
 use Rattle.sst_base.specs.declared.table.util.SliceIndexes.{SliceIndexes}
-use Rattle.sst_block_core.specs.Found.{range_of, StandsAt}
+use Rattle.sst_block_core.specs.Found.{range_of, IsEncodedAt}
 
 -- how long a range is
 pub length-range : (bytes : List ℕ) (range : SliceIndexes) → range.0 ≤ range.1 → range.1 ≤ length bytes → length (range_of bytes range) ≡ range.1 - range.0
@@ -17,7 +17,7 @@ pub range_some : (bytes : List ℕ) (range : SliceIndexes) → range.0 ≤ range
 range_some bytes range h k ne = let l = length-range bytes range h k in lt-ltb _ _ (omega (arith, l, some_between range.0 range.1 h ne))
 
 -- at its start stand the bytes of a range
-pub range_stands : (bytes : List ℕ) (range : SliceIndexes) → range.0 ≤ range.1 → range.1 ≤ length bytes → StandsAt bytes range.0 (range_of bytes range)
+pub range_stands : (bytes : List ℕ) (range : SliceIndexes) → range.0 ≤ range.1 → range.1 ≤ length bytes → IsEncodedAt bytes range.0 (range_of bytes range)
 range_stands bytes range h k = record {
   inside = omega arith;
   after = drop (range.1 - range.0) (drop range.0 bytes);

@@ -1,5 +1,5 @@
 -- Tables of heads, and how many heads a bound passes.
-use Rattle.std.specs.Prelude.{◌≡◌, ◌≢◌, ℕ, ◌*◌, ◌/◌, ◌++◌, List, length, drop, count_by, slice_get, slice_index, Option, Some, None, Bool, if◌then◌else◌}
+use Rattle.std.specs.Prelude.{◌≡◌, ◌≢◌, ℕ, ◌*◌, ◌/◌, ◌≤◌, ◌++◌, List, length, drop, count_by, slice_get, slice_index, Option, Some, None, Bool, if◌then◌else◌}
 use Rattle.std.specs.Ordering.{nat_cmp, ordering_then}
 use Rattle.std.specs.Cmp.Lexicographic.{slice_cmp}
 use Rattle.std.specs.declared.cmp.Ordering.TheVariants.{Less}
@@ -8,6 +8,7 @@ use Rattle.sst_base.specs.Order.{versions_cmp, IsInOrder}
 use Rattle.sst_block_core.specs.Kind.{Kind}
 use Rattle.sst_block_core.specs.Body.{place_offset}
 use Rattle.sst_block_core.specs.Found.{IsRange, range_of}
+use Rattle.sst_block_core.specs.Passes.{last_of}
 use Rattle.sst_block_core.specs.Pointers.{head_count}
 use Rattle.sst_block_core.specs.Scan.{Listed}
 use Rattle.sst_block_core.specs.Stages.{items_in}
@@ -83,20 +84,30 @@ abbrev pub HeadsBegin : {X : Type 0} → Kind X → Listed X → List ℕ → Ty
 HeadsBegin {X} kind list prefix = (j : ℕ) (x : X) → slice_get list.items (j * list.interval) ≡ Some x → Begins prefix (kind.key x)
 
 -- whether a bound passes head j
-pub record Tells (payload needle : List ℕ) (from : Option ℕ) (heads : List Head) (j : ℕ) (b : Bool) : Type 0 where
+pub record IsHeadPassed (payload needle : List ℕ) (from : Option ℕ) (heads : List Head) (j : ℕ) (b : Bool) : Type 0 where
   pub head : Head
   pub there : slice_get heads j ≡ Some head
   pub is : passes needle from (key_in payload head) head.seqno ≡ b
 
 -- 1 if a bound passes head j, and else 0
-pub record TellsBit (payload needle : List ℕ) (from : Option ℕ) (heads : List Head) (j bit : ℕ) : Type 0 where
+pub record IsHeadPassedBit (payload needle : List ℕ) (from : Option ℕ) (heads : List Head) (j bit : ℕ) : Type 0 where
   pub answer : Bool
-  pub tells : Tells payload needle from heads j answer
+  pub tells : IsHeadPassed payload needle from heads j answer
   pub is : bit ≡ (if answer then 1 else 0)
 
 -- an item doesn't sort before a head
-abbrev pub IsBehindHead : {X : Type 0} → Kind X → List ℕ → Head → X → Type 0
-IsBehindHead kind payload last x = ordering_then (slice_cmp nat_cmp (kind.key x) (key_in payload last)) (nat_cmp last.seqno (kind.seqno x)) ≢ Less
+abbrev pub FollowsHead : {X : Type 0} → Kind X → List ℕ → Head → X → Type 0
+FollowsHead kind payload last x = ordering_then (slice_cmp nat_cmp (kind.key x) (key_in payload last)) (nat_cmp last.seqno (kind.seqno x)) ≢ Less
+
+-- an item can be the next head of a table: its key begins with the table's prefix, and it doesn't sort before the last head
+pub record IsNextHead {X : Type 0} (kind : Kind X) (payload : List ℕ) (t : Table) (x : X) : Type 0 where
+  pub begins : Begins (range_of payload t.prefix) (kind.key x)
+  pub order : (last : Head) → last_of t.heads ≡ Some last → FollowsHead kind payload last x
+
+-- a table has the prefix that it had, and no less capacity
+pub record KeepsPrefixAndRoom (old new : Table) : Type 0 where
+  pub prefix : new.prefix ≡ old.prefix
+  pub room : old.room ≤ new.room
 
 -- a copy of a table, if there is one
 abbrev pub IsCopy : Option Table → Option Table → Type 0

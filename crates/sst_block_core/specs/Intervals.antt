@@ -8,7 +8,7 @@ use Rattle.sst_base.specs.SharedPrefix.{shared_prefix_length}
 use Rattle.sst_block_core.specs.Kind.{Kind}
 use Rattle.sst_block_core.specs.Body.{place_offset}
 use Rattle.sst_block_core.specs.Pointers.{head_count}
-use Rattle.sst_block_core.specs.Scan.{Listed, StandsBehind, Stands}
+use Rattle.sst_block_core.specs.Scan.{Listed, IsPlaceAfter, IsPlace}
 use Rattle.sst_block_core.specs.Window.{Window, Answer, found, passes, count_passed, is_past_all, picked_head}
 use Rattle.sst_block_core.specs.declared.table.block.place.Place.{Place}
 
@@ -35,7 +35,7 @@ pub record IsIndexed {X : Type 0} (kind : Kind X) (list : Listed X) (pointers : 
   pub listed : IsListed list
   pub item_count : count ≡ length list.items
   pub head_total : length pointers ≡ head_count list.interval (length list.items)
-  pub are_heads : (j : ℕ) → j * list.interval < length list.items → Stands kind list (record { index = j * list.interval; phase = 0; offset = slice_index pointers j; base = 0 })
+  pub are_heads : (j : ℕ) → j * list.interval < length list.items → IsPlace kind list (record { index = j * list.interval; phase = 0; offset = slice_index pointers j; base = 0 })
   pub offsets : (j : ℕ) → j * list.interval < length list.items → slice_index pointers j ≡ place_offset kind list.interval list.items (j * list.interval)
 
 -- the number of binary digits, if they are no more than the fuel
@@ -82,7 +82,7 @@ pub record IsEntered {X : Type 0} (kind : Kind X) (needle : List ℕ) (from : Op
   pub there : slice_get list.items index ≡ Some head
   pub passed : passes needle from (kind.key head) (kind.seqno head) ≡ true
   pub shared_is : shared ≡ shared_prefix_length (kind.key head) needle
-  pub stands : StandsBehind kind list at (kind.key head)
+  pub stands : IsPlaceAfter kind list at (kind.key head)
   pub reached : at.index ≤ count_passed kind needle from list.items
   pub upto : at.index ≤ end
   pub inside : end ≤ length list.items

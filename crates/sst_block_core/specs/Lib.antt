@@ -11,6 +11,7 @@ pub mod Window
 pub mod Found
 pub mod Digits
 pub mod Scan
+pub mod Places
 pub mod Intervals
 pub mod Candidates
 pub mod ListSteps

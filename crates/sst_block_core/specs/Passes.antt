@@ -12,7 +12,7 @@ use Rattle.sst_block_core.specs.Found.{range_of}
 use Rattle.sst_block_core.specs.KeyRanges.{IsLast}
 use Rattle.sst_base.specs.declared.table.util.SliceIndexes.{SliceIndexes}
 use Rattle.sst_block_core.specs.Stages.{items_by, HasTrailer, HasParts, HasForms, HasOrder, HasPointers, HasBuckets}
-use Rattle.sst_block_core.specs.declared.table.block.check.pass.Standing.{Standing}
+use Rattle.sst_block_core.specs.declared.table.block.check.pass.PassState.{PassState}
 use Rattle.sst_block_core.specs.declared.table.block.check.tally.HashedPrefix.{HashedPrefix}
 use Rattle.sst_block_core.specs.declared.table.block.trailer.TrailerNumbers.{TrailerNumbers}
 
@@ -29,9 +29,9 @@ trailer_by n = record {
 }
 
 -- the key of the head before what follows these items, of which the first has index i; `base` is that before them
-abbrev pub base_behind : {X : Type 0} → Kind X → ℕ → ℕ → List X → List ℕ → List ℕ
-base_behind kind r i [] base = base
-base_behind kind r i (x ∷ xs) base = base_behind kind r (i + 1) xs (if (i % r) == 0 then kind.key x else base)
+abbrev pub base_after : {X : Type 0} → Kind X → ℕ → ℕ → List X → List ℕ → List ℕ
+base_after kind r i [] base = base
+base_after kind r i (x ∷ xs) base = base_after kind r (i + 1) xs (if (i % r) == 0 then kind.key x else base)
 
 -- the last of some items, if there is one
 abbrev pub last_of : {X : Type 0} → List X → Option X
@@ -44,7 +44,7 @@ pub record IsRead {X : Type 0} (kind : Kind X) (r : ℕ) (body : List ℕ) (xs :
   pub count : place ≡ length xs
   pub inside : offset ≤ length body
   pub reads : items_at kind r 0 place [] body ≡ Some (xs, drop offset body)
-  pub base_is : base ≡ base_behind kind r 0 xs []
+  pub base_is : base ≡ base_after kind r 0 xs []
 
 -- each pointer of these items says where its head begins
 abbrev pub ArePointed : {X : Type 0} → Kind X → ℕ → List ℕ → List X → Type 0
@@ -56,14 +56,14 @@ pub record IsJudged {X : Type 0} (kind : Kind X) (fits : X → Type 0) (r : ℕ)
   pub ordered : IsTrue is_ordered ↔ IsOrdered kind xs
   pub indexed : IsTrue is_indexed ↔ ArePointed kind r pointers xs
 
--- a pass stands after these items, of which the last head has its key in a range
-pub record IsAlong {X : Type 0} (kind : Kind X) (fits : X → Type 0) (r : ℕ) (body pointers : List ℕ) (xs : List X) (base : SliceIndexes) (at : Standing) : Type 0 where
+-- the state of a pass after these items, of which the last head has its key in a range
+pub record IsAlong {X : Type 0} (kind : Kind X) (fits : X → Type 0) (r : ℕ) (body pointers : List ℕ) (xs : List X) (base : SliceIndexes) (at : PassState) : Type 0 where
   pub read : IsRead kind r body xs (length xs) at.offset (range_of body base)
   pub last_is : IsLast kind body at.last (last_of xs)
   pub judged : IsJudged kind fits r pointers xs at.passed.all_fit at.passed.is_ordered at.passed.is_indexed
 
--- a pass has come to stand after so many items, of which this is known besides
-pub record GoesOn {X : Type 0} (kind : Kind X) (fits : X → Type 0) (r : ℕ) (body pointers : List ℕ) (n : ℕ) (base : SliceIndexes) (at : Standing) (known : List X → Type 0) : Type 0 where
+-- the state of a pass after so many items, of which this is known besides
+pub record GoesOn {X : Type 0} (kind : Kind X) (fits : X → Type 0) (r : ℕ) (body pointers : List ℕ) (n : ℕ) (base : SliceIndexes) (at : PassState) (known : List X → Type 0) : Type 0 where
   pub items : List X
   pub count : length items ≡ n
   pub along : IsAlong kind fits r body pointers items base at

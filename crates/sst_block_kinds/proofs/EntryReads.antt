@@ -12,7 +12,7 @@ use Rattle.sst_base.specs.declared.table.util.SliceIndexes.{SliceIndexes}
 use Rattle.sst_base.specs.ReadingLaws.{bind_some, pair_parts}
 use Rattle.sst_block_core.specs.Entries.{Truncated, value_at, full_at, truncated_form_at, truncated_at, is_truncation, joined_to}
 use Rattle.sst_block_core.specs.EntryLaws.{truncation_parts}
-use Rattle.sst_block_core.specs.Found.{StandsAt, IsRange, range_of, optional_range}
+use Rattle.sst_block_core.specs.Found.{IsEncodedAt, IsRange, range_of, optional_range}
 use Rattle.sst_block_kinds.specs.ParsedEntry.{entry_of, truncated_of, IsKeyLength}
 use Rattle.sst_block_kinds.specs.declared.table.data_block.parsed_item.DataBlockParsedItem.{DataBlockParsedItem}
 use Rattle.sst_block_kinds.specs.declared.table.data_block.decoding.TruncatedForm.{TruncatedForm}
@@ -92,7 +92,7 @@ truncated_parts base bytes x rest h =
     }
 
 -- a front of what stands at an offset, by its range
-pub range_of-front : (payload : List ℕ) (offset n : ℕ) (base : List ℕ) → StandsAt payload offset base → n ≤ length base
+pub range_of-front : (payload : List ℕ) (offset n : ℕ) (base : List ℕ) → IsEncodedAt payload offset base → n ≤ length base
     → (offset + n ≤ length payload) × (range_of payload (record { 0 = offset; 1 = offset + n }) ≡ take n base)
 range_of-front payload offset n base stands h =
     let d = length-drop offset payload in
@@ -114,7 +114,7 @@ abbrev pub parsed_of : ℕ → TruncatedForm → DataBlockParsedItem
 parsed_of base_offset f = record { value_type = f.value_type; seqno = f.seqno; prefix = Some (record { 0 = base_offset; 1 = base_offset + f.shared }); key = f.key; value = f.value }
 
 -- where a truncated form stands after a head, the parser finds its prefix and its entry
-pub truncated_found : (payload bytes base : List ℕ) (base_offset end : ℕ) (f : TruncatedForm) (x : Entry) (rest : List ℕ) → StandsAt payload base_offset base
+pub truncated_found : (payload bytes base : List ℕ) (base_offset end : ℕ) (f : TruncatedForm) (x : Entry) (rest : List ℕ) → IsEncodedAt payload base_offset base
     → IsRange payload f.key → truncated_at base bytes ≡ Some (x, rest) → truncated_form_at bytes ≡ Some (truncated_of payload f, drop end payload)
     → (base_offset + f.shared ≤ length payload) × IsKeyLength (f.shared + (f.key.1 - f.key.0)) × (entry_of payload (parsed_of base_offset f) ≡ x) × (drop end payload ≡ rest)
 truncated_found payload bytes base base_offset end f x rest stands range read form =
@@ -134,7 +134,7 @@ truncated_found payload bytes base base_offset end f x rest stands range read fo
     )
 
 -- where the shared prefix is the longest, the answer is what reading gives
-pub truncated_read : (payload bytes base : List ℕ) (base_offset end : ℕ) (f : TruncatedForm) (prefix : SliceIndexes) → StandsAt payload base_offset base
+pub truncated_read : (payload bytes base : List ℕ) (base_offset end : ℕ) (f : TruncatedForm) (prefix : SliceIndexes) → IsEncodedAt payload base_offset base
     → IsRange payload f.key → prefix ≡ record { 0 = base_offset; 1 = base_offset + f.shared } → IsKeyLength (f.shared + (f.key.1 - f.key.0))
     → prefix.1 - prefix.0 ≡ shared_prefix_length base (range_of payload prefix ++ range_of payload f.key)
     → truncated_form_at bytes ≡ Some (truncated_of payload f, drop end payload)
@@ -158,7 +158,7 @@ truncated_read payload bytes base base_offset end f prefix stands range is fits 
     rw (form, truncation) (λ i. Some (record { key = record { user_key = sym same i ++ rest; seqno = f.seqno; value_type = f.value_type }; value = optional_range payload f.value }, drop end payload))
 
 -- no truncated form begins with the marker
-pub marker_truncated : (payload : List ℕ) (offset : ℕ) (t : Truncated × List ℕ) → StandsAt payload offset (255 ∷ []) → truncated_form_at (drop offset payload) ≡ Some t → ⊥
+pub marker_truncated : (payload : List ℕ) (offset : ℕ) (t : Truncated × List ℕ) → IsEncodedAt payload offset (255 ∷ []) → truncated_form_at (drop offset payload) ≡ Some t → ⊥
 unfolding truncated_form_at
 marker_truncated payload offset t stands form =
     let none : truncated_form_at (drop offset payload) ≡ None = ap truncated_form_at stands.there in

@@ -5,7 +5,7 @@ use Rattle.sst_base.specs.declared.table.util.SliceIndexes.{SliceIndexes}
 use Rattle.sst_base.specs.SharedPrefix.{shared_prefix_length}
 use Rattle.sst_base.specs.Reading.{number_at, length_prefixed_at}
 use Rattle.sst_block_core.specs.Found.{IsRange, range_of}
-use Rattle.sst_block_kinds.specs.Handles.{Front, handle_with, front_at, truncated_at, is_truncation}
+use Rattle.sst_block_kinds.specs.Handles.{Fields, handle_with, fields_at, truncated_at, is_truncation}
 use Rattle.sst_block_kinds.proofs.HandleReads.{truncated_whole, truncated_other}
 use Rattle.sst_block_kinds.proofs.Truncations.{key_with, not_greatest, greatest, front_inside, front_is, whole_length}
 
@@ -15,9 +15,9 @@ too_long n wrong = elim (cases_Bool (leb n 65535)) [
   | inr more ↦ more
 ]
 
-module _ (payload bytes : List ℕ) (base key : SliceIndexes) (n end : ℕ) (f : Front) (a c : List ℕ) (b rest : List ℕ) (base_in : IsRange payload base) (key_in : IsRange payload key)
+module _ (payload bytes : List ℕ) (base key : SliceIndexes) (n end : ℕ) (f : Fields) (a c : List ℕ) (b rest : List ℕ) (base_in : IsRange payload base) (key_in : IsRange payload key)
     (b_is : b ≡ range_of payload base) (rest_is : rest ≡ range_of payload key)
-    (front_at_is : front_at bytes ≡ Some (f, a)) (shared_is : number_at 16 a ≡ Some (n, c)) (key_is : length_prefixed_at 16 c ≡ Some (range_of payload key, drop end payload)) where
+    (front_at_is : fields_at bytes ≡ Some (f, a)) (shared_is : number_at 16 a ≡ Some (n, c)) (key_is : length_prefixed_at 16 c ≡ Some (range_of payload key, drop end payload)) where
   other : is_truncation (range_of payload base) n (key_with payload base n key) ≡ false → truncated_at (range_of payload base) bytes ≡ None
   other e = truncated_other bytes f a front_at_is (range_of payload base) n c shared_is (range_of payload key) (drop end payload) key_is e
 

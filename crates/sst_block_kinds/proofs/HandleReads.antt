@@ -11,15 +11,15 @@ use Rattle.sst_base.specs.ReadingLaws.{pair_parts, some_value, chain_first, chai
 use Rattle.sst_base.specs.SharedPrefix.{shared_prefix_length}
 use Rattle.sst_base.specs.SharedPrefixLaws.{shared_prefix_inside}
 use Rattle.sst_base.specs.declared.table.util.SliceIndexes.{SliceIndexes}
-use Rattle.sst_block_core.specs.Found.{StandsAt, IsRange, range_of}
-use Rattle.sst_block_kinds.specs.Handles.{Handle, IsHandle, Front, handle_with, marker_at, front_at, full_at, truncated_at, is_truncation}
+use Rattle.sst_block_core.specs.Found.{IsEncodedAt, IsRange, range_of}
+use Rattle.sst_block_kinds.specs.Handles.{Handle, IsHandle, Fields, handle_with, marker_at, fields_at, full_at, truncated_at, is_truncation}
 use Rattle.sst_block_kinds.specs.HandleLaws.{IsKind-handles, truncation_parts}
 use Rattle.sst_block_core.specs.FoundLaws.{length-range}
 use Rattle.sst_block_kinds.proofs.EntryReads.{no_reading, range_of-front}
 
--- where a front stands, the marker of a handle does
-pub marker_stands : (at : ℕ) (payload : List ℕ) → IsSome (front_at (drop at payload)) → (at < length payload) × (marker_at (drop at payload) ≡ Some (drop (at + 1) payload))
-unfolding front_at
+-- where the fields of a handle are encoded, so is its marker
+pub marker_stands : (at : ℕ) (payload : List ℕ) → IsSome (fields_at (drop at payload)) → (at < length payload) × (marker_at (drop at payload) ≡ Some (drop (at + 1) payload))
+unfolding fields_at
 marker_stands at payload whole =
     let v = some_value (marker_at (drop at payload)) (chain_first (marker_at (drop at payload)) _ whole) in
     elim (cases_lt at (length payload)) [
@@ -30,48 +30,48 @@ marker_stands at payload whole =
           (less, v.1 ∙ ap (λ ys. Some ys) (sym g.1))
     ]
 
-module _ (bytes a : List ℕ) (marker_is : marker_at bytes ≡ Some a) (whole : IsSome (front_at bytes)) where
+module _ (bytes a : List ℕ) (marker_is : marker_at bytes ≡ Some a) (whole : IsSome (fields_at bytes)) where
   -- after it the offset
   pub front_offset : IsSome (number_at 64 a)
-  unfolding front_at
+  unfolding fields_at
   front_offset = chain_first (number_at 64 a) _ (chain_next (marker_at bytes) _ a marker_is whole)
 
   module _ (o : ℕ) (b : List ℕ) (offset_is : number_at 64 a ≡ Some (o, b)) where
     -- after it the size
     pub front_size : IsSome (number_at 32 b)
-    unfolding front_at
+    unfolding fields_at
     front_size = chain_first (number_at 32 b) _ (chain_next (number_at 64 a) _ (o, b) offset_is (chain_next (marker_at bytes) _ a marker_is whole))
 
     module _ (s : ℕ) (c : List ℕ) (size_is : number_at 32 b ≡ Some (s, c)) where
       -- after it the sequence number
       pub front_seqno : IsSome (number_at 64 c)
-      unfolding front_at
+      unfolding fields_at
       front_seqno = chain_first (number_at 64 c) _ (chain_next (number_at 32 b) _ (s, c) size_is (chain_next (number_at 64 a) _ (o, b) offset_is (chain_next (marker_at bytes) _ a marker_is whole)))
 
-      -- and of these parts reading makes the front
-      pub front_whole : (n : ℕ) (d : List ℕ) → number_at 64 c ≡ Some (n, d) → front_at bytes ≡ Some (record { offset = o; size = s; seqno = n }, d)
-      unfolding front_at
+      -- and of these parts reading makes the fields
+      pub front_whole : (n : ℕ) (d : List ℕ) → number_at 64 c ≡ Some (n, d) → fields_at bytes ≡ Some (record { offset = o; size = s; seqno = n }, d)
+      unfolding fields_at
       front_whole n d seqno_is = rw (marker_is, offset_is, size_is, seqno_is) refl
 
--- where a form stands, its front does
-pub full_front : (bytes : List ℕ) → IsSome (full_at bytes) → IsSome (front_at bytes)
+-- where a form is encoded, its fields are
+pub full_front : (bytes : List ℕ) → IsSome (full_at bytes) → IsSome (fields_at bytes)
 unfolding full_at
-full_front bytes whole = chain_first (front_at bytes) _ whole
+full_front bytes whole = chain_first (fields_at bytes) _ whole
 
-pub truncated_front : (base bytes : List ℕ) → IsSome (truncated_at base bytes) → IsSome (front_at bytes)
+pub truncated_front : (base bytes : List ℕ) → IsSome (truncated_at base bytes) → IsSome (fields_at bytes)
 unfolding truncated_at
-truncated_front base bytes whole = chain_first (front_at bytes) _ whole
+truncated_front base bytes whole = chain_first (fields_at bytes) _ whole
 
--- where no front is read, no form is
-pub full_no_front : (bytes : List ℕ) → front_at bytes ≡ None → full_at bytes ≡ None
+-- where no fields are read, no form is
+pub full_no_front : (bytes : List ℕ) → fields_at bytes ≡ None → full_at bytes ≡ None
 unfolding full_at
 full_no_front bytes none = rw none refl
 
-pub truncated_no_front : (base bytes : List ℕ) → front_at bytes ≡ None → truncated_at base bytes ≡ None
+pub truncated_no_front : (base bytes : List ℕ) → fields_at bytes ≡ None → truncated_at base bytes ≡ None
 unfolding truncated_at
 truncated_no_front base bytes none = rw none refl
 
-module _ (bytes : List ℕ) (f : Front) (a : List ℕ) (front_is : front_at bytes ≡ Some (f, a)) where
+module _ (bytes : List ℕ) (f : Fields) (a : List ℕ) (front_is : fields_at bytes ≡ Some (f, a)) where
   -- nor where what follows it is not read
   pub full_no_key : length_prefixed_at 16 a ≡ None → full_at bytes ≡ None
   unfolding full_at
@@ -85,10 +85,10 @@ module _ (bytes : List ℕ) (f : Front) (a : List ℕ) (front_is : front_at byte
   unfolding truncated_at
   truncated_no_rest base n b shared_is none = rw (front_is, shared_is, none) refl
 
-  -- after the front of a full form stands its end key
+  -- after the fields of a full form comes its end key
   pub full_key : IsSome (full_at bytes) → IsSome (length_prefixed_at 16 a)
   unfolding full_at
-  full_key whole = chain_first (length_prefixed_at 16 a) _ (chain_next (front_at bytes) _ (f, a) front_is whole)
+  full_key whole = chain_first (length_prefixed_at 16 a) _ (chain_next (fields_at bytes) _ (f, a) front_is whole)
 
   -- and of both reading makes the handle
   pub full_whole : (k c : List ℕ) → length_prefixed_at 16 a ≡ Some (k, c) → full_at bytes ≡ Some (handle_with f k, c)
@@ -100,16 +100,16 @@ module _ (bytes : List ℕ) (f : Front) (a : List ℕ) (front_is : front_at byte
   full_is k c x rest key_is read = let e : ◌≡◌ {A = Handle × List ℕ} (handle_with f k, c) (x, rest) = same_Some (handle_with f k, c) (x, rest) (sym (full_whole k c key_is) ∙ read) in pair_parts (handle_with f k) x c rest e
 
   module _ (base : List ℕ) where
-    -- after the front of a truncated form stands the length of the shared prefix
+    -- after the fields of a truncated form comes the length of the shared prefix
     pub truncated_shared : IsSome (truncated_at base bytes) → IsSome (number_at 16 a)
     unfolding truncated_at
-    truncated_shared whole = chain_first (number_at 16 a) _ (chain_next (front_at bytes) _ (f, a) front_is whole)
+    truncated_shared whole = chain_first (number_at 16 a) _ (chain_next (fields_at bytes) _ (f, a) front_is whole)
 
     module _ (n : ℕ) (b : List ℕ) (shared_is : number_at 16 a ≡ Some (n, b)) where
       -- after it the rest of the end key
       pub truncated_rest : IsSome (truncated_at base bytes) → IsSome (length_prefixed_at 16 b)
       unfolding truncated_at
-      truncated_rest whole = chain_first (length_prefixed_at 16 b) _ (chain_next (number_at 16 a) _ (n, b) shared_is (chain_next (front_at bytes) _ (f, a) front_is whole))
+      truncated_rest whole = chain_first (length_prefixed_at 16 b) _ (chain_next (number_at 16 a) _ (n, b) shared_is (chain_next (fields_at bytes) _ (f, a) front_is whole))
 
       module _ (k c : List ℕ) (rest_is : length_prefixed_at 16 b ≡ Some (k, c)) where
         -- of these parts reading makes the handle, where the shared prefix is the longest
@@ -133,14 +133,14 @@ module _ (bytes : List ℕ) (f : Front) (a : List ℕ) (front_is : front_at byte
             (g.0, p.0, p.1)
 
 -- no form begins with the marker of the trailer
-pub marker_ends : (payload : List ℕ) (offset : ℕ) (t : Front × List ℕ) → StandsAt payload offset (255 ∷ []) → front_at (drop offset payload) ≡ Some t → ⊥
-unfolding front_at
+pub marker_ends : (payload : List ℕ) (offset : ℕ) (t : Fields × List ℕ) → IsEncodedAt payload offset (255 ∷ []) → fields_at (drop offset payload) ≡ Some t → ⊥
+unfolding fields_at
 marker_ends payload offset t stands form =
-    let none : front_at (drop offset payload) ≡ None = ap front_at stands.there in
-    no_reading (front_at (drop offset payload)) t form none
+    let none : fields_at (drop offset payload) ≡ None = ap fields_at stands.there in
+    no_reading (fields_at (drop offset payload)) t form none
 
-module _ (payload bytes base : List ℕ) (base_offset end n : ℕ) (f : Front) (a b : List ℕ) (key : SliceIndexes) (stands : StandsAt payload base_offset base) (range : IsRange payload key)
-    (front_is : front_at bytes ≡ Some (f, a)) (shared_is : number_at 16 a ≡ Some (n, b)) (rest_is : length_prefixed_at 16 b ≡ Some (range_of payload key, drop end payload)) where
+module _ (payload bytes base : List ℕ) (base_offset end n : ℕ) (f : Fields) (a b : List ℕ) (key : SliceIndexes) (stands : IsEncodedAt payload base_offset base) (range : IsRange payload key)
+    (front_is : fields_at bytes ≡ Some (f, a)) (shared_is : number_at 16 a ≡ Some (n, b)) (rest_is : length_prefixed_at 16 b ≡ Some (range_of payload key, drop end payload)) where
   -- where a truncated form stands after a head, its prefix is found, and with it the handle
   pub truncated_found : (x : Handle) (rest : List ℕ) → truncated_at base bytes ≡ Some (x, rest)
       → (base_offset + n ≤ length payload) × (n + (key.1 - key.0) ≤ 65535) × (handle_with f (range_of payload (record { 0 = base_offset; 1 = base_offset + n }) ++ range_of payload key) ≡ x)
@@ -169,8 +169,8 @@ module _ (payload bytes base : List ℕ) (base_offset end n : ℕ) (f : Front) (
       let r = range_of payload key in
       let len : prefix.1 - prefix.0 ≡ n = ap (λ (p : SliceIndexes). p.1 - p.0) is ∙ (let e : (base_offset + n) - base_offset ≡ n = omega arith in e) in
       let inside : n ≤ length base = let s = (shared_prefix_inside base (range_of payload prefix ++ r)).0 in omega (arith, len, longest, s) in
-      let front' = range_of-front payload base_offset n base stands inside in
-      let same : range_of payload prefix ≡ take n base = ap (range_of payload) is ∙ front'.1 in
+      let fields' = range_of-front payload base_offset n base stands inside in
+      let same : range_of payload prefix ≡ take n base = ap (range_of payload) is ∙ fields'.1 in
       let shared : shared_prefix_length base (take n base ++ r) ≡ n = ap (λ k. shared_prefix_length base (k ++ r)) (sym same) ∙ sym longest ∙ len in
       let l : length (take n base ++ r) ≡ n + (key.1 - key.0) = let m = length-take-le n base inside in let o = length-range payload key range.order range.inside in omega (arith, length-append (take n base) r, m, o) in
       let truncation : is_truncation base n (take n base ++ r) ≡ true = rw (eq-eqb _ _ shared) (le-leb (length (take n base ++ r)) 65535 (omega (arith, l, most))) in

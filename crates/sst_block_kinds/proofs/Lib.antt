@@ -1,5 +1,5 @@
 mod IndexBlocks
-mod StandingForms
+mod EncodedForms
 mod BothEnds
 mod BackCosts
 mod OwnKeys

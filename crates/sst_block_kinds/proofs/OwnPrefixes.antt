@@ -4,7 +4,7 @@ use Rattle.std.proofs.lemmas.Bool.{eq-eqb}
 use Rattle.std.proofs.lemmas.List.{length-take-le, take-append-drop}
 use Rattle.sst_base.specs.SharedPrefix.{shared_prefix_length}
 use Rattle.sst_base.specs.declared.table.util.SliceIndexes.{SliceIndexes}
-use Rattle.sst_block_core.specs.Found.{IsRange, StandsAt, range_of}
+use Rattle.sst_block_core.specs.Found.{IsRange, IsEncodedAt, range_of}
 
 -- bytes are shared whole with what they begin
 shared_whole : (base rest : List ℕ) → shared_prefix_length base (base ++ rest) ≡ length base
@@ -25,7 +25,7 @@ module _ (payload : List ℕ) (base_offset n : ℕ) (prefix : SliceIndexes) (is 
       let inside = range.inside in
       length-take-le (prefix.1 - prefix.0) (drop base_offset payload) (omega (arith, start, inside, length-drop base_offset payload))
 
-  pub own_stands : StandsAt payload base_offset own_base
+  pub own_stands : IsEncodedAt payload base_offset own_base
   own_stands = record {
     inside = let start : prefix.0 ≡ base_offset = ap (λ (p : SliceIndexes). p.0) is in let order = range.order in let inside = range.inside in omega (arith, start, order, inside);
     after = drop (prefix.1 - prefix.0) (drop base_offset payload);

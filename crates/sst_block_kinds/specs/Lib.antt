@@ -4,6 +4,7 @@ pub mod ParsedEntry
 pub mod ParsedHandle
 pub mod DataBlock
 pub mod IndexBlock
+pub mod Answers
 pub mod Ops
 pub mod IndexOps
 pub mod Walks

@@ -1,9 +1,9 @@
 -- Handles by their ranges of a payload.
 use Rattle.std.specs.Prelude.{List, ◌++◌, ℕ}
 use Rattle.sst_block_core.specs.Found.{range_of, optional_range, range_len, IsRange, IsOptionalRange}
-use Rattle.sst_block_kinds.specs.Handles.{Handle, IsHandle, Front}
+use Rattle.sst_block_kinds.specs.Handles.{Handle, IsHandle, Fields}
 use Rattle.sst_block_kinds.specs.declared.table.index_block.parsed_item.IndexBlockParsedItem.{IndexBlockParsedItem}
-use Rattle.sst_block_kinds.specs.declared.table.index_block.decoding.HandleFront.{HandleFront}
+use Rattle.sst_block_kinds.specs.declared.table.index_block.decoding.HandleFields.{HandleFields}
 
 -- the handle that a parsed item stands for: the ranges of its end key, joined
 abbrev pub handle_of : List ℕ → IndexBlockParsedItem → Handle
@@ -19,6 +19,6 @@ pub record IsParsedHandle (payload : List ℕ) (p : IndexBlockParsedItem) : Type
   pub end_key : IsRange payload p.end_key
   pub fits : IsHandle (handle_of payload p)
 
--- what a front says
-abbrev pub front_by : HandleFront → Front
-front_by f = record { offset = f.offset; size = f.size; seqno = f.seqno }
+-- the fields, as code has them
+abbrev pub fields_by : HandleFields → Fields
+fields_by f = record { offset = f.offset; size = f.size; seqno = f.seqno }

@@ -1,6 +1,5 @@
 //! Checks of blocks of any bytes: damaged test vectors, and blocks beside worked ones: each byte
 //! changed to each other value, cut before each byte, and lengthened.
-ghost use Rattle.std.specs.Prelude.{◌<◌, ◌^◌, length};
 ghost use Rattle.sst_block_kinds.specs.ParsedHandle.{IsParsedHandle};
 
 use crate::Tested;

@@ -1,6 +1,5 @@
 //! Tables of heads: what they count beside a plain count over the list, and needles around the
 //! prefix that all heads share.
-ghost use Rattle.std.specs.Prelude.{◌≡◌, IfOk};
 
 use crate::Tested;
 use crate::lists::{NO_BUCKETS, block_of, push, with_table};

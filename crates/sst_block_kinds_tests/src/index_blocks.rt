@@ -8,7 +8,7 @@ use crate::checks::THREE_HANDLES;
 use crate::random::{Random, key_of};
 use sst_base::table::block::{Block, BlockHandle, BlockOffset, BlockType};
 use sst_base::{Error, Result, Slice};
-use sst_block_kinds::table::index_block::{IndexAnswer, IndexOp, Iter, walk};
+use sst_block_kinds::table::index_block::{Answer, IndexOp, Iter, walk};
 use sst_block_kinds::{IndexBlock, KeyedBlockHandle};
 use std::alloc::Global;
 use std::process::Abort;
@@ -90,7 +90,7 @@ fn answers_of(
     interval: u8,
     has_table: bool,
     ops: &[IndexOp],
-) -> Result<Vec<IndexAnswer>> {
+) -> Result<Vec<Answer<KeyedBlockHandle>>> {
     let block = block_of(rt, alloc, list, interval)?;
     assert!(rt; block.heads().is_none());
     if !has_table {
@@ -246,14 +246,14 @@ fn ops_of(alloc: Global, steps: &[Step]) -> Result<Vec<IndexOp>> {
 }
 
 /// Returns whether a step returns this.
-fn returns(step: &Step, answer: &IndexAnswer) -> bool {
+fn returns(step: &Step, answer: &Answer<KeyedBlockHandle>) -> bool {
     match (step, answer) {
-        (Step::Next(None) | Step::NextBack(None), IndexAnswer::Item(None)) => true,
-        (Step::Next(Some(key)) | Step::NextBack(Some(key)), IndexAnswer::Item(Some(handle))) => {
+        (Step::Next(None) | Step::NextBack(None), Answer::Item(None)) => true,
+        (Step::Next(Some(key)) | Step::NextBack(Some(key)), Answer::Item(Some(handle))) => {
             handle.end_key().as_slice() == *key
         }
-        (Step::Seek(_, _, wanted), IndexAnswer::Found(found)) => wanted == found,
-        (Step::SeekUpper(_, _), IndexAnswer::Found(found)) => *found,
+        (Step::Seek(_, _, wanted), Answer::Found(found)) => wanted == found,
+        (Step::SeekUpper(_, _), Answer::Found(found)) => *found,
         _ => false,
     }
 }
@@ -364,11 +364,11 @@ impl<'a> Window<'a> {
 
 impl Plain<'_> {
     /// Returns whether a block returned the same.
-    fn is(&self, answer: &IndexAnswer) -> bool {
+    fn is(&self, answer: &Answer<KeyedBlockHandle>) -> bool {
         match (self, answer) {
-            (Plain::Found(wanted), IndexAnswer::Found(found)) => wanted == found,
-            (Plain::Item(None), IndexAnswer::Item(None)) => true,
-            (Plain::Item(Some(wanted)), IndexAnswer::Item(Some(read))) => *wanted == read,
+            (Plain::Found(wanted), Answer::Found(found)) => wanted == found,
+            (Plain::Item(None), Answer::Item(None)) => true,
+            (Plain::Item(Some(wanted)), Answer::Item(Some(read))) => *wanted == read,
             _ => false,
         }
     }

@@ -1,14 +1,14 @@
 //! The plain program: data blocks written as the definitions say, place by place, with no thought
 //! of speed. Each contract is a definition. What the library writes is compared with it.
-ghost use Rattle.std.specs.Prelude.{◌≡◌, ℕ, List, ◌+◌, ◌*◌, ◌-◌, ◌/◌};
-ghost use Rattle.std.specs.Prelude.{◌^◌, ◌<◌, ◌≤◌, ◌++◌, [], ◌∷◌};
-ghost use Rattle.std.specs.Prelude.{OnOk, IfOk, IsOkUnless, length, take, sum};
+ghost use Rattle.std.specs.Prelude.{◌≡◌, ℕ, List, ◌+◌};
+ghost use Rattle.std.specs.Prelude.{◌^◌, ◌<◌, ◌≤◌, ◌++◌};
+ghost use Rattle.std.specs.Prelude.{OnOk, IfOk, IsOkUnless, length, take};
 ghost use Rattle.sst_block_kinds_tests.specs.Plain.{form_at};
 ghost use Rattle.byteorder.specs.Endian.{little_bytes};
 ghost use Rattle.sst_base.specs.Varint.{varint, varint_within};
 ghost use Rattle.sst_base.specs.Reading.{length_prefixed};
 ghost use Rattle.sst_base.specs.SharedPrefix.{shared_prefix_length};
-ghost use Rattle.sst_block_core.specs.Body.{body, form, forms, place_offset};
+ghost use Rattle.sst_block_core.specs.Body.{body, place_offset};
 ghost use Rattle.sst_block_core.specs.Pointers.{head_count, pointer_width, pointers};
 ghost use Rattle.sst_block_core.specs.Trailer.{trailer};
 ghost use Rattle.sst_block_core.specs.Payload.{trailer_of};

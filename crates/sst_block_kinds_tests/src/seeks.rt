@@ -206,7 +206,11 @@ pub(crate) fn offset_of(
 }
 
 /// What a step of an iterator over a payload takes.
-fn taken(alloc: Global, payload: &Slice, item: Option<DataBlockParsedItem>) -> Result<Answer>
+fn taken(
+    alloc: Global,
+    payload: &Slice,
+    item: Option<DataBlockParsedItem>,
+) -> Result<Answer<InternalValue>>
     requires { IfSome item (IsParsedEntry payload.now) }
 {
     match item {
@@ -223,7 +227,7 @@ fn perform(
     interval: u8,
     iter: &mut Iter<'_>,
     step: &Step<'_>,
-) -> Result<Answer>
+) -> Result<Answer<InternalValue>>
     requires block { block.now.interval ≡ interval }
     requires payload { iter.old.payload ≡ block.now.payload }
     requires interval { iter.old.interval ≡ interval }
@@ -254,7 +258,7 @@ fn perform_all(
     block: &DataBlock<Poly31>,
     interval: u8,
     lines: &[Line<'_>],
-) -> Result<Vec<Answer>>
+) -> Result<Vec<Answer<InternalValue>>>
     requires { block.now.interval ≡ interval }
 {
     let mut iter = block.iter();
@@ -266,7 +270,12 @@ fn perform_all(
 }
 
 /// Checks that calls over a list returned what is written.
-fn compare(rt: &impl Abort, list: &[InternalValue], lines: &[Line<'_>], found: &[Answer]) {
+fn compare(
+    rt: &impl Abort,
+    list: &[InternalValue],
+    lines: &[Line<'_>],
+    found: &[Answer<InternalValue>],
+) {
     for ((step, wanted), answer) in lines.iter().zip(found.iter()) {
         let is_wanted = match (wanted, answer) {
             (Wanted::Found(wanted), Answer::Found(found)) => wanted == found,

@@ -1,6 +1,5 @@
 //! The check of a payload, run as it is defined: stage after stage, each of which reads the payload
 //! again from its first byte.
-ghost use Rattle.std.specs.Prelude.{◌<◌};
 
 use crate::plain::plain_shared;
 use sst_base::{Error, Result};

@@ -170,22 +170,30 @@ pub fn damaged_bucket()
         → ⊥ }
 {}
 
-/// The check of damaged blocks names the first stage that fails.
-pub fn checked_damage()
+/// The check of blocks returns their entries.
+pub fn checked_blocks()
     ensures whole { data_check sum one_entry_block ≡ Ok one_entry }
     ensures buckets { data_check sum hash_pair_block ≡ Ok (map plain truncated_pair) }
+{}
+
+/// The check of bytes that are too short for a block, or all zero.
+pub fn checked_stumps()
+    ensures short { data_check sum (take 30 one_entry_block) ≡ Err Truncated }
+    ensures nothing { data_check sum [] ≡ Err Truncated }
+    ensures zeros { data_check sum (replicate 31 0) ≡ Err BadTrailer }
+{}
+
+/// The check of damaged blocks names the first stage that fails.
+pub fn checked_damage()
     ensures value_type { data_check sum (slice_set one_entry_block 0 3) ≡ Err BadEntry }
     ensures interval { data_check sum (slice_set one_entry_block 9 0) ≡ Err BadTrailer }
     ensures pointer { data_check sum (slice_set one_entry_block 7 1) ≡ Err BadIndex }
     ensures loose { data_check sum loose_block ≡ Err BadEntry }
-    ensures short { data_check sum (take 30 one_entry_block) ≡ Err Truncated }
-    ensures nothing { data_check sum [] ≡ Err Truncated }
-    ensures zeros { data_check sum (replicate 31 0) ≡ Err BadTrailer }
     ensures bucket { data_check sum (slice_set hash_pair_block 26 0) ≡ Err BadHashIndex }
     ensures order { data_check sum (data_payload sum falling 1 0) ≡ Err OutOfOrder }
 {}
 
-/// The block of three entries with one byte changed.
+/// The block of three entries with one byte of a form changed.
 pub fn hostile_entries()
     ensures seqno_above { data_check sum (slice_set truncated_pair_block 8 3) ≡ Err OutOfOrder }
     ensures seqno_same { data_check sum (slice_set truncated_pair_block 8 2)
@@ -193,6 +201,10 @@ pub fn hostile_entries()
     ensures shares_less { data_check sum (slice_set truncated_pair_block 9 1) ≡ Err OutOfOrder }
     ensures shares_more { data_check sum (slice_set truncated_pair_block 9 3) ≡ Err BadEntry }
     ensures loose { data_check sum (slice_set truncated_pair_block 13 0) ≡ Err BadEntry }
+{}
+
+/// The block of three entries with one byte changed after the forms.
+pub fn hostile_trailers()
     ensures pointer { data_check sum (slice_set truncated_pair_block 22 12) ≡ Err BadIndex }
     ensures interval { data_check sum (slice_set truncated_pair_block 24 3) ≡ Err BadTrailer }
     ensures width { data_check sum (slice_set truncated_pair_block 25 4) ≡ Err BadTrailer }

@@ -132,13 +132,13 @@ abbrev pub IsPackFault : Option (List ℕ) → Fault → Type 0
 IsPackFault known fault = IsFaultOf run_of_input known fault ⊎ (fault ≡ Refused TooLong)
 
 -- the fault that a run tells, if it did not fail. Words that encode no command are a usage fault.
-abbrev pub HasTold : Option Command → Option (List ℕ) → Fault → Type 0
-HasTold None known fault = IsFailure fault ⊎ (fault ≡ Usage)
-HasTold (Some (Point query)) known fault = IsFaultOf (outcome_of_query query) known fault
-HasTold (Some (Pack packing)) known fault = IsPackFault known fault
-HasTold (Some (Get lookup)) known fault = IsRefused fault
-HasTold (Some (Walk file)) known fault = IsRefused fault
-HasTold (Some (Check file)) known fault = IsRefused fault
+abbrev pub IsReported : Option Command → Option (List ℕ) → Fault → Type 0
+IsReported None known fault = IsFailure fault ⊎ (fault ≡ Usage)
+IsReported (Some (Point query)) known fault = IsFaultOf (outcome_of_query query) known fault
+IsReported (Some (Pack packing)) known fault = IsPackFault known fault
+IsReported (Some (Get lookup)) known fault = IsRefused fault
+IsReported (Some (Walk file)) known fault = IsRefused fault
+IsReported (Some (Check file)) known fault = IsRefused fault
 
 -- what a run with a fault has printed: nothing, unless it failed; but `walk` the lines of the blocks before
 abbrev pub HasKept : Option Command → Option (List ℕ) → Option (List ℕ) → Fault → Type 0

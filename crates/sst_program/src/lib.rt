@@ -23,7 +23,7 @@ pub mod words;
 ghost use Rattle.std.specs.Prelude.{◌≡◌, ◌≤◌, map, OnOk, IfErr, is_ok};
 ghost use Rattle.std.specs.Prelude.{if◌then◌else◌};
 ghost use Rattle.sst_program.specs.Commands.{command_of_words};
-ghost use Rattle.sst_program.specs.Outcome.{HasPrinted, HasTold, HasKept};
+ghost use Rattle.sst_program.specs.Outcome.{HasPrinted, IsReported, HasKept};
 
 use check::check;
 use fault::Fault;
@@ -72,7 +72,7 @@ pub fn run<R: LockFiles, W: AsSlice<u8>, I: Read, O: Write>(
     ensures printed { OnOk result (HasPrinted (command_of_words (map W.items words.now))
         (I.remaining input.old) (O.contents output.old) (O.contents output.new)) }
     ensures err { IfErr result
-        (HasTold (command_of_words (map W.items words.now)) (I.remaining input.old)) }
+        (IsReported (command_of_words (map W.items words.now)) (I.remaining input.old)) }
     ensures kept { IfErr result (HasKept (command_of_words (map W.items words.now))
         (O.contents output.old) (O.contents output.new)) }
 {

@@ -6,7 +6,8 @@ ghost use Rattle.sst_block_core.specs.Entries.{entries};
 ghost use Rattle.sst_block_core.specs.Kind.{IsOrdered};
 ghost use Rattle.sst_program.specs.Outcome.{packed_text_of, PrintsPacked, PrintsNothing, IsPackFault};
 ghost use Rattle.sst_program.specs.Table.{IsCutBy, AppendsTable, IsWriteFault};
-ghost use Rattle.sst_program.specs.Table.{end_of, run_end};
+ghost use Rattle.sst_program.specs.Table.{IsWritable, end_of, run_end};
+ghost use Rattle.sstable_blocks.specs.Writing.{IsSameRun};
 
 use crate::fault::{self, Fault};
 use crate::footer::{FOOTER_LEN, footer_of};
@@ -42,8 +43,7 @@ fn add_blocks<W: Write>(
     requires ordered { IsOrdered entries items.now }
     ensures cut { OnOk result (IsCutBy per_block items.now run.new.blocks) }
     ensures accepting { OnOk result (run.new.refusal ≡ None) }
-    ensures config { run.new.config ≡ run.old.config }
-    ensures start { run.new.start ≡ run.old.start }
+    ensures run { IsSameRun run.old run.new }
     ensures cause { IfErr result IsWriteFault }
 {
     let mut rest = items;
@@ -88,9 +88,7 @@ pub fn write_table<W: SyncWrite + Drop>(
     config: RunConfig,
     per_block: usize,
 ) -> Result<(Packed, W)>
-    requires interval { 1 ≤ config.restart_interval }
-    requires index_interval { 1 ≤ config.index_interval }
-    requires den { 1 ≤ config.ratio.den }
+    requires config { IsWritable config }
     requires per_block { 1 ≤ per_block }
     requires some { 1 ≤ length items.now }
     requires ordered { IsOrdered entries items.now }

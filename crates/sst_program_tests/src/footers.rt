@@ -1,6 +1,7 @@
 //! Footers beside a worked one: each byte changed to each other value, cut before each byte, and
 //! lengthened.
 use sst_base_tests::changes::{change_count, changed};
+use sst_base_tests::numbers::{u32_at, u64_at};
 use sst_program::footer::{footer_of, handles_in};
 use sstable_blocks::{BlockHandle, BlockOffset, Error, Result, RunHandles};
 use std::alloc::Global;
@@ -10,21 +11,10 @@ const WORKED: [u8; 24] = [
     219, 0, 0, 0, 0, 0, 0, 0, 90, 0, 0, 0, 53, 1, 0, 0, 0, 0, 0, 0, 59, 0, 0, 0,
 ];
 
-// The number of a field, the least significant byte first.
-fn number_at(bytes: &[u8], at: usize, count: usize) -> u64 {
-    let mut number = 0u64;
-    for place in 0..count {
-        let last = at.wrapping_add(count).wrapping_sub(place).wrapping_sub(1);
-        let byte = bytes.get(last).copied().unwrap_or(0);
-        number = number.wrapping_mul(256).wrapping_add(u64::from(byte));
-    }
-    number
-}
-
 // The handle whose fields are the 12 bytes at an offset.
 fn handle_at(bytes: &[u8], at: usize) -> BlockHandle {
-    let size = u32::try_from(number_at(bytes, at.wrapping_add(8), 4)).unwrap_or(0);
-    BlockHandle::new(BlockOffset(number_at(bytes, at, 8)), size)
+    let offset = BlockOffset(u64_at(bytes, at));
+    BlockHandle::new(offset, u32_at(bytes, at.wrapping_add(8)))
 }
 
 // The handles of the first 24 bytes.

@@ -4,7 +4,7 @@
 /// Sources that read bytes themselves, or write them: the check and what it alone calls, the
 /// encoder and the writer of runs, the trailer and the two indexes, and the implementations of the
 /// item traits with what they call.
-pub const READERS: [&str; 21] = [
+pub const READERS: [&str; 20] = [
     "sst_block_core/src/table/block/check/buckets.rt",
     "sst_block_core/src/table/block/check/keys.rt",
     "sst_block_core/src/table/block/check/mod.rt",
@@ -13,7 +13,6 @@ pub const READERS: [&str; 21] = [
     "sst_block_core/src/table/block/check/tally.rt",
     "sst_block_core/src/table/block/check/truncation.rt",
     "sst_block_core/src/table/block/encoder.rt",
-    "sst_block_core/src/table/block/writing.rt",
     "sstable_blocks/src/run/run_core.rt",
     "sst_block_core/src/table/block/trailer.rt",
     "sst_block_core/src/table/block/binary_index/builder.rt",

@@ -23,7 +23,7 @@ use Rattle.std.proofs.SliceLists.{all_by_recursion_push}
 use Rattle.sst_block_core.specs.Encoders.{IsRefusal}
 use Rattle.sstable_blocks.proofs.BlockHandles.{end_parts}
 use Rattle.sstable_blocks.proofs.Ends.{back_in_order}
-use Rattle.sstable_blocks.specs.Writing.{Follows, IsKept, IsBehind, FrameFits, IsFramedBlock, IsWriteRefusal}
+use Rattle.sstable_blocks.specs.Writing.{Follows, IsKept, FollowsLast, FrameFits, IsFramedBlock, IsWriteRefusal}
 
 pub joined-push : {X : Type 0} (blocks : List (List X)) (b : List X) → joined (blocks ++ b ∷ []) ≡ joined blocks ++ b
 joined-push [] b = append-nil b
@@ -54,23 +54,23 @@ behind_last xs y ys o front last e =
     (back_in_order (item_cmp entries) front (last ∷ y ∷ ys) (subst (IsOrdered entries) whole o)).0
 
 -- entries can be a next block exactly if there is a first one, they are in order, and the first is after the others
-pub follows_from : (blocks : List (List Entry)) (items : List Entry) (first : Entry) → slice_get items 0 ≡ Some first → IsOrdered entries (joined blocks) → IsOrdered entries items → IsBehind blocks first → Follows blocks items
+pub follows_from : (blocks : List (List Entry)) (items : List Entry) (first : Entry) → slice_get items 0 ≡ Some first → IsOrdered entries (joined blocks) → IsOrdered entries items → FollowsLast blocks first → Follows blocks items
 follows_from blocks [] first s o p behind = cc
 follows_from blocks (x ∷ xs) first s o p behind =
     let same : x ≡ first = cc in
     record {
       some = omega arith;
-      ordered = subst (IsOrdered entries) (sym (joined-push blocks (x ∷ xs))) (ordered_append (joined blocks) x xs o p (subst (IsBehind blocks) (sym same) behind));
+      ordered = subst (IsOrdered entries) (sym (joined-push blocks (x ∷ xs))) (ordered_append (joined blocks) x xs o p (subst (FollowsLast blocks) (sym same) behind));
     }
 
 pub follows_ordered : (blocks : List (List Entry)) (items : List Entry) → Follows blocks items → IsOrdered entries items
 follows_ordered blocks items follows = back_in_order (item_cmp entries) (joined blocks) items (subst (IsOrdered entries) (joined-push blocks items) follows.ordered)
 
-pub follows_behind : (blocks : List (List Entry)) (items : List Entry) (first : Entry) → slice_get items 0 ≡ Some first → Follows blocks items → IsBehind blocks first
+pub follows_behind : (blocks : List (List Entry)) (items : List Entry) (first : Entry) → slice_get items 0 ≡ Some first → Follows blocks items → FollowsLast blocks first
 follows_behind blocks [] first s follows = cc
 follows_behind blocks (x ∷ xs) first s follows =
     let same : x ≡ first = cc in
-    subst (IsBehind blocks) same (behind_last (joined blocks) x xs (subst (IsOrdered entries) (joined-push blocks (x ∷ xs)) follows.ordered))
+    subst (FollowsLast blocks) same (behind_last (joined blocks) x xs (subst (IsOrdered entries) (joined-push blocks (x ∷ xs)) follows.ordered))
 
 -- the last key of two lists is that of the second, if that is not empty
 end_of-append : (xs ys : List Entry) → 1 ≤ length ys → end_of (xs ++ ys) ≡ end_of ys
@@ -119,7 +119,7 @@ module _ (f : Form) where
       (r.0 ∙ ap (λ (x : Key). x.user_key) (sym same), r.1 ∙ ap (λ (x : Key). x.seqno) (sym same))
 
   -- without blocks no entry stands in front
-  pub no_last : (blocks : List (List Entry)) (item : Entry) → slice_get (handles_from f 0 blocks) (length (handles_from f 0 blocks) - 1) ≡ None → IsBehind blocks item
+  pub no_last : (blocks : List (List Entry)) (item : Entry) → slice_get (handles_from f 0 blocks) (length (handles_from f 0 blocks) - 1) ≡ None → FollowsLast blocks item
   no_last [] item e [] last j = cc
   no_last [] item e (x ∷ front) last j = cc
   no_last (b ∷ bs) item e front last j = absurd (last_some (handle_of f 0 b) (handles_from f (0 + length (block_frame f b)) bs) e)
@@ -130,7 +130,7 @@ module _ (f : Form) where
 
   -- an entry does not sort before the last one exactly if it does not sort before the last handle's end
   pub is_behind : (blocks : List (List Entry)) (item : Entry) (h : Handle) (o : Ordering) → AllByRecursion IsNotEmpty blocks → slice_get (handles_from f 0 blocks) (length (handles_from f 0 blocks) - 1) ≡ Some h
-      → o ≡ ordering_then (slice_cmp nat_cmp item.key.user_key h.end_key) (nat_cmp h.seqno item.key.seqno) → IsTrue (is_ge o) ↔ IsBehind blocks item
+      → o ≡ ordering_then (slice_cmp nat_cmp item.key.user_key h.end_key) (nat_cmp h.seqno item.key.seqno) → IsTrue (is_ge o) ↔ FollowsLast blocks item
   is_behind blocks item h o s e is =
       let end = last_handle 0 blocks h s e in
       let at : (k : Key) → end_of (joined blocks) ≡ k → o ≡ ordering_then (slice_cmp nat_cmp item.key.user_key k.user_key) (nat_cmp k.seqno item.key.seqno) = λ k x.

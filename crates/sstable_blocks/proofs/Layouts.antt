@@ -37,12 +37,12 @@ bucket_count_below num den n = elim (cases_Bool (eqb num 0)) [
 
 module _ (f : Form) where
   -- the frame of a block stands where a handle says
-  pub record Stands (bytes : List ℕ) (block : List Entry) (h : Handle) : Type 0 where
+  pub record IsPlace (bytes : List ℕ) (block : List Entry) (h : Handle) : Type 0 where
     pub part : IsPart bytes h.offset (block_frame f block)
     pub size : h.size ≡ length (block_frame f block)
 
   -- those of all blocks stand where their handles say
-  pub frames_stand : (bytes front rest : List ℕ) (offset : ℕ) (blocks : List (List Entry)) → bytes ≡ front ++ (block_frames f blocks ++ rest) → offset ≡ length front → AllZip (Stands bytes) blocks (handles_from f offset blocks)
+  pub frames_stand : (bytes front rest : List ℕ) (offset : ℕ) (blocks : List (List Entry)) → bytes ≡ front ++ (block_frames f blocks ++ rest) → offset ≡ length front → AllZip (IsPlace bytes) blocks (handles_from f offset blocks)
   frames_stand bytes front rest offset [] e o = tt
   frames_stand bytes front rest offset (b ∷ bs) e o =
       let split : bytes ≡ front ++ (block_frame f b ++ (block_frames f bs ++ rest)) = e ∙ ap (λ xs. front ++ xs) (append_assoc (block_frame f b) (block_frames f bs) rest) in
@@ -54,7 +54,7 @@ module _ (f : Form) where
         frames_stand bytes (front ++ block_frame f b) rest (offset + length (block_frame f b)) bs more at,
       )
 
-  pub run_frames : (blocks : List (List Entry)) (p : List ℕ) → AllZip (Stands (run_text f blocks p)) blocks (handles_from f 0 blocks)
+  pub run_frames : (blocks : List (List Entry)) (p : List ℕ) → AllZip (IsPlace (run_text f blocks p)) blocks (handles_from f 0 blocks)
   unfolding run_text
   run_frames blocks p = frames_stand (run_text f blocks p) [] (index_frame f blocks ++ filter_frame f p) 0 blocks refl refl
 

@@ -20,7 +20,7 @@ use Rattle.sst_block_core.specs.Window.{first_match}
 use Rattle.sstable_blocks.specs.Filter.{Filter, filter_at, may_contain}
 use Rattle.sstable_blocks.specs.Lookup.{handle_for}
 use Rattle.sstable_blocks.specs.Opened.{range_of}
-use Rattle.sstable_blocks.specs.RunReading.{Hashes, range_at, payload_at, filter_answer, filter_says, read_block, read_blocks, read_checked, StandsFramed, FilterDenies, FilterAllows, BlockMeans, IndexMeans, AnswerMeans}
+use Rattle.sstable_blocks.specs.RunReading.{Hashes, range_at, payload_at, filter_answer, filter_says, read_block, read_blocks, read_checked, IsFramedAt, FilterDenies, FilterAllows, BlockMeans, IndexMeans, AnswerMeans}
 use Rattle.sstable_blocks.specs.declared.run.RunHandles.{RunHandles}
 use Rattle.sstable_blocks.proofs.CheckedReads.{may_contain_to, may_contain_from}
 
@@ -38,7 +38,7 @@ payload_of_type_takes hash128 t bytes p small e =
     let same = same_type found.0.header.block_type t (eqb-true _ _ typed.0) in
     (frame_in_takes hash128 bytes found.0 small found.1).0 ∙ ap (λ u. frame hash128 u found.0.payload) same ∙ ap (frame hash128 t) typed.1
 
-pub payload_at_takes : (c : Hashes) (t : BlockType) (bytes : List ℕ) (h : HandleParts) (p : List ℕ) → IsBytes bytes → payload_at c t bytes h ≡ Ok p → StandsFramed c t bytes h p
+pub payload_at_takes : (c : Hashes) (t : BlockType) (bytes : List ℕ) (h : HandleParts) (p : List ℕ) → IsBytes bytes → payload_at c t bytes h ≡ Ok p → IsFramedAt c t bytes h p
 unfolding range_at
 payload_at_takes c t bytes h p small e =
     let found = bind_ok (range_at bytes h) (payload_of_type c.hash128 t) p e in
@@ -51,7 +51,7 @@ abbrev Says : Hashes → List ℕ → Option HandleParts → List ℕ → Bool �
 Says c bytes h needle true = FilterAllows c bytes h needle
 Says c bytes h needle false = FilterDenies c bytes h needle
 
-says_of : (c : Hashes) (bytes : List ℕ) (h : HandleParts) (needle p : List ℕ) (f : Filter) (may : Bool) → StandsFramed c types.Filter bytes h p → filter_at p ≡ Ok f → may_contain f (c.hash64 needle) ≡ may → Says c bytes (Some h) needle may
+says_of : (c : Hashes) (bytes : List ℕ) (h : HandleParts) (needle p : List ℕ) (f : Filter) (may : Bool) → IsFramedAt c types.Filter bytes h p → filter_at p ≡ Ok f → may_contain f (c.hash64 needle) ≡ may → Says c bytes (Some h) needle may
 says_of c bytes h needle p f true stands reads e = (p, f, stands, reads, may_contain_from f (c.hash64 needle) e)
 says_of c bytes h needle p f false stands reads e = (p, f, stands, reads, λ may. let wrong : true ≡ false = sym (may_contain_to f (c.hash64 needle) may) ∙ e in cc)
 

@@ -18,21 +18,21 @@ use Rattle.sstable_blocks.specs.Blocks.{joined}
 use Rattle.sstable_blocks.specs.Filter.{Filter, filter_at}
 use Rattle.sstable_blocks.specs.Lookup.{IsEnd, first_in, place_for}
 use Rattle.sstable_blocks.specs.Opened.{range_of, IsFrameRange, payload_in, index_in, IsDenied, IsOpen, Opened}
-use Rattle.sstable_blocks.specs.RunReading.{Hashes, StandsFramed}
+use Rattle.sstable_blocks.specs.RunReading.{Hashes, IsFramedAt}
 use Rattle.sstable_blocks.specs.Sound.{IsStoredBlock, IsStoredFilter, IsSound}
 use Rattle.sstable_blocks.specs.declared.run.RunHandles.{RunHandles}
 use Rattle.sstable_blocks.proofs.FilterReads.{denied}
 use Rattle.sstable_blocks.proofs.Search.{first_match-joined}
 
 -- the size of a handle in whose range a frame is
-pub framed_size : (c : Hashes) (t : BlockType) (bytes p : List ℕ) (h : HandleParts) → StandsFramed c t bytes h p → h.size ≡ 33 + length p
+pub framed_size : (c : Hashes) (t : BlockType) (bytes p : List ℕ) (h : HandleParts) → IsFramedAt c t bytes h p → h.size ≡ 33 + length p
 framed_size c t bytes p h s =
     let inside = s.inside in
     let l = length-drop h.offset bytes in
     sym (length-take-le h.size (drop h.offset bytes) (omega arith)) ∙ ap length s.whole ∙ length-frame c.hash128 t p
 
 -- the range of a handle, where a frame is in it
-pub frame_range : (c : Hashes) (t : BlockType) (bytes p : List ℕ) (h : HandleParts) → StandsFramed c t bytes h p → IsFrameRange bytes h × (payload_in bytes h ≡ p)
+pub frame_range : (c : Hashes) (t : BlockType) (bytes p : List ℕ) (h : HandleParts) → IsFramedAt c t bytes h p → IsFrameRange bytes h × (payload_in bytes h ≡ p)
 unfolding payload_in frame
 frame_range c t bytes p h s =
     let head = header c.hash128 (header_for c.hash128 t p) in

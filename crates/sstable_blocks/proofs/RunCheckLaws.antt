@@ -33,7 +33,7 @@ use Rattle.sstable_blocks.specs.Filter.{Filter, filter_at, MayContain}
 use Rattle.sstable_blocks.specs.Lookup.{IsEnd}
 use Rattle.sstable_blocks.specs.Opened.{range_of, payload_in}
 use Rattle.sstable_blocks.specs.RunChecks.{end_cmp, starts_after, is_end, allows, check_entries, first_after, passed_on, check_items, check_block, check_from, none_passed, summary_by, filter_in_run, check_run, least_from, greatest_from, summary_of}
-use Rattle.sstable_blocks.specs.RunReading.{Hashes, StandsFramed, payload_at, items_at, handles_at}
+use Rattle.sstable_blocks.specs.RunReading.{Hashes, IsFramedAt, payload_at, items_at, handles_at}
 use Rattle.sstable_blocks.specs.Sound.{IsStoredBlock, IsStoredFilter, AreContiguous, IsSound}
 use Rattle.sstable_blocks.specs.declared.run.RunHandles.{RunHandles}
 use Rattle.sstable_blocks.specs.declared.run.checking.Passed.{Passed}
@@ -206,7 +206,7 @@ follows_last block h i [] o = tt
 follows_last block h i (y ∷ ys) o = λ less. o.0 (sym (end_cmp-last block h i y) ∙ less)
 
 -- the payload of a frame is bytes
-framed_bytes : (c : Hashes) (t : BlockType) (bytes p : List ℕ) (h : HandleParts) → IsBytes bytes → StandsFramed c t bytes h p → IsBytes p
+framed_bytes : (c : Hashes) (t : BlockType) (bytes p : List ℕ) (h : HandleParts) → IsBytes bytes → IsFramedAt c t bytes h p → IsBytes p
 unfolding payload_in
 framed_bytes c t bytes p h small s = subst IsBytes (frame_range c t bytes p h s).1 (IsBytes-take (h.size - 33) (drop (h.offset + 33) bytes) (IsBytes-drop (h.offset + 33) bytes small))
 

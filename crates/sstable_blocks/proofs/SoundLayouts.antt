@@ -17,14 +17,14 @@ use Rattle.sstable_blocks.specs.FilterLaws.{inserted_may_be_contained}
 use Rattle.sstable_blocks.specs.Lookup.{IsEnd}
 use Rattle.sstable_blocks.specs.Opened.{range_of}
 use Rattle.sstable_blocks.specs.Run.{Form, block_payload, block_frame, handle_of, handles_from, index_text, run_text, run_handles, key_hashes, IsFilterText, IsRun, RunFits, IsLayout}
-use Rattle.sstable_blocks.specs.RunReading.{Hashes, hashes, StandsFramed}
+use Rattle.sstable_blocks.specs.RunReading.{Hashes, hashes, IsFramedAt}
 use Rattle.sstable_blocks.specs.Sound.{IsStoredBlock, IsStoredFilter, AreContiguous, IsSound}
 use Rattle.sstable_blocks.specs.Writing.{AppendsLayout, AppendsSound}
 use Rattle.sstable_blocks.specs.declared.run.RunHandles.{RunHandles}
 use Rattle.sstable_blocks.proofs.BlockHandles.{handles_end}
 use Rattle.sstable_blocks.proofs.Endings.{filter_framed as filter_small}
 use Rattle.sstable_blocks.proofs.FilterReads.{filter_handle, no_filter, some_filter, filter_framed, filter_reads}
-use Rattle.sstable_blocks.proofs.Layouts.{IsPart, Stands, run_frames, index_stands, filter_stands, IsDataBlock, blocks_are_blocks, index_is_index}
+use Rattle.sstable_blocks.proofs.Layouts.{IsPart, IsPlace, run_frames, index_stands, filter_stands, IsDataBlock, blocks_are_blocks, index_is_index}
 
 -- what holds of all hashes of keys holds of each key's
 each_key : (hash : List ℕ → ℕ) (P : ℕ → Type 0) (items : List Entry) → ((n : ℕ) → Contains (key_hashes hash items) n → P n) → AllByRecursion (λ x. P (hash x.key.user_key)) items
@@ -38,13 +38,13 @@ module _ (f : Form) where
   abbrev pub both : Hashes
   both = hashes f.hash64 f.hash128
 
-  pub part_is_framed : (t : BlockType) (bytes p : List ℕ) (h : HandleParts) → IsPart bytes h.offset (frame f.hash128 t p) → h.size ≡ length (frame f.hash128 t p) → StandsFramed both t bytes h p
+  pub part_is_framed : (t : BlockType) (bytes p : List ℕ) (h : HandleParts) → IsPart bytes h.offset (frame f.hash128 t p) → h.size ≡ length (frame f.hash128 t p) → IsFramedAt both t bytes h p
   part_is_framed t bytes p h part size = record {
     inside = (let inside = part.inside in omega arith);
     whole = ap (λ n. take n (drop h.offset bytes)) size ∙ part.is;
   }
 
-  blocks_are_stored : (bytes : List ℕ) (offset : ℕ) (blocks : List (List Entry)) → AllZip (Stands f bytes) blocks (handles_from f offset blocks) → AllByRecursion (IsDataBlock f) blocks
+  blocks_are_stored : (bytes : List ℕ) (offset : ℕ) (blocks : List (List Entry)) → AllZip (IsPlace f bytes) blocks (handles_from f offset blocks) → AllByRecursion (IsDataBlock f) blocks
       → AllZip (IsEnd entries handles) blocks (handles_from f offset blocks) → AllZip (IsStoredBlock both bytes) blocks (handles_from f offset blocks)
   blocks_are_stored bytes offset [] stand are ends = tt
   blocks_are_stored bytes offset (b ∷ bs) stand are ends = (

@@ -24,7 +24,7 @@ use Rattle.sstable_blocks.specs.Blocks.{joined}
 use Rattle.sstable_blocks.specs.Filter.{Filter, filter_at, may_contain, MayContain}
 use Rattle.sstable_blocks.specs.Lookup.{first_in, place_for, handle_for}
 use Rattle.sstable_blocks.specs.Opened.{range_of}
-use Rattle.sstable_blocks.specs.RunReading.{Hashes, StandsFramed, range_at, payload_at, filter_says, read_block, read_blocks, read_checked}
+use Rattle.sstable_blocks.specs.RunReading.{Hashes, IsFramedAt, range_at, payload_at, filter_says, read_block, read_blocks, read_checked}
 use Rattle.sstable_blocks.specs.Sound.{IsStoredBlock, IsStoredFilter, IsSound}
 use Rattle.sstable_blocks.specs.declared.run.RunHandles.{RunHandles}
 use Rattle.sstable_blocks.proofs.CheckedReads.{may_contain_to}
@@ -81,7 +81,7 @@ payload_is hash128 t p short sum =
     ∙ ap (λ b. if b then Ok p else Err (InvalidTag tags.BlockType (block_type_byte t))) (eq-eqb (block_type_byte t) (block_type_byte t) refl)
 
 -- a frame in the range of a handle is read
-pub framed_is_read : (c : Hashes) (t : BlockType) (bytes p : List ℕ) (h : HandleParts) → ((xs : List ℕ) → c.hash128 xs < 2 ^ 128) → length p < 2 ^ 32 → StandsFramed c t bytes h p → payload_at c t bytes h ≡ Ok p
+pub framed_is_read : (c : Hashes) (t : BlockType) (bytes p : List ℕ) (h : HandleParts) → ((xs : List ℕ) → c.hash128 xs < 2 ^ 128) → length p < 2 ^ 32 → IsFramedAt c t bytes h p → payload_at c t bytes h ≡ Ok p
 unfolding range_at
 framed_is_read c t bytes p h sums short s =
     bind_to (range_at bytes h) (payload_of_type c.hash128 t) (frame c.hash128 t p) (Ok p)

@@ -82,31 +82,31 @@ read_checked c bytes h needle seqno = do
   may ← filter_says c bytes h.filter needle
   if may then read_blocks c bytes h.index needle seqno else Ok None
 
--- in the range of a handle stands the frame of this type and this payload
-pub record StandsFramed (c : Hashes) (t : BlockType) (bytes : List ℕ) (h : HandleParts) (p : List ℕ) : Type 0 where
+-- the range of a handle is the frame of this type and this payload
+pub record IsFramedAt (c : Hashes) (t : BlockType) (bytes : List ℕ) (h : HandleParts) (p : List ℕ) : Type 0 where
   pub inside : h.offset + h.size ≤ length bytes
   pub whole : take h.size (drop h.offset bytes) ≡ frame c.hash128 t p
 
 -- a filter, if there is one, has not the bits of all probes of the needle's hash
 abbrev pub FilterDenies : Hashes → List ℕ → Option HandleParts → List ℕ → Type 0
 FilterDenies c bytes None needle = ⊥
-FilterDenies c bytes (Some h) needle = (p : List ℕ) × (f : Filter) × StandsFramed c types.Filter bytes h p × (filter_at p ≡ Ok f) × (MayContain f (c.hash64 needle) → ⊥)
+FilterDenies c bytes (Some h) needle = (p : List ℕ) × (f : Filter) × IsFramedAt c types.Filter bytes h p × (filter_at p ≡ Ok f) × (MayContain f (c.hash64 needle) → ⊥)
 
 -- or it has
 abbrev pub FilterAllows : Hashes → List ℕ → Option HandleParts → List ℕ → Type 0
 FilterAllows c bytes None needle = Unit {0}
-FilterAllows c bytes (Some h) needle = (p : List ℕ) × (f : Filter) × StandsFramed c types.Filter bytes h p × (filter_at p ≡ Ok f) × MayContain f (c.hash64 needle)
+FilterAllows c bytes (Some h) needle = (p : List ℕ) × (f : Filter) × IsFramedAt c types.Filter bytes h p × (filter_at p ≡ Ok f) × MayContain f (c.hash64 needle)
 
 -- what an answer by the handle of a data block means: none without a handle, else the first match of a block that passes its check
 abbrev pub BlockMeans : Hashes → List ℕ → Option Handle → List ℕ → ℕ → Option Entry → Type 0
 BlockMeans c bytes None needle seqno answer = answer ≡ None
 BlockMeans c bytes (Some h) needle seqno answer =
-    (p : List ℕ) × StandsFramed c types.Data bytes (range_of h) p × Passes entries c.hash64 p × (answer ≡ first_match entries needle seqno (items_in entries p))
+    (p : List ℕ) × IsFramedAt c types.Data bytes (range_of h) p × Passes entries c.hash64 p × (answer ≡ first_match entries needle seqno (items_in entries p))
 
 -- what one by the index means: its block passes the check, and the answer is by the handle at which the seek stops
 abbrev pub IndexMeans : Hashes → List ℕ → HandleParts → List ℕ → ℕ → Option Entry → Type 0
 IndexMeans c bytes h needle seqno answer =
-    (p : List ℕ) × StandsFramed c types.Index bytes h p × IndexPasses (trailer_in p).interval p
+    (p : List ℕ) × IsFramedAt c types.Index bytes h p × IndexPasses (trailer_in p).interval p
     × BlockMeans c bytes (handle_for handles needle seqno (items_in handles p)) needle seqno answer
 
 -- what an answer on any bytes means: the filter denies the needle and there is none, or it allows it and the answer is by the index

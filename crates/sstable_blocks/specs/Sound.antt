@@ -13,14 +13,14 @@ use Rattle.sstable_blocks.specs.Filter.{Filter, filter_at, MayContain}
 use Rattle.sstable_blocks.specs.Lookup.{IsEnd}
 use Rattle.sstable_blocks.specs.Opened.{range_of}
 use Rattle.sstable_blocks.specs.Run.{IsFramed}
-use Rattle.sstable_blocks.specs.RunReading.{Hashes, StandsFramed}
+use Rattle.sstable_blocks.specs.RunReading.{Hashes, IsFramedAt}
 use Rattle.sstable_blocks.specs.declared.run.RunHandles.{RunHandles}
 
 -- in the range of a handle is the frame of a data block that encodes these entries, at an interval and a number of
 -- buckets of its own; the handle has the key and the sequence number of the last entry
 pub record IsStoredBlock (c : Hashes) (bytes : List ℕ) (block : List Entry) (h : Handle) : Type 0 where
   pub payload : List ℕ
-  pub frame : StandsFramed c types.Data bytes (range_of h) payload
+  pub frame : IsFramedAt c types.Data bytes (range_of h) payload
   pub interval : ℕ
   pub buckets : ℕ
   pub is_block : IsBlock entries IsEntry c.hash64 payload block interval buckets
@@ -29,7 +29,7 @@ pub record IsStoredBlock (c : Hashes) (bytes : List ℕ) (block : List Entry) (h
 -- in the range of a handle is the frame of an index block that encodes these handles, at an interval of its own
 pub record IsStoredIndex (c : Hashes) (bytes : List ℕ) (hs : List Handle) (h : HandleParts) : Type 0 where
   pub payload : List ℕ
-  pub frame : StandsFramed c types.Index bytes h payload
+  pub frame : IsFramedAt c types.Index bytes h payload
   pub framed : IsFramed payload
   pub interval : ℕ
   pub is_block : IsIndexBlock payload hs interval
@@ -37,7 +37,7 @@ pub record IsStoredIndex (c : Hashes) (bytes : List ℕ) (hs : List Handle) (h :
 -- in the range of a handle is the frame of a filter in which the bits of all probes of each entry's key are set
 pub record IsStoredFilter (c : Hashes) (bytes : List ℕ) (items : List Entry) (h : HandleParts) : Type 0 where
   pub payload : List ℕ
-  pub frame : StandsFramed c types.Filter bytes h payload
+  pub frame : IsFramedAt c types.Filter bytes h payload
   pub framed : IsFramed payload
   pub filter : Filter
   pub reads : filter_at payload ≡ Ok filter

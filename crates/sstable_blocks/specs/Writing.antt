@@ -1,5 +1,5 @@
 -- A run that is being written.
-use Rattle.std.specs.Prelude.{◌≡◌, ◌≢◌, ℕ, ◌+◌, ◌*◌, ◌≤◌, ◌<◌, ◌^◌, ◌⊎◌, List, [], ◌∷◌, ◌++◌, length, Option, Some, None}
+use Rattle.std.specs.Prelude.{◌≡◌, ◌≢◌, ℕ, ◌+◌, ◌*◌, ◌≤◌, ◌<◌, ◌^◌, ◌⊎◌, List, [], ◌∷◌, ◌++◌, length, Option, Some, None, Result, Err}
 use Rattle.std.specs.Io.KnownBytes.{Appends}
 use Rattle.std.specs.List.{AllByRecursion}
 use Rattle.std.specs.declared.cmp.Ordering.TheVariants.{Less}
@@ -106,6 +106,16 @@ pub record IsUnderWay (f : Form) (blocks : List (List Entry)) (refusal : Option 
   pub den : 1 ≤ f.config.ratio.den
   pub frames : refusal ≡ None → Appends start now (block_frames f blocks)
 
+-- the same run goes on: its configuration, and what its writer held when it was made
+pub record IsSameRun {W : Type 0} (old new : Writing W) : Type 0 where
+  pub config : new.config ≡ old.config
+  pub start : new.start ≡ old.start
+
+-- an error is returned once more, and nothing is written
+pub record RepeatsError {T W : Type 0} (old new : Writing W) (result : Result T Error) (e : Error) : Type 0 where
+  pub error : result ≡ Err e
+  pub untouched : new.writer ≡ old.writer
+
 -- an entry does not sort before the last one of blocks
-abbrev pub IsBehind : List (List Entry) → Entry → Type 0
-IsBehind blocks item = (front : List Entry) (last : Entry) → joined blocks ≡ front ++ last ∷ [] → item_cmp entries item last ≢ Less
+abbrev pub FollowsLast : List (List Entry) → Entry → Type 0
+FollowsLast blocks item = (front : List Entry) (last : Entry) → joined blocks ≡ front ++ last ∷ [] → item_cmp entries item last ≢ Less

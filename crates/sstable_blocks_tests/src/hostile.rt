@@ -3,18 +3,9 @@
 use crate::filter::{ONE_KEY, THREE_KEYS};
 use sst_base::{Error, HeaderName, Result, TagName};
 use sst_base_tests::changes::{change_count, changed};
+use sst_base_tests::numbers::u64_at;
 use sstable_blocks::table::filter::standard_bloom::StandardBloomFilterReader;
 use std::alloc::Global;
-
-/// The number of eight bytes at an offset, least significant byte first.
-fn number_at(bytes: &[u8], at: usize) -> u64 {
-    let mut number = 0u64;
-    for place in [7usize, 6, 5, 4, 3, 2, 1, 0] {
-        let byte = bytes.get(at.wrapping_add(place)).copied().unwrap_or(0);
-        number = number.wrapping_mul(256).wrapping_add(u64::from(byte));
-    }
-    number
-}
 
 /// The numbers of bits and probes of a payload.
 fn numbers_in(payload: &[u8]) -> Result<(u64, u64)> {
@@ -32,7 +23,7 @@ fn numbers_in(payload: &[u8]) -> Result<(u64, u64)> {
     if hash_type != 0 {
         return Err(Error::InvalidTag(TagName::HashType, hash_type));
     }
-    let (m, k) = (number_at(payload, 6), number_at(payload, 14));
+    let (m, k) = (u64_at(payload, 6), u64_at(payload, 14));
     if m == (bits.len() as u64).wrapping_mul(8) && 1 <= k && k <= m {
         Ok((m, k))
     } else {

@@ -42,7 +42,7 @@ pub fn filter_payloads()
         ∷ 0x40 ∷ 0x00 ∷ [] }
 {}
 
-/// The same payload as read, whole and changed.
+/// The same payload as read, whole, cut and with other tags.
 #[tactic(auto, unfolding(sstable_blocks::specs::Filter::filter_at))]
 pub fn filters_read()
     ensures whole { filter_at (0x4c ∷ 0x53 ∷ 0x4d ∷ 0x03 ∷ 0x00 ∷ 0x00
@@ -74,6 +74,11 @@ pub fn filters_read()
         ∷ 0x06 ∷ 0x00 ∷ 0x00 ∷ 0x00 ∷ 0x00 ∷ 0x00 ∷ 0x00 ∷ 0x00
         ∷ 0x40 ∷ 0x00 ∷ [])
         ≡ Err (InvalidTag tags.HashType 1) }
+{}
+
+/// The same payload as read, with other numbers of bits and of probes.
+#[tactic(auto, unfolding(sstable_blocks::specs::Filter::filter_at))]
+pub fn filter_numbers_read()
     ensures m_of_24 { filter_at (0x4c ∷ 0x53 ∷ 0x4d ∷ 0x03 ∷ 0x00 ∷ 0x00
         ∷ 0x18 ∷ 0x00 ∷ 0x00 ∷ 0x00 ∷ 0x00 ∷ 0x00 ∷ 0x00 ∷ 0x00
         ∷ 0x06 ∷ 0x00 ∷ 0x00 ∷ 0x00 ∷ 0x00 ∷ 0x00 ∷ 0x00 ∷ 0x00

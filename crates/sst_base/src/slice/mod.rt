@@ -1,7 +1,7 @@
 //! Immutable byte strings.
 ghost use Rattle.std.specs.Prelude.{◌≡◌, ◌+◌, ◌^◌, ◌<◌, ◌≤◌, ◌==◌};
-ghost use Rattle.std.specs.Prelude.{◌++◌, [], length, slice_range};
-ghost use Rattle.std.specs.Prelude.{string_bytes, nat_eq, refl, Some, IfOk, IsOkUnless, IsTrue};
+ghost use Rattle.std.specs.Prelude.{◌++◌, [], length, slice_range, take, drop, ◌-◌};
+ghost use Rattle.std.specs.Prelude.{string_bytes, nat_eq, refl, Some, IfOk, IfSome, IsOkUnless, IsTrue};
 ghost use Rattle.std.specs.Prelude.{◌↔◌, ◌⊎◌, ℕ, List, IfErr};
 ghost use Rattle.std.specs.Iterator.{IsFinite, Drains};
 ghost use Rattle.std.specs.Ordering.{nat_cmp};
@@ -21,9 +21,10 @@ mod short;
 
 use crate::error::{AllocResult, Error, Result};
 use crate::input::{Input, note_bytes};
-use crate::table::util::compare_bytes;
+use crate::table::util::{SliceIndexes, compare_bytes};
 use bytes::Bytes;
-use short::{SHORT_LEN, ShortBytes};
+pub use short::SHORT_LEN;
+use short::ShortBytes;
 use std::alloc::Global;
 use std::cmp::Ordering;
 use std::hash::{Hash, Hasher};
@@ -261,6 +262,32 @@ impl Slice {
         Ok(Slice::shared(Bytes::from_vec(both)?))
     }
 
+    /// Copies the bytes of two ranges of these bytes, the second after the first. Both ranges lie
+    /// inside the bytes.
+    ///
+    /// # Errors
+    ///
+    /// `Error::Memory` if an allocation fails.
+    pub fn joined(
+        alloc: Global,
+        bytes: &[u8],
+        left: &SliceIndexes,
+        right: &SliceIndexes,
+    ) -> Result<Slice>
+        requires left_order { left.now.0 ≤ left.now.1 }
+        requires left_inside { left.now.1 ≤ length bytes.now }
+        requires right_order { right.now.0 ≤ right.now.1 }
+        requires right_inside { right.now.1 ≤ length bytes.now }
+        ensures ok { IfOk result (λ s. s ≡ take (left.now.1 - left.now.0) (drop left.now.0 bytes.now)
+            ++ take (right.now.1 - right.now.0) (drop right.now.0 bytes.now)) }
+        ensures memory { IsOkUnless result Error.Memory }
+    {
+        if (left.1 - left.0) + (right.1 - right.0) <= SHORT_LEN {
+            return Ok(Slice::short(ShortBytes::joined_parts(bytes, left, right)));
+        }
+        Slice::fused(alloc, &bytes[left.0..left.1], &bytes[right.0..right.1])
+    }
+
     /// Returns the bytes.
     #[inline(always)]
     pub fn as_slice(&self) -> &[u8]
@@ -269,6 +296,20 @@ impl Slice {
         match &self.held {
             Held::Short(bytes) => bytes.as_slice(),
             Held::Shared(bytes) => bytes.as_slice(),
+        }
+    }
+
+    /// Returns the array that holds a short byte string, and how many bytes of it are the string:
+    /// the first ones. `None` only where the bytes are shared.
+    #[inline(always)]
+    pub fn as_short(&self) -> Option<(&[u8; SHORT_LEN], usize)>
+        ensures bytes { IfSome result (λ short. take short.1 short.0.now ≡ self.now) }
+        ensures len { IfSome result (λ short. short.1 ≤ 39) }
+        ensures array { IfSome result (λ short. length short.0.now ≡ 39) }
+    {
+        match &self.held {
+            Held::Short(bytes) => Some(bytes.parts()),
+            Held::Shared(_) => None,
         }
     }
 

@@ -1,10 +1,14 @@
 //! Byte strings that are held in place.
 ghost use Rattle.std.specs.Prelude.{◌≡◌, ◌+◌, ◌-◌, ◌≤◌, ◌++◌, length, take, drop};
 
+use crate::table::util::SliceIndexes;
 use std::marker::Model;
 
 /// The greatest number of bytes that are held in place.
-pub(crate) const SHORT_LEN: usize = 39;
+pub const SHORT_LEN: usize = 39;
+
+// Room for two arrays of that length.
+const WIDE_LEN: usize = 2 * SHORT_LEN;
 
 /// At most [`SHORT_LEN`] bytes, held in place. Clauses see the list of bytes.
 #[derive(Drop)]
@@ -72,6 +76,39 @@ impl ShortBytes {
         }
     }
 
+    /// Copies the bytes of two ranges, the second after the first, where more follow both as whole
+    /// arrays: so both copies have one length, and go by registers.
+    #[inline(always)]
+    pub(crate) fn joined_parts(
+        bytes: &[u8],
+        left: &SliceIndexes,
+        right: &SliceIndexes,
+    ) -> ShortBytes
+        requires left_order { left.now.0 ≤ left.now.1 }
+        requires left_inside { left.now.1 ≤ length bytes.now }
+        requires right_order { right.now.0 ≤ right.now.1 }
+        requires right_inside { right.now.1 ≤ length bytes.now }
+        requires short { (left.now.1 - left.now.0) + (right.now.1 - right.now.0) ≤ 39 }
+        ensures { result ≡ take (left.now.1 - left.now.0) (drop left.now.0 bytes.now)
+            ++ take (right.now.1 - right.now.0) (drop right.now.0 bytes.now) }
+    {
+        let (_, from_left) = bytes.split_at(left.0);
+        let (_, from_right) = bytes.split_at(right.0);
+        let left_len = left.1 - left.0;
+        let right_len = right.1 - right.0;
+        match (
+            from_left.first_chunk::<SHORT_LEN>(),
+            from_right.first_chunk::<SHORT_LEN>(),
+        ) {
+            (Some(left), Some(right)) => joined_chunks(left, left_len, right, right_len),
+            _ => {
+                let (left, _) = from_left.split_at(left_len);
+                let (right, _) = from_right.split_at(right_len);
+                ShortBytes::joined(left, right)
+            }
+        }
+    }
+
     /// Returns the bytes.
     #[inline(always)]
     pub(crate) fn as_slice(&self) -> &[u8]
@@ -79,6 +116,16 @@ impl ShortBytes {
         ensures fits { length result.now ≤ 39 }
     {
         &self.bytes[..usize::from(self.len)]
+    }
+
+    /// Returns the array that holds the bytes, and their number.
+    #[inline(always)]
+    pub(crate) fn parts(&self) -> (&[u8; SHORT_LEN], usize)
+        ensures bytes { take result.1 result.0.now ≡ self.now }
+        ensures len { result.1 ≤ 39 }
+        ensures array { length result.0.now ≡ 39 }
+    {
+        (&self.bytes, usize::from(self.len))
     }
 
     /// Returns a copy.
@@ -90,5 +137,44 @@ impl ShortBytes {
             len: self.len,
             bytes: self.bytes,
         }
+    }
+}
+
+// Copies an array over the bytes from an index.
+#[inline(always)]
+fn put_chunk(wide: &mut [u8; WIDE_LEN], at: usize, chunk: &[u8; SHORT_LEN])
+    requires { at ≤ 39 }
+    ensures { wide.new ≡ take at wide.old ++ (chunk.now ++ drop (at + 39) wide.old) }
+{
+    wide[at..at + SHORT_LEN].copy_from_slice(chunk);
+}
+
+// The first half of an array.
+#[inline(always)]
+fn first_half(wide: &[u8; WIDE_LEN]) -> [u8; SHORT_LEN]
+    ensures { result ≡ take 39 wide.now }
+{
+    let mut bytes = [0u8; SHORT_LEN];
+    bytes.copy_from_slice(&wide[..SHORT_LEN]);
+    bytes
+}
+
+// The first bytes of two arrays, joined.
+#[inline(always)]
+fn joined_chunks(
+    left: &[u8; SHORT_LEN],
+    left_len: usize,
+    right: &[u8; SHORT_LEN],
+    right_len: usize,
+) -> ShortBytes
+    requires { left_len + right_len ≤ 39 }
+    ensures { result ≡ take left_len left.now ++ take right_len right.now }
+{
+    let mut wide = [0u8; WIDE_LEN];
+    put_chunk(&mut wide, 0, left);
+    put_chunk(&mut wide, left_len, right);
+    ShortBytes {
+        len: (left_len + right_len) as u8,
+        bytes: first_half(&wide),
     }
 }

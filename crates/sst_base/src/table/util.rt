@@ -53,21 +53,6 @@ pub fn compare_bytes(a: &[u8], b: &[u8]) -> Ordering
     compare_tails(left, right)
 }
 
-// The length of the longest shared prefix, in whole words.
-fn shared_words(a: &[u8], b: &[u8]) -> usize
-    ensures left { result ≤ length a.now }
-    ensures right { result ≤ length b.now }
-    ensures same { take result a.now ≡ take result b.now }
-{
-    let words = a.len().min(b.len()) / 8;
-    for i in 0..words {
-        if word_at(a, 8 * i) != word_at(b, 8 * i) {
-            return 8 * i;
-        }
-    }
-    8 * words
-}
-
 // The same as `longest_shared_prefix_length`, a byte a step.
 #[tactic(auto, using(crate::proofs::Shared::shared_step, crate::proofs::Shared::shared_stop, crate::proofs::Shared::shared_end))]
 fn shared_bytes(a: &[u8], b: &[u8]) -> usize
@@ -84,14 +69,19 @@ fn shared_bytes(a: &[u8], b: &[u8]) -> usize
 }
 
 /// Returns the length of the longest shared prefix of two byte strings.
-#[tactic(auto, using(crate::specs::SharedPrefixLaws::shared_prefix_behind))]
 pub fn longest_shared_prefix_length(a: &[u8], b: &[u8]) -> usize
     ensures { result ≡ shared_prefix_length a.now b.now }
 {
-    let words = shared_words(a, b);
-    let (_, left) = a.split_at(words);
-    let (_, right) = b.split_at(words);
-    words + shared_bytes(left, right)
+    let words = a.len().min(b.len()) / 8;
+    for i in 0..words {
+        let difference = word_at(a, 8 * i) ^ word_at(b, 8 * i);
+        if difference != 0 {
+            return 8 * i + (difference.leading_zeros() / 8) as usize;
+        }
+    }
+    let (_, left) = a.split_at(8 * words);
+    let (_, right) = b.split_at(8 * words);
+    8 * words + shared_bytes(left, right)
 }
 
 /// Compares a prefix followed by a suffix with a needle, bytewise, without joining the two. Takes

@@ -6,7 +6,7 @@ use Rattle.sst_base.specs.Bytes.{IsBytes}
 use Rattle.sst_base.specs.ReadingLaws.{bind_some, pair_parts}
 use Rattle.sst_block_core.specs.Kind.{Kind, IsKind}
 use Rattle.sst_block_core.specs.Body.{body, item_at, items_at}
-use Rattle.sst_block_core.specs.Passes.{base_behind, IsRead}
+use Rattle.sst_block_core.specs.Passes.{base_after, IsRead}
 use Rattle.sst_block_core.specs.BodyLaws.{body_takes}
 
 some_same : {A : Type 0} (a b : A) → ◌≡◌ {A = Option A} (Some a) (Some b) → a ≡ b
@@ -15,13 +15,13 @@ some_same a b e = cc
 module _ {X : Type 0} (kind : Kind X) (r : ℕ) where
   -- one item more
   more_from : (n s place : ℕ) (base bytes : List ℕ) (xs : List X) (mid : List ℕ) (x : X) (rest : List ℕ) → items_at kind r s n base bytes ≡ Some (xs, mid) → place ≡ s + n
-      → item_at kind r place (base_behind kind r s xs base) mid ≡ Some (x, rest) → items_at kind r s (suc n) base bytes ≡ Some (xs ++ x ∷ [], rest)
+      → item_at kind r place (base_after kind r s xs base) mid ≡ Some (x, rest) → items_at kind r s (suc n) base bytes ≡ Some (xs ++ x ∷ [], rest)
   unfolding items_at
   more_from zero s place base bytes xs mid x rest e p h =
       let q : ◌≡◌ {A = List X × List ℕ} ([], bytes) (xs, mid) = some_same ([], bytes) (xs, mid) e in
       let parts = pair_parts [] xs bytes mid q in
       let place_is : s ≡ place = omega arith in
-      let g : item_at kind r s base bytes ≡ Some (x, rest) = (λ i. item_at kind r (place_is i) (base_behind kind r s (parts.0 i) base) (parts.1 i)) ∙ h in
+      let g : item_at kind r s base bytes ≡ Some (x, rest) = (λ i. item_at kind r (place_is i) (base_after kind r s (parts.0 i) base) (parts.1 i)) ∙ h in
       rw g (ap (λ ys. Some (ys ++ x ∷ [], rest)) parts.0)
   more_from (suc n) s place base bytes xs mid x rest e p h =
       let f = bind_some (item_at kind r s base bytes) _ (xs, mid) e in
@@ -29,20 +29,20 @@ module _ {X : Type 0} (kind : Kind X) (r : ℕ) where
       let g = bind_some (items_at kind r (s + 1) n next f.0.1) _ (xs, mid) f.2 in
       let q : ◌≡◌ {A = List X × List ℕ} (f.0.0 ∷ g.0.0, g.0.1) (xs, mid) = some_same (f.0.0 ∷ g.0.0, g.0.1) (xs, mid) g.2 in
       let parts = pair_parts (f.0.0 ∷ g.0.0) xs g.0.1 mid q in
-      let h1 : item_at kind r place (base_behind kind r (s + 1) g.0.0 next) g.0.1 ≡ Some (x, rest) = (λ i. item_at kind r place (base_behind kind r s (parts.0 i) base) (parts.1 i)) ∙ h in
+      let h1 : item_at kind r place (base_after kind r (s + 1) g.0.0 next) g.0.1 ≡ Some (x, rest) = (λ i. item_at kind r place (base_after kind r s (parts.0 i) base) (parts.1 i)) ∙ h in
       let again = more_from n (s + 1) place next f.0.1 g.0.0 g.0.1 x rest g.1 (omega arith) h1 in
       rw (f.1, again) (ap (λ ys. Some (ys ++ x ∷ [], rest)) parts.0)
 
   -- no more than so many items
   stop_from : (n s place : ℕ) (base bytes : List ℕ) (xs : List X) (mid : List ℕ) → items_at kind r s n base bytes ≡ Some (xs, mid) → place ≡ s + n
-      → item_at kind r place (base_behind kind r s xs base) mid ≡ None → (m : ℕ) → n < m → items_at kind r s m base bytes ≡ None
+      → item_at kind r place (base_after kind r s xs base) mid ≡ None → (m : ℕ) → n < m → items_at kind r s m base bytes ≡ None
   unfolding items_at
   stop_from n s place base bytes xs mid e p h zero l = absurd (omega arith)
   stop_from zero s place base bytes xs mid e p h (suc m) l =
       let q : ◌≡◌ {A = List X × List ℕ} ([], bytes) (xs, mid) = some_same ([], bytes) (xs, mid) e in
       let parts = pair_parts [] xs bytes mid q in
       let place_is : s ≡ place = omega arith in
-      let g : item_at kind r s base bytes ≡ None = (λ i. item_at kind r (place_is i) (base_behind kind r s (parts.0 i) base) (parts.1 i)) ∙ h in
+      let g : item_at kind r s base bytes ≡ None = (λ i. item_at kind r (place_is i) (base_after kind r s (parts.0 i) base) (parts.1 i)) ∙ h in
       rw g refl
   stop_from (suc n) s place base bytes xs mid e p h (suc m) l =
       let f = bind_some (item_at kind r s base bytes) _ (xs, mid) e in
@@ -50,16 +50,16 @@ module _ {X : Type 0} (kind : Kind X) (r : ℕ) where
       let g = bind_some (items_at kind r (s + 1) n next f.0.1) _ (xs, mid) f.2 in
       let q : ◌≡◌ {A = List X × List ℕ} (f.0.0 ∷ g.0.0, g.0.1) (xs, mid) = some_same (f.0.0 ∷ g.0.0, g.0.1) (xs, mid) g.2 in
       let parts = pair_parts (f.0.0 ∷ g.0.0) xs g.0.1 mid q in
-      let h1 : item_at kind r place (base_behind kind r (s + 1) g.0.0 next) g.0.1 ≡ None = (λ i. item_at kind r place (base_behind kind r s (parts.0 i) base) (parts.1 i)) ∙ h in
+      let h1 : item_at kind r place (base_after kind r (s + 1) g.0.0 next) g.0.1 ≡ None = (λ i. item_at kind r place (base_after kind r s (parts.0 i) base) (parts.1 i)) ∙ h in
       let again = stop_from n (s + 1) place next f.0.1 g.0.0 g.0.1 g.1 (omega arith) h1 m (omega arith) in
       rw (f.1, again) refl
 
-  base_push : (s : ℕ) (xs : List X) (x : X) (base : List ℕ) → base_behind kind r s (xs ++ x ∷ []) base ≡ cond (eqb ((s + length xs) % r) 0) (kind.key x) (base_behind kind r s xs base)
+  base_push : (s : ℕ) (xs : List X) (x : X) (base : List ℕ) → base_after kind r s (xs ++ x ∷ []) base ≡ cond (eqb ((s + length xs) % r) 0) (kind.key x) (base_after kind r s xs base)
   base_push s [] x base = let e : s ≡ s + 0 = omega arith in ap (λ k. cond (eqb (k % r) 0) (kind.key x) base) e
   base_push s (y ∷ xs) x base =
       let next = cond (eqb (s % r) 0) (kind.key y) base in
       let e : (s + 1) + length xs ≡ s + suc (length xs) = omega arith in
-      base_push (s + 1) xs x next ∙ ap (λ k. cond (eqb (k % r) 0) (kind.key x) (base_behind kind r (s + 1) xs next)) e
+      base_push (s + 1) xs x next ∙ ap (λ k. cond (eqb (k % r) 0) (kind.key x) (base_after kind r (s + 1) xs next)) e
 
   -- a pass begins
   pub read_none : (bytes base : List ℕ) → base ≡ [] → IsRead kind r bytes [] 0 0 base
@@ -76,10 +76,10 @@ module _ {X : Type 0} (kind : Kind X) (r : ℕ) where
     count_more : (x : X) → place + 1 ≡ length (xs ++ x ∷ [])
     count_more x = let c = at.count in omega (arith, length_push xs x)
 
-    base_more : (x : X) → base_behind kind r 0 (xs ++ x ∷ []) [] ≡ cond (eqb (place % r) 0) (kind.key x) base
+    base_more : (x : X) → base_after kind r 0 (xs ++ x ∷ []) [] ≡ cond (eqb (place % r) 0) (kind.key x) base
     base_more x =
         let e : 0 + length xs ≡ place = let c = at.count in omega arith in
-        base_push 0 xs x [] ∙ ap (λ k. cond (eqb (k % r) 0) (kind.key x) (base_behind kind r 0 xs [])) e ∙ ap (cond (eqb (place % r) 0) (kind.key x)) (sym at.base_is)
+        base_push 0 xs x [] ∙ ap (λ k. cond (eqb (k % r) 0) (kind.key x) (base_after kind r 0 xs [])) e ∙ ap (cond (eqb (place % r) 0) (kind.key x)) (sym at.base_is)
 
     -- a pass over a head
     pub read_head : (x : X) (end : ℕ) (next : List ℕ) → place % r ≡ 0 → end ≤ length bytes → kind.full_at (drop offset bytes) ≡ Some (x, drop end bytes) → next ≡ kind.key x

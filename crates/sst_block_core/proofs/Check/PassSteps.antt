@@ -19,7 +19,7 @@ use Rattle.sst_block_core.specs.Passes.{last_of, IsRead, ArePointed, IsAlong, Ha
 use Rattle.sst_base.specs.declared.table.util.SliceIndexes.{SliceIndexes}
 use Rattle.sst_block_core.specs.Found.{range_of}
 use Rattle.sst_block_core.specs.declared.table.block.check.keys.KeyVersion.{KeyVersion}
-use Rattle.sst_block_core.specs.declared.table.block.check.pass.Standing.{Standing}
+use Rattle.sst_block_core.specs.declared.table.block.check.pass.PassState.{PassState}
 use Rattle.sst_block_core.proofs.Check.KeyOrders.{not_before}
 use Rattle.sst_block_core.proofs.Check.ItemReads.{read_offset, read_none}
 use Rattle.sst_block_core.proofs.Writing.Written.{place_same}
@@ -137,7 +137,7 @@ module _ {X : Type 0} (kind : Kind X) (valid fits : X → Type 0) (laws : IsKind
     judged = record { fit = ((λ _. tt), (λ _. refl)); ordered = ((λ _. tt), (λ _. refl)); indexed = ((λ _. λ j h. absurd (omega (arith, h))), (λ _. refl)) };
   }
 
-  module _ (xs : List X) (base : SliceIndexes) (from : Standing) (k : IsAlong kind fits r bytes pointers xs base from) (x : X) (v : KeyVersion) (offset : ℕ) (s t : Bool)
+  module _ (xs : List X) (base : SliceIndexes) (from : PassState) (k : IsAlong kind fits r bytes pointers xs base from) (x : X) (v : KeyVersion) (offset : ℕ) (s t : Bool)
       (small : v.seqno ≤ 18446744073709551615) (version : IsVersion kind bytes x v) (fit : IsTrue s ↔ fits x) (keeps : IsTrue t ↔ (version_cmp bytes v from.last ≢ Less)) where
     -- an item more
     pub along_head : (next : SliceIndexes) (u : Bool) → IsRead kind r bytes (xs ++ x ∷ []) (length xs + 1) offset (range_of bytes next)

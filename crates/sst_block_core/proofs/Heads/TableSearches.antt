@@ -13,7 +13,7 @@ use Rattle.sst_base.specs.KeyOrderLaws.{slice_cmp-equal}
 use Rattle.std.specs.Cmp.{nat_cmp_is}
 use Rattle.std.proofs.lemmas.List.{get_or_append_left, get_or_at, length_push}
 use Rattle.sst_block_core.specs.Found.{IsRange, range_of}
-use Rattle.sst_block_core.specs.Heads.{key_in, Begins, front, Table, IsHead, IsTable, Tells, TellsBit, heads_before}
+use Rattle.sst_block_core.specs.Heads.{key_in, Begins, front, Table, IsHead, IsTable, IsHeadPassed, IsHeadPassedBit, heads_before}
 use Rattle.sst_block_core.proofs.Heads.Fronts.{fronts_decide, half_small}
 use Rattle.std.specs.declared.cmp.Ordering.TheVariants.{Less, Equal, Greater}
 use Rattle.sst_base.specs.Order.{versions_cmp, IsInOrder}
@@ -99,26 +99,26 @@ module _ (payload needle : List ℕ) (from : Option ℕ) (t : Table) (table : Is
   before_inside = count_inside (as_items payload) needle from t.heads table.ordered
 
   -- a head that it passes is among the first so many, one that it doesn't pass is not
-  pub before_low : (j : ℕ) → Tells payload needle from t.heads j true → j < heads_before payload needle from t.heads
+  pub before_low : (j : ℕ) → IsHeadPassed payload needle from t.heads j true → j < heads_before payload needle from t.heads
   unfolding heads_before count_passed
   before_low j says = passed_below (as_items payload) needle from t.heads table.ordered j says.head says.there says.is
 
-  pub before_high : (j : ℕ) → Tells payload needle from t.heads j false → heads_before payload needle from t.heads ≤ j
+  pub before_high : (j : ℕ) → IsHeadPassed payload needle from t.heads j false → heads_before payload needle from t.heads ≤ j
   unfolding heads_before count_passed
   before_high j says = not_passed_above (as_items payload) needle from t.heads table.ordered j says.head says.there says.is
 
   -- what a bit says of the number of heads that a bound passes
-  pub cut_at : (j bit : ℕ) → TellsBit payload needle from t.heads j bit
+  pub cut_at : (j bit : ℕ) → IsHeadPassedBit payload needle from t.heads j bit
       → ((bit ≡ 1) × (j < heads_before payload needle from t.heads)) ⊎ ((bit ≡ 0) × (heads_before payload needle from t.heads ≤ j))
   cut_at j bit told =
-      elim told.answer as (λ (b : Bool). Tells payload needle from t.heads j b → bit ≡ (if b then 1 else 0) → ((bit ≡ 1) × (j < heads_before payload needle from t.heads)) ⊎ ((bit ≡ 0) × (heads_before payload needle from t.heads ≤ j))) [
+      elim told.answer as (λ (b : Bool). IsHeadPassed payload needle from t.heads j b → bit ≡ (if b then 1 else 0) → ((bit ≡ 1) × (j < heads_before payload needle from t.heads)) ⊎ ((bit ≡ 0) × (heads_before payload needle from t.heads ≤ j))) [
         | true ↦ λ says is. inl (is, before_low j says)
         | false ↦ λ says is. inr (is, before_high j says)
       ] told.tells told.is
 
   -- where all keys compare so with the needle
   decided : (o : Ordering) → ((key : List ℕ) → Begins (range_of payload t.prefix) key → slice_cmp nat_cmp key needle ≡ o)
-      → (j : ℕ) (b : Bool) → ((seqno : ℕ) → passes_cmp o from seqno ≡ b) → j < length t.heads → Tells payload needle from t.heads j b
+      → (j : ℕ) (b : Bool) → ((seqno : ℕ) → passes_cmp o from seqno ≡ b) → j < length t.heads → IsHeadPassed payload needle from t.heads j b
   decided o all j b is h = elim (slice_get_cases t.heads j).1 [
     | inl at ↦
         record {
@@ -165,7 +165,7 @@ module _ (payload needle : List ℕ) (from : Option ℕ) (t : Table) (table : Is
     by_rest h b = ap (λ k. slice_cmp nat_cmp k needle) b ∙ behind (drop (length (range_of payload t.prefix)) (key_in payload h))
 
     -- fronts that differ decide
-    pub told_apart : (j own number : ℕ) → j < length t.heads → IsBytes payload → IsBytes rest → own ≡ slice_index t.fronts j → number ≡ front rest / 2 → own ≢ number → Tells payload needle from t.heads j (nat_lt own number)
+    pub told_apart : (j own number : ℕ) → j < length t.heads → IsBytes payload → IsBytes rest → own ≡ slice_index t.fronts j → number ≡ front rest / 2 → own ≢ number → IsHeadPassed payload needle from t.heads j (nat_lt own number)
     told_apart j own number h bytes needle_bytes e f ne = elim (slice_get_cases t.heads j).1 [
       | inl at ↦
           let is = table.each_is j at.0 at.2 in
@@ -183,7 +183,7 @@ module _ (payload needle : List ℕ) (from : Option ℕ) (t : Table) (table : Is
     -- where they are the same, the bytes decide
     pub told_tied : (j : ℕ) (o : Ordering) (seqno : ℕ) → j < length t.heads
         → ((h : Head) → slice_get t.heads j ≡ Some h → (o ≡ slice_cmp nat_cmp (drop (length (range_of payload t.prefix)) (key_in payload h)) rest) × (seqno ≡ h.seqno))
-        → Tells payload needle from t.heads j (passes_cmp o from seqno)
+        → IsHeadPassed payload needle from t.heads j (passes_cmp o from seqno)
     told_tied j o seqno h read = elim (slice_get_cases t.heads j).1 [
       | inl at ↦
           let is = table.each_is j at.0 at.2 in

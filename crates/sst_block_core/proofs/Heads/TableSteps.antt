@@ -11,7 +11,7 @@ use Rattle.std.specs.declared.cmp.Ordering.{Ordering}
 use Rattle.std.specs.declared.cmp.Ordering.TheVariants.{Less, Equal, Greater}
 use Rattle.sst_base.specs.KeyOrderLaws.{slice_cmp-equal}
 use Rattle.sst_block_core.specs.declared.table.block.heads.Head.{Head}
-use Rattle.sst_block_core.specs.Heads.{Begins, Table, IsTable, IsHeadOf, IsTableUpto, HeadsBegin, IsBehindHead}
+use Rattle.sst_block_core.specs.Heads.{Begins, Table, IsTable, IsHeadOf, IsTableUpto, HeadsBegin, FollowsHead}
 use Rattle.sst_block_core.specs.Kind.{Kind, IsOrdered, item_cmp}
 use Rattle.sst_block_core.specs.Passes.{last_of}
 use Rattle.sst_block_core.specs.Pointers.{head_count}
@@ -65,7 +65,7 @@ last_at (h ∷ g ∷ hs) l e =
     (omega arith, ap (slice_get (h ∷ g ∷ hs)) n ∙ r.1)
 
 module _ {X : Type 0} (kind : Kind X) (list : Listed X) (pos : 0 < list.interval) (ordered : IsOrdered kind list.items) (j : ℕ) (t : Table) (upto : IsTableUpto kind list j t) (x : X) (there : slice_get list.items (j * list.interval) ≡ Some x) (inside : j * list.interval < length list.items) where
-  pub next_behind : (last : Head) → last_of t.heads ≡ Some last → IsBehindHead kind list.payload last x
+  pub next_behind : (last : Head) → last_of t.heads ≡ Some last → FollowsHead kind list.payload last x
   next_behind last e =
       let l = last_at t.heads last e in
       let c = upto.count in

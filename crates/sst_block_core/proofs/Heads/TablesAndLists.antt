@@ -9,7 +9,7 @@ use Rattle.std.proofs.lemmas.List.{take_at, take-take, take-append-le, take-appe
 use Rattle.sst_base.specs.declared.table.util.SliceIndexes.{SliceIndexes}
 use Rattle.sst_base.specs.SharedPrefix.{shared_prefix_length}
 use Rattle.sst_base.specs.SharedPrefixLaws.{shared_prefix_inside, shared_prefix_joins}
-use Rattle.sst_block_core.specs.Found.{StandsAt, IsRange, range_of}
+use Rattle.sst_block_core.specs.Found.{IsEncodedAt, IsRange, range_of}
 use Rattle.sst_block_core.specs.Passes.{last_of}
 use Rattle.sst_block_core.specs.Heads.{key_in, Begins, Table, IsTableOf, heads_before}
 use Rattle.sst_block_core.specs.Kind.{Kind, IsOrdered}
@@ -88,7 +88,7 @@ module _ {X : Type 0} (kind : Kind X) (list : Listed X) (pos : 0 < list.interval
         omega (arith, up, reach)
 
 -- the range of a key that stands in a payload
-pub stands_range : (payload key own : List ℕ) (start n : ℕ) → StandsAt payload start key → own ≡ drop n key → n ≡ 0 → IsRange payload (start, start + length own) × (range_of payload (start, start + length own) ≡ key)
+pub stands_range : (payload key own : List ℕ) (start n : ℕ) → IsEncodedAt payload start key → own ≡ drop n key → n ≡ 0 → IsRange payload (start, start + length own) × (range_of payload (start, start + length own) ≡ key)
 stands_range payload key own start n s e z =
     let same : own ≡ key = e ∙ ap (λ m. drop m key) z in
     let l : length (drop start payload) ≡ length key + length s.after = ap length s.there ∙ length-append key s.after in

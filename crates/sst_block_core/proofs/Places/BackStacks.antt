@@ -6,8 +6,8 @@ use Rattle.std.proofs.lemmas.Bool.{cases_lt, eq-eqb}
 use Rattle.std.proofs.lemmas.Bool.Decides.{nat_tests}
 use Rattle.std.proofs.lemmas.List.{length_push, get_or_push, get_or_append_left}
 use Rattle.sst_block_core.specs.Kind.{Kind}
-use Rattle.sst_block_core.specs.Scan.{Listed, IsBehind, Stands}
-use Rattle.sst_block_core.specs.Backs.{first_of, StackStands, IsBack, back_cost}
+use Rattle.sst_block_core.specs.Scan.{Listed, IsFormOffset, IsPlace}
+use Rattle.sst_block_core.specs.Backs.{first_of, ArePlaces, IsBack, back_cost}
 use Rattle.sst_block_core.specs.BackLaws.{first_of_is, first_below}
 use Rattle.sst_block_core.specs.declared.table.block.place.Place.{Place}
 
@@ -19,7 +19,7 @@ mod_in_interval i k r head below =
 
 module _ {X : Type 0} (kind : Kind X) (list : Listed X) where
   -- a head's place stands with any base
-  pub any_base : (at other : Place) → other.index ≡ at.index → other.offset ≡ at.offset → other.phase ≡ 0 → at.phase ≡ 0 → Stands kind list at → Stands kind list other
+  pub any_base : (at other : Place) → other.index ≡ at.index → other.offset ≡ at.offset → other.phase ≡ 0 → at.phase ≡ 0 → IsPlace kind list at → IsPlace kind list other
   any_base at other p o z q s =
       let b = s.stands in
       record {
@@ -27,24 +27,24 @@ module _ {X : Type 0} (kind : Kind X) (list : Listed X) where
         stands = record {
           phase = z ∙ sym q ∙ b.phase ∙ ap (λ n. n % list.interval) (sym p);
           base = λ some. absurd (omega (arith, some, z));
-          behind = subst (λ n. IsBehind kind list n other.offset s.head) (sym p) (subst (λ n. IsBehind kind list at.index n s.head) (sym o) b.behind);
+          behind = subst (λ n. IsFormOffset kind list n other.offset s.head) (sym p) (subst (λ n. IsFormOffset kind list at.index n s.head) (sym o) b.behind);
         };
       }
 
   -- one offset more
-  pub stack_push : (stack : List ℕ) (base first : ℕ) (at : Place) → StackStands kind list stack base first → at.index ≡ first + length stack → at.phase ≡ length stack → at.base ≡ base → Stands kind list at
-      → StackStands kind list (stack ++ at.offset ∷ []) base first
+  pub stack_push : (stack : List ℕ) (base first : ℕ) (at : Place) → ArePlaces kind list stack base first → at.index ≡ first + length stack → at.phase ≡ length stack → at.base ≡ base → IsPlace kind list at
+      → ArePlaces kind list (stack ++ at.offset ∷ []) base first
   stack_push stack base first at places p q e s = λ k h.
       let l = length_push stack at.offset in
       elim (cases_lt k (length stack)) [
         | inl less ↦ rw (get_or_append_left stack (at.offset ∷ []) 0 k less) (places k less)
         | inr ge ↦
             let n : k ≡ length stack = omega (arith, l, h, ge) in
-            rw (n, get_or_push stack at.offset 0 (length stack) refl) (subst (Stands kind list) (λ i. record { index = p i; phase = q i; offset = at.offset; base = e i }) s)
+            rw (n, get_or_push stack at.offset 0 (length stack) refl) (subst (IsPlace kind list) (λ i. record { index = p i; phase = q i; offset = at.offset; base = e i }) s)
       ]
 
   -- a filled stack
-  pub is_back_filled : (end : ℕ) (stack : List ℕ) (base : ℕ) → 0 < end → end ≤ length list.items → StackStands kind list stack base (first_of list.interval end) → first_of list.interval end + length stack ≡ end
+  pub is_back_filled : (end : ℕ) (stack : List ℕ) (base : ℕ) → 0 < end → end ≤ length list.items → ArePlaces kind list stack base (first_of list.interval end) → first_of list.interval end + length stack ≡ end
       → IsBack kind list end stack base × (0 < length stack)
   is_back_filled end stack base some inside places count =
       let is = first_of_is list.interval end in

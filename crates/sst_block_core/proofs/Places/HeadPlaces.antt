@@ -11,7 +11,7 @@ use Rattle.sst_block_core.specs.Pointers.{head_count, pointers, pointers_in}
 use Rattle.sst_block_core.specs.Buckets.{buckets, stored_count}
 use Rattle.sst_block_core.specs.Payload.{IsEncoding, trailer_of}
 use Rattle.sst_block_core.specs.Stages.{items_in, index_in, HasParts}
-use Rattle.sst_block_core.specs.Scan.{Listed, IsBehind, Stands}
+use Rattle.sst_block_core.specs.Scan.{Listed, IsFormOffset, IsPlace}
 use Rattle.sst_block_core.specs.Intervals.{IsIndexed}
 use Rattle.sst_block_core.specs.BodyLaws.{forms_again}
 use Rattle.sst_block_core.specs.OffsetLaws.{body-append, place_inside, place_plain, body_long}
@@ -65,7 +65,7 @@ module _ {X : Type 0} (kind : Kind X) (valid : X → Type 0) (laws : IsKind kind
       ∙ ap (λ ys. Some (ys, after)) (sym (drop-map kind.plain i items))
 
   -- a head stands at its offset
-  head_behind : (i : ℕ) → i ≤ length items → i % r ≡ 0 → IsBehind kind (record { payload = p; interval = r; items = map kind.plain items }) i (place_offset kind r items i) []
+  head_behind : (i : ℕ) → i ≤ length items → i % r ≡ 0 → IsFormOffset kind (record { payload = p; interval = r; items = map kind.plain items }) i (place_offset kind r items i) []
   head_behind i h z = record {
     place_inside = let l = length-map items kind.plain in omega arith;
     offset_inside = let a = place_inside kind r pos items i in let l = ap length whole in let m = length-append (body kind r items) after in omega arith;
@@ -124,9 +124,9 @@ module _ {X : Type 0} (kind : Kind X) (valid : X → Type 0) (laws : IsKind kind
               stands = record {
                 phase = sym (mul-mod_left j t.interval);
                 base = λ some. absurd (omega (arith, some));
-                behind = (subst (λ f. IsBehind kind (record { payload = p; interval = t.interval; items = items_in kind p }) (j * t.interval) f []) offset
-                    (subst (λ q. IsBehind kind (record { payload = p; interval = q; items = items_in kind p }) (j * q) (place_offset kind r items (j * r)) []) (sym same)
-                    (subst (λ xs. IsBehind kind (record { payload = p; interval = r; items = xs }) (j * r) (place_offset kind r items (j * r)) []) (sym all.1) there)));
+                behind = (subst (λ f. IsFormOffset kind (record { payload = p; interval = t.interval; items = items_in kind p }) (j * t.interval) f []) offset
+                    (subst (λ q. IsFormOffset kind (record { payload = p; interval = q; items = items_in kind p }) (j * q) (place_offset kind r items (j * r)) []) (sym same)
+                    (subst (λ xs. IsFormOffset kind (record { payload = p; interval = r; items = xs }) (j * r) (place_offset kind r items (j * r)) []) (sym all.1) there)));
               };
             };
         offsets = pointer;
@@ -159,18 +159,18 @@ module _ {X : Type 0} (kind : Kind X) (valid : X → Type 0) (laws : IsKind kind
       (indexed_from kind valid laws some.0 p some.1 some.2 some.3 some.4 room))))
 
 -- the first item stands at the front
-pub first_stands : {X : Type 0} (kind : Kind X) (list : Listed X) (ps : List ℕ) (n : ℕ) → IsIndexed kind list ps n → Stands kind list (record { index = 0; phase = 0; offset = 0; base = 0 })
+pub first_stands : {X : Type 0} (kind : Kind X) (list : Listed X) (ps : List ℕ) (n : ℕ) → IsIndexed kind list ps n → IsPlace kind list (record { index = 0; phase = 0; offset = 0; base = 0 })
 unfolding body
 first_stands kind list ps n i =
     let some = i.listed.some in
     let z : 0 * list.interval ≡ 0 = omega arith in
     let h : 0 * list.interval < length list.items = omega (arith, some, z) in
     let e : slice_index ps 0 ≡ 0 = i.offsets 0 h ∙ ap (place_offset kind list.interval list.items) z in
-    subst (λ o. Stands kind list (record { index = 0; phase = 0; offset = o; base = 0 })) e
-    (subst (λ n. Stands kind list (record { index = n; phase = 0; offset = slice_index ps 0; base = 0 })) z (i.are_heads 0 h))
+    subst (λ o. IsPlace kind list (record { index = 0; phase = 0; offset = o; base = 0 })) e
+    (subst (λ n. IsPlace kind list (record { index = n; phase = 0; offset = slice_index ps 0; base = 0 })) z (i.are_heads 0 h))
 
 -- after the last item nothing is read, wherever
-pub last_stands : {X : Type 0} (kind : Kind X) (list : Listed X) (place phase : ℕ) → place ≡ length list.items → phase ≡ place % list.interval → Stands kind list (record { index = place; phase = phase; offset = 0; base = 0 })
+pub last_stands : {X : Type 0} (kind : Kind X) (list : Listed X) (place phase : ℕ) → place ≡ length list.items → phase ≡ place % list.interval → IsPlace kind list (record { index = place; phase = phase; offset = 0; base = 0 })
 unfolding items_at
 last_stands kind list place phase e p =
     let none : length list.items - place ≡ 0 = omega arith in

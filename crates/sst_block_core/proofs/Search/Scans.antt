@@ -11,7 +11,7 @@ use Rattle.std.specs.Cmp.Lexicographic.{slice_cmp}
 use Rattle.sst_base.specs.SharedPrefix.{shared_prefix_length}
 use Rattle.sst_base.specs.SharedPrefixLaws.{shared_prefix_inside}
 use Rattle.sst_block_core.specs.Kind.{Kind, IsOrdered}
-use Rattle.sst_block_core.specs.Scan.{Listed, StandsBehind}
+use Rattle.sst_block_core.specs.Scan.{Listed, IsPlaceAfter}
 use Rattle.sst_block_core.specs.Window.{passes_cmp, passes, count_passed}
 use Rattle.sst_block_core.specs.Intervals.{IsEntered, IsFoundAt}
 use Rattle.sst_block_core.specs.Candidates.{IsCandidateAt, with_needle}
@@ -77,7 +77,7 @@ module _ {X : Type 0} (kind : Kind X) (needle : List ℕ) (from : Option ℕ) (l
   head_passes below = (cut_ordered kind needle from list.items ordered).first (j * list.interval) x below there
 
   -- after a head that passes a search has reached the next place
-  pub enters : (at : Place) (alike end : ℕ) → 0 < list.interval → passes needle from (kind.key x) (kind.seqno x) ≡ true → at.index ≡ j * list.interval + 1 → StandsBehind kind list at (kind.key x)
+  pub enters : (at : Place) (alike end : ℕ) → 0 < list.interval → passes needle from (kind.key x) (kind.seqno x) ≡ true → at.index ≡ j * list.interval + 1 → IsPlaceAfter kind list at (kind.key x)
       → alike ≡ shared_prefix_length (kind.key x) needle → end ≡ min (length list.items) ((j + 1) * list.interval) → IsEntered kind needle from list at alike end
   enters at alike end pos passed place_is stands alike_is end_is =
       let below = passed_below kind needle from list.items ordered (j * list.interval) x there passed in
@@ -122,7 +122,7 @@ module _ {X : Type 0} (kind : Kind X) (needle : List ℕ) (from : Option ℕ) (l
           omega (arith, above, r, more)
 
       -- where it does, the search has reached the next place
-      pub goes_on : (next : Place) → at.index < end → passes_cmp order from seqno ≡ true → next.index ≡ at.index + 1 → StandsBehind kind list next (kind.key e.head) → IsEntered kind needle from list next alike end
+      pub goes_on : (next : Place) → at.index < end → passes_cmp order from seqno ≡ true → next.index ≡ at.index + 1 → IsPlaceAfter kind list next (kind.key e.head) → IsEntered kind needle from list next alike end
       goes_on next more passed place_is stands =
           let below = passed_below kind needle from list.items ordered at.index x there (sym test_is ∙ passed) in
           let b = e.before in

@@ -1,16 +1,13 @@
 //! Entries as items of a block: how they are encoded.
-ghost use Rattle.std.specs.Prelude.{◌≡◌, ◌++◌, OnOk};
+ghost use Rattle.std.specs.Prelude.{◌≡◌, ◌+◌, ◌≤◌, ◌++◌, ◌∷◌, take, length, IfOk};
+ghost use Rattle.sst_base.specs.ValueType.{value_type_byte};
+ghost use Rattle.sst_base.specs.Varint.{varint};
 ghost use Rattle.sst_block_core.specs.Entries.{value_part};
 
 use crate::block_item::BlockItem;
 use crate::table::block::Encodable;
-use crate::table::block::writing::push_length_prefixed;
-use sst_base::coding::MAX_VARINT_LEN;
-use sst_base::{InternalValue, ValueType, push_varint_reserved};
-use std::alloc::AllocError;
-
-// The greatest length of what precedes a key: the type, and up to three numbers.
-const MAX_FRONT_LEN: usize = 31;
+use sst_base::in_place::{PREFIXED_ROOM, make_room, put_byte, put_length_prefixed, put_varint};
+use sst_base::{AllocResult, InternalKey, InternalValue, ValueType};
 
 impl BlockItem for InternalValue {
     ghost use Rattle.sst_base.specs.Entry.{IsEntry};
@@ -24,18 +21,33 @@ impl BlockItem for InternalValue {
     ghost is_kind = { IsKind-entries };
 }
 
-// Appends the value part of an entry: nothing for a tombstone.
+// Puts the type and the sequence number of an entry after the first `at` bytes, where there is room
+// for them. Returns the length with them.
 #[inline(always)]
-fn push_value(writer: &mut Vec<u8>, item: &InternalValue) -> Result<(), AllocError>
-    ensures { OnOk result (writer.new.items ≡ writer.old.items
-        ++ value_part item.now.key.value_type item.now.value) }
+fn put_fields(form: &mut [u8], at: usize, key: &InternalKey) -> usize
+    requires room { at + 11 ≤ length form.old }
+    ensures len { result ≤ at + 11 }
+    ensures same_room { length form.new ≡ length form.old }
+    ensures bytes { take result form.new
+        ≡ take at form.old ++ value_type_byte key.now.value_type ∷ varint key.now.seqno }
+{
+    let at = put_byte(form, at, u8::from(key.value_type()));
+    put_varint(form, at, key.seqno())
+}
+
+// Puts the value part of an entry after the first `at` bytes: nothing for a tombstone. Returns the
+// length with it.
+#[inline(always)]
+fn put_value(writer: &mut Vec<u8>, at: usize, item: &InternalValue) -> AllocResult<usize>
+    requires { at + 49 ≤ length writer.old.items }
+    ensures bytes { IfOk result (λ end. take end writer.new.items
+        ≡ take at writer.old.items ++ value_part item.now.key.value_type item.now.value) }
+    ensures inside { IfOk result (λ end. end ≤ length writer.new.items) }
 {
     match item.key().value_type() {
-        ValueType::Tombstone | ValueType::WeakTombstone => Ok(()),
+        ValueType::Tombstone | ValueType::WeakTombstone => Ok(at),
         ValueType::Value | ValueType::Indirection => {
-            let value = item.value().as_slice();
-            writer.reserve(MAX_VARINT_LEN + value.len())?;
-            push_length_prefixed(writer, value)
+            put_length_prefixed(writer, at, item.value(), 0, 0)
         }
     }
 }
@@ -54,26 +66,29 @@ impl Encodable for InternalValue {
         InternalValue::key(self).user_key().as_slice()
     }
 
+    #[inline(always)]
     #[tactic(auto, unfolding(crate::specs::Entries::full))]
-    fn push_full(&self, writer: &mut Vec<u8>) -> Result<(), AllocError> {
+    fn put_full(&self, writer: &mut Vec<u8>, at: usize) -> AllocResult<usize> {
         let key = InternalValue::key(self);
-        let user_key = key.user_key().as_slice();
-        writer.reserve(MAX_FRONT_LEN + user_key.len())?;
-        writer.push_reserved(u8::from(key.value_type()));
-        push_varint_reserved(writer, key.seqno());
-        push_length_prefixed(writer, user_key)?;
-        push_value(writer, self)
+        make_room(writer, at)?;
+        let at = put_fields(writer.as_mut_slice(), at, key);
+        let at = put_length_prefixed(writer, at, key.user_key(), 0, PREFIXED_ROOM)?;
+        put_value(writer, at, self)
     }
 
+    #[inline(always)]
     #[tactic(auto, unfolding(crate::specs::Entries::truncated))]
-    fn push_truncated(&self, writer: &mut Vec<u8>, shared_len: usize) -> Result<(), AllocError> {
+    fn put_truncated(
+        &self,
+        writer: &mut Vec<u8>,
+        at: usize,
+        shared_len: usize,
+    ) -> AllocResult<usize> {
         let key = InternalValue::key(self);
-        let (_, rest) = key.user_key().as_slice().split_at(shared_len);
-        writer.reserve(MAX_FRONT_LEN + rest.len())?;
-        writer.push_reserved(u8::from(key.value_type()));
-        push_varint_reserved(writer, key.seqno());
-        push_varint_reserved(writer, shared_len as u64);
-        push_length_prefixed(writer, rest)?;
-        push_value(writer, self)
+        make_room(writer, at)?;
+        let at = put_fields(writer.as_mut_slice(), at, key);
+        let at = put_varint(writer.as_mut_slice(), at, shared_len as u64);
+        let at = put_length_prefixed(writer, at, key.user_key(), shared_len, PREFIXED_ROOM)?;
+        put_value(writer, at, self)
     }
 }

@@ -1,3 +1,4 @@
 //! The blocks of tables.
+pub mod answer;
 pub mod data_block;
 pub mod index_block;

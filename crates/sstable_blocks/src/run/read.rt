@@ -1,7 +1,7 @@
 //! Reading runs.
 ghost use Rattle.std.specs.Prelude.{◌≡◌, ◌↔◌, ℕ, ◌+◌, ◌<◌};
-ghost use Rattle.std.specs.Prelude.{List, length, Some, None};
-ghost use Rattle.std.specs.Prelude.{Ok, false, OnOk, IfOk, IfSome, IsOkUnless};
+ghost use Rattle.std.specs.Prelude.{List, length};
+ghost use Rattle.std.specs.Prelude.{false, OnOk, IfOk, IfSome, IsOkUnless};
 ghost use Rattle.std.specs.Option.{option_map};
 ghost use Rattle.sst_base.specs.Counted.{CountsExactly, CountsBetween};
 ghost use Rattle.sst_base.specs.Entry.{Entry, IsEntry};

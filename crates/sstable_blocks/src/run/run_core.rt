@@ -17,7 +17,7 @@ ghost use Rattle.sstable_blocks.specs.Run.{form, block_frame, block_frames, key_
 ghost use Rattle.sstable_blocks.specs.Run.{block_payload, IsRun};
 ghost use Rattle.std.specs.List.{AllByRecursion};
 ghost use Rattle.sstable_blocks.specs.Run.{index_frame, index_text, IsFilterText, IsFramed};
-ghost use Rattle.sstable_blocks.specs.Writing.{Follows, IsBehind, FrameFits, PartFits};
+ghost use Rattle.sstable_blocks.specs.Writing.{Follows, FollowsLast, FrameFits, PartFits};
 ghost use Rattle.sstable_blocks.specs.Writing.{IsFramedBlock, IsWriteRefusal};
 ghost use Rattle.sstable_blocks.specs.Writing.{IsFrameAppended, AppendsFilter, AppendsEnd};
 
@@ -96,7 +96,7 @@ impl<H: BlockHash> RunCore<H> {
 
     // Returns whether an entry does not sort before the last one of the blocks accepted.
     fn is_behind(&self, item: &InternalValue) -> bool
-        ensures behind { IsTrue result ↔ IsBehind self.now.blocks item.now }
+        ensures behind { IsTrue result ↔ FollowsLast self.now.blocks item.now }
         ensures ordered { IsOrdered entries (joined self.now.blocks) }
     {
         match self.handles.last() {
@@ -128,8 +128,7 @@ impl<H: BlockHash> RunCore<H> {
         writer: &mut W,
         items: &[InternalValue],
     ) -> Result<()>
-        requires some { IsNotEmpty items.now }
-        requires ordered { IsOrdered entries (joined (self.old.blocks ++ items.now ∷ [])) }
+        requires follows { Follows self.old.blocks items.now }
         requires den { 1 ≤ self.old.config.ratio.den }
         ensures config { self.new.config ≡ self.old.config }
         ensures accepted { OnOk result (self.new.blocks ≡ self.old.blocks ++ items.now ∷ []) }

@@ -1,13 +1,14 @@
 //! Writing a run block by block.
 ghost use Rattle.std.specs.Prelude.{◌≡◌, ◌≢◌, ◌↔◌, ◌≤◌, []};
 ghost use Rattle.std.specs.Prelude.{◌∷◌, ◌++◌, length, IsTrue, None, Some};
-ghost use Rattle.std.specs.Prelude.{OnOk, OnErr, IfOk, IfErr, IfSome, Err};
+ghost use Rattle.std.specs.Prelude.{OnOk, IfOk, IfErr, IfSome, MatchResult, Err};
 ghost use Rattle.std.specs.Io.KnownBytes.{Appends};
 ghost use Rattle.sst_base.specs.declared.error.Error.TheVariants.{Io};
 ghost use Rattle.sstable_blocks.specs.Run.{form, block_frame, block_frames, RunFits};
 ghost use Rattle.sstable_blocks.specs.RunReading.{hashes};
 ghost use Rattle.sstable_blocks.specs.Writing.{Follows, FrameFits, IsWriteRefusal, AppendsLayout};
 ghost use Rattle.sstable_blocks.specs.Writing.{AppendsSound};
+ghost use Rattle.sstable_blocks.specs.Writing.{IsSameRun, RepeatsError};
 
 use super::run_core::RunCore;
 use super::{RunConfig, RunHandles};
@@ -95,17 +96,16 @@ impl<H: BlockHash, W: Write> RunWriter<H, W> {
     /// every call returns the same error, and does not touch the writer.
     pub fn add_block(&mut self, items: &[InternalValue]) -> Result<()>
         requires { Follows self.old.blocks items.now }
-        ensures config { self.new.config ≡ self.old.config }
-        ensures start { self.new.start ≡ self.old.start }
-        ensures accepted { OnOk result (self.new.blocks ≡ self.old.blocks ++ items.now ∷ []) }
-        ensures kept { OnErr result (self.new.blocks ≡ self.old.blocks) }
-        ensures open { OnOk result (self.new.refusal ≡ None) }
-        ensures refused { IfErr result (λ e. self.new.refusal ≡ Some e) }
-        ensures repeated { IfSome self.old.refusal (λ e. result ≡ Err e) }
+        ensures run { IsSameRun self.old self.new }
+        ensures blocks { MatchResult result
+            (λ ok. self.new.blocks ≡ self.old.blocks ++ items.now ∷ [])
+            (λ e. self.new.blocks ≡ self.old.blocks) }
+        ensures refusal { MatchResult result (λ ok. self.new.refusal ≡ None)
+            (λ e. self.new.refusal ≡ Some e) }
+        ensures repeated { IfSome self.old.refusal (RepeatsError self.old self.new result) }
         ensures bytes { OnOk result
             (Appends (W.contents self.old.writer) (W.contents self.new.writer)
             (block_frame (form H.hash64 H.hash128 self.old.config) items.now)) }
-        ensures silent { IfSome self.old.refusal (λ e. self.new.writer ≡ self.old.writer) }
         ensures untouched { IfErr result (λ e. e ≢ Io → self.new.writer ≡ self.old.writer) }
         ensures cause { let f = form H.hash64 H.hash128 self.old.config in self.old.refusal ≡ None
             → IfErr result

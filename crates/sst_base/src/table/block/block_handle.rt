@@ -3,7 +3,7 @@ ghost use Rattle.std.specs.Prelude.{◌≡◌, ◌≤◌, ℕ, List, Some, IfOk}
 ghost use Rattle.sst_base.specs.BlockHandle.{handle_bytes, handle_at, handle_number_at};
 ghost use Rattle.sst_base.specs.Inputs.{Reads};
 
-use crate::coding::{Decode, Encode, MAX_VARINT_LEN, push_varint_reserved, varint_digits};
+use crate::coding::{Decode, Encode, MAX_VARINT_LEN, encode_varint, varint_digits};
 use crate::error::{Error, Result};
 use crate::input::{Input, array_from};
 use crate::table::block::offset::BlockOffset;
@@ -65,8 +65,8 @@ impl Encode for BlockHandle {
 
     fn encode_into_vec(&self, alloc: Global) -> Result<Vec<u8>> {
         let mut bytes = Vec::with_capacity(alloc, 2 * MAX_VARINT_LEN)?;
-        push_varint_reserved(&mut bytes, self.offset.0);
-        push_varint_reserved(&mut bytes, u64::from(self.size));
+        encode_varint(&mut bytes, self.offset.0)?;
+        encode_varint(&mut bytes, u64::from(self.size))?;
         Ok(bytes)
     }
 }

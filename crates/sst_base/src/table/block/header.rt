@@ -6,7 +6,7 @@ ghost use Rattle.byteorder.specs.Endian.{little_number};
 ghost use Rattle.std.specs.Io.KnownBytes.{Appends};
 ghost use Rattle.sst_base.specs.BlockType.{block_type_byte};
 ghost use Rattle.sst_base.specs.Bytes.{IsBytes};
-ghost use Rattle.sst_base.specs.Header.{magic, header, header_front, header_at, header_of};
+ghost use Rattle.sst_base.specs.Header.{magic, header, header_start, header_at, header_of};
 ghost use Rattle.sst_base.specs.Header.{header_with};
 ghost use Rattle.sst_base.specs.Header.{magic_at, block_type_at};
 ghost use Rattle.sst_base.specs.Frame.{has_length};
@@ -93,7 +93,7 @@ impl Header {
     }
 
     // The bytes of the header.
-    #[tactic(auto, unfolding(crate::specs::Header::header, crate::specs::Header::header_front))]
+    #[tactic(auto, unfolding(crate::specs::Header::header, crate::specs::Header::header_start))]
     fn encoded<H: BlockHash>(&self) -> [u8; HEADER_LEN]
         ensures { result ≡ header H.hash128 self.now }
     {
@@ -106,9 +106,9 @@ impl Header {
     }
 
     // The bytes that the header's own checksum covers.
-    #[tactic(auto, unfolding(crate::specs::Header::header_front))]
+    #[tactic(auto, unfolding(crate::specs::Header::header_start))]
     fn front(&self) -> [u8; FRONT_LEN]
-        ensures { result ≡ header_front self.now }
+        ensures { result ≡ header_start self.now }
     {
         let mut bytes = [0u8; FRONT_LEN];
         bytes[..TYPE_AT].copy_from_slice(&MAGIC);

@@ -2,7 +2,7 @@
 ghost use Rattle.std.specs.Prelude.{◌≡◌, ◌+◌, ◌-◌, ◌<◌, ◌≤◌, [], length};
 ghost use Rattle.std.specs.Prelude.{slice_get, Some};
 ghost use Rattle.sst_base.specs.Counted.{CountsExactly, CountsBetween};
-ghost use Rattle.sst_block_core.specs.Backs.{first_of, back_cost, StackStands, IsBack};
+ghost use Rattle.sst_block_core.specs.Backs.{first_of, back_cost, ArePlaces, IsBack};
 ghost use Rattle.sst_block_core.specs.Candidates.{scan_cost};
 
 use crate::table::block::decoder::{Decodable, ParsedItem};
@@ -48,7 +48,7 @@ impl<'a, Item: Decodable<Parsed>, Parsed: ParsedItem<Item> + Drop> Intervals<'a,
         requires inside { end ≤ length self.old.list.items }
         requires empty { stack.old.items ≡ [] }
         ensures list { self.new.list ≡ self.old.list }
-        ensures places { StackStands Item.kind self.old.list stack.new.items result
+        ensures places { ArePlaces Item.kind self.old.list stack.new.items result
             (first_of self.old.list.interval end) }
         ensures count { first_of self.old.list.interval end + length stack.new.items ≡ end }
         ensures bounded { self.new.steps.entries

@@ -1,5 +1,5 @@
 //! The block decoder.
-ghost use Rattle.std.specs.Prelude.{◌≡◌, ℕ, ◌+◌, ◌-◌, ◌*◌, ◌<◌};
+ghost use Rattle.std.specs.Prelude.{◌≡◌, ℕ, ◌-◌, ◌*◌, ◌<◌};
 ghost use Rattle.std.specs.Prelude.{◌≤◌, List, [], ◌∷◌};
 ghost use Rattle.std.specs.Prelude.{length, take, drop, Some, None, IfSome, IfOk};
 ghost use Rattle.std.specs.Prelude.{IsSome, IsSomeAnd};
@@ -11,7 +11,7 @@ ghost use Rattle.std.specs.Iterator.{at_most};
 ghost use Rattle.std.proofs.Common.{ap};
 ghost use Rattle.sst_base.specs.Counted.{found_item, IsZero, CountsExactly, CountsBetween};
 ghost use Rattle.sst_base.specs.SharedPrefix.{shared_prefix_length};
-ghost use Rattle.sst_block_core.specs.Found.{Finds, Takes, StandsAt};
+ghost use Rattle.sst_block_core.specs.Found.{Finds, Takes, IsEncodedAt};
 ghost use Rattle.sst_block_core.specs.Payload.{IsEncoding};
 ghost use Rattle.sst_block_core.specs.Stages.{items_in};
 ghost use Rattle.sst_block_core.specs.Body.{place_offset};
@@ -102,7 +102,7 @@ pub trait Decodable<Parsed: ParsedItem<Self>>: BlockItem + Sized {
         ensures exact { option_map {U = List ℕ × ℕ} (λ f. (f.0.now, f.1)) result
             ≡ option_map {U = List ℕ × ℕ} (λ f. (Self.kind.key f.0, Self.kind.seqno f.0))
             (Self.kind.full_at (drop offset payload.now)) }
-        ensures marker { StandsAt payload.now offset (255 ∷ []) → result ≡ None }
+        ensures marker { IsEncodedAt payload.now offset (255 ∷ []) → result ≡ None }
         ensures counts { CountsExactly steps.old steps.new 1 0 };
 
     /// Decodes the item in full form at an offset; the second result is where the form ends.
@@ -114,10 +114,10 @@ pub trait Decodable<Parsed: ParsedItem<Self>>: BlockItem + Sized {
             (Self.kind.full_at (drop offset payload.now)) }
         ensures found { IfSome result (λ f. Parsed.is_found payload.now f.0) }
         ensures key { IfSome result
-            (λ f. StandsAt payload.now (Parsed.key_start f.0)
+            (λ f. IsEncodedAt payload.now (Parsed.key_start f.0)
             (Self.kind.key (Parsed.item_of payload.now f.0))) }
         ensures shared { IfSome result (λ f. Parsed.shared_len f.0 ≡ 0) }
-        ensures marker { StandsAt payload.now offset (255 ∷ []) → result ≡ None }
+        ensures marker { IsEncodedAt payload.now offset (255 ∷ []) → result ≡ None }
         ensures counts { CountsExactly steps.old steps.new 0 (found_item result) };
 
     /// Decodes the item in truncated form at an offset, after a head whose key begins at
@@ -132,13 +132,13 @@ pub trait Decodable<Parsed: ParsedItem<Self>>: BlockItem + Sized {
         steps: &mut Steps,
     ) -> Option<(Parsed, usize)>
         requires { offset ≤ length payload.now }
-        ensures item { (base : List ℕ) → StandsAt payload.now base_key_offset base
+        ensures item { (base : List ℕ) → IsEncodedAt payload.now base_key_offset base
             → (x : Self) (rest : List ℕ)
             → Self.kind.truncated_at base (drop offset payload.now) ≡ Some (x, rest)
             → IsSomeAnd result
             (λ f. (f.1 ≤ length payload.now) × (Parsed.item_of payload.now f.0 ≡ x)
             × (drop f.1 payload.now ≡ rest)) }
-        ensures read { (base : List ℕ) → StandsAt payload.now base_key_offset base
+        ensures read { (base : List ℕ) → IsEncodedAt payload.now base_key_offset base
             → IfSome result
             (λ f. Parsed.shared_len f.0
             ≡ shared_prefix_length base (Self.kind.key (Parsed.item_of payload.now f.0))
@@ -151,7 +151,7 @@ pub trait Decodable<Parsed: ParsedItem<Self>>: BlockItem + Sized {
             ≡ Some (Parsed.item_of payload.now f.0, drop f.1 payload.now)) }
         ensures within { IfSome result (λ f. f.1 ≤ length payload.now) }
         ensures found { IfSome result (λ f. Parsed.is_found payload.now f.0) }
-        ensures marker { StandsAt payload.now offset (255 ∷ []) → result ≡ None }
+        ensures marker { IsEncodedAt payload.now offset (255 ∷ []) → result ≡ None }
         ensures counts { CountsExactly steps.old steps.new 0 (found_item result) };
 
     /// Decodes the item whose full form is at an offset; the second result is where the form
@@ -161,7 +161,7 @@ pub trait Decodable<Parsed: ParsedItem<Self>>: BlockItem + Sized {
         ensures exact { Takes (Parsed.item_of payload.now) payload.now result
             (Self.kind.full_at (drop offset payload.now)) }
         ensures found { Parsed.is_found payload.now result.0 }
-        ensures key { StandsAt payload.now (Parsed.key_start result.0)
+        ensures key { IsEncodedAt payload.now (Parsed.key_start result.0)
             (Self.kind.key (Parsed.item_of payload.now result.0)) }
         ensures shared { Parsed.shared_len result.0 ≡ 0 }
         ensures counts { CountsExactly steps.old steps.new 0 1 };
@@ -174,11 +174,11 @@ pub trait Decodable<Parsed: ParsedItem<Self>>: BlockItem + Sized {
         base_key_offset: usize,
         steps: &mut Steps,
     ) -> (Parsed, usize)
-        requires { (base : List ℕ) × StandsAt payload.now base_key_offset base
+        requires { (base : List ℕ) × IsEncodedAt payload.now base_key_offset base
             × IsSome (Self.kind.truncated_at base (drop offset payload.now)) }
         ensures inside { result.1 ≤ length payload.now }
         ensures item { (base : List ℕ) (x : Self) (rest : List ℕ)
-            → StandsAt payload.now base_key_offset base
+            → IsEncodedAt payload.now base_key_offset base
             → Self.kind.truncated_at base (drop offset payload.now) ≡ Some (x, rest)
             → (Parsed.item_of payload.now result.0 ≡ x) × (drop result.1 payload.now ≡ rest)
             × (Parsed.shared_len result.0 ≡ shared_prefix_length base (Self.kind.key x)) }
@@ -206,7 +206,7 @@ pub struct Decoder<'a, Item: Decodable<Parsed>, Parsed: ParsedItem<Item>> {
 }
 
 impl<'a, Item: Decodable<Parsed>, Parsed: ParsedItem<Item>> Model for Decoder<'a, Item, Parsed> {
-    ghost use Rattle.sst_block_core.specs.Scan.{Scan, Stands};
+    ghost use Rattle.sst_block_core.specs.Scan.{Scan, IsPlace};
     ghost use Rattle.sst_block_core.specs.Backs.{IsBack};
 
     ghost Value = { Scan Item };
@@ -218,7 +218,7 @@ impl<'a, Item: Decodable<Parsed>, Parsed: ParsedItem<Item>> Model for Decoder<'a
       steps = d.intervals.steps;
     } };
 
-    ghost invariant = { λ d. Stands Item.kind d.intervals.list d.front
+    ghost invariant = { λ d. IsPlace Item.kind d.intervals.list d.front
         × IsBack Item.kind d.intervals.list d.back.hi d.back.stack.items d.back.base };
 }
 

@@ -5,9 +5,9 @@ ghost use Rattle.std.specs.Ordering.{nat_cmp};
 ghost use Rattle.std.specs.Cmp.Lexicographic.{slice_cmp};
 ghost use Rattle.sst_base.specs.Counted.{IsZero, CountsExactly, CountsBetween};
 ghost use Rattle.sst_base.specs.SharedPrefix.{shared_prefix_length};
-ghost use Rattle.sst_block_core.specs.Found.{Takes, StandsAt, IsRange, range_of};
-ghost use Rattle.sst_block_core.specs.Heads.{IsTable, key_in, heads_before, IsBehindHead, Begins};
-ghost use Rattle.sst_block_core.specs.Passes.{last_of};
+ghost use Rattle.sst_block_core.specs.Found.{Takes, IsEncodedAt, IsRange, range_of};
+ghost use Rattle.sst_block_core.specs.Heads.{IsTable, key_in, heads_before, Begins};
+ghost use Rattle.sst_block_core.specs.Heads.{IsNextHead, KeepsPrefixAndRoom};
 ghost use Rattle.sst_block_core.specs.Intervals.{digits};
 ghost use Rattle.sst_block_core.specs.declared.table.block.heads.Head.{Head};
 
@@ -118,7 +118,7 @@ impl<'a, Item: Decodable<Parsed>, Parsed: ParsedItem<Item>> FormReader<'a, Item,
         ensures exact { Takes (Parsed.item_of self.old.payload) self.old.payload result
             (Item.kind.full_at (drop offset self.old.payload)) }
         ensures found { Parsed.is_found self.old.payload result.0 }
-        ensures key { StandsAt self.old.payload (Parsed.key_start result.0)
+        ensures key { IsEncodedAt self.old.payload (Parsed.key_start result.0)
             (Item.kind.key (Parsed.item_of self.old.payload result.0)) }
         ensures shared { Parsed.shared_len result.0 ≡ 0 }
         ensures counts { CountsExactly self.old.steps self.new.steps 0 1 }
@@ -134,12 +134,12 @@ impl<'a, Item: Decodable<Parsed>, Parsed: ParsedItem<Item>> FormReader<'a, Item,
         offset: usize,
         base_key_offset: usize,
     ) -> (Parsed, usize)
-        requires { (base : List ℕ) × StandsAt self.old.payload base_key_offset base
+        requires { (base : List ℕ) × IsEncodedAt self.old.payload base_key_offset base
             × IsSome (Item.kind.truncated_at base (drop offset self.old.payload)) }
         ensures payload { self.new.payload ≡ self.old.payload }
         ensures inside { result.1 ≤ length self.old.payload }
         ensures item { (base : List ℕ) (x : Item) (rest : List ℕ)
-            → StandsAt self.old.payload base_key_offset base
+            → IsEncodedAt self.old.payload base_key_offset base
             → Item.kind.truncated_at base (drop offset self.old.payload) ≡ Some (x, rest)
             → (Parsed.item_of self.old.payload result.0 ≡ x)
             × (drop result.1 self.old.payload ≡ rest)
@@ -229,13 +229,9 @@ impl<'a, Item: Decodable<Parsed>, Parsed: ParsedItem<Item> + Drop> FormReader<'a
     pub(crate) fn push_head(&mut self, table: &mut HeadTable, offset: usize)
         requires head { IsSome (Item.kind.full_at (drop offset self.old.payload)) }
         requires room { length table.old.heads < table.old.room }
-        requires begins { (x : Item) (rest : List ℕ)
+        requires next { (x : Item) (rest : List ℕ)
             → Item.kind.full_at (drop offset self.old.payload) ≡ Some (x, rest)
-            → Begins (range_of self.old.payload table.old.prefix) (Item.kind.key x) }
-        requires order { (x : Item) (rest : List ℕ) (last : Head)
-            → Item.kind.full_at (drop offset self.old.payload) ≡ Some (x, rest)
-            → last_of table.old.heads ≡ Some last
-            → IsBehindHead Item.kind self.old.payload last x }
+            → IsNextHead Item.kind self.old.payload table.old x }
         requires table { IsTable self.old.payload table.old }
         ensures payload { self.new.payload ≡ self.old.payload }
         ensures pushed { (x : Item) (rest : List ℕ)
@@ -243,8 +239,7 @@ impl<'a, Item: Decodable<Parsed>, Parsed: ParsedItem<Item> + Drop> FormReader<'a
             → (h : Head) × (table.new.heads ≡ table.old.heads ++ h ∷ [])
             × (key_in self.old.payload h ≡ Item.kind.key x) × (h.seqno ≡ Item.kind.seqno x)
             × (h.offset ≡ offset) }
-        ensures prefix { table.new.prefix ≡ table.old.prefix }
-        ensures room { table.old.room ≤ table.new.room }
+        ensures kept { KeepsPrefixAndRoom table.old table.new }
         ensures table { IsTable self.old.payload table.new }
     {
         let (key, seqno) = self.key_range(offset);

@@ -8,8 +8,8 @@ ghost use Rattle.std.specs.declared.cmp.Ordering.TheVariants.{Less, Equal};
 ghost use Rattle.sst_base.specs.Counted.{CountsExactly, CountsBetween};
 ghost use Rattle.sst_base.specs.Order.{versions_cmp};
 ghost use Rattle.sst_block_core.specs.Found.{IsRange, range_of};
-ghost use Rattle.sst_block_core.specs.Heads.{front, key_in, Begins, IsTable, TellsBit, head_of};
-ghost use Rattle.sst_block_core.specs.Heads.{heads_before, IsCopy};
+ghost use Rattle.sst_block_core.specs.Heads.{front, key_in, Begins, IsTable, IsHeadPassedBit, head_of};
+ghost use Rattle.sst_block_core.specs.Heads.{heads_before, IsCopy, KeepsPrefixAndRoom};
 ghost use Rattle.sst_block_core.specs.Intervals.{digits};
 ghost use Rattle.sst_block_core.specs.Passes.{last_of};
 ghost use Rattle.sst_block_core.specs.declared.table.block.heads.Head.{Head};
@@ -189,8 +189,7 @@ impl HeadTable {
             (head_of offset seqno key) last ≢ Less) }
         requires table { IsTable payload.now self.old }
         ensures heads { self.new.heads ≡ self.old.heads ++ head_of offset seqno key ∷ [] }
-        ensures prefix { self.new.prefix ≡ self.old.prefix }
-        ensures room { self.old.room ≤ self.new.room }
+        ensures kept { KeepsPrefixAndRoom self.old self.new }
         ensures table { IsTable payload.now self.new }
     {
         let number = front_of(self.behind_prefix(payload, bytes_of(payload, &key))) / 2;
@@ -277,7 +276,7 @@ impl HeadTable {
             → slice_cmp nat_cmp (range_of payload.now self.now.prefix ++ s) bound.now.needle.now
             ≡ slice_cmp nat_cmp s rest.now }
         requires number { number ≡ front rest.now / 2 }
-        ensures tells { TellsBit payload.now bound.now.needle.now bound.now.from self.now.heads j
+        ensures tells { IsHeadPassedBit payload.now bound.now.needle.now bound.now.from self.now.heads j
             result }
         ensures counts { CountsExactly steps.old steps.new 1 0 }
     {

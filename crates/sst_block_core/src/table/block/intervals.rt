@@ -10,12 +10,14 @@ ghost use Rattle.sst_base.specs.SharedPrefix.{shared_prefix_length};
 ghost use Rattle.sst_block_core.specs.Body.{place_offset};
 ghost use Rattle.sst_block_core.specs.Found.{IsRange, range_of};
 ghost use Rattle.sst_block_core.specs.Payload.{IsEncoding};
+ghost use Rattle.sst_block_core.specs.Places.{IsItemPlace, IsItemAt};
 ghost use Rattle.sst_block_core.specs.Pointers.{head_count};
-ghost use Rattle.sst_block_core.specs.Scan.{StandsBehind, Stands};
+ghost use Rattle.sst_block_core.specs.Scan.{IsPlaceAfter, IsPlace};
 ghost use Rattle.sst_block_core.specs.Stages.{items_in};
 ghost use Rattle.sst_block_core.specs.Trailer.{trailer_in};
 ghost use Rattle.sst_block_core.specs.Intervals.{IsListed};
 ghost use Rattle.sst_block_core.specs.Heads.{IsTableOf, IsTableUpto, HeadsBegin, listed_in};
+ghost use Rattle.sst_block_core.specs.Heads.{KeepsPrefixAndRoom};
 
 use crate::table::block::binary_index::Reader;
 use crate::table::block::decoder::{Decodable, ParsedItem};
@@ -148,7 +150,7 @@ impl<'a, Item: Decodable<Parsed>, Parsed: ParsedItem<Item>> Intervals<'a, Item, 
     #[inline(always)]
     pub(crate) fn first(&self) -> Place
         ensures place { result.index ≡ 0 }
-        ensures stands { Stands Item.kind self.now.list result }
+        ensures stands { IsPlace Item.kind self.now.list result }
     {
         // The proof needs that the first pointer is 0.
         let _pointers = self.pointers.len();
@@ -166,7 +168,7 @@ impl<'a, Item: Decodable<Parsed>, Parsed: ParsedItem<Item>> Intervals<'a, Item, 
         requires { j * self.now.list.interval < length self.now.list.items }
         ensures place { result.index ≡ j * self.now.list.interval }
         ensures phase { result.phase ≡ 0 }
-        ensures stands { Stands Item.kind self.now.list result }
+        ensures stands { IsPlace Item.kind self.now.list result }
         ensures offset { result.offset
             ≡ place_offset Item.kind self.now.list.interval self.now.list.items
             (j * self.now.list.interval) }
@@ -205,7 +207,7 @@ impl<'a, Item: Decodable<Parsed>, Parsed: ParsedItem<Item>> Intervals<'a, Item, 
     #[inline(always)]
     pub(crate) fn end(&self) -> Place
         ensures place { result.index ≡ length self.now.list.items }
-        ensures stands { Stands Item.kind self.now.list result }
+        ensures stands { IsPlace Item.kind self.now.list result }
     {
         let index = self.item_count();
         Place {
@@ -223,7 +225,7 @@ impl<'a, Item: Decodable<Parsed>, Parsed: ParsedItem<Item>> Intervals<'a, Item, 
         requires { j ≤ head_count self.now.list.interval (length self.now.list.items) }
         ensures place { result.index
             ≡ min (length self.now.list.items) (j * self.now.list.interval) }
-        ensures stands { Stands Item.kind self.now.list result }
+        ensures stands { IsPlace Item.kind self.now.list result }
     {
         if j < self.count() {
             self.start(j)
@@ -243,7 +245,7 @@ impl<'a, Item: Decodable<Parsed>, Parsed: ParsedItem<Item>> Intervals<'a, Item, 
             ≡ place_offset Item.kind self.now.list.interval self.now.list.items
             (j * self.now.list.interval)
             → result.index ≡ j * self.now.list.interval }
-        ensures stands { Stands Item.kind self.now.list result }
+        ensures stands { IsPlace Item.kind self.now.list result }
     {
         let mut left = 0;
         let mut right = self.count();
@@ -293,16 +295,13 @@ impl<'a, Item: Decodable<Parsed>, Parsed: ParsedItem<Item>> Intervals<'a, Item, 
     /// Decodes the item of a head, and moves after it. Counts an entry.
     #[inline(always)]
     pub(crate) fn take_head(&mut self, at: &mut Place) -> Parsed
-        requires inside { at.old.index < length self.old.list.items }
+        requires place { IsItemPlace Item.kind self.old.list at.old }
         requires head { at.old.phase ≡ 0 }
-        requires stands { Stands Item.kind self.old.list at.old }
         ensures list { self.new.list ≡ self.old.list }
-        ensures item { slice_get self.old.list.items at.old.index
-            ≡ Some (Parsed.item_of self.old.list.payload result) }
-        ensures found { Parsed.is_found self.old.list.payload result }
+        ensures item { IsItemAt Parsed.item_of Parsed.is_found self.old.list at.old.index result }
         ensures shared { Parsed.shared_len result ≡ 0 }
         ensures place { at.new.index ≡ at.old.index + 1 }
-        ensures stands { StandsBehind Item.kind self.old.list at.new
+        ensures stands { IsPlaceAfter Item.kind self.old.list at.new
             (Item.kind.key (Parsed.item_of self.old.list.payload result)) }
         ensures counts { CountsExactly self.old.steps self.new.steps 0 1 }
     {
@@ -315,17 +314,14 @@ impl<'a, Item: Decodable<Parsed>, Parsed: ParsedItem<Item>> Intervals<'a, Item, 
     /// Decodes the item at a place that isn't a head's, and moves after it. Counts an entry.
     #[inline(always)]
     pub(crate) fn take_rest(&mut self, at: &mut Place) -> Parsed
-        requires inside { at.old.index < length self.old.list.items }
+        requires place { IsItemPlace Item.kind self.old.list at.old }
         requires rest { 0 < at.old.phase }
-        requires stands { Stands Item.kind self.old.list at.old }
         ensures list { self.new.list ≡ self.old.list }
-        ensures item { slice_get self.old.list.items at.old.index
-            ≡ Some (Parsed.item_of self.old.list.payload result) }
-        ensures found { Parsed.is_found self.old.list.payload result }
+        ensures item { IsItemAt Parsed.item_of Parsed.is_found self.old.list at.old.index result }
         ensures place { at.new.index ≡ at.old.index + 1 }
         ensures base { at.new.base ≡ at.old.base }
-        ensures stands { (head : List ℕ) → StandsBehind Item.kind self.old.list at.old head
-            → StandsBehind Item.kind self.old.list at.new head
+        ensures stands { (head : List ℕ) → IsPlaceAfter Item.kind self.old.list at.old head
+            → IsPlaceAfter Item.kind self.old.list at.new head
             × (Parsed.shared_len result
             ≡ shared_prefix_length head
             (Item.kind.key (Parsed.item_of self.old.list.payload result))) }
@@ -370,14 +366,11 @@ impl<'a, Item: Decodable<Parsed>, Parsed: ParsedItem<Item>> Intervals<'a, Item, 
     /// Decodes the item at a place, and moves after it. Counts an entry.
     #[inline(always)]
     pub(crate) fn take(&mut self, at: &mut Place) -> Parsed
-        requires inside { at.old.index < length self.old.list.items }
-        requires stands { Stands Item.kind self.old.list at.old }
+        requires { IsItemPlace Item.kind self.old.list at.old }
         ensures list { self.new.list ≡ self.old.list }
-        ensures item { slice_get self.old.list.items at.old.index
-            ≡ Some (Parsed.item_of self.old.list.payload result) }
-        ensures found { Parsed.is_found self.old.list.payload result }
+        ensures item { IsItemAt Parsed.item_of Parsed.is_found self.old.list at.old.index result }
         ensures place { at.new.index ≡ at.old.index + 1 }
-        ensures stands { Stands Item.kind self.old.list at.new }
+        ensures stands { IsPlace Item.kind self.old.list at.new }
         ensures counts { CountsExactly self.old.steps self.new.steps 0 1 }
     {
         if at.phase == 0 {
@@ -415,8 +408,7 @@ impl<'a, Item: Decodable<Parsed>, Parsed: ParsedItem<Item> + Drop> Intervals<'a,
         requires room { j < table.old.room }
         ensures list { self.new.list ≡ self.old.list }
         ensures table { IsTableUpto Item.kind self.old.list (j + 1) table.new }
-        ensures prefix { table.new.prefix ≡ table.old.prefix }
-        ensures room { table.old.room ≤ table.new.room }
+        ensures kept { KeepsPrefixAndRoom table.old table.new }
     {
         let at = self.start(j);
         self.forms.push_head(table, at.offset)

@@ -70,11 +70,7 @@ pub fn join_ranges(
     ensures memory { IsOkUnless result Error.Memory }
 {
     match prefix {
-        Some(prefix) => Slice::fused(
-            alloc,
-            bytes_of(payload.as_slice(), prefix),
-            bytes_of(payload.as_slice(), rest),
-        ),
+        Some(prefix) => Slice::joined(alloc, payload.as_slice(), prefix, rest),
         None => payload.slice(rest.0..rest.1),
     }
 }

@@ -16,7 +16,6 @@ pub mod reading;
 pub(crate) mod search;
 pub(crate) mod seeks;
 pub mod trailer;
-pub mod writing;
 
 pub use decoder::{Decodable, Decoder, ParsedItem};
 pub use encoder::{Encodable, Encoder};

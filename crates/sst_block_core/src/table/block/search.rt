@@ -9,8 +9,9 @@ ghost use Rattle.sst_base.specs.SharedPrefix.{shared_prefix_length};
 ghost use Rattle.std.specs.Option.{option_map};
 ghost use Rattle.sst_base.specs.Counted.{found_item, CountsExactly, CountsBetween};
 ghost use Rattle.sst_block_core.specs.Kind.{IsOrdered};
+ghost use Rattle.sst_block_core.specs.Places.{IsItemPlace, IsItemAt};
 ghost use Rattle.sst_block_core.specs.Pointers.{head_count};
-ghost use Rattle.sst_block_core.specs.Scan.{Stands, StandsBehind};
+ghost use Rattle.sst_block_core.specs.Scan.{IsPlace, IsPlaceAfter};
 ghost use Rattle.sst_block_core.specs.Window.{count_passed, is_version};
 ghost use Rattle.sst_block_core.specs.Intervals.{Answered, Splits, digits, IsEntered, IsFoundAt};
 ghost use Rattle.sst_block_core.specs.Candidates.{IsHeldAt, IsCandidateAt, with_needle, scan_cost};
@@ -104,7 +105,7 @@ impl<'a, Item: Decodable<Parsed>, Parsed: ParsedItem<Item> + Drop> Intervals<'a,
         ensures place { result.0.index
             ≡ min end
             (count_passed Item.kind bound.now.needle.now bound.now.from self.old.list.items) }
-        ensures stands { Stands Item.kind self.old.list result.0 }
+        ensures stands { IsPlace Item.kind self.old.list result.0 }
         ensures candidate { MatchOption result.1 (result.0.index ≡ end)
             (λ l.
             IsCandidateAt Parsed.item_of Parsed.is_found Item.kind bound.now.needle.now self.old.list
@@ -133,12 +134,11 @@ impl<'a, Item: Decodable<Parsed>, Parsed: ParsedItem<Item> + Drop> Intervals<'a,
     fn enter(&mut self, j: usize, needle: &[u8]) -> (Place, Parsed, usize)
         requires { j * self.old.list.interval < length self.old.list.items }
         ensures list { self.new.list ≡ self.old.list }
-        ensures item { slice_get self.old.list.items (j * self.old.list.interval)
-            ≡ Some (Parsed.item_of self.old.list.payload result.1) }
-        ensures found { Parsed.is_found self.old.list.payload result.1 }
+        ensures item { IsItemAt Parsed.item_of Parsed.is_found self.old.list
+            (j * self.old.list.interval) result.1 }
         ensures shared { Parsed.shared_len result.1 ≡ 0 }
         ensures place { result.0.index ≡ j * self.old.list.interval + 1 }
-        ensures stands { StandsBehind Item.kind self.old.list result.0
+        ensures stands { IsPlaceAfter Item.kind self.old.list result.0
             (Item.kind.key (Parsed.item_of self.old.list.payload result.1)) }
         ensures alike { result.2
             ≡ shared_prefix_length (Item.kind.key (Parsed.item_of self.old.list.payload result.1))
@@ -167,7 +167,7 @@ impl<'a, Item: Decodable<Parsed>, Parsed: ParsedItem<Item> + Drop> Intervals<'a,
         ensures place { result.0.index
             ≡ min (min (length self.old.list.items) ((j + 1) * self.old.list.interval))
             (count_passed Item.kind bound.now.needle.now bound.now.from self.old.list.items) }
-        ensures stands { Stands Item.kind self.old.list result.0 }
+        ensures stands { IsPlace Item.kind self.old.list result.0 }
         ensures candidate { MatchOption result.1
             (result.0.index ≡ min (length self.old.list.items) ((j + 1) * self.old.list.interval))
             (λ l.
@@ -198,9 +198,8 @@ impl<'a, Item: Decodable<Parsed>, Parsed: ParsedItem<Item> + Drop> Intervals<'a,
     // The item of a head, if it has a key.
     #[inline(always)]
     fn head_with_key(&mut self, at: Place, needle: &[u8]) -> Option<Parsed>
-        requires inside { at.index < length self.old.list.items }
+        requires place { IsItemPlace Item.kind self.old.list at }
         requires head { at.phase ≡ 0 }
-        requires stands { Stands Item.kind self.old.list at }
         ensures list { self.new.list ≡ self.old.list }
         ensures item { MatchOption result
             ((x : Item) → slice_get self.old.list.items at.index ≡ Some x
@@ -221,7 +220,7 @@ impl<'a, Item: Decodable<Parsed>, Parsed: ParsedItem<Item> + Drop> Intervals<'a,
         requires within { heads ≤ head_count self.old.list.interval (length self.old.list.items) }
         ensures list { self.new.list ≡ self.old.list }
         ensures place { result.0.index ≡ heads }
-        ensures stands { Stands Item.kind self.old.list result.0 }
+        ensures stands { IsPlace Item.kind self.old.list result.0 }
         ensures item { MatchOption result.1
             ((x : Item) → slice_get self.old.list.items result.0.index ≡ Some x
             → is_eq (slice_cmp nat_cmp (Item.kind.key x) needle.now) ≡ false)
@@ -245,7 +244,7 @@ impl<'a, Item: Decodable<Parsed>, Parsed: ParsedItem<Item> + Drop> Intervals<'a,
         ensures list { self.new.list ≡ self.old.list }
         ensures place { result.0.index
             ≡ count_passed Item.kind bound.now.needle.now bound.now.from self.old.list.items }
-        ensures stands { Stands Item.kind self.old.list result.0 }
+        ensures stands { IsPlace Item.kind self.old.list result.0 }
         ensures item { MatchOption result.1
             ((x : Item) → slice_get self.old.list.items result.0.index ≡ Some x
             → is_eq (slice_cmp nat_cmp (Item.kind.key x) bound.now.needle.now) ≡ false)
@@ -278,7 +277,7 @@ impl<'a, Item: Decodable<Parsed>, Parsed: ParsedItem<Item> + Drop> Intervals<'a,
         ensures list { self.new.list ≡ self.old.list }
         ensures place { result.0.index
             ≡ count_passed Item.kind bound.now.needle.now bound.now.from self.old.list.items }
-        ensures stands { Stands Item.kind self.old.list result.0 }
+        ensures stands { IsPlace Item.kind self.old.list result.0 }
         ensures candidate { IfSome result.1
             (IsHeldAt Parsed.item_of Parsed.is_found Item.kind self.old.list result.0.index) }
         ensures counts { CountsBetween self.old.steps self.new.steps (1, 0) (

@@ -1,5 +1,5 @@
 //! Seeks of a decoder by key.
-ghost use Rattle.std.specs.Prelude.{◌≡◌, ◌+◌, ◌*◌, ◌<◌, length, min, nat_lt};
+ghost use Rattle.std.specs.Prelude.{◌≡◌, ◌+◌, ◌*◌, length, min, nat_lt};
 ghost use Rattle.std.specs.Prelude.{IfSome};
 ghost use Rattle.sst_base.specs.Counted.{CountsBetween};
 ghost use Rattle.sst_block_core.specs.Kind.{IsOrdered};

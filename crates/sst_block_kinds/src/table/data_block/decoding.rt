@@ -2,7 +2,7 @@
 ghost use Rattle.std.specs.Prelude.{◌≡◌, ◌+◌, ◌-◌, ◌^◌, ◌<◌, ◌≤◌};
 ghost use Rattle.std.specs.Prelude.{length, drop, [], ◌∷◌, IfSome, IfNone, IsSome, None};
 ghost use Rattle.sst_block_core.specs.Found.{Finds, Takes, IsRange, IsOptionalRange};
-ghost use Rattle.sst_block_core.specs.Found.{optional_range, range_of, StandsAt};
+ghost use Rattle.sst_block_core.specs.Found.{optional_range, range_of, IsEncodedAt};
 ghost use Rattle.sst_block_core.specs.Entries.{value_at, full_at, truncated_form_at};
 ghost use Rattle.sst_block_kinds.specs.ParsedEntry.{entry_of, truncated_of, IsKeyLength};
 ghost use Rattle.sst_block_kinds.specs.ParsedEntry.{IsParsedEntry};
@@ -147,9 +147,9 @@ fn full_form_from(payload: &[u8], offset: usize) -> Option<(DataBlockParsedItem,
         (full_at (drop offset payload.now)) }
     ensures found { IfSome result (λ f. IsParsedEntry payload.now f.0) }
     ensures key { IfSome result
-        (λ f. StandsAt payload.now f.0.key.0 (range_of payload.now f.0.key)) }
+        (λ f. IsEncodedAt payload.now f.0.key.0 (range_of payload.now f.0.key)) }
     ensures prefix { IfSome result (λ f. f.0.prefix ≡ None) }
-    ensures marker { StandsAt payload.now offset (255 ∷ []) → result ≡ None }
+    ensures marker { IsEncodedAt payload.now offset (255 ∷ []) → result ≡ None }
 {
     let (value_type, at) = value_type_from(payload, offset)?;
     let (seqno, at) = number_from(payload, at, 64)?;

@@ -15,7 +15,7 @@ ghost use Rattle.sst_block_core.specs.Payload.{IsBlock};
 ghost use Rattle.sst_block_core.specs.Stages.{HasIndexes};
 ghost use Rattle.sst_block_core.specs.Trailer.{trailer_in};
 ghost use Rattle.sst_block_core.specs.Heads.{IsTableOf, listed_in};
-ghost use Rattle.sst_block_core.specs.Encoders.{IsRefusal};
+ghost use Rattle.sst_block_core.specs.Encoders.{IsRefusal, IsBlockPayload};
 ghost use Rattle.sst_block_kinds.specs.PointReads.{read_least, read_most};
 ghost use Rattle.sst_block_core.specs.Window.{whole, first_match};
 ghost use Rattle.sst_block_kinds.specs.DataBlock.{block_of, data_block_of};
@@ -31,9 +31,10 @@ pub mod parsed_item;
 mod point_read;
 
 use crate::laws::data_check_is_by_stages;
+pub use crate::table::answer::Answer;
 pub use entry_ref::{Entries, EntryRef};
 pub use iter::Iter;
-pub use ops::{Answer, Op, walk};
+pub use ops::{Op, walk};
 pub use parsed_item::DataBlockParsedItem;
 use sst_base::table::block::Block;
 use sst_base::{
@@ -122,13 +123,12 @@ impl<H: BlockHash> DataBlock<H> {
         requires ordered { IsOrdered entries items.now }
         requires interval { 1 ≤ restart_interval }
         requires den { 1 ≤ ratio.den }
-        ensures payload { OnOk result (writer.new.items
-            ≡ data_payload H.hash64 items.now restart_interval
-            (bucket_count ratio.num ratio.den (length items.now))) }
-        ensures block { OnOk result
+        ensures written { OnOk result (IsBlockPayload
             (IsBlock entries IsEntry H.hash64 writer.new.items items.now restart_interval
-            (bucket_count ratio.num ratio.den (length items.now))) }
-        ensures fits { OnOk result (length writer.new.items < 2 ^ 32) }
+            (bucket_count ratio.num ratio.den (length items.now)))
+            (data_payload H.hash64 items.now restart_interval
+            (bucket_count ratio.num ratio.den (length items.now)))
+            writer.new.items) }
         ensures empty { OnErr result (writer.new.items ≡ []) }
         ensures cause { IfErr result (IsRefusal None
             (2 ^ 32

@@ -1,15 +1,13 @@
 //! Lists of seeks and steps over a data block, answered one after the other.
-ghost use Rattle.std.specs.Prelude.{◌≡◌, map, IfOk, IfSome, IsOk, IsOkUnless, []};
-ghost use Rattle.std.specs.Option.{option_map};
-ghost use Rattle.sst_block_kinds.specs.ParsedEntry.{entry_of, IsParsedEntry};
-ghost use Rattle.sst_block_core.specs.Window.{item, answers, whole};
-ghost use Rattle.sst_block_kinds.specs.Ops.{answer_of, step_of, Performs};
+ghost use Rattle.std.specs.Prelude.{◌≡◌, map, IfOk, IsOk, IsOkUnless, []};
+ghost use Rattle.sst_block_core.specs.Window.{answers, whole};
+ghost use Rattle.sst_block_kinds.specs.Answers.{answer_of, Performs};
+ghost use Rattle.sst_block_kinds.specs.Ops.{step_of};
 
+use crate::table::answer::{Answer, materialized};
 use crate::table::data_block::DataBlock;
 use crate::table::data_block::iter::Iter;
-use crate::table::data_block::parsed_item::DataBlockParsedItem;
 use sst_base::{BlockHash, Error, InternalValue, Result, Slice};
-use sst_block_core::table::block::ParsedItem;
 use std::alloc::Global;
 
 /// A step or a seek of an iterator over a data block.
@@ -29,38 +27,21 @@ pub enum Op {
     SeekUpperExclusive(Slice),
 }
 
-/// The answer to an [`Op`].
-#[derive(Debug, Drop)]
-pub enum Answer {
-    /// What a seek returns.
-    Found(bool),
-    /// The entry that a step takes, if one is left.
-    Item(Option<InternalValue>),
-}
-
-// Makes the entry of an item, if there is one.
-fn made(alloc: Global, payload: &Slice, parsed: Option<DataBlockParsedItem>) -> Result<Answer>
-    requires { IfSome parsed (IsParsedEntry payload.now) }
-    ensures ok { IfOk result
-        (λ a. answer_of a ≡ item (option_map (entry_of payload.now) parsed)) }
-    ensures memory { IsOkUnless result Error.Memory }
-{
-    match parsed {
-        Some(item) => Ok(Answer::Item(Some(item.materialize(alloc, payload)?))),
-        None => Ok(Answer::Item(None)),
-    }
-}
-
 // Does one operation.
-fn perform(alloc: Global, iter: &mut Iter<'_>, payload: &Slice, op: &Op) -> Result<Answer>
+fn perform(
+    alloc: Global,
+    iter: &mut Iter<'_>,
+    payload: &Slice,
+    op: &Op,
+) -> Result<Answer<InternalValue>>
     requires { iter.old.payload ≡ payload.now }
     ensures payload { iter.new.payload ≡ iter.old.payload }
-    ensures ok { IfOk result (λ a. Performs op.now iter.old.window a iter.new.window) }
+    ensures ok { IfOk result (λ a. Performs (step_of op.now) iter.old.window a iter.new.window) }
     ensures memory { IsOkUnless result Error.Memory }
 {
     match op {
-        Op::Next => made(alloc, payload, iter.next()),
-        Op::NextBack => made(alloc, payload, iter.next_back()),
+        Op::Next => materialized(alloc, payload, iter.next()),
+        Op::NextBack => materialized(alloc, payload, iter.next_back()),
         Op::Seek(key) => Ok(Answer::Found(iter.seek(key.as_slice()))),
         Op::SeekUpper(key) => Ok(Answer::Found(iter.seek_upper(key.as_slice()))),
         Op::SeekExclusive(key) => Ok(Answer::Found(iter.seek_exclusive(key.as_slice()))),
@@ -76,7 +57,11 @@ fn perform(alloc: Global, iter: &mut Iter<'_>, payload: &Slice, op: &Op) -> Resu
 /// # Errors
 ///
 /// `Error::Memory` if an allocation fails, which needs an operation.
-pub fn walk<H: BlockHash>(alloc: Global, block: &DataBlock<H>, ops: &[Op]) -> Result<Vec<Answer>>
+pub fn walk<H: BlockHash>(
+    alloc: Global,
+    block: &DataBlock<H>,
+    ops: &[Op],
+) -> Result<Vec<Answer<InternalValue>>>
     ensures ok { IfOk result
         (λ all. map answer_of all.items
         ≡ answers (map step_of ops.now) (whole block.now.items)) }

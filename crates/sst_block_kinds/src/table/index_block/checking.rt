@@ -7,7 +7,7 @@ ghost use Rattle.sst_block_core.specs.Trailer.{trailer_in};
 
 use crate::table::index_block::IndexBlock;
 use crate::table::index_block::block_handle::KeyedBlockHandle;
-use crate::table::index_block::decoding::front_from;
+use crate::table::index_block::decoding::fields_from;
 use crate::table::index_block::parsed_item::IndexBlockParsedItem;
 use sst_base::table::block::Block;
 use sst_base::table::util::SliceIndexes;
@@ -56,14 +56,14 @@ impl Checkable<IndexBlockParsedItem> for KeyedBlockHandle {
         offset: usize,
         base: &SliceIndexes,
     ) -> Option<(IndexBlockParsedItem, usize)> {
-        let (front, at) = front_from(payload, offset)?;
+        let (fields, at) = fields_from(payload, offset)?;
         let (shared, at) = number_from(payload, at, 16)?;
         let (key, end) = length_prefixed_from(payload, at, 16)?;
         if !is_greatest(bytes_of(payload, base), shared, bytes_of(payload, &key)) {
             return None;
         }
         let prefix = prefix_within(payload, base, shared, key.1 - key.0)?;
-        Some((front.with_key(Some(prefix), key), end))
+        Some((fields.with_key(Some(prefix), key), end))
     }
 }
 

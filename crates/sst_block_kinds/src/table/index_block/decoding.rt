@@ -1,9 +1,9 @@
 //! Handles as items of a block: how they are decoded.
-ghost use Rattle.std.specs.Prelude.{◌≡◌, ◌+◌, ◌≤◌, length, drop};
+ghost use Rattle.std.specs.Prelude.{◌≡◌, ◌≤◌, length, drop};
 ghost use Rattle.std.specs.Prelude.{[], ◌∷◌, None, IfSome, IsSome};
-ghost use Rattle.sst_block_core.specs.Found.{Finds, Takes, StandsAt, range_of};
-ghost use Rattle.sst_block_kinds.specs.Handles.{marker_at, front_at, full_at};
-ghost use Rattle.sst_block_kinds.specs.ParsedHandle.{front_by, handle_of, IsParsedHandle};
+ghost use Rattle.sst_block_core.specs.Found.{Finds, Takes, IsEncodedAt, range_of};
+ghost use Rattle.sst_block_kinds.specs.Handles.{marker_at, fields_at, full_at};
+ghost use Rattle.sst_block_kinds.specs.ParsedHandle.{fields_by, handle_of, IsParsedHandle};
 
 use crate::table::index_block::block_handle::KeyedBlockHandle;
 use crate::table::index_block::encoding::HANDLE_MARKER;
@@ -19,13 +19,13 @@ use sst_block_core::table::block::reading::{
 
 // What a form says before its end key.
 #[derive(Clone, Copy)]
-pub(super) struct HandleFront {
+pub(super) struct HandleFields {
     pub(super) offset: u64,
     pub(super) size: u32,
     pub(super) seqno: SeqNo,
 }
 
-impl HandleFront {
+impl HandleFields {
     // The item of an end key by its ranges.
     #[inline(always)]
     pub(super) fn with_key(
@@ -66,23 +66,23 @@ fn marker_from(payload: &[u8], at: usize) -> Option<usize>
     Some(at + 1)
 }
 
-// The front at an offset, and where it ends.
+// The fields of a handle at an offset, and where they end.
 #[inline(always)]
-#[tactic(auto, unfolding(crate::specs::Handles::front_at))]
-pub(super) fn front_from(payload: &[u8], at: usize) -> Option<(HandleFront, usize)>
+#[tactic(auto, unfolding(crate::specs::Handles::fields_at))]
+pub(super) fn fields_from(payload: &[u8], at: usize) -> Option<(HandleFields, usize)>
     requires { at ≤ length payload.now }
-    ensures { Finds front_by payload.now result (front_at (drop at payload.now)) }
+    ensures { Finds fields_by payload.now result (fields_at (drop at payload.now)) }
 {
     let at = marker_from(payload, at)?;
     let (offset, at) = number_from(payload, at, 64)?;
     let (size, at) = number_from(payload, at, 32)?;
     let (seqno, end) = number_from(payload, at, 64)?;
-    let front = HandleFront {
+    let fields = HandleFields {
         offset,
         size: size as u32,
         seqno,
     };
-    Some((front, end))
+    Some((fields, end))
 }
 
 // The handle whose full form is at an offset, and where the form ends.
@@ -94,30 +94,30 @@ fn full_form_from(payload: &[u8], offset: usize) -> Option<(IndexBlockParsedItem
         (full_at (drop offset payload.now)) }
     ensures found { IfSome result (λ f. IsParsedHandle payload.now f.0) }
     ensures key { IfSome result
-        (λ f. StandsAt payload.now f.0.end_key.0 (range_of payload.now f.0.end_key)) }
+        (λ f. IsEncodedAt payload.now f.0.end_key.0 (range_of payload.now f.0.end_key)) }
     ensures prefix { IfSome result (λ f. f.0.prefix ≡ None) }
-    ensures marker { StandsAt payload.now offset (255 ∷ []) → result ≡ None }
+    ensures marker { IsEncodedAt payload.now offset (255 ∷ []) → result ≡ None }
 {
-    let (front, at) = front_from(payload, offset)?;
+    let (fields, at) = fields_from(payload, offset)?;
     let (key, end) = length_prefixed_from(payload, at, 16)?;
-    Some((front.with_key(None, key), end))
+    Some((fields.with_key(None, key), end))
 }
 
-// The front at an offset, and where it ends.
+// The fields of a handle at an offset, and where they end.
 #[inline(always)]
-fn read_front(payload: &[u8], at: usize) -> (HandleFront, usize)
-    requires { IsSome (front_at (drop at payload.now)) }
-    ensures { Takes front_by payload.now result (front_at (drop at payload.now)) }
+fn read_fields(payload: &[u8], at: usize) -> (HandleFields, usize)
+    requires { IsSome (fields_at (drop at payload.now)) }
+    ensures { Takes fields_by payload.now result (fields_at (drop at payload.now)) }
 {
     let (offset, at) = read_number(payload, at + 1, 64);
     let (size, at) = read_number(payload, at, 32);
     let (seqno, end) = read_number(payload, at, 64);
-    let front = HandleFront {
+    let fields = HandleFields {
         offset,
         size: size as u32,
         seqno,
     };
-    (front, end)
+    (fields, end)
 }
 
 /// Decodes the two forms of a handle as ranges of the payload.
@@ -150,12 +150,12 @@ impl Decodable<IndexBlockParsedItem> for KeyedBlockHandle {
         base_key_offset: usize,
         steps: &mut Steps,
     ) -> Option<(IndexBlockParsedItem, usize)> {
-        let (front, at) = front_from(payload, offset)?;
+        let (fields, at) = fields_from(payload, offset)?;
         let (shared, at) = number_from(payload, at, 16)?;
         let (key, end) = length_prefixed_from(payload, at, 16)?;
         let prefix = prefix_from(payload, base_key_offset, shared, key.1 - key.0)?;
         steps.count_entry();
-        Some((front.with_key(Some(prefix), key), end))
+        Some((fields.with_key(Some(prefix), key), end))
     }
 
     #[inline(always)]
@@ -165,9 +165,9 @@ impl Decodable<IndexBlockParsedItem> for KeyedBlockHandle {
         steps: &mut Steps,
     ) -> (IndexBlockParsedItem, usize) {
         steps.count_entry();
-        let (front, at) = read_front(payload, offset);
+        let (fields, at) = read_fields(payload, offset);
         let (key, end) = read_length_prefixed(payload, at, 16);
-        (front.with_key(None, key), end)
+        (fields.with_key(None, key), end)
     }
 
     #[inline(always)]
@@ -180,18 +180,18 @@ impl Decodable<IndexBlockParsedItem> for KeyedBlockHandle {
         steps.count_entry();
         // The proof needs the bound on the payload's length.
         let _size = payload.len();
-        let (front, at) = read_front(payload, offset);
+        let (fields, at) = read_fields(payload, offset);
         let (shared, at) = read_number(payload, at, 16);
         let (key, end) = read_length_prefixed(payload, at, 16);
         let prefix = SliceIndexes(base_key_offset, base_key_offset + shared as usize);
-        (front.with_key(Some(prefix), key), end)
+        (fields.with_key(Some(prefix), key), end)
     }
 
     #[inline(always)]
     fn read_head<'a>(payload: &'a [u8], offset: usize, steps: &mut Steps) -> (&'a [u8], u64) {
         steps.count_head();
-        let (front, at) = read_front(payload, offset);
+        let (fields, at) = read_fields(payload, offset);
         let (key, _) = read_length_prefixed(payload, at, 16);
-        (bytes_of(payload, &key), front.seqno)
+        (bytes_of(payload, &key), fields.seqno)
     }
 }

@@ -1,22 +1,15 @@
 //! Handles as items of a block: how they are encoded.
-ghost use Rattle.std.specs.Prelude.{◌≡◌, ◌++◌};
-ghost use Rattle.std.specs.Vec.{vec_len, vec_capacity};
-ghost use Rattle.std.specs.Prelude.{◌+◌, ◌≤◌};
-ghost use Rattle.sst_block_kinds.specs.Handles.{front, front_of};
+ghost use Rattle.std.specs.Prelude.{◌≡◌, ◌+◌, ◌≤◌, ◌++◌, take, length};
+ghost use Rattle.sst_block_kinds.specs.Handles.{fields, fields_of};
 
 use crate::table::index_block::block_handle::KeyedBlockHandle;
-use sst_base::push_varint_reserved;
+use sst_base::AllocResult;
+use sst_base::in_place::{make_room, put_byte, put_length_prefixed, put_varint};
 use sst_block_core::BlockItem;
 use sst_block_core::table::block::Encodable;
-use sst_block_core::table::block::writing::push_length_prefixed;
-use std::alloc::AllocError;
 
 /// The byte before each handle.
 pub(crate) const HANDLE_MARKER: u8 = 0;
-
-// The greatest length of what precedes an end key's own bytes: the marker, and up to five
-// numbers.
-const MAX_FRONT_LEN: usize = 51;
 
 impl BlockItem for KeyedBlockHandle {
     ghost use Rattle.sst_block_kinds.specs.Handles.{IsHandle, handles};
@@ -29,19 +22,20 @@ impl BlockItem for KeyedBlockHandle {
     ghost is_kind = { IsKind-handles };
 }
 
-// Appends what is before an end key to a vector with room for it.
+// Puts what precedes an end key after the first `at` bytes, where there is room for it. Returns the
+// length with it.
 #[inline(always)]
-#[tactic(auto, unfolding(crate::specs::Handles::front))]
-fn push_front(writer: &mut Vec<u8>, item: &KeyedBlockHandle)
-    requires { vec_len writer.old + 31 ≤ vec_capacity writer.old }
-    ensures ok { writer.new.items ≡ writer.old.items ++ front (front_of item.now) }
-    ensures len { vec_len writer.new ≤ vec_len writer.old + 31 }
-    ensures capacity { vec_capacity writer.new ≡ vec_capacity writer.old }
+#[tactic(auto, unfolding(crate::specs::Handles::fields))]
+fn put_fields(form: &mut [u8], at: usize, item: &KeyedBlockHandle) -> usize
+    requires room { at + 31 ≤ length form.old }
+    ensures len { result ≤ at + 31 }
+    ensures same_room { length form.new ≡ length form.old }
+    ensures bytes { take result form.new ≡ take at form.old ++ fields (fields_of item.now) }
 {
-    writer.push_reserved(HANDLE_MARKER);
-    push_varint_reserved(writer, *item.offset());
-    push_varint_reserved(writer, u64::from(item.size()));
-    push_varint_reserved(writer, item.seqno());
+    let at = put_byte(form, at, HANDLE_MARKER);
+    let at = put_varint(form, at, *item.offset());
+    let at = put_varint(form, at, u64::from(item.size()));
+    put_varint(form, at, item.seqno())
 }
 
 /// The forms of a handle.
@@ -55,20 +49,25 @@ impl Encodable for KeyedBlockHandle {
         self.end_key().as_slice()
     }
 
+    #[inline(always)]
     #[tactic(auto, unfolding(crate::specs::Handles::full))]
-    fn push_full(&self, writer: &mut Vec<u8>) -> Result<(), AllocError> {
-        let key = self.end_key().as_slice();
-        writer.reserve(MAX_FRONT_LEN + key.len())?;
-        push_front(writer, self);
-        push_length_prefixed(writer, key)
+    fn put_full(&self, writer: &mut Vec<u8>, at: usize) -> AllocResult<usize> {
+        make_room(writer, at)?;
+        let at = put_fields(writer.as_mut_slice(), at, self);
+        put_length_prefixed(writer, at, self.end_key(), 0, 0)
     }
 
+    #[inline(always)]
     #[tactic(auto, unfolding(crate::specs::Handles::truncated))]
-    fn push_truncated(&self, writer: &mut Vec<u8>, shared_len: usize) -> Result<(), AllocError> {
-        let (_, rest) = self.end_key().as_slice().split_at(shared_len);
-        writer.reserve(MAX_FRONT_LEN + rest.len())?;
-        push_front(writer, self);
-        push_varint_reserved(writer, shared_len as u64);
-        push_length_prefixed(writer, rest)
+    fn put_truncated(
+        &self,
+        writer: &mut Vec<u8>,
+        at: usize,
+        shared_len: usize,
+    ) -> AllocResult<usize> {
+        make_room(writer, at)?;
+        let at = put_fields(writer.as_mut_slice(), at, self);
+        let at = put_varint(writer.as_mut_slice(), at, shared_len as u64);
+        put_length_prefixed(writer, at, self.end_key(), shared_len, 0)
     }
 }

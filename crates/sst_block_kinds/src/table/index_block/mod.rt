@@ -5,7 +5,7 @@ ghost use Rattle.std.specs.Prelude.{OnOk, OnErr, IfOk, IfErr, IfSome, MatchResul
 ghost use Rattle.std.specs.List.{AllByRecursion};
 ghost use Rattle.sst_base.specs.Counted.{IsZero};
 ghost use Rattle.sst_block_kinds.specs.Checks.{index_check};
-ghost use Rattle.sst_block_core.specs.Encoders.{IsRefusal};
+ghost use Rattle.sst_block_core.specs.Encoders.{IsRefusal, IsBlockPayload};
 ghost use Rattle.sst_block_kinds.specs.Handles.{Handle, EndFits, handles, index_payload};
 ghost use Rattle.sst_block_kinds.specs.Handles.{IsIndexBlock};
 ghost use Rattle.sst_block_kinds.specs.IndexBlock.{block_of, index_block_of};
@@ -23,9 +23,10 @@ pub mod ops;
 pub mod parsed_item;
 
 use crate::laws::index_check_is_by_stages;
+pub use crate::table::answer::Answer;
 pub use block_handle::{BlockHandle, KeyedBlockHandle};
 pub use iter::Iter;
-pub use ops::{IndexAnswer, IndexOp, walk};
+pub use ops::{IndexOp, walk};
 pub use parsed_item::IndexBlockParsedItem;
 use sst_base::table::block::Block;
 use sst_base::{AllocResult, Error, HashRatio, Poly31, Result, Slice};
@@ -100,9 +101,8 @@ impl IndexBlock {
         requires some { 1 ≤ length items.now }
         requires ordered { IsOrdered handles items.now }
         requires ends { AllByRecursion EndFits items.now }
-        ensures payload { OnOk result (writer.new.items ≡ index_payload items.now 1) }
-        ensures block { OnOk result (IsIndexBlock writer.new.items items.now 1) }
-        ensures fits { OnOk result (length writer.new.items < 2 ^ 32) }
+        ensures written { OnOk result (IsBlockPayload (IsIndexBlock writer.new.items items.now 1)
+            (index_payload items.now 1) writer.new.items) }
         ensures empty { OnErr result (writer.new.items ≡ []) }
         ensures cause { IfErr result
             (IsRefusal None (2 ^ 32 ≤ length (index_payload items.now 1))) }
@@ -146,10 +146,9 @@ impl IndexBlock {
         requires ordered { IsOrdered handles items.now }
         requires ends { AllByRecursion EndFits items.now }
         requires interval { 1 ≤ restart_interval }
-        ensures payload { OnOk result
-            (writer.new.items ≡ index_payload items.now restart_interval) }
-        ensures block { OnOk result (IsIndexBlock writer.new.items items.now restart_interval) }
-        ensures fits { OnOk result (length writer.new.items < 2 ^ 32) }
+        ensures written { OnOk result (IsBlockPayload
+            (IsIndexBlock writer.new.items items.now restart_interval)
+            (index_payload items.now restart_interval) writer.new.items) }
         ensures empty { OnErr result (writer.new.items ≡ []) }
         ensures cause { IfErr result
             (IsRefusal None (2 ^ 32 ≤ length (index_payload items.now restart_interval))) }

@@ -13,4 +13,4 @@ use Rattle.sst_block_kinds_tests.proofs.vectors.checked_damage.Goals as goal
 
 pub returns : goal.returns
 unfolding data_check trailer_from items_by items_at full_at truncated_at truncated_form_at number_at length_prefixed_at varint_at varint_up_to varint varint_within body full truncated trailer index_bytes buckets trailer_of
-returns c = record { whole = refl; buckets = refl; value_type = refl; interval = refl; pointer = refl; loose = refl; short = refl; nothing = refl; zeros = refl; bucket = refl; order = refl }
+returns c = record { value_type = refl; interval = refl; pointer = refl; loose = refl; bucket = refl; order = refl }

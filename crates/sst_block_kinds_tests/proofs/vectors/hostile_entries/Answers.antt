@@ -13,4 +13,4 @@ use Rattle.sst_block_kinds_tests.proofs.vectors.hostile_entries.Goals as goal
 
 pub returns : goal.returns
 unfolding data_check trailer_from items_by items_at full_at truncated_at truncated_form_at number_at length_prefixed_at varint_at varint_up_to varint varint_within body full truncated trailer index_bytes buckets trailer_of
-returns c = record { seqno_above = refl; seqno_same = refl; shares_less = refl; shares_more = refl; loose = refl; pointer = refl; interval = refl; width = refl; fourth = refl; fifth = refl }
+returns c = record { seqno_above = refl; seqno_same = refl; shares_less = refl; shares_more = refl; loose = refl }

@@ -4,10 +4,10 @@ use Rattle.sst_base.specs.Reading.{number_at, length_prefixed_at}
 use Rattle.sst_block_core.specs.Body.{body, items_at}
 use Rattle.sst_block_core.specs.Trailer.{trailer_from}
 use Rattle.sst_block_core.specs.Stages.{items_by}
-use Rattle.sst_block_kinds.specs.Handles.{front, front_at, full, full_at, truncated, truncated_at}
+use Rattle.sst_block_kinds.specs.Handles.{fields, fields_at, full, full_at, truncated, truncated_at}
 use Rattle.sst_block_kinds.specs.Checks.{index_check}
 use Rattle.sst_block_kinds_tests.proofs.vectors.hostile_handles.Goals as goal
 
 pub returns : goal.returns
-unfolding index_check trailer_from items_by items_at full_at truncated_at front_at number_at length_prefixed_at varint_at varint_up_to varint varint_within body full truncated front
+unfolding index_check trailer_from items_by items_at full_at truncated_at fields_at number_at length_prefixed_at varint_at varint_up_to varint varint_within body full truncated fields
 returns c = record { far = refl; near = refl; marker = refl; at_2 = refl; at_0 = refl; prefix = refl }

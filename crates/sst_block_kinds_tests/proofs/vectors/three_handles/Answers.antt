@@ -5,9 +5,9 @@ use Rattle.sst_block_core.specs.Pointers.{index_bytes}
 use Rattle.sst_block_core.specs.Buckets.{buckets}
 use Rattle.sst_block_core.specs.Payload.{trailer_of}
 use Rattle.sst_block_core.specs.Trailer.{trailer}
-use Rattle.sst_block_kinds.specs.Handles.{full, truncated, front}
+use Rattle.sst_block_kinds.specs.Handles.{full, truncated, fields}
 use Rattle.sst_block_kinds_tests.proofs.vectors.three_handles.Goals as goal
 
 pub returns : goal.returns
-unfolding varint varint_within body index_bytes buckets trailer_of trailer full truncated front
+unfolding varint varint_within body index_bytes buckets trailer_of trailer full truncated fields
 returns c = record { at_1 = refl; at_2 = refl; at_3 = refl; lengths = (refl, refl, refl); prefixes = refl }

@@ -19,10 +19,10 @@ loop-rest-preserved g c =
     let front : 1 ≤ length c.split_at.result.0.now = omega (arith, c.split_at.ensures.front_len, c.min.ensures, c.requires.per_block) in
     let most : length c.split_at.result.0.now ≤ c.args.per_block = omega (arith, c.split_at.ensures.front_len, c.min.ensures) in
     record {
-      config = e.config ∙ i.config;
-      start = e.start ∙ i.start;
-      accepting = e.«open»;
-      all = rw e.accepted (all-next c.loop-rest.run.blocks c.split_at.result.0.now c.split_at.result.1.now c.loop-rest.rest.now c.args.items.now i.all c.split_at.ensures.by_index.0);
-      sizes = rw e.accepted (size-next c.args.per_block c.loop-rest.run.blocks c.split_at.result.0.now (i.full some) front most);
-      full = λ more. rw e.accepted (full-next c.args.per_block c.loop-rest.run.blocks c.split_at.result.0.now (i.full some) (omega (arith, c.split_at.ensures.front_len, c.split_at.ensures.back_len, c.min.ensures, more)));
+      config = e.run.config ∙ i.config;
+      start = e.run.start ∙ i.start;
+      accepting = e.refusal;
+      all = rw e.blocks (all-next c.loop-rest.run.blocks c.split_at.result.0.now c.split_at.result.1.now c.loop-rest.rest.now c.args.items.now i.all c.split_at.ensures.by_index.0);
+      sizes = rw e.blocks (size-next c.args.per_block c.loop-rest.run.blocks c.split_at.result.0.now (i.full some) front most);
+      full = λ more. rw e.blocks (full-next c.args.per_block c.loop-rest.run.blocks c.split_at.result.0.now (i.full some) (omega (arith, c.split_at.ensures.front_len, c.split_at.ensures.back_len, c.min.ensures, more)));
     }

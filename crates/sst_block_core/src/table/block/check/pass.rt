@@ -74,7 +74,7 @@ pub(crate) struct Passed {
 
 /// How far a pass has read, and what it found of the items before.
 #[derive(Clone, Copy)]
-pub(crate) struct Standing {
+pub(crate) struct PassState {
     /// The offset of the next form.
     pub(crate) offset: usize,
     /// The key and the sequence number of the last item.
@@ -90,9 +90,9 @@ fn pass_head<Item: Checkable<Parsed>, Parsed: ParsedItem<Item> + Drop, Sink: Key
     body: &[u8],
     pointers: &Reader<'_>,
     number: usize,
-    from: &Standing,
+    from: &PassState,
     sink: &mut Sink,
-) -> Option<(SliceIndexes, Standing)>
+) -> Option<(SliceIndexes, PassState)>
     requires number { number < length pointers.now }
     requires inside { from.now.offset ≤ length body.now }
     requires last { IsKeyRanges body.now from.now.last.key }
@@ -115,7 +115,7 @@ fn pass_head<Item: Checkable<Parsed>, Parsed: ParsedItem<Item> + Drop, Sink: Key
         is_indexed: from.passed.is_indexed & is_pointed(pointers, number, from.offset),
     };
     sink.take(body, &version.key, true);
-    let to = Standing {
+    let to = PassState {
         offset,
         last: version,
         passed,
@@ -129,9 +129,9 @@ fn pass_rest<Item: Checkable<Parsed>, Parsed: ParsedItem<Item> + Drop, Sink: Key
     body: &[u8],
     base: &SliceIndexes,
     len: usize,
-    from: &Standing,
+    from: &PassState,
     sink: &mut Sink,
-) -> Option<Standing>
+) -> Option<PassState>
     requires base { IsRange body.now base.now }
     requires inside { from.now.offset ≤ length body.now }
     requires last { IsKeyRanges body.now from.now.last.key }
@@ -154,7 +154,7 @@ fn pass_rest<Item: Checkable<Parsed>, Parsed: ParsedItem<Item> + Drop, Sink: Key
             is_indexed: at.passed.is_indexed,
         };
         sink.take(body, &version.key, false);
-        at = Standing {
+        at = PassState {
             offset,
             last: version,
             passed,
@@ -205,7 +205,7 @@ pub(crate) fn pass_over<
 {
     let mut place = 0;
     let mut number = 0;
-    let mut at = Standing {
+    let mut at = PassState {
         offset: 0,
         last: KeyVersion::least(),
         passed: Passed {

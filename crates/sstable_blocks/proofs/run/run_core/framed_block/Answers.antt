@@ -10,9 +10,9 @@ returns-in-Err-clause-cause g c = data_refused (form g.H.BlockHash.hash64 g.H.Bl
 pub returns-in-Some-clause-ok : goal.returns-in-Some-clause-ok
 unfolding block_payload
 returns-in-Some-clause-ok g c =
-    let n = c.in-Some.ensures.framed in let s = c.in-Some.ensures.size in let e = c.in-Some.ensures.end in
-    framed (form g.H.BlockHash.hash64 g.H.BlockHash.hash128 c.args.config.now) _ _ _ _ _ c.in-Ok.ensures.payload (omega arith) (omega arith) (omega arith) (omega arith) c.in-Ok.ensures.block.encoding.are_valid
+    let f = c.in-Ok.ensures.written.fits in let n = c.in-Some.ensures.framed in let s = c.in-Some.ensures.size in let e = c.in-Some.ensures.end in
+    framed (form g.H.BlockHash.hash64 g.H.BlockHash.hash128 c.args.config.now) _ _ _ _ _ c.in-Ok.ensures.written.payload (omega arith) (omega arith) (omega arith) (omega arith) c.in-Ok.ensures.written.block.encoding.are_valid
 
 pub returns-in-None-clause-cause : goal.returns-in-None-clause-cause
 unfolding block_payload
-returns-in-None-clause-cause g c = frame_refused (form g.H.BlockHash.hash64 g.H.BlockHash.hash128 c.args.config.now) _ _ _ c.in-Ok.ensures.payload (elim (c.in-None.ensures.none refl) [ inl long ↦ inl (omega arith) | inr long ↦ inr (omega arith) ])
+returns-in-None-clause-cause g c = frame_refused (form g.H.BlockHash.hash64 g.H.BlockHash.hash128 c.args.config.now) _ _ _ c.in-Ok.ensures.written.payload (elim (c.in-None.ensures.none refl) [ inl long ↦ inl (omega arith) | inr long ↦ inr (omega arith) ])

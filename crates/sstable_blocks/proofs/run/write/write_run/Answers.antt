@@ -17,11 +17,15 @@ split_at-requires g c =
     let l = length-drop c.loop-cut.start c.args.items.now in
     omega arith
 
-pub add_block-requires-clause-ordered : goal.add_block-requires-clause-ordered
-add_block-requires-clause-ordered g c =
+pub add_block-requires-clause-follows : goal.add_block-requires-clause-follows
+add_block-requires-clause-follows g c =
     let i = c.loop-cut.invariant in
     let step = step_is c.loop-cut.core.blocks c.loop-cut.start c.loop-cut.cut-index c.args.cuts.now c.args.items.now _ _ _ c.loop-cut-test.true i.rest c.split_at.ensures.front i.so_far in
-    order_next _ _ _ _ _ step (c.blocks_are_the_list.ensures c.args.items.now c.args.cuts.now c.requires.some c.requires.cuts).0 c.requires.ordered
+    let n = next_cut _ _ c.loop-cut.cut-index c.args.cuts.now c.loop-cut-test.true i.cuts_left in
+    record {
+      some = omega (arith, n.0, c.split_at.ensures.front_len);
+      ordered = order_next _ _ _ _ _ step (c.blocks_are_the_list.ensures c.args.items.now c.args.cuts.now c.requires.some c.requires.cuts).0 c.requires.ordered;
+    }
 
 pub returns-in_err-add_block-clause-cause : goal.returns-in_err-add_block-clause-cause
 returns-in_err-add_block-clause-cause g c =

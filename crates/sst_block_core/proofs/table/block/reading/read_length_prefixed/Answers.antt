@@ -1,5 +1,5 @@
 use Rattle.std.proofs.Common.{rules, arith, drop}
-use Rattle.sst_block_core.proofs.Places.StandingNumbers.{length_first, length_range}
+use Rattle.sst_block_core.proofs.Places.EncodedNumbers.{length_first, length_range}
 use Rattle.sst_block_core.proofs.table.block.reading.read_length_prefixed.Goals as goal
 
 pub read_number-len-requires-clause-stands : goal.read_number-len-requires-clause-stands

@@ -1,5 +1,5 @@
 use Rattle.std.proofs.Common.{rules, ◌+◌, ◌<◌, arith}
-use Rattle.sst_block_core.proofs.Places.StandingNumbers.{next_inside, last_digit, last_fits, next_read, next_fits, width_most}
+use Rattle.sst_block_core.proofs.Places.EncodedNumbers.{next_inside, last_digit, last_fits, next_read, next_fits, width_most}
 use Rattle.sst_block_core.proofs.table.block.reading.read_long_number.Goals as goal
 
 pub digits-init : goal.digits-init

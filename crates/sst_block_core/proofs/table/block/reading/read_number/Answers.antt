@@ -1,5 +1,5 @@
 use Rattle.std.proofs.Common.{arith}
-use Rattle.sst_block_core.proofs.Places.StandingNumbers.{one_digit, first_read, next_inside, last_digit, last_fits, next_read}
+use Rattle.sst_block_core.proofs.Places.EncodedNumbers.{one_digit, first_read, next_inside, last_digit, last_fits, next_read}
 use Rattle.sst_block_core.proofs.table.block.reading.read_number.Goals as goal
 
 pub returns-then-first-lt128-clause-exact : goal.returns-then-first-lt128-clause-exact

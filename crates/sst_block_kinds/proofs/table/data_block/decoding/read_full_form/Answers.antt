@@ -1,5 +1,5 @@
 use Rattle.std.proofs.Common.{drop}
-use Rattle.sst_block_kinds.proofs.StandingForms.{full_value_type, full_seqno, full_key, full_value, full_whole}
+use Rattle.sst_block_kinds.proofs.EncodedForms.{full_value_type, full_seqno, full_key, full_value, full_whole}
 use Rattle.sst_block_kinds.proofs.table.data_block.decoding.read_full_form.Goals as goal
 
 pub read_value_type-value_type-requires : goal.read_value_type-value_type-requires

@@ -1,5 +1,5 @@
 use Rattle.std.proofs.Common.{drop}
-use Rattle.sst_block_kinds.proofs.StandingForms.{form_value_type, form_seqno, form_shared, form_rest, form_value, form_whole}
+use Rattle.sst_block_kinds.proofs.EncodedForms.{form_value_type, form_seqno, form_shared, form_rest, form_value, form_whole}
 use Rattle.sst_block_kinds.proofs.table.data_block.decoding.read_truncated_form.Goals as goal
 
 pub read_value_type-value_type-requires : goal.read_value_type-value_type-requires

@@ -1,6 +1,7 @@
 use Rattle.std.proofs.Common.{◌≡◌, ◌++◌, map, drop}
 use Rattle.sst_block_core.specs.Window.{answers, whole}
-use Rattle.sst_block_kinds.specs.Ops.{answer_of, step_of}
+use Rattle.sst_block_kinds.specs.Answers.{answer_of}
+use Rattle.sst_block_kinds.specs.Ops.{step_of}
 use Rattle.sst_block_kinds.proofs.table.data_block.ops.walk.Given as goal
 
 abbrev pub invariant-loop-op : goal.invariant-loop-op

@@ -1,5 +1,5 @@
 use Rattle.std.proofs.Common.{◌∙◌, ◌+◌, ◌*◌, length, min, true, ap, sym, subst}
-use Rattle.sst_block_core.specs.Scan.{Listed, Stands}
+use Rattle.sst_block_core.specs.Scan.{Listed, IsPlace}
 use Rattle.sst_block_core.specs.Window.{picked_head, found}
 use Rattle.sst_block_core.proofs.Places.BackStacks.{is_back_interval}
 use Rattle.sst_block_core.proofs.table.block.decoder.Decoder.seek_upper.Goals as goal
@@ -7,7 +7,7 @@ use Rattle.sst_block_core.proofs.table.block.decoder.Decoder.seek_upper.Goals as
 pub invariant_of-self : goal.invariant_of-self
 invariant_of-self g c =
     let same = c.partition_point-passed.ensures.list in
-    let P : Listed g.row.Item.Denot → Type 0 = λ l. Stands g.Item.BlockItem.kind l c.self.inside.front in (
+    let P : Listed g.row.Item.Denot → Type 0 = λ l. IsPlace g.Item.BlockItem.kind l c.self.inside.front in (
       subst P (sym same) c.self.invariant.0,
       is_back_interval g.Item.BlockItem.kind c.partition_point-passed.new.self.list _ _ _ _ c.interval_end-end.ensures.value (ap length c.clear.ensures),
     )

@@ -1,4 +1,4 @@
-use Rattle.std.proofs.Common.{[], refl, sym}
+use Rattle.std.proofs.Common.{[], refl, sym, arith}
 use Rattle.std.proofs.Math.Nat.{zero-mod}
 use Rattle.sst_block_core.proofs.Writing.Written.{written_nothing}
 use Rattle.sst_block_core.proofs.Writing.BucketWrites.{no_buckets}
@@ -8,6 +8,7 @@ pub returns-clause-sound : goal.returns-clause-sound
 returns-clause-sound g c = record {
   interval_some = c.requires.interval;
   phase = sym (zero-mod c.args.restart_interval);
-  tied = rw (c.requires.empty, c.with_expected.ensures, c.new-2.ensures) (written_nothing _ _ c.requires.interval _ _);
+  inside = omega arith;
+  tied = rw (c.with_expected.ensures, c.new-2.ensures) (written_nothing _ _ c.requires.interval _ _);
   tabled = rw (c.new-2.ensures, c.new.ensures) (no_buckets g.Item.BlockItem.kind g.H.BlockHash.hash64 c.args.restart_interval c.requires.interval [] 0 refl);
 }

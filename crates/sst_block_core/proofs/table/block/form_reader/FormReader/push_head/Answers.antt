@@ -6,7 +6,7 @@ pub push-requires-clause-begins : goal.push-requires-clause-begins
 push-requires-clause-begins g c =
     let f = is_there _ c.requires.head in
     let key = (c.key_range-seqno.ensures.key f.0.0 f.0.1 f.1).0 in
-    let begins = c.requires.begins f.0.0 f.0.1 f.1 in
+    let begins = (c.requires.next f.0.0 f.0.1 f.1).begins in
     let same = ap (λ r. r.payload) c.self.view_is ∙ c.key_range-seqno.ensures.payload in
     rw same (rw key begins)
 
@@ -15,4 +15,4 @@ push-requires-clause-order g c =
     let f = is_there _ c.requires.head in
     let key = c.key_range-seqno.ensures.key f.0.0 f.0.1 f.1 in
     let same = ap (λ r. r.payload) c.self.view_is ∙ c.key_range-seqno.ensures.payload in
-    if_last c.args.table.now.heads _ (λ last at. rw (same, key.0, key.1) (c.requires.order f.0.0 f.0.1 last f.1 at))
+    if_last c.args.table.now.heads _ (λ last at. rw (same, key.0, key.1) ((c.requires.next f.0.0 f.0.1 f.1).order last at))

@@ -1,4 +1,4 @@
-use Rattle.sst_block_core.specs.Scan.{Stands}
+use Rattle.sst_block_core.specs.Scan.{IsPlace}
 use Rattle.sst_block_core.specs.Intervals.{IntervalsParts}
 use Rattle.std.proofs.Common.{subst}
 use Rattle.sst_block_core.proofs.Places.HeadPlaces.{first_stands}
@@ -6,5 +6,5 @@ use Rattle.sst_block_core.proofs.table.block.intervals.Intervals.first.Goals as 
 
 pub returns-clause-stands : goal.returns-clause-stands
 returns-clause-stands g c =
-    let P : IntervalsParts g.row.Item.Denot → Type 0 = λ i. Stands g.Item.BlockItem.kind i.list (record { index = 0; phase = 0; offset = 0; base = 0 }) in
+    let P : IntervalsParts g.row.Item.Denot → Type 0 = λ i. IsPlace g.Item.BlockItem.kind i.list (record { index = 0; phase = 0; offset = 0; base = 0 }) in
     subst P c.self.view_is (first_stands g.Item.BlockItem.kind _ c.self.inside.pointers c.self.inside.item_count c.self.invariant.0)

@@ -17,8 +17,8 @@ returns-then-not-passes-clause-item g c =
     let kept = rw e.list at c.with_key.ensures in
     let stopped = sym says ∙ c.if-not-passes.true in
     kept_if (g.Parsed.ParsedItem.item_of c.args.self.now.list.payload) c.enter-head.result.1 _ _ c.with_key.result
-    (first_of_these kind c.args.needle.now c.args.seqno items c.requires.ordered _ _ c.requires.alone _ e.item stopped)
-    (none_of_these kind c.args.needle.now c.args.seqno items c.requires.ordered _ _ c.requires.alone _ e.item stopped) kept
+    (first_of_these kind c.args.needle.now c.args.seqno items c.requires.ordered _ _ c.requires.alone _ e.item.there stopped)
+    (none_of_these kind c.args.needle.now c.args.seqno items c.requires.ordered _ _ c.requires.alone _ e.item.there stopped) kept
 
 pub scan_interval-candidate-requires-clause-entered : goal.scan_interval-candidate-requires-clause-entered
 scan_interval-candidate-requires-clause-entered g c =
@@ -29,7 +29,7 @@ scan_interval-candidate-requires-clause-entered g c =
     let says = c.passes.ensures ∙ (λ i. passes c.args.needle.now (Some c.args.seqno) (key i) (c.seqno.ensures c.args.self.now.list.payload i)) in
     let list = c.args.self.now.list in
     let P : Listed g.row.Item.Denot → Type 0 = λ l. IsEntered kind c.args.needle.now (Some c.args.seqno) l c.enter-head.result.0 c.enter-head.result.2 c.interval_end-end.result in
-    subst P (sym e.list) (enters kind c.args.needle.now (Some c.args.seqno) list c.requires.ordered c.args.j c.requires.inside _ e.item c.enter-head.result.0 c.enter-head.result.2 c.interval_end-end.result
+    subst P (sym e.list) (enters kind c.args.needle.now (Some c.args.seqno) list c.requires.ordered c.args.j c.requires.inside _ e.item.there c.enter-head.result.0 c.enter-head.result.2 c.interval_end-end.result
     c.interval_end-end.ensures.listed.interval_some (sym says ∙ c.if-not-passes.false) e.place e.stands e.alike c.interval_end-end.ensures.value)
 
 pub returns-clause-item : goal.returns-clause-item

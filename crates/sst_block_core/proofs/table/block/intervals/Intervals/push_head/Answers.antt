@@ -1,5 +1,5 @@
 use Rattle.std.proofs.Common.{◌≡◌, ◌∙◌, ◌+◌, ap, sym, subst, slice_get, arith}
-use Rattle.sst_block_core.specs.Heads.{IsBehindHead, IsTableUpto}
+use Rattle.sst_block_core.specs.Heads.{IsNextHead, IsTableUpto}
 use Rattle.sst_block_core.specs.Intervals.{IntervalsParts}
 use Rattle.sst_block_core.proofs.Search.Cuts.{some_some}
 use Rattle.sst_block_core.proofs.Places.PlaceReads.{head_item, head_is_there}
@@ -13,19 +13,8 @@ push_head-requires-clause-head g c =
     let h = rw (← c.self.view_is) at c.requires.inside in
     head_is_there g.Item.BlockItem.kind _ c.self.invariant.0.listed.interval_some c.start-at.result (omega (arith, p, h)) s c.start-at.ensures.phase
 
-pub push_head-requires-clause-begins : goal.push_head-requires-clause-begins
-push_head-requires-clause-begins g c = λ x rest full.
-    let s = rw (← c.self.view_is) at c.start-at.ensures.stands in
-    let p = rw (← c.self.view_is) at c.start-at.ensures.place in
-    let h = rw (← c.self.view_is) at c.requires.inside in
-    let begins = rw (← c.self.view_is) at c.requires.begins in
-    let item = head_item g.Item.BlockItem.kind _ c.self.invariant.0.listed.interval_some c.start-at.result (omega (arith, p, h)) s c.start-at.ensures.phase in
-    let there = ap (slice_get _) (sym p) ∙ item.3 in
-    let same : item.0 ≡ x = ap (λ q. q.0) (some_some (sym item.2 ∙ full)) in
-    rw (← same) (begins c.args.j item.0 there)
-
-pub push_head-requires-clause-order : goal.push_head-requires-clause-order
-push_head-requires-clause-order g c = λ x rest last full at.
+pub push_head-requires-clause-next : goal.push_head-requires-clause-next
+push_head-requires-clause-next g c = λ x rest full.
     let kind = g.Item.BlockItem.kind in
     let pos = c.self.invariant.0.listed.interval_some in
     let s = rw (← c.self.view_is) at c.start-at.ensures.stands in
@@ -33,10 +22,12 @@ push_head-requires-clause-order g c = λ x rest last full at.
     let h = rw (← c.self.view_is) at c.requires.inside in
     let item = head_item kind _ pos c.start-at.result (omega (arith, p, h)) s c.start-at.ensures.phase in
     let there = ap (slice_get _) (sym p) ∙ item.3 in
+    let begins = rw (← c.self.view_is) at c.requires.begins in
     let ordered = rw (← c.self.view_is) at c.requires.ordered in
     let upto = rw (← c.self.view_is) at c.requires.table in
     let same : item.0 ≡ x = ap (λ q. q.0) (some_some (sym item.2 ∙ full)) in
-    subst (IsBehindHead kind c.self.inside.forms.payload last) same (next_behind kind _ pos ordered c.args.j c.args.table.now upto item.0 there h last at)
+    subst (IsNextHead kind c.self.inside.forms.payload c.args.table.now) same
+    (record { begins = begins c.args.j item.0 there; order = next_behind kind _ pos ordered c.args.j c.args.table.now upto item.0 there h })
 
 pub returns-clause-table : goal.returns-clause-table
 returns-clause-table g c =

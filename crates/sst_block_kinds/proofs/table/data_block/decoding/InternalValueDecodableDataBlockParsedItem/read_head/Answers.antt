@@ -1,6 +1,6 @@
 use Rattle.std.proofs.Common.{◌∙◌, drop}
 use Rattle.sst_block_kinds.proofs.EntryReads.{full_parts, key_and_seqno}
-use Rattle.sst_block_kinds.proofs.StandingForms.{full_value_type, full_seqno, full_key}
+use Rattle.sst_block_kinds.proofs.EncodedForms.{full_value_type, full_seqno, full_key}
 use Rattle.sst_block_kinds.proofs.table.data_block.decoding.InternalValueDecodableDataBlockParsedItem.read_head.Goals as goal
 
 pub read_value_type-at-requires : goal.read_value_type-at-requires

@@ -4,7 +4,7 @@ use Rattle.sst_block_core.specs.Entries.{truncated_at}
 use Rattle.sst_block_kinds.specs.ParsedEntry.{truncated_of}
 use Rattle.sst_base.specs.ReadingLaws.{some_value}
 use Rattle.sst_block_kinds.proofs.EntryReads.{truncated_found}
-use Rattle.sst_block_kinds.proofs.StandingForms.{form_stands, form_key, truncated_fits}
+use Rattle.sst_block_kinds.proofs.EncodedForms.{form_stands, form_key, truncated_fits}
 use Rattle.sst_block_kinds.proofs.table.data_block.decoding.InternalValueDecodableDataBlockParsedItem.read_truncated.Goals as goal
 
 pub read_truncated_form-end-requires : goal.read_truncated_form-end-requires

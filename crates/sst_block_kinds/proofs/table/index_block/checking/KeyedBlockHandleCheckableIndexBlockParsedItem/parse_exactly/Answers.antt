@@ -3,46 +3,46 @@ use Rattle.sst_base.specs.declared.table.util.SliceIndexes.{SliceIndexes}
 use Rattle.sst_base.specs.BytesLaws.{length_part}
 use Rattle.sst_block_core.specs.Found.{range_of}
 use Rattle.sst_block_kinds.specs.Handles.{handle_with}
-use Rattle.sst_block_kinds.specs.ParsedHandle.{handle_of, front_by}
+use Rattle.sst_block_kinds.specs.ParsedHandle.{handle_of, fields_by}
 use Rattle.sst_block_kinds.proofs.HandleReads.{truncated_no_front, truncated_no_shared, truncated_no_rest}
 use Rattle.sst_block_kinds.proofs.ExactHandles.{not_longest, not_key, found_exactly}
 use Rattle.sst_block_kinds.proofs.table.index_block.checking.KeyedBlockHandleCheckableIndexBlockParsedItem.parse_exactly.Goals as goal
 
-pub returns-in_err-front-clause-exact : goal.returns-in_err-front-clause-exact
-returns-in_err-front-clause-exact c =
-    let n = truncated_no_front (range_of c.args.payload.now c.args.base.now) (drop c.args.offset c.args.payload.now) c.in_err-front.ensures in
+pub returns-in_err-fields-clause-exact : goal.returns-in_err-fields-clause-exact
+returns-in_err-fields-clause-exact c =
+    let n = truncated_no_front (range_of c.args.payload.now c.args.base.now) (drop c.args.offset c.args.payload.now) c.in_err-fields.ensures in
     search (rules, n)
 
 pub returns-in_err-shared-clause-exact : goal.returns-in_err-shared-clause-exact
 returns-in_err-shared-clause-exact c =
-    let n = truncated_no_shared (drop c.args.offset c.args.payload.now) _ _ c.in_ok-front.ensures.1 (range_of c.args.payload.now c.args.base.now) c.in_err-shared.ensures.exact in
+    let n = truncated_no_shared (drop c.args.offset c.args.payload.now) _ _ c.in_ok-fields.ensures.1 (range_of c.args.payload.now c.args.base.now) c.in_err-shared.ensures.exact in
     search (rules, n)
 
 pub returns-in_err-key-clause-exact : goal.returns-in_err-key-clause-exact
 returns-in_err-key-clause-exact c =
-    let n = truncated_no_rest (drop c.args.offset c.args.payload.now) _ _ c.in_ok-front.ensures.1 (range_of c.args.payload.now c.args.base.now) _ _ c.in_ok-shared.ensures.exact.1 c.in_err-key.ensures.exact in
+    let n = truncated_no_rest (drop c.args.offset c.args.payload.now) _ _ c.in_ok-fields.ensures.1 (range_of c.args.payload.now c.args.base.now) _ _ c.in_ok-shared.ensures.exact.1 c.in_err-key.ensures.exact in
     search (rules, n)
 
 pub returns-then-not-is_greatest-clause-exact : goal.returns-then-not-is_greatest-clause-exact
 returns-then-not-is_greatest-clause-exact c =
-    not_longest c.args.payload.now (drop c.args.offset c.args.payload.now) c.args.base.now c.in_ok-key.key c.in_ok-shared.shared c.in_ok-key.end (front_by c.in_ok-front.front) _ _ _ _
-    c.requires.base c.in_ok-key.ensures.range c.bytes_of.ensures c.bytes_of-2.ensures c.in_ok-front.ensures.1 c.in_ok-shared.ensures.exact.1 c.in_ok-key.ensures.exact.1 c.if-not-is_greatest.ensures.greatest
+    not_longest c.args.payload.now (drop c.args.offset c.args.payload.now) c.args.base.now c.in_ok-key.key c.in_ok-shared.shared c.in_ok-key.end (fields_by c.in_ok-fields.fields) _ _ _ _
+    c.requires.base c.in_ok-key.ensures.range c.bytes_of.ensures c.bytes_of-2.ensures c.in_ok-fields.ensures.1 c.in_ok-shared.ensures.exact.1 c.in_ok-key.ensures.exact.1 c.if-not-is_greatest.ensures.greatest
 
 pub returns-in_err-prefix-clause-exact : goal.returns-in_err-prefix-clause-exact
 returns-in_err-prefix-clause-exact c =
-    let n = not_key c.args.payload.now (drop c.args.offset c.args.payload.now) c.args.base.now c.in_ok-key.key c.in_ok-shared.shared c.in_ok-key.end (front_by c.in_ok-front.front) _ _ _ _
-    c.requires.base c.in_ok-key.ensures.range c.bytes_of.ensures c.bytes_of-2.ensures c.in_ok-front.ensures.1 c.in_ok-shared.ensures.exact.1 c.in_ok-key.ensures.exact.1 c.if-not-is_greatest.ensures.greatest
+    let n = not_key c.args.payload.now (drop c.args.offset c.args.payload.now) c.args.base.now c.in_ok-key.key c.in_ok-shared.shared c.in_ok-key.end (fields_by c.in_ok-fields.fields) _ _ _ _
+    c.requires.base c.in_ok-key.ensures.range c.bytes_of.ensures c.bytes_of-2.ensures c.in_ok-fields.ensures.1 c.in_ok-shared.ensures.exact.1 c.in_ok-key.ensures.exact.1 c.if-not-is_greatest.ensures.greatest
     (λ inside. c.in_err-prefix.ensures.none) in
     search (rules, n)
 
 pub returns-clause-exact : goal.returns-clause-exact
 returns-clause-exact c =
     let p = c.args.payload.now in
-    let f = found_exactly p (drop c.args.offset p) c.args.base.now c.in_ok-key.key c.in_ok-shared.shared c.in_ok-key.end (front_by c.in_ok-front.front) _ _ _ _
-    c.requires.base c.in_ok-key.ensures.range c.bytes_of.ensures c.bytes_of-2.ensures c.in_ok-front.ensures.1 c.in_ok-shared.ensures.exact.1 c.in_ok-key.ensures.exact.1 c.if-not-is_greatest.ensures.greatest
+    let f = found_exactly p (drop c.args.offset p) c.args.base.now c.in_ok-key.key c.in_ok-shared.shared c.in_ok-key.end (fields_by c.in_ok-fields.fields) _ _ _ _
+    c.requires.base c.in_ok-key.ensures.range c.bytes_of.ensures c.bytes_of-2.ensures c.in_ok-fields.ensures.1 c.in_ok-shared.ensures.exact.1 c.in_ok-key.ensures.exact.1 c.if-not-is_greatest.ensures.greatest
     c.in_ok-prefix.ensures.found.2 in (
       c.in_ok-key.ensures.exact.0,
-      f ∙ ap (λ (q : SliceIndexes). Some (handle_with (front_by c.in_ok-front.front) (range_of p q ++ range_of p c.in_ok-key.key), drop c.in_ok-key.end p)) (sym c.in_ok-prefix.ensures.found.0)
+      f ∙ ap (λ (q : SliceIndexes). Some (handle_with (fields_by c.in_ok-fields.fields) (range_of p q ++ range_of p c.in_ok-key.key), drop c.in_ok-key.end p)) (sym c.in_ok-prefix.ensures.found.0)
           ∙ ap (λ q. Some (handle_of p q, drop c.in_ok-key.end p)) (sym c.with_key.ensures),
     )
 

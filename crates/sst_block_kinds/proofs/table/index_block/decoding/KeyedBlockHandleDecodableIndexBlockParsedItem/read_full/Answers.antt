@@ -1,21 +1,21 @@
 use Rattle.std.proofs.Common.{◌∙◌, drop, sym, ap, subst, Some, arith}
-use Rattle.sst_block_core.specs.Found.{StandsAt}
-use Rattle.sst_block_kinds.specs.ParsedHandle.{handle_of, front_by, IsParsedHandle}
+use Rattle.sst_block_core.specs.Found.{IsEncodedAt}
+use Rattle.sst_block_kinds.specs.ParsedHandle.{handle_of, fields_by, IsParsedHandle}
 use Rattle.sst_block_kinds.specs.declared.table.index_block.parsed_item.IndexBlockParsedItem.{IndexBlockParsedItem}
 use Rattle.sst_block_core.specs.FoundLaws.{range_stands}
 use Rattle.sst_block_kinds.proofs.HandleReads.{full_front, full_key, full_whole, full_fits}
 use Rattle.sst_block_kinds.proofs.table.index_block.decoding.KeyedBlockHandleDecodableIndexBlockParsedItem.read_full.Goals as goal
 
-pub read_front-at-requires : goal.read_front-at-requires
-read_front-at-requires c = full_front (drop c.args.offset c.args.payload.now) c.requires
+pub read_fields-at-requires : goal.read_fields-at-requires
+read_fields-at-requires c = full_front (drop c.args.offset c.args.payload.now) c.requires
 
 pub read_length_prefixed-end-requires-clause-stands : goal.read_length_prefixed-end-requires-clause-stands
-read_length_prefixed-end-requires-clause-stands c = full_key (drop c.args.offset c.args.payload.now) _ _ c.read_front-at.ensures.1 c.requires
+read_length_prefixed-end-requires-clause-stands c = full_key (drop c.args.offset c.args.payload.now) _ _ c.read_fields-at.ensures.1 c.requires
 
 pub returns-clause-exact : goal.returns-clause-exact
 returns-clause-exact c = (
   c.read_length_prefixed-end.ensures.exact.0,
-  full_whole (drop c.args.offset c.args.payload.now) (front_by c.read_front-at.result.0) _ c.read_front-at.ensures.1 _ _ c.read_length_prefixed-end.ensures.exact.1
+  full_whole (drop c.args.offset c.args.payload.now) (fields_by c.read_fields-at.result.0) _ c.read_fields-at.ensures.1 _ _ c.read_length_prefixed-end.ensures.exact.1
       ∙ ap (λ p. Some (handle_of c.args.payload.now p, drop c.read_length_prefixed-end.result.1 c.args.payload.now)) (sym c.with_key.ensures),
 )
 
@@ -26,11 +26,11 @@ returns-clause-found c =
       prefix = tt;
       end_key = c.read_length_prefixed-end.ensures.range;
       fits = full_fits p c.args.offset _ (drop c.read_length_prefixed-end.result.1 p) (λ k. let h = c.type_inv.payload k in omega arith)
-          (full_whole (drop c.args.offset p) (front_by c.read_front-at.result.0) _ c.read_front-at.ensures.1 _ _ c.read_length_prefixed-end.ensures.exact.1);
+          (full_whole (drop c.args.offset p) (fields_by c.read_fields-at.result.0) _ c.read_fields-at.ensures.1 _ _ c.read_length_prefixed-end.ensures.exact.1);
     })
 
 pub returns-clause-key : goal.returns-clause-key
 returns-clause-key c =
     let k = c.read_length_prefixed-end.ensures.range in
-    let P : IndexBlockParsedItem → Type 0 = λ p. StandsAt c.args.payload.now p.end_key.0 (handle_of c.args.payload.now p).end_key in
+    let P : IndexBlockParsedItem → Type 0 = λ p. IsEncodedAt c.args.payload.now p.end_key.0 (handle_of c.args.payload.now p).end_key in
     subst P (sym c.with_key.ensures) (range_stands c.args.payload.now c.read_length_prefixed-end.result.0 k.order k.inside)

@@ -1,16 +1,16 @@
 use Rattle.std.proofs.Common.{◌∙◌, drop, ap}
 use Rattle.sst_block_kinds.specs.Handles.{Handle}
-use Rattle.sst_block_kinds.specs.ParsedHandle.{front_by}
+use Rattle.sst_block_kinds.specs.ParsedHandle.{fields_by}
 use Rattle.sst_block_kinds.proofs.HandleReads.{full_front, full_key, full_is}
 use Rattle.sst_block_kinds.proofs.table.index_block.decoding.KeyedBlockHandleDecodableIndexBlockParsedItem.read_head.Goals as goal
 
-pub read_front-at-requires : goal.read_front-at-requires
-read_front-at-requires c = full_front (drop c.args.offset c.args.payload.now) c.requires
+pub read_fields-at-requires : goal.read_fields-at-requires
+read_fields-at-requires c = full_front (drop c.args.offset c.args.payload.now) c.requires
 
 pub read_length_prefixed-requires-clause-stands : goal.read_length_prefixed-requires-clause-stands
-read_length_prefixed-requires-clause-stands c = full_key (drop c.args.offset c.args.payload.now) _ _ c.read_front-at.ensures.1 c.requires
+read_length_prefixed-requires-clause-stands c = full_key (drop c.args.offset c.args.payload.now) _ _ c.read_fields-at.ensures.1 c.requires
 
 pub returns-clause-head : goal.returns-clause-head
 returns-clause-head c = λ x rest e.
-    let is = full_is (drop c.args.offset c.args.payload.now) (front_by c.read_front-at.result.0) _ c.read_front-at.ensures.1 _ _ x rest c.read_length_prefixed.ensures.exact.1 e in
+    let is = full_is (drop c.args.offset c.args.payload.now) (fields_by c.read_fields-at.result.0) _ c.read_fields-at.ensures.1 _ _ x rest c.read_length_prefixed.ensures.exact.1 e in
     (c.bytes_of.ensures ∙ ap (λ (h : Handle). h.end_key) is.0, ap (λ (h : Handle). h.seqno) is.0)

@@ -1,28 +1,28 @@
 use Rattle.std.proofs.Common.{◌∙◌, drop, sym, ap, subst, arith}
 use Rattle.sst_block_kinds.specs.Handles.{IsHandle, truncated_at}
 use Rattle.sst_block_core.specs.Found.{range_len}
-use Rattle.sst_block_kinds.specs.ParsedHandle.{handle_of, front_by, IsParsedHandle}
+use Rattle.sst_block_kinds.specs.ParsedHandle.{handle_of, fields_by, IsParsedHandle}
 use Rattle.sst_block_kinds.specs.declared.table.index_block.parsed_item.IndexBlockParsedItem.{IndexBlockParsedItem}
 use Rattle.sst_base.specs.ReadingLaws.{some_value}
 use Rattle.sst_block_kinds.proofs.HandleReads.{truncated_front, truncated_shared, truncated_rest, truncated_found, truncated_fits}
 use Rattle.sst_block_kinds.proofs.table.index_block.decoding.KeyedBlockHandleDecodableIndexBlockParsedItem.read_truncated.Goals as goal
 
-pub read_front-at-requires : goal.read_front-at-requires
-read_front-at-requires c = truncated_front c.requires.0 (drop c.args.offset c.args.payload.now) c.requires.2
+pub read_fields-at-requires : goal.read_fields-at-requires
+read_fields-at-requires c = truncated_front c.requires.0 (drop c.args.offset c.args.payload.now) c.requires.2
 
 pub read_number-shared-requires-clause-stands : goal.read_number-shared-requires-clause-stands
-read_number-shared-requires-clause-stands c = truncated_shared (drop c.args.offset c.args.payload.now) _ _ c.read_front-at.ensures.1 c.requires.0 c.requires.2
+read_number-shared-requires-clause-stands c = truncated_shared (drop c.args.offset c.args.payload.now) _ _ c.read_fields-at.ensures.1 c.requires.0 c.requires.2
 
 pub read_length_prefixed-end-requires-clause-stands : goal.read_length_prefixed-end-requires-clause-stands
 read_length_prefixed-end-requires-clause-stands c =
-    truncated_rest (drop c.args.offset c.args.payload.now) _ _ c.read_front-at.ensures.1 c.requires.0 _ _ c.read_number-shared.ensures.exact.1 c.requires.2
+    truncated_rest (drop c.args.offset c.args.payload.now) _ _ c.read_fields-at.ensures.1 c.requires.0 _ _ c.read_number-shared.ensures.exact.1 c.requires.2
 
 pub returns-clause-item : goal.returns-clause-item
 returns-clause-item c = λ base x rest stands e.
     let p = c.args.payload.now in
     let k = c.read_length_prefixed-end in
-    let f = truncated_found p (drop c.args.offset p) base c.args.base_key_offset k.result.1 c.read_number-shared.result.0 (front_by c.read_front-at.result.0) _ _ k.result.0
-    stands k.ensures.range c.read_front-at.ensures.1 c.read_number-shared.ensures.exact.1 k.ensures.exact.1 x rest e in
+    let f = truncated_found p (drop c.args.offset p) base c.args.base_key_offset k.result.1 c.read_number-shared.result.0 (fields_by c.read_fields-at.result.0) _ _ k.result.0
+    stands k.ensures.range c.read_fields-at.ensures.1 c.read_number-shared.ensures.exact.1 k.ensures.exact.1 x rest e in
     let len = ap (λ (q : IndexBlockParsedItem). range_len q.prefix) c.with_key.ensures in
     let shares = f.4 in
     (ap (handle_of p) c.with_key.ensures ∙ f.2, f.3, omega (arith, len, shares))
@@ -33,8 +33,8 @@ returns-clause-found c =
     let p = c.args.payload.now in
     let k = c.read_length_prefixed-end in
     let v = some_value (truncated_at r.0 (drop c.args.offset p)) r.2 in
-    let f = truncated_found p (drop c.args.offset p) r.0 c.args.base_key_offset k.result.1 c.read_number-shared.result.0 (front_by c.read_front-at.result.0) _ _ k.result.0
-    r.1 k.ensures.range c.read_front-at.ensures.1 c.read_number-shared.ensures.exact.1 k.ensures.exact.1 v.0.0 v.0.1 v.1 in
+    let f = truncated_found p (drop c.args.offset p) r.0 c.args.base_key_offset k.result.1 c.read_number-shared.result.0 (fields_by c.read_fields-at.result.0) _ _ k.result.0
+    r.1 k.ensures.range c.read_fields-at.ensures.1 c.read_number-shared.ensures.exact.1 k.ensures.exact.1 v.0.0 v.0.1 v.1 in
     subst (IsParsedHandle p) (sym c.with_key.ensures) (record {
       prefix = record { order = omega arith; inside = f.0 };
       end_key = k.ensures.range;

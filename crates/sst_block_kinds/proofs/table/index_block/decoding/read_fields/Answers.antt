@@ -1,6 +1,6 @@
 use Rattle.std.proofs.Common.{drop, arith}
 use Rattle.sst_block_kinds.proofs.HandleReads.{marker_stands, front_offset, front_size, front_seqno, front_whole}
-use Rattle.sst_block_kinds.proofs.table.index_block.decoding.read_front.Goals as goal
+use Rattle.sst_block_kinds.proofs.table.index_block.decoding.read_fields.Goals as goal
 
 pub overflow_add-at : goal.overflow_add-at
 overflow_add-at c = let m = (marker_stands c.args.at c.args.payload.now c.requires).0 in omega arith

@@ -1,6 +1,6 @@
 use Rattle.std.proofs.Common.{arith}
 use Rattle.sst_base.proofs.ShortVarints.{one_byte, two_bytes, three_bytes, four_bytes}
-use Rattle.sst_base.proofs.coding.decode_some.Goals as goal
+use Rattle.sst_base.proofs.coding.decode_short.Goals as goal
 
 pub returns-in-len4-up : goal.returns-in-len4-up
 returns-in-len4-up c =

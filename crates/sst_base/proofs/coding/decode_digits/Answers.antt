@@ -1,7 +1,7 @@
 use Rattle.std.proofs.Common.{arith, ◌<◌}
 use Rattle.sst_base.specs.VarintLaws.{digits_end, digits_last, digits_zero, digits_wide, digits_full, digits_more, less_left}
-use Rattle.sst_base.proofs.coding.decode_behind.Goals as goal
-use Rattle.sst_base.proofs.coding.decode_behind.Goals.{then-byte-eq0-via-then-byte-eq0, then-byte-eq0-via-else-byte-eq0+then-room-byte}
+use Rattle.sst_base.proofs.coding.decode_digits.Goals as goal
+use Rattle.sst_base.proofs.coding.decode_digits.Goals.{then-byte-eq0-via-then-byte-eq0, then-byte-eq0-via-else-byte-eq0+then-room-byte}
 
 pub returns-then-byte-eq0 : goal.returns-then-byte-eq0
 returns-then-byte-eq0 c = elim c.then-byte-eq0.branch [
