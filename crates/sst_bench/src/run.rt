@@ -10,7 +10,8 @@ ghost use Rattle.sst_block_core.specs.Entries.{entries};
 ghost use Rattle.sst_block_core.specs.Kind.{IsOrdered};
 ghost use Rattle.sstable_blocks.specs.Blocks.{CutsFit, blocks_of};
 ghost use Rattle.sstable_blocks.specs.Run.{form, IsLayout};
-ghost use Rattle.sstable_blocks.specs.declared.run.RunConfig.{RunConfig};
+ghost use Rattle.sstable_blocks.specs.RunReading.{hashes};
+ghost use Rattle.sstable_blocks.specs.Sound.{IsSound};
 ghost use Rattle.sst_bench.specs.Runs.{IsRunOf};
 
 use crate::REFUSED;
@@ -53,7 +54,9 @@ fn written(
     requires interval { 1 ≤ config.restart_interval }
     requires index_interval { 1 ≤ config.index_interval }
     requires den { 1 ≤ config.ratio.den }
-    ensures { IfSome result (λ r. IsLayout (form (poly31 64) (poly31 128) config)
+    ensures layout { IfSome result (λ r. IsLayout (form (poly31 64) (poly31 128) config)
+        (blocks_of cuts.now items.now) r.0.items r.1) }
+    ensures sound { IfSome result (λ r. IsSound (hashes (poly31 64) (poly31 128))
         (blocks_of cuts.now items.now) r.0.items r.1) }
 {
     let mut bytes = Vec::new(alloc);
@@ -120,8 +123,8 @@ fn add_found(
     needles: &[&[u8]],
     alloc: Global,
 ) -> Option<u64>
-    requires { (config : RunConfig) × (blocks : List (List Entry))
-        × IsLayout (form (poly31 64) (poly31 128) config) blocks bytes.now handles.now }
+    requires { (blocks : List (List Entry))
+        × IsSound (hashes (poly31 64) (poly31 128)) blocks bytes.now handles.now }
 {
     let mut sum = so_far;
     for needle in needles {

@@ -6,10 +6,9 @@ use Rattle.sst_base.specs.declared.error.Error.{Error}
 use Rattle.sst_block_core.specs.Entries.{entries}
 use Rattle.sst_block_core.specs.Window.{first_match}
 use Rattle.sstable_blocks.specs.Blocks.{joined}
-use Rattle.sstable_blocks.specs.Run.{form, IsLayout}
-use Rattle.sstable_blocks.specs.RunReading.{Hashes, hashes, read_checked, AnswerMeans}
+use Rattle.sstable_blocks.specs.RunReading.{Hashes, read_checked, AnswerMeans}
+use Rattle.sstable_blocks.specs.Sound.{IsSound}
 use Rattle.sstable_blocks.specs.Sources.{GivesOr}
-use Rattle.sstable_blocks.specs.declared.run.RunConfig.{RunConfig}
 use Rattle.sstable_blocks.specs.declared.run.RunHandles.{RunHandles}
 
 given_is : {X : Type 0} (failed reliable : Type 0) (r read : Result X Error) (y : X) → read ≡ Ok y → GivesOr failed reliable (λ x. x) r read → IfOk r (λ x. x ≡ y)
@@ -23,10 +22,10 @@ means_on c None failed reliable r h needle seqno law cells given = tt
 means_on c (Some all) failed reliable (Ok x) h needle seqno law cells given = law all x cells given
 means_on c (Some all) failed reliable (Err e) h needle seqno law cells given = tt
 
-pub layout_on : (hash64 hash128 : List ℕ → ℕ) (o : Option (List ℕ)) (failed reliable : Type 0) (r : Result (Option Entry) Error) (h : RunHandles) (needle : List ℕ) (seqno : ℕ)
-    → ((all : List ℕ) (config : RunConfig) (blocks : List (List Entry)) → IsLayout (form hash64 hash128 config) blocks all h → read_checked (hashes hash64 hash128) all h needle seqno ≡ Ok (first_match entries needle seqno (joined blocks)))
-    → IfSome o (λ all. GivesOr failed reliable (λ x. x) r (read_checked (hashes hash64 hash128) all h needle seqno))
-    → IfSome o (λ all. (config : RunConfig) (blocks : List (List Entry)) → IsLayout (form hash64 hash128 config) blocks all h → IfOk r (λ found. found ≡ first_match entries needle seqno (joined blocks)))
-layout_on hash64 hash128 None failed reliable r h needle seqno law given = tt
-layout_on hash64 hash128 (Some all) failed reliable r h needle seqno law given = λ config blocks layout.
-    given_is failed reliable r (read_checked (hashes hash64 hash128) all h needle seqno) (first_match entries needle seqno (joined blocks)) (law all config blocks layout) given
+pub sound_on : (c : Hashes) (o : Option (List ℕ)) (failed reliable : Type 0) (r : Result (Option Entry) Error) (h : RunHandles) (needle : List ℕ) (seqno : ℕ)
+    → ((all : List ℕ) (blocks : List (List Entry)) → IsSound c blocks all h → read_checked c all h needle seqno ≡ Ok (first_match entries needle seqno (joined blocks)))
+    → IfSome o (λ all. GivesOr failed reliable (λ x. x) r (read_checked c all h needle seqno))
+    → IfSome o (λ all. (blocks : List (List Entry)) → IsSound c blocks all h → IfOk r (λ found. found ≡ first_match entries needle seqno (joined blocks)))
+sound_on c None failed reliable r h needle seqno law given = tt
+sound_on c (Some all) failed reliable r h needle seqno law given = λ blocks sound.
+    given_is failed reliable r (read_checked c all h needle seqno) (first_match entries needle seqno (joined blocks)) (law all blocks sound) given

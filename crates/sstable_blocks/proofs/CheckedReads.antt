@@ -61,7 +61,7 @@ asked_not_io p (Ok b) err = tt
 asked_not_io p (Err e) err = subst NotIo err (filter_not_io p)
 
 -- a source that failed later failed, and what a reading after others meets they meet
-gives_or_later : {X Y : Type 0} (P Q R T : Type 0) (view : X → Y) (r : Result X Error) (read : Result Y Error) → (P → Q) → (T → R) → GivesOr P R view r read → GivesOr Q T view r read
+pub gives_or_later : {X Y : Type 0} (P Q R T : Type 0) (view : X → Y) (r : Result X Error) (read : Result Y Error) → (P → Q) → (T → R) → GivesOr P R view r read → GivesOr Q T view r read
 gives_or_later P Q R T view (Ok x) read f k h = h
 gives_or_later P Q R T view (Err e) read f k h = λ other. elim (h other) [
   | inl failed ↦ inl (failed.0, f failed.1, λ t. failed.2 (k t))

@@ -1,8 +1,8 @@
 -- The filter of a run denies none of its keys.
-use Rattle.std.proofs.Common.{◌≡◌, ℕ, suc, ◌+◌, ◌*◌, ◌/◌, ◌<◌, ◌≤◌, ◌^◌, inl, inr, cond, ltb, List, [], ◌∷◌, length, filter, refl, arith, sym, ◌∙◌, ap, subst, Option, Some, None, Result, Ok}
+use Rattle.std.proofs.Common.{◌≡◌, ℕ, ◌+◌, ◌*◌, ◌/◌, ◌<◌, ◌≤◌, ◌^◌, inl, inr, cond, ltb, List, [], ◌∷◌, length, filter, refl, arith, sym, ◌∙◌, ap, subst, Option, Some, None, Result, Ok}
 use Rattle.std.proofs.lemmas.Bool.{eq-eqb, ne_eqb, cases_Bool, and_parts}
 use Rattle.std.proofs.lemmas.List.{length-map}
-use Rattle.std.specs.List.{Contains, slice_get}
+use Rattle.std.specs.List.{AllByRecursion, slice_get}
 use Rattle.std.specs.Option.{option_map}
 use Rattle.std.specs.Cmp.Lexicographic.{slice_cmp}
 use Rattle.std.specs.Cmp.{Equal-is}
@@ -17,26 +17,35 @@ use Rattle.sst_block_core.specs.Entries.{entries}
 use Rattle.sst_block_core.specs.Window.{first_match, is_version}
 use Rattle.sstable_blocks.specs.Blocks.{joined}
 use Rattle.sstable_blocks.specs.Filter.{Filter, filter_at, MayContain, bit_count}
-use Rattle.sstable_blocks.specs.FilterLaws.{filter_at-payload, inserted_may_be_contained}
+use Rattle.sstable_blocks.specs.FilterLaws.{filter_at-payload}
 use Rattle.sstable_blocks.specs.Run.{Form, block_frames, filter_frame, index_frame, run_handles, key_hashes, IsFilterText}
 use Rattle.sstable_blocks.proofs.Search.{first-cons}
 
--- a first match has the needle as its key, so its hash is among those of the list
-match_hash : (hash : List ℕ → ℕ) (needle : List ℕ) (s : ℕ) (xs : List Entry) (x : Entry) → slice_get (filter (is_version entries needle s) xs) 0 ≡ Some x → Contains (key_hashes hash xs) (hash needle)
-match_hash hash needle s [] x e = cc
-match_hash hash needle s (y ∷ ys) x e = elim (cases_Bool (is_version entries needle s y)) [
+-- a first match has the needle as its key, so what holds of the hash of each key holds of the needle's
+match_satisfies : (hash : List ℕ → ℕ) (P : ℕ → Type 0) (needle : List ℕ) (s : ℕ) (xs : List Entry) (x : Entry) → slice_get (filter (is_version entries needle s) xs) 0 ≡ Some x → AllByRecursion (λ y. P (hash y.key.user_key)) xs → P (hash needle)
+match_satisfies hash P needle s [] x e all = cc
+match_satisfies hash P needle s (y ∷ ys) x e all = elim (cases_Bool (is_version entries needle s y)) [
   | inl found ↦ (
       let both = and_parts (ltb y.key.seqno s) (is_eq (slice_cmp nat_cmp y.key.user_key needle)) found in
       let same : y.key.user_key ≡ needle = (slice_cmp-equal y.key.user_key needle).0 ((Equal-is (slice_cmp nat_cmp y.key.user_key needle)).0 both.1) in
-      (0, omega arith, ap hash same))
-  | inr other ↦ (
-      let more = match_hash hash needle s ys x (sym (first-cons (is_version entries needle s) y ys ∙ ap (λ b. cond b (Some y) (slice_get (filter (is_version entries needle s) ys) 0)) other) ∙ e) in
-      (suc more.0, (let k = more.1 in omega arith), more.2))
+      subst (λ k. P (hash k)) same all.0)
+  | inr other ↦
+      match_satisfies hash P needle s ys x (sym (first-cons (is_version entries needle s) y ys ∙ ap (λ b. cond b (Some y) (slice_get (filter (is_version entries needle s) ys) 0)) other) ∙ e) all.1
 ]
 
 none_from : {A : Type 0} (o : Option A) → ((x : A) → o ≡ Some x → ⊥) → o ≡ None
 none_from None h = refl
 none_from (Some x) h = absurd (h x refl)
+
+-- a key that a filter of all keys denies has no match
+pub denied : (hash : List ℕ → ℕ) (items : List Entry) (p needle : List ℕ) (s : ℕ) (own : Filter) → AllByRecursion (λ y. MayContain own (hash y.key.user_key)) items
+    → filter_at p ≡ Ok own → (x : Filter) → filter_at p ≡ Ok x → (MayContain x (hash needle) → ⊥) → first_match entries needle s items ≡ None
+unfolding first_match
+denied hash items p needle s own all reads x read denies =
+    let same : own ≡ x = (let e : ◌≡◌ {A = Result Filter Error} (Ok own) (Ok x) = sym reads ∙ read in cc) in
+    let none : slice_get (filter (is_version entries needle s) items) 0 ≡ None = none_from _ (λ y found.
+    denies (subst (λ q. MayContain q (hash needle)) same (match_satisfies hash (MayContain own) needle s items y found all))) in
+    ap (option_map entries.plain) none
 
 module _ (f : Form) where
   -- where the filter of a run stands
@@ -61,15 +70,3 @@ module _ (f : Form) where
       let m : is.filter.m ≡ (length (joined blocks) * f.config.bits_per_key + 7) / 8 * 8 = is.m ∙ ap (λ n. bit_count n f.config.bits_per_key) count in
       let fits : is.filter.m < 2 ^ 64 = omega arith in
       ap filter_at is.text ∙ filter_at-payload is.filter is.inserted.sized fits
-
-  -- a key that it denies has no match
-  pub denied : (blocks : List (List Entry)) (p : List ℕ) (needle : List ℕ) (s : ℕ) (is : IsFilterText (key_hashes f.hash64 (joined blocks)) f.config.bits_per_key p)
-      → filter_at p ≡ Ok is.filter → (x : Filter) → filter_at p ≡ Ok x → (MayContain x (f.hash64 needle) → ⊥) → first_match entries needle s (joined blocks) ≡ None
-  unfolding first_match
-  denied blocks p needle s is reads x read denies =
-      let same : is.filter ≡ x = (let e : ◌≡◌ {A = Result Filter Error} (Ok is.filter) (Ok x) = sym reads ∙ read in cc) in
-      let none : slice_get (filter (is_version entries needle s) (joined blocks)) 0 ≡ None = none_from _ (λ y found.
-      let in_hashes = match_hash f.hash64 needle s (joined blocks) y found in
-      let may = inserted_may_be_contained (key_hashes f.hash64 (joined blocks)) is.filter (f.hash64 needle) is.inserted in_hashes in
-      denies (subst (λ q. MayContain q (f.hash64 needle)) same may)) in
-      ap (option_map entries.plain) none

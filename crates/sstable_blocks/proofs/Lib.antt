@@ -12,10 +12,16 @@ pub mod BlockHandles
 pub mod Layouts
 pub mod FilterReads
 pub mod Openings
+pub mod SoundLayouts
+pub mod LayoutCosts
 pub mod IndexSteps
 pub mod Points
 pub mod CheckedReads
-pub mod ReadLayouts
+pub mod SoundReads
 pub mod Meanings
 pub mod Answered
 pub mod FileRanges
+pub mod RunSummaries
+pub mod RunCheckLaws
+pub mod RunCheckSteps
+pub mod KeptReads

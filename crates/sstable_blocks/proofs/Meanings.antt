@@ -38,7 +38,7 @@ payload_of_type_takes hash128 t bytes p small e =
     let same = same_type found.0.header.block_type t (eqb-true _ _ typed.0) in
     (frame_in_takes hash128 bytes found.0 small found.1).0 ∙ ap (λ u. frame hash128 u found.0.payload) same ∙ ap (frame hash128 t) typed.1
 
-payload_at_takes : (c : Hashes) (t : BlockType) (bytes : List ℕ) (h : HandleParts) (p : List ℕ) → IsBytes bytes → payload_at c t bytes h ≡ Ok p → IsFramedAt c t bytes h p
+pub payload_at_takes : (c : Hashes) (t : BlockType) (bytes : List ℕ) (h : HandleParts) (p : List ℕ) → IsBytes bytes → payload_at c t bytes h ≡ Ok p → IsFramedAt c t bytes h p
 unfolding range_at
 payload_at_takes c t bytes h p small e =
     let found = bind_ok (range_at bytes h) (payload_of_type c.hash128 t) p e in

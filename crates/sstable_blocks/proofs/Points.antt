@@ -1,9 +1,8 @@
--- A point read of a run, by what a reader finds in its layout.
+-- A point read of a run, by what a reader finds in it.
 use Rattle.std.proofs.Common.{◌≡◌, ℕ, ◌+◌, ◌-◌, ◌≤◌, List, length, take, drop, refl, arith, sym, ◌∙◌, ap, subst, Option, Some, None}
-use Rattle.std.proofs.lemmas.List.{length-map}
+use Rattle.std.specs.List.{slice_get}
 use Rattle.std.specs.Option.{option_map}
 use Rattle.sst_base.specs.BlockHandle.{HandleParts}
-use Rattle.sst_base.specs.Entry.{plain}
 use Rattle.sst_block_kinds.specs.DataBlock.{DataBlockParts}
 use Rattle.sst_block_core.specs.Entries.{entries}
 use Rattle.sst_block_kinds.specs.Handles.{Handle, handles}
@@ -11,16 +10,14 @@ use Rattle.sst_block_core.specs.Intervals.{digits}
 use Rattle.sst_block_kinds.specs.PointReads.{lookup, heads_most, entries_most, read_heads, read_entries}
 use Rattle.sst_block_core.specs.Pointers.{head_count}
 use Rattle.sst_block_core.specs.Stages.{items_in}
-use Rattle.sst_block_core.specs.Trailer.{trailer_in}
 use Rattle.sst_block_core.specs.Window.{first_match}
 use Rattle.sst_block_core.specs.declared.table.block.hash_index.reader.Lookup.{Lookup}
 use Rattle.sst_block_core.specs.declared.table.block.hash_index.reader.Lookup.TheVariants.{Nowhere, Interval, Anywhere}
 use Rattle.sst_base.specs.Entry.{Entry}
 use Rattle.sstable_blocks.specs.Blocks.{joined}
-use Rattle.sstable_blocks.specs.Lookup.{first_in, handle_for, place_for}
-use Rattle.sstable_blocks.specs.Opened.{range_of, payload_in, index_in, block_for, IsDenied, IsOpen, Opened}
-use Rattle.sstable_blocks.specs.ReadCosts.{heads_of, handles_most}
-use Rattle.sstable_blocks.specs.Run.{Form, handles_from}
+use Rattle.sstable_blocks.specs.Lookup.{first_in, place_for}
+use Rattle.sstable_blocks.specs.Opened.{range_of, payload_in, index_in, IsDenied, IsOpen, Opened}
+use Rattle.sstable_blocks.specs.ReadCosts.{handle_in, heads_at, entries_at, interval_in}
 use Rattle.sstable_blocks.specs.declared.run.RunHandles.{RunHandles}
 
 -- the range of a payload
@@ -53,29 +50,26 @@ no_range : (x : Option Handle) → option_map range_of x ≡ None → x ≡ None
 no_range None e = refl
 no_range (Some g) e = cc
 
-module _ (f : Form) (blocks : List (List Entry)) (bytes : List ℕ) (h : RunHandles) (needle : List ℕ) (s : ℕ) (o : Opened f blocks bytes h) where
+module _ (hash64 : List ℕ → ℕ) (blocks : List (List Entry)) (bytes : List ℕ) (h : RunHandles) (needle : List ℕ) (s : ℕ) (o : Opened hash64 blocks bytes h) where
   -- what the search in the index answers
   abbrev pub IsAnswer : Option HandleParts → Type 0
-  IsAnswer r = r ≡ option_map range_of (handle_for handles needle s (index_in bytes h.index))
-
-  by_handles : (r : Option HandleParts) → IsAnswer r → r ≡ option_map range_of (handle_for handles needle s (handles_from f 0 blocks))
-  by_handles r e = e ∙ ap (λ xs. option_map range_of (handle_for handles needle s xs)) o.index_items
+  IsAnswer r = r ≡ option_map range_of (handle_in bytes h needle s)
 
   -- the block that it leads to
-  pub chosen : (r : Option HandleParts) (k : HandleParts) → IsAnswer r → r ≡ Some k → (block : List Entry) × (block_for f blocks needle s ≡ Some block) × IsOpen f bytes k block
+  pub chosen : (r : Option HandleParts) (k : HandleParts) → IsAnswer r → r ≡ Some k → (block : List Entry) × (slice_get blocks (place_for handles needle s (index_in bytes h.index)) ≡ Some block) × IsOpen hash64 bytes k block
   chosen r k e is =
-      let g = some_range (handle_for handles needle s (handles_from f 0 blocks)) k (sym (by_handles r e) ∙ is) in
-      let b = o.block_open (place_for handles needle s (handles_from f 0 blocks)) g.0 g.1 in
-      (b.0, b.1, subst (λ x. IsOpen f bytes x b.0) g.2 b.2)
+      let g = some_range (handle_in bytes h needle s) k (sym e ∙ is) in
+      let b = o.block_open (place_for handles needle s (index_in bytes h.index)) g.0 g.1 in
+      (b.0, b.1, subst (λ x. IsOpen hash64 bytes x b.0) g.2 b.2)
 
   -- where it leads to none, there is no match
   pub found_none : (r : Option HandleParts) → IsAnswer r → r ≡ None → None ≡ first_match entries needle s (joined blocks)
   found_none r e is =
-      let none = no_range (handle_for handles needle s (handles_from f 0 blocks)) (sym (by_handles r e) ∙ is) in
-      sym (o.found needle s ∙ ap (first_in entries needle s) (o.none_open (place_for handles needle s (handles_from f 0 blocks)) none))
+      let none = no_range (handle_in bytes h needle s) (sym e ∙ is) in
+      sym (o.found needle s ∙ ap (first_in entries needle s) (o.none_open (place_for handles needle s (index_in bytes h.index)) none))
 
   -- nor where the filter denies the key
-  pub found_denied : (hash : ℕ) → hash ≡ f.hash64 needle → IsDenied bytes h.filter hash → None ≡ first_match entries needle s (joined blocks)
+  pub found_denied : (hash : ℕ) → hash ≡ hash64 needle → IsDenied bytes h.filter hash → None ≡ first_match entries needle s (joined blocks)
   found_denied hash same denied = sym (o.filter_denies needle s (subst (IsDenied bytes h.filter) same denied))
 
   -- the first match of that block is that of the run
@@ -84,22 +78,15 @@ module _ (f : Form) (blocks : List (List Entry)) (bytes : List ℕ) (h : RunHand
       let b = chosen r k e is in
       b.2.first needle s ∙ sym (o.found needle s ∙ ap (first_in entries needle s) b.1)
 
-  -- the heads of the index, and those of the block
-  pub index_digits : digits (head_count (trailer_in (payload_in bytes h.index)).interval (length (index_in bytes h.index))) ≡ digits (head_count f.config.index_interval (length blocks))
-  index_digits =
-      ap digits (ap (λ n. head_count n (length (index_in bytes h.index))) o.index_interval
-      ∙ ap (λ xs. head_count f.config.index_interval (length xs)) o.index_items ∙ ap (head_count f.config.index_interval) o.count)
+-- the heads and the entries of the block that the search in an index leads to
+pub block_digits : (bytes : List ℕ) (h : RunHandles) (needle : List ℕ) (s : ℕ) (r : Option HandleParts) (k : HandleParts) → r ≡ option_map range_of (handle_in bytes h needle s) → r ≡ Some k
+    → digits (head_count (interval_in bytes k) (length (items_in entries (payload_in bytes k)))) ≡ digits (heads_at bytes (handle_in bytes h needle s))
+block_digits bytes h needle s r k e is =
+    let g = some_range (handle_in bytes h needle s) k (sym e ∙ is) in
+    ap (λ x. digits (head_count (interval_in bytes x) (length (items_in entries (payload_in bytes x))))) (sym g.2) ∙ ap (λ o. digits (heads_at bytes o)) (sym g.1)
 
-  -- the most handles that are decoded
-  pub index_handles : handles_most (trailer_in (payload_in bytes h.index)).interval ≡ handles_most f.config.index_interval
-  index_handles = ap handles_most o.index_interval
-
-  pub block_digits : (r : Option HandleParts) (k : HandleParts) → IsAnswer r → r ≡ Some k
-      → digits (head_count (trailer_in (payload_in bytes k)).interval (length (items_in entries (payload_in bytes k)))) ≡ digits (heads_of f (block_for f blocks needle s))
-  block_digits r k e is =
-      let b = chosen r k e is in
-      ap digits (ap (λ n. head_count n (length (items_in entries (payload_in bytes k)))) b.2.interval
-      ∙ ap (λ xs. head_count f.config.restart_interval (length xs)) b.2.items ∙ ap (head_count f.config.restart_interval) (length-map b.0 plain) ∙ ap (heads_of f) (sym b.1))
-
-  pub block_interval : (r : Option HandleParts) (k : HandleParts) → IsAnswer r → r ≡ Some k → (trailer_in (payload_in bytes k)).interval ≡ f.config.restart_interval
-  block_interval r k e is = (chosen r k e is).2.interval
+pub block_interval : (bytes : List ℕ) (h : RunHandles) (needle : List ℕ) (s : ℕ) (r : Option HandleParts) (k : HandleParts) → r ≡ option_map range_of (handle_in bytes h needle s) → r ≡ Some k
+    → interval_in bytes k + 1 ≡ entries_at bytes (handle_in bytes h needle s)
+block_interval bytes h needle s r k e is =
+    let g = some_range (handle_in bytes h needle s) k (sym e ∙ is) in
+    ap (λ x. interval_in bytes x + 1) (sym g.2) ∙ ap (entries_at bytes) (sym g.1)

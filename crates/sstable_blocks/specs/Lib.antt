@@ -12,3 +12,6 @@ pub mod ReadCosts
 pub mod Writing
 pub mod RunReading
 pub mod Sources
+pub mod Sound
+pub mod RunChecks
+pub mod Tables

@@ -1,4 +1,4 @@
--- What a reader finds in the layout of a run.
+-- What a reader finds in a run.
 use Rattle.std.specs.Prelude.{◌≡◌, ℕ, ◌+◌, ◌-◌, ◌≤◌, List, length, map, take, drop, slice_get, Option, Some, None, IfSome, Ok}
 use Rattle.sst_base.specs.BlockHandle.{HandleParts}
 use Rattle.sst_base.specs.Entry.{Entry, IsEntry, plain}
@@ -6,12 +6,10 @@ use Rattle.sst_block_core.specs.Entries.{entries}
 use Rattle.sst_block_kinds.specs.Handles.{Handle, handles, IsIndexBlock}
 use Rattle.sst_block_core.specs.Payload.{IsBlock}
 use Rattle.sst_block_core.specs.Stages.{items_in}
-use Rattle.sst_block_core.specs.Trailer.{trailer_in}
 use Rattle.sst_block_core.specs.Window.{first_match}
 use Rattle.sstable_blocks.specs.Blocks.{joined}
 use Rattle.sstable_blocks.specs.Filter.{Filter, filter_at, MayContain}
 use Rattle.sstable_blocks.specs.Lookup.{first_in, place_for}
-use Rattle.sstable_blocks.specs.Run.{Form, handles_from}
 use Rattle.sstable_blocks.specs.declared.run.RunHandles.{RunHandles}
 
 -- the range of a handle
@@ -36,29 +34,24 @@ abbrev pub IsDenied : List ℕ → Option HandleParts → ℕ → Type 0
 IsDenied bytes None hash = ⊥
 IsDenied bytes (Some h) hash = (f : Filter) × (filter_at (payload_in bytes h) ≡ Ok f) × (MayContain f hash → ⊥)
 
--- in the range of a handle stands the frame of a block of a run
-pub record IsOpen (f : Form) (bytes : List ℕ) (h : HandleParts) (block : List Entry) : Type 0 where
+-- in the range of a handle is the frame of a block of a run
+pub record IsOpen (hash64 : List ℕ → ℕ) (bytes : List ℕ) (h : HandleParts) (block : List Entry) : Type 0 where
   pub range : IsFrameRange bytes h
+  pub interval : ℕ
   pub buckets : ℕ
-  pub is_block : IsBlock entries IsEntry f.hash64 (payload_in bytes h) block f.config.restart_interval buckets
+  pub is_block : IsBlock entries IsEntry hash64 (payload_in bytes h) block interval buckets
   pub items : items_in entries (payload_in bytes h) ≡ map plain block
   pub first : (needle : List ℕ) (seqno : ℕ) → first_match entries needle seqno (items_in entries (payload_in bytes h)) ≡ first_match entries needle seqno block
-  pub interval : (trailer_in (payload_in bytes h)).interval ≡ f.config.restart_interval
 
--- what a reader finds: the index with the handles of the blocks, the blocks where these say, and a filter that denies no key of the run
-pub record Opened (f : Form) (blocks : List (List Entry)) (bytes : List ℕ) (h : RunHandles) : Type 0 where
+-- what a reader finds: an index with a handle for each block, the blocks where these say, and a filter that denies no key of the run
+pub record Opened (hash64 : List ℕ → ℕ) (blocks : List (List Entry)) (bytes : List ℕ) (h : RunHandles) : Type 0 where
   pub index_range : IsFrameRange bytes h.index
-  pub index_block : IsIndexBlock (payload_in bytes h.index) (handles_from f 0 blocks) f.config.index_interval
-  pub index_items : index_in bytes h.index ≡ handles_from f 0 blocks
-  pub index_interval : (trailer_in (payload_in bytes h.index)).interval ≡ f.config.index_interval
-  pub count : length (handles_from f 0 blocks) ≡ length blocks
-  pub found : (needle : List ℕ) (seqno : ℕ) → first_match entries needle seqno (joined blocks) ≡ first_in entries needle seqno (slice_get blocks (place_for handles needle seqno (handles_from f 0 blocks)))
-  pub block_open : (n : ℕ) (g : Handle) → slice_get (handles_from f 0 blocks) n ≡ Some g → (block : List Entry) × (slice_get blocks n ≡ Some block) × IsOpen f bytes (range_of g) block
-  pub none_open : (n : ℕ) → slice_get (handles_from f 0 blocks) n ≡ None → slice_get blocks n ≡ None
+  pub index_interval : ℕ
+  pub index_block : IsIndexBlock (payload_in bytes h.index) (index_in bytes h.index) index_interval
+  pub count : length (index_in bytes h.index) ≡ length blocks
+  pub found : (needle : List ℕ) (seqno : ℕ) → first_match entries needle seqno (joined blocks) ≡ first_in entries needle seqno (slice_get blocks (place_for handles needle seqno (index_in bytes h.index)))
+  pub block_open : (n : ℕ) (g : Handle) → slice_get (index_in bytes h.index) n ≡ Some g → (block : List Entry) × (slice_get blocks n ≡ Some block) × IsOpen hash64 bytes (range_of g) block
+  pub none_open : (n : ℕ) → slice_get (index_in bytes h.index) n ≡ None → slice_get blocks n ≡ None
   pub filter_range : IfSome h.filter (IsFrameRange bytes)
   pub filter_reads : IfSome h.filter (λ g. (x : Filter) × (filter_at (payload_in bytes g) ≡ Ok x))
-  pub filter_denies : (needle : List ℕ) (seqno : ℕ) → IsDenied bytes h.filter (f.hash64 needle) → first_match entries needle seqno (joined blocks) ≡ None
-
--- the block of a run that can hold the needle below a sequence number, if there is one
-abbrev pub block_for : Form → List (List Entry) → List ℕ → ℕ → Option (List Entry)
-block_for f blocks needle seqno = slice_get blocks (place_for handles needle seqno (handles_from f 0 blocks))
+  pub filter_denies : (needle : List ℕ) (seqno : ℕ) → IsDenied bytes h.filter (hash64 needle) → first_match entries needle seqno (joined blocks) ≡ None

@@ -37,6 +37,17 @@ payload_at c t bytes h = do
   found ← range_at bytes h
   payload_of_type c.hash128 t found
 
+-- the entries of the data block in the range of a handle, and the handles of an index block
+abbrev pub items_at : Hashes → List ℕ → HandleParts → Result (List Entry) Error
+items_at c bytes h = do
+  p ← payload_at c types.Data bytes h
+  data_check c.hash64 p
+
+abbrev pub handles_at : Hashes → List ℕ → HandleParts → Result (List Handle) Error
+handles_at c bytes h = do
+  p ← payload_at c types.Index bytes h
+  index_check p
+
 -- what a filter's payload says of a hash
 abbrev pub filter_answer : List ℕ → ℕ → Result Bool Error
 filter_answer p hash = do

@@ -16,6 +16,8 @@ use Rattle.sst_block_kinds.specs.Handles.{Handle}
 use Rattle.sst_block_core.specs.Kind.{IsOrdered, item_cmp}
 use Rattle.sstable_blocks.specs.Blocks.{joined, IsNotEmpty}
 use Rattle.sstable_blocks.specs.Run.{Form, block_payload, block_frame, block_frames, handles_from, key_hashes, IsFramed, IsFilterText, IsLayout}
+use Rattle.sstable_blocks.specs.RunReading.{Hashes}
+use Rattle.sstable_blocks.specs.Sound.{IsSound}
 use Rattle.sstable_blocks.specs.declared.run.RunConfig.{RunConfig}
 use Rattle.sstable_blocks.specs.declared.run.RunHandles.{RunHandles}
 
@@ -71,6 +73,10 @@ IsWriteRefusal long e = (e ≡ Io) ⊎ ((e ≡ TooLong) × long) ⊎ (e ≡ Memo
 -- a writer's known bytes grew by the layout of a run, whose handles these are
 abbrev pub AppendsLayout : Form → List (List Entry) → Option (List ℕ) → Option (List ℕ) → RunHandles → Type 0
 AppendsLayout f blocks old new h = (text : List ℕ) × IsLayout f blocks text h × Appends old new text
+
+-- they grew by a sound run of these blocks, whose handles these are
+abbrev pub AppendsSound : Hashes → List (List Entry) → Option (List ℕ) → Option (List ℕ) → RunHandles → Type 0
+AppendsSound c blocks old new h = (bytes : List ℕ) × IsSound c blocks bytes h × Appends old new bytes
 
 -- they grew by what a layout has after the frames of its blocks
 abbrev pub AppendsEnd : Form → List (List Entry) → Option (List ℕ) → Option (List ℕ) → RunHandles → Type 0

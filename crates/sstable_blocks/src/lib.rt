@@ -10,8 +10,8 @@ pub mod run;
 pub mod table;
 
 pub use run::{
-    FileSource, FrameSource, MemorySource, RunConfig, RunHandles, RunWriter, cuts_fit, read_entry,
-    read_entry_checked, write_and_read, write_run,
+    CheckedRun, FileSource, FrameSource, MemorySource, RunConfig, RunHandles, RunSummary,
+    RunWriter, Table, cuts_fit, read_entry, read_entry_checked, write_and_read, write_run,
 };
 pub use sst_base::{
     Block, BlockHandle, BlockHash, BlockOffset, BlockType, ByteSum, Checksum, ChecksumType,

@@ -5,6 +5,8 @@
 #[cfg(test)]
 mod checked;
 #[cfg(test)]
+mod checks;
+#[cfg(test)]
 mod faults;
 #[cfg(test)]
 mod filter;

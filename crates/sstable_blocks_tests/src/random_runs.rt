@@ -3,7 +3,7 @@ use crate::lists::{NO_BUCKETS, NoHash, ONE_EACH, can_be_written, is_found, push}
 use sst_base::{BlockHash, ByteSum, InternalValue, Poly31, Result, Slice, Steps, ValueType};
 use sst_block_kinds_tests::plain::plain_first_match;
 use sst_block_kinds_tests::random::{Random, key_of};
-use sstable_blocks::{RunConfig, read_entry, write_run};
+use sstable_blocks::{MemorySource, RunConfig, Table, read_entry, write_run};
 use std::alloc::Global;
 use std::process::Abort;
 
@@ -78,14 +78,23 @@ fn is_read<H: BlockHash>(
     let mut bytes = Vec::new(alloc);
     let handles = write_run::<H, Vec<u8>>(alloc, &mut bytes, list, cuts, config)?;
     let run = Slice::from_vec(bytes)?;
+    let mut table = Table::<H, MemorySource>::open(
+        alloc,
+        MemorySource::new(run.clone()?),
+        handles,
+    )?;
     for number in 0..list.len().saturating_mul(2).saturating_add(1) {
         let (needle, below) = query_at(list, number);
         let found = read_entry::<H>(alloc, &run, &handles, needle, below, &mut Steps::new())?;
         if !is_found(plain_first_match(list, needle, below), found.as_ref()) {
             return Ok(false);
         }
+        let found = table.get(alloc, needle, below)?;
+        if !is_found(plain_first_match(list, needle, below), found.as_ref()) {
+            return Ok(false);
+        }
     }
-    Ok(true)
+    Ok(table.verify(alloc)?.entries == list.len() as u64)
 }
 
 /// A random configuration, with some intervals and bits for each key.

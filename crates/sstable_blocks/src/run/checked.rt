@@ -10,15 +10,15 @@ ghost use Rattle.sst_block_kinds.specs.Handles.{Handle};
 ghost use Rattle.sst_block_core.specs.Window.{first_match};
 ghost use Rattle.sstable_blocks.specs.Blocks.{joined};
 ghost use Rattle.sstable_blocks.specs.Opened.{range_of};
-ghost use Rattle.sstable_blocks.specs.Run.{form, IsLayout};
 ghost use Rattle.sstable_blocks.specs.RunReading.{hashes, payload_at, filter_says, filter_answer};
-ghost use Rattle.sstable_blocks.specs.RunReading.{read_block};
+ghost use Rattle.sstable_blocks.specs.RunReading.{read_block, items_at, handles_at};
+ghost use Rattle.sst_block_kinds.specs.Checks.{data_check, index_check};
 ghost use Rattle.sstable_blocks.specs.RunReading.{read_blocks, read_checked, AnswerMeans};
+ghost use Rattle.sstable_blocks.specs.Sound.{IsSound};
 ghost use Rattle.sstable_blocks.specs.Sources.{GivesOr, KeepsSource, filter_frames};
-ghost use Rattle.sstable_blocks.specs.declared.run.RunConfig.{RunConfig};
 
 use super::RunHandles;
-use super::laws::{checked_answer_means, layout_is_read};
+use super::laws::{checked_answer_means, sound_is_read};
 use super::read::find_handle;
 use super::source::FrameSource;
 use crate::table::filter::FilterBlock;
@@ -58,6 +58,51 @@ pub fn block_from<H: BlockHash, S: FrameSource>(
     Ok(block)
 }
 
+/// Reads the data block that a handle names, and checks it.
+///
+/// # Errors
+///
+/// Those of `FrameSource::read_frame`, then those of `Block::from_frame`, then `Error::InvalidTag`
+/// if the block is of another type, then those of `DataBlock::check_once`.
+pub fn data_block_from<H: BlockHash, S: FrameSource>(
+    alloc: Global,
+    source: &mut S,
+    handle: &BlockHandle,
+) -> Result<DataBlock<H>>
+    ensures source { KeepsSource S.bytes S.failures S.is_reliable source.old source.new }
+    ensures reads { S.reads source.new ≡ S.reads source.old + 1 }
+    ensures io { IfErr result (λ e. e ≡ Io → S.failures source.old < S.failures source.new) }
+    ensures exact { IfSome (S.bytes source.old)
+        (λ all. GivesOr (S.failures source.old < S.failures source.new) (S.is_reliable source.old) (λ b. b.items) result
+        (items_at (hashes H.hash64 H.hash128) all handle.now)) }
+{
+    let block = block_from::<H, S>(alloc, source, handle, BlockType::Data)?;
+    DataBlock::<H>::check_once(alloc, block)
+}
+
+/// Reads the index block that a handle names, and checks it.
+///
+/// # Errors
+///
+/// Those of `FrameSource::read_frame`, then those of `Block::from_frame`, then `Error::InvalidTag`
+/// if the block is of another type, then those of `IndexBlock::check_once`.
+pub fn index_block_from<H: BlockHash, S: FrameSource>(
+    alloc: Global,
+    source: &mut S,
+    handle: &BlockHandle,
+) -> Result<IndexBlock>
+    ensures source { KeepsSource S.bytes S.failures S.is_reliable source.old source.new }
+    ensures reads { S.reads source.new ≡ S.reads source.old + 1 }
+    ensures io { IfErr result (λ e. e ≡ Io → S.failures source.old < S.failures source.new) }
+    ensures cells { OnOk result (IfSome (S.bytes source.old) IsBytes) }
+    ensures exact { IfSome (S.bytes source.old)
+        (λ all. GivesOr (S.failures source.old < S.failures source.new) (S.is_reliable source.old) (λ b. b.items) result
+        (handles_at (hashes H.hash64 H.hash128) all handle.now)) }
+{
+    let block = block_from::<H, S>(alloc, source, handle, BlockType::Index)?;
+    IndexBlock::check_once(block)
+}
+
 // What the filter in a block says of a hash.
 fn query_filter(block: Block, hash: u64) -> Result<bool>
     ensures exact { result ≡ filter_answer block.payload hash }
@@ -92,7 +137,7 @@ fn filter_allows<H: BlockHash, S: FrameSource>(
 }
 
 // The first match in the data block of a handle, if there is one.
-fn read_in_block<H: BlockHash, S: FrameSource>(
+pub(crate) fn read_in_block<H: BlockHash, S: FrameSource>(
     alloc: Global,
     source: &mut S,
     handle: &Option<BlockHandle>,
@@ -202,13 +247,13 @@ pub fn read_entry_checked<H: BlockHash, S: FrameSource>(
     ensures means { IfSome (S.bytes source.old)
         (λ all. IfOk result
         (AnswerMeans (hashes H.hash64 H.hash128) all handles.now needle.now seqno)) }
-    ensures layout { IfSome (S.bytes source.old)
-        (λ all. (config : RunConfig) (blocks : List (List Entry))
-        → IsLayout (form H.hash64 H.hash128 config) blocks all handles.now
+    ensures sound { IfSome (S.bytes source.old)
+        (λ all. (blocks : List (List Entry))
+        → IsSound (hashes H.hash64 H.hash128) blocks all handles.now
         → IfOk result
         (λ found. found ≡ first_match entries needle.now seqno (joined blocks))) }
 {
     checked_answer_means();
-    layout_is_read();
+    sound_is_read();
     read_in_stages::<H, S>(alloc, source, handles, needle, seqno)
 }

@@ -4,7 +4,7 @@ ghost use Rattle.std.specs.Prelude.{◌≤◌, ◌≡◌, ℕ, ◌<◌, ◌^◌,
 ghost use Rattle.sst_block_core.specs.Entries.{entries};
 ghost use Rattle.sstable_blocks.specs.RunReading.{Hashes, hashes, read_checked, AnswerMeans};
 ghost use Rattle.sst_base.specs.Bytes.{IsBytes};
-ghost use Rattle.std.specs.Prelude.{Option};
+ghost use Rattle.std.specs.Prelude.{Option, IfSome};
 ghost use Rattle.std.specs.List.{AllByRecursion, AllZip};
 ghost use Rattle.sst_base.specs.Entry.{Entry};
 ghost use Rattle.sst_block_kinds.specs.Handles.{handles, IsHandle, EndFits};
@@ -13,14 +13,21 @@ ghost use Rattle.sst_block_core.specs.Window.{first_match};
 ghost use Rattle.sstable_blocks.specs.Blocks.{joined, blocks_of, CutsFit, IsNotEmpty};
 ghost use Rattle.sstable_blocks.specs.Lookup.{IsEnd, first_in, place_for};
 ghost use Rattle.sstable_blocks.specs.Opened.{Opened};
+ghost use Rattle.sstable_blocks.specs.ReadCosts.{heads_most, entries_most};
+ghost use Rattle.sstable_blocks.specs.ReadCosts.{heads_most_in, entries_most_in};
+ghost use Rattle.sstable_blocks.specs.RunChecks.{check_run, summary_of};
+ghost use Rattle.sstable_blocks.specs.Sound.{IsSound};
 ghost use Rattle.sstable_blocks.specs.Run.{Form, IsLayout, IsRun, IsFramed, block_payload};
 ghost use Rattle.sstable_blocks.specs.Run.{block_frames, handles_from};
 ghost use Rattle.sstable_blocks.specs.declared.run.RunHandles.{RunHandles};
+ghost use Rattle.sstable_blocks.specs.declared.run.checking.RunSummary.{RunSummary};
 
+use sst_base::InternalValue;
 use sst_block_core::BlockItem;
+use sst_block_core::laws::passing_is_block;
 use sst_block_kinds::laws::{
     data_block_is_read, data_check_is_by_stages, first_match_of_plain, index_block_is_read,
-    index_check_is_by_stages,
+    index_check_accepts_encodings, index_check_is_by_stages,
 };
 
 /// The blocks of a list, joined, are the list, and none is empty.
@@ -53,12 +60,45 @@ pub fn handles_are_ready()
         × AllByRecursion EndFits (handles_from f 0 blocks) }
 {}
 
-/// What a reader finds in a layout: the index with the handles of the blocks, the blocks where
-/// these say, and a filter that denies no key of the run.
-pub fn layout_opens()
+/// A layout is sound, whatever its configuration.
+pub fn layout_is_sound()
     ensures { (f : Form) (blocks : List (List Entry)) (bytes : List ℕ) (h : RunHandles)
-        → IsLayout f blocks bytes h → Opened f blocks bytes h }
+        → IsLayout f blocks bytes h → IsSound (hashes f.hash64 f.hash128) blocks bytes h }
+{}
+
+/// What a reader finds in a sound run: an index with a handle for each block, the blocks where
+/// these say, and a filter that denies no key of the run.
+pub fn sound_opens()
+    ensures { (c : Hashes) (blocks : List (List Entry)) (bytes : List ℕ) (h : RunHandles)
+        → IsSound c blocks bytes h → Opened c.hash64 blocks bytes h }
 {
+    data_block_is_read();
+    index_block_is_read();
+    first_match_of_plain();
+}
+
+/// How little a read of a layout looks at, by its configuration.
+pub fn layout_costs()
+    ensures { (f : Form) (blocks : List (List Entry)) (bytes : List ℕ) (h : RunHandles)
+        (needle : List ℕ) (seqno : ℕ)
+        → IsLayout f blocks bytes h
+        → (heads_most_in bytes h needle seqno ≡ heads_most f blocks needle seqno)
+        × (entries_most_in bytes h needle seqno ≤ entries_most f) }
+{
+    data_block_is_read();
+    index_block_is_read();
+}
+
+/// A checked read of a sound run gives the first match of its blocks.
+pub fn sound_is_read()
+    ensures { (c : Hashes) (blocks : List (List Entry)) (bytes : List ℕ) (h : RunHandles)
+        (needle : List ℕ) (seqno : ℕ)
+        → ((xs : List ℕ) → c.hash128 xs < 2 ^ 128) → IsSound c blocks bytes h
+        → read_checked c bytes h needle seqno
+        ≡ Ok (first_match entries needle seqno (joined blocks)) }
+{
+    data_check_is_by_stages();
+    index_check_is_by_stages();
     data_block_is_read();
     index_block_is_read();
     first_match_of_plain();
@@ -72,11 +112,8 @@ pub fn layout_is_read()
         → read_checked (hashes f.hash64 f.hash128) bytes h needle seqno
         ≡ Ok (first_match entries needle seqno (joined blocks)) }
 {
-    data_check_is_by_stages();
-    index_check_is_by_stages();
-    data_block_is_read();
-    index_block_is_read();
-    first_match_of_plain();
+    layout_is_sound();
+    sound_is_read();
 }
 
 /// What a result of a checked read on any bytes means: each frame met is a frame of the right
@@ -91,4 +128,28 @@ pub fn checked_answer_means()
 {
     data_check_is_by_stages();
     index_check_is_by_stages();
+}
+
+/// Bytes that the check of a run accepts are a sound run, of whose blocks it returns the summary.
+pub fn accepted_run_is_sound()
+    ensures { (c : Hashes) (bytes : List ℕ) (h : RunHandles) (s : RunSummary) → IsBytes bytes
+        → h.index.size < 2 ^ 32 → IfSome h.filter (λ g. g.size < 2 ^ 32)
+        → check_run c bytes h ≡ Ok s
+        → (blocks : List (List Entry)) × IsSound c blocks bytes h × (s ≡ summary_of blocks) }
+{
+    data_check_is_by_stages();
+    index_check_accepts_encodings();
+    passing_is_block::<InternalValue>();
+}
+
+/// The check of a run accepts each sound run.
+pub fn sound_run_is_accepted()
+    ensures { (c : Hashes) (blocks : List (List Entry)) (bytes : List ℕ) (h : RunHandles)
+        → ((xs : List ℕ) → c.hash128 xs < 2 ^ 128) → IsSound c blocks bytes h
+        → check_run c bytes h ≡ Ok (summary_of blocks) }
+{
+    data_check_is_by_stages();
+    index_check_is_by_stages();
+    data_block_is_read();
+    index_block_is_read();
 }

@@ -2,19 +2,25 @@
 ghost use Rattle.std.specs.Prelude.{◌≡◌};
 
 pub mod checked;
+pub mod checked_run;
+pub mod checking;
 pub mod laws;
 pub mod read;
 pub mod round_trip;
 mod run_core;
 pub mod source;
+pub mod table;
 pub mod write;
 pub mod writer;
 
 pub use checked::read_entry_checked;
+pub use checked_run::CheckedRun;
+pub use checking::{RunSummary, check};
 pub use read::read_entry;
 pub use round_trip::write_and_read;
 pub use source::{FileSource, FrameSource, MemorySource};
 use sst_base::{BlockHandle, HashRatio};
+pub use table::Table;
 pub use write::{cuts_fit, write_run};
 pub use writer::RunWriter;
 

@@ -17,12 +17,12 @@ ghost use Rattle.sstable_blocks.specs.Blocks.{joined};
 ghost use Rattle.sstable_blocks.specs.Lookup.{handle_for};
 ghost use Rattle.sstable_blocks.specs.Opened.{range_of, index_in, payload_in};
 ghost use Rattle.sstable_blocks.specs.Opened.{IsDenied, IsFrameRange};
-ghost use Rattle.sstable_blocks.specs.ReadCosts.{heads_most, handles_most, entries_most};
-ghost use Rattle.sstable_blocks.specs.Run.{form, IsLayout};
-ghost use Rattle.sstable_blocks.specs.declared.run.RunConfig.{RunConfig};
+ghost use Rattle.sstable_blocks.specs.ReadCosts.{handles_most, heads_most_in, entries_most_in};
+ghost use Rattle.sstable_blocks.specs.RunReading.{hashes};
+ghost use Rattle.sstable_blocks.specs.Sound.{IsSound};
 
 use crate::run::RunHandles;
-use crate::run::laws::layout_opens;
+use crate::run::laws::sound_opens;
 use crate::table::filter::standard_bloom::StandardBloomFilterReader;
 use sst_base::table::block::header::HEADER_LEN;
 use sst_base::{
@@ -154,15 +154,15 @@ fn match_in<H: BlockHash>(
 /// Returns the first entry of a run with this key whose sequence number is strictly below `seqno`.
 /// A tombstone has no value.
 ///
-/// The bytes are a layout of the run, with these handles. Nothing of it is tested, and no checksum
-/// is computed: the frames are taken by their ranges, and their payloads are sub-slices of the
-/// bytes.
+/// The bytes and the handles are a sound run, as `write_run` writes one of any configuration.
+/// Nothing of it is tested, and no checksum is computed: the frames are taken by their ranges, and
+/// their payloads are sub-slices of the bytes.
 ///
 /// The filter is queried first. Where it rules the key out, nothing else is read. Else the index
 /// leads to the one block that can hold the key. What was looked at is added to `steps`: at least a
-/// head of the index, and at most as many heads as the numbers of heads of the index and of the block have binary digits; one handle,
-/// and those of a restart interval of the index where not each handle is a head; and the entries of
-/// a restart interval of the block, and one more.
+/// head of the index, and at most as many heads as the numbers of heads of the index and of the
+/// block have binary digits; one handle, and those of a restart interval of the index where not
+/// each handle is a head; and the entries of a restart interval of the block, and one more.
 ///
 /// # Errors
 ///
@@ -175,25 +175,23 @@ pub fn read_entry<H: BlockHash>(
     seqno: SeqNo,
     steps: &mut Steps,
 ) -> Result<Option<InternalValue>>
-    requires layout { (config : RunConfig) × (blocks : List (List Entry))
-        × IsLayout (form H.hash64 H.hash128 config) blocks bytes.now handles.now }
-    ensures found { (config : RunConfig) (blocks : List (List Entry))
-        → IsLayout (form H.hash64 H.hash128 config) blocks bytes.now handles.now
+    requires sound { (blocks : List (List Entry))
+        × IsSound (hashes H.hash64 H.hash128) blocks bytes.now handles.now }
+    ensures found { (blocks : List (List Entry))
+        → IsSound (hashes H.hash64 H.hash128) blocks bytes.now handles.now
         → IfOk result (λ item. item ≡ first_match entries needle.now seqno (joined blocks)) }
     ensures memory { IsOkUnless result Error.Memory }
-    ensures counts { (config : RunConfig) (blocks : List (List Entry))
-        → IsLayout (form H.hash64 H.hash128 config) blocks bytes.now handles.now
-        → CountsBetween steps.old steps.new (0, 0) (
-          heads_most (form H.hash64 H.hash128 config) blocks needle.now seqno,
-          entries_most (form H.hash64 H.hash128 config),
-        ) }
+    ensures counts { CountsBetween steps.old steps.new (0, 0) (
+      heads_most_in bytes.now handles.now needle.now seqno,
+      entries_most_in bytes.now handles.now needle.now seqno,
+    ) }
     ensures looked { OnOk result
         ((IsDenied bytes.now handles.now.filter (H.hash64 needle.now) → ⊥)
         → steps.old.heads < steps.new.heads) }
     ensures denied { IsDenied bytes.now handles.now.filter (H.hash64 needle.now)
         → CountsExactly steps.old steps.new 0 0 }
 {
-    layout_opens();
+    sound_opens();
     if !is_allowed(bytes.as_slice(), &handles.filter, H::hash64(needle)) {
         return Ok(None);
     }

@@ -82,6 +82,20 @@ impl MemorySource {
             reads: Count::new(),
         }
     }
+
+    /// Returns the bytes of the run.
+    pub fn into_inner(self) -> Slice
+        ensures { result ≡ self.inner }
+    {
+        self.bytes
+    }
+
+    // Tells a proof that memory never fails.
+    pub(crate) fn note_reliable(&self)
+        ensures { self.now.failures ≡ 0 }
+    {
+        let _reads = &self.reads;
+    }
 }
 
 /// `Error::BadHandle` and `Error::Memory` alone.

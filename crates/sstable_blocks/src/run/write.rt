@@ -5,7 +5,8 @@ ghost use Rattle.sst_block_core.specs.Entries.{entries};
 ghost use Rattle.sst_block_core.specs.Kind.{IsOrdered};
 ghost use Rattle.sstable_blocks.specs.Blocks.{CutsFit, blocks_of};
 ghost use Rattle.sstable_blocks.specs.Run.{form, RunFits};
-ghost use Rattle.sstable_blocks.specs.Writing.{AppendsLayout, IsWriteRefusal};
+ghost use Rattle.sstable_blocks.specs.RunReading.{hashes};
+ghost use Rattle.sstable_blocks.specs.Writing.{AppendsLayout, AppendsSound, IsWriteRefusal};
 
 use super::laws::blocks_are_the_list;
 use super::run_core::RunCore;
@@ -57,6 +58,9 @@ pub fn write_run<H: BlockHash, W: Write>(
     requires den { 1 ≤ config.ratio.den }
     ensures layout { IfOk result
         (AppendsLayout (form H.hash64 H.hash128 config) (blocks_of cuts.now items.now)
+        (W.contents writer.old) (W.contents writer.new)) }
+    ensures sound { IfOk result
+        (AppendsSound (hashes H.hash64 H.hash128) (blocks_of cuts.now items.now)
         (W.contents writer.old) (W.contents writer.new)) }
     ensures cause { IfErr result
         (IsWriteRefusal

@@ -5,7 +5,9 @@ ghost use Rattle.std.specs.Prelude.{OnOk, IfOk, IfErr, IfSome, MatchResult, Err}
 ghost use Rattle.std.specs.Io.KnownBytes.{Appends};
 ghost use Rattle.sst_base.specs.declared.error.Error.TheVariants.{Io};
 ghost use Rattle.sstable_blocks.specs.Run.{form, block_frame, block_frames, RunFits};
+ghost use Rattle.sstable_blocks.specs.RunReading.{hashes};
 ghost use Rattle.sstable_blocks.specs.Writing.{Follows, FrameFits, IsWriteRefusal, AppendsLayout};
+ghost use Rattle.sstable_blocks.specs.Writing.{AppendsSound};
 ghost use Rattle.sstable_blocks.specs.Writing.{IsSameRun, RepeatsError};
 
 use super::run_core::RunCore;
@@ -134,6 +136,10 @@ impl<H: BlockHash, W: Write + Drop> RunWriter<H, W> {
         ensures layout { IfOk result
             (λ r.
             AppendsLayout (form H.hash64 H.hash128 self.config) self.blocks self.start
+            (W.contents r.1) r.0) }
+        ensures sound { IfOk result
+            (λ r.
+            AppendsSound (hashes H.hash64 H.hash128) self.blocks self.start
             (W.contents r.1) r.0) }
         ensures repeated { IfSome self.refusal (λ e. result ≡ Err e) }
         ensures cause { self.refusal ≡ None

@@ -11,6 +11,7 @@ use crate::table::data_block::parsed_item::DataBlockParsedItem;
 use sst_base::double_ended_peekable::ListIterator;
 use sst_base::{BlockHash, Error, InternalValue, Result, SeqNo, Slice, ValueType};
 use sst_block_core::table::block::ParsedItem;
+use sst_block_core::table::block::key_ranges::bytes_of;
 use std::alloc::Global;
 use std::cmp::Ordering;
 use std::marker::Model;
@@ -60,6 +61,28 @@ impl<'a> EntryRef<'a> {
         ensures { result ≡ slice_cmp nat_cmp self.now.key.user_key needle.now }
     {
         self.item.compare_key(needle, self.payload.as_slice())
+    }
+
+    /// Returns the 64-bit hash of its user key. A key is joined only where it is prefix-truncated
+    /// and the hash function cannot be continued.
+    ///
+    /// # Errors
+    ///
+    /// `Error::Memory` if an allocation fails.
+    pub fn hash_key<H: BlockHash>(&self, alloc: Global) -> Result<u64>
+        ensures ok { IfOk result (λ hash. hash ≡ H.hash64 self.now.key.user_key) }
+        ensures memory { IsOkUnless result Error.Memory }
+    {
+        let payload = self.payload.as_slice();
+        let rest = bytes_of(payload, &self.item.key);
+        let Some(prefix) = &self.item.prefix else {
+            return Ok(H::hash64(rest));
+        };
+        if let Some(hash) = H::hash64_behind(H::hash64(bytes_of(payload, prefix)), rest) {
+            return Ok(hash);
+        }
+        let entry = self.materialize(alloc)?;
+        Ok(H::hash64(entry.key().user_key().as_slice()))
     }
 
     /// Makes the entry. Only a prefix-truncated key is joined and copied.

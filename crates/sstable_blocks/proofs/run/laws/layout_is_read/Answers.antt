@@ -1,11 +1,6 @@
-use Rattle.sstable_blocks.proofs.ReadLayouts.{read_layout}
+use Rattle.sstable_blocks.specs.RunReading.{hashes}
 use Rattle.sstable_blocks.proofs.run.laws.layout_is_read.Goals as goal
 
 pub returns : goal.returns
-returns c = λ f blocks bytes h needle seqno sums layout. read_layout f sums
-    (c.data_check_is_by_stages.ensures f.hash64)
-    c.index_check_is_by_stages.ensures
-    (λ p items r b short is. let k = c.data_block_is_read.ensures f.hash64 p items r b short is in (k.0, k.1))
-    (λ r p items short is. c.index_block_is_read.ensures r p items short is)
-    c.first_match_of_plain.ensures
-    blocks bytes h needle seqno layout
+returns c = λ f blocks bytes h needle seqno sums layout.
+    c.sound_is_read.ensures (hashes f.hash64 f.hash128) blocks bytes h needle seqno sums (c.layout_is_sound.ensures f blocks bytes h layout)

@@ -6,6 +6,7 @@ use Rattle.sstable_blocks.specs.Run.{form, block_frames}
 use Rattle.sstable_blocks.specs.Writing.{Written, FrameFits, IsWriteRefusal, AppendsLayout}
 use Rattle.sstable_blocks.proofs.Cuts.{cuts_left}
 use Rattle.sstable_blocks.proofs.CutLoops.{next_cut, step_is, last_is, so_far_is, rest_is, order_next, bytes_next, layout_end, refusal_on, fits_next}
+use Rattle.sstable_blocks.proofs.SoundLayouts.{sound_appended}
 use Rattle.sstable_blocks.proofs.run.write.write_run.Goals as goal
 
 pub split_at-requires : goal.split_at-requires
@@ -68,6 +69,9 @@ returns-clause-layout g c =
     (bytes_next (form g.H.BlockHash.hash64 g.H.BlockHash.hash128 c.loop-cut.core.config) _ _ _ _ _ _ i.bytes e.bytes e.accepted) in
     subst (λ k. IfOk c.finish.result (AppendsLayout (form g.H.BlockHash.hash64 g.H.BlockHash.hash128 k) (blocks_of c.args.cuts.now c.args.items.now) (g.W.Write.contents c.args.writer.now) (g.W.Write.contents c.finish.new.writer))) (e.config ∙ same)
     (layout_end (form g.H.BlockHash.hash64 g.H.BlockHash.hash128 c.add_block-2.new.self.config) _ _ _ _ _ c.finish.result (e.accepted ∙ last) so_far c.finish.ensures.layout)
+
+pub returns-clause-sound : goal.returns-clause-sound
+returns-clause-sound g c = sound_appended (form g.H.BlockHash.hash64 g.H.BlockHash.hash128 c.args.config) _ _ _ c.finish.result (returns-clause-layout g c)
 
 pub loop-cut-init : goal.loop-cut-init
 loop-cut-init g c = record {

@@ -1,0 +1,48 @@
+use Rattle.std.proofs.Common.{◌∙◌, sym, ap, subst, arith, List, length}
+use Rattle.std.proofs.lemmas.Result.{err_from_is_err_and}
+use Rattle.std.specs.List.{AllByRecursion}
+use Rattle.sst_block_kinds.specs.Handles.{Handle, EndFits}
+use Rattle.sstable_blocks.specs.RunReading.{hashes}
+use Rattle.sstable_blocks.proofs.RunCheckSteps.{handle_left, none_left, blocks_on, blocks_fail, blocks_end}
+use Rattle.sstable_blocks.proofs.run.checking.check_blocks.Goals as goal
+
+pub check_block-requires : goal.check_block-requires
+check_block-requires g c =
+    let i = c.loop-item.invariant in
+    let left = handle_left _ _ _ _ c.in_ok-handle.handle c.in-Some.ensures.steps (i.payload ∙ sym c.as_slice-payload.ensures.value) c.in_ok-handle.ensures.ok in
+    (subst (λ (hs : List Handle). AllByRecursion EndFits hs) left i.fits).0
+
+pub returns-in_err-passed-clause-exact : goal.returns-in_err-passed-clause-exact
+returns-in_err-passed-clause-exact g c =
+    let i = c.loop-item.invariant in
+    let left = handle_left _ _ _ _ c.in_ok-handle.handle c.in-Some.ensures.steps (i.payload ∙ sym c.as_slice-payload.ensures.value) c.in_ok-handle.ensures.ok in
+    let r = err_from_is_err_and c.from_residual-in_err-passed.result c.from_residual-in_err-passed.ensures.1 in
+    rw (r.1, r.2) (blocks_fail (hashes g.H.BlockHash.hash64 g.H.BlockHash.hash128) c.args.filter.now c.args.index.now.items _ _ c.loop-item.passed _ _ c.in_ok-handle.handle _ _ _ _ _ i.source.same i.known left (λ less. omega (arith, less, i.source.failures_grow)) i.source.kept c.in_err-passed.ensures.exact)
+
+pub loop-item-preserved : goal.loop-item-preserved
+loop-item-preserved g c =
+    let i = c.loop-item.invariant in
+    let e = c.in_ok-passed.ensures in
+    let left = handle_left _ _ _ _ c.in_ok-handle.handle c.in-Some.ensures.steps (i.payload ∙ sym c.as_slice-payload.ensures.value) c.in_ok-handle.ensures.ok in
+    let count = ap length left in
+    record {
+      payload = c.in-Some.ensures.steps.payload ∙ i.payload;
+      fits = (subst (λ (hs : List Handle). AllByRecursion EndFits hs) left i.fits).1;
+      source = record {
+        same = e.source.same ∙ i.source.same;
+        failures_grow = omega (arith, i.source.failures_grow, e.source.failures_grow);
+        kept = λ r. e.source.kept (i.source.kept r);
+      };
+      reads = omega (arith, count, i.reads, e.reads);
+      known = blocks_on (hashes g.H.BlockHash.hash64 g.H.BlockHash.hash128) c.args.filter.now c.args.index.now.items _ _ c.loop-item.passed _ _ _ c.in_ok-handle.handle i.source.same i.known left e.exact;
+    }
+
+pub returns-clause-reads : goal.returns-clause-reads
+returns-clause-reads g c =
+    let i = c.loop-item.invariant in
+    let none = ap length (none_left _ _ c.in-None.ensures.steps) in
+    omega (arith, none, i.reads)
+
+pub returns-clause-exact : goal.returns-clause-exact
+returns-clause-exact g c =
+    blocks_end (hashes g.H.BlockHash.hash64 g.H.BlockHash.hash128) c.args.filter.now c.args.index.now.items _ c.loop-item.passed _ c.loop-item.invariant.known (none_left _ _ c.in-None.ensures.steps)

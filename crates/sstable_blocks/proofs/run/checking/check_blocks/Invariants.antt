@@ -1,0 +1,17 @@
+use Rattle.std.proofs.Common.{◌≡◌, ◌+◌, length}
+use Rattle.std.specs.List.{AllByRecursion}
+use Rattle.sst_block_core.specs.Window.{items_left}
+use Rattle.sst_block_kinds.specs.Handles.{EndFits}
+use Rattle.sstable_blocks.specs.RunReading.{hashes}
+use Rattle.sstable_blocks.specs.Sources.{KeepsSource}
+use Rattle.sstable_blocks.proofs.RunCheckSteps.{BlocksLeft}
+use Rattle.sstable_blocks.proofs.run.checking.check_blocks.Given as goal
+
+abbrev pub invariant-loop-item : goal.invariant-loop-item
+invariant-loop-item g l = record {
+  payload : l.item-iterator.payload ≡ l.index.payload;
+  fits : AllByRecursion EndFits (items_left l.item-iterator.window);
+  source : KeepsSource g.S.FrameSource.bytes g.S.FrameSource.failures g.S.FrameSource.is_reliable l.initial.source l.source;
+  reads : g.S.FrameSource.reads l.source + length (items_left l.item-iterator.window) ≡ g.S.FrameSource.reads l.initial.source + length l.index.items;
+  known : BlocksLeft (hashes g.H.BlockHash.hash64 g.H.BlockHash.hash128) l.filter l.index.items (g.S.FrameSource.bytes l.initial.source) l.passed (items_left l.item-iterator.window);
+}

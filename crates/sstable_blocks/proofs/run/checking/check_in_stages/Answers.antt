@@ -1,0 +1,20 @@
+use Rattle.std.proofs.Common.{sym, subst, arith, ap, ◌∙◌}
+use Rattle.std.proofs.lemmas.Result.{err_from_is_err_and}
+use Rattle.sst_base.specs.FrameErrorLaws.{NotIo}
+use Rattle.sstable_blocks.specs.Filter.{filter_at}
+use Rattle.sstable_blocks.specs.FilterLaws.{filter_not_io}
+use Rattle.sstable_blocks.specs.RunReading.{hashes}
+use Rattle.sstable_blocks.proofs.RunCheckSteps.{filter_on}
+use Rattle.sstable_blocks.proofs.run.checking.check_in_stages.Goals as goal
+
+pub returns-in_err-filter-in-Some-clause-io : goal.returns-in_err-filter-in-Some-clause-io
+returns-in_err-filter-in-Some-clause-io g c =
+    let r = err_from_is_err_and c.from_residual-in_err-filter-in-Some.result c.from_residual-in_err-filter-in-Some.ensures.1 in
+    rw (r.1, r.2) (λ io. absurd (subst NotIo (sym c.in_err-filter-in-Some.ensures) (filter_not_io _) io))
+
+pub returns-in_ok-filter-in-Some-clause-exact : goal.returns-in_ok-filter-in-Some-clause-exact
+returns-in_ok-filter-in-Some-clause-exact g c =
+    let b = c.in_ok-block-in-Some.ensures in
+    filter_on (hashes g.H.BlockHash.hash64 g.H.BlockHash.hash128) _ _ _ _ _ _ c.args.handles.now c.in-Some.handle c.in_ok-block-in-Some.block.payload c.in_ok-filter-in-Some.filter _
+    b.source.same (λ less. omega (arith, less, b.source.failures_grow)) b.source.kept c.in-Some.is b.exact
+    (ap filter_at (sym (c.as_slice.ensures ∙ c.data.ensures.value)) ∙ sym c.in_ok-filter-in-Some.ensures) c.check_by_index-in-Some.ensures.exact

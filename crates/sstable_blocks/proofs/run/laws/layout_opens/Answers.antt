@@ -1,9 +1,0 @@
-use Rattle.sstable_blocks.proofs.Openings.{layout_opens}
-use Rattle.sstable_blocks.proofs.run.laws.layout_opens.Goals as goal
-
-pub returns : goal.returns
-returns c = λ f blocks bytes h layout. layout_opens f
-    (λ p items r b short is. let k = c.data_block_is_read.ensures f.hash64 p items r b short is in (k.1, k.2))
-    c.first_match_of_plain.ensures
-    (λ r p items short is. let k = c.index_block_is_read.ensures r p items short is in (k.1, k.2))
-    blocks bytes h layout

@@ -1,0 +1,233 @@
+//! Tables: runs in a source, whose filter and index are read once.
+ghost use Rattle.std.specs.Prelude.{◌≡◌, ◌≢◌, ◌+◌, ◌≤◌, ◌<◌, List, Ok, OnOk, IfOk, IfErr, IfSome};
+ghost use Rattle.std.specs.Option.{option_map};
+ghost use Rattle.sst_base.specs.Entry.{Entry};
+ghost use Rattle.sst_base.specs.declared.error.Error.TheVariants.{Io};
+ghost use Rattle.sst_block_core.specs.Entries.{entries};
+ghost use Rattle.sst_block_core.specs.Window.{first_match};
+ghost use Rattle.sstable_blocks.specs.Blocks.{joined};
+ghost use Rattle.sstable_blocks.specs.RunChecks.{check_run as run_checked, summary_of};
+ghost use Rattle.sstable_blocks.specs.RunReading.{hashes, filter_answer, read_checked};
+ghost use Rattle.sstable_blocks.specs.Sound.{IsSound};
+ghost use Rattle.sstable_blocks.specs.Sources.{GivesOr, KeepsSource, filter_frames};
+ghost use Rattle.sstable_blocks.specs.Tables.{filter_kept, kept_of, kept_says, read_kept};
+
+use super::RunHandles;
+use super::checked::{block_from, index_block_from, read_in_block};
+use super::checking::{RunSummary, check};
+use super::laws::sound_is_read;
+use super::read::find_handle;
+use super::source::FrameSource;
+use crate::table::filter::FilterBlock;
+use crate::table::filter::standard_bloom::StandardBloomFilterReader;
+use sst_base::{BlockHandle, BlockHash, BlockType, InternalValue, Result, SeqNo, Steps};
+use sst_block_kinds::IndexBlock;
+use std::alloc::Global;
+use std::marker::{Model, PhantomData};
+
+/// A run in a source, whose filter and index were verified and checked when it was opened, and are
+/// kept.
+///
+/// Clauses see the source, the handles of filter and index, the payload of the filter, if there is
+/// one, and the handles of the index. Those kept are always those of the source's bytes, if these
+/// are known.
+#[derive(Drop)]
+pub struct Table<H: BlockHash, S: FrameSource> {
+    source: S,
+    handles: RunHandles,
+    filter: Option<FilterBlock>,
+    index: IndexBlock,
+    hash: PhantomData<H>,
+}
+
+impl<H: BlockHash, S: FrameSource> Model for Table<H, S> {
+    ghost use Rattle.std.specs.Prelude.{IfSome};
+    ghost use Rattle.std.specs.Option.{option_map};
+    ghost use Rattle.sstable_blocks.specs.RunReading.{hashes};
+    ghost use Rattle.sstable_blocks.specs.Tables.{TableParts, IsKeptOf};
+
+    ghost Value = { TableParts S };
+
+    ghost view = { λ t. record {
+      source = t.source;
+      handles = t.handles;
+      filter = option_map (λ b. b.payload) t.filter;
+      index = t.index.items;
+    } };
+
+    ghost invariant = { λ t. IfSome (S.bytes t.source)
+        (IsKeptOf (hashes H.hash64 H.hash128) t.handles (option_map (λ b. b.payload) t.filter)
+        t.index.items) };
+}
+
+// The filter of a run, if it has one.
+fn filter_block_from<H: BlockHash, S: FrameSource>(
+    alloc: Global,
+    source: &mut S,
+    filter: &Option<BlockHandle>,
+) -> Result<Option<FilterBlock>>
+    ensures source { KeepsSource S.bytes S.failures S.is_reliable source.old source.new }
+    ensures reads { OnOk result (S.reads source.new ≡ S.reads source.old + filter_frames filter.now) }
+    ensures io { IfErr result (λ e. e ≡ Io → S.failures source.old < S.failures source.new) }
+    ensures exact { IfSome (S.bytes source.old)
+        (λ all. GivesOr (S.failures source.old < S.failures source.new) (S.is_reliable source.old)
+        (option_map (λ b. b.payload)) result
+        (filter_kept (hashes H.hash64 H.hash128) all filter.now)) }
+{
+    match filter {
+        None => Ok(None),
+        Some(handle) => {
+            let block = block_from::<H, S>(alloc, source, handle, BlockType::Filter)?;
+            StandardBloomFilterReader::new(block.data().as_slice())?;
+            Ok(Some(FilterBlock::new(block)))
+        }
+    }
+}
+
+// What a filter that was kept says of a hash.
+fn query_kept(filter: &FilterBlock, hash: u64) -> Result<bool>
+    ensures exact { result ≡ filter_answer filter.now.payload hash }
+    ensures not_io { IfErr result (λ e. e ≢ Io) }
+{
+    filter.maybe_contains_hash(hash)
+}
+
+// Whether a run can have a key, by the filter that was kept, if there is one.
+fn kept_allows<H: BlockHash>(filter: &Option<FilterBlock>, needle: &[u8]) -> Result<bool>
+    ensures exact { result
+        ≡ kept_says H.hash64 (option_map (λ b. b.payload) filter.now) needle.now }
+    ensures not_io { IfErr result (λ e. e ≢ Io) }
+{
+    match filter {
+        None => Ok(true),
+        Some(filter) => query_kept(filter, H::hash64(needle)),
+    }
+}
+
+// The first match by a filter and an index that were kept.
+fn read_by_kept<H: BlockHash, S: FrameSource>(
+    alloc: Global,
+    source: &mut S,
+    filter: &Option<FilterBlock>,
+    index: &IndexBlock,
+    needle: &[u8],
+    seqno: SeqNo,
+) -> Result<Option<InternalValue>>
+    ensures source { KeepsSource S.bytes S.failures S.is_reliable source.old source.new }
+    ensures reads { S.reads source.new ≤ S.reads source.old + 1 }
+    ensures io { IfErr result (λ e. e ≡ Io → S.failures source.old < S.failures source.new) }
+    ensures exact { IfSome (S.bytes source.old)
+        (λ all. GivesOr (S.failures source.old < S.failures source.new) (S.is_reliable source.old) (λ x. x) result
+        (read_kept (hashes H.hash64 H.hash128) all (option_map (λ b. b.payload) filter.now)
+        index.now.items needle.now seqno)) }
+{
+    if !kept_allows::<H>(filter, needle)? {
+        return Ok(None);
+    }
+    let handle = find_handle(index, needle, seqno, &mut Steps::new());
+    read_in_block::<H, S>(alloc, source, &handle, needle, seqno)
+}
+
+impl<H: BlockHash, S: FrameSource> Table<H, S> {
+    /// Returns the first entry with this key whose sequence number is strictly below `seqno`, as
+    /// [`super::read_entry_checked`] does, but reads at most one frame: the filter and the index
+    /// are those that were kept. The frame is verified and checked.
+    ///
+    /// # Errors
+    ///
+    /// For the block, those of its frame, `Error::InvalidTag` if it is of another type, and those
+    /// of `DataBlock::check_once`. `Error::Io` only where the source failed. `Error::Memory` if an
+    /// allocation fails.
+    pub fn get(
+        &mut self,
+        alloc: Global,
+        needle: &[u8],
+        seqno: SeqNo,
+    ) -> Result<Option<InternalValue>>
+        ensures kept { self.new ≡ record self.old { source = self.new.source } }
+        ensures source { KeepsSource S.bytes S.failures S.is_reliable self.old.source self.new.source }
+        ensures reads { S.reads self.new.source ≤ S.reads self.old.source + 1 }
+        ensures io { IfErr result
+            (λ e. e ≡ Io → S.failures self.old.source < S.failures self.new.source) }
+        ensures exact { IfSome (S.bytes self.old.source)
+            (λ all. GivesOr (S.failures self.old.source < S.failures self.new.source)
+            (S.is_reliable self.old.source) (λ x. x) result
+            (read_checked (hashes H.hash64 H.hash128) all self.old.handles needle.now seqno)) }
+        ensures sound { IfSome (S.bytes self.old.source)
+            (λ all. (blocks : List (List Entry))
+            → IsSound (hashes H.hash64 H.hash128) blocks all self.old.handles
+            → IfOk result
+            (λ found. found ≡ first_match entries needle.now seqno (joined blocks))) }
+    {
+        sound_is_read();
+        read_by_kept::<H, S>(
+            alloc,
+            &mut self.source,
+            &self.filter,
+            &self.index,
+            needle,
+            seqno,
+        )
+    }
+
+    /// Checks the whole run, as [`check`] does, and returns its summary.
+    ///
+    /// # Errors
+    ///
+    /// Those of [`check`].
+    pub fn verify(&mut self, alloc: Global) -> Result<RunSummary>
+        ensures kept { self.new ≡ record self.old { source = self.new.source } }
+        ensures source { KeepsSource S.bytes S.failures S.is_reliable self.old.source self.new.source }
+        ensures reads { IfOk result (λ s. S.reads self.new.source
+            ≡ S.reads self.old.source + (filter_frames self.old.handles.filter + (1 + s.blocks))) }
+        ensures io { IfErr result
+            (λ e. e ≡ Io → S.failures self.old.source < S.failures self.new.source) }
+        ensures exact { IfSome (S.bytes self.old.source)
+            (λ all. GivesOr (S.failures self.old.source < S.failures self.new.source)
+            (S.is_reliable self.old.source) (λ s. s) result
+            (run_checked (hashes H.hash64 H.hash128) all self.old.handles)) }
+        ensures sound { IfSome (S.bytes self.old.source)
+            (λ all. IfOk result (λ s. (blocks : List (List Entry))
+            × IsSound (hashes H.hash64 H.hash128) blocks all self.old.handles
+            × (s ≡ summary_of blocks))) }
+        ensures accepts { IfSome (S.bytes self.old.source)
+            (λ all. (blocks : List (List Entry))
+            → IsSound (hashes H.hash64 H.hash128) blocks all self.old.handles
+            → GivesOr (S.failures self.old.source < S.failures self.new.source)
+            (S.is_reliable self.old.source) (λ s. s) result (Ok (summary_of blocks))) }
+    {
+        check::<H, S>(alloc, &mut self.source, &self.handles)
+    }
+}
+
+impl<H: BlockHash, S: FrameSource + Drop> Table<H, S> {
+    /// Opens a run in a source: reads, verifies and checks its filter, if it has one, and its
+    /// index. No block is read.
+    ///
+    /// # Errors
+    ///
+    /// The first one met, in this order: for the filter, if there is one, those of its frame,
+    /// `Error::InvalidTag` if it is of another type, and those of `StandardBloomFilterReader::new`;
+    /// then for the index those of its frame, its type, and `IndexBlock::check_once`. `Error::Io`
+    /// only where the source failed. `Error::Memory` if an allocation fails.
+    pub fn open(alloc: Global, mut source: S, handles: RunHandles) -> Result<Table<H, S>>
+        ensures handles { IfOk result (λ t. t.handles ≡ handles) }
+        ensures source { IfOk result
+            (λ t. KeepsSource S.bytes S.failures S.is_reliable source t.source) }
+        ensures reads { IfOk result
+            (λ t. S.reads t.source ≡ S.reads source + (filter_frames handles.filter + 1)) }
+        ensures exact { IfSome (S.bytes source)
+            (λ all. GivesOr (Unit {0}) (S.is_reliable source) (λ t. (t.filter, t.index)) result
+            (kept_of (hashes H.hash64 H.hash128) all handles)) }
+    {
+        let filter = filter_block_from::<H, S>(alloc, &mut source, &handles.filter)?;
+        let index = index_block_from::<H, S>(alloc, &mut source, &handles.index)?;
+        Ok(Table {
+            source,
+            handles,
+            filter,
+            index,
+            hash: PhantomData,
+        })
+    }
+}
