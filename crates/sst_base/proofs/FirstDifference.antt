@@ -14,7 +14,7 @@ use Rattle.sst_base.specs.BytesLaws.{IsBytes-drop}
 use Rattle.sst_base.specs.SharedPrefix.{shared_prefix_length}
 use Rattle.sst_base.specs.SharedPrefixLaws.{shared_prefix_behind}
 
--- numbers without a difference are equal
+-- numbers whose exclusive or is 0 are equal
 pub xor_zero : (a b : ℕ) → bit_xor a b ≡ 0 → a ≡ b
 xor_zero a b e = omega (arith, e, xor_add_and a b, and_le_l a b, and_le_r a b)
 
@@ -80,7 +80,7 @@ shared_of_words (suc k) (x ∷ xs) (y ∷ ys) b c h l n =
           rw (ne_eqb x y ne) (omega (arith, few, count)))
     ]
 
--- what is shared ends in the first words that differ
+-- the shared prefix ends within the first words that differ
 pub differs_at : (a b : List ℕ) (m x y : ℕ) → IsBytes a → IsBytes b → m + 8 ≤ length a → m + 8 ≤ length b → x ≡ big_number 8 (drop m a) → y ≡ big_number 8 (drop m b)
     → take m a ≡ take m b → bit_xor x y ≢ 0 → m + count_leading_zeros 64 (bit_xor x y) / 8 ≡ shared_prefix_length a b
 differs_at a b m x y c d h l p q e n =

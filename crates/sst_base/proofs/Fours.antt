@@ -12,7 +12,7 @@ zero_first : (bytes : List ℕ) → IsBytes bytes → IsBytes (0 ∷ bytes)
 zero_first bytes small zero = omega arith
 zero_first bytes small (suc i) = small i
 
--- the hash of the first four bytes by that of eight, of which the first four are 0
+-- the hash of the first four bytes, by the hash of eight bytes of which the first four are 0
 pub four_first : (bytes : List ℕ) (w r : ℕ) → IsBytes bytes → 4 ≤ length bytes → w ≡ big_number 4 bytes
     → ((xs : List ℕ) → IsBytes xs → 8 ≤ length xs → w ≡ big_number 8 xs → r ≡ fold times31 0 (take 8 xs))
     → r ≡ fold times31 0 (take 4 bytes)

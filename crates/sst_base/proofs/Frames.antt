@@ -15,13 +15,13 @@ use Rattle.sst_base.specs.declared.error.Error.{Error}
 use Rattle.sst_base.specs.declared.error.Error.TheVariants.{Io, Memory}
 use Rattle.sst_base.specs.declared.table.block.header.Header.{Header}
 
--- an answer that is the same is given
+-- a result that equals a value is given by it
 pub Gives-same : {A : Type 0} (r answer : Result A Error) → r ≡ answer → Gives r answer
 Gives-same (Ok x) answer h = h
 Gives-same (Err Memory) answer h = tt
 Gives-same (Err e) answer h = h
 
--- what a header that was read over memory left
+-- the bytes that are left after a header was read over memory
 pub left_behind : {A : Type 0} (m : Type 0) (x : A) (left : List ℕ) (read : Result (A × List ℕ) Error) → Reads m (Ok x) (Some left) read → read ≡ Ok (x, left)
 left_behind m x left read h =
     let same : h.0 ≡ left = cc (h.1) in
@@ -47,7 +47,7 @@ unfolding frame_in
 frame_in_by hash128 all rest payload h r long e l p q =
     rw (le-leb 33 (length all) long, e, l) (q ∙ ap (block_of hash128 h) p)
 
--- what is read is a front that is a frame
+-- what is read is a prefix that is a frame
 pub found_front : (hash128 : List ℕ → ℕ) (m : Type 0) (r : Result BlockParts Error) (left : Option (List ℕ)) (bytes : List ℕ) → IfOk r (λ _. IsBytes (take 28 (drop 5 bytes))) → ReadsAllocating m r left (frame_at hash128 bytes)
     → IfOk r (λ b. (rest : List ℕ) × (left ≡ Some rest) × (bytes ≡ frame hash128 b.header.block_type b.payload ++ rest) × (b ≡ block_for hash128 b.header.block_type b.payload))
 found_front hash128 m (Ok b) left bytes small h =
@@ -78,7 +78,7 @@ only_whole (Ok c) read b e h = cc (h, e)
 only_whole (Err Memory) read b e h = refl
 only_whole (Err d) read b e h = cc (h, e)
 
--- a file's frame is that of the bytes that were read
+-- a file's frame is the frame of the bytes that were read
 pub file_unread : (hash128 : List ℕ → ℕ) (m n : Type 0) (r : Result BlockParts Error) (e : Error) (left : Option (List ℕ)) (offset size : ℕ) (bytes : List ℕ) → (m → n) → r ≡ Err e → ReadsAllocating {A = List ℕ} n (Err e) left (bytes_at size (drop offset bytes)) → GivesOrFails m r (frame_in_file hash128 offset size bytes)
 unfolding frame_in_file
 file_unread hash128 m n (Ok b) e left offset size bytes k s h = cc
@@ -103,12 +103,12 @@ unfolding frame_in_file
 file_read hash128 m n r found left offset size bytes h g =
     gives_or_fails m r (frame_in hash128 found) _ (ap (λ q. q >>= (λ (x : List ℕ × List ℕ). frame_in hash128 x.0)) h.2) g
 
--- a frame of so many bytes has that payload
+-- the payload of a frame of this size has 33 bytes less
 pub found_size : (hash128 : List ℕ → ℕ) (r : Result BlockParts Error) (bytes : List ℕ) (size : ℕ) → length bytes ≡ size → IfOk r (λ b. (bytes ≡ frame hash128 b.header.block_type b.payload) × (b ≡ block_for hash128 b.header.block_type b.payload)) → IfOk r (λ b. 33 + length b.payload ≡ size)
 found_size hash128 (Ok b) bytes size l h = sym (length-frame hash128 b.header.block_type b.payload) ∙ sym (ap length (h.0)) ∙ l
 found_size hash128 (Err e) bytes size l h = tt
 
--- a block that was checked is that of its payload
+-- a block that was checked is the block of its payload
 pub checked_own : (hash128 : List ℕ → ℕ) (h : Header) (payload : List ℕ) (r : Result BlockParts Error) → h.data_length ≡ h.uncompressed_length → length payload ≡ h.data_length → r ≡ block_of hash128 h payload → IfOk r (λ b. b ≡ block_for hash128 b.header.block_type b.payload)
 checked_own hash128 h payload (Err e) equal len s = tt
 checked_own hash128 h payload (Ok b) equal len s =
@@ -116,7 +116,7 @@ checked_own hash128 h payload (Ok b) equal len s =
     let P : BlockParts → Type 0 = λ c. c ≡ block_for hash128 c.header.block_type c.payload in
     subst P (found.1) (block_for_lem hash128 (record { header = h; payload = payload }) (record { equal = equal; len = len; sum = found.0 }))
 
--- what holds of all bytes wherever an answer is Ok holds of these
+-- what holds of all bytes where a result is Ok holds of these bytes
 pub cells_if_ok : {A : Type 0} (P Q : List ℕ → Type 0) (r : Result A Error) → OnOk r ((bytes : List ℕ) → P bytes → Q bytes) → (bytes : List ℕ) → P bytes → IfOk r (λ _. Q bytes)
 cells_if_ok P Q (Ok x) h bytes p = h bytes p
 cells_if_ok P Q (Err e) h bytes p = tt

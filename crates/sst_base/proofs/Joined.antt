@@ -21,7 +21,7 @@ prefix_equal p s n front rest o t h f r co e ct =
     ∙ ap (λ x. ordering_then x (slice_cmp nat_cmp s (drop (length p) n))) (sym e ∙ co ∙ ap (slice_cmp nat_cmp p) f)
     ∙ sym (slice_cmp-prefix p s n h)
 
--- it does not
+-- the needle does not begin with the prefix
 pub prefix_differs : (p s n front : List ℕ) (o : Ordering) → length p ≤ length n → front ≡ take (length p) n → o ≡ slice_cmp nat_cmp p front → o ≢ Equal → o ≡ slice_cmp nat_cmp (p ++ s) n
 prefix_differs p s n front o h f co ne =
     sym (decided o (slice_cmp nat_cmp s (drop (length p) n)) ne)

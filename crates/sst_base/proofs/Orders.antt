@@ -21,7 +21,7 @@ one_ended [] (y ∷ ys) h = nat_cmp_is 0 (length (y ∷ ys)) Less (omega arith)
 one_ended (x ∷ xs) [] h = nat_cmp_is (length (x ∷ xs)) 0 Greater (omega arith)
 one_ended (x ∷ xs) (y ∷ ys) h = absurd (omega arith)
 
--- a byte at a place, and what is after it
+-- a byte at an index, and the bytes after it
 at_place : (a b : List ℕ) (i : ℕ) → i < length a → i < length b → slice_cmp nat_cmp (drop i a) (drop i b) ≡ ordering_then (nat_cmp (get_or a i 0) (get_or b i 0)) (slice_cmp nat_cmp (drop (suc i) a) (drop (suc i) b))
 at_place a b i h k = ap (λ x. slice_cmp nat_cmp x (drop i b)) (drop-cons a i 0 h) ∙ ap (slice_cmp nat_cmp (get_or a i 0 ∷ drop (suc i) a)) (drop-cons b i 0 k)
 
@@ -30,7 +30,7 @@ tails_same a b i whole h k e s =
     rw add-one
     (ap (λ o. ordering_then o (slice_cmp nat_cmp (drop (suc i) a) (drop (suc i) b))) (nat_cmp_is (get_or a i 0) (get_or b i 0) Equal e) ∙ sym (at_place a b i h k) ∙ s)
 
--- the first of two orders decides where it is not equal
+-- the first of two comparisons decides where it is not equal
 pub decided : (o w : Ordering) → o ≢ Equal → ordering_then o w ≡ o
 decided Less w n = refl
 decided Equal w n = absurd (n refl)
@@ -53,7 +53,7 @@ tails_end a b i whole e s =
     ∙ nat_cmp-add_left i (length (drop i a)) (length (drop i b))
     ∙ sym (one_ended (drop i a) (drop i b) none) ∙ s
 
--- the word at a place, and what is after it
+-- the word at an index, and the bytes after it
 at_word : (a b : List ℕ) (i : ℕ) → i + 8 ≤ length a → i + 8 ≤ length b → slice_cmp nat_cmp (drop i a) (drop i b) ≡ ordering_then (slice_cmp nat_cmp (take 8 (drop i a)) (take 8 (drop i b))) (slice_cmp nat_cmp (drop (i + 8) a) (drop (i + 8) b))
 at_word a b i h k =
     let la : length (take 8 (drop i a)) ≡ 8 = length-take-le 8 (drop i a) (omega (arith, length-drop i a)) in

@@ -6,7 +6,7 @@ use Rattle.std.proofs.lemmas.Nat.{mul-mod_first}
 use Rattle.sst_base.specs.Hashes.{times31, poly31_from}
 use Rattle.sst_base.specs.HashLaws.{add-mod_first, fold-append, fold31-mod}
 
--- a step in so many bits
+-- a step modulo a power of two
 abbrev pub wrapped31 : ℕ → ℕ → ℕ → ℕ
 wrapped31 bits so_far byte = ((so_far * 31) % 2 ^ bits + byte) % 2 ^ bits
 
@@ -47,7 +47,7 @@ sixteen_steps h w l =
     let y = whole 0 in
     omega (arith, x, y)
 
--- some bytes more, as many in each step, at which what was so far is multiplied by a power
+-- n bytes more in each step, which multiplies the hash so far by a power
 pub bytes_more : (n power : ℕ) → ((h : ℕ) (w : List ℕ) → length w ≡ n → fold times31 h w ≡ h * power + fold times31 0 w)
     → (bits from : ℕ) (bytes : List ℕ) (i hash product next v : ℕ) → n * i + n ≤ length bytes → hash ≡ poly31_from bits from (take (n * i) bytes)
     → product ≡ (hash * power) % 2 ^ bits → v ≡ fold times31 0 (take n (drop (n * i) bytes)) → next ≡ (product + v) % 2 ^ bits

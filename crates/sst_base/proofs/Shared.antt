@@ -1,4 +1,4 @@
--- How far two byte strings agree, a byte a step.
+-- The longest shared prefix of two byte strings, a byte a step.
 use Rattle.std.proofs.Common.{◌≡◌, ◌≢◌, ℕ, ◌+◌, ◌<◌, suc, List, ◌∷◌, length, get_or, drop, min, refl, arith, ◌∙◌, ap, drop-cons, length-drop, add-one}
 use Rattle.std.proofs.lemmas.Bool.{eq-eqb, ne_eqb}
 use Rattle.sst_base.specs.SharedPrefix.{shared_prefix_length}

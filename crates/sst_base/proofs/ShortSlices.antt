@@ -4,7 +4,7 @@ use Rattle.std.proofs.lemmas.List.{take_at, take-take, take-append-le, length-ta
 use Rattle.bytes.proofs.Ranges.{take-append_past}
 use Rattle.std.specs.Array.{IsFirstChunk}
 
--- two byte strings, copied one after the other into the front of an array
+-- two byte strings, copied one after the other to the start of an array
 pub joined_front : (left right l r z post : List ℕ) → l ≡ left → r ≡ right
     → take (length left + length right) (take (length left) (l ++ z) ++ (r ++ post)) ≡ left ++ right
 joined_front left right l r z post e f =
@@ -13,11 +13,11 @@ joined_front left right l r z post e f =
     ∙ ap (take (length left + length right)) (sym (append_assoc left right post))
     ∙ take_at (left ++ right) post (length left + length right) (length-append left right)
 
--- the front of an array that was copied
+-- the first bytes of an array that was copied
 pub cut_front : (xs ys : List ℕ) (n : ℕ) → n ≤ 39 → IsFirstChunk xs ys 39 → take n ys ≡ take n xs
 cut_front xs ys n h c = ap (take n) c.same ∙ take-take n 39 xs h
 
--- the fronts of two arrays, the second array copied over what follows the front of the first
+-- the first bytes of two arrays, the second array copied over what follows the first bytes of the first
 pub joined_wide : (left right a bytes post z : List ℕ) (n m : ℕ) → n + m ≤ 39 → length left ≡ 39 → length right ≡ 39
     → a ≡ left ++ z → bytes ≡ take 39 (take n a ++ (right ++ post)) → take (n + m) bytes ≡ take n left ++ take m right
 joined_wide left right a bytes post z n m h l r e f =

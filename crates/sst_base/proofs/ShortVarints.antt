@@ -1,4 +1,4 @@
--- Varints of one to four bytes, by the bytes that stand at the front.
+-- Varints of one to four bytes, by the first bytes.
 use Rattle.std.proofs.Common.{◌≡◌, ℕ, ◌+◌, ◌*◌, ◌-◌, ◌<◌, ◌≤◌, List, [], ◌∷◌, length, take, get_or, arith, sym, ap, subst, ◌∙◌, Option, Some}
 use Rattle.sst_base.specs.Bytes.{IsBytes}
 use Rattle.sst_base.specs.Varint.{IsVarint, IsWidth, varint_at}

@@ -4,7 +4,7 @@ use Rattle.std.specs.List.{fold}
 use Rattle.sst_base.specs.HashLaws.{add-mod_first}
 use Rattle.sst_base.specs.Hashes.{plus, byte_sum_from}
 
--- a step in so many bits
+-- a step modulo a power of two
 abbrev pub wrapped_sum : ℕ → ℕ → ℕ → ℕ
 wrapped_sum bits so_far byte = (so_far + byte) % 2 ^ bits
 

@@ -14,12 +14,12 @@ pub record HandleParts : Type 0 where
 abbrev pub handle_bytes : HandleParts → List ℕ
 handle_bytes h = varint h.offset ++ varint h.size
 
--- a digit before what the bytes after it encode, which isn't 0
+-- a digit before the number that the bytes after it encode, which isn't 0
 abbrev pub behind_digit : ℕ → ℕ × List ℕ → Result (ℕ × List ℕ) Error
 behind_digit digit high = if nat_eq high.0 0 then Err BadHandle else Ok (digit + 128 * high.0, high.1)
 
--- The number of at most `max` that a prefix of the bytes encodes, or the refusal of the first byte with which no
--- minimal encoding of such a number goes on.
+-- The number of at most `max` that a prefix of the bytes encodes, or the error for the first byte with which no
+-- minimal encoding of such a number continues.
 unfoldable pub handle_number_at : ℕ → List ℕ → Result (ℕ × List ℕ) Error
 handle_number_at max [] = Err Io
 handle_number_at max (b ∷ bs) =

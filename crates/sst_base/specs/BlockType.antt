@@ -13,7 +13,7 @@ block_type_byte Index = 1
 block_type_byte Filter = 2
 block_type_byte Meta = 3
 
--- the type that a byte stands for, or the refusal of that byte
+-- the type that a byte stands for, or the error for that byte
 abbrev pub block_type_of : ℕ → Result BlockType Error
 block_type_of byte =
     if nat_eq byte 0 then Ok Data

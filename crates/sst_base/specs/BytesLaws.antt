@@ -7,22 +7,22 @@ use Rattle.byteorder.specs.Endian.{little_bytes, little_number}
 use Rattle.byteorder.specs.Numbers.{little_from-cons, little_from-append}
 use Rattle.sst_base.specs.Bytes.{IsBytes}
 
--- the front of bytes is bytes
+-- the cells of a prefix of bytes are bytes
 pub IsBytes-front : (xs ys : List ℕ) → IsBytes (xs ++ ys) → IsBytes xs
 IsBytes-front [] ys h i = omega arith
 IsBytes-front (x ∷ xs) ys h zero = h 0
 IsBytes-front (x ∷ xs) ys h (suc i) = IsBytes-front xs ys (λ j. h (suc j)) i
 
--- and so is the rest
+-- and so are the cells of the rest
 pub IsBytes-back : (xs ys : List ℕ) → IsBytes (xs ++ ys) → IsBytes ys
 IsBytes-back [] ys h = h
 IsBytes-back (x ∷ xs) ys h = IsBytes-back xs ys (λ j. h (suc j))
 
--- the same of as many as are taken
+-- the cells of the first n bytes are bytes
 pub IsBytes-take : (n : ℕ) (xs : List ℕ) → IsBytes xs → IsBytes (take n xs)
 IsBytes-take n xs b = IsBytes-front (take n xs) (drop n xs) (subst IsBytes (sym (take-append-drop n xs)) b)
 
--- and of what is left
+-- and so are the cells after them
 pub IsBytes-drop : (n : ℕ) (xs : List ℕ) → IsBytes xs → IsBytes (drop n xs)
 IsBytes-drop n xs b = IsBytes-back (take n xs) (drop n xs) (subst IsBytes (sym (take-append-drop n xs)) b)
 
@@ -53,11 +53,11 @@ bytes_low_first-suc (suc width) i n =
     let above = bytes_low_first-suc width (suc i) n in
     λ k. here k ∷ above k
 
--- the bytes of a number: the lowest, and those of what is left
+-- the bytes of a number: the lowest byte, and the bytes of the number without it
 pub little_bytes-suc : (width n : ℕ) → little_bytes (suc width) n ≡ (n % 256) ∷ little_bytes width (n / 256)
 little_bytes-suc width n = ap (λ bs. (n % 256) ∷ bs) (bytes_low_first-suc width 0 n)
 
--- the number of bytes: the first, and what those after it are
+-- the number that bytes encode: the first byte, and the number that the bytes after it encode
 little_number-cons : (width b : ℕ) (bs : List ℕ) → little_number (suc width) (b ∷ bs) ≡ b + 256 * little_number width bs
 little_number-cons width b bs = ap (λ m. b + 256 * m) (little_from-cons 0 width b bs)
 
@@ -78,7 +78,7 @@ little_bytes-little_number (suc width) (b ∷ bs) small h =
 pub little_bytes-little_number_at : (at width : ℕ) (xs : List ℕ) → IsBytes xs → at + width ≤ length xs → little_bytes width (little_number width (drop at xs)) ≡ take width (drop at xs)
 little_bytes-little_number_at at width xs b h = little_bytes-little_number width (drop at xs) (IsBytes-drop at xs b) (omega (arith, length-drop at xs))
 
--- the number of bytes that stand after others, whatever follows
+-- the number that bytes after others encode, whatever follows
 pub little_number-between : (before behind bytes : List ℕ) (at width : ℕ) → length before ≡ at → length bytes ≡ width → little_number width (drop at (before ++ (bytes ++ behind))) ≡ little_number width bytes
 little_number-between before behind bytes at width h l =
     ap (little_number width) (drop_at before (bytes ++ behind) at h) ∙ little_from-append width bytes behind (omega arith)

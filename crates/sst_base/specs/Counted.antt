@@ -1,12 +1,12 @@
 -- What a counter of steps has counted.
 use Rattle.std.specs.Prelude.{◌≡◌, ◌≤◌, ◌+◌, ℕ, Option, Some, None}
 
--- how many heads and how many entries were looked at
+-- how many heads and how many entries were counted
 pub record Counted : Type 0 where
   pub heads : ℕ
   pub entries : ℕ
 
--- one where there is an item
+-- 1 where there is an item, else 0
 abbrev pub found_item : {A : Type 0} → Option A → ℕ
 found_item None = 0
 found_item (Some x) = 1
@@ -16,12 +16,12 @@ pub record IsZero (steps : Counted) : Type 0 where
   pub heads : steps.heads ≡ 0
   pub entries : steps.entries ≡ 0
 
--- so many heads and so many entries were counted, no more and no fewer
+-- exactly h heads and exactly e entries were counted
 pub record CountsExactly (old new : Counted) (h e : ℕ) : Type 0 where
   pub heads : new.heads ≡ old.heads + h
   pub entries : new.entries ≡ old.entries + e
 
--- at least and at most so many were counted; of each pair the first number is that of heads, the second that of entries
+-- at least and at most these numbers were counted; the first of each pair is for heads, the second for entries
 pub record CountsBetween (old new : Counted) (least most : ℕ × ℕ) : Type 0 where
   pub heads_least : old.heads + least.0 ≤ new.heads
   pub heads_most : new.heads ≤ old.heads + most.0

@@ -26,7 +26,7 @@ block_for hash128 t payload = record { header = header_for hash128 t payload; pa
 unfoldable pub frame : (List ℕ → ℕ) → BlockType → List ℕ → List ℕ
 frame hash128 t payload = header hash128 (header_for hash128 t payload) ++ payload
 
--- reading goes on where a test holds
+-- reading continues where a test holds
 abbrev pub demand : Bool → Error → Result (Unit {0}) Error
 demand test e = if test then Ok tt else Err e
 
@@ -44,17 +44,17 @@ block_at hash128 h bytes = do
   block ← block_of hash128 h payload.0
   Ok (block, payload.1)
 
--- the block whose frame is at the start of bytes, or the first refusal in the order of the bytes
+-- the block whose frame is at the start of bytes, or the first error in the order of the bytes
 unfoldable pub frame_at : (List ℕ → ℕ) → List ℕ → Result (BlockParts × List ℕ) Error
 frame_at hash128 bytes = do
   h ← header_at hash128 bytes
   block_at hash128 h.0 h.1
 
--- both lengths of a header are this one
+-- both lengths of a header equal this number
 abbrev pub has_length : Header → ℕ → Bool
 has_length h n = nat_eq h.data_length h.uncompressed_length && nat_eq h.data_length n
 
--- the block whose frame the bytes are, or the first refusal
+-- the block whose frame the bytes are, or the first error
 unfoldable pub frame_in : (List ℕ → ℕ) → List ℕ → Result BlockParts Error
 frame_in hash128 bytes = do
   long ← demand (nat_le 33 (length bytes)) Truncated
@@ -74,7 +74,7 @@ of_type t block =
     if nat_eq (block_type_byte block.header.block_type) (block_type_byte t) then Ok block.payload
     else Err (InvalidTag tags.BlockType (block_type_byte block.header.block_type))
 
--- the payload of the frame that the bytes are, of the type asked for
+-- the payload of the frame that the bytes are, of the requested type
 unfoldable pub payload_of_type : (List ℕ → ℕ) → BlockType → List ℕ → Result (List ℕ) Error
 payload_of_type hash128 t bytes = do
   block ← frame_in hash128 bytes

@@ -1,4 +1,4 @@
--- Laws of frames in memory: their reading never answers that the input failed.
+-- Laws of frames in memory: reading one never returns the error that the input failed.
 use Rattle.std.proofs.Common.{◌≡◌, ◌≢◌, ℕ, ◌+◌, ◌≤◌, List, length, take, drop, arith, refl, sym, ap, subst, ◌∙◌, Bool, true, false, leb, nat_eq, slice_index, if◌then◌else◌, Result, Ok, Err, IfErr, length-append}
 use Rattle.std.proofs.lemmas.Bool.{leb-true, le-ltb}
 use Rattle.sst_base.specs.BlockType.{block_type_of}
@@ -15,7 +15,7 @@ use Rattle.sst_base.specs.declared.table.block.block_type.BlockType.{BlockType}
 use Rattle.sst_base.specs.declared.table.block.block_type.BlockType.TheVariants.{Data, Index, Filter, Meta}
 use Rattle.sst_base.specs.declared.table.block.header.Header.{Header}
 
--- a reading does not answer that the input failed
+-- a reading does not return the error that the input failed
 abbrev pub NotIo : {A : Type 0} → Result A Error → Type 0
 NotIo r = IfErr r (λ e. e ≢ Io)
 
@@ -41,7 +41,7 @@ bytes_at_long n bytes h = ap (λ b. if b then Err Io else Ok (take n bytes, drop
 bytes_at_not_io : (n : ℕ) (bytes : List ℕ) → n ≤ length bytes → NotIo (bytes_at n bytes)
 bytes_at_not_io n bytes h = rw (bytes_at_long n bytes h) tt
 
--- what is after the first bytes is so much shorter
+-- the bytes after the first n are n fewer
 bytes_at_rest : (n : ℕ) (bytes : List ℕ) (found : List ℕ × List ℕ) → bytes_at n bytes ≡ Ok found → length bytes ≡ n + length found.1
 bytes_at_rest n bytes found e = let t = bytes_at_takes n bytes found e in ap length t.0 ∙ length-append found.0 found.1 ∙ ap (λ k. k + length found.1) t.1
 
@@ -89,7 +89,7 @@ block_of_not_io : (hash128 : List ℕ → ℕ) (h : Header) (payload : List ℕ)
 unfolding block_of
 block_of_not_io hash128 h payload = not_io_if _ (Ok (record { header = h; payload = payload })) _ (λ e. cc) tt
 
--- bytes in memory are no frame for another reason
+-- reading a frame in memory does not return the error that the input failed
 pub frame_in_not_io : (hash128 : List ℕ → ℕ) (bytes : List ℕ) → NotIo (frame_in hash128 bytes)
 unfolding frame_in
 frame_in_not_io hash128 bytes =
@@ -101,7 +101,7 @@ frame_in_not_io hash128 bytes =
 not_io_of : {A : Type 0} (r read : Result A Error) → NotIo read → r ≡ read → NotIo r
 not_io_of r read h e = subst NotIo (sym e) h
 
--- nor does an answer that is this one, unless an allocation failed
+-- nor does a call whose result is that of such a reading, unless an allocation failed
 pub given_not_io : {A : Type 0} (r read : Result A Error) → NotIo read → Gives r read → NotIo r
 given_not_io (Ok x) read h g = tt
 given_not_io (Err Memory) read h g = λ e. cc

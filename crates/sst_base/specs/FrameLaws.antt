@@ -32,7 +32,7 @@ length-frame hash128 t payload =
 pub IsHeader-header_for : (hash128 : List ℕ → ℕ) (t : BlockType) (payload : List ℕ) → length payload < 2 ^ 32 → hash128 payload < 2 ^ 128 → IsHeader (header_for hash128 t payload)
 IsHeader-header_for hash128 t payload short sum = record { checksum = sum; data_length = short; uncompressed_length = short }
 
--- the header of a block is that of its payload
+-- the header of a block is the header of its payload
 pub record IsOwn (hash128 : List ℕ → ℕ) (b : BlockParts) : Type 0 where
   pub equal : b.header.data_length ≡ b.header.uncompressed_length
   pub len : length b.payload ≡ b.header.data_length
@@ -67,7 +67,7 @@ frame_at-frame hash128 t payload rest short sum =
     let head = header_at-header hash128 h (payload ++ rest) (IsHeader-header_for hash128 t payload short sum) in
     rw (append_assoc (header hash128 h) payload rest, head, eq-eqb (length payload) (length payload) refl, bytes_at-append (length payload) payload rest refl, block_of-own hash128 h payload refl) refl
 
--- and by itself
+-- and a frame alone is read again
 pub frame_in-frame : (hash128 : List ℕ → ℕ) (t : BlockType) (payload : List ℕ) → length payload < 2 ^ 32 → hash128 payload < 2 ^ 128 → frame_in hash128 (frame hash128 t payload) ≡ Ok (block_for hash128 t payload)
 unfolding frame frame_in
 frame_in-frame hash128 t payload short sum =
@@ -115,7 +115,7 @@ frame_at_takes hash128 bytes b rest small e =
       rw behind.2.len fits,
     )
 
--- and what all bytes are
+-- bytes that are read as a frame were written so
 pub frame_in_takes : (hash128 : List ℕ → ℕ) (bytes : List ℕ) (b : BlockParts) → IsBytes bytes → frame_in hash128 bytes ≡ Ok b → (bytes ≡ frame hash128 b.header.block_type b.payload) × (b ≡ block_for hash128 b.header.block_type b.payload) × (length b.payload < 2 ^ 32)
 unfolding frame_in
 frame_in_takes hash128 bytes b small e =

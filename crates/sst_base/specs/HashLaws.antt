@@ -1,4 +1,4 @@
--- Laws of the plain hash functions: they fit their bits, and go on from what was hashed.
+-- Laws of the plain hash functions: a hash fits its bits, and is continued from the hash so far.
 use Rattle.std.proofs.Common.{◌≡◌, ℕ, ◌+◌, ◌*◌, ◌%◌, ◌^◌, ◌<◌, List, [], ◌∷◌, ◌++◌, refl, sym, ◌∙◌, ap}
 use Rattle.std.proofs.Math.Nat.{add-mod, mod-mod}
 use Rattle.std.specs.List.{fold}
@@ -20,7 +20,7 @@ pub fold-append : {A : Type 0} (f : A → ℕ → A) (h : A) (xs ys : List ℕ) 
 fold-append f h [] ys = refl
 fold-append f h (x ∷ xs) ys = fold-append f (f h x) xs ys
 
--- a step from what is left of a number by the modulus
+-- a step from the remainder of a number by the modulus
 pub step_mod : (h b m : ℕ) → ((h % m) * 31 + b) % m ≡ (h * 31 + b) % m
 step_mod h b m =
     sym (add-mod_first ((h % m) * 31) b m) ∙ ap (λ k. (k + b) % m) (mul-mod_first h 31 m) ∙ add-mod_first (h * 31) b m
@@ -39,7 +39,7 @@ fold_plus-mod m h (b ∷ bytes) =
     ∙ ap (λ k. fold plus k bytes % m) (add-mod_first h b m)
     ∙ fold_plus-mod m (h + b) bytes
 
--- hashing goes on from what was hashed
+-- a hash is continued from the hash of the bytes before
 pub poly31-append : (bits : ℕ) (xs ys : List ℕ) → poly31_from bits (poly31 bits xs) ys ≡ poly31 bits (xs ++ ys)
 poly31-append bits xs ys = fold31-mod (2 ^ bits) (fold times31 0 xs) ys ∙ ap (λ k. k % 2 ^ bits) (sym (fold-append times31 0 xs ys))
 

@@ -1,7 +1,7 @@
 -- The plain hash functions.
 use Rattle.std.specs.Prelude.{◌≡◌, ℕ, ◌+◌, ◌*◌, ◌%◌, ◌^◌, List, [], ◌∷◌, fold, take, drop}
 
--- one byte more: what was so far times 31, and the byte
+-- one byte more: the hash so far times 31, plus the byte
 abbrev pub times31 : ℕ → ℕ → ℕ
 times31 so_far byte = so_far * 31 + byte
 
@@ -13,7 +13,7 @@ poly31_from bits so_far bytes = fold times31 so_far bytes % 2 ^ bits
 abbrev pub poly31 : ℕ → List ℕ → ℕ
 poly31 bits bytes = poly31_from bits 0 bytes
 
--- one byte more: what was so far and the byte
+-- one byte more: the sum so far, plus the byte
 abbrev pub plus : ℕ → ℕ → ℕ
 plus so_far byte = so_far + byte
 

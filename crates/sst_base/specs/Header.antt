@@ -27,13 +27,13 @@ pub record IsHeader (h : Header) : Type 0 where
   pub data_length : h.data_length < 2 ^ 32
   pub uncompressed_length : h.uncompressed_length < 2 ^ 32
 
--- one reading after another; the first refusal stands
+-- one reading after another; the first error is the result
 infixl 10 ◌>>=◌
 abbrev pub ◌>>=◌ : {A B : Type 0} → Result A Error → (A → Result B Error) → Result B Error
 (Ok x) >>= f = f x
 (Err e) >>= f = Err e
 
--- the first n bytes and those after them, where there are so many
+-- the first n bytes and the bytes after them, where there are at least n
 abbrev pub bytes_at : ℕ → List ℕ → Result (List ℕ × List ℕ) Error
 bytes_at n bytes = if nat_lt (length bytes) n then Err Io else Ok (take n bytes, drop n bytes)
 
@@ -65,7 +65,7 @@ header_of hash128 block_type fields expected =
     let got = hash128 (magic ++ (block_type_byte block_type ∷ fields)) % 2 ^ 32 in
     if nat_eq got expected then Ok (header_with block_type fields) else Err (ChecksumMismatch got expected)
 
--- the header at the start of bytes, or the first refusal in the order of the bytes
+-- the header at the start of bytes, or the first error in the order of the bytes
 unfoldable pub header_at : (List ℕ → ℕ) → List ℕ → Result (Header × List ℕ) Error
 header_at hash128 bytes = do
   m ← magic_at bytes

@@ -18,12 +18,12 @@ use Rattle.sst_base.specs.declared.table.block.block_type.BlockType.{BlockType}
 use Rattle.sst_base.specs.declared.table.block.block_type.BlockType.TheVariants.{Data, Index, Filter, Meta}
 use Rattle.sst_base.specs.declared.table.block.header.Header.{Header}
 
--- a chain that gives something: its first reading does, and so does what follows it
+-- where a chain of readings returns a value, the first reading does, and so does what follows it
 pub bind_ok : {A B : Type 0} (r : Result A Error) (f : A → Result B Error) (y : B) → (r >>= f) ≡ Ok y → (x : A) × (r ≡ Ok x) × (f x ≡ Ok y)
 bind_ok (Ok x) f y e = (x, refl, e)
 bind_ok (Err d) f y e = cc
 
--- a choice between an answer and a refusal that gives an answer
+-- a choice between a value and an error that returns a value
 pub guard_ok : {A : Type 0} (b : Bool) (x y : A) (d : Error) → (if b then Ok x else Err d) ≡ Ok y → (b ≡ true) × (x ≡ y)
 guard_ok true x y d e = (refl, cc)
 guard_ok false x y d e = cc
@@ -32,7 +32,7 @@ pub refuse_ok : {A : Type 0} (b : Bool) (x y : A) (d : Error) → (if b then Err
 refuse_ok true x y d e = cc
 refuse_ok false x y d e = (refl, cc)
 
--- a front of known length is read
+-- a prefix of known length is read
 pub bytes_at-append : (n : ℕ) (xs rest : List ℕ) → length xs ≡ n → bytes_at n (xs ++ rest) ≡ Ok (xs, rest)
 bytes_at-append n xs rest h =
     let long : n ≤ length (xs ++ rest) = omega (arith, length-append xs rest) in
@@ -141,7 +141,7 @@ header_of_takes hash128 t fields expected h e =
     let g = guard_ok (eqb (hash128 (magic ++ (block_type_byte t ∷ fields)) % 2 ^ 32) expected) (header_with t fields) h _ e in
     (eqb-true _ _ g.0, g.1)
 
--- the front by its fields
+-- the start of a header, by its fields
 header_start-fields_of : (h : Header) → header_start h ≡ magic ++ (block_type_byte h.block_type ∷ fields_of h)
 unfolding header_start fields_of
 header_start-fields_of h = refl

@@ -9,7 +9,7 @@ use Rattle.std.specs.declared.cmp.Ordering.{Ordering}
 use Rattle.std.specs.declared.cmp.Ordering.TheVariants.{Less, Equal, Greater}
 use Rattle.sst_base.specs.Order.{versions_cmp}
 
--- equal byte strings are one byte string
+-- byte strings that compare as equal are the same
 pub slice_cmp-equal : (a b : List ℕ) → (slice_cmp nat_cmp a b ≡ Equal) ↔ (a ≡ b)
 slice_cmp-equal a b = (exact_bytes a b, λ e. ap (slice_cmp nat_cmp a) (sym e) ∙ tied_itself nat_list_cmp_total a)
 
@@ -24,11 +24,12 @@ then_equal Equal p e = (refl, e)
 then_equal Greater p e = cc
 
 module _ {X : Type 0} (key : X → List ℕ) (seqno : X → ℕ) where
-  -- the order is total: turned round it answers the reverse, it is transitive, and equal ones stand alike to all others
+  -- the order is total: exchanging its arguments reverses it, it is transitive, and equal ones compare
+  -- alike with all others
   pub versions_cmp_total : IsTotalOrder (versions_cmp key seqno)
   versions_cmp_total = then_total (on_total key nat_list_cmp_total) (back_total (on_total seqno nat_cmp_total))
 
-  -- what standing before means
+  -- when one version sorts before another
   pub versions_cmp-less : (a b : X) → (versions_cmp key seqno a b ≡ Less) ↔ ((slice_cmp nat_cmp (key a) (key b) ≡ Less) ⊎ ((key a ≡ key b) × (seqno b < seqno a)))
   versions_cmp-less a b = (
     (λ h. elim (then_less (slice_cmp nat_cmp (key a) (key b)) (nat_cmp (seqno b) (seqno a)) h) [
@@ -41,7 +42,7 @@ module _ {X : Type 0} (key : X → List ℕ) (seqno : X → ℕ) where
     ]),
   )
 
-  -- equal ones have one key and one sequence number
+  -- equal versions have the same key and the same sequence number
   pub versions_cmp-equal : (a b : X) → (versions_cmp key seqno a b ≡ Equal) ↔ ((key a ≡ key b) × (seqno a ≡ seqno b))
   versions_cmp-equal a b = (
     (λ h. let p = then_equal (slice_cmp nat_cmp (key a) (key b)) (nat_cmp (seqno b) (seqno a)) h in

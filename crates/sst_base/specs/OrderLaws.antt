@@ -17,7 +17,7 @@ ordering_then_assoc Less b c = refl
 ordering_then_assoc Equal b c = refl
 ordering_then_assoc Greater b c = refl
 
--- fronts of one length decide first, and then what is after them
+-- prefixes of one length decide first, and then the bytes after them
 pub slice_cmp-append : (p q s t : List ℕ) → length p ≡ length q → slice_cmp nat_cmp (p ++ s) (q ++ t) ≡ ordering_then (slice_cmp nat_cmp p q) (slice_cmp nat_cmp s t)
 slice_cmp-append [] [] s t h = refl
 slice_cmp-append [] (y ∷ q) s t h = absurd (omega arith)
@@ -26,7 +26,7 @@ slice_cmp-append (x ∷ p) (y ∷ q) s t h =
     ap (ordering_then (nat_cmp x y)) (slice_cmp-append p q s t (omega arith))
     ∙ ordering_then_assoc (nat_cmp x y) (slice_cmp nat_cmp p q) (slice_cmp nat_cmp s t)
 
--- a string is greater than none, unless it is empty itself
+-- a string is greater than the empty one, unless it is empty itself
 pub slice_cmp-nil : (xs : List ℕ) → slice_cmp nat_cmp xs [] ≡ nat_cmp (length xs) 0
 slice_cmp-nil [] = refl
 slice_cmp-nil (x ∷ xs) = nat_cmp_is (length (x ∷ xs)) 0 Greater (omega arith)
@@ -49,7 +49,7 @@ slice_cmp-needle p s n h =
     ∙ slice_cmp-append (take (length n) p) n (drop (length n) p ++ s) [] l
     ∙ ap (ordering_then (slice_cmp nat_cmp (take (length n) p) n)) (slice_cmp-nil (drop (length n) p ++ s) ∙ ap (λ k. nat_cmp k 0) (length-append (drop (length n) p) s))
 
--- so many more decides nothing
+-- adding one number to both sides changes no comparison
 pub nat_cmp-add_left : (c m n : ℕ) → nat_cmp (c + m) (c + n) ≡ nat_cmp m n
 nat_cmp-add_left c m n = elim (cases_lt m n) [
   | inl less ↦ sym (nat_cmp_is (c + m) (c + n) Less (omega arith)) ∙ nat_cmp_is m n Less less
@@ -63,7 +63,7 @@ nat_cmp-add_left c m n = elim (cases_lt m n) [
 first_decides : (x y p r s : ℕ) → x < y → r < p → x * p + r < y * p + s
 first_decides x y p r s h k = let m : (x + 1) * p ≤ y * p = mul-le-mul_right p (omega arith) in omega arith
 
--- the number of bytes, the highest first: the first, and what those after it are
+-- the number that bytes encode, the highest first: the first byte, and the number that the bytes after it encode
 big_number-cons : (n b : ℕ) (bs : List ℕ) → big_number (suc n) (b ∷ bs) ≡ b * 256 ^ n + big_number n bs
 big_number-cons n b bs = ap (λ m. b * 256 ^ n + m) (big_from-cons 0 n b bs)
 

@@ -25,7 +25,7 @@ peekable_items value_of items p = option_to_list (option_map (value_of p.iter) p
 abbrev pub with_inner : {T I : Type 0} → DoubleEndedPeekable T I → I → DoubleEndedPeekable T I
 with_inner p iter = record p { iter = iter }
 
--- once what was lent is given back, the iterator at s has the items left that it had, and what it had peeked at its other end
+-- once the borrow ends, the iterator at s has the items left that it had, and what it had peeked at its other end
 abbrev pub KeepsItems : {V T : Type 0} (R : RattleType) → (R.Denot → List V) → (R.Denot → Option T) → MutBor R.Denot → Fml
 KeepsItems R items other s = follows_so R R s.ghost_name none (λ _ _. ⊤) (λ t. (items t ≡ items s.now) × (other t ≡ other s.now))
 

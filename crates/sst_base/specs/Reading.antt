@@ -1,4 +1,4 @@
--- What stands at the start of bytes: a value, and the bytes after it.
+-- What is encoded at the start of bytes: a value, and the bytes after it.
 use Rattle.std.specs.Prelude.{ℕ, ◌∷◌, [], ◌++◌, List, length, take, drop, nat_le, if◌then◌else◌, Option, Some, None}
 use Rattle.sst_base.specs.Varint.{varint, varint_at}
 use Rattle.sst_base.specs.declared.value_type.ValueType.{ValueType}
@@ -10,7 +10,7 @@ abbrev pub ◌>>=◌ : {A B : Type 0} → Option A → (A → Option B) → Opti
 (Some x) >>= f = f x
 None >>= f = None
 
--- a byte string with its length in front
+-- a byte string after its length
 abbrev pub length_prefixed : List ℕ → List ℕ
 length_prefixed bytes = varint (length bytes) ++ bytes
 
@@ -27,7 +27,7 @@ number_at bits bytes = do
   n ← varint_at bits bytes
   Some (n.0, drop n.1 bytes)
 
--- a length below 2 ^ bits, and so many bytes
+-- a length below 2 ^ bits, and that many bytes
 unfoldable pub length_prefixed_at : ℕ → List ℕ → Option (List ℕ × List ℕ)
 length_prefixed_at bits bytes = do
   n ← number_at bits bytes

@@ -12,17 +12,17 @@ use Rattle.sst_base.specs.declared.value_type.ValueType.{ValueType}
 use Rattle.sst_base.specs.declared.value_type.ValueType.TheVariants.{Value, Tombstone, WeakTombstone, Indirection}
 use Rattle.sst_base.specs.VarintLaws.{varint_at-varint, varint_at_takes}
 
--- a chain that gives something: its first reading does, and so does what follows it
+-- where a chain of readings returns a value, the first reading does, and so does what follows it
 pub bind_some : {A B : Type 0} (o : Option A) (f : A → Option B) (y : B) → (o >>= f) ≡ Some y → (x : A) × (o ≡ Some x) × (f x ≡ Some y)
 bind_some (Some x) f y e = (x, refl, e)
 bind_some None f y e = cc
 
--- what a reading that gives something gives
+-- the value that a reading returns
 pub some_value : {A : Type 0} (o : Option A) → IsSome o → (x : A) × (o ≡ Some x)
 some_value (Some x) h = (x, refl)
 some_value None h = cc
 
--- in a chain that gives something, the first reading does
+-- where a chain of readings returns a value, the first reading does
 pub chain_first : {A B : Type 0} (o : Option A) (f : A → Option B) → IsSome (o >>= f) → IsSome o
 chain_first (Some x) f h = refl
 chain_first None f h = cc

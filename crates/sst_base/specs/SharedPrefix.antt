@@ -1,7 +1,7 @@
--- What two byte strings have in common at their front.
+-- The prefix that two byte strings share.
 use Rattle.std.specs.Prelude.{ℕ, suc, ◌==◌, if◌then◌else◌, List, [], ◌∷◌}
 
--- the greatest length at which the fronts of two byte strings agree
+-- the length of the longest shared prefix of two byte strings
 abbrev pub shared_prefix_length : List ℕ → List ℕ → ℕ
 shared_prefix_length [] ys = 0
 shared_prefix_length (x ∷ xs) [] = 0

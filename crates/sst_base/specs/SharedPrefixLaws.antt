@@ -11,7 +11,7 @@ shared_prefix_inside (x ∷ a) (y ∷ b) = elim (cases_eq x y) [
   | inr n ↦ (rw (ne_eqb x y n) (omega arith, omega arith))
 ]
 
--- the shared front of the first and the rest of the second are the second
+-- the shared prefix of the first and the rest of the second, joined, are the second
 pub shared_prefix_joins : (a b : List ℕ) → take (shared_prefix_length a b) a ++ drop (shared_prefix_length a b) b ≡ b
 shared_prefix_joins [] b = refl
 shared_prefix_joins (x ∷ a) [] = refl
@@ -20,7 +20,7 @@ shared_prefix_joins (x ∷ a) (y ∷ b) = elim (cases_eq x y) [
   | inr n ↦ rw (ne_eqb x y n) refl
 ]
 
--- fronts that agree, and what is shared after them
+-- equal prefixes, and what is shared after them
 pub shared_prefix_behind : (n : ℕ) (a b : List ℕ) → n ≤ length a → n ≤ length b → take n a ≡ take n b → n + shared_prefix_length (drop n a) (drop n b) ≡ shared_prefix_length a b
 shared_prefix_behind zero a b h k e = omega arith
 shared_prefix_behind (suc n) [] b h k e = absurd (omega arith)

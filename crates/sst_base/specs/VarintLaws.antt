@@ -8,7 +8,7 @@ use Rattle.std.proofs.lemmas.Bool.Decides.{nat_tests}
 use Rattle.sst_base.specs.Bytes.{IsBytes}
 use Rattle.sst_base.specs.Varint.{IsVarint, IsWidth, varint_within, varint, varint_up_to, varint_at, with_digit, with_digits}
 
--- one more digit at the front
+-- one more digit before an encoding
 pub IsVarint-more : (digit high : ℕ) (bs : List ℕ) → digit < 128 → 0 < high → IsVarint bs high → IsVarint ((digit + 128) ∷ bs) (digit + 128 * high)
 IsVarint-more digit high [] d h v = absurd v
 IsVarint-more digit high (c ∷ bs) d h v = (omega arith, omega arith, high, h, omega arith, v)
@@ -59,7 +59,7 @@ one_form_lem (c ∷ c' ∷ a) (d ∷ d' ∷ b) x y m n v w e =
     let h : c ≡ d = cc in
     (cc (t.0), omega (arith, t.1))
 
--- room for seven bits less
+-- a number without its lowest seven bits is below a limit of seven bits less
 pub less_room : (n i : ℕ) → i < 9 → n < 2 ^ (64 - 7 * i) → n / 128 < 2 ^ (64 - 7 * (i + 1))
 less_room n i h l = div_below n 128 (2 ^ (64 - 7 * (i + 1))) (omega arith)
     (let e : 64 - 7 * i ≡ (64 - 7 * (i + 1)) + 7 = omega arith in
@@ -299,14 +299,14 @@ module _ (bytes : List ℕ) (i sum scale room : ℕ) (whole : Option (ℕ × ℕ
         sym (with_digits_more i sum scale (b - 128) (varint_up_to ((room - (b - 128)) / 128) (drop (i + 1) bytes)))
         ∙ ap (with_digits i sum scale) (sym (at_more room b (drop (i + 1) bytes) l r)) ∙ here
 
--- what is left of the room
+-- a digit and what is left of the limit after it
 pub less_left : (sum scale room d max : ℕ) → d ≤ room → sum + scale * room ≤ max → (sum + scale * d) + (scale * 128) * ((room - d) / 128) ≤ max
 less_left sum scale room d max h fits =
     let q : d + 128 * ((room - d) / 128) ≤ room = omega arith in
     let m : scale * (d + 128 * ((room - d) / 128)) ≤ scale * room = mul-le-mul_left scale q in
     omega arith
 
--- what is answered is a varint
+-- what is returned is the number and the length of a varint
 pub varint_at_found : (bits : ℕ) (bytes : List ℕ) (o : Option (ℕ × ℕ)) → IsBytes bytes → bits ≤ 64 → o ≡ varint_at bits bytes
     → IfSome o (λ f. f.1 ≤ length bytes) × IfSome o (λ f. f.0 < 2 ^ bits) × IfSome o (λ f. IsVarint (take f.1 bytes) f.0)
 varint_at_found bits bytes None b h e = (tt, tt, tt)
@@ -315,7 +315,7 @@ varint_at_found bits bytes (Some p) b h e =
     let most : 2 ^ bits ≤ 2 ^ 64 = pow-le-pow_right (lit< tt) h in
     (r.2, r.1, subst (λ xs. IsVarint xs p.0) (sym r.0) (IsVarint-varint p.0 (omega (arith, r.1))))
 
--- what is refused has no front that is one
+-- where nothing is returned, no prefix of the bytes is a varint
 pub varint_at_none : (bits : ℕ) (bytes : List ℕ) (o : Option (ℕ × ℕ)) → o ≡ varint_at bits bytes → IfNone o ((n len : ℕ) → n < 2 ^ bits → IsVarint (take len bytes) n → ⊥)
 unfolding varint_at
 varint_at_none bits bytes None e = λ n len h v.

@@ -147,7 +147,7 @@ impl<W, H: BlockHash> ChecksummedWriter<W, H> {
         self.accepted.checksum()
     }
 
-    /// Lends the writer. What is written to it directly is not part of the checksum.
+    /// Returns the writer, borrowed. What is written to it directly is not part of the checksum.
     pub fn inner_mut(&mut self) -> &mut W
         ensures value { result.now ≡ self.old.inner }
         ensures* writes_back { sem 𝓛

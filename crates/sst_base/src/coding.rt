@@ -1,4 +1,4 @@
-//! Encodings: what has one, and varints, numbers in base 128, least significant digit first.
+//! Values with an encoding, and varints: numbers in base 128, least significant digit first.
 ghost use Rattle.std.specs.Prelude.{◌≡◌, ℕ, ◌+◌, ◌^◌};
 ghost use Rattle.std.specs.Prelude.{◌<◌, ◌≤◌, ◌++◌, length, take};
 ghost use Rattle.std.specs.Prelude.{OnOk, OnErr, IsOkUnless, IfSome, IfNone, None};
@@ -16,7 +16,7 @@ use crate::input::Input;
 use std::alloc::Global;
 use std::io::Write;
 
-/// What has an encoding.
+/// A value with an encoding.
 pub trait Encode {
     // the bytes of the encoding
     ghost encoding: { Self → List ℕ };
@@ -41,16 +41,16 @@ pub trait Encode {
         ensures memory { IsOkUnless result Error.Memory };
 }
 
-/// What can be decoded.
+/// A value that can be decoded.
 pub trait Decode: Sized {
-    // what is encoded at the start of bytes and the bytes after it, or the first refusal
+    // what is encoded at the start of bytes and the bytes after it, or the first error
     ghost decoded: { List ℕ → Outcome (Self × List ℕ) Error };
 
     /// Decodes what is next in a reader.
     ///
     /// # Errors
     ///
-    /// `Error::Io` if the reader fails, or ends before; else the first refusal.
+    /// `Error::Io` if the reader fails, or ends before; else the first error in the bytes.
     fn decode_from<R: Input>(reader: &mut R) -> Result<Self>
         ensures read { (bytes : List ℕ) → R.remaining reader.old ≡ Some bytes
             → Reads (R.is_memory reader.old) result (R.remaining reader.new) (decoded bytes) }

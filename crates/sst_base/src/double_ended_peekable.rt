@@ -53,7 +53,7 @@ pub trait ListIterator: DoubleEndedIterator {
         → Self.next_back_gives s r t → value_of t ≡ value_of s };
 }
 
-/// An iterator over a slice. Clauses see the elements behind the references.
+/// An iterator over a slice. Clauses see the elements that the references borrow.
 impl<'a, T> ListIterator for slice::Iter<'a, T> {
     type Value = T;
 
@@ -115,9 +115,9 @@ impl<I: ListIterator<Item: Drop>> DoubleEndedPeekableExt for I {
     }
 }
 
-/// An iterator whose first and last item can be looked at before they are taken. Clauses see the
+/// An iterator whose first and last item can be peeked at before they are taken. Clauses see the
 /// items left: the peeked front item, if any, those of the inner iterator, and the peeked back
-/// item, if any. No item is taken from the inner iterator before it is asked for. That the inner
+/// item, if any. No item is taken from the inner iterator before it is requested. That the inner
 /// iterator ended is not remembered.
 #[derive(Drop)]
 pub struct DoubleEndedPeekable<T, I> {

@@ -30,7 +30,7 @@ pub enum TagName {
 /// The errors of the block layer. Each has a number, which programs print beside its name.
 #[derive(Clone, Copy, Debug, PartialEq, Eq, Error)]
 pub enum Error {
-    /// E1: the reader, writer, file or source failed, or an input ended before the bytes asked for.
+    /// E1: the reader, writer, file or source failed, or an input ended before the requested bytes.
     #[error("input or output failed")]
     Io,
     /// E2: the magic bytes differ.
@@ -65,10 +65,10 @@ pub enum Error {
     /// E10: an item sorts before its predecessor.
     #[error("out of order")]
     OutOfOrder,
-    /// E11: a pointer of the binary index, or the pointer width, is not that of the items.
+    /// E11: a pointer of the binary index, or the pointer width, does not match the items.
     #[error("bad binary index")]
     BadIndex,
-    /// E12: a bucket of the hash index is not that of the items.
+    /// E12: a bucket of the hash index does not match the items.
     #[error("bad hash index")]
     BadHashIndex,
     /// E13: the number of bits or of probes does not fit the filter.

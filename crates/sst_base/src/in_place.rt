@@ -24,8 +24,8 @@ const CHUNK_LEN: usize = 16;
 // The last index from which a chunk of a short byte string can be copied.
 const LAST_CHUNK: usize = SHORT_LEN - CHUNK_LEN;
 
-// Makes the vector longer by bytes that say nothing: room for some forms, and as many as it has, at
-// most a mebibyte, so that this is done seldom.
+// Makes the vector longer by unspecified bytes: room for some forms, and as many as it has, at
+// most a mebibyte, so that this is seldom done.
 #[cold]
 #[inline(never)]
 fn add_room(writer: &mut Vec<u8>) -> AllocResult<()>
@@ -37,7 +37,7 @@ fn add_room(writer: &mut Vec<u8>) -> AllocResult<()>
     writer.resize(len + len.min(MOST_ROOM) + 4 * FORM_ROOM, 0)
 }
 
-/// Makes room for a form after the first `at` bytes: what follows them says nothing.
+/// Makes room for a form after the first `at` bytes: the bytes after them are unspecified.
 ///
 /// # Errors
 ///

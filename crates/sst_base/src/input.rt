@@ -27,7 +27,7 @@ pub trait Input: Read {
     ///
     /// # Errors
     ///
-    /// `Error::Io` if the reader fails, or ends before.
+    /// `Error::Io` if the reader fails, or ends before the buffer is full.
     fn fill(&mut self, buf: &mut [u8]) -> Result<()>
         ensures ok { OnOk result
             (Consumes (Self.remaining self.old) (Self.remaining self.new) buf.new) }
@@ -199,7 +199,7 @@ pub(crate) fn array_from<const N: usize, R: Input>(reader: &mut R) -> Result<[u8
     Ok(bytes)
 }
 
-/// Tells a proof that the cells of a slice are bytes. Does nothing.
+/// States for a proof that the cells of a slice are bytes. Does nothing.
 #[inline(always)]
 pub(crate) fn note_bytes(bytes: &[u8])
     ensures { IsBytes bytes.now }

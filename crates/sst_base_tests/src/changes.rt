@@ -1,4 +1,4 @@
-//! Bytes beside worked ones: one byte changed, cut short, or lengthened.
+//! Changes of test vectors: one byte changed, cut short, or lengthened.
 use sst_base::Result;
 use std::alloc::Global;
 

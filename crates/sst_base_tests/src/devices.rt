@@ -7,7 +7,7 @@ use sst_base::input::{Input, SeekInput};
 use std::io;
 use std::io::{ErrorKind, Read, Seek, SeekFrom, Write};
 
-/// Gives a byte a call, counts the calls, and keeps the greatest number of bytes asked for. The
+/// Gives a byte a call, counts the calls, and keeps the greatest number of bytes requested. The
 /// call `fails_at` fails.
 #[derive(Drop)]
 pub struct SlowReader<'a> {
@@ -17,7 +17,7 @@ pub struct SlowReader<'a> {
     pub calls: usize,
     /// The call that fails, from 0.
     pub fails_at: usize,
-    /// The greatest number of bytes that a call asked for.
+    /// The greatest number of bytes that a call requested.
     pub most: usize,
 }
 

@@ -1,4 +1,4 @@
-// Frames, headers, handles and streams: worked values, damaged bytes, slow and failing devices.
+// Frames, headers, handles and streams: examples, damaged bytes, slow and failing devices.
 use crate::Tested;
 use crate::devices::{Failure, SlowFile, SlowReader, SlowWriter};
 use crate::rows::{Row, check_rows};
@@ -86,8 +86,8 @@ fn read_frame(alloc: Global, bytes: &[u8]) -> Result<Seen> {
     see(Block::from_frame::<ByteSum>(Slice::new(alloc, bytes)?), 0)
 }
 
-// What is wanted of a read: the block of `abc` and the number of bytes left, an error, or that of
-// two checksums, the computed and the stored.
+// What is wanted of a read: the block of `abc` and the number of bytes left, an error, or the error
+// of two checksums, the computed and the stored.
 #[derive(Drop)]
 enum Wanted {
     Abc(usize),
@@ -138,8 +138,8 @@ const NO_HEADER: Wanted = Wanted::Refused(Error::InvalidHeader(HeaderName::Block
 
 const NO_TYPE: Wanted = Wanted::Refused(Error::InvalidTag(TagName::BlockType, 4));
 
-// The changes of the frame of `abc`, its length or that of its front, what is read from a reader,
-// and what is read of the frame.
+// The changes of the frame of `abc`, its length or the length of a prefix of it, what is read from
+// a reader, and what is read of the frame.
 #[derive(Drop)]
 struct Damaged(Changes, usize, Wanted, Wanted);
 
@@ -402,7 +402,7 @@ const SIZES: [(u32, Wanted); 4] = [
     (40, Wanted::Refused(Error::Io)),
 ];
 
-// Reads the frame at the front of a file by a handle of a size.
+// Reads the frame at the start of a file by a handle of a size.
 fn read_file(alloc: Global, mut file: File, size: u32) -> Result<Seen> {
     let handle = BlockHandle::new(BlockOffset(0), size);
     see(

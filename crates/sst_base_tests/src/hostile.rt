@@ -1,5 +1,5 @@
-// Headers, frames and handles beside worked ones: each byte changed to each other value, cut before
-// each byte, and lengthened. What is wanted comes from decoders written by the format.
+// Changes of test vectors of headers, frames and handles: each byte changed to each other value,
+// cut before each byte, and lengthened. What is wanted comes from decoders written by the format.
 use crate::Tested;
 use crate::changes::{change_count, changed};
 use crate::frames::{ABC, EMPTY, HEADER_ONLY};
@@ -114,7 +114,7 @@ fn wanted(header: Result<Header>) -> Result<(Header, bool)> {
     Ok((header?, true))
 }
 
-// Sets the checksum of a header to that of its bytes.
+// Sets the checksum of a header to the checksum of its bytes.
 fn mend_header(bytes: &mut [u8]) {
     let sum = sum_of(bytes.get(..29).unwrap_or(b"")).to_le_bytes();
     for (place, byte) in bytes.iter_mut().skip(29).zip(sum.iter().take(4)) {
@@ -122,7 +122,7 @@ fn mend_header(bytes: &mut [u8]) {
     }
 }
 
-// Sets the checksum of a payload to that of the bytes after the header.
+// Sets the checksum of a payload to the checksum of the bytes after the header.
 fn mend_payload(bytes: &mut [u8]) {
     let sum = sum_of(bytes.get(33..).unwrap_or(b"")).to_le_bytes();
     for (place, byte) in bytes.iter_mut().skip(5).zip(sum.iter()) {
@@ -245,7 +245,7 @@ fn is_by_format(alloc: Global, kind: Kind, bytes: &[u8]) -> Result<bool> {
     }
 }
 
-// Worked bytes of a kind, and which checksums fit each change of them.
+// A test vector of a kind, and which checksums fit each change of it.
 #[derive(Drop)]
 struct Worked(Kind, &'static [u8], &'static [Mended]);
 
@@ -283,7 +283,7 @@ fn is_judged(alloc: Global, kind: Kind, mut bytes: Vec<u8>, mended: Mended) -> R
     is_by_format(alloc, kind, bytes.as_slice())
 }
 
-// Checks all changes of worked bytes.
+// Checks all changes of a test vector.
 fn check_changes(rt: &impl Abort, alloc: Global, worked: &Worked, mended: Mended) -> Result<()> {
     let Worked(kind, bytes, _) = worked;
     assert!(rt; is_by_format(alloc, *kind, bytes) == Ok(true), "{kind:?}");

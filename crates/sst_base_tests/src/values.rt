@@ -150,7 +150,7 @@ fn byte_strings_compare(rt: HostRuntime) {
     check_rows(&rt, rt.alloc(), &PAIRS);
 }
 
-// Bytes, a width in bits, and the number and the length of the varint at their front.
+// Bytes, a width in bits, and the number and the length of the varint at their start.
 #[derive(Drop)]
 struct Varint(&'static [u8], u32, Option<(u64, usize)>);
 

@@ -1,4 +1,4 @@
--- Searches: where a predicate turns, and which item is the first that is sought.
+-- Searches: where a predicate changes from true to false, and which item is the first that is sought.
 pub mod Cuts
 pub mod Halves
 pub mod HeadAnswers

@@ -1,4 +1,4 @@
--- Encoders: what they have written, and what they refuse.
+-- Encoders: what they have written, and the errors that they return.
 pub mod Written
 pub mod Endings
 pub mod PointerOrders

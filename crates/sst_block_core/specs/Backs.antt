@@ -31,14 +31,14 @@ back_cost r n hi = if ((hi % r) == 0 || hi == n) then hi - first_of r hi else 0
 abbrev pub seek_upper_picked : {X : Type 0} → ℕ → Bool → ℕ → Window X → Window X × Answer X
 seek_upper_picked r second p w = (record w { hi = min (length w.list) ((picked_head second p (head_count r (length w.list)) + 1) * r) }, found true)
 
--- a call that may look at heads and items is a step of the window
+-- a call that may decode heads and items is a step of the window
 pub record GivesStep {X : Type 0} (s t : Scan X) (answer : Answer X) (step : Window X × Answer X) : Type 0 where
   pub payload : t.payload ≡ s.payload
   pub interval : t.interval ≡ s.interval
   pub step_is : ◌≡◌ {A = Window X × Answer X} (t.window, answer) step
 
--- A call of `next_back` is that step of the window, whose end lies within the list. It counts an entry for an item, and those of the item's interval where
--- that ends with it.
+-- A call of `next_back` is that step of the window, whose end lies within the list. It counts an entry for an item, and
+-- the entries of the item's interval where that ends with it.
 pub record GivesNextBack {X P : Type 0} (item_of : List ℕ → P → X) (is_found : List ℕ → P → Type 0) (s : Scan X) (r : Option P) (t : Scan X) : Type 0 where
   pub within : s.window.hi ≤ length s.window.list
   pub payload : t.payload ≡ s.payload

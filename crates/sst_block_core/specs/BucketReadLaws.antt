@@ -1,4 +1,4 @@
--- Laws of reading buckets: what a bucket says of the items with a key: where they stand, or that there are none.
+-- Laws of reading buckets: what a bucket says of the items with a key: where they are, or that there are none.
 use Rattle.std.proofs.Common.{◌≡◌, ℕ, ◌+◌, ◌-◌, ◌*◌, ◌/◌, ◌%◌, ◌<◌, ◌≤◌, zero, suc, cond, eqb, Bool, true, false, List, [], ◌∷◌, length, slice_get, slice_index, Some, sym, ap, subst, ◌∙◌, arith, inl, inr}
 use Rattle.std.specs.List.{AllByRecursion, list_all}
 use Rattle.std.proofs.lemmas.Bool.{cases_Bool, eq-eqb, eqb-true}
@@ -93,7 +93,7 @@ module _ {X : Type 0} (kind : Kind X) (hash : List ℕ → ℕ) (r b : ℕ) (ite
       holds_at kind hash r b (hash needle % b) (λ n. ⊥) 0 items i x at (ap (λ key. hash key % b) same)
       (none_free (intervals_from kind hash r b (hash needle % b) 0 items) intervals_few (sym byte_is ∙ free))
 
-  -- a bucket with the number of an interval: each item with the key stands in that interval
+  -- a bucket with the number of an interval: each item with the key is in that interval
   pub bucket_interval : (n : ℕ) → slice_index (buckets kind hash r items b) (hash needle % b) ≡ n → (n ≡ 254 → ⊥) → (n ≡ 255 → ⊥)
       → (i : ℕ) (x : X) → slice_get items i ≡ Some x → kind.key x ≡ needle → (i / r ≡ n) × (n * r ≤ i) × (i < (n + 1) * r)
   bucket_interval n is used alone i x at same =

@@ -1,4 +1,4 @@
--- Varints that stand in bytes, of which the first digits are read.
+-- Varints that are encoded in bytes, of which the first digits are read.
 use Rattle.std.specs.Prelude.{◌≡◌, ℕ, ◌+◌, ◌-◌, ◌*◌, ◌^◌, ◌≤◌, List, drop}
 use Rattle.sst_base.specs.Varint.{varint_up_to, varint_at, with_digits}
 

@@ -1,4 +1,4 @@
--- Laws of ranges of a payload: how long they are, and what stands where they begin.
+-- Laws of ranges of a payload: how long they are, and what is encoded where they begin.
 use Rattle.std.proofs.Common.{◌≡◌, ◌<◌, ◌≤◌, ℕ, ◌-◌, List, drop, length, sym, ltb, true, arith, length-drop}
 use Rattle.std.proofs.lemmas.List.{length-take-le, take-append-drop}
 use Rattle.std.proofs.lemmas.Bool.{lt-ltb}
@@ -16,7 +16,7 @@ some_between a b h ne = omega arith
 pub range_some : (bytes : List ℕ) (range : SliceIndexes) → range.0 ≤ range.1 → range.1 ≤ length bytes → (range.0 ≡ range.1 → ⊥) → ltb 0 (length (range_of bytes range)) ≡ true
 range_some bytes range h k ne = let l = length-range bytes range h k in lt-ltb _ _ (omega (arith, l, some_between range.0 range.1 h ne))
 
--- at its start stand the bytes of a range
+-- the bytes of a range are encoded at its start
 pub range_stands : (bytes : List ℕ) (range : SliceIndexes) → range.0 ≤ range.1 → range.1 ≤ length bytes → IsEncodedAt bytes range.0 (range_of bytes range)
 range_stands bytes range h k = record {
   inside = omega arith;

@@ -48,7 +48,7 @@ digits_within (suc fuel) (suc n) = digits_within fuel (suc n / 2) + 1
 abbrev pub digits : ℕ → ℕ
 digits n = digits_within n n
 
--- at the head of interval j a predicate answered b
+-- at the head of interval j a predicate returned b
 pub record Answered {X : Type 0} (kind : Kind X) (post : Bor (List ℕ) → ℕ → Bool → Type 0) (r : ℕ) (items : List X) (j : ℕ) (b : Bool) : Type 0 where
   pub item : X
   pub there : slice_get items (j * r) ≡ Some item
@@ -56,11 +56,11 @@ pub record Answered {X : Type 0} (kind : Kind X) (post : Bor (List ℕ) → ℕ 
   pub is : key.now ≡ kind.key item
   pub got : post key (kind.seqno item) b
 
--- each answer of a predicate at the head of interval j is b
+-- each result of a predicate at the head of interval j is b
 abbrev pub Answers : {X : Type 0} → Kind X → (Bor (List ℕ) → ℕ → Bool → Type 0) → ℕ → List X → ℕ → Bool → Type 0
 Answers kind post r items j b = (x : _) (key : Bor (List ℕ)) (got : Bool) → slice_get items (j * r) ≡ Some x → key.now ≡ kind.key x → post key (kind.seqno x) got → got ≡ b
 
--- a predicate is true at the first p of so many heads, and false at the others
+-- a predicate is true at the first p of this many heads, and false at the others
 pub record Splits {X : Type 0} (kind : Kind X) (post : Bor (List ℕ) → ℕ → Bool → Type 0) (r : ℕ) (items : List X) (heads p : ℕ) : Type 0 where
   pub bound : p ≤ heads
   pub first : (j : ℕ) → j < p → Answers kind post r items j true
@@ -88,7 +88,7 @@ pub record IsEntered {X : Type 0} (kind : Kind X) (needle : List ℕ) (from : Op
   pub inside : end ≤ length list.items
   pub no_head : (i : ℕ) → at.index ≤ i → i < end → 0 < i % list.interval
 
--- an item by its ranges was found at an index of a list, and has this key
+-- an item by its ranges is the one at an index of a list, and has this key
 pub record IsFoundAt {X P : Type 0} (item_of : List ℕ → P → X) (is_found : List ℕ → P → Type 0) (kind : Kind X) (needle : List ℕ) (list : Listed X) (place : ℕ) (p : P) : Type 0 where
   pub there : slice_get list.items place ≡ Some (item_of list.payload p)
   pub found : is_found list.payload p

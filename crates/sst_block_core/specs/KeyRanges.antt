@@ -30,7 +30,7 @@ pub record IsVersion {X : Type 0} (kind : Kind X) (payload : List ℕ) (x : X) (
 abbrev pub least_version : KeyVersion
 least_version = record { key = record { prefix = record { 0 = 0; 1 = 0 }; rest = record { 0 = 0; 1 = 0 } }; seqno = 18446744073709551615 }
 
--- those of the last item; the least where there is none
+-- the key and the sequence number of the last item; the least version where there is none
 abbrev pub IsLast : {X : Type 0} → Kind X → List ℕ → KeyVersion → Option X → Type 0
 IsLast kind payload v None = v ≡ least_version
 IsLast kind payload v (Some x) = IsVersion kind payload x v

@@ -27,7 +27,7 @@ module _ {X : Type 0} (kind : Kind X) (r : ℕ) (pos : 0 < r) where
       let rest = forms-more items more (i + 1) xs (omega arith) in
       cc
 
-  -- the body of a list is that of a front and the forms of the rest
+  -- the body of a list is the body of its first items and the forms of the rest
   pub body-append : (xs ys : List X) → body kind r (xs ++ ys) ≡ body kind r xs ++ forms kind r (xs ++ ys) (length xs) ys
   unfolding body
   body-append xs ys =
@@ -70,7 +70,7 @@ module _ {X : Type 0} (kind : Kind X) (r : ℕ) (pos : 0 < r) where
     unfolding body
     body_long items = length-forms items items 0
 
-    -- a place after begins after
+    -- a later place begins at a greater offset
     pub place_gap : (items : List X) (i j : ℕ) → i ≤ j → j ≤ length items → place_offset kind r items i + (j - i) ≤ place_offset kind r items j
     place_gap items i j h inside =
         let xs = take j items in
@@ -84,7 +84,7 @@ module _ {X : Type 0} (kind : Kind X) (r : ℕ) (pos : 0 < r) where
         let e = ap (λ ys. length (body kind r ys)) front in
         omega (arith, whole, l, rest, n, m, e)
 
-    -- a head at most another stands at or before it, one below it before it
+    -- a head whose offset is at most another's has at most its index
     pub head_upto : (items : List X) (i j : ℕ) → i * r < length items → j * r < length items → place_offset kind r items (i * r) ≤ place_offset kind r items (j * r) → i ≤ j
     head_upto items i j h k le = elim (cases_lt j i) [
       | inl less ↦ absurd (
@@ -95,7 +95,7 @@ module _ {X : Type 0} (kind : Kind X) (r : ℕ) (pos : 0 < r) where
       | inr ge ↦ ge
     ]
 
-    -- a head whose offset is less stands in front
+    -- a head whose offset is less has a lesser index
     pub head_behind : (items : List X) (i j : ℕ) → i * r < length items → j * r < length items → place_offset kind r items (j * r) < place_offset kind r items (i * r) → j < i
     head_behind items i j h k lt = elim (cases_lt j i) [
       | inl less ↦ less

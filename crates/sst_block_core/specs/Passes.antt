@@ -28,7 +28,7 @@ trailer_by n = record {
   item_count = n.item_count;
 }
 
--- the key of the head before what follows these items, of which the first has index i; `base` is that before them
+-- the key of the head before what follows these items, of which the first has index i; `base` is the key before them
 abbrev pub base_after : {X : Type 0} → Kind X → ℕ → ℕ → List X → List ℕ → List ℕ
 base_after kind r i [] base = base
 base_after kind r i (x ∷ xs) base = base_after kind r (i + 1) xs (if (i % r) == 0 then kind.key x else base)
@@ -39,7 +39,7 @@ last_of [] = None
 last_of (x ∷ []) = Some x
 last_of (x ∷ y ∷ xs) = last_of (y ∷ xs)
 
--- decoding as many items from the front of a body gives these, and ends at an offset, after a head with this key
+-- decoding as many items from the start of a body gives these, and ends at an offset, after a head with this key
 pub record IsRead {X : Type 0} (kind : Kind X) (r : ℕ) (body : List ℕ) (xs : List X) (place offset : ℕ) (base : List ℕ) : Type 0 where
   pub count : place ≡ length xs
   pub inside : offset ≤ length body
@@ -62,18 +62,18 @@ pub record IsAlong {X : Type 0} (kind : Kind X) (fits : X → Type 0) (r : ℕ) 
   pub last_is : IsLast kind body at.last (last_of xs)
   pub judged : IsJudged kind fits r pointers xs at.passed.all_fit at.passed.is_ordered at.passed.is_indexed
 
--- the state of a pass after so many items, of which this is known besides
+-- the state of a pass after this many items, of which this is known besides
 pub record GoesOn {X : Type 0} (kind : Kind X) (fits : X → Type 0) (r : ℕ) (body pointers : List ℕ) (n : ℕ) (base : SliceIndexes) (at : PassState) (known : List X → Type 0) : Type 0 where
   pub items : List X
   pub count : length items ≡ n
   pub along : IsAlong kind fits r body pointers items base at
   pub besides : known items
 
--- none of so many places from one on is that of a head
+-- none of this many places from one on is the place of a head
 abbrev pub HasNoHead : ℕ → ℕ → ℕ → Type 0
 HasNoHead r place len = (k : ℕ) → k < len → (place + k) % r ≡ 0 → ⊥
 
--- a pass is over: the body is so many forms, and this was found of their items
+-- a pass is over: the body is this many forms, and this was found of their items
 pub record IsPassed {X : Type 0} (kind : Kind X) (fits : X → Type 0) (r n : ℕ) (body pointers : List ℕ) (all_fit is_ordered is_indexed : Bool) : Type 0 where
   pub items : List X
   pub reads : items_at kind r 0 n [] body ≡ Some (items, [])
@@ -86,8 +86,8 @@ pub record IsFound {X : Type 0} (kind : Kind X) (fits : X → Type 0) (t : Trail
   pub ordered : IsTrue is_ordered ↔ HasOrder kind t p
   pub indexed : IsTrue is_indexed ↔ HasPointers kind t p
 
--- a tally: the bytes of its buckets, the number of heads modulo 2 ^ 8, whether all memory that it asked for was there, and the
--- prefix of the last key
+-- a tally: the bytes of its buckets, the number of heads modulo 2 ^ 8, whether all memory that it requested was
+-- allocated, and the prefix of the last key
 pub record TallyState : Type 0 where
   pub table : List ℕ
   pub heads : ℕ
@@ -98,7 +98,7 @@ pub record TallyState : Type 0 where
 abbrev pub IsHashed : (List ℕ → ℕ) → List ℕ → HashedPrefix → Type 0
 IsHashed hash body prefix = hash (range_of body prefix.range) ≡ prefix.hash
 
--- the bytes of b buckets are those of these items, which have so many heads
+-- the bytes of b buckets are the buckets of these items, which have this many heads
 pub record IsTallied {X : Type 0} (kind : Kind X) (hash : List ℕ → ℕ) (r b : ℕ) (table : List ℕ) (heads : ℕ) (items : List X) : Type 0 where
   pub count : length table ≡ b
   pub heads_is : heads ≡ head_count r (length items)
@@ -124,7 +124,7 @@ IsItemsRefusal kind fits unfit t p e =
     ⊎ ((e ≡ OutOfOrder) × HasForms kind t p × AllByRecursion fits (items_by kind t p) × (HasOrder kind t p → ⊥))
     ⊎ ((e ≡ BadIndex) × HasForms kind t p × AllByRecursion fits (items_by kind t p) × HasOrder kind t p × (HasPointers kind t p → ⊥))
 
--- why the stored buckets of a payload are refused, all of whose other stages hold, or that no memory was there for them
+-- why the stored buckets of a payload are refused, all of whose other stages hold, or that their allocation failed
 abbrev pub IsBucketsRefusal : {X : Type 0} → Kind X → (X → Type 0) → (List ℕ → ℕ) → Trailer → List ℕ → Error → Type 0
 IsBucketsRefusal kind fits hash t p e =
     ((e ≡ BadHashIndex) × HasForms kind t p × AllByRecursion fits (items_by kind t p) × HasOrder kind t p × HasPointers kind t p × (HasBuckets kind hash t p → ⊥))

@@ -4,7 +4,7 @@ use Rattle.sst_block_core.specs.Kind.{Kind}
 use Rattle.sst_block_core.specs.Scan.{Listed, IsPlace}
 use Rattle.sst_block_core.specs.declared.table.block.place.Place.{Place}
 
--- a place is that of an item of a block, not the one after the last
+-- a place is the place of an item of a block, not the place after the last item
 pub record IsItemPlace {X : Type 0} (kind : Kind X) (list : Listed X) (at : Place) : Type 0 where
   pub inside : at.index < length list.items
   pub stands : IsPlace kind list at

@@ -18,7 +18,7 @@ pub each_push : {X : Type 0} (f : ℕ → X) (i n : ℕ) → each f i (suc n) �
 each_push f i zero = ap (λ k. f k ∷ []) (omega arith)
 each_push f i (suc n) = ap (λ xs. f i ∷ xs) (each_push f (i + 1) n ∙ ap (λ k. each f (i + 1) n ++ f k ∷ []) (omega arith))
 
--- as many numbers as are asked for
+-- as many numbers as are requested
 pub length-each : {X : Type 0} (f : ℕ → X) (i n : ℕ) → length (each f i n) ≡ n
 length-each f i zero = refl
 length-each f i (suc n) = ap suc (length-each f (i + 1) n)
@@ -28,13 +28,13 @@ pub each_same : {X : Type 0} (f g : ℕ → X) (i n : ℕ) → ((j : ℕ) → j 
 each_same f g i zero h = refl
 each_same f g i (suc n) h = let a = h i (omega arith) in let b = each_same f g (i + 1) n (λ j p. h j (omega arith)) in cc
 
--- what stands at a place of a list of a function
+-- the element at an index of a list of a function's values
 pub get_or-each : (f : ℕ → ℕ) (i n q d : ℕ) → q < n → get_or (each f i n) q d ≡ f (i + q)
 get_or-each f i zero q d h = absurd (omega arith)
 get_or-each f i (suc n) zero d h = ap f (omega arith)
 get_or-each f i (suc n) (suc q) d h = get_or-each f (i + 1) n q d (omega arith) ∙ ap f (omega arith)
 
--- a list is what stands at each of its places
+-- the elements of a list from an index on, by their indices
 pub each_get : (xs : List ℕ) (i n : ℕ) → length xs ≡ i + n → each (λ q. get_or xs q 0) i n ≡ drop i xs
 each_get xs i zero h = sym (drop_all i xs (omega arith))
 each_get xs i (suc n) h = ap (λ ys. get_or xs i 0 ∷ ys) (each_get xs (i + 1) n (omega arith)) ∙ sym (drop_more xs i 0 (omega arith))
@@ -82,14 +82,14 @@ row_at w f i (suc n) (suc j) h small =
     ∙ ap (λ ys. little_number w (drop (j * w) ys)) (drop_at (little_bytes w (f i)) rest w (length-bytes_low_first 0 w (f i)))
     ∙ again ∙ ap f (omega arith)
 
--- the same from place 0 on
+-- the same from index 0 on
 pub rows_whole : (w : ℕ) (xs : List ℕ) (n : ℕ) → IsBytes xs → length xs ≡ n * w → flat_map (little_bytes w) (each (λ j. little_number w (drop (j * w) xs)) 0 n) ≡ xs
 rows_whole w xs n b h =
     let e : 0 + n ≡ n = omega arith in
     let z : 0 * w ≡ 0 = omega arith in
     rows_are w xs 0 n b (h ∙ ap (λ m. m * w) (sym e)) ∙ ap (λ k. drop k xs) z
 
--- a row of a table from place 0 on
+-- a row of a table from index 0 on
 pub row_of : (w : ℕ) (f : ℕ → ℕ) (n j : ℕ) → j < n → ((k : ℕ) → k < n → f k < 256 ^ w) → little_number w (drop (j * w) (flat_map (little_bytes w) (each f 0 n))) ≡ f j
 row_of w f n j h small = row_at w f 0 n j h (λ k p. small k (omega arith)) ∙ ap f (omega arith)
 
@@ -97,30 +97,30 @@ row_of w f n j h small = row_at w f 0 n j h (λ k p. small k (omega arith)) ∙ 
 pub each_alike : {X : Type 0} (f g : ℕ → X) (n : ℕ) → ((j : ℕ) → j < n → f j ≡ g j) → each f 0 n ≡ each g 0 n
 each_alike f g n h = each_same f g 0 n (λ j p. h j (omega arith))
 
--- a list is what stands at all of its places
+-- a list is the list of its elements by their indices
 pub each_whole : (xs : List ℕ) (n : ℕ) → length xs ≡ n → each (λ q. get_or xs q 0) 0 n ≡ xs
 each_whole xs n h = each_get xs 0 n (omega arith)
 
--- what stands at a place of a list of a function from 0 on
+-- the element at an index of a list of a function's values from 0 on
 pub get_of-each : (f : ℕ → ℕ) (n q : ℕ) → q < n → get_or (each f 0 n) q 0 ≡ f q
 get_of-each f n q h = get_or-each f 0 n q 0 h ∙ ap f (omega arith)
 
--- how many heads there are: none of no items
+-- no items have no heads
 pub no_heads : (r : ℕ) → 1 ≤ r → head_count r 0 ≡ 0
 no_heads r pos = div-eq_of_lt (omega arith)
 
--- after an item those up to its place
+-- the number of heads of one item more: the intervals before it, and its own
 pub heads_behind : (n r : ℕ) → 1 ≤ r → head_count r (n + 1) ≡ n / r + 1
 heads_behind n r pos = let e : (n + 1) + (r - 1) ≡ n + r = omega arith in ap (λ k. k / r) e ∙ add-div_right n pos
 
--- before a head as many as intervals
+-- at a multiple of the interval there are as many heads as intervals
 pub heads_before : (n r : ℕ) → 1 ≤ r → n % r ≡ 0 → head_count r n ≡ n / r
 heads_before n r pos z =
     let d = div-add-mod' n r in
     let e : n + (r - 1) ≡ n / r * r + (r - 1) = omega arith in
     ap (λ k. k / r) e ∙ div-mul-add (n / r) r (r - 1) (omega arith)
 
--- within an interval its own head too
+-- within an interval its own head is one more
 pub heads_inside : (n r : ℕ) → 1 ≤ r → 0 < n % r → head_count r n ≡ n / r + 1
 heads_inside n r pos some =
     let d = div-add-mod' n r in
@@ -129,7 +129,7 @@ heads_inside n r pos some =
     let e : n + (r - 1) ≡ (n / r + 1) * r + (n % r - 1) = omega arith in
     ap (λ k. k / r) e ∙ div-mul-add (n / r + 1) r (n % r - 1) (omega arith)
 
--- no more than items
+-- there are no more heads than items
 pub heads_le : (n r : ℕ) → 1 ≤ r → head_count r n ≤ n
 heads_le n r pos =
     let d = div-add-mod' n r in
@@ -139,7 +139,7 @@ heads_le n r pos =
       | inr none ↦ (let e = heads_before n r pos (omega arith) in omega (arith, e, d, k))
     ]
 
--- and at least one of some items
+-- and at least one where there is an item
 pub heads_one : (n r : ℕ) → 1 ≤ r → 1 ≤ n → 1 ≤ head_count r n
 heads_one n r pos some = let e = heads_behind (n - 1) r pos in let f : (n - 1) + 1 ≡ n = omega arith in let g = ap (head_count r) f in omega (arith, e, g)
 

@@ -11,7 +11,7 @@ use Rattle.sst_block_core.specs.Window.{Window, Answer, Step, item, next, next_b
 pub item_same : {X : Type 0} (a b : Option X) → ◌≡◌ {A = Answer X} (item a) (item b) → a ≡ b
 item_same a b e = cc
 
--- an item of a list without its front stands that far after
+-- item n of a list without its first lo items is item lo + n of the list
 slice_get-drop : {X : Type 0} (xs : List X) (lo n : ℕ) → slice_get (drop lo xs) n ≡ slice_get xs (lo + n)
 slice_get-drop xs zero n = ap (slice_get xs) (let e : n ≡ 0 + n = omega arith in e)
 slice_get-drop [] (suc lo) n = refl

@@ -4,7 +4,7 @@ ghost use Rattle.sst_base.specs.Counted.{Counted, IsZero, CountsExactly};
 use crate::ghost_state::count::Count;
 use std::marker::Model;
 
-/// The numbers of heads and of entries that were looked at in blocks. Ghost state, zero-sized: only
+/// The numbers of heads and of entries that were examined in blocks. Ghost state, zero-sized: only
 /// clauses read it.
 #[derive(Drop)]
 pub struct Steps {

@@ -123,7 +123,7 @@ impl Slice {
         Ok(Slice::shared(Bytes::from_vec(bytes)?))
     }
 
-    /// Takes the bytes of a text.
+    /// Takes the bytes of a `String`.
     ///
     /// # Errors
     ///
@@ -135,7 +135,7 @@ impl Slice {
         Ok(Slice::shared(Bytes::from_string(text)?))
     }
 
-    /// Copies the bytes of a text.
+    /// Copies the bytes of a `str`.
     ///
     /// # Errors
     ///
@@ -180,7 +180,8 @@ impl Slice {
     ///
     /// # Errors
     ///
-    /// `Error::Io` if the reader fails, or ends before. `Error::Memory` if an allocation fails.
+    /// `Error::Io` if the reader fails, or ends before `len` bytes. `Error::Memory` if an
+    /// allocation fails.
     pub fn from_reader<R: Input>(alloc: Global, reader: &mut R, len: usize) -> Result<Slice>
         ensures read { (bytes : List ℕ) → R.remaining reader.old ≡ Some bytes
             → ReadsAllocating (R.is_memory reader.old) result (R.remaining reader.new)
@@ -331,7 +332,7 @@ impl Slice {
         self.as_slice().is_empty()
     }
 
-    /// Returns whether the bytes are these.
+    /// Returns whether the bytes equal `other`.
     pub fn eq_bytes(&self, other: &[u8]) -> bool
         ensures computed { result ≡ pointwise nat_eq self.now other.now }
         ensures same { IsTrue result ↔ (self.now ≡ other.now) }
@@ -339,7 +340,7 @@ impl Slice {
         self.as_slice() == other
     }
 
-    /// Compares the bytes with these, bytewise.
+    /// Compares the bytes with `other`, bytewise.
     pub fn cmp_bytes(&self, other: &[u8]) -> Ordering
         ensures { result ≡ slice_cmp nat_cmp self.now other.now }
     {

@@ -1,3 +1,3 @@
-//! What tables are made of.
+//! Table modules.
 pub mod block;
 pub mod util;

@@ -14,7 +14,7 @@ use Rattle.sst_block_core.specs.BucketLaws.{bucket_push}
 use Rattle.sst_block_core.specs.OpeningLaws.{length-items_at}
 use Rattle.sst_block_core.specs.PointerLaws.{each_alike, each_whole, heads_behind, heads_before, heads_inside}
 
--- the number of heads with one item more, by that before
+-- the number of heads with one item more, by the number before
 heads_next : (r place heads more phase : ℕ) → 0 < r → heads ≡ head_count r place → head_count r (place + 1) ≤ 254 → phase ≡ place % r → (phase ≡ 0 → more ≡ (heads + 1) % 256) → (0 < phase → more ≡ heads)
     → more ≡ place / r + 1
 heads_next r place heads more phase pos e few p head rest =
@@ -83,7 +83,7 @@ module _ {X : Type 0} (kind : Kind X) (hash : List ℕ → ℕ) (r b : ℕ) (pos
       }
 
   module _ (body : List ℕ) (old new : TallyState) (xs : List X) (x : X) where
-    -- a key more, where memory was there for it
+    -- a key more, where its memory was allocated
     pub tally_push : (phase n h : ℕ) (key : List ℕ) → HasTallied kind hash r b body old xs → 0 < length old.table → phase ≡ length xs % r → (phase ≡ 0 → new.heads ≡ (old.heads + 1) % 256) → (0 < phase → new.heads ≡ old.heads)
         → (0 < new.heads → n + 1 ≡ new.heads) → kind.key x ≡ key → new.has_memory ≡ old.has_memory
         → (IsHashed hash body new.prefix → h ≡ hash key) → (IsHashed hash body old.prefix → IsHashed hash body new.prefix)

@@ -33,7 +33,7 @@ module _ {X : Type 0} (kind : Kind X) (r : ℕ) where
       let again = more_from n (s + 1) place next f.0.1 g.0.0 g.0.1 x rest g.1 (omega arith) h1 in
       rw (f.1, again) (ap (λ ys. Some (ys ++ x ∷ [], rest)) parts.0)
 
-  -- no more than so many items
+  -- no more than this many items
   stop_from : (n s place : ℕ) (base bytes : List ℕ) (xs : List X) (mid : List ℕ) → items_at kind r s n base bytes ≡ Some (xs, mid) → place ≡ s + n
       → item_at kind r place (base_after kind r s xs base) mid ≡ None → (m : ℕ) → n < m → items_at kind r s m base bytes ≡ None
   unfolding items_at
@@ -114,7 +114,7 @@ module _ {X : Type 0} (kind : Kind X) (r : ℕ) where
     pub stop_rest : (place % r ≡ 0 → ⊥) → kind.truncated_at base (drop offset bytes) ≡ None → (m : ℕ) → place < m → items_at kind r 0 m [] bytes ≡ None
     stop_rest n h = stop (ap (λ t. cond t (kind.full_at (drop offset bytes)) (kind.truncated_at base (drop offset bytes))) (ne_eqb (place % r) 0 n) ∙ h)
 
-    -- a pass stands where the forms of what was read end
+    -- the offset of a pass is where the forms of the items read end
     pub read_offset : (valid : X → Type 0) → IsKind kind valid → 0 < r → IsBytes bytes → offset ≡ length (body kind r xs)
     read_offset valid laws pos b =
         let t = body_takes kind r pos valid laws xs place bytes (drop offset bytes) b at.reads in

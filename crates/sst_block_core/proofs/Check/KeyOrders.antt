@@ -38,7 +38,7 @@ first_four a b x y c d h k p q ne =
     ∙ sym (slice_cmp-append (take 4 a) (take 4 b) (drop 4 a) (drop 4 b) (la ∙ sym lb))
     ∙ (λ i. slice_cmp nat_cmp (take-append-drop 4 a i) (take-append-drop 4 b i))
 
--- what an answer says, by something that it says
+-- what a result implies, by something that implies it
 pub answer_says : (o : Option Ordering) (P Q : Ordering → Type 0) → ((w : Ordering) → P w → Q w) → IfSome o P → IfSome o Q
 answer_says None P Q to h = h
 answer_says (Some w) P Q to h = to w h
@@ -139,7 +139,7 @@ module _ (payload : List ℕ) (a b : KeyRanges) (left : IsRange payload a.prefix
       ∙ ap (λ t. ordering_then t (slice_cmp nat_cmp (range_of payload (behind a.prefix n) ++ range_of payload a.rest) (range_of payload (behind b.prefix n) ++ range_of payload b.rest))) (sym tie ∙ e)
       ∙ sym s
 
-  -- the prefixes begin at one place
+  -- the prefixes begin at one offset
   prefix_at_one_place : (n : ℕ) → a.prefix.0 ≡ b.prefix.0 → Equal ≡ slice_cmp nat_cmp (take n (drop a.prefix.0 payload)) (take n (drop b.prefix.0 payload))
   prefix_at_one_place n place = sym ((slice_cmp-equal (take n (drop a.prefix.0 payload)) (take n (drop b.prefix.0 payload))).1 (ap (λ k. take n (drop k payload)) place))
 

@@ -166,7 +166,7 @@ head_place r number n pos e =
     let turned : n ≡ r * number = omega (arith, e) in
     (ap (λ k. k % r) e ∙ mul-mod_left number r, ap (λ k. k / r) turned ∙ mul-div_cancel_left number pos)
 
--- after it stand no heads
+-- after it there are no heads
 pub no_heads : (r number n len : ℕ) → 0 < r → n ≡ number * r → len + 1 ≤ r → HasNoHead r (n + 1) len
 no_heads r number n len pos e few k below z =
     let e2 : n + 1 + k ≡ number * r + (k + 1) = omega (arith, e) in

@@ -21,7 +21,7 @@ alike_first (x ∷ a) (y ∷ b) d e h k = elim (cases_eq x y) [
   | inr n ↦ rw (ne_eqb x y n) refl
 ]
 
--- what a base shares with a key that begins with a front of it
+-- what a base shares with a key that begins with a prefix of it
 shared_front : (n : ℕ) (base rest : List ℕ) → n ≤ length base → shared_prefix_length base (take n base ++ rest) ≡ n + shared_prefix_length (drop n base) rest
 shared_front zero base rest h = omega arith
 shared_front (suc n) [] rest h = absurd (omega arith)

@@ -93,12 +93,12 @@ begins_between (c ∷ p) (d ∷ a) (y ∷ x) (e ∷ b) f g lo hi =
     λ i. yc i ∷ rest i
 
 module _ (payload needle : List ℕ) (from : Option ℕ) (t : Table) (table : IsTable payload t) where
-  -- a bound passes as many heads as there are at most
+  -- a bound passes at most as many heads as there are
   pub before_inside : heads_before payload needle from t.heads ≤ length t.heads
   unfolding heads_before count_passed
   before_inside = count_inside (as_items payload) needle from t.heads table.ordered
 
-  -- a head that it passes is among the first so many, one that it doesn't pass is not
+  -- the index of a head that it passes is below their number, the index of one that it doesn't pass is not
   pub before_low : (j : ℕ) → IsHeadPassed payload needle from t.heads j true → j < heads_before payload needle from t.heads
   unfolding heads_before count_passed
   before_low j says = passed_below (as_items payload) needle from t.heads table.ordered j says.head says.there says.is

@@ -38,7 +38,7 @@ module _ {X : Type 0} (kind : Kind X) (list : Listed X) (pos : 0 < list.interval
   ]
 
   module _ (needle : List ℕ) (from : Option ℕ) (ordered : IsOrdered kind list.items) where
-    -- head j in the table tells of the item
+    -- whether a search passes head j in the table is whether it passes the item
     told : (j : ℕ) (b : Bool) → j < length t.heads → ((h : Head) → slice_get t.heads j ≡ Some h → passes needle from (key_in list.payload h) h.seqno ≡ b)
         → (x : X) × (slice_get list.items (j * list.interval) ≡ Some x) × (passes needle from (kind.key x) (kind.seqno x) ≡ b)
     told j b h says = elim (slice_get_cases t.heads j).1 [
@@ -87,7 +87,7 @@ module _ {X : Type 0} (kind : Kind X) (list : Listed X) (pos : 0 < list.interval
         let reach = (heads_reach list.interval (length list.items) pos some).0 in
         omega (arith, up, reach)
 
--- the range of a key that stands in a payload
+-- the range of a key that is encoded in a payload
 pub stands_range : (payload key own : List ℕ) (start n : ℕ) → IsEncodedAt payload start key → own ≡ drop n key → n ≡ 0 → IsRange payload (start, start + length own) × (range_of payload (start, start + length own) ≡ key)
 stands_range payload key own start n s e z =
     let same : own ≡ key = e ∙ ap (λ m. drop m key) z in

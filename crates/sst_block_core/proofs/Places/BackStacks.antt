@@ -18,7 +18,7 @@ mod_in_interval i k r head below =
     ap (λ n. n % r) e ∙ add-mul-mod_self_right k (i / r) r ∙ mod-eq_of_lt below
 
 module _ {X : Type 0} (kind : Kind X) (list : Listed X) where
-  -- a head's place stands with any base
+  -- a head's place is a place with any base
   pub any_base : (at other : Place) → other.index ≡ at.index → other.offset ≡ at.offset → other.phase ≡ 0 → at.phase ≡ 0 → IsPlace kind list at → IsPlace kind list other
   any_base at other p o z q s =
       let b = s.stands in

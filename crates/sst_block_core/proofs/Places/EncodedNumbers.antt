@@ -1,4 +1,4 @@
--- Varints and length-prefixed bytes that stand at an offset: what can be read there without a test.
+-- Varints and length-prefixed bytes that are encoded at an offset: what can be read there without a test.
 use Rattle.std.proofs.Common.{◌≡◌, ℕ, ◌+◌, ◌-◌, ◌*◌, ◌/◌, ◌^◌, ◌<◌, ◌≤◌, inl, inr, List, [], ◌∷◌, length, take, drop, get_or, refl, sym, ap, subst, ◌∙◌, arith, Option, Some, None, leb, cond, length-drop}
 use Rattle.std.specs.Option.{IsSome}
 use Rattle.std.proofs.lemmas.Bool.{cases_lt, le-leb, lt-leb}
@@ -14,7 +14,7 @@ use Rattle.sst_block_core.specs.Digits.{IsReadTo}
 use Rattle.sst_block_core.specs.Found.{Takes, range_of}
 use Rattle.sst_block_core.proofs.Places.OffsetReads.{number_some}
 
--- where a number stands, a varint does
+-- where a number is encoded, a varint is
 varint_stands : (bits : ℕ) (bytes : List ℕ) → IsSome (number_at bits bytes) → IsSome (varint_at bits bytes)
 unfolding number_at
 varint_stands bits bytes h = chain_first (varint_at bits bytes) _ h
@@ -51,7 +51,7 @@ width_most bits w = elim w [
 ]
 
 module _ (bits at : ℕ) (bytes : List ℕ) (stands : IsSome (number_at bits (drop at bytes))) where
-  -- where a varint stands, a byte does
+  -- where a varint is encoded, there is a byte
   pub first_inside : at < length bytes
   first_inside = elim (cases_lt at (length bytes)) [
     | inl less ↦ less
@@ -85,7 +85,7 @@ module _ (bits at : ℕ) (bytes : List ℕ) (stands : IsSome (number_at bits (dr
         }
 
   module _ (len sum scale : ℕ) (read : IsReadTo bits (drop at bytes) len sum scale) where
-    -- after a byte that isn't the last one stands another
+    -- after a byte that isn't the last one there is another
     pub next_inside : at + len < length bytes
     next_inside = elim (cases_lt (at + len) (length bytes)) [
       | inl less ↦ less
@@ -167,7 +167,7 @@ length_stands bits bytes n rest e h =
       | inr fits ↦ (fits, ap (λ o. o >>= λ (m : ℕ × List ℕ). cond (leb m.0 (length m.1)) (Some (take m.0 m.1, drop m.0 m.1)) None) e ∙ ap (λ t. cond t (Some (take n rest, drop n rest)) None) (le-leb n (length rest) fits))
     ]
 
--- where length-prefixed bytes stand, their length does
+-- where length-prefixed bytes are encoded, their length is
 pub length_first : (bits : ℕ) (bytes : List ℕ) → IsSome (length_prefixed_at bits bytes) → IsSome (number_at bits bytes)
 unfolding length_prefixed_at
 length_first bits bytes h = chain_first (number_at bits bytes) _ h

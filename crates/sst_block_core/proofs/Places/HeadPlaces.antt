@@ -64,7 +64,7 @@ module _ {X : Type 0} (kind : Kind X) (valid : X → Type 0) (laws : IsKind kind
       ∙ forms_again kind r pos valid laws items xs i base after refl (all_drop valid i items valids) (λ x some. absurd (omega (arith, z, some)))
       ∙ ap (λ ys. Some (ys, after)) (sym (drop-map kind.plain i items))
 
-  -- a head stands at its offset
+  -- a head is encoded at its offset
   head_behind : (i : ℕ) → i ≤ length items → i % r ≡ 0 → IsFormOffset kind (record { payload = p; interval = r; items = map kind.plain items }) i (place_offset kind r items i) []
   head_behind i h z = record {
     place_inside = let l = length-map items kind.plain in omega arith;
@@ -158,7 +158,7 @@ module _ {X : Type 0} (kind : Kind X) (valid : X → Type 0) (laws : IsKind kind
       (subst (λ (s : List ℕ). IsIndexed kind (record { payload = s; interval = t.interval; items = items_in kind s }) (pointers_in t.width (index_in t p)) t.item_count) (sym same)
       (indexed_from kind valid laws some.0 p some.1 some.2 some.3 some.4 room))))
 
--- the first item stands at the front
+-- the first item is encoded at the start
 pub first_stands : {X : Type 0} (kind : Kind X) (list : Listed X) (ps : List ℕ) (n : ℕ) → IsIndexed kind list ps n → IsPlace kind list (record { index = 0; phase = 0; offset = 0; base = 0 })
 unfolding body
 first_stands kind list ps n i =
@@ -169,7 +169,7 @@ first_stands kind list ps n i =
     subst (λ o. IsPlace kind list (record { index = 0; phase = 0; offset = o; base = 0 })) e
     (subst (λ n. IsPlace kind list (record { index = n; phase = 0; offset = slice_index ps 0; base = 0 })) z (i.are_heads 0 h))
 
--- after the last item nothing is read, wherever
+-- after the last item nothing is read, at any offset
 pub last_stands : {X : Type 0} (kind : Kind X) (list : Listed X) (place phase : ℕ) → place ≡ length list.items → phase ≡ place % list.interval → IsPlace kind list (record { index = place; phase = phase; offset = 0; base = 0 })
 unfolding items_at
 last_stands kind list place phase e p =

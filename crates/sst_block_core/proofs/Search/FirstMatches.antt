@@ -93,7 +93,7 @@ module _ {X : Type 0} (kind : Kind X) (needle : List ℕ) (seqno : ℕ) (items :
     | inr past ↦ none_left past.0
   ]
 
-  -- where all items with the key stand between two indices, those before the first and after the second are no version
+  -- where all items with the key are between two indices, no item before the first or after the second is a version
   module _ (low high : ℕ) (alone : (j : ℕ) (y : X) → slice_get items j ≡ Some y → kind.key y ≡ needle → (low ≤ j) × (j < high)) where
     outside : (j : ℕ) (y : X) → slice_get items j ≡ Some y → ((low ≤ j) × (j < high) → ⊥) → is_version kind needle seqno y ≡ false
     outside j y at out = elim (cases_Bool (is_eq (slice_cmp nat_cmp (kind.key y) needle))) [

@@ -1,4 +1,4 @@
--- Where a predicate over heads turns.
+-- Where a predicate over heads changes from true to false.
 use Rattle.std.proofs.Common.{◌≡◌, ℕ, zero, suc, ◌*◌, ◌<◌, ◌≤◌, inl, inr, Bool, List, length, arith, Some}
 use Rattle.std.specs.Borrow.{Bor}
 use Rattle.std.specs.List.{slice_get}
@@ -7,7 +7,7 @@ use Rattle.std.proofs.lemmas.Option.{slice_get_cases}
 use Rattle.sst_block_core.specs.Kind.{Kind}
 use Rattle.sst_block_core.specs.Intervals.{Answered}
 
--- an answer at a head that was read
+-- a predicate's result at a head that was read
 pub answered_head : {X : Type 0} (kind : Kind X) (post : Bor (List ℕ) → ℕ → Bool → Type 0) (r : ℕ) (items : List X) (j : ℕ) (b : Bool) → j * r < length items → (found : Bor (List ℕ) × ℕ)
     → ((x : X) → slice_get items (j * r) ≡ Some x → (found.0.now ≡ kind.key x) × (found.1 ≡ kind.seqno x)) → post found.0 found.1 b → Answered kind post r items j b
 answered_head kind post r items j b h found is got = elim (slice_get_cases items (j * r)).1 [

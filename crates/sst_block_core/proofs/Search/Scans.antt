@@ -20,12 +20,12 @@ use Rattle.sst_block_core.specs.declared.table.block.place.Place.{Place}
 use Rattle.sst_block_core.proofs.Search.Cuts.{cut_ordered, passed_below, not_passed_above}
 use Rattle.sst_block_core.proofs.Search.SharedFronts.{order_by_lengths}
 
--- what is kept where a test says so, by cases
+-- a value that is kept where a test is true, by cases
 pub kept_match : {P : Type 0} (p : P) (b : Bool) (r : Option P) (None' : Type 0) (Some' : P → Type 0) → r ≡ cond b (Some p) None → (b ≡ false → None') → (b ≡ true → Some' p) → MatchOption r None' Some'
 kept_match p true r None' Some' e bad good = subst (λ o. MatchOption o None' Some') (sym e) (good refl)
 kept_match p false r None' Some' e bad good = subst (λ o. MatchOption o None' Some') (sym e) (bad refl)
 
--- with less said of nothing, and of what was kept
+-- weaker statements of no value, and of a value
 pub match_less : {P : Type 0} (r : Option P) (None' None'' : Type 0) (Some' Some'' : P → Type 0) → MatchOption r None' Some' → (None' → None'') → ((p : P) → Some' p → Some'' p) → MatchOption r None'' Some''
 match_less None None' None'' Some' Some'' m none some = none m
 match_less (Some p) None' None'' Some' Some'' m none some = some p m
@@ -38,7 +38,7 @@ stop_place n r heads place count some is high inside =
     omega (arith, is, high, inside, m)
 
 module _ {X P : Type 0} (item_of : List ℕ → P → X) (is_found : List ℕ → P → Type 0) (kind : Kind X) (needle : List ℕ) (list : Listed X) (place end : ℕ) where
-  -- where a search stopped at an item, or at an end, it found the needle's item or there is none
+  -- where a search stopped at an item, or at an end, that is the needle's item or there is none
   pub candidate_match : (candidate : Option (Candidate P)) (r : Option P) → r ≡ with_needle candidate
       → MatchOption candidate (place ≡ end) (λ l. IsCandidateAt item_of is_found kind needle list place l × (place < end))
       → MatchOption r

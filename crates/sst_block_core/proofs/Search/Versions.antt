@@ -1,4 +1,4 @@
--- What a search finds is the first version of a key below a sequence number.
+-- The result of a search is the first match: the first item of a key below a sequence number.
 use Rattle.std.proofs.Common.{◌≡◌, ℕ, ◌+◌, ◌*◌, ◌<◌, ◌≤◌, inl, inr, min, List, length, filter, Option, Some, None, MatchOption, false, subst, arith}
 use Rattle.std.specs.List.{slice_get}
 use Rattle.std.specs.Option.{option_map}

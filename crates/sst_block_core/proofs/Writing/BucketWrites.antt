@@ -117,7 +117,7 @@ module _ {X : Type 0} (kind : Kind X) (hash : List ℕ → ℕ) (r : ℕ) (pos :
         ]
       ]
 
-  -- where an interval goes on
+  -- where an interval continues
   rest_stored : (xs : List X) (b : ℕ) → 0 < length xs % r → made_count r (length xs) b ≡ stored_count r (length xs + 1) b
   rest_stored xs b some =
       let n = length xs in

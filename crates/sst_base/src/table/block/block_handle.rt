@@ -72,7 +72,7 @@ impl Encode for BlockHandle {
 }
 
 /// `Error::BadHandle` at the first byte with which no minimal encoding of a number within its width
-/// goes on; the byte after it is not asked for.
+/// continues; the byte after it is not read.
 impl Decode for BlockHandle {
     ghost decoded = { handle_at };
 

@@ -122,12 +122,12 @@ impl Header {
         bytes
     }
 
-    /// Reads a header, field by field. The lengths are not judged.
+    /// Reads a header, field by field. The lengths are not checked.
     ///
     /// # Errors
     ///
     /// In the order of the bytes: `Error::InvalidHeader` if the magic differs, `Error::InvalidTag`
-    /// if the byte of the block type is none, `Error::ChecksumMismatch` if the header's own
+    /// if the byte of the block type has no type, `Error::ChecksumMismatch` if the header's own
     /// checksum differs. `Error::Io` if the reader fails, or ends inside a field.
     #[tactic(auto, unfolding(crate::specs::Header::header_at))]
     pub fn decode_from<H: BlockHash, R: Input>(reader: &mut R) -> Result<Header>
@@ -209,7 +209,7 @@ fn header_with(block_type: BlockType, fields: &[u8]) -> Header
     }
 }
 
-// The checksum of the 29 bytes in front.
+// The header's own checksum, of the 29 bytes before it.
 fn front_sum<H: BlockHash>(block_type: BlockType, fields: &[u8]) -> u32
     ensures { result ≡ H.hash128 (magic ++ (block_type_byte block_type ∷ fields.now)) % 2 ^ 32 }
 {

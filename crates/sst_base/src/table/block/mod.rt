@@ -142,7 +142,8 @@ impl Block {
     /// In the order of the bytes: those of `Header::decode_from`, `Error::LengthMismatch` if the
     /// two lengths of the header differ, `Error::ChecksumMismatch` if the payload's checksum
     /// differs.
-    /// `Error::Io` if the reader fails, or ends before, `Error::Memory` if an allocation fails.
+    /// `Error::Io` if the reader fails, or ends before the end of the frame, `Error::Memory` if an
+    /// allocation fails.
     pub fn from_reader<H: BlockHash, R: Input>(alloc: Global, reader: &mut R) -> Result<Block>
         ensures read { (bytes : List ℕ) → R.remaining reader.old ≡ Some bytes
             → ReadsAllocating (R.is_memory reader.old) result (R.remaining reader.new)
@@ -154,7 +155,7 @@ impl Block {
             × (bytes ≡ frame H.hash128 b.header.block_type b.payload ++ rest)
             × (b ≡ block_for H.hash128 b.header.block_type b.payload)) }
 
-        // Over memory a front that is a frame is read.
+        // Over memory a prefix that is a frame is read.
         ensures only { (t : BlockType) (payload rest : List ℕ) → length payload < 2 ^ 32
             → R.remaining reader.old ≡ Some (frame H.hash128 t payload ++ rest)
             → R.is_memory reader.old
@@ -169,7 +170,7 @@ impl Block {
         Block::read_from::<H, R>(alloc, reader)
     }
 
-    // The block of the frame at the front.
+    // The block of the frame at the start.
     #[tactic(auto, unfolding(crate::specs::Frame::frame_at))]
     fn read_from<H: BlockHash, R: Input>(alloc: Global, reader: &mut R) -> Result<Block>
         ensures read { (bytes : List ℕ) → R.remaining reader.old ≡ Some bytes
@@ -226,8 +227,8 @@ impl Block {
     ///
     /// In this order: `Error::Truncated` below 33 bytes, `Error::InvalidHeader`,
     /// `Error::InvalidTag` and `Error::ChecksumMismatch` of the header, `Error::LengthMismatch` if
-    /// its two lengths differ or the payload has another, `Error::ChecksumMismatch` of the payload.
-    /// `Error::Memory` if an allocation fails.
+    /// its two lengths differ or the payload has another length, `Error::ChecksumMismatch` of the
+    /// payload. `Error::Memory` if an allocation fails.
     pub fn from_frame<H: BlockHash>(bytes: Slice) -> Result<Block>
         ensures read { Gives result (frame_in H.hash128 bytes) }
 

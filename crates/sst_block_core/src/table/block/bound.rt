@@ -41,7 +41,7 @@ impl<'n> Bound<'n> {
         }
     }
 
-    /// Returns whether it passes a key that compares so with the needle.
+    /// Returns whether it passes a key that compares with the needle in this way.
     #[inline(always)]
     pub(crate) fn passes_order(&self, order: Ordering, seqno: SeqNo) -> bool
         ensures { result ≡ passes_cmp order self.now.from seqno }

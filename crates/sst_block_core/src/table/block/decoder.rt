@@ -381,8 +381,8 @@ impl<'a, Item: Decodable<Parsed>, Parsed: ParsedItem<Item> + Drop> Iterator
     }
 }
 
-/// Returns the last item, if one is left. Counts an entry for an item, and those of its interval
-/// where it is the last of it.
+/// Returns the last item, if one is left. Counts an entry for an item, and the entries of its
+/// interval where it is the last of it.
 impl<'a, Item: Decodable<Parsed>, Parsed: ParsedItem<Item> + Drop> DoubleEndedIterator
     for Decoder<'a, Item, Parsed> {
     ghost next_back_gives = { λ s r t. GivesNextBack Parsed.item_of Parsed.is_found s r t };
@@ -396,8 +396,8 @@ impl<'a, Item: Decodable<Parsed>, Parsed: ParsedItem<Item> + Drop> DoubleEndedIt
     }
 }
 
-/// The items left, so that a decoder may be peeked at. Clauses see the items for which the ranges
-/// stand.
+/// The items left, so that a decoder may be peeked at. Clauses see the items that the ranges stand
+/// for.
 impl<'a, Item: Decodable<Parsed>, Parsed: ParsedItem<Item> + Drop> ListIterator
     for Decoder<'a, Item, Parsed> {
     type Value = Item;

@@ -20,7 +20,8 @@ use sst_base::table::util::{SliceIndexes, longest_shared_prefix_length};
 use std::cmp::Ordering;
 use std::marker::{Model, PhantomData};
 
-// How much to take of a prefix of this length that two keys of these lengths share.
+// The length to take of a prefix that two keys of these lengths share: where the keys have one
+// length, at least eight bytes follow it if the keys have that many.
 fn prefix_before(shared: usize, left: usize, right: usize) -> usize
     ensures { result ≤ shared }
 {
@@ -34,8 +35,8 @@ fn prefix_before(shared: usize, left: usize, right: usize) -> usize
 /// Reads the heads and items of a block where their forms are known to be, by the calls of
 /// [`Decodable`], which count them.
 ///
-/// It keeps payload and counters together, and the payload to itself: who has a reader can look at
-/// nothing that isn't counted. Clauses see both.
+/// It keeps payload and counters together, and the payload to itself: code that has a reader can
+/// read nothing that isn't counted. Clauses see both.
 pub(crate) struct FormReader<'a, Item: Decodable<Parsed>, Parsed: ParsedItem<Item>> {
     kinds: PhantomData<(Item, Parsed)>,
     payload: &'a [u8],
@@ -96,7 +97,7 @@ impl<'a, Item: Decodable<Parsed>, Parsed: ParsedItem<Item>> FormReader<'a, Item,
         table.head(self.payload, j, &mut self.steps)
     }
 
-    /// Returns how many heads of a table a bound passes. Counts the heads that it looks at.
+    /// Returns how many heads of a table a bound passes. Counts the heads that it examines.
     #[inline(always)]
     pub(crate) fn count_heads(&mut self, table: &HeadTable, bound: &Bound<'_>) -> usize
         requires { IsTable self.old.payload table.now }
@@ -201,8 +202,9 @@ impl<'a, Item: Decodable<Parsed>, Parsed: ParsedItem<Item> + Drop> FormReader<'a
         (key, item.seqno())
     }
 
-    /// Returns the range of a prefix that the keys of two heads share: the longest, but of keys of
-    /// one length so much less that eight bytes follow it, which a head's number then holds.
+    /// Returns the range of a prefix that the keys of two heads share: the longest one, but for
+    /// keys of one length a shorter one, so that eight bytes follow it, which a head's number then
+    /// holds.
     pub(crate) fn shared_prefix(&mut self, first: usize, last: usize) -> SliceIndexes
         requires first { IsSome (Item.kind.full_at (drop first self.old.payload)) }
         requires last { IsSome (Item.kind.full_at (drop last self.old.payload)) }

@@ -69,7 +69,7 @@ pub fn front_of(bytes: &[u8]) -> u64
 }
 
 // Returns 1 if one number is below another, and else 0. Both have at most 63 bits, so the sign of
-// their difference is the answer. A search that branched on it would mispredict every other step.
+// their difference is the result. A search that branched on it would mispredict every other step.
 #[inline(always)]
 fn is_below(a: u64, b: u64) -> u64
     requires left { a < 2 ^ 63 }
@@ -88,13 +88,13 @@ fn masked(number: usize, bit: u64) -> usize
     number & 0u64.wrapping_sub(bit) as usize
 }
 
-/// A table of the heads of a block, in order, over which a search finds most answers by comparing
+/// A table of the heads of a block, in order. A search over it decides most steps by comparing
 /// numbers.
 ///
 /// All keys of a table begin with its prefix. Beside the heads there is an array of numbers: for
 /// each head the first 8 bytes after the prefix in its key as a big-endian number ([`front_of`]),
-/// without the last bit. 40 bytes a head. Clauses see the heads, the prefix, these numbers and the
-/// capacity.
+/// without the last bit. A head takes 40 bytes. Clauses see the heads, the prefix, these numbers
+/// and the capacity.
 #[derive(Drop)]
 pub struct HeadTable {
     heads: Vec<Head>,

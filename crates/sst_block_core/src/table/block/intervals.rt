@@ -135,7 +135,7 @@ impl<'a, Item: Decodable<Parsed>, Parsed: ParsedItem<Item>> Intervals<'a, Item, 
         self.item_count
     }
 
-    /// Returns the number of intervals, which is that of heads.
+    /// Returns the number of intervals, which is the number of heads.
     #[inline(always)]
     pub(crate) fn count(&self) -> usize
         ensures value { result ≡ head_count self.now.list.interval (length self.now.list.items) }

@@ -87,9 +87,9 @@ impl<'a, Item: Decodable<Parsed>, Parsed: ParsedItem<Item>> Intervals<'a, Item, 
 }
 
 impl<'a, Item: Decodable<Parsed>, Parsed: ParsedItem<Item> + Drop> Intervals<'a, Item, Parsed> {
-    // The first place from one on, and before an end, whose item a bound doesn't pass, with that
-    // item; or the end. No head is among them, and their head, which the bound passes, shares
-    // `alike` bytes with the needle.
+    // The first place, from one on and before an end, whose item a bound doesn't pass, with that
+    // item; or the end. No head is among these places. The bound passes the head before them, which
+    // shares `alike` bytes with the needle.
     #[inline(always)]
     fn scan_interval(
         &mut self,
@@ -212,7 +212,7 @@ impl<'a, Item: Decodable<Parsed>, Parsed: ParsedItem<Item> + Drop> Intervals<'a,
         self.with_key(item, needle)
     }
 
-    // The place after so many heads where each item is a head, with the item there if its key is
+    // The place after this many heads where each item is a head, with the item there if its key is
     // the needle.
     #[inline(always)]
     fn head_behind(&mut self, heads: usize, needle: &[u8]) -> (Place, Option<Parsed>)

@@ -19,7 +19,7 @@ pub struct KeyRanges {
     pub rest: SliceIndexes,
 }
 
-/// The key and the sequence number of an item: what its place in the order hangs on.
+/// The key and the sequence number of an item, which decide its place in the order.
 #[derive(Clone, Copy)]
 pub struct KeyVersion {
     pub key: KeyRanges,
@@ -70,7 +70,7 @@ fn compare_rests(a: &[u8], b: &[u8]) -> Ordering
 }
 
 // Compares two byte strings of one length at these offsets. At one offset they are the same and are
-// not looked at.
+// not compared.
 #[inline(always)]
 fn compare_prefixes(payload: &[u8], a: usize, b: usize, len: usize) -> Ordering
     requires left { a + len ≤ length payload.now }
@@ -149,7 +149,7 @@ fn compare_behind(payload: &[u8], a: &KeyRanges, b: &KeyRanges) -> Option<Orderi
 }
 
 /// Compares two keys by their ranges. Nothing is joined, and what both share with one head is not
-/// looked at.
+/// compared.
 #[inline(always)]
 pub(crate) fn compare_keys(payload: &[u8], a: &KeyRanges, b: &KeyRanges) -> Ordering
     requires left { IsKeyRanges payload.now a.now }
@@ -182,7 +182,7 @@ impl KeyVersion {
         }
     }
 
-    // Returns whether this is surely the version of `least`, under which no item sorts.
+    // Returns `true` only if this is the version of `least`, before which no item sorts.
     #[inline(always)]
     fn is_least(&self) -> bool
         ensures key { IsTrue result → (payload : List ℕ)

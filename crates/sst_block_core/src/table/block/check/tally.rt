@@ -54,7 +54,7 @@ pub(crate) struct HashedPrefix {
 }
 
 /// The buckets of the keys that it took. Clauses see their bytes, the number of heads modulo 2^8,
-/// whether all memory that it requested was there, and the prefix of the last key.
+/// whether all memory that it requested was allocated, and the prefix of the last key.
 #[derive(Drop)]
 pub(crate) struct Tally<H: BlockHash> {
     buckets: Builder<H>,
@@ -187,7 +187,7 @@ impl<H: BlockHash> Tally<H> {
         })
     }
 
-    /// Returns whether all memory that it requested was there.
+    /// Returns whether all memory that it requested was allocated.
     pub(crate) fn has_memory(&self) -> bool
         ensures { result ≡ self.now.has_memory }
     {
