@@ -389,7 +389,7 @@ pub extern "C" fn sst_make_table(
     block.heads().map_or(0, |table| table.len() as u64)
 }
 
-// Seeks each needle with a new iterator, adds 1 where the seek answers `true`, and the next item.
+// Seeks each needle with a new iterator, adds 1 where the seek returns `true`, and the next item.
 #[inline(never)]
 fn add_next(so_far: u64, block: &DataBlock<Poly31>, needles: &[&[u8]]) -> u64 {
     let mut sum = so_far;
@@ -401,7 +401,7 @@ fn add_next(so_far: u64, block: &DataBlock<Poly31>, needles: &[&[u8]]) -> u64 {
     sum
 }
 
-/// Seeks each needle with a new iterator, adds 1 where the seek answers `true`, and adds the next
+/// Seeks each needle with a new iterator, adds 1 where the seek returns `true`, and adds the next
 /// item if there is one.
 #[unsafe(no_mangle)]
 pub extern "C" fn sst_seek_next(
@@ -454,7 +454,7 @@ pub extern "C" fn sst_seek_next_table(
     sum
 }
 
-// Seeks each needle from the back with a new iterator, adds 1 where the seek answers `true`, and
+// Seeks each needle from the back with a new iterator, adds 1 where the seek returns `true`, and
 // the next item from the back.
 #[inline(never)]
 fn add_next_back(so_far: u64, block: &DataBlock<Poly31>, needles: &[&[u8]]) -> u64 {
@@ -476,7 +476,7 @@ fn add_next_back_often(block: &DataBlock<Poly31>, needles: &[&[u8]], times: u64)
     sum
 }
 
-/// Seeks each needle from the back with a new iterator, adds 1 where the seek answers `true`, and
+/// Seeks each needle from the back with a new iterator, adds 1 where the seek returns `true`, and
 /// adds the next item from the back if there is one.
 #[unsafe(no_mangle)]
 pub extern "C" fn sst_seek_upper_back(

@@ -19,7 +19,7 @@ use byteorder::{ByteOrder, LittleEndian};
 use sst_base::{InternalValue, Slice, ValueType};
 use std::alloc::Global;
 
-// The value type at the front, and the bytes after it.
+// The value type at the start, and the bytes after it.
 #[tactic(auto, using(sst_base::specs::ReadingLaws::value_type_of_takes))]
 fn type_in(bytes: &[u8]) -> Option<(ValueType, &[u8])>
     ensures { IfSome result (λ p. bytes.now ≡ value_type_byte p.0 ∷ p.1.now) }
@@ -28,7 +28,7 @@ fn type_in(bytes: &[u8]) -> Option<(ValueType, &[u8])>
     Some((ValueType::try_from(*byte).ok()?, rest))
 }
 
-// The number of two bytes at the front, and the bytes after it.
+// The number of two bytes at the start, and the bytes after it.
 pub(crate) fn u16_in(bytes: &[u8]) -> Option<(u16, &[u8])>
     ensures { IfSome result (λ p. bytes.now ≡ little_bytes 2 p.0 ++ p.1.now) }
 {
@@ -39,7 +39,7 @@ pub(crate) fn u16_in(bytes: &[u8]) -> Option<(u16, &[u8])>
     Some((LittleEndian::read_u16(bytes), rest))
 }
 
-// The number of four bytes at the front, and the bytes after it.
+// The number of four bytes at the start, and the bytes after it.
 pub(crate) fn u32_in(bytes: &[u8]) -> Option<(u32, &[u8])>
     ensures { IfSome result (λ p. bytes.now ≡ little_bytes 4 p.0 ++ p.1.now) }
 {
@@ -50,7 +50,7 @@ pub(crate) fn u32_in(bytes: &[u8]) -> Option<(u32, &[u8])>
     Some((LittleEndian::read_u32(bytes), rest))
 }
 
-// The number of eight bytes at the front, and the bytes after it.
+// The number of eight bytes at the start, and the bytes after it.
 pub(crate) fn u64_in(bytes: &[u8]) -> Option<(u64, &[u8])>
     ensures { IfSome result (λ p. bytes.now ≡ little_bytes 8 p.0 ++ p.1.now) }
 {

@@ -1,4 +1,4 @@
-//! Bloom filters of keys, hashed with `Poly31`: building, and asking for keys.
+//! Bloom filters of keys, hashed with `Poly31`: building and querying.
 ghost use Rattle.std.specs.Prelude.{◌*◌, ◌<◌, ◌≤◌, List, ℕ, map, length};
 ghost use Rattle.std.specs.Prelude.{IfOk};
 ghost use Rattle.sst_bench.specs.Blocks.{Copied};

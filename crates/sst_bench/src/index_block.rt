@@ -155,7 +155,7 @@ pub extern "C" fn sst_index_walk_back(
     sum
 }
 
-// Seeks each needle with a new iterator, adds 1 where the seek answers `true`, and the next handle.
+// Seeks each needle with a new iterator, adds 1 where the seek returns `true`, and the next handle.
 #[inline(never)]
 fn add_next(so_far: u64, block: &IndexBlock, needles: &[&[u8]]) -> u64 {
     let mut sum = so_far;
@@ -176,7 +176,7 @@ fn add_next_often(block: &IndexBlock, needles: &[&[u8]], times: u64) -> u64 {
     sum
 }
 
-/// Seeks each needle with a new iterator, adds 1 where the seek answers `true`, and adds the next
+/// Seeks each needle with a new iterator, adds 1 where the seek returns `true`, and adds the next
 /// handle if there is one.
 #[unsafe(no_mangle)]
 pub extern "C" fn sst_index_seek_next(

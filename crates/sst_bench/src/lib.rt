@@ -1,4 +1,5 @@
-//! The block layer behind calls from C, each a whole operation repeated, for measuring its speed.
+//! The block layer as functions with a C interface, each a whole operation repeated, for measuring
+//! its speed.
 //!
 //! Byte strings cross as an address and a length, borrowed for the call. A call makes its input
 //! first, then does its operation `times` times. A call that reads returns a sum over all turns

@@ -22,7 +22,7 @@ use sst_base::{HashRatio, InternalValue, Poly31, Slice, Steps};
 use sstable_blocks::{RunConfig, RunHandles, cuts_fit, read_entry, write_run};
 use std::alloc::Global;
 
-// The cuts of a list into blocks of so many entries, the last perhaps of fewer.
+// The cuts of a list into blocks of this many entries, the last perhaps of fewer.
 fn cuts_of(alloc: Global, len: usize, per_block: usize) -> Option<Vec<usize>>
     ensures { IfSome result (λ cuts. CutsFit 0 len cuts.items) }
 {

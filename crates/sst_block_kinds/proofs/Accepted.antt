@@ -1,4 +1,4 @@
--- What a check answers of an encoding.
+-- What the check of an encoding returns.
 use Rattle.std.proofs.Common.{◌≡◌, ◌≢◌, ℕ, ◌<◌, ◌^◌, List, length, map, refl, ◌∙◌, ap, Result, Ok, Err}
 use Rattle.std.proofs.lemmas.List.{length-map}
 use Rattle.std.specs.Result.{OnOk, IfOk, IfErr, MatchResult}
@@ -13,7 +13,7 @@ use Rattle.sst_block_kinds.specs.Checks.{data_check, index_check}
 use Rattle.sst_block_kinds.specs.Handles.{Handle, handles, IsIndexBlock}
 use Rattle.sst_block_kinds.proofs.CheckAnswers.{data_accepts, index_accepts}
 
--- a check that gives these items answers Ok, or Memory
+-- a check that gives these items returns Ok, or Memory
 accepted : {X : Type 0} (check : Result (List X) Error) (found items : List X) (r : Result ℕ Error) → check ≡ Ok items
     → OnOk r (check ≡ Ok found) → IfOk r (λ n. n ≡ length found) → IfErr r (λ e. e ≢ Memory → check ≡ Err e) → MatchResult r (λ n. n ≡ length items) (λ e. e ≡ Memory)
 accepted check found items (Ok n) is checked count refused =
@@ -22,7 +22,7 @@ accepted check found items (Ok n) is checked count refused =
 accepted check found items (Err Memory) is checked count refused = refl
 accepted check found items (Err e) is checked count refused = absurd (let wrong = refused (λ same. cc (same)) in cc (is, wrong))
 
--- of lists of one length
+-- of two lists of the same length
 same_length : {X Y : Type 0} (xs : List X) (ys : List Y) → length xs ≡ length ys → (r : Result ℕ Error) → MatchResult r (λ n. n ≡ length xs) (λ e. e ≡ Memory) → MatchResult r (λ n. n ≡ length ys) (λ e. e ≡ Memory)
 same_length xs ys same (Ok n) h = h ∙ same
 same_length xs ys same (Err e) h = h

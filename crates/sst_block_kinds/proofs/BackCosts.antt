@@ -1,4 +1,4 @@
--- What a walk from the back costs.
+-- What an iteration from the back costs.
 use Rattle.std.proofs.Common.{◌≡◌, ℕ, zero, suc, ◌+◌, ◌-◌, ◌*◌, ◌/◌, ◌%◌, ◌<◌, ◌≤◌, Bool, true, false, cond, eqb, refl, arith}
 use Rattle.std.specs.Prelude.{◌||◌}
 use Rattle.std.proofs.Math.Nat.{mod-add-div', le-div_iff_mul-le, div-mul-le_self, mul-le-mul_right}
@@ -9,7 +9,7 @@ use Rattle.sst_block_core.specs.Backs.{first_of, back_cost}
 use Rattle.sst_block_kinds.specs.Walks.{back_walk_cost}
 use Rattle.sst_block_core.specs.BackLaws.{first_of_is}
 
--- at most how many entries the steps from the back decode, from a place down to 0
+-- an upper bound of the entries that the steps from the back decode, from an index down to 0
 unfoldable back_total_cost : ℕ → ℕ → ℕ → ℕ
 back_total_cost r n hi = hi + cond (eqb (hi % r) 0 || eqb hi n) hi (first_of r hi)
 
@@ -28,7 +28,7 @@ pays false hi f t h g l = omega arith
 eqb_zero : (m : ℕ) → eqb m 0 ≡ true → m ≡ 0
 eqb_zero m e = grind (arith, nat_tests)
 
--- one step
+-- the cost of one step
 back_step_cost : (r n hi : ℕ) → 0 < r → 0 < hi → hi ≤ n → (1 + back_cost r n hi) + back_total_cost r n (hi - 1) ≤ back_total_cost r n hi
 unfolding back_cost back_total_cost
 back_step_cost r n hi pos some inside =
@@ -42,7 +42,7 @@ back_step_cost r n hi pos some inside =
     (ne_eqb (hi - 1) n (λ e. omega (arith, e, some, inside)))
     (omega (arith, is, prev, mono)))
 
--- the whole walk
+-- the cost of the whole iteration
 back_whole_cost : (r n : ℕ) → back_total_cost r n n ≡ 2 * n
 unfolding back_total_cost
 back_whole_cost r n = rw (eq-eqb n n refl, or-true (eqb (n % r) 0)) (omega arith)

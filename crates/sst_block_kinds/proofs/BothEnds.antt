@@ -17,7 +17,7 @@ use Rattle.sst_block_kinds.specs.declared.table.data_block.ops.Op.TheVariants as
 use Rattle.sst_block_kinds.specs.declared.table.index_block.ops.IndexOp.{IndexOp}
 use Rattle.sst_block_kinds.specs.declared.table.index_block.ops.IndexOp.TheVariants as index_ops
 
--- the step that takes from an end
+-- the step that takes an item from an end
 abbrev step_at : {X : Type 0} → End → Step X
 step_at front = next
 step_at back = next_back
@@ -49,7 +49,7 @@ module _ {O X : Type 0} (end_of : O → Option End) (step_of : O → Step X) (st
   abbrev after : List O → Window X → Window X
   after ops w = window_after (map step_of ops) w
 
-  -- what an operation and those after it give and leave, where it takes from this end and is this step
+  -- what an operation and those after it give and leave, where the operation takes from this end and is this step
   abbrev Given : List O → Window X → Option End → Step X → Type 0
   Given ops w e step =
       (given_front e (step w).1 ++ fronts end_of ops (later ops (step w).0)) ++ (items_left (after ops (step w).0) ++ with_given_back (backs end_of ops (later ops (step w).0)) e (step w).1) ≡ items_left w
@@ -70,7 +70,7 @@ module _ {O X : Type 0} (end_of : O → Option End) (step_of : O → Step X) (st
   same_nothing : (a b c d : List X) → a ++ (b ++ c) ≡ d → a ++ (b ++ (c ++ [])) ≡ d
   same_nothing a b c d e = rw (append-nil c) e
 
-  -- a step from either end, where what is left after it is given together
+  -- a step from either end, where the items that later steps give and the items left are the window after this step
   one_given : (ops : List O) (w : Window X) (e : End) → w.hi ≤ length w.list
       → ((u : Window X) → u.list ≡ w.list → u.hi ≤ w.hi → fronts end_of ops (later ops u) ++ (items_left (after ops u) ++ backs end_of ops (later ops u)) ≡ items_left u) → Given ops w (Some e) (step_at e)
   one_given ops w front inside rest = elim (cases_lt w.lo w.hi) [
@@ -103,7 +103,7 @@ module _ {O X : Type 0} (end_of : O → Option End) (step_of : O → Step X) (st
       let Q : Step X → Type 0 = λ step. Given ops w (Some e) step in
       subst P (sym same) (subst Q (sym (steps_are op e same)) (given e))
 
-  -- what was given from both ends, and what is left between, are the window
+  -- the items given from both ends, and those left between them, are the window
   pub window_given : (ops : List O) (w : Window X) → w.hi ≤ length w.list → AreSteps end_of ops
       → fronts end_of ops (later ops w) ++ (items_left (after ops w) ++ backs end_of ops (later ops w)) ≡ items_left w
   window_given [] w inside steps = append-nil (items_left w)
@@ -129,7 +129,7 @@ index_steps index_ops.NextBack back h = refl
 index_steps (index_ops.Seek key seqno) e h = cc
 index_steps (index_ops.SeekUpper key seqno) e h = cc
 
--- the same of entries and of handles
+-- the same for entries and for handles
 pub entries_given : (ops : List Op) (w : Window Entry) → w.hi ≤ length w.list → AreSteps end_of ops
     → fronts end_of ops (answers (map step_of ops) w) ++ (items_left (window_after (map step_of ops) w) ++ backs end_of ops (answers (map step_of ops) w)) ≡ items_left w
 entries_given = window_given end_of step_of entry_steps

@@ -1,4 +1,4 @@
--- The answer of a check, from what is known of its stages.
+-- The result of a check, from what is known of its stages.
 use Rattle.std.proofs.Common.{◌≡◌, ◌↔◌, ℕ, ◌<◌, ◌^◌, Bool, true, false, List, length, map, refl, sym, ◌∙◌, subst, ap, Result, Ok, Err}
 use Rattle.std.specs.Bool.{Decides}
 use Rattle.std.proofs.lemmas.Bool.{leb-true, le-leb}
@@ -21,17 +21,17 @@ use Rattle.sst_block_kinds.proofs.CheckTests.{parts_from, parts_to, decides_form
 use Rattle.sst_block_kinds.proofs.Verdicts.{index_parts, data_verdict, index_verdict}
 
 module _ {A : Type 0} {P : Type 0} where
-  -- a demand that is met
+  -- a condition that holds
   pass : (V : Result A Error → Type 0) (test : Bool) (e : Error) (f : Unit {0} → Result A Error) → Decides test P → P → V (f tt) → V (demand test e >>= f)
   pass V true e f d h k = k
   pass V false e f d h k = let wrong : false ≡ true = d.1 h in cc
 
-  -- and one that is not
+  -- and one that does not hold
   stop : (test : Bool) (e : Error) (f : Unit {0} → Result A Error) → Decides test P → (P → ⊥) → (demand test e >>= f) ≡ Err e
   stop true e f d h = absurd (h (d.0 refl))
   stop false e f d h = refl
 
--- an answer that the stages give is that of the check
+-- a result that the stages give is the result of the check
 pub data_is : (hash64 : List ℕ → ℕ) (p : List ℕ) (answer : Result (List Entry) Error) → DataVerdict hash64 (trailer_in p) p answer → data_check hash64 p ≡ answer
 unfolding data_check
 data_is hash64 p (Ok items) v =
@@ -77,7 +77,7 @@ data_is hash64 p (Err BadHashIndex) v =
     (pass V _ _ _ (decides_pointers entries t p) v.4 (stop _ _ _ (decides_buckets entries hash64 t p) v.5)))))
 data_is hash64 p (Err _) v = absurd v
 
--- the same of an index block
+-- the same for an index block
 pub index_is : (p : List ℕ) (answer : Result (List Handle) Error) → IndexVerdict (trailer_in p) p answer → index_check p ≡ answer
 unfolding index_check
 index_is p (Ok items) v =
@@ -136,7 +136,7 @@ data_accepts hash64 p items bytes room = (
       data_is hash64 p (Ok items) (again.0, some.4 ∙ sym again.1)),
 )
 
--- so does that of an index block
+-- so does the check of an index block
 pub index_accepts : (p : List ℕ) (items : List Handle) → IsBytes p → length p < 2 ^ 32 → (index_check p ≡ Ok items) ↔ ((r : ℕ) × IsIndexBlock p items r)
 index_accepts p items bytes room = (
   (λ e.

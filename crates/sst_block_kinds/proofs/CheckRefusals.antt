@@ -1,4 +1,4 @@
--- What the parts of a check refuse, as the refusal of the whole check.
+-- The errors of the parts of a check, as the error of the whole check.
 use Rattle.std.proofs.Common.{◌≡◌, ◌≢◌, ℕ, List, [], ◌∷◌, length, subst, sym, ap, ◌∙◌, inl, inr, Ok, Err, refl}
 use Rattle.std.specs.List.{AllByRecursion}
 use Rattle.sst_base.specs.Entry.{Entry, IsEntry}
@@ -19,7 +19,7 @@ use Rattle.sst_block_core.specs.OpeningLaws.{length-items_at}
 use Rattle.sst_block_kinds.proofs.IndexBlocks.{index_block_from}
 use Rattle.sst_block_kinds.proofs.CheckAnswers.{data_is, index_is}
 
--- any entry fits
+-- every entry fits
 abbrev pub Any : Entry → Type 0
 Any e = Unit {0}
 
@@ -27,12 +27,12 @@ all_any : (xs : List Entry) → AllByRecursion Any xs
 all_any [] = tt
 all_any (x ∷ xs) = (tt, all_any xs)
 
--- what holds of numbers and bytes holds of the trailer and the payload that they are
+-- what holds of numbers and bytes holds of the trailer and the payload that are equal to them
 module _ (t : Trailer) (p q : List ℕ) (t_is : t ≡ trailer_in p) (q_is : q ≡ p) where
   pub moved : (S : Trailer → List ℕ → Type 0) → S t q → S (trailer_in p) p
   moved S h = subst (λ s. S s p) t_is (subst (S t) q_is h)
 
--- where the forms stand, there are as many items as the trailer says
+-- where the forms are encoded, there are as many items as the trailer says
 pub items_counted : {X : Type 0} (kind : Kind X) (p : List ℕ) → HasForms kind (trailer_in p) p → (trailer_in p).item_count ≡ length (items_in kind p)
 items_counted kind p forms = sym (length-items_at kind (trailer_in p).interval 0 (trailer_in p).item_count [] (body_in (trailer_in p) p) (items_in kind p) [] forms)
 

@@ -22,14 +22,14 @@ disorder-later : (i : ℕ) (x y : Entry) (items : List Entry) → is_lt (item_cm
 unfolding disorder_from
 disorder-later i x y items h = rw h refl
 
--- the two items at an index, and the others
+-- the two items at two neighbouring indexes, and the others
 two : (items : List Entry) (j i : ℕ) (x y : Entry) → i ≡ suc j → i < length items → x ≡ get_or items j x → y ≡ get_or items i y → drop j items ≡ x ∷ y ∷ drop (suc i) items
 two items j i x y e h p q =
     drop-cons items j x (omega arith)
     ∙ ap (λ z. z ∷ drop (suc j) items) (sym p)
     ∙ ap (λ zs. x ∷ zs) (ap (λ k. drop k items) (sym e) ∙ drop-cons items i y h ∙ ap (λ z. z ∷ drop (suc i) items) (sym q))
 
--- the items from an index on
+-- the item at an index, and those after it
 one : (items : List Entry) (i : ℕ) (y : Entry) → i < length items → y ≡ get_or items i y → drop i items ≡ y ∷ drop (suc i) items
 one items i y h q = drop-cons items i y h ∙ ap (λ z. z ∷ drop (suc i) items) (sym q)
 
@@ -48,7 +48,7 @@ disorder-found items j i x y e h p q less =
     ∙ disorder-here j x y (drop (suc i) items) less
     ∙ ap Some (add-one j ∙ sym e)
 
--- the test of `<` at an ordering
+-- whether `<` holds, by the ordering
 less-from_test : (o : Ordering) → is_lt o ≡ true → o ≡ Less
 less-from_test Less h = refl
 less-from_test Equal h = let wrong : false ≡ true = h in cc
@@ -69,7 +69,7 @@ disorder-ordered i (x ∷ []) h = disorder-short i (x ∷ []) (omega arith)
 disorder-ordered i (x ∷ y ∷ items) h =
     disorder-later i x y items (test-from_not_less (item_cmp entries y x) h.0) ∙ disorder-ordered (i + 1) (y ∷ items) h.1
 
--- an item of that index: those before it are in order, and it is not in order after its predecessor
+-- the index of such an item: the items before it are in order, and it sorts before its predecessor
 pub record IsFirstDisorder (n : ℕ) (items : List Entry) (i : ℕ) : Type 0 where
   pub behind : n + 1 ≤ i
   pub within : i < n + length items
@@ -128,17 +128,17 @@ law-by n x y items true e r = rw (disorder-here n x y items e) (first-here n x y
 law-by n x y items false e r =
     rw (disorder-later n x y items e) (law-later n x y items (not_less-from_test (item_cmp entries y x) e) (disorder_from (n + 1) (y ∷ items)) r)
 
--- what the definition says: there is no such item in an ordered list, and else it is the first
+-- the definition: an ordered list has no such item, and of any other list this is the first
 disorder-law : (n : ℕ) (items : List Entry) → MatchOption (disorder_from n items) (IsOrdered entries items) (IsFirstDisorder n items)
 disorder-law n [] = rw (disorder-short n [] (omega arith)) tt
 disorder-law n (x ∷ []) = rw (disorder-short n (x ∷ []) (omega arith)) tt
 disorder-law n (x ∷ y ∷ items) = law-by n x y items (is_lt (item_cmp entries y x)) refl (disorder-law (n + 1) (y ∷ items))
 
--- a test between what is equal
+-- the same condition on equal values
 pub test-along : {K : Type 0} (cmp : K → K → Ordering) (b : Bool) (x y a d : K) → a ≡ x → d ≡ y → b ≡ is_lt (cmp a d) → is_lt (cmp x y) ≡ b
 test-along cmp b x y a d e f h = cc
 
--- the same of the index that a function answers
+-- the same for the index that a function returns
 pub first-found : (items : List Entry) (i : ℕ) → Some i ≡ disorder_from 0 items → IsFirstDisorder 0 items i
 first-found items i e = let law = disorder-law 0 items in rw (sym e) at law
 

@@ -1,4 +1,4 @@
--- Forms of entries that stand at an offset: their parts stand, one after the other.
+-- Forms of entries that are encoded at an offset: their parts are encoded one after the other.
 use Rattle.std.proofs.Common.{◌≡◌, ℕ, ◌≤◌, List, ◌++◌, length, take, drop, refl, sym, ap, subst, ◌∙◌, inl, inr, Some, ltb}
 use Rattle.std.specs.Option.{IsSome}
 use Rattle.std.proofs.lemmas.List.{drop_at, length-take-le}
@@ -14,19 +14,19 @@ use Rattle.sst_block_core.specs.EntryLaws.{IsKind-entries}
 use Rattle.sst_base.specs.ReadingLaws.{chain_first, chain_next}
 use Rattle.sst_block_kinds.proofs.EntryReads.{one_reading, truncated_parts}
 
--- where a full form stands, a value type does
+-- where a full form is encoded, a value type is
 pub full_value_type : (bytes : List ℕ) → IsSome (full_at bytes) → IsSome (value_type_at bytes)
 unfolding full_at
 full_value_type bytes whole = chain_first (value_type_at bytes) _ whole
 
--- where a truncated form stands, a value type does
+-- where a truncated form is encoded, a value type is
 pub form_value_type : (bytes : List ℕ) → IsSome (truncated_form_at bytes) → IsSome (value_type_at bytes)
 unfolding truncated_form_at
 form_value_type bytes whole = chain_first (value_type_at bytes) _ whole
 
 module _ (bytes : List ℕ) (t : ValueType) (a : List ℕ) (type_is : value_type_at bytes ≡ Some (t, a)) where
   module _ (whole : IsSome (full_at bytes)) where
-    -- after the value type of a full form stands its sequence number
+    -- after the value type of a full form its sequence number is encoded
     pub full_seqno : IsSome (number_at 64 a)
     unfolding full_at
     full_seqno = chain_first (number_at 64 a) _ (chain_next (value_type_at bytes) _ (t, a) type_is whole)
@@ -43,7 +43,7 @@ module _ (bytes : List ℕ) (t : ValueType) (a : List ℕ) (type_is : value_type
         unfolding full_at
         full_value = chain_first (value_at t c) _ (chain_next (length_prefixed_at 16 b) _ (k, c) key_is (chain_next (number_at 64 a) _ (n, b) seqno_is (chain_next (value_type_at bytes) _ (t, a) type_is whole)))
 
-        -- and of these parts reading makes the entry
+        -- and decoding these parts makes the entry
         pub full_whole : (v d : List ℕ) → value_at t c ≡ Some (v, d) → full_at bytes ≡ Some (record { key = record { user_key = k; seqno = n; value_type = t }; value = v }, d)
         unfolding full_at
         full_whole v d value_is =
@@ -54,7 +54,7 @@ module _ (bytes : List ℕ) (t : ValueType) (a : List ℕ) (type_is : value_type
             ]
 
   module _ (whole : IsSome (truncated_form_at bytes)) where
-    -- after the value type of a truncated form stands its sequence number
+    -- after the value type of a truncated form its sequence number is encoded
     pub form_seqno : IsSome (number_at 64 a)
     unfolding truncated_form_at
     form_seqno = chain_first (number_at 64 a) _ (chain_next (value_type_at bytes) _ (t, a) type_is whole)
@@ -77,12 +77,12 @@ module _ (bytes : List ℕ) (t : ValueType) (a : List ℕ) (type_is : value_type
           unfolding truncated_form_at
           form_value = chain_first (value_at t d) _ (chain_next (length_prefixed_at 16 c) _ (k, d) rest_is (chain_next (number_at 16 b) _ (m, c) shared_is (chain_next (number_at 64 a) _ (n, b) seqno_is (chain_next (value_type_at bytes) _ (t, a) type_is whole))))
 
-          -- and of these parts reading makes the form
+          -- and decoding these parts makes the form
           pub form_whole : (v e : List ℕ) → value_at t d ≡ Some (v, e) → truncated_form_at bytes ≡ Some (record { value_type = t; seqno = n; shared = m; rest = k; value = v }, e)
           unfolding truncated_form_at
           form_whole v e value_is = rw (type_is, seqno_is, shared_is, rest_is, value_is) refl
 
--- where a truncated form stands after a head, one stands
+-- where a truncated form is encoded after a head with this key, a truncated form is encoded, whatever the head
 pub form_stands : (base bytes : List ℕ) → IsSome (truncated_at base bytes) → IsSome (truncated_form_at bytes)
 unfolding truncated_at
 form_stands base bytes h = chain_first (truncated_form_at bytes) _ h
@@ -103,10 +103,10 @@ form_key base bytes t end x rest form read =
       s.1,
     )
 
--- an entry whose full form stands in bytes is within the limits
+-- an entry whose full form is encoded in bytes is within the limits
 pub full_fits : (payload : List ℕ) (offset : ℕ) (x : Entry) (rest : List ℕ) → IsBytes payload → full_at (drop offset payload) ≡ Some (x, rest) → IsEntry x
 full_fits payload offset x rest b e = let l = IsKind-entries in (l.full_takes (drop offset payload) x rest (IsBytes-drop offset payload b) e).1
 
--- so is one whose truncated form does
+-- so is an entry whose truncated form is encoded in bytes
 pub truncated_fits : (payload : List ℕ) (offset : ℕ) (base : List ℕ) (x : Entry) (rest : List ℕ) → IsBytes payload → truncated_at base (drop offset payload) ≡ Some (x, rest) → IsEntry x
 truncated_fits payload offset base x rest b e = let l = IsKind-entries in (l.truncated_takes base (drop offset payload) x rest (IsBytes-drop offset payload b) e).1

@@ -1,4 +1,4 @@
--- What readings of entries say of their parts.
+-- What decoding an entry says of its parts.
 use Rattle.std.proofs.Common.{◌≡◌, ℕ, ◌+◌, ◌-◌, ◌≤◌, List, [], ◌∷◌, ◌++◌, true, length, take, drop, arith, sym, ◌∙◌, ap, Option, Some, None, ltb, length-append, length-drop}
 use Rattle.std.proofs.lemmas.List.{take-append-le, length-take-le}
 use Rattle.std.proofs.lemmas.Bool.{eq-eqb, le-leb}
@@ -18,7 +18,7 @@ use Rattle.sst_block_kinds.specs.declared.table.data_block.parsed_item.DataBlock
 use Rattle.sst_block_kinds.specs.declared.table.data_block.decoding.TruncatedForm.{TruncatedForm}
 use Rattle.sst_block_core.specs.FoundLaws.{length-range}
 
--- two readings of one text give one thing
+-- decoding the same bytes twice gives the same result
 pub one_reading : {A : Type 0} (o : Option (A × List ℕ)) (t : A × List ℕ) (a : A) (r : List ℕ) → o ≡ Some t → o ≡ Some (a, r) → (t.0 ≡ a) × (t.1 ≡ r)
 one_reading {A = A} o t a r p q =
     let s : ◌≡◌ {A = Option (A × List ℕ)} (Some t) (Some (a, r)) = sym p ∙ q in
@@ -28,7 +28,7 @@ one_reading {A = A} o t a r p q =
 pub no_reading : {A : Type 0} (o : Option A) (t : A) → o ≡ Some t → o ≡ None → ⊥
 no_reading o t p q = let e : Some t ≡ None = sym p ∙ q in cc
 
--- what a full form begins with
+-- the parts that a full form begins with
 pub record FullParts (bytes : List ℕ) (x : Entry) : Type 0 where
   pub value_type : ValueType × List ℕ
   pub seqno : ℕ × List ℕ
@@ -60,7 +60,7 @@ full_parts bytes x rest h =
       same_key = ap (λ (e : Entry). e.key.user_key) p.0;
     }
 
--- what a truncated form says after a head with this key
+-- the parts of a truncated form after a head with this key
 pub record TruncatedParts (base bytes : List ℕ) (x : Entry) (rest : List ℕ) : Type 0 where
   pub said : Truncated
   pub form_is : truncated_form_at bytes ≡ Some (said, rest)
@@ -91,7 +91,7 @@ truncated_parts base bytes x rest h =
       entry_is = p.0;
     }
 
--- a front of what stands at an offset, by its range
+-- a prefix of the bytes at an offset, by its range
 pub range_of-front : (payload : List ℕ) (offset n : ℕ) (base : List ℕ) → IsEncodedAt payload offset base → n ≤ length base
     → (offset + n ≤ length payload) × (range_of payload (record { 0 = offset; 1 = offset + n }) ≡ take n base)
 range_of-front payload offset n base stands h =
@@ -113,7 +113,7 @@ key_and_seqno bytes x p t a n b k c e f g =
 abbrev pub parsed_of : ℕ → TruncatedForm → DataBlockParsedItem
 parsed_of base_offset f = record { value_type = f.value_type; seqno = f.seqno; prefix = Some (record { 0 = base_offset; 1 = base_offset + f.shared }); key = f.key; value = f.value }
 
--- where a truncated form stands after a head, the parser finds its prefix and its entry
+-- where a truncated form is encoded after a head, the parser returns its prefix and its entry
 pub truncated_found : (payload bytes base : List ℕ) (base_offset end : ℕ) (f : TruncatedForm) (x : Entry) (rest : List ℕ) → IsEncodedAt payload base_offset base
     → IsRange payload f.key → truncated_at base bytes ≡ Some (x, rest) → truncated_form_at bytes ≡ Some (truncated_of payload f, drop end payload)
     → (base_offset + f.shared ≤ length payload) × IsKeyLength (f.shared + (f.key.1 - f.key.0)) × (entry_of payload (parsed_of base_offset f) ≡ x) × (drop end payload ≡ rest)
@@ -133,7 +133,7 @@ truncated_found payload bytes base base_offset end f x rest stands range read fo
       sym s.1,
     )
 
--- where the shared prefix is the longest, the answer is what reading gives
+-- where the shared prefix is the longest, the result is the decoded entry
 pub truncated_read : (payload bytes base : List ℕ) (base_offset end : ℕ) (f : TruncatedForm) (prefix : SliceIndexes) → IsEncodedAt payload base_offset base
     → IsRange payload f.key → prefix ≡ record { 0 = base_offset; 1 = base_offset + f.shared } → IsKeyLength (f.shared + (f.key.1 - f.key.0))
     → prefix.1 - prefix.0 ≡ shared_prefix_length base (range_of payload prefix ++ range_of payload f.key)

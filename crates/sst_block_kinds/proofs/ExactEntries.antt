@@ -1,4 +1,4 @@
--- Truncated forms of entries, read exactly.
+-- Truncated forms of entries, decoded exactly.
 use Rattle.std.proofs.Common.{◌≡◌, ℕ, ◌+◌, ◌-◌, ◌≤◌, List, ◌++◌, length, take, drop, refl, ◌∙◌, ap, inl, inr, Some, None, Bool, true, false, cond, eqb, leb}
 use Rattle.std.proofs.lemmas.Bool.{le-leb, leb-true, cases_Bool}
 use Rattle.sst_base.specs.declared.table.util.SliceIndexes.{SliceIndexes}

@@ -1,4 +1,4 @@
--- Truncated forms of handles, read exactly.
+-- Truncated forms of handles, decoded exactly.
 use Rattle.std.proofs.Common.{◌≡◌, ℕ, ◌+◌, ◌-◌, ◌≤◌, List, ◌++◌, length, take, drop, ◌∙◌, ap, inl, inr, Some, None, true, false, cond, eqb, leb}
 use Rattle.std.proofs.lemmas.Bool.{le-leb, leb-true, cases_Bool}
 use Rattle.sst_base.specs.declared.table.util.SliceIndexes.{SliceIndexes}

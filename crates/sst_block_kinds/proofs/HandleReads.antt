@@ -1,4 +1,4 @@
--- Forms of handles that are read or stand at an offset: their parts, one after the other.
+-- Forms of handles that are decoded or encoded at an offset: their parts, one after the other.
 use Rattle.std.proofs.Common.{◌≡◌, ℕ, ◌+◌, ◌-◌, ◌<◌, ◌≤◌, List, [], ◌∷◌, ◌++◌, length, take, drop, get_or, refl, sym, ap, ◌∙◌, inl, inr, Some, None, true, false, eqb, arith, length-append}
 use Rattle.std.specs.Option.{IsSome}
 use Rattle.std.proofs.lemmas.List.{drop_all, drop_more, length-take-le}
@@ -48,7 +48,7 @@ module _ (bytes a : List ℕ) (marker_is : marker_at bytes ≡ Some a) (whole : 
       unfolding fields_at
       front_seqno = chain_first (number_at 64 c) _ (chain_next (number_at 32 b) _ (s, c) size_is (chain_next (number_at 64 a) _ (o, b) offset_is (chain_next (marker_at bytes) _ a marker_is whole)))
 
-      -- and of these parts reading makes the fields
+      -- and decoding these parts makes the fields
       pub front_whole : (n : ℕ) (d : List ℕ) → number_at 64 c ≡ Some (n, d) → fields_at bytes ≡ Some (record { offset = o; size = s; seqno = n }, d)
       unfolding fields_at
       front_whole n d seqno_is = rw (marker_is, offset_is, size_is, seqno_is) refl
@@ -62,7 +62,7 @@ pub truncated_front : (base bytes : List ℕ) → IsSome (truncated_at base byte
 unfolding truncated_at
 truncated_front base bytes whole = chain_first (fields_at bytes) _ whole
 
--- where no fields are read, no form is
+-- where no fields are decoded, no form is
 pub full_no_front : (bytes : List ℕ) → fields_at bytes ≡ None → full_at bytes ≡ None
 unfolding full_at
 full_no_front bytes none = rw none refl
@@ -72,7 +72,7 @@ unfolding truncated_at
 truncated_no_front base bytes none = rw none refl
 
 module _ (bytes : List ℕ) (f : Fields) (a : List ℕ) (front_is : fields_at bytes ≡ Some (f, a)) where
-  -- nor where what follows it is not read
+  -- nor where what follows them is not decoded
   pub full_no_key : length_prefixed_at 16 a ≡ None → full_at bytes ≡ None
   unfolding full_at
   full_no_key none = rw (front_is, none) refl
@@ -85,22 +85,22 @@ module _ (bytes : List ℕ) (f : Fields) (a : List ℕ) (front_is : fields_at by
   unfolding truncated_at
   truncated_no_rest base n b shared_is none = rw (front_is, shared_is, none) refl
 
-  -- after the fields of a full form comes its end key
+  -- after the fields of a full form its end key is encoded
   pub full_key : IsSome (full_at bytes) → IsSome (length_prefixed_at 16 a)
   unfolding full_at
   full_key whole = chain_first (length_prefixed_at 16 a) _ (chain_next (fields_at bytes) _ (f, a) front_is whole)
 
-  -- and of both reading makes the handle
+  -- and decoding both makes the handle
   pub full_whole : (k c : List ℕ) → length_prefixed_at 16 a ≡ Some (k, c) → full_at bytes ≡ Some (handle_with f k, c)
   unfolding full_at
   full_whole k c key_is = rw (front_is, key_is) refl
 
-  -- so a handle that is read is made of both
+  -- so a handle that is decoded is made of both
   pub full_is : (k c : List ℕ) (x : Handle) (rest : List ℕ) → length_prefixed_at 16 a ≡ Some (k, c) → full_at bytes ≡ Some (x, rest) → (handle_with f k ≡ x) × (c ≡ rest)
   full_is k c x rest key_is read = let e : ◌≡◌ {A = Handle × List ℕ} (handle_with f k, c) (x, rest) = same_Some (handle_with f k, c) (x, rest) (sym (full_whole k c key_is) ∙ read) in pair_parts (handle_with f k) x c rest e
 
   module _ (base : List ℕ) where
-    -- after the fields of a truncated form comes the length of the shared prefix
+    -- after the fields of a truncated form the length of the shared prefix is encoded
     pub truncated_shared : IsSome (truncated_at base bytes) → IsSome (number_at 16 a)
     unfolding truncated_at
     truncated_shared whole = chain_first (number_at 16 a) _ (chain_next (fields_at bytes) _ (f, a) front_is whole)
@@ -112,17 +112,17 @@ module _ (bytes : List ℕ) (f : Fields) (a : List ℕ) (front_is : fields_at by
       truncated_rest whole = chain_first (length_prefixed_at 16 b) _ (chain_next (number_at 16 a) _ (n, b) shared_is (chain_next (fields_at bytes) _ (f, a) front_is whole))
 
       module _ (k c : List ℕ) (rest_is : length_prefixed_at 16 b ≡ Some (k, c)) where
-        -- of these parts reading makes the handle, where the shared prefix is the longest
+        -- decoding these parts makes the handle, where the shared prefix is the longest
         pub truncated_whole : is_truncation base n (take n base ++ k) ≡ true → truncated_at base bytes ≡ Some (handle_with f (take n base ++ k), c)
         unfolding truncated_at
         truncated_whole is = rw (front_is, shared_is, rest_is, is) refl
 
-        -- and where it is not, none is read
+        -- and where it is not the longest, none is decoded
         pub truncated_other : is_truncation base n (take n base ++ k) ≡ false → truncated_at base bytes ≡ None
         unfolding truncated_at
         truncated_other other = rw (front_is, shared_is, rest_is, other) refl
 
-        -- and what a handle that is read is made of
+        -- and the parts of a handle that is decoded
         pub truncated_is : (x : Handle) (rest : List ℕ) → truncated_at base bytes ≡ Some (x, rest)
             → (is_truncation base n (take n base ++ k) ≡ true) × (handle_with f (take n base ++ k) ≡ x) × (c ≡ rest)
         unfolding truncated_at
@@ -141,7 +141,7 @@ marker_ends payload offset t stands form =
 
 module _ (payload bytes base : List ℕ) (base_offset end n : ℕ) (f : Fields) (a b : List ℕ) (key : SliceIndexes) (stands : IsEncodedAt payload base_offset base) (range : IsRange payload key)
     (front_is : fields_at bytes ≡ Some (f, a)) (shared_is : number_at 16 a ≡ Some (n, b)) (rest_is : length_prefixed_at 16 b ≡ Some (range_of payload key, drop end payload)) where
-  -- where a truncated form stands after a head, its prefix is found, and with it the handle
+  -- where a truncated form is encoded after a head, the parser returns its prefix and its handle
   pub truncated_found : (x : Handle) (rest : List ℕ) → truncated_at base bytes ≡ Some (x, rest)
       → (base_offset + n ≤ length payload) × (n + (key.1 - key.0) ≤ 65535) × (handle_with f (range_of payload (record { 0 = base_offset; 1 = base_offset + n }) ++ range_of payload key) ≡ x)
       × (drop end payload ≡ rest) × (n ≡ shared_prefix_length base x.end_key)
@@ -161,7 +161,7 @@ module _ (payload bytes base : List ℕ) (base_offset end n : ℕ) (f : Fields) 
         sym longest ∙ ap (λ (h : Handle). shared_prefix_length base h.end_key) t.1,
       )
 
-  -- where the shared prefix is the longest, the answer is what reading gives
+  -- where the shared prefix is the longest, the result is the decoded handle
   pub truncated_read : (prefix : SliceIndexes) → prefix ≡ record { 0 = base_offset; 1 = base_offset + n } → n + (key.1 - key.0) ≤ 65535
       → prefix.1 - prefix.0 ≡ shared_prefix_length base (range_of payload prefix ++ range_of payload key)
       → truncated_at base bytes ≡ Some (handle_with f (range_of payload prefix ++ range_of payload key), drop end payload)
@@ -176,7 +176,7 @@ module _ (payload bytes base : List ℕ) (base_offset end n : ℕ) (f : Fields) 
       let truncation : is_truncation base n (take n base ++ r) ≡ true = rw (eq-eqb _ _ shared) (le-leb (length (take n base ++ r)) 65535 (omega (arith, l, most))) in
       truncated_whole bytes f a front_is base n b shared_is r (drop end payload) rest_is truncation ∙ (λ i. Some (handle_with f (sym same i ++ r), drop end payload))
 
--- a handle whose form stands in bytes is within the limits
+-- a handle whose form is encoded in bytes is within the limits
 pub full_fits : (payload : List ℕ) (offset : ℕ) (x : Handle) (rest : List ℕ) → IsBytes payload → full_at (drop offset payload) ≡ Some (x, rest) → IsHandle x
 full_fits payload offset x rest b e = let l = IsKind-handles in (l.full_takes (drop offset payload) x rest (IsBytes-drop offset payload b) e).1
 

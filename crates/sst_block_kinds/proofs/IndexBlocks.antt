@@ -1,4 +1,4 @@
--- A payload passes the check of an index block exactly if it is one.
+-- A payload passes the check of an index block exactly if it is the payload of one.
 use Rattle.std.proofs.Common.{◌≡◌, ℕ, ◌<◌, ◌≤◌, ◌^◌, List, length, refl, arith, sym, ap, ◌∙◌, subst, Bool, true, false, cond}
 use Rattle.std.specs.List.{AllByRecursion}
 use Rattle.std.proofs.lemmas.List.{map-id}
@@ -13,7 +13,7 @@ use Rattle.sst_block_kinds.specs.Handles.{Handle, IsHandle, EndFits, handles, no
 use Rattle.sst_block_kinds.specs.HandleLaws.{IsKind-handles}
 use Rattle.sst_block_core.specs.CanonicalLaws.{block_from, passes_from}
 
--- what passes is an index block of the handles that are read from it
+-- a payload that passes is an index block of the handles that are decoded from it
 pub index_block_from : (r : ℕ) (p : List ℕ) → IsBytes p → IndexPasses r p → IsIndexBlock p (items_in handles p) r
 index_block_from r p b pass =
     let none = pass.parts.no_buckets in
@@ -38,7 +38,7 @@ stored_none : (few : Bool) → ◌≡◌ {A = ℕ} (cond few 0 0) 0
 stored_none true = refl
 stored_none false = refl
 
--- an index block passes, and its handles are those that are read
+-- an index block passes, and its handles are those that are decoded
 pub index_passes : (r : ℕ) (p : List ℕ) (items : List Handle) → length p < 2 ^ 32 → IsIndexBlock p items r → IndexPasses r p × (items_in handles p ≡ items)
 index_passes r p items room index =
     let all = passes_from handles IsHandle IsKind-handles no_hash p items r 0 index.block room in
@@ -71,11 +71,11 @@ written_block p items r interval some ordered ends are_valid whole = record {
   ends = ends;
 }
 
--- the handles of an index block are ordered as they are read
+-- the handles of an index block are ordered as decoded
 pub ordered_handles : (p : List ℕ) → length p < 2 ^ 32 → ((items : List Handle) × (r : ℕ) × IsIndexBlock p items r) → IsOrdered handles (items_in handles p)
 ordered_handles p room some = (passes_from handles IsHandle IsKind-handles no_hash p some.0 some.1 0 some.2.block room).0.order
 
--- so a payload that is an index block is that of the handles and the interval that are read from it
+-- so a payload that is an index block is that of the handles and the interval that are decoded from it
 pub read_block : (p : List ℕ) → length p < 2 ^ 32 → ((items : List Handle) × (r : ℕ) × IsIndexBlock p items r) → IsIndexBlock p (items_in handles p) (trailer_in p).interval
 read_block p room some =
     let passes = index_passes some.1 p some.0 room some.2 in

@@ -23,7 +23,7 @@ nowhere_byte byte h = elim (cases_eq byte 254) [
   ]
 ]
 
--- the number of an interval is the byte, and neither of the two others
+-- an interval's number is the bucket's byte, which is then neither 254 nor 255
 interval_byte : (byte n : ℕ) → lookup_of byte ≡ Interval n → (byte ≡ n) × (n ≡ 254 → ⊥) × (n ≡ 255 → ⊥)
 interval_byte byte n h = elim (cases_eq byte 254) [
   | inl e ↦ (let q = rw (eq-eqb byte 254 e) at h in cc (q))
@@ -44,7 +44,7 @@ module _ (hash : List ℕ → ℕ) (d : DataBlockParts) (needle : List ℕ) (pos
   unfolding buckets
   table_length = length-each (bucket entries hash d.interval d.items d.stored) 0 d.stored
 
-  -- a bucket is asked only where there is one
+  -- a bucket is read only where there is one
   stored_some : (l : Lookup) → (l ≡ Anywhere → ⊥) → lookup hash d needle ≡ l → (0 < d.stored) × (lookup_of byte ≡ l)
   stored_some l told h = elim (cases_eq d.stored 0) [
     | inl e ↦ (let q = rw (eq-eqb d.stored 0 e) at h in absurd (told (sym q)))
@@ -53,13 +53,13 @@ module _ (hash : List ℕ → ℕ) (d : DataBlockParts) (needle : List ℕ) (pos
         (omega (arith, n), ap (λ m. lookup_of (slice_index (buckets entries hash d.interval d.items d.stored) (hash needle % m))) (sym table_length) ∙ q))
   ]
 
-  -- where it says nowhere, no entry has the key
+  -- where it says that the key is nowhere, no entry has the key
   pub nowhere_none : lookup hash d needle ≡ Nowhere → (i : ℕ) (x : Entry) → slice_get d.items i ≡ Some x → x.key.user_key ≡ needle → ⊥
   nowhere_none h =
       let s = stored_some Nowhere (λ e. cc) h in
       free_bucket entries hash d.interval d.stored d.items needle (omega (arith, pos)) s.0 (few s.0) (nowhere_byte byte s.1)
 
-  -- where it gives an interval, that exists, and all entries with the key are there
+  -- where it gives an interval, this interval exists, and all entries with the key are in it
   pub interval_alone : (n : ℕ) → lookup hash d needle ≡ Interval n
       → (n * d.interval < length d.items) × ((i : ℕ) (x : Entry) → slice_get d.items i ≡ Some x → x.key.user_key ≡ needle → (n * d.interval ≤ i) × (i < (n + 1) * d.interval))
   interval_alone n h =

@@ -1,4 +1,4 @@
--- The own bytes of a key by its ranges.
+-- The bytes of a key after its shared prefix, by its ranges.
 use Rattle.std.proofs.Common.{◌≡◌, ℕ, ◌-◌, List, ◌++◌, length, drop, refl, sym, arith, Option, Some, None, length-drop}
 use Rattle.std.proofs.lemmas.List.{drop_at, length-take-le}
 use Rattle.sst_base.specs.declared.table.util.SliceIndexes.{SliceIndexes}
@@ -8,7 +8,7 @@ use Rattle.sst_block_kinds.specs.ParsedHandle.{handle_of, IsParsedHandle}
 use Rattle.sst_block_kinds.specs.declared.table.data_block.parsed_item.DataBlockParsedItem.{DataBlockParsedItem}
 use Rattle.sst_block_kinds.specs.declared.table.index_block.parsed_item.IndexBlockParsedItem.{IndexBlockParsedItem}
 
--- a range has as many bytes as it says
+-- a range has as many bytes as its ends say
 pub range_length : (payload : List ℕ) (range : SliceIndexes) → IsRange payload range → length (range_of payload range) ≡ range.1 - range.0
 range_length payload range r =
     let l = length-drop range.0 payload in

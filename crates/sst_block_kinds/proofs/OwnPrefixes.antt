@@ -1,4 +1,4 @@
--- A prefix that an item was found with stands in the payload, and is the whole key of a head after which the form stands.
+-- The shared prefix of an item lies in the payload, and is the whole key of a head after which the form is encoded.
 use Rattle.std.proofs.Common.{◌≡◌, ℕ, suc, ◌+◌, ◌-◌, cond, List, [], ◌∷◌, ◌++◌, length, take, drop, refl, arith, sym, ◌∙◌, ap, length-drop}
 use Rattle.std.proofs.lemmas.Bool.{eq-eqb}
 use Rattle.std.proofs.lemmas.List.{length-take-le, take-append-drop}
@@ -6,7 +6,7 @@ use Rattle.sst_base.specs.SharedPrefix.{shared_prefix_length}
 use Rattle.sst_base.specs.declared.table.util.SliceIndexes.{SliceIndexes}
 use Rattle.sst_block_core.specs.Found.{IsRange, IsEncodedAt, range_of}
 
--- bytes are shared whole with what they begin
+-- a byte string shares all its bytes with a string that begins with it
 shared_whole : (base rest : List ℕ) → shared_prefix_length base (base ++ rest) ≡ length base
 shared_whole [] rest = refl
 shared_whole (x ∷ xs) rest = ap (λ t. cond t (suc (shared_prefix_length xs (xs ++ rest))) 0) (eq-eqb x x refl) ∙ ap suc (shared_whole xs rest)

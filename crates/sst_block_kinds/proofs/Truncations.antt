@@ -1,4 +1,4 @@
--- Whether a truncated key shares its greatest front with a base key, by their ranges of a payload.
+-- Whether a truncated key shares its longest prefix with a base key, by their ranges of a payload.
 use Rattle.std.proofs.Common.{◌≡◌, ℕ, ◌+◌, ◌-◌, ◌≤◌, List, ◌++◌, length, take, drop, arith, sym, ◌∙◌, ap, true, false, eqb, length-append}
 use Rattle.std.proofs.lemmas.List.{length-take-le, take-take}
 use Rattle.std.proofs.lemmas.Bool.{eqb-true}
@@ -16,11 +16,11 @@ module _ (payload : List ℕ) (base key : SliceIndexes) (n : ℕ) (b rest : List
   same_test : eqb (shared_prefix_length b (take n b ++ rest)) n ≡ eqb (shared_prefix_length (range_of payload base) (key_with payload base n key)) n
   same_test = λ i. eqb (shared_prefix_length (b_is i) (take n (b_is i) ++ rest_is i)) n
 
-  -- it does not
+  -- the shared prefix is not the longest
   pub not_greatest : false ≡ eqb (shared_prefix_length b (take n b ++ rest)) n → eqb (shared_prefix_length (range_of payload base) (key_with payload base n key)) n ≡ false
   not_greatest differs = sym (differs ∙ same_test)
 
-  -- it does
+  -- the shared prefix is the longest
   module _ (same : true ≡ eqb (shared_prefix_length b (take n b ++ rest)) n) where
     pub greatest : eqb (shared_prefix_length (range_of payload base) (key_with payload base n key)) n ≡ true
     greatest = sym (same ∙ same_test)
@@ -32,7 +32,7 @@ module _ (payload : List ℕ) (base key : SliceIndexes) (n : ℕ) (b rest : List
         let l = length-range payload base base_in.order base_in.inside in
         omega arith
 
-    -- then the front lies in the payload
+    -- then the prefix lies in the payload
     pub front_inside : base.0 + n ≤ length payload
     front_inside = let s = shared_in in let i = base_in.inside in let o = base_in.order in omega arith
 

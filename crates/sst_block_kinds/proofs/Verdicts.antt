@@ -1,4 +1,4 @@
--- The checks answer what the stages say.
+-- The checks return what the stages say.
 use Rattle.std.proofs.Common.{◌≡◌, ℕ, ◌&&◌, Bool, true, false, eqb, List, length, refl, Result, Err}
 use Rattle.std.proofs.lemmas.Bool.{leb-true, le-leb, eqb-true, eq-eqb, and_from, and_parts}
 use Rattle.std.specs.Bool.{Decides}
@@ -12,7 +12,7 @@ use Rattle.sst_base.specs.Frame.{demand}
 use Rattle.sst_block_kinds.specs.Checks.{data_check, index_check, has_parts, DataVerdict, IndexVerdict}
 use Rattle.sst_block_kinds.proofs.CheckTests.{parts_from, parts_to, decides_forms, decides_in_order, decides_pointers, decides_buckets, decides_ends}
 
--- a demand: what holds where it is met, and where it is not
+-- a condition: what follows where it holds, and where it does not
 demanded : {A : Type 0} {P : Type 0} (V : Result A Error → Type 0) (test : Bool) (e : Error) (f : Unit {0} → Result A Error) → Decides test P → ((P → ⊥) → V (Err e)) → (P → V (f tt)) → V (demand test e >>= f)
 demanded V true e f d failed passed = passed (d.0 refl)
 demanded V false e f d failed passed = failed (λ h. let k : false ≡ true = d.1 h in cc)

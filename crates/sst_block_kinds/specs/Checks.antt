@@ -30,7 +30,7 @@ is_in_order cmp [] = true
 is_in_order cmp (x ∷ []) = true
 is_in_order cmp (x ∷ y ∷ xs) = not (is_lt (cmp y x)) && is_in_order cmp (y ∷ xs)
 
--- stage 2: do the numbers of the trailer fit each other and the payload?
+-- stage 2: are the numbers of the trailer consistent with each other and with the payload?
 abbrev pub has_parts : Trailer → List ℕ → Bool
 has_parts t p =
     nat_le 1 t.interval && (nat_eq t.width 2 || nat_eq t.width 4) && nat_le 1 t.item_count
@@ -41,7 +41,7 @@ has_parts t p =
     && (if nat_eq t.hash_len 0 then nat_eq t.hash_offset 0
     else nat_le t.heads 254 && nat_eq t.hash_offset (t.index_offset + t.heads * t.width))
 
--- stage 3: is the body so many forms, and nothing after them?
+-- stage 3: is the body as many forms as the trailer says, and nothing after them?
 abbrev pub has_forms : {X : Type 0} → Kind X → Trailer → List ℕ → Bool
 has_forms kind t p = reads_all (items_at kind t.interval 0 t.item_count [] (body_in t p))
 
@@ -49,13 +49,13 @@ has_forms kind t p = reads_all (items_at kind t.interval 0 t.item_count [] (body
 abbrev pub has_order : {X : Type 0} → Kind X → Trailer → List ℕ → Bool
 has_order kind t p = is_in_order (item_cmp kind) (items_by kind t p)
 
--- stage 5: is each pointer the offset of its head, and the width the least that serves?
+-- stage 5: is each pointer the offset of its head, and the pointer width the smallest that suffices?
 abbrev pub has_pointers : {X : Type 0} → Kind X → Trailer → List ℕ → Bool
 has_pointers kind t p =
     all_below t.heads (λ j. nat_eq (little_number t.width (drop (j * t.width) (index_in t p))) (place_offset kind t.interval (items_by kind t p) (j * t.interval)))
     && nat_eq t.width (pointer_width kind t.interval (items_by kind t p))
 
--- stage 6: does each stored bucket say in which intervals its keys stand?
+-- stage 6: does each stored bucket say in which intervals its keys are?
 abbrev pub has_buckets : {X : Type 0} → Kind X → (List ℕ → ℕ) → Trailer → List ℕ → Bool
 has_buckets kind hash t p = all_below t.hash_len (λ q. nat_eq (slice_index (buckets_in t p) q) (bucket kind hash t.interval (items_by kind t p) t.hash_len q))
 
@@ -93,7 +93,7 @@ index_check_by t p = do
 unfoldable pub index_check : List ℕ → Result (List Handle) Error
 index_check p = index_check_by (trailer_in p) p
 
--- why the payload of a data block is refused: the stage of the error fails, and all before it hold
+-- why a check refuses the payload of a data block: the stage of the error fails, and all before it hold
 abbrev pub DataRefusal : (List ℕ → ℕ) → Trailer → List ℕ → Error → Type 0
 DataRefusal hash64 t p Truncated = HasTrailer p → ⊥
 DataRefusal hash64 t p BadTrailer = HasTrailer p × (HasParts t p → ⊥)
@@ -103,12 +103,12 @@ DataRefusal hash64 t p BadIndex = HasTrailer p × HasParts t p × HasForms entri
 DataRefusal hash64 t p BadHashIndex = HasTrailer p × HasParts t p × HasForms entries t p × HasOrder entries t p × HasPointers entries t p × (HasBuckets entries hash64 t p → ⊥)
 DataRefusal hash64 t p _ = ⊥
 
--- an answer is the one that the stages give: the entries where all hold, else the error of the first that fails
+-- a result is the one that the stages give: the entries where all hold, else the error of the first that fails
 abbrev pub DataVerdict : (List ℕ → ℕ) → Trailer → List ℕ → Result (List Entry) Error → Type 0
 DataVerdict hash64 t p (Ok items) = PassesBy entries hash64 t p × (items ≡ items_by entries t p)
 DataVerdict hash64 t p (Err e) = DataRefusal hash64 t p e
 
--- why the payload of an index block is refused: the stage of the error fails, and all before it hold
+-- why a check refuses the payload of an index block: the stage of the error fails, and all before it hold
 abbrev pub IndexRefusal : Trailer → List ℕ → Error → Type 0
 IndexRefusal t p Truncated = HasTrailer p → ⊥
 IndexRefusal t p BadTrailer = HasTrailer p × (HasIndexParts t.interval t p → ⊥)
@@ -118,7 +118,7 @@ IndexRefusal t p OutOfOrder = HasTrailer p × HasIndexParts t.interval t p × Ha
 IndexRefusal t p BadIndex = HasTrailer p × HasIndexParts t.interval t p × HasForms handles t p × HasEnds t p × HasOrder handles t p × (HasPointers handles t p → ⊥)
 IndexRefusal t p _ = ⊥
 
--- an answer is the one that the stages give: the handles where all hold, else the error of the first that fails
+-- a result is the one that the stages give: the handles where all hold, else the error of the first that fails
 abbrev pub IndexVerdict : Trailer → List ℕ → Result (List Handle) Error → Type 0
 IndexVerdict t p (Ok items) = IndexPassesBy t.interval t p × (items ≡ items_by handles t p)
 IndexVerdict t p (Err e) = IndexRefusal t p e

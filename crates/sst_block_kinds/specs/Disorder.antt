@@ -5,7 +5,7 @@ use Rattle.sst_base.specs.Entry.{Entry}
 use Rattle.sst_block_core.specs.Kind.{item_cmp}
 use Rattle.sst_block_core.specs.Entries.{entries}
 
--- the index of the first entry that sorts before its predecessor, if the list begins at this index
+-- the index of the first entry that sorts before its predecessor, if the first entry of the list has this index
 unfoldable pub disorder_from : ℕ → List Entry → Option ℕ
 disorder_from i [] = None
 disorder_from i (x ∷ []) = None

@@ -1,4 +1,4 @@
--- Handles are a kind: what is written of them is read again, and what is read was written so.
+-- Handles are a kind: the forms of a handle are decoded to it, and what is decoded was encoded so.
 use Rattle.std.proofs.Common.{◌≡◌, ℕ, ◌≤◌, ◌<◌, ◌^◌, inl, inr, List, [], ◌∷◌, ◌++◌, length, take, drop, refl, arith, sym, ◌∙◌, ap, subst, Some, true, eqb, append_assoc, length-drop}
 use Rattle.std.proofs.lemmas.Bool.{leb-true, le-leb, eqb-true, eq-eqb}
 use Rattle.std.proofs.lemmas.List.{drop_at, length-take-le}

@@ -13,12 +13,12 @@ handle_of payload p = record { offset = p.offset.0; size = p.size; seqno = p.seq
 abbrev pub prefix_len : IndexBlockParsedItem → ℕ
 prefix_len p = range_len p.prefix
 
--- its ranges lie in the payload, and the handle is within the limits
+-- its ranges lie in the payload, and its handle is within the limits
 pub record IsParsedHandle (payload : List ℕ) (p : IndexBlockParsedItem) : Type 0 where
   pub prefix : IsOptionalRange payload p.prefix
   pub end_key : IsRange payload p.end_key
   pub fits : IsHandle (handle_of payload p)
 
--- the fields, as code has them
+-- the fields of a handle, as the code has them
 abbrev pub fields_by : HandleFields → Fields
 fields_by f = record { offset = f.offset; size = f.size; seqno = f.seqno }

@@ -1,4 +1,4 @@
--- Where the entries with a key can be, by the hash index, and how little a point read looks at then.
+-- Where the entries with a key can be, by the hash index, and how little a point read examines then.
 use Rattle.std.specs.Prelude.{ℕ, ◌+◌, ◌==◌, if◌then◌else◌, List, length}
 use Rattle.sst_block_core.specs.Buckets.{buckets}
 use Rattle.sst_block_core.specs.Pointers.{head_count}
@@ -13,25 +13,25 @@ use Rattle.sst_block_kinds.specs.DataBlock.{DataBlockParts}
 abbrev pub lookup : (List ℕ → ℕ) → DataBlockParts → List ℕ → Lookup
 lookup hash d key = if d.stored == 0 then Anywhere else lookup_in hash (buckets entries hash d.interval d.items d.stored) key
 
--- how many heads a point read looks at, at most: none but for the search over all of them
+-- the most heads that a point read examines: none, unless it searches all heads
 abbrev pub heads_most : Lookup → ℕ → ℕ
 heads_most Nowhere heads = 0
 heads_most (Interval n) heads = 0
 heads_most Anywhere heads = digits heads
 
--- how many entries a point read decodes, at most: those of an interval, and after a search one more
+-- the most entries that a point read decodes: those of one interval, and after a search one more
 abbrev pub entries_most : Lookup → ℕ → ℕ
 entries_most Nowhere interval = 0
 entries_most (Interval n) interval = interval
 entries_most Anywhere interval = interval + 1
 
--- how many heads a point read looks at, at least: one where it searches over them
+-- the fewest heads that a point read examines: one where it searches them
 abbrev pub heads_least : Lookup → ℕ
 heads_least Nowhere = 0
 heads_least (Interval n) = 0
 heads_least Anywhere = 1
 
--- how many entries a point read decodes, at least: the head of the interval that it is sent to
+-- the fewest entries that a point read decodes: the head of the interval that the hash index gives
 abbrev pub entries_least : Lookup → ℕ
 entries_least Nowhere = 0
 entries_least (Interval n) = 1
@@ -44,10 +44,10 @@ read_heads hash d key = heads_most (lookup hash d key) (head_count d.interval (l
 abbrev pub read_entries : (List ℕ → ℕ) → DataBlockParts → List ℕ → ℕ
 read_entries hash d key = entries_most (lookup hash d key) d.interval
 
--- the most heads, and the most entries, that a point read of a key in a data block looks at
+-- the most heads, and the most entries, that a point read of a key in a data block examines
 abbrev pub read_most : (List ℕ → ℕ) → DataBlockParts → List ℕ → ℕ × ℕ
 read_most hash d key = (read_heads hash d key, read_entries hash d key)
 
--- the least heads, and the least entries
+-- the fewest heads, and the fewest entries
 abbrev pub read_least : (List ℕ → ℕ) → DataBlockParts → List ℕ → ℕ × ℕ
 read_least hash d key = (heads_least (lookup hash d key), entries_least (lookup hash d key))

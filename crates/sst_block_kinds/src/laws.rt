@@ -35,8 +35,8 @@ pub fn handles_are_a_kind()
     ensures { IsKind handles IsHandle }
 {}
 
-/// Between two seeks, what was answered to steps from the front, what is then left, and what was
-/// answered to steps from the back, the last first, are together the window at the start.
+/// Between two seeks, the items that steps from the front returned, the items then left, and the
+/// items that steps from the back returned, the last first, are together the window at the start.
 pub fn window_is_given()
     ensures { (ops : List Op) (w : Window Entry) → w.hi ≤ length w.list → AreSteps end_of ops
         → fronts end_of ops (answers (map step_of ops) w)
@@ -45,7 +45,7 @@ pub fn window_is_given()
         ≡ items_left w }
 {}
 
-/// The same of an index block.
+/// The same for an index block.
 pub fn index_window_is_given()
     ensures { (ops : List IndexOp) (w : Window Handle) → w.hi ≤ length w.list
         → AreSteps index_end_of ops
@@ -55,8 +55,8 @@ pub fn index_window_is_given()
         ≡ items_left w }
 {}
 
-/// The answers to operations on a data block and to more operations are those to the first, and
-/// then those to the others from the window where the first left off.
+/// The results of a list of operations on a data block followed by more operations are the results
+/// of the first list, then the results of the others from the window that the first list left.
 pub fn walk_goes_on()
     ensures { (first others : List Op) (w : Window Entry)
         → answers (map step_of (first ++ others)) w
@@ -64,7 +64,7 @@ pub fn walk_goes_on()
         ++ answers (map step_of others) (window_after (map step_of first) w) }
 {}
 
-/// The same of an index block.
+/// The same for an index block.
 pub fn index_walk_goes_on()
     ensures { (first others : List IndexOp) (w : Window Handle)
         → answers (map index_step_of (first ++ others)) w
@@ -72,7 +72,7 @@ pub fn index_walk_goes_on()
         ++ answers (map index_step_of others) (window_after (map index_step_of first) w) }
 {}
 
-/// A whole walk from the back decodes no entry more than twice.
+/// A whole iteration from the back decodes no entry more than twice.
 #[tactic(auto, using(crate::proofs::BackCosts::back_walk_twice))]
 pub fn back_walk_is_cheap()
     ensures { (r n : ℕ) → 0 < r → back_walk_cost r n n ≤ 2 * n }
@@ -87,8 +87,8 @@ pub fn data_check_is_exact()
         × IsBlock entries IsEntry hash p items r b) }
 {}
 
-/// The payload of a list of entries passes the check, and the list without tombstones' values, the
-/// interval and the stored count are read from it.
+/// The payload of a list of entries passes the check. The list without tombstones' values, the
+/// interval and the stored count are decoded from it.
 pub fn data_block_is_read()
     ensures { (hash : List ℕ → ℕ) (p : List ℕ) (items : List Entry) (r b : ℕ)
         → length p < 2 ^ 32 → IsBlock entries IsEntry hash p items r b
@@ -97,8 +97,8 @@ pub fn data_block_is_read()
         × ((trailer_in p).hash_len ≡ stored_count r (length items) b) }
 {}
 
-/// A payload encodes one list of entries but for tombstones' values, one interval and one stored
-/// count.
+/// A payload encodes one list of entries (except for tombstones' values), one interval and one
+/// stored count.
 pub fn data_block_is_unique()
     ensures { (hash : List ℕ → ℕ) (p : List ℕ) (xs ys : List Entry) (q r a b : ℕ)
         → length p < 2 ^ 32
@@ -114,21 +114,21 @@ pub fn index_check_is_exact()
         ↔ ((items : List Handle) × IsIndexBlock p items r) }
 {}
 
-/// The handles of an index block, and its interval, are read from its payload.
+/// The handles of an index block, and its interval, are decoded from its payload.
 pub fn index_block_is_read()
     ensures { (r : ℕ) (p : List ℕ) (items : List Handle) → length p < 2 ^ 32
         → IsIndexBlock p items r
         → IndexPasses r p × (items_in handles p ≡ items) × ((trailer_in p).interval ≡ r) }
 {}
 
-/// A payload is that of one list of handles, at one interval.
+/// A payload encodes one list of handles, at one interval.
 pub fn index_block_is_unique()
     ensures { (p : List ℕ) (xs ys : List Handle) (q r : ℕ) → length p < 2 ^ 32
         → IsIndexBlock p xs q
         → IsIndexBlock p ys r → (xs ≡ ys) × (q ≡ r) }
 {}
 
-/// The first match of a list of entries is that of the list without tombstones' values.
+/// The first match of a list of entries is the first match of the list without tombstones' values.
 pub fn first_match_of_plain()
     ensures { (needle : List ℕ) (seqno : ℕ) (items : List Entry)
         → first_match entries needle seqno (map plain items)

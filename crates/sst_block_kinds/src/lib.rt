@@ -1,4 +1,4 @@
-//! Blocks of entries and blocks of handles: the kinds that tables are made of.
+//! Blocks of entries and blocks of handles: the kinds of blocks in a table.
 #![tactic(auto)]
 
 pub mod laws;

@@ -1,4 +1,4 @@
--- What the plain program's recursions come to.
+-- What the recursions of the plain program compute.
 use Rattle.std.proofs.Common.{◌≡◌, ℕ, ◌+◌, ◌-◌, ◌*◌, ◌/◌, ◌%◌, ◌^◌, ◌<◌, ◌≤◌, zero, suc, List, [], ◌∷◌, ◌++◌, refl, arith, sym, ap, ◌∙◌, append_assoc, length, take, get_or, cond, eqb, leb, Bool, true, false, Some, slice_get}
 use Rattle.std.proofs.lemmas.List.{append-nil, take_all, take_more, get_or-take, length-take-le}
 use Rattle.std.proofs.lemmas.Option.{get_or_from_slice_get}
@@ -73,7 +73,7 @@ body_one_more r pos items place h =
     ∙ ap (λ y. body entries r front ++ cond (eqb (place % r) 0) (entries.full x) (truncated_against entries y x)) head
     ∙ ap (λ o. body entries r front ++ form_of r items place o) (sym f.1)
 
--- one number more of a table
+-- a table with one more number
 pub rows_one_more : (front : List ℕ) (w : ℕ) (f : ℕ → ℕ) (j : ℕ) → (front ++ flat_map (little_bytes w) (each f 0 j)) ++ little_bytes w (f j) ≡ front ++ flat_map (little_bytes w) (each f 0 (j + 1))
 rows_one_more front w f j =
     let z : 0 + j ≡ j = omega arith in
@@ -87,7 +87,7 @@ rows_one_more front w f j =
 not_leb : (m n : ℕ) → n < m → leb m n ≡ false
 not_leb m n h = search (arith, nat_tests)
 
--- a table's end is that of all rows
+-- the end of a table is the end of all its numbers
 pub rows_done : (front : List ℕ) (w v : ℕ) (f : ℕ → ℕ) (j n : ℕ) → w ≡ v → j ≡ n → front ++ flat_map (little_bytes w) (each f 0 j) ≡ front ++ flat_map (little_bytes v) (each f 0 n)
 rows_done front w v f j n e h = λ i. front ++ flat_map (little_bytes (e i)) (each f 0 (h i))
 
@@ -127,11 +127,11 @@ module _ (r : ℕ) (items : List Entry) (heads offset : ℕ) (h : heads ≡ head
   pub wide_by_last : 65535 < offset → 4 ≡ pointer_width entries r items
   wide_by_last k = ap (λ b. cond b 2 4) (sym (not_leb offset 65535 k)) ∙ ap (λ n. cond (leb n 65535) 2 4) last
 
--- the first entry that passes a test, one entry more in front
+-- the first entry that passes a test, of a list with one more entry before it
 first_filter : (test : Entry → Bool) (x : Entry) (xs : List Entry) → slice_get (filter test (x ∷ xs)) 0 ≡ cond (test x) (Some x) (slice_get (filter test xs) 0)
 first_filter test x xs = elim (test x) as (λ t. slice_get (cond t (x ∷ filter test xs) (filter test xs)) 0 ≡ cond t (Some x) (slice_get (filter test xs) 0)) [ true ↦ refl | false ↦ refl ]
 
--- the first match of a list whose first entry is one, and of a list whose first entry is none
+-- the first match of a list whose first entry is a match, and of a list whose first entry is none
 pub first_here : (needle : List ℕ) (seqno : ℕ) (x : Entry) (xs : List Entry) → true ≡ is_version entries needle seqno x
     → Some (plain x) ≡ first_match entries needle seqno (x ∷ xs)
 unfolding first_match

@@ -1,4 +1,4 @@
--- Worked vectors: lists, and the bytes that they are in hex elsewhere.
+-- Test vectors: lists, and their bytes, which are given in hex elsewhere.
 use Rattle.std.specs.Prelude.{ℕ, zero, suc, ◌+◌, List, [], ◌∷◌, replicate, Some, None, Bool}
 use Rattle.std.specs.Ordering.{nat_cmp, is_lt}
 use Rattle.std.specs.Cmp.Lexicographic.{slice_cmp}
@@ -16,7 +16,7 @@ deleted key value seqno = record { key = record { user_key = key; seqno = seqno;
 abbrev pub handle : List ℕ → ℕ → ℕ → ℕ → Handle
 handle end_key seqno offset size = record { offset = offset; size = size; seqno = seqno; end_key = end_key }
 
--- the answers that give an item, and that give none
+-- the results that are an item, and those that are none
 abbrev pub gives : {X : Type 0} → X → Answer X
 gives x = item (Some x)
 
@@ -110,7 +110,7 @@ numbers i (suc n) = i ∷ numbers (i + 1) n
 abbrev pub prefixes : List Entry
 prefixes = put a x 0 ∷ put ab [] 0 ∷ put abc [] 0 ∷ []
 
--- at interval 16: the third entry shares 1 byte, with the head
+-- its block at interval 16: the third entry shares 1 byte with the head
 abbrev pub prefixes_block : List ℕ
 prefixes_block = 0 ∷ 0 ∷ 1 ∷ 97 ∷ 1 ∷ 120 ∷ 0 ∷ 0 ∷ 1 ∷ 1 ∷ 98 ∷ 0 ∷ 0 ∷ 0 ∷ 1 ∷ 2 ∷ 98 ∷ 99 ∷ 0 ∷ 255 ∷ 0 ∷ 0 ∷ 16 ∷ 2 ∷ 1 ∷ 0 ∷ 0 ∷ 0 ∷ 20 ∷ 0 ∷ 0 ∷ 0 ∷ 0 ∷ 0 ∷ 0 ∷ 0 ∷ 0 ∷ 0 ∷ 0 ∷ 0 ∷ 1 ∷ 0 ∷ 0 ∷ 0 ∷ 0 ∷ 0 ∷ 0 ∷ 0 ∷ 0 ∷ 3 ∷ 0 ∷ 0 ∷ 0 ∷ []
 
@@ -118,7 +118,7 @@ prefixes_block = 0 ∷ 0 ∷ 1 ∷ 97 ∷ 1 ∷ 120 ∷ 0 ∷ 0 ∷ 1 ∷ 1 ∷ 
 abbrev pub letters : List Entry
 letters = put a [] 0 ∷ put b [] 0 ∷ put c [] 0 ∷ put d [] 0 ∷ put e [] 0 ∷ []
 
--- two entries of an older bug: both ends in blocks of interval 1
+-- two entries from a bug in an older version: both ends in blocks of interval 1
 abbrev pub older : Entry
 older = put (111 ∷ []) (119 ∷ []) 8602264972526186597
 
@@ -157,7 +157,7 @@ prefix_handles_body = 0 ∷ 0 ∷ 1 ∷ 0 ∷ 1 ∷ 97 ∷ 0 ∷ 0 ∷ 1 ∷ 0 �
 abbrev pub versions : List Handle
 versions = handle a 3 0 73 ∷ handle a 1 73 73 ∷ handle b 4 146 73 ∷ []
 
--- the predicate over heads: the key is below this one
+-- the predicate over heads: whether the key is below this one
 abbrev pub is_below : List ℕ → List ℕ → ℕ → Bool
 is_below needle key seqno = is_lt (slice_cmp nat_cmp key needle)
 
@@ -165,6 +165,6 @@ is_below needle key seqno = is_lt (slice_cmp nat_cmp key needle)
 abbrev pub far_handle_block : List ℕ
 far_handle_block = 0 ∷ 255 ∷ 255 ∷ 255 ∷ 255 ∷ 255 ∷ 255 ∷ 255 ∷ 255 ∷ 255 ∷ 1 ∷ 1 ∷ 0 ∷ 1 ∷ 97 ∷ 255 ∷ 0 ∷ 0 ∷ 1 ∷ 2 ∷ 1 ∷ 0 ∷ 0 ∷ 0 ∷ 16 ∷ 0 ∷ 0 ∷ 0 ∷ 0 ∷ 0 ∷ 0 ∷ 0 ∷ 0 ∷ 0 ∷ 0 ∷ 0 ∷ 1 ∷ 0 ∷ 0 ∷ 0 ∷ 0 ∷ 0 ∷ 0 ∷ 0 ∷ 0 ∷ 1 ∷ 0 ∷ 0 ∷ 0 ∷ []
 
--- b, bcdef, def at interval 2, the second with shared length 0 where the greatest is 1, and the numbers that follow
+-- b, bcdef, def at interval 2, the second with shared length 0 where the longest is 1, and the numbers that follow
 abbrev pub short_prefix_block : List ℕ
 short_prefix_block = 0 ∷ 0 ∷ 240 ∷ 46 ∷ 0 ∷ 1 ∷ 98 ∷ 0 ∷ 240 ∷ 46 ∷ 216 ∷ 54 ∷ 0 ∷ 0 ∷ 5 ∷ 98 ∷ 99 ∷ 100 ∷ 101 ∷ 102 ∷ 0 ∷ 200 ∷ 101 ∷ 136 ∷ 39 ∷ 0 ∷ 3 ∷ 100 ∷ 101 ∷ 102 ∷ 255 ∷ 0 ∷ 0 ∷ 20 ∷ 0 ∷ 2 ∷ 2 ∷ 2 ∷ 0 ∷ 0 ∷ 0 ∷ 31 ∷ 0 ∷ 0 ∷ 0 ∷ 0 ∷ 0 ∷ 0 ∷ 0 ∷ 0 ∷ 0 ∷ 0 ∷ 0 ∷ 1 ∷ 0 ∷ 0 ∷ 0 ∷ 0 ∷ 0 ∷ 0 ∷ 0 ∷ 0 ∷ 3 ∷ 0 ∷ 0 ∷ 0 ∷ []

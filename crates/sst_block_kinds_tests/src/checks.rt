@@ -1,5 +1,5 @@
-//! Checks of blocks of any bytes: damaged test vectors, and blocks beside worked ones: each byte
-//! changed to each other value, cut before each byte, and lengthened.
+//! Checks of blocks of any bytes: damaged test vectors, and test vectors with each byte changed to
+//! each other value, cut before each byte, and lengthened.
 ghost use Rattle.sst_block_kinds.specs.ParsedHandle.{IsParsedHandle};
 
 use crate::Tested;
@@ -110,7 +110,7 @@ const SHORTER_HANDLES: [u8; 66] = [
     0, 1, 0, 0, 0, 0, 0, 0, 0, 0, 3, 0, 0, 0,
 ];
 
-/// A payload with a byte changed, and what its check as a block of a kind returns: the number of
+/// A payload with a byte changed, and the result of its check as a block of a kind: the number of
 /// its items, or the error of the first stage that fails.
 type Case = (
     Kind,
@@ -155,8 +155,8 @@ const CASES: [Case; 31] = [
     (Kind::Data, &ONE_ENTRY, 0, 0, Ok(1)),
 ];
 
-/// Checks a copy of a block as a data block. One that is accepted has the payload, encodes again to
-/// it, and is given back as it came.
+/// Checks a copy of a block as a data block. A block that is accepted has the payload, encodes to
+/// it again, and is returned unchanged.
 fn check_data(rt: &impl Abort, alloc: Global, block: &Block) -> Result<usize> {
     let checked = DataBlock::<ByteSum>::check(alloc, block.clone()?)?;
     let list = checked.to_vec(alloc)?;
@@ -196,8 +196,8 @@ fn handles_of(alloc: Global, block: &IndexBlock) -> Result<Vec<KeyedBlockHandle>
     Ok(all)
 }
 
-/// Checks a copy of a block as an index block. One that is accepted has the payload, encodes again
-/// to it, and is given back as it came.
+/// Checks a copy of a block as an index block. A block that is accepted has the payload, encodes to
+/// it again, and is returned unchanged.
 fn check_index(rt: &impl Abort, alloc: Global, block: &Block) -> Result<usize> {
     let checked = IndexBlock::check(alloc, block.clone()?)?;
     let list = handles_of(alloc, &checked)?;
@@ -218,7 +218,7 @@ fn check_index(rt: &impl Abort, alloc: Global, block: &Block) -> Result<usize> {
     Ok(list.len())
 }
 
-/// The check of a block of a kind of these bytes. A check that borrows the block returns the same.
+/// Checks these bytes as a block of a kind. A check that borrows the block returns the same.
 fn check(rt: &impl Abort, alloc: Global, kind: Kind, bytes: Vec<u8>) -> Result<usize> {
     assert!(rt; bytes.len() < 1000);
     let block_type = match kind {
@@ -279,7 +279,7 @@ const WORKED: [(Kind, &[u8]); 9] = [
     (Kind::Index, &ONE_HEAD),
 ];
 
-/// Checks that a payload with the change of a number is accepted or refused by the stages.
+/// Checks that a payload with a numbered change is accepted or refused by the stages.
 fn check_change(
     rt: &impl Abort,
     alloc: Global,
@@ -292,8 +292,8 @@ fn check_change(
     Ok(check(rt, alloc, kind, bytes) == wanted)
 }
 
-/// Each change of a worked block is accepted, and then encodes again to itself, or refused with the
-/// error of the first stage that fails.
+/// Each change of a test vector is accepted, and then encodes again to itself, or is refused with
+/// the error of the first stage that fails.
 #[test]
 fn changes_are_checked(rt: HostRuntime) {
     for (kind, payload) in WORKED {
@@ -304,7 +304,7 @@ fn changes_are_checked(rt: HostRuntime) {
     }
 }
 
-/// An encoder takes entries out of order, which a check refuses.
+/// An encoder accepts entries out of order; a check refuses their block.
 #[test]
 fn an_encoder_writes_entries_out_of_order(rt: HostRuntime) -> Tested {
     let mut list = Vec::new(rt.alloc());

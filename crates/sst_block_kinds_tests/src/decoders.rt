@@ -1,5 +1,5 @@
-//! Seeks, steps and moves of decoders over data blocks: scripts against what is written beside
-//! them.
+//! Seeks, steps and moves of decoders over data blocks: scripts of calls and the results that are
+//! expected of them.
 ghost use Rattle.std.specs.Prelude.{◌≡◌};
 ghost use Rattle.sst_block_core.specs.Window.{whole};
 
@@ -27,7 +27,7 @@ enum Pred {
 }
 
 impl Pred {
-    /// Returns whether it is true of a key and a sequence number.
+    /// Returns whether the predicate is true of a key and a sequence number.
     fn holds(&self, key: &[u8], seqno: u64) -> bool {
         match self {
             Pred::Below(bound) => compare_bytes(key, bound).is_lt(),
@@ -37,10 +37,10 @@ impl Pred {
     }
 }
 
-/// A call of a decoder, and what it returns.
+/// A call of a decoder, and its expected result.
 #[derive(Clone, Copy, Debug)]
 enum Call {
-    /// A seek by a predicate, in the second form or not, and its answer.
+    /// A seek by a predicate, whether it is in the second form, and the result.
     Seek(Pred, bool, bool),
     /// Steps that take entries with these keys of one byte and this sequence number.
     Take(&'static [u8], u64),
@@ -134,7 +134,7 @@ const CALLS: [Calls; 10] = [
             Call::End,
         ],
     },
-    // A seek forgets where the front was: after an entry, within an interval, at a head.
+    // A seek does not depend on where the front was: after an entry, within an interval, at a head.
     Calls {
         list: LETTERS,
         interval: 2,
@@ -165,7 +165,7 @@ const CALLS: [Calls; 10] = [
             Call::End,
         ],
     },
-    // After a seek to no head nothing is left, and the next seek finds all entries again.
+    // After a seek to no head nothing is left, and the next seek reaches all entries again.
     Calls {
         list: LETTERS,
         interval: 1,
@@ -241,7 +241,8 @@ fn decoder_of(block: &DataBlock<Poly31>) -> Keys<'_>
     Decoder::new(block.inner())
 }
 
-/// Takes entries, and finds these keys of one byte, in this order, and this sequence number.
+/// Takes entries, and checks that they have these keys of one byte, in this order, and this
+/// sequence number.
 fn take(rt: &impl Abort, decoder: &mut Keys<'_>, payload: &[u8], keys: &[u8], seqno: u64)
     requires { decoder.old.payload ≡ payload.now }
     ensures payload { decoder.new.payload ≡ payload.now }
@@ -311,7 +312,7 @@ fn make_calls(
     Ok(())
 }
 
-/// Each call of a decoder returns what is written in it.
+/// Each call of a decoder returns the expected result.
 #[test]
 fn decoders_return_what_is_written(rt: HostRuntime) -> Tested {
     let alloc = rt.alloc();

@@ -1,5 +1,5 @@
-//! Tables of heads: what they count beside a plain count over the list, and needles around the
-//! prefix that all heads share.
+//! Tables of heads: their counts against a plain count over the list, and needles around the prefix
+//! that all heads share.
 
 use crate::Tested;
 use crate::lists::{NO_BUCKETS, block_of, push, with_table};
@@ -9,7 +9,8 @@ use sst_block_kinds::DataBlock;
 use std::alloc::Global;
 use std::process::Abort;
 
-/// How many heads have a key below a needle, how many at most it, and how many an index seek skips.
+/// The number of heads with a key below a needle, of those with a key at most it, and of those that
+/// an index seek skips.
 pub(crate) type Counts = (usize, usize, usize);
 
 /// The counts by the table of a block, if it has one.
@@ -27,7 +28,7 @@ pub(crate) fn counts_of<H: BlockHash>(
     Some((below, at_most, index))
 }
 
-/// The counts over the heads of a list, each looked at.
+/// The counts over the heads of a list, each of which is examined.
 pub(crate) fn plain_counts(
     list: &[InternalValue],
     interval: u8,
@@ -106,8 +107,8 @@ fn keys_sharing(
     Ok(list)
 }
 
-/// Counts by the table of a list's block, and beside it one by one, for needles with all of the
-/// prefix, and with one byte less or more of it.
+/// Compares the counts by the table of a list's block with counts one by one, for needles with all
+/// of the prefix, and with one byte less or more of it.
 fn check_needles(
     rt: &impl Abort,
     alloc: Global,
@@ -161,7 +162,7 @@ const FRONTS: [(&[u8], u64); 7] = [
     (b"\xff\x01\x02\x03\x04\x05\x06", 0xff01_0203_0405_0600),
 ];
 
-/// A front is a number of 8 bytes.
+/// The front of bytes is a number of 8 bytes.
 #[test]
 fn fronts_are_numbers(rt: HostRuntime) {
     for (bytes, front) in &FRONTS {
@@ -178,7 +179,7 @@ fn tabled(rt: &impl Abort, alloc: Global, keys: &[&[u8]]) -> Result<DataBlock<Po
     with_table(rt, alloc, block_of(rt, alloc, &list, 1, NO_BUCKETS)?)
 }
 
-/// Keys with the same first 8 bytes are told apart.
+/// Keys with the same first 8 bytes are distinguished.
 #[test]
 fn equal_fronts_are_told_apart(rt: HostRuntime) -> Tested {
     let alloc = rt.alloc();

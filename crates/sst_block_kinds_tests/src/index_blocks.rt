@@ -1,5 +1,5 @@
-//! Index blocks: test vectors, seeks and steps against lists of answers, and random operations
-//! beside a plain window.
+//! Index blocks: test vectors, seeks and steps against lists of expected results, and random
+//! operations against a plain window.
 ghost use Rattle.std.specs.Prelude.{◌≡◌, ◌+◌, ◌≤◌, length};
 ghost use Rattle.sst_block_core.specs.Candidates.{scan_cost};
 
@@ -81,8 +81,8 @@ fn block_of(
     Ok(IndexBlock::new(Block::from_payload(BlockType::Index, Slice::from_vec(bytes)?)))
 }
 
-/// The answers of operations over the block of a list of handles at an interval, with or without the
-/// table of its heads.
+/// The results of operations over the block of a list of handles at an interval, with or without
+/// the table of its heads.
 fn answers_of(
     rt: &impl Abort,
     alloc: Global,
@@ -101,8 +101,8 @@ fn answers_of(
     walk(alloc, &block.clone()?, ops)
 }
 
-/// The payloads of the three handles: each a head, which is also the encoding without an interval,
-/// and the second truncated.
+/// The payloads of the three handles: first with each handle a head, which is also the encoding
+/// without an interval, then with the second handle truncated.
 #[test]
 fn payloads_are_the_test_vectors(rt: HostRuntime) -> Tested {
     let list = handles_of(&rt, rt.alloc(), &THREE)?;
@@ -119,8 +119,8 @@ fn payloads_are_the_test_vectors(rt: HostRuntime) -> Tested {
     Ok(())
 }
 
-/// A step or a seek, and what it returns: of a step the end key of the handle that it takes, or
-/// none; of a seek whether there is a handle. An upper seek always returns true.
+/// A step or a seek, and its result: for a step the end key of the handle that it takes, or none;
+/// for a seek whether there is a handle. An upper seek always returns true.
 #[derive(Clone, Copy)]
 enum Step {
     Next(Option<&'static [u8]>),
@@ -245,7 +245,7 @@ fn ops_of(alloc: Global, steps: &[Step]) -> Result<Vec<IndexOp>> {
     Ok(ops)
 }
 
-/// Returns whether a step returns this.
+/// Returns whether this is the result of a step.
 fn returns(step: &Step, answer: &Answer<KeyedBlockHandle>) -> bool {
     match (step, answer) {
         (Step::Next(None) | Step::NextBack(None), Answer::Item(None)) => true,
@@ -258,7 +258,7 @@ fn returns(step: &Step, answer: &Answer<KeyedBlockHandle>) -> bool {
     }
 }
 
-/// Each step of each script returns what is written beside it.
+/// Each step of each script returns its expected result.
 #[test]
 fn scripts_return_what_is_written(rt: HostRuntime) -> Tested {
     let alloc = rt.alloc();
@@ -280,7 +280,7 @@ fn scripts_return_what_is_written(rt: HostRuntime) -> Tested {
     Ok(())
 }
 
-/// The calls of a handle of 73 bytes at 146, moved by 4.
+/// The accessors of a handle of 73 bytes at offset 146, and a shift by 4 bytes.
 #[test]
 fn a_handle_has_its_parts(rt: HostRuntime) -> Tested {
     let plain = BlockHandle::new(BlockOffset(146), 73);
@@ -314,7 +314,7 @@ enum Plain<'a> {
 }
 
 impl<'a> Window<'a> {
-    /// How many handles a seek passes over.
+    /// Returns how many handles a seek passes over.
     fn passed(&self, needle: &[u8], seqno: u64) -> usize {
         let mut count = 0usize;
         for handle in self.list {
@@ -344,7 +344,7 @@ impl<'a> Window<'a> {
         Plain::Item(self.list.get(self.hi))
     }
 
-    /// Does an operation.
+    /// Performs an operation.
     fn perform(&mut self, op: &IndexOp) -> Plain<'a> {
         match op {
             IndexOp::Next => self.next(),

@@ -23,6 +23,6 @@ mod stages;
 #[cfg(test)]
 mod vectors;
 
-/// What a test returns that ends early where a call fails.
+/// The result of a test that ends early where a call fails.
 #[cfg(test)]
 type Tested = Result<(), std::test::Fail>;

@@ -14,7 +14,7 @@ pub(crate) const ONE_EACH: HashRatio = HashRatio { num: 1, den: 1 };
 /// No hash index.
 pub(crate) const NO_BUCKETS: HashRatio = HashRatio { num: 0, den: 1 };
 
-/// A hash by which all keys fall into one bucket.
+/// A hash function that maps all keys to one bucket.
 #[derive(Drop)]
 pub(crate) struct NoHash;
 
@@ -72,7 +72,7 @@ pub(crate) fn push(
     Ok(())
 }
 
-/// The value types, one after the other.
+/// The value types in turn.
 fn type_of(n: usize) -> ValueType {
     match n % 4 {
         0 => ValueType::Value,
@@ -125,7 +125,8 @@ const VERSIONS: [(&[u8], usize); 21] = [
 ];
 
 /// Keys of up to 20001 bytes, values of up to 70000 bytes, and sequence numbers of 1 to 10 bytes:
-/// how many bytes k, the bytes after them, how many bytes v, the sequence number and the type.
+/// the number of bytes k, the bytes after them, the number of bytes v, the sequence number and the
+/// type.
 const LONG: [(usize, &[u8], usize, u64, ValueType); 20] = [
     (1, b"", 300, u64::MAX, ValueType::Value),
     (1, b"", 0, 1 << 63, ValueType::Tombstone),
@@ -160,8 +161,8 @@ fn push_long(rt: &impl Abort, list: &mut Vec<InternalValue>) -> Result<()> {
     Ok(())
 }
 
-/// Appends the versions of [`VERSIONS`], three sequence numbers apart and down to 0, of every type,
-/// every second with a value.
+/// Appends the versions of [`VERSIONS`], whose sequence numbers are three apart and end at 0, of
+/// every type, every second one with a value.
 fn push_versions(rt: &impl Abort, list: &mut Vec<InternalValue>) -> Result<()> {
     for (key, count) in VERSIONS {
         assert!(rt; count <= 5);
@@ -272,7 +273,7 @@ pub(crate) fn with_table<H: BlockHash>(
     Ok(block)
 }
 
-/// Returns whether an entry was decoded, or there is none of both: its key, its sequence number,
+/// Returns whether an entry was decoded, or both are `None`: compares its key, its sequence number,
 /// its type, and its value unless it is a tombstone.
 pub(crate) fn is_same(written: Option<&InternalValue>, read: Option<&InternalValue>) -> bool {
     let (Some(written), Some(read)) = (written, read) else {

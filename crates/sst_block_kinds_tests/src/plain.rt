@@ -1,5 +1,5 @@
-//! The plain program: data blocks written as the definitions say, place by place, with no thought
-//! of speed. Each contract is a definition. What the library writes is compared with it.
+//! The plain program: data blocks written as the definitions say, entry by entry, without regard to
+//! speed. Each contract is a definition. What the library writes is compared with it.
 ghost use Rattle.std.specs.Prelude.{◌≡◌, ℕ, List, ◌+◌};
 ghost use Rattle.std.specs.Prelude.{◌^◌, ◌<◌, ◌≤◌, ◌++◌};
 ghost use Rattle.std.specs.Prelude.{OnOk, IfOk, IsOkUnless, length, take};
@@ -20,7 +20,7 @@ ghost use Rattle.sst_block_core.specs.Window.{is_version, first_match};
 use sst_base::{Error, InternalValue, Result, ValueType, compare_bytes};
 use std::alloc::Global;
 
-// Writes the varint of a number that has at most so many digits after the first.
+// Writes the varint of a number that has at most this many digits after the first.
 #[tactic(auto, using(crate::proofs::PlainLaws::small_varint, crate::proofs::PlainLaws::more_varint, crate::proofs::PlainLaws::fewer_digits))]
 fn plain_varint_within(out: &mut Vec<u8>, more: u32, n: u64) -> Result<()>
     requires { n < 128 ^ (more + 1) }
@@ -47,7 +47,7 @@ pub fn plain_varint(out: &mut Vec<u8>, n: u64) -> Result<()>
     plain_varint_within(out, 9, n)
 }
 
-/// Writes the lowest bytes of a number, so many.
+/// Writes the lowest `width` bytes of a number.
 #[tactic(auto, using(crate::proofs::PlainLaws::more_bytes))]
 pub fn plain_number(out: &mut Vec<u8>, width: u32, n: u64) -> Result<()>
     ensures ok { OnOk result (out.new.items ≡ out.old.items ++ little_bytes width n) }
@@ -60,7 +60,7 @@ pub fn plain_number(out: &mut Vec<u8>, width: u32, n: u64) -> Result<()>
     plain_number(out, width - 1, n / 256)
 }
 
-/// Writes a byte string with its length in front.
+/// Writes a byte string after its length.
 pub fn plain_text(out: &mut Vec<u8>, bytes: &[u8]) -> Result<()>
     ensures ok { OnOk result (out.new.items ≡ out.old.items ++ length_prefixed bytes.now) }
     ensures memory { IsOkUnless result Error.Memory }
@@ -72,7 +72,7 @@ pub fn plain_text(out: &mut Vec<u8>, bytes: &[u8]) -> Result<()>
     Ok(())
 }
 
-/// The greatest length at which the fronts of two byte strings agree.
+/// Returns the length of the longest prefix that two byte strings share.
 pub fn plain_shared(a: &[u8], b: &[u8]) -> usize
     ensures value { result ≡ shared_prefix_length a.now b.now }
     ensures inside { result ≤ length b.now }
@@ -112,7 +112,7 @@ pub fn plain_full(out: &mut Vec<u8>, item: &InternalValue) -> Result<()>
     plain_value(out, item)
 }
 
-/// Writes an entry without the first bytes of its key, so many.
+/// Writes an entry without the given number of first bytes of its key.
 #[tactic(auto, unfolding(sst_block_core::specs::Entries::truncated))]
 pub fn plain_truncated(out: &mut Vec<u8>, item: &InternalValue, shared: usize) -> Result<()>
     requires { shared ≤ length item.now.key.user_key }
@@ -127,7 +127,7 @@ pub fn plain_truncated(out: &mut Vec<u8>, item: &InternalValue, shared: usize) -
     plain_value(out, item)
 }
 
-/// Writes the form of the entry at a place of a list.
+/// Writes the form of the entry at an index of a list.
 pub fn plain_form(
     out: &mut Vec<u8>,
     items: &[InternalValue],
@@ -152,7 +152,7 @@ pub fn plain_form(
     plain_truncated(out, item, shared)
 }
 
-/// The body of the first entries of a list, so many.
+/// Returns the body of the first `count` entries of a list.
 pub fn plain_body(
     alloc: Global,
     items: &[InternalValue],
@@ -172,7 +172,7 @@ pub fn plain_body(
     Ok(out)
 }
 
-/// Where the form of a place begins: after the body of the entries before it.
+/// Returns the offset of the form at an index: the length of the body of the entries before it.
 pub fn plain_offset(
     alloc: Global,
     items: &[InternalValue],
@@ -189,7 +189,7 @@ pub fn plain_offset(
     Ok(plain_body(alloc, items, restart_interval, place)?.len() as u64)
 }
 
-/// How many intervals the entries of a list stand in.
+/// Returns the number of intervals of a list.
 pub fn plain_heads(restart_interval: usize, count: usize) -> usize
     requires some { 0 < restart_interval }
     requires room { count + restart_interval < 2 ^ 64 }
@@ -199,7 +199,7 @@ pub fn plain_heads(restart_interval: usize, count: usize) -> usize
     (count + (restart_interval - 1)) / restart_interval
 }
 
-/// How many bytes a pointer of a list has.
+/// Returns the width in bytes of a pointer of a list.
 pub fn plain_width(alloc: Global, items: &[InternalValue], restart_interval: usize) -> Result<u32>
     requires some { 0 < restart_interval }
     requires small { restart_interval ≤ 255 }
@@ -291,14 +291,14 @@ pub fn plain_payload(
     Ok(out)
 }
 
-/// Whether an entry is a version of a key strictly below a sequence number.
+/// Returns whether an entry is a version of a key strictly below a sequence number.
 fn plain_is_version(item: &InternalValue, needle: &[u8], seqno: u64) -> bool
     ensures { result ≡ is_version entries needle.now seqno item.now }
 {
     item.key().seqno() < seqno && compare_bytes(item.key().user_key().as_slice(), needle).is_eq()
 }
 
-/// The first entry of a list with this key strictly below a sequence number.
+/// Returns the first entry of a list with this key strictly below a sequence number.
 #[tactic(auto, using(crate::proofs::PlainLaws::first_here, crate::proofs::PlainLaws::first_in_rest), unfolding(sst_block_core::specs::Window::first_match))]
 pub fn plain_first_match<'a>(
     items: &'a [InternalValue],

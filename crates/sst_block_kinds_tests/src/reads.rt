@@ -1,5 +1,5 @@
-//! Data blocks: examples with their bytes, buckets and point reads, and blocks of many lists at many intervals,
-//! ratios and hashes beside the plain program.
+//! Data blocks: examples with their bytes, buckets and point reads, and blocks of many lists at
+//! many intervals, ratios and hashes against the plain program.
 ghost use Rattle.sst_block_kinds.specs.ParsedEntry.{IsParsedEntry};
 
 use crate::Tested;
@@ -90,7 +90,7 @@ enum Hash {
     NoHash,
 }
 
-/// A block, and what is known of it.
+/// A block, and what is expected of it.
 #[derive(Clone, Copy)]
 struct Example {
     list: List,
@@ -103,13 +103,13 @@ struct Example {
     length: usize,
     /// Some bytes, and their offset.
     bytes: (usize, &'static [u8]),
-    /// Keys with the byte of their bucket, and what it says.
+    /// Keys with the byte of their bucket, and its meaning.
     keys: &'static [(&'static [u8], u8, Lookup)],
     /// Point reads: a key, the sequence number below which it is read, and the index of the entry.
     reads: &'static [(&'static [u8], u64, Option<usize>)],
 }
 
-/// Reads of the pair: with a conflict and with an interval they are alike.
+/// Reads of the pair: the same with a conflict and with an interval.
 const PAIR_READS: [(&[u8], u64, Option<usize>); 6] = [
     (b"ab", 2, Some(1)),
     (b"ab", 1, None),
@@ -119,8 +119,8 @@ const PAIR_READS: [(&[u8], u64, Option<usize>); 6] = [
     (b"ac", 300, None),
 ];
 
-/// Reads of three versions of a and one of b: with a hash that tells keys apart, and with one that
-/// does not, they are alike.
+/// Reads of three versions of a and one of b: the same with a hash function that distinguishes the
+/// keys, and with one that does not.
 const VERSION_READS: [(&[u8], u64, Option<usize>); 7] = [
     (b"a", 3, Some(1)),
     (b"a", 2, Some(2)),
@@ -264,7 +264,7 @@ const EXAMPLES: [Example; 12] = [
             (b"\x00", 0, None),
         ],
     },
-    // A key after all, and the last.
+    // A key after all others, and the last key.
     Example {
         list: List::Bytes(97, 104),
         hash: Hash::ByteSum,
@@ -305,7 +305,7 @@ const EXAMPLES: [Example; 12] = [
     },
 ];
 
-/// Reads a key below a sequence number, and finds this entry, or none.
+/// Reads a key below a sequence number, and checks that the result is this entry, or none.
 fn check_read<H: BlockHash>(
     rt: &impl Abort,
     alloc: Global,
@@ -370,7 +370,8 @@ fn check_reads<H: BlockHash>(
     }
 }
 
-/// Checks a block by what is known of it, and its reads with and without the table of its heads.
+/// Checks a block against what is expected of it, and its reads with and without the table of its
+/// heads.
 fn check_example<H: BlockHash>(rt: &impl Abort, alloc: Global, case: &Example) -> Result<()> {
     let list = list_of(rt, alloc, case.list)?;
     let block = block_of::<H>(rt, alloc, &list, case.interval, case.ratio)?;
@@ -528,7 +529,7 @@ fn queries_of(alloc: Global, list: &[InternalValue]) -> Result<Vec<Query<'_>>> {
     Ok(all)
 }
 
-/// Makes an item of a payload, and finds this entry.
+/// Makes an item of a payload, and checks that it is this entry.
 fn is_made(
     alloc: Global,
     payload: &Slice,
@@ -541,7 +542,7 @@ fn is_made(
     Ok(is_same(wanted, Some(&read)))
 }
 
-/// Iterates over a block, and finds the list.
+/// Iterates over a block, and checks that its entries are the list.
 fn iterates<H: BlockHash>(
     rt: &impl Abort,
     alloc: Global,
@@ -558,7 +559,8 @@ fn iterates<H: BlockHash>(
     Ok(())
 }
 
-/// Makes the entries of a block, and finds the list; and its tombstones among those that borrow it.
+/// Makes the entries of a block, and checks that they are the list; and that the entries that
+/// borrow the block have the same tombstones.
 fn makes<H: BlockHash>(
     rt: &impl Abort,
     alloc: Global,
@@ -631,9 +633,9 @@ fn check_counts<H: BlockHash>(
     }
 }
 
-/// Writes a list at an interval and a ratio, iterates over it, and makes the reads, with and
-/// without the table of the heads. Without hash
-/// index the payload is the plain program's, which recurses over a key, so long ones are left out.
+/// Writes a list at an interval and a ratio, iterates over it, and performs the reads, with and
+/// without the table of the heads. Without hash index the payload is compared with the plain
+/// program's, which recurses over a key, so long keys are left out.
 pub(crate) fn check_list<H: BlockHash>(
     rt: &impl Abort,
     alloc: Global,

@@ -1,5 +1,5 @@
-//! Seeks, steps and moves of iterators over data blocks: scripts against what is written beside
-//! them, and random steps beside a plain window.
+//! Seeks, steps and moves of iterators over data blocks: scripts of calls and the results that are
+//! expected of them, and random steps against a plain window.
 ghost use Rattle.std.specs.Prelude.{◌≡◌, ◌+◌, ◌*◌, ◌≤◌, ◌<◌, length, IfOk, IfSome, IsTrue};
 ghost use Rattle.sst_block_core.specs.Body.{place_offset};
 ghost use Rattle.sst_block_core.specs.Entries.{entries};
@@ -30,7 +30,7 @@ enum Step<'a> {
     Move(usize, usize),
 }
 
-/// What a call returns: an answer, the entry at an index of the list, or none.
+/// What a call returns: the result of a seek, the entry at an index of the list, or none.
 #[derive(Clone, Copy, Debug)]
 enum Wanted {
     Found(bool),
@@ -38,7 +38,7 @@ enum Wanted {
     End,
 }
 
-/// A call, and what it returns.
+/// A call, and its expected result.
 type Line<'a> = (Step<'a>, Wanted);
 
 /// Calls over the block of a list at an interval.
@@ -58,9 +58,9 @@ const TWO: [Row; 2] = [
     (b"yxc", b"eeeeeeeeeee", 11426548769907, ValueType::Value),
 ];
 
-/// Both ends of an iterator.
+/// Scripts over both ends of an iterator.
 const SCRIPTS: [Script; 8] = [
-    // An upper bound after all keys gives back the entry that was taken from the back.
+    // An upper bound after all keys makes the entry that was taken from the back available again.
     Script {
         list: LETTERS,
         interval: 2,
@@ -72,7 +72,7 @@ const SCRIPTS: [Script; 8] = [
             (Step::Next, Wanted::End),
         ],
     },
-    // An upper bound below what was taken leaves nothing, and a later one what is between.
+    // An upper bound below what was taken leaves nothing, and a later one leaves what is between.
     Script {
         list: LETTERS,
         interval: 2,
@@ -100,7 +100,7 @@ const SCRIPTS: [Script; 8] = [
             (Step::Next, Wanted::End),
         ],
     },
-    // A seek sets the front back after some were taken.
+    // A seek moves the front back after some entries were taken.
     Script {
         list: LETTERS,
         interval: 2,
@@ -139,7 +139,7 @@ const SCRIPTS: [Script; 8] = [
             (Step::NextBack, Wanted::End),
         ],
     },
-    // A move to the head c gives back the entry between two bounds.
+    // A move to the head c makes the entry between two bounds available again.
     Script {
         list: LETTERS,
         interval: 2,
@@ -205,7 +205,7 @@ pub(crate) fn offset_of(
     Ok(plain_offset(alloc, &list, usize::from(interval), place)? as usize)
 }
 
-/// What a step of an iterator over a payload takes.
+/// Returns the entry that a step of an iterator over a payload takes.
 fn taken(
     alloc: Global,
     payload: &Slice,
@@ -269,7 +269,7 @@ fn perform_all(
     Ok(all)
 }
 
-/// Checks that calls over a list returned what is written.
+/// Checks that calls over a list returned the expected results.
 fn compare(
     rt: &impl Abort,
     list: &[InternalValue],
@@ -322,7 +322,7 @@ fn check_lines(
     check_block(rt, alloc, &block, list, interval, lines)
 }
 
-/// Each call of each script returns what is written beside it.
+/// Each call of each script returns its expected result.
 #[test]
 fn scripts_return_what_is_written(rt: HostRuntime) -> Tested {
     for script in &SCRIPTS {
@@ -342,7 +342,7 @@ struct Window<'a> {
 }
 
 impl Window<'_> {
-    /// How many keys are below the needle, or equal to it where `with_equal`.
+    /// Returns how many keys are below the needle, or equal to it where `with_equal`.
     fn count(&self, needle: &[u8], with_equal: bool) -> usize {
         let mut count = 0usize;
         for item in self.list {
@@ -354,7 +354,7 @@ impl Window<'_> {
         count
     }
 
-    /// Returns whether an entry of the window has this key: the first or the last.
+    /// Returns whether the entry of the window at an index, the first or the last, has this key.
     fn has_key(&self, at: usize, needle: &[u8]) -> bool {
         match self.list.get(at) {
             Some(item) => self.lo < self.hi && item.key().user_key().as_slice() == needle,
@@ -434,7 +434,7 @@ fn random_list(
     Ok(list)
 }
 
-/// 200 random calls with some keys, steps as often as seeks, and what the plain window returns.
+/// 200 random calls with some keys, steps as often as seeks, and the results of the plain window.
 fn random_lines<'a>(
     rt: &impl Abort,
     alloc: Global,

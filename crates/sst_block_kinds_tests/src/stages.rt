@@ -1,5 +1,5 @@
-//! The check of a payload, run as it is defined: stage after stage, each of which reads the payload
-//! again from its first byte.
+//! The check of a payload, run as it is defined: stage after stage, each of which decodes the
+//! payload again from its first byte.
 
 use crate::plain::plain_shared;
 use sst_base::{Error, Result};
@@ -11,8 +11,8 @@ pub(crate) enum Kind {
     Index,
 }
 
-/// An item as it is encoded: its key in two parts, the first of its head's key, and the offset
-/// after its form. `end` is where the block of a handle ends, if that is below 2^64.
+/// An item as it is encoded: its key in two parts, of which the first is part of its head's key,
+/// and the offset after its form. `end` is the end of a handle's block, if that is below 2^64.
 #[derive(Clone, Copy)]
 struct Item<'a> {
     end: Option<u64>,
@@ -48,7 +48,7 @@ fn counted(bytes: &[u8], at: usize, limit: u128) -> Option<(&[u8], usize)> {
     Some((bytes.get(start..after)?, after))
 }
 
-/// Returns the little-endian number of `count` bytes at an offset. Bytes that are not there are 0.
+/// Returns the little-endian number of `count` bytes at an offset. Missing bytes are 0.
 fn little(bytes: &[u8], at: usize, count: usize) -> usize {
     let mut number = 0usize;
     for place in 0..count {
@@ -59,8 +59,8 @@ fn little(bytes: &[u8], at: usize, count: usize) -> usize {
     number
 }
 
-/// Returns the key at an offset, in two parts, and the offset after it. A head has no other head's
-/// key; of another item's key the first part is the longest that it shares with the head's.
+/// Returns the key at an offset, in two parts, and the offset after it. The first part of a head's
+/// key is empty; the first part of another item's key is the longest that it shares with its head.
 fn key_at<'a>(
     body: &'a [u8],
     at: usize,
@@ -149,7 +149,7 @@ fn hash_of(item: &Item<'_>) -> usize {
     sum
 }
 
-/// The parts of a payload, as its trailer names them.
+/// The parts of a payload, as its trailer gives them.
 #[derive(Clone, Copy)]
 struct Parts<'a> {
     kind: Kind,
@@ -192,7 +192,8 @@ impl<'a> Parts<'a> {
             .unwrap_or(b"")
     }
 
-    /// Whether the number of heads is that of the items, and the fixed fields are as fixed.
+    /// Whether the number of heads is the one for the items, and the fixed fields have their
+    /// values.
     fn has_fields(&self) -> bool {
         let heads = match self.interval {
             0 => 0,
@@ -225,7 +226,7 @@ impl<'a> Parts<'a> {
         fits && self.index >= 1 && marker == Some(&255)
     }
 
-    /// The item at a place, read from the first byte on.
+    /// The item at an index, decoded from the first byte on.
     fn item(&self, wanted: usize) -> Option<Item<'a>> {
         let body = self.body();
         let (mut at, mut left) = (0usize, 0usize);
@@ -249,7 +250,7 @@ impl<'a> Parts<'a> {
         None
     }
 
-    /// The offset of the item at a place.
+    /// The offset of the item at an index.
     fn offset(&self, place: usize) -> Option<usize> {
         match place.checked_sub(1) {
             None => Some(0),
@@ -286,7 +287,7 @@ impl<'a> Parts<'a> {
         true
     }
 
-    /// Whether each pointer is the offset of its head, and as wide as the last needs.
+    /// Whether each pointer is the offset of its head, and is as wide as the last one needs.
     fn has_pointers(&self) -> bool {
         let mut last = 0usize;
         for head in 0..self.heads {
@@ -299,8 +300,8 @@ impl<'a> Parts<'a> {
         (self.width == 2) == (last <= 65535)
     }
 
-    /// The byte of a bucket: 254 if no key falls there, the number of the interval if all that do
-    /// are in one, else 255.
+    /// The byte of a bucket: 254 if no key is in it, the number of the interval if all its keys are
+    /// in one interval, else 255.
     fn bucket(&self, bucket: usize) -> usize {
         let mut found = 254;
         for place in 0..self.count {
@@ -317,7 +318,7 @@ impl<'a> Parts<'a> {
         found
     }
 
-    /// Whether each bucket that is stored is that of the items.
+    /// Whether each bucket that is stored is the bucket of the items.
     fn has_buckets(&self) -> bool {
         for bucket in 0..self.buckets {
             let at = self.hash.wrapping_add(bucket);
@@ -329,8 +330,8 @@ impl<'a> Parts<'a> {
     }
 }
 
-/// Returns the number of items of a payload, or the error of the first stage that fails. Buckets
-/// are those of the sum of a key's bytes.
+/// Returns the number of items of a payload, or the error of the first stage that fails. The hash
+/// function of the buckets is the sum of a key's bytes.
 pub(crate) fn judge(kind: Kind, payload: &[u8]) -> Result<usize> {
     let parts = parts_of(kind, payload).ok_or(Error::Truncated)?;
     if !parts.has_fields() || !parts.has_room() {

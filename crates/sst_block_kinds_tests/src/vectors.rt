@@ -1,4 +1,4 @@
-//! Worked vectors: small theorems that compute. Each function does nothing, and its contract is one
+//! Test vectors: small theorems that compute. Each function does nothing, and its contract is one
 //! vector.
 ghost use Rattle.std.specs.Prelude.{◌≡◌, None, Some, [], ◌∷◌};
 ghost use Rattle.std.specs.Prelude.{length, take};
@@ -52,7 +52,7 @@ pub fn largest_seqno()
     ensures { body entries 1 largest_seqno ≡ largest_seqno_body }
 {}
 
-/// The pointers have 2 bytes where the last head stands at 65535, and 4 where it stands at 65536.
+/// The pointers have 2 bytes where the last head is at offset 65535, and 4 where it is at 65536.
 pub fn pointer_widths()
     ensures narrow { length (data_payload sum (long_value 65528) 1 0) ≡ 65576 }
     ensures narrow_pointers { take 4 (drop 65541 (data_payload sum (long_value 65528) 1 0))
@@ -78,7 +78,8 @@ pub fn heads_254()
         × ((trailer_in (data_payload sum (byte_keys 1 255) 1 255)).hash_offset ≡ 0) }
 {}
 
-/// How many buckets there are, and what one bucket says of two intervals.
+/// The number of buckets, and the byte of a bucket for intervals that differ, for one, and for
+/// none.
 pub fn bucket_counts()
     ensures rounded { bucket_count 133 100 2 ≡ 2 }
     ensures at_least_one { bucket_count 1 1000000 1 ≡ 1 }
@@ -89,7 +90,8 @@ pub fn bucket_counts()
     ensures free { bucket_byte [] ≡ 254 }
 {}
 
-/// Keys a, ab, abc at interval 16: each shares with the head, not with the entry before it.
+/// Keys a, ab, abc at interval 16: each shares a prefix with the head, not with the entry before
+/// it.
 pub fn prefixes()
     ensures block { data_payload sum prefixes 16 0 ≡ prefixes_block }
     ensures length { length prefixes_block ≡ 53 }
@@ -105,8 +107,8 @@ pub fn three_handles()
     ensures prefixes { body handles 3 prefix_handles ≡ prefix_handles_body }
 {}
 
-/// An unknown type byte, and a number encoded in a byte too many: the third stage fails, those
-/// before hold.
+/// An unknown type byte, and a number encoded in a byte too many: the third stage fails, the stages
+/// before it hold.
 pub fn damaged_entry()
     ensures type_before { HasTrailer (slice_set one_entry_block 0 3)
         × HasParts (trailer_in (slice_set one_entry_block 0 3)) (slice_set one_entry_block 0 3) }
@@ -126,7 +128,7 @@ pub fn damaged_trailer()
     ensures short_fails { HasTrailer (take 30 one_entry_block) → ⊥ }
 {}
 
-/// Entries out of order fail the fourth stage, and pass those before.
+/// Entries out of order fail the fourth stage, and pass the stages before.
 pub fn damaged_order()
     ensures trailer { HasTrailer (data_payload sum falling 1 0) }
     ensures parts { HasParts (trailer_in (data_payload sum falling 1 0))
@@ -138,7 +140,7 @@ pub fn damaged_order()
         → ⊥ }
 {}
 
-/// A pointer that is not the head's offset fails the fifth stage, and the block passes those
+/// A pointer that is not the head's offset fails the fifth stage, and the block passes the stages
 /// before.
 pub fn damaged_pointer()
     ensures trailer { HasTrailer (slice_set one_entry_block 7 1) }
@@ -153,8 +155,8 @@ pub fn damaged_pointer()
         → ⊥ }
 {}
 
-/// A bucket that names an interval where no key falls fails the sixth stage, and the block passes
-/// those before.
+/// A bucket that gives an interval where no key of the bucket is fails the sixth stage, and the
+/// block passes the stages before.
 pub fn damaged_bucket()
     ensures trailer { HasTrailer (slice_set hash_pair_block 26 0) }
     ensures parts { HasParts (trailer_in (slice_set hash_pair_block 26 0))
@@ -183,7 +185,7 @@ pub fn checked_stumps()
     ensures zeros { data_check sum (replicate 31 0) ≡ Err BadTrailer }
 {}
 
-/// The check of damaged blocks names the first stage that fails.
+/// The check of damaged blocks reports the first stage that fails.
 pub fn checked_damage()
     ensures value_type { data_check sum (slice_set one_entry_block 0 3) ≡ Err BadEntry }
     ensures interval { data_check sum (slice_set one_entry_block 9 0) ≡ Err BadTrailer }
@@ -213,7 +215,7 @@ pub fn hostile_trailers()
 {}
 
 /// Index blocks: an end beyond 64 bits, an unknown marker, a shared length that is not the
-/// greatest, and any interval but 0.
+/// longest, and any interval but 0.
 pub fn hostile_handles()
     ensures far { index_check far_handle_block ≡ Err BadHandle }
     ensures near { index_check (slice_set far_handle_block 11 0)
@@ -225,7 +227,7 @@ pub fn hostile_handles()
     ensures prefix { index_check short_prefix_block ≡ Err BadEntry }
 {}
 
-/// Keys a to e: a bound behind the upper one empties the window, and a wider upper bound opens it
+/// Keys a to e: a bound after the upper one empties the window, and a wider upper bound opens it
 /// again.
 pub fn upper_and_past_seek()
     ensures { answers
@@ -235,7 +237,7 @@ pub fn upper_and_past_seek()
         ∷ gives (put e [] 0) ∷ nothing ∷ [] }
 {}
 
-/// Keys a to e: a seek sets the front back after some were given.
+/// Keys a to e: a seek moves the front back after some entries were taken.
 pub fn seek_back_after_next()
     ensures { answers (next ∷ next ∷ next ∷ seek entries a ∷ next ∷ next_back ∷ [])
         (whole letters)
@@ -243,7 +245,7 @@ pub fn seek_back_after_next()
         ∷ gives (put a [] 0) ∷ gives (put e [] 0) ∷ [] }
 {}
 
-/// Both ends meet, and no item is given twice.
+/// Both ends meet, and no item is returned twice.
 pub fn both_ends()
     ensures two { answers (next_back ∷ next ∷ []) (whole (older ∷ newer ∷ []))
         ≡ gives newer ∷ gives older ∷ [] }
@@ -270,8 +272,8 @@ pub fn both_ends()
 {}
 
 /// Handles (a, 3), (a, 1), (b, 4), then b, bcdef, def: a seek finds the first handle that can hold
-/// a version of the needle below the sequence number; an upper bound keeps one handle more; a false
-/// seek empties the front alone.
+/// a version of the needle below the sequence number; an upper bound keeps one handle more; a seek
+/// that returns false empties only the front.
 pub fn handle_seeks()
     ensures all { answers (seek_index handles a 4 ∷ next ∷ next ∷ next ∷ next ∷ [])
         (whole versions)

@@ -178,7 +178,7 @@ line-complete line e (letter, number, key, value, by, joined) =
     joined first refl (lacks-digits number by.is_number.0.1) refl (lacks-hex key e.key.user_key by.is_key)
     ∙ parts-complete letter number key value e by
 
--- the law, of what a call answers
+-- the law, for what a call returns
 pub law-along : {E : Type 0} (line : List ℕ) (expected : Option Entry) (r : Result (Option Entry) E) → entry_of_line line ≡ expected → IfOk r (λ found. found ≡ expected)
     → IfOk r (λ found. (e : Entry) → (found ≡ Some e) ↔ Encodes line e)
 law-along line expected (Err e) h k = tt

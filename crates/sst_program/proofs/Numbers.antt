@@ -42,7 +42,7 @@ pub number_of-none : (text : List ℕ) → (IsNumberText text → ⊥) → numbe
 unfolding number_of
 number_of-none text h = number_of-cases text (is_number_text text) refl h
 
--- a number that is answered exactly where digits encode one, and is that one
+-- a number that is returned exactly where digits encode one, and is that one
 pub number-exact : (r : Option ℕ) (text : List ℕ) → (IsSome r ↔ IsNumberText text) → IfSome r (λ n. n ≡ digits_value 10 text) → number_of text ≡ r
 number-exact None text iff value = number_of-none text (λ h. let wrong : false ≡ true = iff.1 h in cc)
 number-exact (Some n) text iff value = number_of-some text (iff.0 refl) ∙ ap Some (sym value)

@@ -69,7 +69,7 @@ footer_fault (Some all) m go e fault told fails = record {
   ];
 }
 
--- the same of a walk
+-- the same for a walk
 pub footer_walk_fault : (o : Option (List ℕ)) (m : Type 0) (old new : Option (List ℕ)) (e : Error) (fault : Fault) → fault ≡ Refused e → ((reads : List (Result (List Entry) Error)) → before_refusal reads ≡ [] → first_refusal reads ≡ Some e → PrintsUntil old new reads (Some e))
     → IfSome o (λ all. FailsAs (m → ⊥) ⊥ (table_handles all) e) → IfSome o (λ all. IsWalkFault m old new (table_blocks all) fault)
 footer_walk_fault None m old new e fault told kept fails = tt
@@ -86,7 +86,7 @@ footer_walk_fault (Some all) m old new e fault told kept fails = record {
   ];
 }
 
--- the same of what a command answers
+-- the same for what a command returns
 pub footer_told : {Y : Type 0} (o : Option (List ℕ)) (m : Type 0) (go : List ℕ → RunHandles → Result Y Error) (e : Error) (r : Result (Unit {0}) Fault) → IsErrAnd r (λ fault. fault ≡ Refused e) → IfSome o (λ all. FailsAs (m → ⊥) ⊥ (table_handles all) e)
     → IfSome o (λ all. IfErr r (IsTableFault m (table_handles all >>= go all)))
 footer_told None m go e r told fails = tt

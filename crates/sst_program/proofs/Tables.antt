@@ -33,7 +33,7 @@ size-next n [] block h some most = (some, most)
 size-next n (b ∷ []) block h some most = (h.0, (some, most))
 size-next n (b ∷ c ∷ blocks) block h some most = (h.0, size-next n (c ∷ blocks) block h.1 some most)
 
--- the front of an ordered list
+-- the prefix of an ordered list
 pub ordered-front : (a b : List Entry) → IsOrdered entries (a ++ b) → IsOrdered entries a
 ordered-front [] b h = tt
 ordered-front (x ∷ []) b h = tt

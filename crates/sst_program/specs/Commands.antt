@@ -101,7 +101,7 @@ command_named (Some GetName) words = option_map Get (get_of_words words)
 command_named (Some WalkName) words = option_map Walk (file_of_words words)
 command_named (Some CheckName) words = option_map Check (file_of_words words)
 
--- the command that words encode: its name, and what it is asked
+-- the command that words encode: its name, and its arguments
 unfoldable pub command_of_words : List (List ℕ) → Option Command
 command_of_words [] = None
 command_of_words (name ∷ words) = command_named (name_of name) words

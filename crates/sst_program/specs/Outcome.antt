@@ -1,4 +1,4 @@
--- What a run prints, or the fault that it tells.
+-- What a run prints, or the fault that it reports.
 use Rattle.std.specs.Prelude.{◌≡◌, ℕ, ◌+◌, ◌^◌, ◌⊎◌, nat_lt, if◌then◌else◌, codes, List, [], ◌∷◌, ◌++◌, length, Option, Some, None, Result, Ok, Err, IfSome}
 use Rattle.std.specs.Fmt.{decimal}
 use Rattle.std.specs.Io.KnownBytes.{Keeps, Appends, append_known}
@@ -131,7 +131,7 @@ IsRefused fault = (error : Error) × (fault ≡ Refused error)
 abbrev pub IsPackFault : Option (List ℕ) → Fault → Type 0
 IsPackFault known fault = IsFaultOf run_of_input known fault ⊎ (fault ≡ Refused TooLong)
 
--- the fault that a run tells, if it did not fail. Words that encode no command are a usage fault.
+-- the fault that a run reports, if it did not fail. Words that encode no command are a usage fault.
 abbrev pub IsReported : Option Command → Option (List ℕ) → Fault → Type 0
 IsReported None known fault = IsFailure fault ⊎ (fault ≡ Usage)
 IsReported (Some (Point query)) known fault = IsFaultOf (outcome_of_query query) known fault

@@ -1,4 +1,4 @@
--- How a refusal of the library is told.
+-- How an error of the library is reported.
 use Rattle.std.specs.Prelude.{ℕ, List, codes}
 use Rattle.sst_base.specs.declared.error.Error.{Error}
 use Rattle.sst_base.specs.declared.error.Error.TheVariants.{Io, InvalidHeader, InvalidTag, ChecksumMismatch, LengthMismatch, TooLong, Truncated, BadTrailer, BadEntry, OutOfOrder, BadIndex, BadHashIndex, BadFilter, BadHandle, Memory}

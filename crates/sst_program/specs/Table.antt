@@ -67,7 +67,7 @@ pub record AppendsTable (config : RunConfig) (n : ℕ) (items : List Entry) (old
   pub block_count : p.blocks ≡ length blocks
   pub len : p.len ≡ length bytes
 
--- so many blocks and bytes has the table of entries in blocks of n, written so
+-- the table of entries in blocks of n, written with this configuration, has this many blocks and bytes
 pub record IsPacked (config : RunConfig) (n : ℕ) (items : List Entry) (p : Packed) : Type 0 where
   pub blocks : List (List Entry)
   pub bytes : List ℕ

@@ -1,4 +1,5 @@
--- Reading a table from bytes: its footer, its filter, its index, and its blocks in order, each with its check. The first refusal ends it.
+-- Reading a table from bytes: its footer, its filter, its index, and its blocks in order, each with its check. The
+-- first refusal ends it.
 use Rattle.std.specs.Prelude.{◌≡◌, ◌≢◌, ◌⊎◌, ◌≤◌, IsOk, ℕ, ◌-◌, ◌^◌, min, List, [], ◌∷◌, length, take, drop, map, Option, Some, None, Result, Ok, Err}
 use Rattle.std.specs.Io.KnownBytes.{Appends}
 use Rattle.sst_base.specs.BlockHandle.{HandleParts}
@@ -57,7 +58,7 @@ filter_check bytes h = do
   f ← filter_at p
   Ok tt
 
--- the same of the filter of a run, if it has one
+-- the same for the filter of a run, if it has one
 abbrev pub run_filter_check : List ℕ → Option HandleParts → Result (Unit {0}) Error
 run_filter_check bytes None = Ok tt
 run_filter_check bytes (Some h) = filter_check bytes h
@@ -66,12 +67,12 @@ run_filter_check bytes (Some h) = filter_check bytes h
 abbrev pub blocks_read : List ℕ → List Handle → List (Result (List Entry) Error)
 blocks_read bytes hs = map (λ h. block_read bytes (range_of h)) hs
 
--- the same of the handles of an index. Where that is refused, the refusal is all.
+-- the same for the handles of an index. Where that is refused, the refusal is all.
 abbrev pub blocks_by : List ℕ → Result (List Handle) Error → List (Result (List Entry) Error)
 blocks_by bytes (Ok hs) = blocks_read bytes hs
 blocks_by bytes (Err e) = Err e ∷ []
 
--- the same of a run, by the range of its index
+-- the same for a run, by the range of its index
 abbrev pub run_blocks : List ℕ → HandleParts → List (Result (List Entry) Error)
 run_blocks bytes index = blocks_by bytes (index_read bytes index)
 
@@ -106,7 +107,8 @@ entries_counted bytes hs = do
   blocks ← all_read (blocks_read bytes hs)
   Ok (entry_count blocks)
 
--- the numbers of the blocks of a run and of their entries, or the first refusal: that of its filter, of its index or of a block
+-- the numbers of the blocks of a run and of their entries, or the first refusal: that of its filter, of its index or of
+-- a block
 unfoldable pub run_counts : List ℕ → RunHandles → Result (ℕ × ℕ) Error
 run_counts bytes h = do
   filter ← run_filter_check bytes h.filter
@@ -147,12 +149,12 @@ AreCutOff reads = (first_refusal reads ≡ Some BadHandle) ⊎ (first_refusal re
 abbrev pub FailsAround : {X : Type 0} → Type 0 → Type 0 → Result X Error → Type 0
 FailsAround failed reliable read = (failed × (reliable → IsCutOff read)) ⊎ IsOk read
 
--- the same of the reading of blocks
+-- the same for the reading of blocks
 abbrev pub FailsAmong : Type 0 → Type 0 → List (Result (List Entry) Error) → Type 0
 FailsAmong failed reliable reads = (failed × (reliable → AreCutOff reads)) ⊎ (1 ≤ length (before_refusal reads))
 
--- A fault of a command over a table: that of the reading, or a failed allocation, or a failure. Over memory that is of the
--- output, or the reading meets a range that isn't inside.
+-- A fault of a command over a table: that of the reading, or a failed allocation, or a failure. Over memory that is of
+-- the output, or the reading meets a range that isn't inside.
 pub record IsTableFault {X : Type 0} (over_memory : Type 0) (read : Result X Error) (fault : Fault) : Type 0 where
   pub error : Error
   pub told : fault ≡ Refused error

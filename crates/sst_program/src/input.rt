@@ -46,8 +46,8 @@ fn read_part<T>(outcome: io::Result<T>) -> Result<T>
 ///
 /// # Errors
 ///
-/// `Fault::Entry` with the number of the first line that is no entry; the input is not read past its
-/// buffer then. `Error::Memory` if an allocation fails or the reader returns
+/// `Fault::Entry` with the number of the first line that is no entry; the input is not read past
+/// its buffer then. `Error::Memory` if an allocation fails or the reader returns
 /// `ErrorKind::OutOfMemory`, and `Error::Io` if the reader fails in another way.
 pub fn read_entries<I: Read>(alloc: Global, input: &mut I) -> fault::Result<Vec<InternalValue>>
     ensures ok { IfOk result
@@ -71,8 +71,8 @@ pub fn read_entries<I: Read>(alloc: Global, input: &mut I) -> fault::Result<Vec<
 ///
 /// # Errors
 ///
-/// `Fault::NoEntries`, `Fault::Entry` and `Fault::Order` as the input demands, `Error::Memory` if
-/// an allocation fails, and `Error::Io` if the input fails.
+/// `Fault::NoEntries`, `Fault::Entry` and `Fault::Order` if the input is refused, `Error::Memory`
+/// if an allocation fails, and `Error::Io` if the input fails.
 pub fn ordered_entries<I: Read>(alloc: Global, input: &mut I) -> fault::Result<Vec<InternalValue>>
     ensures ok { IfOk result
         (λ items. IsOutcomeOf run_of_input (I.remaining input.old) items.items) }

@@ -5,7 +5,7 @@ ghost use Rattle.std.specs.Io.KnownBytes.{Appends};
 use sstable_blocks::{Error, Result};
 use std::io::Write;
 
-/// Writes a text.
+/// Writes bytes.
 ///
 /// # Errors
 ///

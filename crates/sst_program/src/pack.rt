@@ -121,7 +121,7 @@ fn packed_text(alloc: Global, entries: usize, packed: &Packed) -> Result<String>
 ///
 /// # Errors
 ///
-/// `Fault::NoEntries`, `Fault::Entry` and `Fault::Order` as the input demands; the file is not
+/// `Fault::NoEntries`, `Fault::Entry` and `Fault::Order` if the input is refused; the file is not
 /// touched then. `Error::Io` if the input, the file or the output fails, `Error::TooLong` if the
 /// run does not fit: see `RunWriter`. `Error::Memory` if an allocation fails.
 pub fn pack<R: LockFiles, I: Read, O: Write>(

@@ -52,8 +52,8 @@ impl<W: Write> Write for PipeOutput<'_, W> {
     }
 }
 
-/// A place for the lines of faults, which drops them once the output is closed: nobody who closed it
-/// waits for more.
+/// A place for the lines of faults, which drops them once the output is closed: nobody who closed
+/// it waits for more.
 #[derive(Drop)]
 pub struct QuietFaults<'a, W> {
     inner: W,

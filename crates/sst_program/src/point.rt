@@ -118,9 +118,9 @@ fn text_for<I: Read>(alloc: Global, words: &PointWords, input: &mut I) -> fault:
 ///
 /// # Errors
 ///
-/// `Fault::NoEntries`, `Fault::Entry` and `Fault::Order` as the input demands, `Error::TooLong` if
-/// the block has 2^32 bytes or more, `Error::Memory` if an allocation fails, and `Error::Io` if the
-/// input or the output fails. Nothing is printed then, or a beginning if the output failed.
+/// `Fault::NoEntries`, `Fault::Entry` and `Fault::Order` if the input is refused, `Error::TooLong`
+/// if the block has 2^32 bytes or more, `Error::Memory` if an allocation fails, and `Error::Io` if
+/// the input or the output fails. Nothing is printed then, or a beginning if the output failed.
 pub fn point<I: Read, O: Write>(
     alloc: Global,
     words: &PointWords,

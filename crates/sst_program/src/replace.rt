@@ -165,8 +165,8 @@ fn fill_and_rename<R: Files>(
     Ok(packed)
 }
 
-// Syncs the folder of a path, so that a rename in it lasts. A folder that cannot be opened or synced
-// is left: the file is whole under either name.
+// Syncs the folder of a path, so that a rename in it lasts. A folder that cannot be opened or
+// synced is left: the file is whole under either name.
 fn sync_folder<R: Files>(rt: &R, path: Path<'_>) {
     let folder = match path.parent() {
         Some(folder) if !folder.as_str().is_empty() => folder,
@@ -237,15 +237,15 @@ fn write_in_place<R: LockFiles>(
 /// Writes a table file, which replaces the one of that name.
 ///
 /// The table is written to a new file beside it, under its name and `.sst-new`, which is locked,
-/// synced and then renamed; so the file is the old one or the new one, whole, and on any failure the
-/// old one. A symbolic link stays, and the file that it leads to is replaced; its permissions stay
-/// too. Where something other than a regular file has the name, or the folder takes no new file, the
-/// table is written in place.
+/// synced and then renamed; so the file is the old one or the new one, whole, and on any failure
+/// the old one. A symbolic link stays, and the file that it leads to is replaced; its permissions
+/// stay too. Where something other than a regular file has the name, or the folder takes no new
+/// file, the table is written in place.
 ///
 /// # Errors
 ///
-/// Those of `write_table`. `Error::Io` too if the file may not be written, or another run is writing
-/// it.
+/// Those of `write_table`. `Error::Io` too if the file may not be written, or another run is
+/// writing it.
 pub fn write_file<R: LockFiles>(
     rt: &R,
     alloc: Global,

@@ -1,4 +1,4 @@
-//! Footers beside a worked one: each byte changed to each other value, cut before each byte, and
+//! Example footers: each byte changed to each other value, cut before each byte, and
 //! lengthened.
 use sst_base_tests::changes::{change_count, changed};
 use sst_base_tests::numbers::{u32_at, u64_at};

@@ -7,7 +7,7 @@ use std::alloc::{AllocError, Global};
 use std::process::Abort;
 use std::test::Fail;
 
-// A text: a part so many times, between two others.
+// A text: a part this number of times, between two others.
 type Text = (&'static str, &'static str, usize, &'static str);
 
 // The text of these parts.
@@ -21,7 +21,7 @@ fn text_of(alloc: Global, parts: &Text) -> Result<String, AllocError> {
     Ok(text)
 }
 
-// So many entries, whose keys are their indexes in three bytes.
+// This many entries, whose keys are their indexes in three bytes.
 fn many_lines(alloc: Global, count: u32) -> Result<String, AllocError> {
     let mut lines = String::new(alloc);
     for i in 0..count {

@@ -19,7 +19,7 @@ pub struct Run {
     pub faults: Vec<u8>,
 }
 
-/// A step of a script. Words stand in one text, with a space between them. What comes of a run is
+/// A step of a script. Words are in one string, with a space between them. What comes of a run is
 /// what it prints, and then, if it has a fault, the line of the fault without its end, which begins
 /// with `sst: `.
 #[derive(Clone, Copy)]
@@ -44,7 +44,7 @@ pub fn words_of(alloc: Global, text: &str) -> Result<Vec<&str>, AllocError> {
     text.split(' ').collect(alloc)
 }
 
-/// Runs the program. The writer of faults has room before it starts.
+/// Runs the program. The writer of faults has capacity before it starts.
 pub fn make_run<R: LockFiles>(
     rt: &R,
     alloc: Global,

@@ -73,7 +73,7 @@ fn a_slow_reader_is_read_whole_and_may_fail(rt: HostRuntime) -> Result<(), Fail>
     Ok(())
 }
 
-// What a writer does when it has no room left.
+// What a writer does when it has no capacity left.
 #[derive(Clone, Copy)]
 enum AtEnd {
     Fails,
@@ -143,7 +143,7 @@ fn run_into<R: LockFiles + AllocGlobal>(
     Ok((status, place.starts_with(line)))
 }
 
-// With less room than what is printed the output fails.
+// With less capacity than what is printed the output fails.
 fn check_rooms<R: LockFiles + AllocGlobal + Abort>(
     rt: &R,
     words: &str,
@@ -165,7 +165,7 @@ fn check_rooms<R: LockFiles + AllocGlobal + Abort>(
     Ok(())
 }
 
-// With room for what is printed the run fails where the output cannot be flushed.
+// With capacity for what is printed the run fails where the output cannot be flushed.
 fn check_flushes<R: LockFiles + AllocGlobal + Abort>(
     rt: &R,
     words: &str,

@@ -300,7 +300,7 @@ fn damaged_files_are_refused(rt: HostRuntime) -> Result<(), Fail> {
     Ok(())
 }
 
-// Lines of entries of all types, so many.
+// This number of lines of entries of all types.
 fn many_lines(alloc: Global, count: u32) -> Result<String, AllocError> {
     let mut lines = String::new(alloc);
     for i in 0..count {

@@ -87,7 +87,7 @@ pub fn heads_data(rt: &impl Print, alloc: Global, times: u32) -> Result<()> {
     Ok(())
 }
 
-/// The same of an index block.
+/// The same for an index block.
 pub fn heads_index(rt: &impl Print, alloc: Global, times: u32) -> Result<()> {
     let mut block = index_block(alloc, &LONG)?;
     for _ in 0..times {

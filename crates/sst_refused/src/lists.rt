@@ -1,4 +1,4 @@
-//! Worked entries and handles, and their blocks and runs.
+//! Example entries and handles, and their blocks and runs.
 ghost use Rattle.std.specs.Prelude.{◌↔◌, ◌≤◌, length, IsTrue};
 ghost use Rattle.sst_block_core.specs.Entries.{entries};
 ghost use Rattle.sst_block_core.specs.Kind.{IsOrdered};

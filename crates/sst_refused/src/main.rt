@@ -14,7 +14,7 @@ use std::env;
 use std::process::ExitCode;
 use std::rt::Env;
 
-// Sets an operation on a block up, and performs it so many times.
+// Sets an operation on a block up, and performs it this many times.
 fn on_block(rt: &impl Print, alloc: Global, operation: &str, times: u32) -> Result<()> {
     match operation {
         "encode" => blocks::encode(rt, alloc, times),
@@ -33,7 +33,7 @@ fn on_block(rt: &impl Print, alloc: Global, operation: &str, times: u32) -> Resu
     }
 }
 
-// Sets an operation up, and performs it so many times.
+// Sets an operation up, and performs it this many times.
 fn perform(rt: &impl Print, alloc: Global, operation: &str, times: u32) -> Result<()> {
     match operation {
         "write_run" => runs::write(rt, alloc, times),

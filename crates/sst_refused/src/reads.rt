@@ -9,7 +9,7 @@ use sst_block_kinds::table::index_block::{self, IndexOp};
 use sst_block_kinds::{DataBlock, DataBlockParsedItem};
 use std::alloc::Global;
 
-/// Walks over a data block: the answers.
+/// Iterates over a data block: the results.
 pub fn walk_data(rt: &impl Print, alloc: Global, times: u32) -> Result<()> {
     let block = data_block(alloc, &LONG, NO_BUCKETS)?;
     let ops = [
@@ -25,7 +25,7 @@ pub fn walk_data(rt: &impl Print, alloc: Global, times: u32) -> Result<()> {
     Ok(())
 }
 
-/// Walks over an index block: the answers.
+/// Iterates over an index block: the results.
 pub fn walk_index(rt: &impl Print, alloc: Global, times: u32) -> Result<()> {
     let block = index_block(alloc, &LONG)?;
     let ops = [
@@ -78,7 +78,7 @@ pub fn steps_data(rt: &impl Print, alloc: Global, times: u32) -> Result<()> {
     Ok(())
 }
 
-/// The same of the handles of an index block.
+/// The same for the handles of an index block.
 pub fn steps_index(rt: &impl Print, alloc: Global, times: u32) -> Result<()> {
     let block = index_block(alloc, &LONG)?;
     for _ in 0..times {

@@ -77,7 +77,7 @@ fn holds<R: Files + AllocGlobal + Print>(rt: &R, folder: &str, name: &str) -> io
     Ok(makers && payloads)
 }
 
-/// Returns whether the rules tell the planted texts apart, and prints where not.
+/// Returns whether the rules distinguish the planted texts, and prints where not.
 fn planted_hold<R: AllocGlobal + Print>(rt: &R) -> io::Result<bool> {
     let mut holds = true;
     for (text, is_misuse) in PLANTED {

@@ -1,4 +1,4 @@
-//! Where the bytes of a block stand in a source that may not read them.
+//! Where the bytes of a block occur in a source that may not read them.
 use crate::rules::CALLS;
 use std::io;
 
@@ -33,7 +33,7 @@ fn call_at(rt: &impl AllocGlobal, tokens: &[String], i: usize) -> io::Result<Str
     Ok(format!(in rt.alloc(); "{name}")?)
 }
 
-/// Returns whether a call may be handed a payload.
+/// Returns whether a call may be passed a payload.
 fn may_take(call: Option<&String>) -> bool {
     match call {
         Some(call) => CALLS.iter().any(|name| *name == call.as_str()),
@@ -74,7 +74,7 @@ fn lead_of(tokens: &[String], i: usize) -> &str {
     }
 }
 
-/// Returns whether a payload is declared or set, or its length is asked for.
+/// Returns whether a payload is declared or set, or its length is read.
 fn is_set(tokens: &[String], i: usize, opened: Option<&String>) -> bool {
     let (next, lead) = (behind(tokens, i, 1), lead_of(tokens, i));
     let is_named = !is_own(tokens, i) && lead != ".";
@@ -89,7 +89,7 @@ fn is_set(tokens: &[String], i: usize, opened: Option<&String>) -> bool {
     is_declared || is_bound || (is_field && lead != ".") || is_length
 }
 
-/// Returns whether a payload is a whole argument of a call that may be handed one.
+/// Returns whether a payload is a whole argument of a call that may be passed one.
 fn is_argument(tokens: &[String], i: usize, opened: Option<&String>) -> bool {
     let lead = lead_of(tokens, i);
     let end = behind(tokens, end_of(tokens, i), 0);
@@ -107,8 +107,8 @@ fn is_data_bound(tokens: &[String], i: usize) -> bool {
     is_returned || is_payload
 }
 
-/// Returns whether the bytes of a block, taken by `as_slice()`, are bound to a payload, or the whole
-/// argument of a call that may be handed one.
+/// Returns whether the bytes of a block, taken by `as_slice()`, are bound to a payload, or the
+/// whole argument of a call that may be passed one.
 fn is_slice_bound(tokens: &[String], i: usize, opened: Option<&String>) -> bool {
     let lead = before(tokens, i, 3);
     let is_payload = (lead == "=" || lead == ":") && before(tokens, i, 4) == "payload";
@@ -117,7 +117,7 @@ fn is_slice_bound(tokens: &[String], i: usize, opened: Option<&String>) -> bool 
     is_payload || (is_whole && may_take(opened))
 }
 
-/// Returns whether a token may stand where it does, in these brackets.
+/// Returns whether a token is allowed where it is, in these brackets.
 fn may_stand(tokens: &[String], i: usize, opened: Option<&String>) -> bool {
     match behind(tokens, i, 0) {
         "payload" => is_set(tokens, i, opened) || is_argument(tokens, i, opened),
@@ -155,7 +155,7 @@ pub fn first_misuse(rt: &impl AllocGlobal, tokens: &[String]) -> io::Result<Opti
     Ok(None)
 }
 
-/// Returns how often a sequence of tokens, written with spaces between, stands in others.
+/// Returns how often a sequence of tokens, written with spaces between, occurs in others.
 pub fn count(rt: &impl AllocGlobal, tokens: &[String], words: &str) -> io::Result<usize> {
     let mut wanted = Vec::new(rt.alloc());
     for word in words.split(' ') {

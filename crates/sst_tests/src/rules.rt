@@ -33,9 +33,9 @@ pub const CHECKS: [&str; 2] = [
     "sst_block_kinds/src/table/index_block/checking.rt",
 ];
 
-/// The calls that a payload may be handed to: those of the item traits, of the decoder, of the index
-/// readers, of the one reader that counts, of blocks, of the two that make an item of its ranges, and
-/// of the table of heads, with what it calls itself.
+/// The calls that a payload may be passed to: those of the item traits, of the decoder, of the
+/// index readers, of the one reader that counts, of blocks, of the two that make an item of its
+/// ranges, and of the table of heads, with what it calls itself.
 pub const CALLS: [&str; 23] = [
     "Item::read_head",
     "Item::read_full",
@@ -129,7 +129,7 @@ pub const MADE: [(&str, &str, usize); 35] = [
         1,
     ),
     ("sst_block_core/src/table/block/decoder.rt", "Decoder {", 1),
-    // The table of heads reads the keys of heads, and counts each that it looks at.
+    // The table of heads reads the keys of heads, and counts each that it examines.
     (
         "sst_block_core/src/table/block/decoder.rt",
         "Intervals : : with_table (",
@@ -238,7 +238,7 @@ pub const MADE: [(&str, &str, usize); 35] = [
         1,
     ),
     // A read of a run opens one index block and one data block, and reads each by one call. One
-    // that checks counts what it looks at for nobody.
+    // that checks counts what it examines for nobody.
     ("sstable_blocks/src/run/read.rt", ". iter (", 1),
     ("sstable_blocks/src/run/checked.rt", "Steps : : new", 2),
     ("sstable_blocks/src/run/round_trip.rt", "Steps : : new", 1),

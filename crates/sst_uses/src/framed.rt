@@ -8,8 +8,8 @@ use std::alloc::Global;
 ///
 /// # Errors
 ///
-/// `Error::TooLong` if the payload has 2^32 bytes or more; `Error::Memory`, or `Error::Io` where the
-/// vector cannot grow, if an allocation fails.
+/// `Error::TooLong` if the payload has 2^32 bytes or more; `Error::Memory`, or `Error::Io` where
+/// the vector cannot grow, if an allocation fails.
 pub fn framed(alloc: Global, payload: &Slice) -> Result<Block>
     ensures { IfOk result (λ block. block.payload ≡ payload.now) }
 {

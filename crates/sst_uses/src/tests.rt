@@ -1,4 +1,4 @@
-// Each call with ample memory: success is demanded.
+// Each call with ample memory: it has to succeed.
 ghost use Rattle.std.specs.Prelude.{◌≤◌, length};
 
 use crate::newest::newest_below;

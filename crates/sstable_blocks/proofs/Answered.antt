@@ -1,4 +1,4 @@
--- From an exact answer of a checked read to what it means.
+-- From an exact result of a checked read to what it means.
 use Rattle.std.proofs.Common.{◌≡◌, ℕ, ◌∙◌, sym, List, Option, Some, None, Result, Ok, Err, OnOk, IfOk, IfSome}
 use Rattle.sst_base.specs.Bytes.{IsBytes}
 use Rattle.sst_base.specs.Entry.{Entry}

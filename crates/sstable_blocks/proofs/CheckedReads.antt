@@ -51,7 +51,7 @@ says_is f hash false says = elim (may_contain f hash) as (λ c. may_contain f ha
   | false ↦ (λ e. refl)
 ] refl
 
--- an answer of a filter, and its errors
+-- a result of a filter, and its errors
 pub asked : (p : List ℕ) (hash : ℕ) (r : Result Bool Error) → IfOk r (λ b. (f : Filter) × (filter_at p ≡ Ok f) × (IsTrue b ↔ MayContain f hash)) → IfErr r (λ e. filter_at p ≡ Err e) → r ≡ filter_answer p hash
 asked p hash (Ok b) says err = sym (ap (λ q. q >>= (λ f. Ok (may_contain f hash))) says.1 ∙ ap (λ c. Ok c) (says_is says.0 hash b says.2))
 asked p hash (Err e) says err = sym (ap (λ q. q >>= (λ f. Ok (may_contain f hash))) err)

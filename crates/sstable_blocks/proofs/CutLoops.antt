@@ -36,7 +36,7 @@ joined-append : (xs ys : List (List Entry)) → joined (xs ++ ys) ≡ joined xs 
 joined-append [] ys = refl
 joined-append (b ∷ bs) ys = ap (λ zs. b ++ zs) (joined-append bs ys) ∙ sym (append_assoc b (joined bs) (joined ys))
 
--- the blocks so far and the next one are a front of the list
+-- the blocks so far and the next one are a prefix of the list
 pub order_next : (blocks : List (List Entry)) (b : List Entry) (bs all : List (List Entry)) (items : List Entry) → blocks ++ b ∷ bs ≡ all → joined all ≡ items → IsOrdered entries items → IsOrdered entries (joined (blocks ++ b ∷ []))
 order_next blocks b bs all items e j o =
     let whole : joined (blocks ++ b ∷ []) ++ joined bs ≡ items =

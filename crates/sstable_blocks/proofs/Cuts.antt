@@ -13,13 +13,13 @@ pub cuts_left : (start end : ℕ) (cuts : List ℕ) → start < end → CutsFit 
 cuts_left start end [] some h = some
 cuts_left start end (cut ∷ cuts) some h = (h.0, cuts_left cut end cuts h.1 h.2)
 
--- a place from which cuts rise lies below the end
+-- a number above which cuts rise is below the end
 pub cuts_below : (start end : ℕ) (cuts : List ℕ) → CutsLeft start end cuts → start < end
 cuts_below start end [] h = h
 cuts_below start end (cut ∷ cuts) h = let k = cuts_below cut end cuts h.1 in omega arith
 
 module _ {X : Type 0} where
-  -- blocks from a place on, joined, are the list from there on
+  -- blocks from an index on, joined, are the list from there on
   pub joined-blocks_from : (items : List X) (start : ℕ) (cuts : List ℕ) → CutsLeft start (length items) cuts → joined (blocks_from start cuts items) ≡ drop start items
   joined-blocks_from items start [] h = append-nil (drop start items)
   joined-blocks_from items start (cut ∷ cuts) h =

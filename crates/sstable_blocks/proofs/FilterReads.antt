@@ -1,4 +1,4 @@
--- The filter of a run denies none of its keys.
+-- The filter of a run rules out none of its keys.
 use Rattle.std.proofs.Common.{◌≡◌, ℕ, ◌+◌, ◌*◌, ◌/◌, ◌<◌, ◌≤◌, ◌^◌, inl, inr, cond, ltb, List, [], ◌∷◌, length, filter, refl, arith, sym, ◌∙◌, ap, subst, Option, Some, None, Result, Ok}
 use Rattle.std.proofs.lemmas.Bool.{eq-eqb, ne_eqb, cases_Bool, and_parts}
 use Rattle.std.proofs.lemmas.List.{length-map}
@@ -37,7 +37,7 @@ none_from : {A : Type 0} (o : Option A) → ((x : A) → o ≡ Some x → ⊥) �
 none_from None h = refl
 none_from (Some x) h = absurd (h x refl)
 
--- a key that a filter of all keys denies has no match
+-- a key that a filter of all keys rules out has no match
 pub denied : (hash : List ℕ → ℕ) (items : List Entry) (p needle : List ℕ) (s : ℕ) (own : Filter) → AllByRecursion (λ y. MayContain own (hash y.key.user_key)) items
     → filter_at p ≡ Ok own → (x : Filter) → filter_at p ≡ Ok x → (MayContain x (hash needle) → ⊥) → first_match entries needle s items ≡ None
 unfolding first_match
@@ -48,7 +48,7 @@ denied hash items p needle s own all reads x read denies =
     ap (option_map entries.plain) none
 
 module _ (f : Form) where
-  -- where the filter of a run stands
+  -- where the filter of a run is
   abbrev pub filter_handle : List (List Entry) → List ℕ → HandleParts
   filter_handle blocks p = record { offset = length (block_frames f blocks) + length (index_frame f blocks); size = length (filter_frame f p) }
 
@@ -63,7 +63,7 @@ module _ (f : Form) where
   pub filter_framed : (p : List ℕ) → (f.config.bits_per_key ≡ 0 → ⊥) → filter_frame f p ≡ frame f.hash128 types.Filter p
   filter_framed p e = ap (λ b. cond b [] (frame f.hash128 types.Filter p)) (ne_eqb _ _ e)
 
-  -- the filter of a run is read from its payload
+  -- the filter of a run is decoded from its payload
   pub filter_reads : (blocks : List (List Entry)) (p : List ℕ) (is : IsFilterText (key_hashes f.hash64 (joined blocks)) f.config.bits_per_key p) → length (joined blocks) * f.config.bits_per_key ≤ 34359737920 → filter_at p ≡ Ok is.filter
   filter_reads blocks p is bits =
       let count : length (key_hashes f.hash64 (joined blocks)) ≡ length (joined blocks) = length-map (joined blocks) (λ e. f.hash64 e.key.user_key) in

@@ -26,7 +26,7 @@ range_by-handle : (payload : List ℕ) (r : Option IndexBlockParsedItem) → opt
 range_by-handle payload None = refl
 range_by-handle payload (Some p) = refl
 
--- of a list up to its end, the item at a place is left, if there is one
+-- of a list up to its end, the item at an index is left, if there is one
 left_at : (hs : List Handle) (n : ℕ) → first_left (record { list = hs; lo = n; hi = length hs }) ≡ slice_get hs n
 left_at hs n = elim (cases_Bool (ltb n (length hs))) [
   | inl some ↦ ap (λ b. cond b (slice_get hs n) None) some

@@ -118,7 +118,7 @@ module _ (f : Form) where
       let same : end_of (b ++ joined (c ∷ bs)) ≡ end_of (joined (c ∷ bs)) = end_of-append b (joined (c ∷ bs)) (joined_some (c ∷ bs) (omega arith) s.1) in
       (r.0 ∙ ap (λ (x : Key). x.user_key) (sym same), r.1 ∙ ap (λ (x : Key). x.seqno) (sym same))
 
-  -- without blocks no entry stands in front
+  -- without blocks there is no last entry
   pub no_last : (blocks : List (List Entry)) (item : Entry) → slice_get (handles_from f 0 blocks) (length (handles_from f 0 blocks) - 1) ≡ None → FollowsLast blocks item
   no_last [] item e [] last j = cc
   no_last [] item e (x ∷ front) last j = cc

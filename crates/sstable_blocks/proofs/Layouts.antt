@@ -1,4 +1,4 @@
--- The frames of a layout stand where its handles say.
+-- The frames of a layout are where its handles say.
 use Rattle.std.proofs.Common.{◌≡◌, ℕ, ◌+◌, ◌-◌, ◌*◌, ◌/◌, min, max, inl, inr, ◌<◌, ◌≤◌, ◌^◌, cond, eqb, List, [], ◌∷◌, ◌++◌, length, take, drop, refl, arith, sym, ◌∙◌, ap, subst, append_assoc, length-append}
 use Rattle.std.proofs.lemmas.Bool.{cases_Bool}
 use Rattle.std.proofs.lemmas.List.{take_at, drop_at, append-nil}
@@ -16,12 +16,12 @@ use Rattle.sstable_blocks.specs.Run.{Form, block_payload, block_frame, block_fra
 use Rattle.sstable_blocks.proofs.Ends.{ends_in_order, front_in_order, back_in_order, all_front, all_back}
 use Rattle.sstable_blocks.proofs.BlockHandles.{handles_end, length-handles_from, handles_valid}
 
--- a part of bytes stands at an offset
+-- a part of bytes is at an offset
 pub record IsPart (bytes : List ℕ) (offset : ℕ) (part : List ℕ) : Type 0 where
   pub inside : offset + length part ≤ length bytes
   pub is : take (length part) (drop offset bytes) ≡ part
 
--- a part stands after what is before it
+-- a part is after the bytes before it
 pub IsPart-between : (front part rest : List ℕ) → IsPart (front ++ (part ++ rest)) (length front) part
 IsPart-between front part rest = record {
   inside = omega (arith, length-append front (part ++ rest), length-append part rest);
@@ -36,12 +36,12 @@ bucket_count_below num den n = elim (cases_Bool (eqb num 0)) [
 ]
 
 module _ (f : Form) where
-  -- the frame of a block stands where a handle says
+  -- the frame of a block is where a handle says
   pub record IsPlace (bytes : List ℕ) (block : List Entry) (h : Handle) : Type 0 where
     pub part : IsPart bytes h.offset (block_frame f block)
     pub size : h.size ≡ length (block_frame f block)
 
-  -- those of all blocks stand where their handles say
+  -- the frames of all blocks are where their handles say
   pub frames_stand : (bytes front rest : List ℕ) (offset : ℕ) (blocks : List (List Entry)) → bytes ≡ front ++ (block_frames f blocks ++ rest) → offset ≡ length front → AllZip (IsPlace bytes) blocks (handles_from f offset blocks)
   frames_stand bytes front rest offset [] e o = tt
   frames_stand bytes front rest offset (b ∷ bs) e o =
@@ -58,12 +58,12 @@ module _ (f : Form) where
   unfolding run_text
   run_frames blocks p = frames_stand (run_text f blocks p) [] (index_frame f blocks ++ filter_frame f p) 0 blocks refl refl
 
-  -- the frame of the index stands after those of the blocks
+  -- the frame of the index is after the frames of the blocks
   pub index_stands : (blocks : List (List Entry)) (p : List ℕ) → IsPart (run_text f blocks p) (length (block_frames f blocks)) (index_frame f blocks)
   unfolding run_text
   index_stands blocks p = IsPart-between (block_frames f blocks) (index_frame f blocks) (filter_frame f p)
 
-  -- and that of the filter after it
+  -- and the frame of the filter is after it
   pub filter_stands : (blocks : List (List Entry)) (p : List ℕ) → IsPart (run_text f blocks p) (length (block_frames f blocks) + length (index_frame f blocks)) (filter_frame f p)
   unfolding run_text
   filter_stands blocks p =

@@ -1,4 +1,4 @@
--- What an answer of a checked read on any bytes means.
+-- What a result of a checked read on any bytes means.
 use Rattle.std.proofs.Common.{◌≡◌, ℕ, ◌+◌, inl, inr, Bool, true, false, eqb, leb, List, length, take, drop, sym, ◌∙◌, ap, subst, if◌then◌else◌, Option, Some, None, Result, Ok}
 use Rattle.std.proofs.lemmas.Bool.{leb-true, eqb-true}
 use Rattle.sst_base.specs.BlockHandle.{HandleParts}

@@ -24,7 +24,7 @@ use Rattle.sstable_blocks.specs.declared.run.RunHandles.{RunHandles}
 pub payload_range : (xs : List ℕ) (offset size : ℕ) → 33 ≤ size → take (offset + size - (offset + 33)) (drop (offset + 33) xs) ≡ take (size - 33) (drop (offset + 33) xs)
 payload_range xs offset size h = let e : offset + size - (offset + 33) ≡ size - 33 = omega arith in ap (λ n. take n (drop (offset + 33) xs)) e
 
--- a point read looks at no more heads than a search over all
+-- a point read examines no more heads than a search over all
 heads_by : (l : Lookup) (n : ℕ) → heads_most l n ≤ digits n
 heads_by Nowhere n = omega arith
 heads_by (Interval i) n = omega arith
@@ -51,7 +51,7 @@ no_range None e = refl
 no_range (Some g) e = cc
 
 module _ (hash64 : List ℕ → ℕ) (blocks : List (List Entry)) (bytes : List ℕ) (h : RunHandles) (needle : List ℕ) (s : ℕ) (o : Opened hash64 blocks bytes h) where
-  -- what the search in the index answers
+  -- what the search in the index returns
   abbrev pub IsAnswer : Option HandleParts → Type 0
   IsAnswer r = r ≡ option_map range_of (handle_in bytes h needle s)
 
@@ -68,7 +68,7 @@ module _ (hash64 : List ℕ → ℕ) (blocks : List (List Entry)) (bytes : List 
       let none = no_range (handle_in bytes h needle s) (sym e ∙ is) in
       sym (o.found needle s ∙ ap (first_in entries needle s) (o.none_open (place_for handles needle s (index_in bytes h.index)) none))
 
-  -- nor where the filter denies the key
+  -- nor where the filter rules the key out
   pub found_denied : (hash : ℕ) → hash ≡ hash64 needle → IsDenied bytes h.filter hash → None ≡ first_match entries needle s (joined blocks)
   found_denied hash same denied = sym (o.filter_denies needle s (subst (IsDenied bytes h.filter) same denied))
 

@@ -83,7 +83,7 @@ module _ {X : Type 0} (kind : Kind X) (needle : List ℕ) (s : ℕ) where
   abbrev test : X → Bool
   test x = is_version kind needle s x
 
-  -- an item that does not stand after a passed one is passed
+  -- an item that does not sort after a passed one is passed
   passed_before : (a b : X) → item_cmp kind b a ≢ Less → pass b ≡ true → pass a ≡ true
   passed_before a b h e =
       let o = versions_cmp_total {X = List ℕ × ℕ} (λ v. v.0) (λ v. v.1) in

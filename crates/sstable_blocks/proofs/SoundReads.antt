@@ -36,7 +36,7 @@ use Rattle.sstable_blocks.proofs.Search.{first_match-joined}
 pub bind_to : {A B : Type 0} (r : Result A Error) (f : A → Result B Error) (x : A) (y : Result B Error) → r ≡ Ok x → f x ≡ y → (r >>= f) ≡ y
 bind_to r f x y e h = ap (λ q. q >>= f) e ∙ h
 
--- a check of bytes that pass answers their items
+-- a check of bytes that pass returns their items
 pub data_ok : (hash64 : List ℕ → ℕ) (t : Trailer) (p : List ℕ) (r : Result (List Entry) Error) → DataVerdict hash64 t p r → PassesBy entries hash64 t p → r ≡ Ok (items_by entries t p)
 data_ok hash64 t p (Ok items) v h = ap (λ xs. Ok xs) v.1
 data_ok hash64 t p (Err Truncated) v h = absurd (v h.encoded.trailer)

@@ -1,4 +1,5 @@
--- Laws of filters: what was written is read again, what is read was written so, no inserted hash is hidden, and none is refused as failed input.
+-- Laws of filters: what was written is read again, what is read was written so, no inserted hash is hidden, and none is
+-- refused as failed input.
 use Rattle.std.proofs.Common.{zero, suc, ◌≡◌, ◌≢◌, ◌<◌, ◌≤◌, ℕ, ◌+◌, ◌-◌, ◌*◌, ◌/◌, ◌%◌, ◌^◌, ◌⊎◌, inl, inr, List, [], ◌∷◌, ◌++◌, length, get_or, take, drop, Result, Ok, Err, Bool, true, false, nat_eq, leb, eqb, ltb, not, if◌then◌else◌, sym, ap, subst, ◌∙◌, refl, arith, replicate}
 use Rattle.std.specs.List.{Contains}
 use Rattle.std.specs.Int.{bit_at}
@@ -122,7 +123,7 @@ two_numbers bytes small h =
     sym (take-drop-more 6 8 bytes) ∙ ap (λ xs. take 8 (drop 6 bytes) ++ xs) (sym (take-drop-more 14 8 bytes))
     ∙ (λ i. sym (little_bytes-little_number_at 6 8 bytes small (omega arith)) i ++ (sym (little_bytes-little_number_at 14 8 bytes small (omega arith)) i ++ drop 22 bytes))
 
--- bytes with the right front are the payload of what is in them
+-- bytes with the right first bytes are the payload of what is decoded from them
 filter_payload-in : (bytes : List ℕ) → IsBytes bytes → 22 ≤ length bytes → take 4 bytes ≡ magic → get_or bytes 4 0 ≡ 0 → get_or bytes 5 0 ≡ 0 → bytes ≡ filter_payload (filter_in bytes)
 unfolding filter_payload
 filter_payload-in bytes small h m t u =

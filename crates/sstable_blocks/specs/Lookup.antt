@@ -16,10 +16,10 @@ abbrev pub first_in : {X : Type 0} → Kind X → List ℕ → ℕ → Option (L
 first_in kind needle seqno None = None
 first_in kind needle seqno (Some block) = first_match kind needle seqno block
 
--- the place of the block that can hold the needle below a sequence number, by the handles: where an index seek stops
+-- the index of the block that can hold the needle below a sequence number, by the handles: where an index seek stops
 abbrev pub place_for : {Y : Type 0} → Kind Y → List ℕ → ℕ → List Y → ℕ
 place_for ends needle seqno hs = count_from ends needle seqno hs
 
--- the handle at that place, if there is one
+-- the handle at that index, if there is one
 abbrev pub handle_for : {Y : Type 0} → Kind Y → List ℕ → ℕ → List Y → Option Y
 handle_for ends needle seqno hs = slice_get hs (place_for ends needle seqno hs)

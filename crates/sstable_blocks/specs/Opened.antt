@@ -29,7 +29,7 @@ payload_in bytes h = take (h.size - 33) (drop (h.offset + 33) bytes)
 abbrev pub index_in : List ℕ → HandleParts → List Handle
 index_in bytes h = items_in handles (payload_in bytes h)
 
--- the filter in a frame, if there is one, can be read, and has not the bits of all probes of a hash
+-- the filter in a frame, if there is one, can be read, and the bits of all probes of a hash are not set in it
 abbrev pub IsDenied : List ℕ → Option HandleParts → ℕ → Type 0
 IsDenied bytes None hash = ⊥
 IsDenied bytes (Some h) hash = (f : Filter) × (filter_at (payload_in bytes h) ≡ Ok f) × (MayContain f hash → ⊥)
@@ -43,7 +43,8 @@ pub record IsOpen (hash64 : List ℕ → ℕ) (bytes : List ℕ) (h : HandlePart
   pub items : items_in entries (payload_in bytes h) ≡ map plain block
   pub first : (needle : List ℕ) (seqno : ℕ) → first_match entries needle seqno (items_in entries (payload_in bytes h)) ≡ first_match entries needle seqno block
 
--- what a reader finds: an index with a handle for each block, the blocks where these say, and a filter that denies no key of the run
+-- what a reader finds: an index with a handle for each block, the blocks where these say, and a filter that rules out
+-- no key of the run
 pub record Opened (hash64 : List ℕ → ℕ) (blocks : List (List Entry)) (bytes : List ℕ) (h : RunHandles) : Type 0 where
   pub index_range : IsFrameRange bytes h.index
   pub index_interval : ℕ

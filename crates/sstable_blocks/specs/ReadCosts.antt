@@ -1,4 +1,4 @@
--- How little a read of a run looks at.
+-- How little a read of a run examines.
 use Rattle.std.specs.Prelude.{ℕ, ◌+◌, ◌==◌, if◌then◌else◌, List, length, slice_get, Option, Some, None}
 use Rattle.sst_base.specs.BlockHandle.{HandleParts}
 use Rattle.sst_base.specs.Entry.{Entry}

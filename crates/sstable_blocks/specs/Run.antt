@@ -1,4 +1,4 @@
--- Runs: ordered entries in blocks, and the text that they are written as.
+-- Runs: ordered entries in blocks, and the bytes that they are written as.
 use Rattle.std.specs.Prelude.{◌≡◌, ℕ, ◌+◌, ◌*◌, ◌/◌, ◌≤◌, ◌<◌, ◌^◌, ◌==◌, if◌then◌else◌, List, [], ◌∷◌, ◌++◌, length, map, Some, None}
 use Rattle.std.specs.List.{AllByRecursion}
 use Rattle.sst_base.specs.Key.{Key}
@@ -43,11 +43,11 @@ end_of [] = record { user_key = []; seqno = 0; value_type = Value }
 end_of (x ∷ []) = x.key
 end_of (x ∷ y ∷ ys) = end_of (y ∷ ys)
 
--- the handle of a block whose frame stands at an offset
+-- the handle of a block whose frame is at an offset
 abbrev pub handle_of : Form → ℕ → List Entry → Handle
 handle_of f offset block = record { offset = offset; size = length (block_frame f block); seqno = (end_of block).seqno; end_key = (end_of block).user_key }
 
--- the handles of blocks whose frames stand one after the other from an offset on
+-- the handles of blocks whose frames are one after the other from an offset on
 abbrev pub handles_from : Form → ℕ → List (List Entry) → List Handle
 handles_from f offset [] = []
 handles_from f offset (block ∷ blocks) = handle_of f offset block ∷ handles_from f (offset + length (block_frame f block)) blocks
@@ -63,7 +63,7 @@ index_frame f blocks = frame f.hash128 Index (index_text f blocks)
 abbrev pub key_hashes : (List ℕ → ℕ) → List Entry → List ℕ
 key_hashes hash64 items = map (λ e. hash64 e.key.user_key) items
 
--- bytes are the payload of the filter of these hashes, of so many bits for each
+-- bytes are the payload of the filter of these hashes, at this number of bits for each
 pub record IsFilterText (hashes : List ℕ) (bits : ℕ) (p : List ℕ) : Type 0 where
   pub filter : filters.Filter
   pub m : filter.m ≡ filters.bit_count (length hashes) bits
@@ -79,7 +79,7 @@ filter_frame f p = if f.config.bits_per_key == 0 then [] else frame f.hash128 Fi
 unfoldable pub run_text : Form → List (List Entry) → List ℕ → List ℕ
 run_text f blocks p = block_frames f blocks ++ (index_frame f blocks ++ filter_frame f p)
 
--- where the index and the filter stand
+-- where the index and the filter are
 unfoldable pub run_handles : Form → List (List Entry) → List ℕ → RunHandles
 run_handles f blocks p = record {
   index = record { offset = length (block_frames f blocks); size = length (index_frame f blocks) };

@@ -1,4 +1,4 @@
--- Reading a run from bytes of any kind, in stages: the first error met is answered.
+-- Reading a run from bytes of any kind, in stages: the first error met is returned.
 use Rattle.std.specs.Prelude.{◌≡◌, ◌⊎◌, ℕ, ◌+◌, ◌≤◌, nat_le, if◌then◌else◌, Bool, true, List, length, take, drop, Option, Some, None, Result, Ok, Err}
 use Rattle.sst_base.specs.BlockHandle.{HandleParts}
 use Rattle.sst_base.specs.Entry.{Entry}
@@ -87,7 +87,7 @@ pub record IsFramedAt (c : Hashes) (t : BlockType) (bytes : List ℕ) (h : Handl
   pub inside : h.offset + h.size ≤ length bytes
   pub whole : take h.size (drop h.offset bytes) ≡ frame c.hash128 t p
 
--- a filter, if there is one, has not the bits of all probes of the needle's hash
+-- a filter, if there is one, does not have the bits of all probes of the needle's hash
 abbrev pub FilterDenies : Hashes → List ℕ → Option HandleParts → List ℕ → Type 0
 FilterDenies c bytes None needle = ⊥
 FilterDenies c bytes (Some h) needle = (p : List ℕ) × (f : Filter) × IsFramedAt c types.Filter bytes h p × (filter_at p ≡ Ok f) × (MayContain f (c.hash64 needle) → ⊥)
@@ -97,19 +97,21 @@ abbrev pub FilterAllows : Hashes → List ℕ → Option HandleParts → List �
 FilterAllows c bytes None needle = Unit {0}
 FilterAllows c bytes (Some h) needle = (p : List ℕ) × (f : Filter) × IsFramedAt c types.Filter bytes h p × (filter_at p ≡ Ok f) × MayContain f (c.hash64 needle)
 
--- what an answer by the handle of a data block means: none without a handle, else the first match of a block that passes its check
+-- what a result by the handle of a data block means: none without a handle, else the first match of a block that passes
+-- its check
 abbrev pub BlockMeans : Hashes → List ℕ → Option Handle → List ℕ → ℕ → Option Entry → Type 0
 BlockMeans c bytes None needle seqno answer = answer ≡ None
 BlockMeans c bytes (Some h) needle seqno answer =
     (p : List ℕ) × IsFramedAt c types.Data bytes (range_of h) p × Passes entries c.hash64 p × (answer ≡ first_match entries needle seqno (items_in entries p))
 
--- what one by the index means: its block passes the check, and the answer is by the handle at which the seek stops
+-- what a result by the index means: its block passes the check, and the result is by the handle at which the seek stops
 abbrev pub IndexMeans : Hashes → List ℕ → HandleParts → List ℕ → ℕ → Option Entry → Type 0
 IndexMeans c bytes h needle seqno answer =
     (p : List ℕ) × IsFramedAt c types.Index bytes h p × IndexPasses (trailer_in p).interval p
     × BlockMeans c bytes (handle_for handles needle seqno (items_in handles p)) needle seqno answer
 
--- what an answer on any bytes means: the filter denies the needle and there is none, or it allows it and the answer is by the index
+-- what a result on any bytes means: the filter rules the needle out and there is none, or it allows it and the result
+-- is by the index
 abbrev pub AnswerMeans : Hashes → List ℕ → RunHandles → List ℕ → ℕ → Option Entry → Type 0
 AnswerMeans c bytes h needle seqno answer =
     (FilterDenies c bytes h.filter needle × (answer ≡ None)) ⊎ (FilterAllows c bytes h.filter needle × IndexMeans c bytes h.index needle seqno answer)

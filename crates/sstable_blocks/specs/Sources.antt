@@ -1,10 +1,11 @@
--- How a clause says that a call over a source of frames answers exactly this, where an allocation or the source may fail.
+-- How a clause says that a call over a source of frames returns exactly this, where an allocation or the source may
+-- fail.
 use Rattle.std.specs.Prelude.{◌≡◌, ◌≢◌, ◌⊎◌, ◌≤◌, ℕ, Option, None, Some, Result, Ok, Err, List}
 use Rattle.sst_base.specs.BlockHandle.{HandleParts}
 use Rattle.sst_base.specs.declared.error.Error.{Error}
 use Rattle.sst_base.specs.declared.error.Error.TheVariants.{Memory, Io, BadHandle}
 
--- what is read, how often that failed, and how many frames were asked for
+-- what is read, how often that failed, and how many frames were requested
 pub record SourceParts (F : Type 0) : Type 0 where
   pub inner : F
   pub failures : ℕ
@@ -21,7 +22,7 @@ pub record KeepsSource {S : Type 0} (bytes : S → Option (List ℕ)) (failures 
 abbrev pub FailsAs : {Y : Type 0} → Type 0 → Type 0 → Result Y Error → Error → Type 0
 FailsAs failed reliable read e = e ≢ Memory → ((e ≡ Io) × failed × (reliable → read ≡ Err BadHandle)) ⊎ (read ≡ Err e)
 
--- an answer, seen by `view`, is exactly that of the reading, unless an allocation or the source failed
+-- a result, seen by `view`, is exactly that of the reading, unless an allocation or the source failed
 abbrev pub GivesOr : {X Y : Type 0} → Type 0 → Type 0 → (X → Y) → Result X Error → Result Y Error → Type 0
 GivesOr failed reliable view (Ok x) read = read ≡ Ok (view x)
 GivesOr failed reliable view (Err e) read = FailsAs failed reliable read e
@@ -37,7 +38,7 @@ abbrev pub IsRangeRead : {Y : Type 0} → Type 0 → Result Y Error → Result Y
 IsRangeRead over_memory (Ok y) range = range ≡ Ok y
 IsRangeRead over_memory (Err e) range = IsRangeRefused over_memory e range
 
--- how many frames are asked for a filter, if there is one
+-- how many frames are requested for a filter, if there is one
 abbrev pub filter_frames : Option HandleParts → ℕ
 filter_frames None = 0
 filter_frames (Some h) = 1

@@ -26,7 +26,7 @@ pub record Written : Type 0 where
   pub config : RunConfig
   pub blocks : List (List Entry)
 
--- and of a writer of runs, which has a writer of bytes of its own: also what it answers from now on, if anything,
+-- and of a writer of runs, which has a writer of bytes of its own: also the error that it returns from now on, if any,
 -- and the bytes that its writer held when it was made, if those are known
 pub record Writing (W : Type 0) : Type 0 where
   pub config : RunConfig
@@ -35,7 +35,8 @@ pub record Writing (W : Type 0) : Type 0 where
   pub start : Option (List ℕ)
   pub writer : W
 
--- what is kept of the blocks accepted: their handles, the hashes of their keys if there are bits for them, and where the next frame stands
+-- what is kept of the blocks accepted: their handles, the hashes of their keys if there are bits for them, and the
+-- offset of the next frame
 pub record IsKept (f : Form) (blocks : List (List Entry)) (hs : List Handle) (hashes : List ℕ) (next : ℕ) : Type 0 where
   pub interval : IsInterval f.config.restart_interval
   pub index_interval : IsInterval f.config.index_interval
@@ -66,7 +67,7 @@ pub record IsFramedBlock (f : Form) (at : ℕ) (block : List Entry) (text : List
   pub fits : FrameFits f at block
   pub valid : AllByRecursion IsEntry block
 
--- why a write is refused: the writer failed, or something does not fit, or memory was wanting
+-- why a write fails: the writer failed, something does not fit, or an allocation failed
 abbrev pub IsWriteRefusal : Type 0 → Error → Type 0
 IsWriteRefusal long e = (e ≡ Io) ⊎ ((e ≡ TooLong) × long) ⊎ (e ≡ Memory)
 
@@ -101,7 +102,8 @@ pub record Follows (blocks : List (List Entry)) (items : List Entry) : Type 0 wh
   pub some : IsNotEmpty items
   pub ordered : IsOrdered entries (joined (blocks ++ items ∷ []))
 
--- what a writer of runs keeps: a ratio that can be divided by, and before a refusal the frames of its blocks in its writer
+-- what a writer of runs keeps: a ratio whose denominator is not 0, and before an error the frames of its blocks in its
+-- writer
 pub record IsUnderWay (f : Form) (blocks : List (List Entry)) (refusal : Option Error) (start now : Option (List ℕ)) : Type 0 where
   pub den : 1 ≤ f.config.ratio.den
   pub frames : refusal ≡ None → Appends start now (block_frames f blocks)

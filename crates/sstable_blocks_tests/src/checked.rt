@@ -1,4 +1,4 @@
-// Checked reads of a worked run, whole, with a byte changed, and by other handles.
+// Checked reads of an example run, whole, with a byte changed, and by other handles.
 use crate::rows::{Row, check_rows};
 use crate::runs::{Places, THREE_BLOCKS, handles_of, value_of};
 use sst_base::{ByteSum, Error, HeaderName, Result, Slice, TagName};
@@ -7,7 +7,7 @@ use sstable_blocks::run::{FileSource, MemorySource, read_entry_checked};
 use std::alloc::Global;
 use std::io::Cursor;
 
-/// The handles of the worked run.
+/// The handles of the example run.
 const WORKED: Places = ((219, 90), Some((309, 59)));
 
 /// Reads (a, 3) from a run in memory.
@@ -18,7 +18,7 @@ fn read_memory(alloc: Global, bytes: &[u8], places: &Places) -> Result<Option<u8
     Ok(value_of(&found))
 }
 
-/// Reads (a, 3) from the file of the worked run.
+/// Reads (a, 3) from the file of the example run.
 fn read_file(alloc: Global, places: &Places) -> Result<Option<u8>> {
     let mut source = FileSource::new(Cursor::new(THREE_BLOCKS.as_slice()));
     let handles = handles_of(places);
@@ -52,7 +52,7 @@ fn is_wanted(read: &Result<Option<u8>>, at: usize, byte: u8) -> bool {
     }
 }
 
-/// Whether a read of the worked run with a byte changed is the wanted one.
+/// Whether a read of the example run with a byte changed is the wanted one.
 fn is_changed(alloc: Global, at: usize, byte: u8) -> bool {
     let mut bytes = THREE_BLOCKS;
     if let Some(place) = bytes.get_mut(at) {
@@ -71,8 +71,8 @@ fn each_byte_is_changed(rt: HostRuntime) {
     }
 }
 
-/// What is read of the first bytes of a run, so many: the first frame that is not inside is asked
-/// for by the filter's handle.
+/// The result of a read of the first `len` bytes of a run: the first frame that is not inside is
+/// the filter's, by its handle.
 fn cut_answer(len: usize) -> Result<Option<u8>> {
     if len < THREE_BLOCKS.len() {
         Err(Error::BadHandle)
@@ -81,7 +81,7 @@ fn cut_answer(len: usize) -> Result<Option<u8>> {
     }
 }
 
-/// Whether a read of the worked run, cut to a length or lengthened, is the wanted one.
+/// Whether a read of the example run, cut to a length or lengthened, is the wanted one.
 fn is_cut(alloc: Global, number: usize) -> Result<bool> {
     let bytes = changed(alloc, &THREE_BLOCKS, number)?;
     Ok(read_memory(alloc, &bytes, &WORKED) == cut_answer(bytes.len()))
@@ -106,7 +106,7 @@ enum Source {
     File,
 }
 
-/// A source, the index and the filter by which the worked run is read, and what is read.
+/// A source, the index and the filter by which the example run is read, and what is read.
 #[derive(Drop)]
 struct Handles(Source, Places, Result<Option<u8>>);
 

@@ -1,4 +1,4 @@
-// Checks of the whole worked run, in memory and in a file, with a byte changed, and by other
+// Checks of the whole example run, in memory and in a file, with a byte changed, and by other
 // handles; and reads from it as a table, and as a run that was checked.
 use crate::runs::{Places, THREE_BLOCKS, handles_of, value_of};
 use sst_base::{ByteSum, Error, Result, Slice, Steps};
@@ -7,10 +7,10 @@ use sstable_blocks::{CheckedRun, Table};
 use std::alloc::Global;
 use std::io::Cursor;
 
-/// The handles of the worked run.
+/// The handles of the example run.
 const WORKED: Places = ((219, 90), Some((309, 59)));
 
-/// Whether a summary is that of the worked run.
+/// Whether a summary is that of the example run.
 fn is_worked(summary: &RunSummary) -> bool {
     summary.blocks == 3
         && summary.entries == 3
@@ -38,7 +38,7 @@ fn worked_run_is_accepted(rt: HostRuntime) {
     assert!(rt; in_file.is_ok_and(|summary| is_worked(&summary)), "file");
 }
 
-/// Whether the worked run with a byte changed is refused.
+/// Whether the example run with a byte changed is refused.
 fn is_refused(alloc: Global, at: usize, byte: u8) -> bool {
     let mut bytes = THREE_BLOCKS;
     if let Some(place) = bytes.get_mut(at) {

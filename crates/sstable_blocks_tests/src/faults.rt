@@ -12,10 +12,10 @@ use sstable_blocks::run::{
 };
 use std::alloc::Global;
 
-/// The handles of the worked run.
+/// The handles of the example run.
 const WORKED: Places = ((219, 90), Some((309, 59)));
 
-/// Writes the worked run at once.
+/// Writes the example run at once.
 fn write_once(to: &mut SlowWriter, list: &[InternalValue]) -> Result<RunHandles> {
     let alloc = *to.taken.allocator();
     let config = RunConfig::new(1, NO_BUCKETS, 10);
@@ -25,7 +25,7 @@ fn write_once(to: &mut SlowWriter, list: &[InternalValue]) -> Result<RunHandles>
     write_run::<ByteSum, SlowWriter>(alloc, to, list, &[1, 2], config)
 }
 
-/// Writes the worked run block by block. After a block is refused, each further one is.
+/// Writes the example run block by block. After a block is refused, each further one is.
 fn write_blocks(to: &mut SlowWriter, list: &[InternalValue]) -> Result<RunHandles> {
     let alloc = *to.taken.allocator();
     let mut writer: RunWriter<ByteSum, &mut SlowWriter> = RunWriter::new(
@@ -74,7 +74,7 @@ const WAYS: [(Way, usize); 6] = [
     (Way::Source, 3),
 ];
 
-/// A source of frames in memory that counts the frames asked for, and fails at one.
+/// A source of frames in memory that counts the frames requested, and fails at one.
 #[derive(Drop)]
 struct FailingSource {
     inner: MemorySource,
@@ -113,7 +113,7 @@ fn read_from<H: BlockHash, S: FrameSource>(alloc: Global, source: &mut S) -> Res
 }
 
 /// What was written, or read: the value of (a, 3), if the writer took these bytes and the handles
-/// are those of the worked run.
+/// are those of the example run.
 fn see_written(written: Result<RunHandles>, to: &SlowWriter) -> (Result<Option<u8>>, usize) {
     let is_run = to.taken.as_slice() == THREE_BLOCKS.as_slice();
     let seen = match written {
@@ -124,8 +124,8 @@ fn see_written(written: Result<RunHandles>, to: &SlowWriter) -> (Result<Option<u
     (seen, to.calls)
 }
 
-/// Moves the worked run in a way, the call of this number failing: what is seen, and how many calls
-/// did not fail.
+/// Moves the example run in a way, the call of this number failing: what is seen, and how many
+/// calls did not fail.
 fn move_by(alloc: Global, way: Way, fails_at: usize) -> Result<(Result<Option<u8>>, usize)> {
     match way {
         Way::Once(failure) => {
@@ -181,7 +181,7 @@ const READS: [(&[u8], u64, Option<u8>); 5] = [
     (b"", 9, None),
 ];
 
-/// The worked run by the hash that is always 0.
+/// The example run by the hash that is always 0.
 fn run_without_hash(alloc: Global) -> Result<(Vec<u8>, RunHandles)> {
     let (list, config) = (list_of(alloc, THREE)?, RunConfig::new(1, NO_BUCKETS, 10));
     let mut bytes = Vec::new(alloc);
@@ -200,7 +200,7 @@ fn read_without_hash(alloc: Global, bytes: &[u8], key: &[u8], seqno: u64) -> Res
     Ok(value_of(&found))
 }
 
-/// Whether the run by the hash that is always 0 is read as the worked one; its filter has one bit;
+/// Whether the run by the hash that is always 0 is read as the example run; its filter has one bit;
 /// and a byte of an entry, which no checksum guards, is judged by the check.
 fn is_read_without_hash(alloc: Global) -> Result<bool> {
     let (mut bytes, handles) = run_without_hash(alloc)?;

@@ -109,8 +109,8 @@ fn payloads_are_read_or_refused(rt: HostRuntime) {
     check_rows(&rt, rt.alloc(), &PAYLOADS);
 }
 
-/// A number of keys, the bits for each, the hash inserted, and the numbers of bits and of probes and
-/// the bits of the filter.
+/// A number of keys, the bits for each, the hash inserted, and the numbers of bits and of probes
+/// and the bits of the filter.
 #[derive(Drop)]
 struct Built(usize, u32, Option<u64>, u8, u8, &'static [u8]);
 

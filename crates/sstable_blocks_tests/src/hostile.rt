@@ -1,4 +1,4 @@
-// Filters beside worked ones: each byte changed to each other value, cut before each byte, and
+// Example filters: each byte changed to each other value, cut before each byte, and
 // lengthened. What is wanted comes from a decoder written by the format.
 use crate::filter::{ONE_KEY, THREE_KEYS};
 use sst_base::{Error, HeaderName, Result, TagName};
@@ -58,7 +58,7 @@ fn has_probes(payload: &[u8], m: u64, k: u64, hash: u64) -> bool {
 /// Hashes of all lengths.
 const HASHES: [u64; 6] = [0, 97, 98, 4294967296, 0x0123_4567_89ab_cdef, u64::MAX];
 
-/// Whether a payload is read, with an answer to each hash, or refused by the format.
+/// Whether a payload is read, with a result for each hash, or refused by the format.
 fn is_by_format(payload: &[u8]) -> bool {
     let wanted = numbers_in(payload);
     let reader = match StandardBloomFilterReader::new(payload) {

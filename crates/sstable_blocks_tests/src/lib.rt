@@ -1,5 +1,5 @@
-//! Tests of filters and runs by the public calls of `sstable_blocks`: what no clause says, as values
-//! from outside, and that a call succeeds where memory is ample.
+//! Tests of filters and runs by the public calls of `sstable_blocks`: what no clause says, as
+//! values from outside, and that a call succeeds where memory is ample.
 #![tactic(auto)]
 
 #[cfg(test)]

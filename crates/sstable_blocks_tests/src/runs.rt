@@ -1,4 +1,4 @@
-// Worked runs: their bytes, their handles, and what is read from them.
+// Example runs: their bytes, their handles, and what is read from them.
 use crate::lists::{NO_BUCKETS, can_be_written, push};
 use crate::rows::{Row, check_rows};
 use sst_base::{BlockHandle, BlockOffset, ByteSum, Error, InternalValue, Result, ValueType};
@@ -62,7 +62,7 @@ const ONE_BLOCK: [u8; 159] = [
 /// An entry: a key, a value and a sequence number.
 pub(crate) type Entry = (&'static [u8], &'static [u8], u64);
 
-/// The entries of the worked runs.
+/// The entries of the example runs.
 pub(crate) const THREE: &[Entry] = &[(b"a", b"x", 3), (b"a", b"y", 1), (b"b", b"z", 4)];
 
 /// Two entries that compare equal.
@@ -118,7 +118,7 @@ pub(crate) fn handles_of(places: &Places) -> RunHandles {
     RunHandles { index, filter }
 }
 
-/// Some of the worked bytes: all of them, and the offsets between which they are.
+/// Some of the example bytes: all of them, and the offsets between which they are.
 type Part = (&'static [u8], usize, usize);
 
 /// Entries, cuts and a form, the handles of the run or an error, and the bytes of the run in parts.
@@ -260,7 +260,7 @@ fn runs_are_read(rt: HostRuntime) {
     check_rows(&rt, rt.alloc(), &READ);
 }
 
-/// Takes bytes as long as there is room, and then fails.
+/// Takes bytes up to its capacity, and then fails.
 #[derive(Drop)]
 struct Room {
     taken: Vec<u8>,
@@ -286,9 +286,9 @@ impl Write for Room {
     }
 }
 
-/// The room of a writer, what is answered as each of the three entries is added as a block, the
-/// number of blocks then, and what is answered at the end. The writer took as many bytes of the
-/// worked run as it has room for.
+/// The capacity of a writer, what is returned as each of the three entries is added as a block, the
+/// number of blocks then, and what is returned at the end. The writer took as many bytes of the
+/// example run as its capacity allows.
 #[derive(Drop)]
 struct Added(usize, [Result<()>; 3], usize, Result<Places>);
 
@@ -357,7 +357,8 @@ const NEXT: [Next; 6] = [
     Next(BZ, &[(b"c", b"w", 9)], true),
 ];
 
-/// Adds a block, if it fits at the start: the number of blocks then, and whether another fits after.
+/// Adds a block, if it fits at the start: the number of blocks then, and whether another fits
+/// after.
 fn add_one(alloc: Global, first: &[InternalValue], next: &[InternalValue]) -> (usize, bool) {
     let mut writer: RunWriter<ByteSum, _> = RunWriter::new(
         alloc,
@@ -383,7 +384,7 @@ fn blocks_fit_behind_the_last(rt: HostRuntime) {
     check_rows(&rt, rt.alloc(), &NEXT);
 }
 
-/// A length, the places of cuts, and whether they fit.
+/// A length, the indexes of cuts, and whether they fit.
 #[derive(Drop)]
 struct Cuts(usize, &'static [usize], bool);
 

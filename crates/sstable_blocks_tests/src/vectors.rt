@@ -1,4 +1,4 @@
-//! Worked values of the definitions that contracts cite. Each function states some, and does
+//! Example values of the definitions that contracts cite. Each function states some, and does
 //! nothing.
 ghost use Rattle.std.specs.Prelude.{◌≡◌, [], ◌∷◌, map, Ok, Err};
 ghost use Rattle.sst_base.specs.declared.error.Error.TheVariants.{Truncated, InvalidHeader};

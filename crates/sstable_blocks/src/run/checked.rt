@@ -225,8 +225,8 @@ fn read_in_stages<H: BlockHash, S: FrameSource>(
 /// (`FrameSource::read_frame`, `Block::from_frame`), `Error::InvalidTag` if it is of another type,
 /// and those of `StandardBloomFilterReader::new`; then for the index those of its frame, its type,
 /// and `IndexBlock::check_once`; then for the block those of its frame, its type, and
-/// `DataBlock::check_once`. `Error::Io` only where the source failed. `Error::Memory` if an allocation
-/// fails.
+/// `DataBlock::check_once`. `Error::Io` only where the source failed. `Error::Memory` if an
+/// allocation fails.
 pub fn read_entry_checked<H: BlockHash, S: FrameSource>(
     alloc: Global,
     source: &mut S,

@@ -103,7 +103,7 @@ impl<H: BlockHash> CheckedRun<H> {
         read_entry::<H>(alloc, &self.bytes, &self.handles, needle, seqno, steps)
     }
 
-    /// Tells a proof that the run is sound. Does nothing.
+    /// States in a proof that the run is sound. Does nothing.
     pub fn note_sound(&self)
         ensures { (blocks : List (List Entry))
             × IsSound (hashes H.hash64 H.hash128) blocks self.now.bytes self.now.handles }

@@ -69,7 +69,7 @@ impl Passed {
         }
     }
 
-    // The summary of so many blocks.
+    // The summary of this number of blocks.
     fn summary(self, blocks: usize) -> Result<RunSummary>
         ensures ok { IfOk result (λ s. s ≡ summary_by blocks self) }
         ensures memory { IsOkUnless result Error.Memory }
@@ -311,7 +311,7 @@ fn check_in_stages<H: BlockHash, S: FrameSource>(
     }
 }
 
-// Tells a proof that the size of a filter's frame has 32 bits.
+// States in a proof that the size of a filter's frame has 32 bits.
 fn note_size(filter: &Option<BlockHandle>)
     ensures { IfSome filter.now (λ h. h.size < 2 ^ 32) }
 {

@@ -67,7 +67,7 @@ pub fn layout_is_sound()
 {}
 
 /// What a reader finds in a sound run: an index with a handle for each block, the blocks where
-/// these say, and a filter that denies no key of the run.
+/// these say, and a filter that rules out no key of the run.
 pub fn sound_opens()
     ensures { (c : Hashes) (blocks : List (List Entry)) (bytes : List ℕ) (h : RunHandles)
         → IsSound c blocks bytes h → Opened c.hash64 blocks bytes h }
@@ -77,7 +77,7 @@ pub fn sound_opens()
     first_match_of_plain();
 }
 
-/// How little a read of a layout looks at, by its configuration.
+/// How little a read of a layout examines, by its configuration.
 pub fn layout_costs()
     ensures { (f : Form) (blocks : List (List Entry)) (bytes : List ℕ) (h : RunHandles)
         (needle : List ℕ) (seqno : ℕ)

@@ -159,7 +159,7 @@ fn match_in<H: BlockHash>(
 /// their payloads are sub-slices of the bytes.
 ///
 /// The filter is queried first. Where it rules the key out, nothing else is read. Else the index
-/// leads to the one block that can hold the key. What was looked at is added to `steps`: at least a
+/// leads to the one block that can hold the key. What is examined is added to `steps`: at least a
 /// head of the index, and at most as many heads as the numbers of heads of the index and of the
 /// block have binary digits; one handle, and those of a restart interval of the index where not
 /// each handle is a head; and the entries of a restart interval of the block, and one more.

@@ -13,8 +13,8 @@ use sst_base::{BlockHash, InternalValue, Result, SeqNo, Slice, Steps};
 use std::alloc::Global;
 
 /// Writes a run into memory, and reads the first entry with this key whose sequence number is
-/// strictly below `seqno`: it is that of these entries, however they are cut, and however
-/// the run is configured. The conditions are those of `write_run`.
+/// strictly below `seqno`: it is the first match of these entries, however they are cut, and
+/// however the run is configured. The conditions are those of `write_run`.
 ///
 /// # Errors
 ///

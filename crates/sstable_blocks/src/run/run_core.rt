@@ -48,7 +48,7 @@ pub(crate) struct RunCore<H: BlockHash> {
     handles: Vec<KeyedBlockHandle>,
     hashes: Vec<u64>,
     offset: u64,
-    // The payload of the last block, kept for its room.
+    // The payload of the last block, kept for its capacity.
     payload: Vec<u8>,
     accepted: History<LinkedList<InternalValue>>,
 }
@@ -116,8 +116,9 @@ impl<H: BlockHash> RunCore<H> {
         self.handles.len()
     }
 
-    /// Writes one more block, not empty and ordered after the blocks before. All growths of its
-    /// own come before the first byte. The denominator of the ratio is at least 1.
+    /// Writes one more block, not empty and ordered after the blocks before. All its own
+    /// allocations come before the first byte is written. The denominator of the ratio is at least
+    /// 1.
     ///
     /// # Errors
     ///
@@ -327,7 +328,7 @@ fn hashed_items<'a>(items: &'a [InternalValue], config: &RunConfig) -> &'a [Inte
     if config.bits_per_key == 0 { &[] } else { items }
 }
 
-// Keeps the hashes of the keys of entries, for which there is room.
+// Keeps the hashes of the keys of entries, for which there is capacity.
 fn push_hashes<H: BlockHash>(hashes: &mut Vec<u64>, items: &[InternalValue])
     requires { vec_len hashes.old + length items.now ≤ vec_capacity hashes.old }
     ensures { hashes.new.items ≡ hashes.old.items ++ key_hashes H.hash64 items.now }

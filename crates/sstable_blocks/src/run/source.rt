@@ -14,8 +14,8 @@ use std::marker::Model;
 
 /// Where the frames of a run are read from.
 ///
-/// Clauses see the bytes, if they are known, how often the source failed, and how many frames it
-/// was asked for. A reliable source, as one over memory, fails only at a range that is not inside.
+/// Clauses see the bytes, if they are known, how often the source failed, and how many frames were
+/// requested. A reliable source, as one over memory, fails only at a range that is not inside.
 pub trait FrameSource {
     // the bytes of the source, if they are known
     ghost bytes: { Self → Option (List ℕ) };
@@ -23,7 +23,7 @@ pub trait FrameSource {
     // how often the source failed
     ghost failures: { Self → ℕ };
 
-    // how many frames it was asked for
+    // how many frames were requested
     ghost reads: { Self → ℕ };
 
     // does it fail only at a range that is not inside?
@@ -90,7 +90,7 @@ impl MemorySource {
         self.bytes
     }
 
-    // Tells a proof that memory never fails.
+    // States in a proof that memory never fails.
     pub(crate) fn note_reliable(&self)
         ensures { self.now.failures ≡ 0 }
     {
@@ -126,7 +126,7 @@ impl FrameSource for MemorySource {
 /// A run in a file, or in anything else that can be read and moved.
 ///
 /// Clauses see the file, with its bytes where they are known, how often it failed, and how many
-/// frames it was asked for.
+/// frames were requested.
 #[derive(Drop)]
 pub struct FileSource<F> {
     file: F,
@@ -177,7 +177,7 @@ impl<F: SeekInput> FrameSource for FileSource<F> {
     }
 }
 
-// Refuses the range of a handle that ends at 2^64 or above, and one of no bytes behind the end.
+// Refuses the range of a handle that ends at 2^64 or above, and one of no bytes after the end.
 fn check_range<F: SeekInput>(file: &mut F, handle: &BlockHandle) -> Result<()>
     ensures whole { F.whole file.new ≡ F.whole file.old }
     ensures kept { F.is_memory file.old → F.is_memory file.new }

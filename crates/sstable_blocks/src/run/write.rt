@@ -1,4 +1,4 @@
-//! Writing a run whose entries are all at hand.
+//! Writing a run whose entries are all in memory.
 ghost use Rattle.std.specs.Prelude.{◌↔◌, ◌≤◌, length, IsTrue, IfOk};
 ghost use Rattle.std.specs.Prelude.{IfErr};
 ghost use Rattle.sst_block_core.specs.Entries.{entries};
@@ -15,9 +15,9 @@ use sst_base::{BlockHash, InternalValue, Result};
 use std::alloc::Global;
 use std::io::Write;
 
-/// Returns whether a list of this length can be cut at these places into blocks that are not empty:
-/// they rise strictly, and are at least 1 and below the length. No cuts fit every list; one that is
-/// not empty is then one block.
+/// Returns whether a list of this length can be cut at these indexes into blocks that are not
+/// empty: they rise strictly, and are at least 1 and below the length. No cuts fit every list; one
+/// that is not empty is then one block.
 pub fn cuts_fit(len: usize, cuts: &[usize]) -> bool
     ensures { IsTrue result ↔ CutsFit 0 len cuts.now }
 {
@@ -32,7 +32,8 @@ pub fn cuts_fit(len: usize, cuts: &[usize]) -> bool
 }
 
 /// Writes a run: an ordered list of entries, at least one, cut into blocks where `cuts` says. The
-/// frames of the blocks come first, then that of the index, then, if there are bits for it, that of the filter.
+/// frames of the blocks come first, then that of the index, then, if there are bits for it, that of
+/// the filter.
 ///
 /// Both intervals and the denominator of the ratio are at least 1. See [`cuts_fit`] and
 /// `DataBlock::is_ordered`.
@@ -41,8 +42,8 @@ pub fn cuts_fit(len: usize, cuts: &[usize]) -> bool
 ///
 /// `Error::TooLong` only where a payload has more than 4294967262 bytes, the filter more than
 /// 34359737920 bits, or all frames 2^64 bytes or more; `Error::Memory` if an allocation fails;
-/// `Error::Io` if the writer fails, as a vector does that finds no memory. The writer may then hold
-/// a part of the run.
+/// `Error::Io` if the writer fails, as a vector does whose allocation fails. The writer may then
+/// hold a partial write of the run.
 pub fn write_run<H: BlockHash, W: Write>(
     alloc: Global,
     writer: &mut W,

@@ -78,7 +78,7 @@ impl Checkable<DataBlockParsedItem> for InternalValue {
 
 impl<H: BlockHash> DataBlock<H> {
     /// Checks a block of any bytes as [`DataBlock::check`] does, but only borrows it. Returns the
-    /// number of its entries. A block that passes is one that [`DataBlock::new`] takes.
+    /// number of its entries. A block that passes meets the precondition of [`DataBlock::new`].
     ///
     /// # Errors
     ///

@@ -17,7 +17,7 @@ use sst_block_core::table::block::reading::{
     read_number, read_value_type, value_type_from,
 };
 
-// The range of a value at an offset, which a tombstone has not, and where it ends.
+// The range of the value at an offset (none for a tombstone), and the offset after it.
 #[inline(always)]
 fn value_from(
     payload: &[u8],
@@ -49,7 +49,7 @@ pub(super) struct TruncatedForm {
     pub(super) value: Option<SliceIndexes>,
 }
 
-// The truncated form at an offset, whatever its head, and where it ends.
+// The truncated form at an offset, whatever its head, and the offset after it.
 #[inline(always)]
 #[tactic(auto, unfolding(sst_block_core::specs::Entries::truncated_form_at))]
 pub(super) fn truncated_form_from(payload: &[u8], offset: usize) -> Option<(TruncatedForm, usize)>
@@ -98,7 +98,7 @@ pub(super) fn entry_prefix_from(
     prefix_from(payload, base, shared, rest)
 }
 
-// The same for a length that the head's key has.
+// The same for a length that is at most the length of the head's key.
 #[inline(always)]
 pub(super) fn entry_prefix_within(
     payload: &[u8],
@@ -120,7 +120,7 @@ pub(super) fn entry_prefix_within(
     prefix_within(payload, base, shared, rest)
 }
 
-// The range of the value at an offset, which a tombstone has not, and where it ends.
+// The range of the value at an offset (none for a tombstone), and the offset after it.
 #[inline(always)]
 fn read_value(payload: &[u8], at: usize, value_type: ValueType) -> (Option<SliceIndexes>, usize)
     requires inside { at ≤ length payload.now }
@@ -138,7 +138,7 @@ fn read_value(payload: &[u8], at: usize, value_type: ValueType) -> (Option<Slice
     }
 }
 
-// The entry whose full form is at an offset, and where the form ends.
+// The entry whose full form is at an offset, and the offset after the form.
 #[inline(always)]
 #[tactic(auto, using(sst_block_core::specs::FoundLaws::range_some, sst_block_core::specs::FoundLaws::range_stands), unfolding(sst_block_core::specs::Entries::full_at))]
 fn full_form_from(payload: &[u8], offset: usize) -> Option<(DataBlockParsedItem, usize)>
@@ -168,7 +168,7 @@ fn full_form_from(payload: &[u8], offset: usize) -> Option<(DataBlockParsedItem,
     Some((item, end))
 }
 
-// The entry whose full form is at an offset, and where the form ends.
+// The entry whose full form is at an offset, and the offset after the form.
 #[inline(always)]
 fn read_full_form(payload: &[u8], offset: usize) -> (DataBlockParsedItem, usize)
     requires { IsSome (full_at (drop offset payload.now)) }
@@ -192,7 +192,7 @@ fn read_full_form(payload: &[u8], offset: usize) -> (DataBlockParsedItem, usize)
     (item, end)
 }
 
-// The truncated form at an offset, whatever its head, and where it ends.
+// The truncated form at an offset, whatever its head, and the offset after it.
 #[inline(always)]
 fn read_truncated_form(payload: &[u8], offset: usize) -> (TruncatedForm, usize)
     requires { IsSome (truncated_form_at (drop offset payload.now)) }

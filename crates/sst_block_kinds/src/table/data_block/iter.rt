@@ -27,7 +27,7 @@ use std::marker::Model;
 ///
 /// Clauses see the payload, the restart interval, a window over the entries, and the counters.
 /// Every call, at any moment, is a step of the window: a seek moves its own end, wherever that was,
-/// and leaves the other. No step takes memory.
+/// and leaves the other end. No step takes memory.
 #[derive(Drop)]
 pub struct Iter<'a> {
     decoder: Decoder<'a, InternalValue, DataBlockParsedItem>,
@@ -63,7 +63,7 @@ impl<'a> Iter<'a> {
     }
 
     /// Moves the front to the first entry whose key is at least the needle. Returns whether an
-    /// entry is left, and the first has the needle as its key.
+    /// entry is left and the first one has the needle as its key.
     pub fn seek(&mut self, needle: &[u8]) -> bool
         ensures step { GivesStep self.old self.new (found result)
             (seek entries needle.now self.old.window) }
@@ -92,7 +92,7 @@ impl<'a> Iter<'a> {
     }
 
     /// Moves the back after the last entry whose key is at most the needle. Returns whether an
-    /// entry is left, and the last has the needle as its key.
+    /// entry is left and the last one has the needle as its key.
     pub fn seek_upper(&mut self, needle: &[u8]) -> bool
         ensures step { GivesStep self.old self.new (found result)
             (seek_upper entries needle.now self.old.window) }
@@ -159,8 +159,8 @@ impl<'a> Iterator for Iter<'a> {
     }
 }
 
-/// Returns the last entry, if one is left. Counts an entry for an item, and those of its interval
-/// where it is the last of it.
+/// Returns the last entry, if one is left. Counts an entry for an item, and the entries of its
+/// interval where the item is the last of its interval.
 impl<'a> DoubleEndedIterator for Iter<'a> {
     ghost next_back_gives = { λ s r t. GivesNextBack entry_of IsParsedEntry s r t };
 

@@ -174,7 +174,7 @@ impl<H: BlockHash> DataBlock<H> {
         Ok(writer)
     }
 
-    /// Takes a block whose payload is the encoding of some ordered, non-empty list of entries.
+    /// Wraps a block whose payload is the encoding of some ordered, non-empty list of entries.
     /// Takes no memory.
     pub fn new(block: Block) -> DataBlock<H>
         requires { (items : List Entry) × (r : ℕ) × (b : ℕ)
@@ -196,13 +196,14 @@ impl<H: BlockHash> DataBlock<H> {
         }
     }
 
-    /// Makes the table of the block's heads: searches then compare numbers of the table, and look at
-    /// the payload only where these are equal. It pays for a block that is kept and searched more
-    /// than once, as an index or a cached block. 40 bytes a head.
+    /// Makes the table of the block's heads: searches then compare numbers of the table, and
+    /// examine the payload only where these are equal. It pays for a block that is kept and
+    /// searched more than once, such as an index or a cached block. The table has 40 bytes for each
+    /// head.
     ///
     /// # Errors
     ///
-    /// `Error::Memory` if an allocation fails, beside the block as it was.
+    /// `Error::Memory` if an allocation fails, with the unchanged block.
     pub fn with_heads(
         self,
         alloc: Global,
@@ -230,20 +231,21 @@ impl<H: BlockHash> DataBlock<H> {
         self.heads.as_ref()
     }
 
-    /// Takes a block of any bytes, if its payload is the encoding of some ordered, non-empty list
-    /// of entries, and makes the table of its heads, as [`DataBlock::with_heads`] does. Takes memory
-    /// for the table, and where buckets are stored for the buckets and for the longest truncated
-    /// key. [`DataBlock::check_once`] makes no table: for a block that is read once.
+    /// Wraps a block of any bytes, if its payload is the encoding of some ordered, non-empty list
+    /// of entries, and makes the table of its heads, as [`DataBlock::with_heads`] does. Allocates
+    /// for the table, and where buckets are stored also for the buckets and for the longest
+    /// truncated key. For a block that is read once use [`DataBlock::check_once`], which makes no
+    /// table.
     ///
     /// # Errors
     ///
-    /// That of the first of these stages that fails. `Error::Truncated` if the payload has fewer
-    /// than 31 bytes; `Error::BadTrailer` if the numbers of the trailer do not fit each other and
-    /// the payload; `Error::BadEntry` if the body is not as many entries in their forms, and
-    /// nothing else; `Error::OutOfOrder` if an entry sorts before its predecessor;
-    /// `Error::BadIndex` if a pointer is not the offset of its head, or the pointer width not the
-    /// least; `Error::BadHashIndex` if a bucket is not that of the entries. `Error::Memory` if an
-    /// allocation fails.
+    /// The error of the first of these stages that fails. `Error::Truncated` if the payload has
+    /// fewer than 31 bytes; `Error::BadTrailer` if the numbers of the trailer are not consistent
+    /// with each other and the payload; `Error::BadEntry` if the body is not as many entries in
+    /// their forms as the trailer says, and nothing else; `Error::OutOfOrder` if an entry sorts
+    /// before its predecessor; `Error::BadIndex` if a pointer is not the offset of its head, or the
+    /// pointer width is not the smallest that suffices; `Error::BadHashIndex` if a bucket is not
+    /// the bucket of the entries. `Error::Memory` if an allocation fails.
     pub fn check(alloc: Global, block: Block) -> Result<DataBlock<H>>
         ensures checked { IfOk result (λ b. data_check H.hash64 block.payload ≡ Ok b.items) }
         ensures parts { IfOk result (λ b. b ≡ data_block_of block) }
@@ -267,8 +269,8 @@ impl<H: BlockHash> DataBlock<H> {
         })
     }
 
-    /// Takes a block of any bytes as [`DataBlock::check`] does, and makes no table of its heads: for a
-    /// block that is read once. Takes memory where buckets are stored.
+    /// Wraps a block of any bytes as [`DataBlock::check`] does, and makes no table of its heads:
+    /// for a block that is read once. Allocates where buckets are stored.
     ///
     /// # Errors
     ///
@@ -313,14 +315,14 @@ impl<H: BlockHash> DataBlock<H> {
         &self.inner
     }
 
-    /// Gives the block back, with its header.
+    /// Returns the block, with its header, by value.
     pub fn into_inner(self) -> Block
         ensures { result ≡ block_of self }
     {
         self.inner
     }
 
-    // The block, and what its trailer says.
+    // The block, with what its trailer says.
     fn opened(&self) -> &Block
         ensures payload { result.now.payload ≡ self.now.payload }
         ensures trailer { 31 ≤ length self.now.payload }
@@ -349,8 +351,8 @@ impl<H: BlockHash> DataBlock<H> {
         Trailer::new(self.opened()).heads()
     }
 
-    /// Returns where the form of a head begins, by the head's pointer in the binary index: an offset
-    /// that [`Iter::seek_to_offset`] takes.
+    /// Returns the offset at which the form of a head begins, by the head's pointer in the binary
+    /// index: an offset that may be passed to [`Iter::seek_to_offset`].
     pub fn head_offset(&self, index: usize) -> usize
         requires { index < head_count self.now.interval (length self.now.items) }
         ensures value { result
@@ -421,8 +423,8 @@ impl<H: BlockHash> DataBlock<H> {
         Ok(all)
     }
 
-    // Makes the entry that a read found. Out of line, since a read that finds none needs no place
-    // for an entry.
+    // Makes the entry that a read returns. It is not inlined, so that a read without a match needs
+    // no space for an entry.
     #[inline(never)]
     fn found(&self, alloc: Global, item: &DataBlockParsedItem) -> Result<Option<InternalValue>>
         requires { IsParsedEntry self.now.payload item.now }
@@ -435,14 +437,14 @@ impl<H: BlockHash> DataBlock<H> {
     /// Returns the first entry with this key whose sequence number is strictly below `seqno`. A
     /// tombstone has no value.
     ///
-    /// What was looked at is added to `steps`. Where the hash index says that the key is not there,
-    /// that is nothing; where it gives a restart interval, at least one entry and at most those of
-    /// the interval; else at least one head and at most as many as their number has binary digits,
-    /// and at most the entries of one interval and one more.
+    /// What is examined is added to `steps`. Where the hash index says that the key is not in the
+    /// block, that is nothing. Where it gives a restart interval, that is at least one entry and at
+    /// most the entries of the interval. Else it is at least one head and at most as many heads as
+    /// their number has binary digits, and at most the entries of one interval and one more.
     ///
     /// # Errors
     ///
-    /// `Error::Memory` if an allocation fails, and only where there is such an entry.
+    /// `Error::Memory` if an allocation fails, which is possible only where there is such an entry.
     pub fn point_read(
         &self,
         alloc: Global,

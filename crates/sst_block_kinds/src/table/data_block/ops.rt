@@ -1,4 +1,4 @@
-//! Lists of seeks and steps over a data block, answered one after the other.
+//! Lists of seeks and steps over a data block, performed one after the other.
 ghost use Rattle.std.specs.Prelude.{◌≡◌, map, IfOk, IsOk, IsOkUnless, []};
 ghost use Rattle.sst_block_core.specs.Window.{answers, whole};
 ghost use Rattle.sst_block_kinds.specs.Answers.{answer_of, Performs};
@@ -27,7 +27,7 @@ pub enum Op {
     SeekUpperExclusive(Slice),
 }
 
-// Does one operation.
+// Performs one operation.
 fn perform(
     alloc: Global,
     iter: &mut Iter<'_>,
@@ -51,12 +51,12 @@ fn perform(
     }
 }
 
-/// Does a list of operations, one after the other, with a new iterator over a block, and returns
-/// their answers.
+/// Performs a list of operations, one after the other, with a new iterator over a block, and
+/// returns their results.
 ///
 /// # Errors
 ///
-/// `Error::Memory` if an allocation fails, which needs an operation.
+/// `Error::Memory` if an allocation fails, which is possible only where there is an operation.
 pub fn walk<H: BlockHash>(
     alloc: Global,
     block: &DataBlock<H>,

@@ -48,8 +48,8 @@ impl<H: BlockHash> DataBlock<H> {
         Intervals::with_table(&self.inner, self.heads.as_ref())
     }
 
-    /// Finds the first entry with a key whose sequence number is strictly below `seqno`. What was
-    /// looked at is added to `steps`.
+    /// Finds the first entry with a key whose sequence number is strictly below `seqno`. What is
+    /// examined is added to `steps`.
     #[inline(always)]
     pub(crate) fn find_version(
         &self,

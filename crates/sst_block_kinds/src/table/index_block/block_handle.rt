@@ -1,4 +1,4 @@
-//! Handles of blocks with the end key of their block, which an index block holds.
+//! Block handles with the end key of their block, which are the items of an index block.
 ghost use Rattle.std.specs.Prelude.{◌≡◌, ◌+◌, ◌≤◌, ◌<◌, ◌^◌, length};
 ghost use Rattle.std.specs.Prelude.{nat_eq};
 ghost use Rattle.std.specs.Cmp.Lexicographic.{pointwise, nat_list_eq_equiv};
@@ -79,7 +79,7 @@ impl KeyedBlockHandle {
         self.seqno
     }
 
-    /// Moves the block by a number of bytes towards the end of its file. The sum is below 2^64.
+    /// Adds a number of bytes to the block's offset. The sum is below 2^64.
     pub fn shift(&mut self, delta: BlockOffset)
         requires { self.old.offset + delta.0 < 2 ^ 64 }
         ensures offset { self.new.offset ≡ self.old.offset + delta.0 }

@@ -69,8 +69,8 @@ impl Checkable<IndexBlockParsedItem> for KeyedBlockHandle {
 
 impl IndexBlock {
     /// Checks a block of any bytes as [`IndexBlock::check`] does, but only borrows it. Returns the
-    /// number of its handles. Takes no memory. A block that passes is one that [`IndexBlock::new`]
-    /// takes.
+    /// number of its handles. Takes no memory. A block that passes meets the precondition of
+    /// [`IndexBlock::new`].
     ///
     /// # Errors
     ///

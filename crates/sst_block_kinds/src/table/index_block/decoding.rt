@@ -17,7 +17,7 @@ use sst_block_core::table::block::reading::{
     length_prefixed_from, number_from, prefix_from, read_length_prefixed, read_number,
 };
 
-// What a form says before its end key.
+// The fields of a form before its end key.
 #[derive(Clone, Copy)]
 pub(super) struct HandleFields {
     pub(super) offset: u64,
@@ -51,7 +51,7 @@ impl HandleFields {
     }
 }
 
-// Where the marker at an offset ends, if it is that of a handle.
+// The offset after the marker at an offset, if it is the marker of a handle.
 #[inline(always)]
 fn marker_from(payload: &[u8], at: usize) -> Option<usize>
     requires { at ≤ length payload.now }
@@ -66,7 +66,7 @@ fn marker_from(payload: &[u8], at: usize) -> Option<usize>
     Some(at + 1)
 }
 
-// The fields of a handle at an offset, and where they end.
+// The fields of a handle at an offset, and the offset after them.
 #[inline(always)]
 #[tactic(auto, unfolding(crate::specs::Handles::fields_at))]
 pub(super) fn fields_from(payload: &[u8], at: usize) -> Option<(HandleFields, usize)>
@@ -85,7 +85,7 @@ pub(super) fn fields_from(payload: &[u8], at: usize) -> Option<(HandleFields, us
     Some((fields, end))
 }
 
-// The handle whose full form is at an offset, and where the form ends.
+// The handle whose full form is at an offset, and the offset after the form.
 #[inline(always)]
 #[tactic(auto, using(crate::proofs::HandleReads::full_no_front, crate::proofs::HandleReads::full_no_key))]
 fn full_form_from(payload: &[u8], offset: usize) -> Option<(IndexBlockParsedItem, usize)>
@@ -103,7 +103,7 @@ fn full_form_from(payload: &[u8], offset: usize) -> Option<(IndexBlockParsedItem
     Some((fields.with_key(None, key), end))
 }
 
-// The fields of a handle at an offset, and where they end.
+// The fields of a handle at an offset, and the offset after them.
 #[inline(always)]
 fn read_fields(payload: &[u8], at: usize) -> (HandleFields, usize)
     requires { IsSome (fields_at (drop at payload.now)) }

@@ -22,8 +22,8 @@ impl BlockItem for KeyedBlockHandle {
     ghost is_kind = { IsKind-handles };
 }
 
-// Puts what precedes an end key after the first `at` bytes, where there is room for it. Returns the
-// length with it.
+// Writes what precedes an end key after the first `at` bytes, where there is capacity for it.
+// Returns the length with it.
 #[inline(always)]
 #[tactic(auto, unfolding(crate::specs::Handles::fields))]
 fn put_fields(form: &mut [u8], at: usize, item: &KeyedBlockHandle) -> usize

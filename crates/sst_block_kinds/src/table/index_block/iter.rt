@@ -26,8 +26,8 @@ use std::marker::Model;
 ///
 /// Clauses see the payload, the restart interval, a window over the handles, and the counters.
 /// Every call, at any moment, is a step of the window: a seek moves its own end, wherever that was,
-/// and leaves the other. The handle that a seek decodes is held for the next step. No step takes
-/// memory.
+/// and leaves the other end. The handle that a seek decodes is held for the next step. No step
+/// takes memory.
 #[derive(Drop)]
 pub struct Iter<'a> {
     decoder: Decoder<'a, KeyedBlockHandle, IndexBlockParsedItem>,
@@ -71,8 +71,8 @@ impl<'a> Iter<'a> {
     }
 
     /// Moves the front to the first handle that can lead to the needle below the sequence number:
-    /// it passes over end keys below the needle, and those equal to it whose sequence number is at
-    /// least `seqno`. Returns whether there is such a handle in the block, wherever the back is.
+    /// it passes over end keys below the needle, and over those equal to it whose sequence number
+    /// is at least `seqno`. Returns whether the block has such a handle, wherever the back is.
     #[inline(always)]
     pub fn seek(&mut self, needle: &[u8], seqno: SeqNo) -> bool
         ensures step { GivesStep self.old self.new (found result)
@@ -91,7 +91,7 @@ impl<'a> Iter<'a> {
     }
 
     /// Moves the back after the first handle whose end key is above the needle, or after the last
-    /// handle. Returns `true`. The sequence number is not looked at.
+    /// handle. Returns `true`. The sequence number is not examined.
     pub fn seek_upper(&mut self, needle: &[u8], _seqno: SeqNo) -> bool
         ensures step { GivesStep self.old self.new (found result)
             (seek_upper_index handles needle.now self.old.window) }
@@ -123,8 +123,8 @@ impl<'a> Iterator for Iter<'a> {
     }
 }
 
-/// Returns the last handle, if one is left. Counts an entry for a handle, and those of its interval
-/// where it is the last of it.
+/// Returns the last handle, if one is left. Counts an entry for a handle, and the entries of its
+/// interval where the handle is the last of its interval.
 impl<'a> DoubleEndedIterator for Iter<'a> {
     ghost next_back_gives = { λ s r t. GivesNextBack handle_of IsParsedHandle s r t };
 

@@ -89,8 +89,8 @@ impl IndexBlock {
         })
     }
 
-    /// Encodes a non-empty ordered list of handles, each with an end of its block below 2^64, into
-    /// an empty vector. Each handle is a head.
+    /// Encodes a non-empty ordered list of handles, each of whose blocks ends below 2^64, into an
+    /// empty vector. Each handle is a head.
     ///
     /// # Errors
     ///
@@ -129,8 +129,8 @@ impl IndexBlock {
         IndexBlock::encode_into_vec_with(alloc, items, 1)
     }
 
-    /// Encodes a non-empty ordered list of handles, each with an end of its block below 2^64, into
-    /// an empty vector, in restart intervals of at least one handle.
+    /// Encodes a non-empty ordered list of handles, each of whose blocks ends below 2^64, into an
+    /// empty vector, in restart intervals of at least one handle.
     ///
     /// # Errors
     ///
@@ -185,8 +185,8 @@ impl IndexBlock {
         Ok(writer)
     }
 
-    /// Takes a block whose payload is the encoding of some ordered, non-empty list of handles, each
-    /// with an end of its block below 2^64. Takes no memory.
+    /// Wraps a block whose payload is the encoding of some ordered, non-empty list of handles, each
+    /// of whose blocks ends below 2^64. Takes no memory.
     pub fn new(block: Block) -> IndexBlock
         requires { (items : List Handle) × (r : ℕ) × IsIndexBlock block.payload items r }
         ensures inner { block_of result ≡ block }
@@ -203,13 +203,13 @@ impl IndexBlock {
         }
     }
 
-    /// Makes the table of the block's heads: seeks then compare numbers of the table, and look at
-    /// the payload only where these are equal. It pays for an index that is kept open. 40 bytes a
-    /// head.
+    /// Makes the table of the block's heads: seeks then compare numbers of the table, and examine
+    /// the payload only where these are equal. It pays for an index that is kept open. The table
+    /// has 40 bytes for each head.
     ///
     /// # Errors
     ///
-    /// `Error::Memory` if an allocation fails, beside the block as it was.
+    /// `Error::Memory` if an allocation fails, with the unchanged block.
     pub fn with_heads(self, alloc: Global) -> std::result::Result<IndexBlock, (Error, IndexBlock)>
         ensures ok { IfOk result (λ b. b ≡ self) }
         ensures err { IfErr result (λ e. (e.0 ≡ Error.Memory) × (e.1 ≡ self)) }
@@ -247,19 +247,20 @@ impl IndexBlock {
         Intervals::with_table(&self.inner, self.heads.as_ref())
     }
 
-    /// Takes a block of any bytes, if its payload is the encoding of some ordered, non-empty list
-    /// of handles at an interval from 1 to 255, each with an end of its block below 2^64, and makes
-    /// the table of its heads, as [`IndexBlock::with_heads`] does. [`IndexBlock::check_once`] makes
-    /// no table: for a block that is read once.
+    /// Wraps a block of any bytes, if its payload is the encoding of some ordered, non-empty list
+    /// of handles at an interval from 1 to 255, each of whose blocks ends below 2^64, and makes the
+    /// table of its heads, as [`IndexBlock::with_heads`] does. For a block that is read once use
+    /// [`IndexBlock::check_once`], which makes no table.
     ///
     /// # Errors
     ///
-    /// That of the first of these stages that fails. `Error::Truncated` if the payload has fewer
-    /// than 31 bytes; `Error::BadTrailer` if the numbers of the trailer do not fit each other and
-    /// the payload, or there are buckets; `Error::BadEntry` if the body is not as many handles in
-    /// their forms, and nothing else; `Error::BadHandle` if a block's end is 2^64 or above;
-    /// `Error::OutOfOrder` if a handle sorts before its predecessor; `Error::BadIndex` if a pointer
-    /// is not the offset of its head, or the pointer width not the least.
+    /// The error of the first of these stages that fails. `Error::Truncated` if the payload has
+    /// fewer than 31 bytes; `Error::BadTrailer` if the numbers of the trailer are not consistent
+    /// with each other and the payload, or there are buckets; `Error::BadEntry` if the body is not
+    /// as many handles in their forms as the trailer says, and nothing else; `Error::BadHandle` if
+    /// a block's end is 2^64 or above; `Error::OutOfOrder` if a handle sorts before its
+    /// predecessor; `Error::BadIndex` if a pointer is not the offset of its head, or the pointer
+    /// width is not the smallest that suffices.
     /// `Error::Memory` if the allocation of the table fails.
     pub fn check(alloc: Global, block: Block) -> Result<IndexBlock>
         ensures checked { IfOk result (λ b. index_check block.payload ≡ Ok b.items) }
@@ -280,12 +281,12 @@ impl IndexBlock {
         })
     }
 
-    /// Takes a block of any bytes as [`IndexBlock::check`] does, and makes no table of its heads: for a
-    /// block that is read once. Takes no memory.
+    /// Wraps a block of any bytes as [`IndexBlock::check`] does, and makes no table of its heads:
+    /// for a block that is read once. Takes no memory.
     ///
     /// # Errors
     ///
-    /// Those of [`IndexBlock::check`], but for `Error::Memory`.
+    /// Those of [`IndexBlock::check`] other than `Error::Memory`.
     pub fn check_once(block: Block) -> Result<IndexBlock>
         ensures checked { IfOk result (λ b. index_check block.payload ≡ Ok b.items) }
         ensures parts { IfOk result (λ b. b ≡ index_block_of block) }
@@ -320,14 +321,14 @@ impl IndexBlock {
         &self.inner
     }
 
-    /// Gives the block back, with its header.
+    /// Returns the block, with its header, by value.
     pub fn into_inner(self) -> Block
         ensures { result ≡ block_of self }
     {
         self.inner
     }
 
-    // The block, and what its trailer says.
+    // The block, with what its trailer says.
     fn opened(&self) -> &Block
         ensures payload { result.now.payload ≡ self.now.payload }
         ensures trailer { 31 ≤ length self.now.payload }

@@ -1,4 +1,4 @@
-//! Lists of seeks and steps over an index block, answered one after the other.
+//! Lists of seeks and steps over an index block, performed one after the other.
 ghost use Rattle.std.specs.Prelude.{◌≡◌, map, IfOk, IsOk, IsOkUnless, []};
 ghost use Rattle.sst_block_core.specs.Window.{answers, whole};
 ghost use Rattle.sst_block_kinds.specs.Answers.{answer_of, Performs};
@@ -24,7 +24,7 @@ pub enum IndexOp {
     SeekUpper(Slice, SeqNo),
 }
 
-// Does one operation.
+// Performs one operation.
 fn perform(
     alloc: Global,
     iter: &mut Iter<'_>,
@@ -46,12 +46,12 @@ fn perform(
     }
 }
 
-/// Does a list of operations, one after the other, with a new iterator over a block, and returns
-/// their answers.
+/// Performs a list of operations, one after the other, with a new iterator over a block, and
+/// returns their results.
 ///
 /// # Errors
 ///
-/// `Error::Memory` if an allocation fails, which needs an operation.
+/// `Error::Memory` if an allocation fails, which is possible only where there is an operation.
 pub fn walk(
     alloc: Global,
     block: &IndexBlock,

@@ -1,4 +1,4 @@
-//! Bloom filters: whether a key may be there, answered from a few bits for each key.
+//! Bloom filters: whether a key may be there, by a few bits for each key.
 pub mod bit_array;
 pub mod block;
 pub mod filter_type;

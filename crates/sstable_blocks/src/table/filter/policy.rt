@@ -9,13 +9,13 @@ use super::standard_bloom::Builder;
 use sst_base::{Error, Result};
 use std::alloc::Global;
 
-/// The greatest number of bits asked for: the frame of their filter has at most 2^32 - 1 bytes.
+/// The greatest number of bits of a filter: its frame has at most 2^32 - 1 bytes.
 pub const MAX_BITS: u64 = 34359737920;
 
 /// How large a filter is.
 #[derive(Clone, Copy, Debug, PartialEq, Eq)]
 pub enum BloomConstructionPolicy {
-    /// As many bits for each key; 0 for no filter.
+    /// This many bits for each key; 0 for no filter.
     BitsPerKey(u32),
 }
 
