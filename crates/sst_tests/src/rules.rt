@@ -1,10 +1,10 @@
 //! What the code that reads blocks may name: the bytes of a block are read by the calls of the item
 //! traits alone, which count, so no head and no entry is examined that the counters do not count.
 
-/// Sources that read bytes themselves, or write them: the check and what it alone calls, the
+/// Sources that read bytes themselves, or write them: the checks and what they alone call, the
 /// encoder and the writer of runs, the trailer and the two indexes, and the implementations of the
 /// item traits with what they call.
-pub const READERS: [&str; 20] = [
+pub const READERS: [&str; 21] = [
     "sst_block_core/src/table/block/check/buckets.rt",
     "sst_block_core/src/table/block/check/keys.rt",
     "sst_block_core/src/table/block/check/mod.rt",
@@ -13,6 +13,7 @@ pub const READERS: [&str; 20] = [
     "sst_block_core/src/table/block/check/tally.rt",
     "sst_block_core/src/table/block/check/truncation.rt",
     "sst_block_core/src/table/block/encoder.rt",
+    "sstable_blocks/src/run/checking.rt",
     "sstable_blocks/src/run/run_core.rt",
     "sst_block_core/src/table/block/trailer.rt",
     "sst_block_core/src/table/block/binary_index/builder.rt",
@@ -36,7 +37,7 @@ pub const CHECKS: [&str; 2] = [
 /// The calls that a payload may be passed to: those of the item traits, of the decoder, of the
 /// index readers, of the one reader that counts, of blocks, of the two that make an item of its
 /// ranges, and of the table of heads, with what it calls itself.
-pub const CALLS: [&str; 23] = [
+pub const CALLS: [&str; 24] = [
     "Item::read_head",
     "Item::read_full",
     "Item::read_truncated",
@@ -48,7 +49,8 @@ pub const CALLS: [&str; 23] = [
     "Reader::new",
     "Decoder::new",
     "Block::from_payload",
-    "made",
+    "StandardBloomFilterReader::new",
+    "materialized",
     "perform",
     "table.head",
     "table.count",
@@ -95,7 +97,7 @@ pub const MAKERS: [&str; 26] = [
 
 /// A source, one of [`MAKERS`], and how often it occurs. Where none is given it occurs
 /// nowhere.
-pub const MADE: [(&str, &str, usize); 35] = [
+pub const MADE: [(&str, &str, usize); 38] = [
     // The one reader that counts is made where intervals are opened.
     (
         "sst_block_core/src/table/block/form_reader.rt",
@@ -210,6 +212,12 @@ pub const MADE: [(&str, &str, usize); 35] = [
         ". iter (",
         1,
     ),
+    // (for the hash of a key: its prefix and its own bytes)
+    (
+        "sst_block_kinds/src/table/data_block/entry_ref.rt",
+        "bytes_of (",
+        2,
+    ),
     ("sst_block_kinds/src/table/data_block/ops.rt", ". iter (", 1),
     (
         "sst_block_kinds/src/table/index_block/mod.rt",
@@ -238,8 +246,11 @@ pub const MADE: [(&str, &str, usize); 35] = [
         1,
     ),
     // A read of a run opens one index block and one data block, and reads each by one call. One
-    // that checks counts what it examines for nobody.
+    // that checks, and one of a table, counts what it examines for nobody. A table also opens the
+    // filter.
     ("sstable_blocks/src/run/read.rt", ". iter (", 1),
     ("sstable_blocks/src/run/checked.rt", "Steps : : new", 2),
     ("sstable_blocks/src/run/round_trip.rt", "Steps : : new", 1),
+    ("sstable_blocks/src/run/table.rt", "Steps : : new", 1),
+    ("sstable_blocks/src/run/table.rt", ". data (", 1),
 ];

@@ -78,7 +78,8 @@ fn filter_block_from<H: BlockHash, S: FrameSource>(
         None => Ok(None),
         Some(handle) => {
             let block = block_from::<H, S>(alloc, source, handle, BlockType::Filter)?;
-            StandardBloomFilterReader::new(block.data().as_slice())?;
+            let payload = block.data().as_slice();
+            StandardBloomFilterReader::new(payload)?;
             Ok(Some(FilterBlock::new(block)))
         }
     }

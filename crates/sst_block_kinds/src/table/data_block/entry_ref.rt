@@ -73,12 +73,12 @@ impl<'a> EntryRef<'a> {
         ensures ok { IfOk result (λ hash. hash ≡ H.hash64 self.now.key.user_key) }
         ensures memory { IsOkUnless result Error.Memory }
     {
-        let payload = self.payload.as_slice();
-        let rest = bytes_of(payload, &self.item.key);
+        let rest = bytes_of(self.payload.as_slice(), &self.item.key);
         let Some(prefix) = &self.item.prefix else {
             return Ok(H::hash64(rest));
         };
-        if let Some(hash) = H::hash64_behind(H::hash64(bytes_of(payload, prefix)), rest) {
+        let prefix = bytes_of(self.payload.as_slice(), prefix);
+        if let Some(hash) = H::hash64_behind(H::hash64(prefix), rest) {
             return Ok(hash);
         }
         let entry = self.materialize(alloc)?;
