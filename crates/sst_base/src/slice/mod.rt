@@ -217,17 +217,21 @@ impl Slice {
             (end_index (R.end_bound range) (length self.now))) }
         ensures memory { IsOkUnless result Error.Memory }
     {
-        self.part(slice::range(range, ..self.len()))
+        Ok(self.part(slice::range(range, ..self.len()))?)
     }
 
-    // The bytes in a range.
+    /// Returns the bytes in a range, as [`Slice::slice`] does. The error has no parts, so that a hot
+    /// caller needs no space for one.
+    ///
+    /// # Errors
+    ///
+    /// If an allocation fails.
     #[inline(always)]
     #[tactic(auto, using(crate::specs::BytesLaws::length_part))]
-    fn part(&self, range: Range<usize>) -> Result<Slice>
+    pub fn part(&self, range: Range<usize>) -> AllocResult<Slice>
         requires start_le_end { range.start ≤ range.end }
         requires in_bounds { range.end ≤ length self.now }
-        ensures ok { IfOk result (λ s. s ≡ slice_range self.now range.start range.end) }
-        ensures memory { IsOkUnless result Error.Memory }
+        ensures { IfOk result (λ s. s ≡ slice_range self.now range.start range.end) }
     {
         match &self.held {
             Held::Shared(bytes) if range.end - range.start > SHORT_LEN => {
@@ -253,6 +257,13 @@ impl Slice {
         ensures ok { IfOk result (λ s. s ≡ left.now ++ right.now) }
         ensures memory { IsOkUnless result Error.Memory }
     {
+        Ok(Slice::fuse(alloc, left, right)?)
+    }
+
+    // Copies two byte strings, the second after the first.
+    fn fuse(alloc: Global, left: &[u8], right: &[u8]) -> AllocResult<Slice>
+        ensures { IfOk result (λ s. s ≡ left.now ++ right.now) }
+    {
         let len = left.len() + right.len();
         if len <= SHORT_LEN {
             return Ok(Slice::short(ShortBytes::joined(left, right)));
@@ -268,25 +279,24 @@ impl Slice {
     ///
     /// # Errors
     ///
-    /// `Error::Memory` if an allocation fails.
+    /// If an allocation fails.
     pub fn joined(
         alloc: Global,
         bytes: &[u8],
         left: &SliceIndexes,
         right: &SliceIndexes,
-    ) -> Result<Slice>
+    ) -> AllocResult<Slice>
         requires left_order { left.now.0 ≤ left.now.1 }
         requires left_inside { left.now.1 ≤ length bytes.now }
         requires right_order { right.now.0 ≤ right.now.1 }
         requires right_inside { right.now.1 ≤ length bytes.now }
-        ensures ok { IfOk result (λ s. s ≡ take (left.now.1 - left.now.0) (drop left.now.0 bytes.now)
+        ensures { IfOk result (λ s. s ≡ take (left.now.1 - left.now.0) (drop left.now.0 bytes.now)
             ++ take (right.now.1 - right.now.0) (drop right.now.0 bytes.now)) }
-        ensures memory { IsOkUnless result Error.Memory }
     {
         if (left.1 - left.0) + (right.1 - right.0) <= SHORT_LEN {
             return Ok(Slice::short(ShortBytes::joined_parts(bytes, left, right)));
         }
-        Slice::fused(alloc, &bytes[left.0..left.1], &bytes[right.0..right.1])
+        Slice::fuse(alloc, &bytes[left.0..left.1], &bytes[right.0..right.1])
     }
 
     /// Returns the bytes.

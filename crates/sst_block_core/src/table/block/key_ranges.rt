@@ -1,12 +1,12 @@
 //! Keys by their ranges of a payload: a prefix, if there is one, and the bytes after it.
-ghost use Rattle.std.specs.Prelude.{◌≡◌, ◌++◌, IfOk, IsOkUnless};
+ghost use Rattle.std.specs.Prelude.{◌≡◌, ◌++◌, IfOk};
 ghost use Rattle.std.specs.Ordering.{nat_cmp};
 ghost use Rattle.std.specs.Cmp.Lexicographic.{slice_cmp};
 ghost use Rattle.sst_block_core.specs.Found.{IsRange, IsOptionalRange, range_of, optional_range};
 ghost use Rattle.sst_block_core.specs.Found.{range_len};
 
 use sst_base::table::util::{SliceIndexes, compare_bytes, compare_prefixed_slice};
-use sst_base::{Error, Result, Slice};
+use sst_base::{AllocResult, Slice};
 use std::alloc::Global;
 use std::cmp::Ordering;
 
@@ -56,21 +56,20 @@ pub fn compare_ranges(
 ///
 /// # Errors
 ///
-/// `Error::Memory` if an allocation fails.
+/// If an allocation fails.
 pub fn join_ranges(
     alloc: Global,
     payload: &Slice,
     prefix: &Option<SliceIndexes>,
     rest: &SliceIndexes,
-) -> Result<Slice>
+) -> AllocResult<Slice>
     requires prefix { IsOptionalRange payload.now prefix.now }
     requires rest { IsRange payload.now rest.now }
-    ensures ok { IfOk result
+    ensures { IfOk result
         (λ key. key ≡ optional_range payload.now prefix.now ++ range_of payload.now rest.now) }
-    ensures memory { IsOkUnless result Error.Memory }
 {
     match prefix {
         Some(prefix) => Slice::joined(alloc, payload.as_slice(), prefix, rest),
-        None => payload.slice(rest.0..rest.1),
+        None => payload.part(rest.0..rest.1),
     }
 }

@@ -60,7 +60,7 @@ impl ParsedItem<InternalValue> for DataBlockParsedItem {
     fn materialize(&self, alloc: Global, payload: &Slice) -> Result<InternalValue> {
         let user_key = join_ranges(alloc, payload, &self.prefix, &self.key)?;
         let value = match &self.value {
-            Some(value) => payload.slice(value.0..value.1)?,
+            Some(value) => payload.part(value.0..value.1)?,
             None => Slice::empty(alloc),
         };
         let key = InternalKey::new(user_key, self.seqno, self.value_type);
