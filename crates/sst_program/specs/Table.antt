@@ -24,12 +24,6 @@ pub record IsCutBy {X : Type 0} (n : ℕ) (items : List X) (blocks : List (List 
   pub all : joined blocks ≡ items
   pub sizes : HaveSize n blocks
 
--- runs can be written so: both intervals and the denominator of the ratio are at least 1
-pub record IsWritable (config : RunConfig) : Type 0 where
-  pub interval : 1 ≤ config.restart_interval
-  pub index_interval : 1 ≤ config.index_interval
-  pub den : 1 ≤ config.ratio.den
-
 -- how `sst` writes a run
 abbrev pub sst_form : RunConfig → Form
 sst_form config = form (poly31 64) (poly31 128) config

@@ -6,7 +6,8 @@ ghost use Rattle.sst_block_core.specs.Entries.{entries};
 ghost use Rattle.sst_block_core.specs.Kind.{IsOrdered};
 ghost use Rattle.sst_program.specs.Outcome.{packed_text_of, PrintsPacked, PrintsNothing, IsPackFault};
 ghost use Rattle.sst_program.specs.Table.{IsCutBy, AppendsTable, IsWriteFault};
-ghost use Rattle.sst_program.specs.Table.{IsWritable, end_of, run_end};
+ghost use Rattle.sst_program.specs.Table.{end_of, run_end};
+ghost use Rattle.sstable_blocks.specs.Run.{IsWritable};
 ghost use Rattle.sstable_blocks.specs.Writing.{IsSameRun};
 
 use crate::fault::{self, Fault};
@@ -88,7 +89,7 @@ pub fn write_table<W: SyncWrite + Drop>(
     config: RunConfig,
     per_block: usize,
 ) -> Result<(Packed, W)>
-    requires config { IsWritable config }
+    requires writable { IsWritable config }
     requires per_block { 1 ≤ per_block }
     requires some { 1 ≤ length items.now }
     requires ordered { IsOrdered entries items.now }

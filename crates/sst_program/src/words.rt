@@ -10,6 +10,7 @@ ghost use Rattle.sst_program.specs.Commands.{name_of, file_of, query_of, point_o
 ghost use Rattle.sst_program.specs.Commands.{config_of, index_interval_of, packing_of, pack_of_words};
 ghost use Rattle.sst_program.specs.Commands.{lookup_of, get_of_words, file_of_words, command_of_words};
 ghost use Rattle.sst_program.specs.declared.words.Command.TheVariants.{Point, Pack, Get, Walk, Check};
+ghost use Rattle.sstable_blocks.specs.Run.{IsWritable};
 
 use crate::fault::{self, Fault};
 use crate::text::{bytes_in, number_in, number_within};
@@ -135,13 +136,13 @@ pub struct PackWords<'a> {
 impl<'a> Model for PackWords<'a> {
     ghost use Rattle.std.specs.Prelude.{◌≤◌};
     ghost use Rattle.sst_program.specs.Query.{Packing};
+    ghost use Rattle.sstable_blocks.specs.Run.{IsWritable};
 
     ghost Value = { Packing };
 
     ghost view = { λ w. record { file = w.file; config = w.config; per_block = w.per_block } };
 
-    ghost invariant = { λ w. (1 ≤ w.config.restart_interval) × (1 ≤ w.config.index_interval)
-        × (1 ≤ w.config.ratio.den) × (1 ≤ w.per_block) };
+    ghost invariant = { λ w. IsWritable w.config × (1 ≤ w.per_block) };
 }
 
 impl<'a> PackWords<'a> {
@@ -155,9 +156,7 @@ impl<'a> PackWords<'a> {
     /// Returns how the run is written. Both intervals and the denominator are at least 1.
     pub fn config(&self) -> RunConfig
         ensures value { result ≡ self.now.config }
-        ensures interval { 1 ≤ result.restart_interval }
-        ensures index_interval { 1 ≤ result.index_interval }
-        ensures den { 1 ≤ result.ratio.den }
+        ensures writable { IsWritable result }
     {
         self.config
     }
@@ -324,9 +323,7 @@ fn packing_in<'a>(
     config: Option<RunConfig>,
     per_block: &[u8],
 ) -> Option<PackWords<'a>>
-    requires interval { IfSome config (λ c. 1 ≤ c.restart_interval) }
-    requires index_interval { IfSome config (λ c. 1 ≤ c.index_interval) }
-    requires den { IfSome config (λ c. 1 ≤ c.ratio.den) }
+    requires { IfSome config IsWritable }
     ensures { result ≡ packing_of file.now config per_block.now }
 {
     let file = file_in(file)?;
@@ -364,9 +361,7 @@ fn config_in(
     requires den { IfSome ratio (λ r. 1 ≤ r.den) }
     requires index_interval { IfSome index_interval (λ q. 1 ≤ q) }
     ensures value { result ≡ config_of interval.now ratio bits.now index_interval }
-    ensures interval { IfSome result (λ c. 1 ≤ c.restart_interval) }
-    ensures index_interval { IfSome result (λ c. 1 ≤ c.index_interval) }
-    ensures den { IfSome result (λ c. 1 ≤ c.ratio.den) }
+    ensures writable { IfSome result IsWritable }
 {
     let restart_interval = interval_in(interval)?;
     let ratio = ratio?;

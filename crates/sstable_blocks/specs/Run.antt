@@ -16,6 +16,10 @@ use Rattle.sstable_blocks.specs.Filter as filters
 use Rattle.sstable_blocks.specs.declared.run.RunConfig.{RunConfig}
 use Rattle.sstable_blocks.specs.declared.run.RunHandles.{RunHandles}
 
+-- runs can be written so: both intervals and the denominator of the ratio are at least 1
+abbrev pub IsWritable : RunConfig → Type 0
+IsWritable config = (1 ≤ config.restart_interval) × (1 ≤ config.index_interval) × (1 ≤ config.ratio.den)
+
 -- how a run is written: the two hashes of bytes, and the configuration
 pub record Form : Type 0 where
   pub hash64 : List ℕ → ℕ

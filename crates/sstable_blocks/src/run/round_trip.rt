@@ -4,7 +4,7 @@ ghost use Rattle.sst_block_core.specs.Entries.{entries};
 ghost use Rattle.sst_block_core.specs.Kind.{IsOrdered};
 ghost use Rattle.sst_block_core.specs.Window.{first_match};
 ghost use Rattle.sstable_blocks.specs.Blocks.{CutsFit, blocks_of};
-ghost use Rattle.sstable_blocks.specs.Run.{form, RunFits};
+ghost use Rattle.sstable_blocks.specs.Run.{form, IsWritable, RunFits};
 ghost use Rattle.sstable_blocks.specs.Writing.{IsWriteRefusal};
 
 use super::laws::blocks_are_the_list;
@@ -30,9 +30,7 @@ pub fn write_and_read<H: BlockHash>(
     requires some { 1 ≤ length items.now }
     requires ordered { IsOrdered entries items.now }
     requires cuts { CutsFit 0 (length items.now) cuts.now }
-    requires interval { 1 ≤ config.restart_interval }
-    requires index_interval { 1 ≤ config.index_interval }
-    requires den { 1 ≤ config.ratio.den }
+    requires writable { IsWritable config }
     ensures found { IfOk result
         (λ found. found ≡ first_match entries needle.now seqno items.now) }
     ensures cause { IfErr result

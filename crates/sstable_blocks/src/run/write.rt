@@ -4,7 +4,7 @@ ghost use Rattle.std.specs.Prelude.{IfErr};
 ghost use Rattle.sst_block_core.specs.Entries.{entries};
 ghost use Rattle.sst_block_core.specs.Kind.{IsOrdered};
 ghost use Rattle.sstable_blocks.specs.Blocks.{CutsFit, blocks_of};
-ghost use Rattle.sstable_blocks.specs.Run.{form, RunFits};
+ghost use Rattle.sstable_blocks.specs.Run.{form, IsWritable, RunFits};
 ghost use Rattle.sstable_blocks.specs.RunReading.{hashes};
 ghost use Rattle.sstable_blocks.specs.Writing.{AppendsLayout, AppendsSound, IsWriteRefusal};
 
@@ -54,9 +54,7 @@ pub fn write_run<H: BlockHash, W: Write>(
     requires some { 1 ≤ length items.now }
     requires ordered { IsOrdered entries items.now }
     requires cuts { CutsFit 0 (length items.now) cuts.now }
-    requires interval { 1 ≤ config.restart_interval }
-    requires index_interval { 1 ≤ config.index_interval }
-    requires den { 1 ≤ config.ratio.den }
+    requires writable { IsWritable config }
     ensures layout { IfOk result
         (AppendsLayout (form H.hash64 H.hash128 config) (blocks_of cuts.now items.now)
         (W.contents writer.old) (W.contents writer.new)) }

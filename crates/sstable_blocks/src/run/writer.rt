@@ -4,7 +4,7 @@ ghost use Rattle.std.specs.Prelude.{◌∷◌, ◌++◌, length, IsTrue, None, S
 ghost use Rattle.std.specs.Prelude.{OnOk, IfOk, IfErr, IfSome, MatchResult, Err};
 ghost use Rattle.std.specs.Io.KnownBytes.{Appends};
 ghost use Rattle.sst_base.specs.declared.error.Error.TheVariants.{Io};
-ghost use Rattle.sstable_blocks.specs.Run.{form, block_frame, block_frames, RunFits};
+ghost use Rattle.sstable_blocks.specs.Run.{form, block_frame, block_frames, IsWritable, RunFits};
 ghost use Rattle.sstable_blocks.specs.RunReading.{hashes};
 ghost use Rattle.sstable_blocks.specs.Writing.{Follows, FrameFits, IsWriteRefusal, AppendsLayout};
 ghost use Rattle.sstable_blocks.specs.Writing.{AppendsSound};
@@ -51,9 +51,7 @@ impl<H: BlockHash, W: Write> Model for RunWriter<H, W> {
 impl<H: BlockHash, W: Write> RunWriter<H, W> {
     /// Makes a writer of a run. Both intervals and the denominator of the ratio are at least 1.
     pub fn new(alloc: Global, writer: W, config: RunConfig) -> RunWriter<H, W>
-        requires interval { 1 ≤ config.restart_interval }
-        requires index_interval { 1 ≤ config.index_interval }
-        requires den { 1 ≤ config.ratio.den }
+        requires writable { IsWritable config }
         ensures { result ≡ record {
           config = config;
           blocks = [];
