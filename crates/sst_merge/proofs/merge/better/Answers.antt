@@ -1,0 +1,17 @@
+use Rattle.std.proofs.Common.{◌≡◌, cond, ◌∙◌, sym, ap, List}
+use Rattle.sst_merge.specs.Merge.{order_by}
+use Rattle.sst_merge.specs.Picks.{wins, list_at}
+use Rattle.sst_merge.specs.SourceLaws.{better_first}
+use Rattle.sst_merge.proofs.merge.better.Goals as goal
+
+pub returns-then-goes_first-clause-index : goal.returns-then-goes_first-clause-index
+returns-then-goes_first-clause-index g c = λ xss known.
+    let k = better_first (order_by g.T.Version.entry) c.args.heads.now xss c.args.i c.args.best c.index-heads-i.result c.index-heads-best.result known c.requires.earlier c.requires.later c.index-heads-i.is c.index-heads-best.is in
+    let w = c.goes_first.ensures (list_at xss c.args.i) (list_at xss c.args.best) k.0 k.1 in
+    sym (ap (λ t. cond t c.args.i c.args.best) (sym w ∙ c.if-goes_first.true))
+
+pub returns-else-goes_first-clause-index : goal.returns-else-goes_first-clause-index
+returns-else-goes_first-clause-index g c = λ xss known.
+    let k = better_first (order_by g.T.Version.entry) c.args.heads.now xss c.args.i c.args.best c.index-heads-i.result c.index-heads-best.result known c.requires.earlier c.requires.later c.index-heads-i.is c.index-heads-best.is in
+    let w = c.goes_first.ensures (list_at xss c.args.i) (list_at xss c.args.best) k.0 k.1 in
+    sym (ap (λ t. cond t c.args.i c.args.best) (sym w ∙ c.if-goes_first.false))

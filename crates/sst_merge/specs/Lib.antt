@@ -1,0 +1,12 @@
+pub mod Compact
+pub mod CompactLaws
+pub mod Merge
+pub mod MergeLaws
+pub mod MergeReads
+pub mod Picks
+pub mod ReadLaws
+pub mod Snapshot
+pub mod SnapshotLaws
+pub mod SnapshotReads
+pub mod Sources
+pub mod SourceLaws

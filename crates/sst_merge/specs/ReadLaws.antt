@@ -1,0 +1,104 @@
+-- Laws of reads over several runs.
+use Rattle.std.proofs.Common.{◌≡◌, ◌≢◌, ℕ, ◌+◌, ◌<◌, ◌≤◌, Bool, true, false, cond, List, [], ◌∷◌, length, map, drop, get_or, filter, slice_get, Option, Some, None, refl, sym, ap, subst, ◌∙◌, arith}
+use Rattle.std.specs.Option.{option_map}
+use Rattle.std.specs.Ordering.{is_lt, is_eq, nat_cmp}
+use Rattle.std.specs.Cmp.Lexicographic.{slice_cmp}
+use Rattle.std.proofs.lemmas.List.{drop_more, drop_all}
+use Rattle.sst_base.specs.Entry.{Entry, plain}
+use Rattle.sst_base.specs.KeyOrderLaws.{versions_cmp_total}
+use Rattle.sst_block_core.specs.Entries.{entries}
+use Rattle.sst_block_core.specs.Kind.{IsOrdered}
+use Rattle.sst_block_core.specs.Window.{first_match, is_version}
+use Rattle.sst_merge.specs.Compact.{compacted}
+use Rattle.sst_merge.specs.CompactLaws.{compact-first_match, compact-ordered}
+use Rattle.sst_merge.specs.Merge.{merge, merged, lesser, entry_cmp}
+use Rattle.sst_merge.specs.MergeLaws.{merge-ordered}
+use Rattle.sst_merge.specs.MergeReads.{merge-first_match}
+use Rattle.sst_merge.specs.Snapshot.{deletes, seen, snapshot}
+use Rattle.sst_merge.specs.SnapshotReads.{unless_hidden, snapshot-first_match}
+
+-- decoding changes no order
+pub plain_ordered : (xs : List Entry) → IsOrdered entries xs → IsOrdered entries (map plain xs)
+plain_ordered [] up = tt
+plain_ordered (x ∷ []) up = tt
+plain_ordered (x ∷ y ∷ ys) up = (up.0, plain_ordered (y ∷ ys) up.1)
+
+lesser_by : (a b : Entry) (t : Bool) → option_map plain (cond t (Some b) (Some a)) ≡ cond t (Some (plain b)) (Some (plain a))
+lesser_by a b true = refl
+lesser_by a b false = refl
+
+-- the lesser of two, as decoded
+lesser_plain : (a b : Option Entry) → option_map plain (lesser entry_cmp a b) ≡ lesser entry_cmp (option_map plain a) (option_map plain b)
+lesser_plain None b = refl
+lesser_plain (Some a) None = refl
+lesser_plain (Some a) (Some b) = lesser_by a b (is_lt (entry_cmp b a))
+
+-- the first match of a merge is the lesser of two first matches
+pub merge_match : (needle : List ℕ) (s : ℕ) (xs ys : List Entry) → IsOrdered entries xs → IsOrdered entries ys → first_match entries needle s (merge entry_cmp xs ys) ≡ lesser entry_cmp (first_match entries needle s xs) (first_match entries needle s ys)
+unfolding first_match
+merge_match needle s xs ys a b =
+    ap (option_map plain) (merge-first_match entry_cmp (versions_cmp_total entries.key entries.seqno) (is_version entries needle s) xs ys a b)
+    ∙ lesser_plain (slice_get (filter (is_version entries needle s) xs) 0) (slice_get (filter (is_version entries needle s) ys) 0)
+
+-- a merge of ordered lists is ordered
+pub merge_order : (xs ys : List Entry) → IsOrdered entries xs → IsOrdered entries ys → IsOrdered entries (merge entry_cmp xs ys)
+merge_order xs ys a b = merge-ordered entry_cmp (versions_cmp_total entries.key entries.seqno) xs ys a b
+
+-- the lists from a place on, one more in front
+pub from_before : (xss : List (List Entry)) (j i : ℕ) (xs : List Entry) → j < length xss → j + 1 ≡ i → xs ≡ get_or xss j xs → drop j xss ≡ xs ∷ drop i xss
+from_before xss j i xs inside next is = drop_more xss j xs inside ∙ ap (λ ys. ys ∷ drop (j + 1) xss) (sym is) ∙ ap (λ n. xs ∷ drop n xss) next
+
+-- one run more is read
+pub read_more : (needle : List ℕ) (s : ℕ) (xss : List (List Entry)) (j i : ℕ) (xs : List Entry) (a b c : Option Entry) → j < length xss → j + 1 ≡ i → xs ≡ get_or xss j xs → IsOrdered entries xs → IsOrdered entries (merged entry_cmp (drop i xss))
+    → a ≡ first_match entries needle s xs → b ≡ first_match entries needle s (merged entry_cmp (drop i xss)) → c ≡ lesser entry_cmp a b → c ≡ first_match entries needle s (merged entry_cmp (drop j xss))
+read_more needle s xss j i xs a b c inside next is up rest e f g =
+    g ∙ ap (λ o. lesser entry_cmp o b) e ∙ ap (λ o. lesser entry_cmp (first_match entries needle s xs) o) f
+    ∙ sym (merge_match needle s xs (merged entry_cmp (drop i xss)) up rest)
+    ∙ ap (λ yss. first_match entries needle s (merged entry_cmp yss)) (sym (from_before xss j i xs inside next is))
+
+-- and the list stays ordered
+pub order_more : (xss : List (List Entry)) (j i : ℕ) (xs : List Entry) → j < length xss → j + 1 ≡ i → xs ≡ get_or xss j xs → IsOrdered entries xs → IsOrdered entries (merged entry_cmp (drop i xss)) → IsOrdered entries (merged entry_cmp (drop j xss))
+order_more xss j i xs inside next is up rest = subst (λ yss. IsOrdered entries (merged entry_cmp yss)) (sym (from_before xss j i xs inside next is)) (merge_order xs (merged entry_cmp (drop i xss)) up rest)
+
+no_match : (needle : List ℕ) (s : ℕ) → ◌≡◌ {A = Option Entry} None (first_match entries needle s [])
+unfolding first_match
+no_match needle s = refl
+
+-- before the first run is read
+pub none_read : (needle : List ℕ) (s : ℕ) (xss : List (List Entry)) → IsOrdered entries (merged entry_cmp (drop (length xss) xss)) × ◌≡◌ {A = Option Entry} None (first_match entries needle s (merged entry_cmp (drop (length xss) xss)))
+none_read needle s xss =
+    let e = drop_all (length xss) xss (omega arith) in
+    (subst (λ yss. IsOrdered entries (merged entry_cmp yss)) (sym e) tt, no_match needle s ∙ ap (λ yss. first_match entries needle s (merged entry_cmp yss)) (sym e))
+
+hidden_is : (k : List ℕ) (r : ℕ) (o : Option Entry) → unless_hidden (λ (e : Entry). e) k r o ≡ seen o
+hidden_is k r None = refl
+hidden_is k r (Some e) = refl
+
+seen_by : (e : Entry) (t : Bool) → cond t None (Some (plain e)) ≡ option_map plain (cond t None (Some e))
+seen_by e true = refl
+seen_by e false = refl
+
+seen_plain : (o : Option Entry) → seen (option_map plain o) ≡ option_map plain (seen o)
+seen_plain None = refl
+seen_plain (Some e) = seen_by e (deletes e.key.value_type)
+
+-- a compaction changes no read at its snapshot or above
+pub compact_match : (snapshot r : ℕ) (bottom : Bool) (needle : List ℕ) (items : List Entry) → snapshot ≤ r → IsOrdered entries items
+    → seen (first_match entries needle r (compacted (λ (e : Entry). e) snapshot bottom items)) ≡ seen (first_match entries needle r items)
+unfolding first_match
+compact_match snapshot r bottom needle items at up =
+    let test = is_version entries needle r in
+    let a = slice_get (filter test (compacted (λ (e : Entry). e) snapshot bottom items)) 0 in
+    let b = slice_get (filter test items) 0 in
+    seen_plain a ∙ ap (option_map plain) (sym (hidden_is needle r a) ∙ compact-first_match (λ (e : Entry). e) snapshot bottom needle r at items up ∙ hidden_is needle r b) ∙ sym (seen_plain b)
+
+pub compact_order : (snapshot : ℕ) (bottom : Bool) (items : List Entry) → IsOrdered entries items → IsOrdered entries (compacted (λ (e : Entry). e) snapshot bottom items)
+compact_order snapshot bottom items up = compact-ordered (λ (e : Entry). e) snapshot bottom items up
+
+-- a snapshot has of a key what a read of the list sees
+pub snapshot_match : (needle : List ℕ) (s : ℕ) (items : List Entry) → IsOrdered entries items
+    → option_map plain (slice_get (filter (λ (e : Entry). is_eq (slice_cmp nat_cmp e.key.user_key needle)) (snapshot (λ (e : Entry). e) s items)) 0) ≡ seen (first_match entries needle s items)
+unfolding first_match
+snapshot_match needle s items up =
+    let b = slice_get (filter (is_version entries needle s) items) 0 in
+    ap (option_map plain) (snapshot-first_match (λ (e : Entry). e) needle s items up ∙ hidden_is needle s b) ∙ sym (seen_plain b)

@@ -1,0 +1,42 @@
+-- Snapshots of lists of entries.
+use Rattle.std.specs.Prelude.{ℕ, nat_lt, Bool, true, false, not, ◌&&◌, if◌then◌else◌, List, [], ◌∷◌, Option, Some, None}
+use Rattle.std.specs.Ordering.{nat_cmp, is_eq}
+use Rattle.std.specs.Cmp.Lexicographic.{slice_cmp}
+use Rattle.sst_base.specs.declared.value_type.ValueType.{ValueType}
+use Rattle.sst_base.specs.declared.value_type.ValueType.TheVariants.{Value, Tombstone, WeakTombstone, Indirection}
+use Rattle.sst_base.specs.Entry.{Entry}
+
+-- is it a tombstone?
+abbrev pub deletes : ValueType → Bool
+deletes Value = false
+deletes Tombstone = true
+deletes WeakTombstone = true
+deletes Indirection = false
+
+-- what a reader sees of a version: none of a tombstone
+abbrev pub seen : Option Entry → Option Entry
+seen None = None
+seen (Some e) = if deletes e.key.value_type then None else Some e
+
+module _ {X : Type 0} (entry : X → Entry) where
+  -- does a version have the key of the last one?
+  abbrev pub has_last_key : Option X → X → Bool
+  has_last_key None e = false
+  has_last_key (Some last) e = is_eq (slice_cmp nat_cmp (entry e).key.user_key (entry last).key.user_key)
+
+  -- a version in front of others, unless it is a tombstone
+  abbrev pub unless_deleted : X → List X → List X
+  unless_deleted e es = if deletes (entry e).key.value_type then es else e ∷ es
+
+  -- is this the first version of its key below a sequence number, behind the last one?
+  abbrev pub is_newest : ℕ → Option X → X → Bool
+  is_newest seqno last e = nat_lt (entry e).key.seqno seqno && not (has_last_key last e)
+
+  -- for each key but that of the last version, the first below a sequence number, unless it is a tombstone
+  abbrev pub visible_from : ℕ → Option X → List X → List X
+  visible_from seqno last [] = []
+  visible_from seqno last (e ∷ es) = if is_newest seqno last e then unless_deleted e (visible_from seqno (Some e) es) else visible_from seqno last es
+
+  -- for each user key the first version below a sequence number; a tombstone hides its key
+  abbrev pub snapshot : ℕ → List X → List X
+  snapshot seqno items = visible_from seqno None items

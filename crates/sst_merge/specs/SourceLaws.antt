@@ -1,0 +1,142 @@
+-- Laws of what is known of sources.
+use Rattle.std.proofs.Common.{◌≡◌, ℕ, zero, suc, ◌<◌, List, [], ◌∷◌, length, get_or, Option, Some, None, inl, inr, refl, sym, ap, subst, ◌∙◌, arith}
+use Rattle.std.specs.Prelude.{IfSome}
+use Rattle.std.specs.Option.{option_map}
+use Rattle.std.proofs.Math.ListN.{set}
+use Rattle.std.proofs.lemmas.List.{set-get_or}
+use Rattle.std.specs.declared.cmp.Ordering.{Ordering}
+use Rattle.sst_merge.specs.Merge.{merged}
+use Rattle.sst_merge.specs.Picks.{list_at, least, least_none, least_some}
+use Rattle.sst_merge.specs.Sources.{TakesFirst, before, IsHeld, all_known}
+
+-- what a step took is held before what is left
+pub held_before : {X : Type 0} (s t : Option (List X)) (r : Option X) → TakesFirst s r t → option_map (before r) t ≡ s
+held_before s None None h = h.0
+held_before s (Some xs) None h = h.0
+held_before s t (Some x) h = sym h
+
+pub held_is : {X : Type 0} (s t : Option (List X)) (r : Option X) → TakesFirst s r t → IsHeld r t
+held_is s t None h = subst (λ o. IfSome o (λ xs. xs ≡ [])) (sym h.0) h.1
+held_is s t (Some x) h = tt
+
+some_is : {A : Type 0} (x y : A) → ◌≡◌ {A = Option A} (Some x) (Some y) → x ≡ y
+some_is x y e = cc
+
+-- a known list, after an item
+known_after : {A : Type 0} (a : A) (o : Option (List A)) → option_map (λ rest. a ∷ rest) o ≡ None → o ≡ None
+known_after a None e = refl
+known_after a (Some xs) e = absurd (cc)
+
+-- where not all are known, neither are they after one was exchanged for one that is known where it was
+pub none_set : {A : Type 0} (os : List (Option A)) (i : ℕ) (d o : Option A) → i < length os → (get_or os i d ≡ None → o ≡ None) → all_known os ≡ None → all_known (set os i o) ≡ None
+none_set [] i d o inside same e = absurd (omega arith)
+none_set (None ∷ os) zero d o inside same e = ap (λ p. all_known (p ∷ os)) (same refl)
+none_set (Some a ∷ os) zero d None inside same e = refl
+none_set (Some a ∷ os) zero d (Some b) inside same e = ap (option_map (λ rest. b ∷ rest)) (known_after a (all_known os) e)
+none_set (None ∷ os) (suc i) d o inside same e = refl
+none_set (Some a ∷ os) (suc i) d o inside same e = ap (option_map (λ rest. a ∷ rest)) (none_set os i d o (omega arith) same (known_after a (all_known os) e))
+
+-- known lists, the first of which is this one
+record IsSplit {A : Type 0} (a : A) (o : Option (List A)) (all : List A) : Type 0 where
+  rest : List A
+  known : o ≡ Some rest
+  is : all ≡ a ∷ rest
+
+known_split : {A : Type 0} (a : A) (o : Option (List A)) (all : List A) → option_map (λ rest. a ∷ rest) o ≡ Some all → IsSplit a o all
+known_split a None all e = absurd (cc)
+known_split a (Some rest) all e = record { rest = rest; known = refl; is = cc }
+
+-- one of those that are known
+pub known_at : {X : Type 0} (os : List (Option (List X))) (xss : List (List X)) (i : ℕ) (d : Option (List X)) → all_known os ≡ Some xss → i < length os → get_or os i d ≡ Some (list_at xss i)
+known_at [] xss i d e inside = absurd (omega arith)
+known_at (None ∷ os) xss i d e inside = absurd (cc)
+known_at (Some xs ∷ os) xss zero d e inside =
+    let k = known_split xs (all_known os) xss e in
+    ap (λ yss. Some (list_at yss zero)) (sym k.is)
+known_at (Some xs ∷ os) xss (suc i) d e inside =
+    let k = known_split xs (all_known os) xss e in
+    known_at os k.rest i d k.known (omega arith) ∙ ap (λ yss. Some (list_at yss (suc i))) (sym k.is)
+
+-- and after one was exchanged
+pub known_set : {A : Type 0} (os : List (Option A)) (all : List A) (i : ℕ) (a : A) → all_known os ≡ Some all → i < length os → all_known (set os i (Some a)) ≡ Some (set all i a)
+known_set [] all i a e inside = absurd (omega arith)
+known_set (None ∷ os) all i a e inside = absurd (cc)
+known_set (Some b ∷ os) all zero a e inside =
+    let k = known_split b (all_known os) all e in
+    ap (option_map (λ rest. a ∷ rest)) k.known ∙ ap (λ bs. Some (set bs zero a)) (sym k.is)
+known_set (Some b ∷ os) all (suc i) a e inside =
+    let k = known_split b (all_known os) all e in
+    ap (option_map (λ rest. b ∷ rest)) (known_set os k.rest i a k.known (omega arith)) ∙ ap (λ bs. Some (set bs (suc i) a)) (sym k.is)
+
+-- as many are known as there are
+pub known_length : {A : Type 0} (os : List (Option A)) (all : List A) → all_known os ≡ Some all → length all ≡ length os
+known_length [] all e = let k : [] ≡ all = some_is [] all e in ap length (sym k)
+known_length (None ∷ os) all e = absurd (cc)
+known_length (Some a ∷ os) all e =
+    let k = known_split a (all_known os) all e in
+    let n = known_length os k.rest k.known in
+    ap length k.is ∙ ap suc n
+
+module _ {X : Type 0} (cmp : X → X → Ordering) where
+  -- what is left of the merge
+  abbrev left : List (Option (List X)) → Option (List X)
+  left os = option_map (merged cmp) (all_known os)
+
+  more_left : (x : X) (xss : List (List X)) (o : Option (List (List X))) → o ≡ Some xss → (ys : List X) → merged cmp xss ≡ ys → option_map (merged cmp) o ≡ Some ys
+  more_left x xss o e ys f = ap (option_map (merged cmp)) e ∙ ap Some f
+
+  -- the item of a list that is known
+  taken_some : (xs : List X) (x : X) (o : Option (List X)) → ◌≡◌ {A = Option (List X)} (Some xs) (option_map (λ ys. x ∷ ys) o) → IsSplit x o xs
+  taken_some xs x None e = absurd (cc)
+  taken_some xs x (Some ys) e = record { rest = ys; known = refl; is = cc }
+
+  unknown_taken : (x : X) (o : Option (List X)) → ◌≡◌ {A = Option (List X)} None (option_map (λ ys. x ∷ ys) o) → o ≡ None
+  unknown_taken x None e = refl
+  unknown_taken x (Some ys) e = absurd (cc)
+
+  taken_known : (os : List (Option (List X))) (xss : List (List X)) (i : ℕ) (old new : Option (List X)) (x : X) → all_known os ≡ Some xss → i < length os → i ≡ least cmp xss → get_or os i old ≡ old
+      → old ≡ option_map (λ ys. x ∷ ys) new → left os ≡ option_map (λ ys. x ∷ ys) (left (set os i new))
+  taken_known os xss i old new x known inside place is taken =
+      let here : old ≡ Some (list_at xss i) = sym is ∙ known_at os xss i old known inside in
+      let k = taken_some (list_at xss i) x new (sym here ∙ taken) in
+      let there : list_at xss (least cmp xss) ≡ x ∷ k.rest = ap (list_at xss) (sym place) ∙ k.is in
+      let after : all_known (set os i new) ≡ Some (set xss i k.rest) = ap (λ o. all_known (set os i o)) k.known ∙ known_set os xss i k.rest known inside in
+      ap (option_map (merged cmp)) known
+      ∙ ap Some (least_some cmp xss x k.rest there ∙ ap (λ n. x ∷ merged cmp (set xss n k.rest)) (sym place))
+      ∙ sym (ap (λ o. option_map (λ ys. x ∷ ys) (option_map (merged cmp) o)) after)
+
+  taken_unknown : (os : List (Option (List X))) (i : ℕ) (old new : Option (List X)) (x : X) → all_known os ≡ None → i < length os → get_or os i old ≡ old
+      → old ≡ option_map (λ ys. x ∷ ys) new → left os ≡ option_map (λ ys. x ∷ ys) (left (set os i new))
+  taken_unknown os i old new x unknown inside is taken =
+      let after : all_known (set os i new) ≡ None = none_set os i old new inside (λ e. unknown_taken x new (sym e ∙ is ∙ taken)) unknown in
+      ap (option_map (merged cmp)) unknown ∙ sym (ap (λ o. option_map (λ ys. x ∷ ys) (option_map (merged cmp) o)) after)
+
+  taken_by : (os : List (Option (List X))) (o : Option (List (List X))) (i : ℕ) (old new : Option (List X)) (r : Option X) → all_known os ≡ o → ((xss : List (List X)) → all_known os ≡ Some xss → i ≡ least cmp xss) → i < length os → get_or os i old ≡ old
+      → TakesFirst old r new → TakesFirst (left os) r (left (set os i new))
+  taken_by os (Some xss) i old new (Some x) e place inside is step = taken_known os xss i old new x e inside (place xss e) is step
+  taken_by os None i old new (Some x) e place inside is step = taken_unknown os i old new x e inside is step
+  taken_by os (Some xss) i old new None e place inside is step =
+      let same : set os i new ≡ os = ap (set os i) (step.0 ∙ sym is) ∙ set-get_or os i old in
+      let here : old ≡ Some (list_at xss i) = sym is ∙ known_at os xss i old e inside in
+      let empty : list_at xss (least cmp xss) ≡ [] = ap (list_at xss) (sym (place xss e)) ∙ subst (λ p. IfSome p (λ xs. xs ≡ [])) here step.1 in
+      (ap left same, subst (λ p. IfSome p (λ xs. xs ≡ [])) (sym (ap (option_map (merged cmp)) e)) (least_none cmp xss empty))
+  taken_by os None i old new None e place inside is step =
+      let same : set os i new ≡ os = ap (set os i) (step.0 ∙ sym is) ∙ set-get_or os i old in
+      (ap left same, subst (λ p. IfSome p (λ xs. xs ≡ [])) (sym (ap (option_map (merged cmp)) e)) tt)
+
+  -- what is taken from the source that has the least is taken from the merge
+  pub taken_from : (os : List (Option (List X))) (i : ℕ) (old new : Option (List X)) (r : Option X) → ((xss : List (List X)) → all_known os ≡ Some xss → i ≡ least cmp xss) → i < length os → get_or os i old ≡ old
+      → TakesFirst old r new → TakesFirst (left os) r (left (set os i new))
+  taken_from os i old new r place inside is step = taken_by os (all_known os) i old new r refl place inside is step
+
+  -- of two indexes, the lesser of the two lists' first items
+  pub better_first : (os : List (Option (List X))) (xss : List (List X)) (i best : ℕ) (a b : Option (List X)) → all_known os ≡ Some xss → i < length os → best < length os → a ≡ get_or os i a → b ≡ get_or os best b
+      → (a ≡ Some (list_at xss i)) × (b ≡ Some (list_at xss best))
+  better_first os xss i best a b known here there e f = (e ∙ known_at os xss i a known here, f ∙ known_at os xss best b known there)
+
+  -- the same, where the sources are seen again and what is left is known by another name
+  pub taken_merge : (os seen : List (Option (List X))) (i : ℕ) (old new all : Option (List X)) (r : Option X) → left os ≡ all → seen ≡ os → ((xss : List (List X)) → all_known seen ≡ Some xss → i ≡ least cmp xss) → i < length seen → old ≡ get_or os i old
+      → TakesFirst old r new → TakesFirst all r (left (set os i new))
+  taken_merge os seen i old new all r whole same place inside is step =
+      subst (λ o. TakesFirst o r (left (set os i new))) whole
+      (taken_from os i old new r (λ xss known. place xss (ap all_known same ∙ known)) (subst (λ ys. i < length ys) same inside) (sym is) step)

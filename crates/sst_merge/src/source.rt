@@ -1,0 +1,23 @@
+//! Sources of versions.
+ghost use Rattle.std.specs.Prelude.{◌≡◌, List, Option, IfOk};
+ghost use Rattle.sst_merge.specs.Sources.{TakesFirst};
+
+use sst_base::Result;
+use std::alloc::Global;
+
+/// An ordered list of versions, which are taken one after the other: a scan of a table, what an
+/// engine holds in memory, or a merge of others.
+pub trait Source<T> {
+    // The versions left, where they are known: those of a file whose bytes nothing is known of are
+    // not.
+    ghost left: { Self → Option (List T) };
+
+    /// Takes the first version left, or returns `None` where none is left.
+    ///
+    /// # Errors
+    ///
+    /// Those of what the versions are read from, and `Error::Memory` if an allocation fails. What
+    /// is left then is not said.
+    fn next_entry(&mut self, alloc: Global) -> Result<Option<T>>
+        ensures { IfOk result (λ r. TakesFirst (left self.old) r (left self.new)) };
+}
