@@ -4,16 +4,17 @@ use Rattle.sst_base.specs.Entry.{Entry}
 use Rattle.sst_merge.specs.Snapshot.{deletes, has_last_key}
 
 module _ {X : Type 0} (entry : X → Entry) where
-  -- the newest version of a key below the snapshot, in front of others; at the bottom level a tombstone goes
+  -- the newest version of a key below the snapshot, before others; at the bottom level a tombstone goes
   abbrev pub unless_dropped : Bool → X → List X → List X
   unless_dropped bottom e es = if bottom && deletes (entry e).key.value_type then es else e ∷ es
 
-  -- a list without the versions that no read at the snapshot or above can see; the last one below the snapshot is known
-  abbrev pub compact_from : ℕ → Bool → Option X → List X → List X
+  -- A list without the versions that no read at the snapshot or above can see: those below the snapshot, but for the
+  -- newest of each key. The last key of which one was kept is known.
+  abbrev pub compact_from : ℕ → Bool → Option (List ℕ) → List X → List X
   compact_from snapshot bottom last [] = []
   compact_from snapshot bottom last (e ∷ es) =
       if nat_lt (entry e).key.seqno snapshot
-      then (if has_last_key entry last e then compact_from snapshot bottom last es else unless_dropped bottom e (compact_from snapshot bottom (Some e) es))
+      then (if has_last_key entry last e then compact_from snapshot bottom last es else unless_dropped bottom e (compact_from snapshot bottom (Some (entry e).key.user_key) es))
       else e ∷ compact_from snapshot bottom last es
 
   abbrev pub compacted : ℕ → Bool → List X → List X

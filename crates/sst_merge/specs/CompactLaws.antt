@@ -22,17 +22,17 @@ ge_test : (a b : ℕ) → b ≤ a → nat_lt a b ≡ false
 ge_test a b h = grind (arith, nat_tests)
 
 module _ {X : Type 0} (entry : X → Entry) (s : ℕ) (bottom : Bool) where
-  abbrev go : Option X → List X → List X
+  abbrev go : Option (List ℕ) → List X → List X
   go = compact_from entry s bottom
 
   -- the four ways of a version
-  kept : (last : Option X) (x : X) (xs : List X) → nat_lt (entry x).key.seqno s ≡ false → go last (x ∷ xs) ≡ x ∷ go last xs
+  kept : (last : Option (List ℕ)) (x : X) (xs : List X) → nat_lt (entry x).key.seqno s ≡ false → go last (x ∷ xs) ≡ x ∷ go last xs
   kept last x xs h = rw h refl
 
-  repeated : (last : Option X) (x : X) (xs : List X) → nat_lt (entry x).key.seqno s ≡ true → has_last_key entry last x ≡ true → go last (x ∷ xs) ≡ go last xs
+  repeated : (last : Option (List ℕ)) (x : X) (xs : List X) → nat_lt (entry x).key.seqno s ≡ true → has_last_key entry last x ≡ true → go last (x ∷ xs) ≡ go last xs
   repeated last x xs h k = rw (h, k) refl
 
-  newest : (last : Option X) (x : X) (xs : List X) → nat_lt (entry x).key.seqno s ≡ true → has_last_key entry last x ≡ false → go last (x ∷ xs) ≡ unless_dropped entry bottom x (go (Some x) xs)
+  newest : (last : Option (List ℕ)) (x : X) (xs : List X) → nat_lt (entry x).key.seqno s ≡ true → has_last_key entry last x ≡ false → go last (x ∷ xs) ≡ unless_dropped entry bottom x (go (Some (entry x).key.user_key) xs)
   newest last x xs h k = rw (h, k) refl
 
   dropped : (x : X) (es : List X) → (bottom && deletes (entry x).key.value_type) ≡ true → unless_dropped entry bottom x es ≡ es
@@ -47,7 +47,7 @@ module _ {X : Type 0} (entry : X → Entry) (s : ℕ) (bottom : Bool) where
 
   module _ (k : List ℕ) (r : ℕ) where
     -- a list without the key has none of it then
-    c1 : (last : Option X) (xs : List X) → NoneHas entry k r xs → first (is_match entry k r) (go last xs) ≡ None
+    c1 : (last : Option (List ℕ)) (xs : List X) → NoneHas entry k r xs → first (is_match entry k r) (go last xs) ≡ None
     c1 last [] h = refl
     c1 last (x ∷ xs) h =
         let miss : is_match entry k r x ≡ false = both_false (nat_lt (number entry k r x) r) (has entry k r x) h.0 in
@@ -56,8 +56,8 @@ module _ {X : Type 0} (entry : X → Entry) (s : ℕ) (bottom : Bool) where
           | inl below ↦ elim (cases_Bool (has_last_key entry last x)) [
             | inl again ↦ ap (first (is_match entry k r)) (repeated last x xs below again) ∙ c1 last xs h.1
             | inr fresh ↦ ap (first (is_match entry k r)) (newest last x xs below fresh) ∙ elim (cases_Bool (bottom && deletes (entry x).key.value_type)) [
-              | inl gone ↦ ap (first (is_match entry k r)) (dropped x (go (Some x) xs) gone) ∙ c1 (Some x) xs h.1
-              | inr here ↦ ap (first (is_match entry k r)) (stays x (go (Some x) xs) here) ∙ first_miss (is_match entry k r) x (go (Some x) xs) miss ∙ c1 (Some x) xs h.1
+              | inl gone ↦ ap (first (is_match entry k r)) (dropped x (go (Some (entry x).key.user_key) xs) gone) ∙ c1 (Some (entry x).key.user_key) xs h.1
+              | inr here ↦ ap (first (is_match entry k r)) (stays x (go (Some (entry x).key.user_key) xs) here) ∙ first_miss (is_match entry k r) x (go (Some (entry x).key.user_key) xs) miss ∙ c1 (Some (entry x).key.user_key) xs h.1
             ]
           ]
         ]
@@ -75,19 +75,19 @@ module _ {X : Type 0} (entry : X → Entry) (s : ℕ) (bottom : Bool) where
         older_by (number entry k r l) (number entry k r x) (λ w. up (ap (λ o. ordering_then o (nat_cmp (number entry k r l) (number entry k r x))) e ∙ w))
 
     -- behind a version of the key below the snapshot, no more of it is kept
-    c2 : (l : X) (xs : List X) → has entry k r l ≡ true → number entry k r l < s → IsInOrder (order entry k r) (l ∷ xs) → first (is_match entry k r) (go (Some l) xs) ≡ None
+    c2 : (l : X) (xs : List X) → has entry k r l ≡ true → number entry k r l < s → IsInOrder (order entry k r) (l ∷ xs) → first (is_match entry k r) (go (Some (entry l).key.user_key) xs) ≡ None
     c2 l [] mine low up = refl
     c2 l (x ∷ xs) mine low up = elim (cases_Bool (has entry k r x)) [
       | inl same ↦ (
-          let again : has_last_key entry (Some l) x ≡ true = ap (λ b. is_eq (slice_cmp nat_cmp (key entry k r x) b)) (has_key entry k r l mine) ∙ same in
+          let again : has_last_key entry (Some (entry l).key.user_key) x ≡ true = ap (λ b. is_eq (slice_cmp nat_cmp (key entry k r x) b)) (has_key entry k r l mine) ∙ same in
           let keys : key entry k r x ≡ key entry k r l = has_key entry k r x same ∙ sym (has_key entry k r l mine) in
           let less = older l x keys up.0 in
           let below : nat_lt (entry x).key.seqno s ≡ true = lt_test (number entry k r x) s (omega (arith, less, low)) in
-          ap (first (is_match entry k r)) (repeated (Some l) x xs below again) ∙ c2 l xs mine low (skip entry k r l x xs up))
-      | inr other ↦ c1 (Some l) (x ∷ xs) (other, none_behind entry k r x xs up.1 (after_by entry k r x l (slice_cmp nat_cmp (key entry k r x) k) refl (has_key entry k r l mine) other up.0))
+          ap (first (is_match entry k r)) (repeated (Some (entry l).key.user_key) x xs below again) ∙ c2 l xs mine low (skip entry k r l x xs up))
+      | inr other ↦ c1 (Some (entry l).key.user_key) (x ∷ xs) (other, none_behind entry k r x xs up.1 (after_by entry k r x l (slice_cmp nat_cmp (key entry k r x) k) refl (has_key entry k r l mine) other up.0))
     ]
 
-    c3 : s ≤ r → (last : Option X) (xs : List X) → IsOther entry k r last → IsInOrder (order entry k r) xs → unless_hidden entry k r (first (is_match entry k r) (go last xs)) ≡ unless_hidden entry k r (first (is_match entry k r) xs)
+    c3 : s ≤ r → (last : Option (List ℕ)) (xs : List X) → IsOther entry k r last → IsInOrder (order entry k r) xs → unless_hidden entry k r (first (is_match entry k r) (go last xs)) ≡ unless_hidden entry k r (first (is_match entry k r) xs)
     c3 at last [] o up = refl
     c3 at last (x ∷ xs) o up = elim (cases_Bool (nat_lt (entry x).key.seqno s)) [
       | inr above ↦ ap (λ ys. unless_hidden entry k r (first (is_match entry k r) ys)) (kept last x xs above) ∙ elim (cases_Bool (is_match entry k r x)) [
@@ -102,9 +102,9 @@ module _ {X : Type 0} (entry : X → Entry) (s : ℕ) (bottom : Bool) where
                 let hit : is_match entry k r x ≡ true = both_true (nat_lt (number entry k r x) r) (has entry k r x) seen ∙ mine in
                 ap (λ ys. unless_hidden entry k r (first (is_match entry k r) ys)) (newest last x xs below (fresh entry k r last x o mine))
                 ∙ elim (cases_Bool (bottom && deletes (entry x).key.value_type)) [
-                  | inl gone ↦ ap (λ ys. unless_hidden entry k r (first (is_match entry k r) ys)) (dropped x (go (Some x) xs) gone) ∙ ap (unless_hidden entry k r) (c2 x xs mine low up)
+                  | inl gone ↦ ap (λ ys. unless_hidden entry k r (first (is_match entry k r) ys)) (dropped x (go (Some (entry x).key.user_key) xs) gone) ∙ ap (unless_hidden entry k r) (c2 x xs mine low up)
                       ∙ ap (λ b. cond b None (Some x)) (sym (deletes_if bottom (deletes (entry x).key.value_type) gone))
-                  | inr here ↦ ap (λ ys. unless_hidden entry k r (first (is_match entry k r) ys)) (stays x (go (Some x) xs) here) ∙ ap (unless_hidden entry k r) (first_hit (is_match entry k r) x (go (Some x) xs) hit)
+                  | inr here ↦ ap (λ ys. unless_hidden entry k r (first (is_match entry k r) ys)) (stays x (go (Some (entry x).key.user_key) xs) here) ∙ ap (unless_hidden entry k r) (first_hit (is_match entry k r) x (go (Some (entry x).key.user_key) xs) hit)
                 ]
                 ∙ ap (unless_hidden entry k r) (sym (first_hit (is_match entry k r) x xs hit)))
             | inr other ↦ (
@@ -113,8 +113,8 @@ module _ {X : Type 0} (entry : X → Entry) (s : ℕ) (bottom : Bool) where
                 elim (cases_Bool (has_last_key entry last x)) [
                   | inl again ↦ ap (λ ys. unless_hidden entry k r (first (is_match entry k r) ys)) (repeated last x xs below again) ∙ c3 at last xs o tail
                   | inr first_of ↦ ap (λ ys. unless_hidden entry k r (first (is_match entry k r) ys)) (newest last x xs below first_of) ∙ elim (cases_Bool (bottom && deletes (entry x).key.value_type)) [
-                    | inl gone ↦ ap (λ ys. unless_hidden entry k r (first (is_match entry k r) ys)) (dropped x (go (Some x) xs) gone) ∙ c3 at (Some x) xs other tail
-                    | inr here ↦ ap (λ ys. unless_hidden entry k r (first (is_match entry k r) ys)) (stays x (go (Some x) xs) here) ∙ ap (unless_hidden entry k r) (first_miss (is_match entry k r) x (go (Some x) xs) miss) ∙ c3 at (Some x) xs other tail
+                    | inl gone ↦ ap (λ ys. unless_hidden entry k r (first (is_match entry k r) ys)) (dropped x (go (Some (entry x).key.user_key) xs) gone) ∙ c3 at (Some (entry x).key.user_key) xs other tail
+                    | inr here ↦ ap (λ ys. unless_hidden entry k r (first (is_match entry k r) ys)) (stays x (go (Some (entry x).key.user_key) xs) here) ∙ ap (unless_hidden entry k r) (first_miss (is_match entry k r) x (go (Some (entry x).key.user_key) xs) miss) ∙ c3 at (Some (entry x).key.user_key) xs other tail
                   ]
                 ]
                 ∙ ap (unless_hidden entry k r) (sym (first_miss (is_match entry k r) x xs miss)))
@@ -129,28 +129,28 @@ module _ {X : Type 0} (entry : X → Entry) (s : ℕ) (bottom : Bool) where
   abbrev cmp : X → X → Ordering
   cmp = order entry [] 0
 
-  behind_one : (l : X) (last : Option X) (xs : List X) → IsInOrder cmp (l ∷ xs) → IsInOrder cmp (l ∷ go last xs)
+  behind_one : (l : X) (last : Option (List ℕ)) (xs : List X) → IsInOrder cmp (l ∷ xs) → IsInOrder cmp (l ∷ go last xs)
   behind_one l last [] up = tt
   behind_one l last (x ∷ xs) up = elim (cases_Bool (nat_lt (entry x).key.seqno s)) [
     | inr above ↦ rw (kept last x xs above) (up.0, behind_one x last xs up.1)
     | inl below ↦ elim (cases_Bool (has_last_key entry last x)) [
       | inl again ↦ rw (repeated last x xs below again) (behind_one l last xs (skip entry [] 0 l x xs up))
       | inr first_of ↦ rw (newest last x xs below first_of) (elim (cases_Bool (bottom && deletes (entry x).key.value_type)) [
-        | inl gone ↦ rw gone (behind_one l (Some x) xs (skip entry [] 0 l x xs up))
-        | inr here ↦ rw here (up.0, behind_one x (Some x) xs up.1)
+        | inl gone ↦ rw gone (behind_one l (Some (entry x).key.user_key) xs (skip entry [] 0 l x xs up))
+        | inr here ↦ rw here (up.0, behind_one x (Some (entry x).key.user_key) xs up.1)
       ])
     ]
   ]
 
-  in_order : (last : Option X) (xs : List X) → IsInOrder cmp xs → IsInOrder cmp (go last xs)
+  in_order : (last : Option (List ℕ)) (xs : List X) → IsInOrder cmp xs → IsInOrder cmp (go last xs)
   in_order last [] up = tt
   in_order last (x ∷ xs) up = elim (cases_Bool (nat_lt (entry x).key.seqno s)) [
     | inr above ↦ rw (kept last x xs above) (behind_one x last xs up)
     | inl below ↦ elim (cases_Bool (has_last_key entry last x)) [
       | inl again ↦ rw (repeated last x xs below again) (in_order last xs (order_tail entry [] 0 x xs up))
       | inr first_of ↦ rw (newest last x xs below first_of) (elim (cases_Bool (bottom && deletes (entry x).key.value_type)) [
-        | inl gone ↦ rw gone (in_order (Some x) xs (order_tail entry [] 0 x xs up))
-        | inr here ↦ rw here (behind_one x (Some x) xs up)
+        | inl gone ↦ rw gone (in_order (Some (entry x).key.user_key) xs (order_tail entry [] 0 x xs up))
+        | inr here ↦ rw here (behind_one x (Some (entry x).key.user_key) xs up)
       ])
     ]
   ]

@@ -19,23 +19,23 @@ seen None = None
 seen (Some e) = if deletes e.key.value_type then None else Some e
 
 module _ {X : Type 0} (entry : X → Entry) where
-  -- does a version have the key of the last one?
-  abbrev pub has_last_key : Option X → X → Bool
+  -- does a version have the last key?
+  abbrev pub has_last_key : Option (List ℕ) → X → Bool
   has_last_key None e = false
-  has_last_key (Some last) e = is_eq (slice_cmp nat_cmp (entry e).key.user_key (entry last).key.user_key)
+  has_last_key (Some last) e = is_eq (slice_cmp nat_cmp (entry e).key.user_key last)
 
-  -- a version in front of others, unless it is a tombstone
+  -- a version before others, unless it is a tombstone
   abbrev pub unless_deleted : X → List X → List X
   unless_deleted e es = if deletes (entry e).key.value_type then es else e ∷ es
 
-  -- is this the first version of its key below a sequence number, behind the last one?
-  abbrev pub is_newest : ℕ → Option X → X → Bool
+  -- is this the first version of its key below a sequence number, after those of the last key?
+  abbrev pub is_newest : ℕ → Option (List ℕ) → X → Bool
   is_newest seqno last e = nat_lt (entry e).key.seqno seqno && not (has_last_key last e)
 
-  -- for each key but that of the last version, the first below a sequence number, unless it is a tombstone
-  abbrev pub visible_from : ℕ → Option X → List X → List X
+  -- for each key but the last one, the first version below a sequence number, unless it is a tombstone
+  abbrev pub visible_from : ℕ → Option (List ℕ) → List X → List X
   visible_from seqno last [] = []
-  visible_from seqno last (e ∷ es) = if is_newest seqno last e then unless_deleted e (visible_from seqno (Some e) es) else visible_from seqno last es
+  visible_from seqno last (e ∷ es) = if is_newest seqno last e then unless_deleted e (visible_from seqno (Some (entry e).key.user_key) es) else visible_from seqno last es
 
   -- for each user key the first version below a sequence number; a tombstone hides its key
   abbrev pub snapshot : ℕ → List X → List X

@@ -78,12 +78,12 @@ module _ {X : Type 0} (entry : X → Entry) (k : List ℕ) (seqno : ℕ) where
   NoneHas (x ∷ xs) = (has x ≡ false) × NoneHas xs
 
   -- a list without the key shows none of it
-  v1 : (last : Option X) (xs : List X) → NoneHas xs → first has (visible_from entry seqno last xs) ≡ None
+  v1 : (last : Option (List ℕ)) (xs : List X) → NoneHas xs → first has (visible_from entry seqno last xs) ≡ None
   v1 last [] h = refl
   v1 last (x ∷ xs) h = elim (cases_Bool (is_newest entry seqno last x)) [
     | inl newest ↦ ap (first has) (visible-newest entry seqno last x xs newest) ∙ elim (cases_Bool (deletes (entry x).key.value_type)) [
-      | inl gone ↦ ap (λ b. first has (cond b (visible_from entry seqno (Some x) xs) (x ∷ visible_from entry seqno (Some x) xs))) gone ∙ v1 (Some x) xs h.1
-      | inr stays ↦ ap (λ b. first has (cond b (visible_from entry seqno (Some x) xs) (x ∷ visible_from entry seqno (Some x) xs))) stays ∙ first_miss has x _ h.0 ∙ v1 (Some x) xs h.1
+      | inl gone ↦ ap (λ b. first has (cond b (visible_from entry seqno (Some (key x)) xs) (x ∷ visible_from entry seqno (Some (key x)) xs))) gone ∙ v1 (Some (key x)) xs h.1
+      | inr stays ↦ ap (λ b. first has (cond b (visible_from entry seqno (Some (key x)) xs) (x ∷ visible_from entry seqno (Some (key x)) xs))) stays ∙ first_miss has x _ h.0 ∙ v1 (Some (key x)) xs h.1
     ]
     | inr passed ↦ ap (first has) (visible-passed entry seqno last x xs passed) ∙ v1 last xs h.1
   ]
@@ -120,43 +120,43 @@ module _ {X : Type 0} (entry : X → Entry) (k : List ℕ) (seqno : ℕ) where
   skip l x (y ∷ ys) up = (ge_trans order (versions_cmp_total key number) y x l up.1.0 up.0, up.1.1)
 
   -- behind a version of the key that was taken, no more of it is shown
-  v2 : (l : X) (xs : List X) → has l ≡ true → IsInOrder order (l ∷ xs) → first has (visible_from entry seqno (Some l) xs) ≡ None
+  v2 : (l : X) (xs : List X) → has l ≡ true → IsInOrder order (l ∷ xs) → first has (visible_from entry seqno (Some (key l)) xs) ≡ None
   v2 l [] mine up = refl
   v2 l (x ∷ xs) mine up = elim (cases_Bool (has x)) [
     | inl same ↦ (
-        let repeated : has_last_key entry (Some l) x ≡ true = ap (λ b. is_eq (slice_cmp nat_cmp (key x) b)) (has_key l mine) ∙ same in
-        let passed : is_newest entry seqno (Some l) x ≡ false = both_false (nat_lt (number x) seqno) (not (has_last_key entry (Some l) x)) (ap not repeated) in
-        ap (first has) (visible-passed entry seqno (Some l) x xs passed) ∙ v2 l xs mine (skip l x xs up))
-    | inr other ↦ v1 (Some l) (x ∷ xs) (other, none_behind x xs up.1 (after_by x l (slice_cmp nat_cmp (key x) k) refl (has_key l mine) other up.0))
+        let repeated : has_last_key entry (Some (key l)) x ≡ true = ap (λ b. is_eq (slice_cmp nat_cmp (key x) b)) (has_key l mine) ∙ same in
+        let passed : is_newest entry seqno (Some (key l)) x ≡ false = both_false (nat_lt (number x) seqno) (not (has_last_key entry (Some (key l)) x)) (ap not repeated) in
+        ap (first has) (visible-passed entry seqno (Some (key l)) x xs passed) ∙ v2 l xs mine (skip l x xs up))
+    | inr other ↦ v1 (Some (key l)) (x ∷ xs) (other, none_behind x xs up.1 (after_by x l (slice_cmp nat_cmp (key x) k) refl (has_key l mine) other up.0))
   ]
 
-  -- the last one taken has another key
-  abbrev pub IsOther : Option X → Type 0
+  -- the last key is another
+  abbrev pub IsOther : Option (List ℕ) → Type 0
   IsOther None = Unit {0}
-  IsOther (Some l) = has l ≡ false
+  IsOther (Some l) = is_eq (slice_cmp nat_cmp l k) ≡ false
 
-  turned : (l : X) → has l ≡ false → is_eq (slice_cmp nat_cmp k (key l)) ≡ false
-  turned l o = elim (cases_Bool (is_eq (slice_cmp nat_cmp k (key l)))) [
-    | inl same ↦ absurd (let e : true ≡ false = sym (has_of l (sym ((slice_cmp-equal k (key l)).0 (eq_is (slice_cmp nat_cmp k (key l)) same)))) ∙ o in cc)
+  turned : (l : List ℕ) → is_eq (slice_cmp nat_cmp l k) ≡ false → is_eq (slice_cmp nat_cmp k l) ≡ false
+  turned l o = elim (cases_Bool (is_eq (slice_cmp nat_cmp k l))) [
+    | inl same ↦ absurd (let e : true ≡ false = sym (ap is_eq ((slice_cmp-equal l k).1 (sym ((slice_cmp-equal k l).0 (eq_is (slice_cmp nat_cmp k l) same))))) ∙ o in cc)
     | inr other ↦ other
   ]
 
-  pub fresh : (last : Option X) (x : X) → IsOther last → has x ≡ true → has_last_key entry last x ≡ false
+  pub fresh : (last : Option (List ℕ)) (x : X) → IsOther last → has x ≡ true → has_last_key entry last x ≡ false
   fresh None x o mine = refl
-  fresh (Some l) x o mine = ap (λ b. is_eq (slice_cmp nat_cmp b (key l))) (has_key x mine) ∙ turned l o
+  fresh (Some l) x o mine = ap (λ b. is_eq (slice_cmp nat_cmp b l)) (has_key x mine) ∙ turned l o
 
   pub order_tail : (x : X) (xs : List X) → IsInOrder order (x ∷ xs) → IsInOrder order xs
   order_tail x [] up = tt
   order_tail x (y ∷ ys) up = up.1
 
-  v3 : (last : Option X) (xs : List X) → IsOther last → IsInOrder order xs → first has (visible_from entry seqno last xs) ≡ unless_hidden (first is_match xs)
+  v3 : (last : Option (List ℕ)) (xs : List X) → IsOther last → IsInOrder order xs → first has (visible_from entry seqno last xs) ≡ unless_hidden (first is_match xs)
   v3 last [] o up = refl
   v3 last (x ∷ xs) o up = elim (cases_Bool (has x)) [
     | inl mine ↦ elim (cases_Bool (nat_lt (number x) seqno)) [
       | inl below ↦ (
           let newest : is_newest entry seqno last x ≡ true = both_true (nat_lt (number x) seqno) (not (has_last_key entry last x)) below ∙ ap not (fresh last x o mine) in
           let hits : is_match x ≡ true = both_true (nat_lt (number x) seqno) (has x) below ∙ mine in
-          let rest = visible_from entry seqno (Some x) xs in
+          let rest = visible_from entry seqno (Some (key x)) xs in
           ap (first has) (visible-newest entry seqno last x xs newest)
           ∙ elim (cases_Bool (deletes (entry x).key.value_type)) [
             | inl gone ↦ ap (λ b. first has (cond b rest (x ∷ rest))) gone ∙ v2 x xs mine up ∙ ap (λ b. cond b None (Some x)) (sym gone)
@@ -170,14 +170,14 @@ module _ {X : Type 0} (entry : X → Entry) (k : List ℕ) (seqno : ℕ) where
     ]
     | inr other ↦ (
         let miss : is_match x ≡ false = both_false (nat_lt (number x) seqno) (has x) other in
-        let rest = visible_from entry seqno (Some x) xs in
+        let rest = visible_from entry seqno (Some (key x)) xs in
         elim (cases_Bool (is_newest entry seqno last x)) [
           | inl newest ↦ ap (first has) (visible-newest entry seqno last x xs newest)
               ∙ elim (cases_Bool (deletes (entry x).key.value_type)) [
                 | inl gone ↦ ap (λ b. first has (cond b rest (x ∷ rest))) gone
                 | inr stays ↦ ap (λ b. first has (cond b rest (x ∷ rest))) stays ∙ first_miss has x rest other
               ]
-              ∙ v3 (Some x) xs other (order_tail x xs up) ∙ ap unless_hidden (sym (first_miss is_match x xs miss))
+              ∙ v3 (Some (key x)) xs other (order_tail x xs up) ∙ ap unless_hidden (sym (first_miss is_match x xs miss))
           | inr passed ↦ ap (first has) (visible-passed entry seqno last x xs passed) ∙ v3 last xs o (order_tail x xs up) ∙ ap unless_hidden (sym (first_miss is_match x xs miss))
         ])
   ]

@@ -1,23 +1,32 @@
 -- Laws of what is known of sources.
-use Rattle.std.proofs.Common.{◌≡◌, ℕ, zero, suc, ◌<◌, List, [], ◌∷◌, length, get_or, Option, Some, None, inl, inr, refl, sym, ap, subst, ◌∙◌, arith}
+use Rattle.std.proofs.Common.{◌≡◌, ℕ, zero, suc, ◌+◌, ◌<◌, ◌≤◌, List, [], ◌∷◌, length, map, get_or, Option, Some, None, refl, sym, ap, subst, ◌∙◌, arith}
 use Rattle.std.specs.Prelude.{IfSome}
 use Rattle.std.specs.Option.{option_map}
 use Rattle.std.proofs.Math.ListN.{set}
-use Rattle.std.proofs.lemmas.List.{set-get_or}
+use Rattle.std.proofs.lemmas.List.{set-get_or, map-set, get_or-map, length-map}
+use Rattle.std.proofs.lemmas.List.Sums.{sum_by-set}
+use Rattle.std.specs.List.{sum_by}
 use Rattle.std.specs.declared.cmp.Ordering.{Ordering}
 use Rattle.sst_merge.specs.Merge.{merged}
 use Rattle.sst_merge.specs.Picks.{list_at, least, least_none, least_some}
-use Rattle.sst_merge.specs.Sources.{TakesFirst, before, IsHeld, all_known}
+use Rattle.sst_merge.specs.Sources.{Left, TakesFirst, before, held_count, IsHeld, all_known, lists_left, all_left}
+
+same_list : {X : Type 0} (o : Option (List X)) → option_map (before None) o ≡ o
+same_list None = refl
+same_list (Some xs) = refl
 
 -- what a step took is held before what is left
-pub held_before : {X : Type 0} (s t : Option (List X)) (r : Option X) → TakesFirst s r t → option_map (before r) t ≡ s
-held_before s None None h = h.0
-held_before s (Some xs) None h = h.0
-held_before s t (Some x) h = sym h
+pub held_before : {X : Type 0} (s t : Left X) (r : Option X) → TakesFirst s r t → option_map (before r) t.list ≡ s.list
+held_before s t None h = same_list t.list ∙ h.0
+held_before s t (Some x) h = sym h.0
 
-pub held_is : {X : Type 0} (s t : Option (List X)) (r : Option X) → TakesFirst s r t → IsHeld r t
+pub held_is : {X : Type 0} (s t : Left X) (r : Option X) → TakesFirst s r t → IsHeld r t.list
 held_is s t None h = subst (λ o. IfSome o (λ xs. xs ≡ [])) (sym h.0) h.1
 held_is s t (Some x) h = tt
+
+pub held_most : {X : Type 0} (s t : Left X) (r : Option X) → TakesFirst s r t → held_count r + t.most ≤ s.most
+held_most s t None h = omega (arith, h.2)
+held_most s t (Some x) h = omega (arith, h.1)
 
 some_is : {A : Type 0} (x y : A) → ◌≡◌ {A = Option A} (Some x) (Some y) → x ≡ y
 some_is x y e = cc
@@ -77,6 +86,15 @@ known_length (Some a ∷ os) all e =
     let n = known_length os k.rest k.known in
     ap length k.is ∙ ap suc n
 
+-- a step as lists alone know it
+abbrev TakesList : {X : Type 0} → Option (List X) → Option X → Option (List X) → Type 0
+TakesList s None t = (t ≡ s) × IfSome s (λ xs. xs ≡ [])
+TakesList s (Some x) t = s ≡ option_map (λ xs. x ∷ xs) t
+
+list_taken : {X : Type 0} (s t : Left X) (r : Option X) → TakesFirst s r t → TakesList s.list r t.list
+list_taken s t None h = (h.0, h.1)
+list_taken s t (Some x) h = h.0
+
 module _ {X : Type 0} (cmp : X → X → Ordering) where
   -- what is left of the merge
   abbrev left : List (Option (List X)) → Option (List X)
@@ -112,7 +130,7 @@ module _ {X : Type 0} (cmp : X → X → Ordering) where
       ap (option_map (merged cmp)) unknown ∙ sym (ap (λ o. option_map (λ ys. x ∷ ys) (option_map (merged cmp) o)) after)
 
   taken_by : (os : List (Option (List X))) (o : Option (List (List X))) (i : ℕ) (old new : Option (List X)) (r : Option X) → all_known os ≡ o → ((xss : List (List X)) → all_known os ≡ Some xss → i ≡ least cmp xss) → i < length os → get_or os i old ≡ old
-      → TakesFirst old r new → TakesFirst (left os) r (left (set os i new))
+      → TakesList old r new → TakesList (left os) r (left (set os i new))
   taken_by os (Some xss) i old new (Some x) e place inside is step = taken_known os xss i old new x e inside (place xss e) is step
   taken_by os None i old new (Some x) e place inside is step = taken_unknown os i old new x e inside is step
   taken_by os (Some xss) i old new None e place inside is step =
@@ -124,19 +142,51 @@ module _ {X : Type 0} (cmp : X → X → Ordering) where
       let same : set os i new ≡ os = ap (set os i) (step.0 ∙ sym is) ∙ set-get_or os i old in
       (ap left same, subst (λ p. IfSome p (λ xs. xs ≡ [])) (sym (ap (option_map (merged cmp)) e)) tt)
 
-  -- what is taken from the source that has the least is taken from the merge
-  pub taken_from : (os : List (Option (List X))) (i : ℕ) (old new : Option (List X)) (r : Option X) → ((xss : List (List X)) → all_known os ≡ Some xss → i ≡ least cmp xss) → i < length os → get_or os i old ≡ old
-      → TakesFirst old r new → TakesFirst (left os) r (left (set os i new))
-  taken_from os i old new r place inside is step = taken_by os (all_known os) i old new r refl place inside is step
+  -- the heads' lists at an index
+  list_of : (ls : List (Left X)) (i : ℕ) (l : Left X) → i < length ls → l ≡ get_or ls i l → get_or (map (λ (s : Left X). s.list) ls) i l.list ≡ l.list
+  list_of ls i l inside is = get_or-map (λ (s : Left X). s.list) ls i l l.list inside ∙ ap (λ (s : Left X). s.list) (sym is)
 
-  -- of two indexes, the lesser of the two lists' first items
-  pub better_first : (os : List (Option (List X))) (xss : List (List X)) (i best : ℕ) (a b : Option (List X)) → all_known os ≡ Some xss → i < length os → best < length os → a ≡ get_or os i a → b ≡ get_or os best b
-      → (a ≡ Some (list_at xss i)) × (b ≡ Some (list_at xss best))
-  better_first os xss i best a b known here there e f = (e ∙ known_at os xss i a known here, f ∙ known_at os xss best b known there)
+  -- what is taken from the source that has the least is taken from the merge
+  taken_list : (ls : List (Left X)) (i : ℕ) (old new : Left X) (r : Option X) → ((xss : List (List X)) → lists_left ls ≡ Some xss → i ≡ least cmp xss) → i < length ls → old ≡ get_or ls i old
+      → TakesFirst old r new → TakesList (left (map (λ (s : Left X). s.list) ls)) r (left (map (λ (s : Left X). s.list) (set ls i new)))
+  taken_list ls i old new r place inside is step =
+      let os = map (λ (s : Left X). s.list) ls in
+      let n : length os ≡ length ls = length-map ls (λ (s : Left X). s.list) in
+      subst (λ ps. TakesList (left os) r (left ps)) (sym (map-set (λ (s : Left X). s.list) ls i new))
+      (taken_by os (all_known os) i old.list new.list r refl place (omega (arith, n, inside)) (list_of ls i old inside is) (list_taken old new r step))
+
+  taken_most : (ls : List (Left X)) (i : ℕ) (old new : Left X) (m : ℕ) → i < length ls → old ≡ get_or ls i old → new.most + m ≤ old.most → sum_by (λ (s : Left X). s.most) (set ls i new) + m ≤ sum_by (λ (s : Left X). s.most) ls
+  taken_most ls i old new m inside is less =
+      let f = λ (s : Left X). s.most in
+      let e = sum_by-set f ls i new old inside in
+      let o : f (get_or ls i old) ≡ old.most = ap f (sym is) in
+      omega (arith, e, o, less)
+
+  taken_both : (ls : List (Left X)) (i : ℕ) (old new : Left X) (r : Option X) → i < length ls → old ≡ get_or ls i old → TakesFirst old r new
+      → TakesList (left (map (λ (s : Left X). s.list) ls)) r (left (map (λ (s : Left X). s.list) (set ls i new)))
+      → TakesFirst (all_left (merged cmp) ls) r (all_left (merged cmp) (set ls i new))
+  taken_both ls i old new None inside is step lists = (lists.0, lists.1, (let k = taken_most ls i old new 0 inside is (omega (arith, step.2)) in omega (arith, k)))
+  taken_both ls i old new (Some x) inside is step lists = (lists, (let k = taken_most ls i old new 1 inside is (omega (arith, step.1)) in omega (arith, k)))
+
+  pub taken_from : (ls : List (Left X)) (i : ℕ) (old new : Left X) (r : Option X) → ((xss : List (List X)) → lists_left ls ≡ Some xss → i ≡ least cmp xss) → i < length ls → old ≡ get_or ls i old
+      → TakesFirst old r new → TakesFirst (all_left (merged cmp) ls) r (all_left (merged cmp) (set ls i new))
+  taken_from ls i old new r place inside is step = taken_both ls i old new r inside is step (taken_list ls i old new r place inside is step)
 
   -- the same, where the sources are seen again and what is left is known by another name
-  pub taken_merge : (os seen : List (Option (List X))) (i : ℕ) (old new all : Option (List X)) (r : Option X) → left os ≡ all → seen ≡ os → ((xss : List (List X)) → all_known seen ≡ Some xss → i ≡ least cmp xss) → i < length seen → old ≡ get_or os i old
-      → TakesFirst old r new → TakesFirst all r (left (set os i new))
-  taken_merge os seen i old new all r whole same place inside is step =
-      subst (λ o. TakesFirst o r (left (set os i new))) whole
-      (taken_from os i old new r (λ xss known. place xss (ap all_known same ∙ known)) (subst (λ ys. i < length ys) same inside) (sym is) step)
+  pub taken_merge : (ls seen : List (Left X)) (i : ℕ) (old new all : Left X) (r : Option X) → all_left (merged cmp) ls ≡ all → seen ≡ ls → ((xss : List (List X)) → lists_left seen ≡ Some xss → i ≡ least cmp xss) → i < length seen → old ≡ get_or ls i old
+      → TakesFirst old r new → TakesFirst all r (all_left (merged cmp) (set ls i new))
+  taken_merge ls seen i old new all r whole same place inside is step =
+      subst (λ o. TakesFirst o r (all_left (merged cmp) (set ls i new))) whole
+      (taken_from ls i old new r (λ xss known. place xss (ap lists_left same ∙ known)) (subst (λ ys. i < length ys) same inside) is step)
+
+  -- of two indexes, the lists of the two sources
+  pub better_first : (ls : List (Left X)) (xss : List (List X)) (i best : ℕ) (a b : Left X) → lists_left ls ≡ Some xss → i < length ls → best < length ls → a ≡ get_or ls i a → b ≡ get_or ls best b
+      → (a.list ≡ Some (list_at xss i)) × (b.list ≡ Some (list_at xss best))
+  better_first ls xss i best a b known here there e f =
+      let os = map (λ (s : Left X). s.list) ls in
+      let n : length os ≡ length ls = length-map ls (λ (s : Left X). s.list) in
+      (sym (list_of ls i a here e) ∙ known_at os xss i a.list known (omega (arith, n, here)), sym (list_of ls best b there f) ∙ known_at os xss best b.list known (omega (arith, n, there)))
+
+-- as many lists are known as there are sources
+pub lists_length : {X : Type 0} (ls : List (Left X)) (xss : List (List X)) → lists_left ls ≡ Some xss → length xss ≡ length ls
+lists_length {X = X} ls xss known = known_length (map (λ (s : Left X). s.list) ls) xss known ∙ length-map ls (λ (s : Left X). s.list)

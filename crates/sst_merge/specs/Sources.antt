@@ -1,16 +1,35 @@
--- What clauses know of sources. The list of a source is known where its bytes are, and else nothing is said of it.
-use Rattle.std.specs.Prelude.{◌≡◌, List, [], ◌∷◌, Option, Some, None, IfSome}
+-- What clauses know of sources.
+use Rattle.std.specs.Prelude.{◌≡◌, ℕ, ◌+◌, ◌<◌, ◌≤◌, List, [], ◌∷◌, map, Option, Some, None, IfSome}
 use Rattle.std.specs.Option.{option_map}
+use Rattle.std.specs.List.{sum_by}
 
--- a step takes the first item of a list, or there is none; where the list is known, so is what is left of it
-abbrev pub TakesFirst : {X : Type 0} → Option (List X) → Option X → Option (List X) → Type 0
-TakesFirst s None t = (t ≡ s) × IfSome s (λ xs. xs ≡ [])
-TakesFirst s (Some x) t = s ≡ option_map (λ xs. x ∷ xs) t
+-- What is left of a source: the list of its items, where the bytes are known that they are read from, and else nothing
+-- is said of it; and at most how many they are.
+pub record Left (X : Type 0) : Type 0 where
+  pub list : Option (List X)
+  pub most : ℕ
+
+-- a step takes the first item of what is left, or there is none
+abbrev pub TakesFirst : {X : Type 0} → Left X → Option X → Left X → Type 0
+TakesFirst s None t = (t.list ≡ s.list) × IfSome s.list (λ xs. xs ≡ []) × (t.most ≤ s.most)
+TakesFirst s (Some x) t = (s.list ≡ option_map (λ xs. x ∷ xs) t.list) × (t.most < s.most)
+
+-- what is left, in a list of other items
+abbrev pub left_as : {X Y : Type 0} → (List X → List Y) → Left X → Left Y
+left_as f s = record { list = option_map f s.list; most = s.most }
 
 -- an item, if there is one, before others
 abbrev pub before : {X : Type 0} → Option X → List X → List X
 before None xs = xs
 before (Some x) xs = x ∷ xs
+
+abbrev pub held_count : {X : Type 0} → Option X → ℕ
+held_count None = 0
+held_count (Some x) = 1
+
+-- what is left where an item is held before it
+abbrev pub left_held : {X : Type 0} → Option X → Left X → Left X
+left_held held s = record { list = option_map (before held) s.list; most = held_count held + s.most }
 
 -- where none is held, none is left
 abbrev pub IsHeld : {X : Type 0} → Option X → Option (List X) → Type 0
@@ -22,3 +41,10 @@ abbrev pub all_known : {A : Type 0} → List (Option A) → Option (List A)
 all_known [] = Some []
 all_known (None ∷ all) = None
 all_known (Some a ∷ all) = option_map (λ rest. a ∷ rest) (all_known all)
+
+abbrev pub lists_left : {X : Type 0} → List (Left X) → Option (List (List X))
+lists_left {X = X} lefts = all_known (map (λ (s : Left X). s.list) lefts)
+
+-- what is left of sources together, put into one list
+abbrev pub all_left : {X : Type 0} → (List (List X) → List X) → List (Left X) → Left X
+all_left {X = X} together lefts = record { list = option_map together (lists_left lefts); most = sum_by (λ (s : Left X). s.most) lefts }

@@ -1,9 +1,8 @@
 //! Ordered merges of any number of sources.
-ghost use Rattle.std.specs.Prelude.{◌≡◌, ◌<◌, List, length, if◌then◌else◌, IfOk, Some};
-ghost use Rattle.std.specs.Option.{option_map};
+ghost use Rattle.std.specs.Prelude.{◌≡◌, ◌<◌, ◌≤◌, List, length, if◌then◌else◌, IfOk, Some};
 ghost use Rattle.sst_merge.specs.Merge.{order_by, merged};
 ghost use Rattle.sst_merge.specs.Picks.{wins, least, list_at};
-ghost use Rattle.sst_merge.specs.Sources.{TakesFirst, all_known};
+ghost use Rattle.sst_merge.specs.Sources.{TakesFirst, lists_left, all_left};
 
 use crate::source::Source;
 use crate::version::Version;
@@ -21,15 +20,13 @@ pub struct Head<T, I: Source<T>> {
 }
 
 impl<T, I: Source<T>> Model for Head<T, I> {
-    ghost use Rattle.std.specs.Prelude.{List, Option};
-    ghost use Rattle.std.specs.Option.{option_map};
-    ghost use Rattle.sst_merge.specs.Sources.{before, IsHeld};
+    ghost use Rattle.sst_merge.specs.Sources.{Left, left_held, IsHeld};
 
-    ghost Value = { Option (List T) };
+    ghost Value = { Left T };
 
-    ghost view = { λ h. option_map (before h.held) (I.left h.source) };
+    ghost view = { λ h. left_held h.held (I.left h.source) };
 
-    ghost invariant = { λ h. IsHeld h.held (I.left h.source) };
+    ghost invariant = { λ h. IsHeld h.held (I.left h.source).list };
 }
 
 impl<T: Drop, I: Source<T> + Drop> Head<T, I> {
@@ -38,9 +35,10 @@ impl<T: Drop, I: Source<T> + Drop> Head<T, I> {
     /// # Errors
     ///
     /// Those of the source's step.
-    #[tactic(auto, using(crate::specs::SourceLaws::held_before, crate::specs::SourceLaws::held_is))]
+    #[tactic(auto, using(crate::specs::SourceLaws::held_before, crate::specs::SourceLaws::held_is, crate::specs::SourceLaws::held_most))]
     pub fn new(alloc: Global, mut source: I) -> Result<Head<T, I>>
-        ensures { IfOk result (λ head. head ≡ I.left source) }
+        ensures list { IfOk result (λ head. head.list ≡ (I.left source).list) }
+        ensures most { IfOk result (λ head. head.most ≤ (I.left source).most) }
     {
         let held = source.next_entry(alloc)?;
         Ok(Head { held, source })
@@ -62,7 +60,7 @@ impl<T: Drop, I: Source<T>> Head<T, I> {
 
 // Whether the version that is held of one source comes before that of a later source.
 fn goes_first<T: Version, I: Source<T>>(first: &Head<T, I>, second: &Head<T, I>) -> bool
-    ensures { (xs ys : List T) → first.now ≡ Some xs → second.now ≡ Some ys
+    ensures { (xs ys : List T) → first.now.list ≡ Some xs → second.now.list ≡ Some ys
         → result ≡ wins (order_by T.entry) xs ys }
 {
     match (&first.held, &second.held) {
@@ -76,7 +74,7 @@ fn goes_first<T: Version, I: Source<T>>(first: &Head<T, I>, second: &Head<T, I>)
 fn better<T: Version, I: Source<T>>(heads: &[Head<T, I>], i: usize, best: usize) -> usize
     requires earlier { i < length heads.now }
     requires later { best < length heads.now }
-    ensures index { (xss : List (List T)) → all_known heads.now ≡ Some xss
+    ensures index { (xss : List (List T)) → lists_left heads.now ≡ Some xss
         → result ≡ (if wins (order_by T.entry) (list_at xss i)
         (list_at xss best) then i else best) }
     ensures inside { result < length heads.now }
@@ -91,7 +89,7 @@ fn better<T: Version, I: Source<T>>(heads: &[Head<T, I>], i: usize, best: usize)
 // The index of the source that has the first version of the merge.
 fn least_of<T: Version, I: Source<T>>(heads: &[Head<T, I>]) -> usize
     requires { 0 < length heads.now }
-    ensures index { (xss : List (List T)) → all_known heads.now ≡ Some xss
+    ensures index { (xss : List (List T)) → lists_left heads.now ≡ Some xss
         → result ≡ least (order_by T.entry) xss }
     ensures inside { result < length heads.now }
 {
@@ -112,22 +110,18 @@ pub struct Merge<T: Version, I: Source<T>> {
 }
 
 impl<T: Version, I: Source<T>> Model for Merge<T, I> {
-    ghost use Rattle.std.specs.Prelude.{List, Option};
-    ghost use Rattle.std.specs.Option.{option_map};
     ghost use Rattle.sst_merge.specs.Merge.{order_by, merged};
-    ghost use Rattle.sst_merge.specs.Sources.{all_known};
+    ghost use Rattle.sst_merge.specs.Sources.{Left, all_left};
 
-    ghost Value = { Option (List T) };
+    ghost Value = { Left T };
 
-    ghost view = { λ m. option_map (merged (order_by T.entry))
-        (all_known m.heads.items) };
+    ghost view = { λ m. all_left (merged (order_by T.entry)) m.heads.items };
 }
 
 impl<T: Version, I: Source<T>> Merge<T, I> {
     /// Merges sources, of which the first versions are held.
     pub fn new(heads: Vec<Head<T, I>>) -> Merge<T, I>
-        ensures { result ≡ option_map (merged (order_by T.entry))
-            (all_known heads.items) }
+        ensures { result ≡ all_left (merged (order_by T.entry)) heads.items }
     {
         Merge { heads }
     }

@@ -1,6 +1,6 @@
 //! Sources of versions.
-ghost use Rattle.std.specs.Prelude.{◌≡◌, List, Option, IfOk};
-ghost use Rattle.sst_merge.specs.Sources.{TakesFirst};
+ghost use Rattle.std.specs.Prelude.{IfOk};
+ghost use Rattle.sst_merge.specs.Sources.{Left, TakesFirst};
 
 use sst_base::Result;
 use std::alloc::Global;
@@ -8,9 +8,9 @@ use std::alloc::Global;
 /// An ordered list of versions, which are taken one after the other: a scan of a table, what an
 /// engine holds in memory, or a merge of others.
 pub trait Source<T> {
-    // The versions left, where they are known: those of a file whose bytes nothing is known of are
-    // not.
-    ghost left: { Self → Option (List T) };
+    // The versions left, where they are known (those of a file whose bytes nothing is known of are
+    // not), and at most how many they are.
+    ghost left: { Self → Left T };
 
     /// Takes the first version left, or returns `None` where none is left.
     ///

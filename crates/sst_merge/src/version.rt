@@ -6,8 +6,8 @@ ghost use Rattle.sst_base.specs.Entry.{Entry};
 ghost use Rattle.sst_merge.specs.Merge.{entry_cmp};
 ghost use Rattle.sst_merge.specs.Snapshot.{deletes};
 
-use sst_base::{InternalValue, SeqNo, ValueType};
-use std::alloc::AllocError;
+use sst_base::{InternalValue, SeqNo, UserKey, ValueType};
+use std::alloc::{AllocError, Global};
 use std::cmp::Ordering;
 
 /// A version of a key: an entry, or what stands for one. Versions compare by user key rising, then
@@ -24,22 +24,21 @@ pub trait Version: Sized {
     fn seqno(&self) -> SeqNo
         ensures { result ≡ (entry self.now).key.seqno };
 
-    /// Returns whether it has the user key of another version.
-    fn has_key_of(&self, other: &Self) -> bool
-        ensures { result ≡ is_eq (slice_cmp nat_cmp (entry self.now).key.user_key
-            (entry other.now).key.user_key) };
+    /// Returns whether it is a version of this user key.
+    fn has_user_key(&self, user_key: &[u8]) -> bool
+        ensures { result ≡ is_eq (slice_cmp nat_cmp (entry self.now).key.user_key user_key.now) };
 
-    /// Returns whether it is a tombstone, weak or not.
-    fn is_tombstone(&self) -> bool
-        ensures { result ≡ deletes (entry self.now).key.value_type };
-
-    /// Returns a copy.
+    /// Returns its user key.
     ///
     /// # Errors
     ///
     /// If an allocation fails.
-    fn copied(&self) -> Result<Self, AllocError>
-        ensures { IfOk result (λ copy. copy ≡ self.now) };
+    fn user_key(&self, alloc: Global) -> Result<UserKey, AllocError>
+        ensures { IfOk result (λ user_key. user_key ≡ (entry self.now).key.user_key) };
+
+    /// Returns whether it is a tombstone, weak or not.
+    fn is_tombstone(&self) -> bool
+        ensures { result ≡ deletes (entry self.now).key.value_type };
 }
 
 impl Version for InternalValue {
@@ -53,8 +52,12 @@ impl Version for InternalValue {
         self.key().seqno()
     }
 
-    fn has_key_of(&self, other: &InternalValue) -> bool {
-        self.key().user_key().cmp_bytes(other.key().user_key().as_slice()).is_eq()
+    fn has_user_key(&self, user_key: &[u8]) -> bool {
+        self.key().user_key().cmp_bytes(user_key).is_eq()
+    }
+
+    fn user_key(&self, _alloc: Global) -> Result<UserKey, AllocError> {
+        self.key().user_key().clone()
     }
 
     fn is_tombstone(&self) -> bool {
@@ -62,9 +65,5 @@ impl Version for InternalValue {
             ValueType::Tombstone | ValueType::WeakTombstone => true,
             ValueType::Value | ValueType::Indirection => false,
         }
-    }
-
-    fn copied(&self) -> Result<InternalValue, AllocError> {
-        self.clone()
     }
 }
