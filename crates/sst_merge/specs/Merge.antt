@@ -34,3 +34,8 @@ abbrev pub lesser : {X : Type 0} → (X → X → Ordering) → Option X → Opt
 lesser cmp None b = b
 lesser cmp (Some a) None = Some a
 lesser cmp (Some a) (Some b) = if is_lt (cmp b a) then Some b else Some a
+
+-- the least of first matches, and of equal ones the earliest
+abbrev pub least_match : {X : Type 0} → (X → X → Ordering) → List (Option X) → Option X
+least_match cmp [] = None
+least_match cmp (a ∷ others) = lesser cmp a (least_match cmp others)

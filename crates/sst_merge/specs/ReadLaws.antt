@@ -3,7 +3,7 @@ use Rattle.std.proofs.Common.{◌≡◌, ◌≢◌, ℕ, ◌+◌, ◌<◌, ◌�
 use Rattle.std.specs.Option.{option_map}
 use Rattle.std.specs.Ordering.{is_lt, is_eq, nat_cmp}
 use Rattle.std.specs.Cmp.Lexicographic.{slice_cmp}
-use Rattle.std.proofs.lemmas.List.{drop_more, drop_all}
+use Rattle.std.specs.List.{AllByRecursion}
 use Rattle.sst_base.specs.Entry.{Entry, plain}
 use Rattle.sst_base.specs.KeyOrderLaws.{versions_cmp_total}
 use Rattle.sst_block_core.specs.Entries.{entries}
@@ -11,7 +11,7 @@ use Rattle.sst_block_core.specs.Kind.{IsOrdered}
 use Rattle.sst_block_core.specs.Window.{first_match, is_version}
 use Rattle.sst_merge.specs.Compact.{compacted}
 use Rattle.sst_merge.specs.CompactLaws.{compact-first_match, compact-ordered}
-use Rattle.sst_merge.specs.Merge.{merge, merged, lesser, entry_cmp}
+use Rattle.sst_merge.specs.Merge.{merge, merged, lesser, least_match, entry_cmp}
 use Rattle.sst_merge.specs.MergeLaws.{merge-ordered}
 use Rattle.sst_merge.specs.MergeReads.{merge-first_match}
 use Rattle.sst_merge.specs.Snapshot.{deletes, seen, snapshot}
@@ -44,31 +44,22 @@ merge_match needle s xs ys a b =
 pub merge_order : (xs ys : List Entry) → IsOrdered entries xs → IsOrdered entries ys → IsOrdered entries (merge entry_cmp xs ys)
 merge_order xs ys a b = merge-ordered entry_cmp (versions_cmp_total entries.key entries.seqno) xs ys a b
 
--- the lists from a place on, one more in front
-pub from_before : (xss : List (List Entry)) (j i : ℕ) (xs : List Entry) → j < length xss → j + 1 ≡ i → xs ≡ get_or xss j xs → drop j xss ≡ xs ∷ drop i xss
-from_before xss j i xs inside next is = drop_more xss j xs inside ∙ ap (λ ys. ys ∷ drop (j + 1) xss) (sym is) ∙ ap (λ n. xs ∷ drop n xss) next
-
--- one run more is read
-pub read_more : (needle : List ℕ) (s : ℕ) (xss : List (List Entry)) (j i : ℕ) (xs : List Entry) (a b c : Option Entry) → j < length xss → j + 1 ≡ i → xs ≡ get_or xss j xs → IsOrdered entries xs → IsOrdered entries (merged entry_cmp (drop i xss))
-    → a ≡ first_match entries needle s xs → b ≡ first_match entries needle s (merged entry_cmp (drop i xss)) → c ≡ lesser entry_cmp a b → c ≡ first_match entries needle s (merged entry_cmp (drop j xss))
-read_more needle s xss j i xs a b c inside next is up rest e f g =
-    g ∙ ap (λ o. lesser entry_cmp o b) e ∙ ap (λ o. lesser entry_cmp (first_match entries needle s xs) o) f
-    ∙ sym (merge_match needle s xs (merged entry_cmp (drop i xss)) up rest)
-    ∙ ap (λ yss. first_match entries needle s (merged entry_cmp yss)) (sym (from_before xss j i xs inside next is))
-
--- and the list stays ordered
-pub order_more : (xss : List (List Entry)) (j i : ℕ) (xs : List Entry) → j < length xss → j + 1 ≡ i → xs ≡ get_or xss j xs → IsOrdered entries xs → IsOrdered entries (merged entry_cmp (drop i xss)) → IsOrdered entries (merged entry_cmp (drop j xss))
-order_more xss j i xs inside next is up rest = subst (λ yss. IsOrdered entries (merged entry_cmp yss)) (sym (from_before xss j i xs inside next is)) (merge_order xs (merged entry_cmp (drop i xss)) up rest)
-
-no_match : (needle : List ℕ) (s : ℕ) → ◌≡◌ {A = Option Entry} None (first_match entries needle s [])
+no_match : (needle : List ℕ) (s : ℕ) → ◌≡◌ {A = Option Entry} (first_match entries needle s []) None
 unfolding first_match
 no_match needle s = refl
 
--- before the first run is read
-pub none_read : (needle : List ℕ) (s : ℕ) (xss : List (List Entry)) → IsOrdered entries (merged entry_cmp (drop (length xss) xss)) × ◌≡◌ {A = Option Entry} None (first_match entries needle s (merged entry_cmp (drop (length xss) xss)))
-none_read needle s xss =
-    let e = drop_all (length xss) xss (omega arith) in
-    (subst (λ yss. IsOrdered entries (merged entry_cmp yss)) (sym e) tt, no_match needle s ∙ ap (λ yss. first_match entries needle s (merged entry_cmp yss)) (sym e))
+-- a merge of ordered lists is ordered
+pub merged_order : (xss : List (List Entry)) → AllByRecursion (IsOrdered entries) xss → IsOrdered entries (merged entry_cmp xss)
+merged_order [] all = tt
+merged_order (xs ∷ xss) all = merge_order xs (merged entry_cmp xss) all.0 (merged_order xss all.1)
+
+-- its first match is the least of theirs
+pub merged_match : (needle : List ℕ) (s : ℕ) (xss : List (List Entry)) → AllByRecursion (IsOrdered entries) xss
+    → first_match entries needle s (merged entry_cmp xss) ≡ least_match entry_cmp (map (first_match entries needle s) xss)
+merged_match needle s [] all = no_match needle s
+merged_match needle s (xs ∷ xss) all =
+    merge_match needle s xs (merged entry_cmp xss) all.0 (merged_order xss all.1)
+    ∙ ap (lesser entry_cmp (first_match entries needle s xs)) (merged_match needle s xss all.1)
 
 hidden_is : (k : List ℕ) (r : ℕ) (o : Option Entry) → unless_hidden (λ (e : Entry). e) k r o ≡ seen o
 hidden_is k r None = refl

@@ -3,6 +3,7 @@
 #![tactic(auto)]
 
 pub mod compact;
+pub mod laws;
 pub mod merge;
 pub mod snapshot;
 pub mod source;

@@ -1,0 +1,51 @@
+//! Laws of merges, snapshots and compaction, for callers' proofs. Each function states one law, and
+//! does nothing.
+ghost use Rattle.std.specs.Prelude.{◌≡◌, ℕ, ◌≤◌, Bool, List, filter, map, slice_get};
+ghost use Rattle.std.specs.List.{AllByRecursion};
+ghost use Rattle.std.specs.Option.{option_map};
+ghost use Rattle.std.specs.Ordering.{nat_cmp, is_eq};
+ghost use Rattle.std.specs.Cmp.Lexicographic.{slice_cmp};
+ghost use Rattle.sst_base.specs.Entry.{Entry, plain};
+ghost use Rattle.sst_block_core.specs.Entries.{entries};
+ghost use Rattle.sst_block_core.specs.Kind.{IsOrdered};
+ghost use Rattle.sst_block_core.specs.Window.{first_match};
+ghost use Rattle.sst_merge.specs.Compact.{compacted};
+ghost use Rattle.sst_merge.specs.Merge.{merged, least_match, entry_cmp};
+ghost use Rattle.sst_merge.specs.Snapshot.{seen, snapshot};
+
+/// A merge of ordered lists is ordered.
+pub fn merge_is_ordered()
+    ensures { (lists : List (List Entry)) → AllByRecursion (IsOrdered entries) lists
+        → IsOrdered entries (merged entry_cmp lists) }
+{}
+
+/// The first match of a merge of ordered lists is the least of their first matches, and of equal
+/// ones that of the earliest list.
+pub fn merge_is_read()
+    ensures { (needle : List ℕ) (seqno : ℕ) (lists : List (List Entry))
+        → AllByRecursion (IsOrdered entries) lists
+        → first_match entries needle seqno (merged entry_cmp lists)
+        ≡ least_match entry_cmp (map (first_match entries needle seqno) lists) }
+{}
+
+/// Of each key, a snapshot of an ordered list has what a read of the list at its sequence number
+/// sees.
+pub fn snapshot_is_read()
+    ensures { (needle : List ℕ) (seqno : ℕ) (items : List Entry) → IsOrdered entries items
+        → option_map plain
+        (slice_get
+        (filter (λ e. is_eq (slice_cmp nat_cmp e.key.user_key needle))
+        (snapshot (λ e. e) seqno items)) 0)
+        ≡ seen (first_match entries needle seqno items) }
+{}
+
+/// A compaction of an ordered list changes no read at its snapshot or above, and keeps the order.
+pub fn compaction_keeps_reads()
+    ensures reads { (snapshot seqno : ℕ) (bottom : Bool) (needle : List ℕ) (items : List Entry)
+        → snapshot ≤ seqno → IsOrdered entries items
+        → seen (first_match entries needle seqno (compacted (λ e. e) snapshot bottom items))
+        ≡ seen (first_match entries needle seqno items) }
+    ensures ordered { (snapshot : ℕ) (bottom : Bool) (items : List Entry)
+        → IsOrdered entries items
+        → IsOrdered entries (compacted (λ e. e) snapshot bottom items) }
+{}
