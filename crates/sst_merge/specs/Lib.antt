@@ -5,6 +5,7 @@ pub mod MergeLaws
 pub mod MergeReads
 pub mod Picks
 pub mod ReadLaws
+pub mod ReaderLaws
 pub mod Snapshot
 pub mod SnapshotLaws
 pub mod SnapshotReads

@@ -133,13 +133,14 @@ list_at_or [] n d h = absurd (omega arith)
 list_at_or (ys ∷ yss) zero d h = refl
 list_at_or (ys ∷ yss) (suc n) d h = list_at_or yss n d (omega arith)
 
+-- the lists from an index on, with that at the index before them
+pub from_here : {X : Type 0} (xss : List (List X)) (j i : ℕ) → j < length xss → j + 1 ≡ i → drop j xss ≡ list_at xss j ∷ drop i xss
+from_here xss j i inside next = drop_more xss j [] inside ∙ ap (λ ys. ys ∷ drop (j + 1) xss) (list_at_or xss j [] inside) ∙ ap (λ n. list_at xss j ∷ drop n xss) next
+
 module _ {X : Type 0} (cmp : X → X → Ordering) where
   wins_nil : (xs : List X) → wins cmp xs [] ≡ true
   wins_nil [] = refl
   wins_nil (x ∷ xs) = refl
-
-  from_here : (xss : List (List X)) (j i : ℕ) → j < length xss → j + 1 ≡ i → drop j xss ≡ list_at xss j ∷ drop i xss
-  from_here xss j i inside next = drop_more xss j [] inside ∙ ap (λ ys. ys ∷ drop (j + 1) xss) (list_at_or xss j [] inside) ∙ ap (λ n. list_at xss j ∷ drop n xss) next
 
   -- of the last list alone
   pub least_end : (xss : List (List X)) (j : ℕ) → j + 1 ≡ length xss → j ≡ j + least cmp (drop j xss)

@@ -46,12 +46,12 @@ none_set (None ∷ os) (suc i) d o inside same e = refl
 none_set (Some a ∷ os) (suc i) d o inside same e = ap (option_map (λ rest. a ∷ rest)) (none_set os i d o (omega arith) same (known_after a (all_known os) e))
 
 -- known lists, the first of which is this one
-record IsSplit {A : Type 0} (a : A) (o : Option (List A)) (all : List A) : Type 0 where
-  rest : List A
-  known : o ≡ Some rest
-  is : all ≡ a ∷ rest
+pub record IsSplit {A : Type 0} (a : A) (o : Option (List A)) (all : List A) : Type 0 where
+  pub rest : List A
+  pub known : o ≡ Some rest
+  pub is : all ≡ a ∷ rest
 
-known_split : {A : Type 0} (a : A) (o : Option (List A)) (all : List A) → option_map (λ rest. a ∷ rest) o ≡ Some all → IsSplit a o all
+pub known_split : {A : Type 0} (a : A) (o : Option (List A)) (all : List A) → option_map (λ rest. a ∷ rest) o ≡ Some all → IsSplit a o all
 known_split a None all e = absurd (cc)
 known_split a (Some rest) all e = record { rest = rest; known = refl; is = cc }
 

@@ -4,13 +4,16 @@
 
 pub mod compact;
 pub mod laws;
+pub mod memory;
 pub mod merge;
+pub mod reader;
 pub mod snapshot;
 pub mod source;
 pub mod version;
 
 pub use compact::Compact;
 pub use merge::{Head, Merge};
+pub use reader::{Reader, read_tables};
 pub use snapshot::Snapshot;
 pub use source::Source;
 pub use version::Version;

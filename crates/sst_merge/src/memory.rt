@@ -1,0 +1,20 @@
+//! Versions in memory, as a source.
+ghost use Rattle.std.specs.Prelude.{Some, length};
+ghost use Rattle.std.specs.Vec.Iter.{into_iter_items};
+
+use crate::source::Source;
+use sst_base::Result;
+use std::alloc::Global;
+use std::vec;
+
+/// What an engine holds in memory and has not written yet: its versions in order. Never fails.
+impl<T: Drop> Source<T> for vec::IntoIter<T, Global> {
+    ghost left = { λ s. record {
+      list = Some (into_iter_items s);
+      most = length (into_iter_items s);
+    } };
+
+    fn next_entry(&mut self, _alloc: Global) -> Result<Option<T>> {
+        Ok(self.next())
+    }
+}

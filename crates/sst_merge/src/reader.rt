@@ -1,0 +1,83 @@
+//! Point reads over several tables.
+ghost use Rattle.std.specs.Prelude.{◌≡◌, ℕ, List, Option, Some, map, IfOk, IfSome};
+ghost use Rattle.sst_base.specs.Entry.{Entry};
+ghost use Rattle.sst_block_core.specs.Entries.{entries};
+ghost use Rattle.sst_block_core.specs.Kind.{IsOrdered};
+ghost use Rattle.sst_block_core.specs.Window.{first_match};
+ghost use Rattle.sst_merge.specs.Merge.{entry_cmp, lesser, merged};
+ghost use Rattle.sst_merge.specs.Sources.{all_known};
+
+use sst_base::{InternalValue, Result, SeqNo, Steps};
+use std::alloc::Global;
+
+/// What answers point reads: a table, or what an engine holds in memory.
+pub trait Reader {
+    // Its entries, where they are known.
+    ghost list: { Self → Option (List Entry) };
+
+    // They are in order.
+    ghost ordered: { (s : Self) → IfSome (list s) (IsOrdered entries) };
+
+    /// Returns the first entry with this key whose sequence number is strictly below `seqno`. What
+    /// is examined is added to `steps`.
+    ///
+    /// # Errors
+    ///
+    /// Those of what is read, and `Error::Memory` if an allocation fails.
+    fn get(
+        &mut self,
+        alloc: Global,
+        needle: &[u8],
+        seqno: SeqNo,
+        steps: &mut Steps,
+    ) -> Result<Option<InternalValue>>
+        ensures found { IfSome (list self.old)
+            (λ all. IfOk result (λ found. found ≡ first_match entries needle.now seqno all)) }
+        ensures kept { list self.new ≡ list self.old };
+}
+
+// Of two first matches, either of which may be wanting, the lesser, and of equal ones the first.
+fn lesser(first: Option<InternalValue>, second: Option<InternalValue>) -> Option<InternalValue>
+    ensures { result ≡ lesser entry_cmp first second }
+{
+    match (first, second) {
+        (Some(a), Some(b)) => {
+            if b.key().cmp(a.key()).is_lt() {
+                Some(b)
+            } else {
+                Some(a)
+            }
+        }
+        (Some(a), None) => Some(a),
+        (None, b) => b,
+    }
+}
+
+/// Returns the first entry with this key whose sequence number is strictly below `seqno`, of all
+/// readers: that of their ordered merge. Of equal entries that of the earlier reader is returned,
+/// so newer tables come first. What is examined is added to `steps`.
+///
+/// # Errors
+///
+/// The first one that a reader returns, the last reader being asked first.
+pub fn read_tables<R: Reader>(
+    alloc: Global,
+    readers: &mut [R],
+    needle: &[u8],
+    seqno: SeqNo,
+    steps: &mut Steps,
+) -> Result<Option<InternalValue>>
+    ensures found { (lists : List (List Entry)) → all_known (map R.list readers.old) ≡ Some lists
+        → IfOk result (λ found. found
+        ≡ first_match entries needle.now seqno (merged entry_cmp lists)) }
+    ensures kept { map R.list readers.new ≡ map R.list readers.old }
+{
+    let mut best = None;
+    let mut i = readers.len();
+    while i > 0 {
+        i -= 1;
+        let found = readers[i].get(alloc, needle, seqno, steps)?;
+        best = lesser(found, best);
+    }
+    Ok(best)
+}
