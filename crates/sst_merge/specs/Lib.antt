@@ -11,3 +11,5 @@ pub mod SnapshotLaws
 pub mod SnapshotReads
 pub mod Sources
 pub mod SourceLaws
+pub mod TableLaws
+pub mod Tables

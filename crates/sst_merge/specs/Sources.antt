@@ -1,5 +1,5 @@
 -- What clauses know of sources.
-use Rattle.std.specs.Prelude.{◌≡◌, ℕ, ◌+◌, ◌<◌, ◌≤◌, List, [], ◌∷◌, map, Option, Some, None, IfSome}
+use Rattle.std.specs.Prelude.{◌≡◌, ℕ, ◌+◌, ◌<◌, ◌≤◌, List, [], ◌∷◌, ◌++◌, map, Option, Some, None, IfSome}
 use Rattle.std.specs.Option.{option_map}
 use Rattle.std.specs.List.{sum_by}
 
@@ -13,6 +13,10 @@ pub record Left (X : Type 0) : Type 0 where
 abbrev pub TakesFirst : {X : Type 0} → Left X → Option X → Left X → Type 0
 TakesFirst s None t = (t.list ≡ s.list) × IfSome s.list (λ xs. xs ≡ []) × (t.most ≤ s.most)
 TakesFirst s (Some x) t = (s.list ≡ option_map (λ xs. x ∷ xs) t.list) × (t.most < s.most)
+
+-- these items were taken, and what is left after them is known where they are
+abbrev pub IsTaken : {X : Type 0} → Option (List X) → List X → Option (List X) → Type 0
+IsTaken s items t = s ≡ option_map (λ rest. items ++ rest) t
 
 -- what is left, in a list of other items
 abbrev pub left_as : {X Y : Type 0} → (List X → List Y) → Left X → Left Y

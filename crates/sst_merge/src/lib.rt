@@ -10,6 +10,7 @@ pub mod reader;
 pub mod snapshot;
 pub mod source;
 pub mod version;
+pub mod writing;
 
 pub use compact::Compact;
 pub use merge::{Head, Merge};
@@ -17,3 +18,4 @@ pub use reader::{Reader, read_tables};
 pub use snapshot::Snapshot;
 pub use source::Source;
 pub use version::Version;
+pub use writing::{Sizes, write_table};

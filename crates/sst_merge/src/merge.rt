@@ -1,5 +1,6 @@
 //! Ordered merges of any number of sources.
-ghost use Rattle.std.specs.Prelude.{◌≡◌, ◌<◌, ◌≤◌, List, length, if◌then◌else◌, IfOk, Some};
+ghost use Rattle.std.specs.Prelude.{◌≡◌, ◌<◌, ◌≤◌, List, length, slice_get, if◌then◌else◌, IfOk, IfSome, Some};
+ghost use Rattle.std.specs.Option.{option_map};
 ghost use Rattle.sst_merge.specs.Merge.{order_by, merged};
 ghost use Rattle.sst_merge.specs.Picks.{wins, least, list_at};
 ghost use Rattle.sst_merge.specs.Sources.{TakesFirst, lists_left, all_left};
@@ -45,9 +46,24 @@ impl<T: Drop, I: Source<T> + Drop> Head<T, I> {
     }
 }
 
+impl<T, I: Source<T>> Head<T, I> {
+    /// Returns the first version left, if there is one.
+    pub fn peek(&self) -> Option<&T>
+        ensures first { IfSome self.now.list
+            (λ xs. option_map (λ r. r.now) result ≡ slice_get xs 0) }
+        ensures some { IfSome result (λ _. 1 ≤ self.now.most) }
+    {
+        self.held.as_ref()
+    }
+}
+
 impl<T: Drop, I: Source<T>> Head<T, I> {
-    // Takes the version that is held, and holds the next.
-    fn take(&mut self, alloc: Global) -> Result<Option<T>>
+    /// Takes the first version left, if there is one.
+    ///
+    /// # Errors
+    ///
+    /// Those of the source's step. The first version is then still held.
+    pub fn take(&mut self, alloc: Global) -> Result<Option<T>>
         ensures { IfOk result (λ r. TakesFirst self.old r self.new) }
     {
         if self.held.is_none() {

@@ -1,0 +1,50 @@
+-- Laws of what was taken from a source.
+use Rattle.std.proofs.Common.{◌≡◌, ◌≤◌, false, List, [], ◌∷◌, ◌++◌, length, slice_get, Option, Some, None, refl, sym, ap, ◌∙◌, arith}
+use Rattle.std.proofs.lemmas.List.{append_assoc, length_push}
+use Rattle.std.specs.Option.{option_map, is_some, IfSome}
+use Rattle.sstable_blocks.specs.Blocks.{joined}
+use Rattle.sst_merge.specs.Sources.{Left, TakesFirst, IsTaken}
+
+-- nothing was taken yet
+pub taken_none : {X : Type 0} (s : Option (List X)) → IsTaken s [] s
+taken_none None = refl
+taken_none (Some xs) = refl
+
+-- one more was taken
+more_by : {X : Type 0} (xs : List X) (x : X) (u : Option (List X)) → option_map (λ rest. xs ++ rest) (option_map (λ rest. x ∷ rest) u) ≡ option_map (λ rest. (xs ++ x ∷ []) ++ rest) u
+more_by xs x None = refl
+more_by xs x (Some rest) = ap Some (sym (append_assoc xs (x ∷ []) rest))
+
+pub taken_more : {X : Type 0} (s t u : Option (List X)) (xs : List X) (x : X) → IsTaken s xs t → t ≡ option_map (λ rest. x ∷ rest) u → IsTaken s (xs ++ x ∷ []) u
+taken_more s t u xs x h e = h ∙ ap (option_map (λ rest. xs ++ rest)) e ∙ more_by xs x u
+
+-- what was taken after what was taken
+both_by : {X : Type 0} (xs ys : List X) (u : Option (List X)) → option_map (λ rest. xs ++ rest) (option_map (λ rest. ys ++ rest) u) ≡ option_map (λ rest. (xs ++ ys) ++ rest) u
+both_by xs ys None = refl
+both_by xs ys (Some rest) = ap Some (sym (append_assoc xs ys rest))
+
+pub taken_both : {X : Type 0} (s t u : Option (List X)) (xs ys : List X) → IsTaken s xs t → IsTaken t ys u → IsTaken s (xs ++ ys) u
+taken_both s t u xs ys h k = h ∙ ap (option_map (λ rest. xs ++ rest)) k ∙ both_by xs ys u
+
+pub joined_push : {X : Type 0} (blocks : List (List X)) (b : List X) → joined (blocks ++ b ∷ []) ≡ joined blocks ++ b
+joined_push [] b = append_nil b
+  where
+  append_nil : {X : Type 0} (xs : List X) → xs ++ [] ≡ xs
+  append_nil [] = refl
+  append_nil (x ∷ xs) = ap (λ ys. x ∷ ys) (append_nil xs)
+joined_push (c ∷ cs) b = ap (λ xs. c ++ xs) (joined_push cs b) ∙ sym (append_assoc c (joined cs) b)
+
+-- and then a block
+pub taken_block : {X : Type 0} (s t u : Option (List X)) (blocks : List (List X)) (b : List X) → IsTaken s (joined blocks) t → IsTaken t b u → IsTaken s (joined (blocks ++ b ∷ [])) u
+taken_block s t u blocks b h k = taken_both s t u (joined blocks) b h k ∙ ap (λ xs. option_map (λ rest. xs ++ rest) u) (sym (joined_push blocks b))
+
+-- a list with one more is not empty
+pub some_push : {X : Type 0} (xs : List X) (x : X) → 1 ≤ length (xs ++ x ∷ [])
+some_push xs x = let e = length_push xs x in omega (arith, e)
+
+-- where no first item is seen, none is left
+pub none_left : {X Y : Type 0} (f : Y → X) (list : Option (List X)) (r : Option Y) → IfSome list (λ xs. option_map f r ≡ slice_get xs 0) → is_some r ≡ false → IfSome list (λ xs. xs ≡ [])
+none_left f None r h e = tt
+none_left f (Some []) r h e = refl
+none_left f (Some (x ∷ xs)) None h e = absurd (cc)
+none_left f (Some (x ∷ xs)) (Some y) h e = absurd (cc)

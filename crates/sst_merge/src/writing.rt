@@ -1,0 +1,124 @@
+//! Writing what is left of a source as tables.
+ghost use Rattle.std.specs.Prelude.{◌≡◌, ◌+◌, ◌≤◌, ◌<◌, ◌++◌, ◌∷◌, []};
+ghost use Rattle.std.specs.Prelude.{None, length, IfOk, OnOk, IfSome, IfNone};
+ghost use Rattle.sstable_blocks.specs.Run.{form, IsWritable};
+ghost use Rattle.sstable_blocks.specs.Writing.{IsSameRun};
+ghost use Rattle.sst_merge.specs.Sources.{IsTaken};
+ghost use Rattle.sst_merge.specs.Tables.{IsTableOf};
+
+use crate::merge::Head;
+use crate::source::Source;
+use sst_base::{BlockHash, Error, InternalValue, Result};
+use sstable_blocks::{RunConfig, RunHandles, RunWriter};
+use std::alloc::Global;
+use std::io::Write;
+
+/// How large blocks and tables become, in bytes of keys and values. Each ends with the entry with
+/// which it reaches its size; a table only before another user key.
+#[derive(Clone, Copy, Debug, PartialEq, Eq)]
+pub struct Sizes {
+    /// The size of a block.
+    pub block: usize,
+    /// The size of a table.
+    pub table: usize,
+}
+
+// The bytes of an entry's key and value.
+fn entry_len(entry: &InternalValue) -> usize {
+    entry.key().user_key().len().saturating_add(entry.value().len())
+}
+
+// Takes entries until they reach a size, and at least one, if one is left. Returns their size.
+fn fill_block<I: Source<InternalValue>>(
+    alloc: Global,
+    source: &mut Head<InternalValue, I>,
+    block: &mut Vec<InternalValue>,
+    size: usize,
+) -> Result<usize>
+    requires { block.old.items ≡ [] }
+    ensures taken { OnOk result (IsTaken source.old.list block.new.items source.new.list) }
+    ensures most { OnOk result (source.new.most + length block.new.items ≤ source.old.most) }
+{
+    let mut len = 0usize;
+    while block.is_empty() || len < size {
+        let Some(entry) = source.take(alloc)? else {
+            break;
+        };
+        len = len.saturating_add(entry_len(&entry));
+        block.push(entry)?;
+    }
+    Ok(len)
+}
+
+// Writes the next block of a table. Returns its size.
+fn add_block<H: BlockHash, I: Source<InternalValue>, W: Write>(
+    alloc: Global,
+    source: &mut Head<InternalValue, I>,
+    run: &mut RunWriter<H, W>,
+    block: &mut Vec<InternalValue>,
+    size: usize,
+) -> Result<usize>
+    requires { run.old.refusal ≡ None }
+    ensures run { IsSameRun run.old run.new }
+    ensures accepting { OnOk result (run.new.refusal ≡ None) }
+    ensures blocks { OnOk result (run.new.blocks ≡ run.old.blocks ++ block.new.items ∷ []) }
+    ensures taken { OnOk result (IsTaken source.old.list block.new.items source.new.list) }
+    ensures most { OnOk result (source.new.most < source.old.most) }
+{
+    block.clear();
+    let len = fill_block(alloc, source, block, size)?;
+    if !run.fits_after(block) {
+        return Err(Error::OutOfOrder);
+    }
+    run.add_block(block)?;
+    Ok(len)
+}
+
+// Whether a table goes on: an entry is left, and the table has not reached its size, or that entry
+// is of the last user key.
+fn goes_on<I: Source<InternalValue>>(
+    source: &Head<InternalValue, I>,
+    block: &[InternalValue],
+    len: usize,
+    size: usize,
+) -> bool {
+    match (source.peek(), block.last()) {
+        (Some(next), Some(last)) => {
+            len < size || next.key().user_key() == last.key().user_key()
+        }
+        (_, _) => false,
+    }
+}
+
+/// Writes the next table of a source: entries in blocks, up to a size. Returns its handles and the
+/// writer, or `None` where nothing is left; nothing is written then. Memory is taken for one block,
+/// and what a `RunWriter` keeps.
+///
+/// # Errors
+///
+/// Those of the source and of `RunWriter`; `Error::OutOfOrder` if the source is not in order.
+pub fn write_table<H: BlockHash, I: Source<InternalValue>, W: Write + Drop>(
+    alloc: Global,
+    source: &mut Head<InternalValue, I>,
+    writer: W,
+    config: RunConfig,
+    sizes: Sizes,
+) -> Result<Option<(RunHandles, W)>>
+    requires writable { IsWritable config }
+    ensures table { IfOk result (λ r. IfSome r (λ t.
+        IsTableOf (form H.hash64 H.hash128 config) (W.contents writer) (W.contents t.1) t.0
+        source.old.list source.new.list)) }
+    ensures most { IfOk result (λ r. IfSome r (λ t. source.new.most < source.old.most)) }
+    ensures done { IfOk result (λ r. IfNone r (IfSome source.old.list (λ xs. xs ≡ []))) }
+{
+    if source.peek().is_none() {
+        return Ok(None);
+    }
+    let mut run = RunWriter::<H, W>::new(alloc, writer, config);
+    let mut block = Vec::new(alloc);
+    let mut len = add_block(alloc, source, &mut run, &mut block, sizes.block)?;
+    while goes_on(source, &block, len, sizes.table) {
+        len = len.saturating_add(add_block(alloc, source, &mut run, &mut block, sizes.block)?);
+    }
+    Ok(Some(run.finish()?))
+}
