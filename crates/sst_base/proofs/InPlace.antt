@@ -38,24 +38,24 @@ chunk_of : (bytes rest : List ℕ) (from index m : ℕ) → rest ≡ drop from b
 chunk_of bytes rest from index m e f = ap (λ i. take 16 (drop i bytes)) f ∙ ap (take 16) (sym (drop-drop m from bytes) ∙ ap (drop m) (sym e))
 
 -- three chunks, the last of which ends with the string
-pub three_put : (bytes before one two three post post' post'' : List ℕ) (at from second : ℕ) → length bytes ≡ 39 → length one ≡ length before → length two ≡ length one
-    → at + 39 ≤ length before → from ≤ 23 → second ≡ min (from + 16) 23
+pub three_put : (bytes before one two three post post' post'' : List ℕ) (at from second : ℕ) → length bytes ≡ 40 → length one ≡ length before → length two ≡ length one
+    → at + 40 ≤ length before → from ≤ 24 → second ≡ min (from + 16) 24
     → one ≡ take at before ++ (take 16 (drop from bytes) ++ post)
     → two ≡ take (at + (second - from)) one ++ (take 16 (drop second bytes) ++ post')
-    → three ≡ take (at + (23 - from)) two ++ (take 16 (drop 23 bytes) ++ post'')
-    → take (at + (39 - from)) three ≡ take at before ++ drop from bytes
+    → three ≡ take (at + (24 - from)) two ++ (take 16 (drop 24 bytes) ++ post'')
+    → take (at + (40 - from)) three ≡ take at before ++ drop from bytes
 three_put bytes before one two three post post' post'' at from second b k j room inside is p q r =
     let rest = drop from bytes in
-    let lr : length rest + from ≡ 39 = omega (arith, length-drop from bytes, b, inside) in
+    let lr : length rest + from ≡ 40 = omega (arith, length-drop from bytes, b, inside) in
     let long : length (take at before) ≡ at = length-take-le at before (omega (arith, room)) in
-    let far : (second ≤ from + 16) × (from ≤ second) × (second ≤ 23) × (23 ≤ second + 16) = (omega (arith, is), omega (arith, is, inside), omega (arith, is), omega (arith, is)) in
+    let far : (second ≤ from + 16) × (from ≤ second) × (second ≤ 24) × (24 ≤ second + 16) = (omega (arith, is), omega (arith, is, inside), omega (arith, is), omega (arith, is)) in
     let first = first_put before rest one post at long (omega (arith, lr, inside)) p in
     let then = chunk_put before rest one two post' at 16 (second - from) long (omega (arith, k, room)) (omega (arith, far.0, far.1)) (omega (arith, lr, far.1, far.2)) first
     (q ∙ ap (λ xs. take (at + (second - from)) one ++ (xs ++ post')) (chunk_of bytes rest from second (second - from) refl (omega (arith, far.1)))) in
-    let last = chunk_put before rest two three post'' at (second - from + 16) (23 - from) long (omega (arith, j, k, room, far.1, far.2)) (omega (arith, far.1, far.3)) (omega (arith, lr, inside)) then
-    (r ∙ ap (λ xs. take (at + (23 - from)) two ++ (xs ++ post'')) (chunk_of bytes rest from 23 (23 - from) refl (omega (arith, inside)))) in
-    let whole : 39 - from ≡ 23 - from + 16 = omega (arith, inside) in
-    ap (λ n. take (at + n) three) whole ∙ last ∙ ap (λ ys. take at before ++ ys) (take_all (23 - from + 16) rest (omega (arith, lr, inside)))
+    let last = chunk_put before rest two three post'' at (second - from + 16) (24 - from) long (omega (arith, j, k, room, far.1, far.2)) (omega (arith, far.1, far.3)) (omega (arith, lr, inside)) then
+    (r ∙ ap (λ xs. take (at + (24 - from)) two ++ (xs ++ post'')) (chunk_of bytes rest from 24 (24 - from) refl (omega (arith, inside)))) in
+    let whole : 40 - from ≡ 24 - from + 16 = omega (arith, inside) in
+    ap (λ n. take (at + n) three) whole ∙ last ∙ ap (λ ys. take at before ++ ys) (take_all (24 - from + 16) rest (omega (arith, lr, inside)))
 
 -- fewer bytes of what was put
 pub fewer_put : (bytes before form : List ℕ) (at m k : ℕ) → length (take at before) ≡ at → k ≤ m → take (at + m) form ≡ take at before ++ bytes → take (at + k) form ≡ take at before ++ take k bytes
@@ -64,7 +64,7 @@ fewer_put bytes before form at m k long less e =
     ∙ take-append_past (take at before) bytes k (at + k) (ap (λ n. n + k) (sym long))
 
 -- the rest of a byte string that is held as the first bytes of an array, with its length before it
-pub rest_prefixed : (bytes string : List ℕ) (from len : ℕ) → length bytes ≡ 39 → len ≤ 39 → from ≤ length string → take len bytes ≡ string
+pub rest_prefixed : (bytes string : List ℕ) (from len : ℕ) → length bytes ≡ 40 → len ≤ 40 → from ≤ length string → take len bytes ≡ string
     → varint (len - from) ++ take (len - from) (drop from bytes) ≡ length_prefixed (drop from string)
 rest_prefixed bytes string from len l h inside e =
     let whole : length string ≡ len = sym (ap length e) ∙ length-take-le len bytes (omega (arith, l, h)) in

@@ -13,7 +13,7 @@ use crate::slice::{SHORT_LEN, Slice};
 pub const FORM_ROOM: usize = 128;
 
 /// The room that a length and a short byte string take at most.
-pub const PREFIXED_ROOM: usize = 49;
+pub const PREFIXED_ROOM: usize = 50;
 
 // How much room beside that of some forms is made at most.
 const MOST_ROOM: usize = 1 << 20;
@@ -91,7 +91,7 @@ pub fn put_varint(form: &mut [u8], at: usize, n: u64) -> usize
 // The chunk of a short byte string at an index.
 #[inline(always)]
 fn chunk_at(bytes: &[u8; SHORT_LEN], from: usize) -> [u8; CHUNK_LEN]
-    requires { from + 16 ≤ 39 }
+    requires { from + 16 ≤ 40 }
     ensures { result ≡ take 16 (drop from bytes.now) }
 {
     let mut chunk = [0u8; CHUNK_LEN];
@@ -104,7 +104,7 @@ fn chunk_at(bytes: &[u8; SHORT_LEN], from: usize) -> [u8; CHUNK_LEN]
 #[inline(always)]
 fn put_chunk(form: &mut [u8], at: usize, bytes: &[u8; SHORT_LEN], from: usize)
     requires room { at + 16 ≤ length form.old }
-    requires inside { from + 16 ≤ 39 }
+    requires inside { from + 16 ≤ 40 }
     ensures same_room { length form.new ≡ length form.old }
     ensures bytes { form.new ≡ take at form.old
         ++ (take 16 (drop from bytes.now) ++ drop (at + 16) form.old) }
@@ -116,10 +116,10 @@ fn put_chunk(form: &mut [u8], at: usize, bytes: &[u8; SHORT_LEN], from: usize)
 // Copies the bytes of a short byte string from an index on, in three chunks that may overlap.
 #[inline(always)]
 fn put_chunks(form: &mut [u8], at: usize, bytes: &[u8; SHORT_LEN], from: usize)
-    requires room { at + 39 ≤ length form.old }
-    requires inside { from ≤ 23 }
+    requires room { at + 40 ≤ length form.old }
+    requires inside { from ≤ 24 }
     ensures same_room { length form.new ≡ length form.old }
-    ensures bytes { take (at + (39 - from)) form.new ≡ take at form.old ++ drop from bytes.now }
+    ensures bytes { take (at + (40 - from)) form.new ≡ take at form.old ++ drop from bytes.now }
 {
     let second = (from + CHUNK_LEN).min(LAST_CHUNK);
     put_chunk(form, at, bytes, from);
@@ -128,12 +128,12 @@ fn put_chunks(form: &mut [u8], at: usize, bytes: &[u8; SHORT_LEN], from: usize)
 }
 
 // Puts the bytes `from..len` of a short byte string after the first `at` bytes, where there is room
-// for 39 more. Returns the length with them.
+// for 40 more. Returns the length with them.
 #[inline(always)]
 fn put_part(form: &mut [u8], at: usize, bytes: &[u8; SHORT_LEN], from: usize, len: usize) -> usize
-    requires room { at + 39 ≤ length form.old }
+    requires room { at + 40 ≤ length form.old }
     requires order { from ≤ len }
-    requires inside { len ≤ 39 }
+    requires inside { len ≤ 40 }
     ensures len { result ≡ at + (len - from) }
     ensures same_room { length form.new ≡ length form.old }
     ensures bytes { take result form.new
@@ -206,7 +206,7 @@ fn put_long(
 }
 
 /// Puts the rest of a byte string, from an index on, with its length as a varint before it, after
-/// the first `at` bytes, where there is room for 49 and `more` bytes. Returns the length with it,
+/// the first `at` bytes, where there is room for 50 and `more` bytes. Returns the length with it,
 /// after which there is room for `more` bytes. The rest of a long string may move the vector.
 ///
 /// # Errors
@@ -220,7 +220,7 @@ pub fn put_length_prefixed(
     from: usize,
     more: usize,
 ) -> AllocResult<usize>
-    requires room { at + 49 + more ≤ length writer.old.items }
+    requires room { at + 50 + more ≤ length writer.old.items }
     requires inside { from ≤ length bytes.now }
     requires few { more ≤ 128 }
     ensures bytes { IfOk result (λ end. take end writer.new.items

@@ -13,3 +13,4 @@ pub mod Sources
 pub mod SourceLaws
 pub mod TableLaws
 pub mod Tables
+pub mod Outputs

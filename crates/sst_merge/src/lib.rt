@@ -3,9 +3,11 @@
 #![tactic(auto)]
 
 pub mod compact;
+pub mod compaction;
 pub mod laws;
 pub mod memory;
 pub mod merge;
+pub mod output;
 pub mod reader;
 pub mod snapshot;
 pub mod source;
@@ -13,7 +15,9 @@ pub mod version;
 pub mod writing;
 
 pub use compact::Compact;
+pub use compaction::{compact_tables, write_tables};
 pub use merge::{Head, Merge};
+pub use output::Outputs;
 pub use reader::{Reader, read_tables};
 pub use snapshot::Snapshot;
 pub use source::Source;

@@ -44,7 +44,7 @@ enum Held {
 
 /// An immutable byte string. Clauses see its list of bytes.
 ///
-/// A short one, of up to 39 bytes, holds them itself: it is copied, and takes no memory. The bytes
+/// A short one, of up to 40 bytes, holds them itself: it is copied, and takes no memory. The bytes
 /// of a longer one are shared: a clone or sub-slice copies none of them.
 #[derive(Drop)]
 pub struct Slice {
@@ -200,7 +200,7 @@ impl Slice {
         Slice::from_vec(bytes)
     }
 
-    /// Returns the bytes in a range, which lies inside the bytes. Up to 39 bytes are copied, more
+    /// Returns the bytes in a range, which lies inside the bytes. Up to 40 bytes are copied, more
     /// are shared.
     ///
     /// # Errors
@@ -315,8 +315,8 @@ impl Slice {
     #[inline(always)]
     pub fn as_short(&self) -> Option<(&[u8; SHORT_LEN], usize)>
         ensures bytes { IfSome result (λ short. take short.1 short.0.now ≡ self.now) }
-        ensures len { IfSome result (λ short. short.1 ≤ 39) }
-        ensures array { IfSome result (λ short. length short.0.now ≡ 39) }
+        ensures len { IfSome result (λ short. short.1 ≤ 40) }
+        ensures array { IfSome result (λ short. length short.0.now ≡ 40) }
     {
         match &self.held {
             Held::Short(bytes) => Some(bytes.parts()),

@@ -5,7 +5,7 @@ use crate::table::util::SliceIndexes;
 use std::marker::Model;
 
 /// The greatest number of bytes that are held in place.
-pub const SHORT_LEN: usize = 39;
+pub const SHORT_LEN: usize = 40;
 
 // Room for two arrays of that length.
 const WIDE_LEN: usize = 2 * SHORT_LEN;
@@ -13,7 +13,7 @@ const WIDE_LEN: usize = 2 * SHORT_LEN;
 /// At most [`SHORT_LEN`] bytes, held in place. Clauses see the list of bytes.
 #[derive(Drop)]
 pub(crate) struct ShortBytes {
-    len: u8,
+    len: u32,
     bytes: [u8; SHORT_LEN],
 }
 
@@ -24,14 +24,14 @@ impl Model for ShortBytes {
 
     ghost view = { λ s. take s.len s.bytes };
 
-    ghost invariant = { λ s. s.len ≤ 39 };
+    ghost invariant = { λ s. s.len ≤ 40 };
 }
 
 impl ShortBytes {
     /// Copies the bytes.
     #[inline(always)]
     pub(crate) fn new(bytes: &[u8]) -> ShortBytes
-        requires { length bytes.now ≤ 39 }
+        requires { length bytes.now ≤ 40 }
         ensures { result ≡ bytes.now }
     {
         ShortBytes::joined(bytes, &[])
@@ -40,7 +40,7 @@ impl ShortBytes {
     /// Copies two byte strings, the second after the first.
     #[inline(always)]
     pub(crate) fn joined(left: &[u8], right: &[u8]) -> ShortBytes
-        requires { length left.now + length right.now ≤ 39 }
+        requires { length left.now + length right.now ≤ 40 }
         ensures { result ≡ left.now ++ right.now }
     {
         let mut bytes = [0u8; SHORT_LEN];
@@ -48,7 +48,7 @@ impl ShortBytes {
         bytes[..left.len()].copy_from_slice(left);
         bytes[left.len()..len].copy_from_slice(right);
         ShortBytes {
-            len: len as u8,
+            len: len as u32,
             bytes,
         }
     }
@@ -59,14 +59,14 @@ impl ShortBytes {
     pub(crate) fn cut(bytes: &[u8], start: usize, end: usize) -> ShortBytes
         requires order { start ≤ end }
         requires inside { end ≤ length bytes.now }
-        requires short { end - start ≤ 39 }
+        requires short { end - start ≤ 40 }
         ensures { result ≡ take (end - start) (drop start bytes.now) }
     {
         let (_, rest) = bytes.split_at(start);
         let len = end - start;
         match rest.first_chunk::<SHORT_LEN>() {
             Some(front) => ShortBytes {
-                len: len as u8,
+                len: len as u32,
                 bytes: *front,
             },
             None => {
@@ -88,7 +88,7 @@ impl ShortBytes {
         requires left_inside { left.now.1 ≤ length bytes.now }
         requires right_order { right.now.0 ≤ right.now.1 }
         requires right_inside { right.now.1 ≤ length bytes.now }
-        requires short { (left.now.1 - left.now.0) + (right.now.1 - right.now.0) ≤ 39 }
+        requires short { (left.now.1 - left.now.0) + (right.now.1 - right.now.0) ≤ 40 }
         ensures { result ≡ take (left.now.1 - left.now.0) (drop left.now.0 bytes.now)
             ++ take (right.now.1 - right.now.0) (drop right.now.0 bytes.now) }
     {
@@ -113,19 +113,19 @@ impl ShortBytes {
     #[inline(always)]
     pub(crate) fn as_slice(&self) -> &[u8]
         ensures value { result.now ≡ self.now }
-        ensures fits { length result.now ≤ 39 }
+        ensures fits { length result.now ≤ 40 }
     {
-        &self.bytes[..usize::from(self.len)]
+        &self.bytes[..self.len as usize]
     }
 
     /// Returns the array that holds the bytes, and their number.
     #[inline(always)]
     pub(crate) fn parts(&self) -> (&[u8; SHORT_LEN], usize)
         ensures bytes { take result.1 result.0.now ≡ self.now }
-        ensures len { result.1 ≤ 39 }
-        ensures array { length result.0.now ≡ 39 }
+        ensures len { result.1 ≤ 40 }
+        ensures array { length result.0.now ≡ 40 }
     {
-        (&self.bytes, usize::from(self.len))
+        (&self.bytes, self.len as usize)
     }
 
     /// Returns a copy.
@@ -143,8 +143,8 @@ impl ShortBytes {
 // Copies an array over the bytes from an index.
 #[inline(always)]
 fn put_chunk(wide: &mut [u8; WIDE_LEN], at: usize, chunk: &[u8; SHORT_LEN])
-    requires { at ≤ 39 }
-    ensures { wide.new ≡ take at wide.old ++ (chunk.now ++ drop (at + 39) wide.old) }
+    requires { at ≤ 40 }
+    ensures { wide.new ≡ take at wide.old ++ (chunk.now ++ drop (at + 40) wide.old) }
 {
     wide[at..at + SHORT_LEN].copy_from_slice(chunk);
 }
@@ -152,7 +152,7 @@ fn put_chunk(wide: &mut [u8; WIDE_LEN], at: usize, chunk: &[u8; SHORT_LEN])
 // The first half of an array.
 #[inline(always)]
 fn first_half(wide: &[u8; WIDE_LEN]) -> [u8; SHORT_LEN]
-    ensures { result ≡ take 39 wide.now }
+    ensures { result ≡ take 40 wide.now }
 {
     let mut bytes = [0u8; SHORT_LEN];
     bytes.copy_from_slice(&wide[..SHORT_LEN]);
@@ -167,14 +167,14 @@ fn joined_chunks(
     right: &[u8; SHORT_LEN],
     right_len: usize,
 ) -> ShortBytes
-    requires { left_len + right_len ≤ 39 }
+    requires { left_len + right_len ≤ 40 }
     ensures { result ≡ take left_len left.now ++ take right_len right.now }
 {
     let mut wide = [0u8; WIDE_LEN];
     put_chunk(&mut wide, 0, left);
     put_chunk(&mut wide, left_len, right);
     ShortBytes {
-        len: (left_len + right_len) as u8,
+        len: (left_len + right_len) as u32,
         bytes: first_half(&wide),
     }
 }

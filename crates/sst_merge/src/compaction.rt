@@ -1,0 +1,73 @@
+//! Compacting what is left of a source into tables.
+ghost use Rattle.std.specs.Prelude.{◌≡◌, [], Some, OnOk};
+ghost use Rattle.std.specs.Option.{option_map};
+ghost use Rattle.sst_merge.specs.Compact.{compacted};
+ghost use Rattle.sst_merge.specs.Outputs.{AreWritten};
+ghost use Rattle.sstable_blocks.specs.Run.{form, IsWritable};
+
+use crate::compact::Compact;
+use crate::merge::Head;
+use crate::output::Outputs;
+use crate::source::Source;
+use crate::writing::{Sizes, write_table};
+use sst_base::{BlockHash, InternalValue, Result, SeqNo};
+use sstable_blocks::RunConfig;
+use std::alloc::Global;
+
+/// Writes all that is left of a source as tables.
+///
+/// # Errors
+///
+/// Those of the source, of the outputs and of [`write_table`]. The tables closed before stay.
+pub fn write_tables<H: BlockHash, I: Source<InternalValue>, O: Outputs>(
+    alloc: Global,
+    source: &mut Head<InternalValue, I>,
+    outputs: &mut O,
+    config: RunConfig,
+    sizes: Sizes,
+) -> Result<()>
+    requires writable { IsWritable config }
+    ensures written { OnOk result
+        (AreWritten (form H.hash64 H.hash128 config) source.old.list
+        (option_map (λ _. []) source.old.list) (O.tables outputs.old) (O.tables outputs.new)) }
+{
+    while source.peek().is_some() {
+        let writer = outputs.open()?;
+        let table = write_table::<H, I, O::Writer>(alloc, source, writer, config, sizes)?;
+        let Some((handles, writer)) = table else {
+            return Ok(());
+        };
+        outputs.close(handles, writer)?;
+    }
+    Ok(())
+}
+
+/// Compacts what is left of a source, which is in order: writes as tables the versions that a read
+/// at the snapshot or above can see. `bottom` says that no older version of these keys is
+/// elsewhere; tombstones are then dropped too. See [`Compact`].
+///
+/// What a read at the snapshot or above sees of the tables is what it sees of the source (the law
+/// `compaction_keeps_reads`).
+///
+/// # Errors
+///
+/// Those of the source, of the outputs and of [`write_table`]. The tables closed before stay.
+pub fn compact_tables<H: BlockHash, I: Source<InternalValue> + Drop, O: Outputs>(
+    alloc: Global,
+    source: I,
+    snapshot: SeqNo,
+    bottom: bool,
+    outputs: &mut O,
+    config: RunConfig,
+    sizes: Sizes,
+) -> Result<()>
+    requires writable { IsWritable config }
+    ensures written { OnOk result
+        (AreWritten (form H.hash64 H.hash128 config)
+        (option_map (compacted (λ e. e) snapshot bottom) (I.left source).list)
+        (option_map (λ _. []) (I.left source).list) (O.tables outputs.old) (O.tables outputs.new)) }
+{
+    let compacted = Compact::new(source, snapshot, bottom);
+    let mut head = Head::new(alloc, compacted)?;
+    write_tables::<H, Compact<InternalValue, I>, O>(alloc, &mut head, outputs, config, sizes)
+}

@@ -1,0 +1,36 @@
+//! Where tables are written.
+ghost use Rattle.std.specs.Prelude.{◌≡◌, ◌++◌, ◌∷◌, [], List, IfOk, OnOk, IfSome};
+ghost use Rattle.sst_merge.specs.Outputs.{Output};
+
+use sst_base::Result;
+use sstable_blocks::RunHandles;
+use std::io::Write;
+
+/// Where an engine has its tables written: it opens a writer for each, and closes it.
+pub trait Outputs {
+    /// What a table is written into.
+    type Writer: Write + Drop;
+
+    // The tables closed.
+    ghost tables: { Self → List Output };
+
+    /// Opens a writer for the next table, which holds nothing yet.
+    ///
+    /// # Errors
+    ///
+    /// Those of what is opened.
+    fn open(&mut self) -> Result<Self::Writer>
+        ensures fresh { IfOk result
+            (λ w. IfSome (Self.Writer.contents w) (λ bytes. bytes ≡ [])) }
+        ensures same { tables self.new ≡ tables self.old };
+
+    /// Closes the writer of a table with these handles: here a footer is written, and a file is
+    /// synced.
+    ///
+    /// # Errors
+    ///
+    /// Those of what is closed.
+    fn close(&mut self, handles: RunHandles, writer: Self::Writer) -> Result<()>
+        ensures { OnOk result (tables self.new ≡ tables self.old
+            ++ record { handles = handles; bytes = Self.Writer.contents writer } ∷ []) };
+}
