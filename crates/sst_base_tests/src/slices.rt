@@ -142,7 +142,7 @@ fn all_hold(alloc: Global, rows: &[Made]) -> bool {
     true
 }
 
-// Slices of up to 39 bytes hold them in place, and longer ones share them.
+// Slices of up to 40 bytes hold them in place, and longer ones share them.
 #[test]
 fn short_and_long_slices_are_the_same(rt: HostRuntime) {
     for at in [0, 1, 38, 39, 40, 41, 62] {

@@ -14,3 +14,4 @@ pub mod SourceLaws
 pub mod TableLaws
 pub mod Tables
 pub mod Outputs
+pub mod OutputLaws

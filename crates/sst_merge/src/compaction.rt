@@ -28,7 +28,7 @@ pub fn write_tables<H: BlockHash, I: Source<InternalValue>, O: Outputs>(
 ) -> Result<()>
     requires writable { IsWritable config }
     ensures written { OnOk result
-        (AreWritten (form H.hash64 H.hash128 config) source.old.list
+        (AreWritten (form H.hash64 H.hash128 config) O.start source.old.list
         (option_map (λ _. []) source.old.list) (O.tables outputs.old) (O.tables outputs.new)) }
 {
     while source.peek().is_some() {
@@ -63,7 +63,7 @@ pub fn compact_tables<H: BlockHash, I: Source<InternalValue> + Drop, O: Outputs>
 ) -> Result<()>
     requires writable { IsWritable config }
     ensures written { OnOk result
-        (AreWritten (form H.hash64 H.hash128 config)
+        (AreWritten (form H.hash64 H.hash128 config) O.start
         (option_map (compacted (λ e. e) snapshot bottom) (I.left source).list)
         (option_map (λ _. []) (I.left source).list) (O.tables outputs.old) (O.tables outputs.new)) }
 {

@@ -1,5 +1,5 @@
 //! Where tables are written.
-ghost use Rattle.std.specs.Prelude.{◌≡◌, ◌++◌, ◌∷◌, [], List, IfOk, OnOk, IfSome};
+ghost use Rattle.std.specs.Prelude.{◌≡◌, ◌++◌, ◌∷◌, [], ℕ, List, Option, IfOk, OnOk};
 ghost use Rattle.sst_merge.specs.Outputs.{Output};
 
 use sst_base::Result;
@@ -14,14 +14,16 @@ pub trait Outputs {
     // The tables closed.
     ghost tables: { Self → List Output };
 
+    // What is known of the bytes of a writer that was just opened: none, or nothing.
+    ghost start: { Option (List ℕ) };
+
     /// Opens a writer for the next table, which holds nothing yet.
     ///
     /// # Errors
     ///
     /// Those of what is opened.
     fn open(&mut self) -> Result<Self::Writer>
-        ensures fresh { IfOk result
-            (λ w. IfSome (Self.Writer.contents w) (λ bytes. bytes ≡ [])) }
+        ensures fresh { IfOk result (λ writer. Self.Writer.contents writer ≡ start) }
         ensures same { tables self.new ≡ tables self.old };
 
     /// Closes the writer of a table with these handles: here a footer is written, and a file is
