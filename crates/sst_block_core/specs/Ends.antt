@@ -1,5 +1,6 @@
 -- What contracts see of the two ends of an iterator over a block, apart from the block.
 use Rattle.std.specs.Prelude.{Bool, nat_lt, List}
+use Rattle.sst_base.specs.Counted.{Counted}
 use Rattle.sst_block_core.specs.Kind.{Kind}
 use Rattle.sst_block_core.specs.Backs.{IsBack}
 use Rattle.sst_block_core.specs.Intervals.{IntervalsParts}
@@ -23,3 +24,7 @@ window_between items ends = record { list = items; lo = ends.front.index; hi = e
 -- an iterator over a block: its intervals, and two ends
 abbrev pub scan_between : {X : Type 0} → IntervalsParts X → Ends → Scan X
 scan_between parts ends = record { payload = parts.list.payload; interval = parts.list.interval; window = window_between parts.list.items ends; steps = parts.steps }
+
+-- an iterator over a list that counts by itself, between two ends
+abbrev pub scan_over : {X : Type 0} → Listed X → Counted → Ends → Scan X
+scan_over list steps ends = scan_between (record { list = list; steps = steps }) ends

@@ -39,4 +39,3 @@ pub mod ListLaws
 pub mod VersionLaws
 pub mod FoundLaws
 pub mod BackLaws
-pub mod EndLaws

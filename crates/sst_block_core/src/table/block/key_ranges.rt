@@ -68,12 +68,7 @@ fn compare_longer(prefix: &[u8], rest: &[u8], shorter: &[u8], other: &[u8]) -> O
 
 /// Compares two keys, each by a prefix and the bytes after it, which may be of two payloads. Nothing
 /// is joined.
-pub fn compare_parts(
-    prefix: &[u8],
-    rest: &[u8],
-    other_prefix: &[u8],
-    other_rest: &[u8],
-) -> Ordering
+pub fn compare_parts(prefix: &[u8], rest: &[u8], other_prefix: &[u8], other_rest: &[u8]) -> Ordering
     ensures { result
         ≡ slice_cmp nat_cmp (prefix.now ++ rest.now) (other_prefix.now ++ other_rest.now) }
 {
