@@ -11,3 +11,4 @@ pub mod Walks
 pub mod Checks
 pub mod PointReads
 pub mod Disorder
+pub mod Tombstones
