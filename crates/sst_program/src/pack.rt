@@ -10,7 +10,6 @@ ghost use Rattle.sst_program.specs.Table.{IsWritable, end_of, run_end};
 ghost use Rattle.sstable_blocks.specs.Writing.{IsSameRun};
 
 use crate::fault::{self, Fault};
-use crate::footer::{FOOTER_LEN, footer_of};
 use crate::input::ordered_entries;
 use crate::output::print_text;
 use crate::replace::{LockFiles, write_file};
@@ -102,7 +101,7 @@ pub fn write_table<W: SyncWrite + Drop>(
     let blocks = run.block_count();
     let (handles, mut writer) = run.finish()?;
     let len = table_len(&handles)?;
-    writer.write_all(&footer_of(&handles))?;
+    writer.write_all(&encode_footer(&handles))?;
     writer.sync()?;
     Ok((Packed { blocks, len }, writer))
 }

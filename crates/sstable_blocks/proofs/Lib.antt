@@ -24,4 +24,5 @@ pub mod FileRanges
 pub mod RunSummaries
 pub mod RunCheckLaws
 pub mod RunCheckSteps
+pub mod Footers
 pub mod KeptReads

@@ -4,6 +4,7 @@ ghost use Rattle.std.specs.Prelude.{◌≡◌};
 pub mod checked;
 pub mod checked_run;
 pub mod checking;
+pub mod footer;
 pub mod laws;
 pub mod read;
 pub mod round_trip;

@@ -1,7 +1,7 @@
 //! Sources of frames: memory and files.
 ghost use Rattle.std.specs.Prelude.{◌≡◌, ◌⊎◌, ℕ, ◌+◌, ◌≤◌};
 ghost use Rattle.std.specs.Prelude.{◌<◌, ◌^◌, List, Option, Some};
-ghost use Rattle.std.specs.Prelude.{length, OnOk, IfOk, IfErr, IfSome, MatchResult};
+ghost use Rattle.std.specs.Prelude.{length, OnOk, OnErr, IfOk, IfErr, IfSome, IsOk, IsOkUnless, MatchResult};
 ghost use Rattle.sst_base.specs.BlockHandle.{HandleParts};
 ghost use Rattle.sst_base.specs.Bytes.{IsBytes};
 ghost use Rattle.sst_base.specs.declared.error.Error.TheVariants.{Io, BadHandle, Memory};
@@ -49,6 +49,22 @@ pub trait FrameSource {
         ensures range { IfSome (bytes self.old)
             (λ all. GivesOr (failures self.old < failures self.new) (is_reliable self.old)
             (λ s. s) result (range_at all handle.now)) };
+}
+
+/// A source of frames that knows its length, as one over memory or a file does.
+pub trait SizedSource: FrameSource {
+    /// Returns the length in bytes. No frame is read.
+    ///
+    /// # Errors
+    ///
+    /// `Error::Io` if the source fails, which a reliable one never does.
+    fn byte_len(&mut self) -> Result<u64>
+        ensures source { KeepsSource Self.bytes Self.failures Self.is_reliable self.old self.new }
+        ensures reads { Self.reads self.new ≡ Self.reads self.old }
+        ensures len { IfOk result (λ len. IfSome (Self.bytes self.old) (λ all. len ≡ length all)) }
+        ensures io { IsOkUnless result Error.Io }
+        ensures failed { OnErr result (Self.failures self.old < Self.failures self.new) }
+        ensures reliable { Self.is_reliable self.old → IsOk result };
 }
 
 /// A run in memory. Frames are cut from its bytes, and not copied.
@@ -123,6 +139,12 @@ impl FrameSource for MemorySource {
     }
 }
 
+impl SizedSource for MemorySource {
+    fn byte_len(&mut self) -> Result<u64> {
+        Ok(self.bytes.len() as u64)
+    }
+}
+
 /// A run in a file, or in anything else that can be read and moved.
 ///
 /// Clauses see the file, with its bytes where they are known, how often it failed, and how many
@@ -174,6 +196,16 @@ impl<F: SeekInput> FrameSource for FileSource<F> {
             self.failures.add_one();
         }
         read
+    }
+}
+
+impl<F: SeekInput> SizedSource for FileSource<F> {
+    fn byte_len(&mut self) -> Result<u64> {
+        let len = self.file.stream_len();
+        if len.is_err() {
+            self.failures.add_one();
+        }
+        len
     }
 }
 

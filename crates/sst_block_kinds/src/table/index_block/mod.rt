@@ -21,6 +21,7 @@ mod encoding;
 pub mod iter;
 pub mod ops;
 pub mod parsed_item;
+mod positions;
 
 use crate::laws::index_check_is_by_stages;
 pub use crate::table::answer::Answer;

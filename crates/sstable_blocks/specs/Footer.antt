@@ -1,5 +1,5 @@
--- The footer of a table file.
-use Rattle.std.specs.Prelude.{ℕ, ◌==◌, List, ◌++◌, length, drop, nat_lt, if◌then◌else◌, Option, Some, None, Result, Ok, Err}
+-- The footer of a table file: its last 24 bytes, which say where index and filter are.
+use Rattle.std.specs.Prelude.{ℕ, ◌-◌, ◌==◌, min, List, ◌++◌, length, drop, nat_lt, if◌then◌else◌, Option, Some, None, Result, Ok, Err}
 use Rattle.byteorder.specs.Endian.{little_bytes, little_number}
 use Rattle.sst_base.specs.BlockHandle.{HandleParts}
 use Rattle.sst_base.specs.declared.error.Error.{Error}
@@ -28,7 +28,15 @@ abbrev pub filter_of : HandleParts → Option HandleParts
 filter_of h = if h.size == 0 then None else Some h
 
 -- the handles of the footer at the start of bytes
-unfoldable pub handles_at : List ℕ → Result RunHandles Error
-handles_at bytes =
+unfoldable pub footer_handles : List ℕ → Result RunHandles Error
+footer_handles bytes =
     if nat_lt (length bytes) 24 then Err Truncated
     else Ok (record { index = parts_at bytes; filter = filter_of (parts_at (drop 12 bytes)) })
+
+-- where the footer of a table of this length is: its last 24 bytes
+abbrev pub footer_place : ℕ → HandleParts
+footer_place len = record { offset = len - min len 24; size = min len 24 }
+
+-- the handles in the footer of a table
+unfoldable pub table_handles : List ℕ → Result RunHandles Error
+table_handles bytes = footer_handles (drop (length bytes - 24) bytes)
