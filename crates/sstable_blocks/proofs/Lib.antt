@@ -25,4 +25,5 @@ pub mod RunSummaries
 pub mod RunCheckLaws
 pub mod RunCheckSteps
 pub mod Footers
+pub mod TableCounts
 pub mod KeptReads

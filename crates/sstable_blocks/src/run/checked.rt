@@ -19,7 +19,6 @@ ghost use Rattle.sst_block_kinds.specs.Checks.{data_check, index_check};
 ghost use Rattle.sstable_blocks.specs.RunReading.{read_blocks, read_checked, AnswerMeans};
 ghost use Rattle.sstable_blocks.specs.Sound.{IsSound};
 ghost use Rattle.sstable_blocks.specs.Sources.{GivesOr, KeepsSource, filter_frames};
-ghost use Rattle.sstable_blocks.specs.Tables.{IsIndexIn};
 
 use super::RunHandles;
 use super::laws::{checked_answer_means, sound_is_read};
@@ -102,8 +101,6 @@ pub fn index_block_from<H: BlockHash, S: FrameSource>(
     ensures exact { IfSome (S.bytes source.old)
         (λ all. GivesOr (S.failures source.old < S.failures source.new) (S.is_reliable source.old) (λ b. b.items) result
         (handles_at (hashes H.hash64 H.hash128) all handle.now)) }
-    ensures place { IfOk result (λ b. IfSome (S.bytes source.old)
-        (λ all. IsIndexIn all handle.now b.items b.interval)) }
 {
     let block = block_from::<H, S>(alloc, source, handle, BlockType::Index)?;
     IndexBlock::check_once(block)

@@ -11,17 +11,20 @@ pub mod round_trip;
 mod run_core;
 pub mod source;
 pub mod table;
+pub mod trusted;
 pub mod write;
 pub mod writer;
 
 pub use checked::read_entry_checked;
 pub use checked_run::CheckedRun;
 pub use checking::{RunSummary, check};
+pub use footer::{decode_footer, encode_footer};
 pub use read::read_entry;
 pub use round_trip::write_and_read;
-pub use source::{FileSource, FrameSource, MemorySource};
+pub use source::{FileSource, FrameSource, MemorySource, SizedSource};
 use sst_base::{BlockHandle, HashRatio};
-pub use table::Table;
+pub use table::{OpenError, Table};
+pub use trusted::Trusted;
 pub use write::{cuts_fit, write_run};
 pub use writer::RunWriter;
 

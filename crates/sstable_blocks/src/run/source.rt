@@ -106,6 +106,13 @@ impl MemorySource {
         self.bytes
     }
 
+    // The bytes of the run.
+    pub(crate) fn bytes(&self) -> &Slice
+        ensures { result.now ≡ self.now.inner }
+    {
+        &self.bytes
+    }
+
     // States in a proof that memory never fails.
     pub(crate) fn note_reliable(&self)
         ensures { self.now.failures ≡ 0 }

@@ -12,23 +12,26 @@ ghost use Rattle.sstable_blocks.specs.Footer.{table_handles};
 ghost use Rattle.sstable_blocks.specs.ReadCosts.{heads_most_in, entries_most_in};
 ghost use Rattle.sstable_blocks.specs.ReadCosts.{heads_most_by, entries_most_by};
 ghost use Rattle.sstable_blocks.specs.RunChecks.{check_run as run_checked, summary_of};
-ghost use Rattle.sstable_blocks.specs.RunReading.{hashes, filter_answer, read_checked};
+ghost use Rattle.sstable_blocks.specs.RunReading.{hashes, handles_at, filter_answer, read_checked};
+ghost use Rattle.sst_block_kinds.specs.Checks.{index_check};
 ghost use Rattle.sstable_blocks.specs.Sound.{IsSound};
 ghost use Rattle.sstable_blocks.specs.Sources.{FailsAs, GivesOr, KeepsSource, filter_frames};
 ghost use Rattle.sstable_blocks.specs.Tables.{filter_kept, kept_of, kept_by_footer, IsKeptOf};
-ghost use Rattle.sstable_blocks.specs.Tables.{kept_says, read_kept, frames_by, LooksBy};
+ghost use Rattle.sstable_blocks.specs.Tables.{IsIndexIn, kept_says, read_kept, frames_by, LooksBy};
 
 use super::RunHandles;
-use super::checked::{block_from, index_block_from, read_in_block};
+use super::checked::{block_from, read_in_block};
 use super::checking::{RunSummary, check};
 use super::footer::read_footer;
 use super::laws::sound_is_read;
 use super::read::find_handle;
-use super::source::{FrameSource, SizedSource};
+use super::source::{FrameSource, MemorySource, SizedSource};
+use super::trusted::Trusted;
 use crate::table::filter::FilterBlock;
 use crate::table::filter::standard_bloom::StandardBloomFilterReader;
 use sst_base::{BlockHandle, BlockHash, BlockType, Error, InternalValue, Result, SeqNo, Steps};
 use sst_block_kinds::IndexBlock;
+use sst_block_kinds::laws::index_check_is_by_stages;
 use std::alloc::Global;
 use std::marker::{Model, PhantomData};
 
@@ -143,7 +146,27 @@ fn handles_from<S: SizedSource>(alloc: Global, source: &mut S) -> Result<RunHand
     read_footer(alloc, source, len)
 }
 
-// The filter of a run, if it has one, and its index, with the table of its heads.
+// The index of a run, with the table of its heads.
+fn kept_index_from<H: BlockHash, S: FrameSource>(
+    alloc: Global,
+    source: &mut S,
+    handle: &BlockHandle,
+) -> Result<IndexBlock>
+    ensures source { KeepsSource S.bytes S.failures S.is_reliable source.old source.new }
+    ensures reads { S.reads source.new ≡ S.reads source.old + 1 }
+    ensures io { IfErr result (λ e. e ≡ Io → S.failures source.old < S.failures source.new) }
+    ensures exact { IfSome (S.bytes source.old)
+        (λ all. GivesOr (S.failures source.old < S.failures source.new) (S.is_reliable source.old) (λ b. b.items) result
+        (handles_at (hashes H.hash64 H.hash128) all handle.now)) }
+    ensures place { IfOk result (λ b. IfSome (S.bytes source.old)
+        (λ all. IsIndexIn all handle.now b.items b.interval)) }
+{
+    index_check_is_by_stages();
+    let block = block_from::<H, S>(alloc, source, handle, BlockType::Index)?;
+    IndexBlock::check(alloc, block)
+}
+
+// The filter of a run, if it has one, and its index.
 fn kept_from<H: BlockHash, S: FrameSource>(
     alloc: Global,
     source: &mut S,
@@ -162,11 +185,8 @@ fn kept_from<H: BlockHash, S: FrameSource>(
         (kept_of (hashes H.hash64 H.hash128) all handles.now)) }
 {
     let filter = filter_block_from::<H, S>(alloc, source, &handles.filter)?;
-    let index = index_block_from::<H, S>(alloc, source, &handles.index)?;
-    match index.with_heads(alloc) {
-        Ok(index) => Ok((filter, index)),
-        Err((error, _)) => Err(error),
-    }
+    let index = kept_index_from::<H, S>(alloc, source, &handles.index)?;
+    Ok((filter, index))
 }
 
 // The first match by a filter and an index that were kept.
@@ -363,5 +383,18 @@ impl<H: BlockHash, S: SizedSource> Table<H, S> {
             Ok(handles) => Table::open(alloc, source, handles),
             Err(error) => Err(OpenError { error, source }),
         }
+    }
+}
+
+impl<H: BlockHash> Table<H, MemorySource> {
+    /// Views a table over a sound run in memory, as [`Table::verify`] accepts one: it is then read
+    /// without checks and checksums. Nothing is tested.
+    pub fn trusted(&self) -> Trusted<'_, H>
+        requires { (blocks : List (List Entry))
+            × IsSound (hashes H.hash64 H.hash128) blocks self.now.source.inner self.now.handles }
+        ensures { result
+            ≡ record { bytes = self.now.source.inner; handles = self.now.handles } }
+    {
+        Trusted::new(self.source.bytes(), &self.handles, &self.index)
     }
 }
