@@ -1,5 +1,6 @@
 -- Reading by the filter and the index that a table keeps.
-use Rattle.std.proofs.Common.{◌≡◌, ℕ, Bool, true, List, refl, sym, ◌∙◌, ap, subst, inl, inr, if◌then◌else◌, Option, Some, None, IfSome, Result, Ok}
+use Rattle.std.proofs.Common.{◌≡◌, ℕ, Bool, true, List, refl, sym, ◌∙◌, ap, subst, inl, inr, if◌then◌else◌, Option, Some, None, IfSome, IfOk, Result, Ok, Err}
+use Rattle.std.specs.Prelude.{MatchResult}
 use Rattle.sst_base.specs.BlockHandle.{HandleParts}
 use Rattle.sst_base.specs.Entry.{Entry}
 use Rattle.sst_base.specs.Header.{◌>>=◌}
@@ -9,10 +10,11 @@ use Rattle.sst_base.specs.declared.table.block.block_type.BlockType.TheVariants 
 use Rattle.sst_block_kinds.specs.Checks.{index_check}
 use Rattle.sst_block_kinds.specs.Handles.{Handle, handles}
 use Rattle.sstable_blocks.specs.Filter.{filter_at}
+use Rattle.sstable_blocks.specs.Footer.{table_handles}
 use Rattle.sstable_blocks.specs.Lookup.{handle_for}
 use Rattle.sstable_blocks.specs.RunReading.{Hashes, payload_at, handles_at, filter_says, filter_answer, read_block, read_blocks, read_checked}
 use Rattle.sstable_blocks.specs.Sources.{GivesOr, FailsAs}
-use Rattle.sstable_blocks.specs.Tables.{filter_kept, kept_of, IsIndexIn, IsKeptOf, kept_says, read_kept}
+use Rattle.sstable_blocks.specs.Tables.{filter_kept, kept_of, kept_by_footer, IsIndexIn, IsKeptOf, kept_says, read_kept}
 use Rattle.sstable_blocks.specs.declared.run.RunHandles.{RunHandles}
 use Rattle.sstable_blocks.proofs.SoundReads.{bind_to}
 
@@ -98,3 +100,39 @@ module _ (c : Hashes) (h : RunHandles) where
 -- what was kept of a run is kept of the same bytes
 pub kept_still : (c : Hashes) (h : RunHandles) (filter : Option (List ℕ)) (index : List Handle) (interval : ℕ) (before after : Option (List ℕ)) → after ≡ before → IfSome before (IsKeptOf c h filter index interval) → IfSome after (IsKeptOf c h filter index interval)
 kept_still c h filter index interval before after same k = subst (λ o. IfSome o (IsKeptOf c h filter index interval)) (sym same) k
+
+-- opening by a footer: the handles, then what is kept
+module _ (c : Hashes) where
+  abbrev rest_of : List ℕ → RunHandles → Result (RunHandles × Option (List ℕ) × List Handle) Error
+  rest_of all h = kept_of c all h >>= (λ (k : Option (List ℕ) × List Handle). Ok (h, k.0, k.1))
+
+  by_handles : (all : List ℕ) (h : RunHandles) → table_handles all ≡ Ok h → kept_by_footer c all ≡ rest_of all h
+  unfolding kept_by_footer
+  by_handles all h e = ap (λ r. r >>= (λ (x : RunHandles). rest_of all x)) e
+
+  pub footer_fails_first : (o : Option (List ℕ)) (P R : Type 0) (e : Error) → IfSome o (λ all. FailsAs P R (table_handles all) e) → IfSome o (λ all. FailsAs P R (kept_by_footer c all) e)
+  unfolding kept_by_footer
+  footer_fails_first None P R e f = tt
+  footer_fails_first (Some all) P R e f = λ other. elim (f other) [
+    | inl io ↦ inl (io.0, io.1, λ t. ap (λ r. r >>= (λ (x : RunHandles). rest_of all x)) (io.2 t))
+    | inr is ↦ inr (ap (λ r. r >>= (λ (x : RunHandles). rest_of all x)) is)
+  ]
+
+  module _ {T E : Type 0} (handles_of : T → RunHandles) (filter_of : T → Option (List ℕ)) (index_of : T → List Handle) (error_of : E → Error) (P P' : E → Type 0) (R R' : Type 0) (h : RunHandles) where
+    file_at : (all : List ℕ) (r : Result T E) → table_handles all ≡ Ok h → IfOk r (λ t. handles_of t ≡ h) → ((e : E) → P e → P' e) → (R' → R)
+        → MatchResult r (λ t. kept_of c all h ≡ Ok (filter_of t, index_of t)) (λ e. FailsAs (P e) R (kept_of c all h) (error_of e))
+        → MatchResult r (λ t. kept_by_footer c all ≡ Ok (handles_of t, filter_of t, index_of t)) (λ e. FailsAs (P' e) R' (kept_by_footer c all) (error_of e))
+    file_at all (Ok t) found same grew kept is =
+        by_handles all h found ∙ ap (λ r. r >>= (λ (k : Option (List ℕ) × List Handle). Ok (h, k.0, k.1))) is
+        ∙ ap (λ (k : RunHandles). Ok (k, filter_of t, index_of t)) (sym same)
+    file_at all (Err e) found same grew kept fails = λ other. elim (fails other) [
+      | inl io ↦ inl (io.0, grew e io.1, λ t. by_handles all h found ∙ ap (λ r. r >>= (λ (k : Option (List ℕ) × List Handle). Ok (h, k.0, k.1))) (io.2 (kept t)))
+      | inr is ↦ inr (by_handles all h found ∙ ap (λ r. r >>= (λ (k : Option (List ℕ) × List Handle). Ok (h, k.0, k.1))) is)
+    ]
+
+    pub file_on : (before mid : Option (List ℕ)) (r : Result T E) → mid ≡ before → IfSome before (λ all. table_handles all ≡ Ok h) → IfOk r (λ t. handles_of t ≡ h) → ((e : E) → P e → P' e) → (R' → R)
+        → IfSome mid (λ all. MatchResult r (λ t. kept_of c all h ≡ Ok (filter_of t, index_of t)) (λ e. FailsAs (P e) R (kept_of c all h) (error_of e)))
+        → IfSome before (λ all. MatchResult r (λ t. kept_by_footer c all ≡ Ok (handles_of t, filter_of t, index_of t)) (λ e. FailsAs (P' e) R' (kept_by_footer c all) (error_of e)))
+    file_on None mid r same found is grew kept given = tt
+    file_on (Some all) mid r same found is grew kept given =
+        file_at all r found is grew kept (subst (λ o. IfSome o (λ xs. MatchResult r (λ t. kept_of c xs h ≡ Ok (filter_of t, index_of t)) (λ e. FailsAs (P e) R (kept_of c xs h) (error_of e)))) same given)

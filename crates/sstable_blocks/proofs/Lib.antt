@@ -26,4 +26,6 @@ pub mod RunCheckLaws
 pub mod RunCheckSteps
 pub mod Footers
 pub mod TableCounts
+pub mod ScanWindows
+pub mod SoundScans
 pub mod KeptReads

@@ -16,3 +16,4 @@ pub mod Sound
 pub mod RunChecks
 pub mod Footer
 pub mod Tables
+pub mod Scans
