@@ -16,6 +16,7 @@ pub mod Intervals
 pub mod Candidates
 pub mod ListSteps
 pub mod Backs
+pub mod Ends
 pub mod Lookups
 pub mod Encoders
 pub mod PointerLaws

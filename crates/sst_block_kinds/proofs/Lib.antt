@@ -18,3 +18,4 @@ mod ExactEntries
 mod ExactHandles
 mod CheckRefusals
 mod Disorder
+mod MadeEntries

@@ -12,3 +12,4 @@ pub mod Walks
 pub mod Checks
 pub mod PointReads
 pub mod Disorder
+pub mod Tombstones

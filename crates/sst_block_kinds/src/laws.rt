@@ -3,6 +3,7 @@
 ghost use Rattle.std.specs.Prelude.{◌≡◌, ◌↔◌, ℕ, ◌+◌};
 ghost use Rattle.std.specs.Prelude.{◌≤◌, ◌<◌, ◌^◌};
 ghost use Rattle.std.specs.Prelude.{List, ◌++◌, map, length, ◌*◌, Ok};
+ghost use Rattle.std.specs.Iterator.{YieldsFirstBy, YieldsLastBy};
 ghost use Rattle.sst_base.specs.Bytes.{IsBytes};
 ghost use Rattle.sst_base.specs.Entry.{Entry, IsEntry, plain};
 ghost use Rattle.sst_block_core.specs.Kind.{IsKind};
@@ -16,12 +17,17 @@ ghost use Rattle.sst_block_kinds.specs.Walks.{AreSteps, end_of, index_end_of, fr
 ghost use Rattle.sst_block_kinds.specs.Walks.{back_walk_cost};
 ghost use Rattle.sst_block_kinds.specs.declared.table.data_block.ops.Op.{Op};
 ghost use Rattle.sst_block_kinds.specs.declared.table.index_block.ops.IndexOp.{IndexOp};
+ghost use Rattle.sst_block_core.specs.Backs.{GivesNextBack};
+ghost use Rattle.sst_block_core.specs.Candidates.{GivesNextHeld};
+ghost use Rattle.sst_block_core.specs.Scan.{Scan, GivesNext};
 ghost use Rattle.sst_block_core.specs.Stages.{Passes};
 ghost use Rattle.sst_block_core.specs.Stages.{items_in};
 ghost use Rattle.sst_block_core.specs.Entries.{entries};
 ghost use Rattle.sst_block_core.specs.Window.{first_match};
 ghost use Rattle.sst_block_kinds.specs.Handles.{Handle, IsHandle, handles, IndexPasses};
 ghost use Rattle.sst_block_kinds.specs.Handles.{IsIndexBlock};
+ghost use Rattle.sst_block_kinds.specs.ParsedEntry.{entry_of, IsParsedEntry};
+ghost use Rattle.sst_block_kinds.specs.ParsedHandle.{handle_of, IsParsedHandle};
 ghost use Rattle.sst_block_kinds.specs.Checks.{data_check, index_check, DataVerdict, IndexVerdict};
 
 /// Entries are a kind: the forms of an entry within the limits are decoded, whatever follows; what
@@ -70,6 +76,36 @@ pub fn index_walk_goes_on()
         → answers (map index_step_of (first ++ others)) w
         ≡ answers (map index_step_of first) w
         ++ answers (map index_step_of others) (window_after (map index_step_of first) w) }
+{}
+
+/// A step of an iterator over a data block from the front takes the first of the entries left, or
+/// none is left.
+pub fn front_step_takes_the_first()
+    ensures { (s : Scan Entry) (r : _) (t : Scan Entry)
+        → GivesNext entry_of IsParsedEntry s r t
+        → YieldsFirstBy (entry_of s.payload) (λ i. items_left i.window) s r t }
+{}
+
+/// A step from the back takes the last of the entries left, or none is left.
+pub fn back_step_takes_the_last()
+    ensures { (s : Scan Entry) (r : _) (t : Scan Entry)
+        → GivesNextBack entry_of IsParsedEntry s r t
+        → YieldsLastBy (entry_of s.payload) (λ i. items_left i.window) s r t }
+{}
+
+/// A step of an iterator over an index block from the front takes the first of the handles left, or
+/// none is left.
+pub fn index_front_step_takes_the_first()
+    ensures { (s : Scan Handle) (r : _) (t : Scan Handle)
+        → GivesNextHeld handle_of IsParsedHandle s r t
+        → YieldsFirstBy (handle_of s.payload) (λ i. items_left i.window) s r t }
+{}
+
+/// A step from the back takes the last of the handles left, or none is left.
+pub fn index_back_step_takes_the_last()
+    ensures { (s : Scan Handle) (r : _) (t : Scan Handle)
+        → GivesNextBack handle_of IsParsedHandle s r t
+        → YieldsLastBy (handle_of s.payload) (λ i. items_left i.window) s r t }
 {}
 
 /// A whole iteration from the back decodes no entry more than twice.

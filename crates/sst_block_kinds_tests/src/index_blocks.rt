@@ -8,7 +8,7 @@ use crate::checks::THREE_HANDLES;
 use crate::random::{Random, key_of};
 use sst_base::table::block::{Block, BlockHandle, BlockOffset, BlockType};
 use sst_base::{Error, Result, Slice};
-use sst_block_kinds::table::index_block::{Answer, IndexOp, Iter, walk};
+use sst_block_kinds::table::index_block::{Answer, HandleRef, Handles, IndexOp, Iter, walk};
 use sst_block_kinds::{IndexBlock, KeyedBlockHandle};
 use std::alloc::Global;
 use std::process::Abort;
@@ -436,6 +436,110 @@ fn random_operations_return_what_the_window_does(rt: HostRuntime) -> Tested {
             for (op, answer) in ops.iter().zip(found.iter()) {
                 assert!(&rt; window.perform(op).is(answer), "{op:?} at {interval}");
             }
+        }
+    }
+    Ok(())
+}
+
+/// Returns whether a handle that borrows its block is a handle of a list, by each of its calls.
+fn is_handle(
+    alloc: Global,
+    read: Option<HandleRef<'_>>,
+    wanted: &KeyedBlockHandle,
+) -> Result<bool> {
+    let Some(read) = read else {
+        return Ok(false);
+    };
+    let plain = BlockHandle::new(wanted.offset(), wanted.size());
+    Ok(
+        read.offset() == wanted.offset()
+            && read.size() == wanted.size()
+            && read.seqno() == wanted.seqno()
+            && read.handle() == plain
+            && read.compare_key(wanted.end_key().as_slice()).is_eq()
+            && read.clone()?.materialize(alloc)? == *wanted,
+    )
+}
+
+/// Checks that handles left are those of a list, from the front.
+fn check_front(
+    rt: &impl Abort,
+    alloc: Global,
+    handles: Handles<'_>,
+    list: &[KeyedBlockHandle],
+) -> Result<()> {
+    let mut handles = handles;
+    for wanted in list {
+        assert!(rt; is_handle(alloc, handles.next(), wanted)?);
+    }
+    assert!(rt; handles.next().is_none());
+    assert!(rt; handles.next_back().is_none());
+    Ok(())
+}
+
+/// Checks that handles left are those of a list, from the back.
+fn check_back(
+    rt: &impl Abort,
+    alloc: Global,
+    handles: Handles<'_>,
+    list: &[KeyedBlockHandle],
+) -> Result<()> {
+    let mut handles = handles;
+    for wanted in list.iter().rev() {
+        assert!(rt; is_handle(alloc, handles.next_back(), wanted)?);
+    }
+    assert!(rt; handles.next_back().is_none());
+    assert!(rt; handles.next().is_none());
+    Ok(())
+}
+
+/// Checks the handles between two bounds, and that the first of them is the handle of the iterator's
+/// item.
+fn check_between(
+    rt: &impl Abort,
+    alloc: Global,
+    block: &IndexBlock,
+    list: &[KeyedBlockHandle],
+    bounds: (&[u8], &[u8]),
+) -> Result<()> {
+    let (from, upto) = bounds;
+    let hi = list.len();
+    let mut window = Window { list, lo: 0, hi };
+    window.lo = window.passed(from, 5);
+    window.hi = hi.min(window.passed(upto, 0).saturating_add(1));
+    let left = list.get(window.lo..window.hi).unwrap_or(&list[..0]);
+    let mut iter = block.iter();
+    iter.seek(from, 5);
+    iter.seek_upper(upto, 5);
+    assert!(rt; iter.count_left() == left.len());
+    check_front(rt, alloc, Handles::new(block, iter), left)?;
+    let mut iter = block.iter();
+    iter.seek_upper(upto, 5);
+    iter.seek(from, 5);
+    if let Some(item) = iter.next() {
+        assert!(rt; !left.is_empty());
+        assert!(rt; is_handle(alloc, Some(block.handle(item)), &left[0])?);
+        check_back(rt, alloc, Handles::new(block, iter), &left[1..])?;
+    }
+    Ok(())
+}
+
+/// The handles that borrow the block of a random list are the list, from the front and from the
+/// back, also between two bounds.
+#[test]
+fn handles_are_the_list(rt: HostRuntime) -> Tested {
+    let alloc = rt.alloc();
+    let mut random = Random::new(13);
+    for interval in [1, 2, 3, 5, 16, 255] {
+        let count = 1 + random.below(40);
+        let list = random_list(&rt, alloc, &mut random, count)?;
+        let block = block_of(&rt, alloc, &list, interval)?;
+        check_front(&rt, alloc, block.handles(), &list)?;
+        check_back(&rt, alloc, block.handles(), &list)?;
+        for _ in 0..20 {
+            let from = key_of(alloc, random.below(44))?;
+            let upto = key_of(alloc, random.below(44))?;
+            check_between(&rt, alloc, &block, &list, (&from, &upto))?;
         }
     }
     Ok(())

@@ -12,6 +12,8 @@ mod heads;
 mod index_blocks;
 #[cfg(test)]
 mod lists;
+#[cfg(test)]
+mod owners;
 pub mod plain;
 pub mod random;
 #[cfg(test)]

@@ -7,6 +7,7 @@ ghost use Rattle.sst_block_kinds.specs.ParsedEntry.{IsParsedEntry};
 
 use crate::Tested;
 use crate::lists::{List, NO_BUCKETS, Row, block_of, is_same, list_of, push, with_table};
+use crate::owners::perform_owned;
 use crate::plain::plain_offset;
 use crate::random::{Random, key_of};
 use crate::reads::check_list;
@@ -19,7 +20,7 @@ use std::process::Abort;
 
 /// A call of an iterator.
 #[derive(Clone, Copy, Debug)]
-enum Step<'a> {
+pub(crate) enum Step<'a> {
     Next,
     NextBack,
     Seek(&'a [u8]),
@@ -287,7 +288,8 @@ fn compare(
     }
 }
 
-/// Makes calls over a block of a list at an interval, by an iterator and by `walk`.
+/// Makes calls over a block of a list at an interval, by an iterator, by `walk`, and by an iterator
+/// that owns a copy of the block.
 fn check_block(
     rt: &impl Abort,
     alloc: Global,
@@ -305,6 +307,15 @@ fn check_block(
     let found = walk(alloc, block, &ops)?;
     assert!(rt; found.len() == ops.len());
     compare(rt, list, lines, &found);
+    let mut steps = Vec::new(alloc);
+    for (step, _) in lines {
+        steps.push(*step)?;
+    }
+    for by_item in [false, true] {
+        let found = perform_owned(rt, alloc, block, by_item, &steps)?;
+        assert!(rt; found.len() == ops.len());
+        compare(rt, list, lines, &found);
+    }
     Ok(())
 }
 

@@ -37,7 +37,7 @@ pub const CHECKS: [&str; 2] = [
 /// The calls that a payload may be passed to: those of the item traits, of the decoder, of the
 /// index readers, of the one reader that counts, of blocks, of the two that make an item of its
 /// ranges, and of the table of heads, with what it calls itself.
-pub const CALLS: [&str; 24] = [
+pub const CALLS: [&str; 26] = [
     "Item::read_head",
     "Item::read_full",
     "Item::read_truncated",
@@ -45,6 +45,8 @@ pub const CALLS: [&str; 24] = [
     "item.own_key",
     "item.compare_key",
     "item.materialize",
+    "EntryRef::new",
+    "HandleRef::new",
     "FormReader::new",
     "Reader::new",
     "Decoder::new",
@@ -97,7 +99,7 @@ pub const MAKERS: [&str; 26] = [
 
 /// A source, one of [`MAKERS`], and how often it occurs. Where none is given it occurs
 /// nowhere.
-pub const MADE: [(&str, &str, usize); 38] = [
+pub const MADE: [(&str, &str, usize); 40] = [
     // The one reader that counts is made where intervals are opened.
     (
         "sst_block_core/src/table/block/form_reader.rt",
@@ -212,11 +214,23 @@ pub const MADE: [(&str, &str, usize); 38] = [
         ". iter (",
         1,
     ),
-    // (for the hash of a key: its prefix and its own bytes)
+    // (for the hash of a key and for a comparison: its prefix, if there is one, and its own bytes)
     (
         "sst_block_kinds/src/table/data_block/entry_ref.rt",
         "bytes_of (",
-        2,
+        4,
+    ),
+    // An iterator that owns its block opens the intervals for each step and each seek, for its first
+    // ends, and for the number of entries left.
+    (
+        "sst_block_kinds/src/table/data_block/into_entries.rt",
+        ". intervals (",
+        6,
+    ),
+    (
+        "sst_block_kinds/src/table/data_block/into_entries.rt",
+        "Steps : : new",
+        1,
     ),
     ("sst_block_kinds/src/table/data_block/ops.rt", ". iter (", 1),
     (
@@ -234,11 +248,11 @@ pub const MADE: [(&str, &str, usize); 38] = [
         ". data (",
         1,
     ),
-    // (over handles that are to be written)
+    // (over handles that are to be written, and for the handles that borrow the block)
     (
         "sst_block_kinds/src/table/index_block/mod.rt",
         ". iter (",
-        1,
+        2,
     ),
     (
         "sst_block_kinds/src/table/index_block/ops.rt",

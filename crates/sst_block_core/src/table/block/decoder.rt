@@ -25,10 +25,9 @@ ghost use Rattle.sst_block_core.specs.Trailer.{trailer_in};
 ghost use Rattle.sst_block_core.specs.Heads.{IsTableOf, listed_in};
 
 use crate::block_item::BlockItem;
-use crate::table::block::back::Back;
+use crate::table::block::ends::Ends;
 use crate::table::block::heads::HeadTable;
 use crate::table::block::intervals::Intervals;
-use crate::table::block::place::Place;
 use sst_base::double_ended_peekable::ListIterator;
 use sst_base::table::block::Block;
 use sst_base::{Error, Result, Slice, Steps};
@@ -201,25 +200,18 @@ pub trait Decodable<Parsed: ParsedItem<Self>>: BlockItem + Sized {
 /// step takes memory.
 pub struct Decoder<'a, Item: Decodable<Parsed>, Parsed: ParsedItem<Item>> {
     pub(crate) intervals: Intervals<'a, Item, Parsed>,
-    pub(crate) front: Place,
-    pub(crate) back: Back,
+    pub(crate) ends: Ends,
 }
 
 impl<'a, Item: Decodable<Parsed>, Parsed: ParsedItem<Item>> Model for Decoder<'a, Item, Parsed> {
-    ghost use Rattle.sst_block_core.specs.Scan.{Scan, IsPlace};
-    ghost use Rattle.sst_block_core.specs.Backs.{IsBack};
+    ghost use Rattle.sst_block_core.specs.Scan.{Scan};
+    ghost use Rattle.sst_block_core.specs.Ends.{AreEnds, scan_between};
 
     ghost Value = { Scan Item };
 
-    ghost view = { λ d. record {
-      payload = d.intervals.list.payload;
-      interval = d.intervals.list.interval;
-      window = record { list = d.intervals.list.items; lo = d.front.index; hi = d.back.hi };
-      steps = d.intervals.steps;
-    } };
+    ghost view = { λ d. scan_between d.intervals d.ends };
 
-    ghost invariant = { λ d. IsPlace Item.kind d.intervals.list d.front
-        × IsBack Item.kind d.intervals.list d.back.hi d.back.stack.items d.back.base };
+    ghost invariant = { λ d. AreEnds Item.kind d.intervals.list d.ends };
 }
 
 impl<'a, Item: Decodable<Parsed>, Parsed: ParsedItem<Item>> Decoder<'a, Item, Parsed> {
@@ -258,13 +250,8 @@ impl<'a, Item: Decodable<Parsed>, Parsed: ParsedItem<Item>> Decoder<'a, Item, Pa
         ensures window { result.window ≡ whole intervals.entry.list.items }
         ensures steps { result.steps ≡ intervals.entry.steps }
     {
-        let hi = intervals.item_count();
-        let front = intervals.first();
-        Decoder {
-            intervals,
-            front,
-            back: Back::new(hi),
-        }
+        let ends = intervals.ends();
+        Decoder { intervals, ends }
     }
 
     /// Moves the front to a head. A predicate over keys and sequence numbers, true of the first
@@ -292,10 +279,10 @@ impl<'a, Item: Decodable<Parsed>, Parsed: ParsedItem<Item>> Decoder<'a, Item, Pa
         let passed = self.intervals.partition_point(pred);
         let count = self.intervals.count();
         if second_partition && passed == count && self.intervals.interval() == 1 {
-            self.front = self.intervals.end();
+            self.ends.front = self.intervals.end();
             return false;
         }
-        self.front = self
+        self.ends.front = self
             .intervals
             .start(picked_head(second_partition, passed, count));
         true
@@ -327,8 +314,8 @@ impl<'a, Item: Decodable<Parsed>, Parsed: ParsedItem<Item>> Decoder<'a, Item, Pa
         let end = self
             .intervals
             .interval_end(picked_head(second_partition, passed, count));
-        self.back.hi = end;
-        self.back.stack.clear();
+        self.ends.back.hi = end;
+        self.ends.back.stack.clear();
         true
     }
 
@@ -352,7 +339,15 @@ impl<'a, Item: Decodable<Parsed>, Parsed: ParsedItem<Item>> Decoder<'a, Item, Pa
             } }
         ensures counts { CountsExactly self.old.steps self.new.steps 0 0 }
     {
-        self.front = self.intervals.place_at(offset);
+        self.ends.front = self.intervals.place_at(offset);
+    }
+
+    /// Returns the number of items left.
+    pub fn count_left(&self) -> usize
+        ensures count { result ≡ length (items_left self.now.window) }
+        ensures within { self.now.window.hi ≤ length self.now.window.list }
+    {
+        self.intervals.count_left(&self.ends)
     }
 
     /// Returns what was counted since the decoder was made.
@@ -374,10 +369,7 @@ impl<'a, Item: Decodable<Parsed>, Parsed: ParsedItem<Item> + Drop> Iterator
 
     #[inline(always)]
     fn next(&mut self) -> Option<Parsed> {
-        if self.front.index >= self.back.hi {
-            return None;
-        }
-        Some(self.intervals.take(&mut self.front))
+        self.intervals.next(&mut self.ends)
     }
 }
 
@@ -389,10 +381,7 @@ impl<'a, Item: Decodable<Parsed>, Parsed: ParsedItem<Item> + Drop> DoubleEndedIt
 
     #[inline(always)]
     fn next_back(&mut self) -> Option<Parsed> {
-        if self.back.hi <= self.front.index {
-            return None;
-        }
-        Some(self.intervals.take_back(&mut self.back))
+        self.intervals.next_back(&mut self.ends)
     }
 }
 
@@ -423,8 +412,7 @@ impl<'a, Item: Decodable<Parsed>, Parsed: ParsedItem<Item>> Drop for Decoder<'a,
     fn drop(self) {
         let Self {
             intervals: _,
-            front: _,
-            back: _,
+            ends: _,
         } = self;
     }
 }

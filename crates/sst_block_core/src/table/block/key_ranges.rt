@@ -1,5 +1,5 @@
 //! Keys by their ranges of a payload: a prefix, if there is one, and the bytes after it.
-ghost use Rattle.std.specs.Prelude.{◌≡◌, ◌++◌, IfOk, IsOkUnless};
+ghost use Rattle.std.specs.Prelude.{◌≡◌, ◌≤◌, ◌++◌, length, IfOk, IsOkUnless};
 ghost use Rattle.std.specs.Ordering.{nat_cmp};
 ghost use Rattle.std.specs.Cmp.Lexicographic.{slice_cmp};
 ghost use Rattle.sst_block_core.specs.Found.{IsRange, IsOptionalRange, range_of, optional_range};
@@ -49,6 +49,33 @@ pub fn compare_ranges(
     match prefix {
         Some(prefix) => compare_prefixed_slice(bytes_of(payload, prefix), rest, needle),
         None => compare_bytes(rest, needle),
+    }
+}
+
+// Compares two keys, each by a prefix and the bytes after it. The first prefix is at least as long
+// as the second.
+fn compare_longer(prefix: &[u8], rest: &[u8], shorter: &[u8], other: &[u8]) -> Ordering
+    requires { length shorter.now ≤ length prefix.now }
+    ensures { result
+        ≡ slice_cmp nat_cmp (prefix.now ++ rest.now) (shorter.now ++ other.now) }
+{
+    let (front, more) = prefix.split_at(shorter.len());
+    match compare_bytes(front, shorter) {
+        Ordering::Equal => compare_prefixed_slice(more, rest, other),
+        decided => decided,
+    }
+}
+
+/// Compares two keys, each by a prefix and the bytes after it, which may be of two payloads. Nothing
+/// is joined.
+pub fn compare_parts(prefix: &[u8], rest: &[u8], other_prefix: &[u8], other_rest: &[u8]) -> Ordering
+    ensures { result
+        ≡ slice_cmp nat_cmp (prefix.now ++ rest.now) (other_prefix.now ++ other_rest.now) }
+{
+    if prefix.len() < other_prefix.len() {
+        compare_longer(other_prefix, other_rest, prefix, rest).reverse()
+    } else {
+        compare_longer(prefix, rest, other_prefix, other_rest)
     }
 }
 

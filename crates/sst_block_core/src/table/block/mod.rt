@@ -6,6 +6,7 @@ pub mod candidate;
 pub mod check;
 pub mod decoder;
 pub mod encoder;
+pub mod ends;
 pub(crate) mod form_reader;
 pub mod hash_index;
 pub mod heads;

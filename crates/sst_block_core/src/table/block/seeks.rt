@@ -19,7 +19,7 @@ impl<'a, Item: Decodable<Parsed>, Parsed: ParsedItem<Item> + Drop> Decoder<'a, I
     pub fn has_left(&self) -> bool
         ensures { result ≡ some_left self.now.window }
     {
-        self.front.index < self.back.hi
+        self.ends.has_left()
     }
 
     /// Returns whether the front is at an item of the block, wherever the back is.
@@ -27,7 +27,7 @@ impl<'a, Item: Decodable<Parsed>, Parsed: ParsedItem<Item> + Drop> Decoder<'a, I
     pub fn is_at_item(&self) -> bool
         ensures { result ≡ nat_lt self.now.window.lo (length self.now.window.list) }
     {
-        self.front.index < self.intervals.item_count()
+        self.ends.front.index < self.intervals.item_count()
     }
 
     /// Moves the front to the first item that a bound doesn't pass. Returns that item where it was
@@ -51,7 +51,7 @@ impl<'a, Item: Decodable<Parsed>, Parsed: ParsedItem<Item> + Drop> Decoder<'a, I
         ) }
     {
         let (first, candidate) = self.intervals.seek_item(bound);
-        self.front = first;
+        self.ends.front = first;
         candidate
     }
 
@@ -74,7 +74,7 @@ impl<'a, Item: Decodable<Parsed>, Parsed: ParsedItem<Item> + Drop> Decoder<'a, I
     {
         let (place, _) = self.intervals.seek_item(bound);
         let end = self.intervals.item_count().min(place.index + 1);
-        self.intervals.move_back(&mut self.back, end);
+        self.intervals.move_back(&mut self.ends.back, end);
     }
 
     /// Returns the item at the front, which is held, if it is left. Counts nothing.
@@ -84,10 +84,10 @@ impl<'a, Item: Decodable<Parsed>, Parsed: ParsedItem<Item> + Drop> Decoder<'a, I
             self.old.window.lo held }
         ensures { GivesNextHeld Parsed.item_of Parsed.is_found self.old result self.new }
     {
-        if self.front.index >= self.back.hi {
+        if !self.ends.has_left() {
             return None;
         }
-        self.front = held.after;
+        self.ends.front = held.after;
         Some(held.item)
     }
 
@@ -110,12 +110,7 @@ impl<'a, Item: Decodable<Parsed>, Parsed: ParsedItem<Item> + Drop> Decoder<'a, I
           self.old.interval + 1,
         ) }
     {
-        let (place, item) = self.intervals.seek_key(bound);
-        self.front = place;
-        match item {
-            Some(_) => self.front.index < self.back.hi,
-            None => false,
-        }
+        self.intervals.seek_front(&mut self.ends, bound)
     }
 
     /// Moves the back to the first item that a bound doesn't pass, not included. Returns whether an
@@ -137,12 +132,6 @@ impl<'a, Item: Decodable<Parsed>, Parsed: ParsedItem<Item> + Drop> Decoder<'a, I
           2 * self.old.interval + 2,
         ) }
     {
-        let (place, _) = self.intervals.seek_key(bound);
-        self.intervals.set_back(&mut self.back, place.index);
-        if self.front.index >= self.back.hi {
-            return false;
-        }
-        let item = self.intervals.peek_back(&self.back);
-        self.intervals.compare_key(&item, bound.needle).is_eq()
+        self.intervals.seek_back(&mut self.ends, bound)
     }
 }

@@ -1,17 +1,21 @@
 //! Entries that borrow their block, and the iterator over them.
-ghost use Rattle.std.specs.Prelude.{◌≡◌, ◌↔◌, IfOk, IsOkUnless, IsTrue, refl};
+ghost use Rattle.std.specs.Prelude.{◌≡◌, ◌↔◌, ◌++◌, IfOk, IsOkUnless, IsTrue, refl};
 ghost use Rattle.std.specs.Ordering.{nat_cmp};
 ghost use Rattle.std.specs.Cmp.Lexicographic.{slice_cmp};
 ghost use Rattle.std.specs.Iterator.{YieldsFirst, YieldsLast, item_count};
 ghost use Rattle.sst_base.specs.ValueType.{IsTombstone};
+ghost use Rattle.sst_block_core.specs.Entries.{entries};
+ghost use Rattle.sst_block_core.specs.Kind.{item_cmp};
+ghost use Rattle.sst_block_kinds.specs.ParsedEntry.{entry_of, IsParsedEntry};
+ghost use Rattle.sst_block_kinds.specs.Tombstones.{is_tombstone};
 
 use crate::table::data_block::DataBlock;
 use crate::table::data_block::iter::Iter;
 use crate::table::data_block::parsed_item::DataBlockParsedItem;
 use sst_base::double_ended_peekable::ListIterator;
-use sst_base::{BlockHash, Error, InternalValue, Result, SeqNo, Slice, ValueType};
+use sst_base::{AllocResult, BlockHash, Error, InternalValue, Result, SeqNo, Slice, ValueType};
 use sst_block_core::table::block::ParsedItem;
-use sst_block_core::table::block::key_ranges::bytes_of;
+use sst_block_core::table::block::key_ranges::{bytes_of, compare_parts};
 use std::alloc::Global;
 use std::cmp::Ordering;
 use std::marker::Model;
@@ -25,7 +29,10 @@ pub struct EntryRef<'a> {
 
 impl<'a> Model for EntryRef<'a> {
     ghost use Rattle.sst_base.specs.Entry.{Entry};
+    ghost use Rattle.sst_block_core.specs.Entries.{entries};
+    ghost use Rattle.sst_block_core.specs.Kind.{item_cmp};
     ghost use Rattle.sst_block_kinds.specs.ParsedEntry.{entry_of, IsParsedEntry};
+    ghost use Rattle.sst_block_kinds.specs.Tombstones.{is_tombstone};
 
     ghost Value = { Entry };
 
@@ -35,6 +42,15 @@ impl<'a> Model for EntryRef<'a> {
 }
 
 impl<'a> EntryRef<'a> {
+    // The entry of a parsed item of a payload.
+    #[inline(always)]
+    pub(super) fn new(payload: &'a Slice, item: DataBlockParsedItem) -> EntryRef<'a>
+        requires { IsParsedEntry payload.now item }
+        ensures { result ≡ entry_of payload.now item }
+    {
+        EntryRef { payload, item }
+    }
+
     /// Returns its sequence number.
     pub fn seqno(&self) -> SeqNo
         ensures { result ≡ self.now.key.seqno }
@@ -49,9 +65,10 @@ impl<'a> EntryRef<'a> {
         self.item.value_type
     }
 
-    /// Returns whether it is a tombstone.
+    /// Returns whether it is a tombstone of either kind.
     pub fn is_tombstone(&self) -> bool
-        ensures { IsTrue result ↔ IsTombstone self.now.key.value_type }
+        ensures value { result ≡ is_tombstone self.now.key.value_type }
+        ensures tombstone { IsTrue result ↔ IsTombstone self.now.key.value_type }
     {
         self.item.value_type.is_tombstone()
     }
@@ -61,6 +78,37 @@ impl<'a> EntryRef<'a> {
         ensures { result ≡ slice_cmp nat_cmp self.now.key.user_key needle.now }
     {
         self.item.compare_key(needle, self.payload.as_slice())
+    }
+
+    // The two parts of its user key: the prefix, empty in a full form, and the key's own bytes.
+    #[inline(always)]
+    fn key_parts(&self) -> (&'a [u8], &'a [u8])
+        ensures { result.0.now ++ result.1.now ≡ self.now.key.user_key }
+    {
+        let rest = bytes_of(self.payload.as_slice(), &self.item.key);
+        match &self.item.prefix {
+            Some(prefix) => (bytes_of(self.payload.as_slice(), prefix), rest),
+            None => (&rest[..0], rest),
+        }
+    }
+
+    /// Compares its user key with that of another entry, which may be of another block. Nothing is
+    /// joined.
+    pub fn compare_user_key(&self, other: &EntryRef<'_>) -> Ordering
+        ensures { result ≡ slice_cmp nat_cmp self.now.key.user_key other.now.key.user_key }
+    {
+        let (prefix, rest) = self.key_parts();
+        let (other_prefix, other_rest) = other.key_parts();
+        compare_parts(prefix, rest, other_prefix, other_rest)
+    }
+
+    /// Compares it with another entry, which may be of another block: by user key rising, then by
+    /// sequence number falling. The value type plays no part.
+    pub fn compare(&self, other: &EntryRef<'_>) -> Ordering
+        ensures { result ≡ item_cmp entries self.now other.now }
+    {
+        self.compare_user_key(other)
+            .then(other.item.seqno.cmp(&self.item.seqno))
     }
 
     /// Returns the 64-bit hash of its user key. A key is joined only where it is prefix-truncated
@@ -95,6 +143,18 @@ impl<'a> EntryRef<'a> {
         ensures memory { IsOkUnless result Error.Memory }
     {
         self.item.materialize(alloc, self.payload)
+    }
+}
+
+/// A copy borrows the same block. No memory is taken.
+impl<'a> Clone for EntryRef<'a> {
+    ghost is_clone = { λ entry copy. copy ≡ entry };
+
+    fn clone(&self) -> AllocResult<EntryRef<'a>> {
+        Ok(EntryRef {
+            payload: self.payload,
+            item: self.item,
+        })
     }
 }
 

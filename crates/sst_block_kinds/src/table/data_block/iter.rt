@@ -1,5 +1,5 @@
 //! The iterator over the entries of a data block, as ranges of its payload.
-ghost use Rattle.std.specs.Prelude.{◌≡◌, ℕ, ◌+◌, ◌-◌, ◌*◌, ◌<◌};
+ghost use Rattle.std.specs.Prelude.{◌≡◌, ℕ, ◌+◌, ◌-◌, ◌*◌, ◌<◌, ◌≤◌};
 ghost use Rattle.std.specs.Prelude.{length, true};
 ghost use Rattle.std.specs.Iterator.{at_most};
 ghost use Rattle.std.proofs.Common.{ap};
@@ -60,6 +60,15 @@ impl<'a> Iter<'a> {
         ensures { result.now ≡ self.now.steps }
     {
         self.decoder.steps()
+    }
+
+    /// Returns the number of entries left.
+    pub fn count_left(&self) -> usize
+        ensures count { result ≡ length (items_left self.now.window) }
+        ensures within { self.now.window.hi ≤ length self.now.window.list }
+        ensures ordered { IsOrdered entries self.now.window.list }
+    {
+        self.decoder.count_left()
     }
 
     /// Moves the front to the first entry whose key is at least the needle. Returns whether an

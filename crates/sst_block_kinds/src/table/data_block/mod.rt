@@ -25,6 +25,7 @@ ghost use Rattle.sst_block_kinds.specs.ParsedEntry.{entry_of, IsParsedEntry};
 mod checking;
 mod decoding;
 pub mod entry_ref;
+pub mod into_entries;
 pub mod iter;
 pub mod ops;
 pub mod parsed_item;
@@ -33,6 +34,7 @@ mod point_read;
 use crate::laws::data_check_is_by_stages;
 pub use crate::table::answer::Answer;
 pub use entry_ref::{Entries, EntryRef};
+pub use into_entries::IntoEntries;
 pub use iter::Iter;
 pub use ops::{Op, walk};
 pub use parsed_item::DataBlockParsedItem;
@@ -405,6 +407,16 @@ impl<H: BlockHash> DataBlock<H> {
         ensures { result ≡ self.now.items }
     {
         Entries::new(self)
+    }
+
+    /// Returns an iterator over the entries that owns the block. Takes no memory.
+    pub fn into_entries(self) -> IntoEntries<H>
+        ensures payload { result.payload ≡ self.payload }
+        ensures interval { result.interval ≡ self.interval }
+        ensures window { result.window ≡ whole self.items }
+        ensures counts { IsZero result.steps }
+    {
+        IntoEntries::new(self)
     }
 
     /// Makes all entries.

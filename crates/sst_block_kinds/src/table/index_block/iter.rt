@@ -1,5 +1,5 @@
 //! The iterator over the handles of an index block, as ranges of its payload.
-ghost use Rattle.std.specs.Prelude.{◌≡◌, ◌-◌, ◌*◌, length};
+ghost use Rattle.std.specs.Prelude.{◌≡◌, ◌-◌, ◌*◌, ◌≤◌, length};
 ghost use Rattle.std.specs.Iterator.{at_most};
 ghost use Rattle.std.proofs.Common.{ap};
 ghost use Rattle.sst_base.specs.Counted.{CountsBetween};
@@ -68,6 +68,15 @@ impl<'a> Iter<'a> {
         ensures { result.now ≡ self.now.steps }
     {
         self.decoder.steps()
+    }
+
+    /// Returns the number of handles left.
+    pub fn count_left(&self) -> usize
+        ensures count { result ≡ length (items_left self.now.window) }
+        ensures within { self.now.window.hi ≤ length self.now.window.list }
+        ensures ordered { IsOrdered handles self.now.window.list }
+    {
+        self.decoder.count_left()
     }
 
     /// Moves the front to the first handle that can lead to the needle below the sequence number:

@@ -9,6 +9,7 @@ ghost use Rattle.sst_block_core.specs.Encoders.{IsRefusal, IsBlockPayload};
 ghost use Rattle.sst_block_kinds.specs.Handles.{Handle, EndFits, handles, index_payload};
 ghost use Rattle.sst_block_kinds.specs.Handles.{IsIndexBlock};
 ghost use Rattle.sst_block_kinds.specs.IndexBlock.{block_of, index_block_of};
+ghost use Rattle.sst_block_kinds.specs.ParsedHandle.{handle_of, IsParsedHandle};
 ghost use Rattle.sst_block_core.specs.Kind.{IsOrdered};
 ghost use Rattle.sst_block_core.specs.Heads.{IsTableOf, listed_in};
 ghost use Rattle.sst_block_core.specs.Trailer.{trailer_in};
@@ -18,6 +19,7 @@ pub mod block_handle;
 mod checking;
 mod decoding;
 mod encoding;
+pub mod handle_ref;
 pub mod iter;
 pub mod ops;
 pub mod parsed_item;
@@ -26,6 +28,7 @@ mod positions;
 use crate::laws::index_check_is_by_stages;
 pub use crate::table::answer::Answer;
 pub use block_handle::{BlockHandle, KeyedBlockHandle};
+pub use handle_ref::{HandleRef, Handles};
 pub use iter::Iter;
 pub use ops::{IndexOp, walk};
 pub use parsed_item::IndexBlockParsedItem;
@@ -357,6 +360,21 @@ impl IndexBlock {
         ensures counts { IsZero result.steps }
     {
         Iter::new(Decoder::over(self.intervals()))
+    }
+
+    /// Returns an iterator over the handles, each of which borrows the block. Takes no memory.
+    pub fn handles(&self) -> Handles<'_>
+        ensures { result ≡ self.now.items }
+    {
+        Handles::new(self, self.iter())
+    }
+
+    /// Returns the handle of an item that an iterator over the block gave. It borrows the block.
+    pub fn handle(&self, item: IndexBlockParsedItem) -> HandleRef<'_>
+        requires { IsParsedHandle self.now.payload item }
+        ensures { result ≡ handle_of self.now.payload item }
+    {
+        HandleRef::new(self.as_slice(), item)
     }
 }
 
