@@ -53,6 +53,7 @@ impl<'a, Item: Decodable<Parsed>, Parsed: ParsedItem<Item>> Model for FormReader
 
 impl<'a, Item: Decodable<Parsed>, Parsed: ParsedItem<Item>> FormReader<'a, Item, Parsed> {
     /// Makes a reader of a payload that has counted nothing.
+    #[inline(always)]
     pub(crate) fn new(payload: &'a [u8]) -> FormReader<'a, Item, Parsed>
         ensures payload { result.payload ≡ payload.now }
         ensures counts { IsZero result.steps }

@@ -93,6 +93,7 @@ impl<'a, Item: Decodable<Parsed>, Parsed: ParsedItem<Item>> Intervals<'a, Item, 
 
     /// Opens a block as [`Intervals::new`] does, with the block's own table of heads, if there is
     /// one.
+    #[inline(always)]
     pub fn with_table(block: &'a Block, table: Option<&'a HeadTable>) -> Intervals<'a, Item, Parsed>
         requires encoding { (hash : List ℕ → ℕ) × (items : List Item) × (r : ℕ) × (b : ℕ)
             × IsEncoding Item.kind Item.valid hash block.now.payload items r b }

@@ -109,6 +109,7 @@ impl<'a> Trailer<'a> {
     }
 
     // The four bytes at an offset of the trailer, as a number.
+    #[inline(always)]
     fn number_at(&self, at: usize) -> u32
         requires { at + 4 ≤ 31 }
         ensures { result ≡ little_number 4 (drop at (trailer_bytes self.now)) }

@@ -28,6 +28,7 @@ impl<'a> Model for Reader<'a> {
 impl<'a> Reader<'a> {
     /// Returns a view of `len` pointers of `width` bytes, 2 or 4, from an offset on. All lie within
     /// the bytes.
+    #[inline(always)]
     pub fn new(bytes: &'a [u8], offset: u32, len: u32, width: u8) -> Reader<'a>
         requires width { (width ≡ 2) ⊎ (width ≡ 4) }
         requires inside { offset + len * width ≤ length bytes.now }
