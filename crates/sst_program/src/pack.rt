@@ -15,8 +15,10 @@ use crate::output::print_text;
 use crate::replace::{LockFiles, write_file};
 use crate::sync::SyncWrite;
 use crate::words::PackWords;
+use sstable_blocks::run::footer::FOOTER_LEN;
 use sstable_blocks::{
     BlockHandle, Error, InternalValue, Poly31, Result, RunConfig, RunHandles, RunWriter,
+    encode_footer,
 };
 use std::alloc::Global;
 use std::io::{Read, Write};

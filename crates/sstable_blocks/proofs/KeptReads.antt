@@ -136,3 +136,8 @@ module _ (c : Hashes) where
     file_on None mid r same found is grew kept given = tt
     file_on (Some all) mid r same found is grew kept given =
         file_at all r found is grew kept (subst (λ o. IfSome o (λ xs. MatchResult r (λ t. kept_of c xs h ≡ Ok (filter_of t, index_of t)) (λ e. FailsAs (P e) R (kept_of c xs h) (error_of e)))) same given)
+
+-- the index that was kept is that of the bytes
+pub index_kept : (c : Hashes) (h : RunHandles) (filter : Option (List ℕ)) (index : List Handle) (interval : ℕ) (o : Option (List ℕ)) → IfSome o (IsKeptOf c h filter index interval) → IfSome o (λ all. handles_at c all h.index ≡ Ok index)
+index_kept c h filter index interval None k = tt
+index_kept c h filter index interval (Some all) k = k.index_is

@@ -28,4 +28,6 @@ pub mod Footers
 pub mod TableCounts
 pub mod ScanWindows
 pub mod SoundScans
+pub mod ScanSteps
+pub mod ScanCuts
 pub mod KeptReads

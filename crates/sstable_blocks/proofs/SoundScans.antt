@@ -20,7 +20,7 @@ use Rattle.sstable_blocks.specs.Blocks.{joined}
 use Rattle.sstable_blocks.specs.Lookup.{IsEnd}
 use Rattle.sstable_blocks.specs.Opened.{range_of}
 use Rattle.sstable_blocks.specs.RunReading.{Hashes, payload_at, items_at, handles_at}
-use Rattle.sstable_blocks.specs.Scans.{KeyRange, Read, is_before, is_up_to, in_range, within, first_block, end_block, handles_within, reads_of, blocks_read}
+use Rattle.sstable_blocks.specs.Scans.{KeyRange, Read, is_before, is_up_to, in_range, within, first_block, end_block, handles_within, block_within, reads_of, blocks_read}
 use Rattle.sstable_blocks.specs.Sound.{IsStoredBlock, IsSound}
 use Rattle.sstable_blocks.specs.declared.run.RunHandles.{RunHandles}
 use Rattle.sstable_blocks.proofs.Ends.{ends_in_order, block_behind, back_in_order, tail_in_order}
@@ -90,8 +90,8 @@ module _ (r : KeyRange) where
     abbrev opened : List Handle → List Handle
     opened hs = between handles.key (starts hs) (min (length hs) (stops hs + 1)) hs
 
-    one_read : (h : Handle) (b : List Entry) → IsHandle h → IsStoredBlock c bytes b h → reads_of r (items_at c bytes (range_of h)) ≡ read_all r b
-    one_read h b valid k = ap (reads_of r) (stored_read h b valid k)
+    one_read : (h : Handle) (b : List Entry) → IsHandle h → IsStoredBlock c bytes b h → reads_of (block_within c bytes r h) ≡ read_all r b
+    one_read h b valid k = ap (λ q. reads_of (q >>= (λ (xs : List Entry). Ok (within r xs)))) (stored_read h b valid k)
 
     pub scan_blocks : (blocks : List (List Entry)) (hs : List Handle) → AllByRecursion IsHandle hs → AllZip (IsStoredBlock c bytes) blocks hs → IsOrdered entries (joined blocks)
         → blocks_read c bytes r (opened hs) ≡ read_all r (joined blocks)
@@ -143,7 +143,7 @@ module _ (r : KeyRange) where
                     let none : Q ≡ 0 = none_counted handles.key (is_up_to r.to) (lower_up_to r.to) h hs rise qf in
                     let one : min (length (h ∷ hs)) (0 + Q + 1) ≡ 1 + 0 = omega arith in
                     ap B (counts false false pf qf ∙ ap (λ k. between handles.key (0 + k) (min (length (h ∷ hs)) (0 + Q + 1)) (h ∷ hs)) bare ∙ ap (λ k. between handles.key 0 k (h ∷ hs)) one ∙ between-first handles.key 0 h hs ∙ ap (λ ks. h ∷ ks) (between-none handles.key 0 hs))
-                    ∙ append-nil (reads_of r (items_at c bytes (range_of h))) ∙ here
+                    ∙ append-nil (reads_of (block_within c bytes r h)) ∙ here
                     ∙ sym (append-nil (read_all r b)) ∙ ap (λ xs. read_all r b ++ xs) (sym (none_after qf)) ∙ sym parts)
               ])
         ]

@@ -1,26 +1,28 @@
 //! Tables: runs in a source, whose filter and index are read once.
 ghost use Rattle.std.specs.Prelude.{◌≡◌, ◌≢◌, ◌+◌, ◌≤◌, ◌<◌, List, Ok, OnOk, IfOk, IfErr, IfSome};
-ghost use Rattle.std.specs.Prelude.{MatchResult};
+ghost use Rattle.std.specs.Prelude.{MatchResult, Some, length, slice_get};
 ghost use Rattle.std.specs.Option.{option_map};
 ghost use Rattle.sst_base.specs.Counted.{CountsBetween};
 ghost use Rattle.sst_base.specs.Entry.{Entry};
 ghost use Rattle.sst_base.specs.declared.error.Error.TheVariants.{Io};
 ghost use Rattle.sst_block_core.specs.Entries.{entries};
 ghost use Rattle.sst_block_core.specs.Window.{first_match};
+ghost use Rattle.sst_block_kinds.specs.Handles.{Handle};
 ghost use Rattle.sstable_blocks.specs.Blocks.{joined};
 ghost use Rattle.sstable_blocks.specs.Footer.{table_handles};
 ghost use Rattle.sstable_blocks.specs.ReadCosts.{heads_most_in, entries_most_in};
 ghost use Rattle.sstable_blocks.specs.ReadCosts.{heads_most_by, entries_most_by};
+ghost use Rattle.sstable_blocks.specs.Opened.{range_of};
 ghost use Rattle.sstable_blocks.specs.RunChecks.{check_run as run_checked, summary_of};
-ghost use Rattle.sstable_blocks.specs.RunReading.{hashes, handles_at, filter_answer, read_checked};
-ghost use Rattle.sst_block_kinds.specs.Checks.{index_check};
+ghost use Rattle.sstable_blocks.specs.RunReading.{hashes, items_at, handles_at, filter_answer};
+ghost use Rattle.sstable_blocks.specs.RunReading.{read_checked};
 ghost use Rattle.sstable_blocks.specs.Sound.{IsSound};
 ghost use Rattle.sstable_blocks.specs.Sources.{FailsAs, GivesOr, KeepsSource, filter_frames};
 ghost use Rattle.sstable_blocks.specs.Tables.{filter_kept, kept_of, kept_by_footer, IsKeptOf};
 ghost use Rattle.sstable_blocks.specs.Tables.{IsIndexIn, kept_says, read_kept, frames_by, LooksBy};
 
 use super::RunHandles;
-use super::checked::{block_from, read_in_block};
+use super::checked::{block_from, data_block_from, read_in_block};
 use super::checking::{RunSummary, check};
 use super::footer::read_footer;
 use super::laws::sound_is_read;
@@ -30,7 +32,7 @@ use super::trusted::Trusted;
 use crate::table::filter::FilterBlock;
 use crate::table::filter::standard_bloom::StandardBloomFilterReader;
 use sst_base::{BlockHandle, BlockHash, BlockType, Error, InternalValue, Result, SeqNo, Steps};
-use sst_block_kinds::IndexBlock;
+use sst_block_kinds::{DataBlock, IndexBlock};
 use sst_block_kinds::laws::index_check_is_by_stages;
 use std::alloc::Global;
 use std::marker::{Model, PhantomData};
@@ -278,6 +280,42 @@ impl<H: BlockHash, S: FrameSource> Table<H, S> {
             seqno,
             steps,
         )
+    }
+
+    /// Returns the index, with the table of its heads.
+    pub fn index(&self) -> &IndexBlock
+        ensures items { result.now.items ≡ self.now.index }
+        ensures interval { result.now.interval ≡ self.now.interval }
+        ensures kept { IfSome (S.bytes self.now.source)
+            (λ all. handles_at (hashes H.hash64 H.hash128) all self.now.handles.index
+            ≡ Ok self.now.index) }
+    {
+        &self.index
+    }
+
+    /// Reads the data block of the handle at an index of the index. Its frame is verified and
+    /// checked.
+    ///
+    /// # Errors
+    ///
+    /// Those of the block's frame, `Error::InvalidTag` if it is of another type, and those of
+    /// `DataBlock::check_once`. `Error::Io` only where the source failed. `Error::Memory` if an
+    /// allocation fails.
+    pub fn block_at(&mut self, alloc: Global, index: usize) -> Result<DataBlock<H>>
+        requires { index < length self.old.index }
+        ensures kept { self.new ≡ record self.old { source = self.new.source } }
+        ensures source { KeepsSource S.bytes S.failures S.is_reliable self.old.source self.new.source }
+        ensures reads { S.reads self.new.source ≡ S.reads self.old.source + 1 }
+        ensures io { IfErr result
+            (λ e. e ≡ Io → S.failures self.old.source < S.failures self.new.source) }
+        ensures exact { IfSome (S.bytes self.old.source)
+            (λ all. (h : Handle) → slice_get self.old.index index ≡ Some h
+            → GivesOr (S.failures self.old.source < S.failures self.new.source)
+            (S.is_reliable self.old.source) (λ b. b.items) result
+            (items_at (hashes H.hash64 H.hash128) all (range_of h))) }
+    {
+        let handle = self.index.handle_at(index);
+        data_block_from::<H, S>(alloc, &mut self.source, &handle)
     }
 
     /// Checks the whole run, as [`check`] does, and returns its summary.

@@ -2,8 +2,9 @@
 //! lengthened.
 use sst_base_tests::changes::{change_count, changed};
 use sst_base_tests::numbers::{u32_at, u64_at};
-use sst_program::footer::{footer_of, handles_in};
-use sstable_blocks::{BlockHandle, BlockOffset, Error, Result, RunHandles};
+use sstable_blocks::{
+    BlockHandle, BlockOffset, Error, Result, RunHandles, decode_footer, encode_footer,
+};
 use std::alloc::Global;
 
 // The footer of an index of 90 bytes at 219 and a filter of 59 bytes at 309.
@@ -38,11 +39,11 @@ fn wanted_of(bytes: &[u8]) -> Result<RunHandles> {
 fn is_read(alloc: Global, number: usize) -> Result<bool> {
     let bytes = changed(alloc, &WORKED, number)?;
     let wanted = wanted_of(bytes.as_slice());
-    let handles = match handles_in(bytes.as_slice()) {
+    let handles = match decode_footer(bytes.as_slice()) {
         Ok(handles) => handles,
         Err(error) => return Ok(wanted == Err(error)),
     };
-    let again = footer_of(&handles);
+    let again = encode_footer(&handles);
     let kept = if handles.filter.is_some() { 24 } else { 12 };
     Ok(wanted == Ok(handles) && again.get(..kept) == bytes.get(..kept))
 }
