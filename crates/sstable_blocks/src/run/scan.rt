@@ -64,8 +64,8 @@ impl<'k, H: BlockHash, S: FrameSource> Scan<'k, H, S> {
     pub fn new(table: Table<H, S>, from: Bound<&'k [u8]>, to: Bound<&'k [u8]>) -> Scan<'k, H, S>
         ensures table { result.table ≡ table }
         ensures range { result.range ≡ record {
-          from = bound_map (λ k. k.now) from;
-          to = bound_map (λ k. k.now) to;
+          from = bound_map (λ k. k.now) from.entry;
+          to = bound_map (λ k. k.now) to.entry;
         } }
         ensures handles { result.handles ≡ handles_within result.range table.index }
         ensures fresh { (result.front ≡ []) × (result.back ≡ []) × (result.ended ≡ None) }
@@ -77,8 +77,9 @@ impl<'k, H: BlockHash, S: FrameSource> Scan<'k, H, S> {
     {
         sound_is_scanned();
         let bounds = Bounds { from, to };
-        let lo = bounds.first_block(table.index());
-        let hi = bounds.end_block(table.index());
+        let index = table.index();
+        let lo = bounds.first_block(index);
+        let hi = bounds.end_block(index);
         let blocks = Blocks {
             front: None,
             lo,
@@ -199,8 +200,8 @@ impl<H: BlockHash, S: FrameSource> Table<H, S> {
     ) -> Scan<'k, H, S>
         ensures table { result.table ≡ self }
         ensures range { result.range ≡ record {
-          from = bound_map (λ k. k.now) from;
-          to = bound_map (λ k. k.now) to;
+          from = bound_map (λ k. k.now) from.entry;
+          to = bound_map (λ k. k.now) to.entry;
         } }
         ensures handles { result.handles ≡ handles_within result.range self.index }
         ensures fresh { (result.front ≡ []) × (result.back ≡ []) × (result.ended ≡ None) }

@@ -8,4 +8,4 @@ pub returns-in-Excluded : goal.returns-in-Excluded
 returns-in-Excluded c = up_to_excluded _ _ _ _ _ _ c.position-in-Excluded.ensures c.below.ensures.needle c.below.ensures.from (end_is (λ k. k.now) _ _ _ _ c.self.view_is c.in-Excluded.is)
 
 pub returns-in-Unbounded : goal.returns-in-Unbounded
-returns-in-Unbounded c = all_up_to _ _ _ c.len.ensures.count (end_is (λ k. k.now) _ _ _ _ c.self.view_is c.in-Unbounded.is)
+returns-in-Unbounded c = all_up_to c.args.index.now.items _ _ c.len.ensures.count (end_is (λ k. k.now) _ _ _ _ c.self.view_is c.in-Unbounded.is)

@@ -8,4 +8,4 @@ pub returns-in-Excluded : goal.returns-in-Excluded
 returns-in-Excluded c = before_excluded _ _ _ _ _ _ c.position-in-Excluded.ensures c.up_to.ensures.needle c.up_to.ensures.from (start_is (λ k. k.now) _ _ _ _ c.self.view_is c.in-Excluded.is)
 
 pub returns-in-Unbounded : goal.returns-in-Unbounded
-returns-in-Unbounded c = none_before _ _ (start_is (λ k. k.now) _ _ _ _ c.self.view_is c.in-Unbounded.is)
+returns-in-Unbounded c = none_before c.args.index.now.items _ (start_is (λ k. k.now) _ _ _ _ c.self.view_is c.in-Unbounded.is)
