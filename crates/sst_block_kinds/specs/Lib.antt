@@ -1,4 +1,5 @@
 pub mod Handles
+pub mod HandleRanges
 pub mod HandleLaws
 pub mod ParsedEntry
 pub mod ParsedHandle

@@ -4,6 +4,7 @@ use Rattle.std.specs.Result.{IsErrAnd}
 use Rattle.std.specs.Io.KnownBytes.{Appends}
 use Rattle.std.proofs.KnownBytes.{Appends-nil}
 use Rattle.sstable_blocks.specs.Blocks.{joined}
+use Rattle.sstable_blocks.specs.Footer.{table_handles}
 use Rattle.sst_program.specs.Outcome.{lines_text_of}
 use Rattle.sst_base.specs.BlockHandle.{HandleParts}
 use Rattle.sst_base.specs.Entry.{Entry}
@@ -13,7 +14,7 @@ use Rattle.sst_base.specs.declared.error.Error.TheVariants.{Io, Memory, BadHandl
 use Rattle.sst_block_kinds.specs.Handles.{Handle}
 use Rattle.sstable_blocks.specs.Sources.{FailsAs}
 use Rattle.sstable_blocks.specs.declared.run.RunHandles.{RunHandles}
-use Rattle.sst_program.specs.TableReads.{index_read, run_filter_check, entries_counted, run_counts, run_blocks, blocks_by, blocks_behind, table_handles, table_blocks, before_refusal, first_refusal, FailsAround, FailsAmong, IsTableFault, IsWalkFault, PrintsUntil}
+use Rattle.sst_program.specs.TableReads.{index_read, run_filter_check, entries_counted, run_counts, run_blocks, blocks_by, blocks_behind, table_blocks, before_refusal, first_refusal, FailsAround, FailsAmong, IsTableFault, IsWalkFault, PrintsUntil}
 use Rattle.sst_program.specs.declared.fault.Fault.{Fault}
 use Rattle.sst_program.specs.declared.fault.Fault.TheVariants.{Refused}
 

@@ -12,7 +12,7 @@ use Rattle.sstable_blocks.specs.Run.{Form, IsLayout, run_text, run_handles}
 use Rattle.sstable_blocks.specs.Writing.{AppendsLayout}
 use Rattle.sstable_blocks.specs.declared.run.RunConfig.{RunConfig}
 use Rattle.sstable_blocks.specs.declared.run.RunHandles.{RunHandles}
-use Rattle.sst_program.specs.Footer.{footer}
+use Rattle.sstable_blocks.specs.Footer.{footer}
 use Rattle.sst_program.specs.Table.{HaveSize, IsCutBy, AppendsTable, sst_form, end_by, run_end}
 
 -- all blocks have n items

@@ -1,5 +1,4 @@
 pub mod Commands
-pub mod Footer
 pub mod Line
 pub mod Lines
 pub mod Outcome

@@ -7,10 +7,10 @@ use Rattle.sst_base.specs.declared.error.Error.{Error}
 use Rattle.sst_base.specs.declared.error.Error.TheVariants.{Io, TooLong, Memory}
 use Rattle.sst_base.specs.Hashes.{poly31}
 use Rattle.sstable_blocks.specs.Blocks.{joined}
+use Rattle.sstable_blocks.specs.Footer.{footer}
 use Rattle.sstable_blocks.specs.Run.{Form, form, IsLayout}
 use Rattle.sstable_blocks.specs.declared.run.RunConfig.{RunConfig}
 use Rattle.sstable_blocks.specs.declared.run.RunHandles.{RunHandles}
-use Rattle.sst_program.specs.Footer.{footer}
 use Rattle.sst_program.specs.declared.pack.Packed.{Packed}
 
 -- blocks have n items each, but the last, which has 1 to n

@@ -15,23 +15,15 @@ use Rattle.sst_block_kinds.specs.Checks.{data_check, index_check}
 use Rattle.sst_block_kinds.specs.Handles.{Handle}
 use Rattle.sstable_blocks.specs.Blocks.{joined}
 use Rattle.sstable_blocks.specs.Filter.{filter_at}
+use Rattle.sstable_blocks.specs.Footer.{table_handles}
 use Rattle.sstable_blocks.specs.Opened.{range_of}
 use Rattle.sstable_blocks.specs.RunReading.{Hashes, hashes, payload_at, read_checked}
 use Rattle.sstable_blocks.specs.declared.run.RunHandles.{RunHandles}
-use Rattle.sst_program.specs.Footer.{handles_at}
 use Rattle.sst_program.specs.Outcome.{lines_text_of, answer_text_of, checked_text_of}
 
 -- the hashes that `sst` reads a run by
 abbrev pub sst_hashes : Hashes
 sst_hashes = hashes (poly31 64) (poly31 128)
-
--- where the footer of a table of this length is: its last 24 bytes
-abbrev pub footer_place : ℕ → HandleParts
-footer_place len = record { offset = len - min len 24; size = min len 24 }
-
--- the handles in the footer of a table
-unfoldable pub table_handles : List ℕ → Result RunHandles Error
-table_handles bytes = handles_at (drop (length bytes - 24) bytes)
 
 -- the handles of the index in the range of a handle
 unfoldable pub index_read : List ℕ → HandleParts → Result (List Handle) Error

@@ -4,7 +4,6 @@
 pub mod check;
 pub mod entry_printer;
 pub mod fault;
-pub mod footer;
 pub mod get;
 pub mod input;
 pub mod lines;

@@ -11,14 +11,15 @@ ghost use Rattle.sstable_blocks.specs.Run.{IsWritable};
 ghost use Rattle.sstable_blocks.specs.Writing.{IsSameRun};
 
 use crate::fault::{self, Fault};
-use crate::footer::{FOOTER_LEN, footer_of};
 use crate::input::ordered_entries;
 use crate::output::print_text;
 use crate::replace::{LockFiles, write_file};
 use crate::sync::SyncWrite;
 use crate::words::PackWords;
+use sstable_blocks::run::footer::FOOTER_LEN;
 use sstable_blocks::{
     BlockHandle, Error, InternalValue, Poly31, Result, RunConfig, RunHandles, RunWriter,
+    encode_footer,
 };
 use std::alloc::Global;
 use std::io::{Read, Write};
@@ -103,7 +104,7 @@ pub fn write_table<W: SyncWrite + Drop>(
     let blocks = run.block_count();
     let (handles, mut writer) = run.finish()?;
     let len = table_len(&handles)?;
-    writer.write_all(&footer_of(&handles))?;
+    writer.write_all(&encode_footer(&handles))?;
     writer.sync()?;
     Ok((Packed { blocks, len }, writer))
 }

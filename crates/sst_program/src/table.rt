@@ -1,14 +1,15 @@
 //! Table files: a run and its footer.
 ghost use Rattle.std.specs.Prelude.{◌≡◌, ◌⊎◌, ◌<◌, length, IfErr};
 ghost use Rattle.std.specs.Prelude.{IfSome, IfOk, IsOkUnless};
-ghost use Rattle.sst_base.specs.declared.error.Error.TheVariants.{Io, Truncated, BadHandle, Memory};
-ghost use Rattle.sst_program.specs.TableReads.{footer_place, table_handles, index_read, block_read};
+ghost use Rattle.sst_base.specs.declared.error.Error.TheVariants.{Io, Truncated, Memory};
+ghost use Rattle.sst_program.specs.TableReads.{index_read, block_read};
+ghost use Rattle.sstable_blocks.specs.Footer.{table_handles};
 ghost use Rattle.sstable_blocks.specs.Sources.{GivesOr, KeepsSource};
 
-use crate::footer::{FOOTER_LEN, handles_in};
 use sstable_blocks::run::checked::block_from;
+use sstable_blocks::run::footer::read_footer;
 use sstable_blocks::{
-    BlockHandle, BlockOffset, BlockType, DataBlock, Error, FileSource, FrameSource, IndexBlock,
+    BlockHandle, BlockType, DataBlock, Error, FileSource, FrameSource, IndexBlock,
     Input, Poly31, Result, RunHandles, SeekInput,
 };
 use std::alloc::Global;
@@ -95,26 +96,6 @@ pub fn open_run<F: SeekInput + Drop>(alloc: Global, file: F) -> Result<Table<F>>
     let mut source = FileSource::new(file);
     let handles = read_footer(alloc, &mut source, len)?;
     Ok(Table { source, handles })
-}
-
-/// Reads the footer of a table of this length.
-///
-/// # Errors
-///
-/// Those of `FrameSource::read_frame`, then `Error::Truncated` below 24 bytes.
-pub fn read_footer<S: FrameSource>(alloc: Global, source: &mut S, len: u64) -> Result<RunHandles>
-    ensures source { KeepsSource S.bytes S.failures S.is_reliable source.old source.new }
-    ensures io { IfErr result (λ e. e ≡ Io → S.failures source.old < S.failures source.new) }
-    ensures exact { IfSome (S.bytes source.old) (λ all. len ≡ length all
-        → GivesOr ((S.failures source.old < S.failures source.new)
-        × (S.is_reliable source.old → ⊥)) ⊥ (λ h. h) result (table_handles all)) }
-    ensures errors { IfErr result (λ e. (e ≡ Io) ⊎ (e ≡ Truncated) ⊎ (e ≡ Memory)
-        ⊎ ((e ≡ BadHandle) × S.may_refuse source.old (footer_place len))) }
-{
-    let size = len.min(FOOTER_LEN as u64);
-    let footer = BlockHandle::new(BlockOffset(len - size), size as u32);
-    let footer = source.read_frame(alloc, &footer)?;
-    handles_in(footer.as_slice())
 }
 
 /// Reads and checks the index of a run.

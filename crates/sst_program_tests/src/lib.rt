@@ -6,8 +6,6 @@
 #[cfg(test)]
 mod arguments;
 #[cfg(test)]
-mod footers;
-#[cfg(test)]
 mod long;
 #[cfg(test)]
 mod memory;

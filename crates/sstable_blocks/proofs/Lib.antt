@@ -24,4 +24,10 @@ pub mod FileRanges
 pub mod RunSummaries
 pub mod RunCheckLaws
 pub mod RunCheckSteps
+pub mod Footers
+pub mod TableCounts
+pub mod ScanWindows
+pub mod SoundScans
+pub mod ScanSteps
+pub mod ScanCuts
 pub mod KeptReads

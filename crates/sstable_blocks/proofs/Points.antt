@@ -42,7 +42,7 @@ entries_by Anywhere n = omega arith
 pub block_entries : (hash : List ℕ → ℕ) (d : DataBlockParts) (key : List ℕ) → read_entries hash d key ≤ d.interval + 1
 block_entries hash d key = entries_by (lookup hash d key) d.interval
 
-some_range : (x : Option Handle) (k : HandleParts) → option_map range_of x ≡ Some k → (g : Handle) × (x ≡ Some g) × (range_of g ≡ k)
+pub some_range : (x : Option Handle) (k : HandleParts) → option_map range_of x ≡ Some k → (g : Handle) × (x ≡ Some g) × (range_of g ≡ k)
 some_range None k e = cc
 some_range (Some g) k e = (g, refl, cc)
 

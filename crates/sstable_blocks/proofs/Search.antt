@@ -60,7 +60,7 @@ greater_no_version Less s n e = cc
 greater_no_version Equal s n e = cc
 greater_no_version Greater s n e = elim (ltb n s) as (λ b. (b && false) ≡ false) [ true ↦ refl | false ↦ refl ]
 
-then_first : (o p : Ordering) → ordering_then o p ≢ Less → o ≢ Less
+pub then_first : (o p : Ordering) → ordering_then o p ≢ Less → o ≢ Less
 then_first Less p h = absurd (h refl)
 then_first Equal p h = λ e. cc
 then_first Greater p h = λ e. cc

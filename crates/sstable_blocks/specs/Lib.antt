@@ -14,4 +14,6 @@ pub mod RunReading
 pub mod Sources
 pub mod Sound
 pub mod RunChecks
+pub mod Footer
 pub mod Tables
+pub mod Scans

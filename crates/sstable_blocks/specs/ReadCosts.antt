@@ -1,6 +1,7 @@
 -- How little a read of a run examines.
-use Rattle.std.specs.Prelude.{ℕ, ◌+◌, ◌==◌, if◌then◌else◌, List, length, slice_get, Option, Some, None}
+use Rattle.std.specs.Prelude.{ℕ, ◌+◌, ◌==◌, ◌≤◌, if◌then◌else◌, List, length, slice_get, Option, Some, None}
 use Rattle.sst_base.specs.BlockHandle.{HandleParts}
+use Rattle.sst_base.specs.Counted.{Counted}
 use Rattle.sst_base.specs.Entry.{Entry}
 use Rattle.sst_block_core.specs.Entries.{entries}
 use Rattle.sst_block_core.specs.Intervals.{digits}
@@ -12,6 +13,11 @@ use Rattle.sstable_blocks.specs.Lookup.{handle_for, place_for}
 use Rattle.sstable_blocks.specs.Opened.{range_of, payload_in, index_in}
 use Rattle.sstable_blocks.specs.Run.{Form, handles_from}
 use Rattle.sstable_blocks.specs.declared.run.RunHandles.{RunHandles}
+
+-- counters are only added to
+pub record CountsGrow (old new : Counted) : Type 0 where
+  pub heads : old.heads ≤ new.heads
+  pub entries : old.entries ≤ new.entries
 
 -- the interval of the block in the range of a frame
 abbrev pub interval_in : List ℕ → HandleParts → ℕ
@@ -35,14 +41,21 @@ handle_in bytes h needle seqno = handle_for handles needle seqno (index_in bytes
 abbrev pub handles_most : ℕ → ℕ
 handles_most q = if q == 1 then 1 else q + 1
 
--- the most heads that a read of these bytes compares: those of a search in the index, and of one in the block
-abbrev pub heads_most_in : List ℕ → RunHandles → List ℕ → ℕ → ℕ
-heads_most_in bytes h needle seqno =
-    digits (head_count (interval_in bytes h.index) (length (index_in bytes h.index))) + digits (heads_at bytes (handle_in bytes h needle seqno))
+-- the most heads that a read by handles of an index with this interval compares: those of a search in the index, and of
+-- one in the block
+abbrev pub heads_most_by : List ℕ → List Handle → ℕ → List ℕ → ℕ → ℕ
+heads_most_by bytes hs interval needle seqno = digits (head_count interval (length hs)) + digits (heads_at bytes (handle_for handles needle seqno hs))
 
 -- the most handles and entries that it decodes: of the block those of an interval, and one more
+abbrev pub entries_most_by : List ℕ → List Handle → ℕ → List ℕ → ℕ → ℕ
+entries_most_by bytes hs interval needle seqno = handles_most interval + entries_at bytes (handle_for handles needle seqno hs)
+
+-- the same for a read of these bytes
+abbrev pub heads_most_in : List ℕ → RunHandles → List ℕ → ℕ → ℕ
+heads_most_in bytes h needle seqno = heads_most_by bytes (index_in bytes h.index) (interval_in bytes h.index) needle seqno
+
 abbrev pub entries_most_in : List ℕ → RunHandles → List ℕ → ℕ → ℕ
-entries_most_in bytes h needle seqno = handles_most (interval_in bytes h.index) + entries_at bytes (handle_in bytes h needle seqno)
+entries_most_in bytes h needle seqno = entries_most_by bytes (index_in bytes h.index) (interval_in bytes h.index) needle seqno
 
 -- the block of a run that can hold the needle below a sequence number, if there is one
 abbrev pub block_for : Form → List (List Entry) → List ℕ → ℕ → Option (List Entry)

@@ -1,23 +1,28 @@
 -- Tables: runs in a source, whose filter and index are read once.
-use Rattle.std.specs.Prelude.{◌≡◌, ℕ, if◌then◌else◌, Bool, true, List, Option, Some, None, Result, Ok}
+use Rattle.std.specs.Prelude.{◌≡◌, ℕ, ◌<◌, if◌then◌else◌, Bool, true, false, List, Option, Some, None, Result, Ok, Err}
 use Rattle.sst_base.specs.BlockHandle.{HandleParts}
+use Rattle.sst_base.specs.Counted.{Counted, CountsExactly}
 use Rattle.sst_base.specs.Entry.{Entry}
 use Rattle.sst_base.specs.Header.{◌>>=◌}
 use Rattle.sst_base.specs.declared.error.Error.{Error}
 use Rattle.sst_base.specs.declared.table.block.block_type.BlockType.TheVariants as types
 use Rattle.sst_block_kinds.specs.Handles.{Handle, handles}
 use Rattle.sstable_blocks.specs.Filter.{filter_at}
+use Rattle.sstable_blocks.specs.Footer.{table_handles}
 use Rattle.sstable_blocks.specs.Lookup.{handle_for}
+use Rattle.sstable_blocks.specs.Opened.{index_in}
+use Rattle.sstable_blocks.specs.ReadCosts.{interval_in}
 use Rattle.sstable_blocks.specs.RunReading.{Hashes, payload_at, handles_at, filter_answer, read_block}
 use Rattle.sstable_blocks.specs.declared.run.RunHandles.{RunHandles}
 
 -- what contracts see of a table: its source and its handles, and what is kept of it: the payload of its filter, if it
--- has one, and the handles of its index
+-- has one, the handles of its index, and the restart interval of the index
 pub record TableParts (S : Type 0) : Type 0 where
   pub source : S
   pub handles : RunHandles
   pub filter : Option (List ℕ)
   pub index : List Handle
+  pub interval : ℕ
 
 -- the payload of the filter of a run, if it has one
 abbrev pub filter_kept : Hashes → List ℕ → Option HandleParts → Result (Option (List ℕ)) Error
@@ -34,10 +39,23 @@ kept_of c bytes h = do
   hs ← handles_at c bytes h.index
   Ok (filter, hs)
 
--- a filter's payload and handles are those of a run's bytes
-pub record IsKeptOf (c : Hashes) (h : RunHandles) (filter : Option (List ℕ)) (index : List Handle) (bytes : List ℕ) : Type 0 where
+-- what is kept of a table file, by its footer: handles, filter, index
+unfoldable pub kept_by_footer : Hashes → List ℕ → Result (RunHandles × Option (List ℕ) × List Handle) Error
+kept_by_footer c bytes = do
+  h ← table_handles bytes
+  kept ← kept_of c bytes h
+  Ok (h, kept.0, kept.1)
+
+-- handles and a restart interval are those of the index block in the range of a handle
+pub record IsIndexIn (bytes : List ℕ) (h : HandleParts) (index : List Handle) (interval : ℕ) : Type 0 where
+  pub index_is : index ≡ index_in bytes h
+  pub interval_is : interval ≡ interval_in bytes h
+
+-- a filter's payload, handles and a restart interval are those of a run's bytes
+pub record IsKeptOf (c : Hashes) (h : RunHandles) (filter : Option (List ℕ)) (index : List Handle) (interval : ℕ) (bytes : List ℕ) : Type 0 where
   pub filter_is : filter_kept c bytes h.filter ≡ Ok filter
   pub index_is : handles_at c bytes h.index ≡ Ok index
+  pub place : IsIndexIn bytes h.index index interval
 
 -- can a run have the needle, by the filter that was kept?
 abbrev pub kept_says : (List ℕ → ℕ) → Option (List ℕ) → List ℕ → Result Bool Error
@@ -49,3 +67,15 @@ abbrev pub read_kept : Hashes → List ℕ → Option (List ℕ) → List Handle
 read_kept c bytes filter hs needle seqno = do
   may ← kept_says c.hash64 filter needle
   if may then read_block c bytes (handle_for handles needle seqno hs) needle seqno else Ok None
+
+-- how many frames are requested where the filter says this: one at most where it allows the key, else none
+abbrev pub frames_by : Result Bool Error → ℕ
+frames_by (Ok true) = 1
+frames_by (Ok false) = 0
+frames_by (Err e) = 0
+
+-- what is counted where the filter says this: at least a head of the index where it allows the key, else nothing
+abbrev pub LooksBy : Result Bool Error → Counted → Counted → Type 0
+LooksBy (Ok true) old new = old.heads < new.heads
+LooksBy (Ok false) old new = CountsExactly old new 0 0
+LooksBy (Err e) old new = CountsExactly old new 0 0

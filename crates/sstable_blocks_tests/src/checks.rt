@@ -8,7 +8,7 @@ use std::alloc::Global;
 use std::io::Cursor;
 
 /// The handles of the example run.
-const WORKED: Places = ((219, 90), Some((309, 59)));
+pub(crate) const WORKED: Places = ((219, 90), Some((309, 59)));
 
 /// Whether a summary is that of the example run.
 fn is_worked(summary: &RunSummary) -> bool {
@@ -85,7 +85,7 @@ fn other_handles_are_refused(rt: HostRuntime) {
 /// The value of (a, 3) in a source, by a table, which is then verified.
 fn read_table<S: FrameSource + Drop>(alloc: Global, source: S) -> Result<Option<u8>> {
     let mut table = Table::<ByteSum, S>::open(alloc, source, handles_of(&WORKED))?;
-    let found = table.get(alloc, b"a", 3)?;
+    let found = table.get(alloc, b"a", 3, &mut Steps::new())?;
     let summary = table.verify(alloc)?;
     if !is_worked(&summary) {
         return Err(Error::OutOfOrder);

@@ -76,12 +76,25 @@ const WAYS: [(Way, usize); 6] = [
 
 /// A source of frames in memory that counts the frames requested, and fails at one.
 #[derive(Drop)]
-struct FailingSource {
+pub(crate) struct FailingSource {
     inner: MemorySource,
     calls: usize,
     fails_at: usize,
     failures: Count,
     reads: Count,
+}
+
+impl FailingSource {
+    /// Wraps the bytes of a run. The call of this number fails.
+    pub(crate) fn new(bytes: Slice, fails_at: usize) -> FailingSource {
+        FailingSource {
+            inner: MemorySource::new(bytes),
+            calls: 0,
+            fails_at,
+            failures: Count::new(),
+            reads: Count::new(),
+        }
+    }
 }
 
 impl FrameSource for FailingSource {
@@ -144,13 +157,7 @@ fn move_by(alloc: Global, way: Way, fails_at: usize) -> Result<(Result<Option<u8
             Ok((read, file.calls))
         }
         Way::Source => {
-            let mut source = FailingSource {
-                inner: MemorySource::new(Slice::new(alloc, &THREE_BLOCKS)?),
-                calls: 0,
-                fails_at,
-                failures: Count::new(),
-                reads: Count::new(),
-            };
+            let mut source = FailingSource::new(Slice::new(alloc, &THREE_BLOCKS)?, fails_at);
             let read = read_from::<ByteSum, _>(alloc, &mut source);
             Ok((read, source.calls))
         }

@@ -11,6 +11,8 @@ mod faults;
 #[cfg(test)]
 mod filter;
 #[cfg(test)]
+mod footers;
+#[cfg(test)]
 mod hostile;
 #[cfg(test)]
 mod lists;
@@ -20,6 +22,8 @@ mod random_runs;
 mod rows;
 #[cfg(test)]
 mod runs;
+#[cfg(test)]
+mod scans;
 #[cfg(test)]
 mod vectors;
 

@@ -34,7 +34,7 @@ fn push_versions(list: &mut Vec<InternalValue>, key: &[u8], random: &mut Random)
 }
 
 /// A list of one to 33 keys, with up to nine versions of each.
-fn random_list(alloc: Global, random: &mut Random) -> Result<Vec<InternalValue>> {
+pub(crate) fn random_list(alloc: Global, random: &mut Random) -> Result<Vec<InternalValue>> {
     let mut list = Vec::new(alloc);
     for number in 1..random.below(33) + 2 {
         push_versions(&mut list, key_of(alloc, number)?.as_slice(), random)?;
@@ -43,7 +43,7 @@ fn random_list(alloc: Global, random: &mut Random) -> Result<Vec<InternalValue>>
 }
 
 /// Cuts, each possible one with a chance of one in up to twenty.
-fn random_cuts(alloc: Global, len: usize, random: &mut Random) -> Result<Vec<usize>> {
+pub(crate) fn random_cuts(alloc: Global, len: usize, random: &mut Random) -> Result<Vec<usize>> {
     let mut cuts = Vec::new(alloc);
     let chance = random.below(20) + 1;
     for cut in 1..len {
@@ -89,7 +89,7 @@ fn is_read<H: BlockHash>(
         if !is_found(plain_first_match(list, needle, below), found.as_ref()) {
             return Ok(false);
         }
-        let found = table.get(alloc, needle, below)?;
+        let found = table.get(alloc, needle, below, &mut Steps::new())?;
         if !is_found(plain_first_match(list, needle, below), found.as_ref()) {
             return Ok(false);
         }

@@ -3,13 +3,16 @@ ghost use Rattle.std.specs.Prelude.{◌≡◌, ◌≢◌, ◌⊎◌, ◌+◌, �
 ghost use Rattle.std.specs.Prelude.{Option, Ok, OnOk, IfOk, IfErr, IfSome, false};
 ghost use Rattle.std.specs.Option.{option_map};
 ghost use Rattle.sst_base.specs.Bytes.{IsBytes};
+ghost use Rattle.sst_base.specs.Counted.{CountsBetween};
 ghost use Rattle.sst_base.specs.Entry.{Entry};
 ghost use Rattle.sst_base.specs.declared.error.Error.TheVariants.{Io};
 ghost use Rattle.sst_block_core.specs.Entries.{entries};
+ghost use Rattle.sst_block_core.specs.Intervals.{digits};
 ghost use Rattle.sst_block_kinds.specs.Handles.{Handle};
 ghost use Rattle.sst_block_core.specs.Window.{first_match};
 ghost use Rattle.sstable_blocks.specs.Blocks.{joined};
 ghost use Rattle.sstable_blocks.specs.Opened.{range_of};
+ghost use Rattle.sstable_blocks.specs.ReadCosts.{CountsGrow, heads_at, entries_at};
 ghost use Rattle.sstable_blocks.specs.RunReading.{hashes, payload_at, filter_says, filter_answer};
 ghost use Rattle.sstable_blocks.specs.RunReading.{read_block, items_at, handles_at};
 ghost use Rattle.sst_block_kinds.specs.Checks.{data_check, index_check};
@@ -143,6 +146,7 @@ pub(crate) fn read_in_block<H: BlockHash, S: FrameSource>(
     handle: &Option<BlockHandle>,
     needle: &[u8],
     seqno: SeqNo,
+    steps: &mut Steps,
 ) -> Result<Option<InternalValue>>
     ensures source { KeepsSource S.bytes S.failures S.is_reliable source.old source.new }
     ensures reads { S.reads source.new ≤ S.reads source.old + 1 }
@@ -152,13 +156,17 @@ pub(crate) fn read_in_block<H: BlockHash, S: FrameSource>(
         (λ all. (h : Option Handle) → handle.now ≡ option_map range_of h
         → GivesOr (S.failures source.old < S.failures source.new) (S.is_reliable source.old) (λ x. x) result
         (read_block (hashes H.hash64 H.hash128) all h needle.now seqno)) }
+    ensures counts { IfSome (S.bytes source.old)
+        (λ all. (h : Option Handle) → handle.now ≡ option_map range_of h
+        → CountsBetween steps.old steps.new (0, 0) (digits (heads_at all h), entries_at all h)) }
+    ensures counts_grow { CountsGrow steps.old steps.new }
 {
     match handle {
         None => Ok(None),
         Some(handle) => {
             let block = block_from::<H, S>(alloc, source, handle, BlockType::Data)?;
             let block = DataBlock::<H>::check_once(alloc, block)?;
-            block.point_read(alloc, needle, seqno, &mut Steps::new())
+            block.point_read(alloc, needle, seqno, steps)
         }
     }
 }
@@ -183,7 +191,7 @@ fn read_by_index<H: BlockHash, S: FrameSource>(
     let block = block_from::<H, S>(alloc, source, index, BlockType::Index)?;
     let index = IndexBlock::check_once(block)?;
     let handle = find_handle(&index, needle, seqno, &mut Steps::new());
-    read_in_block::<H, S>(alloc, source, &handle, needle, seqno)
+    read_in_block::<H, S>(alloc, source, &handle, needle, seqno, &mut Steps::new())
 }
 
 // The first match of a run on any bytes, in stages.

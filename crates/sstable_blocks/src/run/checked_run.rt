@@ -1,5 +1,5 @@
 //! Runs in memory that are checked once, and then read without checks.
-ghost use Rattle.std.specs.Prelude.{◌≡◌, ◌≢◌, List, IfOk, IfErr, OnOk, Err, IsOkUnless};
+ghost use Rattle.std.specs.Prelude.{◌≡◌, ◌≢◌, ◌<◌, List, IfOk, IfErr, OnOk, Err, IsOkUnless};
 ghost use Rattle.sst_base.specs.Counted.{CountsExactly, CountsBetween};
 ghost use Rattle.sst_base.specs.Entry.{Entry};
 ghost use Rattle.sst_block_core.specs.Entries.{entries};
@@ -97,6 +97,9 @@ impl<H: BlockHash> CheckedRun<H> {
           heads_most_in self.now.bytes self.now.handles needle.now seqno,
           entries_most_in self.now.bytes self.now.handles needle.now seqno,
         ) }
+        ensures looked { OnOk result
+            ((IsDenied self.now.bytes self.now.handles.filter (H.hash64 needle.now) → ⊥)
+            → steps.old.heads < steps.new.heads) }
         ensures denied { IsDenied self.now.bytes self.now.handles.filter (H.hash64 needle.now)
             → CountsExactly steps.old steps.new 0 0 }
     {

@@ -1,13 +1,13 @@
 //! Laws of runs. Each function does nothing, and its contract is one law: a caller has it in its
 //! proof by calling the function.
-ghost use Rattle.std.specs.Prelude.{◌≤◌, ◌≡◌, ℕ, ◌<◌, ◌^◌, List, length, slice_get, Ok};
+ghost use Rattle.std.specs.Prelude.{◌≤◌, ◌≡◌, ℕ, ◌<◌, ◌^◌, List, length, map, slice_get, Ok};
 ghost use Rattle.sst_block_core.specs.Entries.{entries};
-ghost use Rattle.sstable_blocks.specs.RunReading.{Hashes, hashes, read_checked, AnswerMeans};
+ghost use Rattle.sstable_blocks.specs.RunReading.{Hashes, hashes, handles_at, read_checked, AnswerMeans};
 ghost use Rattle.sst_base.specs.Bytes.{IsBytes};
 ghost use Rattle.std.specs.Prelude.{Option, IfSome};
 ghost use Rattle.std.specs.List.{AllByRecursion, AllZip};
-ghost use Rattle.sst_base.specs.Entry.{Entry};
-ghost use Rattle.sst_block_kinds.specs.Handles.{handles, IsHandle, EndFits};
+ghost use Rattle.sst_base.specs.Entry.{Entry, plain};
+ghost use Rattle.sst_block_kinds.specs.Handles.{Handle, handles, IsHandle, EndFits};
 ghost use Rattle.sst_block_core.specs.Kind.{IsOrdered};
 ghost use Rattle.sst_block_core.specs.Window.{first_match};
 ghost use Rattle.sstable_blocks.specs.Blocks.{joined, blocks_of, CutsFit, IsNotEmpty};
@@ -16,6 +16,7 @@ ghost use Rattle.sstable_blocks.specs.Opened.{Opened};
 ghost use Rattle.sstable_blocks.specs.ReadCosts.{heads_most, entries_most};
 ghost use Rattle.sstable_blocks.specs.ReadCosts.{heads_most_in, entries_most_in};
 ghost use Rattle.sstable_blocks.specs.RunChecks.{check_run, summary_of};
+ghost use Rattle.sstable_blocks.specs.Scans.{KeyRange, blocks_read, handles_within, within};
 ghost use Rattle.sstable_blocks.specs.Sound.{IsSound};
 ghost use Rattle.sstable_blocks.specs.Run.{Form, IsLayout, IsRun, IsFramed, block_payload};
 ghost use Rattle.sstable_blocks.specs.Run.{block_frames, handles_from};
@@ -152,4 +153,21 @@ pub fn sound_run_is_accepted()
     index_check_is_by_stages();
     data_block_is_read();
     index_block_is_read();
+}
+
+/// The blocks of a sound run that can have a key in a range, by the index alone, are read as the
+/// entries of the run in the range.
+pub fn sound_is_scanned()
+    ensures { (c : Hashes) (blocks : List (List Entry)) (bytes : List ℕ) (h : RunHandles)
+        (r : KeyRange) (hs : List Handle)
+        → ((xs : List ℕ) → c.hash128 xs < 2 ^ 128) → IsSound c blocks bytes h
+        → handles_at c bytes h.index ≡ Ok hs
+        → blocks_read c bytes r (handles_within r hs)
+        ≡ map Ok (within r (map plain (joined blocks))) }
+{
+    data_check_is_by_stages();
+    index_check_is_by_stages();
+    data_block_is_read();
+    index_block_is_read();
+    first_match_of_plain();
 }

@@ -58,7 +58,7 @@ fn payload_at<'a>(bytes: &'a [u8], handle: &BlockHandle) -> &'a [u8]
 }
 
 // Whether a run can have a key of this hash, by its filter. It can where there is none.
-fn is_allowed(bytes: &[u8], filter: &Option<BlockHandle>, hash: u64) -> bool
+pub(crate) fn is_allowed(bytes: &[u8], filter: &Option<BlockHandle>, hash: u64) -> bool
     requires { IfSome filter.now (IsFrameRange bytes.now) }
     ensures { (result ≡ false) ↔ IsDenied bytes.now filter.now hash }
 {
@@ -125,7 +125,7 @@ fn handle_in_index(
 
 // The first match in the block in a frame.
 #[tactic(auto, using(crate::proofs::Points::block_heads, crate::proofs::Points::block_entries))]
-fn match_in<H: BlockHash>(
+pub(crate) fn match_in<H: BlockHash>(
     alloc: Global,
     bytes: &Slice,
     handle: &BlockHandle,

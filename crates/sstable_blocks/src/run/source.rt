@@ -1,7 +1,7 @@
 //! Sources of frames: memory and files.
 ghost use Rattle.std.specs.Prelude.{◌≡◌, ◌⊎◌, ℕ, ◌+◌, ◌≤◌};
 ghost use Rattle.std.specs.Prelude.{◌<◌, ◌^◌, List, Option, Some};
-ghost use Rattle.std.specs.Prelude.{length, OnOk, IfOk, IfErr, IfSome, MatchResult};
+ghost use Rattle.std.specs.Prelude.{length, OnOk, OnErr, IfOk, IfErr, IfSome, IsOk, IsOkUnless, MatchResult};
 ghost use Rattle.sst_base.specs.BlockHandle.{HandleParts};
 ghost use Rattle.sst_base.specs.Bytes.{IsBytes};
 ghost use Rattle.sst_base.specs.declared.error.Error.TheVariants.{Io, BadHandle, Memory};
@@ -51,6 +51,22 @@ pub trait FrameSource {
             (λ s. s) result (range_at all handle.now)) };
 }
 
+/// A source of frames that knows its length, as one over memory or a file does.
+pub trait SizedSource: FrameSource {
+    /// Returns the length in bytes. No frame is read.
+    ///
+    /// # Errors
+    ///
+    /// `Error::Io` if the source fails, which a reliable one never does.
+    fn byte_len(&mut self) -> Result<u64>
+        ensures source { KeepsSource Self.bytes Self.failures Self.is_reliable self.old self.new }
+        ensures reads { Self.reads self.new ≡ Self.reads self.old }
+        ensures len { IfOk result (λ len. IfSome (Self.bytes self.old) (λ all. len ≡ length all)) }
+        ensures io { IsOkUnless result Error.Io }
+        ensures failed { OnErr result (Self.failures self.old < Self.failures self.new) }
+        ensures reliable { Self.is_reliable self.old → IsOk result };
+}
+
 /// A run in memory. Frames are cut from its bytes, and not copied.
 #[derive(Drop)]
 pub struct MemorySource {
@@ -90,6 +106,13 @@ impl MemorySource {
         self.bytes
     }
 
+    // The bytes of the run.
+    pub(crate) fn bytes(&self) -> &Slice
+        ensures { result.now ≡ self.now.inner }
+    {
+        &self.bytes
+    }
+
     // States in a proof that memory never fails.
     pub(crate) fn note_reliable(&self)
         ensures { self.now.failures ≡ 0 }
@@ -120,6 +143,12 @@ impl FrameSource for MemorySource {
             return Err(Error::BadHandle);
         }
         self.bytes.slice(offset as usize..(offset + size) as usize)
+    }
+}
+
+impl SizedSource for MemorySource {
+    fn byte_len(&mut self) -> Result<u64> {
+        Ok(self.bytes.len() as u64)
     }
 }
 
@@ -174,6 +203,16 @@ impl<F: SeekInput> FrameSource for FileSource<F> {
             self.failures.add_one();
         }
         read
+    }
+}
+
+impl<F: SeekInput> SizedSource for FileSource<F> {
+    fn byte_len(&mut self) -> Result<u64> {
+        let len = self.file.stream_len();
+        if len.is_err() {
+            self.failures.add_one();
+        }
+        len
     }
 }
 

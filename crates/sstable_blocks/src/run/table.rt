@@ -1,27 +1,39 @@
 //! Tables: runs in a source, whose filter and index are read once.
 ghost use Rattle.std.specs.Prelude.{◌≡◌, ◌≢◌, ◌+◌, ◌≤◌, ◌<◌, List, Ok, OnOk, IfOk, IfErr, IfSome};
+ghost use Rattle.std.specs.Prelude.{MatchResult, Some, length, slice_get};
 ghost use Rattle.std.specs.Option.{option_map};
+ghost use Rattle.sst_base.specs.Counted.{CountsBetween};
 ghost use Rattle.sst_base.specs.Entry.{Entry};
 ghost use Rattle.sst_base.specs.declared.error.Error.TheVariants.{Io};
 ghost use Rattle.sst_block_core.specs.Entries.{entries};
 ghost use Rattle.sst_block_core.specs.Window.{first_match};
+ghost use Rattle.sst_block_kinds.specs.Handles.{Handle};
 ghost use Rattle.sstable_blocks.specs.Blocks.{joined};
+ghost use Rattle.sstable_blocks.specs.Footer.{table_handles};
+ghost use Rattle.sstable_blocks.specs.ReadCosts.{heads_most_in, entries_most_in};
+ghost use Rattle.sstable_blocks.specs.ReadCosts.{heads_most_by, entries_most_by};
+ghost use Rattle.sstable_blocks.specs.Opened.{range_of};
 ghost use Rattle.sstable_blocks.specs.RunChecks.{check_run as run_checked, summary_of};
-ghost use Rattle.sstable_blocks.specs.RunReading.{hashes, filter_answer, read_checked};
+ghost use Rattle.sstable_blocks.specs.RunReading.{hashes, items_at, handles_at, filter_answer};
+ghost use Rattle.sstable_blocks.specs.RunReading.{read_checked};
 ghost use Rattle.sstable_blocks.specs.Sound.{IsSound};
-ghost use Rattle.sstable_blocks.specs.Sources.{GivesOr, KeepsSource, filter_frames};
-ghost use Rattle.sstable_blocks.specs.Tables.{filter_kept, kept_of, kept_says, read_kept};
+ghost use Rattle.sstable_blocks.specs.Sources.{FailsAs, GivesOr, KeepsSource, filter_frames};
+ghost use Rattle.sstable_blocks.specs.Tables.{filter_kept, kept_of, kept_by_footer, IsKeptOf};
+ghost use Rattle.sstable_blocks.specs.Tables.{IsIndexIn, kept_says, read_kept, frames_by, LooksBy};
 
 use super::RunHandles;
-use super::checked::{block_from, index_block_from, read_in_block};
+use super::checked::{block_from, data_block_from, read_in_block};
 use super::checking::{RunSummary, check};
+use super::footer::read_footer;
 use super::laws::sound_is_read;
 use super::read::find_handle;
-use super::source::FrameSource;
+use super::source::{FrameSource, MemorySource, SizedSource};
+use super::trusted::Trusted;
 use crate::table::filter::FilterBlock;
 use crate::table::filter::standard_bloom::StandardBloomFilterReader;
-use sst_base::{BlockHandle, BlockHash, BlockType, InternalValue, Result, SeqNo, Steps};
-use sst_block_kinds::IndexBlock;
+use sst_base::{BlockHandle, BlockHash, BlockType, Error, InternalValue, Result, SeqNo, Steps};
+use sst_block_kinds::{DataBlock, IndexBlock};
+use sst_block_kinds::laws::index_check_is_by_stages;
 use std::alloc::Global;
 use std::marker::{Model, PhantomData};
 
@@ -29,7 +41,7 @@ use std::marker::{Model, PhantomData};
 /// kept.
 ///
 /// Clauses see the source, the handles of filter and index, the payload of the filter, if there is
-/// one, and the handles of the index. Those kept are always those of the source's bytes, if these
+/// one, the handles of the index and its restart interval. Those kept are always those of the source's bytes, if these
 /// are known.
 #[derive(Drop)]
 pub struct Table<H: BlockHash, S: FrameSource> {
@@ -53,11 +65,29 @@ impl<H: BlockHash, S: FrameSource> Model for Table<H, S> {
       handles = t.handles;
       filter = option_map (λ b. b.payload) t.filter;
       index = t.index.items;
+      interval = t.index.interval;
     } };
 
     ghost invariant = { λ t. IfSome (S.bytes t.source)
         (IsKeptOf (hashes H.hash64 H.hash128) t.handles (option_map (λ b. b.payload) t.filter)
-        t.index.items) };
+        t.index.items t.index.interval) };
+}
+
+/// Why a table was not opened, with its source.
+#[derive(Drop)]
+pub struct OpenError<S> {
+    /// The error.
+    pub error: Error,
+    /// The source.
+    pub source: S,
+}
+
+impl<S: Drop> From<OpenError<S>> for Error {
+    ghost from_gives = { λ failed error. error ≡ failed.error };
+
+    fn from(failed: OpenError<S>) -> Error {
+        failed.error
+    }
 }
 
 // The filter of a run, if it has one.
@@ -105,6 +135,62 @@ fn kept_allows<H: BlockHash>(filter: &Option<FilterBlock>, needle: &[u8]) -> Res
     }
 }
 
+// The handles in the footer of a table file.
+fn handles_from<S: SizedSource>(alloc: Global, source: &mut S) -> Result<RunHandles>
+    ensures source { KeepsSource S.bytes S.failures S.is_reliable source.old source.new }
+    ensures reads { OnOk result (S.reads source.new ≡ S.reads source.old + 1) }
+    ensures io { IfErr result (λ e. e ≡ Io → S.failures source.old < S.failures source.new) }
+    ensures exact { IfSome (S.bytes source.old)
+        (λ all. GivesOr (S.failures source.old < S.failures source.new) (S.is_reliable source.old)
+        (λ h. h) result (table_handles all)) }
+{
+    let len = source.byte_len()?;
+    read_footer(alloc, source, len)
+}
+
+// The index of a run, with the table of its heads.
+fn kept_index_from<H: BlockHash, S: FrameSource>(
+    alloc: Global,
+    source: &mut S,
+    handle: &BlockHandle,
+) -> Result<IndexBlock>
+    ensures source { KeepsSource S.bytes S.failures S.is_reliable source.old source.new }
+    ensures reads { S.reads source.new ≡ S.reads source.old + 1 }
+    ensures io { IfErr result (λ e. e ≡ Io → S.failures source.old < S.failures source.new) }
+    ensures exact { IfSome (S.bytes source.old)
+        (λ all. GivesOr (S.failures source.old < S.failures source.new) (S.is_reliable source.old) (λ b. b.items) result
+        (handles_at (hashes H.hash64 H.hash128) all handle.now)) }
+    ensures place { IfOk result (λ b. IfSome (S.bytes source.old)
+        (λ all. IsIndexIn all handle.now b.items b.interval)) }
+{
+    index_check_is_by_stages();
+    let block = block_from::<H, S>(alloc, source, handle, BlockType::Index)?;
+    IndexBlock::check(alloc, block)
+}
+
+// The filter of a run, if it has one, and its index.
+fn kept_from<H: BlockHash, S: FrameSource>(
+    alloc: Global,
+    source: &mut S,
+    handles: &RunHandles,
+) -> Result<(Option<FilterBlock>, IndexBlock)>
+    ensures source { KeepsSource S.bytes S.failures S.is_reliable source.old source.new }
+    ensures reads { OnOk result
+        (S.reads source.new ≡ S.reads source.old + (filter_frames handles.now.filter + 1)) }
+    ensures io { IfErr result (λ e. e ≡ Io → S.failures source.old < S.failures source.new) }
+    ensures kept { IfSome (S.bytes source.old) (λ all. IfOk result
+        (λ k. IsKeptOf (hashes H.hash64 H.hash128) handles.now (option_map (λ b. b.payload) k.0)
+        k.1.items k.1.interval all)) }
+    ensures exact { IfSome (S.bytes source.old)
+        (λ all. GivesOr (S.failures source.old < S.failures source.new) (S.is_reliable source.old)
+        (λ k. (option_map (λ b. b.payload) k.0, k.1.items)) result
+        (kept_of (hashes H.hash64 H.hash128) all handles.now)) }
+{
+    let filter = filter_block_from::<H, S>(alloc, source, &handles.filter)?;
+    let index = kept_index_from::<H, S>(alloc, source, &handles.index)?;
+    Ok((filter, index))
+}
+
 // The first match by a filter and an index that were kept.
 fn read_by_kept<H: BlockHash, S: FrameSource>(
     alloc: Global,
@@ -113,26 +199,41 @@ fn read_by_kept<H: BlockHash, S: FrameSource>(
     index: &IndexBlock,
     needle: &[u8],
     seqno: SeqNo,
+    steps: &mut Steps,
 ) -> Result<Option<InternalValue>>
     ensures source { KeepsSource S.bytes S.failures S.is_reliable source.old source.new }
-    ensures reads { S.reads source.new ≤ S.reads source.old + 1 }
+    ensures reads { S.reads source.new ≤ S.reads source.old
+        + frames_by (kept_says H.hash64 (option_map (λ b. b.payload) filter.now) needle.now) }
     ensures io { IfErr result (λ e. e ≡ Io → S.failures source.old < S.failures source.new) }
     ensures exact { IfSome (S.bytes source.old)
         (λ all. GivesOr (S.failures source.old < S.failures source.new) (S.is_reliable source.old) (λ x. x) result
         (read_kept (hashes H.hash64 H.hash128) all (option_map (λ b. b.payload) filter.now)
         index.now.items needle.now seqno)) }
+    ensures counts { IfSome (S.bytes source.old)
+        (λ all. CountsBetween steps.old steps.new (0, 0) (
+          heads_most_by all index.now.items index.now.interval needle.now seqno,
+          entries_most_by all index.now.items index.now.interval needle.now seqno,
+        )) }
+    ensures looked { LooksBy
+        (kept_says H.hash64 (option_map (λ b. b.payload) filter.now) needle.now)
+        steps.old steps.new }
 {
     if !kept_allows::<H>(filter, needle)? {
         return Ok(None);
     }
-    let handle = find_handle(index, needle, seqno, &mut Steps::new());
-    read_in_block::<H, S>(alloc, source, &handle, needle, seqno)
+    let handle = find_handle(index, needle, seqno, steps);
+    read_in_block::<H, S>(alloc, source, &handle, needle, seqno, steps)
 }
 
 impl<H: BlockHash, S: FrameSource> Table<H, S> {
     /// Returns the first entry with this key whose sequence number is strictly below `seqno`, as
-    /// [`super::read_entry_checked`] does, but reads at most one frame: the filter and the index
-    /// are those that were kept. The frame is verified and checked.
+    /// [`super::read_entry_checked`] does, but reads at most one frame, and none where the filter
+    /// rules the key out: the filter and the index are those that were kept. The frame is verified
+    /// and checked.
+    ///
+    /// What is examined is added to `steps`: nothing where the filter rules the key out, else at
+    /// least a head of the index, and at most as many heads and entries as [`super::read_entry`]
+    /// examines.
     ///
     /// # Errors
     ///
@@ -144,10 +245,12 @@ impl<H: BlockHash, S: FrameSource> Table<H, S> {
         alloc: Global,
         needle: &[u8],
         seqno: SeqNo,
+        steps: &mut Steps,
     ) -> Result<Option<InternalValue>>
         ensures kept { self.new ≡ record self.old { source = self.new.source } }
         ensures source { KeepsSource S.bytes S.failures S.is_reliable self.old.source self.new.source }
-        ensures reads { S.reads self.new.source ≤ S.reads self.old.source + 1 }
+        ensures reads { S.reads self.new.source ≤ S.reads self.old.source
+            + frames_by (kept_says H.hash64 self.old.filter needle.now) }
         ensures io { IfErr result
             (λ e. e ≡ Io → S.failures self.old.source < S.failures self.new.source) }
         ensures exact { IfSome (S.bytes self.old.source)
@@ -159,6 +262,13 @@ impl<H: BlockHash, S: FrameSource> Table<H, S> {
             → IsSound (hashes H.hash64 H.hash128) blocks all self.old.handles
             → IfOk result
             (λ found. found ≡ first_match entries needle.now seqno (joined blocks))) }
+        ensures counts { IfSome (S.bytes self.old.source)
+            (λ all. CountsBetween steps.old steps.new (0, 0) (
+              heads_most_in all self.old.handles needle.now seqno,
+              entries_most_in all self.old.handles needle.now seqno,
+            )) }
+        ensures looked { LooksBy (kept_says H.hash64 self.old.filter needle.now)
+            steps.old steps.new }
     {
         sound_is_read();
         read_by_kept::<H, S>(
@@ -168,7 +278,44 @@ impl<H: BlockHash, S: FrameSource> Table<H, S> {
             &self.index,
             needle,
             seqno,
+            steps,
         )
+    }
+
+    /// Returns the index, with the table of its heads.
+    pub fn index(&self) -> &IndexBlock
+        ensures items { result.now.items ≡ self.now.index }
+        ensures interval { result.now.interval ≡ self.now.interval }
+        ensures kept { IfSome (S.bytes self.now.source)
+            (λ all. handles_at (hashes H.hash64 H.hash128) all self.now.handles.index
+            ≡ Ok self.now.index) }
+    {
+        &self.index
+    }
+
+    /// Reads the data block of the handle at an index of the index. Its frame is verified and
+    /// checked.
+    ///
+    /// # Errors
+    ///
+    /// Those of the block's frame, `Error::InvalidTag` if it is of another type, and those of
+    /// `DataBlock::check_once`. `Error::Io` only where the source failed. `Error::Memory` if an
+    /// allocation fails.
+    pub fn block_at(&mut self, alloc: Global, index: usize) -> Result<DataBlock<H>>
+        requires { index < length self.old.index }
+        ensures kept { self.new ≡ record self.old { source = self.new.source } }
+        ensures source { KeepsSource S.bytes S.failures S.is_reliable self.old.source self.new.source }
+        ensures reads { S.reads self.new.source ≡ S.reads self.old.source + 1 }
+        ensures io { IfErr result
+            (λ e. e ≡ Io → S.failures self.old.source < S.failures self.new.source) }
+        ensures exact { IfSome (S.bytes self.old.source)
+            (λ all. (h : Handle) → slice_get self.old.index index ≡ Some h
+            → GivesOr (S.failures self.old.source < S.failures self.new.source)
+            (S.is_reliable self.old.source) (λ b. b.items) result
+            (items_at (hashes H.hash64 H.hash128) all (range_of h))) }
+    {
+        let handle = self.index.handle_at(index);
+        data_block_from::<H, S>(alloc, &mut self.source, &handle)
     }
 
     /// Checks the whole run, as [`check`] does, and returns its summary.
@@ -201,34 +348,91 @@ impl<H: BlockHash, S: FrameSource> Table<H, S> {
     }
 }
 
-impl<H: BlockHash, S: FrameSource + Drop> Table<H, S> {
+impl<H: BlockHash, S: FrameSource> Table<H, S> {
     /// Opens a run in a source: reads, verifies and checks its filter, if it has one, and its
-    /// index. No block is read.
+    /// index, of whose heads it makes a table. No block is read.
     ///
     /// # Errors
     ///
     /// The first one met, in this order: for the filter, if there is one, those of its frame,
     /// `Error::InvalidTag` if it is of another type, and those of `StandardBloomFilterReader::new`;
-    /// then for the index those of its frame, its type, and `IndexBlock::check_once`. `Error::Io`
-    /// only where the source failed. `Error::Memory` if an allocation fails.
-    pub fn open(alloc: Global, mut source: S, handles: RunHandles) -> Result<Table<H, S>>
+    /// then for the index those of its frame, its type, and `IndexBlock::check`. `Error::Io` only
+    /// where the source failed. `Error::Memory` if an allocation fails. The source is returned with
+    /// the error.
+    pub fn open(
+        alloc: Global,
+        source: S,
+        handles: RunHandles,
+    ) -> std::result::Result<Table<H, S>, OpenError<S>>
         ensures handles { IfOk result (λ t. t.handles ≡ handles) }
-        ensures source { IfOk result
-            (λ t. KeepsSource S.bytes S.failures S.is_reliable source t.source) }
+        ensures source { MatchResult result
+            (λ t. KeepsSource S.bytes S.failures S.is_reliable source t.source)
+            (λ e. KeepsSource S.bytes S.failures S.is_reliable source e.source) }
         ensures reads { IfOk result
             (λ t. S.reads t.source ≡ S.reads source + (filter_frames handles.filter + 1)) }
-        ensures exact { IfSome (S.bytes source)
-            (λ all. GivesOr (Unit {0}) (S.is_reliable source) (λ t. (t.filter, t.index)) result
-            (kept_of (hashes H.hash64 H.hash128) all handles)) }
+        ensures io { IfErr result
+            (λ e. e.error ≡ Io → S.failures source < S.failures e.source) }
+        ensures exact { IfSome (S.bytes source) (λ all. MatchResult result
+            (λ t. kept_of (hashes H.hash64 H.hash128) all handles ≡ Ok (t.filter, t.index))
+            (λ e. FailsAs (S.failures source < S.failures e.source) (S.is_reliable source)
+            (kept_of (hashes H.hash64 H.hash128) all handles) e.error)) }
     {
-        let filter = filter_block_from::<H, S>(alloc, &mut source, &handles.filter)?;
-        let index = index_block_from::<H, S>(alloc, &mut source, &handles.index)?;
-        Ok(Table {
-            source,
-            handles,
-            filter,
-            index,
-            hash: PhantomData,
-        })
+        let mut source = source;
+        match kept_from::<H, S>(alloc, &mut source, &handles) {
+            Ok((filter, index)) => Ok(Table {
+                source,
+                handles,
+                filter,
+                index,
+                hash: PhantomData,
+            }),
+            Err(error) => Err(OpenError { error, source }),
+        }
+    }
+}
+
+impl<H: BlockHash, S: SizedSource> Table<H, S> {
+    /// Opens a table file, which is a run and its footer: reads the footer, and opens the run as
+    /// [`Table::open`] does.
+    ///
+    /// # Errors
+    ///
+    /// `Error::Io` if the source fails, `Error::Truncated` if it is shorter than a footer, then
+    /// those of [`Table::open`]. The source is returned with the error.
+    pub fn open_file(
+        alloc: Global,
+        source: S,
+    ) -> std::result::Result<Table<H, S>, OpenError<S>>
+        ensures source { MatchResult result
+            (λ t. KeepsSource S.bytes S.failures S.is_reliable source t.source)
+            (λ e. KeepsSource S.bytes S.failures S.is_reliable source e.source) }
+        ensures reads { IfOk result
+            (λ t. S.reads t.source ≡ S.reads source + (filter_frames t.handles.filter + 2)) }
+        ensures io { IfErr result
+            (λ e. e.error ≡ Io → S.failures source < S.failures e.source) }
+        ensures exact { IfSome (S.bytes source) (λ all. MatchResult result
+            (λ t. kept_by_footer (hashes H.hash64 H.hash128) all
+            ≡ Ok (t.handles, t.filter, t.index))
+            (λ e. FailsAs (S.failures source < S.failures e.source) (S.is_reliable source)
+            (kept_by_footer (hashes H.hash64 H.hash128) all) e.error)) }
+    {
+        let mut source = source;
+        match handles_from::<S>(alloc, &mut source) {
+            Ok(handles) => Table::open(alloc, source, handles),
+            Err(error) => Err(OpenError { error, source }),
+        }
+    }
+}
+
+impl<H: BlockHash> Table<H, MemorySource> {
+    /// Views a table over a sound run in memory, as [`Table::verify`] accepts one: it is then read
+    /// without checks and checksums. Nothing is tested.
+    pub fn trusted(&self) -> Trusted<'_, H>
+        requires { (blocks : List (List Entry))
+            × IsSound (hashes H.hash64 H.hash128) blocks self.now.source.inner self.now.handles }
+        ensures { result
+            ≡ record { bytes = self.now.source.inner; handles = self.now.handles } }
+    {
+        Trusted::new(self.source.bytes(), &self.handles, &self.index)
     }
 }

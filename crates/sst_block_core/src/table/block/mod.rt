@@ -13,6 +13,7 @@ pub mod heads;
 pub mod intervals;
 pub mod key_ranges;
 pub(crate) mod place;
+pub(crate) mod positions;
 pub mod reading;
 pub(crate) mod search;
 pub(crate) mod seeks;

@@ -23,6 +23,7 @@ pub mod handle_ref;
 pub mod iter;
 pub mod ops;
 pub mod parsed_item;
+mod positions;
 
 use crate::laws::index_check_is_by_stages;
 pub use crate::table::answer::Answer;

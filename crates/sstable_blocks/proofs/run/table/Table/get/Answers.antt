@@ -1,8 +1,11 @@
 use Rattle.std.proofs.Common.{◌<◌, subst, IfSome}
+use Rattle.sst_base.specs.Counted.{CountsBetween}
+use Rattle.sstable_blocks.specs.ReadCosts.{heads_most_in, entries_most_in}
 use Rattle.sstable_blocks.specs.RunReading.{hashes, read_checked}
 use Rattle.sstable_blocks.specs.Sources.{GivesOr}
 use Rattle.sstable_blocks.proofs.Answered.{sound_on}
 use Rattle.sstable_blocks.proofs.KeptReads.{checked_on}
+use Rattle.sstable_blocks.proofs.TableCounts.{kept_counts}
 use Rattle.sstable_blocks.proofs.run.table.Table.get.Goals as goal
 
 pub returns-clause-exact : goal.returns-clause-exact
@@ -10,9 +13,16 @@ returns-clause-exact g c =
     let h = hashes g.H.BlockHash.hash64 g.H.BlockHash.hash128 in
     subst (λ w. IfSome (g.S.FrameSource.bytes w.source) (λ all. GivesOr (g.S.FrameSource.failures w.source < g.S.FrameSource.failures c.read_by_kept.new.source) (g.S.FrameSource.is_reliable w.source) (λ x. x) c.read_by_kept.result (read_checked h all w.handles c.args.needle.now c.args.seqno)))
     c.self.view_is
-    (checked_on h _ c.self.inside.handles _ _ c.args.needle.now c.args.seqno _ _ _ c.self.invariant c.read_by_kept.ensures.exact)
+    (checked_on h _ c.self.inside.handles _ _ _ c.args.needle.now c.args.seqno _ _ _ c.self.invariant c.read_by_kept.ensures.exact)
 
 pub returns-clause-sound : goal.returns-clause-sound
 returns-clause-sound g c = sound_on (hashes g.H.BlockHash.hash64 g.H.BlockHash.hash128) _ _ _ _ c.args.self.now.handles _ _
     (λ all blocks sound. c.sound_is_read.ensures (hashes g.H.BlockHash.hash64 g.H.BlockHash.hash128) blocks all c.args.self.now.handles c.args.needle.now c.args.seqno g.met.H.BlockHash.hash128_fits sound)
     (returns-clause-exact g c)
+
+pub returns-clause-counts : goal.returns-clause-counts
+returns-clause-counts g c =
+    let h = hashes g.H.BlockHash.hash64 g.H.BlockHash.hash128 in
+    subst (λ w. IfSome (g.S.FrameSource.bytes w.source) (λ all. CountsBetween c.args.steps.now c.read_by_kept.new.steps (0, 0) (heads_most_in all w.handles c.args.needle.now c.args.seqno, entries_most_in all w.handles c.args.needle.now c.args.seqno)))
+    c.self.view_is
+    (kept_counts h _ c.self.inside.handles _ _ _ c.args.needle.now c.args.seqno _ _ c.self.invariant c.read_by_kept.ensures.counts)

@@ -1,0 +1,37 @@
+//! Items of a block by their index.
+ghost use Rattle.std.specs.Prelude.{◌≡◌, ◌<◌, length};
+ghost use Rattle.sst_block_core.specs.Kind.{IsOrdered};
+ghost use Rattle.sst_block_core.specs.Places.{IsItemAt};
+ghost use Rattle.sst_block_core.specs.Window.{count_passed};
+
+use crate::table::block::bound::Bound;
+use crate::table::block::decoder::{Decodable, ParsedItem};
+use crate::table::block::intervals::Intervals;
+
+impl<'a, Item: Decodable<Parsed>, Parsed: ParsedItem<Item> + Drop> Intervals<'a, Item, Parsed> {
+    /// Returns how many items a bound passes, which is the index of the first one that it doesn't
+    /// pass.
+    pub fn position(&mut self, bound: &Bound<'_>) -> usize
+        requires { IsOrdered Item.kind self.old.list.items }
+        ensures list { self.new.list ≡ self.old.list }
+        ensures count { result
+            ≡ count_passed Item.kind bound.now.needle.now bound.now.from self.old.list.items }
+    {
+        let (place, _) = self.seek_item(bound);
+        place.index
+    }
+
+    /// Decodes the item at an index: goes from the head of its interval to the item.
+    pub fn item_at(&mut self, index: usize) -> Parsed
+        requires { index < length self.old.list.items }
+        ensures list { self.new.list ≡ self.old.list }
+        ensures item { IsItemAt Parsed.item_of Parsed.is_found self.old.list index result }
+    {
+        let interval = usize::from(self.interval());
+        let mut at = self.start(index / interval);
+        while at.index < index {
+            self.take(&mut at);
+        }
+        self.take(&mut at)
+    }
+}

@@ -1,0 +1,132 @@
+-- Seeks by the bounds of a range.
+use Rattle.std.proofs.Common.{◌≡◌, ℕ, ◌+◌, ◌<◌, Bool, true, false, cond, leb, List, [], ◌∷◌, length, refl, arith, sym, ◌∙◌, ap, subst, Option, Some, None}
+use Rattle.std.proofs.lemmas.Bool.{le-leb}
+use Rattle.std.proofs.lemmas.List.Sums.{sum_by-cons}
+use Rattle.std.specs.List.{count_by}
+use Rattle.std.specs.Cmp.Lexicographic.{slice_cmp}
+use Rattle.std.specs.Ordering.{nat_cmp, is_lt, is_le}
+use Rattle.std.specs.declared.cmp.Ordering.{Ordering}
+use Rattle.std.specs.declared.cmp.Ordering.TheVariants.{Less, Equal, Greater}
+use Rattle.std.specs.Range.Bound.{bound_map}
+use Rattle.std.specs.declared.ops.Bound.{Bound}
+use Rattle.std.specs.declared.ops.Bound.TheVariants.{Included, Excluded, Unbounded}
+use Rattle.sst_base.specs.Entry.{Entry}
+use Rattle.sst_block_core.specs.Backs.{GivesStep}
+use Rattle.sst_block_core.specs.Entries.{entries}
+use Rattle.sst_block_core.specs.Kind.{Kind, IsOrdered}
+use Rattle.sst_block_core.specs.Scan.{Scan}
+use Rattle.sst_block_core.specs.Window.{Window, Answer, items_left, whole, found, passes, passes_cmp, count_passed, seek, seek_exclusive, seek_upper, seek_upper_exclusive}
+use Rattle.sst_block_kinds.specs.Handles.{Handle, handles}
+use Rattle.sstable_blocks.specs.Scans.{KeyRange, is_before, is_up_to, first_entry, end_entry, within}
+use Rattle.sstable_blocks.proofs.ScanWindows.{within_between}
+
+-- tests that agree count the same
+pub count_same : {X : Type 0} (p q : X → Bool) → ((x : X) → p x ≡ q x) → (xs : List X) → count_by p xs ≡ count_by q xs
+count_same p q same [] = refl
+count_same p q same (x ∷ xs) =
+    sum_by-cons (λ y. cond (p y) 1 0) x xs ∙ ap (λ b. cond b 1 0 + count_by p xs) (same x) ∙ ap (λ n. cond (q x) 1 0 + n) (count_same p q same xs)
+    ∙ sym (sum_by-cons (λ y. cond (q y) 1 0) x xs)
+
+below_is : (o : Ordering) (s : ℕ) → passes_cmp o None s ≡ is_lt o
+below_is Less s = refl
+below_is Equal s = refl
+below_is Greater s = refl
+
+up_to_is : (o : Ordering) (s : ℕ) → passes_cmp o (Some 0) s ≡ is_le o
+up_to_is Less s = refl
+up_to_is Equal s = le-leb 0 s (omega arith)
+up_to_is Greater s = refl
+
+-- the keys that a bound passes, by their order
+pub passed_below : {X : Type 0} (kind : Kind X) (k : List ℕ) (xs : List X) → count_passed kind k None xs ≡ count_by (λ x. is_lt (slice_cmp nat_cmp (kind.key x) k)) xs
+unfolding count_passed
+passed_below kind k xs = count_same (λ x. passes k None (kind.key x) (kind.seqno x)) (λ x. is_lt (slice_cmp nat_cmp (kind.key x) k)) (λ x. below_is (slice_cmp nat_cmp (kind.key x) k) (kind.seqno x)) xs
+
+pub passed_up_to : {X : Type 0} (kind : Kind X) (k : List ℕ) (xs : List X) → count_passed kind k (Some 0) xs ≡ count_by (λ x. is_le (slice_cmp nat_cmp (kind.key x) k)) xs
+unfolding count_passed
+passed_up_to kind k xs = count_same (λ x. passes k (Some 0) (kind.key x) (kind.seqno x)) (λ x. is_le (slice_cmp nat_cmp (kind.key x) k)) (λ x. up_to_is (slice_cmp nat_cmp (kind.key x) k) (kind.seqno x)) xs
+
+-- none, and all
+pub count_none : {X : Type 0} (xs : List X) → count_by (λ x. false) xs ≡ 0
+count_none [] = refl
+count_none (x ∷ xs) = sum_by-cons (λ y. 0) x xs ∙ ap (λ n. 0 + n) (count_none xs)
+
+pub count_all : {X : Type 0} (xs : List X) → count_by (λ x. true) xs ≡ length xs
+count_all [] = refl
+count_all (x ∷ xs) = sum_by-cons (λ y. 1) x xs ∙ (let more = count_all xs in omega arith)
+
+-- what a seek leaves
+abbrev FrontAt : Scan Entry → Scan Entry → Bound (List ℕ) → Type 0
+FrontAt s t b = t.window ≡ record { list = s.window.list; lo = count_by (λ (x : Entry). is_before b x.key.user_key) s.window.list; hi = s.window.hi }
+
+abbrev BackAt : Scan Entry → Scan Entry → Bound (List ℕ) → Type 0
+BackAt s t b = t.window ≡ record { list = s.window.list; lo = s.window.lo; hi = count_by (λ (x : Entry). is_up_to b x.key.user_key) s.window.list }
+
+moved : (s t : Scan Entry) (answer : Answer Entry) (step : Window Entry × Answer Entry) → GivesStep s t answer step → t.window ≡ step.0
+moved s t answer step g = ap (λ (q : Window Entry × Answer Entry). q.0) g.step_is
+
+pub front_included : (s t : Scan Entry) (answer : Answer Entry) (k : List ℕ) → GivesStep s t answer (seek entries k s.window) → FrontAt s t (Included k)
+front_included s t answer k g = moved s t answer (seek entries k s.window) g ∙ ap (λ n. record { list = s.window.list; lo = n; hi = s.window.hi }) (passed_below entries k s.window.list)
+
+pub front_excluded : (s t : Scan Entry) (answer : Answer Entry) (k : List ℕ) → GivesStep s t answer (seek_exclusive entries k s.window) → FrontAt s t (Excluded k)
+front_excluded s t answer k g = moved s t answer (seek_exclusive entries k s.window) g ∙ ap (λ n. record { list = s.window.list; lo = n; hi = s.window.hi }) (passed_up_to entries k s.window.list)
+
+pub front_unbounded : (s : Scan Entry) → s.window.lo ≡ 0 → FrontAt s s Unbounded
+front_unbounded s e = ap (λ n. record { list = s.window.list; lo = n; hi = s.window.hi }) (e ∙ sym (count_none s.window.list))
+
+pub back_included : (s t : Scan Entry) (answer : Answer Entry) (k : List ℕ) → GivesStep s t answer (seek_upper entries k s.window) → BackAt s t (Included k)
+back_included s t answer k g = moved s t answer (seek_upper entries k s.window) g ∙ ap (λ n. record { list = s.window.list; lo = s.window.lo; hi = n }) (passed_up_to entries k s.window.list)
+
+pub back_excluded : (s t : Scan Entry) (answer : Answer Entry) (k : List ℕ) → GivesStep s t answer (seek_upper_exclusive entries k s.window) → BackAt s t (Excluded k)
+back_excluded s t answer k g = moved s t answer (seek_upper_exclusive entries k s.window) g ∙ ap (λ n. record { list = s.window.list; lo = s.window.lo; hi = n }) (passed_below entries k s.window.list)
+
+pub back_unbounded : (s : Scan Entry) → s.window.hi ≡ length s.window.list → BackAt s s Unbounded
+back_unbounded s e = ap (λ n. record { list = s.window.list; lo = s.window.lo; hi = n }) (e ∙ sym (count_all s.window.list))
+
+-- bounds seen through references
+pub start_is : {A : Type 0} (f : A → List ℕ) (from to v : Bound A) (r : KeyRange) → record { from = bound_map f from; to = bound_map f to } ≡ r → from ≡ v → r.from ≡ bound_map f v
+start_is f from to v r view is = sym (ap (λ (x : KeyRange). x.from) view) ∙ ap (bound_map f) is
+
+pub end_is : {A : Type 0} (f : A → List ℕ) (from to v : Bound A) (r : KeyRange) → record { from = bound_map f from; to = bound_map f to } ≡ r → to ≡ v → r.to ≡ bound_map f v
+end_is f from to v r view is = sym (ap (λ (x : KeyRange). x.to) view) ∙ ap (bound_map f) is
+
+pub front_by : (s t : Scan Entry) (b v : Bound (List ℕ)) → b ≡ v → FrontAt s t v → FrontAt s t b
+front_by s t b v e h = subst (FrontAt s t) (sym e) h
+
+pub back_by : (s t : Scan Entry) (b v : Bound (List ℕ)) → b ≡ v → BackAt s t v → BackAt s t b
+back_by s t b v e h = subst (BackAt s t) (sym e) h
+
+-- positions in an index
+module _ (hs : List Handle) (p : ℕ) (n k : List ℕ) (f : Option ℕ) where
+  pub before_included : (b : Bound (List ℕ)) → p ≡ count_passed handles n f hs → n ≡ k → f ≡ None → b ≡ Included k → p ≡ count_by (λ (h : Handle). is_before b h.end_key) hs
+  before_included b at same none is =
+      at ∙ ap (λ x. count_passed handles x f hs) same ∙ ap (λ o. count_passed handles k o hs) none ∙ passed_below handles k hs ∙ ap (λ (v : Bound (List ℕ)). count_by (λ (h : Handle). is_before v h.end_key) hs) (sym is)
+
+  pub before_excluded : (b : Bound (List ℕ)) → p ≡ count_passed handles n f hs → n ≡ k → f ≡ Some 0 → b ≡ Excluded k → p ≡ count_by (λ (h : Handle). is_before b h.end_key) hs
+  before_excluded b at same none is =
+      at ∙ ap (λ x. count_passed handles x f hs) same ∙ ap (λ o. count_passed handles k o hs) none ∙ passed_up_to handles k hs ∙ ap (λ (v : Bound (List ℕ)). count_by (λ (h : Handle). is_before v h.end_key) hs) (sym is)
+
+  pub up_to_included : (b : Bound (List ℕ)) → p ≡ count_passed handles n f hs → n ≡ k → f ≡ Some 0 → b ≡ Included k → p ≡ count_by (λ (h : Handle). is_up_to b h.end_key) hs
+  up_to_included b at same none is =
+      at ∙ ap (λ x. count_passed handles x f hs) same ∙ ap (λ o. count_passed handles k o hs) none ∙ passed_up_to handles k hs ∙ ap (λ (v : Bound (List ℕ)). count_by (λ (h : Handle). is_up_to v h.end_key) hs) (sym is)
+
+  pub up_to_excluded : (b : Bound (List ℕ)) → p ≡ count_passed handles n f hs → n ≡ k → f ≡ None → b ≡ Excluded k → p ≡ count_by (λ (h : Handle). is_up_to b h.end_key) hs
+  up_to_excluded b at same none is =
+      at ∙ ap (λ x. count_passed handles x f hs) same ∙ ap (λ o. count_passed handles k o hs) none ∙ passed_below handles k hs ∙ ap (λ (v : Bound (List ℕ)). count_by (λ (h : Handle). is_up_to v h.end_key) hs) (sym is)
+
+pub none_before : (hs : List Handle) (b : Bound (List ℕ)) → b ≡ Unbounded → 0 ≡ count_by (λ (h : Handle). is_before b h.end_key) hs
+none_before hs b is = sym (ap (λ (v : Bound (List ℕ)). count_by (λ (h : Handle). is_before v h.end_key) hs) is ∙ count_none hs)
+
+pub all_up_to : (hs : List Handle) (b : Bound (List ℕ)) (n : ℕ) → n ≡ length hs → b ≡ Unbounded → n ≡ count_by (λ (h : Handle). is_up_to b h.end_key) hs
+all_up_to hs b n len is = len ∙ sym (ap (λ (v : Bound (List ℕ)). count_by (λ (h : Handle). is_up_to v h.end_key) hs) is ∙ count_all hs)
+
+-- a block that was cut
+pub cut_left : (r : KeyRange) (s t u : Scan Entry) → IsOrdered entries s.window.list → s.window ≡ whole s.window.list
+    → t.window ≡ record { list = s.window.list; lo = first_entry r s.window.list; hi = s.window.hi } → u.window ≡ record { list = t.window.list; lo = t.window.lo; hi = end_entry r t.window.list }
+    → items_left u.window ≡ within r s.window.list
+cut_left r s t u order fresh front back =
+    let list : t.window.list ≡ s.window.list = ap (λ (w : Window Entry). w.list) front in
+    let lo : t.window.lo ≡ first_entry r s.window.list = ap (λ (w : Window Entry). w.lo) front in
+    let now : u.window ≡ record { list = s.window.list; lo = first_entry r s.window.list; hi = end_entry r s.window.list } =
+    back ∙ ap (λ (xs : List Entry). record { list = xs; lo = t.window.lo; hi = end_entry r xs }) list ∙ ap (λ n. record { list = s.window.list; lo = n; hi = end_entry r s.window.list }) lo in
+    ap items_left now ∙ sym (within_between r s.window.list order)

@@ -1,0 +1,11 @@
+use Rattle.std.proofs.Common.{sym, subst}
+use Rattle.sstable_blocks.specs.Scans.{AllWithin}
+use Rattle.sstable_blocks.proofs.ScanCuts.{cut_left}
+use Rattle.sstable_blocks.proofs.ScanSteps.{all_within}
+use Rattle.sstable_blocks.proofs.run.scan_steps.Bounds.cut.Goals as goal
+
+pub returns-clause-left : goal.returns-clause-left
+returns-clause-left g c = cut_left c.args.self.now c.args.entries.now c.cut_front.new.entries c.cut_back.new.entries c.count_left-count.ensures.ordered c.requires c.cut_front.ensures c.cut_back.ensures
+
+pub returns-clause-all : goal.returns-clause-all
+returns-clause-all g c = subst (AllWithin c.args.self.now) (sym (returns-clause-left g c)) (all_within c.args.self.now c.args.entries.now.window.list)

@@ -1,0 +1,14 @@
+use Rattle.sstable_blocks.proofs.ScanCuts.{start_is, front_by, front_included, front_excluded, front_unbounded}
+use Rattle.sstable_blocks.proofs.run.scan_steps.Bounds.cut_front.Goals as goal
+
+pub returns-in-Included : goal.returns-in-Included
+returns-in-Included g c =
+    front_by c.args.entries.now c.seek.new.self _ _ (start_is (λ k. k.now) _ _ _ c.args.self.now c.self.view_is c.in-Included.is) (front_included c.args.entries.now c.seek.new.self _ _ c.seek.ensures.step)
+
+pub returns-in-Excluded : goal.returns-in-Excluded
+returns-in-Excluded g c =
+    front_by c.args.entries.now c.seek_exclusive.new.self _ _ (start_is (λ k. k.now) _ _ _ c.args.self.now c.self.view_is c.in-Excluded.is) (front_excluded c.args.entries.now c.seek_exclusive.new.self _ _ c.seek_exclusive.ensures.step)
+
+pub returns-in-Unbounded : goal.returns-in-Unbounded
+returns-in-Unbounded g c =
+    front_by c.args.entries.now c.args.entries.now _ _ (start_is (λ k. k.now) _ _ _ c.args.self.now c.self.view_is c.in-Unbounded.is) (front_unbounded c.args.entries.now c.requires)

@@ -1,0 +1,13 @@
+use Rattle.std.proofs.Common.{arith, ◌<◌}
+use Rattle.sstable_blocks.specs.RunReading.{hashes}
+use Rattle.sstable_blocks.proofs.KeptReads.{file_on, footer_fails_first}
+use Rattle.sstable_blocks.proofs.run.table.Table.open_file.Goals as goal
+
+pub returns-in-Ok-clause-exact : goal.returns-in-Ok-clause-exact
+returns-in-Ok-clause-exact g c =
+    let f = c.in-Ok.ensures in
+    file_on (hashes g.H.BlockHash.hash64 g.H.BlockHash.hash128) (λ t. t.handles) (λ t. t.filter) (λ t. t.index) (λ e. e.error) _ _ _ _ _ _ _ _ f.source.same f.exact c.open.ensures.handles
+    (λ e less. omega (arith, f.source.failures_grow)) f.source.kept c.open.ensures.exact
+
+pub returns-in-Err-clause-exact : goal.returns-in-Err-clause-exact
+returns-in-Err-clause-exact g c = footer_fails_first (hashes g.H.BlockHash.hash64 g.H.BlockHash.hash128) _ _ _ _ c.in-Err.ensures.exact

@@ -1,0 +1,26 @@
+use Rattle.std.proofs.Common.{arith, ◌<◌}
+use Rattle.std.proofs.lemmas.Result.{err_from_is_err_and}
+use Rattle.sstable_blocks.specs.RunReading.{hashes}
+use Rattle.sstable_blocks.proofs.KeptReads.{opened_on, kept_ok, filter_fails, index_fails}
+use Rattle.sstable_blocks.proofs.run.table.kept_from.Goals as goal
+
+pub returns-in_err-filter-clause-exact : goal.returns-in_err-filter-clause-exact
+returns-in_err-filter-clause-exact g c =
+    let r = err_from_is_err_and c.from_residual.result c.from_residual.ensures.1 in
+    rw (r.1, r.2) (filter_fails (hashes g.H.BlockHash.hash64 g.H.BlockHash.hash128) _ _ _ _ _ c.in_err-filter.ensures.exact)
+
+pub returns-in_err-index-clause-exact : goal.returns-in_err-index-clause-exact
+returns-in_err-index-clause-exact g c =
+    let f = c.in_ok-filter.ensures in
+    let r = err_from_is_err_and c.from_residual-in_err-index.result c.from_residual-in_err-index.ensures.1 in
+    rw (r.1, r.2) (index_fails (hashes g.H.BlockHash.hash64 g.H.BlockHash.hash128) _ _ _ _ _ _ _ _ _ f.source.same (λ less. omega (arith, f.source.failures_grow)) f.source.kept f.exact c.in_err-index.ensures.exact)
+
+pub returns-clause-kept : goal.returns-clause-kept
+returns-clause-kept g c =
+    let f = c.in_ok-filter.ensures in
+    let i = c.in_ok-index.ensures in
+    opened_on (hashes g.H.BlockHash.hash64 g.H.BlockHash.hash128) _ _ _ _ _ _ f.source.same f.exact i.exact i.place
+
+pub returns-clause-exact : goal.returns-clause-exact
+returns-clause-exact g c =
+    kept_ok (hashes g.H.BlockHash.hash64 g.H.BlockHash.hash128) _ _ _ _ _ (returns-clause-kept g c)

@@ -1,0 +1,11 @@
+use Rattle.sstable_blocks.specs.RunReading.{hashes}
+use Rattle.sstable_blocks.proofs.TableCounts.{index_placed_ok, check_not_io}
+use Rattle.sstable_blocks.proofs.run.table.kept_index_from.Goals as goal
+
+pub returns-clause-io : goal.returns-clause-io
+returns-clause-io g c = check_not_io c.in_ok-block.block.payload _ _ (c.index_check_is_by_stages.ensures c.in_ok-block.block.payload) c.check.ensures.refused
+
+pub returns-clause-place : goal.returns-clause-place
+returns-clause-place g c =
+    let a = c.in_ok-block.ensures in
+    index_placed_ok (hashes g.H.BlockHash.hash64 g.H.BlockHash.hash128) _ _ c.in_ok-block.block _ c.check.ensures.parts a.cells a.exact

@@ -1,0 +1,164 @@
+-- Scans of a table: its entries within a range of keys, from both ends, a block at a time.
+use Rattle.std.specs.Prelude.{◌≡◌, ◌≢◌, ◌⊎◌, ◌≤◌, ℕ, ◌+◌, ◌&&◌, min, not, Bool, true, false, List, [], ◌∷◌, ◌++◌, length, map, filter, count_by, Option, Some, None, Result, Ok, Err}
+use Rattle.std.specs.Cmp.Lexicographic.{slice_cmp}
+use Rattle.std.specs.Ordering.{nat_cmp, is_le, is_lt}
+use Rattle.std.specs.declared.ops.Bound.{Bound}
+use Rattle.std.specs.declared.ops.Bound.TheVariants.{Included, Excluded, Unbounded}
+use Rattle.sst_base.specs.Entry.{Entry}
+use Rattle.sst_base.specs.Header.{◌>>=◌}
+use Rattle.sst_base.specs.declared.error.Error.{Error}
+use Rattle.sst_base.specs.declared.error.Error.TheVariants.{Io, Memory, BadHandle}
+use Rattle.std.specs.List.{AllByRecursion}
+use Rattle.sst_block_core.specs.Scan.{Scan}
+use Rattle.sst_block_core.specs.Window.{items_left}
+use Rattle.sst_block_kinds.specs.Handles.{Handle}
+use Rattle.sstable_blocks.specs.Blocks.{joined}
+use Rattle.sstable_blocks.specs.Opened.{range_of}
+use Rattle.sstable_blocks.specs.RunReading.{Hashes, items_at}
+use Rattle.sstable_blocks.specs.Tables.{TableParts}
+
+-- a range of user keys, by its two bounds
+pub record KeyRange : Type 0 where
+  pub from : Bound (List ℕ)
+  pub to : Bound (List ℕ)
+
+-- does a key sort before the start of a range?
+abbrev pub is_before : Bound (List ℕ) → List ℕ → Bool
+is_before (Included start) key = is_lt (slice_cmp nat_cmp key start)
+is_before (Excluded start) key = is_le (slice_cmp nat_cmp key start)
+is_before Unbounded key = false
+
+-- does a key not sort after the end of a range?
+abbrev pub is_up_to : Bound (List ℕ) → List ℕ → Bool
+is_up_to (Included end) key = is_le (slice_cmp nat_cmp key end)
+is_up_to (Excluded end) key = is_lt (slice_cmp nat_cmp key end)
+is_up_to Unbounded key = true
+
+-- is a key in a range?
+abbrev pub in_range : KeyRange → List ℕ → Bool
+in_range r key = not (is_before r.from key) && is_up_to r.to key
+
+-- the entries whose keys are in a range
+unfoldable pub within : KeyRange → List Entry → List Entry
+within r items = filter (λ x. in_range r x.key.user_key) items
+
+-- the index of the first block that can have a key in a range: those before it end before the start
+abbrev pub first_block : KeyRange → List Handle → ℕ
+first_block r hs = count_by (λ h. is_before r.from h.end_key) hs
+
+-- how many blocks end up to the end of a range
+abbrev pub blocks_up_to : KeyRange → List Handle → ℕ
+blocks_up_to r hs = count_by (λ h. is_up_to r.to h.end_key) hs
+
+-- the index after the last block that can have a key in a range: the one after those is included
+abbrev pub end_block : KeyRange → List Handle → ℕ
+end_block r hs = min (length hs) (blocks_up_to r hs + 1)
+
+-- the handles of the blocks that can have a key in a range, by the index alone
+unfoldable pub handles_within : KeyRange → List Handle → List Handle
+handles_within r hs = items_left (record { list = hs; lo = first_block r hs; hi = end_block r hs })
+
+-- what a scan reads: entries, or the error that a block is refused with
+abbrev pub Read : Type 0
+Read = Result Entry Error
+
+-- the entries of the block of a handle that are in a range, or the error that the block is refused with
+abbrev pub block_within : Hashes → List ℕ → KeyRange → Handle → Result (List Entry) Error
+block_within c bytes r h = do
+  items ← items_at c bytes (range_of h)
+  Ok (within r items)
+
+-- what is read of a block: each of its entries, or its error
+abbrev pub reads_of : Result (List Entry) Error → List Read
+reads_of (Ok items) = map Ok items
+reads_of (Err e) = Err e ∷ []
+
+-- what is read of the blocks of handles, in order
+abbrev pub blocks_read : Hashes → List ℕ → KeyRange → List Handle → List Read
+blocks_read c bytes r [] = []
+blocks_read c bytes r (h ∷ hs) = reads_of (block_within c bytes r h) ++ blocks_read c bytes r hs
+
+-- what contracts see of a scan: its table and its range; the entries left of the block that was opened from the front,
+-- the handles of the blocks that were not opened, the entries left of the block opened from the back; and the error that
+-- ended it, if one did
+pub record ScanParts (S : Type 0) : Type 0 where
+  pub table : TableParts S
+  pub range : KeyRange
+  pub front : List Entry
+  pub handles : List Handle
+  pub back : List Entry
+  pub ended : Option Error
+
+-- entries, those of the blocks of handles, and entries
+abbrev pub reads_among : Hashes → List ℕ → KeyRange → List Entry → List Handle → List Entry → List Read
+reads_among c bytes r front hs back = map Ok front ++ (blocks_read c bytes r hs ++ map Ok back)
+
+-- what is left to read
+abbrev pub reads_left : {S : Type 0} → Hashes → List ℕ → ScanParts S → List Read
+reads_left c bytes s = reads_among c bytes s.range s.front s.handles s.back
+
+-- a list begins with this, or ends with it
+abbrev pub StartsWith : Read → List Read → Type 0
+StartsWith x reads = (others : List Read) × (reads ≡ x ∷ others)
+
+abbrev pub EndsWith : Read → List Read → Type 0
+EndsWith x reads = (others : List Read) × (reads ≡ others ++ x ∷ [])
+
+-- an error is the first of what was left, or a failed allocation, or a failure of the source
+abbrev pub FailsFirst : Type 0 → Type 0 → List Read → Error → Type 0
+FailsFirst failed reliable old e = e ≢ Memory → ((e ≡ Io) × failed × (reliable → StartsWith (Err BadHandle) old)) ⊎ StartsWith (Err e) old
+
+-- or the last
+abbrev pub FailsLast : Type 0 → Type 0 → List Read → Error → Type 0
+FailsLast failed reliable old e = e ≢ Memory → ((e ≡ Io) × failed × (reliable → EndsWith (Err BadHandle) old)) ⊎ EndsWith (Err e) old
+
+-- a step from the front gives the first of what was left, which is then gone
+abbrev pub GivesFirst : Type 0 → Type 0 → List Read → List Read → Result (Option Entry) Error → Type 0
+GivesFirst failed reliable old new (Ok (Some x)) = old ≡ Ok x ∷ new
+GivesFirst failed reliable old new (Ok None) = (old ≡ []) × (new ≡ [])
+GivesFirst failed reliable old new (Err e) = FailsFirst failed reliable old e
+
+-- a step from the back gives the last
+abbrev pub GivesLast : Type 0 → Type 0 → List Read → List Read → Result (Option Entry) Error → Type 0
+GivesLast failed reliable old new (Ok (Some x)) = old ≡ new ++ Ok x ∷ []
+GivesLast failed reliable old new (Ok None) = (old ≡ []) × (new ≡ [])
+GivesLast failed reliable old new (Err e) = FailsLast failed reliable old e
+
+-- the error of a result, if it is one
+abbrev pub error_of : {X : Type 0} → Result X Error → Option Error
+error_of (Ok x) = None
+error_of (Err e) = Some e
+
+-- how many entries of a block have keys before the start of a range, and how many have none after its end
+abbrev pub first_entry : KeyRange → List Entry → ℕ
+first_entry r items = count_by (λ x. is_before r.from x.key.user_key) items
+
+abbrev pub end_entry : KeyRange → List Entry → ℕ
+end_entry r items = count_by (λ x. is_up_to r.to x.key.user_key) items
+
+-- all keys of entries are in a range
+abbrev pub AllWithin : KeyRange → List Entry → Type 0
+AllWithin r xs = AllByRecursion (λ x. in_range r x.key.user_key ≡ true) xs
+
+-- the entries left of a block that was opened, if one was
+abbrev pub left_in : Option (Scan Entry) → List Entry
+left_in None = []
+left_in (Some s) = items_left s.window
+
+-- the handles between two indexes
+abbrev pub between : List Handle → ℕ → ℕ → List Handle
+between hs lo hi = items_left (record { list = hs; lo = lo; hi = hi })
+
+-- the ends of a scan: handles are left of the index's, and entries of opened blocks are in the range
+pub record AreScanEnds (index : List Handle) (r : KeyRange) (front : List Entry) (hi : ℕ) (back : List Entry) : Type 0 where
+  pub inside : hi ≤ length index
+  pub front_within : AllWithin r front
+  pub back_within : AllWithin r back
+
+-- a scan of the same table, but for its source, and of the same range
+pub record IsSameScan {S : Type 0} (old new : ScanParts S) : Type 0 where
+  pub handles : new.table.handles ≡ old.table.handles
+  pub filter : new.table.filter ≡ old.table.filter
+  pub index : new.table.index ≡ old.table.index
+  pub interval : new.table.interval ≡ old.table.interval
+  pub range : new.range ≡ old.range

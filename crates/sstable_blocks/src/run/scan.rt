@@ -1,0 +1,216 @@
+//! Scans of tables: the entries within a range of keys, from both ends.
+ghost use Rattle.std.specs.Prelude.{◌≡◌, ◌+◌, ◌<◌, List, [], Ok, true, length, map};
+ghost use Rattle.std.specs.Prelude.{IfOk, IfErr, IfSome, Err, None};
+ghost use Rattle.std.specs.Range.Bound.{bound_map};
+ghost use Rattle.std.specs.declared.ops.Bound.TheVariants.{Unbounded};
+ghost use Rattle.sst_base.specs.Entry.{Entry, plain};
+ghost use Rattle.sst_base.specs.declared.error.Error.TheVariants.{Io};
+ghost use Rattle.sstable_blocks.specs.Blocks.{joined};
+ghost use Rattle.sstable_blocks.specs.RunReading.{hashes};
+ghost use Rattle.sstable_blocks.specs.Scans.{GivesFirst, GivesLast, IsSameScan, error_of};
+ghost use Rattle.sstable_blocks.specs.Scans.{handles_within, in_range, reads_left, within};
+ghost use Rattle.sstable_blocks.specs.Sound.{IsSound};
+ghost use Rattle.sstable_blocks.specs.Sources.{KeepsSource};
+
+use super::laws::sound_is_scanned;
+use super::scan_steps::{Blocks, Bounds, step_back, step_front};
+use super::source::FrameSource;
+use super::table::Table;
+use sst_base::{BlockHash, Error, InternalValue, Result};
+use std::alloc::Global;
+use std::marker::Model;
+use std::ops::Bound;
+
+/// A scan of a table: gives its entries within a range of user keys, in order, from both ends in
+/// any mixture.
+///
+/// A block is read, verified and checked when it is reached, and those that the index shows to be
+/// outside the range are not read. At most two blocks are held, one for each end. An error ends the
+/// scan: each later step returns it again.
+///
+/// Clauses see the table, the range, the entries left of the block opened from the front, the
+/// handles of the blocks that were not read, the entries left of the block opened from the back,
+/// and the error that ended the scan, if one did.
+#[derive(Drop)]
+pub struct Scan<'k, H: BlockHash, S: FrameSource> {
+    table: Table<H, S>,
+    bounds: Bounds<'k>,
+    blocks: Blocks<H>,
+    ended: Option<Error>,
+}
+
+impl<'k, H: BlockHash, S: FrameSource> Model for Scan<'k, H, S> {
+    ghost use Rattle.sstable_blocks.specs.Scans.{ScanParts, AreScanEnds, between, left_in};
+
+    ghost Value = { ScanParts S };
+
+    ghost view = { λ s. record {
+      table = s.table;
+      range = s.bounds;
+      front = left_in s.blocks.front;
+      handles = between s.table.index s.blocks.lo s.blocks.hi;
+      back = left_in s.blocks.back;
+      ended = s.ended;
+    } };
+
+    ghost invariant = { λ s. AreScanEnds s.table.index s.bounds (left_in s.blocks.front)
+        s.blocks.hi (left_in s.blocks.back) };
+}
+
+impl<'k, H: BlockHash, S: FrameSource> Scan<'k, H, S> {
+    /// Starts a scan of the user keys between two bounds. No block is read yet. A range that ends before
+    /// it starts has no keys.
+    #[tactic(auto, unfolding(crate::specs::Scans::handles_within))]
+    pub fn new(table: Table<H, S>, from: Bound<&'k [u8]>, to: Bound<&'k [u8]>) -> Scan<'k, H, S>
+        ensures table { result.table ≡ table }
+        ensures range { result.range ≡ record {
+          from = bound_map (λ k. k.now) from.entry;
+          to = bound_map (λ k. k.now) to.entry;
+        } }
+        ensures handles { result.handles ≡ handles_within result.range table.index }
+        ensures fresh { (result.front ≡ []) × (result.back ≡ []) × (result.ended ≡ None) }
+        ensures sound { IfSome (S.bytes table.source)
+            (λ all. (blocks : List (List Entry))
+            → IsSound (hashes H.hash64 H.hash128) blocks all table.handles
+            → reads_left (hashes H.hash64 H.hash128) all result
+            ≡ map Ok (within result.range (map plain (joined blocks)))) }
+    {
+        sound_is_scanned();
+        let bounds = Bounds { from, to };
+        let index = table.index();
+        let lo = bounds.first_block(index);
+        let hi = bounds.end_block(index);
+        let blocks = Blocks {
+            front: None,
+            lo,
+            hi,
+            back: None,
+        };
+        Scan {
+            table,
+            bounds,
+            blocks,
+            ended: None,
+        }
+    }
+
+    /// Returns the table.
+    pub fn into_table(self) -> Table<H, S>
+        ensures { result ≡ self.table }
+    {
+        self.table
+    }
+
+    /// Takes the first entry left, or returns `None` if none is left.
+    ///
+    /// # Errors
+    ///
+    /// Those of [`Table::block_at`] for the blocks that are reached, in order, and `Error::Memory`
+    /// if an allocation fails. After an error each step returns that error.
+    pub fn next_entry(&mut self, alloc: Global) -> Result<Option<InternalValue>>
+        ensures same { IsSameScan self.old self.new }
+        ensures source { KeepsSource S.bytes S.failures S.is_reliable self.old.table.source
+            self.new.table.source }
+        ensures reads { S.reads self.new.table.source + length self.new.handles
+            ≡ S.reads self.old.table.source + length self.old.handles }
+        ensures io { IfErr result (λ e. e ≡ Io → self.old.ended ≡ None
+            → S.failures self.old.table.source < S.failures self.new.table.source) }
+        ensures in_range { IfOk result (λ x. IfSome x
+            (λ entry. in_range self.old.range entry.key.user_key ≡ true)) }
+        ensures first { IfSome (S.bytes self.old.table.source) (λ all. self.old.ended ≡ None
+            → GivesFirst (S.failures self.old.table.source < S.failures self.new.table.source)
+            (S.is_reliable self.old.table.source)
+            (reads_left (hashes H.hash64 H.hash128) all self.old)
+            (reads_left (hashes H.hash64 H.hash128) all self.new) result) }
+        ensures ended { self.new.ended ≡ error_of result }
+        ensures repeated { IfSome self.old.ended (λ e. result ≡ Err e) }
+    {
+        if let Some(error) = self.ended {
+            return Err(error);
+        }
+        let first = step_front::<H, S>(alloc, &mut self.table, &self.bounds, &mut self.blocks);
+        self.ended = error_in(&first);
+        first
+    }
+
+    /// Takes the last entry left, or returns `None` if none is left.
+    ///
+    /// # Errors
+    ///
+    /// Those of [`Table::block_at`] for the blocks that are reached, from the last on, and
+    /// `Error::Memory` if an allocation fails. After an error each step returns that error.
+    pub fn next_entry_back(&mut self, alloc: Global) -> Result<Option<InternalValue>>
+        ensures same { IsSameScan self.old self.new }
+        ensures source { KeepsSource S.bytes S.failures S.is_reliable self.old.table.source
+            self.new.table.source }
+        ensures reads { S.reads self.new.table.source + length self.new.handles
+            ≡ S.reads self.old.table.source + length self.old.handles }
+        ensures io { IfErr result (λ e. e ≡ Io → self.old.ended ≡ None
+            → S.failures self.old.table.source < S.failures self.new.table.source) }
+        ensures in_range { IfOk result (λ x. IfSome x
+            (λ entry. in_range self.old.range entry.key.user_key ≡ true)) }
+        ensures last { IfSome (S.bytes self.old.table.source) (λ all. self.old.ended ≡ None
+            → GivesLast (S.failures self.old.table.source < S.failures self.new.table.source)
+            (S.is_reliable self.old.table.source)
+            (reads_left (hashes H.hash64 H.hash128) all self.old)
+            (reads_left (hashes H.hash64 H.hash128) all self.new) result) }
+        ensures ended { self.new.ended ≡ error_of result }
+        ensures repeated { IfSome self.old.ended (λ e. result ≡ Err e) }
+    {
+        if let Some(error) = self.ended {
+            return Err(error);
+        }
+        let last = step_back::<H, S>(alloc, &mut self.table, &self.bounds, &mut self.blocks);
+        self.ended = error_in(&last);
+        last
+    }
+}
+
+// The error of a step, if it is one.
+fn error_in(found: &Result<Option<InternalValue>>) -> Option<Error>
+    ensures { result ≡ error_of found.now }
+{
+    match found {
+        Ok(_) => None,
+        Err(error) => Some(*error),
+    }
+}
+
+impl<H: BlockHash, S: FrameSource> Table<H, S> {
+    /// Scans all entries: see [`Scan`]. [`Scan::into_table`] returns the table.
+    pub fn scan<'k>(self) -> Scan<'k, H, S>
+        ensures table { result.table ≡ self }
+        ensures range { result.range ≡ record { from = Unbounded; to = Unbounded } }
+        ensures handles { result.handles ≡ handles_within result.range self.index }
+        ensures fresh { (result.front ≡ []) × (result.back ≡ []) × (result.ended ≡ None) }
+        ensures sound { IfSome (S.bytes self.source)
+            (λ all. (blocks : List (List Entry))
+            → IsSound (hashes H.hash64 H.hash128) blocks all self.handles
+            → reads_left (hashes H.hash64 H.hash128) all result
+            ≡ map Ok (within result.range (map plain (joined blocks)))) }
+    {
+        Scan::new(self, Bound::Unbounded, Bound::Unbounded)
+    }
+
+    /// Scans the entries whose user keys are between two bounds: see [`Scan`].
+    pub fn scan_range<'k>(
+        self,
+        from: Bound<&'k [u8]>,
+        to: Bound<&'k [u8]>,
+    ) -> Scan<'k, H, S>
+        ensures table { result.table ≡ self }
+        ensures range { result.range ≡ record {
+          from = bound_map (λ k. k.now) from.entry;
+          to = bound_map (λ k. k.now) to.entry;
+        } }
+        ensures handles { result.handles ≡ handles_within result.range self.index }
+        ensures fresh { (result.front ≡ []) × (result.back ≡ []) × (result.ended ≡ None) }
+        ensures sound { IfSome (S.bytes self.source)
+            (λ all. (blocks : List (List Entry))
+            → IsSound (hashes H.hash64 H.hash128) blocks all self.handles
+            → reads_left (hashes H.hash64 H.hash128) all result
+            ≡ map Ok (within result.range (map plain (joined blocks)))) }
+    {
+        Scan::new(self, from, to)
+    }
+}

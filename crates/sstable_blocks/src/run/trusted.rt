@@ -1,0 +1,144 @@
+//! Tables in memory that are read without checks.
+ghost use Rattle.std.specs.Prelude.{◌≡◌, ◌<◌, List, OnOk, IfOk, IsOkUnless};
+ghost use Rattle.sst_base.specs.Counted.{CountsExactly, CountsBetween};
+ghost use Rattle.sst_base.specs.Entry.{Entry};
+ghost use Rattle.sst_block_core.specs.Entries.{entries};
+ghost use Rattle.sst_block_core.specs.Window.{first_match};
+ghost use Rattle.sstable_blocks.specs.Blocks.{joined};
+ghost use Rattle.sstable_blocks.specs.Opened.{IsDenied};
+ghost use Rattle.sstable_blocks.specs.ReadCosts.{heads_most_in, entries_most_in};
+ghost use Rattle.sstable_blocks.specs.RunReading.{hashes};
+ghost use Rattle.sstable_blocks.specs.Sound.{IsSound};
+ghost use Rattle.sstable_blocks.specs.Tables.{IsIndexIn};
+
+use super::RunHandles;
+use super::laws::sound_opens;
+use super::read::{find_handle, is_allowed, match_in};
+use sst_base::{BlockHash, Error, InternalValue, Result, SeqNo, Slice, Steps};
+use sst_block_kinds::IndexBlock;
+use std::alloc::Global;
+use std::marker::{Model, PhantomData};
+
+/// A sound run in memory, read without checks and checksums by the index that its table keeps. Made
+/// by [`super::Table::trusted`].
+///
+/// Clauses see its bytes and its handles, which are a sound run.
+#[derive(Drop)]
+pub struct Trusted<'a, H: BlockHash> {
+    bytes: &'a Slice,
+    handles: &'a RunHandles,
+    index: &'a IndexBlock,
+    hash: PhantomData<H>,
+}
+
+impl<'a, H: BlockHash> Model for Trusted<'a, H> {
+    ghost use Rattle.std.specs.Prelude.{List};
+    ghost use Rattle.sst_base.specs.Entry.{Entry};
+    ghost use Rattle.sstable_blocks.specs.RunReading.{hashes};
+    ghost use Rattle.sstable_blocks.specs.Sound.{IsSound, RunParts};
+    ghost use Rattle.sstable_blocks.specs.Tables.{IsIndexIn};
+
+    ghost Value = { RunParts };
+
+    ghost view = { λ t. record { bytes = t.bytes.now; handles = t.handles.now } };
+
+    ghost invariant = { λ t. ((blocks : List (List Entry))
+        × IsSound (hashes H.hash64 H.hash128) blocks t.bytes.now t.handles.now)
+        × IsIndexIn t.bytes.now t.handles.now.index t.index.now.items t.index.now.interval };
+}
+
+impl<'a, H: BlockHash> Trusted<'a, H> {
+    // Wraps a sound run and its index.
+    pub(crate) fn new(
+        bytes: &'a Slice,
+        handles: &'a RunHandles,
+        index: &'a IndexBlock,
+    ) -> Trusted<'a, H>
+        requires sound { (blocks : List (List Entry))
+            × IsSound (hashes H.hash64 H.hash128) blocks bytes.now handles.now }
+        requires index { IsIndexIn bytes.now handles.now.index index.now.items index.now.interval }
+        ensures { result ≡ record { bytes = bytes.now; handles = handles.now } }
+    {
+        Trusted {
+            bytes,
+            handles,
+            index,
+            hash: PhantomData,
+        }
+    }
+
+    /// Returns the first entry with this key whose sequence number is strictly below `seqno`, as
+    /// [`super::read_entry`] does, by the index and the table of its heads that were kept.
+    ///
+    /// # Errors
+    ///
+    /// `Error::Memory` if an allocation fails.
+    pub fn get(
+        &self,
+        alloc: Global,
+        needle: &[u8],
+        seqno: SeqNo,
+        steps: &mut Steps,
+    ) -> Result<Option<InternalValue>>
+        ensures found { (blocks : List (List Entry))
+            → IsSound (hashes H.hash64 H.hash128) blocks self.now.bytes self.now.handles
+            → IfOk result (λ item. item ≡ first_match entries needle.now seqno (joined blocks)) }
+        ensures memory { IsOkUnless result Error.Memory }
+        ensures counts { CountsBetween steps.old steps.new (0, 0) (
+          heads_most_in self.now.bytes self.now.handles needle.now seqno,
+          entries_most_in self.now.bytes self.now.handles needle.now seqno,
+        ) }
+        ensures looked { OnOk result
+            ((IsDenied self.now.bytes self.now.handles.filter (H.hash64 needle.now) → ⊥)
+            → steps.old.heads < steps.new.heads) }
+        ensures denied { IsDenied self.now.bytes self.now.handles.filter (H.hash64 needle.now)
+            → CountsExactly steps.old steps.new 0 0 }
+    {
+        read_by_index::<H>(
+            alloc,
+            self.bytes,
+            self.handles,
+            self.index,
+            needle,
+            seqno,
+            steps,
+        )
+    }
+}
+
+// The first match of a sound run by its index.
+fn read_by_index<H: BlockHash>(
+    alloc: Global,
+    bytes: &Slice,
+    handles: &RunHandles,
+    index: &IndexBlock,
+    needle: &[u8],
+    seqno: SeqNo,
+    steps: &mut Steps,
+) -> Result<Option<InternalValue>>
+    requires sound { (blocks : List (List Entry))
+        × IsSound (hashes H.hash64 H.hash128) blocks bytes.now handles.now }
+    requires index { IsIndexIn bytes.now handles.now.index index.now.items index.now.interval }
+    ensures found { (blocks : List (List Entry))
+        → IsSound (hashes H.hash64 H.hash128) blocks bytes.now handles.now
+        → IfOk result (λ item. item ≡ first_match entries needle.now seqno (joined blocks)) }
+    ensures memory { IsOkUnless result Error.Memory }
+    ensures counts { CountsBetween steps.old steps.new (0, 0) (
+      heads_most_in bytes.now handles.now needle.now seqno,
+      entries_most_in bytes.now handles.now needle.now seqno,
+    ) }
+    ensures looked { OnOk result
+        ((IsDenied bytes.now handles.now.filter (H.hash64 needle.now) → ⊥)
+        → steps.old.heads < steps.new.heads) }
+    ensures denied { IsDenied bytes.now handles.now.filter (H.hash64 needle.now)
+        → CountsExactly steps.old steps.new 0 0 }
+{
+    sound_opens();
+    if !is_allowed(bytes.as_slice(), &handles.filter, H::hash64(needle)) {
+        return Ok(None);
+    }
+    match find_handle(index, needle, seqno, steps) {
+        None => Ok(None),
+        Some(handle) => match_in::<H>(alloc, bytes, &handle, needle, seqno, steps),
+    }
+}
