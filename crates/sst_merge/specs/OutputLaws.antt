@@ -53,3 +53,8 @@ nothing_left (Some ys) h (Some zs) xs e = ap Some h
 -- all was written where nothing is left
 pub all_written : (f : Form) (start : Option (List ℕ)) (before after : Option (List Entry)) (old new : List Output) → AreWritten f start before after old new → IfSome after (λ xs. xs ≡ []) → AreWritten f start before (option_map (λ _. []) before) old new
 all_written f start before after old new w h = subst (λ s. AreWritten f start before s old new) (nothing_left after h before (entries_of w.runs) w.taken) w
+
+-- whether what is left is known does not depend on how its list is changed
+pub none_after : {X Y Z : Type 0} (f : List X → List Y) (o : Option (List X)) → ◌≡◌ {A = Option (List Z)} (option_map (λ _. []) (option_map f o)) (option_map (λ _. []) o)
+none_after f None = refl
+none_after f (Some xs) = refl

@@ -13,9 +13,18 @@ loop-alloc-init g c = none_written (form g.H.BlockHash.hash64 g.H.BlockHash.hash
 pub loop-alloc-preserved : goal.loop-alloc-preserved
 loop-alloc-preserved g c =
     let f = form g.H.BlockHash.hash64 g.H.BlockHash.hash128 c.args.config in
-    let written : IsTableOf f g.O.Outputs.start (g.O.Writer.Write.contents c.in-Some.writer) c.in-Some.handles c.loop-alloc.source.list c.write_table.new.source.list = ? in
-    ?
+    let contents = g.O.Writer.Write.contents in
+    let mid = c.loop-alloc.source.list in
+    let after = c.write_table.new.source.list in
+    let output : Output = record { handles = c.in-Some.handles; bytes = contents c.in-Some.writer } in
+    let written : IsTableOf f (contents c.in_ok-writer.writer) output.bytes output.handles mid after =
+        subst (λ o. IfSome o (λ t. IsTableOf f (contents c.in_ok-writer.writer) (contents t.1) t.0 mid after)) c.in-Some.is c.in_ok-table.ensures.table in
+    one_written f g.O.Outputs.start c.args.source.now.list mid after (g.O.Outputs.tables c.args.outputs.now) (g.O.Outputs.tables c.loop-alloc.outputs) (g.O.Outputs.tables c.close.new.self) output c.loop-alloc.invariant
+    (subst (λ start. IsTableOf f start output.bytes output.handles mid after) c.in_ok-writer.ensures.fresh written)
+    (c.in_ok-close.ensures ∙ ap (λ tables. tables ++ output ∷ []) c.in_ok-writer.ensures.same)
 
 pub returns : goal.returns
-returns g c = all_written (form g.H.BlockHash.hash64 g.H.BlockHash.hash128 c.args.config) g.O.Outputs.start c.args.source.now.list c.loop-alloc.source.list (g.O.Outputs.tables c.args.outputs.now) (g.O.Outputs.tables c.loop-alloc.outputs) c.loop-alloc.invariant
-    (none_left (λ r. r.now) c.loop-alloc.source.list c.peek.result c.peek.ensures.first c.loop-alloc-test.ensures)
+returns g c = record {
+  written = all_written (form g.H.BlockHash.hash64 g.H.BlockHash.hash128 c.args.config) g.O.Outputs.start c.args.source.now.list c.loop-alloc.source.list (g.O.Outputs.tables c.args.outputs.now) (g.O.Outputs.tables c.loop-alloc.outputs) c.loop-alloc.invariant
+    (none_left (λ r. r.now) c.loop-alloc.source.list c.peek.result c.peek.ensures.first (sym c.loop-alloc-test.ensures));
+}

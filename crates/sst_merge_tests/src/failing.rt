@@ -1,0 +1,70 @@
+// Sources that fail: the error passes through, and what was held is not lost.
+ghost use Rattle.std.specs.Prelude.{None};
+
+use crate::lists::{Memory, Row, V, list_of};
+use crate::Tested;
+use sst_base::{Error, InternalValue, Result};
+use sst_merge::{Compact, Head, Merge, Snapshot, Source};
+use std::alloc::Global;
+
+/// A source whose step fails where so many steps are left; the step after that goes on.
+#[derive(Drop)]
+struct Failing {
+    source: Memory,
+    steps: usize,
+}
+
+impl Source<InternalValue> for Failing {
+    ghost left = { λ s. record { list = None; most = (Memory.left s.source).most } };
+
+    fn next_entry(&mut self, alloc: Global) -> Result<Option<InternalValue>> {
+        if self.steps == 0 {
+            self.steps = usize::MAX;
+            return Err(Error::Io);
+        }
+        self.steps -= 1;
+        self.source.next_entry(alloc)
+    }
+}
+
+/// The versions of a key.
+const ROWS: &[Row] = &[Row(b'a', 9, V), Row(b'a', 5, V), Row(b'b', 6, V), Row(b'c', 7, V)];
+
+/// A source that fails after so many steps.
+fn failing(alloc: Global, steps: usize) -> Result<Failing> {
+    Ok(Failing {
+        source: list_of(alloc, ROWS, 0)?.into_iter(),
+        steps,
+    })
+}
+
+/// How many versions a source gives before it fails, and how many after that.
+fn counts<I: Source<InternalValue>>(alloc: Global, source: &mut I) -> (usize, usize) {
+    let mut before = 0usize;
+    while let Ok(Some(_)) = source.next_entry(alloc) {
+        before = before.saturating_add(1);
+    }
+    let mut after = 0usize;
+    while let Ok(Some(_)) = source.next_entry(alloc) {
+        after = after.saturating_add(1);
+    }
+    (before, after)
+}
+
+// A merge holds the first version of each source, so it fails a step earlier, and loses nothing.
+#[test]
+fn a_failed_step_passes_through(rt: HostRuntime) -> Tested {
+    let alloc = rt.alloc();
+    assert!(rt; Head::new(alloc, failing(alloc, 0)?).is_err());
+    for steps in 1..5 {
+        let mut heads = Vec::new(alloc);
+        heads.push(Head::new(alloc, failing(alloc, steps)?)?)?;
+        let mut merged = Merge::new(heads);
+        assert_eq!(rt; counts(alloc, &mut merged), (steps - 1, 5 - steps));
+        let mut snapshot = Snapshot::new(failing(alloc, steps)?, u64::MAX);
+        assert_eq!(rt; counts(alloc, &mut snapshot).0, [1, 1, 2, 3][steps - 1]);
+        let mut compact = Compact::new(failing(alloc, steps)?, 6, false);
+        assert_eq!(rt; counts(alloc, &mut compact).0, steps);
+    }
+    Ok(())
+}

@@ -1,0 +1,16 @@
+//! Tests of merges, snapshots and compaction by their public calls: worked lists, random histories
+//! beside a plain map of lists, sources that fail, and tables that are read again.
+#![tactic(auto)]
+
+#[cfg(test)]
+mod failing;
+#[cfg(test)]
+mod histories;
+#[cfg(test)]
+mod lists;
+#[cfg(test)]
+mod merges;
+
+/// What a test returns that ends early where a call fails.
+#[cfg(test)]
+type Tested = Result<(), std::test::Fail>;

@@ -1,0 +1,65 @@
+// Lists of versions, as rows of a key, a sequence number and a type.
+use sst_base::{InternalValue, Result, Slice, ValueType};
+use sst_merge::{Head, Merge, Source};
+use std::alloc::Global;
+use std::vec;
+
+/// A version: the byte that is its key, its sequence number, and its type.
+#[derive(Clone, Copy, Debug)]
+pub(crate) struct Row(pub(crate) u8, pub(crate) u64, pub(crate) ValueType);
+
+/// A value.
+pub(crate) const V: ValueType = ValueType::Value;
+
+/// A tombstone.
+pub(crate) const T: ValueType = ValueType::Tombstone;
+
+/// A weak tombstone.
+pub(crate) const W: ValueType = ValueType::WeakTombstone;
+
+/// The entry of a row. Its value is a byte, the number of its list.
+pub(crate) fn entry_of(alloc: Global, row: &Row, list: u8) -> Result<InternalValue> {
+    let key = Slice::from_array(alloc, [row.0])?;
+    let value = if row.2 == ValueType::Value {
+        Slice::from_array(alloc, [list])?
+    } else {
+        Slice::empty(alloc)
+    };
+    Ok(InternalValue::from_components(key, value, row.1, row.2))
+}
+
+/// The entries of rows.
+pub(crate) fn list_of(alloc: Global, rows: &[Row], list: u8) -> Result<Vec<InternalValue>> {
+    let mut entries = Vec::new(alloc);
+    for row in rows {
+        entries.push(entry_of(alloc, row, list)?)?;
+    }
+    Ok(entries)
+}
+
+/// A source of entries in memory.
+pub(crate) type Memory = vec::IntoIter<InternalValue, Global>;
+
+/// The merge of lists of entries.
+pub(crate) fn merge_of(
+    alloc: Global,
+    lists: Vec<Vec<InternalValue>>,
+) -> Result<Merge<InternalValue, Memory>> {
+    let mut heads = Vec::new(alloc);
+    for list in lists {
+        heads.push(Head::new(alloc, list.into_iter())?)?;
+    }
+    Ok(Merge::new(heads))
+}
+
+/// All that is left of a source, at most so many.
+pub(crate) fn drained<I: Source<InternalValue>>(
+    alloc: Global,
+    source: &mut I,
+) -> Result<Vec<InternalValue>> {
+    let mut entries = Vec::new(alloc);
+    while let Some(entry) = source.next_entry(alloc)? {
+        entries.push(entry)?;
+    }
+    Ok(entries)
+}
