@@ -161,6 +161,12 @@ pub const MADE: [(&str, &str, usize); 40] = [
         ". intervals (",
         3,
     ),
+    // The handle at an index, and how many handles a bound passes.
+    (
+        "sst_block_kinds/src/table/index_block/positions.rt",
+        ". intervals (",
+        2,
+    ),
     (
         "sst_block_kinds/src/table/index_block/mod.rt",
         "Intervals : : with_table (",
@@ -265,6 +271,5 @@ pub const MADE: [(&str, &str, usize); 40] = [
     ("sstable_blocks/src/run/read.rt", ". iter (", 1),
     ("sstable_blocks/src/run/checked.rt", "Steps : : new", 2),
     ("sstable_blocks/src/run/round_trip.rt", "Steps : : new", 1),
-    ("sstable_blocks/src/run/table.rt", "Steps : : new", 1),
     ("sstable_blocks/src/run/table.rt", ". data (", 1),
 ];

@@ -7,7 +7,8 @@ use crate::runs::{THREE_BLOCKS, handles_of, value_of};
 use sst_base::{ByteSum, Error, InternalValue, Result, Slice, Steps};
 use sst_block_kinds_tests::random::{Random, key_of};
 use sstable_blocks::{
-    FileSource, FrameSource, MemorySource, RunConfig, Scan, Table, encode_footer, write_run,
+    FileSource, FrameSource, MemorySource, RunConfig, Scan, SizedSource, Table, encode_footer,
+    write_run,
 };
 use std::alloc::Global;
 use std::io::Cursor;
@@ -90,19 +91,24 @@ fn worked_run_is_scanned(rt: HostRuntime) -> crate::Tested {
     Ok(())
 }
 
+/// The values of a table file.
+fn scan_file<S: SizedSource + Drop>(alloc: Global, source: S) -> Result<Vec<u8>> {
+    let table = Table::<ByteSum, S>::open_file(alloc, source)?;
+    let mut scan = table.scan();
+    values_of(alloc, &mut scan, 0)
+}
+
 #[test]
 fn table_file_is_opened(rt: HostRuntime) -> crate::Tested {
     let alloc = rt.alloc();
     let mut bytes = THREE_BLOCKS.to_vec(alloc)?;
     bytes.extend_from_slice(&encode_footer(&handles_of(&crate::checks::WORKED)))?;
     let file = FileSource::new(Cursor::new(bytes.as_slice()));
-    let table = Table::<ByteSum, _>::open_file(alloc, file)?;
-    let mut scan = table.scan();
-    assert!(rt; values_of(alloc, &mut scan, 0)?.as_slice() == b"xyz", "file");
+    assert!(rt; scan_file(alloc, file)?.as_slice() == b"xyz".as_slice(), "file");
+    let memory = MemorySource::new(Slice::from_vec(bytes)?);
+    assert!(rt; scan_file(alloc, memory)?.as_slice() == b"xyz".as_slice(), "memory");
     let short = MemorySource::new(Slice::new(alloc, b"short")?);
-    let refused = Table::<ByteSum, _>::open_file(alloc, short);
-    let error = refused.map_err(|failed| failed.error).err();
-    assert!(rt; error == Some(Error::Truncated), "short");
+    assert!(rt; scan_file(alloc, short) == Err(Error::Truncated), "short");
     Ok(())
 }
 
@@ -132,7 +138,7 @@ fn scan_over_a_source_that_fails(rt: HostRuntime) {
 }
 
 /// A bound at a key of a number.
-fn bound_at(key: &[u8], random: &mut Random) -> Bound<&[u8]> {
+fn bound_at<'k>(key: &'k [u8], random: &mut Random) -> Bound<&'k [u8]> {
     match random.next() % 4 {
         0 => Bound::Unbounded,
         1 => Bound::Included(key),

@@ -96,7 +96,7 @@ impl<'k, H: BlockHash, S: FrameSource> Scan<'k, H, S> {
 
     /// Returns the table.
     pub fn into_table(self) -> Table<H, S>
-        ensures { result ≡ self.table }
+        ensures { result ≡ self.entry.table }
     {
         self.table
     }
