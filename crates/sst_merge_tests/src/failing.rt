@@ -31,7 +31,7 @@ impl Source<InternalValue> for Failing {
 const ROWS: &[Row] = &[Row(b'a', 9, V), Row(b'a', 5, V), Row(b'b', 6, V), Row(b'c', 7, V)];
 
 /// A source that fails after so many steps.
-fn failing(alloc: Global, steps: usize) -> Result<Failing> {
+fn failing_after(alloc: Global, steps: usize) -> Result<Failing> {
     Ok(Failing {
         source: list_of(alloc, ROWS, 0)?.into_iter(),
         steps,
@@ -55,15 +55,15 @@ fn counts<I: Source<InternalValue>>(alloc: Global, source: &mut I) -> (usize, us
 #[test]
 fn a_failed_step_passes_through(rt: HostRuntime) -> Tested {
     let alloc = rt.alloc();
-    assert!(rt; Head::new(alloc, failing(alloc, 0)?).is_err());
+    assert!(rt; Head::new(alloc, failing_after(alloc, 0)?).is_err());
     for steps in 1..5 {
         let mut heads = Vec::new(alloc);
-        heads.push(Head::new(alloc, failing(alloc, steps)?)?)?;
+        heads.push(Head::new(alloc, failing_after(alloc, steps)?)?)?;
         let mut merged = Merge::new(heads);
         assert_eq!(rt; counts(alloc, &mut merged), (steps - 1, 5 - steps));
-        let mut snapshot = Snapshot::new(failing(alloc, steps)?, u64::MAX);
+        let mut snapshot = Snapshot::new(failing_after(alloc, steps)?, u64::MAX);
         assert_eq!(rt; counts(alloc, &mut snapshot).0, [1, 1, 2, 3][steps - 1]);
-        let mut compact = Compact::new(failing(alloc, steps)?, 6, false);
+        let mut compact = Compact::new(failing_after(alloc, steps)?, 6, false);
         assert_eq!(rt; counts(alloc, &mut compact).0, steps);
     }
     Ok(())

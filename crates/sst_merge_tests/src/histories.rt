@@ -105,8 +105,8 @@ fn are_seen(tables: &Tables, entries: &[InternalValue], seqno: u64) -> bool {
 
 /// Whether each snapshot of a history, as it is and compacted, sees what a plain read sees.
 fn holds(alloc: Global, tables: &Tables, snapshot: u64, bottom: bool) -> Result<bool> {
-    for seqno in 0..OPERATIONS / 50 {
-        let seqno = seqno.saturating_mul(50).saturating_add(1);
+    for seqno in 0..OPERATIONS / 250 {
+        let seqno = seqno.saturating_mul(250).saturating_add(1);
         let merged = merge_of(alloc, lists_of(alloc, tables)?)?;
         let entries = drained(alloc, &mut Snapshot::new(merged, seqno))?;
         if !are_seen(tables, &entries, seqno) {
