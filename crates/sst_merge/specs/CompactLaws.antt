@@ -1,19 +1,19 @@
 -- A compaction changes no read at its snapshot or above.
-use Rattle.std.proofs.Common.{◌≡◌, ◌≢◌, ℕ, ◌<◌, ◌≤◌, Bool, true, false, cond, ltb, List, [], ◌∷◌, Option, Some, None, refl, sym, ap, ◌∙◌, inl, inr, arith}
-use Rattle.std.proofs.lemmas.Bool.{cases_Bool, cases_lt, ltb-true, ltb-false, lt-ltb, le-leb}
+use Rattle.std.proofs.Common.{◌≡◌, ◌≢◌, ℕ, ◌<◌, ◌≤◌, Bool, true, false, cond, List, [], ◌∷◌, Option, Some, None, refl, sym, ap, ◌∙◌, inl, inr, arith}
+use Rattle.std.proofs.lemmas.Bool.{cases_Bool, cases_lt, ltb-true}
 use Rattle.std.proofs.lemmas.Bool.Decides.{nat_tests}
 use Rattle.std.specs.Prelude.{nat_lt, ◌&&◌}
 use Rattle.std.specs.Cmp.{nat_cmp_is}
 use Rattle.std.specs.Cmp.Lexicographic.{slice_cmp}
 use Rattle.std.specs.Ordering.{nat_cmp, is_eq, ordering_then}
 use Rattle.std.specs.declared.cmp.Ordering.{Ordering}
-use Rattle.std.specs.declared.cmp.Ordering.TheVariants.{Less, Equal, Greater}
+use Rattle.std.specs.declared.cmp.Ordering.TheVariants.{Less, Equal}
 use Rattle.sst_base.specs.Entry.{Entry}
 use Rattle.sst_base.specs.KeyOrderLaws.{slice_cmp-equal}
 use Rattle.sst_base.specs.Order.{IsInOrder}
 use Rattle.sst_merge.specs.Snapshot.{deletes, has_last_key}
 use Rattle.sst_merge.specs.Compact.{compact_from, compacted, unless_dropped}
-use Rattle.sst_merge.specs.SnapshotReads.{first, first_hit, first_miss, both_false, both_true, first_false, key, number, has, is_match, unless_hidden, has_key, has_of, NoneHas, order, after_by, none_behind, skip, IsOther, fresh, order_tail}
+use Rattle.sst_merge.specs.SnapshotReads.{first, first_hit, first_miss, both_false, both_true, key, number, has, is_match, unless_hidden, has_key, NoneHas, order, after_by, none_behind, skip, IsOther, fresh, order_tail}
 
 lt_test : (a b : ℕ) → a < b → nat_lt a b ≡ true
 lt_test a b h = grind (arith, nat_tests)

@@ -15,3 +15,4 @@ pub mod TableLaws
 pub mod Tables
 pub mod Outputs
 pub mod OutputLaws
+pub mod PartLaws

@@ -1,5 +1,5 @@
 -- The first match of a merge is the lesser of the first matches of its inputs.
-use Rattle.std.proofs.Common.{◌≡◌, ◌≢◌, ℕ, Bool, true, false, cond, List, [], ◌∷◌, Option, Some, None, refl, sym, ap, ◌∙◌, inl, inr, filter, slice_get}
+use Rattle.std.proofs.Common.{◌≡◌, ◌≢◌, Bool, true, false, cond, List, [], ◌∷◌, Option, Some, None, refl, sym, ap, ◌∙◌, inl, inr, filter, slice_get}
 use Rattle.std.proofs.lemmas.Bool.{cases_Bool}
 use Rattle.std.proofs.lemmas.Cmp.{tied_itself}
 use Rattle.std.specs.Cmp.{IsTotalOrder}
@@ -22,7 +22,7 @@ not_lt Less h e = absurd (cc)
 not_lt Equal h e = absurd (cc)
 not_lt Greater h e = absurd (cc)
 
-is_not_lt : (o : Ordering) → o ≢ Less → is_lt o ≡ false
+pub is_not_lt : (o : Ordering) → o ≢ Less → is_lt o ≡ false
 is_not_lt Less n = absurd (n refl)
 is_not_lt Equal n = refl
 is_not_lt Greater n = refl

@@ -1,5 +1,5 @@
 -- Laws of tables that a compaction wrote.
-use Rattle.std.proofs.Common.{◌≡◌, ℕ, List, [], ◌∷◌, ◌++◌, map, Option, Some, None, refl, sym, ap, subst, ◌∙◌, append-nil}
+use Rattle.std.proofs.Common.{◌≡◌, ℕ, List, [], ◌∷◌, ◌++◌, map, Option, Some, None, refl, sym, ap, subst, ◌∙◌}
 use Rattle.std.proofs.lemmas.List.{append_assoc}
 use Rattle.std.specs.List.{AllZip}
 use Rattle.std.specs.Option.{option_map, IfSome}
@@ -7,7 +7,6 @@ use Rattle.sst_base.specs.Entry.{Entry}
 use Rattle.sstable_blocks.specs.Blocks.{joined}
 use Rattle.sstable_blocks.specs.Run.{Form}
 use Rattle.sst_merge.specs.Outputs.{Output, IsOutputOf, entries_of, AreWritten}
-use Rattle.sst_merge.specs.Sources.{IsTaken}
 use Rattle.sst_merge.specs.TableLaws.{taken_none, taken_both, joined_push}
 use Rattle.sst_merge.specs.Tables.{IsTableOf}
 
@@ -29,9 +28,9 @@ entries_push runs blocks = ap joined (map_push joined runs blocks) ∙ joined_pu
 pub none_written : (f : Form) (start : Option (List ℕ)) (s : Option (List Entry)) (tables : List Output) → AreWritten f start s s tables tables
 none_written f start s tables = record { outputs = []; runs = []; grown = sym (append_nil tables); each = tt; taken = taken_none s }
   where
-  append_nil : {X : Type 0} (xs : List X) → xs ++ [] ≡ xs
-  append_nil [] = refl
-  append_nil (x ∷ xs) = ap (λ ys. x ∷ ys) (append_nil xs)
+    append_nil : {X : Type 0} (xs : List X) → xs ++ [] ≡ xs
+    append_nil [] = refl
+    append_nil (x ∷ xs) = ap (λ ys. x ∷ ys) (append_nil xs)
 
 -- one table more
 pub one_written : (f : Form) (start : Option (List ℕ)) (before mid after : Option (List Entry)) (old now new : List Output) (o : Output) → AreWritten f start before mid old now → IsTableOf f start o.bytes o.handles mid after → new ≡ now ++ o ∷ []

@@ -12,7 +12,7 @@ use Rattle.sst_block_core.specs.Window.{first_match}
 use Rattle.sst_merge.specs.Merge.{entry_cmp, lesser, least_match, merged}
 use Rattle.sst_merge.specs.Picks.{list_at, from_here}
 use Rattle.sst_merge.specs.ReadLaws.{merged_match}
-use Rattle.sst_merge.specs.SourceLaws.{known_at, known_length, IsSplit, known_split}
+use Rattle.sst_merge.specs.SourceLaws.{known_at, known_length, known_split}
 use Rattle.sst_merge.specs.Sources.{all_known}
 
 -- what is read of lists

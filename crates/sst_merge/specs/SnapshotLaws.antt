@@ -1,8 +1,7 @@
 -- Laws of snapshots.
-use Rattle.std.proofs.Common.{◌≡◌, ◌≢◌, ◌↔◌, ℕ, ◌≤◌, ◌<◌, Bool, true, false, cond, List, [], ◌∷◌, Option, Some, None, refl, sym, ap, ◌∙◌, inl, inr, arith, ltb}
-use Rattle.std.proofs.lemmas.Bool.{cases_Bool, lt-ltb, le-leb}
+use Rattle.std.proofs.Common.{◌≡◌, ℕ, true, false, List, ◌∷◌, Option, Some, refl}
 use Rattle.sst_base.specs.Entry.{Entry}
-use Rattle.sst_merge.specs.Snapshot.{visible_from, snapshot, is_newest, unless_deleted, deletes, has_last_key}
+use Rattle.sst_merge.specs.Snapshot.{visible_from, is_newest, unless_deleted}
 
 module _ {X : Type 0} (entry : X → Entry) where
   -- a version that is not the first of its key below the number is passed over

@@ -3,7 +3,7 @@ use Rattle.std.proofs.Common.{◌≡◌, ◌≤◌, false, List, [], ◌∷◌, 
 use Rattle.std.proofs.lemmas.List.{append_assoc, length_push}
 use Rattle.std.specs.Option.{option_map, is_some, IfSome}
 use Rattle.sstable_blocks.specs.Blocks.{joined}
-use Rattle.sst_merge.specs.Sources.{Left, TakesFirst, IsTaken}
+use Rattle.sst_merge.specs.Sources.{IsTaken}
 
 -- nothing was taken yet
 pub taken_none : {X : Type 0} (s : Option (List X)) → IsTaken s [] s
@@ -29,9 +29,9 @@ taken_both s t u xs ys h k = h ∙ ap (option_map (λ rest. xs ++ rest)) k ∙ b
 pub joined_push : {X : Type 0} (blocks : List (List X)) (b : List X) → joined (blocks ++ b ∷ []) ≡ joined blocks ++ b
 joined_push [] b = append_nil b
   where
-  append_nil : {X : Type 0} (xs : List X) → xs ++ [] ≡ xs
-  append_nil [] = refl
-  append_nil (x ∷ xs) = ap (λ ys. x ∷ ys) (append_nil xs)
+    append_nil : {X : Type 0} (xs : List X) → xs ++ [] ≡ xs
+    append_nil [] = refl
+    append_nil (x ∷ xs) = ap (λ ys. x ∷ ys) (append_nil xs)
 joined_push (c ∷ cs) b = ap (λ xs. c ++ xs) (joined_push cs b) ∙ sym (append_assoc c (joined cs) b)
 
 -- and then a block

@@ -9,6 +9,7 @@ ghost use Rattle.sst_base.specs.Entry.{Entry, plain};
 ghost use Rattle.sst_block_core.specs.Entries.{entries};
 ghost use Rattle.sst_block_core.specs.Kind.{IsOrdered};
 ghost use Rattle.sst_block_core.specs.Window.{first_match};
+ghost use Rattle.sstable_blocks.specs.Blocks.{joined};
 ghost use Rattle.sst_merge.specs.Compact.{compacted};
 ghost use Rattle.sst_merge.specs.Merge.{merged, least_match, entry_cmp};
 ghost use Rattle.sst_merge.specs.Snapshot.{seen, snapshot};
@@ -26,6 +27,12 @@ pub fn merge_is_read()
         → AllByRecursion (IsOrdered entries) lists
         → first_match entries needle seqno (merged entry_cmp lists)
         ≡ least_match entry_cmp (map (first_match entries needle seqno) lists) }
+{}
+
+/// The merge of the parts of an ordered list, as a compaction writes them into tables, is the list.
+pub fn parts_merge_to_the_whole()
+    ensures { (lists : List (List Entry)) → IsOrdered entries (joined lists)
+        → merged entry_cmp lists ≡ joined lists }
 {}
 
 /// Of each key, a snapshot of an ordered list has what a read of the list at its sequence number

@@ -25,7 +25,11 @@ pub struct Sizes {
 
 // The bytes of an entry's key and value.
 fn entry_len(entry: &InternalValue) -> usize {
-    entry.key().user_key().len().saturating_add(entry.value().len())
+    entry
+        .key()
+        .user_key()
+        .len()
+        .saturating_add(entry.value().len())
 }
 
 // Takes entries until they reach a size, and at least one, if one is left. Returns their size.
@@ -83,9 +87,7 @@ fn goes_on<I: Source<InternalValue>>(
     size: usize,
 ) -> bool {
     match (source.peek(), block.last()) {
-        (Some(next), Some(last)) => {
-            len < size || next.key().user_key() == last.key().user_key()
-        }
+        (Some(next), Some(last)) => { len < size || next.key().user_key() == last.key().user_key() }
         (_, _) => false,
     }
 }

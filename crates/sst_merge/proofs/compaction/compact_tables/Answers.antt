@@ -1,4 +1,4 @@
-use Rattle.std.proofs.Common.{◌≡◌, [], ◌∙◌, ap, sym, subst, List, Option}
+use Rattle.std.proofs.Common.{◌≡◌, [], ◌∙◌, ap, subst, List, Option}
 use Rattle.std.specs.Option.{option_map}
 use Rattle.std.specs.Result.{OnOk}
 use Rattle.sst_base.specs.Entry.{Entry}

@@ -1,4 +1,4 @@
-use Rattle.std.proofs.Common.{◌≡◌, ◌++◌, ◌∷◌, [], ◌∙◌, ap, sym, subst, List, Option}
+use Rattle.std.proofs.Common.{◌++◌, ◌∷◌, [], ◌∙◌, ap, sym, subst}
 use Rattle.std.specs.Option.{IfSome}
 use Rattle.sstable_blocks.specs.Run.{form}
 use Rattle.sst_merge.specs.OutputLaws.{none_written, one_written, all_written}
@@ -18,7 +18,7 @@ loop-alloc-preserved g c =
     let after = c.write_table.new.source.list in
     let output : Output = record { handles = c.in-Some.handles; bytes = contents c.in-Some.writer } in
     let written : IsTableOf f (contents c.in_ok-writer.writer) output.bytes output.handles mid after =
-        subst (λ o. IfSome o (λ t. IsTableOf f (contents c.in_ok-writer.writer) (contents t.1) t.0 mid after)) c.in-Some.is c.in_ok-table.ensures.table in
+    subst (λ o. IfSome o (λ t. IsTableOf f (contents c.in_ok-writer.writer) (contents t.1) t.0 mid after)) c.in-Some.is c.in_ok-table.ensures.table in
     one_written f g.O.Outputs.start c.args.source.now.list mid after (g.O.Outputs.tables c.args.outputs.now) (g.O.Outputs.tables c.loop-alloc.outputs) (g.O.Outputs.tables c.close.new.self) output c.loop-alloc.invariant
     (subst (λ start. IsTableOf f start output.bytes output.handles mid after) c.in_ok-writer.ensures.fresh written)
     (c.in_ok-close.ensures ∙ ap (λ tables. tables ++ output ∷ []) c.in_ok-writer.ensures.same)
@@ -26,5 +26,5 @@ loop-alloc-preserved g c =
 pub returns : goal.returns
 returns g c = record {
   written = all_written (form g.H.BlockHash.hash64 g.H.BlockHash.hash128 c.args.config) g.O.Outputs.start c.args.source.now.list c.loop-alloc.source.list (g.O.Outputs.tables c.args.outputs.now) (g.O.Outputs.tables c.loop-alloc.outputs) c.loop-alloc.invariant
-    (none_left (λ r. r.now) c.loop-alloc.source.list c.peek.result c.peek.ensures.first (sym c.loop-alloc-test.ensures));
+      (none_left (λ r. r.now) c.loop-alloc.source.list c.peek.result c.peek.ensures.first (sym c.loop-alloc-test.ensures));
 }

@@ -1,6 +1,6 @@
-use Rattle.std.proofs.Common.{◌≡◌, cond, ◌∙◌, sym, ap, List}
+use Rattle.std.proofs.Common.{cond, ◌∙◌, sym, ap}
 use Rattle.sst_merge.specs.Merge.{order_by}
-use Rattle.sst_merge.specs.Picks.{wins, list_at}
+use Rattle.sst_merge.specs.Picks.{list_at}
 use Rattle.sst_merge.specs.SourceLaws.{better_first}
 use Rattle.sst_merge.proofs.merge.better.Goals as goal
 

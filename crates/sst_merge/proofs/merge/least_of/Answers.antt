@@ -1,4 +1,4 @@
-use Rattle.std.proofs.Common.{◌≡◌, ◌<◌, ◌+◌, ◌-◌, length, drop, arith, ◌∙◌, ap, sym}
+use Rattle.std.proofs.Common.{◌≡◌, ◌+◌, ◌-◌, length, drop, arith, ◌∙◌, ap}
 use Rattle.sst_merge.specs.Merge.{order_by}
 use Rattle.sst_merge.specs.Picks.{least, least_end, least_step}
 use Rattle.sst_merge.specs.SourceLaws.{lists_length}

@@ -1,4 +1,4 @@
-use Rattle.std.proofs.Common.{◌≡◌, ◌+◌, ◌≤◌, length}
+use Rattle.std.proofs.Common.{◌+◌, ◌≤◌, length}
 use Rattle.sst_merge.specs.Sources.{IsTaken}
 use Rattle.sst_merge.proofs.writing.fill_block.Given as goal
 

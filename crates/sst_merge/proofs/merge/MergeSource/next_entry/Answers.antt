@@ -1,4 +1,3 @@
-use Rattle.std.proofs.Common.{◌≡◌, sym}
 use Rattle.std.proofs.lemmas.Result.{IfOk-weaker}
 use Rattle.sst_merge.specs.Merge.{order_by}
 use Rattle.sst_merge.specs.SourceLaws.{taken_merge}
