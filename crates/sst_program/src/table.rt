@@ -9,8 +9,8 @@ ghost use Rattle.sstable_blocks.specs.Sources.{GivesOr, KeepsSource};
 use sstable_blocks::run::checked::block_from;
 use sstable_blocks::run::footer::read_footer;
 use sstable_blocks::{
-    BlockHandle, BlockType, DataBlock, Error, FileSource, FrameSource, IndexBlock,
-    Input, Poly31, Result, RunHandles, SeekInput,
+    BlockHandle, BlockType, DataBlock, Error, FileSource, FrameSource, IndexBlock, Input, Poly31,
+    Result, RunHandles, SeekInput,
 };
 use std::alloc::Global;
 use std::io::{Read, Seek, SeekFrom};

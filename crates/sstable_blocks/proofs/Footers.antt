@@ -1,5 +1,5 @@
 -- Reading the footer of a table.
-use Rattle.std.proofs.Common.{◌≡◌, ◌⊎◌, ℕ, ◌+◌, ◌-◌, inl, inr, List, length, take, drop, min, arith, refl, sym, ◌∙◌, ap, length-drop, Option, Some, None, Result, Ok, Err, IfSome, IfErr, true, false, if◌then◌else◌}
+use Rattle.std.proofs.Common.{◌≡◌, ℕ, ◌+◌, ◌-◌, inl, inr, List, length, take, drop, min, arith, sym, ◌∙◌, ap, length-drop, Option, Some, None, Result, Ok, Err, IfSome, IfErr, true, false, if◌then◌else◌}
 use Rattle.std.proofs.Math.Seq.{take-length}
 use Rattle.std.specs.Prelude.{nat_lt, nat_le}
 use Rattle.std.proofs.lemmas.Bool.Decides.{nat_tests}

@@ -1,5 +1,5 @@
 -- Seeks by the bounds of a range.
-use Rattle.std.proofs.Common.{◌≡◌, ℕ, ◌+◌, ◌<◌, Bool, true, false, cond, leb, List, [], ◌∷◌, length, refl, arith, sym, ◌∙◌, ap, subst, Option, Some, None}
+use Rattle.std.proofs.Common.{◌≡◌, ℕ, ◌+◌, Bool, true, false, cond, List, [], ◌∷◌, length, refl, arith, sym, ◌∙◌, ap, subst, Option, Some, None}
 use Rattle.std.proofs.lemmas.Bool.{le-leb}
 use Rattle.std.proofs.lemmas.List.Sums.{sum_by-cons}
 use Rattle.std.specs.List.{count_by}
@@ -15,7 +15,7 @@ use Rattle.sst_block_core.specs.Backs.{GivesStep}
 use Rattle.sst_block_core.specs.Entries.{entries}
 use Rattle.sst_block_core.specs.Kind.{Kind, IsOrdered}
 use Rattle.sst_block_core.specs.Scan.{Scan}
-use Rattle.sst_block_core.specs.Window.{Window, Answer, items_left, whole, found, passes, passes_cmp, count_passed, seek, seek_exclusive, seek_upper, seek_upper_exclusive}
+use Rattle.sst_block_core.specs.Window.{Window, Answer, items_left, whole, passes, passes_cmp, count_passed, seek, seek_exclusive, seek_upper, seek_upper_exclusive}
 use Rattle.sst_block_kinds.specs.Handles.{Handle, handles}
 use Rattle.sstable_blocks.specs.Scans.{KeyRange, is_before, is_up_to, first_entry, end_entry, within}
 use Rattle.sstable_blocks.proofs.ScanWindows.{within_between}

@@ -1,26 +1,24 @@
 -- The steps of a scan.
-use Rattle.std.proofs.Common.{◌≡◌, ◌≢◌, ◌⊎◌, ℕ, inl, inr, zero, suc, ◌+◌, ◌-◌, ◌<◌, ◌≤◌, Bool, true, false, cond, not, ◌&&◌, ltb, List, [], ◌∷◌, ◌++◌, length, map, take, drop, filter, refl, arith, sym, ◌∙◌, ap, subst, append_assoc, append-nil, length-append, Option, Some, None, IfSome, IfOk, Result, Ok, Err}
+use Rattle.std.proofs.Common.{◌≡◌, ℕ, inl, inr, zero, suc, ◌+◌, ◌-◌, ◌<◌, ◌≤◌, true, false, cond, ltb, List, [], ◌∷◌, ◌++◌, length, map, take, drop, filter, refl, arith, sym, ◌∙◌, ap, subst, append_assoc, append-nil, length-append, Option, Some, None, IfSome, IfOk, Result, Ok, Err}
 use Rattle.std.proofs.lemmas.Bool.{cases_Bool, lt-ltb, ltb-false}
 use Rattle.std.proofs.lemmas.List.{map-append}
 use Rattle.std.proofs.Math.Seq.{take-append_seam}
 use Rattle.std.proofs.lemmas.Option.{slice_get_cases}
-use Rattle.std.specs.List.{AllByRecursion, slice_get}
+use Rattle.std.specs.List.{slice_get}
 use Rattle.std.specs.Prelude.{MatchOption, IsOkUnless}
 use Rattle.std.proofs.lemmas.List.{length-take-le, length-drop}
 use Rattle.sst_base.specs.Entry.{Entry, plain}
-use Rattle.sst_base.specs.Header.{◌>>=◌}
 use Rattle.sst_base.specs.declared.error.Error.{Error}
-use Rattle.sst_base.specs.declared.error.Error.TheVariants.{Io, Memory, BadHandle}
+use Rattle.sst_base.specs.declared.error.Error.TheVariants.{Memory, BadHandle}
 use Rattle.sst_block_core.specs.Window.{Window, Answer, item, items_left, first_left, last_left, next, next_back}
 use Rattle.sst_block_core.specs.WindowLaws.{next_some, next_none, back_some, back_none}
 use Rattle.sst_block_kinds.specs.Handles.{Handle}
-use Rattle.sstable_blocks.specs.RunReading.{Hashes, items_at, handles_at}
-use Rattle.sstable_blocks.specs.Opened.{range_of}
+use Rattle.sstable_blocks.specs.RunReading.{Hashes, handles_at}
 use Rattle.sstable_blocks.specs.Scans.{KeyRange, Read, in_range, within, block_within, reads_of, blocks_read, reads_among, StartsWith, EndsWith, FailsFirst, FailsLast, GivesFirst, GivesLast, AllWithin, between, first_block, end_block, handles_within}
 use Rattle.sstable_blocks.specs.Blocks.{joined}
 use Rattle.sstable_blocks.specs.Sound.{IsSound}
 use Rattle.sstable_blocks.specs.declared.run.RunHandles.{RunHandles}
-use Rattle.sstable_blocks.specs.Sources.{GivesOr, FailsAs}
+use Rattle.sstable_blocks.specs.Sources.{FailsAs}
 
 -- the first handle between two indexes, and the last
 pub taken : (hs : List Handle) (lo hi : ℕ) → lo < hi → hi ≤ length hs → (h : Handle) × (slice_get hs lo ≡ Some h) × (between hs lo hi ≡ h ∷ between hs (lo + 1) hi)
@@ -100,10 +98,12 @@ module _ (c : Hashes) (r : KeyRange) (hs : List Handle) where
   front_bad : (all : List ℕ) (front back : List Entry) (lo hi : ℕ) (h : Handle) (e : Error) → front ≡ [] → between hs lo hi ≡ h ∷ between hs (lo + 1) hi → block_within c all r h ≡ Err e
       → StartsWith (Err e) (Left all front lo hi back)
   front_bad all front back lo hi h e none more is =
-      let B : List Handle → List Read = λ (ks : List Handle). blocks_read c all r ks in
-      (B (between hs (lo + 1) hi) ++ map Ok back, ap (λ xs. map Ok xs ++ (B (between hs lo hi) ++ map Ok back)) none
-      ∙ ap (λ ks. B ks ++ map Ok back) more
-      ∙ ap (λ q. (reads_of q ++ B (between hs (lo + 1) hi)) ++ map Ok back) is)
+      let B : List Handle → List Read = λ (ks : List Handle). blocks_read c all r ks in (
+        B (between hs (lo + 1) hi) ++ map Ok back,
+        ap (λ xs. map Ok xs ++ (B (between hs lo hi) ++ map Ok back)) none
+            ∙ ap (λ ks. B ks ++ map Ok back) more
+            ∙ ap (λ q. (reads_of q ++ B (between hs (lo + 1) hi)) ++ map Ok back) is,
+      )
 
   pub front_next : (ks : List Handle) (o now : Option (List ℕ)) (first : List ℕ → List Read) (front items back : List Entry) (lo hi : ℕ) → ks ≡ hs → now ≡ o → front ≡ [] → lo < hi → hi ≤ length hs
       → IfSome o (λ all. Left all front lo hi back ≡ first all) → IfSome now (λ all. (h : Handle) → slice_get ks lo ≡ Some h → block_within c all r h ≡ Ok items)
@@ -142,12 +142,14 @@ module _ (c : Hashes) (r : KeyRange) (hs : List Handle) where
       → EndsWith (Err e) (Left all front lo hi back)
   back_bad all front back lo hi h e none more is =
       let B : List Handle → List Read = λ (ks : List Handle). blocks_read c all r ks in
-      let front_part : List Read → List Read = λ (xs : List Read). map Ok front ++ xs in
-      (map Ok front ++ B (between hs lo (hi - 1)), ap (λ xs. front_part (B (between hs lo hi) ++ map Ok xs)) none
-      ∙ ap front_part (append-nil (B (between hs lo hi)))
-      ∙ ap (λ ks. front_part (B ks)) more ∙ ap front_part (blocks_read-append c all r (between hs lo (hi - 1)) (h ∷ []))
-      ∙ ap (λ q. front_part (B (between hs lo (hi - 1)) ++ (reads_of q ++ []))) is
-      ∙ sym (append_assoc (map Ok front) (B (between hs lo (hi - 1))) (Err e ∷ [])))
+      let front_part : List Read → List Read = λ (xs : List Read). map Ok front ++ xs in (
+        map Ok front ++ B (between hs lo (hi - 1)),
+        ap (λ xs. front_part (B (between hs lo hi) ++ map Ok xs)) none
+            ∙ ap front_part (append-nil (B (between hs lo hi)))
+            ∙ ap (λ ks. front_part (B ks)) more ∙ ap front_part (blocks_read-append c all r (between hs lo (hi - 1)) (h ∷ []))
+            ∙ ap (λ q. front_part (B (between hs lo (hi - 1)) ++ (reads_of q ++ []))) is
+            ∙ sym (append_assoc (map Ok front) (B (between hs lo (hi - 1))) (Err e ∷ [])),
+      )
 
   pub back_next : (ks : List Handle) (o now : Option (List ℕ)) (first : List ℕ → List Read) (front items back : List Entry) (lo hi : ℕ) → ks ≡ hs → now ≡ o → back ≡ [] → lo < hi → hi ≤ length hs
       → IfSome o (λ all. Left all front lo hi back ≡ first all) → IfSome now (λ all. (h : Handle) → slice_get ks (hi - 1) ≡ Some h → block_within c all r h ≡ Ok items)

@@ -1,5 +1,5 @@
 -- The entries of an ordered list within a range of keys are those between two counts.
-use Rattle.std.proofs.Common.{◌≡◌, ◌≢◌, ℕ, inl, inr, suc, ◌+◌, ◌-◌, Bool, true, false, cond, not, ◌&&◌, List, [], ◌∷◌, length, take, drop, filter, refl, arith, sym, ◌∙◌, ap}
+use Rattle.std.proofs.Common.{◌≡◌, ℕ, inl, inr, suc, ◌+◌, ◌-◌, Bool, true, false, cond, not, ◌&&◌, List, [], ◌∷◌, take, drop, filter, refl, arith, sym, ◌∙◌, ap}
 use Rattle.std.proofs.lemmas.Bool.{cases_Bool}
 use Rattle.std.proofs.lemmas.Cmp.{upto, nat_list_cmp_total}
 use Rattle.std.proofs.lemmas.List.Sums.{sum_by-cons}
@@ -12,7 +12,7 @@ use Rattle.std.specs.declared.ops.Bound.{Bound}
 use Rattle.std.specs.declared.ops.Bound.TheVariants.{Included, Excluded, Unbounded}
 use Rattle.sst_base.specs.Entry.{Entry}
 use Rattle.sst_block_core.specs.Entries.{entries}
-use Rattle.sst_block_core.specs.Kind.{Kind, IsOrdered, item_cmp}
+use Rattle.sst_block_core.specs.Kind.{Kind, IsOrdered}
 use Rattle.sst_block_core.specs.Window.{items_left}
 use Rattle.sstable_blocks.specs.Scans.{KeyRange, is_before, is_up_to, within}
 use Rattle.sstable_blocks.proofs.Ends.{turned}
@@ -138,12 +138,12 @@ module _ {X : Type 0} (key : X → List ℕ) where
         (λ b c pb qc. ap (λ n. between n (counted q (x ∷ xs)) (x ∷ xs)) (counted-cons p x xs b pb) ∙ ap (λ n. between (cond b 1 0 + P) n (x ∷ xs)) (counted-cons q x xs c qc)) in
         elim (cases_Bool (p (key x))) [
           | inl pt ↦ elim (cases_Bool (q (key x))) [
-              | inl qt ↦ split true true pt qt ∙ more ∙ sym (between-more P Q x xs) ∙ sym (ends true true pt qt)
-              | inr qf ↦ (
-                  let none = none_counted q q_lower x xs h qf in
-                  split true false pt qf ∙ more ∙ ap (λ n. between P n xs) none ∙ between-none P xs
-                  ∙ sym (between-none (1 + P) (x ∷ xs)) ∙ sym (ap (λ n. between (1 + P) (0 + n) (x ∷ xs)) none) ∙ sym (ends true false pt qf))
-            ]
+            | inl qt ↦ split true true pt qt ∙ more ∙ sym (between-more P Q x xs) ∙ sym (ends true true pt qt)
+            | inr qf ↦ (
+                let none = none_counted q q_lower x xs h qf in
+                split true false pt qf ∙ more ∙ ap (λ n. between P n xs) none ∙ between-none P xs
+                ∙ sym (between-none (1 + P) (x ∷ xs)) ∙ sym (ap (λ n. between (1 + P) (0 + n) (x ∷ xs)) none) ∙ sym (ends true false pt qf))
+          ]
           | inr pf ↦ (
               let bare = none_counted p p_lower x xs h pf in
               elim (cases_Bool (q (key x))) [

@@ -1,5 +1,5 @@
 -- A scan of a sound run reads its entries within the range.
-use Rattle.std.proofs.Common.{◌≡◌, ℕ, inl, inr, zero, suc, ◌+◌, ◌-◌, ◌<◌, ◌^◌, min, Bool, true, false, cond, not, ◌&&◌, List, [], ◌∷◌, ◌++◌, length, map, take, drop, filter, refl, arith, sym, ◌∙◌, ap, subst, append-nil, Result, Ok, Err}
+use Rattle.std.proofs.Common.{◌≡◌, ℕ, inl, inr, ◌+◌, ◌-◌, ◌<◌, ◌^◌, min, Bool, true, false, cond, not, ◌&&◌, List, [], ◌∷◌, ◌++◌, length, map, take, drop, filter, refl, arith, sym, ◌∙◌, ap, subst, append-nil, Result, Ok}
 use Rattle.std.proofs.lemmas.Bool.{cases_Bool}
 use Rattle.std.proofs.lemmas.List.{map-append}
 use Rattle.std.proofs.lemmas.List.Elements.{filter-append}
@@ -17,7 +17,6 @@ use Rattle.sst_block_core.specs.Trailer.{trailer_in}
 use Rattle.sst_block_core.specs.Window.{items_left, first_match}
 use Rattle.sst_block_kinds.specs.Handles.{Handle, handles, IsHandle, IsIndexBlock, IndexPasses}
 use Rattle.sstable_blocks.specs.Blocks.{joined}
-use Rattle.sstable_blocks.specs.Lookup.{IsEnd}
 use Rattle.sstable_blocks.specs.Opened.{range_of}
 use Rattle.sstable_blocks.specs.RunReading.{Hashes, payload_at, items_at, handles_at}
 use Rattle.sstable_blocks.specs.Scans.{KeyRange, Read, is_before, is_up_to, in_range, within, first_block, end_block, handles_within, block_within, reads_of, blocks_read}
@@ -25,7 +24,7 @@ use Rattle.sstable_blocks.specs.Sound.{IsStoredBlock, IsSound}
 use Rattle.sstable_blocks.specs.declared.run.RunHandles.{RunHandles}
 use Rattle.sstable_blocks.proofs.Ends.{ends_in_order, block_behind, back_in_order, tail_in_order}
 use Rattle.sstable_blocks.proofs.Openings.{framed_size, stored_ends}
-use Rattle.sstable_blocks.proofs.ScanWindows.{IsLower, KeysRise, rise_tail, falls, counted, counted-cons, none_counted, between, between-more, between-none, between-first, lower_before, lower_up_to, ordered_rise}
+use Rattle.sstable_blocks.proofs.ScanWindows.{KeysRise, rise_tail, falls, counted, counted-cons, none_counted, between, between-more, between-none, between-first, lower_before, lower_up_to, ordered_rise}
 use Rattle.sstable_blocks.proofs.SoundReads.{bind_to, data_ok, framed_is_read, index_of_sound}
 
 -- what is read of entries
@@ -81,46 +80,46 @@ module _ (r : KeyRange) where
   module _ (c : Hashes) (bytes : List ℕ)
       (stored_read : (h : Handle) (b : List Entry) → IsHandle h → IsStoredBlock c bytes b h → items_at c bytes (range_of h) ≡ Ok (map plain b))
     where
-    abbrev starts : List Handle → ℕ
-    starts hs = counted handles.key (is_before r.from) hs
+      abbrev starts : List Handle → ℕ
+      starts hs = counted handles.key (is_before r.from) hs
 
-    abbrev stops : List Handle → ℕ
-    stops hs = counted handles.key (is_up_to r.to) hs
+      abbrev stops : List Handle → ℕ
+      stops hs = counted handles.key (is_up_to r.to) hs
 
-    abbrev opened : List Handle → List Handle
-    opened hs = between handles.key (starts hs) (min (length hs) (stops hs + 1)) hs
+      abbrev opened : List Handle → List Handle
+      opened hs = between handles.key (starts hs) (min (length hs) (stops hs + 1)) hs
 
-    one_read : (h : Handle) (b : List Entry) → IsHandle h → IsStoredBlock c bytes b h → reads_of (block_within c bytes r h) ≡ read_all r b
-    one_read h b valid k = ap (λ q. reads_of (q >>= (λ (xs : List Entry). Ok (within r xs)))) (stored_read h b valid k)
+      one_read : (h : Handle) (b : List Entry) → IsHandle h → IsStoredBlock c bytes b h → reads_of (block_within c bytes r h) ≡ read_all r b
+      one_read h b valid k = ap (λ q. reads_of (q >>= (λ (xs : List Entry). Ok (within r xs)))) (stored_read h b valid k)
 
-    pub scan_blocks : (blocks : List (List Entry)) (hs : List Handle) → AllByRecursion IsHandle hs → AllZip (IsStoredBlock c bytes) blocks hs → IsOrdered entries (joined blocks)
-        → blocks_read c bytes r (opened hs) ≡ read_all r (joined blocks)
-    scan_blocks [] [] valid stored order = sym (ap (map Ok) (within-nil r))
-    scan_blocks [] (h ∷ hs) valid stored order = absurd stored
-    scan_blocks (b ∷ bs) [] valid stored order = absurd stored
-    scan_blocks (b ∷ bs) (h ∷ hs) valid stored order =
-        let i = stored.0.end in
-        let whole : b ++ joined bs ≡ i.front ++ i.last ∷ joined bs = block_behind entries handles b h i (joined bs) in
-        let o : IsOrdered entries (i.front ++ i.last ∷ joined bs) = subst (IsOrdered entries) whole order in
-        let after : IsOrdered entries (i.last ∷ joined bs) = back_in_order _ i.front (i.last ∷ joined bs) o in
-        let ih = scan_blocks bs hs valid.1 stored.1 (tail_in_order _ i.last (joined bs) after) in
-        let rise : KeysRise handles.key (h ∷ hs) = ordered_rise handles (h ∷ hs) (ends_in_order entries handles (b ∷ bs) (h ∷ hs) (stored_ends c bytes (b ∷ bs) (h ∷ hs) stored) order) in
-        let parts = read_all-append r b (joined bs) in
-        let here = one_read h b valid.0 stored.0 in
-        let n = length hs in
-        let P = starts hs in
-        let Q = stops hs in
-        let counts : (x y : Bool) → is_before r.from h.end_key ≡ x → is_up_to r.to h.end_key ≡ y → opened (h ∷ hs) ≡ between handles.key (cond x 1 0 + P) (min (length (h ∷ hs)) (cond y 1 0 + Q + 1)) (h ∷ hs) =
-        (λ x y px qy.
+      pub scan_blocks : (blocks : List (List Entry)) (hs : List Handle) → AllByRecursion IsHandle hs → AllZip (IsStoredBlock c bytes) blocks hs → IsOrdered entries (joined blocks)
+          → blocks_read c bytes r (opened hs) ≡ read_all r (joined blocks)
+      scan_blocks [] [] valid stored order = sym (ap (map Ok) (within-nil r))
+      scan_blocks [] (h ∷ hs) valid stored order = absurd stored
+      scan_blocks (b ∷ bs) [] valid stored order = absurd stored
+      scan_blocks (b ∷ bs) (h ∷ hs) valid stored order =
+          let i = stored.0.end in
+          let whole : b ++ joined bs ≡ i.front ++ i.last ∷ joined bs = block_behind entries handles b h i (joined bs) in
+          let o : IsOrdered entries (i.front ++ i.last ∷ joined bs) = subst (IsOrdered entries) whole order in
+          let after : IsOrdered entries (i.last ∷ joined bs) = back_in_order _ i.front (i.last ∷ joined bs) o in
+          let ih = scan_blocks bs hs valid.1 stored.1 (tail_in_order _ i.last (joined bs) after) in
+          let rise : KeysRise handles.key (h ∷ hs) = ordered_rise handles (h ∷ hs) (ends_in_order entries handles (b ∷ bs) (h ∷ hs) (stored_ends c bytes (b ∷ bs) (h ∷ hs) stored) order) in
+          let parts = read_all-append r b (joined bs) in
+          let here = one_read h b valid.0 stored.0 in
+          let n = length hs in
+          let P = starts hs in
+          let Q = stops hs in
+          let counts : (x y : Bool) → is_before r.from h.end_key ≡ x → is_up_to r.to h.end_key ≡ y → opened (h ∷ hs) ≡ between handles.key (cond x 1 0 + P) (min (length (h ∷ hs)) (cond y 1 0 + Q + 1)) (h ∷ hs) =
+          (λ x y px qy.
           ap (λ k. between handles.key k (min (length (h ∷ hs)) (stops (h ∷ hs) + 1)) (h ∷ hs)) (counted-cons handles.key (is_before r.from) h hs x px)
           ∙ ap (λ k. between handles.key (cond x 1 0 + P) (min (length (h ∷ hs)) (k + 1)) (h ∷ hs)) (counted-cons handles.key (is_up_to r.to) h hs y qy)) in
-        let none_before : is_before r.from h.end_key ≡ true → read_all r b ≡ [] =
-        (λ px. ap (map Ok) (ap (λ xs. within r (map plain xs)) i.whole ∙ before_start i.front i.last (joined bs) (ordered_rise entries (i.front ++ i.last ∷ joined bs) o) (ap (is_before r.from) (sym i.key) ∙ px))) in
-        let none_after : is_up_to r.to h.end_key ≡ false → read_all r (joined bs) ≡ [] =
-        (λ qy. ap (map Ok) (after_end i.last (joined bs) (ordered_rise entries (i.last ∷ joined bs) after) (ap (is_up_to r.to) (sym i.key) ∙ qy))) in
-        let B : List Handle → List Read = λ (ks : List Handle). blocks_read c bytes r ks in
-        elim (cases_Bool (is_before r.from h.end_key)) [
-          | inl pt ↦ elim (cases_Bool (is_up_to r.to h.end_key)) [
+          let none_before : is_before r.from h.end_key ≡ true → read_all r b ≡ [] =
+          (λ px. ap (map Ok) (ap (λ xs. within r (map plain xs)) i.whole ∙ before_start i.front i.last (joined bs) (ordered_rise entries (i.front ++ i.last ∷ joined bs) o) (ap (is_before r.from) (sym i.key) ∙ px))) in
+          let none_after : is_up_to r.to h.end_key ≡ false → read_all r (joined bs) ≡ [] =
+          (λ qy. ap (map Ok) (after_end i.last (joined bs) (ordered_rise entries (i.last ∷ joined bs) after) (ap (is_up_to r.to) (sym i.key) ∙ qy))) in
+          let B : List Handle → List Read = λ (ks : List Handle). blocks_read c bytes r ks in
+          elim (cases_Bool (is_before r.from h.end_key)) [
+            | inl pt ↦ elim (cases_Bool (is_up_to r.to h.end_key)) [
               | inl qt ↦ (
                   let more : min (length (h ∷ hs)) (1 + Q + 1) ≡ 1 + min n (Q + 1) = omega arith in
                   ap B (counts true true pt qt ∙ ap (λ k. between handles.key (1 + P) k (h ∷ hs)) more ∙ between-more handles.key P (min n (Q + 1)) h hs)
@@ -131,22 +130,22 @@ module _ (r : KeyRange) where
                   ap B (counts true false pt qf ∙ ap (λ k. take k (drop (1 + P) (h ∷ hs))) size)
                   ∙ sym (ap (λ xs. xs ++ read_all r (joined bs)) (none_before pt) ∙ none_after qf) ∙ sym parts)
             ]
-          | inr pf ↦ (
-              let bare : P ≡ 0 = none_counted handles.key (is_before r.from) (lower_before r.from) h hs rise pf in
-              elim (cases_Bool (is_up_to r.to h.end_key)) [
-                | inl qt ↦ (
-                    let more : min (length (h ∷ hs)) (1 + Q + 1) ≡ 1 + min n (Q + 1) = omega arith in
-                    ap B (counts false true pf qt ∙ ap (λ k. between handles.key (0 + k) (min (length (h ∷ hs)) (1 + Q + 1)) (h ∷ hs)) bare ∙ ap (λ k. between handles.key 0 k (h ∷ hs)) more ∙ between-first handles.key (min n (Q + 1)) h hs)
-                    ∙ ap (λ xs. xs ++ B (between handles.key 0 (min n (Q + 1)) hs)) here
-                    ∙ ap (λ xs. read_all r b ++ xs) (ap (λ k. B (between handles.key k (min n (Q + 1)) hs)) (sym bare) ∙ ih) ∙ sym parts)
-                | inr qf ↦ (
-                    let none : Q ≡ 0 = none_counted handles.key (is_up_to r.to) (lower_up_to r.to) h hs rise qf in
-                    let one : min (length (h ∷ hs)) (0 + Q + 1) ≡ 1 + 0 = omega arith in
-                    ap B (counts false false pf qf ∙ ap (λ k. between handles.key (0 + k) (min (length (h ∷ hs)) (0 + Q + 1)) (h ∷ hs)) bare ∙ ap (λ k. between handles.key 0 k (h ∷ hs)) one ∙ between-first handles.key 0 h hs ∙ ap (λ ks. h ∷ ks) (between-none handles.key 0 hs))
-                    ∙ append-nil (reads_of (block_within c bytes r h)) ∙ here
-                    ∙ sym (append-nil (read_all r b)) ∙ ap (λ xs. read_all r b ++ xs) (sym (none_after qf)) ∙ sym parts)
-              ])
-        ]
+            | inr pf ↦ (
+                let bare : P ≡ 0 = none_counted handles.key (is_before r.from) (lower_before r.from) h hs rise pf in
+                elim (cases_Bool (is_up_to r.to h.end_key)) [
+                  | inl qt ↦ (
+                      let more : min (length (h ∷ hs)) (1 + Q + 1) ≡ 1 + min n (Q + 1) = omega arith in
+                      ap B (counts false true pf qt ∙ ap (λ k. between handles.key (0 + k) (min (length (h ∷ hs)) (1 + Q + 1)) (h ∷ hs)) bare ∙ ap (λ k. between handles.key 0 k (h ∷ hs)) more ∙ between-first handles.key (min n (Q + 1)) h hs)
+                      ∙ ap (λ xs. xs ++ B (between handles.key 0 (min n (Q + 1)) hs)) here
+                      ∙ ap (λ xs. read_all r b ++ xs) (ap (λ k. B (between handles.key k (min n (Q + 1)) hs)) (sym bare) ∙ ih) ∙ sym parts)
+                  | inr qf ↦ (
+                      let none : Q ≡ 0 = none_counted handles.key (is_up_to r.to) (lower_up_to r.to) h hs rise qf in
+                      let one : min (length (h ∷ hs)) (0 + Q + 1) ≡ 1 + 0 = omega arith in
+                      ap B (counts false false pf qf ∙ ap (λ k. between handles.key (0 + k) (min (length (h ∷ hs)) (0 + Q + 1)) (h ∷ hs)) bare ∙ ap (λ k. between handles.key 0 k (h ∷ hs)) one ∙ between-first handles.key 0 h hs ∙ ap (λ ks. h ∷ ks) (between-none handles.key 0 hs))
+                      ∙ append-nil (reads_of (block_within c bytes r h)) ∙ here
+                      ∙ sym (append-nil (read_all r b)) ∙ ap (λ xs. read_all r b ++ xs) (sym (none_after qf)) ∙ sym parts)
+                ])
+          ]
 
 module _ (c : Hashes) (sums : (bytes : List ℕ) → c.hash128 bytes < 2 ^ 128)
     (data_verdict : (p : List ℕ) → DataVerdict c.hash64 (trailer_in p) p (data_check c.hash64 p))
@@ -156,24 +155,24 @@ module _ (c : Hashes) (sums : (bytes : List ℕ) → c.hash128 bytes < 2 ^ 128)
     (plain_match : (needle : List ℕ) (seqno : ℕ) (items : List Entry) → first_match entries needle seqno (map plain items) ≡ first_match entries needle seqno items)
     (bytes : List ℕ)
   where
-  stored_items : (h : Handle) (b : List Entry) → IsHandle h → IsStoredBlock c bytes b h → items_at c bytes (range_of h) ≡ Ok (map plain b)
-  stored_items h b valid k =
-      let p = k.payload in
-      let size = framed_size c types.Data bytes p (range_of h) k.frame in
-      let less : h.size < 2 ^ 32 = valid.size in
-      let short : length p < 2 ^ 32 = omega arith in
-      let read = data_read p b k.interval k.buckets short k.is_block in
-      bind_to _ _ p _ (framed_is_read c types.Data bytes p (range_of h) sums short k.frame)
-      (data_ok c.hash64 (trailer_in p) p (data_check c.hash64 p) (data_verdict p) read.0 ∙ ap (λ xs. Ok xs) read.1)
+    stored_items : (h : Handle) (b : List Entry) → IsHandle h → IsStoredBlock c bytes b h → items_at c bytes (range_of h) ≡ Ok (map plain b)
+    stored_items h b valid k =
+        let p = k.payload in
+        let size = framed_size c types.Data bytes p (range_of h) k.frame in
+        let less : h.size < 2 ^ 32 = valid.size in
+        let short : length p < 2 ^ 32 = omega arith in
+        let read = data_read p b k.interval k.buckets short k.is_block in
+        bind_to _ _ p _ (framed_is_read c types.Data bytes p (range_of h) sums short k.frame)
+        (data_ok c.hash64 (trailer_in p) p (data_check c.hash64 p) (data_verdict p) read.0 ∙ ap (λ xs. Ok xs) read.1)
 
-  pub scan_sound : (blocks : List (List Entry)) (h : RunHandles) (r : KeyRange) (hs : List Handle) → IsSound c blocks bytes h → handles_at c bytes h.index ≡ Ok hs
-      → blocks_read c bytes r (handles_within r hs) ≡ map Ok (within r (map plain (joined blocks)))
-  unfolding handles_within
-  scan_sound blocks h r hs d at =
-      let i = index_of_sound c sums data_verdict index_verdict data_read index_read plain_match bytes [] 0 blocks h d in
-      let is : handles_at c bytes h.index ≡ Ok d.handles = bind_to (payload_at c types.Index bytes h.index) index_check d.index.payload (Ok d.handles) i.0 i.1 in
-      let e : ◌≡◌ {A = Result (List Handle) Error} (Ok hs) (Ok d.handles) = sym at ∙ is in
-      let same : hs ≡ d.handles = cc in
-      let valid = d.index.is_block.block.encoding.are_valid in
-      ap (λ ks. blocks_read c bytes r (items_left (record { list = ks; lo = first_block r ks; hi = end_block r ks }))) same
-      ∙ scan_blocks r c bytes stored_items blocks d.handles valid d.stored d.ordered
+    pub scan_sound : (blocks : List (List Entry)) (h : RunHandles) (r : KeyRange) (hs : List Handle) → IsSound c blocks bytes h → handles_at c bytes h.index ≡ Ok hs
+        → blocks_read c bytes r (handles_within r hs) ≡ map Ok (within r (map plain (joined blocks)))
+    unfolding handles_within
+    scan_sound blocks h r hs d at =
+        let i = index_of_sound c sums data_verdict index_verdict data_read index_read plain_match bytes [] 0 blocks h d in
+        let is : handles_at c bytes h.index ≡ Ok d.handles = bind_to (payload_at c types.Index bytes h.index) index_check d.index.payload (Ok d.handles) i.0 i.1 in
+        let e : ◌≡◌ {A = Result (List Handle) Error} (Ok hs) (Ok d.handles) = sym at ∙ is in
+        let same : hs ≡ d.handles = cc in
+        let valid = d.index.is_block.block.encoding.are_valid in
+        ap (λ ks. blocks_read c bytes r (items_left (record { list = ks; lo = first_block r ks; hi = end_block r ks }))) same
+        ∙ scan_blocks r c bytes stored_items blocks d.handles valid d.stored d.ordered

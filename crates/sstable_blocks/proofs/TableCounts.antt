@@ -1,5 +1,5 @@
 -- What a read by a table counts, in terms of the run's bytes.
-use Rattle.std.proofs.Common.{◌≡◌, ◌≢◌, ℕ, ◌+◌, ◌≤◌, List, length, refl, arith, sym, ◌∙◌, ap, subst, Option, Some, None, IfSome, IfOk, IfErr, Result, Ok, Err}
+use Rattle.std.proofs.Common.{◌≡◌, ◌≢◌, ℕ, ◌+◌, List, length, arith, sym, ◌∙◌, ap, subst, Option, Some, None, IfSome, IfOk, IfErr, Result, Ok, Err}
 use Rattle.std.specs.Option.{option_map}
 use Rattle.sst_base.specs.Block.{BlockParts}
 use Rattle.sst_base.specs.BlockHandle.{HandleParts}

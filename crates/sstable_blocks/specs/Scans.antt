@@ -12,7 +12,6 @@ use Rattle.std.specs.List.{AllByRecursion}
 use Rattle.sst_block_core.specs.Scan.{Scan}
 use Rattle.sst_block_core.specs.Window.{items_left}
 use Rattle.sst_block_kinds.specs.Handles.{Handle}
-use Rattle.sstable_blocks.specs.Blocks.{joined}
 use Rattle.sstable_blocks.specs.Opened.{range_of}
 use Rattle.sstable_blocks.specs.RunReading.{Hashes, items_at}
 use Rattle.sstable_blocks.specs.Tables.{TableParts}

@@ -11,8 +11,8 @@ pub mod table;
 
 pub use run::{
     CheckedRun, FileSource, FrameSource, MemorySource, OpenError, RunConfig, RunHandles,
-    RunSummary, RunWriter, Scan, SizedSource, Table, Trusted, cuts_fit, decode_footer, encode_footer,
-    read_entry, read_entry_checked, write_and_read, write_run,
+    RunSummary, RunWriter, Scan, SizedSource, Table, Trusted, cuts_fit, decode_footer,
+    encode_footer, read_entry, read_entry_checked, write_and_read, write_run,
 };
 pub use sst_base::{
     Block, BlockHandle, BlockHash, BlockOffset, BlockType, ByteSum, Checksum, ChecksumType,

@@ -104,9 +104,15 @@ fn table_file_is_opened(rt: HostRuntime) -> crate::Tested {
     let mut bytes = THREE_BLOCKS.to_vec(alloc)?;
     bytes.extend_from_slice(&encode_footer(&handles_of(&crate::checks::WORKED)))?;
     let file = FileSource::new(Cursor::new(bytes.as_slice()));
-    assert!(rt; scan_file(alloc, file)?.as_slice() == b"xyz".as_slice(), "file");
+    assert!(rt;
+        scan_file(alloc, file)?.as_slice() == b"xyz".as_slice(),
+        "file"
+    );
     let memory = MemorySource::new(Slice::from_vec(bytes)?);
-    assert!(rt; scan_file(alloc, memory)?.as_slice() == b"xyz".as_slice(), "memory");
+    assert!(rt;
+        scan_file(alloc, memory)?.as_slice() == b"xyz".as_slice(),
+        "memory"
+    );
     let short = MemorySource::new(Slice::new(alloc, b"short")?);
     assert!(rt; scan_file(alloc, short) == Err(Error::Truncated), "short");
     Ok(())
@@ -131,7 +137,10 @@ fn scan_over_a_source_that_fails(rt: HostRuntime) {
     }
     for fails_at in 2..5 {
         let errors = errors_at(rt.alloc(), fails_at);
-        assert!(rt; errors == Ok((Some(Error::Io), Some(Error::Io))), "scan {fails_at}");
+        assert!(rt;
+            errors == Ok((Some(Error::Io), Some(Error::Io))),
+            "scan {fails_at}"
+        );
     }
     let errors = errors_at(rt.alloc(), 5);
     assert!(rt; errors == Ok((None, None)), "none");

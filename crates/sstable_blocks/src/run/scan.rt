@@ -193,11 +193,7 @@ impl<H: BlockHash, S: FrameSource> Table<H, S> {
     }
 
     /// Scans the entries whose user keys are between two bounds: see [`Scan`].
-    pub fn scan_range<'k>(
-        self,
-        from: Bound<&'k [u8]>,
-        to: Bound<&'k [u8]>,
-    ) -> Scan<'k, H, S>
+    pub fn scan_range<'k>(self, from: Bound<&'k [u8]>, to: Bound<&'k [u8]>) -> Scan<'k, H, S>
         ensures table { result.table ≡ self }
         ensures range { result.range ≡ record {
           from = bound_map (λ k. k.now) from.entry;

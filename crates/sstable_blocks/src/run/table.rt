@@ -32,8 +32,8 @@ use super::trusted::Trusted;
 use crate::table::filter::FilterBlock;
 use crate::table::filter::standard_bloom::StandardBloomFilterReader;
 use sst_base::{BlockHandle, BlockHash, BlockType, Error, InternalValue, Result, SeqNo, Steps};
-use sst_block_kinds::{DataBlock, IndexBlock};
 use sst_block_kinds::laws::index_check_is_by_stages;
+use sst_block_kinds::{DataBlock, IndexBlock};
 use std::alloc::Global;
 use std::marker::{Model, PhantomData};
 
@@ -399,10 +399,7 @@ impl<H: BlockHash, S: SizedSource> Table<H, S> {
     ///
     /// `Error::Io` if the source fails, `Error::Truncated` if it is shorter than a footer, then
     /// those of [`Table::open`]. The source is returned with the error.
-    pub fn open_file(
-        alloc: Global,
-        source: S,
-    ) -> std::result::Result<Table<H, S>, OpenError<S>>
+    pub fn open_file(alloc: Global, source: S) -> std::result::Result<Table<H, S>, OpenError<S>>
         ensures source { MatchResult result
             (λ t. KeepsSource S.bytes S.failures S.is_reliable source t.source)
             (λ e. KeepsSource S.bytes S.failures S.is_reliable source e.source) }

@@ -14,8 +14,8 @@ invariant-open g l = record {
   front : l.blocks.front ≡ l.fn.blocks.front;
   all : AllWithin l.bounds (left_in l.blocks.back);
   left : IfSome (g.S.FrameSource.bytes l.fn.table.source) (λ all.
-    reads_among (hashes g.H.BlockHash.hash64 g.H.BlockHash.hash128) all l.bounds (left_in l.blocks.front) (between l.fn.table.index l.blocks.lo l.blocks.hi) (left_in l.blocks.back)
-    ≡ reads_among (hashes g.H.BlockHash.hash64 g.H.BlockHash.hash128) all l.bounds (left_in l.fn.blocks.front) (between l.fn.table.index l.fn.blocks.lo l.fn.blocks.hi) (left_in l.fn.blocks.back));
+      reads_among (hashes g.H.BlockHash.hash64 g.H.BlockHash.hash128) all l.bounds (left_in l.blocks.front) (between l.fn.table.index l.blocks.lo l.blocks.hi) (left_in l.blocks.back)
+      ≡ reads_among (hashes g.H.BlockHash.hash64 g.H.BlockHash.hash128) all l.bounds (left_in l.fn.blocks.front) (between l.fn.table.index l.fn.blocks.lo l.fn.blocks.hi) (left_in l.fn.blocks.back));
 }
 
 abbrev pub decreases-open : goal.decreases-open

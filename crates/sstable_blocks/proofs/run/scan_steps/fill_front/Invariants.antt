@@ -1,4 +1,4 @@
-use Rattle.std.proofs.Common.{◌≡◌, ◌+◌, ◌-◌, ◌≤◌, IfSome}
+use Rattle.std.proofs.Common.{◌≡◌, ◌+◌, ◌-◌, IfSome}
 use Rattle.sstable_blocks.specs.RunReading.{hashes}
 use Rattle.sstable_blocks.specs.Scans.{AllWithin, between, left_in, reads_among}
 use Rattle.sstable_blocks.specs.Sources.{KeepsSource}
@@ -13,8 +13,8 @@ invariant-open g l = record {
   back : l.blocks.back ≡ l.fn.blocks.back;
   all : AllWithin l.bounds (left_in l.blocks.front);
   left : IfSome (g.S.FrameSource.bytes l.fn.table.source) (λ all.
-    reads_among (hashes g.H.BlockHash.hash64 g.H.BlockHash.hash128) all l.bounds (left_in l.blocks.front) (between l.fn.table.index l.blocks.lo l.blocks.hi) (left_in l.blocks.back)
-    ≡ reads_among (hashes g.H.BlockHash.hash64 g.H.BlockHash.hash128) all l.bounds (left_in l.fn.blocks.front) (between l.fn.table.index l.fn.blocks.lo l.fn.blocks.hi) (left_in l.fn.blocks.back));
+      reads_among (hashes g.H.BlockHash.hash64 g.H.BlockHash.hash128) all l.bounds (left_in l.blocks.front) (between l.fn.table.index l.blocks.lo l.blocks.hi) (left_in l.blocks.back)
+      ≡ reads_among (hashes g.H.BlockHash.hash64 g.H.BlockHash.hash128) all l.bounds (left_in l.fn.blocks.front) (between l.fn.table.index l.fn.blocks.lo l.fn.blocks.hi) (left_in l.fn.blocks.back));
 }
 
 abbrev pub decreases-open : goal.decreases-open

@@ -1,4 +1,4 @@
-use Rattle.std.proofs.Common.{◌-◌, arith, List, ℕ}
+use Rattle.std.proofs.Common.{arith, List, ℕ}
 use Rattle.sstable_blocks.specs.Scans.{between, left_in, reads_among}
 use Rattle.sstable_blocks.specs.RunReading.{hashes}
 use Rattle.sstable_blocks.proofs.ScanSteps.{reads_by, none_last, some_last}

@@ -1,4 +1,4 @@
-use Rattle.std.proofs.Common.{◌-◌, arith}
+use Rattle.std.proofs.Common.{arith}
 use Rattle.sstable_blocks.specs.RunReading.{hashes}
 use Rattle.sstable_blocks.proofs.ScanSteps.{reads_by, none_first}
 use Rattle.sstable_blocks.proofs.run.scan_steps.step_front.Goals as goal

@@ -1,15 +1,11 @@
-use Rattle.std.proofs.Common.{arith, sym, subst, ap, ◌∙◌, ◌≡◌, IfSome, Option, List, ℕ, length}
+use Rattle.std.proofs.Common.{sym, subst, ap, ◌∙◌, ◌≡◌, IfSome, List}
 use Rattle.std.specs.Option.{option_map}
-use Rattle.sst_base.specs.BlockHandle.{HandleParts}
-use Rattle.sst_base.specs.Counted.{CountsBetween}
-use Rattle.sst_block_core.specs.Intervals.{digits}
-use Rattle.sst_block_core.specs.Pointers.{head_count}
 use Rattle.sst_block_kinds.specs.Handles.{Handle, handles}
 use Rattle.sstable_blocks.specs.Lookup.{handle_for}
-use Rattle.sstable_blocks.specs.Opened.{range_of, index_in, IsFrameRange, IsDenied}
-use Rattle.sstable_blocks.specs.ReadCosts.{handles_most, interval_in, handle_in}
+use Rattle.sstable_blocks.specs.Opened.{range_of, IsFrameRange, IsDenied}
+use Rattle.sstable_blocks.specs.ReadCosts.{handle_in}
 use Rattle.sstable_blocks.specs.RunReading.{hashes}
-use Rattle.sstable_blocks.proofs.Points.{chosen, found_none, found_denied, found_some, block_digits, block_interval}
+use Rattle.sstable_blocks.proofs.Points.{chosen, found_none, found_denied, found_some}
 use Rattle.sstable_blocks.proofs.run.trusted.read_by_index.Goals as goal
 
 pub is_allowed-requires : goal.is_allowed-requires

@@ -1,4 +1,4 @@
-use Rattle.std.proofs.Common.{arith, ◌<◌}
+use Rattle.std.proofs.Common.{arith}
 use Rattle.sstable_blocks.specs.RunReading.{hashes}
 use Rattle.sstable_blocks.proofs.KeptReads.{file_on, footer_fails_first}
 use Rattle.sstable_blocks.proofs.run.table.Table.open_file.Goals as goal
