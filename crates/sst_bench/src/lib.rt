@@ -17,6 +17,7 @@ pub mod index_block;
 pub mod keys;
 pub mod run;
 pub mod sums;
+pub mod tables;
 
 /// What a call returns that does not take its input.
 pub const REFUSED: u64 = u64::MAX;

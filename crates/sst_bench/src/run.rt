@@ -64,8 +64,8 @@ fn written(
     Some((bytes, handles))
 }
 
-// The run of entries as bytes.
-fn run_in(
+/// The run of entries as bytes.
+pub(crate) fn run_in(
     alloc: Global,
     bytes: &[u8],
     count: usize,

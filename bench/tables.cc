@@ -1,0 +1,92 @@
+// Prints what reads, scans and the check of a table in memory cost beside their parts.
+#include <cstdio>
+#include <cstdlib>
+#include <string>
+
+#include "inputs.h"
+#include "library.h"
+#include "timing.h"
+
+namespace {
+
+using namespace bench;
+
+constexpr size_t kCount = 100000;
+constexpr size_t kPerBlock = 78;  // 4 KiB of keys of 16 bytes and values of 32
+constexpr int kInterval = 16;
+constexpr uint32_t kBits = 10;
+
+const uint8_t* At(const std::string& bytes) {
+  return reinterpret_cast<const uint8_t*>(bytes.data());
+}
+
+void Must(uint64_t answer, const char* name) {
+  if (answer != kRefused) return;
+  fprintf(stderr, "tables: %s: refused\n", name);
+  exit(1);
+}
+
+void Print(const char* name, size_t operations, const Repeated& ours, const Repeated& other) {
+  Must(ours(1), name);
+  Must(other(1), name);
+  const Times times = TimesOf({name, operations, ours, other}, {0.05, 9});
+  printf("| %s | %.1f | %.1f | %.2f |\n", name, times.ours, times.other, times.ours / times.other);
+}
+
+}  // namespace
+
+int main() {
+  PinToCore(-1);
+  const Entries entries(kCount, 16, 32);
+  const std::string bytes = entries.Bytes();
+  const std::string block = Entries(kPerBlock, 16, 32).Bytes();
+  const size_t blocks = (kCount + kPerBlock - 1) / kPerBlock;
+  std::string payload(2 * block.size() + 1000, '\0');
+  const uint64_t len = sst_encode(At(block), block.size(), kPerBlock, kInterval, 0, 100, 1,
+                                  reinterpret_cast<uint8_t*>(payload.data()), payload.size());
+  Must(len, "block");
+  payload.resize(len);
+  std::string frame(len + 100, '\0');
+  const uint64_t frame_len = sst_frame_write(At(payload), payload.size(), 0, 1,
+                                             reinterpret_cast<uint8_t*>(frame.data()),
+                                             frame.size());
+  Must(frame_len, "frame");
+  frame.resize(frame_len);
+  printf("| Table of %zu entries in %zu blocks | ns | Beside it, ns | Ratio |\n|---|---|---|---|\n",
+         kCount, blocks);
+  for (bool hits : {true, false}) {
+    const std::string& needles = hits ? entries.hits : entries.misses;
+    Print(hits ? "trusted get of a key that is there, beside read_entry"
+               : "trusted get of a key that is not",
+          kNeedles,
+          [&](uint64_t times) {
+            return sst_table_get(At(bytes), bytes.size(), kCount, kPerBlock, kInterval, 0, 100,
+                                 kBits, times, At(needles), needles.size(), 16);
+          },
+          [&](uint64_t times) {
+            return sst_run_get(At(bytes), bytes.size(), kCount, kPerBlock, kInterval, 0, 100,
+                               kBits, times, At(needles), needles.size(), 16);
+          });
+  }
+  const Repeated parts = [&](uint64_t times) {
+    const uint64_t turns = times * blocks;
+    return sst_frame_read(At(frame), frame.size(), turns) +
+           sst_check(At(payload), payload.size(), turns);
+  };
+  Print("check of the run, an entry, beside the frames and checks of its blocks", kCount,
+        [&](uint64_t times) {
+          return sst_run_check(At(bytes), bytes.size(), kCount, kPerBlock, kInterval, 0, 100,
+                               kBits, times);
+        },
+        parts);
+  Print("scan, an entry, beside these and the walks that make entries", kCount,
+        [&](uint64_t times) {
+          return sst_table_scan(At(bytes), bytes.size(), kCount, kPerBlock, kInterval, 0, 100,
+                                kBits, times);
+        },
+        [&](uint64_t times) {
+          return parts(times) + sst_materialize(At(block), block.size(), kPerBlock, kInterval, 0,
+                                                100, times * blocks);
+        });
+  return 0;
+}
