@@ -196,20 +196,22 @@ fn gives_all(
     random: &mut Random,
 ) -> Result<bool> {
     let mut left = indexes;
-    while let Some((index, others)) = left.split_first() {
-        if random.next() % 2 == 0 {
-            let found = scan.next_entry(alloc)?;
-            if !is_found(list.get(*index), found.as_ref()) {
-                return Ok(false);
-            }
-            left = others;
-        } else if let Some((index, others)) = left.split_last() {
-            let found = scan.next_entry_back(alloc)?;
-            if !is_found(list.get(*index), found.as_ref()) {
-                return Ok(false);
-            }
-            left = others;
+    for _ in 0..indexes.len() {
+        let (Some((first, after)), Some((last, before))) = (left.split_first(), left.split_last())
+        else {
+            return Ok(false);
+        };
+        let is_first = random.next() % 2 == 0;
+        let found = if is_first {
+            scan.next_entry(alloc)?
+        } else {
+            scan.next_entry_back(alloc)?
+        };
+        let wanted = if is_first { *first } else { *last };
+        if !is_found(list.get(wanted), found.as_ref()) {
+            return Ok(false);
         }
+        left = if is_first { after } else { before };
     }
     Ok(scan.next_entry(alloc)?.is_none() && scan.next_entry_back(alloc)?.is_none())
 }
