@@ -86,12 +86,12 @@ pub extern "C" fn sst_table_get(
 fn add_scanned(
     so_far: u64,
     run: &Slice,
-    handles: RunHandles,
+    handles: &RunHandles,
     count: usize,
     alloc: Global,
 ) -> Option<u64> {
     let source = MemorySource::new(run.clone().ok()?);
-    let table = Table::<Poly31, MemorySource>::open(alloc, source, handles).ok()?;
+    let table = Table::<Poly31, MemorySource>::open(alloc, source, *handles).ok()?;
     let mut scan = table.scan();
     let mut sum = so_far;
     for _ in 0..count {
@@ -123,7 +123,7 @@ pub extern "C" fn sst_table_scan(
     };
     let mut sum = 0;
     for _ in 0..times {
-        match add_scanned(sum, &run, handles, count, alloc) {
+        match add_scanned(sum, &run, &handles, count, alloc) {
             Some(more) => sum = more,
             None => return REFUSED,
         }
