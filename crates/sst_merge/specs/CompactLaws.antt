@@ -74,7 +74,7 @@ module _ {X : Type 0} (entry : X → Entry) (s : ℕ) (bottom : Bool) where
         let e : slice_cmp nat_cmp (key entry k r x) (key entry k r l) ≡ Equal = (slice_cmp-equal (key entry k r x) (key entry k r l)).1 same in
         older_by (number entry k r l) (number entry k r x) (λ w. up (ap (λ o. ordering_then o (nat_cmp (number entry k r l) (number entry k r x))) e ∙ w))
 
-    -- behind a version of the key below the snapshot, no more of it is kept
+    -- after a version of the key below the snapshot, no more of it is kept
     c2 : (l : X) (xs : List X) → has entry k r l ≡ true → number entry k r l < s → IsInOrder (order entry k r) (l ∷ xs) → first (is_match entry k r) (go (Some (entry l).key.user_key) xs) ≡ None
     c2 l [] mine low up = refl
     c2 l (x ∷ xs) mine low up = elim (cases_Bool (has entry k r x)) [

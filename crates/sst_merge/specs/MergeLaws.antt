@@ -15,7 +15,7 @@ module _ {X : Type 0} (cmp : X → X → Ordering) where
   merge-nil [] = refl
   merge-nil (x ∷ xs) = refl
 
-  -- the second item in front is the lesser
+  -- the first item of the second list is the lesser
   pub merge-second : (x y : X) (xs ys : List X) → is_lt (cmp y x) ≡ true → merge cmp (x ∷ xs) (y ∷ ys) ≡ y ∷ merge cmp (x ∷ xs) ys
   merge-second x y xs ys h = rw h refl
 
@@ -35,7 +35,7 @@ module _ {X : Type 0} (cmp : X → X → Ordering) where
   merge-permutation [] ys = IsPermutation-refl ys
   merge-permutation (x ∷ xs) ys = permuted x xs (merge cmp xs) (merge-permutation xs) ys
 
-  -- P holds of the first item, and no item stands before its predecessor
+  -- P holds of the first item, and no item sorts before its predecessor
   abbrev Rises : (X → Type 0) → List X → Type 0
   Rises P [] = Unit {0}
   Rises P (x ∷ xs) = P x × Rises (λ y. cmp y x ≢ Less) xs

@@ -70,7 +70,7 @@ module _ {X : Type 0} (cmp : X → X → Ordering) (order : IsTotalOrder cmp) wh
     some_same : (x z : X) → ◌≡◌ {A = Option X} (Some x) (Some z) → x ≡ z
     some_same x z e = cc
 
-    -- the first match behind x is not before x
+    -- the first match after x is not before x
     above : (x : X) (xs : List X) (z : X) → IsInOrder cmp (x ∷ xs) → first xs ≡ Some z → cmp z x ≢ Less
     above x [] z h e = absurd (cc)
     above x (y ∷ ys) z h e = elim (cases_Bool (test y)) [

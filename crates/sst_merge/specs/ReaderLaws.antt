@@ -20,13 +20,13 @@ abbrev pub matches : List ℕ → ℕ → List (List Entry) → Option Entry
 matches needle s lists = least_match entry_cmp (map (first_match entries needle s) lists)
 
 module _ {R : Type 0} (list : R → Option (List Entry)) (needle : List ℕ) (s : ℕ) where
-  -- before a reader is asked
+  -- before any reader is read
   pub none_read : (rs : List R) (lists : List (List Entry)) → all_known (map list rs) ≡ Some lists → None ≡ matches needle s (drop (length rs) lists)
   none_read rs lists known =
       let n : length lists ≡ length rs = known_length (map list rs) lists known ∙ length-map rs list in
       sym (ap (matches needle s) (drop_all (length rs) lists (omega (arith, n))))
 
-  -- one more is asked
+  -- one reader more
   pub read_more : (rs : List R) (lists : List (List Entry)) (j i : ℕ) (x : R) (found best new : Option Entry) → all_known (map list rs) ≡ Some lists → j < length rs → j + 1 ≡ i → x ≡ get_or rs j x
       → IfSome (list x) (λ all. found ≡ first_match entries needle s all) → best ≡ matches needle s (drop i lists) → new ≡ lesser entry_cmp found best → new ≡ matches needle s (drop j lists)
   read_more rs lists j i x found best new known inside next is here rest step =

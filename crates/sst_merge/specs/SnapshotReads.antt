@@ -118,7 +118,7 @@ module _ {X : Type 0} (entry : X → Entry) (k : List ℕ) (seqno : ℕ) where
   skip l x [] up = tt
   skip l x (y ∷ ys) up = (ge_trans order (versions_cmp_total key number) y x l up.1.0 up.0, up.1.1)
 
-  -- behind a version of the key that was taken, no more of it is shown
+  -- after a version of the key that was taken, no more of it is given
   v2 : (l : X) (xs : List X) → has l ≡ true → IsInOrder order (l ∷ xs) → first has (visible_from entry seqno (Some (key l)) xs) ≡ None
   v2 l [] mine up = refl
   v2 l (x ∷ xs) mine up = elim (cases_Bool (has x)) [
