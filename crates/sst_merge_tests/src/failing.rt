@@ -1,8 +1,8 @@
 // Sources that fail: the error passes through, and what was held is not lost.
 ghost use Rattle.std.specs.Prelude.{None};
 
-use crate::lists::{Memory, Row, V, list_of};
 use crate::Tested;
+use crate::lists::{Memory, Row, V, list_of};
 use sst_base::{Error, InternalValue, Result};
 use sst_merge::{Compact, Head, Merge, Snapshot, Source};
 use std::alloc::Global;
@@ -28,7 +28,12 @@ impl Source<InternalValue> for Failing {
 }
 
 /// The versions of a key.
-const ROWS: &[Row] = &[Row(b'a', 9, V), Row(b'a', 5, V), Row(b'b', 6, V), Row(b'c', 7, V)];
+const ROWS: &[Row] = &[
+    Row(b'a', 9, V),
+    Row(b'a', 5, V),
+    Row(b'b', 6, V),
+    Row(b'c', 7, V),
+];
 
 /// A source that fails after so many steps.
 fn failing_after(alloc: Global, steps: usize) -> Result<Failing> {

@@ -1,7 +1,7 @@
 // Random histories of an engine beside a plain list of all versions: what each snapshot sees of the
 // merge of its tables, and what is left of it after a compaction.
 use crate::Tested;
-use crate::lists::{T, V, W, Row, drained, list_of, merge_of};
+use crate::lists::{Row, T, V, W, drained, list_of, merge_of};
 use sst_base::{InternalValue, Result, ValueType};
 use sst_block_kinds_tests::random::Random;
 use sst_merge::{Compact, Snapshot};
@@ -131,7 +131,10 @@ fn random_histories_are_read(rt: HostRuntime) -> Tested {
         let mut random = Random::new(tables);
         let all = history(alloc, tables, &mut random)?;
         let snapshot = random.below(OPERATIONS);
-        assert!(rt; holds(alloc, &all, snapshot, tables % 2 == 0) == Ok(true), "{tables}");
+        assert!(rt;
+            holds(alloc, &all, snapshot, tables % 2 == 0) == Ok(true),
+            "{tables}"
+        );
     }
     Ok(())
 }

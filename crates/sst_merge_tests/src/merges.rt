@@ -1,6 +1,6 @@
 // Worked merges, snapshots and compactions, row by row.
-use crate::lists::{Memory, Row, T, V, W, drained, list_of, merge_of};
 use crate::Tested;
+use crate::lists::{Memory, Row, T, V, W, drained, list_of, merge_of};
 use sst_base::{InternalValue, Result};
 use sst_merge::{Compact, Merge, Snapshot};
 use std::alloc::Global;
@@ -8,8 +8,18 @@ use std::alloc::Global;
 /// The lists of the worked example, the newest first. Of the two versions of c at 7 that of the
 /// first list comes first.
 const LISTS: &[&[Row]] = &[
-    &[Row(b'a', 9, V), Row(b'a', 5, V), Row(b'b', 6, T), Row(b'c', 7, V)],
-    &[Row(b'a', 3, V), Row(b'b', 2, V), Row(b'c', 7, V), Row(b'd', 1, V)],
+    &[
+        Row(b'a', 9, V),
+        Row(b'a', 5, V),
+        Row(b'b', 6, T),
+        Row(b'c', 7, V),
+    ],
+    &[
+        Row(b'a', 3, V),
+        Row(b'b', 2, V),
+        Row(b'c', 7, V),
+        Row(b'd', 1, V),
+    ],
     &[],
     &[Row(b'd', 4, W), Row(b'e', 8, V)],
 ];
@@ -83,33 +93,55 @@ fn snapshots_see_what_reads_see(rt: HostRuntime) -> Tested {
 
 /// What a compaction keeps of the worked lists: for a snapshot, above and at the bottom level.
 const COMPACTIONS: &[(u64, bool, &[Wanted])] = &[
-    (7, false, &[
-        (b'a', 9, 0),
-        (b'a', 5, 0),
-        (b'b', 6, 255),
-        (b'c', 7, 0),
-        (b'c', 7, 1),
-        (b'd', 4, 255),
-        (b'e', 8, 3),
-    ]),
-    (7, true, &[(b'a', 9, 0), (b'a', 5, 0), (b'c', 7, 0), (b'c', 7, 1), (b'e', 8, 3)]),
+    (
+        7,
+        false,
+        &[
+            (b'a', 9, 0),
+            (b'a', 5, 0),
+            (b'b', 6, 255),
+            (b'c', 7, 0),
+            (b'c', 7, 1),
+            (b'd', 4, 255),
+            (b'e', 8, 3),
+        ],
+    ),
+    (
+        7,
+        true,
+        &[
+            (b'a', 9, 0),
+            (b'a', 5, 0),
+            (b'c', 7, 0),
+            (b'c', 7, 1),
+            (b'e', 8, 3),
+        ],
+    ),
     (u64::MAX, true, &[(b'a', 9, 0), (b'c', 7, 0), (b'e', 8, 3)]),
-    (u64::MAX, false, &[
-        (b'a', 9, 0),
-        (b'b', 6, 255),
-        (b'c', 7, 0),
-        (b'd', 4, 255),
-        (b'e', 8, 3),
-    ]),
-    (6, true, &[
-        (b'a', 9, 0),
-        (b'a', 5, 0),
-        (b'b', 6, 255),
-        (b'b', 2, 1),
-        (b'c', 7, 0),
-        (b'c', 7, 1),
-        (b'e', 8, 3),
-    ]),
+    (
+        u64::MAX,
+        false,
+        &[
+            (b'a', 9, 0),
+            (b'b', 6, 255),
+            (b'c', 7, 0),
+            (b'd', 4, 255),
+            (b'e', 8, 3),
+        ],
+    ),
+    (
+        6,
+        true,
+        &[
+            (b'a', 9, 0),
+            (b'a', 5, 0),
+            (b'b', 6, 255),
+            (b'b', 2, 1),
+            (b'c', 7, 0),
+            (b'c', 7, 1),
+            (b'e', 8, 3),
+        ],
+    ),
 ];
 
 #[test]
