@@ -1,5 +1,6 @@
 // Sources that fail: the error passes through, and what was held is not lost.
-ghost use Rattle.std.specs.Prelude.{None};
+ghost use Rattle.std.specs.Prelude.{None, length};
+ghost use Rattle.std.specs.Vec.Iter.{into_iter_items};
 
 use crate::Tested;
 use crate::lists::{Memory, Row, V, list_of};
@@ -15,7 +16,7 @@ struct Failing {
 }
 
 impl Source<InternalValue> for Failing {
-    ghost left = { λ s. record { list = None; most = (Memory.left s.source).most } };
+    ghost left = { λ s. record { list = None; most = length (into_iter_items s.source) } };
 
     fn next_entry(&mut self, alloc: Global) -> Result<Option<InternalValue>> {
         if self.steps == 0 {

@@ -80,7 +80,7 @@ fn seen(tables: &Tables, key: u8, seqno: u64) -> Option<u64> {
 fn lists_of(alloc: Global, tables: &Tables) -> Result<Vec<Vec<InternalValue>>> {
     let mut lists = Vec::new(alloc);
     for (number, table) in tables.iter().enumerate() {
-        lists.push(list_of(alloc, table, number as u8)?)?;
+        lists.push(list_of(alloc, table, u8::try_from(number).unwrap_or(u8::MAX))?)?;
     }
     Ok(lists)
 }
