@@ -14,7 +14,7 @@ pub record IsHeldAt {X P : Type 0} (item_of : List ℕ → P → X) (is_found : 
   pub there : slice_get list.items place ≡ Some (item_of list.payload l.item)
   pub found : is_found list.payload l.item
   pub next : l.after.index ≡ place + 1
-  pub stands : IsPlace kind list l.after
+  pub is_place : IsPlace kind list l.after
 
 -- the same, with how its key compares with a needle
 pub record IsCandidateAt {X P : Type 0} (item_of : List ℕ → P → X) (is_found : List ℕ → P → Type 0) (kind : Kind X) (needle : List ℕ) (list : Listed X) (place : ℕ) (l : Candidate P) : Type 0 where

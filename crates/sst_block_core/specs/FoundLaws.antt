@@ -17,8 +17,8 @@ pub range_some : (bytes : List ℕ) (range : SliceIndexes) → range.0 ≤ range
 range_some bytes range h k ne = let l = length-range bytes range h k in lt-ltb _ _ (omega (arith, l, some_between range.0 range.1 h ne))
 
 -- the bytes of a range are encoded at its start
-pub range_stands : (bytes : List ℕ) (range : SliceIndexes) → range.0 ≤ range.1 → range.1 ≤ length bytes → IsEncodedAt bytes range.0 (range_of bytes range)
-range_stands bytes range h k = record {
+pub range_encoded : (bytes : List ℕ) (range : SliceIndexes) → range.0 ≤ range.1 → range.1 ≤ length bytes → IsEncodedAt bytes range.0 (range_of bytes range)
+range_encoded bytes range h k = record {
   inside = omega arith;
   after = drop (range.1 - range.0) (drop range.0 bytes);
   there = sym (take-append-drop (range.1 - range.0) (drop range.0 bytes));

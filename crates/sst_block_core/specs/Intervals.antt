@@ -82,7 +82,7 @@ pub record IsEntered {X : Type 0} (kind : Kind X) (needle : List ℕ) (from : Op
   pub there : slice_get list.items index ≡ Some head
   pub passed : passes needle from (kind.key head) (kind.seqno head) ≡ true
   pub shared_is : shared ≡ shared_prefix_length (kind.key head) needle
-  pub stands : IsPlaceAfter kind list at (kind.key head)
+  pub is_place : IsPlaceAfter kind list at (kind.key head)
   pub reached : at.index ≤ count_passed kind needle from list.items
   pub upto : at.index ≤ end
   pub inside : end ≤ length list.items

@@ -7,7 +7,7 @@ use Rattle.sst_block_core.specs.declared.table.block.place.Place.{Place}
 -- a place is the place of an item of a block, not the place after the last item
 pub record IsItemPlace {X : Type 0} (kind : Kind X) (list : Listed X) (at : Place) : Type 0 where
   pub inside : at.index < length list.items
-  pub stands : IsPlace kind list at
+  pub is_place : IsPlace kind list at
 
 -- what was decoded is the item at an index of a list, and its ranges lie in the payload
 pub record IsItemAt {X P : Type 0} (item_of : List ℕ → P → X) (is_found : List ℕ → P → Type 0) (list : Listed X) (index : ℕ) (p : P) : Type 0 where

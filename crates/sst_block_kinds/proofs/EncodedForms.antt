@@ -83,9 +83,9 @@ module _ (bytes : List ℕ) (t : ValueType) (a : List ℕ) (type_is : value_type
           form_whole v e value_is = rw (type_is, seqno_is, shared_is, rest_is, value_is) refl
 
 -- where a truncated form is encoded after a head with this key, a truncated form is encoded, whatever the head
-pub form_stands : (base bytes : List ℕ) → IsSome (truncated_at base bytes) → IsSome (truncated_form_at bytes)
+pub form_some : (base bytes : List ℕ) → IsSome (truncated_at base bytes) → IsSome (truncated_form_at bytes)
 unfolding truncated_at
-form_stands base bytes h = chain_first (truncated_form_at bytes) _ h
+form_some base bytes h = chain_first (truncated_form_at bytes) _ h
 
 -- what a truncated form says of the key after its head: the length of the shared prefix, and the rest
 pub form_key : (base bytes : List ℕ) (t : Truncated) (end : List ℕ) (x : Entry) (rest : List ℕ) → truncated_form_at bytes ≡ Some (t, end) → truncated_at base bytes ≡ Some (x, rest)

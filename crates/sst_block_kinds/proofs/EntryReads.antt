@@ -94,12 +94,12 @@ truncated_parts base bytes x rest h =
 -- a prefix of the bytes at an offset, by its range
 pub range_of-front : (payload : List ℕ) (offset n : ℕ) (base : List ℕ) → IsEncodedAt payload offset base → n ≤ length base
     → (offset + n ≤ length payload) × (range_of payload (record { 0 = offset; 1 = offset + n }) ≡ take n base)
-range_of-front payload offset n base stands h =
+range_of-front payload offset n base encoded h =
     let d = length-drop offset payload in
-    let l = ap length stands.there ∙ length-append base stands.after in
-    let inside = stands.inside in
+    let l = ap length encoded.there ∙ length-append base encoded.after in
+    let inside = encoded.inside in
     let e : (offset + n) - offset ≡ n = omega arith in
-    (omega arith, ap (λ k. take k (drop offset payload)) e ∙ ap (take n) stands.there ∙ take-append-le n base stands.after h)
+    (omega arith, ap (λ k. take k (drop offset payload)) e ∙ ap (take n) encoded.there ∙ take-append-le n base encoded.after h)
 
 pub key_and_seqno : (bytes : List ℕ) (x : Entry) (p : FullParts bytes x) (t : ValueType) (a : List ℕ) (n : ℕ) (b k c : List ℕ)
     → value_type_at bytes ≡ Some (t, a) → number_at 64 a ≡ Some (n, b) → length_prefixed_at 16 b ≡ Some (k, c) → (k ≡ x.key.user_key) × (n ≡ x.key.seqno)
@@ -117,7 +117,7 @@ parsed_of base_offset f = record { value_type = f.value_type; seqno = f.seqno; p
 pub truncated_found : (payload bytes base : List ℕ) (base_offset end : ℕ) (f : TruncatedForm) (x : Entry) (rest : List ℕ) → IsEncodedAt payload base_offset base
     → IsRange payload f.key → truncated_at base bytes ≡ Some (x, rest) → truncated_form_at bytes ≡ Some (truncated_of payload f, drop end payload)
     → (base_offset + f.shared ≤ length payload) × IsKeyLength (f.shared + (f.key.1 - f.key.0)) × (entry_of payload (parsed_of base_offset f) ≡ x) × (drop end payload ≡ rest)
-truncated_found payload bytes base base_offset end f x rest stands range read form =
+truncated_found payload bytes base base_offset end f x rest encoded range read form =
     let p = truncated_parts base bytes x rest read in
     let s = one_reading (truncated_form_at bytes) (p.said, rest) (truncated_of payload f) (drop end payload) p.form_is form in
     let n : p.said.shared ≡ f.shared = ap (λ (t : Truncated). t.shared) s.0 in
@@ -125,7 +125,7 @@ truncated_found payload bytes base base_offset end f x rest stands range read fo
     let inside = p.inside in
     let some = p.some in
     let most = p.most in
-    let front = range_of-front payload base_offset f.shared base stands (omega arith) in (
+    let front = range_of-front payload base_offset f.shared base encoded (omega arith) in (
       front.0,
       (omega arith, omega arith),
       (λ i. record { key = record { user_key = front.1 i ++ range_of payload f.key; seqno = f.seqno; value_type = f.value_type }; value = optional_range payload f.value })
@@ -140,12 +140,12 @@ pub truncated_read : (payload bytes base : List ℕ) (base_offset end : ℕ) (f 
     → truncated_form_at bytes ≡ Some (truncated_of payload f, drop end payload)
     → truncated_at base bytes ≡ Some (entry_of payload (record { value_type = f.value_type; seqno = f.seqno; prefix = Some prefix; key = f.key; value = f.value }), drop end payload)
 unfolding truncated_at
-truncated_read payload bytes base base_offset end f prefix stands range is fits longest form =
+truncated_read payload bytes base base_offset end f prefix encoded range is fits longest form =
     let n = f.shared in
     let rest = range_of payload f.key in
     let len : prefix.1 - prefix.0 ≡ n = ap (λ (p : SliceIndexes). p.1 - p.0) is ∙ (let e : (base_offset + n) - base_offset ≡ n = omega arith in e) in
     let inside = (shared_prefix_inside base (range_of payload prefix ++ rest)).0 in
-    let front = range_of-front payload base_offset n base stands (omega (arith, len, longest, inside)) in
+    let front = range_of-front payload base_offset n base encoded (omega (arith, len, longest, inside)) in
     let same : range_of payload prefix ≡ take n base = ap (range_of payload) is ∙ front.1 in
     let shared : shared_prefix_length base (take n base ++ rest) ≡ n = ap (λ k. shared_prefix_length base (k ++ rest)) (sym same) ∙ sym longest ∙ len in
     let l : length (take n base ++ rest) ≡ n + (f.key.1 - f.key.0) =
@@ -160,6 +160,6 @@ truncated_read payload bytes base base_offset end f prefix stands range is fits 
 -- no truncated form begins with the marker
 pub marker_truncated : (payload : List ℕ) (offset : ℕ) (t : Truncated × List ℕ) → IsEncodedAt payload offset (255 ∷ []) → truncated_form_at (drop offset payload) ≡ Some t → ⊥
 unfolding truncated_form_at
-marker_truncated payload offset t stands form =
-    let none : truncated_form_at (drop offset payload) ≡ None = ap truncated_form_at stands.there in
+marker_truncated payload offset t encoded form =
+    let none : truncated_form_at (drop offset payload) ≡ None = ap truncated_form_at encoded.there in
     no_reading (truncated_form_at (drop offset payload)) t form none

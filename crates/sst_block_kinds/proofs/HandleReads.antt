@@ -18,9 +18,9 @@ use Rattle.sst_block_core.specs.FoundLaws.{length-range}
 use Rattle.sst_block_kinds.proofs.EntryReads.{no_reading, range_of-front}
 
 -- where the fields of a handle are encoded, so is its marker
-pub marker_stands : (at : ℕ) (payload : List ℕ) → IsSome (fields_at (drop at payload)) → (at < length payload) × (marker_at (drop at payload) ≡ Some (drop (at + 1) payload))
+pub marker_some : (at : ℕ) (payload : List ℕ) → IsSome (fields_at (drop at payload)) → (at < length payload) × (marker_at (drop at payload) ≡ Some (drop (at + 1) payload))
 unfolding fields_at
-marker_stands at payload whole =
+marker_some at payload whole =
     let v = some_value (marker_at (drop at payload)) (chain_first (marker_at (drop at payload)) _ whole) in
     elim (cases_lt at (length payload)) [
       | inr past ↦ absurd (no_reading (marker_at (drop at payload)) v.0 v.1 (ap marker_at (drop_all at payload past)))
@@ -135,11 +135,11 @@ module _ (bytes : List ℕ) (f : Fields) (a : List ℕ) (front_is : fields_at by
 -- no form begins with the marker of the trailer
 pub marker_ends : (payload : List ℕ) (offset : ℕ) (t : Fields × List ℕ) → IsEncodedAt payload offset (255 ∷ []) → fields_at (drop offset payload) ≡ Some t → ⊥
 unfolding fields_at
-marker_ends payload offset t stands form =
-    let none : fields_at (drop offset payload) ≡ None = ap fields_at stands.there in
+marker_ends payload offset t encoded form =
+    let none : fields_at (drop offset payload) ≡ None = ap fields_at encoded.there in
     no_reading (fields_at (drop offset payload)) t form none
 
-module _ (payload bytes base : List ℕ) (base_offset end n : ℕ) (f : Fields) (a b : List ℕ) (key : SliceIndexes) (stands : IsEncodedAt payload base_offset base) (range : IsRange payload key)
+module _ (payload bytes base : List ℕ) (base_offset end n : ℕ) (f : Fields) (a b : List ℕ) (key : SliceIndexes) (encoded : IsEncodedAt payload base_offset base) (range : IsRange payload key)
     (front_is : fields_at bytes ≡ Some (f, a)) (shared_is : number_at 16 a ≡ Some (n, b)) (rest_is : length_prefixed_at 16 b ≡ Some (range_of payload key, drop end payload)) where
   -- where a truncated form is encoded after a head, the parser returns its prefix and its handle
   pub truncated_found : (x : Handle) (rest : List ℕ) → truncated_at base bytes ≡ Some (x, rest)
@@ -152,7 +152,7 @@ module _ (payload bytes base : List ℕ) (base_offset end n : ℕ) (f : Fields) 
       let longest = k.0 in
       let most = k.1 in
       let inside : n ≤ length base = let s = (shared_prefix_inside base (take n base ++ r)).0 in omega (arith, s, longest) in
-      let prefix = range_of-front payload base_offset n base stands inside in
+      let prefix = range_of-front payload base_offset n base encoded inside in
       let l : length (take n base ++ r) ≡ n + (key.1 - key.0) = let m = length-take-le n base inside in let o = length-range payload key range.order range.inside in omega (arith, length-append (take n base) r, m, o) in (
         prefix.0,
         omega (arith, l, most),
@@ -169,7 +169,7 @@ module _ (payload bytes base : List ℕ) (base_offset end n : ℕ) (f : Fields) 
       let r = range_of payload key in
       let len : prefix.1 - prefix.0 ≡ n = ap (λ (p : SliceIndexes). p.1 - p.0) is ∙ (let e : (base_offset + n) - base_offset ≡ n = omega arith in e) in
       let inside : n ≤ length base = let s = (shared_prefix_inside base (range_of payload prefix ++ r)).0 in omega (arith, len, longest, s) in
-      let fields' = range_of-front payload base_offset n base stands inside in
+      let fields' = range_of-front payload base_offset n base encoded inside in
       let same : range_of payload prefix ≡ take n base = ap (range_of payload) is ∙ fields'.1 in
       let shared : shared_prefix_length base (take n base ++ r) ≡ n = ap (λ k. shared_prefix_length base (k ++ r)) (sym same) ∙ sym longest ∙ len in
       let l : length (take n base ++ r) ≡ n + (key.1 - key.0) = let m = length-take-le n base inside in let o = length-range payload key range.order range.inside in omega (arith, length-append (take n base) r, m, o) in

@@ -25,8 +25,8 @@ module _ (payload : List ℕ) (base_offset n : ℕ) (prefix : SliceIndexes) (is 
       let inside = range.inside in
       length-take-le (prefix.1 - prefix.0) (drop base_offset payload) (omega (arith, start, inside, length-drop base_offset payload))
 
-  pub own_stands : IsEncodedAt payload base_offset own_base
-  own_stands = record {
+  pub own_encoded : IsEncodedAt payload base_offset own_base
+  own_encoded = record {
     inside = let start : prefix.0 ≡ base_offset = ap (λ (p : SliceIndexes). p.0) is in let order = range.order in let inside = range.inside in omega (arith, start, order, inside);
     after = drop (prefix.1 - prefix.0) (drop base_offset payload);
     there = sym (take-append-drop (prefix.1 - prefix.0) (drop base_offset payload));

@@ -142,7 +142,7 @@ impl ShortBytes {
 
 // Copies an array over the bytes from an index.
 #[inline(always)]
-fn put_chunk(wide: &mut [u8; WIDE_LEN], at: usize, chunk: &[u8; SHORT_LEN])
+fn put_array(wide: &mut [u8; WIDE_LEN], at: usize, chunk: &[u8; SHORT_LEN])
     requires { at ≤ 40 }
     ensures { wide.new ≡ take at wide.old ++ (chunk.now ++ drop (at + 40) wide.old) }
 {
@@ -171,8 +171,8 @@ fn joined_chunks(
     ensures { result ≡ take left_len left.now ++ take right_len right.now }
 {
     let mut wide = [0u8; WIDE_LEN];
-    put_chunk(&mut wide, 0, left);
-    put_chunk(&mut wide, left_len, right);
+    put_array(&mut wide, 0, left);
+    put_array(&mut wide, left_len, right);
     ShortBytes {
         len: (left_len + right_len) as u32,
         bytes: first_half(&wide),

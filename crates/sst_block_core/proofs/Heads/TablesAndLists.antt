@@ -88,8 +88,8 @@ module _ {X : Type 0} (kind : Kind X) (list : Listed X) (pos : 0 < list.interval
         omega (arith, up, reach)
 
 -- the range of a key that is encoded in a payload
-pub stands_range : (payload key own : List ℕ) (start n : ℕ) → IsEncodedAt payload start key → own ≡ drop n key → n ≡ 0 → IsRange payload (start, start + length own) × (range_of payload (start, start + length own) ≡ key)
-stands_range payload key own start n s e z =
+pub encoded_range : (payload key own : List ℕ) (start n : ℕ) → IsEncodedAt payload start key → own ≡ drop n key → n ≡ 0 → IsRange payload (start, start + length own) × (range_of payload (start, start + length own) ≡ key)
+encoded_range payload key own start n s e z =
     let same : own ≡ key = e ∙ ap (λ m. drop m key) z in
     let l : length (drop start payload) ≡ length key + length s.after = ap length s.there ∙ length-append key s.after in
     let d = length-drop start payload in

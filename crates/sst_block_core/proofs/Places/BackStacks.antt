@@ -21,10 +21,10 @@ module _ {X : Type 0} (kind : Kind X) (list : Listed X) where
   -- a head's place is a place with any base
   pub any_base : (at other : Place) → other.index ≡ at.index → other.offset ≡ at.offset → other.phase ≡ 0 → at.phase ≡ 0 → IsPlace kind list at → IsPlace kind list other
   any_base at other p o z q s =
-      let b = s.stands in
+      let b = s.is_place in
       record {
         head = s.head;
-        stands = record {
+        is_place = record {
           phase = z ∙ sym q ∙ b.phase ∙ ap (λ n. n % list.interval) (sym p);
           base = λ some. absurd (omega (arith, some, z));
           behind = subst (λ n. IsFormOffset kind list n other.offset s.head) (sym p) (subst (λ n. IsFormOffset kind list at.index n s.head) (sym o) b.behind);

@@ -15,12 +15,12 @@ use Rattle.sst_block_core.specs.Found.{Takes, range_of}
 use Rattle.sst_block_core.proofs.Places.OffsetReads.{number_some}
 
 -- where a number is encoded, a varint is
-varint_stands : (bits : ℕ) (bytes : List ℕ) → IsSome (number_at bits bytes) → IsSome (varint_at bits bytes)
+varint_some : (bits : ℕ) (bytes : List ℕ) → IsSome (number_at bits bytes) → IsSome (varint_at bits bytes)
 unfolding number_at
-varint_stands bits bytes h = chain_first (varint_at bits bytes) _ h
+varint_some bits bytes h = chain_first (varint_at bits bytes) _ h
 
-none_stands : {A : Type 0} (o : Option A) → IsSome o → None ≡ o → ⊥
-none_stands o h e = let q = subst IsSome (sym e) h in cc (q)
+none_some : {A : Type 0} (o : Option A) → IsSome o → None ≡ o → ⊥
+none_some o h e = let q = subst IsSome (sym e) h in cc (q)
 
 no_varint : (bits : ℕ) → varint_at bits [] ≡ None
 unfolding varint_at varint_up_to
@@ -50,12 +50,12 @@ width_most bits w = elim w [
   ]
 ]
 
-module _ (bits at : ℕ) (bytes : List ℕ) (stands : IsSome (number_at bits (drop at bytes))) where
+module _ (bits at : ℕ) (bytes : List ℕ) (encoded : IsSome (number_at bits (drop at bytes))) where
   -- where a varint is encoded, there is a byte
   pub first_inside : at < length bytes
   first_inside = elim (cases_lt at (length bytes)) [
     | inl less ↦ less
-    | inr past ↦ absurd (none_stands (varint_at bits (drop at bytes)) (varint_stands bits (drop at bytes) stands) (sym (ap (varint_at bits) (drop_all at bytes past) ∙ no_varint bits)))
+    | inr past ↦ absurd (none_some (varint_at bits (drop at bytes)) (varint_some bits (drop at bytes) encoded) (sym (ap (varint_at bits) (drop_all at bytes past) ∙ no_varint bits)))
   ]
 
   module _ (width : IsWidth bits) (b d : ℕ) (first : b ≡ get_or bytes at d) where
@@ -91,7 +91,7 @@ module _ (bits at : ℕ) (bytes : List ℕ) (stands : IsSome (number_at bits (dr
       | inl less ↦ less
       | inr past ↦
           let l = length-drop at bytes in
-          absurd (none_stands (varint_at bits (drop at bytes)) (varint_stands bits (drop at bytes) stands)
+          absurd (none_some (varint_at bits (drop at bytes)) (varint_some bits (drop at bytes) encoded)
           (digits_end (drop at bytes) len sum scale read.room (varint_at bits (drop at bytes)) read.rest (omega arith)))
     ]
 
@@ -103,19 +103,19 @@ module _ (bits at : ℕ) (bytes : List ℕ) (stands : IsSome (number_at bits (dr
       next_is = next ∙ get_or_default bytes (at + len) d 0 next_inside ∙ sym (get_or-drop at bytes len 0)
 
       some_varint : IsSome (varint_at bits (drop at bytes))
-      some_varint = varint_stands bits (drop at bytes) stands
+      some_varint = varint_some bits (drop at bytes) encoded
 
       some_room : 128 ≤ b → 128 ≤ read.room
       some_room large = elim (cases_lt read.room 128) [
-        | inl full ↦ absurd (none_stands (varint_at bits (drop at bytes)) some_varint (digits_full (drop at bytes) len sum scale read.room (varint_at bits (drop at bytes)) read.rest b there next_is large full))
+        | inl full ↦ absurd (none_some (varint_at bits (drop at bytes)) some_varint (digits_full (drop at bytes) len sum scale read.room (varint_at bits (drop at bytes)) read.rest b there next_is large full))
         | inr room ↦ room
       ]
 
       last_room : b < 128 → (0 < b) × (b ≤ read.room)
       last_room small = elim (cases_lt 0 b) [
-        | inr zero' ↦ absurd (none_stands (varint_at bits (drop at bytes)) some_varint (digits_zero (drop at bytes) len sum scale read.room (varint_at bits (drop at bytes)) read.rest b there next_is (omega arith)))
+        | inr zero' ↦ absurd (none_some (varint_at bits (drop at bytes)) some_varint (digits_zero (drop at bytes) len sum scale read.room (varint_at bits (drop at bytes)) read.rest b there next_is (omega arith)))
         | inl some ↦ elim (cases_lt read.room b) [
-          | inl wide ↦ absurd (none_stands (varint_at bits (drop at bytes)) some_varint (digits_wide (drop at bytes) len sum scale read.room (varint_at bits (drop at bytes)) read.rest b there next_is small wide))
+          | inl wide ↦ absurd (none_some (varint_at bits (drop at bytes)) some_varint (digits_wide (drop at bytes) len sum scale read.room (varint_at bits (drop at bytes)) read.rest b there next_is small wide))
           | inr room ↦ (some, room)
         ]
       ]
@@ -157,10 +157,10 @@ module _ (bits at : ℕ) (bytes : List ℕ) (stands : IsSome (number_at bits (dr
           (omega (arith, pow_pos bits), omega (arith, pow_pos bits))
 
 -- the bytes after a length are there
-length_stands : (bits : ℕ) (bytes : List ℕ) (n : ℕ) (rest : List ℕ) → number_at bits bytes ≡ Some (n, rest) → IsSome (length_prefixed_at bits bytes)
+length_some : (bits : ℕ) (bytes : List ℕ) (n : ℕ) (rest : List ℕ) → number_at bits bytes ≡ Some (n, rest) → IsSome (length_prefixed_at bits bytes)
     → (n ≤ length rest) × (length_prefixed_at bits bytes ≡ Some (take n rest, drop n rest))
 unfolding length_prefixed_at
-length_stands bits bytes n rest e h =
+length_some bits bytes n rest e h =
     let q = chain_next (number_at bits bytes) _ (n, rest) e h in
     elim (cases_lt (length rest) n) [
       | inl far ↦ (let r = rw (lt-leb n (length rest) far) at q in cc (r))
@@ -176,7 +176,7 @@ length_first bits bytes h = chain_first (number_at bits bytes) _ h
 pub length_range : (bits : ℕ) (payload bytes : List ℕ) (n start : ℕ) → start ≤ length payload → number_at bits bytes ≡ Some (n, drop start payload) → IsSome (length_prefixed_at bits bytes)
     → (start + n ≤ length payload) × (length_prefixed_at bits bytes ≡ Some (range_of payload (record { 0 = start; 1 = start + n }), drop (start + n) payload))
 length_range bits payload bytes n start inside e h =
-    let t = length_stands bits bytes n (drop start payload) e h in
+    let t = length_some bits bytes n (drop start payload) e h in
     let l = length-drop start payload in
     let fits = t.0 in
     let w : (start + n) - start ≡ n = omega arith in

@@ -121,7 +121,7 @@ module _ {X : Type 0} (kind : Kind X) (valid : X → Type 0) (laws : IsKind kind
             sym (place_plain kind r block.interval.some valid laws items (j * r)) ∙ (λ i. place_offset kind (sym same i) (sym all.1 i) (j * sym same i)) ∙ sym (pointer j h) in
             record {
               head = [];
-              stands = record {
+              is_place = record {
                 phase = sym (mul-mod_left j t.interval);
                 base = λ some. absurd (omega (arith, some));
                 behind = (subst (λ f. IsFormOffset kind (record { payload = p; interval = t.interval; items = items_in kind p }) (j * t.interval) f []) offset
@@ -159,9 +159,9 @@ module _ {X : Type 0} (kind : Kind X) (valid : X → Type 0) (laws : IsKind kind
       (indexed_from kind valid laws some.0 p some.1 some.2 some.3 some.4 room))))
 
 -- the first item is encoded at the start
-pub first_stands : {X : Type 0} (kind : Kind X) (list : Listed X) (ps : List ℕ) (n : ℕ) → IsIndexed kind list ps n → IsPlace kind list (record { index = 0; phase = 0; offset = 0; base = 0 })
+pub first_is_place : {X : Type 0} (kind : Kind X) (list : Listed X) (ps : List ℕ) (n : ℕ) → IsIndexed kind list ps n → IsPlace kind list (record { index = 0; phase = 0; offset = 0; base = 0 })
 unfolding body
-first_stands kind list ps n i =
+first_is_place kind list ps n i =
     let some = i.listed.some in
     let z : 0 * list.interval ≡ 0 = omega arith in
     let h : 0 * list.interval < length list.items = omega (arith, some, z) in
@@ -170,13 +170,13 @@ first_stands kind list ps n i =
     (subst (λ n. IsPlace kind list (record { index = n; phase = 0; offset = slice_index ps 0; base = 0 })) z (i.are_heads 0 h))
 
 -- after the last item nothing is read, at any offset
-pub last_stands : {X : Type 0} (kind : Kind X) (list : Listed X) (place phase : ℕ) → place ≡ length list.items → phase ≡ place % list.interval → IsPlace kind list (record { index = place; phase = phase; offset = 0; base = 0 })
+pub last_is_place : {X : Type 0} (kind : Kind X) (list : Listed X) (place phase : ℕ) → place ≡ length list.items → phase ≡ place % list.interval → IsPlace kind list (record { index = place; phase = phase; offset = 0; base = 0 })
 unfolding items_at
-last_stands kind list place phase e p =
+last_is_place kind list place phase e p =
     let none : length list.items - place ≡ 0 = omega arith in
     record {
       head = [];
-      stands = record {
+      is_place = record {
         phase = p;
         base = λ _. record { inside = omega arith; after = list.payload; there = refl };
         behind = record {

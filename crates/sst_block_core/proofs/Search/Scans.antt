@@ -79,7 +79,7 @@ module _ {X : Type 0} (kind : Kind X) (needle : List ℕ) (from : Option ℕ) (l
   -- after a head that passes a search has reached the next place
   pub enters : (at : Place) (alike end : ℕ) → 0 < list.interval → passes needle from (kind.key x) (kind.seqno x) ≡ true → at.index ≡ j * list.interval + 1 → IsPlaceAfter kind list at (kind.key x)
       → alike ≡ shared_prefix_length (kind.key x) needle → end ≡ min (length list.items) ((j + 1) * list.interval) → IsEntered kind needle from list at alike end
-  enters at alike end pos passed place_is stands alike_is end_is =
+  enters at alike end pos passed place_is is_place alike_is end_is =
       let below = passed_below kind needle from list.items ordered (j * list.interval) x there passed in
       let row : (j + 1) * list.interval ≡ j * list.interval + list.interval = omega arith in
       record {
@@ -89,7 +89,7 @@ module _ {X : Type 0} (kind : Kind X) (needle : List ℕ) (from : Option ℕ) (l
         there = there;
         passed = passed;
         shared_is = alike_is;
-        stands = stands;
+        is_place = is_place;
         reached = omega (arith, below, place_is);
         upto = omega (arith, place_is, end_is, row, pos, inside);
         inside = omega (arith, end_is);
@@ -123,7 +123,7 @@ module _ {X : Type 0} (kind : Kind X) (needle : List ℕ) (from : Option ℕ) (l
 
       -- where it does, the search has reached the next place
       pub goes_on : (next : Place) → at.index < end → passes_cmp order from seqno ≡ true → next.index ≡ at.index + 1 → IsPlaceAfter kind list next (kind.key e.head) → IsEntered kind needle from list next alike end
-      goes_on next more passed place_is stands =
+      goes_on next more passed place_is is_place =
           let below = passed_below kind needle from list.items ordered at.index x there (sym test_is ∙ passed) in
           let b = e.before in
           record {
@@ -133,7 +133,7 @@ module _ {X : Type 0} (kind : Kind X) (needle : List ℕ) (from : Option ℕ) (l
             there = e.there;
             passed = e.passed;
             shared_is = e.shared_is;
-            stands = stands;
+            is_place = is_place;
             reached = omega (arith, below, place_is);
             upto = omega (arith, more, place_is);
             inside = e.inside;

@@ -143,7 +143,7 @@ pub trait Decodable<Parsed: ParsedItem<Self>>: BlockItem + Sized {
             ≡ shared_prefix_length base (Self.kind.key (Parsed.item_of payload.now f.0))
             → Self.kind.truncated_at base (drop offset payload.now)
             ≡ Some (Parsed.item_of payload.now f.0, drop f.1 payload.now)) }
-        ensures stands { IfSome result
+        ensures encoded { IfSome result
             (λ f. Self.kind.truncated_at
             (take (Parsed.shared_len f.0) (drop base_key_offset payload.now))
             (drop offset payload.now)

@@ -151,7 +151,7 @@ impl<'a, Item: Decodable<Parsed>, Parsed: ParsedItem<Item>> Intervals<'a, Item, 
     #[inline(always)]
     pub(crate) fn first(&self) -> Place
         ensures place { result.index ≡ 0 }
-        ensures stands { IsPlace Item.kind self.now.list result }
+        ensures is_place { IsPlace Item.kind self.now.list result }
     {
         // The proof needs that the first pointer is 0.
         let _pointers = self.pointers.len();
@@ -169,7 +169,7 @@ impl<'a, Item: Decodable<Parsed>, Parsed: ParsedItem<Item>> Intervals<'a, Item, 
         requires { j * self.now.list.interval < length self.now.list.items }
         ensures place { result.index ≡ j * self.now.list.interval }
         ensures phase { result.phase ≡ 0 }
-        ensures stands { IsPlace Item.kind self.now.list result }
+        ensures is_place { IsPlace Item.kind self.now.list result }
         ensures offset { result.offset
             ≡ place_offset Item.kind self.now.list.interval self.now.list.items
             (j * self.now.list.interval) }
@@ -208,7 +208,7 @@ impl<'a, Item: Decodable<Parsed>, Parsed: ParsedItem<Item>> Intervals<'a, Item, 
     #[inline(always)]
     pub(crate) fn end(&self) -> Place
         ensures place { result.index ≡ length self.now.list.items }
-        ensures stands { IsPlace Item.kind self.now.list result }
+        ensures is_place { IsPlace Item.kind self.now.list result }
     {
         let index = self.item_count();
         Place {
@@ -226,7 +226,7 @@ impl<'a, Item: Decodable<Parsed>, Parsed: ParsedItem<Item>> Intervals<'a, Item, 
         requires { j ≤ head_count self.now.list.interval (length self.now.list.items) }
         ensures place { result.index
             ≡ min (length self.now.list.items) (j * self.now.list.interval) }
-        ensures stands { IsPlace Item.kind self.now.list result }
+        ensures is_place { IsPlace Item.kind self.now.list result }
     {
         if j < self.count() {
             self.start(j)
@@ -246,7 +246,7 @@ impl<'a, Item: Decodable<Parsed>, Parsed: ParsedItem<Item>> Intervals<'a, Item, 
             ≡ place_offset Item.kind self.now.list.interval self.now.list.items
             (j * self.now.list.interval)
             → result.index ≡ j * self.now.list.interval }
-        ensures stands { IsPlace Item.kind self.now.list result }
+        ensures is_place { IsPlace Item.kind self.now.list result }
     {
         let mut left = 0;
         let mut right = self.count();
@@ -302,7 +302,7 @@ impl<'a, Item: Decodable<Parsed>, Parsed: ParsedItem<Item>> Intervals<'a, Item, 
         ensures item { IsItemAt Parsed.item_of Parsed.is_found self.old.list at.old.index result }
         ensures shared { Parsed.shared_len result ≡ 0 }
         ensures place { at.new.index ≡ at.old.index + 1 }
-        ensures stands { IsPlaceAfter Item.kind self.old.list at.new
+        ensures is_place { IsPlaceAfter Item.kind self.old.list at.new
             (Item.kind.key (Parsed.item_of self.old.list.payload result)) }
         ensures counts { CountsExactly self.old.steps self.new.steps 0 1 }
     {
@@ -321,7 +321,7 @@ impl<'a, Item: Decodable<Parsed>, Parsed: ParsedItem<Item>> Intervals<'a, Item, 
         ensures item { IsItemAt Parsed.item_of Parsed.is_found self.old.list at.old.index result }
         ensures place { at.new.index ≡ at.old.index + 1 }
         ensures base { at.new.base ≡ at.old.base }
-        ensures stands { (head : List ℕ) → IsPlaceAfter Item.kind self.old.list at.old head
+        ensures is_place { (head : List ℕ) → IsPlaceAfter Item.kind self.old.list at.old head
             → IsPlaceAfter Item.kind self.old.list at.new head
             × (Parsed.shared_len result
             ≡ shared_prefix_length head
@@ -371,7 +371,7 @@ impl<'a, Item: Decodable<Parsed>, Parsed: ParsedItem<Item>> Intervals<'a, Item, 
         ensures list { self.new.list ≡ self.old.list }
         ensures item { IsItemAt Parsed.item_of Parsed.is_found self.old.list at.old.index result }
         ensures place { at.new.index ≡ at.old.index + 1 }
-        ensures stands { IsPlace Item.kind self.old.list at.new }
+        ensures is_place { IsPlace Item.kind self.old.list at.new }
         ensures counts { CountsExactly self.old.steps self.new.steps 0 1 }
     {
         if at.phase == 0 {

@@ -105,7 +105,7 @@ impl<'a, Item: Decodable<Parsed>, Parsed: ParsedItem<Item> + Drop> Intervals<'a,
         ensures place { result.0.index
             ≡ min end
             (count_passed Item.kind bound.now.needle.now bound.now.from self.old.list.items) }
-        ensures stands { IsPlace Item.kind self.old.list result.0 }
+        ensures is_place { IsPlace Item.kind self.old.list result.0 }
         ensures candidate { MatchOption result.1 (result.0.index ≡ end)
             (λ l.
             IsCandidateAt Parsed.item_of Parsed.is_found Item.kind bound.now.needle.now self.old.list
@@ -138,7 +138,7 @@ impl<'a, Item: Decodable<Parsed>, Parsed: ParsedItem<Item> + Drop> Intervals<'a,
             (j * self.old.list.interval) result.1 }
         ensures shared { Parsed.shared_len result.1 ≡ 0 }
         ensures place { result.0.index ≡ j * self.old.list.interval + 1 }
-        ensures stands { IsPlaceAfter Item.kind self.old.list result.0
+        ensures is_place { IsPlaceAfter Item.kind self.old.list result.0
             (Item.kind.key (Parsed.item_of self.old.list.payload result.1)) }
         ensures alike { result.2
             ≡ shared_prefix_length (Item.kind.key (Parsed.item_of self.old.list.payload result.1))
@@ -167,7 +167,7 @@ impl<'a, Item: Decodable<Parsed>, Parsed: ParsedItem<Item> + Drop> Intervals<'a,
         ensures place { result.0.index
             ≡ min (min (length self.old.list.items) ((j + 1) * self.old.list.interval))
             (count_passed Item.kind bound.now.needle.now bound.now.from self.old.list.items) }
-        ensures stands { IsPlace Item.kind self.old.list result.0 }
+        ensures is_place { IsPlace Item.kind self.old.list result.0 }
         ensures candidate { MatchOption result.1
             (result.0.index ≡ min (length self.old.list.items) ((j + 1) * self.old.list.interval))
             (λ l.
@@ -220,7 +220,7 @@ impl<'a, Item: Decodable<Parsed>, Parsed: ParsedItem<Item> + Drop> Intervals<'a,
         requires within { heads ≤ head_count self.old.list.interval (length self.old.list.items) }
         ensures list { self.new.list ≡ self.old.list }
         ensures place { result.0.index ≡ heads }
-        ensures stands { IsPlace Item.kind self.old.list result.0 }
+        ensures is_place { IsPlace Item.kind self.old.list result.0 }
         ensures item { MatchOption result.1
             ((x : Item) → slice_get self.old.list.items result.0.index ≡ Some x
             → is_eq (slice_cmp nat_cmp (Item.kind.key x) needle.now) ≡ false)
@@ -244,7 +244,7 @@ impl<'a, Item: Decodable<Parsed>, Parsed: ParsedItem<Item> + Drop> Intervals<'a,
         ensures list { self.new.list ≡ self.old.list }
         ensures place { result.0.index
             ≡ count_passed Item.kind bound.now.needle.now bound.now.from self.old.list.items }
-        ensures stands { IsPlace Item.kind self.old.list result.0 }
+        ensures is_place { IsPlace Item.kind self.old.list result.0 }
         ensures item { MatchOption result.1
             ((x : Item) → slice_get self.old.list.items result.0.index ≡ Some x
             → is_eq (slice_cmp nat_cmp (Item.kind.key x) bound.now.needle.now) ≡ false)
@@ -277,7 +277,7 @@ impl<'a, Item: Decodable<Parsed>, Parsed: ParsedItem<Item> + Drop> Intervals<'a,
         ensures list { self.new.list ≡ self.old.list }
         ensures place { result.0.index
             ≡ count_passed Item.kind bound.now.needle.now bound.now.from self.old.list.items }
-        ensures stands { IsPlace Item.kind self.old.list result.0 }
+        ensures is_place { IsPlace Item.kind self.old.list result.0 }
         ensures candidate { IfSome result.1
             (IsHeldAt Parsed.item_of Parsed.is_found Item.kind self.old.list result.0.index) }
         ensures counts { CountsBetween self.old.steps self.new.steps (1, 0) (

@@ -124,7 +124,7 @@ pub(super) fn entry_prefix_within(
 #[inline(always)]
 fn read_value(payload: &[u8], at: usize, value_type: ValueType) -> (Option<SliceIndexes>, usize)
     requires inside { at ≤ length payload.now }
-    requires stands { IsSome (value_at value_type (drop at payload.now)) }
+    requires encoded { IsSome (value_at value_type (drop at payload.now)) }
     ensures exact { Takes (optional_range payload.now) payload.now result
         (value_at value_type (drop at payload.now)) }
     ensures range { IsOptionalRange payload.now result.0 }
@@ -140,7 +140,7 @@ fn read_value(payload: &[u8], at: usize, value_type: ValueType) -> (Option<Slice
 
 // The entry whose full form is at an offset, and the offset after the form.
 #[inline(always)]
-#[tactic(auto, using(sst_block_core::specs::FoundLaws::range_some, sst_block_core::specs::FoundLaws::range_stands), unfolding(sst_block_core::specs::Entries::full_at))]
+#[tactic(auto, using(sst_block_core::specs::FoundLaws::range_some, sst_block_core::specs::FoundLaws::range_encoded), unfolding(sst_block_core::specs::Entries::full_at))]
 fn full_form_from(payload: &[u8], offset: usize) -> Option<(DataBlockParsedItem, usize)>
     requires { offset ≤ length payload.now }
     ensures exact { Finds (entry_of payload.now) payload.now result

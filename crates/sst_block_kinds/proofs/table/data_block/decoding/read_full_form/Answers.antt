@@ -5,14 +5,14 @@ use Rattle.sst_block_kinds.proofs.table.data_block.decoding.read_full_form.Goals
 pub read_value_type-value_type-requires : goal.read_value_type-value_type-requires
 read_value_type-value_type-requires c = full_value_type (drop c.args.offset c.args.payload.now) c.requires
 
-pub read_number-seqno-requires-clause-stands : goal.read_number-seqno-requires-clause-stands
-read_number-seqno-requires-clause-stands c = full_seqno (drop c.args.offset c.args.payload.now) _ _ c.read_value_type-value_type.ensures.exact.1 c.requires
+pub read_number-seqno-requires-clause-encoded : goal.read_number-seqno-requires-clause-encoded
+read_number-seqno-requires-clause-encoded c = full_seqno (drop c.args.offset c.args.payload.now) _ _ c.read_value_type-value_type.ensures.exact.1 c.requires
 
-pub read_length_prefixed-at-requires-clause-stands : goal.read_length_prefixed-at-requires-clause-stands
-read_length_prefixed-at-requires-clause-stands c = full_key (drop c.args.offset c.args.payload.now) _ _ c.read_value_type-value_type.ensures.exact.1 c.requires _ _ c.read_number-seqno.ensures.exact.1
+pub read_length_prefixed-at-requires-clause-encoded : goal.read_length_prefixed-at-requires-clause-encoded
+read_length_prefixed-at-requires-clause-encoded c = full_key (drop c.args.offset c.args.payload.now) _ _ c.read_value_type-value_type.ensures.exact.1 c.requires _ _ c.read_number-seqno.ensures.exact.1
 
-pub read_value-value-requires-clause-stands : goal.read_value-value-requires-clause-stands
-read_value-value-requires-clause-stands c = full_value (drop c.args.offset c.args.payload.now) _ _ c.read_value_type-value_type.ensures.exact.1 c.requires _ _ c.read_number-seqno.ensures.exact.1 _ _ c.read_length_prefixed-at.ensures.exact.1
+pub read_value-value-requires-clause-encoded : goal.read_value-value-requires-clause-encoded
+read_value-value-requires-clause-encoded c = full_value (drop c.args.offset c.args.payload.now) _ _ c.read_value_type-value_type.ensures.exact.1 c.requires _ _ c.read_number-seqno.ensures.exact.1 _ _ c.read_length_prefixed-at.ensures.exact.1
 
 pub returns-clause-exact : goal.returns-clause-exact
 returns-clause-exact c = (

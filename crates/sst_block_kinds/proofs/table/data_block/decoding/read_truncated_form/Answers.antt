@@ -5,17 +5,17 @@ use Rattle.sst_block_kinds.proofs.table.data_block.decoding.read_truncated_form.
 pub read_value_type-value_type-requires : goal.read_value_type-value_type-requires
 read_value_type-value_type-requires c = form_value_type (drop c.args.offset c.args.payload.now) c.requires
 
-pub read_number-seqno-requires-clause-stands : goal.read_number-seqno-requires-clause-stands
-read_number-seqno-requires-clause-stands c = form_seqno (drop c.args.offset c.args.payload.now) _ _ c.read_value_type-value_type.ensures.exact.1 c.requires
+pub read_number-seqno-requires-clause-encoded : goal.read_number-seqno-requires-clause-encoded
+read_number-seqno-requires-clause-encoded c = form_seqno (drop c.args.offset c.args.payload.now) _ _ c.read_value_type-value_type.ensures.exact.1 c.requires
 
-pub read_number-shared-requires-clause-stands : goal.read_number-shared-requires-clause-stands
-read_number-shared-requires-clause-stands c = form_shared (drop c.args.offset c.args.payload.now) _ _ c.read_value_type-value_type.ensures.exact.1 c.requires _ _ c.read_number-seqno.ensures.exact.1
+pub read_number-shared-requires-clause-encoded : goal.read_number-shared-requires-clause-encoded
+read_number-shared-requires-clause-encoded c = form_shared (drop c.args.offset c.args.payload.now) _ _ c.read_value_type-value_type.ensures.exact.1 c.requires _ _ c.read_number-seqno.ensures.exact.1
 
-pub read_length_prefixed-at-requires-clause-stands : goal.read_length_prefixed-at-requires-clause-stands
-read_length_prefixed-at-requires-clause-stands c = form_rest (drop c.args.offset c.args.payload.now) _ _ c.read_value_type-value_type.ensures.exact.1 c.requires _ _ c.read_number-seqno.ensures.exact.1 _ _ c.read_number-shared.ensures.exact.1
+pub read_length_prefixed-at-requires-clause-encoded : goal.read_length_prefixed-at-requires-clause-encoded
+read_length_prefixed-at-requires-clause-encoded c = form_rest (drop c.args.offset c.args.payload.now) _ _ c.read_value_type-value_type.ensures.exact.1 c.requires _ _ c.read_number-seqno.ensures.exact.1 _ _ c.read_number-shared.ensures.exact.1
 
-pub read_value-value-requires-clause-stands : goal.read_value-value-requires-clause-stands
-read_value-value-requires-clause-stands c = form_value (drop c.args.offset c.args.payload.now) _ _ c.read_value_type-value_type.ensures.exact.1 c.requires _ _ c.read_number-seqno.ensures.exact.1 _ _ c.read_number-shared.ensures.exact.1 _ _ c.read_length_prefixed-at.ensures.exact.1
+pub read_value-value-requires-clause-encoded : goal.read_value-value-requires-clause-encoded
+read_value-value-requires-clause-encoded c = form_value (drop c.args.offset c.args.payload.now) _ _ c.read_value_type-value_type.ensures.exact.1 c.requires _ _ c.read_number-seqno.ensures.exact.1 _ _ c.read_number-shared.ensures.exact.1 _ _ c.read_length_prefixed-at.ensures.exact.1
 
 pub returns-clause-exact : goal.returns-clause-exact
 returns-clause-exact c = (

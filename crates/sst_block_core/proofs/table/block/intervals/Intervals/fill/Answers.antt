@@ -19,12 +19,12 @@ loop-at-init g c =
     let l = ap length c.push.ensures.items ∙ length_push c.args.stack.now.items c.start-at.result.offset in
     record {
       same = t.list;
-      stands = record { head = _; stands = t.stands };
+      is_place = record { head = _; is_place = t.is_place };
       upto = omega (arith, t.place, s.place, below);
       some = omega (arith, l);
       count = omega (arith, l, none, t.place, s.place);
       places = rw c.push.ensures.items (stack_push kind list c.args.stack.now.items c.take_head-head.new.at.base ((c.args.end - 1) / c.from.result * list.interval) at
-          (λ k h. absurd (omega (arith, none, h))) (omega (arith, none, s.place)) (omega (arith, none)) refl (any_base kind list c.start-at.result at refl refl refl s.phase s.stands));
+          (λ k h. absurd (omega (arith, none, h))) (omega (arith, none, s.place)) (omega (arith, none)) refl (any_base kind list c.start-at.result at refl refl refl s.phase s.is_place));
       entries = omega (arith, t.counts.entries, t.place, s.place);
       heads = omega (arith, t.counts.heads);
     }
@@ -35,8 +35,8 @@ loop-at-preserved g c =
     let list = c.args.self.now.list in
     let i = c.loop-at.invariant in
     let e = c.take_rest-item.ensures in
-    let stands = i.stands in
-    let b = stands.stands in
+    let is_place = i.is_place in
+    let b = is_place.is_place in
     let r = list.interval in
     let same : c.from.result ≡ r = c.from.ensures ∙ c.interval.ensures.value in
     let first = (c.args.end - 1) / c.from.result * r in
@@ -46,14 +46,14 @@ loop-at-preserved g c =
     let rem : (first + length c.loop-at.stack.items) % r ≡ length c.loop-at.stack.items =
     mod_in_interval first (length c.loop-at.stack.items) r (mul-mod_left ((c.args.end - 1) / c.from.result) r) (omega (arith, near_first, i.count, c.loop-at-test.true)) in
     let phase : c.loop-at.at.phase ≡ length c.loop-at.stack.items = b.phase ∙ ap (λ n. n % r) (sym i.count) ∙ rem in
-    let next = (rw i.same at e.stands) stands.head b in
+    let next = (rw i.same at e.is_place) is_place.head b in
     record {
       same = e.list ∙ i.same;
-      stands = record { head = stands.head; stands = next.0 };
+      is_place = record { head = is_place.head; is_place = next.0 };
       upto = omega (arith, e.place, c.loop-at-test.true);
       some = omega (arith, pushed);
       count = omega (arith, e.place, i.count, pushed);
-      places = rw (c.push-in-loop-at.ensures.items, e.base) (stack_push kind list c.loop-at.stack.items c.loop-at.at.base first c.loop-at.at i.places (sym i.count) phase refl stands);
+      places = rw (c.push-in-loop-at.ensures.items, e.base) (stack_push kind list c.loop-at.stack.items c.loop-at.at.base first c.loop-at.at i.places (sym i.count) phase refl is_place);
       entries = omega (arith, e.counts.entries, e.place, i.entries);
       heads = omega (arith, e.counts.heads, i.heads);
     }

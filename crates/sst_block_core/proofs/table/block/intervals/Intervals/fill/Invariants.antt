@@ -6,7 +6,7 @@ use Rattle.sst_block_core.proofs.table.block.intervals.Intervals.fill.Given as g
 abbrev pub invariant-loop-at : goal.invariant-loop-at
 invariant-loop-at g l = record {
   same : l.self.list ≡ l.fn.self.list;
-  stands : IsPlace g.Item.BlockItem.kind l.fn.self.list l.at;
+  is_place : IsPlace g.Item.BlockItem.kind l.fn.self.list l.at;
   upto : l.at.index ≤ l.end;
   some : 0 < length l.stack.items;
   count : l.number * l.fn.self.list.interval + length l.stack.items ≡ l.at.index;

@@ -30,7 +30,7 @@ scan_interval-candidate-requires-clause-entered g c =
     let list = c.args.self.now.list in
     let P : Listed g.row.Item.Denot → Type 0 = λ l. IsEntered kind c.args.needle.now (Some c.args.seqno) l c.enter-head.result.0 c.enter-head.result.2 c.interval_end-end.result in
     subst P (sym e.list) (enters kind c.args.needle.now (Some c.args.seqno) list c.requires.ordered c.args.j c.requires.inside _ e.item.there c.enter-head.result.0 c.enter-head.result.2 c.interval_end-end.result
-    c.interval_end-end.ensures.listed.interval_some (sym says ∙ c.if-not-passes.false) e.place e.stands e.alike c.interval_end-end.ensures.value)
+    c.interval_end-end.ensures.listed.interval_some (sym says ∙ c.if-not-passes.false) e.place e.is_place e.alike c.interval_end-end.ensures.value)
 
 pub returns-clause-item : goal.returns-clause-item
 returns-clause-item g c =

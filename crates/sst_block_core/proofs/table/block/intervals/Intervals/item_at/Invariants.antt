@@ -5,7 +5,7 @@ use Rattle.sst_block_core.proofs.table.block.intervals.Intervals.item_at.Given a
 abbrev pub invariant-loop-at : goal.invariant-loop-at
 invariant-loop-at g l = record {
   same : l.self.list ≡ l.fn.self.list;
-  stands : IsPlace g.Item.BlockItem.kind l.fn.self.list l.at;
+  is_place : IsPlace g.Item.BlockItem.kind l.fn.self.list l.at;
   within : l.at.index ≤ l.index;
 }
 

@@ -8,7 +8,7 @@ use Rattle.sst_block_core.proofs.table.block.intervals.Intervals.push_head.Goals
 
 pub push_head-requires-clause-head : goal.push_head-requires-clause-head
 push_head-requires-clause-head g c =
-    let s = rw (← c.self.view_is) at c.start-at.ensures.stands in
+    let s = rw (← c.self.view_is) at c.start-at.ensures.is_place in
     let p = rw (← c.self.view_is) at c.start-at.ensures.place in
     let h = rw (← c.self.view_is) at c.requires.inside in
     head_is_there g.Item.BlockItem.kind _ c.self.invariant.0.listed.interval_some c.start-at.result (omega (arith, p, h)) s c.start-at.ensures.phase
@@ -17,7 +17,7 @@ pub push_head-requires-clause-next : goal.push_head-requires-clause-next
 push_head-requires-clause-next g c = λ x rest full.
     let kind = g.Item.BlockItem.kind in
     let pos = c.self.invariant.0.listed.interval_some in
-    let s = rw (← c.self.view_is) at c.start-at.ensures.stands in
+    let s = rw (← c.self.view_is) at c.start-at.ensures.is_place in
     let p = rw (← c.self.view_is) at c.start-at.ensures.place in
     let h = rw (← c.self.view_is) at c.requires.inside in
     let item = head_item kind _ pos c.start-at.result (omega (arith, p, h)) s c.start-at.ensures.phase in
@@ -33,7 +33,7 @@ pub returns-clause-table : goal.returns-clause-table
 returns-clause-table g c =
     let kind = g.Item.BlockItem.kind in
     let pos = c.self.invariant.0.listed.interval_some in
-    let s = rw (← c.self.view_is) at c.start-at.ensures.stands in
+    let s = rw (← c.self.view_is) at c.start-at.ensures.is_place in
     let p = rw (← c.self.view_is) at c.start-at.ensures.place in
     let o = rw (← c.self.view_is) at c.start-at.ensures.offset in
     let h = rw (← c.self.view_is) at c.requires.inside in

@@ -6,14 +6,14 @@ use Rattle.sst_block_core.proofs.table.block.intervals.Intervals.read_head.Goals
 
 pub read_head-requires : goal.read_head-requires
 read_head-requires g c =
-    let s = rw (← c.self.view_is) at c.start-at.ensures.stands in
+    let s = rw (← c.self.view_is) at c.start-at.ensures.is_place in
     let p = rw (← c.self.view_is) at c.start-at.ensures.place in
     let h = rw (← c.self.view_is) at c.requires in
     head_is_there g.Item.BlockItem.kind _ c.self.invariant.0.listed.interval_some c.start-at.result (omega (arith, p, h)) s c.start-at.ensures.phase
 
 pub returns-in-None-clause-head : goal.returns-in-None-clause-head
 returns-in-None-clause-head g c = λ x there.
-    let s = rw (← c.self.view_is) at c.start-at.ensures.stands in
+    let s = rw (← c.self.view_is) at c.start-at.ensures.is_place in
     let p = rw (← c.self.view_is) at c.start-at.ensures.place in
     let h = rw (← c.self.view_is) at c.requires in
     let item = head_item g.Item.BlockItem.kind _ c.self.invariant.0.listed.interval_some c.start-at.result (omega (arith, p, h)) s c.start-at.ensures.phase in

@@ -22,7 +22,7 @@ returns-then-not-passes_order-clause-place g c =
     let kind = g.Item.BlockItem.kind in
     let took = c.take_rest-item.ensures in
     let there = rw i.same at took.item.there in
-    let behind = (rw i.same at took.stands) (kind.key e.head) e.stands in
+    let behind = (rw i.same at took.is_place) (kind.key e.head) e.is_place in
     let shared = c.prefix_len-shared.ensures ∙ behind.1 in
     let rest = c.own_key.ensures ∙ (λ k. drop (sym c.prefix_len-shared.ensures k) (kind.key (g.Parsed.ParsedItem.item_of ((ap (λ l. l.payload) (took.list ∙ i.same)) k) c.take_rest-item.result))) in
     stops_here kind c.args.bound.now.needle.now c.args.bound.now.from c.args.self.now.list c.loop-at.at c.args.alike c.args.end e c.requires.ordered _ there
@@ -36,12 +36,12 @@ returns-then-not-passes_order-clause-candidate g c =
     let kind = g.Item.BlockItem.kind in
     let took = c.take_rest-item.ensures in
     let there = rw i.same at took.item.there in
-    let behind = (rw i.same at took.stands) (kind.key e.head) e.stands in
+    let behind = (rw i.same at took.is_place) (kind.key e.head) e.is_place in
     let shared = c.prefix_len-shared.ensures ∙ behind.1 in
     let rest = c.own_key.ensures ∙ (λ k. drop (sym c.prefix_len-shared.ensures k) (kind.key (g.Parsed.ParsedItem.item_of ((ap (λ l. l.payload) (took.list ∙ i.same)) k) c.take_rest-item.result))) in
     let same = order_is kind c.args.bound.now.needle.now c.args.bound.now.from c.args.self.now.list c.loop-at.at c.args.alike c.args.end e c.requires.ordered _ there
     c.prefix_len-shared.result c.own_key.result.now shared rest c.compare_behind-order.result c.compare_behind-order.ensures in
-    (record { held = record { there = there; found = rw i.same at took.item.found; next = took.place; stands = record { head = kind.key e.head; stands = behind.0 } }; order_is = same }, c.loop-at-test.true)
+    (record { held = record { there = there; found = rw i.same at took.item.found; next = took.place; is_place = record { head = kind.key e.head; is_place = behind.0 } }; order_is = same }, c.loop-at-test.true)
 
 pub loop-at-preserved : goal.loop-at-preserved
 loop-at-preserved g c =
@@ -50,7 +50,7 @@ loop-at-preserved g c =
     let kind = g.Item.BlockItem.kind in
     let took = c.take_rest-item.ensures in
     let there = rw i.same at took.item.there in
-    let behind = (rw i.same at took.stands) (kind.key e.head) e.stands in
+    let behind = (rw i.same at took.is_place) (kind.key e.head) e.is_place in
     let shared = c.prefix_len-shared.ensures ∙ behind.1 in
     let rest = c.own_key.ensures ∙ (λ k. drop (sym c.prefix_len-shared.ensures k) (kind.key (g.Parsed.ParsedItem.item_of ((ap (λ l. l.payload) (took.list ∙ i.same)) k) c.take_rest-item.result))) in
     let k = took.counts.entries in

@@ -13,4 +13,4 @@ scan_interval-requires-clause-entered g c =
     let list = c.args.self.now.list in
     let P : Listed g.row.Item.Denot → Type 0 = λ l. IsEntered kind needle from l c.enter-alike.result.0 c.enter-alike.result.2 c.interval_end-end.result in
     subst P (sym e.list) (enters kind needle from list c.requires.ordered c.args.j c.requires.inside _ e.item.there c.enter-alike.result.0 c.enter-alike.result.2 c.interval_end-end.result
-    c.interval_end-end.ensures.listed.interval_some (head_passes kind needle from list c.requires.ordered c.args.j c.requires.inside _ e.item.there c.requires.passed) e.place e.stands e.alike c.interval_end-end.ensures.value)
+    c.interval_end-end.ensures.listed.interval_some (head_passes kind needle from list c.requires.ordered c.args.j c.requires.inside _ e.item.there c.requires.passed) e.place e.is_place e.alike c.interval_end-end.ensures.value)

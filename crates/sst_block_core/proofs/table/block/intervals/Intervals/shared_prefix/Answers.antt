@@ -11,7 +11,7 @@ use Rattle.sst_block_core.proofs.table.block.intervals.Intervals.shared_prefix.G
 pub shared_prefix-requires-clause-first : goal.shared_prefix-requires-clause-first
 shared_prefix-requires-clause-first g c =
     let listed = c.self.invariant.0.listed in
-    let s = rw (← c.self.view_is) at c.start-first.ensures.stands in
+    let s = rw (← c.self.view_is) at c.start-first.ensures.is_place in
     let p = rw (← c.self.view_is) at c.start-first.ensures.place in
     let some = listed.some in
     head_is_there g.Item.BlockItem.kind _ listed.interval_some c.start-first.result (omega (arith, p, some)) s c.start-first.ensures.phase
@@ -19,7 +19,7 @@ shared_prefix-requires-clause-first g c =
 pub shared_prefix-requires-clause-last : goal.shared_prefix-requires-clause-last
 shared_prefix-requires-clause-last g c =
     let listed = c.self.invariant.0.listed in
-    let s = rw (← c.self.view_is) at c.start-last.ensures.stands in
+    let s = rw (← c.self.view_is) at c.start-last.ensures.is_place in
     let p = rw (← c.self.view_is) at c.start-last.ensures.place in
     let below = rw (← c.self.view_is) at c.count-count.ensures.below in
     head_is_there g.Item.BlockItem.kind _ listed.interval_some c.start-last.result (omega (arith, p, below)) s c.start-last.ensures.phase
@@ -30,9 +30,9 @@ returns-clause-begins g c =
     let list : Listed g.row.Item.Denot = record { payload = c.self.inside.forms.payload; interval = c.self.inside.restart_interval; items = items_in kind c.self.inside.forms.payload } in
     let listed = c.self.invariant.0.listed in
     let some = listed.some in
-    let s = rw (← c.self.view_is) at c.start-first.ensures.stands in
+    let s = rw (← c.self.view_is) at c.start-first.ensures.is_place in
     let p = rw (← c.self.view_is) at c.start-first.ensures.place in
-    let t = rw (← c.self.view_is) at c.start-last.ensures.stands in
+    let t = rw (← c.self.view_is) at c.start-last.ensures.is_place in
     let q = rw (← c.self.view_is) at c.start-last.ensures.place in
     let below = rw (← c.self.view_is) at c.count-count.ensures.below in
     let value = rw (← c.self.view_is) at c.count-count.ensures.value in

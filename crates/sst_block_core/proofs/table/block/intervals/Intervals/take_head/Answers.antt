@@ -4,13 +4,13 @@ use Rattle.sst_block_core.proofs.table.block.intervals.Intervals.take_head.Goals
 
 pub read_full-item-requires : goal.read_full-item-requires
 read_full-item-requires g c =
-    let s = rw (← c.self.view_is) at c.requires.place.stands in
+    let s = rw (← c.self.view_is) at c.requires.place.is_place in
     let h = rw (← c.self.view_is) at c.requires.place.inside in
     head_is_there g.Item.BlockItem.kind _ c.self.invariant.0.listed.interval_some c.args.at.now h s c.requires.head
 
 pub returns-clause-item : goal.returns-clause-item
 returns-clause-item g c =
-    let s = rw (← c.self.view_is) at c.requires.place.stands in
+    let s = rw (← c.self.view_is) at c.requires.place.is_place in
     let h = rw (← c.self.view_is) at c.requires.place.inside in
     let read = c.read_full-item.ensures in
     let m = c.move_on.ensures in
@@ -20,9 +20,9 @@ returns-clause-item g c =
       found = rw (← c.self.view_is) read.found;
     }
 
-pub returns-clause-stands : goal.returns-clause-stands
-returns-clause-stands g c =
-    let s = rw (← c.self.view_is) at c.requires.place.stands in
+pub returns-clause-is_place : goal.returns-clause-is_place
+returns-clause-is_place g c =
+    let s = rw (← c.self.view_is) at c.requires.place.is_place in
     let h = rw (← c.self.view_is) at c.requires.place.inside in
     let read = c.read_full-item.ensures in
     let m = c.move_on.ensures in

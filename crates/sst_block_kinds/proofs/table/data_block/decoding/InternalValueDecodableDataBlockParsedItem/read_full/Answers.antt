@@ -1,7 +1,7 @@
 use Rattle.std.proofs.Common.{◌++◌, sym, subst, drop, arith}
 use Rattle.sst_block_core.specs.Found.{IsOptionalRange, IsEncodedAt, optional_range, range_of}
 use Rattle.sst_block_kinds.specs.ParsedEntry.{entry_of}
-use Rattle.sst_block_core.specs.FoundLaws.{range_stands}
+use Rattle.sst_block_core.specs.FoundLaws.{range_encoded}
 use Rattle.sst_block_kinds.proofs.EncodedForms.{full_fits}
 use Rattle.sst_block_kinds.proofs.table.data_block.decoding.InternalValueDecodableDataBlockParsedItem.read_full.Goals as goal
 
@@ -21,4 +21,4 @@ returns-clause-key c =
     let p = c.args.payload.now in
     let item = c.read_full_form.result.0 in
     let k = c.read_full_form.ensures.key in
-    subst (λ o. IsEncodedAt p item.key.0 (optional_range p o ++ range_of p item.key)) (sym c.read_full_form.ensures.prefix) (range_stands p item.key k.order k.inside)
+    subst (λ o. IsEncodedAt p item.key.0 (optional_range p o ++ range_of p item.key)) (sym c.read_full_form.ensures.prefix) (range_encoded p item.key k.order k.inside)

@@ -6,11 +6,11 @@ use Rattle.sst_block_kinds.proofs.table.data_block.decoding.InternalValueDecodab
 pub read_value_type-at-requires : goal.read_value_type-at-requires
 read_value_type-at-requires c = full_value_type (drop c.args.offset c.args.payload.now) c.requires
 
-pub read_number-seqno-requires-clause-stands : goal.read_number-seqno-requires-clause-stands
-read_number-seqno-requires-clause-stands c = full_seqno (drop c.args.offset c.args.payload.now) _ _ c.read_value_type-at.ensures.exact.1 c.requires
+pub read_number-seqno-requires-clause-encoded : goal.read_number-seqno-requires-clause-encoded
+read_number-seqno-requires-clause-encoded c = full_seqno (drop c.args.offset c.args.payload.now) _ _ c.read_value_type-at.ensures.exact.1 c.requires
 
-pub read_length_prefixed-requires-clause-stands : goal.read_length_prefixed-requires-clause-stands
-read_length_prefixed-requires-clause-stands c = full_key (drop c.args.offset c.args.payload.now) _ _ c.read_value_type-at.ensures.exact.1 c.requires _ _ c.read_number-seqno.ensures.exact.1
+pub read_length_prefixed-requires-clause-encoded : goal.read_length_prefixed-requires-clause-encoded
+read_length_prefixed-requires-clause-encoded c = full_key (drop c.args.offset c.args.payload.now) _ _ c.read_value_type-at.ensures.exact.1 c.requires _ _ c.read_number-seqno.ensures.exact.1
 
 pub returns-clause-head : goal.returns-clause-head
 returns-clause-head c = λ x rest e.

@@ -4,11 +4,11 @@ use Rattle.sst_block_core.specs.Entries.{truncated_at}
 use Rattle.sst_block_kinds.specs.ParsedEntry.{truncated_of}
 use Rattle.sst_base.specs.ReadingLaws.{some_value}
 use Rattle.sst_block_kinds.proofs.EntryReads.{truncated_found}
-use Rattle.sst_block_kinds.proofs.EncodedForms.{form_stands, form_key, truncated_fits}
+use Rattle.sst_block_kinds.proofs.EncodedForms.{form_some, form_key, truncated_fits}
 use Rattle.sst_block_kinds.proofs.table.data_block.decoding.InternalValueDecodableDataBlockParsedItem.read_truncated.Goals as goal
 
 pub read_truncated_form-end-requires : goal.read_truncated_form-end-requires
-read_truncated_form-end-requires c = form_stands c.requires.0 (drop c.args.offset c.args.payload.now) c.requires.2
+read_truncated_form-end-requires c = form_some c.requires.0 (drop c.args.offset c.args.payload.now) c.requires.2
 
 pub overflow_add-prefix : goal.overflow_add-prefix
 overflow_add-prefix c =
@@ -20,10 +20,10 @@ overflow_add-prefix c =
     search (rules, f.0)
 
 pub returns-clause-item : goal.returns-clause-item
-returns-clause-item c = λ base x rest stands e.
+returns-clause-item c = λ base x rest encoded e.
     let p = c.args.payload.now in
     let t = c.read_truncated_form-end in
-    let f = truncated_found p (drop c.args.offset p) base c.args.base_key_offset t.result.1 t.result.0 x rest stands t.ensures.key e t.ensures.exact.1 in
+    let f = truncated_found p (drop c.args.offset p) base c.args.base_key_offset t.result.1 t.result.0 x rest encoded t.ensures.key e t.ensures.exact.1 in
     let shares = (form_key base (drop c.args.offset p) (truncated_of p t.result.0) (drop t.result.1 p) x rest t.ensures.exact.1 e).0 in
     (f.2, f.3, omega (arith, shares))
 

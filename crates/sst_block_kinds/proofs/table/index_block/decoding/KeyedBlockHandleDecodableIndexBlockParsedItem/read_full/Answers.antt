@@ -2,15 +2,15 @@ use Rattle.std.proofs.Common.{◌∙◌, drop, sym, ap, subst, Some, arith}
 use Rattle.sst_block_core.specs.Found.{IsEncodedAt}
 use Rattle.sst_block_kinds.specs.ParsedHandle.{handle_of, fields_by, IsParsedHandle}
 use Rattle.sst_block_kinds.specs.declared.table.index_block.parsed_item.IndexBlockParsedItem.{IndexBlockParsedItem}
-use Rattle.sst_block_core.specs.FoundLaws.{range_stands}
+use Rattle.sst_block_core.specs.FoundLaws.{range_encoded}
 use Rattle.sst_block_kinds.proofs.HandleReads.{full_front, full_key, full_whole, full_fits}
 use Rattle.sst_block_kinds.proofs.table.index_block.decoding.KeyedBlockHandleDecodableIndexBlockParsedItem.read_full.Goals as goal
 
 pub read_fields-at-requires : goal.read_fields-at-requires
 read_fields-at-requires c = full_front (drop c.args.offset c.args.payload.now) c.requires
 
-pub read_length_prefixed-end-requires-clause-stands : goal.read_length_prefixed-end-requires-clause-stands
-read_length_prefixed-end-requires-clause-stands c = full_key (drop c.args.offset c.args.payload.now) _ _ c.read_fields-at.ensures.1 c.requires
+pub read_length_prefixed-end-requires-clause-encoded : goal.read_length_prefixed-end-requires-clause-encoded
+read_length_prefixed-end-requires-clause-encoded c = full_key (drop c.args.offset c.args.payload.now) _ _ c.read_fields-at.ensures.1 c.requires
 
 pub returns-clause-exact : goal.returns-clause-exact
 returns-clause-exact c = (
@@ -33,4 +33,4 @@ pub returns-clause-key : goal.returns-clause-key
 returns-clause-key c =
     let k = c.read_length_prefixed-end.ensures.range in
     let P : IndexBlockParsedItem → Type 0 = λ p. IsEncodedAt c.args.payload.now p.end_key.0 (handle_of c.args.payload.now p).end_key in
-    subst P (sym c.with_key.ensures) (range_stands c.args.payload.now c.read_length_prefixed-end.result.0 k.order k.inside)
+    subst P (sym c.with_key.ensures) (range_encoded c.args.payload.now c.read_length_prefixed-end.result.0 k.order k.inside)

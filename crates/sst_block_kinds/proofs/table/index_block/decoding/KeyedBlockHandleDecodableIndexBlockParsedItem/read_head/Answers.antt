@@ -7,8 +7,8 @@ use Rattle.sst_block_kinds.proofs.table.index_block.decoding.KeyedBlockHandleDec
 pub read_fields-at-requires : goal.read_fields-at-requires
 read_fields-at-requires c = full_front (drop c.args.offset c.args.payload.now) c.requires
 
-pub read_length_prefixed-requires-clause-stands : goal.read_length_prefixed-requires-clause-stands
-read_length_prefixed-requires-clause-stands c = full_key (drop c.args.offset c.args.payload.now) _ _ c.read_fields-at.ensures.1 c.requires
+pub read_length_prefixed-requires-clause-encoded : goal.read_length_prefixed-requires-clause-encoded
+read_length_prefixed-requires-clause-encoded c = full_key (drop c.args.offset c.args.payload.now) _ _ c.read_fields-at.ensures.1 c.requires
 
 pub returns-clause-head : goal.returns-clause-head
 returns-clause-head c = λ x rest e.

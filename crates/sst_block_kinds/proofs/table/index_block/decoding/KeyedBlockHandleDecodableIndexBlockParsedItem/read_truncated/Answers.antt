@@ -10,19 +10,19 @@ use Rattle.sst_block_kinds.proofs.table.index_block.decoding.KeyedBlockHandleDec
 pub read_fields-at-requires : goal.read_fields-at-requires
 read_fields-at-requires c = truncated_front c.requires.0 (drop c.args.offset c.args.payload.now) c.requires.2
 
-pub read_number-shared-requires-clause-stands : goal.read_number-shared-requires-clause-stands
-read_number-shared-requires-clause-stands c = truncated_shared (drop c.args.offset c.args.payload.now) _ _ c.read_fields-at.ensures.1 c.requires.0 c.requires.2
+pub read_number-shared-requires-clause-encoded : goal.read_number-shared-requires-clause-encoded
+read_number-shared-requires-clause-encoded c = truncated_shared (drop c.args.offset c.args.payload.now) _ _ c.read_fields-at.ensures.1 c.requires.0 c.requires.2
 
-pub read_length_prefixed-end-requires-clause-stands : goal.read_length_prefixed-end-requires-clause-stands
-read_length_prefixed-end-requires-clause-stands c =
+pub read_length_prefixed-end-requires-clause-encoded : goal.read_length_prefixed-end-requires-clause-encoded
+read_length_prefixed-end-requires-clause-encoded c =
     truncated_rest (drop c.args.offset c.args.payload.now) _ _ c.read_fields-at.ensures.1 c.requires.0 _ _ c.read_number-shared.ensures.exact.1 c.requires.2
 
 pub returns-clause-item : goal.returns-clause-item
-returns-clause-item c = λ base x rest stands e.
+returns-clause-item c = λ base x rest encoded e.
     let p = c.args.payload.now in
     let k = c.read_length_prefixed-end in
     let f = truncated_found p (drop c.args.offset p) base c.args.base_key_offset k.result.1 c.read_number-shared.result.0 (fields_by c.read_fields-at.result.0) _ _ k.result.0
-    stands k.ensures.range c.read_fields-at.ensures.1 c.read_number-shared.ensures.exact.1 k.ensures.exact.1 x rest e in
+    encoded k.ensures.range c.read_fields-at.ensures.1 c.read_number-shared.ensures.exact.1 k.ensures.exact.1 x rest e in
     let len = ap (λ (q : IndexBlockParsedItem). range_len q.prefix) c.with_key.ensures in
     let shares = f.4 in
     (ap (handle_of p) c.with_key.ensures ∙ f.2, f.3, omega (arith, len, shares))
