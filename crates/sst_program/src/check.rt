@@ -28,7 +28,8 @@ fn check_filter<S: FrameSource>(alloc: Global, source: &mut S, handle: &BlockHan
     ensures source { KeepsSource S.bytes S.failures S.is_reliable source.old source.new }
     ensures io { IfErr result (λ e. e ≡ Io → S.failures source.old < S.failures source.new) }
     ensures exact { IfSome (S.bytes source.old) (λ all.
-        GivesOr (S.failures source.old < S.failures source.new) (S.is_reliable source.old) (λ u. u) result
+        GivesOr (S.failures source.old < S.failures source.new)
+        (S.is_reliable source.old) (λ u. u) result
         (filter_check all handle.now)) }
 {
     let block = block_from::<Poly31, S>(alloc, source, handle, BlockType::Filter)?;
@@ -45,7 +46,8 @@ fn check_run_filter<S: FrameSource>(
     ensures source { KeepsSource S.bytes S.failures S.is_reliable source.old source.new }
     ensures io { IfErr result (λ e. e ≡ Io → S.failures source.old < S.failures source.new) }
     ensures exact { IfSome (S.bytes source.old) (λ all.
-        GivesOr (S.failures source.old < S.failures source.new) (S.is_reliable source.old) (λ u. u) result
+        GivesOr (S.failures source.old < S.failures source.new)
+        (S.is_reliable source.old) (λ u. u) result
         (run_filter_check all filter.now)) }
 {
     match filter {
@@ -59,7 +61,8 @@ fn check_block<S: FrameSource>(alloc: Global, source: &mut S, handle: &BlockHand
     ensures source { KeepsSource S.bytes S.failures S.is_reliable source.old source.new }
     ensures io { IfErr result (λ e. e ≡ Io → S.failures source.old < S.failures source.new) }
     ensures exact { IfSome (S.bytes source.old) (λ all.
-        GivesOr (S.failures source.old < S.failures source.new) (S.is_reliable source.old) (λ n. n) result
+        GivesOr (S.failures source.old < S.failures source.new)
+        (S.is_reliable source.old) (λ n. n) result
         (block_count all handle.now)) }
 {
     let block = data_block_at(alloc, source, handle)?;
@@ -71,7 +74,8 @@ fn check_blocks<S: FrameSource>(alloc: Global, source: &mut S, index: &IndexBloc
     ensures source { KeepsSource S.bytes S.failures S.is_reliable source.old source.new }
     ensures io { IfErr result (λ e. e ≡ Io → S.failures source.old < S.failures source.new) }
     ensures exact { IfSome (S.bytes source.old) (λ all.
-        GivesOr (S.failures source.old < S.failures source.new) (S.is_reliable source.old) (λ n. n) result
+        GivesOr (S.failures source.old < S.failures source.new)
+        (S.is_reliable source.old) (λ n. n) result
         (entries_counted all index.now.items)) }
 {
     let mut entries = 0u64;
@@ -93,7 +97,8 @@ fn check_run<S: FrameSource>(
     ensures source { KeepsSource S.bytes S.failures S.is_reliable source.old source.new }
     ensures io { IfErr result (λ e. e ≡ Io → S.failures source.old < S.failures source.new) }
     ensures exact { IfSome (S.bytes source.old) (λ all.
-        GivesOr (S.failures source.old < S.failures source.new) (S.is_reliable source.old) (λ counts. counts) result
+        GivesOr (S.failures source.old < S.failures source.new)
+        (S.is_reliable source.old) (λ counts. counts) result
         (run_counts all handles.now)) }
 {
     check_run_filter(alloc, source, &handles.filter)?;

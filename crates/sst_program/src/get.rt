@@ -34,7 +34,8 @@ fn find<S: FrameSource>(
         ≤ S.reads source.old + (2 + filter_frames handles.now.filter) }
     ensures io { IfErr result (λ e. e ≡ Io → S.failures source.old < S.failures source.new) }
     ensures exact { IfSome (S.bytes source.old) (λ all.
-        GivesOr (S.failures source.old < S.failures source.new) (S.is_reliable source.old) (λ x. x) result
+        GivesOr (S.failures source.old < S.failures source.new)
+        (S.is_reliable source.old) (λ x. x) result
         (read_checked sst_hashes all handles.now words.now.needle words.now.seqno)) }
 {
     read_entry_checked::<Poly31, S>(alloc, source, handles, words.needle(), words.seqno())

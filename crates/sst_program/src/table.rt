@@ -113,7 +113,8 @@ pub fn index_at<S: FrameSource>(
     ensures source { KeepsSource S.bytes S.failures S.is_reliable source.old source.new }
     ensures io { IfErr result (λ e. e ≡ Io → S.failures source.old < S.failures source.new) }
     ensures exact { IfSome (S.bytes source.old) (λ all.
-        GivesOr (S.failures source.old < S.failures source.new) (S.is_reliable source.old) (λ b. b.items) result
+        GivesOr (S.failures source.old < S.failures source.new)
+        (S.is_reliable source.old) (λ b. b.items) result
         (index_read all handle.now)) }
 {
     let block = block_from::<Poly31, S>(alloc, source, handle, BlockType::Index)?;
@@ -135,7 +136,8 @@ pub fn data_block_at<S: FrameSource>(
     ensures source { KeepsSource S.bytes S.failures S.is_reliable source.old source.new }
     ensures io { IfErr result (λ e. e ≡ Io → S.failures source.old < S.failures source.new) }
     ensures exact { IfSome (S.bytes source.old) (λ all.
-        GivesOr (S.failures source.old < S.failures source.new) (S.is_reliable source.old) (λ b. b.items) result
+        GivesOr (S.failures source.old < S.failures source.new)
+        (S.is_reliable source.old) (λ b. b.items) result
         (block_read all handle.now)) }
 {
     let block = block_from::<Poly31, S>(alloc, source, handle, BlockType::Data)?;

@@ -28,6 +28,8 @@ pub mod Footers
 pub mod TableCounts
 pub mod ScanWindows
 pub mod SoundScans
+pub mod ScanCounts
 pub mod ScanSteps
 pub mod ScanCuts
+pub mod TrustedScans
 pub mod KeptReads

@@ -52,8 +52,8 @@ Says c bytes h needle true = FilterAllows c bytes h needle
 Says c bytes h needle false = FilterDenies c bytes h needle
 
 says_of : (c : Hashes) (bytes : List ℕ) (h : HandleParts) (needle p : List ℕ) (f : Filter) (may : Bool) → IsFramedAt c types.Filter bytes h p → filter_at p ≡ Ok f → may_contain f (c.hash64 needle) ≡ may → Says c bytes (Some h) needle may
-says_of c bytes h needle p f true stands reads e = (p, f, stands, reads, may_contain_from f (c.hash64 needle) e)
-says_of c bytes h needle p f false stands reads e = (p, f, stands, reads, λ may. let wrong : true ≡ false = sym (may_contain_to f (c.hash64 needle) may) ∙ e in cc)
+says_of c bytes h needle p f true is_place reads e = (p, f, is_place, reads, may_contain_from f (c.hash64 needle) e)
+says_of c bytes h needle p f false is_place reads e = (p, f, is_place, reads, λ may. let wrong : true ≡ false = sym (may_contain_to f (c.hash64 needle) may) ∙ e in cc)
 
 filter_takes : (c : Hashes) (bytes : List ℕ) (h : Option HandleParts) (needle : List ℕ) (may : Bool) → IsBytes bytes → filter_says c bytes h needle ≡ Ok may → Says c bytes h needle may
 filter_takes c bytes None needle true small e = tt

@@ -1,8 +1,9 @@
 -- A point read of a run, by what a reader finds in it.
-use Rattle.std.proofs.Common.{◌≡◌, ℕ, ◌+◌, ◌-◌, ◌≤◌, List, length, take, drop, refl, arith, sym, ◌∙◌, ap, subst, Option, Some, None}
+use Rattle.std.proofs.Common.{◌≡◌, ℕ, ◌+◌, ◌-◌, ◌≤◌, List, length, take, drop, refl, arith, sym, ◌∙◌, ap, subst, Option, Some, None, Result, Ok}
 use Rattle.std.specs.List.{slice_get}
 use Rattle.std.specs.Option.{option_map}
 use Rattle.sst_base.specs.BlockHandle.{HandleParts}
+use Rattle.sst_base.specs.declared.error.Error.{Error}
 use Rattle.sst_block_kinds.specs.DataBlock.{DataBlockParts}
 use Rattle.sst_block_core.specs.Entries.{entries}
 use Rattle.sst_block_kinds.specs.Handles.{Handle, handles}
@@ -15,8 +16,9 @@ use Rattle.sst_block_core.specs.declared.table.block.hash_index.reader.Lookup.{L
 use Rattle.sst_block_core.specs.declared.table.block.hash_index.reader.Lookup.TheVariants.{Nowhere, Interval, Anywhere}
 use Rattle.sst_base.specs.Entry.{Entry}
 use Rattle.sstable_blocks.specs.Blocks.{joined}
+use Rattle.sstable_blocks.specs.Filter.{Filter, MayContain}
 use Rattle.sstable_blocks.specs.Lookup.{first_in, place_for}
-use Rattle.sstable_blocks.specs.Opened.{range_of, payload_in, index_in, IsDenied, IsOpen, Opened}
+use Rattle.sstable_blocks.specs.Opened.{range_of, payload_in, index_in, IsDenied, IsFilterIn, IsOpen, Opened, RulesOut}
 use Rattle.sstable_blocks.specs.ReadCosts.{handle_in, heads_at, entries_at, interval_in}
 use Rattle.sstable_blocks.specs.declared.run.RunHandles.{RunHandles}
 
@@ -77,6 +79,23 @@ module _ (hash64 : List ℕ → ℕ) (blocks : List (List Entry)) (bytes : List 
   found_some r k e is =
       let b = chosen r k e is in
       b.2.first needle s ∙ sym (o.found needle s ∙ ap (first_in entries needle s) b.1)
+
+-- what a filter that was read rules out
+pub rules_out : (bytes : List ℕ) (h : Option HandleParts) (filter : Option Filter) (hash : ℕ) → IsFilterIn bytes h filter → (IsDenied bytes h hash → RulesOut filter hash) × (RulesOut filter hash → IsDenied bytes h hash)
+rules_out bytes None filter hash is = ((λ d. absurd d), λ no. let none = subst (λ f. RulesOut f hash) is no in absurd none)
+rules_out bytes (Some h) None hash is = ((λ d. absurd (is d.0 d.1)), λ no. absurd no)
+rules_out bytes (Some h) (Some f) hash is = (
+  (λ d. let e : ◌≡◌ {A = Result Filter Error} (Ok d.0) (Ok f) = sym d.1 ∙ is in let same : d.0 ≡ f = cc in subst (λ x. MayContain x hash → ⊥) same d.2),
+  λ no. (f, is, no),
+)
+
+-- the block of the handle at an index of an index
+pub cut_at : (hash64 : List ℕ → ℕ) (blocks : List (List Entry)) (bytes : List ℕ) (h : RunHandles) (o : Opened hash64 blocks bytes h) (hs : List Handle) → hs ≡ index_in bytes h.index
+    → (n : ℕ) (k : HandleParts) → Some k ≡ option_map range_of (slice_get hs n) → (block : List Entry) × IsOpen hash64 bytes k block
+cut_at hash64 blocks bytes h o hs same n k is =
+    let g = some_range (slice_get hs n) k (sym is) in
+    let b = o.block_open n g.0 (ap (λ xs. slice_get xs n) (sym same) ∙ g.1) in
+    (b.0, subst (λ x. IsOpen hash64 bytes x b.0) g.2 b.2)
 
 -- the heads and the entries of the block that the search in an index leads to
 pub block_digits : (bytes : List ℕ) (h : RunHandles) (needle : List ℕ) (s : ℕ) (r : Option HandleParts) (k : HandleParts) → r ≡ option_map range_of (handle_in bytes h needle s) → r ≡ Some k

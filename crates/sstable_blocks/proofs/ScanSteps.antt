@@ -270,6 +270,23 @@ module _ (c : Hashes) (r : KeyRange) (hs : List Handle) where
       sym known ∙ ap (λ xs. map Ok front ++ (B ++ map Ok xs)) given ∙ ap (λ xs. map Ok front ++ (B ++ xs)) (map-append Ok back' (x ∷ []))
       ∙ ap (λ xs. map Ok front ++ xs) (sym (append_assoc B (map Ok back') last)) ∙ sym (append_assoc (map Ok front) (B ++ map Ok back') last)
 
+  -- a step from the front where its block has an entry, and from the back
+  pub quick_first : (o : Option (List ℕ)) (front front' back : List Entry) (lo hi : ℕ) (P R : Type 0) (res : Result (Option Entry) Error) → ltb 0 (length front) ≡ true
+      → IfOk res (λ x. MatchOption x ((front ≡ []) × (front' ≡ [])) (λ y. front ≡ y ∷ front')) → IsOkUnless res Memory
+      → IfSome o (λ all. GivesFirst P R (Left c r hs all front lo hi back) (Left c r hs all front' lo hi back) res)
+  quick_first None front front' back lo hi P R res some given memory = tt
+  quick_first (Some all) front front' back lo hi P R (Ok None) some given memory = absurd (let no : true ≡ false = sym some ∙ ap (λ xs. ltb 0 (length xs)) given.0 in cc)
+  quick_first (Some all) front front' back lo hi P R (Ok (Some x)) some given memory = ap (λ xs. map Ok xs ++ (blocks_read c all r (between hs lo hi) ++ map Ok back)) given
+  quick_first (Some all) front front' back lo hi P R (Err e) some given memory = λ other. absurd (other memory)
+
+  pub quick_last : (o : Option (List ℕ)) (front back back' : List Entry) (lo hi : ℕ) (P R : Type 0) (res : Result (Option Entry) Error) → ltb 0 (length back) ≡ true
+      → IfOk res (λ x. MatchOption x ((back ≡ []) × (back' ≡ [])) (λ y. back ≡ back' ++ y ∷ [])) → IsOkUnless res Memory
+      → IfSome o (λ all. GivesLast P R (Left c r hs all front lo hi back) (Left c r hs all front lo hi back') res)
+  quick_last None front back back' lo hi P R res some given memory = tt
+  quick_last (Some all) front back back' lo hi P R (Ok None) some given memory = absurd (let no : true ≡ false = sym some ∙ ap (λ xs. ltb 0 (length xs)) given.0 in cc)
+  quick_last (Some all) front back back' lo hi P R (Ok (Some x)) some given memory = some_last (Some all) (λ a. Left c r hs a front lo hi back) front back back' lo hi x given refl
+  quick_last (Some all) front back back' lo hi P R (Err e) some given memory = λ other. absurd (other memory)
+
   -- the same for the index of the table after a step
   pub seen_after : (o : Option (List ℕ)) (ks : List Handle) (G : List ℕ → List Read → Type 0) (front back : List Entry) (lo hi : ℕ) (ended : Option Error) → ks ≡ hs
       → IfSome o (λ all. G all (Left c r hs all front lo hi back)) → IfSome o (λ all. ended ≡ None → G all (Left c r ks all front lo hi back))
@@ -278,12 +295,13 @@ module _ (c : Hashes) (r : KeyRange) (hs : List Handle) where
 
 -- a scan of a sound run that begins
 module _ (c : Hashes) (r : KeyRange) (hs : List Handle) (h : RunHandles) where
-  pub fresh_reads : (o : Option (List ℕ)) (lo hi : ℕ) → lo ≡ first_block r hs → hi ≡ end_block r hs → IfSome o (λ all. handles_at c all h.index ≡ Ok hs)
+  pub fresh_reads : (o : Option (List ℕ)) (front back : List Entry) (lo hi : ℕ) → front ≡ [] → back ≡ [] → lo ≡ first_block r hs → hi ≡ end_block r hs → IfSome o (λ all. handles_at c all h.index ≡ Ok hs)
       → ((all : List ℕ) (blocks : List (List Entry)) → IsSound c blocks all h → handles_at c all h.index ≡ Ok hs → blocks_read c all r (handles_within r hs) ≡ map Ok (within r (map plain (joined blocks))))
-      → IfSome o (λ all. (blocks : List (List Entry)) → IsSound c blocks all h → reads_among c all r [] (between hs lo hi) [] ≡ map Ok (within r (map plain (joined blocks))))
+      → IfSome o (λ all. (blocks : List (List Entry)) → IsSound c blocks all h → reads_among c all r front (between hs lo hi) back ≡ map Ok (within r (map plain (joined blocks))))
   unfolding handles_within
-  fresh_reads None lo hi first last at law = tt
-  fresh_reads (Some all) lo hi first last at law = λ blocks sound.
-      append-nil (blocks_read c all r (between hs lo hi))
+  fresh_reads None front back lo hi none none' first last at law = tt
+  fresh_reads (Some all) front back lo hi none none' first last at law = λ blocks sound.
+      ap (λ xs. map Ok xs ++ (blocks_read c all r (between hs lo hi) ++ map Ok back)) none ∙ ap (λ xs. blocks_read c all r (between hs lo hi) ++ map Ok xs) none'
+      ∙ append-nil (blocks_read c all r (between hs lo hi))
       ∙ ap (λ n. blocks_read c all r (between hs n hi)) first ∙ ap (λ n. blocks_read c all r (between hs (first_block r hs) n)) last
       ∙ law all blocks sound at

@@ -17,13 +17,13 @@ use Rattle.sst_block_core.specs.Trailer.{trailer_in}
 use Rattle.sst_block_core.specs.Window.{items_left, first_match}
 use Rattle.sst_block_kinds.specs.Handles.{Handle, handles, IsHandle, IsIndexBlock, IndexPasses}
 use Rattle.sstable_blocks.specs.Blocks.{joined}
-use Rattle.sstable_blocks.specs.Opened.{range_of}
+use Rattle.sstable_blocks.specs.Opened.{range_of, index_in}
 use Rattle.sstable_blocks.specs.RunReading.{Hashes, payload_at, items_at, handles_at}
-use Rattle.sstable_blocks.specs.Scans.{KeyRange, Read, is_before, is_up_to, in_range, within, first_block, end_block, handles_within, block_within, reads_of, blocks_read}
+use Rattle.sstable_blocks.specs.Scans.{KeyRange, Read, is_before, is_up_to, in_range, within, first_block, end_block, handles_within, block_within, reads_of, blocks_read, IsRead, IsReadRun}
 use Rattle.sstable_blocks.specs.Sound.{IsStoredBlock, IsSound}
 use Rattle.sstable_blocks.specs.declared.run.RunHandles.{RunHandles}
 use Rattle.sstable_blocks.proofs.Ends.{ends_in_order, block_behind, back_in_order, tail_in_order}
-use Rattle.sstable_blocks.proofs.Openings.{framed_size, stored_ends}
+use Rattle.sstable_blocks.proofs.Openings.{framed_size, frame_range, stored_ends}
 use Rattle.sstable_blocks.proofs.ScanWindows.{KeysRise, rise_tail, falls, counted, counted-cons, none_counted, between, between-more, between-none, between-first, lower_before, lower_up_to, ordered_rise}
 use Rattle.sstable_blocks.proofs.SoundReads.{bind_to, data_ok, framed_is_read, index_of_sound}
 
@@ -164,6 +164,38 @@ module _ (c : Hashes) (sums : (bytes : List ℕ) → c.hash128 bytes < 2 ^ 128)
         let read = data_read p b k.interval k.buckets short k.is_block in
         bind_to _ _ p _ (framed_is_read c types.Data bytes p (range_of h) sums short k.frame)
         (data_ok c.hash64 (trailer_in p) p (data_check c.hash64 p) (data_verdict p) read.0 ∙ ap (λ xs. Ok xs) read.1)
+
+    -- the block of a handle
+    read_of : (h : Handle) (b : List Entry) → IsHandle h → IsStoredBlock c bytes b h → IsRead c bytes h
+    read_of h b valid k =
+        let p = k.payload in
+        let size = framed_size c types.Data bytes p (range_of h) k.frame in
+        let less : h.size < 2 ^ 32 = valid.size in
+        let short : length p < 2 ^ 32 = omega arith in
+        let read = data_read p b k.interval k.buckets short k.is_block in
+        let f = frame_range c types.Data bytes p (range_of h) k.frame in
+        stored_items h b valid k ∙ ap (λ xs. Ok xs) (sym (ap (items_in entries) f.1 ∙ read.1))
+
+    all_read : (blocks : List (List Entry)) (hs : List Handle) → AllByRecursion IsHandle hs → AllZip (IsStoredBlock c bytes) blocks hs → AllByRecursion (IsRead c bytes) hs
+    all_read [] [] valid stored = tt
+    all_read [] (h ∷ hs) valid stored = absurd stored
+    all_read (b ∷ bs) [] valid stored = tt
+    all_read (b ∷ bs) (h ∷ hs) valid stored = (read_of h b valid.0 stored.0, all_read bs hs valid.1 stored.1)
+
+    -- a sound run is read
+    pub read_run : (blocks : List (List Entry)) (h : RunHandles) → IsSound c blocks bytes h → IsReadRun c bytes h
+    read_run blocks h d =
+        let i = index_of_sound c sums data_verdict index_verdict data_read index_read plain_match bytes [] 0 blocks h d in
+        let is : handles_at c bytes h.index ≡ Ok d.handles = bind_to (payload_at c types.Index bytes h.index) index_check d.index.payload (Ok d.handles) i.0 i.1 in
+        let k = d.index in
+        let framed = k.framed in
+        let f = frame_range c types.Index bytes k.payload h.index k.frame in
+        let same : index_in bytes h.index ≡ d.handles = ap (items_in handles) f.1 ∙ (index_read k.interval k.payload d.handles (omega arith) k.is_block).1 in
+        let valid = k.is_block.block.encoding.are_valid in
+        record {
+          index = is ∙ ap (λ hs. Ok hs) (sym same);
+          blocks = subst (AllByRecursion (IsRead c bytes)) (sym same) (all_read blocks d.handles valid d.stored);
+        }
 
     pub scan_sound : (blocks : List (List Entry)) (h : RunHandles) (r : KeyRange) (hs : List Handle) → IsSound c blocks bytes h → handles_at c bytes h.index ≡ Ok hs
         → blocks_read c bytes r (handles_within r hs) ≡ map Ok (within r (map plain (joined blocks)))

@@ -34,6 +34,22 @@ abbrev pub IsDenied : List ℕ → Option HandleParts → ℕ → Type 0
 IsDenied bytes None hash = ⊥
 IsDenied bytes (Some h) hash = (f : Filter) × (filter_at (payload_in bytes h) ≡ Ok f) × (MayContain f hash → ⊥)
 
+-- a filter that was read, if there is one, is that in the frame of a handle; it is none where that can't be read
+abbrev pub IsFilterIn : List ℕ → Option HandleParts → Option Filter → Type 0
+IsFilterIn bytes None filter = filter ≡ None
+IsFilterIn bytes (Some h) None = (f : Filter) → filter_at (payload_in bytes h) ≡ Ok f → ⊥
+IsFilterIn bytes (Some h) (Some f) = filter_at (payload_in bytes h) ≡ Ok f
+
+-- what contracts see of the filter of a run: the bytes, and its handle, if there is one
+pub record FilterPlace : Type 0 where
+  pub bytes : List ℕ
+  pub handle : Option HandleParts
+
+-- the bits of all probes of a hash are not set in a filter, if there is one
+abbrev pub RulesOut : Option Filter → ℕ → Type 0
+RulesOut None hash = ⊥
+RulesOut (Some f) hash = MayContain f hash → ⊥
+
 -- in the range of a handle is the frame of a block of a run
 pub record IsOpen (hash64 : List ℕ → ℕ) (bytes : List ℕ) (h : HandleParts) (block : List Entry) : Type 0 where
   pub range : IsFrameRange bytes h

@@ -1,5 +1,5 @@
 -- Scans of a table: its entries within a range of keys, from both ends, a block at a time.
-use Rattle.std.specs.Prelude.{◌≡◌, ◌≢◌, ◌⊎◌, ◌≤◌, ℕ, ◌+◌, ◌&&◌, min, not, Bool, true, false, List, [], ◌∷◌, ◌++◌, length, map, filter, count_by, Option, Some, None, Result, Ok, Err}
+use Rattle.std.specs.Prelude.{◌≡◌, ◌≢◌, ◌⊎◌, ◌≤◌, ◌<◌, ℕ, ◌+◌, ◌*◌, ◌^◌, ◌&&◌, min, not, Bool, true, false, List, [], ◌∷◌, ◌++◌, length, map, filter, count_by, Option, Some, None, IfSome, Result, Ok, Err}
 use Rattle.std.specs.Cmp.Lexicographic.{slice_cmp}
 use Rattle.std.specs.Ordering.{nat_cmp, is_le, is_lt}
 use Rattle.std.specs.declared.ops.Bound.{Bound}
@@ -9,12 +9,17 @@ use Rattle.sst_base.specs.Header.{◌>>=◌}
 use Rattle.sst_base.specs.declared.error.Error.{Error}
 use Rattle.sst_base.specs.declared.error.Error.TheVariants.{Io, Memory, BadHandle}
 use Rattle.std.specs.List.{AllByRecursion}
+use Rattle.sst_block_core.specs.Entries.{entries}
 use Rattle.sst_block_core.specs.Scan.{Scan}
+use Rattle.sst_block_core.specs.Stages.{items_in}
 use Rattle.sst_block_core.specs.Window.{items_left}
 use Rattle.sst_block_kinds.specs.Handles.{Handle}
-use Rattle.sstable_blocks.specs.Opened.{range_of}
-use Rattle.sstable_blocks.specs.RunReading.{Hashes, items_at}
-use Rattle.sstable_blocks.specs.Tables.{TableParts}
+use Rattle.sstable_blocks.specs.Opened.{range_of, index_in, payload_in}
+use Rattle.sstable_blocks.specs.ReadCosts.{interval_in}
+use Rattle.sstable_blocks.specs.RunReading.{Hashes, items_at, handles_at}
+use Rattle.sstable_blocks.specs.Sound.{RunParts}
+use Rattle.sstable_blocks.specs.Tables.{TableParts, KeptParts}
+use Rattle.sstable_blocks.specs.declared.run.RunHandles.{RunHandles}
 
 -- a range of user keys, by its two bounds
 pub record KeyRange : Type 0 where
@@ -96,6 +101,19 @@ reads_among c bytes r front hs back = map Ok front ++ (blocks_read c bytes r hs 
 abbrev pub reads_left : {S : Type 0} → Hashes → List ℕ → ScanParts S → List Read
 reads_left c bytes s = reads_among c bytes s.range s.front s.handles s.back
 
+-- at most how many entries are left in entries, in a number of blocks, and in entries: a block has fewer than 2^32
+abbrev pub most_among : List Entry → ℕ → List Entry → ℕ
+most_among front blocks back = length front + 2 ^ 32 * blocks + length back
+
+-- at most how many entries a scan has left
+abbrev pub most_left : {S : Type 0} → ScanParts S → ℕ
+most_left s = most_among s.front (length s.handles) s.back
+
+-- an entry that was taken leaves less, and there is none where nothing is left
+abbrev pub IsFewer : ℕ → ℕ → Option Entry → Type 0
+IsFewer old new None = new ≡ 0
+IsFewer old new (Some x) = new < old
+
 -- a list begins with this, or ends with it
 abbrev pub StartsWith : Read → List Read → Type 0
 StartsWith x reads = (others : List Read) × (reads ≡ x ∷ others)
@@ -127,6 +145,11 @@ GivesLast failed reliable old new (Err e) = FailsLast failed reliable old e
 abbrev pub error_of : {X : Type 0} → Result X Error → Option Error
 error_of (Ok x) = None
 error_of (Err e) = Some e
+
+-- a step of a scan that has ended returns its error again, and a step that fails ends the scan
+pub record EndsBy {X : Type 0} (old new : Option Error) (result : Result X Error) : Type 0 where
+  pub repeated : IfSome old (λ e. result ≡ Err e)
+  pub ended : new ≡ error_of result
 
 -- how many entries of a block have keys before the start of a range, and how many have none after its end
 abbrev pub first_entry : KeyRange → List Entry → ℕ
@@ -161,3 +184,45 @@ pub record IsSameScan {S : Type 0} (old new : ScanParts S) : Type 0 where
   pub index : new.table.index ≡ old.table.index
   pub interval : new.table.interval ≡ old.table.interval
   pub range : new.range ≡ old.range
+
+-- the entries of what is read
+abbrev pub entries_read : List Read → List Entry
+entries_read [] = []
+entries_read (Ok x ∷ reads) = x ∷ entries_read reads
+entries_read (Err e ∷ reads) = entries_read reads
+
+-- the block of a handle is read as the entries of the payload there
+abbrev pub IsRead : Hashes → List ℕ → Handle → Type 0
+IsRead c bytes h = items_at c bytes (range_of h) ≡ Ok (items_in entries (payload_in bytes (range_of h)))
+
+-- the index of a run is read, and the block of each of its handles
+pub record IsReadRun (c : Hashes) (bytes : List ℕ) (h : RunHandles) : Type 0 where
+  pub index : handles_at c bytes h.index ≡ Ok (index_in bytes h.index)
+  pub blocks : AllByRecursion (IsRead c bytes) (index_in bytes h.index)
+
+-- the entries left of a run: those of the blocks of handles between two indexes, and those before and after them
+abbrev pub left_of_run : Hashes → RunParts → KeyRange → List Entry → ℕ → ℕ → List Entry → List Entry
+left_of_run c run r front lo hi back =
+    entries_read (reads_among c run.bytes r front (between (index_in run.bytes run.handles.index) lo hi) back)
+
+-- what is kept of a run that is read without checks
+abbrev pub kept_in : RunParts → KeptParts
+kept_in run = record {
+  handles = run.handles;
+  filter = None;
+  index = index_in run.bytes run.handles.index;
+  interval = interval_in run.bytes run.handles.index;
+}
+
+-- what contracts see of a run whose blocks are cut: the run, and how many blocks were cut
+pub record CutterParts : Type 0 where
+  pub run : RunParts
+  pub cut : ℕ
+
+-- what contracts see of a scan without checks: the bytes and the handles, the range, the entries left, and the error
+-- that ended it, if one did
+pub record TrustedScanParts : Type 0 where
+  pub run : RunParts
+  pub range : KeyRange
+  pub left : List Entry
+  pub ended : Option Error

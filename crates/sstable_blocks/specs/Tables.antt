@@ -24,6 +24,16 @@ pub record TableParts (S : Type 0) : Type 0 where
   pub index : List Handle
   pub interval : ℕ
 
+-- the same without the source
+pub record KeptParts : Type 0 where
+  pub handles : RunHandles
+  pub filter : Option (List ℕ)
+  pub index : List Handle
+  pub interval : ℕ
+
+abbrev pub kept_parts : {S : Type 0} → TableParts S → KeptParts
+kept_parts t = record { handles = t.handles; filter = t.filter; index = t.index; interval = t.interval }
+
 -- the payload of the filter of a run, if it has one
 abbrev pub filter_kept : Hashes → List ℕ → Option HandleParts → Result (Option (List ℕ)) Error
 filter_kept c bytes None = Ok None

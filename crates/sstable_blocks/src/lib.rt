@@ -11,7 +11,7 @@ pub mod table;
 
 pub use run::{
     CheckedRun, FileSource, FrameSource, MemorySource, OpenError, RunConfig, RunHandles,
-    RunSummary, RunWriter, Scan, SizedSource, Table, Trusted, cuts_fit, decode_footer,
+    RunSummary, RunWriter, Scan, SizedSource, Table, Trusted, TrustedScan, cuts_fit, decode_footer,
     encode_footer, read_entry, read_entry_checked, write_and_read, write_run,
 };
 pub use sst_base::{

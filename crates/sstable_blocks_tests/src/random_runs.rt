@@ -3,7 +3,10 @@ use crate::lists::{NO_BUCKETS, NoHash, ONE_EACH, can_be_written, is_found, push}
 use sst_base::{BlockHash, ByteSum, InternalValue, Poly31, Result, Slice, Steps, ValueType};
 use sst_block_kinds_tests::plain::plain_first_match;
 use sst_block_kinds_tests::random::{Random, key_of};
-use sstable_blocks::{MemorySource, RunConfig, Table, read_entry, write_run};
+use sstable_blocks::run::{Trusted, read_entry_checked};
+use sstable_blocks::{
+    CheckedRun, MemorySource, RunConfig, RunHandles, Table, read_entry, write_run,
+};
 use std::alloc::Global;
 use std::process::Abort;
 
@@ -65,6 +68,40 @@ fn query_at(list: &[InternalValue], number: usize) -> (&[u8], u64) {
     }
 }
 
+/// A run in memory, opened in each way that takes its bytes and handles.
+#[derive(Drop)]
+struct Opened<H: BlockHash> {
+    table: Table<H, MemorySource>,
+    checked: CheckedRun<H>,
+    source: MemorySource,
+    handles: RunHandles,
+}
+
+impl<H: BlockHash> Opened<H> {
+    /// Whether each way of reading finds the entry that is wanted.
+    fn finds(
+        &mut self,
+        alloc: Global,
+        trusted: &Trusted<'_, H>,
+        query: (&[u8], u64),
+        wanted: Option<&InternalValue>,
+    ) -> Result<bool> {
+        let (needle, below) = query;
+        let mut steps = Steps::new();
+        let by_table = self.table.get(alloc, needle, below, &mut steps)?;
+        let by_trusted = trusted.get(alloc, needle, below, &mut steps)?;
+        let by_checked = self.checked.get(alloc, needle, below, &mut steps)?;
+        let source = &mut self.source;
+        let by_source = read_entry_checked::<H, _>(alloc, source, &self.handles, needle, below)?;
+        Ok(
+            is_found(wanted, by_table.as_ref())
+                && is_found(wanted, by_trusted.as_ref())
+                && is_found(wanted, by_checked.as_ref())
+                && is_found(wanted, by_source.as_ref()),
+        )
+    }
+}
+
 /// Whether each read of the run of a list finds the first match of the list.
 fn is_read<H: BlockHash>(
     alloc: Global,
@@ -78,23 +115,23 @@ fn is_read<H: BlockHash>(
     let mut bytes = Vec::new(alloc);
     let handles = write_run::<H, Vec<u8>>(alloc, &mut bytes, list, cuts, config)?;
     let run = Slice::from_vec(bytes)?;
-    let mut table = Table::<H, MemorySource>::open(
-        alloc,
-        MemorySource::new(run.clone()?),
+    let known = Table::<H, _>::open(alloc, MemorySource::new(run.clone()?), handles)?;
+    let trusted = known.trusted();
+    let mut opened = Opened {
+        table: Table::<H, _>::open(alloc, MemorySource::new(run.clone()?), handles)?,
+        checked: CheckedRun::<H>::new(run.clone()?, handles),
+        source: MemorySource::new(run.clone()?),
         handles,
-    )?;
+    };
     for number in 0..list.len().saturating_mul(2).saturating_add(1) {
-        let (needle, below) = query_at(list, number);
-        let found = read_entry::<H>(alloc, &run, &handles, needle, below, &mut Steps::new())?;
-        if !is_found(plain_first_match(list, needle, below), found.as_ref()) {
-            return Ok(false);
-        }
-        let found = table.get(alloc, needle, below, &mut Steps::new())?;
-        if !is_found(plain_first_match(list, needle, below), found.as_ref()) {
+        let query = query_at(list, number);
+        let wanted = plain_first_match(list, query.0, query.1);
+        let found = read_entry::<H>(alloc, &run, &handles, query.0, query.1, &mut Steps::new())?;
+        if !is_found(wanted, found.as_ref()) || !opened.finds(alloc, &trusted, query, wanted)? {
             return Ok(false);
         }
     }
-    Ok(table.verify(alloc)?.entries == list.len() as u64)
+    Ok(opened.table.verify(alloc)?.entries == list.len() as u64)
 }
 
 /// A random configuration, with some intervals and bits for each key.

@@ -7,8 +7,8 @@ use crate::runs::{THREE_BLOCKS, handles_of, value_of};
 use sst_base::{ByteSum, Error, InternalValue, Result, Slice, Steps};
 use sst_block_kinds_tests::random::{Random, key_of};
 use sstable_blocks::{
-    FileSource, FrameSource, MemorySource, RunConfig, Scan, SizedSource, Table, encode_footer,
-    write_run,
+    FileSource, FrameSource, MemorySource, RunConfig, Scan, SizedSource, Table, TrustedScan,
+    encode_footer, write_run,
 };
 use std::alloc::Global;
 use std::io::Cursor;
@@ -89,6 +89,71 @@ fn worked_run_is_scanned(rt: HostRuntime) -> crate::Tested {
         assert!(rt; values.as_slice() == wanted, "file");
     }
     Ok(())
+}
+
+/// What a scan of the example run with a byte changed gives before it ends with an error, which each
+/// later step gives again, or with a mark where it ends without; or the error that no table is
+/// opened with.
+fn scan_changed(alloc: Global, at: usize, byte: u8, pattern: u64) -> Result<Vec<u8>> {
+    let mut bytes = THREE_BLOCKS;
+    if let Some(place) = bytes.get_mut(at) {
+        *place = byte;
+    }
+    let source = MemorySource::new(Slice::new(alloc, &bytes)?);
+    let table = Table::<ByteSum, _>::open(alloc, source, handles_of(&crate::checks::WORKED))?;
+    let mut scan = table.scan();
+    let mut values = Vec::new(alloc);
+    let mut ended = None;
+    for step in 0..4u32 {
+        let is_last = pattern >> step & 1 == 1;
+        let read = if is_last {
+            scan.next_entry_back(alloc)
+        } else {
+            scan.next_entry(alloc)
+        };
+        match read {
+            Ok(found) => values.extend_from_slice(value_of(&found).as_slice())?,
+            Err(error) if ended.is_some_and(|first| first != error) => return Err(error),
+            Err(error) => ended = Some(error),
+        }
+    }
+    if ended.is_none() {
+        values.push(b'!')?;
+    }
+    Ok(values)
+}
+
+/// For each frame of the example run where it ends, and what a scan gives before it from the front
+/// and from the back, if the table is opened.
+const FRAMES: [(usize, Option<(&[u8], &[u8])>); 4] = [
+    (73, Some((b"", b"zy"))),
+    (146, Some((b"x", b"z"))),
+    (219, Some((b"xy", b""))),
+    (368, None),
+];
+
+/// Whether the example run with a byte changed is scanned up to the frame of that byte.
+fn is_scanned_up_to(alloc: Global, at: usize, byte: u8) -> bool {
+    let frame = FRAMES.iter().find(|frame| at < frame.0);
+    let front = scan_changed(alloc, at, byte, 0);
+    let back = scan_changed(alloc, at, byte, 15);
+    match frame {
+        Some((_, Some((before, after)))) => {
+            front.is_ok_and(|values| values.as_slice() == *before)
+                && back.is_ok_and(|values| values.as_slice() == *after)
+        }
+        _ => front.is_err() && back.is_err(),
+    }
+}
+
+#[test]
+fn each_byte_changed_ends_a_scan(rt: HostRuntime) {
+    for (at, old) in THREE_BLOCKS.iter().enumerate() {
+        for by in 1..=255u8 {
+            let byte = *old ^ by;
+            assert!(rt; is_scanned_up_to(rt.alloc(), at, byte), "{byte} at {at}");
+        }
+    }
 }
 
 /// The values of a table file.
@@ -186,11 +251,37 @@ fn indexes_in(
     Ok(indexes)
 }
 
+/// A scan of a table in memory, with checks or without.
+trait BothEnds {
+    /// Takes the first entry left, or the last.
+    fn step(&mut self, alloc: Global, is_first: bool) -> Result<Option<InternalValue>>;
+}
+
+impl BothEnds for Scan<'_, ByteSum, MemorySource> {
+    fn step(&mut self, alloc: Global, is_first: bool) -> Result<Option<InternalValue>> {
+        if is_first {
+            self.next_entry(alloc)
+        } else {
+            self.next_entry_back(alloc)
+        }
+    }
+}
+
+impl BothEnds for TrustedScan<'_, '_, ByteSum> {
+    fn step(&mut self, alloc: Global, is_first: bool) -> Result<Option<InternalValue>> {
+        if is_first {
+            self.next_entry(alloc)
+        } else {
+            self.next_entry_back(alloc)
+        }
+    }
+}
+
 /// Whether a scan gives the entries of a list at these indexes, from both ends in a random mixture,
 /// and then none.
-fn gives_all(
+fn gives_all<S: BothEnds>(
     alloc: Global,
-    scan: &mut Scan<'_, ByteSum, MemorySource>,
+    scan: &mut S,
     list: &[InternalValue],
     indexes: &[usize],
     random: &mut Random,
@@ -202,21 +293,17 @@ fn gives_all(
             return Ok(false);
         };
         let is_first = random.next() % 2 == 0;
-        let found = if is_first {
-            scan.next_entry(alloc)?
-        } else {
-            scan.next_entry_back(alloc)?
-        };
+        let found = scan.step(alloc, is_first)?;
         let wanted = if is_first { *first } else { *last };
         if !is_found(list.get(wanted), found.as_ref()) {
             return Ok(false);
         }
         left = if is_first { after } else { before };
     }
-    Ok(scan.next_entry(alloc)?.is_none() && scan.next_entry_back(alloc)?.is_none())
+    Ok(scan.step(alloc, true)?.is_none() && scan.step(alloc, false)?.is_none())
 }
 
-/// Whether a random run is scanned within random ranges.
+/// Whether a random run is scanned within random ranges, with checks and without.
 fn is_scanned(alloc: Global, seed: u64) -> Result<bool> {
     let mut random = Random::new(seed);
     let list = random_list(alloc, &mut random)?;
@@ -233,21 +320,27 @@ fn is_scanned(alloc: Global, seed: u64) -> Result<bool> {
     }
     let mut bytes = Vec::new(alloc);
     let handles = write_run::<ByteSum, Vec<u8>>(alloc, &mut bytes, &list, &cuts, config)?;
-    let source = MemorySource::new(Slice::from_vec(bytes)?);
-    let mut table = Table::<ByteSum, MemorySource>::open(alloc, source, handles)?;
+    let run = Slice::from_vec(bytes)?;
+    let known = Table::<ByteSum, _>::open(alloc, MemorySource::new(run.clone()?), handles)?;
+    let trusted = known.trusted();
+    let mut table = Table::<ByteSum, _>::open(alloc, MemorySource::new(run), handles)?;
     for _ in 0..10u8 {
         let start = key_of(alloc, random.below(36))?;
         let end = key_of(alloc, random.below(36))?;
         let from = bound_at(&start, &mut random);
         let to = bound_at(&end, &mut random);
         let indexes = indexes_in(alloc, &list, &from, &to)?;
+        let mut cut = trusted.scan_range(from, to);
         let mut scan = table.scan_range(from, to);
-        if !gives_all(alloc, &mut scan, &list, &indexes, &mut random)? {
+        if !gives_all(alloc, &mut cut, &list, &indexes, &mut random)?
+            || !gives_all(alloc, &mut scan, &list, &indexes, &mut random)?
+        {
             return Ok(false);
         }
         table = scan.into_table();
     }
-    Ok(true)
+    let every = indexes_in(alloc, &list, &Bound::Unbounded, &Bound::Unbounded)?;
+    gives_all(alloc, &mut trusted.scan(), &list, &every, &mut random)
 }
 
 #[test]

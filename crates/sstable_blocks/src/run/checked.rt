@@ -49,7 +49,8 @@ pub fn block_from<H: BlockHash, S: FrameSource>(
     ensures io { IfErr result (λ e. e ≡ Io → S.failures source.old < S.failures source.new) }
     ensures cells { OnOk result (IfSome (S.bytes source.old) IsBytes) }
     ensures exact { IfSome (S.bytes source.old)
-        (λ all. GivesOr (S.failures source.old < S.failures source.new) (S.is_reliable source.old) (λ b. b.payload) result
+        (λ all. GivesOr (S.failures source.old < S.failures source.new)
+        (S.is_reliable source.old) (λ b. b.payload) result
         (payload_at (hashes H.hash64 H.hash128) block_type all handle.now)) }
 {
     let frame = source.read_frame(alloc, handle)?;
@@ -76,7 +77,8 @@ pub fn data_block_from<H: BlockHash, S: FrameSource>(
     ensures reads { S.reads source.new ≡ S.reads source.old + 1 }
     ensures io { IfErr result (λ e. e ≡ Io → S.failures source.old < S.failures source.new) }
     ensures exact { IfSome (S.bytes source.old)
-        (λ all. GivesOr (S.failures source.old < S.failures source.new) (S.is_reliable source.old) (λ b. b.items) result
+        (λ all. GivesOr (S.failures source.old < S.failures source.new)
+        (S.is_reliable source.old) (λ b. b.items) result
         (items_at (hashes H.hash64 H.hash128) all handle.now)) }
 {
     let block = block_from::<H, S>(alloc, source, handle, BlockType::Data)?;
@@ -99,7 +101,8 @@ pub fn index_block_from<H: BlockHash, S: FrameSource>(
     ensures io { IfErr result (λ e. e ≡ Io → S.failures source.old < S.failures source.new) }
     ensures cells { OnOk result (IfSome (S.bytes source.old) IsBytes) }
     ensures exact { IfSome (S.bytes source.old)
-        (λ all. GivesOr (S.failures source.old < S.failures source.new) (S.is_reliable source.old) (λ b. b.items) result
+        (λ all. GivesOr (S.failures source.old < S.failures source.new)
+        (S.is_reliable source.old) (λ b. b.items) result
         (handles_at (hashes H.hash64 H.hash128) all handle.now)) }
 {
     let block = block_from::<H, S>(alloc, source, handle, BlockType::Index)?;
@@ -127,7 +130,8 @@ fn filter_allows<H: BlockHash, S: FrameSource>(
     ensures io { IfErr result (λ e. e ≡ Io → S.failures source.old < S.failures source.new) }
     ensures cells { OnOk result ((filter.now ≡ None) ⊎ IfSome (S.bytes source.old) IsBytes) }
     ensures exact { IfSome (S.bytes source.old)
-        (λ all. GivesOr (S.failures source.old < S.failures source.new) (S.is_reliable source.old) (λ b. b) result
+        (λ all. GivesOr (S.failures source.old < S.failures source.new)
+        (S.is_reliable source.old) (λ b. b) result
         (filter_says (hashes H.hash64 H.hash128) all filter.now needle.now)) }
 {
     match filter {
@@ -154,7 +158,8 @@ pub(crate) fn read_in_block<H: BlockHash, S: FrameSource>(
     ensures io { IfErr result (λ e. e ≡ Io → S.failures source.old < S.failures source.new) }
     ensures exact { IfSome (S.bytes source.old)
         (λ all. (h : Option Handle) → handle.now ≡ option_map range_of h
-        → GivesOr (S.failures source.old < S.failures source.new) (S.is_reliable source.old) (λ x. x) result
+        → GivesOr (S.failures source.old < S.failures source.new)
+        (S.is_reliable source.old) (λ x. x) result
         (read_block (hashes H.hash64 H.hash128) all h needle.now seqno)) }
     ensures counts { IfSome (S.bytes source.old)
         (λ all. (h : Option Handle) → handle.now ≡ option_map range_of h
@@ -185,7 +190,8 @@ fn read_by_index<H: BlockHash, S: FrameSource>(
     ensures io { IfErr result (λ e. e ≡ Io → S.failures source.old < S.failures source.new) }
     ensures cells { OnOk result (IfSome (S.bytes source.old) IsBytes) }
     ensures exact { IfSome (S.bytes source.old)
-        (λ all. GivesOr (S.failures source.old < S.failures source.new) (S.is_reliable source.old) (λ x. x) result
+        (λ all. GivesOr (S.failures source.old < S.failures source.new)
+        (S.is_reliable source.old) (λ x. x) result
         (read_blocks (hashes H.hash64 H.hash128) all index.now needle.now seqno)) }
 {
     let block = block_from::<H, S>(alloc, source, index, BlockType::Index)?;
@@ -212,7 +218,8 @@ fn read_in_stages<H: BlockHash, S: FrameSource>(
     ensures io { IfErr result (λ e. e ≡ Io → S.failures source.old < S.failures source.new) }
     ensures cells { OnOk result (IfSome (S.bytes source.old) IsBytes) }
     ensures exact { IfSome (S.bytes source.old)
-        (λ all. GivesOr (S.failures source.old < S.failures source.new) (S.is_reliable source.old) (λ x. x) result
+        (λ all. GivesOr (S.failures source.old < S.failures source.new)
+        (S.is_reliable source.old) (λ x. x) result
         (read_checked (hashes H.hash64 H.hash128) all handles.now needle.now seqno)) }
 {
     if filter_allows::<H, S>(alloc, source, &handles.filter, needle)? {
@@ -250,7 +257,8 @@ pub fn read_entry_checked<H: BlockHash, S: FrameSource>(
         → S.reads source.new ≤ S.reads source.old + 1) }
     ensures io { IfErr result (λ e. e ≡ Io → S.failures source.old < S.failures source.new) }
     ensures exact { IfSome (S.bytes source.old)
-        (λ all. GivesOr (S.failures source.old < S.failures source.new) (S.is_reliable source.old) (λ x. x) result
+        (λ all. GivesOr (S.failures source.old < S.failures source.new)
+        (S.is_reliable source.old) (λ x. x) result
         (read_checked (hashes H.hash64 H.hash128) all handles.now needle.now seqno)) }
     ensures means { IfSome (S.bytes source.old)
         (λ all. IfOk result

@@ -232,7 +232,8 @@ fn check_block<H: BlockHash, S: FrameSource>(
     ensures reads { OnOk result (S.reads source.new ≡ S.reads source.old + 1) }
     ensures io { IfErr result (λ e. e ≡ Io → S.failures source.old < S.failures source.new) }
     ensures exact { IfSome (S.bytes source.old)
-        (λ all. GivesOr (S.failures source.old < S.failures source.new) (S.is_reliable source.old) (λ s. s) result
+        (λ all. GivesOr (S.failures source.old < S.failures source.new)
+        (S.is_reliable source.old) (λ s. s) result
         (block_checked (hashes H.hash64 H.hash128) all filter.now passed handle)) }
 {
     if *handle.offset() != passed.offset {
@@ -253,7 +254,8 @@ fn check_blocks<H: BlockHash, S: FrameSource>(
     ensures reads { OnOk result (S.reads source.new ≡ S.reads source.old + length index.now.items) }
     ensures io { IfErr result (λ e. e ≡ Io → S.failures source.old < S.failures source.new) }
     ensures exact { IfSome (S.bytes source.old)
-        (λ all. GivesOr (S.failures source.old < S.failures source.new) (S.is_reliable source.old) (λ s. s) result
+        (λ all. GivesOr (S.failures source.old < S.failures source.new)
+        (S.is_reliable source.old) (λ s. s) result
         (check_from (hashes H.hash64 H.hash128) all filter.now none_passed index.now.items)) }
 {
     let payload = index.as_slice();
@@ -277,7 +279,8 @@ fn check_by_index<H: BlockHash, S: FrameSource>(
     ensures io { IfErr result (λ e. e ≡ Io → S.failures source.old < S.failures source.new) }
     ensures cells { OnOk result (IfSome (S.bytes source.old) IsBytes) }
     ensures exact { IfSome (S.bytes source.old)
-        (λ all. GivesOr (S.failures source.old < S.failures source.new) (S.is_reliable source.old) (λ s. s) result
+        (λ all. GivesOr (S.failures source.old < S.failures source.new)
+        (S.is_reliable source.old) (λ s. s) result
         (index_checked (hashes H.hash64 H.hash128) all filter.now index.now)) }
 {
     let index = index_block_from::<H, S>(alloc, source, index)?;
@@ -298,7 +301,8 @@ fn check_in_stages<H: BlockHash, S: FrameSource>(
     ensures io { IfErr result (λ e. e ≡ Io → S.failures source.old < S.failures source.new) }
     ensures cells { OnOk result (IfSome (S.bytes source.old) IsBytes) }
     ensures exact { IfSome (S.bytes source.old)
-        (λ all. GivesOr (S.failures source.old < S.failures source.new) (S.is_reliable source.old) (λ s. s) result
+        (λ all. GivesOr (S.failures source.old < S.failures source.new)
+        (S.is_reliable source.old) (λ s. s) result
         (run_checked (hashes H.hash64 H.hash128) all handles.now)) }
 {
     match &handles.filter {
@@ -350,7 +354,8 @@ pub fn check<H: BlockHash, S: FrameSource>(
         ≡ S.reads source.old + (filter_frames handles.now.filter + (1 + s.blocks))) }
     ensures io { IfErr result (λ e. e ≡ Io → S.failures source.old < S.failures source.new) }
     ensures exact { IfSome (S.bytes source.old)
-        (λ all. GivesOr (S.failures source.old < S.failures source.new) (S.is_reliable source.old) (λ s. s) result
+        (λ all. GivesOr (S.failures source.old < S.failures source.new)
+        (S.is_reliable source.old) (λ s. s) result
         (run_checked (hashes H.hash64 H.hash128) all handles.now)) }
 
     // What is accepted is a sound run, and the summary is that of its blocks.
@@ -362,7 +367,8 @@ pub fn check<H: BlockHash, S: FrameSource>(
     ensures accepts { IfSome (S.bytes source.old)
         (λ all. (blocks : List (List Entry))
         → IsSound (hashes H.hash64 H.hash128) blocks all handles.now
-        → GivesOr (S.failures source.old < S.failures source.new) (S.is_reliable source.old) (λ s. s) result
+        → GivesOr (S.failures source.old < S.failures source.new)
+        (S.is_reliable source.old) (λ s. s) result
         (Ok (summary_of blocks))) }
 {
     accepted_run_is_sound();

@@ -16,7 +16,8 @@ ghost use Rattle.sstable_blocks.specs.Opened.{Opened};
 ghost use Rattle.sstable_blocks.specs.ReadCosts.{heads_most, entries_most};
 ghost use Rattle.sstable_blocks.specs.ReadCosts.{heads_most_in, entries_most_in};
 ghost use Rattle.sstable_blocks.specs.RunChecks.{check_run, summary_of};
-ghost use Rattle.sstable_blocks.specs.Scans.{KeyRange, blocks_read, handles_within, within};
+ghost use Rattle.sstable_blocks.specs.Scans.{IsReadRun, KeyRange, blocks_read};
+ghost use Rattle.sstable_blocks.specs.Scans.{handles_within, within};
 ghost use Rattle.sstable_blocks.specs.Sound.{IsSound};
 ghost use Rattle.sstable_blocks.specs.Run.{Form, IsLayout, IsRun, IsFramed, block_payload};
 ghost use Rattle.sstable_blocks.specs.Run.{block_frames, handles_from};
@@ -153,6 +154,19 @@ pub fn sound_run_is_accepted()
     index_check_is_by_stages();
     data_block_is_read();
     index_block_is_read();
+}
+
+/// The index of a sound run is read, and the block of each of its handles.
+pub fn sound_run_is_read()
+    ensures { (c : Hashes) (blocks : List (List Entry)) (bytes : List ℕ) (h : RunHandles)
+        → ((xs : List ℕ) → c.hash128 xs < 2 ^ 128) → IsSound c blocks bytes h
+        → IsReadRun c bytes h }
+{
+    data_check_is_by_stages();
+    index_check_is_by_stages();
+    data_block_is_read();
+    index_block_is_read();
+    first_match_of_plain();
 }
 
 /// The blocks of a sound run that can have a key in a range, by the index alone, are read as the

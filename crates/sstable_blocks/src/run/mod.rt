@@ -6,6 +6,8 @@ pub mod checked_run;
 pub mod checking;
 pub mod footer;
 pub mod laws;
+mod open_filter;
+mod opener;
 pub mod read;
 pub mod round_trip;
 mod run_core;
@@ -14,6 +16,7 @@ mod scan_steps;
 pub mod source;
 pub mod table;
 pub mod trusted;
+pub mod trusted_scan;
 pub mod write;
 pub mod writer;
 
@@ -28,6 +31,7 @@ pub use source::{FileSource, FrameSource, MemorySource, SizedSource};
 use sst_base::{BlockHandle, HashRatio};
 pub use table::{OpenError, Table};
 pub use trusted::Trusted;
+pub use trusted_scan::TrustedScan;
 pub use write::{cuts_fit, write_run};
 pub use writer::RunWriter;
 

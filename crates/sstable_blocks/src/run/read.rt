@@ -23,7 +23,7 @@ ghost use Rattle.sstable_blocks.specs.Sound.{IsSound};
 
 use crate::run::RunHandles;
 use crate::run::laws::sound_opens;
-use crate::table::filter::standard_bloom::StandardBloomFilterReader;
+use crate::run::open_filter::OpenFilter;
 use sst_base::table::block::header::HEADER_LEN;
 use sst_base::{
     Block, BlockHandle, BlockHash, BlockType, Error, InternalValue, Result, SeqNo, Slice, Steps,
@@ -48,7 +48,7 @@ fn block_at(bytes: &Slice, handle: &BlockHandle, block_type: BlockType) -> Resul
 
 // The payload of a frame, by the frame's range alone.
 #[tactic(auto, using(crate::proofs::Points::payload_range), unfolding(crate::specs::Opened::payload_in))]
-fn payload_at<'a>(bytes: &'a [u8], handle: &BlockHandle) -> &'a [u8]
+pub(crate) fn payload_at<'a>(bytes: &'a [u8], handle: &BlockHandle) -> &'a [u8]
     requires { IsFrameRange bytes.now handle.now }
     ensures { result.now ≡ payload_in bytes.now handle.now }
 {
@@ -58,17 +58,11 @@ fn payload_at<'a>(bytes: &'a [u8], handle: &BlockHandle) -> &'a [u8]
 }
 
 // Whether a run can have a key of this hash, by its filter. It can where there is none.
-pub(crate) fn is_allowed(bytes: &[u8], filter: &Option<BlockHandle>, hash: u64) -> bool
+fn is_allowed(bytes: &[u8], filter: &Option<BlockHandle>, hash: u64) -> bool
     requires { IfSome filter.now (IsFrameRange bytes.now) }
     ensures { (result ≡ false) ↔ IsDenied bytes.now filter.now hash }
 {
-    match filter {
-        None => true,
-        Some(handle) => match StandardBloomFilterReader::new(payload_at(bytes, handle)) {
-            Ok(filter) => filter.contains_hash(hash),
-            Err(_) => true,
-        },
-    }
+    OpenFilter::new(bytes, filter).allows(hash)
 }
 
 // The first handle of an index that can lead to a key below a sequence number.
@@ -121,6 +115,19 @@ fn handle_in_index(
 {
     let index = IndexBlock::new(block_at(bytes, handle, BlockType::Index)?);
     Ok(find_handle(&index, needle, seqno, steps))
+}
+
+// The data block in a frame.
+pub(crate) fn block_in<H: BlockHash>(bytes: &Slice, handle: &BlockHandle) -> Result<DataBlock<H>>
+    requires range { IsFrameRange bytes.now handle.now }
+    requires block { (items : List Entry) × (r : ℕ) × (b : ℕ)
+        × IsBlock entries IsEntry H.hash64 (payload_in bytes.now handle.now) items r b }
+    ensures payload { IfOk result (λ b. b.payload ≡ payload_in bytes.now handle.now) }
+    ensures items { IfOk result
+        (λ b. b.items ≡ items_in entries (payload_in bytes.now handle.now)) }
+    ensures memory { IsOkUnless result Error.Memory }
+{
+    Ok(DataBlock::new(block_at(bytes, handle, BlockType::Data)?))
 }
 
 // The first match in the block in a frame.

@@ -7,8 +7,9 @@ ghost use Rattle.sst_base.specs.Entry.{Entry, plain};
 ghost use Rattle.sst_base.specs.declared.error.Error.TheVariants.{Io};
 ghost use Rattle.sstable_blocks.specs.Blocks.{joined};
 ghost use Rattle.sstable_blocks.specs.RunReading.{hashes};
-ghost use Rattle.sstable_blocks.specs.Scans.{GivesFirst, GivesLast, IsSameScan, error_of};
-ghost use Rattle.sstable_blocks.specs.Scans.{handles_within, in_range, reads_left, within};
+ghost use Rattle.sstable_blocks.specs.Scans.{EndsBy, GivesFirst, GivesLast, IsFewer, IsSameScan};
+ghost use Rattle.sstable_blocks.specs.Scans.{error_of, handles_within, in_range, most_left};
+ghost use Rattle.sstable_blocks.specs.Scans.{reads_left, within};
 ghost use Rattle.sstable_blocks.specs.Sound.{IsSound};
 ghost use Rattle.sstable_blocks.specs.Sources.{KeepsSource};
 
@@ -58,8 +59,8 @@ impl<'k, H: BlockHash, S: FrameSource> Model for Scan<'k, H, S> {
 }
 
 impl<'k, H: BlockHash, S: FrameSource> Scan<'k, H, S> {
-    /// Starts a scan of the user keys between two bounds. No block is read yet. A range that ends before
-    /// it starts has no keys.
+    /// Starts a scan of the user keys between two bounds. No block is read yet. A range that ends
+    /// before it starts has no keys.
     #[tactic(auto, unfolding(crate::specs::Scans::handles_within))]
     pub fn new(table: Table<H, S>, from: Bound<&'k [u8]>, to: Bound<&'k [u8]>) -> Scan<'k, H, S>
         ensures table { result.table ≡ table }
@@ -78,14 +79,7 @@ impl<'k, H: BlockHash, S: FrameSource> Scan<'k, H, S> {
         sound_is_scanned();
         let bounds = Bounds { from, to };
         let index = table.index();
-        let lo = bounds.first_block(index);
-        let hi = bounds.end_block(index);
-        let blocks = Blocks {
-            front: None,
-            lo,
-            hi,
-            back: None,
-        };
+        let blocks = Blocks::within(&bounds, index);
         Scan {
             table,
             bounds,
@@ -122,13 +116,18 @@ impl<'k, H: BlockHash, S: FrameSource> Scan<'k, H, S> {
             (S.is_reliable self.old.table.source)
             (reads_left (hashes H.hash64 H.hash128) all self.old)
             (reads_left (hashes H.hash64 H.hash128) all self.new) result) }
-        ensures ended { self.new.ended ≡ error_of result }
-        ensures repeated { IfSome self.old.ended (λ e. result ≡ Err e) }
+        ensures ended { EndsBy self.old.ended self.new.ended result }
+        ensures fewer { IfOk result (IsFewer (most_left self.old) (most_left self.new)) }
     {
         if let Some(error) = self.ended {
             return Err(error);
         }
-        let first = step_front::<H, S>(alloc, &mut self.table, &self.bounds, &mut self.blocks);
+        let first = step_front::<H, Table<H, S>>(
+            alloc,
+            &mut self.table,
+            &self.bounds,
+            &mut self.blocks,
+        );
         self.ended = error_in(&first);
         first
     }
@@ -154,20 +153,26 @@ impl<'k, H: BlockHash, S: FrameSource> Scan<'k, H, S> {
             (S.is_reliable self.old.table.source)
             (reads_left (hashes H.hash64 H.hash128) all self.old)
             (reads_left (hashes H.hash64 H.hash128) all self.new) result) }
-        ensures ended { self.new.ended ≡ error_of result }
-        ensures repeated { IfSome self.old.ended (λ e. result ≡ Err e) }
+        ensures ended { EndsBy self.old.ended self.new.ended result }
+        ensures fewer { IfOk result (IsFewer (most_left self.old) (most_left self.new)) }
     {
         if let Some(error) = self.ended {
             return Err(error);
         }
-        let last = step_back::<H, S>(alloc, &mut self.table, &self.bounds, &mut self.blocks);
+        let last = step_back::<H, Table<H, S>>(
+            alloc,
+            &mut self.table,
+            &self.bounds,
+            &mut self.blocks,
+        );
         self.ended = error_in(&last);
         last
     }
 }
 
 // The error of a step, if it is one.
-fn error_in(found: &Result<Option<InternalValue>>) -> Option<Error>
+#[inline(always)]
+pub(crate) fn error_in(found: &Result<Option<InternalValue>>) -> Option<Error>
     ensures { result ≡ error_of found.now }
 {
     match found {

@@ -1,5 +1,6 @@
 //! The steps of a scan: which blocks are opened, and which entries are taken.
-ghost use Rattle.std.specs.Prelude.{◌≡◌, ◌+◌, ◌≤◌, ◌<◌, ◌-◌, List, [], true, nat_lt, drop, take, length, slice_get, Some};
+ghost use Rattle.std.specs.Prelude.{◌≡◌, ◌+◌, ◌≤◌, ◌<◌, ◌-◌, ◌^◌, List, [], true, nat_lt};
+ghost use Rattle.std.specs.Prelude.{None, Some, drop, length, slice_get, take};
 ghost use Rattle.std.specs.Prelude.{OnOk, IfOk, IfErr, IfSome, IsOkUnless, MatchResult};
 ghost use Rattle.std.specs.Iterator.{YieldsFirst, YieldsLast};
 ghost use Rattle.sst_base.specs.declared.error.Error.TheVariants.{Io};
@@ -7,13 +8,13 @@ ghost use Rattle.sst_block_core.specs.Window.{items_left, whole};
 ghost use Rattle.sst_block_kinds.specs.Handles.{Handle};
 ghost use Rattle.sstable_blocks.specs.RunReading.{hashes};
 ghost use Rattle.sstable_blocks.specs.Scans.{AllWithin, AreScanEnds, between, block_within};
-ghost use Rattle.sstable_blocks.specs.Scans.{blocks_up_to, end_block, end_entry, first_block, first_entry, in_range};
-ghost use Rattle.sstable_blocks.specs.Scans.{left_in, reads_among, within};
+ghost use Rattle.sstable_blocks.specs.Scans.{blocks_up_to, end_block, end_entry, first_block};
+ghost use Rattle.sstable_blocks.specs.Scans.{first_entry, in_range};
+ghost use Rattle.sstable_blocks.specs.Scans.{IsFewer, left_in, most_among, reads_among, within};
 ghost use Rattle.sstable_blocks.specs.Scans.{FailsFirst, FailsLast, GivesFirst, GivesLast};
 ghost use Rattle.sstable_blocks.specs.Sources.{GivesOr, KeepsSource};
 
-use super::source::FrameSource;
-use super::table::Table;
+use super::opener::BlockOpener;
 use sst_base::{BlockHash, Error, InternalValue, Result};
 use sst_block_core::table::block::bound::Bound as SeekBound;
 use sst_block_kinds::IndexBlock;
@@ -137,33 +138,56 @@ pub(crate) struct Blocks<H: BlockHash> {
     pub(crate) back: Option<IntoEntries<H>>,
 }
 
-// Reads the block of a handle, and cuts it by the bounds.
-fn open_block<H: BlockHash, S: FrameSource>(
+impl<H: BlockHash> Blocks<H> {
+    /// Opens no block: those are left that can have a key in a range, by the index.
+    pub(crate) fn within(bounds: &Bounds<'_>, index: &IndexBlock) -> Blocks<H>
+        ensures none { (result.front ≡ None) × (result.back ≡ None) }
+        ensures lo { result.lo ≡ first_block bounds.now index.now.items }
+        ensures hi { result.hi ≡ end_block bounds.now index.now.items }
+        ensures inside { result.hi ≤ length index.now.items }
+    {
+        Blocks {
+            front: None,
+            lo: bounds.first_block(index),
+            hi: bounds.end_block(index),
+            back: None,
+        }
+    }
+}
+
+// Opens the block of a handle, and cuts it by the bounds.
+#[tactic(auto, using(crate::proofs::ScanCounts::few_within))]
+fn cut_block<H: BlockHash, B: BlockOpener<H>>(
     alloc: Global,
-    table: &mut Table<H, S>,
+    opener: &mut B,
     bounds: &Bounds<'_>,
     index: usize,
 ) -> Result<IntoEntries<H>>
-    requires { index < length table.old.index }
-    ensures kept { table.new ≡ record table.old { source = table.new.source } }
-    ensures source { KeepsSource S.bytes S.failures S.is_reliable table.old.source table.new.source }
-    ensures reads { S.reads table.new.source ≡ S.reads table.old.source + 1 }
+    requires { index < length (B.kept opener.old).index }
+    ensures kept { B.kept opener.new ≡ B.kept opener.old }
+    ensures source { KeepsSource B.bytes B.failures B.is_reliable opener.old opener.new }
+    ensures reads { B.reads opener.new ≡ B.reads opener.old + 1 }
     ensures io { IfErr result
-        (λ e. e ≡ Io → S.failures table.old.source < S.failures table.new.source) }
+        (λ e. e ≡ Io → B.failures opener.old < B.failures opener.new) }
     ensures all { IfOk result (λ e. AllWithin bounds.now (items_left e.window)) }
-    ensures exact { IfSome (S.bytes table.old.source)
-        (λ all. (h : Handle) → slice_get table.old.index index ≡ Some h
-        → GivesOr (S.failures table.old.source < S.failures table.new.source)
-        (S.is_reliable table.old.source) (λ e. items_left e.window) result
+    ensures few { IfOk result (λ e. length (items_left e.window) < 2 ^ 32) }
+    ensures exact { IfSome (B.bytes opener.old)
+        (λ all. (h : Handle) → slice_get (B.kept opener.old).index index ≡ Some h
+        → GivesOr (B.failures opener.old < B.failures opener.new)
+        (B.is_reliable opener.old) (λ e. items_left e.window) result
         (block_within (hashes H.hash64 H.hash128) all bounds.now h)) }
 {
-    let block = table.block_at(alloc, index)?;
+    let block = opener.open_block(alloc, index)?;
+    // The proof needs that the payload is an encoding, and the bound on its length.
+    let payload = block.as_slice();
+    let _len = payload.len();
     let mut entries = block.into_entries();
     bounds.cut(&mut entries);
     Ok(entries)
 }
 
 // Whether an opened block has an entry left.
+#[inline(always)]
 fn has_entry<H: BlockHash>(entries: &Option<IntoEntries<H>>) -> bool
     ensures { result ≡ nat_lt 0 (length (left_in entries.now)) }
 {
@@ -174,6 +198,7 @@ fn has_entry<H: BlockHash>(entries: &Option<IntoEntries<H>>) -> bool
 }
 
 // Takes the first entry left of an opened block.
+#[inline(always)]
 fn take_first<H: BlockHash>(
     alloc: Global,
     entries: &mut Option<IntoEntries<H>>,
@@ -190,6 +215,7 @@ fn take_first<H: BlockHash>(
 }
 
 // Takes the last entry left of an opened block.
+#[inline(always)]
 fn take_last<H: BlockHash>(
     alloc: Global,
     entries: &mut Option<IntoEntries<H>>,
@@ -211,154 +237,270 @@ fn take_last<H: BlockHash>(
 }
 
 // Opens blocks from the front until one has an entry in the range, or none is left.
-fn fill_front<H: BlockHash, S: FrameSource>(
+fn fill_front<H: BlockHash, B: BlockOpener<H>>(
     alloc: Global,
-    table: &mut Table<H, S>,
+    opener: &mut B,
     bounds: &Bounds<'_>,
     blocks: &mut Blocks<H>,
 ) -> Result<()>
-    requires { AreScanEnds table.old.index bounds.now (left_in blocks.old.front) blocks.old.hi
-        (left_in blocks.old.back) }
-    ensures kept { table.new ≡ record table.old { source = table.new.source } }
-    ensures source { KeepsSource S.bytes S.failures S.is_reliable table.old.source table.new.source }
-    ensures reads { S.reads table.new.source + (blocks.new.hi - blocks.new.lo)
-        ≡ S.reads table.old.source + (blocks.old.hi - blocks.old.lo) }
+    requires { AreScanEnds (B.kept opener.old).index bounds.now (left_in blocks.old.front)
+        blocks.old.hi (left_in blocks.old.back) }
+    ensures kept { B.kept opener.new ≡ B.kept opener.old }
+    ensures source { KeepsSource B.bytes B.failures B.is_reliable opener.old opener.new }
+    ensures reads { B.reads opener.new + (blocks.new.hi - blocks.new.lo)
+        ≡ B.reads opener.old + (blocks.old.hi - blocks.old.lo) }
     ensures io { IfErr result
-        (λ e. e ≡ Io → S.failures table.old.source < S.failures table.new.source) }
+        (λ e. e ≡ Io → B.failures opener.old < B.failures opener.new) }
     ensures back { (blocks.new.hi ≡ blocks.old.hi) × (blocks.new.back ≡ blocks.old.back) }
-    ensures all { AllWithin bounds.now (left_in blocks.new.front) }
+    ensures all { AllWithin bounds.now (left_in blocks.new.front)
+        × (most_among (left_in blocks.new.front) (blocks.new.hi - blocks.new.lo)
+        (left_in blocks.new.back)
+        ≤ most_among (left_in blocks.old.front) (blocks.old.hi - blocks.old.lo)
+        (left_in blocks.old.back)) }
     ensures done { OnOk result
         (left_in blocks.new.front ≡ [] → blocks.new.hi ≤ blocks.new.lo) }
-    ensures exact { IfSome (S.bytes table.old.source) (λ all. MatchResult result
+    ensures exact { IfSome (B.bytes opener.old) (λ all. MatchResult result
         (λ _. reads_among (hashes H.hash64 H.hash128) all bounds.now (left_in blocks.new.front)
-        (between table.old.index blocks.new.lo blocks.new.hi) (left_in blocks.new.back)
+        (between (B.kept opener.old).index blocks.new.lo blocks.new.hi) (left_in blocks.new.back)
         ≡ reads_among (hashes H.hash64 H.hash128) all bounds.now (left_in blocks.old.front)
-        (between table.old.index blocks.old.lo blocks.old.hi) (left_in blocks.old.back))
-        (FailsFirst (S.failures table.old.source < S.failures table.new.source)
-        (S.is_reliable table.old.source)
+        (between (B.kept opener.old).index blocks.old.lo blocks.old.hi) (left_in blocks.old.back))
+        (FailsFirst (B.failures opener.old < B.failures opener.new)
+        (B.is_reliable opener.old)
         (reads_among (hashes H.hash64 H.hash128) all bounds.now (left_in blocks.old.front)
-        (between table.old.index blocks.old.lo blocks.old.hi) (left_in blocks.old.back)))) }
+        (between (B.kept opener.old).index blocks.old.lo blocks.old.hi)
+        (left_in blocks.old.back)))) }
 {
     'open: while blocks.lo < blocks.hi && !has_entry::<H>(&blocks.front) {
         let index = blocks.lo;
         blocks.lo = index + 1;
-        let entries = open_block::<H, S>(alloc, table, bounds, index)?;
+        let entries = cut_block::<H, B>(alloc, opener, bounds, index)?;
         blocks.front = Some(entries);
     }
     Ok(())
 }
 
 // Opens blocks from the back until one has an entry in the range, or none is left.
-fn fill_back<H: BlockHash, S: FrameSource>(
+fn fill_back<H: BlockHash, B: BlockOpener<H>>(
     alloc: Global,
-    table: &mut Table<H, S>,
+    opener: &mut B,
     bounds: &Bounds<'_>,
     blocks: &mut Blocks<H>,
 ) -> Result<()>
-    requires { AreScanEnds table.old.index bounds.now (left_in blocks.old.front) blocks.old.hi
-        (left_in blocks.old.back) }
-    ensures kept { table.new ≡ record table.old { source = table.new.source } }
-    ensures source { KeepsSource S.bytes S.failures S.is_reliable table.old.source table.new.source }
-    ensures reads { S.reads table.new.source + (blocks.new.hi - blocks.new.lo)
-        ≡ S.reads table.old.source + (blocks.old.hi - blocks.old.lo) }
+    requires { AreScanEnds (B.kept opener.old).index bounds.now (left_in blocks.old.front)
+        blocks.old.hi (left_in blocks.old.back) }
+    ensures kept { B.kept opener.new ≡ B.kept opener.old }
+    ensures source { KeepsSource B.bytes B.failures B.is_reliable opener.old opener.new }
+    ensures reads { B.reads opener.new + (blocks.new.hi - blocks.new.lo)
+        ≡ B.reads opener.old + (blocks.old.hi - blocks.old.lo) }
     ensures io { IfErr result
-        (λ e. e ≡ Io → S.failures table.old.source < S.failures table.new.source) }
+        (λ e. e ≡ Io → B.failures opener.old < B.failures opener.new) }
     ensures front { (blocks.new.lo ≡ blocks.old.lo) × (blocks.new.front ≡ blocks.old.front) }
     ensures all { (blocks.new.hi ≤ blocks.old.hi)
-        × AllWithin bounds.now (left_in blocks.new.back) }
+        × AllWithin bounds.now (left_in blocks.new.back)
+        × (most_among (left_in blocks.new.front) (blocks.new.hi - blocks.new.lo)
+        (left_in blocks.new.back)
+        ≤ most_among (left_in blocks.old.front) (blocks.old.hi - blocks.old.lo)
+        (left_in blocks.old.back)) }
     ensures done { OnOk result
         (left_in blocks.new.back ≡ [] → blocks.new.hi ≤ blocks.new.lo) }
-    ensures exact { IfSome (S.bytes table.old.source) (λ all. MatchResult result
+    ensures exact { IfSome (B.bytes opener.old) (λ all. MatchResult result
         (λ _. reads_among (hashes H.hash64 H.hash128) all bounds.now (left_in blocks.new.front)
-        (between table.old.index blocks.new.lo blocks.new.hi) (left_in blocks.new.back)
+        (between (B.kept opener.old).index blocks.new.lo blocks.new.hi) (left_in blocks.new.back)
         ≡ reads_among (hashes H.hash64 H.hash128) all bounds.now (left_in blocks.old.front)
-        (between table.old.index blocks.old.lo blocks.old.hi) (left_in blocks.old.back))
-        (FailsLast (S.failures table.old.source < S.failures table.new.source)
-        (S.is_reliable table.old.source)
+        (between (B.kept opener.old).index blocks.old.lo blocks.old.hi) (left_in blocks.old.back))
+        (FailsLast (B.failures opener.old < B.failures opener.new)
+        (B.is_reliable opener.old)
         (reads_among (hashes H.hash64 H.hash128) all bounds.now (left_in blocks.old.front)
-        (between table.old.index blocks.old.lo blocks.old.hi) (left_in blocks.old.back)))) }
+        (between (B.kept opener.old).index blocks.old.lo blocks.old.hi)
+        (left_in blocks.old.back)))) }
 {
     'open: while blocks.lo < blocks.hi && !has_entry::<H>(&blocks.back) {
         let index = blocks.hi - 1;
         blocks.hi = index;
-        let entries = open_block::<H, S>(alloc, table, bounds, index)?;
+        let entries = cut_block::<H, B>(alloc, opener, bounds, index)?;
         blocks.back = Some(entries);
     }
     Ok(())
 }
 
-/// Takes the first entry left of a scan, from the front's block, from the next one that has an
-/// entry in the range, or from the back's.
-pub(crate) fn step_front<H: BlockHash, S: FrameSource>(
+// Takes the first entry left of a scan where the front's block has no entry left.
+#[inline(never)]
+fn next_front<H: BlockHash, B: BlockOpener<H>>(
     alloc: Global,
-    table: &mut Table<H, S>,
+    opener: &mut B,
     bounds: &Bounds<'_>,
     blocks: &mut Blocks<H>,
 ) -> Result<Option<InternalValue>>
-    requires { AreScanEnds table.old.index bounds.now (left_in blocks.old.front) blocks.old.hi
-        (left_in blocks.old.back) }
-    ensures kept { table.new ≡ record table.old { source = table.new.source } }
-    ensures source { KeepsSource S.bytes S.failures S.is_reliable table.old.source table.new.source }
-    ensures reads { S.reads table.new.source
-        + length (between table.old.index blocks.new.lo blocks.new.hi)
-        ≡ S.reads table.old.source
-        + length (between table.old.index blocks.old.lo blocks.old.hi) }
+    requires { AreScanEnds (B.kept opener.old).index bounds.now (left_in blocks.old.front)
+        blocks.old.hi (left_in blocks.old.back) }
+    ensures kept { B.kept opener.new ≡ B.kept opener.old }
+    ensures source { KeepsSource B.bytes B.failures B.is_reliable opener.old opener.new }
+    ensures reads { B.reads opener.new
+        + length (between (B.kept opener.old).index blocks.new.lo blocks.new.hi)
+        ≡ B.reads opener.old
+        + length (between (B.kept opener.old).index blocks.old.lo blocks.old.hi) }
     ensures io { IfErr result
-        (λ e. e ≡ Io → S.failures table.old.source < S.failures table.new.source) }
-    ensures ends { AreScanEnds table.old.index bounds.now (left_in blocks.new.front) blocks.new.hi
-        (left_in blocks.new.back) }
+        (λ e. e ≡ Io → B.failures opener.old < B.failures opener.new) }
+    ensures ends { AreScanEnds (B.kept opener.old).index bounds.now (left_in blocks.new.front)
+        blocks.new.hi (left_in blocks.new.back) }
     ensures in_range { IfOk result (λ x. IfSome x
         (λ entry. in_range bounds.now entry.key.user_key ≡ true)) }
-    ensures exact { IfSome (S.bytes table.old.source) (λ all.
-        GivesFirst (S.failures table.old.source < S.failures table.new.source)
-        (S.is_reliable table.old.source)
+    ensures exact { IfSome (B.bytes opener.old) (λ all.
+        GivesFirst (B.failures opener.old < B.failures opener.new)
+        (B.is_reliable opener.old)
         (reads_among (hashes H.hash64 H.hash128) all bounds.now (left_in blocks.old.front)
-        (between table.old.index blocks.old.lo blocks.old.hi) (left_in blocks.old.back))
+        (between (B.kept opener.old).index blocks.old.lo blocks.old.hi) (left_in blocks.old.back))
         (reads_among (hashes H.hash64 H.hash128) all bounds.now (left_in blocks.new.front)
-        (between table.old.index blocks.new.lo blocks.new.hi) (left_in blocks.new.back))
+        (between (B.kept opener.old).index blocks.new.lo blocks.new.hi) (left_in blocks.new.back))
         result) }
+    ensures fewer { IfOk result (IsFewer
+        (most_among (left_in blocks.old.front)
+        (length (between (B.kept opener.old).index blocks.old.lo blocks.old.hi))
+        (left_in blocks.old.back))
+        (most_among (left_in blocks.new.front)
+        (length (between (B.kept opener.old).index blocks.new.lo blocks.new.hi))
+        (left_in blocks.new.back))) }
 {
-    fill_front::<H, S>(alloc, table, bounds, blocks)?;
+    fill_front::<H, B>(alloc, opener, bounds, blocks)?;
     match take_first::<H>(alloc, &mut blocks.front)? {
         Some(entry) => Ok(Some(entry)),
         None => take_first::<H>(alloc, &mut blocks.back),
     }
 }
 
-/// Takes the last entry left of a scan, from the back's block, from the next one before it that has
-/// an entry in the range, or from the front's.
-pub(crate) fn step_back<H: BlockHash, S: FrameSource>(
+/// Takes the first entry left of a scan, from the front's block, from the next one that has an
+/// entry in the range, or from the back's.
+#[inline(always)]
+pub(crate) fn step_front<H: BlockHash, B: BlockOpener<H>>(
     alloc: Global,
-    table: &mut Table<H, S>,
+    opener: &mut B,
     bounds: &Bounds<'_>,
     blocks: &mut Blocks<H>,
 ) -> Result<Option<InternalValue>>
-    requires { AreScanEnds table.old.index bounds.now (left_in blocks.old.front) blocks.old.hi
-        (left_in blocks.old.back) }
-    ensures kept { table.new ≡ record table.old { source = table.new.source } }
-    ensures source { KeepsSource S.bytes S.failures S.is_reliable table.old.source table.new.source }
-    ensures reads { S.reads table.new.source
-        + length (between table.old.index blocks.new.lo blocks.new.hi)
-        ≡ S.reads table.old.source
-        + length (between table.old.index blocks.old.lo blocks.old.hi) }
+    requires { AreScanEnds (B.kept opener.old).index bounds.now (left_in blocks.old.front)
+        blocks.old.hi (left_in blocks.old.back) }
+    ensures kept { B.kept opener.new ≡ B.kept opener.old }
+    ensures source { KeepsSource B.bytes B.failures B.is_reliable opener.old opener.new }
+    ensures reads { B.reads opener.new
+        + length (between (B.kept opener.old).index blocks.new.lo blocks.new.hi)
+        ≡ B.reads opener.old
+        + length (between (B.kept opener.old).index blocks.old.lo blocks.old.hi) }
     ensures io { IfErr result
-        (λ e. e ≡ Io → S.failures table.old.source < S.failures table.new.source) }
-    ensures ends { AreScanEnds table.old.index bounds.now (left_in blocks.new.front) blocks.new.hi
-        (left_in blocks.new.back) }
+        (λ e. e ≡ Io → B.failures opener.old < B.failures opener.new) }
+    ensures ends { AreScanEnds (B.kept opener.old).index bounds.now (left_in blocks.new.front)
+        blocks.new.hi (left_in blocks.new.back) }
     ensures in_range { IfOk result (λ x. IfSome x
         (λ entry. in_range bounds.now entry.key.user_key ≡ true)) }
-    ensures exact { IfSome (S.bytes table.old.source) (λ all.
-        GivesLast (S.failures table.old.source < S.failures table.new.source)
-        (S.is_reliable table.old.source)
+    ensures exact { IfSome (B.bytes opener.old) (λ all.
+        GivesFirst (B.failures opener.old < B.failures opener.new)
+        (B.is_reliable opener.old)
         (reads_among (hashes H.hash64 H.hash128) all bounds.now (left_in blocks.old.front)
-        (between table.old.index blocks.old.lo blocks.old.hi) (left_in blocks.old.back))
+        (between (B.kept opener.old).index blocks.old.lo blocks.old.hi) (left_in blocks.old.back))
         (reads_among (hashes H.hash64 H.hash128) all bounds.now (left_in blocks.new.front)
-        (between table.old.index blocks.new.lo blocks.new.hi) (left_in blocks.new.back))
+        (between (B.kept opener.old).index blocks.new.lo blocks.new.hi) (left_in blocks.new.back))
         result) }
+    ensures fewer { IfOk result (IsFewer
+        (most_among (left_in blocks.old.front)
+        (length (between (B.kept opener.old).index blocks.old.lo blocks.old.hi))
+        (left_in blocks.old.back))
+        (most_among (left_in blocks.new.front)
+        (length (between (B.kept opener.old).index blocks.new.lo blocks.new.hi))
+        (left_in blocks.new.back))) }
 {
-    fill_back::<H, S>(alloc, table, bounds, blocks)?;
+    if has_entry::<H>(&blocks.front) {
+        take_first::<H>(alloc, &mut blocks.front)
+    } else {
+        next_front::<H, B>(alloc, opener, bounds, blocks)
+    }
+}
+
+// Takes the last entry left of a scan where the back's block has no entry left.
+#[inline(never)]
+fn next_back<H: BlockHash, B: BlockOpener<H>>(
+    alloc: Global,
+    opener: &mut B,
+    bounds: &Bounds<'_>,
+    blocks: &mut Blocks<H>,
+) -> Result<Option<InternalValue>>
+    requires { AreScanEnds (B.kept opener.old).index bounds.now (left_in blocks.old.front)
+        blocks.old.hi (left_in blocks.old.back) }
+    ensures kept { B.kept opener.new ≡ B.kept opener.old }
+    ensures source { KeepsSource B.bytes B.failures B.is_reliable opener.old opener.new }
+    ensures reads { B.reads opener.new
+        + length (between (B.kept opener.old).index blocks.new.lo blocks.new.hi)
+        ≡ B.reads opener.old
+        + length (between (B.kept opener.old).index blocks.old.lo blocks.old.hi) }
+    ensures io { IfErr result
+        (λ e. e ≡ Io → B.failures opener.old < B.failures opener.new) }
+    ensures ends { AreScanEnds (B.kept opener.old).index bounds.now (left_in blocks.new.front)
+        blocks.new.hi (left_in blocks.new.back) }
+    ensures in_range { IfOk result (λ x. IfSome x
+        (λ entry. in_range bounds.now entry.key.user_key ≡ true)) }
+    ensures exact { IfSome (B.bytes opener.old) (λ all.
+        GivesLast (B.failures opener.old < B.failures opener.new)
+        (B.is_reliable opener.old)
+        (reads_among (hashes H.hash64 H.hash128) all bounds.now (left_in blocks.old.front)
+        (between (B.kept opener.old).index blocks.old.lo blocks.old.hi) (left_in blocks.old.back))
+        (reads_among (hashes H.hash64 H.hash128) all bounds.now (left_in blocks.new.front)
+        (between (B.kept opener.old).index blocks.new.lo blocks.new.hi) (left_in blocks.new.back))
+        result) }
+    ensures fewer { IfOk result (IsFewer
+        (most_among (left_in blocks.old.front)
+        (length (between (B.kept opener.old).index blocks.old.lo blocks.old.hi))
+        (left_in blocks.old.back))
+        (most_among (left_in blocks.new.front)
+        (length (between (B.kept opener.old).index blocks.new.lo blocks.new.hi))
+        (left_in blocks.new.back))) }
+{
+    fill_back::<H, B>(alloc, opener, bounds, blocks)?;
     match take_last::<H>(alloc, &mut blocks.back)? {
         Some(entry) => Ok(Some(entry)),
         None => take_last::<H>(alloc, &mut blocks.front),
+    }
+}
+
+/// Takes the last entry left of a scan, from the back's block, from the next one before it that has
+/// an entry in the range, or from the front's.
+#[inline(always)]
+pub(crate) fn step_back<H: BlockHash, B: BlockOpener<H>>(
+    alloc: Global,
+    opener: &mut B,
+    bounds: &Bounds<'_>,
+    blocks: &mut Blocks<H>,
+) -> Result<Option<InternalValue>>
+    requires { AreScanEnds (B.kept opener.old).index bounds.now (left_in blocks.old.front)
+        blocks.old.hi (left_in blocks.old.back) }
+    ensures kept { B.kept opener.new ≡ B.kept opener.old }
+    ensures source { KeepsSource B.bytes B.failures B.is_reliable opener.old opener.new }
+    ensures reads { B.reads opener.new
+        + length (between (B.kept opener.old).index blocks.new.lo blocks.new.hi)
+        ≡ B.reads opener.old
+        + length (between (B.kept opener.old).index blocks.old.lo blocks.old.hi) }
+    ensures io { IfErr result
+        (λ e. e ≡ Io → B.failures opener.old < B.failures opener.new) }
+    ensures ends { AreScanEnds (B.kept opener.old).index bounds.now (left_in blocks.new.front)
+        blocks.new.hi (left_in blocks.new.back) }
+    ensures in_range { IfOk result (λ x. IfSome x
+        (λ entry. in_range bounds.now entry.key.user_key ≡ true)) }
+    ensures exact { IfSome (B.bytes opener.old) (λ all.
+        GivesLast (B.failures opener.old < B.failures opener.new)
+        (B.is_reliable opener.old)
+        (reads_among (hashes H.hash64 H.hash128) all bounds.now (left_in blocks.old.front)
+        (between (B.kept opener.old).index blocks.old.lo blocks.old.hi) (left_in blocks.old.back))
+        (reads_among (hashes H.hash64 H.hash128) all bounds.now (left_in blocks.new.front)
+        (between (B.kept opener.old).index blocks.new.lo blocks.new.hi) (left_in blocks.new.back))
+        result) }
+    ensures fewer { IfOk result (IsFewer
+        (most_among (left_in blocks.old.front)
+        (length (between (B.kept opener.old).index blocks.old.lo blocks.old.hi))
+        (left_in blocks.old.back))
+        (most_among (left_in blocks.new.front)
+        (length (between (B.kept opener.old).index blocks.new.lo blocks.new.hi))
+        (left_in blocks.new.back))) }
+{
+    if has_entry::<H>(&blocks.back) {
+        take_last::<H>(alloc, &mut blocks.back)
+    } else {
+        next_back::<H, B>(alloc, opener, bounds, blocks)
     }
 }

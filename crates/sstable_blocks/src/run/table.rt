@@ -97,7 +97,8 @@ fn filter_block_from<H: BlockHash, S: FrameSource>(
     filter: &Option<BlockHandle>,
 ) -> Result<Option<FilterBlock>>
     ensures source { KeepsSource S.bytes S.failures S.is_reliable source.old source.new }
-    ensures reads { OnOk result (S.reads source.new ≡ S.reads source.old + filter_frames filter.now) }
+    ensures reads { OnOk result
+        (S.reads source.new ≡ S.reads source.old + filter_frames filter.now) }
     ensures io { IfErr result (λ e. e ≡ Io → S.failures source.old < S.failures source.new) }
     ensures exact { IfSome (S.bytes source.old)
         (λ all. GivesOr (S.failures source.old < S.failures source.new) (S.is_reliable source.old)
@@ -158,7 +159,8 @@ fn kept_index_from<H: BlockHash, S: FrameSource>(
     ensures reads { S.reads source.new ≡ S.reads source.old + 1 }
     ensures io { IfErr result (λ e. e ≡ Io → S.failures source.old < S.failures source.new) }
     ensures exact { IfSome (S.bytes source.old)
-        (λ all. GivesOr (S.failures source.old < S.failures source.new) (S.is_reliable source.old) (λ b. b.items) result
+        (λ all. GivesOr (S.failures source.old < S.failures source.new)
+        (S.is_reliable source.old) (λ b. b.items) result
         (handles_at (hashes H.hash64 H.hash128) all handle.now)) }
     ensures place { IfOk result (λ b. IfSome (S.bytes source.old)
         (λ all. IsIndexIn all handle.now b.items b.interval)) }
@@ -206,7 +208,8 @@ fn read_by_kept<H: BlockHash, S: FrameSource>(
         + frames_by (kept_says H.hash64 (option_map (λ b. b.payload) filter.now) needle.now) }
     ensures io { IfErr result (λ e. e ≡ Io → S.failures source.old < S.failures source.new) }
     ensures exact { IfSome (S.bytes source.old)
-        (λ all. GivesOr (S.failures source.old < S.failures source.new) (S.is_reliable source.old) (λ x. x) result
+        (λ all. GivesOr (S.failures source.old < S.failures source.new)
+        (S.is_reliable source.old) (λ x. x) result
         (read_kept (hashes H.hash64 H.hash128) all (option_map (λ b. b.payload) filter.now)
         index.now.items needle.now seqno)) }
     ensures counts { IfSome (S.bytes source.old)
@@ -248,7 +251,8 @@ impl<H: BlockHash, S: FrameSource> Table<H, S> {
         steps: &mut Steps,
     ) -> Result<Option<InternalValue>>
         ensures kept { self.new ≡ record self.old { source = self.new.source } }
-        ensures source { KeepsSource S.bytes S.failures S.is_reliable self.old.source self.new.source }
+        ensures source { KeepsSource S.bytes S.failures S.is_reliable self.old.source
+            self.new.source }
         ensures reads { S.reads self.new.source ≤ S.reads self.old.source
             + frames_by (kept_says H.hash64 self.old.filter needle.now) }
         ensures io { IfErr result
@@ -282,6 +286,20 @@ impl<H: BlockHash, S: FrameSource> Table<H, S> {
         )
     }
 
+    /// Returns where the index and the filter are.
+    pub fn handles(&self) -> &RunHandles
+        ensures { result.now ≡ self.now.handles }
+    {
+        &self.handles
+    }
+
+    /// Returns the filter, if there is one.
+    pub fn filter(&self) -> Option<&FilterBlock>
+        ensures { option_map (λ f. f.now.payload) result ≡ self.now.filter }
+    {
+        self.filter.as_ref()
+    }
+
     /// Returns the index, with the table of its heads.
     pub fn index(&self) -> &IndexBlock
         ensures items { result.now.items ≡ self.now.index }
@@ -304,7 +322,8 @@ impl<H: BlockHash, S: FrameSource> Table<H, S> {
     pub fn block_at(&mut self, alloc: Global, index: usize) -> Result<DataBlock<H>>
         requires { index < length self.old.index }
         ensures kept { self.new ≡ record self.old { source = self.new.source } }
-        ensures source { KeepsSource S.bytes S.failures S.is_reliable self.old.source self.new.source }
+        ensures source { KeepsSource S.bytes S.failures S.is_reliable self.old.source
+            self.new.source }
         ensures reads { S.reads self.new.source ≡ S.reads self.old.source + 1 }
         ensures io { IfErr result
             (λ e. e ≡ Io → S.failures self.old.source < S.failures self.new.source) }
@@ -325,7 +344,8 @@ impl<H: BlockHash, S: FrameSource> Table<H, S> {
     /// Those of [`check`].
     pub fn verify(&mut self, alloc: Global) -> Result<RunSummary>
         ensures kept { self.new ≡ record self.old { source = self.new.source } }
-        ensures source { KeepsSource S.bytes S.failures S.is_reliable self.old.source self.new.source }
+        ensures source { KeepsSource S.bytes S.failures S.is_reliable self.old.source
+            self.new.source }
         ensures reads { IfOk result (λ s. S.reads self.new.source
             ≡ S.reads self.old.source + (filter_frames self.old.handles.filter + (1 + s.blocks))) }
         ensures io { IfErr result

@@ -1,21 +1,26 @@
 //! Tables in memory that are read without checks.
 ghost use Rattle.std.specs.Prelude.{◌≡◌, ◌<◌, List, OnOk, IfOk, IsOkUnless};
+ghost use Rattle.std.specs.Prelude.{Some, length, slice_get};
 ghost use Rattle.sst_base.specs.Counted.{CountsExactly, CountsBetween};
 ghost use Rattle.sst_base.specs.Entry.{Entry};
 ghost use Rattle.sst_block_core.specs.Entries.{entries};
+ghost use Rattle.sst_block_core.specs.Stages.{items_in};
 ghost use Rattle.sst_block_core.specs.Window.{first_match};
+ghost use Rattle.sst_block_kinds.specs.Handles.{Handle};
 ghost use Rattle.sstable_blocks.specs.Blocks.{joined};
-ghost use Rattle.sstable_blocks.specs.Opened.{IsDenied};
+ghost use Rattle.sstable_blocks.specs.Opened.{IsDenied, index_in, payload_in, range_of};
 ghost use Rattle.sstable_blocks.specs.ReadCosts.{heads_most_in, entries_most_in};
 ghost use Rattle.sstable_blocks.specs.RunReading.{hashes};
+ghost use Rattle.sstable_blocks.specs.Scans.{IsReadRun};
 ghost use Rattle.sstable_blocks.specs.Sound.{IsSound};
 ghost use Rattle.sstable_blocks.specs.Tables.{IsIndexIn};
 
 use super::RunHandles;
-use super::laws::sound_opens;
-use super::read::{find_handle, is_allowed, match_in};
+use super::laws::{sound_opens, sound_run_is_read};
+use super::open_filter::OpenFilter;
+use super::read::{block_in, find_handle, match_in};
 use sst_base::{BlockHash, Error, InternalValue, Result, SeqNo, Slice, Steps};
-use sst_block_kinds::IndexBlock;
+use sst_block_kinds::{DataBlock, IndexBlock};
 use std::alloc::Global;
 use std::marker::{Model, PhantomData};
 
@@ -27,12 +32,13 @@ use std::marker::{Model, PhantomData};
 pub struct Trusted<'a, H: BlockHash> {
     bytes: &'a Slice,
     handles: &'a RunHandles,
+    filter: OpenFilter<'a>,
     index: &'a IndexBlock,
     hash: PhantomData<H>,
 }
 
 impl<'a, H: BlockHash> Model for Trusted<'a, H> {
-    ghost use Rattle.std.specs.Prelude.{List};
+    ghost use Rattle.std.specs.Prelude.{◌≡◌, List};
     ghost use Rattle.sst_base.specs.Entry.{Entry};
     ghost use Rattle.sstable_blocks.specs.RunReading.{hashes};
     ghost use Rattle.sstable_blocks.specs.Sound.{IsSound, RunParts};
@@ -44,7 +50,8 @@ impl<'a, H: BlockHash> Model for Trusted<'a, H> {
 
     ghost invariant = { λ t. ((blocks : List (List Entry))
         × IsSound (hashes H.hash64 H.hash128) blocks t.bytes.now t.handles.now)
-        × IsIndexIn t.bytes.now t.handles.now.index t.index.now.items t.index.now.interval };
+        × IsIndexIn t.bytes.now t.handles.now.index t.index.now.items t.index.now.interval
+        × (t.filter ≡ record { bytes = t.bytes.now; handle = t.handles.now.filter }) };
 }
 
 impl<'a, H: BlockHash> Trusted<'a, H> {
@@ -59,9 +66,11 @@ impl<'a, H: BlockHash> Trusted<'a, H> {
         requires index { IsIndexIn bytes.now handles.now.index index.now.items index.now.interval }
         ensures { result ≡ record { bytes = bytes.now; handles = handles.now } }
     {
+        sound_opens();
         Trusted {
             bytes,
             handles,
+            filter: OpenFilter::new(bytes.as_slice(), &handles.filter),
             index,
             hash: PhantomData,
         }
@@ -94,6 +103,10 @@ impl<'a, H: BlockHash> Trusted<'a, H> {
         ensures denied { IsDenied self.now.bytes self.now.handles.filter (H.hash64 needle.now)
             → CountsExactly steps.old steps.new 0 0 }
     {
+        sound_opens();
+        if !self.filter.allows(H::hash64(needle)) {
+            return Ok(None);
+        }
         read_by_index::<H>(
             alloc,
             self.bytes,
@@ -103,6 +116,45 @@ impl<'a, H: BlockHash> Trusted<'a, H> {
             seqno,
             steps,
         )
+    }
+}
+
+impl<'a, H: BlockHash> Trusted<'a, H> {
+    // The index.
+    pub(crate) fn index(&self) -> &'a IndexBlock
+        ensures { result.now.items ≡ index_in self.now.bytes self.now.handles.index }
+    {
+        self.index
+    }
+
+    // The same run.
+    pub(crate) fn again(&self) -> Trusted<'a, H>
+        ensures { result ≡ self.now }
+    {
+        Trusted::new(self.bytes, self.handles, self.index)
+    }
+
+    // States in a proof that the index is read, and the block of each of its handles.
+    pub(crate) fn note_read(&self)
+        ensures { IsReadRun (hashes H.hash64 H.hash128) self.now.bytes self.now.handles }
+    {
+        sound_run_is_read();
+        // The proof needs that the run is sound.
+        let _sound = self.bytes;
+    }
+
+    // Cuts the block of the handle at an index of the index.
+    pub(crate) fn block_at(&self, index: usize) -> Result<DataBlock<H>>
+        requires { index < length (index_in self.now.bytes self.now.handles.index) }
+        ensures items { (h : Handle)
+            → slice_get (index_in self.now.bytes self.now.handles.index) index ≡ Some h
+            → IfOk result
+            (λ b. b.items ≡ items_in entries (payload_in self.now.bytes (range_of h))) }
+        ensures memory { IsOkUnless result Error.Memory }
+    {
+        sound_opens();
+        let handle = self.index.handle_at(index);
+        block_in::<H>(self.bytes, &handle)
     }
 }
 
@@ -127,16 +179,9 @@ fn read_by_index<H: BlockHash>(
       heads_most_in bytes.now handles.now needle.now seqno,
       entries_most_in bytes.now handles.now needle.now seqno,
     ) }
-    ensures looked { OnOk result
-        ((IsDenied bytes.now handles.now.filter (H.hash64 needle.now) → ⊥)
-        → steps.old.heads < steps.new.heads) }
-    ensures denied { IsDenied bytes.now handles.now.filter (H.hash64 needle.now)
-        → CountsExactly steps.old steps.new 0 0 }
+    ensures looked { OnOk result (steps.old.heads < steps.new.heads) }
 {
     sound_opens();
-    if !is_allowed(bytes.as_slice(), &handles.filter, H::hash64(needle)) {
-        return Ok(None);
-    }
     match find_handle(index, needle, seqno, steps) {
         None => Ok(None),
         Some(handle) => match_in::<H>(alloc, bytes, &handle, needle, seqno, steps),

@@ -3,7 +3,7 @@ ghost use Rattle.std.specs.Prelude.{◌≡◌, ◌↔◌, length, Ok, Err, IfOk,
 ghost use Rattle.sstable_blocks.specs.Filter.{Filter, filter_at, MayContain};
 
 use super::standard_bloom::StandardBloomFilterReader;
-use sst_base::{AllocResult, Block, Result};
+use sst_base::{AllocResult, Block, Result, Slice};
 use std::marker::Model;
 
 /// A block whose payload is read as a filter each time that it is queried. Clauses see the block.
@@ -40,6 +40,13 @@ impl FilterBlock {
     {
         let filter = StandardBloomFilterReader::new(self.inner.data().as_slice())?;
         Ok(filter.contains_hash(hash))
+    }
+
+    /// Returns the payload.
+    pub fn as_slice(&self) -> &Slice
+        ensures { result.now ≡ self.now.payload }
+    {
+        self.inner.data()
     }
 
     /// Returns the length of the payload in bytes.

@@ -1,24 +1,12 @@
-use Rattle.std.proofs.Common.{sym, subst, ap, ◌∙◌, ◌≡◌, IfSome, List}
+use Rattle.std.proofs.Common.{ap, ◌∙◌, ◌≡◌, List}
 use Rattle.std.specs.Option.{option_map}
 use Rattle.sst_block_kinds.specs.Handles.{Handle, handles}
 use Rattle.sstable_blocks.specs.Lookup.{handle_for}
-use Rattle.sstable_blocks.specs.Opened.{range_of, IsFrameRange, IsDenied}
+use Rattle.sstable_blocks.specs.Opened.{range_of}
 use Rattle.sstable_blocks.specs.ReadCosts.{handle_in}
 use Rattle.sstable_blocks.specs.RunReading.{hashes}
-use Rattle.sstable_blocks.proofs.Points.{chosen, found_none, found_denied, found_some}
+use Rattle.sstable_blocks.proofs.Points.{chosen, found_none, found_some}
 use Rattle.sstable_blocks.proofs.run.trusted.read_by_index.Goals as goal
-
-pub is_allowed-requires : goal.is_allowed-requires
-is_allowed-requires g c =
-    let s = c.requires.sound in
-    let o = c.sound_opens.ensures (hashes g.H.BlockHash.hash64 g.H.BlockHash.hash128) s.0 _ _ s.1 in
-    subst (λ xs. IfSome c.args.handles.now.filter (IsFrameRange xs)) (sym c.as_slice.ensures) o.filter_range
-
-pub returns-then-not-is_allowed-clause-found : goal.returns-then-not-is_allowed-clause-found
-returns-then-not-is_allowed-clause-found g c = λ blocks sound.
-    let o = c.sound_opens.ensures (hashes g.H.BlockHash.hash64 g.H.BlockHash.hash128) blocks _ _ sound in
-    let denied = subst (λ xs. IsDenied xs c.args.handles.now.filter c.hash64.result) c.as_slice.ensures (c.is_allowed.ensures.0 c.if-not-is_allowed.true) in
-    found_denied _ _ _ _ c.args.needle.now c.args.seqno o _ c.hash64.ensures denied
 
 pub match_in-requires-clause-range : goal.match_in-requires-clause-range
 match_in-requires-clause-range g c =

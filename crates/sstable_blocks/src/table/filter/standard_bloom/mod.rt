@@ -112,6 +112,20 @@ impl<'a> StandardBloomFilterReader<'a> {
         self.inner.bytes().len()
     }
 
+    /// Returns the number of probes of a hash.
+    pub fn probe_count(&self) -> u64
+        ensures { result ≡ self.now.k }
+    {
+        self.k
+    }
+
+    /// Returns the bytes of the bits.
+    pub fn bits(&self) -> &[u8]
+        ensures { result.now ≡ self.now.bits }
+    {
+        self.inner.bytes()
+    }
+
     /// Returns whether the bit of each probe of a hash is set. `true` for each hash that was
     /// inserted, and for some that were not.
     pub fn contains_hash(&self, hash: u64) -> bool

@@ -3,7 +3,7 @@ use Rattle.std.specs.Range.Bound.{bound_map}
 use Rattle.sst_block_kinds.specs.Handles.{Handle}
 use Rattle.std.proofs.Common.{List}
 use Rattle.sstable_blocks.specs.RunReading.{hashes}
-use Rattle.sstable_blocks.specs.Scans.{KeyRange, first_block, end_block}
+use Rattle.sstable_blocks.specs.Scans.{KeyRange, first_block, end_block, left_in}
 use Rattle.sstable_blocks.proofs.ScanSteps.{fresh_reads}
 use Rattle.sstable_blocks.proofs.run.scan.Scan.new.Goals as goal
 
@@ -12,8 +12,9 @@ returns-clause-sound g c =
     let h = hashes g.H.BlockHash.hash64 g.H.BlockHash.hash128 in
     let r : KeyRange = record { from = bound_map (λ k. k.now) c.args.from; to = bound_map (λ k. k.now) c.args.to } in
     let same = c.index-index.ensures.items in
-    fresh_reads h r c.args.table.index c.args.table.handles _ _ _
-    (c.first_block-lo.ensures ∙ ap (λ (hs : List Handle). first_block r hs) same)
-    (c.end_block-hi.ensures.value ∙ ap (λ (hs : List Handle). end_block r hs) same)
+    fresh_reads h r c.args.table.index c.args.table.handles _ (left_in c.within-blocks.result.front) (left_in c.within-blocks.result.back) _ _
+    (ap left_in c.within-blocks.ensures.none.0) (ap left_in c.within-blocks.ensures.none.1)
+    (c.within-blocks.ensures.lo ∙ ap (λ (hs : List Handle). first_block r hs) same)
+    (c.within-blocks.ensures.hi ∙ ap (λ (hs : List Handle). end_block r hs) same)
     c.index-index.ensures.kept
     (λ all blocks sound at. c.sound_is_scanned.ensures h blocks all c.args.table.handles r c.args.table.index g.met.H.BlockHash.hash128_fits sound at)

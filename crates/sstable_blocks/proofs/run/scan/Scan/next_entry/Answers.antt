@@ -2,7 +2,7 @@ use Rattle.std.proofs.Common.{◌≡◌, ◌<◌, subst, ap, IfSome, None, List,
 use Rattle.sstable_blocks.specs.RunReading.{hashes}
 use Rattle.sstable_blocks.specs.Scans.{Read, GivesFirst, between, left_in, reads_among, reads_left}
 use Rattle.sstable_blocks.proofs.ScanSteps.{seen_after}
-use Rattle.sstable_blocks.specs.Tables.{TableParts}
+use Rattle.sstable_blocks.specs.Tables.{KeptParts}
 use Rattle.sstable_blocks.proofs.run.scan.Scan.next_entry.Goals as goal
 
 pub returns-clause-first : goal.returns-clause-first
@@ -11,11 +11,11 @@ returns-clause-first g c =
     let n = c.step_front-first.new in
     let s = c.self.inside in
     subst (λ v. IfSome (g.S.FrameSource.bytes v.table.source) (λ all. v.ended ≡ None
-    → GivesFirst (g.S.FrameSource.failures v.table.source < g.S.FrameSource.failures n.table.source) (g.S.FrameSource.is_reliable v.table.source) (reads_left h all v)
-    (reads_among h all s.bounds (left_in n.blocks.front) (between n.table.index n.blocks.lo n.blocks.hi) (left_in n.blocks.back)) c.step_front-first.result))
+    → GivesFirst (g.S.FrameSource.failures v.table.source < g.S.FrameSource.failures n.opener.source) (g.S.FrameSource.is_reliable v.table.source) (reads_left h all v)
+    (reads_among h all s.bounds (left_in n.blocks.front) (between n.opener.index n.blocks.lo n.blocks.hi) (left_in n.blocks.back)) c.step_front-first.result))
     c.self.view_is
-    (seen_after h s.bounds s.table.index (g.S.FrameSource.bytes s.table.source) n.table.index
-    (λ (all : List ℕ) (reads : List Read). GivesFirst (g.S.FrameSource.failures s.table.source < g.S.FrameSource.failures n.table.source) (g.S.FrameSource.is_reliable s.table.source)
+    (seen_after h s.bounds s.table.index (g.S.FrameSource.bytes s.table.source) n.opener.index
+    (λ (all : List ℕ) (reads : List Read). GivesFirst (g.S.FrameSource.failures s.table.source < g.S.FrameSource.failures n.opener.source) (g.S.FrameSource.is_reliable s.table.source)
     (reads_among h all s.bounds (left_in s.blocks.front) (between s.table.index s.blocks.lo s.blocks.hi) (left_in s.blocks.back)) reads c.step_front-first.result)
     (left_in n.blocks.front) (left_in n.blocks.back) n.blocks.lo n.blocks.hi s.ended
-    (ap (λ (t : TableParts g.row.S.Denot). t.index) c.step_front-first.ensures.kept) c.step_front-first.ensures.exact)
+    (ap (λ (k : KeptParts). k.index) c.step_front-first.ensures.kept) c.step_front-first.ensures.exact)
