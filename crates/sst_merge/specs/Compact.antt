@@ -1,7 +1,7 @@
 -- Compactions of ordered lists of versions.
-use Rattle.std.specs.Prelude.{ℕ, nat_lt, Bool, ◌&&◌, if◌then◌else◌, List, [], ◌∷◌, Option, Some, None}
+use Rattle.std.specs.Prelude.{ℕ, nat_lt, Bool, not, ◌&&◌, ◌||◌, if◌then◌else◌, List, [], ◌∷◌, Option, Some, None}
 use Rattle.sst_base.specs.Entry.{Entry}
-use Rattle.sst_merge.specs.Snapshot.{deletes, has_last_key}
+use Rattle.sst_merge.specs.Snapshot.{deletes, has_last_key, has_version, kept_after}
 
 module _ {X : Type 0} (entry : X → Entry) where
   -- the newest version of a key below the snapshot, before others; at the bottom level a tombstone goes
@@ -19,3 +19,12 @@ module _ {X : Type 0} (entry : X → Entry) where
 
   abbrev pub compacted : ℕ → Bool → List X → List X
   compacted snapshot bottom items = compact_from snapshot bottom None items
+
+  -- does a version stay, where these are before it? It is at the snapshot or above, or it is the first of its key below
+  -- the snapshot, and no tombstone at the bottom level
+  abbrev pub stays : ℕ → Bool → List X → X → Bool
+  stays snapshot bottom before e = not (nat_lt (entry e).key.seqno snapshot) || (not (has_version entry snapshot before e) && not (bottom && deletes (entry e).key.value_type))
+
+  -- the versions of an ordered list that a compaction leaves
+  abbrev pub staying : ℕ → Bool → List X → List X
+  staying snapshot bottom items = kept_after (stays snapshot bottom) [] items

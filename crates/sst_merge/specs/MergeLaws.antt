@@ -36,7 +36,7 @@ module _ {X : Type 0} (cmp : X → X → Ordering) where
   merge-permutation (x ∷ xs) ys = permuted x xs (merge cmp xs) (merge-permutation xs) ys
 
   -- P holds of the first item, and no item sorts before its predecessor
-  abbrev Rises : (X → Type 0) → List X → Type 0
+  abbrev pub Rises : (X → Type 0) → List X → Type 0
   Rises P [] = Unit {0}
   Rises P (x ∷ xs) = P x × Rises (λ y. cmp y x ≢ Less) xs
 
@@ -44,11 +44,11 @@ module _ {X : Type 0} (cmp : X → X → Ordering) where
   rises_behind x [] h = tt
   rises_behind x (y ∷ ys) h = (h.0, rises_behind y ys h.1)
 
-  rises : (xs : List X) → IsInOrder cmp xs → Rises (λ y. Unit {0}) xs
+  pub rises : (xs : List X) → IsInOrder cmp xs → Rises (λ y. Unit {0}) xs
   rises [] h = tt
   rises (x ∷ xs) h = (tt, rises_behind x xs h)
 
-  in_order : (P : X → Type 0) (xs : List X) → Rises P xs → IsInOrder cmp xs
+  pub in_order : (P : X → Type 0) (xs : List X) → Rises P xs → IsInOrder cmp xs
   in_order P [] h = tt
   in_order P (x ∷ []) h = tt
   in_order P (x ∷ y ∷ ys) h = (h.1.0, in_order (λ z. cmp z x ≢ Less) (y ∷ ys) h.1)

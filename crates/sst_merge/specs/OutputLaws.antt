@@ -1,6 +1,7 @@
 -- Laws of tables that a compaction wrote.
-use Rattle.std.proofs.Common.{◌≡◌, ℕ, List, [], ◌∷◌, ◌++◌, map, Option, Some, None, refl, sym, ap, subst, ◌∙◌}
-use Rattle.std.proofs.lemmas.List.{append_assoc}
+use Rattle.std.proofs.Common.{◌≡◌, ℕ, ◌+◌, ◌-◌, ◌≤◌, length, take, drop, slice_get, inl, inr, arith, List, [], ◌∷◌, ◌++◌, map, Option, Some, None, refl, sym, ap, subst, ◌∙◌}
+use Rattle.std.proofs.lemmas.Bool.{cases_lt}
+use Rattle.std.proofs.lemmas.List.{append_assoc, length_push, take-append-le, drop-append-le, take_all, drop_all}
 use Rattle.std.specs.List.{AllZip}
 use Rattle.std.specs.Option.{option_map, IfSome}
 use Rattle.sst_base.specs.Entry.{Entry}
@@ -8,7 +9,10 @@ use Rattle.sstable_blocks.specs.Blocks.{joined}
 use Rattle.sstable_blocks.specs.Run.{Form}
 use Rattle.sst_merge.specs.Outputs.{Output, IsOutputOf, entries_of, AreWritten}
 use Rattle.sst_merge.specs.TableLaws.{taken_none, taken_both, joined_push}
-use Rattle.sst_merge.specs.Tables.{IsTableOf}
+use Rattle.sst_merge.specs.SizeLaws.{apart_part}
+use Rattle.sst_merge.specs.Tables.{IsApart, IsTableOf}
+use Rattle.sst_merge.specs.Sources.{IsTaken}
+use Rattle.sst_merge.specs.declared.writing.Sizes.{Sizes}
 
 zip_push : {X Y : Type 0} (R : X → Y → Type 0) (xs : List X) (ys : List Y) (x : X) (y : Y) → AllZip R xs ys → R x y → AllZip R (xs ++ x ∷ []) (ys ++ y ∷ [])
 zip_push R [] [] x y all r = (r, tt)
@@ -24,23 +28,59 @@ map_push f (y ∷ ys) x = ap (λ zs. f y ∷ zs) (map_push f ys x)
 entries_push : (runs : List (List (List Entry))) (blocks : List (List Entry)) → entries_of (runs ++ blocks ∷ []) ≡ entries_of runs ++ joined blocks
 entries_push runs blocks = ap joined (map_push joined runs blocks) ∙ joined_push (map joined runs) (joined blocks)
 
+nothing_apart : (n : ℕ) (rest : List Entry) → IsApart (entries_of (take n [])) rest
+nothing_apart n rest last next e f =
+    let none : take n [] ≡ [] = take_all n [] (omega arith) in
+    absurd (let g : None ≡ Some last = ap (λ (runs : List (List (List Entry))). slice_get (entries_of runs) (length (entries_of runs) - 1)) (sym none) ∙ e in cc)
+
+none_apart : (s : Option (List Entry)) → IfSome s (λ rest. (n : ℕ) → IsApart (entries_of (take n [])) (entries_of (drop n []) ++ rest))
+none_apart None = tt
+none_apart (Some xs) = λ n. nothing_apart n (entries_of (drop n []) ++ xs)
+
+apart_more : (runs : List (List (List Entry))) (blocks : List (List Entry)) (rest : List Entry) → 1 ≤ length (joined blocks) → ((n : ℕ) → IsApart (entries_of (take n runs)) (entries_of (drop n runs) ++ (joined blocks ++ rest))) → IsApart (joined blocks) rest
+    → (n : ℕ) → IsApart (entries_of (take n (runs ++ blocks ∷ []))) (entries_of (drop n (runs ++ blocks ∷ [])) ++ rest)
+apart_more runs blocks rest some all here n = elim (cases_lt n (length runs + 1)) [
+  | inl less ↦ (
+      let a : take n (runs ++ blocks ∷ []) ≡ take n runs = take-append-le n runs (blocks ∷ []) (omega (arith, less)) in
+      let d : drop n (runs ++ blocks ∷ []) ≡ drop n runs ++ blocks ∷ [] = drop-append-le n runs (blocks ∷ []) (omega (arith, less)) in
+      let e : entries_of (drop n (runs ++ blocks ∷ [])) ++ rest ≡ entries_of (drop n runs) ++ (joined blocks ++ rest) =
+      ap (λ (rs : List (List (List Entry))). entries_of rs ++ rest) d ∙ ap (λ es. es ++ rest) (entries_push (drop n runs) blocks) ∙ append_assoc (entries_of (drop n runs)) (joined blocks) rest in
+      subst (λ (rs : List (List (List Entry))). IsApart (entries_of rs) (entries_of (drop n (runs ++ blocks ∷ [])) ++ rest)) (sym a) (subst (IsApart (entries_of (take n runs))) (sym e) (all n)))
+  | inr more ↦ (
+      let l = length_push runs blocks in
+      let a : take n (runs ++ blocks ∷ []) ≡ runs ++ blocks ∷ [] = take_all n (runs ++ blocks ∷ []) (omega (arith, l, more)) in
+      let d : drop n (runs ++ blocks ∷ []) ≡ [] = drop_all n (runs ++ blocks ∷ []) (omega (arith, l, more)) in
+      let whole : entries_of (take n (runs ++ blocks ∷ [])) ≡ entries_of runs ++ joined blocks = ap entries_of a ∙ entries_push runs blocks in
+      subst (λ es. IsApart es (entries_of (drop n (runs ++ blocks ∷ [])) ++ rest)) (sym whole)
+      (subst (λ (rs : List (List (List Entry))). IsApart (entries_of runs ++ joined blocks) (entries_of rs ++ rest)) (sym d) (apart_part (entries_of runs) (joined blocks) rest some here)))
+]
+
+apart_after : (runs : List (List (List Entry))) (blocks : List (List Entry)) (mid after : Option (List Entry)) → IsTaken mid (joined blocks) after → 1 ≤ length (joined blocks) → IfSome mid (λ rest. (n : ℕ) → IsApart (entries_of (take n runs)) (entries_of (drop n runs) ++ rest)) → IfSome after (IsApart (joined blocks))
+    → IfSome after (λ rest. (n : ℕ) → IsApart (entries_of (take n (runs ++ blocks ∷ []))) (entries_of (drop n (runs ++ blocks ∷ [])) ++ rest))
+apart_after runs blocks mid None taken some all here = tt
+apart_after runs blocks None (Some rest) taken some all here = absurd (cc)
+apart_after runs blocks (Some ys) (Some rest) taken some all here =
+    let is : ys ≡ joined blocks ++ rest = cc in
+    apart_more runs blocks rest some (λ n. subst (λ es. IsApart (entries_of (take n runs)) (entries_of (drop n runs) ++ es)) is (all n)) here
+
 -- no table was written yet
 pub none_written : (f : Form) (start : Option (List ℕ)) (s : Option (List Entry)) (tables : List Output) → AreWritten f start s s tables tables
-none_written f start s tables = record { outputs = []; runs = []; grown = sym (append_nil tables); each = tt; taken = taken_none s }
+none_written f start s tables = record { outputs = []; runs = []; grown = sym (append_nil tables); each = tt; taken = taken_none s; apart = none_apart s }
   where
     append_nil : {X : Type 0} (xs : List X) → xs ++ [] ≡ xs
     append_nil [] = refl
     append_nil (x ∷ xs) = ap (λ ys. x ∷ ys) (append_nil xs)
 
 -- one table more
-pub one_written : (f : Form) (start : Option (List ℕ)) (before mid after : Option (List Entry)) (old now new : List Output) (o : Output) → AreWritten f start before mid old now → IsTableOf f start o.bytes o.handles mid after → new ≡ now ++ o ∷ []
+pub one_written : (f : Form) (sizes : Sizes) (start : Option (List ℕ)) (before mid after : Option (List Entry)) (old now new : List Output) (o : Output) → AreWritten f start before mid old now → IsTableOf f sizes start o.bytes o.handles mid after → new ≡ now ++ o ∷ []
     → AreWritten f start before after old new
-one_written f start before mid after old now new o w t e = record {
+one_written f sizes start before mid after old now new o w t e = record {
   outputs = w.outputs ++ o ∷ [];
   runs = w.runs ++ t.blocks ∷ [];
   grown = e ∙ ap (λ xs. xs ++ o ∷ []) w.grown ∙ append_assoc old w.outputs (o ∷ []);
   each = zip_push (IsOutputOf f start) w.outputs w.runs o t.blocks w.each t.layout;
   taken = taken_both before mid after (entries_of w.runs) (joined t.blocks) w.taken t.taken ∙ ap (λ xs. option_map (λ rest. xs ++ rest) after) (sym (entries_push w.runs t.blocks));
+  apart = apart_after w.runs t.blocks mid after t.taken t.some w.apart t.apart;
 }
 
 nothing_left : (s : Option (List Entry)) → IfSome s (λ xs. xs ≡ []) → (t : Option (List Entry)) (xs : List Entry) → t ≡ option_map (λ rest. xs ++ rest) s → s ≡ option_map (λ _. []) t

@@ -4,6 +4,7 @@ use Rattle.std.proofs.lemmas.Bool.{cases_Bool}
 use Rattle.std.proofs.Math.ListN.{set}
 use Rattle.std.proofs.lemmas.List.{drop_more, drop_all}
 use Rattle.std.specs.Iterator.{YieldsFirst}
+use Rattle.std.specs.List.{last_or}
 use Rattle.std.specs.Ordering.{is_lt}
 use Rattle.std.specs.declared.cmp.Ordering.{Ordering}
 use Rattle.sst_merge.specs.Merge.{merge, merged}
@@ -21,10 +22,28 @@ wins cmp xs [] = true
 wins cmp [] (y ∷ ys) = false
 wins cmp (x ∷ xs) (y ∷ ys) = not (is_lt (cmp y x))
 
+-- the place of the first list that wins against the one that is picked of those after it
+abbrev pub pick : {X : Type 0} → (List X → List X → Bool) → List (List X) → ℕ
+pick wins [] = 0
+pick wins (xs ∷ xss) = cond (wins xs (list_at xss (pick wins xss))) 0 (suc (pick wins xss))
+
 -- the place of the list that gives the first item of the merge
 abbrev pub least : {X : Type 0} → (X → X → Ordering) → List (List X) → ℕ
-least cmp [] = 0
-least cmp (xs ∷ xss) = cond (wins cmp xs (list_at xss (least cmp xss))) 0 (suc (least cmp xss))
+least cmp = pick (wins cmp)
+
+-- does the first of two last items, either of which may be wanting, come after the second?
+abbrev pub beats_by : {X : Type 0} → (X → X → Ordering) → Option X → Option X → Bool
+beats_by cmp a None = true
+beats_by cmp None (Some y) = false
+beats_by cmp (Some x) (Some y) = is_lt (cmp y x)
+
+-- does the first list give its last item after the second?
+abbrev pub beats : {X : Type 0} → (X → X → Ordering) → List X → List X → Bool
+beats cmp xs ys = beats_by cmp (last_or None xs) (last_or None ys)
+
+-- the place of the list that gives the last item of the merge of ordered lists
+abbrev pub greatest : {X : Type 0} → (X → X → Ordering) → List (List X) → ℕ
+greatest cmp = pick (beats cmp)
 
 flip : (b : Bool) → not b ≡ true → b ≡ false
 flip true h = absurd (cc)
@@ -137,16 +156,12 @@ list_at_or (ys ∷ yss) (suc n) d h = list_at_or yss n d (omega arith)
 pub from_here : {X : Type 0} (xss : List (List X)) (j i : ℕ) → j < length xss → j + 1 ≡ i → drop j xss ≡ list_at xss j ∷ drop i xss
 from_here xss j i inside next = drop_more xss j [] inside ∙ ap (λ ys. ys ∷ drop (j + 1) xss) (list_at_or xss j [] inside) ∙ ap (λ n. list_at xss j ∷ drop n xss) next
 
-module _ {X : Type 0} (cmp : X → X → Ordering) where
-  wins_nil : (xs : List X) → wins cmp xs [] ≡ true
-  wins_nil [] = refl
-  wins_nil (x ∷ xs) = refl
-
+module _ {X : Type 0} (wins : List X → List X → Bool) (wins_nil : (xs : List X) → wins xs [] ≡ true) where
   -- of the last list alone
-  pub least_end : (xss : List (List X)) (j : ℕ) → j + 1 ≡ length xss → j ≡ j + least cmp (drop j xss)
-  least_end xss j e =
+  pub pick_end : (xss : List (List X)) (j : ℕ) → j + 1 ≡ length xss → j ≡ j + pick wins (drop j xss)
+  pick_end xss j e =
       let last : drop j xss ≡ list_at xss j ∷ [] = from_here xss j (length xss) (omega arith) e ∙ ap (λ yss. list_at xss j ∷ yss) (drop_all (length xss) xss (omega arith)) in
-      let z : least cmp (drop j xss) ≡ 0 = ap (least cmp) last ∙ ap (λ b. cond b 0 1) (wins_nil (list_at xss j)) in
+      let z : pick wins (drop j xss) ≡ 0 = ap (pick wins) last ∙ ap (λ b. cond b 0 1) (wins_nil (list_at xss j)) in
       omega arith
 
   step_by : (t : Bool) (j i m best b : ℕ) → j + 1 ≡ i → best ≡ i + m → b ≡ cond t j best → b ≡ j + cond t 0 (suc m)
@@ -154,10 +169,32 @@ module _ {X : Type 0} (cmp : X → X → Ordering) where
   step_by false j i m best b next e f = omega arith
 
   -- of one list more
-  pub least_step : (xss : List (List X)) (j i best b : ℕ) → j + 1 ≡ i → j < length xss → best ≡ i + least cmp (drop i xss) → b ≡ cond (wins cmp (list_at xss j) (list_at xss best)) j best → b ≡ j + least cmp (drop j xss)
-  least_step xss j i best b next inside e f =
-      let m = least cmp (drop i xss) in
+  pub pick_step : (xss : List (List X)) (j i best b : ℕ) → j + 1 ≡ i → j < length xss → best ≡ i + pick wins (drop i xss) → b ≡ cond (wins (list_at xss j) (list_at xss best)) j best → b ≡ j + pick wins (drop j xss)
+  pick_step xss j i best b next inside e f =
+      let m = pick wins (drop i xss) in
       let here : list_at (drop i xss) m ≡ list_at xss best = list_at_drop xss i m ∙ ap (list_at xss) (sym e) in
-      let t = wins cmp (list_at xss j) (list_at xss best) in
-      let same : least cmp (drop j xss) ≡ cond t 0 (suc m) = ap (least cmp) (from_here xss j i inside next) ∙ ap (λ ys. cond (wins cmp (list_at xss j) ys) 0 (suc m)) here in
+      let t = wins (list_at xss j) (list_at xss best) in
+      let same : pick wins (drop j xss) ≡ cond t 0 (suc m) = ap (pick wins) (from_here xss j i inside next) ∙ ap (λ ys. cond (wins (list_at xss j) ys) 0 (suc m)) here in
       step_by t j i m best b next e f ∙ ap (λ n. j + n) (sym same)
+
+module _ {X : Type 0} (cmp : X → X → Ordering) where
+  wins_nil : (xs : List X) → wins cmp xs [] ≡ true
+  wins_nil [] = refl
+  wins_nil (x ∷ xs) = refl
+
+  beats_nil : (xs : List X) → beats cmp xs [] ≡ true
+  beats_nil xs = refl
+
+  -- the least of the last list alone, and of one list more
+  pub least_end : (xss : List (List X)) (j : ℕ) → j + 1 ≡ length xss → j ≡ j + least cmp (drop j xss)
+  least_end = pick_end (wins cmp) wins_nil
+
+  pub least_step : (xss : List (List X)) (j i best b : ℕ) → j + 1 ≡ i → j < length xss → best ≡ i + least cmp (drop i xss) → b ≡ cond (wins cmp (list_at xss j) (list_at xss best)) j best → b ≡ j + least cmp (drop j xss)
+  least_step = pick_step (wins cmp) wins_nil
+
+  -- the greatest, likewise
+  pub greatest_end : (xss : List (List X)) (j : ℕ) → j + 1 ≡ length xss → j ≡ j + greatest cmp (drop j xss)
+  greatest_end = pick_end (beats cmp) beats_nil
+
+  pub greatest_step : (xss : List (List X)) (j i best b : ℕ) → j + 1 ≡ i → j < length xss → best ≡ i + greatest cmp (drop i xss) → b ≡ cond (beats cmp (list_at xss j) (list_at xss best)) j best → b ≡ j + greatest cmp (drop j xss)
+  greatest_step = pick_step (beats cmp) beats_nil

@@ -1,5 +1,5 @@
 -- Laws of reads over several runs.
-use Rattle.std.proofs.Common.{◌≡◌, ℕ, ◌≤◌, Bool, true, false, cond, List, [], ◌∷◌, map, filter, slice_get, Option, Some, None, refl, sym, ap, ◌∙◌}
+use Rattle.std.proofs.Common.{◌≡◌, ℕ, ◌≤◌, Bool, true, false, cond, List, [], ◌∷◌, ◌++◌, map, filter, slice_get, Option, Some, None, refl, sym, ap, ◌∙◌}
 use Rattle.std.specs.Option.{option_map}
 use Rattle.std.specs.Ordering.{is_lt, is_eq, nat_cmp}
 use Rattle.std.specs.Cmp.Lexicographic.{slice_cmp}
@@ -9,12 +9,16 @@ use Rattle.sst_base.specs.KeyOrderLaws.{versions_cmp_total}
 use Rattle.sst_block_core.specs.Entries.{entries}
 use Rattle.sst_block_core.specs.Kind.{IsOrdered}
 use Rattle.sst_block_core.specs.Window.{first_match, is_version}
-use Rattle.sst_merge.specs.Compact.{compacted}
+use Rattle.std.proofs.Math.ListN.{set}
+use Rattle.sst_merge.specs.Backs.{greatest_some}
+use Rattle.sst_merge.specs.Compact.{compacted, staying}
 use Rattle.sst_merge.specs.CompactLaws.{compact-first_match, compact-ordered}
 use Rattle.sst_merge.specs.Merge.{merge, merged, lesser, least_match, entry_cmp}
 use Rattle.sst_merge.specs.MergeLaws.{merge-ordered}
 use Rattle.sst_merge.specs.MergeReads.{merge-first_match}
-use Rattle.sst_merge.specs.Snapshot.{deletes, seen, snapshot}
+use Rattle.sst_merge.specs.Picks.{greatest, list_at}
+use Rattle.sst_merge.specs.PlainLaws.{compacted-staying, snapshot-shown}
+use Rattle.sst_merge.specs.Snapshot.{deletes, seen, shown, snapshot}
 use Rattle.sst_merge.specs.SnapshotReads.{unless_hidden, snapshot-first_match}
 
 -- decoding changes no order
@@ -93,3 +97,16 @@ unfolding first_match
 snapshot_match needle s items up =
     let b = slice_get (filter (is_version entries needle s) items) 0 in
     ap (option_map plain) (snapshot-first_match (λ (e : Entry). e) needle s items up ∙ hidden_is needle s b) ∙ sym (seen_plain b)
+
+-- a compaction of an ordered list leaves the versions that pass a test
+pub compact_plain : (snapshot : ℕ) (bottom : Bool) (items : List Entry) → IsOrdered entries items → compacted (λ (e : Entry). e) snapshot bottom items ≡ staying (λ (e : Entry). e) snapshot bottom items
+compact_plain snapshot bottom items up = compacted-staying (λ (e : Entry). e) snapshot bottom items up
+
+-- a snapshot of an ordered list has the versions that pass a test
+pub snapshot_plain : (s : ℕ) (items : List Entry) → IsOrdered entries items → snapshot (λ (e : Entry). e) s items ≡ shown (λ (e : Entry). e) s items
+snapshot_plain s items up = snapshot-shown (λ (e : Entry). e) s items up
+
+-- the last of a merge of ordered lists is the greatest of their last ones
+pub merged_back : (lists : List (List Entry)) (front : List Entry) (last : Entry) → AllByRecursion (IsOrdered entries) lists → list_at lists (greatest entry_cmp lists) ≡ front ++ last ∷ []
+    → merged entry_cmp lists ≡ merged entry_cmp (set lists (greatest entry_cmp lists) front) ++ last ∷ []
+merged_back lists front last all e = greatest_some entry_cmp (versions_cmp_total entries.key entries.seqno) lists front last all e

@@ -2,6 +2,7 @@
 use Rattle.std.specs.Prelude.{ℕ, nat_lt, Bool, true, false, not, ◌&&◌, if◌then◌else◌, List, [], ◌∷◌, Option, Some, None}
 use Rattle.std.specs.Ordering.{nat_cmp, is_eq}
 use Rattle.std.specs.Cmp.Lexicographic.{slice_cmp}
+use Rattle.std.specs.List.{list_any}
 use Rattle.sst_base.specs.declared.value_type.ValueType.{ValueType}
 use Rattle.sst_base.specs.declared.value_type.ValueType.TheVariants.{Value, Tombstone, WeakTombstone, Indirection}
 use Rattle.sst_base.specs.Entry.{Entry}
@@ -17,6 +18,11 @@ deletes Indirection = false
 abbrev pub seen : Option Entry → Option Entry
 seen None = None
 seen (Some e) = if deletes e.key.value_type then None else Some e
+
+-- the items that pass a test, which sees an item and those before it, the nearest first
+abbrev pub kept_after : {X : Type 0} → (List X → X → Bool) → List X → List X → List X
+kept_after test before [] = []
+kept_after test before (x ∷ xs) = if test before x then x ∷ kept_after test (x ∷ before) xs else kept_after test (x ∷ before) xs
 
 module _ {X : Type 0} (entry : X → Entry) where
   -- does a version have the last key?
@@ -40,3 +46,16 @@ module _ {X : Type 0} (entry : X → Entry) where
   -- for each user key the first version below a sequence number; a tombstone hides its key
   abbrev pub snapshot : ℕ → List X → List X
   snapshot seqno items = visible_from seqno None items
+
+  -- is one of these a version of the same key below a sequence number?
+  abbrev pub has_version : ℕ → List X → X → Bool
+  has_version seqno items e = list_any (λ d. nat_lt (entry d).key.seqno seqno && has_last_key (Some (entry d).key.user_key) e) items
+
+  -- does a snapshot show a version, where these are before it? It is below the sequence number, none of its key that is
+  -- below the number is before it, and it is no tombstone
+  abbrev pub is_shown : ℕ → List X → X → Bool
+  is_shown seqno before e = nat_lt (entry e).key.seqno seqno && (not (has_version seqno before e) && not (deletes (entry e).key.value_type))
+
+  -- the versions of an ordered list that a snapshot shows
+  abbrev pub shown : ℕ → List X → List X
+  shown seqno items = kept_after (is_shown seqno) [] items

@@ -143,7 +143,7 @@ module _ {X : Type 0} (cmp : X → X → Ordering) where
       (ap left same, subst (λ p. IfSome p (λ xs. xs ≡ [])) (sym (ap (option_map (merged cmp)) e)) tt)
 
   -- the heads' lists at an index
-  list_of : (ls : List (Left X)) (i : ℕ) (l : Left X) → i < length ls → l ≡ get_or ls i l → get_or (map (λ (s : Left X). s.list) ls) i l.list ≡ l.list
+  pub list_of : (ls : List (Left X)) (i : ℕ) (l : Left X) → i < length ls → l ≡ get_or ls i l → get_or (map (λ (s : Left X). s.list) ls) i l.list ≡ l.list
   list_of ls i l inside is = get_or-map (λ (s : Left X). s.list) ls i l l.list inside ∙ ap (λ (s : Left X). s.list) (sym is)
 
   -- what is taken from the source that has the least is taken from the merge
@@ -155,7 +155,7 @@ module _ {X : Type 0} (cmp : X → X → Ordering) where
       subst (λ ps. TakesList (left os) r (left ps)) (sym (map-set (λ (s : Left X). s.list) ls i new))
       (taken_by os (all_known os) i old.list new.list r refl place (omega (arith, n, inside)) (list_of ls i old inside is) (list_taken old new r step))
 
-  taken_most : (ls : List (Left X)) (i : ℕ) (old new : Left X) (m : ℕ) → i < length ls → old ≡ get_or ls i old → new.most + m ≤ old.most → sum_by (λ (s : Left X). s.most) (set ls i new) + m ≤ sum_by (λ (s : Left X). s.most) ls
+  pub taken_most : (ls : List (Left X)) (i : ℕ) (old new : Left X) (m : ℕ) → i < length ls → old ≡ get_or ls i old → new.most + m ≤ old.most → sum_by (λ (s : Left X). s.most) (set ls i new) + m ≤ sum_by (λ (s : Left X). s.most) ls
   taken_most ls i old new m inside is less =
       let f = λ (s : Left X). s.most in
       let e = sum_by-set f ls i new old inside in

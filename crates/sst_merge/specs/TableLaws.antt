@@ -1,9 +1,11 @@
 -- Laws of what was taken from a source.
-use Rattle.std.proofs.Common.{◌≡◌, ◌≤◌, false, List, [], ◌∷◌, ◌++◌, length, slice_get, Option, Some, None, refl, sym, ap, ◌∙◌, arith}
+use Rattle.std.proofs.Common.{◌≡◌, suc, ◌-◌, ◌≤◌, false, List, [], ◌∷◌, ◌++◌, length, slice_get, Option, Some, None, refl, sym, ap, subst, ◌∙◌, arith, length-append}
 use Rattle.std.proofs.lemmas.List.{append_assoc, length_push}
 use Rattle.std.specs.Option.{option_map, is_some, IfSome}
+use Rattle.sst_base.specs.Entry.{Entry}
 use Rattle.sstable_blocks.specs.Blocks.{joined}
 use Rattle.sst_merge.specs.Sources.{IsTaken}
+use Rattle.sst_merge.specs.Tables.{IsApart}
 
 -- nothing was taken yet
 pub taken_none : {X : Type 0} (s : Option (List X)) → IsTaken s [] s
@@ -48,3 +50,22 @@ none_left f None r h e = tt
 none_left f (Some []) r h e = refl
 none_left f (Some (x ∷ xs)) None h e = absurd (cc)
 none_left f (Some (x ∷ xs)) (Some y) h e = absurd (cc)
+
+-- the last item of a list is that of its last part, if that has one
+pub last_of : {X : Type 0} (xs ys : List X) → 1 ≤ length ys → slice_get (xs ++ ys) (length (xs ++ ys) - 1) ≡ slice_get ys (length ys - 1)
+last_of [] ys some = refl
+last_of (x ∷ xs) ys some =
+    let n = length-append xs ys in
+    let e : length (x ∷ (xs ++ ys)) - 1 ≡ suc (length (xs ++ ys) - 1) = omega (arith, n, some) in
+    ap (slice_get (x ∷ (xs ++ ys))) e ∙ last_of xs ys some
+
+-- blocks end where their last one does
+apart_joined : (blocks : List (List Entry)) (b rest : List Entry) → 1 ≤ length b → IsApart b rest → IsApart (joined (blocks ++ b ∷ [])) rest
+apart_joined blocks b rest some h last next e f =
+    let here : slice_get (joined (blocks ++ b ∷ [])) (length (joined (blocks ++ b ∷ [])) - 1) ≡ slice_get b (length b - 1) =
+    ap (λ xs. slice_get xs (length xs - 1)) (joined_push blocks b) ∙ last_of (joined blocks) b some in
+    h last next (sym here ∙ e) f
+
+pub apart_blocks : (blocks front : List (List Entry)) (b : List Entry) (o : Option (List Entry)) → blocks ≡ front ++ b ∷ [] → 1 ≤ length b → IfSome o (IsApart b) → IfSome o (IsApart (joined blocks))
+apart_blocks blocks front b None e some h = tt
+apart_blocks blocks front b (Some rest) e some h = subst (λ (bs : List (List Entry)). IsApart (joined bs) rest) (sym e) (apart_joined front b rest some h)

@@ -1,6 +1,8 @@
 //! Laws of merges, snapshots and compaction, for callers' proofs. Each function states one law, and
 //! does nothing.
-ghost use Rattle.std.specs.Prelude.{◌≡◌, ℕ, ◌≤◌, Bool, List, filter, map, slice_get};
+ghost use Rattle.std.specs.Prelude.{◌≡◌, ℕ, ◌≤◌, Bool, List, [], ◌∷◌, ◌++◌, filter, map, slice_get};
+ghost use Rattle.std.specs.Prelude.{Some, Ok};
+ghost use Rattle.std.proofs.Math.ListN.{set};
 ghost use Rattle.std.specs.List.{AllByRecursion};
 ghost use Rattle.std.specs.Option.{option_map};
 ghost use Rattle.std.specs.Ordering.{nat_cmp, is_eq};
@@ -10,9 +12,11 @@ ghost use Rattle.sst_block_core.specs.Entries.{entries};
 ghost use Rattle.sst_block_core.specs.Kind.{IsOrdered};
 ghost use Rattle.sst_block_core.specs.Window.{first_match};
 ghost use Rattle.sstable_blocks.specs.Blocks.{joined};
-ghost use Rattle.sst_merge.specs.Compact.{compacted};
+ghost use Rattle.sst_merge.specs.Compact.{compacted, staying};
 ghost use Rattle.sst_merge.specs.Merge.{merged, least_match, entry_cmp};
-ghost use Rattle.sst_merge.specs.Snapshot.{seen, snapshot};
+ghost use Rattle.sst_merge.specs.Picks.{greatest, list_at};
+ghost use Rattle.sst_merge.specs.Snapshot.{seen, shown, snapshot};
+ghost use Rattle.sst_merge.specs.Stored.{known_reads};
 
 /// A merge of ordered lists is ordered.
 pub fn merge_is_ordered()
@@ -55,4 +59,35 @@ pub fn compaction_keeps_reads()
     ensures ordered { (snapshot : ℕ) (bottom : Bool) (items : List Entry)
         → IsOrdered entries items
         → IsOrdered entries (compacted (λ e. e) snapshot bottom items) }
+{}
+
+/// What a snapshot has of an ordered list, said by each version and those before it: it is below
+/// the snapshot's sequence number, no version of its key before it is, and it is no tombstone.
+pub fn snapshot_shows()
+    ensures { (seqno : ℕ) (items : List Entry) → IsOrdered entries items
+        → snapshot (λ e. e) seqno items ≡ shown (λ e. e) seqno items }
+{}
+
+/// What a compaction leaves of an ordered list, said by each version and those before it: it is at
+/// the snapshot or above; or no version of its key before it is below the snapshot, and at the
+/// bottom level it is no tombstone.
+pub fn compaction_leaves()
+    ensures { (snapshot : ℕ) (bottom : Bool) (items : List Entry) → IsOrdered entries items
+        → compacted (λ e. e) snapshot bottom items ≡ staying (λ e. e) snapshot bottom items }
+{}
+
+/// The last version of a merge of ordered lists is the greatest of their last ones, of equal ones
+/// that of the latest list; and the merge without it is the merge of the lists without it.
+pub fn merge_ends()
+    ensures { (lists : List (List Entry)) (front : List Entry) (last : Entry)
+        → AllByRecursion (IsOrdered entries) lists
+        → list_at lists (greatest entry_cmp lists) ≡ front ++ last ∷ []
+        → merged entry_cmp lists
+        ≡ merged entry_cmp (set lists (greatest entry_cmp lists) front) ++ last ∷ [] }
+{}
+
+/// Where what is left of a scan is read, as it is of a sound run (`Scan::new`), its entries are
+/// known.
+pub fn scan_is_known()
+    ensures { (items : List Entry) → known_reads (map Ok items) ≡ Some items }
 {}

@@ -1,22 +1,28 @@
 //! Point reads over several tables.
 ghost use Rattle.std.specs.Prelude.{◌≡◌, ℕ, List, Option, Some, map, IfOk, IfSome};
+ghost use Rattle.sst_base.specs.Counted.{CountsBetween};
 ghost use Rattle.sst_base.specs.Entry.{Entry};
 ghost use Rattle.sst_block_core.specs.Entries.{entries};
 ghost use Rattle.sst_block_core.specs.Kind.{IsOrdered};
 ghost use Rattle.sst_block_core.specs.Window.{first_match};
+ghost use Rattle.sst_merge.specs.Counts.{most_of};
 ghost use Rattle.sst_merge.specs.Merge.{entry_cmp, lesser, merged};
 ghost use Rattle.sst_merge.specs.Sources.{all_known};
 
 use sst_base::{InternalValue, Result, SeqNo, Steps};
 use std::alloc::Global;
 
-/// What answers point reads: a table, or what an engine holds in memory.
+/// What is read by key: a table, or what an engine holds in memory.
 pub trait Reader {
     // Its entries, where they are known.
     ghost list: { Self → Option (List Entry) };
 
     // They are in order.
     ghost ordered: { (s : Self) → IfSome (list s) (IsOrdered entries) };
+
+    // The most heads and entries that a read of a key below a sequence number counts, where they
+    // are known.
+    ghost most: { Self → List ℕ → ℕ → Option (ℕ × ℕ) };
 
     /// Returns the first entry with this key whose sequence number is strictly below `seqno`. What
     /// is examined is added to `steps`.
@@ -33,7 +39,9 @@ pub trait Reader {
     ) -> Result<Option<InternalValue>>
         ensures found { IfSome (list self.old)
             (λ all. IfOk result (λ found. found ≡ first_match entries needle.now seqno all)) }
-        ensures kept { list self.new ≡ list self.old };
+        ensures kept { list self.new ≡ list self.old }
+        ensures counts { IfSome (most self.old needle.now seqno)
+            (CountsBetween steps.old steps.new (0, 0)) };
 }
 
 // Of two first matches, either of which may be wanting, the lesser, and of equal ones the first.
@@ -55,11 +63,12 @@ fn lesser(first: Option<InternalValue>, second: Option<InternalValue>) -> Option
 
 /// Returns the first entry with this key whose sequence number is strictly below `seqno`, of all
 /// readers: that of their ordered merge. Of equal entries that of the earlier reader is returned,
-/// so newer tables come first. What is examined is added to `steps`.
+/// so newer tables come first. What is examined is added to `steps`: at most what the readers may
+/// count together, also where one fails.
 ///
 /// # Errors
 ///
-/// The first one that a reader returns, the last reader being asked first.
+/// The first one met, from the last reader to the first.
 pub fn read_tables<R: Reader>(
     alloc: Global,
     readers: &mut [R],
@@ -71,6 +80,9 @@ pub fn read_tables<R: Reader>(
         → IfOk result (λ found. found
         ≡ first_match entries needle.now seqno (merged entry_cmp lists)) }
     ensures kept { map R.list readers.new ≡ map R.list readers.old }
+    ensures counts { (mosts : List (ℕ × ℕ))
+        → all_known (map (λ r. R.most r needle.now seqno) readers.old) ≡ Some mosts
+        → CountsBetween steps.old steps.new (0, 0) (most_of mosts) }
 {
     let mut best = None;
     let mut i = readers.len();

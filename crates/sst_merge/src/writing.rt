@@ -1,10 +1,11 @@
 //! Writing what is left of a source as tables.
-ghost use Rattle.std.specs.Prelude.{◌≡◌, ◌+◌, ◌≤◌, ◌<◌, ◌++◌, ◌∷◌, []};
+ghost use Rattle.std.specs.Prelude.{◌≡◌, ◌+◌, ◌≤◌, ◌<◌, ◌++◌, ◌∷◌, [], ◌⊎◌, ℕ, false, true};
 ghost use Rattle.std.specs.Prelude.{None, length, IfOk, OnOk, IfSome, IfNone};
 ghost use Rattle.sstable_blocks.specs.Run.{form, IsWritable};
 ghost use Rattle.sstable_blocks.specs.Writing.{IsSameRun};
 ghost use Rattle.sst_merge.specs.Sources.{IsTaken};
-ghost use Rattle.sst_merge.specs.Tables.{IsTableOf};
+ghost use Rattle.sst_merge.specs.Tables.{IsApart, IsFilled, IsTableOf, capped, entries_len};
+ghost use Rattle.sst_merge.specs.Tables.{entry_len};
 
 use crate::merge::Head;
 use crate::source::Source;
@@ -13,8 +14,10 @@ use sstable_blocks::{RunConfig, RunHandles, RunWriter};
 use std::alloc::Global;
 use std::io::Write;
 
-/// How large blocks and tables become, in bytes of keys and values. Each ends with the entry with
-/// which it reaches its size; a table only before another user key.
+/// How large blocks and tables become, in bytes of keys and values. A block ends with the entry
+/// with which it reaches its size, and a table with the first block with which it reaches its size
+/// and after which another user key comes. Only the last table of a source and its last block may
+/// be smaller.
 #[derive(Clone, Copy, Debug, PartialEq, Eq)]
 pub struct Sizes {
     /// The size of a block.
@@ -24,7 +27,9 @@ pub struct Sizes {
 }
 
 // The bytes of an entry's key and value.
-fn entry_len(entry: &InternalValue) -> usize {
+fn entry_len(entry: &InternalValue) -> usize
+    ensures { result ≡ entry_len entry.now }
+{
     entry
         .key()
         .user_key()
@@ -42,11 +47,13 @@ fn fill_block<I: Source<InternalValue>>(
     requires { block.old.items ≡ [] }
     ensures taken { OnOk result (IsTaken source.old.list block.new.items source.new.list) }
     ensures most { OnOk result (source.new.most + length block.new.items ≤ source.old.most) }
+    ensures filled { OnOk result (IsFilled size source.new.list block.new.items) }
+    ensures len { IfOk result (λ len. len ≡ capped (entries_len block.new.items)) }
 {
     let mut len = 0usize;
     while block.is_empty() || len < size {
         let Some(entry) = source.take(alloc)? else {
-            break;
+            return Ok(len);
         };
         len = len.saturating_add(entry_len(&entry));
         block.push(entry)?;
@@ -68,6 +75,9 @@ fn add_block<H: BlockHash, I: Source<InternalValue>, W: Write>(
     ensures blocks { OnOk result (run.new.blocks ≡ run.old.blocks ++ block.new.items ∷ []) }
     ensures taken { OnOk result (IsTaken source.old.list block.new.items source.new.list) }
     ensures most { OnOk result (source.new.most < source.old.most) }
+    ensures some { OnOk result (1 ≤ length block.new.items) }
+    ensures filled { OnOk result (IsFilled size source.new.list block.new.items) }
+    ensures len { IfOk result (λ len. len ≡ capped (entries_len block.new.items)) }
 {
     block.clear();
     let len = fill_block(alloc, source, block, size)?;
@@ -85,10 +95,24 @@ fn goes_on<I: Source<InternalValue>>(
     block: &[InternalValue],
     len: usize,
     size: usize,
-) -> bool {
+) -> bool
+    requires { 1 ≤ length block.now }
+    ensures apart { result ≡ false → IfSome source.now.list (IsApart block.now) }
+    ensures reaches { result ≡ false
+        → (size ≤ len) ⊎ IfSome source.now.list (λ xs. xs ≡ []) }
+    ensures goes_on { (total : ℕ) → len ≡ capped total → result ≡ true
+        → IfSome source.now.list (λ rest. IsApart block.now rest → total < size) }
+{
     match (source.peek(), block.last()) {
-        (Some(next), Some(last)) => { len < size || next.key().user_key() == last.key().user_key() }
-        (_, _) => false,
+        (Some(next), Some(last)) => {
+            len < size
+                || last
+                    .key()
+                    .user_key()
+                    .eq_bytes(next.key().user_key().as_slice())
+        }
+        (None, _) => false,
+        (Some(_), None) => false,
     }
 }
 
@@ -108,8 +132,8 @@ pub fn write_table<H: BlockHash, I: Source<InternalValue>, W: Write + Drop>(
 ) -> Result<Option<(RunHandles, W)>>
     requires writable { IsWritable config }
     ensures table { IfOk result (λ r. IfSome r (λ t.
-        IsTableOf (form H.hash64 H.hash128 config) (W.contents writer) (W.contents t.1) t.0
-        source.old.list source.new.list)) }
+        IsTableOf (form H.hash64 H.hash128 config) sizes (W.contents writer) (W.contents t.1)
+        t.0 source.old.list source.new.list)) }
     ensures most { IfOk result (λ r. IfSome r (λ t. source.new.most < source.old.most)) }
     ensures done { IfOk result (λ r. IfNone r (IfSome source.old.list (λ xs. xs ≡ []))) }
 {

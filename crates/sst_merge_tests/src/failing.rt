@@ -10,7 +10,7 @@ use std::alloc::Global;
 
 /// A source whose step fails where so many steps are left; the step after that goes on.
 #[derive(Drop)]
-struct Failing {
+pub(crate) struct Failing {
     source: Memory,
     steps: usize,
 }
@@ -37,7 +37,7 @@ const ROWS: &[Row] = &[
 ];
 
 /// A source that fails after so many steps.
-fn failing_after(alloc: Global, steps: usize) -> Result<Failing> {
+pub(crate) fn failing_after(alloc: Global, steps: usize) -> Result<Failing> {
     Ok(Failing {
         source: list_of(alloc, ROWS, 0)?.into_iter(),
         steps,

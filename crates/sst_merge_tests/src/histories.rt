@@ -8,13 +8,13 @@ use sst_merge::{Compact, Snapshot};
 use std::alloc::Global;
 
 /// How many operations a history has.
-const OPERATIONS: u64 = 2000;
+pub(crate) const OPERATIONS: u64 = 2000;
 
 /// How many keys it is about.
-const KEYS: u64 = 40;
+pub(crate) const KEYS: u64 = 40;
 
 /// A table of a history, its rows in order; and all versions, the newest first.
-type Tables = Vec<Vec<Row>>;
+pub(crate) type Tables = Vec<Vec<Row>>;
 
 /// Puts a row where it belongs in an ordered list: after smaller keys, and newer versions of its own.
 fn insert(table: &mut Vec<Row>, row: Row) -> Result<()> {
@@ -39,7 +39,7 @@ fn type_of(number: u64) -> ValueType {
 }
 
 /// A random history in so many tables, the newest first: each sequence number has one operation.
-fn history(alloc: Global, tables: u64, random: &mut Random) -> Result<Tables> {
+pub(crate) fn history(alloc: Global, tables: u64, random: &mut Random) -> Result<Tables> {
     let mut all = Vec::new(alloc);
     let each = OPERATIONS / tables.max(1) + 1;
     for number in 0..tables {
@@ -69,7 +69,7 @@ fn newest(tables: &Tables, key: u8, seqno: u64) -> Option<Row> {
 }
 
 /// What a read at a sequence number sees of a key: the number of the version, if it is no tombstone.
-fn seen(tables: &Tables, key: u8, seqno: u64) -> Option<u64> {
+pub(crate) fn seen(tables: &Tables, key: u8, seqno: u64) -> Option<u64> {
     match newest(tables, key, seqno) {
         Some(Row(_, number, ValueType::Value)) => Some(number),
         _ => None,
@@ -77,7 +77,7 @@ fn seen(tables: &Tables, key: u8, seqno: u64) -> Option<u64> {
 }
 
 /// The tables as lists of entries.
-fn lists_of(alloc: Global, tables: &Tables) -> Result<Vec<Vec<InternalValue>>> {
+pub(crate) fn lists_of(alloc: Global, tables: &Tables) -> Result<Vec<Vec<InternalValue>>> {
     let mut lists = Vec::new(alloc);
     for (number, table) in tables.iter().enumerate() {
         lists.push(list_of(alloc, table, u8::try_from(number).unwrap_or(u8::MAX))?)?;

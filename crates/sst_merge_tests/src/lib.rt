@@ -3,6 +3,8 @@
 #![tactic(auto)]
 
 #[cfg(test)]
+mod backs;
+#[cfg(test)]
 mod failing;
 #[cfg(test)]
 mod histories;
@@ -10,6 +12,8 @@ mod histories;
 mod lists;
 #[cfg(test)]
 mod merges;
+#[cfg(test)]
+mod tables;
 
 /// What a test returns that ends early where a call fails.
 #[cfg(test)]

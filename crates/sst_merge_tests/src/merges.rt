@@ -24,13 +24,18 @@ const LISTS: &[&[Row]] = &[
     &[Row(b'd', 4, W), Row(b'e', 8, V)],
 ];
 
-/// The merge of the worked lists.
-fn worked(alloc: Global) -> Result<Merge<InternalValue, Memory>> {
+/// The worked lists.
+pub(crate) fn worked_lists(alloc: Global) -> Result<Vec<Vec<InternalValue>>> {
     let mut lists = Vec::new(alloc);
     for (number, rows) in LISTS.iter().enumerate() {
         lists.push(list_of(alloc, rows, number as u8)?)?;
     }
-    merge_of(alloc, lists)
+    Ok(lists)
+}
+
+/// The merge of the worked lists.
+fn worked(alloc: Global) -> Result<Merge<InternalValue, Memory>> {
+    merge_of(alloc, worked_lists(alloc)?)
 }
 
 /// An entry that is wanted: its key, its sequence number, and the number of its list; 255 stands for

@@ -17,10 +17,10 @@ loop-alloc-preserved g c =
     let mid = c.loop-alloc.source.list in
     let after = c.write_table.new.source.list in
     let output : Output = record { handles = c.in-Some.handles; bytes = contents c.in-Some.writer } in
-    let written : IsTableOf f (contents c.in_ok-writer.writer) output.bytes output.handles mid after =
-    subst (λ o. IfSome o (λ t. IsTableOf f (contents c.in_ok-writer.writer) (contents t.1) t.0 mid after)) c.in-Some.is c.in_ok-table.ensures.table in
-    one_written f g.O.Outputs.start c.args.source.now.list mid after (g.O.Outputs.tables c.args.outputs.now) (g.O.Outputs.tables c.loop-alloc.outputs) (g.O.Outputs.tables c.close.new.self) output c.loop-alloc.invariant
-    (subst (λ start. IsTableOf f start output.bytes output.handles mid after) c.in_ok-writer.ensures.fresh written)
+    let written : IsTableOf f c.args.sizes (contents c.in_ok-writer.writer) output.bytes output.handles mid after =
+    subst (λ o. IfSome o (λ t. IsTableOf f c.args.sizes (contents c.in_ok-writer.writer) (contents t.1) t.0 mid after)) c.in-Some.is c.in_ok-table.ensures.table in
+    one_written f c.args.sizes g.O.Outputs.start c.args.source.now.list mid after (g.O.Outputs.tables c.args.outputs.now) (g.O.Outputs.tables c.loop-alloc.outputs) (g.O.Outputs.tables c.close.new.self) output c.loop-alloc.invariant
+    (subst (λ start. IsTableOf f c.args.sizes start output.bytes output.handles mid after) c.in_ok-writer.ensures.fresh written)
     (c.in_ok-close.ensures ∙ ap (λ tables. tables ++ output ∷ []) c.in_ok-writer.ensures.same)
 
 pub returns : goal.returns

@@ -1,8 +1,14 @@
-use Rattle.std.proofs.Common.{◌≤◌, ◌∙◌, sym, subst, arith, length, List}
+use Rattle.std.proofs.Common.{◌≡◌, ◌<◌, ◌≤◌, ◌∙◌, sym, subst, arith, length, List}
+use Rattle.std.specs.List.{AllByRecursion}
+use Rattle.std.specs.Option.{IfSome}
 use Rattle.sst_base.specs.Entry.{Entry}
 use Rattle.sstable_blocks.specs.Blocks.{joined}
+use Rattle.sstable_blocks.specs.Run.{form}
+use Rattle.sstable_blocks.specs.Writing.{AppendsLayout}
+use Rattle.sst_merge.specs.SizeLaws.{filled_more, joined_some, len_block, reaches_by, shortest_block}
 use Rattle.sst_merge.specs.Sources.{IsTaken}
-use Rattle.sst_merge.specs.TableLaws.{taken_block, some_push, none_left}
+use Rattle.sst_merge.specs.TableLaws.{apart_blocks, taken_block, some_push, none_left}
+use Rattle.sst_merge.specs.Tables.{IsApart, IsFilled, IsShortest, capped, entries_len}
 use Rattle.sst_merge.proofs.writing.write_table.Goals as goal
 
 pub returns-then-is_none-clause-done : goal.returns-then-is_none-clause-done
@@ -12,12 +18,42 @@ pub loop-alloc-preserved : goal.loop-alloc-preserved
 loop-alloc-preserved g c =
     let added = c.in_ok-add_block.ensures in
     let before = c.loop-alloc.invariant in
+    let block = c.add_block-in-loop-alloc.new.block.items in
+    let left = c.add_block-in-loop-alloc.new.source.list in
     record {
       config = added.run.config ∙ before.config;
       start = added.run.start ∙ before.start;
       accepting = added.accepting;
-      some = subst (λ (bs : List (List Entry)). 1 ≤ length bs) (sym added.blocks) (some_push c.loop-alloc.run.blocks c.add_block-in-loop-alloc.new.block.items);
-      taken = subst (λ (bs : List (List Entry)). IsTaken c.args.source.now.list (joined bs) c.add_block-in-loop-alloc.new.source.list) (sym added.blocks)
-          (taken_block c.args.source.now.list c.loop-alloc.source.list c.add_block-in-loop-alloc.new.source.list c.loop-alloc.run.blocks c.add_block-in-loop-alloc.new.block.items before.taken added.taken);
+      some = subst (λ (bs : List (List Entry)). 1 ≤ length bs) (sym added.blocks) (some_push c.loop-alloc.run.blocks block);
+      last = (c.loop-alloc.run.blocks, added.blocks);
+      entries = added.some;
+      len = subst (λ (bs : List (List Entry)). c.saturating_add-len.result ≡ capped (entries_len (joined bs))) (sym added.blocks)
+          (len_block c.loop-alloc.run.blocks block c.loop-alloc.len c.in_ok-add_block.field-0 c.saturating_add-len.result before.len added.len c.saturating_add-len.ensures);
+      filled = subst (AllByRecursion (IsFilled c.args.sizes.block left)) (sym added.blocks) (filled_more c.args.sizes.block c.loop-alloc.source.list left c.loop-alloc.run.blocks block before.filled added.taken added.filled);
+      shortest = subst (λ (bs : List (List Entry)). IfSome c.args.source.now.list (λ _. IsShortest c.args.sizes.table bs)) (sym added.blocks)
+          (shortest_block c.args.sizes.table c.loop-alloc.run.blocks before.last.0 c.loop-alloc.block.items block c.args.source.now.list c.loop-alloc.source.list left before.taken added.taken before.shortest before.last.1 before.entries added.some
+          (subst (λ last. IfSome c.loop-alloc.source.list (λ rest. IsApart last rest → entries_len (joined c.loop-alloc.run.blocks) < c.args.sizes.table)) c.deref.ensures.value
+          (c.goes_on.ensures.goes_on (entries_len (joined c.loop-alloc.run.blocks)) before.len c.loop-alloc-test.true)));
+      taken = subst (λ (bs : List (List Entry)). IsTaken c.args.source.now.list (joined bs) left) (sym added.blocks)
+          (taken_block c.args.source.now.list c.loop-alloc.source.list left c.loop-alloc.run.blocks block before.taken added.taken);
       most = (let less = added.most in let e = before.most in omega (arith, less, e));
+    }
+
+pub returns-clause-table : goal.returns-clause-table
+returns-clause-table g c =
+    let inv = c.loop-alloc.invariant in
+    let f = form g.H.BlockHash.hash64 g.H.BlockHash.hash128 in
+    let t = c.in_ok-finish.field-0 in
+    let blocks = c.loop-alloc.run.blocks in
+    let left = c.loop-alloc.source.list in
+    record {
+      blocks = blocks;
+      layout = subst (λ config. AppendsLayout (f config) blocks (g.W.Write.contents c.args.writer) (g.W.Write.contents t.1) t.0) inv.config
+          (subst (λ start. AppendsLayout (f c.loop-alloc.run.config) blocks start (g.W.Write.contents t.1) t.0) inv.start c.in_ok-finish.ensures.layout);
+      some = joined_some blocks inv.last.0 c.loop-alloc.block.items inv.last.1 inv.entries;
+      taken = inv.taken;
+      apart = apart_blocks blocks inv.last.0 c.loop-alloc.block.items left inv.last.1 inv.entries (subst (λ last. IfSome left (IsApart last)) c.deref.ensures.value (c.goes_on.ensures.apart c.loop-alloc-test.false));
+      filled = inv.filled;
+      reaches = reaches_by left blocks c.loop-alloc.len c.args.sizes.table inv.len (c.goes_on.ensures.reaches c.loop-alloc-test.false);
+      shortest = inv.shortest;
     }

@@ -1,0 +1,5 @@
+use Rattle.sst_merge.specs.StoredLaws.{known_all}
+use Rattle.sst_merge.proofs.laws.scan_is_known.Goals as goal
+
+pub returns : goal.returns
+returns c = known_all

@@ -1,0 +1,81 @@
+//! Readers whose range of user keys is known.
+ghost use Rattle.std.specs.Prelude.{◌≡◌, ℕ, Option, Some, None, true, false, if◌then◌else◌};
+ghost use Rattle.std.specs.Prelude.{IfOk, IfSome, Ok};
+ghost use Rattle.std.specs.List.{AllByRecursion};
+ghost use Rattle.std.specs.Option.{option_map};
+ghost use Rattle.sst_base.specs.Counted.{CountsBetween};
+ghost use Rattle.sst_block_core.specs.Entries.{entries};
+ghost use Rattle.sst_block_core.specs.Window.{first_match};
+ghost use Rattle.sst_merge.specs.RangeLaws.{ranged_if_ordered};
+ghost use Rattle.sst_merge.specs.Ranges.{covers, ranged};
+
+use crate::reader::Reader;
+use sst_base::{InternalValue, Result, SeqNo, Steps, UserKey};
+use std::alloc::Global;
+
+/// A reader with the first and the last of its user keys. A read of a key outside that range reads
+/// and examines nothing. What it has are the reader's entries with a key in the range, so all of
+/// them where the range is right.
+#[derive(Drop)]
+pub struct Ranged<R: Reader> {
+    reader: R,
+    first: UserKey,
+    last: UserKey,
+}
+
+impl<R: Reader> Ranged<R> {
+    /// Notes the range of a reader: its first and its last user key.
+    pub fn new(reader: R, first: UserKey, last: UserKey) -> Ranged<R>
+        ensures range { result ≡ record { reader = reader; first = first; last = last } }
+        ensures whole { IfSome (R.list reader) (λ all.
+            AllByRecursion (λ e. covers first last e.key.user_key ≡ true) all
+            → ⟦<Ranged<R> as Reader>⟧.list result ≡ Some all) }
+    {
+        Ranged {
+            reader,
+            first,
+            last,
+        }
+    }
+
+    /// Returns whether a key is in the range.
+    pub fn covers(&self, needle: &[u8]) -> bool
+        ensures { result ≡ covers self.now.first self.now.last needle.now }
+    {
+        self.first.cmp_bytes(needle).is_le() && self.last.cmp_bytes(needle).is_ge()
+    }
+}
+
+impl<R: Reader> Reader for Ranged<R> {
+    ghost list = { λ s. option_map (ranged s.first s.last) (R.list s.reader) };
+
+    ghost ordered = { λ s. ranged_if_ordered s.first s.last (R.list s.reader) (R.ordered s.reader) };
+
+    ghost most = { λ s needle seqno.
+        if covers s.first s.last needle then R.most s.reader needle seqno else Some (0, 0) };
+
+    fn get(
+        &mut self,
+        alloc: Global,
+        needle: &[u8],
+        seqno: SeqNo,
+        steps: &mut Steps,
+    ) -> Result<Option<InternalValue>>
+        ensures found { IfSome (option_map (ranged self.old.first self.old.last)
+            (R.list self.old.reader))
+            (λ all. IfOk result (λ found. found ≡ first_match entries needle.now seqno all)) }
+        ensures kept { option_map (ranged self.new.first self.new.last) (R.list self.new.reader)
+            ≡ option_map (ranged self.old.first self.old.last) (R.list self.old.reader) }
+        ensures counts { IfSome (if covers self.old.first self.old.last needle.now
+            then R.most self.old.reader needle.now seqno else Some (0, 0))
+            (CountsBetween steps.old steps.new (0, 0)) }
+        ensures outside { covers self.old.first self.old.last needle.now ≡ false
+            → (result ≡ Ok None) × (self.new ≡ self.old) × (steps.new ≡ steps.old) }
+    {
+        if self.covers(needle) {
+            self.reader.get(alloc, needle, seqno, steps)
+        } else {
+            Ok(None)
+        }
+    }
+}

@@ -1,0 +1,73 @@
+//! Stored tables: scans as sources, tables as readers.
+ghost use Rattle.sstable_blocks.specs.RunReading.{hashes};
+ghost use Rattle.sstable_blocks.specs.Scans.{most_left, reads_left};
+ghost use Rattle.std.specs.Option.{option_map};
+ghost use Rattle.sstable_blocks.specs.ReadCosts.{heads_most_in, entries_most_in};
+ghost use Rattle.sst_merge.specs.Stored.{scan_list, table_list};
+ghost use Rattle.sst_merge.specs.TableReads.{table_ordered};
+
+use crate::reader::Reader;
+use crate::source::{BackSource, Source};
+use sst_base::{BlockHash, InternalValue, Result, SeqNo, Steps};
+use sst_block_kinds::laws::first_match_of_plain;
+use sstable_blocks::run::laws::{accepted_run_is_sound, sound_is_scanned};
+use sstable_blocks::run::{FrameSource, Scan, Table};
+use std::alloc::Global;
+
+/// A scan of a stored table. Its entries are known where the bytes of the table are, every block
+/// left is read without an error, and the scan has not ended with one.
+impl<'k, H: BlockHash, S: FrameSource> Source<InternalValue> for Scan<'k, H, S> {
+    ghost left = { λ s. record {
+      list = scan_list s.ended (S.bytes s.table.source)
+          (λ all. reads_left (hashes H.hash64 H.hash128) all s);
+      most = most_left s;
+    } };
+
+    fn next_entry(&mut self, alloc: Global) -> Result<Option<InternalValue>> {
+        self.next_entry(alloc)
+    }
+}
+
+/// The same scan, from the back.
+impl<'k, H: BlockHash, S: FrameSource> BackSource<InternalValue> for Scan<'k, H, S> {
+    ghost left_back = { λ s. record {
+      list = scan_list s.ended (S.bytes s.table.source)
+          (λ all. reads_left (hashes H.hash64 H.hash128) all s);
+      most = most_left s;
+    } };
+
+    fn next_entry_back(&mut self, alloc: Global) -> Result<Option<InternalValue>> {
+        self.next_entry_back(alloc)
+    }
+}
+
+/// A stored table. Its entries are known where its bytes are, and the check of a run accepts them;
+/// a read counts at most as many heads and entries as a read of the run does.
+impl<H: BlockHash, S: FrameSource> Reader for Table<H, S> {
+    ghost list = { λ t. table_list (hashes H.hash64 H.hash128) (S.bytes t.source) t.handles
+        t.index };
+
+    ghost ordered = { λ t. table_ordered (hashes H.hash64 H.hash128) (S.bytes t.source) t.handles
+        t.index };
+
+    ghost most = { λ t needle seqno. option_map
+        (λ all. (
+          heads_most_in all t.handles needle seqno,
+          entries_most_in all t.handles needle seqno,
+        )) (S.bytes t.source) };
+
+    fn get(
+        &mut self,
+        alloc: Global,
+        needle: &[u8],
+        seqno: SeqNo,
+        steps: &mut Steps,
+    ) -> Result<Option<InternalValue>> {
+        accepted_run_is_sound();
+        sound_is_scanned();
+        first_match_of_plain();
+        // The proof needs that the index is that of the bytes.
+        let _index = self.index();
+        self.get(alloc, needle, seqno, steps)
+    }
+}
