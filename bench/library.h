@@ -66,6 +66,9 @@ uint64_t sst_table_get(const uint8_t* entries, size_t entries_len, size_t count,
 uint64_t sst_table_scan(const uint8_t* entries, size_t entries_len, size_t count,
                         size_t per_block, uint8_t interval, uint32_t num, uint32_t den,
                         uint32_t bits, uint64_t times);
+uint64_t sst_trusted_scan(const uint8_t* entries, size_t entries_len, size_t count,
+                          size_t per_block, uint8_t interval, uint32_t num, uint32_t den,
+                          uint32_t bits, uint64_t times);
 
 }  // extern "C"
 

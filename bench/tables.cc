@@ -88,5 +88,14 @@ int main() {
           return parts(times) + sst_materialize(At(block), block.size(), kPerBlock, kInterval, 0,
                                                 100, times * blocks);
         });
+  Print("trusted scan, an entry, beside the walks that make entries", kCount,
+        [&](uint64_t times) {
+          return sst_trusted_scan(At(bytes), bytes.size(), kCount, kPerBlock, kInterval, 0, 100,
+                                  kBits, times);
+        },
+        [&](uint64_t times) {
+          return sst_materialize(At(block), block.size(), kPerBlock, kInterval, 0, 100,
+                                 times * blocks);
+        });
   return 0;
 }

@@ -131,6 +131,67 @@ pub extern "C" fn sst_table_scan(
     sum
 }
 
+// Scans a trusted table, and adds each of its entries.
+#[inline(never)]
+fn add_trusted(
+    so_far: u64,
+    table: &Trusted<'_, Poly31>,
+    count: usize,
+    alloc: Global,
+) -> Option<u64> {
+    let mut scan = table.scan();
+    let mut sum = so_far;
+    for _ in 0..count {
+        let entry = scan.next_entry(alloc).ok()??;
+        sum = sum.wrapping_add(entry_sum(&entry));
+    }
+    Some(sum)
+}
+
+// Opens a table over a run, and scans it without checks, so many times.
+fn scanned_in(
+    alloc: Global,
+    run: Slice,
+    handles: RunHandles,
+    count: usize,
+    times: u64,
+) -> Option<u64>
+    requires { (blocks : List (List Entry))
+        × IsSound (hashes (poly31 64) (poly31 128)) blocks run handles }
+{
+    let source = MemorySource::new(run);
+    let table = Table::<Poly31, MemorySource>::open(alloc, source, handles).ok()?;
+    let trusted = table.trusted();
+    let mut sum = 0;
+    for _ in 0..times {
+        sum = add_trusted(sum, &trusted, count, alloc)?;
+    }
+    Some(sum)
+}
+
+/// Opens a table over the run once, scans it without checks, and adds each entry.
+#[unsafe(no_mangle)]
+pub extern "C" fn sst_trusted_scan(
+    bytes: &[u8],
+    count: usize,
+    per_block: usize,
+    interval: u8,
+    num: u32,
+    den: u32,
+    bits: u32,
+    times: u64,
+    alloc: Global,
+) -> u64 {
+    let config = RunConfig::new(interval, HashRatio { num, den }, bits);
+    let Some((run, handles)) = run_in(alloc, bytes, count, per_block, config) else {
+        return REFUSED;
+    };
+    let Ok(run) = Slice::from_vec(run) else {
+        return REFUSED;
+    };
+    scanned_in(alloc, run, handles, count, times).unwrap_or(REFUSED)
+}
+
 // Checks a run, and adds the number of its entries.
 #[inline(never)]
 fn add_checked(so_far: u64, run: &Slice, handles: &RunHandles, alloc: Global) -> Option<u64> {
