@@ -245,6 +245,7 @@ impl<H: BlockHash> IntoEntries<H> {
     /// # Errors
     ///
     /// `Error::Memory` if an allocation fails.
+    #[inline(always)]
     pub fn next_entry(&mut self, alloc: Global) -> Result<Option<InternalValue>>
         ensures payload { self.new.payload ≡ self.old.payload }
         ensures interval { self.new.interval ≡ self.old.interval }
@@ -265,6 +266,7 @@ impl<H: BlockHash> IntoEntries<H> {
     /// # Errors
     ///
     /// `Error::Memory` if an allocation fails.
+    #[inline(always)]
     pub fn next_entry_back(&mut self, alloc: Global) -> Result<Option<InternalValue>>
         ensures payload { self.new.payload ≡ self.old.payload }
         ensures interval { self.new.interval ≡ self.old.interval }
