@@ -1,0 +1,4 @@
+pub mod Newer
+pub mod Levels
+pub mod Listed
+pub mod Places
