@@ -20,7 +20,7 @@ use Rattle.sst_merge.specs.MergeLaws.{merge-nil}
 use Rattle.sst_merge.specs.ReadLaws.{compact_match, compact_order, merge_order, plain_ordered}
 use Rattle.sst_merge.specs.Snapshot.{seen}
 use Rattle.sst_merge.specs.Sources.{all_known, before}
-use Rattle.sst_store.specs.Levels.{AreBelow, AreLevels, AreNewer, ArePlain, IsWritten, levels, or_none, version}
+use Rattle.sst_store.specs.Levels.{AreBelow, AreLevels, AreNewer, ArePlain, IsWritten, Levels, levels, or_none, version, versions}
 use Rattle.sst_store.specs.Tables.{IsTableOf, MemoryTable, merged_tables, table_entries}
 use Rattle.sst_store.proofs.Newer.{all_compact, all_merge, all_plain, all_weaker, newer_read, one_read, or_older, or_older_both, version_key}
 
@@ -209,3 +209,30 @@ module _ (memory : List Entry) (tables : List MemoryTable) (next snapshot : ℕ)
         ap seen (level_read memory (merged_tables (before table [])) next level_compacted needle s ∙ ap (λ o. or_older inner (first_match entries needle s (or_none o))) compacts ∙ ap (or_older inner) (plains needle s left))
         ∙ seen_older inner (first_match entries needle s left) (first_match entries needle s are.older) (compact_match snapshot s true needle are.older at are.older_ordered)
         ∙ sym (ap seen (level_read memory (merged_tables tables) next are needle s ∙ ap (λ o. or_older inner (first_match entries needle s (or_none o))) are.known))
+
+-- what the levels are after a flush
+pub record IsFlushed (memory : List Entry) (tables : List MemoryTable) (next : ℕ) (left : List Entry) (new : List MemoryTable) : Type 0 where
+  pub are : AreLevels left (merged_tables new) next
+  pub is : levels left (merged_tables new) next ≡ record { memory = []; stored = versions (levels memory (merged_tables tables) next); next = next }
+
+pub memory_flushed : (memory : List Entry) (tables : List MemoryTable) (next : ℕ) → AreLevels memory (merged_tables tables) next → (table : Option MemoryTable) (copy left : List Entry) (new : List MemoryTable) → IsTableOf table (map plain copy) → copy ≡ memory → left ≡ [] → new ≡ before table tables
+    → IsFlushed memory tables next left new
+memory_flushed memory tables next are table copy left new is same none added =
+    let of : IsTableOf table (map plain memory) = subst (λ xs. IsTableOf table (map plain xs)) same is in
+    let flat : List Entry → Levels = λ xs. record { memory = []; stored = xs; next = next } in
+    let at : IsFlushed memory tables next [] (before table tables) = record { are = level_flushed memory tables next are table of; is = ap flat (flushed_same memory tables next are table of) } in
+    subst (λ xs. IsFlushed memory tables next xs new) (sym none) (subst (IsFlushed memory tables next []) (sym added) at)
+
+module _ (needle : List ℕ) (s : ℕ) (memory : List Entry) (tables : List MemoryTable) (next : ℕ) (are : AreLevels memory (merged_tables tables) next) where
+  -- a version that is found in memory is what a read finds
+  pub newer_found : (e : Entry) → Some e ≡ first_match entries needle s memory → Some e ≡ first_match entries needle s (versions (levels memory (merged_tables tables) next))
+  newer_found e here =
+      sym (level_read memory (merged_tables tables) next are needle s ∙ ap (λ o. or_older o (first_match entries needle s (or_none (merged_tables tables)))) (sym here))
+
+  -- where none is found there, what is found in the tables is
+  pub older_found : (all : List (List Entry)) → merged entry_cmp all ≡ are.older → None ≡ first_match entries needle s memory → first_match entries needle s (merged entry_cmp all) ≡ first_match entries needle s (versions (levels memory (merged_tables tables) next))
+  older_found all is here =
+      sym (level_read memory (merged_tables tables) next are needle s
+      ∙ ap (λ o. or_older o (first_match entries needle s (or_none (merged_tables tables)))) (sym here)
+      ∙ ap (λ o. first_match entries needle s (or_none o)) are.known
+      ∙ ap (first_match entries needle s) (sym is))

@@ -2,3 +2,4 @@ pub mod Newer
 pub mod Levels
 pub mod Listed
 pub mod Places
+pub mod Written

@@ -1,48 +1,90 @@
-// Worked stories of a store.
+// Worked stories of a store: each call with ample memory, so it has to succeed.
+ghost use Rattle.std.specs.Prelude.{◌≤◌, length};
+
 use crate::Store;
 use sst_base::{Result, Slice};
+use std::alloc::Global;
 
+/// What a test returns that ends early where a call fails.
 type Tested = std::result::Result<(), std::test::Fail>;
 
-fn put(store: &mut Store, key: &[u8], value: &[u8]) -> Result<u64> {
-    store.put(
-        Slice::new(store.alloc, key)?,
-        Slice::new(store.alloc, value)?,
-    )
+/// Writes a value of a key.
+fn put(alloc: Global, store: &mut Store, key: &[u8], value: &[u8]) -> Result<u64>
+    requires some { 1 ≤ length key.now }
+    requires key { length key.now ≤ 100 }
+    requires value { length value.now ≤ 100 }
+{
+    let key = Slice::new(alloc, key)?;
+    store.put(key, Slice::new(alloc, value)?)
 }
 
-fn has(store: &mut Store, key: &[u8], seqno: u64, value: Option<&[u8]>) -> Result<bool> {
-    Ok(match (store.get(key, seqno)?, value) {
-        (Some(entry), Some(value)) => entry.value().eq_bytes(value),
-        (None, None) => true,
-        _ => false,
+/// Deletes a key.
+fn delete(alloc: Global, store: &mut Store, key: &[u8]) -> Result<u64>
+    requires some { 1 ≤ length key.now }
+    requires key { length key.now ≤ 100 }
+{
+    store.delete(Slice::new(alloc, key)?)
+}
+
+/// Whether a read below a sequence number gives a value.
+fn has(store: &mut Store, key: &[u8], seqno: u64, value: &[u8]) -> Result<bool> {
+    Ok(match store.get(key, seqno)? {
+        Some(entry) => entry.value().eq_bytes(value),
+        None => false,
     })
 }
 
+/// Whether a read below a sequence number gives none.
+fn has_none(store: &mut Store, key: &[u8], seqno: u64) -> Result<bool> {
+    Ok(store.get(key, seqno)?.is_none())
+}
+
 #[test]
-fn a_story(rt: HostRuntime) -> Tested {
-    let mut store = Store::new(rt.alloc());
-    let first = put(&mut store, b"apple", b"red")?;
-    let second = put(&mut store, b"apple", b"green")?;
-    assert!(rt; now_has(&mut store, b"apple", Some(b"green"))?);
-    assert!(rt; has(&mut store, b"apple", second, Some(b"red"))?);
-    assert!(rt; has(&mut store, b"apple", first, None)?);
-    store.flush()?;
-    assert!(rt; has(&mut store, b"apple", second, Some(b"red"))?);
-    let third = store.delete(Slice::new(store.alloc, b"apple")?)?;
-    put(&mut store, b"pear", b"yellow")?;
-    assert!(rt; has(&mut store, b"apple", third, Some(b"green"))?);
-    assert!(rt; now_has(&mut store, b"apple", None)?);
-    store.flush()?;
+fn a_snapshot_is_read_through_flush_and_compaction(rt: HostRuntime) -> Tested {
+    let alloc = rt.alloc();
+    let mut store = Store::new(alloc);
+    put(alloc, &mut store, b"apple", b"red")?;
+    let second = put(alloc, &mut store, b"apple", b"green")?;
+    let third = delete(alloc, &mut store, b"apple")?;
+    put(alloc, &mut store, b"pear", b"yellow")?;
+    let now = store.next();
+    for step in 0..4u8 {
+        assert!(rt; has(&mut store, b"apple", second, b"red")?, "{step}");
+        assert!(rt; has(&mut store, b"apple", third, b"green")?, "{step}");
+        assert!(rt; has_none(&mut store, b"apple", now)?, "{step}");
+        assert!(rt; has(&mut store, b"pear", now, b"yellow")?, "{step}");
+        match step {
+            0 => store.flush()?,
+            1 => store.flush()?,
+            _ => store.compact(second)?,
+        }
+    }
     store.compact(third)?;
-    assert!(rt; has(&mut store, b"apple", third, Some(b"green"))?);
-    assert!(rt; has(&mut store, b"apple", second, None)?);
-    assert!(rt; now_has(&mut store, b"apple", None)?);
-    assert!(rt; now_has(&mut store, b"pear", Some(b"yellow"))?);
+    assert!(rt; has_none(&mut store, b"apple", second)?);
+    assert!(rt; has(&mut store, b"apple", third, b"green")?);
+    assert!(rt; has_none(&mut store, b"apple", now)?);
     Ok(())
 }
 
-fn now_has(store: &mut Store, key: &[u8], value: Option<&[u8]>) -> Result<bool> {
+#[test]
+fn memory_is_newer_than_tables(rt: HostRuntime) -> Tested {
+    let alloc = rt.alloc();
+    let mut store = Store::new(alloc);
+    put(alloc, &mut store, b"apple", b"red")?;
+    put(alloc, &mut store, b"pear", b"yellow")?;
+    store.flush()?;
+    let second = put(alloc, &mut store, b"apple", b"green")?;
+    store.flush()?;
+    delete(alloc, &mut store, b"pear")?;
     let now = store.next();
-    has(store, key, now, value)
+    store.compact(now)?;
+    assert!(rt; has_none(&mut store, b"apple", second)?);
+    assert!(rt; has(&mut store, b"apple", now, b"green")?);
+    assert!(rt; has_none(&mut store, b"pear", now)?);
+    store.flush()?;
+    store.compact(now)?;
+    assert!(rt; has(&mut store, b"apple", now, b"green")?);
+    assert!(rt; has_none(&mut store, b"pear", now)?);
+    assert!(rt; has_none(&mut store, b"plum", now)?);
+    Ok(())
 }

@@ -1,0 +1,45 @@
+use Rattle.std.proofs.Common.{◌≡◌, ℕ, true, List, [], Option, Some, map, ◌∙◌, ap, sym, subst}
+use Rattle.std.specs.Option.{option_map}
+use Rattle.sst_base.specs.Entry.{Entry, plain}
+use Rattle.sst_merge.specs.Compact.{compacted}
+use Rattle.sst_merge.specs.Sources.{Left, before, left_as}
+use Rattle.sst_store.proofs.Levels.{compacted_left, compacted_same, level_compacted}
+use Rattle.sst_store.proofs.Store.compact.Goals as goal
+use Rattle.sst_store.specs.Levels.{AreLevels, levels, or_none, read}
+use Rattle.sst_store.specs.Tables.{IsTableOf, MemoryTable, merged_tables}
+
+-- the table has what the compaction of the tables' merge leaves
+written : (snapshot : ℕ) (tables lent : List MemoryTable) (merged source : Left Entry) (table : Option MemoryTable) → merged.list ≡ merged_tables lent → lent ≡ tables → source ≡ left_as (compacted (λ (e : Entry). e) snapshot true) merged
+    → ((items : List Entry) → source.list ≡ Some items → IsTableOf table (map plain items)) → (older : List Entry) → merged_tables tables ≡ Some older → IsTableOf table (map plain (compacted (λ (e : Entry). e) snapshot true older))
+written snapshot tables lent merged source table is same compacts of older known =
+    let left = compacted (λ (e : Entry). e) snapshot true in
+    of (left older) (ap (λ (s : Left Entry). s.list) compacts ∙ ap (option_map left) (is ∙ ap merged_tables same ∙ known))
+
+pub invariant_of-self : goal.invariant_of-self
+invariant_of-self c =
+    let old = c.self.inside in
+    let table = c.in_ok-table.table in
+    let added = c.in_ok-add_table.ensures.ok ∙ ap (before table) c.new-tables.ensures.items in
+    let of = written c.args.snapshot old.tables.items c.deref.result.now c.in_ok-merged.merged c.new.result table c.in_ok-merged.ensures c.deref.ensures.value c.new.ensures c.in_ok-table.ensures in
+    subst (λ ts. AreLevels old.memory.items (merged_tables ts) old.next) (sym added)
+    (level_compacted old.memory.items old.tables.items old.next c.args.snapshot c.self.invariant table of c.first_match_of_plain.ensures)
+
+pub returns-clause-reads : goal.returns-clause-reads
+returns-clause-reads c = λ key seqno at.
+    let old = c.self.inside in
+    let table = c.in_ok-table.table in
+    let added = c.in_ok-add_table.ensures.ok ∙ ap (before table) c.new-tables.ensures.items in
+    let of = written c.args.snapshot old.tables.items c.deref.result.now c.in_ok-merged.merged c.new.result table c.in_ok-merged.ensures c.deref.ensures.value c.new.ensures c.in_ok-table.ensures in
+    ap (λ ts. read (levels old.memory.items (merged_tables ts) old.next) key seqno) added
+    ∙ compacted_same old.memory.items old.tables.items old.next c.args.snapshot c.self.invariant table of c.first_match_of_plain.ensures key seqno at
+    ∙ ap (λ s. read s key seqno) c.self.view_is
+
+pub returns-clause-stored : goal.returns-clause-stored
+returns-clause-stored c =
+    let old = c.self.inside in
+    let table = c.in_ok-table.table in
+    let added = c.in_ok-add_table.ensures.ok ∙ ap (before table) c.new-tables.ensures.items in
+    let of = written c.args.snapshot old.tables.items c.deref.result.now c.in_ok-merged.merged c.new.result table c.in_ok-merged.ensures c.deref.ensures.value c.new.ensures c.in_ok-table.ensures in
+    ap (λ ts. or_none (merged_tables ts)) added
+    ∙ compacted_left old.memory.items old.tables.items old.next c.args.snapshot c.self.invariant table of c.first_match_of_plain.ensures
+    ∙ ap (λ s. map plain (compacted (λ (e : Entry). e) c.args.snapshot true s.stored)) c.self.view_is

@@ -1,0 +1,32 @@
+use Rattle.std.proofs.Common.{◌≡◌, [], Some, ◌∙◌, ap}
+use Rattle.sst_store.proofs.Levels.{memory_flushed}
+use Rattle.sst_store.proofs.Store.flush.Goals as goal
+use Rattle.sst_store.proofs.Written.{zip_same}
+use Rattle.sst_store.specs.Levels.{Levels, versions}
+
+pub invariant_of-self-2 : goal.invariant_of-self-2
+invariant_of-self-2 c =
+    let old = c.self.inside in
+    let copy = c.in_ok-memory.memory.items in
+    (memory_flushed old.memory.items old.tables.items old.next c.self.invariant c.in_ok-table.table copy c.clear.new.self.items c.add_table.new.tables.items
+    (c.in_ok-table.ensures copy (ap Some c.into_iter.ensures.rest)) (zip_same old.memory.items copy c.in_ok-memory.ensures.cases.0) c.clear.ensures.items c.in_ok-add_table.ensures.ok).are
+
+flat : Levels → Levels
+flat s = record { memory = []; stored = versions s; next = s.next }
+
+pub returns-clause-ok : goal.returns-clause-ok
+unfolding flat
+returns-clause-ok c =
+    let old = c.self.inside in
+    let copy = c.in_ok-memory.memory.items in
+    (memory_flushed old.memory.items old.tables.items old.next c.self.invariant c.in_ok-table.table copy c.clear.new.self.items c.add_table.new.tables.items
+    (c.in_ok-table.ensures copy (ap Some c.into_iter.ensures.rest)) (zip_same old.memory.items copy c.in_ok-memory.ensures.cases.0) c.clear.ensures.items c.in_ok-add_table.ensures.ok).is
+    ∙ ap flat c.self.view_is
+
+pub returns-clause-same : goal.returns-clause-same
+returns-clause-same c =
+    let old = c.self.inside in
+    let copy = c.in_ok-memory.memory.items in
+    ap versions ((memory_flushed old.memory.items old.tables.items old.next c.self.invariant c.in_ok-table.table copy c.clear.new.self.items c.add_table.new.tables.items
+    (c.in_ok-table.ensures copy (ap Some c.into_iter.ensures.rest)) (zip_same old.memory.items copy c.in_ok-memory.ensures.cases.0) c.clear.ensures.items c.in_ok-add_table.ensures.ok).is)
+    ∙ ap versions c.self.view_is
