@@ -3,16 +3,13 @@ use Rattle.std.proofs.Common.{◌≡◌, ◌≢◌, ℕ, ◌+◌, ◌<◌, ◌�
 use Rattle.std.proofs.lemmas.Bool.{cases_Bool}
 use Rattle.std.proofs.lemmas.Bool.Decides.{nat_tests}
 use Rattle.std.specs.Cmp.Lexicographic.{slice_cmp}
-use Rattle.std.specs.List.{AllByRecursion}
 use Rattle.std.specs.Option.{option_map}
 use Rattle.std.specs.Ordering.{nat_cmp, is_eq}
 use Rattle.std.specs.Prelude.{nat_lt, ◌&&◌}
-use Rattle.std.specs.declared.cmp.Ordering.TheVariants.{Equal}
 use Rattle.sst_base.specs.Entry.{Entry, plain, plain_value}
 use Rattle.sst_base.specs.KeyOrderLaws.{slice_cmp-equal}
 use Rattle.sst_base.specs.declared.value_type.ValueType.{ValueType}
 use Rattle.sst_block_core.specs.Entries.{entries}
-use Rattle.sst_block_core.specs.Kind.{IsOrdered}
 use Rattle.sst_block_core.specs.Window.{first_match, is_version}
 use Rattle.sst_merge.specs.Compact.{compacted}
 use Rattle.sst_merge.specs.Merge.{entry_cmp, merge, merged}
@@ -20,7 +17,7 @@ use Rattle.sst_merge.specs.MergeLaws.{merge-nil}
 use Rattle.sst_merge.specs.ReadLaws.{compact_match, compact_order, merge_order, plain_ordered}
 use Rattle.sst_merge.specs.Snapshot.{seen}
 use Rattle.sst_merge.specs.Sources.{all_known, before}
-use Rattle.sst_store.specs.Levels.{AreBelow, AreLevels, AreNewer, ArePlain, IsWritten, Levels, levels, or_none, version, versions}
+use Rattle.sst_store.specs.Levels.{AreBelow, AreLevels, ArePlain, IsWritten, Levels, levels, or_none, version, versions}
 use Rattle.sst_store.specs.Tables.{IsTableOf, MemoryTable, merged_tables, table_entries}
 use Rattle.sst_store.proofs.Newer.{all_compact, all_merge, all_plain, all_weaker, newer_read, one_read, or_older, or_older_both, version_key}
 

@@ -1,7 +1,9 @@
 -- What a store holds: versions in memory and in tables.
-use Rattle.std.specs.Prelude.{◌≡◌, ◌≢◌, ℕ, ◌+◌, ◌<◌, ◌≤◌, List, [], Option, Some, None}
+use Rattle.std.specs.Prelude.{◌≡◌, ◌≢◌, ℕ, ◌+◌, ◌^◌, ◌<◌, ◌≤◌, ◌⊎◌, List, [], Option, Some, None}
 use Rattle.std.specs.List.{AllByRecursion}
 use Rattle.sst_base.specs.Entry.{Entry, plain}
+use Rattle.sst_base.specs.declared.error.Error.{Error}
+use Rattle.sst_base.specs.declared.error.Error.TheVariants.{Memory, TooLong}
 use Rattle.sst_base.specs.declared.value_type.ValueType.{ValueType}
 use Rattle.sst_block_core.specs.Entries.{entries}
 use Rattle.sst_block_core.specs.Kind.{IsOrdered}
@@ -34,6 +36,10 @@ pub record IsWritten (old new : Levels) (key : List ℕ) (shown : Option Entry) 
   pub above : (seqno : ℕ) → old.next < seqno → read new key seqno ≡ shown
   pub below : (seqno : ℕ) → seqno ≤ old.next → read new key seqno ≡ read old key seqno
   pub others : (other : List ℕ) (seqno : ℕ) → other ≢ key → read new other seqno ≡ read old other seqno
+
+-- why a write fails: the sequence numbers are used up, or an allocation failed
+abbrev pub IsFull : Levels → Error → Type 0
+IsFull store e = ((e ≡ TooLong) × (2 ^ 64 ≤ store.next + 1)) ⊎ (e ≡ Memory)
 
 -- versions have numbers below the next sequence number
 abbrev pub AreBelow : ℕ → List Entry → Type 0

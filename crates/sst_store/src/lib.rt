@@ -3,14 +3,14 @@
 #![tactic(auto)]
 
 ghost use Rattle.std.specs.Prelude.{◌≡◌, ◌≤◌, ◌<◌, ◌^◌, ℕ, List, ◌∷◌, [], Some, None, map, length, true};
-ghost use Rattle.std.specs.Prelude.{IfOk, OnOk, OnErr};
+ghost use Rattle.std.specs.Prelude.{IfErr, IfOk, OnOk, OnErr};
 ghost use Rattle.sst_base.specs.Entry.{plain, plain_value};
 ghost use Rattle.sst_block_core.specs.Entries.{entries};
 ghost use Rattle.sst_block_core.specs.Window.{first_match};
 ghost use Rattle.sst_merge.specs.Compact.{compacted};
 ghost use Rattle.sst_merge.specs.Merge.{entry_cmp, merge};
 ghost use Rattle.sst_merge.specs.Snapshot.{seen};
-ghost use Rattle.sst_store.specs.Levels.{IsWritten, read, version, versions};
+ghost use Rattle.sst_store.specs.Levels.{IsFull, IsWritten, read, version, versions};
 
 pub mod laws;
 mod memory;
@@ -74,8 +74,8 @@ impl Store {
     ///
     /// # Errors
     ///
-    /// `Error::TooLong` if no sequence number is left, `Error::Memory` if an allocation fails. The
-    /// store is then as it was.
+    /// `Error::TooLong` if the sequence numbers are used up, `Error::Memory` if an allocation fails.
+    /// The store is then as it was.
     pub fn put(&mut self, key: UserKey, value: UserValue) -> Result<SeqNo>
         requires some { 1 ≤ length key }
         requires key { length key ≤ 65535 }
@@ -86,6 +86,7 @@ impl Store {
         ensures memory { OnOk result (self.new.memory ≡ merge entry_cmp
             (version key self.old.next ValueType.Value value ∷ []) self.old.memory) }
         ensures stored { self.new.stored ≡ self.old.stored }
+        ensures cause { IfErr result (IsFull self.old) }
         ensures err { OnErr result (self.new ≡ self.old) }
     {
         self.add(key, value, ValueType::Value)
@@ -104,6 +105,7 @@ impl Store {
         ensures memory { OnOk result (self.new.memory ≡ merge entry_cmp
             (version key self.old.next ValueType.Tombstone [] ∷ []) self.old.memory) }
         ensures stored { self.new.stored ≡ self.old.stored }
+        ensures cause { IfErr result (IsFull self.old) }
         ensures err { OnErr result (self.new ≡ self.old) }
     {
         let none = Slice::empty(self.alloc);
@@ -122,6 +124,7 @@ impl Store {
         ensures memory { OnOk result (self.new.memory ≡ merge entry_cmp
             (version key self.old.next value_type value ∷ []) self.old.memory) }
         ensures stored { self.new.stored ≡ self.old.stored }
+        ensures cause { IfErr result (IsFull self.old) }
         ensures err { OnErr result (self.new ≡ self.old) }
     {
         let seqno = self.next;

@@ -1,4 +1,4 @@
-use Rattle.std.proofs.Common.{◌≡◌, ◌+◌, ◌∷◌, [], Some, ◌∙◌, ap, sym, subst, List, ℕ}
+use Rattle.std.proofs.Common.{◌≡◌, ◌∷◌, [], Some, ◌∙◌, ap, sym, subst, List, ℕ}
 use Rattle.std.specs.List.{insert}
 use Rattle.sst_base.specs.Entry.{Entry}
 use Rattle.sst_merge.specs.Merge.{entry_cmp, merge}

@@ -15,31 +15,31 @@ written snapshot tables lent merged source table is same compacts of older known
     let left = compacted (λ (e : Entry). e) snapshot true in
     of (left older) (ap (λ (s : Left Entry). s.list) compacts ∙ ap (option_map left) (is ∙ ap merged_tables same ∙ known))
 
+abbrev IsLeft : goal.After-drop-self-inside → Type 0
+IsLeft c = (older : List Entry) → merged_tables c.self.inside.tables.items ≡ Some older → IsTableOf c.in_ok-table.table (map plain (compacted (λ (e : Entry). e) c.args.snapshot true older))
+
+left : (c : goal.After-drop-self-inside) → IsLeft c
+left c = written c.args.snapshot c.self.inside.tables.items c.deref.result.now c.in_ok-merged.merged c.new.result c.in_ok-table.table c.in_ok-merged.ensures c.deref.ensures.value c.new.ensures c.in_ok-table.ensures
+
+added : (c : goal.After-drop-self-inside) → c.add_table.new.tables.items ≡ before c.in_ok-table.table []
+added c = c.in_ok-add_table.ensures.ok ∙ ap (before c.in_ok-table.table) c.new-tables.ensures.items
+
 pub invariant_of-self : goal.invariant_of-self
 invariant_of-self c =
     let old = c.self.inside in
-    let table = c.in_ok-table.table in
-    let added = c.in_ok-add_table.ensures.ok ∙ ap (before table) c.new-tables.ensures.items in
-    let of = written c.args.snapshot old.tables.items c.deref.result.now c.in_ok-merged.merged c.new.result table c.in_ok-merged.ensures c.deref.ensures.value c.new.ensures c.in_ok-table.ensures in
-    subst (λ ts. AreLevels old.memory.items (merged_tables ts) old.next) (sym added)
-    (level_compacted old.memory.items old.tables.items old.next c.args.snapshot c.self.invariant table of c.first_match_of_plain.ensures)
+    subst (λ ts. AreLevels old.memory.items (merged_tables ts) old.next) (sym (added c))
+    (level_compacted old.memory.items old.tables.items old.next c.args.snapshot c.self.invariant c.in_ok-table.table (left c) c.first_match_of_plain.ensures)
 
 pub returns-clause-reads : goal.returns-clause-reads
 returns-clause-reads c = λ key seqno at.
     let old = c.self.inside in
-    let table = c.in_ok-table.table in
-    let added = c.in_ok-add_table.ensures.ok ∙ ap (before table) c.new-tables.ensures.items in
-    let of = written c.args.snapshot old.tables.items c.deref.result.now c.in_ok-merged.merged c.new.result table c.in_ok-merged.ensures c.deref.ensures.value c.new.ensures c.in_ok-table.ensures in
-    ap (λ ts. read (levels old.memory.items (merged_tables ts) old.next) key seqno) added
-    ∙ compacted_same old.memory.items old.tables.items old.next c.args.snapshot c.self.invariant table of c.first_match_of_plain.ensures key seqno at
+    ap (λ ts. read (levels old.memory.items (merged_tables ts) old.next) key seqno) (added c)
+    ∙ compacted_same old.memory.items old.tables.items old.next c.args.snapshot c.self.invariant c.in_ok-table.table (left c) c.first_match_of_plain.ensures key seqno at
     ∙ ap (λ s. read s key seqno) c.self.view_is
 
 pub returns-clause-stored : goal.returns-clause-stored
 returns-clause-stored c =
     let old = c.self.inside in
-    let table = c.in_ok-table.table in
-    let added = c.in_ok-add_table.ensures.ok ∙ ap (before table) c.new-tables.ensures.items in
-    let of = written c.args.snapshot old.tables.items c.deref.result.now c.in_ok-merged.merged c.new.result table c.in_ok-merged.ensures c.deref.ensures.value c.new.ensures c.in_ok-table.ensures in
-    ap (λ ts. or_none (merged_tables ts)) added
-    ∙ compacted_left old.memory.items old.tables.items old.next c.args.snapshot c.self.invariant table of c.first_match_of_plain.ensures
+    ap (λ ts. or_none (merged_tables ts)) (added c)
+    ∙ compacted_left old.memory.items old.tables.items old.next c.args.snapshot c.self.invariant c.in_ok-table.table (left c) c.first_match_of_plain.ensures
     ∙ ap (λ s. map plain (compacted (λ (e : Entry). e) c.args.snapshot true s.stored)) c.self.view_is

@@ -1,5 +1,6 @@
 use Rattle.std.proofs.Common.{◌≡◌, Option, Some, ◌∙◌, ap, sym, subst}
 use Rattle.std.specs.Result.{IfOk}
+use Rattle.std.specs.Vec.{with_items}
 use Rattle.sst_base.specs.Entry.{Entry}
 use Rattle.sst_block_core.specs.Entries.{entries}
 use Rattle.sst_block_core.specs.Window.{first_match}
@@ -7,12 +8,15 @@ use Rattle.sst_store.proofs.Levels.{newer_found, older_found}
 use Rattle.sst_store.proofs.Written.{lists_known, reader_lists, tables_kept}
 use Rattle.sst_store.proofs.Store.find.Goals as goal
 use Rattle.sst_store.specs.Levels.{AreLevels, levels, versions}
+use Rattle.sst_store.specs.Tables.{merged_tables}
+
+kept : (c : goal.After-drop-new-in-None) → merged_tables (with_items c.self.inside.tables c.read_tables.new.readers).items ≡ merged_tables c.self.inside.tables.items
+kept c =
+    let tables = c.self.inside.tables in
+    tables_kept tables.items c.deref_mut.result.now c.read_tables.new.readers tables.len c.deref_mut.ensures.value tables.ok.0 c.read_tables.auto.readers c.read_tables.ensures.kept
 
 pub invariant_of-self : goal.invariant_of-self
-invariant_of-self c =
-    let old = c.self.inside in
-    let same = tables_kept old.tables.items c.deref_mut.result.now c.read_tables.new.readers old.tables.len c.deref_mut.ensures.value old.tables.ok.0 c.read_tables.auto.readers c.read_tables.ensures.kept in
-    subst (λ o. AreLevels old.memory.items o old.next) (sym same) c.self.invariant
+invariant_of-self c = subst (λ o. AreLevels c.self.inside.memory.items o c.self.inside.next) (sym (kept c)) c.self.invariant
 
 pub returns-in_ok-clone-in-Some-clause-found : goal.returns-in_ok-clone-in-Some-clause-found
 returns-in_ok-clone-in-Some-clause-found c =
@@ -32,7 +36,4 @@ returns-in-None-clause-found c =
     (c.read_tables.ensures.found k.all (reader_lists old.tables.items c.deref_mut.result.now k.all c.deref_mut.ensures.value k.known))
 
 pub returns-in-None-clause-kept : goal.returns-in-None-clause-kept
-returns-in-None-clause-kept c =
-    let old = c.self.inside in
-    let same = tables_kept old.tables.items c.deref_mut.result.now c.read_tables.new.readers old.tables.len c.deref_mut.ensures.value old.tables.ok.0 c.read_tables.auto.readers c.read_tables.ensures.kept in
-    ap (λ o. levels old.memory.items o old.next) same ∙ c.self.view_is
+returns-in-None-clause-kept c = ap (λ o. levels c.self.inside.memory.items o c.self.inside.next) (kept c) ∙ c.self.view_is

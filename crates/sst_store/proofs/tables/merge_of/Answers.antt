@@ -1,4 +1,4 @@
-use Rattle.std.proofs.Common.{◌≡◌, ◌+◌, ◌∙◌, ap, sym, arith}
+use Rattle.std.proofs.Common.{◌+◌, ◌∙◌, ap, sym, arith}
 use Rattle.sst_base.specs.Entry.{Entry}
 use Rattle.sst_merge.specs.Sources.{Left}
 use Rattle.sst_store.proofs.Listed.{each_known}

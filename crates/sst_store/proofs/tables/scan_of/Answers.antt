@@ -1,4 +1,4 @@
-use Rattle.std.proofs.Common.{◌≡◌, Some, map, ◌∙◌, ap, sym, subst}
+use Rattle.std.proofs.Common.{Some, map, ◌∙◌, ap, sym, subst}
 use Rattle.sst_base.specs.Entry.{plain}
 use Rattle.sst_store.proofs.Listed.{table_run, within_all}
 use Rattle.sst_store.specs.Tables.{table_hashes}

@@ -1,4 +1,4 @@
-use Rattle.std.proofs.Common.{◌≡◌, Some, map, ◌∙◌, ap, sym, subst}
+use Rattle.std.proofs.Common.{Some, map, ◌∙◌, ap, sym, subst}
 use Rattle.std.specs.Option.{IfSome}
 use Rattle.sst_base.specs.Entry.{plain}
 use Rattle.sst_base.specs.Hashes.{poly31}
