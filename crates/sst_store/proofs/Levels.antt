@@ -10,11 +10,12 @@ use Rattle.sst_base.specs.Entry.{Entry, plain, plain_value}
 use Rattle.sst_base.specs.KeyOrderLaws.{slice_cmp-equal}
 use Rattle.sst_base.specs.declared.value_type.ValueType.{ValueType}
 use Rattle.sst_block_core.specs.Entries.{entries}
+use Rattle.sst_block_core.specs.Kind.{IsOrdered}
 use Rattle.sst_block_core.specs.Window.{first_match, is_version}
 use Rattle.sst_merge.specs.Compact.{compacted}
 use Rattle.sst_merge.specs.Merge.{entry_cmp, merge, merged}
 use Rattle.sst_merge.specs.MergeLaws.{merge-nil}
-use Rattle.sst_merge.specs.ReadLaws.{compact_match, compact_order, merge_order, plain_ordered}
+use Rattle.sst_merge.specs.ReadLaws.{merge_order, plain_ordered}
 use Rattle.sst_merge.specs.Snapshot.{seen}
 use Rattle.sst_merge.specs.Sources.{all_known, before}
 use Rattle.sst_store.specs.Levels.{AreBelow, AreLevels, ArePlain, IsWritten, Levels, levels, or_none, version, versions}
@@ -169,6 +170,8 @@ module _ (memory : List Entry) (tables : List MemoryTable) (next : ℕ) (are : A
 module _ (memory : List Entry) (tables : List MemoryTable) (next snapshot : ℕ) (are : AreLevels memory (merged_tables tables) next) (table : Option MemoryTable)
     (is : (older : List Entry) → merged_tables tables ≡ Some older → IsTableOf table (map plain (compacted (λ (e : Entry). e) snapshot true older)))
     (plains : (needle : List ℕ) (s : ℕ) (items : List Entry) → first_match entries needle s (map plain items) ≡ first_match entries needle s items)
+    (keeps : (snapshot s : ℕ) (bottom : Bool) (needle : List ℕ) (items : List Entry) → snapshot ≤ s → IsOrdered entries items → seen (first_match entries needle s (compacted (λ (e : Entry). e) snapshot bottom items)) ≡ seen (first_match entries needle s items))
+    (orders : (snapshot : ℕ) (bottom : Bool) (items : List Entry) → IsOrdered entries items → IsOrdered entries (compacted (λ (e : Entry). e) snapshot bottom items))
   where
     abbrev left : List Entry
     left = compacted (λ (e : Entry). e) snapshot true are.older
@@ -191,7 +194,7 @@ module _ (memory : List Entry) (tables : List MemoryTable) (next snapshot : ℕ)
       memory_below = are.memory_below;
       older = map plain left;
       known = compacts;
-      older_ordered = plain_ordered left (compact_order snapshot true are.older are.older_ordered);
+      older_ordered = plain_ordered left (orders snapshot true are.older are.older_ordered);
       older_below = all_plain (λ (y : Entry). y.key.seqno < next) (λ y h. h) left (all_compact (λ (y : Entry). y.key.seqno < next) snapshot true None are.older are.older_below);
       newer = all_weaker (λ (x : Entry). AreBelow x.key.seqno are.older) (λ (x : Entry). AreBelow x.key.seqno (map plain left)) memory still_newer are.newer;
     }
@@ -204,7 +207,7 @@ module _ (memory : List Entry) (tables : List MemoryTable) (next snapshot : ℕ)
     compacted_same needle s at =
         let inner = first_match entries needle s memory in
         ap seen (level_read memory (merged_tables (before table [])) next level_compacted needle s ∙ ap (λ o. or_older inner (first_match entries needle s (or_none o))) compacts ∙ ap (or_older inner) (plains needle s left))
-        ∙ seen_older inner (first_match entries needle s left) (first_match entries needle s are.older) (compact_match snapshot s true needle are.older at are.older_ordered)
+        ∙ seen_older inner (first_match entries needle s left) (first_match entries needle s are.older) (keeps snapshot s true needle are.older at are.older_ordered)
         ∙ sym (ap seen (level_read memory (merged_tables tables) next are needle s ∙ ap (λ o. or_older inner (first_match entries needle s (or_none o))) are.known))
 
 -- what the levels are after a flush

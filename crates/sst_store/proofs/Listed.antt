@@ -1,5 +1,5 @@
 -- Tables over sound runs: their entries are known, and known entries are those of a sound run.
-use Rattle.std.proofs.Common.{◌≡◌, ℕ, zero, suc, ◌<◌, ◌^◌, Bool, true, false, not, cond, List, [], ◌∷◌, length, drop, map, get_or, Option, Some, None, Result, Ok, Err, refl, sym, ap, subst, ◌∙◌, arith, length-drop}
+use Rattle.std.proofs.Common.{◌≡◌, ◌≢◌, ℕ, zero, suc, ◌<◌, ◌^◌, Bool, true, false, not, cond, List, [], ◌∷◌, length, drop, map, get_or, Option, Some, None, Result, Ok, Err, refl, sym, ap, subst, ◌∙◌, arith, length-drop}
 use Rattle.std.proofs.lemmas.Bool.{ltb-true}
 use Rattle.std.proofs.lemmas.Bool.Decides.{nat_tests}
 use Rattle.std.proofs.lemmas.List.{get_or-map, length-map, length-take-le}
@@ -7,6 +7,8 @@ use Rattle.std.specs.List.{AllByRecursion}
 use Rattle.std.specs.Option.{option_map, is_some, IfSome}
 use Rattle.std.specs.Ordering.{is_lt}
 use Rattle.std.specs.Prelude.{nat_lt, ◌&&◌}
+use Rattle.std.specs.declared.cmp.Ordering.{Ordering}
+use Rattle.std.specs.declared.cmp.Ordering.TheVariants.{Less, Equal, Greater}
 use Rattle.sst_base.specs.BlockHandle.{HandleParts}
 use Rattle.sst_base.specs.Bytes.{IsBytes}
 use Rattle.sst_base.specs.Entry.{Entry, plain}
@@ -20,7 +22,6 @@ use Rattle.sst_block_core.specs.Entries.{entries}
 use Rattle.sst_block_core.specs.Kind.{IsOrdered}
 use Rattle.sst_block_kinds.specs.Handles.{Handle}
 use Rattle.sst_merge.specs.Merge.{entry_cmp, merged}
-use Rattle.sst_merge.specs.MergeReads.{is_not_lt}
 use Rattle.sst_merge.specs.RangeLaws.{filter_all}
 use Rattle.sst_merge.specs.ReadLaws.{plain_ordered}
 use Rattle.sst_merge.specs.Sources.{all_known}
@@ -67,6 +68,11 @@ bytes_by (b ∷ bytes) h (suc i) = bytes_by bytes (both (nat_lt b 256) (are_byte
 fits_by : (o : Option HandleParts) → filter_fits o ≡ true → IfSome o (λ g. g.size < 2 ^ 32)
 fits_by None h = tt
 fits_by (Some g) h = ltb-true g.size (2 ^ 32) h
+
+is_not_lt : (o : Ordering) → o ≢ Less → is_lt o ≡ false
+is_not_lt Less h = absurd (h refl)
+is_not_lt Equal h = refl
+is_not_lt Greater h = refl
 
 order_passes : (xs : List Entry) → IsOrdered entries xs → is_in_order xs ≡ true
 order_passes [] up = refl

@@ -22,6 +22,7 @@ use crate::memory::{newest, place_of, shown};
 use crate::tables::{Stored, add_table, merge_of, table_of};
 use sst_base::{Error, InternalValue, Result, SeqNo, Slice, Steps, UserKey, UserValue, ValueType};
 use sst_block_kinds::laws::first_match_of_plain;
+use sst_merge::laws::compaction_keeps_reads;
 use sst_merge::{Compact, read_tables};
 use std::alloc::Global;
 use std::marker::Model;
@@ -198,6 +199,7 @@ impl Store {
         ensures next { self.new.next ≡ self.old.next }
         ensures err { OnErr result (self.new ≡ self.old) }
     {
+        compaction_keeps_reads();
         first_match_of_plain();
         let merged = merge_of(self.alloc, &self.tables)?;
         let table = table_of(self.alloc, Compact::new(merged, snapshot, true))?;

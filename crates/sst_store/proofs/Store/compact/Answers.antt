@@ -28,18 +28,18 @@ pub invariant_of-self : goal.invariant_of-self
 invariant_of-self c =
     let old = c.self.inside in
     subst (λ ts. AreLevels old.memory.items (merged_tables ts) old.next) (sym (added c))
-    (level_compacted old.memory.items old.tables.items old.next c.args.snapshot c.self.invariant c.in_ok-table.table (left c) c.first_match_of_plain.ensures)
+    (level_compacted old.memory.items old.tables.items old.next c.args.snapshot c.self.invariant c.in_ok-table.table (left c) c.first_match_of_plain.ensures c.compaction_keeps_reads.ensures.reads c.compaction_keeps_reads.ensures.ordered)
 
 pub returns-clause-reads : goal.returns-clause-reads
 returns-clause-reads c = λ key seqno at.
     let old = c.self.inside in
     ap (λ ts. read (levels old.memory.items (merged_tables ts) old.next) key seqno) (added c)
-    ∙ compacted_same old.memory.items old.tables.items old.next c.args.snapshot c.self.invariant c.in_ok-table.table (left c) c.first_match_of_plain.ensures key seqno at
+    ∙ compacted_same old.memory.items old.tables.items old.next c.args.snapshot c.self.invariant c.in_ok-table.table (left c) c.first_match_of_plain.ensures c.compaction_keeps_reads.ensures.reads c.compaction_keeps_reads.ensures.ordered key seqno at
     ∙ ap (λ s. read s key seqno) c.self.view_is
 
 pub returns-clause-stored : goal.returns-clause-stored
 returns-clause-stored c =
     let old = c.self.inside in
     ap (λ ts. or_none (merged_tables ts)) (added c)
-    ∙ compacted_left old.memory.items old.tables.items old.next c.args.snapshot c.self.invariant c.in_ok-table.table (left c) c.first_match_of_plain.ensures
+    ∙ compacted_left old.memory.items old.tables.items old.next c.args.snapshot c.self.invariant c.in_ok-table.table (left c) c.first_match_of_plain.ensures c.compaction_keeps_reads.ensures.reads c.compaction_keeps_reads.ensures.ordered
     ∙ ap (λ s. map plain (compacted (λ (e : Entry). e) c.args.snapshot true s.stored)) c.self.view_is
