@@ -144,7 +144,8 @@ impl Store {
     ///
     /// # Errors
     ///
-    /// `Error::Memory` if an allocation fails. The store is then as it was.
+    /// `Error::Memory` if an allocation fails. The store is then as it was. No clause says which
+    /// error it is.
     pub fn get(&mut self, key: &[u8], seqno: SeqNo) -> Result<Option<InternalValue>>
         ensures found { IfOk result (λ found. found ≡ read self.old key.now seqno) }
         ensures kept { self.new ≡ self.old }
@@ -169,7 +170,7 @@ impl Store {
     /// # Errors
     ///
     /// `Error::TooLong` if they are too many for a table, `Error::Memory` if an allocation fails.
-    /// The store is then as it was.
+    /// The store is then as it was. No clause says which error it is.
     pub fn flush(&mut self) -> Result<()>
         ensures ok { OnOk result (self.new
             ≡ record { memory = []; stored = versions self.old; next = self.old.next }) }
@@ -189,7 +190,7 @@ impl Store {
     /// # Errors
     ///
     /// `Error::TooLong` if the versions are too many for a table, `Error::Memory` if an allocation
-    /// fails. The store is then as it was.
+    /// fails. The store is then as it was. No clause says which error it is.
     pub fn compact(&mut self, snapshot: SeqNo) -> Result<()>
         ensures reads { OnOk result ((key : List ℕ) (seqno : ℕ) → snapshot ≤ seqno
             → read self.new key seqno ≡ read self.old key seqno) }
