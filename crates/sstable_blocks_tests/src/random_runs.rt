@@ -1,4 +1,9 @@
 // Runs of random lists, cut at random, in every form: each read is the first match of the list.
+ghost use Rattle.std.specs.Prelude.{List};
+ghost use Rattle.sst_base.specs.Entry.{Entry};
+ghost use Rattle.sstable_blocks.specs.RunReading.{hashes};
+ghost use Rattle.sstable_blocks.specs.Sound.{IsSound};
+
 use crate::lists::{NO_BUCKETS, NoHash, ONE_EACH, can_be_written, is_found, push};
 use sst_base::{BlockHash, ByteSum, InternalValue, Poly31, Result, Slice, Steps, ValueType};
 use sst_block_kinds_tests::plain::plain_first_match;
@@ -78,6 +83,19 @@ struct Opened<H: BlockHash> {
 }
 
 impl<H: BlockHash> Opened<H> {
+    /// Opens a sound run.
+    fn of(alloc: Global, run: &Slice, handles: &RunHandles) -> Result<Opened<H>>
+        requires { (blocks : List (List Entry))
+            × IsSound (hashes H.hash64 H.hash128) blocks run.now handles.now }
+    {
+        Ok(Opened {
+            table: Table::<H, _>::open(alloc, MemorySource::new(run.clone()?), *handles)?,
+            checked: CheckedRun::<H>::new(run.clone()?, *handles),
+            source: MemorySource::new(run.clone()?),
+            handles: *handles,
+        })
+    }
+
     /// Whether each way of reading finds the entry that is wanted.
     fn finds(
         &mut self,
@@ -102,7 +120,31 @@ impl<H: BlockHash> Opened<H> {
     }
 }
 
-/// Whether each read of the run of a list finds the first match of the list.
+/// Whether each read of a run finds the first match of its list, and its check counts the list.
+fn reads_all<H: BlockHash>(
+    alloc: Global,
+    run: &Slice,
+    handles: &RunHandles,
+    list: &[InternalValue],
+) -> Result<bool>
+    requires { (blocks : List (List Entry))
+        × IsSound (hashes H.hash64 H.hash128) blocks run.now handles.now }
+{
+    let known = Table::<H, _>::open(alloc, MemorySource::new(run.clone()?), *handles)?;
+    let trusted = known.trusted();
+    let mut opened = Opened::<H>::of(alloc, run, handles)?;
+    for number in 0..list.len().saturating_mul(2).saturating_add(1) {
+        let query = query_at(list, number);
+        let wanted = plain_first_match(list, query.0, query.1);
+        let found = read_entry::<H>(alloc, run, handles, query.0, query.1, &mut Steps::new())?;
+        if !is_found(wanted, found.as_ref()) || !opened.finds(alloc, &trusted, query, wanted)? {
+            return Ok(false);
+        }
+    }
+    Ok(opened.table.verify(alloc)?.entries == list.len() as u64)
+}
+
+/// Whether the run of a list is read.
 fn is_read<H: BlockHash>(
     alloc: Global,
     list: &[InternalValue],
@@ -114,24 +156,7 @@ fn is_read<H: BlockHash>(
     }
     let mut bytes = Vec::new(alloc);
     let handles = write_run::<H, Vec<u8>>(alloc, &mut bytes, list, cuts, config)?;
-    let run = Slice::from_vec(bytes)?;
-    let known = Table::<H, _>::open(alloc, MemorySource::new(run.clone()?), handles)?;
-    let trusted = known.trusted();
-    let mut opened = Opened {
-        table: Table::<H, _>::open(alloc, MemorySource::new(run.clone()?), handles)?,
-        checked: CheckedRun::<H>::new(run.clone()?, handles),
-        source: MemorySource::new(run.clone()?),
-        handles,
-    };
-    for number in 0..list.len().saturating_mul(2).saturating_add(1) {
-        let query = query_at(list, number);
-        let wanted = plain_first_match(list, query.0, query.1);
-        let found = read_entry::<H>(alloc, &run, &handles, query.0, query.1, &mut Steps::new())?;
-        if !is_found(wanted, found.as_ref()) || !opened.finds(alloc, &trusted, query, wanted)? {
-            return Ok(false);
-        }
-    }
-    Ok(opened.table.verify(alloc)?.entries == list.len() as u64)
+    reads_all::<H>(alloc, &Slice::from_vec(bytes)?, &handles, list)
 }
 
 /// A random configuration, with some intervals and bits for each key.
