@@ -1,53 +1,106 @@
 //! `check`: whether a file is a sound table.
 use crate::fault::{Fault, Result};
 use crate::open::{FileTable, open};
+use crate::progress::Progress;
 use crate::words::FILE;
 use clap::ArgMatches;
 use sstable_blocks::Error;
 use std::alloc::Global;
-use std::io::{Read, Seek, Write};
-use std::rt::Files;
+use std::fmt;
+use std::io::Write;
+use std::rt::{Clock, Files};
 
-// Finds the first block that is refused by itself, with its error.
-fn first_refused<F: Read + Seek + Drop>(
-    alloc: Global,
-    table: &mut FileTable<F>,
-) -> Option<(usize, u64, Error)> {
+/// A block of a table file.
+#[derive(Clone, Copy)]
+enum TableBlock {
+    /// A data block, by its index.
+    Data(usize),
+    /// The index.
+    Index,
+    /// The filter.
+    Filter,
+}
+
+impl fmt::Display for TableBlock {
+    fn fmt<W: fmt::Write>(&self, f: &mut fmt::Formatter<W>) -> fmt::Result {
+        match self {
+            TableBlock::Data(index) => write!(f, "block {index}"),
+            TableBlock::Index => f.write_str("index"),
+            TableBlock::Filter => f.write_str("filter"),
+        }
+    }
+}
+
+// The data block at an offset, by the index.
+fn data_block_at<R: Files + Clock + Eprint>(
+    table: &FileTable<'_, R>,
+    offset: u64,
+) -> Option<TableBlock> {
     let mut index = 0usize;
     while index < table.index().len() {
-        let offset = table.index().handle_at(index).offset().0;
-        if let Err(error) = table.block_at(alloc, index) {
-            return Some((index, offset, error));
+        if *table.index().handle_at(index).offset() == offset {
+            return Some(TableBlock::Data(index));
         }
         index += 1;
     }
     None
 }
 
-/// Checks a table file whole: each frame, the order across blocks, end keys, the filter. Prints the
+// The block at an offset, by the footer and the index.
+fn block_at<R: Files + Clock + Eprint>(
+    table: &FileTable<'_, R>,
+    offset: u64,
+) -> Option<TableBlock> {
+    let handles = table.handles();
+    if *handles.index.offset() == offset {
+        return Some(TableBlock::Index);
+    }
+    match &handles.filter {
+        Some(filter) if *filter.offset() == offset => Some(TableBlock::Filter),
+        _ => data_block_at(table, offset),
+    }
+}
+
+// The fault of a table that the check refuses: it names the block that was read last.
+fn refused<R: Files + Clock + Eprint>(
+    alloc: Global,
+    file: &str,
+    table: &FileTable<'_, R>,
+    offset: Option<u64>,
+    error: Error,
+) -> Fault {
+    let Some(offset) = offset else {
+        return Fault::of_file(alloc, file, None, error);
+    };
+    match block_at(table, offset) {
+        Some(block) => Fault::of_block(alloc, file, block, offset, error),
+        None => Fault::of_file(alloc, file, Some(offset), error),
+    }
+}
+
+/// Checks a table file whole: each block, the order across blocks, end keys, the filter. Prints the
 /// numbers of blocks and entries.
 ///
 /// # Errors
 ///
-/// Those of the file. The first block that is refused is named with its offset, and the file alone
-/// where no block is refused by itself.
-pub fn run<R: Files, O: Write>(
-    rt: &R,
+/// Those of the file and of the check, with the block that was read last and its offset, and
+/// `Fault::Output`.
+pub fn run<R: Files + Clock + Eprint, O: Write>(
+    progress: &Progress<'_, R>,
     alloc: Global,
     words: &ArgMatches<'_>,
     output: &mut O,
 ) -> Result<()> {
     let file = words.get_str(FILE).unwrap_or("");
-    let mut table = open(rt, alloc, file)?;
-    match table.verify(alloc) {
+    let mut table = open(progress, alloc, file)?;
+    let checked = table.verify(alloc);
+    progress.clear();
+    match checked {
         Ok(summary) => {
             let (blocks, entries) = (summary.blocks, summary.entries);
             writeln!(output, "ok {blocks} blocks {entries} entries")?;
             Ok(())
         }
-        Err(error) => Err(match first_refused(alloc, &mut table) {
-            Some((index, offset, error)) => Fault::of_block(alloc, file, index, offset, error),
-            None => Fault::of_file(alloc, file, error),
-        }),
+        Err(error) => Err(refused(alloc, file, &table, progress.offset(), error)),
     }
 }

@@ -1,17 +1,17 @@
 //! Why a run of the program fails.
 use sstable_blocks::Error;
 use std::alloc::{AllocError, AllocFailed, Global};
-use std::io;
+use std::{fmt, io};
 
 /// Why a run fails. It is displayed as its line, without the program's name and the line feed.
 #[derive(Debug, Drop, thiserror::Error)]
 pub enum Fault {
-    /// A word or a file is refused, as the text says.
+    /// A word or a file is refused, for the reason in the text.
     #[error("{0}")]
     Refused(String),
     /// No entry is left of the tables that are merged.
     #[error("no entries are left")]
-    Nothing,
+    NoEntries,
     /// The output failed.
     #[error("the output failed")]
     Output,
@@ -23,24 +23,59 @@ pub enum Fault {
 /// A result whose error ends the run.
 pub type Result<T> = std::result::Result<T, Fault>;
 
+/// An error of the library, displayed with checksums in hex.
+#[derive(Drop)]
+struct Shown(Error);
+
+impl fmt::Display for Shown {
+    fn fmt<W: fmt::Write>(&self, f: &mut fmt::Formatter<W>) -> fmt::Result {
+        match self.0 {
+            Error::ChecksumMismatch { got, expected } => {
+                let found = got.into_u128();
+                let expected = expected.into_u128();
+                write!(f, "checksum is {found:032x}, expected {expected:032x}")
+            }
+            error => write!(f, "{error}"),
+        }
+    }
+}
+
 impl Fault {
-    /// The fault of a word that is no key: what is after `hex:` is no pairs of hex digits.
+    /// Returns the fault of a word that is not a key: what follows `hex:` is not pairs of hex digits.
     pub fn of_key(alloc: Global, word: &str) -> Fault {
-        Fault::told(format!(in alloc; "{word}: no pairs of hex digits after `hex:`"))
+        Fault::with_text(format!(in alloc; "{word}: no pairs of hex digits after `hex:`"))
     }
 
-    /// The fault of a file that is refused, or of what is done with it.
-    pub fn of_file(alloc: Global, name: &str, error: Error) -> Fault {
-        Fault::told(format!(in alloc; "{name}: {error}"))
+    /// Returns the fault of a file that is there already.
+    pub fn of_present(alloc: Global, name: &str) -> Fault {
+        Fault::with_text(format!(in alloc;
+            "{name}: is there already, of another or a killed merge"
+        ))
     }
 
-    /// The fault of a data block of a file, which begins at an offset.
-    pub fn of_block(alloc: Global, name: &str, index: usize, offset: u64, error: Error) -> Fault {
-        Fault::told(format!(in alloc; "{name}: block {index} at offset {offset}: {error}"))
+    /// Returns the fault of a file, whose block at an offset, if there is one, was read last.
+    pub fn of_file(alloc: Global, name: &str, offset: Option<u64>, error: Error) -> Fault {
+        let error = Shown(error);
+        Fault::with_text(match offset {
+            Some(offset) => format!(in alloc; "{name}: at offset {offset}: {error}"),
+            None => format!(in alloc; "{name}: {error}"),
+        })
+    }
+
+    /// Returns the fault of a block of a file, which has this name and begins at an offset.
+    pub fn of_block<D: fmt::Display + Drop>(
+        alloc: Global,
+        name: &str,
+        block: D,
+        offset: u64,
+        error: Error,
+    ) -> Fault {
+        let error = Shown(error);
+        Fault::with_text(format!(in alloc; "{name}: {block} at offset {offset}: {error}"))
     }
 
     // The fault with a text, if there was memory for it.
-    fn told(text: std::result::Result<String, AllocError>) -> Fault {
+    fn with_text(text: std::result::Result<String, AllocError>) -> Fault {
         match text {
             Ok(text) => Fault::Refused(text),
             Err(_) => Fault::Memory,

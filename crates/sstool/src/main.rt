@@ -7,6 +7,7 @@ pub mod get;
 pub mod keys;
 pub mod merge;
 pub mod open;
+pub mod progress;
 pub mod scan;
 pub mod show;
 pub mod source;
@@ -15,40 +16,48 @@ pub mod words;
 
 use clap::ArgMatches;
 use fault::Fault;
+use progress::Progress;
 use sst_program::pipe::{PipeOutput, QuietFaults};
 use std::alloc::Global;
 use std::cell::Cell;
 use std::env;
-use std::io::Write;
+use std::io::{IsTerminal, Write};
 use std::process::ExitCode;
-use std::rt::Files;
+use std::rt::{Clock, Files};
 use words::{CHECK, GET, MERGE, SCAN, STAT, command};
 
 // Runs a command, of which these are the words.
-fn run_command<R: Files, O: Write>(
-    rt: &R,
+fn run_command<R: Files + Clock + Eprint, O: Write>(
+    progress: &Progress<'_, R>,
     alloc: Global,
     name: &str,
     words: &ArgMatches<'_>,
     output: &mut O,
 ) -> Result<(), Fault> {
     if name == STAT {
-        stat::run(rt, alloc, words, output)
+        stat::run(progress, alloc, words, output)
     } else if name == GET {
-        get::run(rt, alloc, words, output)
+        get::run(progress, alloc, words, output)
     } else if name == SCAN {
-        scan::run(rt, alloc, words, output)
+        scan::run(progress, alloc, words, output)
     } else if name == CHECK {
-        check::run(rt, alloc, words, output)
+        check::run(progress, alloc, words, output)
     } else if name == MERGE {
-        merge::run(rt, alloc, words, output)
+        merge::run(progress, alloc, words, output)
     } else {
         Ok(())
     }
 }
 
+// Begins the progress of a command. It is shown where standard error is a terminal, and standard
+// output is not one that a scan prints its entries on.
+fn progress_of<'r>(rt: &'r HostRuntime, name: &str) -> Progress<'r, HostRuntime> {
+    let is_visible = rt.stderr().is_terminal() && (name != SCAN || !rt.stdout().is_terminal());
+    Progress::new(rt, is_visible)
+}
+
 // Parses the words, and runs their command. Returns the status: 0, 1 after a line on `faults`, 2
-// after words that are none.
+// after words that are refused.
 fn run<O: Write, F: Write>(
     rt: &HostRuntime,
     words: &[String],
@@ -66,7 +75,10 @@ fn run<O: Write, F: Write>(
     let Some((name, words)) = matches.subcommand() else {
         return Ok(2);
     };
-    match run_command(rt, alloc, name, words, output) {
+    let progress = progress_of(rt, name);
+    let outcome = run_command(&progress, alloc, name, words, output);
+    progress.clear();
+    match outcome {
         Ok(()) => Ok(0),
         Err(fault) => {
             writeln!(faults, "sstool: {fault}")?;

@@ -1,20 +1,22 @@
 //! `merge`: several tables as one.
 use crate::fault::{Fault, Result};
-use crate::open::{FileTable, open};
+use crate::open::{CountedFile, open};
+use crate::progress::Progress;
 use crate::source::Scanned;
 use crate::words::{BOTTOM, FILE, OUT, SNAPSHOT};
 use clap::ArgMatches;
-use sst_merge::{Head, Merge, Outputs, Sizes, compact_tables};
+use sst_merge::{Head, Merge, Outputs, Sizes, Source, compact_tables};
 use sst_program::sync::{BufferedFile, SyncWrite};
-use sst_program::table::TableFile;
 use sstable_blocks::{
-    FileSource, HashRatio, InternalValue, Poly31, RunConfig, RunHandles, encode_footer,
+    Error, FileSource, HashRatio, InternalValue, Poly31, RunConfig, RunHandles, encode_footer,
 };
 use std::alloc::Global;
-use std::fs::OpenOptions;
-use std::io::Write;
+use std::cell::Cell;
+use std::fs::{OpenFile, OpenOptions};
+use std::io::{ErrorKind, Write};
 use std::ops::Bound;
-use std::rt::Files;
+use std::path::Path;
+use std::rt::{Clock, Files};
 use std::{fs, io};
 
 // How a merged table is written: restart intervals of 16, no hash index, 10 filter bits a key.
@@ -30,16 +32,35 @@ const SIZES: Sizes = Sizes {
     table: usize::MAX,
 };
 
-/// What is left of a table file.
-type FileScan<F> = Scanned<'static, FileSource<TableFile<F>>>;
+/// A table that is merged. It notes in `failed` that a read of it failed, by its index.
+#[derive(Drop)]
+struct Merged<'p, R: Files + Clock + Eprint> {
+    scan: Scanned<'static, FileSource<CountedFile<'p, R>>>,
+    index: usize,
+    failed: &'p Cell<Option<usize>>,
+}
 
-/// A file that a table is written into.
+impl<'p, R: Files + Clock + Eprint> Source<InternalValue> for Merged<'p, R> {
+    ghost use Rattle.std.specs.Prelude.{None};
+    ghost use Rattle.sstable_blocks.specs.Scans.{most_left};
+
+    ghost left = { λ s. record { list = None; most = most_left s.scan.scan } };
+
+    fn next_entry(&mut self, alloc: Global) -> sstable_blocks::Result<Option<InternalValue>> {
+        let entry = self.scan.next_entry(alloc);
+        if entry.is_err() {
+            self.failed.set(Some(self.index));
+        }
+        entry
+    }
+}
+
+/// A file that a table is written into. Clauses know nothing of its bytes.
 #[derive(Drop)]
 struct TableWriter<F: Write + Drop> {
     file: BufferedFile<F>,
 }
 
-// Clauses know nothing of its bytes.
 impl<F: Write + Drop> Write for TableWriter<F> {
     fn write(&mut self, buf: &[u8]) -> io::Result<usize> {
         self.file.write(buf)
@@ -52,43 +73,35 @@ impl<F: Write + Drop> Write for TableWriter<F> {
 
 /// Where the merged table is written: a new file.
 #[derive(Drop)]
-struct NewFile<'a, R: Files> {
-    rt: &'a R,
-    path: &'a str,
-    closed: Vec<(RunHandles, TableWriter<R::File>)>,
+struct NewFile<F: Write + Drop> {
+    opened: Option<TableWriter<F>>,
+    closed: Vec<(RunHandles, TableWriter<F>)>,
 }
 
-impl<'a, R: Files> Outputs for NewFile<'a, R> {
+impl<F: Write + Drop> Outputs for NewFile<F> {
     ghost use Rattle.std.specs.Prelude.{map, None};
 
-    type Writer = TableWriter<R::File>;
+    type Writer = TableWriter<F>;
 
     ghost tables = { λ s. map (λ c. record { handles = c.0; bytes = None }) s.closed.items };
 
     ghost start = { None };
 
-    fn open(&mut self) -> sstable_blocks::Result<TableWriter<R::File>> {
-        let mut options = OpenOptions::new();
-        let file = options
-            .write(true)
-            .create(true)
-            .truncate(true)
-            .open(self.rt, self.path)?;
-        let file = BufferedFile::new(*self.closed.allocator(), file)?;
-        Ok(TableWriter { file })
+    // There is no second table, since none ends before all is written.
+    fn open(&mut self) -> sstable_blocks::Result<TableWriter<F>> {
+        match self.opened.take() {
+            Some(writer) => Ok(writer),
+            None => Err(Error::Io),
+        }
     }
 
-    fn close(
-        &mut self,
-        handles: RunHandles,
-        writer: TableWriter<R::File>,
-    ) -> sstable_blocks::Result<()> {
+    fn close(&mut self, handles: RunHandles, writer: TableWriter<F>) -> sstable_blocks::Result<()> {
         self.closed.push((handles, writer))?;
         Ok(())
     }
 }
 
-impl<'a, R: Files> NewFile<'a, R> {
+impl<F: Write + OpenFile + Drop> NewFile<F> {
     // Ends the table that was written with its footer, and syncs it. Returns whether there is one.
     fn finish(&mut self) -> sstable_blocks::Result<bool> {
         let Some((handles, mut writer)) = self.closed.pop() else {
@@ -101,49 +114,104 @@ impl<'a, R: Files> NewFile<'a, R> {
 }
 
 // Opens tables, the newest first.
-fn heads_of<R: Files>(
-    rt: &R,
+fn heads_of<'p, R: Files + Clock + Eprint>(
+    progress: &'p Progress<'p, R>,
     alloc: Global,
     files: &[&str],
-) -> Result<Vec<Head<InternalValue, FileScan<R::File>>>> {
+    failed: &'p Cell<Option<usize>>,
+) -> Result<Vec<Head<InternalValue, Merged<'p, R>>>> {
     let mut heads = Vec::new(alloc);
-    for file in files.iter() {
-        let table = open(rt, alloc, file)?;
-        let scanned = Scanned::new(table.scan_range(Bound::Unbounded, Bound::Unbounded));
-        match Head::new(alloc, scanned) {
+    for (index, file) in files.iter().enumerate() {
+        let table = open(progress, alloc, file)?;
+        let scan = Scanned::new(table.scan_range(Bound::Unbounded, Bound::Unbounded));
+        let merged = Merged {
+            scan,
+            index,
+            failed,
+        };
+        match Head::new(alloc, merged) {
             Ok(head) => heads.push(head)?,
-            Err(error) => return Err(Fault::of_file(alloc, file, error)),
+            Err(error) => return Err(Fault::of_file(alloc, file, progress.offset(), error)),
         }
     }
     Ok(heads)
 }
 
-// Writes what is left of tables as one into a new file, which then replaces the one of the wanted
-// name. Returns whether an entry was left.
-fn write_merged<R: Files>(
+// Makes the new file of a table. A file of that name is another merge's, which may still write it.
+fn new_file_at<R: Files>(rt: &R, alloc: Global, path: &str) -> Result<NewFile<R::File>> {
+    let file = match OpenOptions::new()
+        .write(true)
+        .create_new(true)
+        .open(rt, path)
+    {
+        Ok(file) => file,
+        Err(error) if error.kind() == ErrorKind::AlreadyExists => {
+            return Err(Fault::of_present(alloc, path));
+        }
+        Err(_) => return Err(Fault::of_file(alloc, path, None, Error::Io)),
+    };
+    match BufferedFile::new(alloc, file) {
+        Ok(file) => Ok(NewFile {
+            opened: Some(TableWriter { file }),
+            closed: Vec::new(alloc),
+        }),
+        Err(_) => Err(Fault::Memory),
+    }
+}
+
+// Writes what is left of tables into a new file, as one table, which then replaces the file of the
+// wanted name. Returns whether an entry was left.
+fn write_merged<R: Files + Clock + Eprint>(
     rt: &R,
-    merge: Merge<InternalValue, FileScan<R::File>>,
+    merge: Merge<InternalValue, Merged<'_, R>>,
     words: &ArgMatches<'_>,
-    closed: Vec<(RunHandles, TableWriter<R::File>)>,
+    new_file: &mut NewFile<R::File>,
     path: &str,
-    out: &str,
 ) -> sstable_blocks::Result<bool> {
-    let alloc = *closed.allocator();
-    let mut new_file = NewFile { rt, path, closed };
+    let alloc = *new_file.closed.allocator();
     compact_tables::<Poly31, _, _>(
         alloc,
         merge,
         words.get_one::<u64>(SNAPSHOT).unwrap_or(0),
         words.get_flag(BOTTOM),
-        &mut new_file,
+        new_file,
         RunConfig::new(INTERVAL, NO_BUCKETS, FILTER_BITS),
         SIZES,
     )?;
     let is_written = new_file.finish()?;
     if is_written {
-        fs::rename(rt, path, out)?;
+        fs::rename(rt, path, words.get_str(OUT).unwrap_or(""))?;
     }
     Ok(is_written)
+}
+
+// Syncs the folder of a file, so that a rename in it lasts. The file is whole under either name, so
+// a failure is left.
+fn sync_folder<R: Files>(rt: &R, name: &str) {
+    let folder = match Path::new(name).parent() {
+        Some(folder) if !folder.as_str().is_empty() => folder,
+        _ => Path::new("."),
+    };
+    if let Ok(folder) = fs::open(rt, folder) {
+        let _ = folder.sync_all();
+    }
+}
+
+// The fault of a merge: that of the table whose read failed, or else of the new file.
+fn fault_of<R>(
+    progress: &Progress<'_, R>,
+    alloc: Global,
+    words: &ArgMatches<'_>,
+    failed: Option<usize>,
+    error: Error,
+) -> Fault {
+    let files = words.get_strs(FILE).unwrap_or(&[]);
+    match failed {
+        Some(index) if index < files.len() => {
+            Fault::of_file(alloc, files[index], progress.offset(), error)
+        }
+        _ => Fault::of_file(alloc, words.get_str(OUT).unwrap_or(""), None, error),
+    }
 }
 
 /// Merges tables, the newest first, into one, which replaces the file of its name when it is whole.
@@ -153,26 +221,32 @@ fn write_merged<R: Files>(
 /// # Errors
 ///
 /// Those of the files, of a block that is reached, and of the table that is written;
-/// `Fault::Nothing` if no entry is left.
-pub fn run<R: Files, O: Write>(
-    rt: &R,
+/// `Fault::NoEntries` if no entry is left.
+pub fn run<R: Files + Clock + Eprint, O: Write>(
+    progress: &Progress<'_, R>,
     alloc: Global,
     words: &ArgMatches<'_>,
     output: &mut O,
 ) -> Result<()> {
     let out = words.get_str(OUT).unwrap_or("");
     let files = words.get_strs(FILE).unwrap_or(&[]);
-    let merge = Merge::new(heads_of(rt, alloc, files)?);
+    let failed = Cell::new(None);
+    let merge = Merge::new(heads_of(progress, alloc, files, &failed)?);
     let path = format!(in alloc; "{out}.sst-new")?;
-    match write_merged(rt, merge, words, Vec::new(alloc), path.as_str(), out) {
+    let mut new_file = new_file_at(progress.rt(), alloc, path.as_str())?;
+    let written = write_merged(progress.rt(), merge, words, &mut new_file, path.as_str());
+    progress.clear();
+    match written {
         Ok(true) => {
+            sync_folder(progress.rt(), out);
             writeln!(output, "merged {} tables into {out}", files.len())?;
-            Ok(())
+            return Ok(());
         }
-        Ok(false) => Err(Fault::Nothing),
-        Err(error) => {
-            let _ = fs::remove_file(rt, path.as_str());
-            Err(Fault::of_file(alloc, out, error))
-        }
+        _ => {}
+    }
+    let _ = fs::remove_file(progress.rt(), path.as_str());
+    match written {
+        Err(error) => Err(fault_of(progress, alloc, words, failed.get(), error)),
+        Ok(_) => Err(Fault::NoEntries),
     }
 }

@@ -1,71 +1,38 @@
 //! `scan`: the entries of a table in a range of keys.
-ghost use Rattle.std.specs.Prelude.{◌<◌, IfOk, IfSome};
-
 use crate::fault::{Fault, Result};
 use crate::keys::key_in;
 use crate::open::open;
+use crate::progress::Progress;
 use crate::show::EntryLine;
 use crate::source::Scanned;
 use crate::words::{AT, FILE, FROM, REVERSE, TEXT, TO};
 use clap::ArgMatches;
 use sst_merge::{Snapshot, Source};
-use sstable_blocks::{FrameSource, InternalValue, SeqNo};
+use sstable_blocks::{Error, FrameSource, InternalValue, SeqNo};
 use std::alloc::Global;
+use std::io;
 use std::io::{BufWriter, Write};
 use std::ops::Bound;
-use std::rt::Files;
+use std::rt::{Clock, Files};
 
-/// Prints what is left of a source, whose file has this name.
-#[derive(Drop)]
-struct Printer<'f, I: Source<InternalValue>> {
-    source: I,
-    file: &'f str,
+/// Why entries are not printed to the end.
+#[derive(Clone, Copy)]
+enum Stop {
+    /// The next entry is not read.
+    Read(Error),
+    /// The output failed.
+    Output,
 }
 
-impl<'f, I: Source<InternalValue>> Printer<'f, I> {
-    // Takes the next entry.
-    fn next(&mut self, alloc: Global) -> Result<Option<InternalValue>>
-        ensures fewer { IfOk result (λ x. IfSome x
-            (λ _. (I.left self.new.source).most < (I.left self.old.source).most)) }
-    {
-        match self.source.next_entry(alloc) {
-            Ok(entry) => Ok(entry),
-            Err(error) => Err(Fault::of_file(alloc, self.file, error)),
-        }
+impl From<Error> for Stop {
+    fn from(error: Error) -> Stop {
+        Stop::Read(error)
     }
+}
 
-    // Prints all entries.
-    fn print_all<O: Write + Drop>(&mut self, alloc: Global, lines: &mut Lines<O>) -> Result<()> {
-        while let Some(entry) = self.next(alloc)? {
-            lines.print(&entry)?;
-        }
-        Ok(())
-    }
-
-    // Prints what a read sees, from the last key on: the last version of each key below the
-    // sequence number, as they come from the oldest to the newest.
-    fn print_seen_back<O: Write + Drop>(
-        &mut self,
-        alloc: Global,
-        at: SeqNo,
-        lines: &mut Lines<O>,
-    ) -> Result<()> {
-        let mut seen: Option<InternalValue> = None;
-        while let Some(entry) = self.next(alloc)? {
-            if let Some(newest) = &seen {
-                if newest.key().user_key() != entry.key().user_key() {
-                    lines.print_value(newest)?;
-                    seen = None;
-                }
-            }
-            if entry.key().seqno() < at {
-                seen = Some(entry);
-            }
-        }
-        match &seen {
-            Some(newest) => Ok(lines.print_value(newest)?),
-            None => Ok(()),
-        }
+impl From<io::Error> for Stop {
+    fn from(_error: io::Error) -> Stop {
+        Stop::Output
     }
 }
 
@@ -78,7 +45,7 @@ struct Lines<O: Write + Drop> {
 
 impl<O: Write + Drop> Lines<O> {
     // Prints an entry.
-    fn print(&mut self, entry: &InternalValue) -> std::io::Result<()> {
+    fn print(&mut self, entry: &InternalValue) -> io::Result<()> {
         let line = EntryLine {
             entry,
             is_text: self.is_text,
@@ -86,12 +53,75 @@ impl<O: Write + Drop> Lines<O> {
         writeln!(self.output, "{line}")
     }
 
-    // Prints an entry that is no tombstone.
-    fn print_value(&mut self, entry: &InternalValue) -> std::io::Result<()> {
-        if entry.is_tombstone() {
-            return Ok(());
+    // Prints an entry, if there is one that is not a tombstone.
+    fn print_value(&mut self, entry: &Option<InternalValue>) -> io::Result<()> {
+        match entry {
+            Some(entry) if !entry.is_tombstone() => self.print(entry),
+            _ => Ok(()),
         }
-        self.print(entry)
+    }
+
+    // Prints all entries of a source.
+    fn print_all<I: Source<InternalValue>>(
+        &mut self,
+        alloc: Global,
+        source: &mut I,
+    ) -> std::result::Result<(), Stop> {
+        while let Some(entry) = source.next_entry(alloc)? {
+            self.print(&entry)?;
+        }
+        Ok(())
+    }
+
+    // Passes an entry of a scan from the back: returns the newest version so far of its key below a
+    // sequence number. Prints that of the key before, if this is another key.
+    fn pass_back(
+        &mut self,
+        at: SeqNo,
+        newest: Option<InternalValue>,
+        entry: InternalValue,
+    ) -> io::Result<Option<InternalValue>> {
+        let is_same_key = match &newest {
+            Some(newest) => newest.key().user_key() == entry.key().user_key(),
+            None => true,
+        };
+        if !is_same_key {
+            self.print_value(&newest)?;
+        }
+        if entry.key().seqno() < at {
+            return Ok(Some(entry));
+        }
+        Ok(if is_same_key { newest } else { None })
+    }
+
+    // Prints what a read below a sequence number sees of a source from the back, where the versions
+    // of a key come from the oldest to the newest.
+    fn print_seen_back<I: Source<InternalValue>>(
+        &mut self,
+        alloc: Global,
+        at: SeqNo,
+        source: &mut I,
+    ) -> std::result::Result<(), Stop> {
+        let mut newest: Option<InternalValue> = None;
+        while let Some(entry) = source.next_entry(alloc)? {
+            newest = self.pass_back(at, newest, entry)?;
+        }
+        Ok(self.print_value(&newest)?)
+    }
+
+    // Prints what is left of a scan, as the words say.
+    fn print_scanned<S: FrameSource + Drop>(
+        &mut self,
+        alloc: Global,
+        words: &ArgMatches<'_>,
+        source: Scanned<'_, S>,
+    ) -> std::result::Result<(), Stop> {
+        let mut source = source;
+        match words.get_one::<u64>(AT) {
+            None => self.print_all(alloc, &mut source),
+            Some(at) if words.get_flag(REVERSE) => self.print_seen_back(alloc, at, &mut source),
+            Some(at) => self.print_all(alloc, &mut Snapshot::new(source, at)),
+        }
     }
 }
 
@@ -103,35 +133,15 @@ fn key_of(alloc: Global, words: &ArgMatches<'_>, id: &str) -> Result<Option<Vec<
     }
 }
 
-// Prints what is left of a source, as the words want it.
-fn print_scanned<O: Write + Drop, S: FrameSource + Drop>(
-    alloc: Global,
-    source: Scanned<'_, S>,
-    file: &str,
-    words: &ArgMatches<'_>,
-    lines: &mut Lines<O>,
-) -> Result<()> {
-    match words.get_one::<u64>(AT) {
-        None => Printer { source, file }.print_all(alloc, lines),
-        Some(at) if words.get_flag(REVERSE) => Printer { source, file }.print_seen_back(
-            alloc, at, lines,
-        ),
-        Some(at) => {
-            let source = Snapshot::new(source, at);
-            Printer { source, file }.print_all(alloc, lines)
-        }
-    }
-}
-
 /// Prints the entries of a table from the key of `--from` up to that of `--to`, without it; with
 /// `--at` only what a read at this sequence number sees.
 ///
 /// # Errors
 ///
-/// An error for a word that is no key, those of the file and of the blocks that are reached, and
+/// An error for a word that is not a key, those of the file and of the blocks that are reached, and
 /// `Fault::Output`. The entries before a block that is refused are printed.
-pub fn run<R: Files, O: Write>(
-    rt: &R,
+pub fn run<R: Files + Clock + Eprint, O: Write>(
+    progress: &Progress<'_, R>,
     alloc: Global,
     words: &ArgMatches<'_>,
     output: &mut O,
@@ -147,13 +157,17 @@ pub fn run<R: Files, O: Write>(
         Some(key) => Bound::Excluded(key.as_slice()),
         None => Bound::Unbounded,
     };
-    let scan = open(rt, alloc, file)?.scan_range(from, to);
+    let scan = open(progress, alloc, file)?.scan_range(from, to);
     let source = Scanned::reversed(scan, words.get_flag(REVERSE));
     let mut lines = Lines {
         output: BufWriter::new(alloc, &mut *output)?,
         is_text: words.get_flag(TEXT),
     };
-    let printed = print_scanned(alloc, source, file, words, &mut lines);
+    let printed = lines.print_scanned(alloc, words, source);
     lines.output.flush()?;
-    printed
+    match printed {
+        Ok(()) => Ok(()),
+        Err(Stop::Output) => Err(Fault::Output),
+        Err(Stop::Read(error)) => { Err(Fault::of_file(alloc, file, progress.offset(), error)) }
+    }
 }

@@ -9,7 +9,7 @@ use std::alloc::Global;
 /// What is left of a scan, from one of its ends.
 #[derive(Drop)]
 pub struct Scanned<'k, S: FrameSource> {
-    scan: Scan<'k, Poly31, S>,
+    pub(crate) scan: Scan<'k, Poly31, S>,
     is_reverse: bool,
 }
 

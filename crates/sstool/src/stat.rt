@@ -1,6 +1,7 @@
 //! `stat`: what a table holds.
 use crate::fault::{Fault, Result};
 use crate::open::{FileTable, open};
+use crate::progress::Progress;
 use crate::show::{Hex, Shown};
 use crate::words::{FILE, JSON};
 use clap::ArgMatches;
@@ -10,8 +11,8 @@ use sstable_blocks::run::footer::FOOTER_LEN;
 use sstable_blocks::{BlockHandle, Error, FilterBlock, RunSummary};
 use std::alloc::Global;
 use std::io;
-use std::io::{Read, Seek, Write};
-use std::rt::Files;
+use std::io::Write;
+use std::rt::{Clock, Files};
 
 /// What the payloads of the data blocks have.
 #[derive(Clone, Copy)]
@@ -63,9 +64,9 @@ fn bits_of(filter: &FilterBlock) -> std::result::Result<Bits, Error> {
 }
 
 // What the data blocks of a table have.
-fn blocks_of<F: Read + Seek + Drop>(
+fn blocks_of<R: Files + Clock + Eprint>(
     alloc: Global,
-    table: &mut FileTable<F>,
+    table: &mut FileTable<'_, R>,
 ) -> std::result::Result<Blocks, Error> {
     let mut blocks = Blocks {
         least_interval: u8::MAX,
@@ -88,9 +89,9 @@ fn blocks_of<F: Read + Seek + Drop>(
 }
 
 // What a table has. It is checked whole.
-fn stat_of<F: Read + Seek + Drop>(
+fn stat_of<R: Files + Clock + Eprint>(
     alloc: Global,
-    table: &mut FileTable<F>,
+    table: &mut FileTable<'_, R>,
 ) -> std::result::Result<Stat, Error> {
     let summary = table.verify(alloc)?;
     let blocks = blocks_of(alloc, table)?;
@@ -126,23 +127,10 @@ impl Stat {
             .saturating_add(FOOTER_LEN as u64)
     }
 
-    // Prints lines, each a name and what it names.
+    // Prints lines, each of a name and a value.
     fn print<O: Write>(&self, output: &mut O) -> io::Result<()> {
-        let Stat {
-            summary,
-            blocks,
-            ..
-        } = self;
-        let first = Shown(summary.first_key.as_slice());
-        let last = Shown(summary.last_key.as_slice());
-        writeln!(output, "blocks     {}", summary.blocks)?;
-        writeln!(output, "entries    {}", summary.entries)?;
-        writeln!(output, "keys       {first} to {last}")?;
-        writeln!(
-            output,
-            "seqnos     {} to {}",
-            summary.least_seqno, summary.greatest_seqno
-        )?;
+        self.print_entries(output)?;
+        let blocks = &self.blocks;
         writeln!(
             output,
             "intervals  {} to {} in blocks, {} in the index",
@@ -161,6 +149,21 @@ impl Stat {
         writeln!(output, "longest    {} bytes of payload", blocks.longest)
     }
 
+    // Prints the lines of the entries.
+    fn print_entries<O: Write>(&self, output: &mut O) -> io::Result<()> {
+        let summary = &self.summary;
+        let first = Shown(summary.first_key.as_slice());
+        let last = Shown(summary.last_key.as_slice());
+        writeln!(output, "blocks     {}", summary.blocks)?;
+        writeln!(output, "entries    {}", summary.entries)?;
+        writeln!(output, "keys       {first} to {last}")?;
+        writeln!(
+            output,
+            "seqnos     {} to {}",
+            summary.least_seqno, summary.greatest_seqno
+        )
+    }
+
     // Prints the line of the filter.
     fn print_bits<O: Write>(&self, output: &mut O) -> io::Result<()> {
         match &self.bits {
@@ -175,13 +178,36 @@ impl Stat {
         }
     }
 
-    // Prints a line of JSON. Keys are in hex.
+    // Prints a line of JSON. Keys are in hex; without a filter there is nothing of it.
     fn print_json<O: Write>(&self, output: &mut O) -> io::Result<()> {
-        let Stat {
-            summary,
-            blocks,
-            ..
-        } = self;
+        self.print_entries_json(output)?;
+        let blocks = &self.blocks;
+        write!(
+            output,
+            ",\"least_interval\":{},\"greatest_interval\":{},\"index_interval\":{}",
+            blocks.least_interval, blocks.greatest_interval, self.index_interval
+        )?;
+        if let Some(Bits { bits, set, probes }) = &self.bits {
+            write!(output, ",\"filter_bits\":{bits},\"filter_bits_set\":{set}")?;
+            write!(output, ",\"filter_probes\":{probes}")?;
+        }
+        write!(
+            output,
+            ",\"buckets\":{},\"longest_payload\":{}",
+            blocks.buckets, blocks.longest
+        )?;
+        writeln!(
+            output,
+            ",\"index_bytes\":{},\"filter_bytes\":{},\"bytes\":{}}}",
+            self.index.size(),
+            self.filter_len(),
+            self.file_len()
+        )
+    }
+
+    // Prints the first members of the line of JSON: those of the entries.
+    fn print_entries_json<O: Write>(&self, output: &mut O) -> io::Result<()> {
+        let summary = &self.summary;
         write!(
             output,
             "{{\"blocks\":{},\"entries\":{},\"first_key\":\"{}\",\"last_key\":\"{}\"",
@@ -194,23 +220,6 @@ impl Stat {
             output,
             ",\"least_seqno\":{},\"greatest_seqno\":{}",
             summary.least_seqno, summary.greatest_seqno
-        )?;
-        write!(
-            output,
-            ",\"least_interval\":{},\"greatest_interval\":{},\"index_interval\":{}",
-            blocks.least_interval, blocks.greatest_interval, self.index_interval
-        )?;
-        if let Some(Bits { bits, set, probes }) = &self.bits {
-            write!(output, ",\"filter_bits\":{bits},\"filter_bits_set\":{set}")?;
-            write!(output, ",\"filter_probes\":{probes}")?;
-        }
-        writeln!(
-            output,
-            ",\"buckets\":{},\"longest_payload\":{},\"index_bytes\":{},\"bytes\":{}}}",
-            blocks.buckets,
-            blocks.longest,
-            self.index.size(),
-            self.file_len()
         )
     }
 }
@@ -220,17 +229,19 @@ impl Stat {
 /// # Errors
 ///
 /// The first error of the check, with the file's name, and `Fault::Output`.
-pub fn run<R: Files, O: Write>(
-    rt: &R,
+pub fn run<R: Files + Clock + Eprint, O: Write>(
+    progress: &Progress<'_, R>,
     alloc: Global,
     words: &ArgMatches<'_>,
     output: &mut O,
 ) -> Result<()> {
     let file = words.get_str(FILE).unwrap_or("");
-    let mut table = open(rt, alloc, file)?;
-    let stat = match stat_of(alloc, &mut table) {
+    let mut table = open(progress, alloc, file)?;
+    let stat = stat_of(alloc, &mut table);
+    progress.clear();
+    let stat = match stat {
         Ok(stat) => stat,
-        Err(error) => return Err(Fault::of_file(alloc, file, error)),
+        Err(error) => return Err(Fault::of_file(alloc, file, progress.offset(), error)),
     };
     if words.get_flag(JSON) {
         stat.print_json(output)?;

@@ -1,4 +1,0 @@
-use Rattle.sstool.proofs.scan.Printer.print_all.Given as goal
-
-abbrev pub decreases-loop-entry : goal.decreases-loop-entry
-decreases-loop-entry g l = (g.I.Source.left l.self.source).most
