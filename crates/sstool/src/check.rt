@@ -1,4 +1,7 @@
 //! `check`: whether a file is a sound table.
+ghost use Rattle.std.specs.Prelude.{◌≡◌, slice_get, IfSome, Some};
+ghost use Rattle.std.specs.Option.{option_map};
+
 use crate::fault::{Fault, Result};
 use crate::open::{FileTable, open};
 use crate::progress::Progress;
@@ -31,15 +34,14 @@ impl fmt::Display for TableBlock {
     }
 }
 
-// The data block at an offset, by the index.
-fn data_block_at<R: Files + Clock + Eprint>(
-    table: &FileTable<'_, R>,
-    offset: u64,
-) -> Option<TableBlock> {
+// The index of the data block at an offset, by the handles.
+fn data_block_at<R: Files + Clock + Eprint>(table: &FileTable<'_, R>, offset: u64) -> Option<usize>
+    ensures { IfSome result (λ i. option_map (λ h. h.offset) (slice_get table.now.index i) ≡ Some offset) }
+{
     let mut index = 0usize;
     while index < table.index().len() {
         if *table.index().handle_at(index).offset() == offset {
-            return Some(TableBlock::Data(index));
+            return Some(index);
         }
         index += 1;
     }
@@ -57,7 +59,7 @@ fn block_at<R: Files + Clock + Eprint>(
     }
     match &handles.filter {
         Some(filter) if *filter.offset() == offset => Some(TableBlock::Filter),
-        _ => data_block_at(table, offset),
+        _ => Some(TableBlock::Data(data_block_at(table, offset)?)),
     }
 }
 

@@ -1,4 +1,7 @@
 //! Why a run of the program fails.
+ghost use Rattle.std.specs.Prelude.{◌≡◌};
+ghost use Rattle.sstool.specs.declared.fault.Fault.TheVariants.{Memory, Output};
+
 use sstable_blocks::Error;
 use std::alloc::{AllocError, AllocFailed, Global};
 use std::{fmt, io};
@@ -84,18 +87,24 @@ impl Fault {
 }
 
 impl From<AllocError> for Fault {
+    ghost from_gives = { λ _ fault. fault ≡ Memory };
+
     fn from(_error: AllocError) -> Fault {
         Fault::Memory
     }
 }
 
 impl<T: Drop> From<AllocFailed<T>> for Fault {
+    ghost from_gives = { λ _ fault. fault ≡ Memory };
+
     fn from(_error: AllocFailed<T>) -> Fault {
         Fault::Memory
     }
 }
 
 impl From<io::Error> for Fault {
+    ghost from_gives = { λ _ fault. fault ≡ Output };
+
     fn from(_error: io::Error) -> Fault {
         Fault::Output
     }

@@ -69,7 +69,7 @@ fn run<O: Write, F: Write>(
         Ok(matches) => matches,
         Err(error) => {
             error.print(rt)?;
-            return Ok(error.exit_code() as u8);
+            return Ok(if error.use_stderr() { 2 } else { 0 });
         }
     };
     let Some((name, words)) = matches.subcommand() else {

@@ -1,4 +1,6 @@
 //! `scan`: the entries of a table in a range of keys.
+ghost use Rattle.std.specs.Prelude.{◌≡◌, ◌⊎◌, ◌<◌, ◌≤◌, IfOk, None, Some};
+
 use crate::fault::{Fault, Result};
 use crate::keys::key_in;
 use crate::open::open;
@@ -80,7 +82,11 @@ impl<O: Write + Drop> Lines<O> {
         at: SeqNo,
         newest: Option<InternalValue>,
         entry: InternalValue,
-    ) -> io::Result<Option<InternalValue>> {
+    ) -> io::Result<Option<InternalValue>>
+        ensures newest { IfOk result (λ r. entry.key.seqno < at → r ≡ Some entry) }
+        ensures kept { IfOk result
+            (λ r. at ≤ entry.key.seqno → (r ≡ newest) ⊎ (r ≡ None)) }
+    {
         let is_same_key = match &newest {
             Some(newest) => newest.key().user_key() == entry.key().user_key(),
             None => true,
