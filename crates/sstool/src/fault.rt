@@ -49,10 +49,10 @@ impl Fault {
         Fault::with_text(format!(in alloc; "{word}: no pairs of hex digits after `hex:`"))
     }
 
-    /// Returns the fault of a file that is there already.
+    /// Returns the fault of a new file that exists already.
     pub fn of_present(alloc: Global, name: &str) -> Fault {
         Fault::with_text(format!(in alloc;
-            "{name}: is there already, of another or a killed merge"
+            "{name}: exists: another merge writes it, or was killed"
         ))
     }
 

@@ -1,5 +1,6 @@
 //! `scan`: the entries of a table in a range of keys.
-ghost use Rattle.std.specs.Prelude.{◌≡◌, ◌⊎◌, ◌<◌, ◌≤◌, IfOk, None, Some};
+ghost use Rattle.std.specs.Prelude.{◌≡◌, IfOk};
+ghost use Rattle.sstool.specs.Back.{is_same_key, newest_below};
 
 use crate::fault::{Fault, Result};
 use crate::keys::key_in;
@@ -9,7 +10,7 @@ use crate::show::EntryLine;
 use crate::source::Scanned;
 use crate::words::{AT, FILE, FROM, REVERSE, TEXT, TO};
 use clap::ArgMatches;
-use sst_merge::{Snapshot, Source};
+use sst_merge::{Snapshot, Source, Version};
 use sstable_blocks::{Error, FrameSource, InternalValue, SeqNo};
 use std::alloc::Global;
 use std::io;
@@ -83,21 +84,19 @@ impl<O: Write + Drop> Lines<O> {
         newest: Option<InternalValue>,
         entry: InternalValue,
     ) -> io::Result<Option<InternalValue>>
-        ensures newest { IfOk result (λ r. entry.key.seqno < at → r ≡ Some entry) }
-        ensures kept { IfOk result
-            (λ r. at ≤ entry.key.seqno → (r ≡ newest) ⊎ (r ≡ None)) }
+        ensures { IfOk result (λ r. r ≡ newest_below at newest entry) }
     {
-        let is_same_key = match &newest {
-            Some(newest) => newest.key().user_key() == entry.key().user_key(),
-            None => true,
-        };
+        let is_same_key = is_same_key(&newest, &entry);
         if !is_same_key {
             self.print_value(&newest)?;
         }
         if entry.key().seqno() < at {
-            return Ok(Some(entry));
+            Ok(Some(entry))
+        } else if is_same_key {
+            Ok(newest)
+        } else {
+            Ok(None)
         }
-        Ok(if is_same_key { newest } else { None })
     }
 
     // Prints what a read below a sequence number sees of a source from the back, where the versions
@@ -131,7 +130,17 @@ impl<O: Write + Drop> Lines<O> {
     }
 }
 
-// The key of a word, if it was said.
+// Whether an entry is a version of the key of the one kept, if one is.
+fn is_same_key(kept: &Option<InternalValue>, entry: &InternalValue) -> bool
+    ensures { result ≡ is_same_key kept.now entry.now }
+{
+    match kept {
+        Some(kept) => entry.has_user_key(kept.key().user_key().as_slice()),
+        None => true,
+    }
+}
+
+// The key of a word, if it is there.
 fn key_of(alloc: Global, words: &ArgMatches<'_>, id: &str) -> Result<Option<Vec<u8>>> {
     match words.get_str(id) {
         Some(word) => Ok(Some(key_in(alloc, word)?)),

@@ -5,49 +5,49 @@ use std::alloc::{AllocError, Global};
 /// The name of the command that prints what a table holds.
 pub const STAT: &str = "stat";
 
+/// The name of the command that prints the entries of a table.
+pub const SCAN: &str = "scan";
+
 /// The name of the command that reads a key.
 pub const GET: &str = "get";
 
 /// The name of the command that checks a table.
 pub const CHECK: &str = "check";
 
-/// The name of the word for a file.
+/// The name of the command that merges tables.
+pub const MERGE: &str = "merge";
+
+/// The name of the word for a table file.
 pub const FILE: &str = "FILE";
+
+/// The name of the word for the table file that is written.
+pub const OUT: &str = "OUT";
 
 /// The name of the word for a key.
 pub const KEY: &str = "KEY";
 
-/// The name of the word for a sequence number.
+/// The name of the option for the sequence number of a read.
 pub const AT: &str = "at";
 
-/// The name of the word for output as JSON.
-pub const JSON: &str = "json";
-
-/// The name of the command that prints the entries of a table.
-pub const SCAN: &str = "scan";
-
-/// The name of the command that merges tables.
-pub const MERGE: &str = "merge";
-
-/// The name of the word for the first key of a range.
+/// The name of the option for the first key of a range.
 pub const FROM: &str = "from";
 
-/// The name of the word for the key at which a range ends.
+/// The name of the option for the key at which a range ends.
 pub const TO: &str = "to";
 
-/// The name of the word for the order from the last entry to the first.
-pub const REVERSE: &str = "reverse";
-
-/// The name of the word for keys and values as text.
-pub const TEXT: &str = "text";
-
-/// The name of the word for the table that is written.
-pub const OUT: &str = "OUT";
-
-/// The name of the word for the least sequence number at which is read.
+/// The name of the option for the least sequence number that is read at after a merge.
 pub const SNAPSHOT: &str = "snapshot";
 
-/// The name of the word for a merge under which there is no older table.
+/// The name of the flag for output as JSON.
+pub const JSON: &str = "json";
+
+/// The name of the flag for the order from the last entry to the first.
+pub const REVERSE: &str = "reverse";
+
+/// The name of the flag for keys and values as text.
+pub const TEXT: &str = "text";
+
+/// The name of the flag for a merge with no older table below it.
 pub const BOTTOM: &str = "bottom";
 
 // The file that a command reads.
@@ -64,28 +64,9 @@ fn at<'a>(alloc: Global) -> Arg<'a> {
         .help("Read at this sequence number: versions below it")
 }
 
-// The words of `stat`.
-fn stat<'a>(alloc: Global) -> Result<Command<'a>, AllocError> {
-    let json = Arg::new(alloc, JSON)
-        .long(JSON)
-        .action(ArgAction::SetTrue)
-        .help("Print one line of JSON");
-    Command::new(alloc, STAT)
-        .about("Prints what a table holds")
-        .arg(file(alloc))?
-        .arg(json)
-}
-
-// The words of `get`.
-fn get<'a>(alloc: Global) -> Result<Command<'a>, AllocError> {
-    let key = Arg::new(alloc, KEY)
-        .required(true)
-        .help("The user key, as text or as hex:DIGITS");
-    Command::new(alloc, GET)
-        .about("Prints the newest version of a key")
-        .arg(file(alloc))?
-        .arg(key)?
-        .arg(at(alloc))
+// An option whose value is a key, with its help.
+fn key_option<'a>(alloc: Global, name: &'a str, help: &'a str) -> Arg<'a> {
+    Arg::new(alloc, name).long(name).value_name(KEY).help(help)
 }
 
 // A flag with its help.
@@ -96,9 +77,12 @@ fn flag<'a>(alloc: Global, name: &'a str, help: &'a str) -> Arg<'a> {
         .help(help)
 }
 
-// An option whose value is a key, with its help.
-fn key_option<'a>(alloc: Global, name: &'a str, help: &'a str) -> Arg<'a> {
-    Arg::new(alloc, name).long(name).value_name(KEY).help(help)
+// The words of `stat`.
+fn stat<'a>(alloc: Global) -> Result<Command<'a>, AllocError> {
+    Command::new(alloc, STAT)
+        .about("Prints what a table holds")
+        .arg(file(alloc))?
+        .arg(flag(alloc, JSON, "Print one line of JSON"))
 }
 
 // The words of `scan`.
@@ -115,6 +99,25 @@ fn scan<'a>(alloc: Global) -> Result<Command<'a>, AllocError> {
             TEXT,
             "Keys and values as text where they are printable",
         ))
+}
+
+// The words of `get`.
+fn get<'a>(alloc: Global) -> Result<Command<'a>, AllocError> {
+    let key = Arg::new(alloc, KEY)
+        .required(true)
+        .help("The user key, as text or as hex:DIGITS");
+    Command::new(alloc, GET)
+        .about("Prints the newest version of a key")
+        .arg(file(alloc))?
+        .arg(key)?
+        .arg(at(alloc))
+}
+
+// The words of `check`.
+fn check<'a>(alloc: Global) -> Result<Command<'a>, AllocError> {
+    Command::new(alloc, CHECK)
+        .about("Checks a table whole")
+        .arg(file(alloc))
 }
 
 // The words of `merge`.
@@ -137,21 +140,14 @@ fn merge<'a>(alloc: Global) -> Result<Command<'a>, AllocError> {
         .arg(out)?
         .arg(files)?
         .arg(snapshot)?
-        .arg(flag(alloc, BOTTOM, "Drop tombstones that nothing older is under"))
+        .arg(flag(alloc, BOTTOM, "Drop tombstones: no older table is below"))
 }
 
-// The words of `check`.
-fn check<'a>(alloc: Global) -> Result<Command<'a>, AllocError> {
-    Command::new(alloc, CHECK)
-        .about("Checks a table whole")
-        .arg(file(alloc))
-}
-
-/// Makes the command that the program's words are parsed by.
+/// Makes the command that parses the program's words.
 ///
 /// # Errors
 ///
-/// Those of an allocation.
+/// If an allocation fails.
 pub fn command<'a>(alloc: Global) -> Result<Command<'a>, AllocError> {
     Command::new(alloc, "sstool")
         .version("0.1.0")
@@ -159,8 +155,8 @@ pub fn command<'a>(alloc: Global) -> Result<Command<'a>, AllocError> {
         .subcommand_required(true)
         .arg_required_else_help(true)
         .subcommand(stat(alloc)?)?
-        .subcommand(get(alloc)?)?
         .subcommand(scan(alloc)?)?
+        .subcommand(get(alloc)?)?
         .subcommand(check(alloc)?)?
         .subcommand(merge(alloc)?)
 }
