@@ -155,7 +155,10 @@ fn new_file_at<R: Files>(rt: &R, alloc: Global, path: &str) -> Result<NewFile<R:
             opened: Some(TableWriter { file }),
             closed: Vec::new(alloc),
         }),
-        Err(_) => Err(Fault::Memory),
+        Err(_) => {
+            let _ = fs::remove_file(rt, path);
+            Err(Fault::Memory)
+        }
     }
 }
 
@@ -206,11 +209,9 @@ fn fault_of<R>(
     error: Error,
 ) -> Fault {
     let files = words.get_strs(FILE).unwrap_or(&[]);
-    match failed {
-        Some(index) if index < files.len() => {
-            Fault::of_file(alloc, files[index], progress.offset(), error)
-        }
-        _ => Fault::of_file(alloc, words.get_str(OUT).unwrap_or(""), None, error),
+    match files.get(failed.unwrap_or(files.len())) {
+        Some(file) => Fault::of_file(alloc, file, progress.offset(), error),
+        None => Fault::of_file(alloc, words.get_str(OUT).unwrap_or(""), None, error),
     }
 }
 
@@ -240,13 +241,15 @@ pub fn run<R: Files + Clock + Eprint, O: Write>(
         Ok(true) => {
             sync_folder(progress.rt(), out);
             writeln!(output, "merged {} tables into {out}", files.len())?;
-            return Ok(());
+            Ok(())
         }
-        _ => {}
-    }
-    let _ = fs::remove_file(progress.rt(), path.as_str());
-    match written {
-        Err(error) => Err(fault_of(progress, alloc, words, failed.get(), error)),
-        Ok(_) => Err(Fault::NoEntries),
+        Ok(false) => {
+            let _ = fs::remove_file(progress.rt(), path.as_str());
+            Err(Fault::NoEntries)
+        }
+        Err(error) => {
+            let _ = fs::remove_file(progress.rt(), path.as_str());
+            Err(fault_of(progress, alloc, words, failed.get(), error))
+        }
     }
 }
