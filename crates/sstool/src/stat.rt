@@ -5,10 +5,10 @@ use crate::progress::Progress;
 use crate::show::{Hex, Shown};
 use crate::words::{FILE, JSON};
 use clap::ArgMatches;
-use sst_block_core::table::block::trailer::Trailer;
+use sst_block_core::table::block::trailer::{TRAILER_SIZE, Trailer};
 use sstable_blocks::filter::standard_bloom::StandardBloomFilterReader;
 use sstable_blocks::run::footer::FOOTER_LEN;
-use sstable_blocks::{BlockHandle, Error, FilterBlock, RunSummary};
+use sstable_blocks::{Block, BlockHandle, Error, FilterBlock, RunSummary};
 use std::alloc::Global;
 use std::io;
 use std::io::Write;
@@ -63,6 +63,14 @@ fn bits_of(filter: &FilterBlock) -> std::result::Result<Bits, Error> {
     })
 }
 
+// The restart interval of a block, by its trailer, which each block that was checked has.
+fn interval_of(block: &Block) -> u8 {
+    if block.data().len() < TRAILER_SIZE {
+        return 0;
+    }
+    Trailer::new(block).interval()
+}
+
 // What the data blocks of a table have.
 fn blocks_of<R: Files + Clock + Eprint>(
     alloc: Global,
@@ -77,7 +85,7 @@ fn blocks_of<R: Files + Clock + Eprint>(
     let mut index = 0usize;
     while index < table.index().len() {
         let block = table.block_at(alloc, index)?;
-        let interval = Trailer::new(block.inner()).interval();
+        let interval = interval_of(block.inner());
         let buckets = block.hash_bucket_count().unwrap_or(0) as u64;
         blocks.least_interval = blocks.least_interval.min(interval);
         blocks.greatest_interval = blocks.greatest_interval.max(interval);
@@ -102,7 +110,7 @@ fn stat_of<R: Files + Clock + Eprint>(
     Ok(Stat {
         summary,
         blocks,
-        index_interval: Trailer::new(table.index().inner()).interval(),
+        index_interval: interval_of(table.index().inner()),
         bits,
         index: table.handles().index,
         filter: table.handles().filter,
