@@ -3,7 +3,7 @@ use crate::fault::{Fault, Result};
 use crate::keys::key_in;
 use crate::open::open;
 use crate::progress::Progress;
-use crate::show::EntryLine;
+use crate::show::EntryText;
 use crate::words::{AT, FILE, KEY};
 use clap::ArgMatches;
 use sstable_blocks::Steps;
@@ -31,13 +31,7 @@ pub fn run<R: Files + Clock + Eprint, O: Write>(
         Err(error) => return Err(Fault::of_file(alloc, file, progress.offset(), error)),
     };
     match found {
-        Some(entry) => {
-            let line = EntryLine {
-                entry: &entry,
-                is_text: true,
-            };
-            writeln!(output, "{line}")?;
-        }
+        Some(entry) => writeln!(output, "{}", EntryText(&entry))?,
         None => writeln!(output, "none")?,
     }
     Ok(())

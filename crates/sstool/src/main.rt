@@ -5,6 +5,7 @@ pub mod check;
 pub mod fault;
 pub mod get;
 pub mod keys;
+pub mod lines;
 pub mod merge;
 pub mod open;
 pub mod progress;

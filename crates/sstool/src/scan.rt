@@ -4,27 +4,26 @@ ghost use Rattle.sstool.specs.Back.{is_same_key, newest_below};
 
 use crate::fault::{Fault, Result};
 use crate::keys::key_in;
+use crate::lines::Lines;
 use crate::open::open;
 use crate::progress::Progress;
-use crate::show::EntryLine;
 use crate::source::Scanned;
 use crate::words::{AT, FILE, FROM, REVERSE, TEXT, TO};
 use clap::ArgMatches;
 use sst_merge::{Snapshot, Source, Version};
 use sstable_blocks::{Error, FrameSource, InternalValue, SeqNo};
 use std::alloc::Global;
-use std::io;
-use std::io::{BufWriter, Write};
+use std::io::Write;
 use std::ops::Bound;
 use std::rt::{Clock, Files};
 
 /// Why entries are not printed to the end.
-#[derive(Clone, Copy)]
+#[derive(Drop)]
 enum Stop {
     /// The next entry is not read.
     Read(Error),
-    /// The output failed.
-    Output,
+    /// An entry is not printed.
+    Print(Fault),
 }
 
 impl From<Error> for Stop {
@@ -33,101 +32,22 @@ impl From<Error> for Stop {
     }
 }
 
-impl From<io::Error> for Stop {
-    fn from(_error: io::Error) -> Stop {
-        Stop::Output
+impl From<Fault> for Stop {
+    fn from(fault: Fault) -> Stop {
+        Stop::Print(fault)
     }
 }
 
-/// Where entries are printed, a line each.
-#[derive(Drop)]
-struct Lines<O: Write + Drop> {
-    output: BufWriter<O>,
-    is_text: bool,
-}
-
-impl<O: Write + Drop> Lines<O> {
-    // Prints an entry.
-    fn print(&mut self, entry: &InternalValue) -> io::Result<()> {
-        let line = EntryLine {
-            entry,
-            is_text: self.is_text,
-        };
-        writeln!(self.output, "{line}")
+// Prints all entries of a source.
+fn print_all<I: Source<InternalValue>, O: Write + Drop>(
+    alloc: Global,
+    source: &mut I,
+    lines: &mut Lines<O>,
+) -> std::result::Result<(), Stop> {
+    while let Some(entry) = source.next_entry(alloc)? {
+        lines.print(alloc, &entry)?;
     }
-
-    // Prints an entry, if there is one that is not a tombstone.
-    fn print_value(&mut self, entry: &Option<InternalValue>) -> io::Result<()> {
-        match entry {
-            Some(entry) if !entry.is_tombstone() => self.print(entry),
-            _ => Ok(()),
-        }
-    }
-
-    // Prints all entries of a source.
-    fn print_all<I: Source<InternalValue>>(
-        &mut self,
-        alloc: Global,
-        source: &mut I,
-    ) -> std::result::Result<(), Stop> {
-        while let Some(entry) = source.next_entry(alloc)? {
-            self.print(&entry)?;
-        }
-        Ok(())
-    }
-
-    // Passes an entry of a scan from the back: returns the newest version so far of its key below a
-    // sequence number. Prints that of the key before, if this is another key.
-    fn pass_back(
-        &mut self,
-        at: SeqNo,
-        newest: Option<InternalValue>,
-        entry: InternalValue,
-    ) -> io::Result<Option<InternalValue>>
-        ensures { IfOk result (λ r. r ≡ newest_below at newest entry) }
-    {
-        let is_same_key = is_same_key(&newest, &entry);
-        if !is_same_key {
-            self.print_value(&newest)?;
-        }
-        if entry.key().seqno() < at {
-            Ok(Some(entry))
-        } else if is_same_key {
-            Ok(newest)
-        } else {
-            Ok(None)
-        }
-    }
-
-    // Prints what a read below a sequence number sees of a source from the back, where the versions
-    // of a key come from the oldest to the newest.
-    fn print_seen_back<I: Source<InternalValue>>(
-        &mut self,
-        alloc: Global,
-        at: SeqNo,
-        source: &mut I,
-    ) -> std::result::Result<(), Stop> {
-        let mut newest: Option<InternalValue> = None;
-        while let Some(entry) = source.next_entry(alloc)? {
-            newest = self.pass_back(at, newest, entry)?;
-        }
-        Ok(self.print_value(&newest)?)
-    }
-
-    // Prints what is left of a scan, as the words say.
-    fn print_scanned<S: FrameSource + Drop>(
-        &mut self,
-        alloc: Global,
-        words: &ArgMatches<'_>,
-        source: Scanned<'_, S>,
-    ) -> std::result::Result<(), Stop> {
-        let mut source = source;
-        match words.get_one::<u64>(AT) {
-            None => self.print_all(alloc, &mut source),
-            Some(at) if words.get_flag(REVERSE) => self.print_seen_back(alloc, at, &mut source),
-            Some(at) => self.print_all(alloc, &mut Snapshot::new(source, at)),
-        }
-    }
+    Ok(())
 }
 
 // Whether an entry is a version of the key of the one kept, if one is.
@@ -137,6 +57,60 @@ fn is_same_key(kept: &Option<InternalValue>, entry: &InternalValue) -> bool
     match kept {
         Some(kept) => entry.has_user_key(kept.key().user_key().as_slice()),
         None => true,
+    }
+}
+
+// Passes an entry of a scan from the back: returns the newest version so far of its key below a
+// sequence number. Prints that of the key before, if this is another key.
+fn pass_back<O: Write + Drop>(
+    alloc: Global,
+    at: SeqNo,
+    newest: Option<InternalValue>,
+    entry: InternalValue,
+    lines: &mut Lines<O>,
+) -> Result<Option<InternalValue>>
+    ensures { IfOk result (λ r. r ≡ newest_below at newest entry) }
+{
+    let is_same_key = is_same_key(&newest, &entry);
+    if !is_same_key {
+        lines.print_value(alloc, &newest)?;
+    }
+    if entry.key().seqno() < at {
+        Ok(Some(entry))
+    } else if is_same_key {
+        Ok(newest)
+    } else {
+        Ok(None)
+    }
+}
+
+// Prints what a read below a sequence number sees of a source from the back, where the versions of
+// a key come from the oldest to the newest.
+fn print_seen_back<I: Source<InternalValue>, O: Write + Drop>(
+    alloc: Global,
+    at: SeqNo,
+    source: &mut I,
+    lines: &mut Lines<O>,
+) -> std::result::Result<(), Stop> {
+    let mut newest: Option<InternalValue> = None;
+    while let Some(entry) = source.next_entry(alloc)? {
+        newest = pass_back(alloc, at, newest, entry, lines)?;
+    }
+    Ok(lines.print_value(alloc, &newest)?)
+}
+
+// Prints what is left of a scan, as the words say.
+fn print_scanned<S: FrameSource + Drop, O: Write + Drop>(
+    alloc: Global,
+    words: &ArgMatches<'_>,
+    source: Scanned<'_, S>,
+    lines: &mut Lines<O>,
+) -> std::result::Result<(), Stop> {
+    let mut source = source;
+    match words.get_one::<u64>(AT) {
+        None => print_all(alloc, &mut source, lines),
+        Some(at) if words.get_flag(REVERSE) => print_seen_back(alloc, at, &mut source, lines),
+        Some(at) => print_all(alloc, &mut Snapshot::new(source, at), lines),
     }
 }
 
@@ -174,15 +148,12 @@ pub fn run<R: Files + Clock + Eprint, O: Write>(
     };
     let scan = open(progress, alloc, file)?.scan_range(from, to);
     let source = Scanned::reversed(scan, words.get_flag(REVERSE));
-    let mut lines = Lines {
-        output: BufWriter::new(alloc, &mut *output)?,
-        is_text: words.get_flag(TEXT),
-    };
-    let printed = lines.print_scanned(alloc, words, source);
-    lines.output.flush()?;
+    let mut lines = Lines::new(alloc, &mut *output, words.get_flag(TEXT))?;
+    let printed = print_scanned(alloc, words, source, &mut lines);
+    lines.flush()?;
     match printed {
         Ok(()) => Ok(()),
-        Err(Stop::Output) => Err(Fault::Output),
-        Err(Stop::Read(error)) => { Err(Fault::of_file(alloc, file, progress.offset(), error)) }
+        Err(Stop::Print(fault)) => Err(fault),
+        Err(Stop::Read(error)) => Err(Fault::of_file(alloc, file, progress.offset(), error)),
     }
 }

@@ -12,16 +12,9 @@ pub struct Shown<'a>(pub &'a [u8]);
 #[derive(Drop)]
 pub struct Hex<'a>(pub &'a [u8]);
 
-/// The line of an entry, without its line feed: the letter of its type, the sequence number, key
-/// and value. As text these are [`Shown`]; else they are in hex, `-` for an empty value, as the
-/// program `sst` reads and prints them.
+/// An entry as people read it: the letter of its type, the sequence number, key and value.
 #[derive(Drop)]
-pub struct EntryLine<'a> {
-    /// The entry.
-    pub entry: &'a InternalValue,
-    /// Whether key and value are text where they can be.
-    pub is_text: bool,
-}
+pub struct EntryText<'a>(pub &'a InternalValue);
 
 // Whether bytes can be shown as they are.
 fn is_plain(bytes: &[u8]) -> bool {
@@ -58,19 +51,13 @@ impl<'a> fmt::Display for Hex<'a> {
     }
 }
 
-impl<'a> fmt::Display for EntryLine<'a> {
+impl<'a> fmt::Display for EntryText<'a> {
     fn fmt<W: fmt::Write>(&self, f: &mut fmt::Formatter<W>) -> fmt::Result {
-        let key = self.entry.key();
-        let value = self.entry.value().as_slice();
-        write!(f, "{} {} ", letter_of(key.value_type()), key.seqno())?;
-        if self.is_text {
-            return write!(f, "{} {}", Shown(key.user_key().as_slice()), Shown(value));
-        }
-        Hex(key.user_key().as_slice()).fmt(f)?;
-        if value.is_empty() {
-            return f.write_str(" -");
-        }
-        f.write_str(" ")?;
-        Hex(value).fmt(f)
+        let key = self.0.key();
+        let letter = letter_of(key.value_type());
+        let seqno = key.seqno();
+        let user_key = Shown(key.user_key().as_slice());
+        let value = Shown(self.0.value().as_slice());
+        write!(f, "{letter} {seqno} {user_key} {value}")
     }
 }
