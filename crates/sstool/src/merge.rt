@@ -34,13 +34,13 @@ const SIZES: Sizes = Sizes {
 
 /// A table that is merged. It notes in `failed` that a read of it failed, by its index.
 #[derive(Drop)]
-struct Merged<'p, R: Files + Clock + Eprint> {
+struct Merged<'p, 'f, R: Files + Clock + Eprint> {
     scan: Scanned<'static, FileSource<CountedFile<'p, R>>>,
     index: usize,
-    failed: &'p Cell<Option<usize>>,
+    failed: &'f Cell<Option<usize>>,
 }
 
-impl<'p, R: Files + Clock + Eprint> Source<InternalValue> for Merged<'p, R> {
+impl<'p, 'f, R: Files + Clock + Eprint> Source<InternalValue> for Merged<'p, 'f, R> {
     ghost use Rattle.std.specs.Prelude.{None};
     ghost use Rattle.sstable_blocks.specs.Scans.{most_left};
 
@@ -114,12 +114,12 @@ impl<F: Write + OpenFile + Drop> NewFile<F> {
 }
 
 // Opens tables, the newest first.
-fn heads_of<'p, R: Files + Clock + Eprint>(
+fn heads_of<'p, 'f, R: Files + Clock + Eprint>(
     progress: &'p Progress<'p, R>,
     alloc: Global,
     files: &[&str],
-    failed: &'p Cell<Option<usize>>,
-) -> Result<Vec<Head<InternalValue, Merged<'p, R>>>> {
+    failed: &'f Cell<Option<usize>>,
+) -> Result<Vec<Head<InternalValue, Merged<'p, 'f, R>>>> {
     let mut heads = Vec::new(alloc);
     for (index, file) in files.iter().enumerate() {
         let table = open(progress, alloc, file)?;
@@ -164,9 +164,9 @@ fn new_file_at<R: Files>(rt: &R, alloc: Global, path: &str) -> Result<NewFile<R:
 
 // Writes what is left of tables into a new file, as one table, which then replaces the file of the
 // wanted name. Returns whether an entry was left.
-fn write_merged<R: Files + Clock + Eprint>(
+fn write_merged<R: Files, I: Source<InternalValue> + Drop>(
     rt: &R,
-    merge: Merge<InternalValue, Merged<'_, R>>,
+    heads: Vec<Head<InternalValue, I>>,
     words: &ArgMatches<'_>,
     new_file: &mut NewFile<R::File>,
     path: &str,
@@ -174,7 +174,7 @@ fn write_merged<R: Files + Clock + Eprint>(
     let alloc = *new_file.closed.allocator();
     compact_tables::<Poly31, _, _>(
         alloc,
-        merge,
+        Merge::new(heads),
         words.get_one::<u64>(SNAPSHOT).unwrap_or(0),
         words.get_flag(BOTTOM),
         new_file,
@@ -232,10 +232,10 @@ pub fn run<R: Files + Clock + Eprint, O: Write>(
     let out = words.get_str(OUT).unwrap_or("");
     let files = words.get_strs(FILE).unwrap_or(&[]);
     let failed = Cell::new(None);
-    let merge = Merge::new(heads_of(progress, alloc, files, &failed)?);
+    let heads = heads_of(progress, alloc, files, &failed)?;
     let path = format!(in alloc; "{out}.sst-new")?;
     let mut new_file = new_file_at(progress.rt(), alloc, path.as_str())?;
-    let written = write_merged(progress.rt(), merge, words, &mut new_file, path.as_str());
+    let written = write_merged(progress.rt(), heads, words, &mut new_file, path.as_str());
     progress.clear();
     match written {
         Ok(true) => {

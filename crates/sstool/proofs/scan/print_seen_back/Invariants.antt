@@ -1,4 +1,4 @@
 use Rattle.sstool.proofs.scan.print_seen_back.Given as goal
 
-abbrev pub decreases-loop-entry : goal.decreases-loop-entry
-decreases-loop-entry g l = (g.I.Source.left l.source).most
+abbrev pub decreases-loop-newest : goal.decreases-loop-newest
+decreases-loop-newest g l = (g.I.Source.left l.source).most
