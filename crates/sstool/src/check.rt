@@ -4,35 +4,14 @@ ghost use Rattle.std.specs.Option.{option_map};
 
 use crate::fault::{Fault, Result};
 use crate::open::{FileTable, open};
+use crate::place::{TableBlock, footer_block_at};
 use crate::progress::Progress;
 use crate::words::FILE;
 use clap::ArgMatches;
 use sstable_blocks::Error;
 use std::alloc::Global;
-use std::fmt;
 use std::io::Write;
 use std::rt::{Clock, Files};
-
-/// A block of a table file.
-#[derive(Clone, Copy)]
-enum TableBlock {
-    /// A data block, by its index.
-    Data(usize),
-    /// The index.
-    Index,
-    /// The filter.
-    Filter,
-}
-
-impl fmt::Display for TableBlock {
-    fn fmt<W: fmt::Write>(&self, f: &mut fmt::Formatter<W>) -> fmt::Result {
-        match self {
-            TableBlock::Data(index) => write!(f, "block {index}"),
-            TableBlock::Index => f.write_str("index"),
-            TableBlock::Filter => f.write_str("filter"),
-        }
-    }
-}
 
 // The index of the data block at an offset, by the handles.
 fn data_block_at<R: Files + Clock + Eprint>(table: &FileTable<'_, R>, offset: u64) -> Option<usize>
@@ -53,13 +32,9 @@ fn block_at<R: Files + Clock + Eprint>(
     table: &FileTable<'_, R>,
     offset: u64,
 ) -> Option<TableBlock> {
-    let handles = table.handles();
-    if *handles.index.offset() == offset {
-        return Some(TableBlock::Index);
-    }
-    match &handles.filter {
-        Some(filter) if *filter.offset() == offset => Some(TableBlock::Filter),
-        _ => Some(TableBlock::Data(data_block_at(table, offset)?)),
+    match footer_block_at(table.handles(), offset) {
+        Some(block) => Some(block),
+        None => Some(TableBlock::Data(data_block_at(table, offset)?)),
     }
 }
 
@@ -71,12 +46,9 @@ fn refused<R: Files + Clock + Eprint>(
     offset: Option<u64>,
     error: Error,
 ) -> Fault {
-    let Some(offset) = offset else {
-        return Fault::of_file(alloc, file, None, error);
-    };
-    match block_at(table, offset) {
-        Some(block) => Fault::of_block(alloc, file, block, offset, error),
-        None => Fault::of_file(alloc, file, Some(offset), error),
+    match offset {
+        Some(offset) => Fault::of_block(alloc, file, block_at(table, offset), offset, error),
+        None => Fault::of_file(alloc, file, None, error),
     }
 }
 

@@ -2,6 +2,7 @@
 ghost use Rattle.std.specs.Prelude.{◌≡◌};
 ghost use Rattle.sstool.specs.declared.fault.Fault.TheVariants.{Memory, Output};
 
+use crate::place::TableBlock;
 use sstable_blocks::Error;
 use std::alloc::{AllocError, AllocFailed, Global};
 use std::{fmt, io};
@@ -65,14 +66,18 @@ impl Fault {
         })
     }
 
-    /// Returns the fault of a block of a file, which has this name and begins at an offset.
-    pub fn of_block<D: fmt::Display + Drop>(
+    /// Returns the fault of a file, whose block at an offset was read last. It is named, if it is
+    /// known.
+    pub fn of_block(
         alloc: Global,
         name: &str,
-        block: D,
+        block: Option<TableBlock>,
         offset: u64,
         error: Error,
     ) -> Fault {
+        let Some(block) = block else {
+            return Fault::of_file(alloc, name, Some(offset), error);
+        };
         let error = Shown(error);
         Fault::with_text(format!(in alloc; "{name}: {block} at offset {offset}: {error}"))
     }

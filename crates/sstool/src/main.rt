@@ -8,6 +8,7 @@ pub mod keys;
 pub mod lines;
 pub mod merge;
 pub mod open;
+pub mod place;
 pub mod progress;
 pub mod scan;
 pub mod show;

@@ -26,7 +26,12 @@ impl<'r, R> Progress<'r, R> {
         self.rt
     }
 
-    /// Returns the offset of the block that was read last, if one was.
+    /// Begins a file, of which no block is read.
+    pub fn begin_file(&self) {
+        self.offset.set(None);
+    }
+
+    /// Returns the offset of the file's block that was read last, if one was.
     pub fn offset(&self) -> Option<u64> {
         self.offset.get()
     }
