@@ -7,6 +7,7 @@
  * the standard ones. A step that fails does nothing; `kill` and `stop` come before the call, but
  * half of a write is made.
  * fail-alloc: at an allocation, which is refused.
+ * slow: every read takes 0.3 seconds, and standard error is a terminal.
  *
  * At the end of the program the file TOLD, if the environment names one, gets three numbers: those of
  * the allocations asked for and of those refused, and the most bytes that one asked for.
@@ -22,12 +23,19 @@
 #include <string.h>
 #include <sys/file.h>
 #include <sys/stat.h>
+#include <time.h>
 #include <unistd.h>
 
 /* Whether the fault of this kind is due at the call of this number. */
 static int is_due(const char *kind, long call) {
     const char *fault = getenv("FAULT"), *at = getenv("AT");
     return fault && at && strcmp(fault, kind) == 0 && atol(at) == call;
+}
+
+/* Whether reads are slow. */
+static int is_slow(void) {
+    const char *fault = getenv("FAULT");
+    return fault && strcmp(fault, "slow") == 0;
 }
 
 /* Counts a step. Returns the signal that ends or stops the program at it, -1 if the step fails, and
@@ -65,6 +73,9 @@ ssize_t read(int file, void *to, size_t len) {
         errno = EIO;
         return -1;
     }
+    if (is_slow()) {
+        nanosleep(&(struct timespec){.tv_nsec = 300000000}, NULL);
+    }
     ssize_t (*next)(int, void *, size_t) = dlsym(RTLD_NEXT, "read");
     return next(file, to, is_due("short-read", calls) && len > 1 ? 1 : len);
 }
@@ -87,6 +98,11 @@ ssize_t write(int file, const void *from, size_t len) {
         return written;
     }
     return next(file, from, is_due("short-write", calls) && len > 1 ? 1 : len);
+}
+
+int isatty(int file) {
+    int (*next)(int) = dlsym(RTLD_NEXT, "isatty");
+    return is_slow() ? file == STDERR_FILENO : next(file);
 }
 
 /* The allocator of the C library, under the names that it keeps for those who stand before it. */

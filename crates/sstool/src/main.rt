@@ -1,0 +1,99 @@
+//! The program `sstool`: shows, checks, scans and merges table files, for people.
+#![tactic(auto)]
+
+pub mod check;
+pub mod fault;
+pub mod get;
+pub mod keys;
+pub mod lines;
+pub mod merge;
+pub mod open;
+pub mod place;
+pub mod progress;
+pub mod scan;
+pub mod show;
+pub mod source;
+pub mod stat;
+pub mod words;
+
+use clap::ArgMatches;
+use fault::Fault;
+use progress::Progress;
+use sst_program::pipe::{PipeOutput, QuietFaults};
+use std::alloc::Global;
+use std::cell::Cell;
+use std::env;
+use std::io::{IsTerminal, Write};
+use std::process::ExitCode;
+use std::rt::{Clock, Files};
+use words::{CHECK, GET, MERGE, SCAN, STAT, command};
+
+// Runs a command, of which these are the words.
+fn run_command<R: Files + Clock + Eprint, O: Write>(
+    progress: &Progress<'_, R>,
+    alloc: Global,
+    name: &str,
+    words: &ArgMatches<'_>,
+    output: &mut O,
+) -> Result<(), Fault> {
+    if name == STAT {
+        stat::run(progress, alloc, words, output)
+    } else if name == GET {
+        get::run(progress, alloc, words, output)
+    } else if name == SCAN {
+        scan::run(progress, alloc, words, output)
+    } else if name == CHECK {
+        check::run(progress, alloc, words, output)
+    } else if name == MERGE {
+        merge::run(progress, alloc, words, output)
+    } else {
+        Ok(())
+    }
+}
+
+// Begins the progress of a command. It is shown where standard error is a terminal, and standard
+// output is not one that a scan prints its entries on.
+fn progress_of<'r>(rt: &'r HostRuntime, name: &str) -> Progress<'r, HostRuntime> {
+    let is_visible = rt.stderr().is_terminal() && (name != SCAN || !rt.stdout().is_terminal());
+    Progress::new(rt, is_visible)
+}
+
+// Parses the words, and runs their command. Returns the status: 0, 1 after a line on `faults`, 2
+// after words that are refused.
+fn run<O: Write, F: Write>(
+    rt: &HostRuntime,
+    words: &[String],
+    output: &mut O,
+    faults: &mut F,
+) -> anyhow::Result<u8> {
+    let alloc = rt.alloc();
+    let matches = match command(alloc)?.try_get_matches_from(words) {
+        Ok(matches) => matches,
+        Err(error) => {
+            error.print(rt)?;
+            return Ok(if error.use_stderr() { 2 } else { 0 });
+        }
+    };
+    let Some((name, words)) = matches.subcommand() else {
+        return Ok(2);
+    };
+    let progress = progress_of(rt, name);
+    let outcome = run_command(&progress, alloc, name, words, output);
+    progress.clear();
+    match outcome {
+        Ok(()) => Ok(0),
+        Err(fault) => {
+            writeln!(faults, "sstool: {fault}")?;
+            Ok(1)
+        }
+    }
+}
+
+fn main(rt: HostRuntime) -> anyhow::Result<ExitCode> {
+    let is_closed = Cell::new(false);
+    let mut output = PipeOutput::new(rt.stdout(), &is_closed);
+    let mut faults = QuietFaults::new(rt.stderr(), &is_closed);
+    let words: Vec<String> = env::args(&rt)?.collect(rt.alloc())?;
+    let status = run(&rt, words.as_slice(), &mut output, &mut faults)?;
+    Ok(ExitCode::from(status))
+}

@@ -1,0 +1,100 @@
+//! Opening table files.
+use crate::fault::{Fault, Result};
+use crate::place::{TableBlock, footer_block_at};
+use crate::progress::Progress;
+use sst_program::table::{TableFile, open_file};
+use sstable_blocks::run::footer::read_footer;
+use sstable_blocks::{FileSource, Input, OpenError, Poly31, SeekInput, SizedSource, Table};
+use std::alloc::Global;
+use std::io;
+use std::io::{Read, Seek, SeekFrom};
+use std::rt::{Clock, Files};
+
+/// A table file, of which each block that is read is counted. Clauses know nothing of its bytes.
+#[derive(Drop)]
+pub struct CountedFile<'p, R: Files> {
+    file: TableFile<R::File>,
+    progress: &'p Progress<'p, R>,
+}
+
+impl<'p, R: Files> Read for CountedFile<'p, R> {
+    fn read(&mut self, buf: &mut [u8]) -> io::Result<usize> {
+        self.file.read(buf)
+    }
+}
+
+impl<'p, R: Files> Seek for CountedFile<'p, R> {
+    fn seek(&mut self, to: SeekFrom) -> io::Result<u64> {
+        self.file.seek(to)
+    }
+}
+
+impl<'p, R: Files> Input for CountedFile<'p, R> {
+    fn fill(&mut self, buf: &mut [u8]) -> sstable_blocks::Result<()> {
+        self.file.fill(buf)
+    }
+}
+
+impl<'p, R: Files + Clock + Eprint> SeekInput for CountedFile<'p, R> {
+    ghost whole_is_known = { λ s at bytes position. Prim.cc };
+
+    // A block is read from where it begins.
+    fn move_to(&mut self, offset: u64) -> sstable_blocks::Result<()> {
+        self.progress.count_block(offset);
+        self.file.move_to(offset)
+    }
+
+    fn stream_len(&mut self) -> sstable_blocks::Result<u64> {
+        self.file.stream_len()
+    }
+}
+
+/// A table in a file.
+pub type FileTable<'p, R> = Table<Poly31, FileSource<CountedFile<'p, R>>>;
+
+// The block at an offset of a file that is not opened, by its footer.
+fn block_at<S: SizedSource>(alloc: Global, source: &mut S, offset: u64) -> Option<TableBlock> {
+    let len = source.byte_len().ok()?;
+    let handles = read_footer(alloc, source, len).ok()?;
+    footer_block_at(&handles, offset)
+}
+
+// The fault of a table that is not opened: it names the block that was read last.
+fn refused<S: SizedSource + Drop>(
+    alloc: Global,
+    name: &str,
+    failed: OpenError<S>,
+    offset: Option<u64>,
+) -> Fault {
+    let OpenError { error, source } = failed;
+    let mut source = source;
+    match offset {
+        Some(offset) => {
+            let block = block_at(alloc, &mut source, offset);
+            Fault::of_block(alloc, name, block, offset, error)
+        }
+        None => Fault::of_file(alloc, name, None, error),
+    }
+}
+
+/// Opens a table file: reads its footer, filter and index.
+///
+/// # Errors
+///
+/// Those of the library, with the file's name and the block that was read last.
+pub fn open<'p, R: Files + Clock + Eprint>(
+    progress: &'p Progress<'p, R>,
+    alloc: Global,
+    name: &str,
+) -> Result<FileTable<'p, R>> {
+    let file = match open_file(progress.rt(), name) {
+        Ok(file) => file,
+        Err(error) => return Err(Fault::of_file(alloc, name, None, error)),
+    };
+    progress.begin_file();
+    let source = FileSource::new(CountedFile { file, progress });
+    match FileTable::<'p, R>::open_file(alloc, source) {
+        Ok(table) => Ok(table),
+        Err(failed) => Err(refused(alloc, name, failed, progress.offset())),
+    }
+}

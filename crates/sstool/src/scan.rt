@@ -1,0 +1,159 @@
+//! `scan`: the entries of a table in a range of keys.
+ghost use Rattle.std.specs.Prelude.{◌≡◌, IfOk};
+ghost use Rattle.sstool.specs.Back.{is_same_key, newest_below};
+
+use crate::fault::{Fault, Result};
+use crate::keys::key_in;
+use crate::lines::Lines;
+use crate::open::open;
+use crate::progress::Progress;
+use crate::source::Scanned;
+use crate::words::{AT, FILE, FROM, REVERSE, TEXT, TO};
+use clap::ArgMatches;
+use sst_merge::{Snapshot, Source, Version};
+use sstable_blocks::{Error, FrameSource, InternalValue, SeqNo};
+use std::alloc::Global;
+use std::io::Write;
+use std::ops::Bound;
+use std::rt::{Clock, Files};
+
+/// Why entries are not printed to the end.
+#[derive(Drop)]
+enum Stop {
+    /// The next entry is not read.
+    Read(Error),
+    /// An entry is not printed.
+    Print(Fault),
+}
+
+impl From<Error> for Stop {
+    fn from(error: Error) -> Stop {
+        Stop::Read(error)
+    }
+}
+
+impl From<Fault> for Stop {
+    fn from(fault: Fault) -> Stop {
+        Stop::Print(fault)
+    }
+}
+
+// Prints all entries of a source.
+fn print_all<I: Source<InternalValue>, O: Write + Drop>(
+    alloc: Global,
+    source: &mut I,
+    lines: &mut Lines<O>,
+) -> std::result::Result<(), Stop> {
+    while let Some(entry) = source.next_entry(alloc)? {
+        lines.print(alloc, &entry)?;
+    }
+    Ok(())
+}
+
+// Whether an entry is a version of the key of the one kept, if one is.
+fn is_same_key(kept: &Option<InternalValue>, entry: &InternalValue) -> bool
+    ensures { result ≡ is_same_key kept.now entry.now }
+{
+    match kept {
+        Some(kept) => entry.has_user_key(kept.key().user_key().as_slice()),
+        None => true,
+    }
+}
+
+// Passes an entry of a scan from the back: returns the newest version so far of its key below a
+// sequence number. Prints that of the key before, if this is another key.
+fn pass_back<O: Write + Drop>(
+    alloc: Global,
+    at: SeqNo,
+    newest: Option<InternalValue>,
+    entry: InternalValue,
+    lines: &mut Lines<O>,
+) -> Result<Option<InternalValue>>
+    ensures { IfOk result (λ r. r ≡ newest_below at newest entry) }
+{
+    let is_same_key = is_same_key(&newest, &entry);
+    if !is_same_key {
+        lines.print_value(alloc, &newest)?;
+    }
+    if entry.key().seqno() < at {
+        Ok(Some(entry))
+    } else if is_same_key {
+        Ok(newest)
+    } else {
+        Ok(None)
+    }
+}
+
+// Prints what a read below a sequence number sees of a source from the back, where the versions of
+// a key come from the oldest to the newest.
+fn print_seen_back<I: Source<InternalValue>, O: Write + Drop>(
+    alloc: Global,
+    at: SeqNo,
+    source: &mut I,
+    lines: &mut Lines<O>,
+) -> std::result::Result<(), Stop> {
+    let mut newest: Option<InternalValue> = None;
+    while let Some(entry) = source.next_entry(alloc)? {
+        newest = pass_back(alloc, at, newest, entry, lines)?;
+    }
+    Ok(lines.print_value(alloc, &newest)?)
+}
+
+// Prints what is left of a scan, as the words say.
+fn print_scanned<S: FrameSource + Drop, O: Write + Drop>(
+    alloc: Global,
+    words: &ArgMatches<'_>,
+    source: Scanned<'_, S>,
+    lines: &mut Lines<O>,
+) -> std::result::Result<(), Stop> {
+    let mut source = source;
+    match words.get_one::<u64>(AT) {
+        None => print_all(alloc, &mut source, lines),
+        Some(at) if words.get_flag(REVERSE) => print_seen_back(alloc, at, &mut source, lines),
+        Some(at) => print_all(alloc, &mut Snapshot::new(source, at), lines),
+    }
+}
+
+// The key of a word, if it is there.
+fn key_of(alloc: Global, words: &ArgMatches<'_>, id: &str) -> Result<Option<Vec<u8>>> {
+    match words.get_str(id) {
+        Some(word) => Ok(Some(key_in(alloc, word)?)),
+        None => Ok(None),
+    }
+}
+
+/// Prints the entries of a table from the key of `--from` up to that of `--to`, without it; with
+/// `--at` only what a read at this sequence number sees.
+///
+/// # Errors
+///
+/// An error for a word that is not a key, those of the file and of the blocks that are reached, and
+/// `Fault::Output`. The entries before a block that is refused are printed.
+pub fn run<R: Files + Clock + Eprint, O: Write>(
+    progress: &Progress<'_, R>,
+    alloc: Global,
+    words: &ArgMatches<'_>,
+    output: &mut O,
+) -> Result<()> {
+    let file = words.get_str(FILE).unwrap_or("");
+    let from = key_of(alloc, words, FROM)?;
+    let to = key_of(alloc, words, TO)?;
+    let from = match &from {
+        Some(key) => Bound::Included(key.as_slice()),
+        None => Bound::Unbounded,
+    };
+    let to = match &to {
+        Some(key) => Bound::Excluded(key.as_slice()),
+        None => Bound::Unbounded,
+    };
+    let scan = open(progress, alloc, file)?.scan_range(from, to);
+    let source = Scanned::reversed(scan, words.get_flag(REVERSE));
+    let mut lines = Lines::new(alloc, &mut *output, words.get_flag(TEXT))?;
+    let printed = print_scanned(alloc, words, source, &mut lines);
+    lines.flush()?;
+    match printed {
+        Ok(()) => Ok(()),
+        Err(Stop::Print(fault)) => Err(fault),
+        Err(Stop::Read(error)) => Err(Fault::of_file(alloc, file, progress.offset(), error)),
+    }
+}

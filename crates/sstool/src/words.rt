@@ -1,0 +1,162 @@
+//! The words of the program.
+use clap::{Arg, ArgAction, Command, value_parser};
+use std::alloc::{AllocError, Global};
+
+/// The name of the command that prints what a table holds.
+pub const STAT: &str = "stat";
+
+/// The name of the command that prints the entries of a table.
+pub const SCAN: &str = "scan";
+
+/// The name of the command that reads a key.
+pub const GET: &str = "get";
+
+/// The name of the command that checks a table.
+pub const CHECK: &str = "check";
+
+/// The name of the command that merges tables.
+pub const MERGE: &str = "merge";
+
+/// The name of the word for a table file.
+pub const FILE: &str = "FILE";
+
+/// The name of the word for the table file that is written.
+pub const OUT: &str = "OUT";
+
+/// The name of the word for a key.
+pub const KEY: &str = "KEY";
+
+/// The name of the option for the sequence number of a read.
+pub const AT: &str = "at";
+
+/// The name of the option for the first key of a range.
+pub const FROM: &str = "from";
+
+/// The name of the option for the key at which a range ends.
+pub const TO: &str = "to";
+
+/// The name of the option for the least sequence number that is read at after a merge.
+pub const SNAPSHOT: &str = "snapshot";
+
+/// The name of the flag for output as JSON.
+pub const JSON: &str = "json";
+
+/// The name of the flag for the order from the last entry to the first.
+pub const REVERSE: &str = "reverse";
+
+/// The name of the flag for keys and values as text.
+pub const TEXT: &str = "text";
+
+/// The name of the flag for a merge with no older table below it.
+pub const BOTTOM: &str = "bottom";
+
+// The file that a command reads.
+fn file<'a>(alloc: Global) -> Arg<'a> {
+    Arg::new(alloc, FILE).required(true).help("A table file")
+}
+
+// The sequence number of a read.
+fn at<'a>(alloc: Global) -> Arg<'a> {
+    Arg::new(alloc, AT)
+        .long(AT)
+        .value_name("SEQNO")
+        .value_parser(value_parser!(u64))
+        .help("Read at this sequence number: versions below it")
+}
+
+// An option whose value is a key, with its help.
+fn key_option<'a>(alloc: Global, name: &'a str, help: &'a str) -> Arg<'a> {
+    Arg::new(alloc, name).long(name).value_name(KEY).help(help)
+}
+
+// A flag with its help.
+fn flag<'a>(alloc: Global, name: &'a str, help: &'a str) -> Arg<'a> {
+    Arg::new(alloc, name)
+        .long(name)
+        .action(ArgAction::SetTrue)
+        .help(help)
+}
+
+// The words of `stat`.
+fn stat<'a>(alloc: Global) -> Result<Command<'a>, AllocError> {
+    Command::new(alloc, STAT)
+        .about("Prints what a table holds")
+        .arg(file(alloc))?
+        .arg(flag(alloc, JSON, "Print one line of JSON"))
+}
+
+// The words of `scan`.
+fn scan<'a>(alloc: Global) -> Result<Command<'a>, AllocError> {
+    Command::new(alloc, SCAN)
+        .about("Prints the entries of a table")
+        .arg(file(alloc))?
+        .arg(key_option(alloc, FROM, "The first key"))?
+        .arg(key_option(alloc, TO, "The key at which to end, without it"))?
+        .arg(at(alloc))?
+        .arg(flag(alloc, REVERSE, "From the last entry to the first"))?
+        .arg(flag(
+            alloc,
+            TEXT,
+            "Keys and values as text where they are printable",
+        ))
+}
+
+// The words of `get`.
+fn get<'a>(alloc: Global) -> Result<Command<'a>, AllocError> {
+    let key = Arg::new(alloc, KEY)
+        .required(true)
+        .help("The user key, as text or as hex:DIGITS");
+    Command::new(alloc, GET)
+        .about("Prints the newest version of a key")
+        .arg(file(alloc))?
+        .arg(key)?
+        .arg(at(alloc))
+}
+
+// The words of `check`.
+fn check<'a>(alloc: Global) -> Result<Command<'a>, AllocError> {
+    Command::new(alloc, CHECK)
+        .about("Checks a table whole")
+        .arg(file(alloc))
+}
+
+// The words of `merge`.
+fn merge<'a>(alloc: Global) -> Result<Command<'a>, AllocError> {
+    let out = Arg::new(alloc, OUT)
+        .required(true)
+        .help("The table file to write");
+    let files = Arg::new(alloc, FILE)
+        .required(true)
+        .num_args(1..)
+        .action(ArgAction::Append)
+        .help("Table files, the newest first");
+    let snapshot = Arg::new(alloc, SNAPSHOT)
+        .long(SNAPSHOT)
+        .value_name("SEQNO")
+        .value_parser(value_parser!(u64))
+        .help("Keep what reads at this sequence number and above see; else all versions");
+    Command::new(alloc, MERGE)
+        .about("Merges tables into one")
+        .arg(out)?
+        .arg(files)?
+        .arg(snapshot)?
+        .arg(flag(alloc, BOTTOM, "Drop tombstones: no older table is below"))
+}
+
+/// Makes the command that parses the program's words.
+///
+/// # Errors
+///
+/// If an allocation fails.
+pub fn command<'a>(alloc: Global) -> Result<Command<'a>, AllocError> {
+    Command::new(alloc, "sstool")
+        .version("0.1.0")
+        .about("Shows, checks, scans and merges table files")
+        .subcommand_required(true)
+        .arg_required_else_help(true)
+        .subcommand(stat(alloc)?)?
+        .subcommand(scan(alloc)?)?
+        .subcommand(get(alloc)?)?
+        .subcommand(check(alloc)?)?
+        .subcommand(merge(alloc)?)
+}
