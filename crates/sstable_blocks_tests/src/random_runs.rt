@@ -120,7 +120,50 @@ impl<H: BlockHash> Opened<H> {
     }
 }
 
-/// Whether each read of a run finds the first match of its list, and its check counts the list.
+/// Whether each way of reading a run finds the first match of its list, for the query of a number.
+fn is_found_at<H: BlockHash>(
+    alloc: Global,
+    run: &Slice,
+    handles: &RunHandles,
+    list: &[InternalValue],
+    number: usize,
+    trusted: &Trusted<'_, H>,
+    opened: &mut Opened<H>,
+) -> Result<bool>
+    requires { (blocks : List (List Entry))
+        × IsSound (hashes H.hash64 H.hash128) blocks run.now handles.now }
+{
+    let query = query_at(list, number);
+    let wanted = plain_first_match(list, query.0, query.1);
+    let found = read_entry::<H>(alloc, run, handles, query.0, query.1, &mut Steps::new())?;
+    if !is_found(wanted, found.as_ref()) {
+        return Ok(false);
+    }
+    opened.finds(alloc, trusted, query, wanted)
+}
+
+/// Whether each read of an opened run finds the first match of its list, and its check counts the
+/// list.
+fn reads_each<H: BlockHash>(
+    alloc: Global,
+    run: &Slice,
+    handles: &RunHandles,
+    list: &[InternalValue],
+    trusted: &Trusted<'_, H>,
+    opened: &mut Opened<H>,
+) -> Result<bool>
+    requires { (blocks : List (List Entry))
+        × IsSound (hashes H.hash64 H.hash128) blocks run.now handles.now }
+{
+    for number in 0..list.len().saturating_mul(2).saturating_add(1) {
+        if !is_found_at::<H>(alloc, run, handles, list, number, trusted, opened)? {
+            return Ok(false);
+        }
+    }
+    Ok(opened.table.verify(alloc)?.entries == list.len() as u64)
+}
+
+/// Whether a run is read in each way.
 fn reads_all<H: BlockHash>(
     alloc: Global,
     run: &Slice,
@@ -133,15 +176,7 @@ fn reads_all<H: BlockHash>(
     let known = Table::<H, _>::open(alloc, MemorySource::new(run.clone()?), *handles)?;
     let trusted = known.trusted();
     let mut opened = Opened::<H>::of(alloc, run, handles)?;
-    for number in 0..list.len().saturating_mul(2).saturating_add(1) {
-        let query = query_at(list, number);
-        let wanted = plain_first_match(list, query.0, query.1);
-        let found = read_entry::<H>(alloc, run, handles, query.0, query.1, &mut Steps::new())?;
-        if !is_found(wanted, found.as_ref()) || !opened.finds(alloc, &trusted, query, wanted)? {
-            return Ok(false);
-        }
-    }
-    Ok(opened.table.verify(alloc)?.entries == list.len() as u64)
+    reads_each::<H>(alloc, run, handles, list, &trusted, &mut opened)
 }
 
 /// Whether the run of a list is read.
