@@ -3,6 +3,7 @@ use Rattle.std.proofs.Common.{◌≡◌, ◌≢◌, ℕ, zero, suc, ◌<◌, ◌
 use Rattle.std.proofs.lemmas.Bool.{ltb-true}
 use Rattle.std.proofs.lemmas.Bool.Decides.{nat_tests}
 use Rattle.std.proofs.lemmas.List.{get_or-map, length-map, length-take-le}
+use Rattle.std.specs.Cmp.Derive.{both_true}
 use Rattle.std.specs.List.{AllByRecursion}
 use Rattle.std.specs.Option.{option_map, is_some, IfSome}
 use Rattle.std.specs.Ordering.{is_lt}
@@ -27,6 +28,7 @@ use Rattle.sst_merge.specs.ReadLaws.{plain_ordered}
 use Rattle.sst_merge.specs.Sources.{all_known}
 use Rattle.sst_merge.specs.Stored.{all_keys, are_bytes, check_of, checked_list, filter_fits, is_in_order, known_reads, table_list}
 use Rattle.sst_merge.specs.StoredLaws.{known_all}
+use Rattle.sst_store.proofs.Newer.{both}
 use Rattle.sst_store.specs.Tables.{MemoryTable, merged_tables, table_entries, table_hashes}
 use Rattle.sstable_blocks.specs.Blocks.{joined}
 use Rattle.sstable_blocks.specs.Run.{IsFramed}
@@ -46,19 +48,12 @@ pub within_all : (xs : List Entry) → within all_keys xs ≡ xs
 unfolding within
 within_all xs = filter_all (λ (x : Entry). in_range all_keys x.key.user_key) xs (all_pass xs)
 
-both : (a b : Bool) → (a && b) ≡ true → (a ≡ true) × (b ≡ true)
-both true b h = (refl, h)
-both false b h = absurd (cc)
-
-and_true : (a b : Bool) → a ≡ true → b ≡ true → (a && b) ≡ true
-and_true a b h k = ap (λ c. c && b) h ∙ k
-
 lt_test : (a b : ℕ) → a < b → nat_lt a b ≡ true
 lt_test a b h = grind (arith, nat_tests)
 
 bytes_pass : (bytes : List ℕ) → IsBytes bytes → are_bytes bytes ≡ true
 bytes_pass [] h = refl
-bytes_pass (b ∷ bytes) h = and_true (nat_lt b 256) (are_bytes bytes) (lt_test b 256 (h 0)) (bytes_pass bytes (λ i. h (suc i)))
+bytes_pass (b ∷ bytes) h = both_true (lt_test b 256 (h 0)) (bytes_pass bytes (λ i. h (suc i)))
 
 bytes_by : (bytes : List ℕ) → are_bytes bytes ≡ true → IsBytes bytes
 bytes_by [] h i = omega arith
@@ -77,7 +72,7 @@ is_not_lt Greater h = refl
 order_passes : (xs : List Entry) → IsOrdered entries xs → is_in_order xs ≡ true
 order_passes [] up = refl
 order_passes (x ∷ []) up = refl
-order_passes (x ∷ y ∷ ys) up = and_true (not (is_lt (entry_cmp y x))) (is_in_order (y ∷ ys)) (ap not (is_not_lt (entry_cmp y x) up.0)) (order_passes (y ∷ ys) up.1)
+order_passes (x ∷ y ∷ ys) up = both_true (ap not (is_not_lt (entry_cmp y x) up.0)) (order_passes (y ∷ ys) up.1)
 
 module _ (c : Hashes) (bytes : List ℕ) where
   -- the frame of a payload that fits has less than 2 ^ 32 bytes
@@ -96,8 +91,8 @@ module _ (c : Hashes) (bytes : List ℕ) where
   module _ (h : RunHandles) where
     tests_pass : (blocks : List (List Entry)) → IsBytes bytes → IsSound c blocks bytes h → (are_bytes bytes && (nat_lt h.index.size (2 ^ 32) && filter_fits h.filter)) ≡ true
     tests_pass blocks are sound =
-        and_true (are_bytes bytes) (nat_lt h.index.size (2 ^ 32) && filter_fits h.filter) (bytes_pass bytes are)
-        (and_true (nat_lt h.index.size (2 ^ 32)) (filter_fits h.filter) (lt_test h.index.size (2 ^ 32) (size_fits types.Index h.index sound.index.payload sound.index.frame sound.index.framed))
+        both_true (bytes_pass bytes are)
+        (both_true (lt_test h.index.size (2 ^ 32) (size_fits types.Index h.index sound.index.payload sound.index.frame sound.index.framed))
         (filter_passes (joined blocks) h.filter sound.filter))
 
     module _ (index : List Handle) where

@@ -63,7 +63,8 @@ pub all_weaker : {X : Type 0} (P Q : X → Type 0) (xs : List X) → ((x : X) �
 all_weaker P Q [] weaker all = tt
 all_weaker P Q (x ∷ xs) weaker all = (weaker x all.0, all_weaker P Q xs weaker all.1)
 
-both : (a b : Bool) → (a && b) ≡ true → (a ≡ true) × (b ≡ true)
+-- a test of two that is passed passes both
+pub both : (a b : Bool) → (a && b) ≡ true → (a ≡ true) × (b ≡ true)
 both true b h = (refl, h)
 both false b h = absurd (cc)
 
