@@ -15,6 +15,7 @@ constexpr size_t kCount = 100000;
 constexpr size_t kPerBlock = 78;  // 4 KiB of keys of 16 bytes and values of 32
 constexpr int kInterval = 16;
 constexpr uint32_t kBits = 10;
+constexpr size_t kTables = 8;
 
 const uint8_t* At(const std::string& bytes) {
   return reinterpret_cast<const uint8_t*>(bytes.data());
@@ -73,6 +74,9 @@ int main() {
     return sst_frame_read(At(frame), frame.size(), turns) +
            sst_check(At(payload), payload.size(), turns);
   };
+  const Repeated walks = [&](uint64_t times) {
+    return sst_materialize(At(block), block.size(), kPerBlock, kInterval, 0, 100, times * blocks);
+  };
   Print("check of the run, an entry, beside the frames and checks of its blocks", kCount,
         [&](uint64_t times) {
           return sst_run_check(At(bytes), bytes.size(), kCount, kPerBlock, kInterval, 0, 100,
@@ -85,17 +89,34 @@ int main() {
                                 kBits, times);
         },
         [&](uint64_t times) {
-          return parts(times) + sst_materialize(At(block), block.size(), kPerBlock, kInterval, 0,
-                                                100, times * blocks);
+          return parts(times) + walks(times);
         });
   Print("trusted scan, an entry, beside the walks that make entries", kCount,
         [&](uint64_t times) {
           return sst_trusted_scan(At(bytes), bytes.size(), kCount, kPerBlock, kInterval, 0, 100,
                                   kBits, times);
         },
+        walks);
+  Print("check of the run without a filter, an entry, beside the frames and checks", kCount,
         [&](uint64_t times) {
-          return sst_materialize(At(block), block.size(), kPerBlock, kInterval, 0, 100,
-                                 times * blocks);
-        });
+          return sst_run_check(At(bytes), bytes.size(), kCount, kPerBlock, kInterval, 0, 100, 0,
+                               times);
+        },
+        parts);
+  const Repeated merge = [&](uint64_t times) {
+    return sst_table_merge(At(bytes), bytes.size(), kCount, kPerBlock, kInterval, 0, 100, kBits,
+                           kTables, times);
+  };
+  Print("merge of 8 scans, an entry, beside one scan", kCount, merge, [&](uint64_t times) {
+    return sst_table_scan(At(bytes), bytes.size(), kCount, kPerBlock, kInterval, 0, 100, kBits,
+                          times);
+  });
+  Print("merge of 8 scans, an entry, beside the walks that make entries", kCount, merge, walks);
+  Print("merge of 8 trusted scans, an entry, beside the walks that make entries", kCount,
+        [&](uint64_t times) {
+          return sst_trusted_merge(At(bytes), bytes.size(), kCount, kPerBlock, kInterval, 0, 100,
+                                   kBits, kTables, times);
+        },
+        walks);
   return 0;
 }

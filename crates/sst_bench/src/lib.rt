@@ -15,6 +15,7 @@ pub mod frames;
 pub mod handles;
 pub mod index_block;
 pub mod keys;
+pub mod merges;
 pub mod run;
 pub mod sums;
 pub mod tables;

@@ -19,6 +19,7 @@ use crate::data_block::{NEWEST, copy_front, items_in};
 use crate::keys::keys_in;
 use crate::sums::entry_sum;
 use sst_base::{HashRatio, InternalValue, Poly31, Slice, Steps};
+use sst_block_kinds::DataBlock;
 use sstable_blocks::{RunConfig, RunHandles, cuts_fit, read_entry, write_run};
 use std::alloc::Global;
 
@@ -78,6 +79,26 @@ pub(crate) fn run_in(
     let items = items_in(alloc, bytes, count, config.restart_interval, config.ratio)?;
     let cuts = cuts_of(alloc, items.len(), per_block)?;
     written(alloc, items.as_slice(), cuts.as_slice(), config)
+}
+
+/// The run of entries, if there are any, they are in order, and the configuration is one that
+/// blocks take.
+pub(crate) fn run_of(
+    alloc: Global,
+    items: &[InternalValue],
+    per_block: usize,
+    config: RunConfig,
+) -> Option<(Vec<u8>, RunHandles)>
+    requires { 1 ≤ config.index_interval }
+{
+    if config.restart_interval == 0 || config.ratio.den == 0 || items.is_empty() {
+        return None;
+    }
+    if !DataBlock::<Poly31>::is_ordered(items) {
+        return None;
+    }
+    let cuts = cuts_of(alloc, items.len(), per_block)?;
+    written(alloc, items, cuts.as_slice(), config)
 }
 
 /// Writes the run, and copies as much of it into `out` as fits.

@@ -2,6 +2,7 @@
 ghost use Rattle.sstable_blocks.specs.RunReading.{hashes};
 ghost use Rattle.sstable_blocks.specs.Scans.{most_left, reads_left};
 ghost use Rattle.std.specs.Option.{option_map};
+ghost use Rattle.std.specs.Prelude.{Some, length};
 ghost use Rattle.sstable_blocks.specs.ReadCosts.{heads_most_in, entries_most_in};
 ghost use Rattle.sst_merge.specs.Stored.{scan_list, table_list};
 ghost use Rattle.sst_merge.specs.TableReads.{table_ordered};
@@ -11,7 +12,7 @@ use crate::source::{BackSource, Source};
 use sst_base::{BlockHash, InternalValue, Result, SeqNo, Steps};
 use sst_block_kinds::laws::first_match_of_plain;
 use sstable_blocks::run::laws::{accepted_run_is_sound, sound_is_scanned};
-use sstable_blocks::run::{FrameSource, Scan, Table};
+use sstable_blocks::run::{FrameSource, Scan, Table, TrustedScan};
 use std::alloc::Global;
 
 /// A scan of a stored table. Its entries are known where the bytes of the table are, every block
@@ -38,6 +39,24 @@ impl<'k, H: BlockHash, S: FrameSource> BackSource<InternalValue> for Scan<'k, H,
 
     fn next_entry_back(&mut self, alloc: Global) -> Result<Option<InternalValue>> {
         self.next_entry_back(alloc)
+    }
+}
+
+/// A scan of a trusted table, whose entries are known.
+impl<'a, 'k, H: BlockHash> Source<InternalValue> for TrustedScan<'a, 'k, H> {
+    ghost left = { λ s. record { list = Some s.left; most = length s.left } };
+
+    fn next_entry(&mut self, alloc: Global) -> Result<Option<InternalValue>> {
+        TrustedScan::next_entry(self, alloc)
+    }
+}
+
+/// The same scan, from the back.
+impl<'a, 'k, H: BlockHash> BackSource<InternalValue> for TrustedScan<'a, 'k, H> {
+    ghost left_back = { λ s. record { list = Some s.left; most = length s.left } };
+
+    fn next_entry_back(&mut self, alloc: Global) -> Result<Option<InternalValue>> {
+        TrustedScan::next_entry_back(self, alloc)
     }
 }
 

@@ -16,39 +16,23 @@ use std::alloc::Global;
 /// A table in memory.
 pub type Stored = Table<Poly31, MemorySource>;
 
-/// A scan of a table in memory, as a source.
-#[derive(Drop)]
-pub(crate) struct Entries<'a> {
-    scan: TrustedScan<'a, 'a, Poly31>,
-}
-
-impl<'a> Source<InternalValue> for Entries<'a> {
-    ghost left = { λ s. record { list = Some s.scan.left; most = length s.scan.left } };
-
-    fn next_entry(&mut self, alloc: Global) -> Result<Option<InternalValue>> {
-        self.scan.next_entry(alloc)
-    }
-}
-
 // Scans a table.
-fn scan_of<'a>(table: &'a Stored) -> Entries<'a>
+fn scan_of<'a>(table: &'a Stored) -> TrustedScan<'a, 'a, Poly31>
     requires { IsSome (table_entries table.now) }
-    ensures { table_entries table.now ≡ Some result.scan.left }
+    ensures { table_entries table.now ≡ Some result.left }
 {
     accepted_run_is_sound();
     sound_is_scanned();
     // The proof needs that the index is that of the bytes.
     let _index = table.index();
-    Entries {
-        scan: table.trusted().scan(),
-    }
+    table.trusted().scan()
 }
 
 // The merge of tables: of equal versions, those of the earlier table come first.
 pub(crate) fn merge_of<'a>(
     alloc: Global,
     tables: &'a [Stored],
-) -> Result<Merge<InternalValue, Entries<'a>>>
+) -> Result<Merge<InternalValue, TrustedScan<'a, 'a, Poly31>>>
     requires { IsSome (merged_tables tables.now) }
     ensures { IfOk result (λ merge. merge.list ≡ merged_tables tables.now) }
 {

@@ -1,0 +1,224 @@
+//! Merges of scans of tables in memory.
+//!
+//! The arguments are those of the calls of `run`, and the number of tables: entry after entry goes
+//! to the next table, so the merge goes from table to table at each step.
+ghost use Rattle.std.specs.Prelude.{◌≤◌};
+
+use crate::REFUSED;
+use crate::data_block::items_in;
+use crate::run::run_of;
+use crate::sums::entry_sum;
+use sst_base::{HashRatio, InternalValue, Poly31, Slice};
+use sst_merge::{Head, Merge, Source};
+use sstable_blocks::run::{Scan, Trusted, TrustedScan};
+use sstable_blocks::{MemorySource, RunConfig, RunHandles, Table};
+use std::alloc::Global;
+
+// A scan whose first entry is held.
+type Scanned<'k> = Head<InternalValue, Scan<'k, Poly31, MemorySource>>;
+
+// A scan without checks, whose first entry is held.
+type ScannedTrusted<'a, 'k> = Head<InternalValue, TrustedScan<'a, 'k, Poly31>>;
+
+// A run in memory.
+#[derive(Drop)]
+struct Stored {
+    bytes: Slice,
+    handles: RunHandles,
+}
+
+// Each entry of a list that is so many after the last, from an index on.
+fn every(
+    alloc: Global,
+    items: &[InternalValue],
+    first: usize,
+    step: usize,
+) -> Option<Vec<InternalValue>> {
+    let mut part = Vec::new(alloc);
+    for (i, entry) in items.iter().enumerate() {
+        if i % step.max(1) == first {
+            part.push(entry.clone().ok()?).ok()?;
+        }
+    }
+    Some(part)
+}
+
+// The runs of the parts of a list.
+fn runs_of(
+    alloc: Global,
+    items: &[InternalValue],
+    per_block: usize,
+    config: RunConfig,
+    tables: usize,
+) -> Option<Vec<Stored>>
+    requires { 1 ≤ config.index_interval }
+{
+    let mut runs = Vec::new(alloc);
+    for first in 0..tables {
+        let part = every(alloc, items, first, tables)?;
+        let (bytes, handles) = run_of(alloc, part.as_slice(), per_block, config)?;
+        let bytes = Slice::from_vec(bytes).ok()?;
+        runs.push(Stored { bytes, handles }).ok()?;
+    }
+    Some(runs)
+}
+
+// Opens a table over each run.
+fn tables_of(alloc: Global, runs: &[Stored]) -> Option<Vec<Table<Poly31, MemorySource>>> {
+    let mut tables = Vec::new(alloc);
+    for run in runs {
+        let source = MemorySource::new(run.bytes.clone().ok()?);
+        tables
+            .push(Table::open(alloc, source, run.handles).ok()?)
+            .ok()?;
+    }
+    Some(tables)
+}
+
+// Scans of tables.
+fn scans_of(
+    alloc: Global,
+    tables: Vec<Table<Poly31, MemorySource>>,
+) -> Option<Vec<Scanned<'static>>> {
+    let mut scans = Vec::new(alloc);
+    for table in tables {
+        scans.push(Head::new(alloc, table.scan()).ok()?).ok()?;
+    }
+    Some(scans)
+}
+
+// Takes so many entries, and adds each.
+#[inline(always)]
+fn add_taken<I: Source<InternalValue>>(
+    so_far: u64,
+    source: &mut I,
+    count: usize,
+    alloc: Global,
+) -> Option<u64> {
+    let mut sum = so_far;
+    for _ in 0..count {
+        let entry = source.next_entry(alloc).ok()??;
+        sum = sum.wrapping_add(entry_sum(&entry));
+    }
+    Some(sum)
+}
+
+// Opens the tables, merges their scans, and adds each entry.
+#[inline(never)]
+fn add_merged(so_far: u64, runs: &[Stored], count: usize, alloc: Global) -> Option<u64> {
+    let mut merged = Merge::new(scans_of(alloc, tables_of(alloc, runs)?)?);
+    add_taken(so_far, &mut merged, count, alloc)
+}
+
+// Checks a table whole, and trusts it.
+fn trusted_of(
+    alloc: Global,
+    table: &mut Table<Poly31, MemorySource>,
+) -> Option<Trusted<'_, Poly31>> {
+    table.verify(alloc).ok()?;
+    Some(table.trusted())
+}
+
+// Checks tables whole, and trusts them.
+fn all_trusted<'a>(
+    alloc: Global,
+    tables: &'a mut [Table<Poly31, MemorySource>],
+) -> Option<Vec<Trusted<'a, Poly31>>> {
+    let mut all = Vec::new(alloc);
+    for table in tables.iter_mut() {
+        all.push(trusted_of(alloc, table)?).ok()?;
+    }
+    Some(all)
+}
+
+// Scans of trusted tables.
+fn trusted_scans_of<'a>(
+    alloc: Global,
+    tables: &[Trusted<'a, Poly31>],
+) -> Option<Vec<ScannedTrusted<'a, 'static>>> {
+    let mut scans = Vec::new(alloc);
+    for table in tables {
+        scans.push(Head::new(alloc, table.scan()).ok()?).ok()?;
+    }
+    Some(scans)
+}
+
+// Merges scans of trusted tables, and adds each entry.
+#[inline(never)]
+fn add_trusted_merged(
+    so_far: u64,
+    tables: &[Trusted<'_, Poly31>],
+    count: usize,
+    alloc: Global,
+) -> Option<u64> {
+    let mut merged = Merge::new(trusted_scans_of(alloc, tables)?);
+    add_taken(so_far, &mut merged, count, alloc)
+}
+
+// Opens and checks the tables, and merges their scans without checks, so many times.
+fn trusted_merged_in(alloc: Global, runs: &[Stored], count: usize, times: u64) -> Option<u64> {
+    let mut tables = tables_of(alloc, runs)?;
+    let trusted = all_trusted(alloc, tables.as_mut_slice())?;
+    let mut sum = 0;
+    for _ in 0..times {
+        sum = add_trusted_merged(sum, &trusted, count, alloc)?;
+    }
+    Some(sum)
+}
+
+/// Opens tables over the runs of the entries' parts, merges their scans, each block verified and
+/// checked, and adds each entry.
+#[unsafe(no_mangle)]
+pub extern "C" fn sst_table_merge(
+    bytes: &[u8],
+    count: usize,
+    per_block: usize,
+    interval: u8,
+    num: u32,
+    den: u32,
+    bits: u32,
+    tables: usize,
+    times: u64,
+    alloc: Global,
+) -> u64 {
+    let config = RunConfig::new(interval, HashRatio { num, den }, bits);
+    let Some(items) = items_in(alloc, bytes, count, interval, config.ratio) else {
+        return REFUSED;
+    };
+    let Some(runs) = runs_of(alloc, items.as_slice(), per_block, config, tables) else {
+        return REFUSED;
+    };
+    let mut sum = 0;
+    for _ in 0..times {
+        match add_merged(sum, &runs, count, alloc) {
+            Some(more) => sum = more,
+            None => return REFUSED,
+        }
+    }
+    sum
+}
+
+/// Opens tables over the runs of the entries' parts once, merges their scans without checks, and
+/// adds each entry.
+#[unsafe(no_mangle)]
+pub extern "C" fn sst_trusted_merge(
+    bytes: &[u8],
+    count: usize,
+    per_block: usize,
+    interval: u8,
+    num: u32,
+    den: u32,
+    bits: u32,
+    tables: usize,
+    times: u64,
+    alloc: Global,
+) -> u64 {
+    let config = RunConfig::new(interval, HashRatio { num, den }, bits);
+    let Some(items) = items_in(alloc, bytes, count, interval, config.ratio) else {
+        return REFUSED;
+    };
+    let Some(runs) = runs_of(alloc, items.as_slice(), per_block, config, tables) else {
+        return REFUSED;
+    };
+    trusted_merged_in(alloc, &runs, count, times).unwrap_or(REFUSED)
+}
