@@ -12,7 +12,7 @@ use Rattle.sst_base.specs.KeyOrderLaws.{versions_cmp_total}
 use Rattle.sst_base.specs.Order.{IsInOrder}
 use Rattle.sst_merge.specs.Backs.{last_push, front_ordered, greatest_none, greatest_some, parts_ordered}
 use Rattle.sst_merge.specs.Merge.{merged, order_by}
-use Rattle.sst_merge.specs.Picks.{list_at, greatest, beats, beats_by}
+use Rattle.sst_merge.specs.Picks.{IsPick, list_at, greatest, beats, beats_by}
 use Rattle.sst_merge.specs.SourceLaws.{known_at, known_set, list_of, taken_most}
 use Rattle.sst_merge.specs.Sources.{Left, TakesLast, after, held_count, left_held_back, IsHeld, all_known, lists_left, all_left}
 
@@ -113,12 +113,12 @@ module _ {X : Type 0} (cmp : X → X → Ordering) where
           (let k = taken_most cmp ls i old new 1 inside is (omega (arith, step.1)) in omega (arith, k)),
         )
 
-    -- the same, where the sources are seen again and what is left is known by another name
-    pub taken_merge_back : (ls seen : List (Left X)) (i : ℕ) (old new all : Left X) (r : Option X) → all_left (merged cmp) ls ≡ all → seen ≡ ls → ((xss : List (List X)) → lists_left seen ≡ Some xss → i ≡ greatest cmp xss) → i < length seen → old ≡ get_or ls i old
+    -- the same, where the source is the pick of all and what is left is known by another name
+    pub taken_merge_back : (ls : List (Left X)) (i : ℕ) (old new all : Left X) (r : Option X) → all_left (merged cmp) ls ≡ all → IsPick (beats cmp) ls 0 i → old ≡ get_or ls i old
         → TakesLast cmp old r new → TakesLast cmp all r (all_left (merged cmp) (set ls i new))
-    taken_merge_back ls seen i old new all r whole same place inside is step =
+    taken_merge_back ls i old new all r whole p is step =
         subst (λ o. TakesLast cmp o r (all_left (merged cmp) (set ls i new))) whole
-        (taken_back ls i old new r (λ xss known. place xss (ap lists_left same ∙ known)) (subst (λ ys. i < length ys) same inside) is step)
+        (taken_back ls i old new r (λ xss known. (let e = p.is xss known in omega (arith, e))) p.inside is step)
 
 -- the last of what is left is the item that is held
 pub last_held : {X : Type 0} (held : Option X) (o : Option (List X)) (xs : List X) → IsHeld held o → option_map (after held) o ≡ Some xs → last_or None xs ≡ held

@@ -1,14 +1,14 @@
 -- Merges of any number of lists, by the least of their heads.
-use Rattle.std.proofs.Common.{◌≡◌, ℕ, zero, suc, ◌+◌, ◌<◌, Bool, true, false, not, cond, List, [], ◌∷◌, length, drop, get_or, Option, Some, None, refl, sym, ap, ◌∙◌, inl, inr, arith}
+use Rattle.std.proofs.Common.{◌≡◌, ℕ, zero, suc, ◌+◌, ◌<◌, ◌≤◌, Bool, true, false, not, cond, List, [], ◌∷◌, length, drop, get_or, slice_index, Option, Some, None, refl, sym, ap, ◌∙◌, inl, inr, arith}
 use Rattle.std.proofs.lemmas.Bool.{cases_Bool}
 use Rattle.std.proofs.Math.ListN.{set}
-use Rattle.std.proofs.lemmas.List.{drop_more, drop_all}
-use Rattle.std.specs.Iterator.{YieldsFirst}
+use Rattle.std.proofs.lemmas.List.{drop_more}
 use Rattle.std.specs.List.{last_or}
 use Rattle.std.specs.Ordering.{is_lt}
 use Rattle.std.specs.declared.cmp.Ordering.{Ordering}
 use Rattle.sst_merge.specs.Merge.{merge, merged}
 use Rattle.sst_merge.specs.MergeLaws.{merge-nil, merge-first, merge-second}
+use Rattle.sst_merge.specs.Sources.{Left, lists_left}
 
 -- the list at a place, or none
 abbrev pub list_at : {X : Type 0} → List (List X) → ℕ → List X
@@ -45,13 +45,15 @@ beats cmp xs ys = beats_by cmp (last_or None xs) (last_or None ys)
 abbrev pub greatest : {X : Type 0} → (X → X → Ordering) → List (List X) → ℕ
 greatest cmp = pick (beats cmp)
 
-flip : (b : Bool) → not b ≡ true → b ≡ false
-flip true h = absurd (cc)
-flip false h = refl
+-- the place of a source: the one that is picked of those from an index on, where their lists are known
+pub record IsPick {X : Type 0} (wins : List X → List X → Bool) (lefts : List (Left X)) (i place : ℕ) : Type 0 where
+  pub inside : place < length lefts
+  pub is : (xss : List (List X)) → lists_left (drop i lefts) ≡ Some xss → place ≡ i + pick wins xss
 
-flip_back : (b : Bool) → not b ≡ false → b ≡ true
-flip_back true h = refl
-flip_back false h = absurd (cc)
+-- at each index from `made` on there is the pick of the sources from there on
+pub record ArePicks {X : Type 0} (wins : List X → List X → Bool) (lefts : List (Left X)) (places : List ℕ) (made : ℕ) : Type 0 where
+  pub inside : made ≤ length lefts
+  pub each : (i : ℕ) → made ≤ i → i < length lefts → IsPick wins lefts i (slice_index places i)
 
 module _ {X : Type 0} (cmp : X → X → Ordering) where
   first_wins : (xs : List X) (xss : List (List X)) → wins cmp xs (list_at xss (least cmp xss)) ≡ true → least cmp (xs ∷ xss) ≡ 0
@@ -124,29 +126,6 @@ module _ {X : Type 0} (cmp : X → X → Ordering) where
   least_some [] x xs h = absurd (cc)
   least_some (ys ∷ yss) x xs h = some_by cmp ys yss x xs (list_at yss (least cmp yss)) (least_some yss) refl h
 
-set_same : {X : Type 0} (xss : List (List X)) (n : ℕ) → list_at xss n ≡ [] → set xss n [] ≡ xss
-set_same [] n h = refl
-set_same (xs ∷ xss) zero h = ap (λ ys. ys ∷ xss) (sym h)
-set_same (xs ∷ xss) (suc n) h = ap (λ yss. xs ∷ yss) (set_same xss n h)
-
--- an item that is taken from the list at the least place is taken from the merge
-pub taken_least : {X : Type 0} (cmp : X → X → Ordering) (xss : List (List X)) (i : ℕ) (r : Option X) (left : List X) → i ≡ least cmp xss → YieldsFirst (λ s. s) (list_at xss i) r left → YieldsFirst (λ s. s) (merged cmp xss) r (merged cmp (set xss i left))
-taken_least cmp xss i None left e h =
-    let none = least_none cmp xss (ap (list_at xss) (sym e) ∙ h.0) in
-    (none, ap (λ ys. merged cmp (set xss i ys)) h.1 ∙ ap (merged cmp) (set_same xss i h.0) ∙ none)
-taken_least cmp xss i (Some x) left e h = least_some cmp xss x left (ap (list_at xss) (sym e) ∙ h) ∙ ap (λ n. x ∷ merged cmp (set xss n left)) (sym e)
-
--- the list at a place, as an index reads it
-pub list_at_get : {X : Type 0} (xss : List (List X)) (n : ℕ) (xs : List X) → n < length xss → xs ≡ get_or xss n xs → list_at xss n ≡ xs
-list_at_get [] n xs h e = absurd (omega arith)
-list_at_get (ys ∷ yss) zero xs h e = sym e
-list_at_get (ys ∷ yss) (suc n) xs h e = list_at_get yss n xs (omega arith) e
-
-list_at_drop : {X : Type 0} (xss : List (List X)) (i m : ℕ) → list_at (drop i xss) m ≡ list_at xss (i + m)
-list_at_drop xss zero m = let e : m ≡ 0 + m = omega arith in ap (list_at xss) e
-list_at_drop [] (suc i) m = refl
-list_at_drop (xs ∷ xss) (suc i) m = let e : suc (i + m) ≡ suc i + m = omega arith in list_at_drop xss i m ∙ ap (list_at (xs ∷ xss)) e
-
 list_at_or : {X : Type 0} (xss : List (List X)) (n : ℕ) (d : List X) → n < length xss → get_or xss n d ≡ list_at xss n
 list_at_or [] n d h = absurd (omega arith)
 list_at_or (ys ∷ yss) zero d h = refl
@@ -156,45 +135,11 @@ list_at_or (ys ∷ yss) (suc n) d h = list_at_or yss n d (omega arith)
 pub from_here : {X : Type 0} (xss : List (List X)) (j i : ℕ) → j < length xss → j + 1 ≡ i → drop j xss ≡ list_at xss j ∷ drop i xss
 from_here xss j i inside next = drop_more xss j [] inside ∙ ap (λ ys. ys ∷ drop (j + 1) xss) (list_at_or xss j [] inside) ∙ ap (λ n. list_at xss j ∷ drop n xss) next
 
-module _ {X : Type 0} (wins : List X → List X → Bool) (wins_nil : (xs : List X) → wins xs [] ≡ true) where
-  -- of the last list alone
-  pub pick_end : (xss : List (List X)) (j : ℕ) → j + 1 ≡ length xss → j ≡ j + pick wins (drop j xss)
-  pick_end xss j e =
-      let last : drop j xss ≡ list_at xss j ∷ [] = from_here xss j (length xss) (omega arith) e ∙ ap (λ yss. list_at xss j ∷ yss) (drop_all (length xss) xss (omega arith)) in
-      let z : pick wins (drop j xss) ≡ 0 = ap (pick wins) last ∙ ap (λ b. cond b 0 1) (wins_nil (list_at xss j)) in
-      omega arith
-
-  step_by : (t : Bool) (j i m best b : ℕ) → j + 1 ≡ i → best ≡ i + m → b ≡ cond t j best → b ≡ j + cond t 0 (suc m)
-  step_by true j i m best b next e f = omega arith
-  step_by false j i m best b next e f = omega arith
-
-  -- of one list more
-  pub pick_step : (xss : List (List X)) (j i best b : ℕ) → j + 1 ≡ i → j < length xss → best ≡ i + pick wins (drop i xss) → b ≡ cond (wins (list_at xss j) (list_at xss best)) j best → b ≡ j + pick wins (drop j xss)
-  pick_step xss j i best b next inside e f =
-      let m = pick wins (drop i xss) in
-      let here : list_at (drop i xss) m ≡ list_at xss best = list_at_drop xss i m ∙ ap (list_at xss) (sym e) in
-      let t = wins (list_at xss j) (list_at xss best) in
-      let same : pick wins (drop j xss) ≡ cond t 0 (suc m) = ap (pick wins) (from_here xss j i inside next) ∙ ap (λ ys. cond (wins (list_at xss j) ys) 0 (suc m)) here in
-      step_by t j i m best b next e f ∙ ap (λ n. j + n) (sym same)
-
 module _ {X : Type 0} (cmp : X → X → Ordering) where
-  wins_nil : (xs : List X) → wins cmp xs [] ≡ true
+  -- an empty list never gives its item first, nor last
+  pub wins_nil : (xs : List X) → wins cmp xs [] ≡ true
   wins_nil [] = refl
   wins_nil (x ∷ xs) = refl
 
-  beats_nil : (xs : List X) → beats cmp xs [] ≡ true
+  pub beats_nil : (xs : List X) → beats cmp xs [] ≡ true
   beats_nil xs = refl
-
-  -- the least of the last list alone, and of one list more
-  pub least_end : (xss : List (List X)) (j : ℕ) → j + 1 ≡ length xss → j ≡ j + least cmp (drop j xss)
-  least_end = pick_end (wins cmp) wins_nil
-
-  pub least_step : (xss : List (List X)) (j i best b : ℕ) → j + 1 ≡ i → j < length xss → best ≡ i + least cmp (drop i xss) → b ≡ cond (wins cmp (list_at xss j) (list_at xss best)) j best → b ≡ j + least cmp (drop j xss)
-  least_step = pick_step (wins cmp) wins_nil
-
-  -- the greatest, likewise
-  pub greatest_end : (xss : List (List X)) (j : ℕ) → j + 1 ≡ length xss → j ≡ j + greatest cmp (drop j xss)
-  greatest_end = pick_end (beats cmp) beats_nil
-
-  pub greatest_step : (xss : List (List X)) (j i best b : ℕ) → j + 1 ≡ i → j < length xss → best ≡ i + greatest cmp (drop i xss) → b ≡ cond (beats cmp (list_at xss j) (list_at xss best)) j best → b ≡ j + greatest cmp (drop j xss)
-  greatest_step = pick_step (beats cmp) beats_nil

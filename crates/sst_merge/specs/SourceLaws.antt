@@ -8,7 +8,7 @@ use Rattle.std.proofs.lemmas.List.Sums.{sum_by-set}
 use Rattle.std.specs.List.{sum_by}
 use Rattle.std.specs.declared.cmp.Ordering.{Ordering}
 use Rattle.sst_merge.specs.Merge.{merged}
-use Rattle.sst_merge.specs.Picks.{list_at, least, least_none, least_some}
+use Rattle.sst_merge.specs.Picks.{IsPick, list_at, least, least_none, least_some, wins}
 use Rattle.sst_merge.specs.Sources.{Left, TakesFirst, before, held_count, IsHeld, all_known, lists_left, all_left}
 
 same_list : {X : Type 0} (o : Option (List X)) → option_map (before None) o ≡ o
@@ -172,20 +172,12 @@ module _ {X : Type 0} (cmp : X → X → Ordering) where
       → TakesFirst old r new → TakesFirst (all_left (merged cmp) ls) r (all_left (merged cmp) (set ls i new))
   taken_from ls i old new r place inside is step = taken_both ls i old new r inside is step (taken_list ls i old new r place inside is step)
 
-  -- the same, where the sources are seen again and what is left is known by another name
-  pub taken_merge : (ls seen : List (Left X)) (i : ℕ) (old new all : Left X) (r : Option X) → all_left (merged cmp) ls ≡ all → seen ≡ ls → ((xss : List (List X)) → lists_left seen ≡ Some xss → i ≡ least cmp xss) → i < length seen → old ≡ get_or ls i old
+  -- the same, where the source is the pick of all and what is left is known by another name
+  pub taken_merge : (ls : List (Left X)) (i : ℕ) (old new all : Left X) (r : Option X) → all_left (merged cmp) ls ≡ all → IsPick (wins cmp) ls 0 i → old ≡ get_or ls i old
       → TakesFirst old r new → TakesFirst all r (all_left (merged cmp) (set ls i new))
-  taken_merge ls seen i old new all r whole same place inside is step =
+  taken_merge ls i old new all r whole p is step =
       subst (λ o. TakesFirst o r (all_left (merged cmp) (set ls i new))) whole
-      (taken_from ls i old new r (λ xss known. place xss (ap lists_left same ∙ known)) (subst (λ ys. i < length ys) same inside) is step)
-
-  -- of two indexes, the lists of the two sources
-  pub better_first : (ls : List (Left X)) (xss : List (List X)) (i best : ℕ) (a b : Left X) → lists_left ls ≡ Some xss → i < length ls → best < length ls → a ≡ get_or ls i a → b ≡ get_or ls best b
-      → (a.list ≡ Some (list_at xss i)) × (b.list ≡ Some (list_at xss best))
-  better_first ls xss i best a b known here there e f =
-      let os = map (λ (s : Left X). s.list) ls in
-      let n : length os ≡ length ls = length-map ls (λ (s : Left X). s.list) in
-      (sym (list_of ls i a here e) ∙ known_at os xss i a.list known (omega (arith, n, here)), sym (list_of ls best b there f) ∙ known_at os xss best b.list known (omega (arith, n, there)))
+      (taken_from ls i old new r (λ xss known. (let e = p.is xss known in omega (arith, e))) p.inside is step)
 
 -- as many lists are known as there are sources
 pub lists_length : {X : Type 0} (ls : List (Left X)) (xss : List (List X)) → lists_left ls ≡ Some xss → length xss ≡ length ls

@@ -1,10 +1,10 @@
 //! Ordered merges of any number of sources, from the back.
-ghost use Rattle.std.specs.Prelude.{◌≡◌, ◌<◌, ◌≤◌, List, length, if◌then◌else◌, IfOk, IfSome, Some};
+ghost use Rattle.std.specs.Prelude.{◌≡◌, ◌+◌, ◌<◌, ◌≤◌, List, length, IfOk, IfSome, OnErr, OnOk, Some};
 ghost use Rattle.std.specs.Ordering.{is_lt};
 ghost use Rattle.sst_base.specs.Order.{IsInOrder};
 ghost use Rattle.sst_merge.specs.Merge.{order_by, merged};
-ghost use Rattle.sst_merge.specs.Picks.{beats, greatest, list_at};
-ghost use Rattle.sst_merge.specs.Sources.{TakesLast, lists_left, all_left};
+ghost use Rattle.sst_merge.specs.Picks.{ArePicks, IsPick, beats};
+ghost use Rattle.sst_merge.specs.Sources.{TakesLast, all_left};
 
 use crate::source::BackSource;
 use crate::version::Version;
@@ -53,6 +53,7 @@ impl<T: Version + Drop, I: BackSource<T>> Tail<T, I> {
     /// # Errors
     ///
     /// Those of the source's step. The last version is then still held.
+    #[inline(always)]
     pub fn take(&mut self, alloc: Global) -> Result<Option<T>>
         ensures { IfOk result (λ r. TakesLast (order_by T.entry) self.old r self.new) }
     {
@@ -72,6 +73,7 @@ fn is_after<T: Version>(x: &T, y: &T) -> bool
 }
 
 // Whether the version that is held of one source comes after that of a later source.
+#[inline(always)]
 fn goes_last<T: Version, I: BackSource<T>>(first: &Tail<T, I>, second: &Tail<T, I>) -> bool
     ensures { (xs ys : List T) → first.now.list ≡ Some xs → second.now.list ≡ Some ys
         → result ≡ beats (order_by T.entry) xs ys }
@@ -83,54 +85,102 @@ fn goes_last<T: Version, I: BackSource<T>>(first: &Tail<T, I>, second: &Tail<T, 
     }
 }
 
-// Of two indexes, that of the source whose version comes last; the first index is the lesser.
-fn later<T: Version, I: BackSource<T>>(tails: &[Tail<T, I>], i: usize, best: usize) -> usize
-    requires earlier { i < length tails.now }
-    requires later { best < length tails.now }
-    ensures index { (xss : List (List T)) → lists_left tails.now ≡ Some xss
-        → result ≡ (if beats (order_by T.entry) (list_at xss i)
-        (list_at xss best) then i else best) }
-    ensures inside { result < length tails.now }
+// The pick at an index, by the pick behind it: of the two the one whose version comes last.
+#[inline(always)]
+fn later<T: Version, I: BackSource<T>>(tails: &[Tail<T, I>], i: usize, behind: usize) -> usize
+    requires here { i < length tails.now }
+    requires is_pick { IsPick (beats (order_by T.entry)) tails.now (i + 1) behind }
+    ensures { IsPick (beats (order_by T.entry)) tails.now i result }
 {
-    if goes_last(&tails[i], &tails[best]) {
+    if goes_last(&tails[i], &tails[behind]) {
         i
     } else {
-        best
+        behind
     }
 }
 
-// The index of the source that has the last version of the merge.
-fn greatest_of<T: Version, I: BackSource<T>>(tails: &[Tail<T, I>]) -> usize
-    requires { 0 < length tails.now }
-    ensures index { (xss : List (List T)) → lists_left tails.now ≡ Some xss
-        → result ≡ greatest (order_by T.entry) xss }
-    ensures inside { result < length tails.now }
+// The pick at an index, where those behind it are made.
+#[inline(always)]
+fn pick_at<T: Version, I: BackSource<T>>(tails: &[Tail<T, I>], picks: &[usize], i: usize) -> usize
+    requires here { i < length tails.now }
+    requires len { length picks.now ≡ length tails.now }
+    requires behind { ArePicks (beats (order_by T.entry)) tails.now picks.now (i + 1) }
+    ensures { IsPick (beats (order_by T.entry)) tails.now i result }
 {
-    let mut i = tails.len() - 1;
-    let mut best = i;
+    if i == tails.len() - 1 {
+        return i;
+    }
+    later(tails, i, picks[i + 1])
+}
+
+// Makes the picks before an index, from the last to the first, and returns the pick of all.
+fn pick_of_all<T: Version, I: BackSource<T>>(
+    tails: &[Tail<T, I>],
+    picks: &mut [usize],
+    made: usize,
+) -> usize
+    requires some { 0 < length tails.now }
+    requires len { length picks.old ≡ length tails.now }
+    requires behind { ArePicks (beats (order_by T.entry)) tails.now picks.old made }
+    ensures picks { ArePicks (beats (order_by T.entry)) tails.now picks.new 0 }
+    ensures pick { IsPick (beats (order_by T.entry)) tails.now 0 result }
+{
+    let mut i = made;
     while i > 0 {
         i -= 1;
-        best = later(tails, i, best);
+        picks[i] = pick_at(tails, picks, i);
     }
-    best
+    picks[0]
+}
+
+// Gives each source a pick, if they have none yet, and returns from which index on they are made.
+fn place_picks<T: Version, I: BackSource<T>>(
+    alloc: Global,
+    tails: &[Tail<T, I>],
+    picks: &mut Vec<usize>,
+    made: usize,
+) -> Result<usize>
+    requires { ArePicks (beats (order_by T.entry)) tails.now picks.old.items made }
+    ensures len { OnOk result (length picks.new.items ≡ length tails.now) }
+    ensures made { IfOk result
+        (λ made. ArePicks (beats (order_by T.entry)) tails.now picks.new.items made) }
+    ensures kept { OnErr result (picks.new.items ≡ picks.old.items) }
+{
+    let count = tails.len();
+    if picks.len() == count {
+        return Ok(made);
+    }
+    *picks = vec![in alloc; 0; count]?;
+    Ok(count)
 }
 
 /// The ordered merge of any number of sources, from the back: it gives the versions of the
 /// [`Merge`](crate::merge::Merge) of the same sources from the last to the first, so of equal
 /// versions those of the later source first. Clauses see the versions left, where those of all
 /// sources are known; which one a step takes is said where they are in order.
+///
+/// A step compares anew the source that the last step took from and those before it; the first step
+/// compares all, and allocates.
 #[derive(Drop)]
 pub struct MergeBack<T: Version, I: BackSource<T>> {
     tails: Vec<Tail<T, I>>,
+    // At each index which of the sources from there on has the last version. Those before `made`
+    // are still to be made; before the first step there are none.
+    picks: Vec<usize>,
+    made: usize,
 }
 
 impl<T: Version, I: BackSource<T>> Model for MergeBack<T, I> {
     ghost use Rattle.sst_merge.specs.Merge.{order_by, merged};
+    ghost use Rattle.sst_merge.specs.Picks.{ArePicks, beats};
     ghost use Rattle.sst_merge.specs.Sources.{Left, all_left};
 
     ghost Value = { Left T };
 
     ghost view = { λ m. all_left (merged (order_by T.entry)) m.tails.items };
+
+    ghost invariant = { λ m.
+        ArePicks (beats (order_by T.entry)) m.tails.items m.picks.items m.made };
 }
 
 impl<T: Version, I: BackSource<T>> MergeBack<T, I> {
@@ -138,7 +188,9 @@ impl<T: Version, I: BackSource<T>> MergeBack<T, I> {
     pub fn new(tails: Vec<Tail<T, I>>) -> MergeBack<T, I>
         ensures { result ≡ all_left (merged (order_by T.entry)) tails.items }
     {
-        MergeBack { tails }
+        let picks = Vec::new(*tails.allocator());
+        let made = tails.len();
+        MergeBack { tails, picks, made }
     }
 }
 
@@ -150,7 +202,9 @@ impl<T: Version + Drop, I: BackSource<T> + Drop> BackSource<T> for MergeBack<T, 
         if self.tails.is_empty() {
             return Ok(None);
         }
-        let last = greatest_of(&self.tails);
+        self.made = place_picks(alloc, &self.tails, &mut self.picks, self.made)?;
+        let last = pick_of_all(&self.tails, self.picks.as_mut_slice(), self.made);
+        self.made = last + 1;
         self.tails[last].take(alloc)
     }
 }

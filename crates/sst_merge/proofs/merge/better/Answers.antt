@@ -1,17 +1,17 @@
-use Rattle.std.proofs.Common.{cond, ◌∙◌, sym, ap}
+use Rattle.std.proofs.Common.{cond, subst}
 use Rattle.sst_merge.specs.Merge.{order_by}
-use Rattle.sst_merge.specs.Picks.{list_at}
-use Rattle.sst_merge.specs.SourceLaws.{better_first}
+use Rattle.sst_merge.specs.Picks.{IsPick, wins}
+use Rattle.sst_merge.proofs.MadePicks.{more_pick}
 use Rattle.sst_merge.proofs.merge.better.Goals as goal
 
-pub returns-then-goes_first-clause-index : goal.returns-then-goes_first-clause-index
-returns-then-goes_first-clause-index g c = λ xss known.
-    let k = better_first (order_by g.T.Version.entry) c.args.heads.now xss c.args.i c.args.best c.index-heads-i.result c.index-heads-best.result known c.requires.earlier c.requires.later c.index-heads-i.is c.index-heads-best.is in
-    let w = c.goes_first.ensures (list_at xss c.args.i) (list_at xss c.args.best) k.0 k.1 in
-    sym (ap (λ t. cond t c.args.i c.args.best) (sym w ∙ c.if-goes_first.true))
+pub returns-then-goes_first : goal.returns-then-goes_first
+returns-then-goes_first g c =
+    let w = wins (order_by g.T.Version.entry) in
+    subst (λ t. IsPick w c.args.heads.now c.args.i (cond t c.args.i c.args.behind)) c.if-goes_first.true
+    (more_pick w c.args.heads.now c.args.i c.args.behind c.index-heads-i.result c.index-heads-behind.result c.goes_first.result c.requires.here c.index-heads-i.is c.index-heads-behind.is c.requires.is_pick c.goes_first.ensures)
 
-pub returns-else-goes_first-clause-index : goal.returns-else-goes_first-clause-index
-returns-else-goes_first-clause-index g c = λ xss known.
-    let k = better_first (order_by g.T.Version.entry) c.args.heads.now xss c.args.i c.args.best c.index-heads-i.result c.index-heads-best.result known c.requires.earlier c.requires.later c.index-heads-i.is c.index-heads-best.is in
-    let w = c.goes_first.ensures (list_at xss c.args.i) (list_at xss c.args.best) k.0 k.1 in
-    sym (ap (λ t. cond t c.args.i c.args.best) (sym w ∙ c.if-goes_first.false))
+pub returns-else-goes_first : goal.returns-else-goes_first
+returns-else-goes_first g c =
+    let w = wins (order_by g.T.Version.entry) in
+    subst (λ t. IsPick w c.args.heads.now c.args.i (cond t c.args.i c.args.behind)) c.if-goes_first.false
+    (more_pick w c.args.heads.now c.args.i c.args.behind c.index-heads-i.result c.index-heads-behind.result c.goes_first.result c.requires.here c.index-heads-i.is c.index-heads-behind.is c.requires.is_pick c.goes_first.ensures)

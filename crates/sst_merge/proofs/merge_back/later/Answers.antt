@@ -1,17 +1,17 @@
-use Rattle.std.proofs.Common.{cond, ◌∙◌, sym, ap}
+use Rattle.std.proofs.Common.{cond, subst}
 use Rattle.sst_merge.specs.Merge.{order_by}
-use Rattle.sst_merge.specs.Picks.{list_at}
-use Rattle.sst_merge.specs.SourceLaws.{better_first}
+use Rattle.sst_merge.specs.Picks.{IsPick, beats}
+use Rattle.sst_merge.proofs.MadePicks.{more_pick}
 use Rattle.sst_merge.proofs.merge_back.later.Goals as goal
 
-pub returns-then-goes_last-clause-index : goal.returns-then-goes_last-clause-index
-returns-then-goes_last-clause-index g c = λ xss known.
-    let k = better_first (order_by g.T.Version.entry) c.args.tails.now xss c.args.i c.args.best c.index-tails-i.result c.index-tails-best.result known c.requires.earlier c.requires.later c.index-tails-i.is c.index-tails-best.is in
-    let w = c.goes_last.ensures (list_at xss c.args.i) (list_at xss c.args.best) k.0 k.1 in
-    sym (ap (λ t. cond t c.args.i c.args.best) (sym w ∙ c.if-goes_last.true))
+pub returns-then-goes_last : goal.returns-then-goes_last
+returns-then-goes_last g c =
+    let w = beats (order_by g.T.Version.entry) in
+    subst (λ t. IsPick w c.args.tails.now c.args.i (cond t c.args.i c.args.behind)) c.if-goes_last.true
+    (more_pick w c.args.tails.now c.args.i c.args.behind c.index-tails-i.result c.index-tails-behind.result c.goes_last.result c.requires.here c.index-tails-i.is c.index-tails-behind.is c.requires.is_pick c.goes_last.ensures)
 
-pub returns-else-goes_last-clause-index : goal.returns-else-goes_last-clause-index
-returns-else-goes_last-clause-index g c = λ xss known.
-    let k = better_first (order_by g.T.Version.entry) c.args.tails.now xss c.args.i c.args.best c.index-tails-i.result c.index-tails-best.result known c.requires.earlier c.requires.later c.index-tails-i.is c.index-tails-best.is in
-    let w = c.goes_last.ensures (list_at xss c.args.i) (list_at xss c.args.best) k.0 k.1 in
-    sym (ap (λ t. cond t c.args.i c.args.best) (sym w ∙ c.if-goes_last.false))
+pub returns-else-goes_last : goal.returns-else-goes_last
+returns-else-goes_last g c =
+    let w = beats (order_by g.T.Version.entry) in
+    subst (λ t. IsPick w c.args.tails.now c.args.i (cond t c.args.i c.args.behind)) c.if-goes_last.false
+    (more_pick w c.args.tails.now c.args.i c.args.behind c.index-tails-i.result c.index-tails-behind.result c.goes_last.result c.requires.here c.index-tails-i.is c.index-tails-behind.is c.requires.is_pick c.goes_last.ensures)
