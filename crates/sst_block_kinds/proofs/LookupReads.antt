@@ -5,9 +5,9 @@ use Rattle.sst_base.specs.Entry.{Entry}
 use Rattle.sst_block_core.specs.Entries.{entries}
 use Rattle.sst_block_core.specs.Buckets.{bucket, buckets}
 use Rattle.sst_block_core.specs.Pointers.{head_count}
-use Rattle.sst_block_kinds.specs.DataBlock.{DataBlockParts}
+use Rattle.sst_block_kinds.specs.DataBlock.{DataRefParts}
 use Rattle.sst_block_core.specs.Lookups.{lookup_of}
-use Rattle.sst_block_kinds.specs.PointReads.{lookup}
+use Rattle.sst_block_kinds.specs.PointReads.{ref_lookup}
 use Rattle.sst_block_core.specs.declared.table.block.hash_index.reader.Lookup.{Lookup}
 use Rattle.sst_block_core.specs.declared.table.block.hash_index.reader.Lookup.TheVariants.{Nowhere, Interval, Anywhere}
 use Rattle.sst_block_core.specs.PointerLaws.{length-each}
@@ -36,7 +36,7 @@ interval_byte byte n h = elim (cases_eq byte 254) [
   ]
 ]
 
-module _ (hash : List ℕ → ℕ) (d : DataBlockParts) (needle : List ℕ) (pos : 0 < d.interval) (few : 0 < d.stored → head_count d.interval (length d.items) ≤ 254) where
+module _ (hash : List ℕ → ℕ) (d : DataRefParts) (needle : List ℕ) (pos : 0 < d.interval) (few : 0 < d.stored → head_count d.interval (length d.items) ≤ 254) where
   abbrev byte : ℕ
   byte = slice_index (buckets entries hash d.interval d.items d.stored) (hash needle % d.stored)
 
@@ -45,7 +45,7 @@ module _ (hash : List ℕ → ℕ) (d : DataBlockParts) (needle : List ℕ) (pos
   table_length = length-each (bucket entries hash d.interval d.items d.stored) 0 d.stored
 
   -- a bucket is read only where there is one
-  stored_some : (l : Lookup) → (l ≡ Anywhere → ⊥) → lookup hash d needle ≡ l → (0 < d.stored) × (lookup_of byte ≡ l)
+  stored_some : (l : Lookup) → (l ≡ Anywhere → ⊥) → ref_lookup hash d needle ≡ l → (0 < d.stored) × (lookup_of byte ≡ l)
   stored_some l told h = elim (cases_eq d.stored 0) [
     | inl e ↦ (let q = rw (eq-eqb d.stored 0 e) at h in absurd (told (sym q)))
     | inr n ↦ (
@@ -54,13 +54,13 @@ module _ (hash : List ℕ → ℕ) (d : DataBlockParts) (needle : List ℕ) (pos
   ]
 
   -- where it says that the key is nowhere, no entry has the key
-  pub nowhere_none : lookup hash d needle ≡ Nowhere → (i : ℕ) (x : Entry) → slice_get d.items i ≡ Some x → x.key.user_key ≡ needle → ⊥
+  pub nowhere_none : ref_lookup hash d needle ≡ Nowhere → (i : ℕ) (x : Entry) → slice_get d.items i ≡ Some x → x.key.user_key ≡ needle → ⊥
   nowhere_none h =
       let s = stored_some Nowhere (λ e. cc) h in
       free_bucket entries hash d.interval d.stored d.items needle (omega (arith, pos)) s.0 (few s.0) (nowhere_byte byte s.1)
 
   -- where it gives an interval, this interval exists, and all entries with the key are in it
-  pub interval_alone : (n : ℕ) → lookup hash d needle ≡ Interval n
+  pub interval_alone : (n : ℕ) → ref_lookup hash d needle ≡ Interval n
       → (n * d.interval < length d.items) × ((i : ℕ) (x : Entry) → slice_get d.items i ≡ Some x → x.key.user_key ≡ needle → (n * d.interval ≤ i) × (i < (n + 1) * d.interval))
   interval_alone n h =
       let s = stored_some (Interval n) (λ e. cc) h in

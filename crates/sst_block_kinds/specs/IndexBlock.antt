@@ -24,3 +24,21 @@ index_block_of b = record {
 -- the header and the payload of an index block
 abbrev pub block_of : IndexBlockParts → BlockParts
 block_of d = record { header = d.header; payload = d.payload }
+
+-- What contracts see of an index block whose payload is borrowed: the payload, its handles and its interval.
+pub record IndexRefParts : Type 0 where
+  pub payload : List ℕ
+  pub items : List Handle
+  pub interval : ℕ
+
+-- the index block of a payload
+abbrev pub index_ref_of : List ℕ → IndexRefParts
+index_ref_of payload = record {
+  payload = payload;
+  items = items_in handles payload;
+  interval = (trailer_in payload).interval;
+}
+
+-- an index block without its header
+abbrev pub ref_of_block : IndexBlockParts → IndexRefParts
+ref_of_block d = record { payload = d.payload; items = d.items; interval = d.interval }

@@ -7,11 +7,14 @@ use Rattle.sst_block_core.specs.Lookups.{lookup_in}
 use Rattle.sst_block_core.specs.declared.table.block.hash_index.reader.Lookup.{Lookup}
 use Rattle.sst_block_core.specs.declared.table.block.hash_index.reader.Lookup.TheVariants.{Nowhere, Interval, Anywhere}
 use Rattle.sst_block_core.specs.Entries.{entries}
-use Rattle.sst_block_kinds.specs.DataBlock.{DataBlockParts}
+use Rattle.sst_block_kinds.specs.DataBlock.{DataBlockParts, DataRefParts, ref_of_block}
 
 -- what the hash index of a data block says of a key, if there is one
+abbrev pub ref_lookup : (List ℕ → ℕ) → DataRefParts → List ℕ → Lookup
+ref_lookup hash d key = if d.stored == 0 then Anywhere else lookup_in hash (buckets entries hash d.interval d.items d.stored) key
+
 abbrev pub lookup : (List ℕ → ℕ) → DataBlockParts → List ℕ → Lookup
-lookup hash d key = if d.stored == 0 then Anywhere else lookup_in hash (buckets entries hash d.interval d.items d.stored) key
+lookup hash d key = ref_lookup hash (ref_of_block d) key
 
 -- the most heads that a point read examines: none, unless it searches all heads
 abbrev pub heads_most : Lookup → ℕ → ℕ
@@ -45,9 +48,15 @@ abbrev pub read_entries : (List ℕ → ℕ) → DataBlockParts → List ℕ →
 read_entries hash d key = entries_most (lookup hash d key) d.interval
 
 -- the most heads, and the most entries, that a point read of a key in a data block examines
+abbrev pub ref_read_most : (List ℕ → ℕ) → DataRefParts → List ℕ → ℕ × ℕ
+ref_read_most hash d key = (heads_most (ref_lookup hash d key) (head_count d.interval (length d.items)), entries_most (ref_lookup hash d key) d.interval)
+
 abbrev pub read_most : (List ℕ → ℕ) → DataBlockParts → List ℕ → ℕ × ℕ
 read_most hash d key = (read_heads hash d key, read_entries hash d key)
 
 -- the fewest heads, and the fewest entries
+abbrev pub ref_read_least : (List ℕ → ℕ) → DataRefParts → List ℕ → ℕ × ℕ
+ref_read_least hash d key = (heads_least (ref_lookup hash d key), entries_least (ref_lookup hash d key))
+
 abbrev pub read_least : (List ℕ → ℕ) → DataBlockParts → List ℕ → ℕ × ℕ
-read_least hash d key = (heads_least (lookup hash d key), entries_least (lookup hash d key))
+read_least hash d key = ref_read_least hash (ref_of_block d) key

@@ -235,10 +235,10 @@ fn decoder_of(block: &DataBlock<Poly31>) -> Keys<'_>
     ensures window { result.window ≡ whole block.now.items }
 {
     // The proof needs that the payload is the encoding of the entries as decoded.
-    let _encoded = block.as_slice();
+    let payload = block.as_slice();
     let _plain = block.iter();
     data_block_is_read();
-    Decoder::new(block.inner())
+    Decoder::new(payload.as_slice())
 }
 
 /// Takes entries, and checks that they have these keys of one byte, in this order, and this

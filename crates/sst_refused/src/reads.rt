@@ -97,10 +97,10 @@ pub fn steps_index(rt: &impl Print, alloc: Global, times: u32) -> Result<()> {
 // A decoder of the entries of a block.
 fn decoder_of(block: &DataBlock<ByteSum>) -> Decoder<'_, InternalValue, DataBlockParsedItem> {
     // The proof needs that the payload is the encoding of the entries as decoded.
-    let _encoded = block.as_slice();
+    let payload = block.as_slice();
     let _plain = block.iter();
     data_block_is_read();
-    Decoder::new(block.inner())
+    Decoder::new(payload.as_slice())
 }
 
 /// Makes a decoder, and takes an entry from each end: whether there is one.

@@ -96,6 +96,11 @@ fn is_argument(tokens: &[String], i: usize, opened: Option<&String>) -> bool {
     may_take(opened) && (lead == "(" || lead == ",") && (end == "," || end == ")")
 }
 
+/// Returns whether a payload of `self` is all that a function returns. How often is counted.
+fn is_given(tokens: &[String], i: usize) -> bool {
+    is_own(tokens, i) && before(tokens, i, 3) == "{" && behind(tokens, i, 1) == "}"
+}
+
 /// Returns whether `data()` at an index is bound to a payload, or is all that a function returns.
 fn is_data_bound(tokens: &[String], i: usize) -> bool {
     let is_returned = behind(tokens, i, 3) == "}";
@@ -120,7 +125,9 @@ fn is_slice_bound(tokens: &[String], i: usize, opened: Option<&String>) -> bool 
 /// Returns whether a token is allowed where it is, in these brackets.
 fn may_stand(tokens: &[String], i: usize, opened: Option<&String>) -> bool {
     match behind(tokens, i, 0) {
-        "payload" => is_set(tokens, i, opened) || is_argument(tokens, i, opened),
+        "payload" => {
+            is_set(tokens, i, opened) || is_argument(tokens, i, opened) || is_given(tokens, i)
+        }
         "data" => {
             let is_call = before(tokens, i, 1) == "." && behind(tokens, i, 1) == "(";
             !is_call || is_data_bound(tokens, i)

@@ -1,7 +1,7 @@
 //! Planted texts: reads that the rules must find, and lines that they must leave alone.
 
 /// A text, and whether it gets at the bytes of a block where it may not.
-pub const PLANTED: [(&str, bool); 30] = [
+pub const PLANTED: [(&str, bool); 32] = [
     ("let b = payload[at];", true),
     ("        let b = self.payload[at];\n", true),
     ("let (_, rest) = payload.split_at(at);", true),
@@ -24,6 +24,7 @@ pub const PLANTED: [(&str, bool); 30] = [
     ("let first = self.as_slice().as_slice()[0];", true),
     ("hash(block.as_slice())", true),
     ("let found = iter.payload;", true),
+    ("fn leak(&self) -> u8 { self.payload[0] }", true),
     (
         "Item::read_head(self.payload, offset, &mut self.steps)",
         false,
@@ -41,6 +42,7 @@ pub const PLANTED: [(&str, bool); 30] = [
         false,
     ),
     ("EntryRef { payload: self.payload, item }", false),
+    ("fn as_slice(&self) -> &'a [u8] { self.payload }", false),
     ("// let b = payload[at];", false),
     (
         "    ensures head { payload[at] }\n    /// Decodes `payload[at]`.",
@@ -53,7 +55,7 @@ pub const PLANTED: [(&str, bool); 30] = [
 ];
 
 /// A text, what makes a reader, an iterator or counters, and how often it occurs.
-pub const COUNTED: [(&str, &str, usize); 6] = [
+pub const COUNTED: [(&str, &str, usize); 7] = [
     ("let walked = self.entries().count();", ". entries (", 1),
     (
         "let walked = self.entries()\n    .filter(|e| self.entries().count() > 0);",
@@ -62,6 +64,11 @@ pub const COUNTED: [(&str, &str, usize); 6] = [
     ),
     ("let mut steps = Steps::default();", "Steps : : default", 1),
     ("use sst_base::decode_varint;", "decode_varint", 1),
+    (
+        "fn as_slice(&self) -> &'a [u8] {\n    self.payload\n}",
+        "{ self . payload }",
+        1,
+    ),
     (
         "// Steps::new\nlet steps = Steps::new();",
         "Steps : : new",

@@ -35,9 +35,9 @@ pub const CHECKS: [&str; 2] = [
 ];
 
 /// The calls that a payload may be passed to: those of the item traits, of the decoder, of the
-/// index readers, of the one reader that counts, of blocks, of the two that make an item of its
-/// ranges, and of the table of heads, with what it calls itself.
-pub const CALLS: [&str; 26] = [
+/// intervals, of the trailer, of the index readers, of the one reader that counts, of blocks, of
+/// those that make an item of its ranges, and of the table of heads, with what it calls itself.
+pub const CALLS: [&str; 33] = [
     "Item::read_head",
     "Item::read_full",
     "Item::read_truncated",
@@ -47,9 +47,16 @@ pub const CALLS: [&str; 26] = [
     "item.materialize",
     "EntryRef::new",
     "HandleRef::new",
+    "EntryView::new",
+    "HandleView::new",
     "FormReader::new",
     "Reader::new",
+    "Trailer::new",
+    "Intervals::new",
+    "Intervals::with_table",
     "Decoder::new",
+    "DataBlockRef::over",
+    "IndexBlockRef::over",
     "Block::from_payload",
     "StandardBloomFilterReader::new",
     "materialized",
@@ -68,7 +75,7 @@ pub const CALLS: [&str; 26] = [
 
 /// What makes a reader, a decoder, an iterator or counters, gets at the payload, or reads numbers;
 /// each as tokens.
-pub const MAKERS: [&str; 26] = [
+pub const MAKERS: [&str; 28] = [
     "FormReader : : new (",
     "Intervals : : new (",
     "Intervals : : with_table (",
@@ -76,6 +83,7 @@ pub const MAKERS: [&str; 26] = [
     "Decoder : : over (",
     "Iter : : new (",
     "Entries : : new (",
+    "EntryViews : : new (",
     "Reader : : new (",
     "FormReader {",
     "Intervals {",
@@ -85,6 +93,7 @@ pub const MAKERS: [&str; 26] = [
     ". entries (",
     ". intervals (",
     ". data (",
+    "{ self . payload }",
     "Steps : : new",
     "Steps : : default",
     "Default : : default",
@@ -99,7 +108,7 @@ pub const MAKERS: [&str; 26] = [
 
 /// A source, one of [`MAKERS`], and how often it occurs. Where none is given it occurs
 /// nowhere.
-pub const MADE: [(&str, &str, usize); 40] = [
+pub const MADE: [(&str, &str, usize); 46] = [
     // The one reader that counts is made where intervals are opened.
     (
         "sst_block_core/src/table/block/form_reader.rt",
@@ -126,7 +135,6 @@ pub const MADE: [(&str, &str, usize); 40] = [
         "Intervals {",
         1,
     ),
-    ("sst_block_core/src/table/block/intervals.rt", ". data (", 1),
     (
         "sst_block_core/src/table/block/decoder.rt",
         "Intervals : : new (",
@@ -156,34 +164,61 @@ pub const MADE: [(&str, &str, usize); 40] = [
     ),
     ("sst_block_core/src/table/block/heads.rt", "bytes_of (", 6),
     ("sst_block_core/src/table/block/heads.rt", "count_head", 4),
+    // A block over borrowed bytes opens its intervals for an iterator, for the table of its heads,
+    // and for the offset of a head; a point read opens them once. It gives its payload back whole.
     (
-        "sst_block_kinds/src/table/index_block/mod.rt",
-        ". intervals (",
-        3,
-    ),
-    // The handle at an index, and how many handles a bound passes.
-    (
-        "sst_block_kinds/src/table/index_block/positions.rt",
-        ". intervals (",
-        2,
-    ),
-    (
-        "sst_block_kinds/src/table/index_block/mod.rt",
+        "sst_block_kinds/src/table/data_block/block_ref.rt",
         "Intervals : : with_table (",
         1,
     ),
-    // A block makes an iterator over itself, and opens its intervals for an iterator, for the table
-    // of its heads (by two calls), and for the offset of a head; a point read opens them once.
     (
-        "sst_block_kinds/src/table/data_block/mod.rt",
+        "sst_block_kinds/src/table/data_block/block_ref.rt",
+        "Decoder : : over (",
+        1,
+    ),
+    (
+        "sst_block_kinds/src/table/data_block/block_ref.rt",
         "Iter : : new (",
         1,
     ),
     (
-        "sst_block_kinds/src/table/data_block/mod.rt",
-        "Decoder : : over (",
+        "sst_block_kinds/src/table/data_block/block_ref.rt",
+        "EntryViews : : new (",
         1,
     ),
+    (
+        "sst_block_kinds/src/table/data_block/block_ref.rt",
+        "Reader : : new (",
+        1,
+    ),
+    (
+        "sst_block_kinds/src/table/data_block/block_ref.rt",
+        ". intervals (",
+        3,
+    ),
+    (
+        "sst_block_kinds/src/table/data_block/block_ref.rt",
+        "{ self . payload }",
+        1,
+    ),
+    (
+        "sst_block_kinds/src/table/data_block/point_read.rt",
+        ". intervals (",
+        2,
+    ),
+    // (for the hash of a key, for the parts of a key, and for a value)
+    (
+        "sst_block_kinds/src/table/data_block/entry_view.rt",
+        "bytes_of (",
+        5,
+    ),
+    (
+        "sst_block_kinds/src/table/data_block/entry_view.rt",
+        ". iter (",
+        1,
+    ),
+    // A block that owns its bytes has the iterators of the block over them.
+    ("sst_block_kinds/src/table/data_block/mod.rt", ". iter (", 1),
     (
         "sst_block_kinds/src/table/data_block/mod.rt",
         "Entries : : new (",
@@ -191,40 +226,14 @@ pub const MADE: [(&str, &str, usize); 40] = [
     ),
     (
         "sst_block_kinds/src/table/data_block/mod.rt",
-        "Reader : : new (",
-        1,
-    ),
-    (
-        "sst_block_kinds/src/table/data_block/mod.rt",
         ". entries (",
         1,
     ),
-    (
-        "sst_block_kinds/src/table/data_block/mod.rt",
-        ". intervals (",
-        4,
-    ),
     ("sst_block_kinds/src/table/data_block/mod.rt", ". data (", 2),
-    (
-        "sst_block_kinds/src/table/data_block/point_read.rt",
-        "Intervals : : with_table (",
-        1,
-    ),
-    (
-        "sst_block_kinds/src/table/data_block/point_read.rt",
-        ". intervals (",
-        1,
-    ),
     (
         "sst_block_kinds/src/table/data_block/entry_ref.rt",
         ". iter (",
         1,
-    ),
-    // (for the hash of a key and for a comparison: its prefix, if there is one, and its own bytes)
-    (
-        "sst_block_kinds/src/table/data_block/entry_ref.rt",
-        "bytes_of (",
-        4,
     ),
     // An iterator that owns its block opens the intervals for each step and each seek, for its first
     // ends, and for the number of entries left.
@@ -239,26 +248,59 @@ pub const MADE: [(&str, &str, usize); 40] = [
         1,
     ),
     ("sst_block_kinds/src/table/data_block/ops.rt", ". iter (", 1),
+    // An index block over borrowed bytes likewise, and for the handle at an index and how many
+    // handles a bound passes.
     (
-        "sst_block_kinds/src/table/index_block/mod.rt",
-        "Iter : : new (",
+        "sst_block_kinds/src/table/index_block/block_ref.rt",
+        "Intervals : : with_table (",
         1,
     ),
     (
-        "sst_block_kinds/src/table/index_block/mod.rt",
+        "sst_block_kinds/src/table/index_block/block_ref.rt",
         "Decoder : : over (",
         1,
     ),
     (
-        "sst_block_kinds/src/table/index_block/mod.rt",
-        ". data (",
+        "sst_block_kinds/src/table/index_block/block_ref.rt",
+        "Iter : : new (",
         1,
     ),
-    // (over handles that are to be written, and for the handles that borrow the block)
+    (
+        "sst_block_kinds/src/table/index_block/block_ref.rt",
+        ". iter (",
+        1,
+    ),
+    (
+        "sst_block_kinds/src/table/index_block/block_ref.rt",
+        ". intervals (",
+        2,
+    ),
+    (
+        "sst_block_kinds/src/table/index_block/block_ref.rt",
+        "{ self . payload }",
+        1,
+    ),
+    (
+        "sst_block_kinds/src/table/index_block/positions.rt",
+        ". intervals (",
+        2,
+    ),
+    (
+        "sst_block_kinds/src/table/index_block/handle_view.rt",
+        "bytes_of (",
+        2,
+    ),
+    (
+        "sst_block_kinds/src/table/index_block/mod.rt",
+        ". data (",
+        2,
+    ),
+    // (over handles that are to be written, of the block over the bytes, and for the handles that
+    // borrow the block)
     (
         "sst_block_kinds/src/table/index_block/mod.rt",
         ". iter (",
-        2,
+        3,
     ),
     (
         "sst_block_kinds/src/table/index_block/ops.rt",

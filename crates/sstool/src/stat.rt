@@ -65,10 +65,11 @@ fn bits_of(filter: &FilterBlock) -> std::result::Result<Bits, Error> {
 
 // The restart interval of a block, by its trailer, which each block that was checked has.
 fn interval_of(block: &Block) -> u8 {
-    if block.data().len() < TRAILER_SIZE {
+    let payload = block.data().as_slice();
+    if payload.len() < TRAILER_SIZE {
         return 0;
     }
-    Trailer::new(block).interval()
+    Trailer::new(payload).interval()
 }
 
 // What the data blocks of a table have.

@@ -1,5 +1,5 @@
 //! The block decoder.
-ghost use Rattle.std.specs.Prelude.{◌≡◌, ℕ, ◌-◌, ◌*◌, ◌<◌};
+ghost use Rattle.std.specs.Prelude.{◌≡◌, ℕ, ◌-◌, ◌*◌, ◌^◌, ◌<◌};
 ghost use Rattle.std.specs.Prelude.{◌≤◌, List, [], ◌∷◌};
 ghost use Rattle.std.specs.Prelude.{length, take, drop, Some, None, IfSome, IfOk};
 ghost use Rattle.std.specs.Prelude.{IsSome, IsSomeAnd};
@@ -29,7 +29,6 @@ use crate::table::block::ends::Ends;
 use crate::table::block::heads::HeadTable;
 use crate::table::block::intervals::Intervals;
 use sst_base::double_ended_peekable::ListIterator;
-use sst_base::table::block::Block;
 use sst_base::{Error, Result, Slice, Steps};
 use std::alloc::Global;
 use std::cmp::Ordering;
@@ -215,32 +214,33 @@ impl<'a, Item: Decodable<Parsed>, Parsed: ParsedItem<Item>> Model for Decoder<'a
 }
 
 impl<'a, Item: Decodable<Parsed>, Parsed: ParsedItem<Item>> Decoder<'a, Item, Parsed> {
-    /// Makes a decoder of a block, whose payload is the encoding of some list of items, ordered or
-    /// not. Takes no memory.
-    pub fn new(block: &'a Block) -> Decoder<'a, Item, Parsed>
-        requires { (hash : List ℕ → ℕ) × (items : List Item) × (r : ℕ) × (b : ℕ)
-            × IsEncoding Item.kind Item.valid hash block.now.payload items r b }
-        ensures payload { result.payload ≡ block.now.payload }
-        ensures interval { result.interval ≡ (trailer_in block.now.payload).interval }
-        ensures window { result.window ≡ whole (items_in Item.kind block.now.payload) }
+    /// Makes a decoder of the payload of a block, which is the encoding of some list of items,
+    /// ordered or not, and shorter than 2^32 bytes. Takes no memory.
+    pub fn new(payload: &'a [u8]) -> Decoder<'a, Item, Parsed>
+        requires fits { length payload.now < 2 ^ 32 }
+        requires encoding { (hash : List ℕ → ℕ) × (items : List Item) × (r : ℕ) × (b : ℕ)
+            × IsEncoding Item.kind Item.valid hash payload.now items r b }
+        ensures payload { result.payload ≡ payload.now }
+        ensures interval { result.interval ≡ (trailer_in payload.now).interval }
+        ensures window { result.window ≡ whole (items_in Item.kind payload.now) }
         ensures counts { IsZero result.steps }
     {
-        Decoder::over(Intervals::new(block))
+        Decoder::over(Intervals::new(payload))
     }
 
-    /// Makes a decoder of a block as [`Decoder::new`] does, with the block's own table of heads.
+    /// Makes a decoder of a payload as [`Decoder::new`] does, with the block's own table of heads.
     /// Its seeks take keys and sequence numbers from the table, and decode no head for a predicate.
-    pub fn with_table(block: &'a Block, table: &'a HeadTable) -> Decoder<'a, Item, Parsed>
+    pub fn with_table(payload: &'a [u8], table: &'a HeadTable) -> Decoder<'a, Item, Parsed>
+        requires fits { length payload.now < 2 ^ 32 }
         requires encoding { (hash : List ℕ → ℕ) × (items : List Item) × (r : ℕ) × (b : ℕ)
-            × IsEncoding Item.kind Item.valid hash block.now.payload items r b }
-        requires table { IsTableOf Item.kind (listed_in Item.kind block.now.payload)
-            table.now }
-        ensures payload { result.payload ≡ block.now.payload }
-        ensures interval { result.interval ≡ (trailer_in block.now.payload).interval }
-        ensures window { result.window ≡ whole (items_in Item.kind block.now.payload) }
+            × IsEncoding Item.kind Item.valid hash payload.now items r b }
+        requires table { IsTableOf Item.kind (listed_in Item.kind payload.now) table.now }
+        ensures payload { result.payload ≡ payload.now }
+        ensures interval { result.interval ≡ (trailer_in payload.now).interval }
+        ensures window { result.window ≡ whole (items_in Item.kind payload.now) }
         ensures counts { IsZero result.steps }
     {
-        Decoder::over(Intervals::with_table(block, Some(table)))
+        Decoder::over(Intervals::with_table(payload, Some(table)))
     }
 
     /// Makes a decoder of all items of opened intervals.

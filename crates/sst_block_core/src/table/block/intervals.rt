@@ -1,5 +1,5 @@
 //! The restart intervals of a block.
-ghost use Rattle.std.specs.Prelude.{◌≡◌, ℕ, ◌+◌, ◌-◌, ◌*◌, ◌<◌, ◌≤◌};
+ghost use Rattle.std.specs.Prelude.{◌≡◌, ℕ, ◌+◌, ◌-◌, ◌*◌, ◌^◌, ◌<◌, ◌≤◌};
 ghost use Rattle.std.specs.Prelude.{List, length, drop, slice_get, Some, min};
 ghost use Rattle.std.specs.Prelude.{IfSome, IfOk, IsOkUnless};
 ghost use Rattle.sst_base.specs.Counted.{IsZero, CountsExactly};
@@ -25,7 +25,6 @@ use crate::table::block::form_reader::FormReader;
 use crate::table::block::heads::HeadTable;
 use crate::table::block::place::Place;
 use crate::table::block::trailer::Trailer;
-use sst_base::table::block::Block;
 use sst_base::table::util::SliceIndexes;
 use sst_base::{Error, Result, Steps};
 use std::alloc::Global;
@@ -78,34 +77,38 @@ impl<'a, Item: Decodable<Parsed>, Parsed: ParsedItem<Item>> Model for Intervals<
 }
 
 impl<'a, Item: Decodable<Parsed>, Parsed: ParsedItem<Item>> Intervals<'a, Item, Parsed> {
-    /// Opens a block, whose payload is the encoding of some list of items, ordered or not. Nothing
-    /// is counted.
-    pub fn new(block: &'a Block) -> Intervals<'a, Item, Parsed>
-        requires { (hash : List ℕ → ℕ) × (items : List Item) × (r : ℕ) × (b : ℕ)
-            × IsEncoding Item.kind Item.valid hash block.now.payload items r b }
-        ensures payload { result.list.payload ≡ block.now.payload }
-        ensures items { result.list.items ≡ items_in Item.kind block.now.payload }
-        ensures interval { result.list.interval ≡ (trailer_in block.now.payload).interval }
+    /// Opens the payload of a block, which is the encoding of some list of items, ordered or not,
+    /// and shorter than 2^32 bytes. Nothing is counted.
+    pub fn new(payload: &'a [u8]) -> Intervals<'a, Item, Parsed>
+        requires fits { length payload.now < 2 ^ 32 }
+        requires encoding { (hash : List ℕ → ℕ) × (items : List Item) × (r : ℕ) × (b : ℕ)
+            × IsEncoding Item.kind Item.valid hash payload.now items r b }
+        ensures payload { result.list.payload ≡ payload.now }
+        ensures items { result.list.items ≡ items_in Item.kind payload.now }
+        ensures interval { result.list.interval ≡ (trailer_in payload.now).interval }
         ensures counts { IsZero result.steps }
     {
-        Intervals::with_table(block, None)
+        Intervals::with_table(payload, None)
     }
 
-    /// Opens a block as [`Intervals::new`] does, with the block's own table of heads, if there is
+    /// Opens a payload as [`Intervals::new`] does, with the block's own table of heads, if there is
     /// one.
     #[inline(always)]
-    pub fn with_table(block: &'a Block, table: Option<&'a HeadTable>) -> Intervals<'a, Item, Parsed>
+    pub fn with_table(
+        payload: &'a [u8],
+        table: Option<&'a HeadTable>,
+    ) -> Intervals<'a, Item, Parsed>
+        requires fits { length payload.now < 2 ^ 32 }
         requires encoding { (hash : List ℕ → ℕ) × (items : List Item) × (r : ℕ) × (b : ℕ)
-            × IsEncoding Item.kind Item.valid hash block.now.payload items r b }
+            × IsEncoding Item.kind Item.valid hash payload.now items r b }
         requires table { IfSome table (λ t. IsTableOf Item.kind
-            (listed_in Item.kind block.now.payload) t.now) }
-        ensures payload { result.list.payload ≡ block.now.payload }
-        ensures items { result.list.items ≡ items_in Item.kind block.now.payload }
-        ensures interval { result.list.interval ≡ (trailer_in block.now.payload).interval }
+            (listed_in Item.kind payload.now) t.now) }
+        ensures payload { result.list.payload ≡ payload.now }
+        ensures items { result.list.items ≡ items_in Item.kind payload.now }
+        ensures interval { result.list.interval ≡ (trailer_in payload.now).interval }
         ensures counts { IsZero result.steps }
     {
-        let payload = block.data().as_slice();
-        let trailer = Trailer::new(block);
+        let trailer = Trailer::new(payload);
         Intervals {
             forms: FormReader::new(payload),
             pointers: Reader::new(

@@ -8,7 +8,6 @@ ghost use Rattle.sst_block_core.specs.Passes.{trailer_by};
 ghost use Rattle.sst_block_core.specs.Trailer.{trailer, trailer_bytes, trailer_in};
 
 use byteorder::{ByteOrder, LittleEndian};
-use sst_base::table::block::Block;
 use sst_base::{Error, Result};
 use std::marker::Model;
 
@@ -82,14 +81,12 @@ pub struct TrailerNumbers {
 }
 
 impl<'a> Trailer<'a> {
-    /// Returns a view of the trailer of a block, whose payload has at least 31 bytes.
-    pub fn new(block: &'a Block) -> Trailer<'a>
-        requires { 31 ≤ length block.now.payload }
-        ensures { result ≡ block.now.payload }
+    /// Returns a view of the trailer of a block's payload, which has at least 31 bytes.
+    pub fn new(payload: &'a [u8]) -> Trailer<'a>
+        requires { 31 ≤ length payload.now }
+        ensures { result ≡ payload.now }
     {
-        Trailer {
-            payload: block.data().as_slice(),
-        }
+        Trailer { payload }
     }
 
     /// Returns the offset of the trailer in the payload.

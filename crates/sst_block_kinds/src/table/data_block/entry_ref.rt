@@ -1,5 +1,5 @@
 //! Entries that borrow their block, and the iterator over them.
-ghost use Rattle.std.specs.Prelude.{◌≡◌, ◌↔◌, ◌++◌, IfOk, IsOkUnless, IsTrue, refl};
+ghost use Rattle.std.specs.Prelude.{◌≡◌, ◌↔◌, IfOk, IsOkUnless, IsTrue, refl};
 ghost use Rattle.std.specs.Ordering.{nat_cmp};
 ghost use Rattle.std.specs.Cmp.Lexicographic.{slice_cmp};
 ghost use Rattle.std.specs.Iterator.{YieldsFirst, YieldsLast, item_count};
@@ -10,12 +10,12 @@ ghost use Rattle.sst_block_kinds.specs.ParsedEntry.{entry_of, IsParsedEntry};
 ghost use Rattle.sst_block_kinds.specs.Tombstones.{is_tombstone};
 
 use crate::table::data_block::DataBlock;
+use crate::table::data_block::entry_view::EntryView;
 use crate::table::data_block::iter::Iter;
 use crate::table::data_block::parsed_item::DataBlockParsedItem;
 use sst_base::double_ended_peekable::ListIterator;
 use sst_base::{AllocResult, BlockHash, Error, InternalValue, Result, SeqNo, Slice, ValueType};
 use sst_block_core::table::block::ParsedItem;
-use sst_block_core::table::block::key_ranges::{bytes_of, compare_parts};
 use std::alloc::Global;
 use std::cmp::Ordering;
 use std::marker::Model;
@@ -51,18 +51,26 @@ impl<'a> EntryRef<'a> {
         EntryRef { payload, item }
     }
 
+    /// Returns the entry over the bytes of the payload.
+    #[inline(always)]
+    pub fn view(&self) -> EntryView<'a>
+        ensures { result ≡ self.now }
+    {
+        EntryView::new(self.payload.as_slice(), self.item)
+    }
+
     /// Returns its sequence number.
     pub fn seqno(&self) -> SeqNo
         ensures { result ≡ self.now.key.seqno }
     {
-        self.item.seqno
+        self.view().seqno()
     }
 
     /// Returns its value type.
     pub fn value_type(&self) -> ValueType
         ensures { result ≡ self.now.key.value_type }
     {
-        self.item.value_type
+        self.view().value_type()
     }
 
     /// Returns whether it is a tombstone of either kind.
@@ -70,26 +78,14 @@ impl<'a> EntryRef<'a> {
         ensures value { result ≡ is_tombstone self.now.key.value_type }
         ensures tombstone { IsTrue result ↔ IsTombstone self.now.key.value_type }
     {
-        self.item.value_type.is_tombstone()
+        self.view().is_tombstone()
     }
 
     /// Compares its user key with a needle, without joining prefix and rest.
     pub fn compare_key(&self, needle: &[u8]) -> Ordering
         ensures { result ≡ slice_cmp nat_cmp self.now.key.user_key needle.now }
     {
-        self.item.compare_key(needle, self.payload.as_slice())
-    }
-
-    // The two parts of its user key: the prefix, empty in a full form, and the key's own bytes.
-    #[inline(always)]
-    fn key_parts(&self) -> (&'a [u8], &'a [u8])
-        ensures { result.0.now ++ result.1.now ≡ self.now.key.user_key }
-    {
-        let rest = bytes_of(self.payload.as_slice(), &self.item.key);
-        match &self.item.prefix {
-            Some(prefix) => (bytes_of(self.payload.as_slice(), prefix), rest),
-            None => (&rest[..0], rest),
-        }
+        self.view().compare_key(needle)
     }
 
     /// Compares its user key with that of another entry, which may be of another block. Nothing is
@@ -97,9 +93,7 @@ impl<'a> EntryRef<'a> {
     pub fn compare_user_key(&self, other: &EntryRef<'_>) -> Ordering
         ensures { result ≡ slice_cmp nat_cmp self.now.key.user_key other.now.key.user_key }
     {
-        let (prefix, rest) = self.key_parts();
-        let (other_prefix, other_rest) = other.key_parts();
-        compare_parts(prefix, rest, other_prefix, other_rest)
+        self.view().compare_user_key(&other.view())
     }
 
     /// Compares it with another entry, which may be of another block: by user key rising, then by
@@ -107,8 +101,7 @@ impl<'a> EntryRef<'a> {
     pub fn compare(&self, other: &EntryRef<'_>) -> Ordering
         ensures { result ≡ item_cmp entries self.now other.now }
     {
-        self.compare_user_key(other)
-            .then(other.item.seqno.cmp(&self.item.seqno))
+        self.view().compare(&other.view())
     }
 
     /// Returns the 64-bit hash of its user key. A key is joined only where it is prefix-truncated
@@ -121,16 +114,7 @@ impl<'a> EntryRef<'a> {
         ensures ok { IfOk result (λ hash. hash ≡ H.hash64 self.now.key.user_key) }
         ensures memory { IsOkUnless result Error.Memory }
     {
-        let rest = bytes_of(self.payload.as_slice(), &self.item.key);
-        let Some(prefix) = &self.item.prefix else {
-            return Ok(H::hash64(rest));
-        };
-        let prefix = bytes_of(self.payload.as_slice(), prefix);
-        if let Some(hash) = H::hash64_behind(H::hash64(prefix), rest) {
-            return Ok(hash);
-        }
-        let entry = self.materialize(alloc)?;
-        Ok(H::hash64(entry.key().user_key().as_slice()))
+        self.view().hash_key::<H>(alloc)
     }
 
     /// Makes the entry. Only a prefix-truncated key is joined and copied.

@@ -12,19 +12,19 @@ ghost use Rattle.sst_block_core.specs.Entries.{entries, data_payload};
 ghost use Rattle.sst_block_core.specs.Pointers.{head_count};
 ghost use Rattle.sst_block_core.specs.Buckets.{bucket_count, buckets, stored_count};
 ghost use Rattle.sst_block_core.specs.Payload.{IsBlock};
-ghost use Rattle.sst_block_core.specs.Stages.{HasIndexes};
-ghost use Rattle.sst_block_core.specs.Trailer.{trailer_in};
 ghost use Rattle.sst_block_core.specs.Heads.{IsTableOf, listed_in};
 ghost use Rattle.sst_block_core.specs.Encoders.{IsRefusal, IsBlockPayload};
 ghost use Rattle.sst_block_kinds.specs.PointReads.{read_least, read_most};
 ghost use Rattle.sst_block_core.specs.Window.{whole, first_match};
-ghost use Rattle.sst_block_kinds.specs.DataBlock.{block_of, data_block_of};
+ghost use Rattle.sst_block_kinds.specs.DataBlock.{block_of, data_block_of, ref_of_block};
 ghost use Rattle.sst_block_kinds.specs.Disorder.{disorder_from};
 ghost use Rattle.sst_block_kinds.specs.ParsedEntry.{entry_of, IsParsedEntry};
 
+pub mod block_ref;
 mod checking;
 mod decoding;
 pub mod entry_ref;
+pub mod entry_view;
 pub mod into_entries;
 pub mod iter;
 pub mod ops;
@@ -33,7 +33,9 @@ mod point_read;
 
 use crate::laws::data_check_is_by_stages;
 pub use crate::table::answer::Answer;
+pub use block_ref::DataBlockRef;
 pub use entry_ref::{Entries, EntryRef};
+pub use entry_view::{EntryView, EntryViews};
 pub use into_entries::IntoEntries;
 pub use iter::Iter;
 pub use ops::{Op, walk};
@@ -44,7 +46,7 @@ use sst_base::{
 };
 use sst_block_core::table::block::encoder::encode_all;
 use sst_block_core::table::block::heads::{HeadTable, clone_table};
-use sst_block_core::table::block::{Decoder, ParsedItem, Trailer, hash_index};
+use sst_block_core::table::block::{ParsedItem, hash_index};
 use std::alloc::Global;
 use std::fmt;
 use std::marker::{Model, PhantomData};
@@ -213,7 +215,7 @@ impl<H: BlockHash> DataBlock<H> {
         ensures ok { IfOk result (λ b. b ≡ self) }
         ensures err { IfErr result (λ e. (e.0 ≡ Error.Memory) × (e.1 ≡ self)) }
     {
-        let made = self.intervals().make_table(alloc);
+        let made = self.by_ref().make_heads(alloc);
         match made {
             Ok(heads) => Ok(DataBlock {
                 hash: PhantomData,
@@ -263,7 +265,7 @@ impl<H: BlockHash> DataBlock<H> {
             (λ e. e ≡ Error.Memory) }
     {
         let block = DataBlock::<H>::check_once(alloc, block)?;
-        let heads = block.intervals().make_table(alloc)?;
+        let heads = block.by_ref().make_heads(alloc)?;
         Ok(DataBlock {
             hash: PhantomData,
             inner: block.inner,
@@ -324,18 +326,14 @@ impl<H: BlockHash> DataBlock<H> {
         self.inner
     }
 
-    // The block, with what its trailer says.
-    fn opened(&self) -> &Block
-        ensures payload { result.now.payload ≡ self.now.payload }
-        ensures trailer { 31 ≤ length self.now.payload }
-        ensures count { (trailer_in self.now.payload).item_count ≡ length self.now.items }
-        ensures some { 1 ≤ length self.now.items }
-        ensures indexes { HasIndexes entries H.hash64 self.now.payload self.now.items
-            self.now.interval self.now.stored }
+    /// Returns the block over its payload, which is borrowed, with its table of heads, if it has
+    /// one. Takes no memory.
+    #[inline(always)]
+    pub fn by_ref(&self) -> DataBlockRef<'_, H>
+        ensures { result ≡ ref_of_block self.now }
     {
-        // The proof needs the bound on the payload's length.
-        let _fits = self.inner.size();
-        &self.inner
+        let payload = self.inner.data().as_slice();
+        DataBlockRef::over(payload, self.heads.as_ref())
     }
 
     /// Returns the number of entries, which is at least one.
@@ -343,14 +341,14 @@ impl<H: BlockHash> DataBlock<H> {
         ensures count { result ≡ length self.now.items }
         ensures some { 1 ≤ result }
     {
-        Trailer::new(self.opened()).item_count()
+        self.by_ref().len()
     }
 
     /// Returns the number of heads, each of which has a pointer in the binary index.
     pub fn binary_index_len(&self) -> u32
         ensures { result ≡ head_count self.now.interval (length self.now.items) }
     {
-        Trailer::new(self.opened()).heads()
+        self.by_ref().binary_index_len()
     }
 
     /// Returns the offset at which the form of a head begins, by the head's pointer in the binary
@@ -362,15 +360,14 @@ impl<H: BlockHash> DataBlock<H> {
             (index * self.now.interval) }
         ensures inside { index * self.now.interval < length self.now.items }
     {
-        self.intervals().head_offset(index)
+        self.by_ref().head_offset(index)
     }
 
     /// Returns the number of buckets in the hash index, or `None` if none is stored.
     pub fn hash_bucket_count(&self) -> Option<usize>
         ensures { result ≡ (if self.now.stored == 0 then None else Some self.now.stored) }
     {
-        let stored = Trailer::new(self.opened()).hash_len() as usize;
-        if stored == 0 { None } else { Some(stored) }
+        self.by_ref().hash_bucket_count()
     }
 
     /// Returns a view of the hash index, which has at least one bucket, or `None` if none is
@@ -381,14 +378,7 @@ impl<H: BlockHash> DataBlock<H> {
             else Some (buckets entries H.hash64 self.now.interval self.now.items self.now.stored)) }
         ensures some { IfSome result (λ reader. 0 < length reader) }
     {
-        let inner = self.opened();
-        let trailer = Trailer::new(inner);
-        let stored = trailer.hash_len();
-        if stored == 0 {
-            return None;
-        }
-        let payload = inner.data().as_slice();
-        Some(hash_index::Reader::new(payload, trailer.hash_offset(), stored))
+        self.by_ref().get_hash_index_reader()
     }
 
     /// Returns an iterator over the entries, as ranges of the payload. Takes no memory.
@@ -399,7 +389,7 @@ impl<H: BlockHash> DataBlock<H> {
         ensures plain { map plain self.now.items ≡ self.now.items }
         ensures counts { IsZero result.steps }
     {
-        Iter::new(Decoder::over(self.intervals()))
+        self.by_ref().iter()
     }
 
     /// Returns an iterator over the entries, each of which borrows the block. Takes no memory.

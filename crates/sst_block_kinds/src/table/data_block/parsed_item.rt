@@ -1,4 +1,7 @@
 //! Entries by their ranges of a payload.
+ghost use Rattle.std.specs.Prelude.{◌≡◌, ℕ, ◌+◌, ◌≤◌, List, length, take, drop};
+ghost use Rattle.sst_block_kinds.specs.ParsedEntry.{entry_of, IsParsedEntry};
+
 use sst_base::table::util::SliceIndexes;
 use sst_base::{InternalKey, InternalValue, Result, SeqNo, Slice, ValueType};
 use sst_block_core::table::block::ParsedItem;
@@ -20,6 +23,21 @@ pub struct DataBlockParsedItem {
     pub key: SliceIndexes,
     /// The value. `None` for a tombstone.
     pub value: Option<SliceIndexes>,
+}
+
+impl DataBlockParsedItem {
+    /// Returns where its value is in the payload in which it was found: the offset, and the length,
+    /// both in bytes. The length of a tombstone's value is 0.
+    pub fn value_range(&self) -> (usize, usize)
+        ensures { (payload : List ℕ) → IsParsedEntry payload self.now
+            → (result.0 + result.1 ≤ length payload)
+            × (take result.1 (drop result.0 payload) ≡ (entry_of payload self.now).value) }
+    {
+        match &self.value {
+            Some(value) => (value.0, value.1.saturating_sub(value.0)),
+            None => (0, 0),
+        }
+    }
 }
 
 impl ParsedItem<InternalValue> for DataBlockParsedItem {

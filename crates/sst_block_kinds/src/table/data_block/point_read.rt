@@ -5,33 +5,71 @@ ghost use Rattle.sst_base.specs.Counted.{found_item, IsZero, CountsBetween};
 ghost use Rattle.sst_base.specs.Entry.{plain};
 ghost use Rattle.sst_block_core.specs.Kind.{IsOrdered};
 ghost use Rattle.sst_block_core.specs.Entries.{entries};
-ghost use Rattle.sst_block_kinds.specs.PointReads.{lookup, read_least, read_most};
+ghost use Rattle.sst_block_kinds.specs.PointReads.{read_least, read_most, ref_lookup};
+ghost use Rattle.sst_block_kinds.specs.PointReads.{ref_read_least, ref_read_most};
 ghost use Rattle.sst_block_kinds.specs.ParsedEntry.{entry_of, IsParsedEntry};
 ghost use Rattle.sst_block_core.specs.Pointers.{head_count};
 ghost use Rattle.sst_block_core.specs.Window.{first_match};
 
 use crate::table::data_block::DataBlock;
+use crate::table::data_block::block_ref::DataBlockRef;
 use crate::table::data_block::parsed_item::DataBlockParsedItem;
 use sst_base::{BlockHash, InternalValue, SeqNo, Steps};
 use sst_block_core::table::block::hash_index::Lookup;
 use sst_block_core::table::block::intervals::Intervals;
 
-impl<H: BlockHash> DataBlock<H> {
+impl<'a, H: BlockHash> DataBlockRef<'a, H> {
     // What the hash index says of a key, if there is one.
     #[inline(always)]
     fn lookup(&self, needle: &[u8]) -> Lookup
-        ensures value { result ≡ lookup H.hash64 self.now needle.now }
+        ensures value { result ≡ ref_lookup H.hash64 self.now needle.now }
         ensures few_heads { 0 < self.now.stored
             → head_count self.now.interval (length self.now.items) ≤ 254 }
     {
         // The proof needs how many heads a block with a hash index has.
-        let _opened = self.opened();
+        let _trailer = self.trailer();
         match self.get_hash_index_reader() {
             Some(index) => index.lookup(needle),
             None => Lookup::Anywhere,
         }
     }
 
+    /// Finds the first entry with a key whose sequence number is strictly below `seqno`, and
+    /// returns where its parts are in the payload. Takes no memory.
+    ///
+    /// What is examined is added to `steps`. Where the hash index says that the key is not in the
+    /// block, that is nothing. Where it gives a restart interval, that is at least one entry and at
+    /// most the entries of the interval. Else it is at least one head and at most as many heads as
+    /// their number has binary digits, and at most the entries of one interval and one more.
+    #[inline(always)]
+    pub fn find(
+        &self,
+        needle: &[u8],
+        seqno: SeqNo,
+        steps: &mut Steps,
+    ) -> Option<DataBlockParsedItem>
+        ensures item { option_map (entry_of self.now.payload) result
+            ≡ first_match entries needle.now seqno self.now.items }
+        ensures found { IfSome result (IsParsedEntry self.now.payload) }
+        ensures counts { CountsBetween steps.old steps.new
+            (ref_read_least H.hash64 self.now needle.now)
+            (ref_read_most H.hash64 self.now needle.now) }
+        ensures counted { steps.old.entries + found_item result ≤ steps.new.entries }
+    {
+        let mut intervals = self.intervals();
+        let found = match self.lookup(needle) {
+            Lookup::Nowhere => None,
+            Lookup::Interval(number) => {
+                intervals.first_version_in(usize::from(number), needle, seqno)
+            }
+            Lookup::Anywhere => intervals.first_version(needle, seqno),
+        };
+        steps.add(intervals.steps());
+        found
+    }
+}
+
+impl<H: BlockHash> DataBlock<H> {
     /// The block's restart intervals, of which nothing is counted yet.
     #[inline(always)]
     pub(crate) fn intervals(&self) -> Intervals<'_, InternalValue, DataBlockParsedItem>
@@ -43,9 +81,7 @@ impl<H: BlockHash> DataBlock<H> {
         ensures plain { map plain self.now.items ≡ self.now.items }
         ensures counts { IsZero result.steps }
     {
-        // The proof needs the bound on the payload's length.
-        let _fits = self.inner.size();
-        Intervals::with_table(&self.inner, self.heads.as_ref())
+        self.by_ref().intervals()
     }
 
     /// Finds the first entry with a key whose sequence number is strictly below `seqno`. What is
@@ -64,15 +100,6 @@ impl<H: BlockHash> DataBlock<H> {
             (read_least H.hash64 self.now needle.now) (read_most H.hash64 self.now needle.now) }
         ensures counted { steps.old.entries + found_item result ≤ steps.new.entries }
     {
-        let mut intervals = self.intervals();
-        let found = match self.lookup(needle) {
-            Lookup::Nowhere => None,
-            Lookup::Interval(number) => {
-                intervals.first_version_in(usize::from(number), needle, seqno)
-            }
-            Lookup::Anywhere => intervals.first_version(needle, seqno),
-        };
-        steps.add(intervals.steps());
-        found
+        self.by_ref().find(needle, seqno, steps)
     }
 }

@@ -1,12 +1,17 @@
 //! The check of an index block, and handles as items that are checked.
-ghost use Rattle.std.specs.Prelude.{◌≡◌, ℕ, List, length, OnOk, IfOk, IfErr, MatchResult, Ok, Err};
+ghost use Rattle.std.specs.Prelude.{◌≡◌, ◌≢◌, ◌↔◌, ◌^◌, ◌<◌, ◌≤◌, ℕ, List, length};
+ghost use Rattle.std.specs.Prelude.{OnOk, IfOk, IfErr, IsErrOf, MatchResult, Ok, Err};
+ghost use Rattle.sst_base.specs.Bytes.{IsBytes};
 ghost use Rattle.sst_block_kinds.specs.Checks.{index_check};
 ghost use Rattle.sst_block_kinds.specs.Handles.{Handle, handles, IsIndexBlock};
 ghost use Rattle.sst_block_core.specs.Stages.{items_in};
 ghost use Rattle.sst_block_core.specs.Trailer.{trailer_in};
+ghost use Rattle.sst_block_kinds.specs.IndexBlock.{index_ref_of};
 
+use crate::laws::index_check_is_by_stages;
 use crate::table::index_block::IndexBlock;
 use crate::table::index_block::block_handle::KeyedBlockHandle;
+use crate::table::index_block::block_ref::IndexBlockRef;
 use crate::table::index_block::decoding::fields_from;
 use crate::table::index_block::parsed_item::IndexBlockParsedItem;
 use sst_base::table::block::Block;
@@ -67,6 +72,75 @@ impl Checkable<IndexBlockParsedItem> for KeyedBlockHandle {
     }
 }
 
+impl<'a> IndexBlockRef<'a> {
+    /// Reads any bytes as an index block, if they are the encoding of some ordered, non-empty list
+    /// of handles at an interval from 1 to 255, each of whose blocks ends below 2^64. Makes no table
+    /// of the heads. Takes no memory.
+    ///
+    /// # Errors
+    ///
+    /// `Error::TooLong` if there are 2^32 bytes or more, and only then. Else those of
+    /// [`IndexBlock::check`] other than `Error::Memory`.
+    pub fn check(payload: &'a [u8]) -> Result<IndexBlockRef<'a>>
+        ensures checked { IfOk result (λ b. index_check payload.now ≡ Ok b.items) }
+        ensures parts { IfOk result (λ b. b ≡ index_ref_of payload.now) }
+        ensures encoded { IfOk result (λ b. IsIndexBlock payload.now b.items b.interval) }
+        ensures too_long { IsErrOf result Error.TooLong ↔ (2 ^ 32 ≤ length payload.now) }
+        ensures refused { IfErr result
+            (λ e. e ≢ Error.TooLong → index_check payload.now ≡ Err e) }
+        ensures not_io { IfErr result (λ e. e ≢ Error.Io) }
+
+        // An encoding is accepted.
+        ensures accepts { (items : List Handle) (r : ℕ) → length payload.now < 2 ^ 32
+            → IsIndexBlock payload.now items r
+            → MatchResult result (λ found. found.items ≡ items) (λ e. ⊥) }
+    {
+        index_check_is_by_stages();
+        if u32::try_from(payload.len()).is_err() {
+            return Err(Error::TooLong);
+        }
+        IndexBlockRef::count_checked(payload)?;
+        Ok(IndexBlockRef::new(payload))
+    }
+
+    // Checks a payload, and returns the number of its handles.
+    pub(super) fn count_checked(payload: &[u8]) -> Result<usize>
+        requires { length payload.now < 2 ^ 32 }
+        ensures checked { OnOk result
+            (index_check payload.now ≡ Ok (items_in handles payload.now)) }
+        ensures count { IfOk result (λ n. n ≡ length (items_in handles payload.now)) }
+        ensures block { OnOk result
+            (IsIndexBlock payload.now (items_in handles payload.now)
+            (trailer_in payload.now).interval) }
+        ensures refused { IfErr result (λ e. index_check payload.now ≡ Err e) }
+
+        // An encoding is accepted.
+        ensures accepts { (items : List Handle) (r : ℕ) → IsIndexBlock payload.now items r
+            → MatchResult result (λ n. n ≡ length items) (λ e. e ≡ Error.Memory) }
+    {
+        IndexBlockRef::check_stages(payload)
+    }
+
+    // The check, stage after stage.
+    fn check_stages(payload: &[u8]) -> Result<usize>
+        ensures checked { OnOk result
+            (index_check payload.now ≡ Ok (items_in handles payload.now)) }
+        ensures count { IfOk result (λ n. n ≡ length (items_in handles payload.now)) }
+        ensures block { OnOk result
+            (IsIndexBlock payload.now (items_in handles payload.now)
+            (trailer_in payload.now).interval) }
+        ensures bytes { IsBytes payload.now }
+        ensures refused { IfErr result (λ e. index_check payload.now ≡ Err e) }
+    {
+        let numbers = parts_of(payload)?;
+        if numbers.hash_len != 0 {
+            return Err(Error::BadTrailer);
+        }
+        check_items::<KeyedBlockHandle, IndexBlockParsedItem>(payload, &numbers)?;
+        Ok(numbers.item_count as usize)
+    }
+}
+
 impl IndexBlock {
     /// Checks a block of any bytes as [`IndexBlock::check`] does, but only borrows it. Returns the
     /// number of its handles. Takes no memory. A block that passes meets the precondition of
@@ -88,27 +162,6 @@ impl IndexBlock {
         ensures accepts { (items : List Handle) (r : ℕ) → IsIndexBlock block.now.payload items r
             → MatchResult result (λ n. n ≡ length items) (λ e. e ≡ Error.Memory) }
     {
-        // The proof needs the bound on the payload's length, and that its cells are bytes.
-        let _fits = block.size();
-        IndexBlock::check_stages(block)
-    }
-
-    // The check, stage after stage.
-    fn check_stages(block: &Block) -> Result<usize>
-        ensures checked { OnOk result
-            (index_check block.now.payload ≡ Ok (items_in handles block.now.payload)) }
-        ensures count { IfOk result (λ n. n ≡ length (items_in handles block.now.payload)) }
-        ensures block { OnOk result
-            (IsIndexBlock block.now.payload (items_in handles block.now.payload)
-            (trailer_in block.now.payload).interval) }
-        ensures refused { IfErr result (λ e. index_check block.now.payload ≡ Err e) }
-    {
-        let numbers = parts_of(block)?;
-        if numbers.hash_len != 0 {
-            return Err(Error::BadTrailer);
-        }
-        let payload = block.data().as_slice();
-        check_items::<KeyedBlockHandle, IndexBlockParsedItem>(payload, &numbers)?;
-        Ok(numbers.item_count as usize)
+        IndexBlockRef::count_checked(block.data().as_slice())
     }
 }

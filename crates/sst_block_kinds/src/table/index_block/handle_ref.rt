@@ -8,6 +8,7 @@ ghost use Rattle.sst_block_kinds.specs.ParsedHandle.{handle_of, IsParsedHandle};
 
 use crate::table::index_block::IndexBlock;
 use crate::table::index_block::block_handle::{BlockHandle, BlockOffset, KeyedBlockHandle};
+use crate::table::index_block::handle_view::HandleView;
 use crate::table::index_block::iter::Iter;
 use crate::table::index_block::parsed_item::IndexBlockParsedItem;
 use sst_base::double_ended_peekable::ListIterator;
@@ -45,39 +46,47 @@ impl<'a> HandleRef<'a> {
         HandleRef { payload, item }
     }
 
+    /// Returns the handle over the bytes of the payload.
+    #[inline(always)]
+    pub fn view(&self) -> HandleView<'a>
+        ensures { result ≡ self.now }
+    {
+        HandleView::new(self.payload.as_slice(), self.item)
+    }
+
     /// Returns the offset of the block's frame.
     pub fn offset(&self) -> BlockOffset
         ensures { result.0 ≡ self.now.offset }
     {
-        self.item.offset
+        self.view().offset()
     }
 
     /// Returns the length of the block's frame in bytes.
     pub fn size(&self) -> u32
         ensures { result ≡ self.now.size }
     {
-        self.item.size
+        self.view().size()
     }
 
     /// Returns the sequence number of the block's last entry.
     pub fn seqno(&self) -> SeqNo
         ensures { result ≡ self.now.seqno }
     {
-        self.item.seqno
+        self.view().seqno()
     }
 
     /// Returns the handle without its end key.
     pub fn handle(&self) -> BlockHandle
         ensures { result ≡ record { offset = self.now.offset; size = self.now.size } }
     {
-        BlockHandle::new(self.item.offset, self.item.size)
+        self.view().handle()
     }
 
     /// Compares its end key with a needle, without joining prefix and rest.
     pub fn compare_key(&self, needle: &[u8]) -> Ordering
         ensures { result ≡ slice_cmp nat_cmp self.now.end_key needle.now }
     {
-        self.item.compare_key(needle, self.payload.as_slice())
+        self.view().compare_key(needle)
     }
 
     /// Makes the handle. Only a prefix-truncated end key is joined and copied.

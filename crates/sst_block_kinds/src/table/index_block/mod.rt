@@ -8,18 +8,19 @@ ghost use Rattle.sst_block_kinds.specs.Checks.{index_check};
 ghost use Rattle.sst_block_core.specs.Encoders.{IsRefusal, IsBlockPayload};
 ghost use Rattle.sst_block_kinds.specs.Handles.{Handle, EndFits, handles, index_payload};
 ghost use Rattle.sst_block_kinds.specs.Handles.{IsIndexBlock};
-ghost use Rattle.sst_block_kinds.specs.IndexBlock.{block_of, index_block_of};
+ghost use Rattle.sst_block_kinds.specs.IndexBlock.{block_of, index_block_of, ref_of_block};
 ghost use Rattle.sst_block_kinds.specs.ParsedHandle.{handle_of, IsParsedHandle};
 ghost use Rattle.sst_block_core.specs.Kind.{IsOrdered};
 ghost use Rattle.sst_block_core.specs.Heads.{IsTableOf, listed_in};
-ghost use Rattle.sst_block_core.specs.Trailer.{trailer_in};
 ghost use Rattle.sst_block_core.specs.Window.{whole};
 
 pub mod block_handle;
+pub mod block_ref;
 mod checking;
 mod decoding;
 mod encoding;
 pub mod handle_ref;
+pub mod handle_view;
 pub mod iter;
 pub mod ops;
 pub mod parsed_item;
@@ -28,7 +29,9 @@ mod positions;
 use crate::laws::index_check_is_by_stages;
 pub use crate::table::answer::Answer;
 pub use block_handle::{BlockHandle, KeyedBlockHandle};
+pub use block_ref::IndexBlockRef;
 pub use handle_ref::{HandleRef, Handles};
+pub use handle_view::{HandleView, HandleViews};
 pub use iter::Iter;
 pub use ops::{IndexOp, walk};
 pub use parsed_item::IndexBlockParsedItem;
@@ -36,8 +39,6 @@ use sst_base::table::block::Block;
 use sst_base::{AllocResult, Error, HashRatio, Poly31, Result, Slice};
 use sst_block_core::table::block::encoder::encode_all;
 use sst_block_core::table::block::heads::{HeadTable, clone_table};
-use sst_block_core::table::block::intervals::Intervals;
-use sst_block_core::table::block::{Decoder, Trailer};
 use std::alloc::Global;
 use std::fmt;
 use std::marker::Model;
@@ -218,7 +219,7 @@ impl IndexBlock {
         ensures ok { IfOk result (λ b. b ≡ self) }
         ensures err { IfErr result (λ e. (e.0 ≡ Error.Memory) × (e.1 ≡ self)) }
     {
-        let made = self.intervals().make_table(alloc);
+        let made = self.by_ref().make_heads(alloc);
         match made {
             Ok(heads) => Ok(IndexBlock {
                 inner: self.inner,
@@ -235,20 +236,6 @@ impl IndexBlock {
             (λ t. IsTableOf handles (listed_in handles self.now.payload) t.now) }
     {
         self.heads.as_ref()
-    }
-
-    // The block's restart intervals, of which nothing is counted yet.
-    #[inline(always)]
-    fn intervals(&self) -> Intervals<'_, KeyedBlockHandle, IndexBlockParsedItem>
-        ensures payload { result.list.payload ≡ self.now.payload }
-        ensures items { result.list.items ≡ self.now.items }
-        ensures interval { result.list.interval ≡ self.now.interval }
-        ensures ordered { IsOrdered handles self.now.items }
-        ensures counts { IsZero result.steps }
-    {
-        // The proof needs the bound on the payload's length.
-        let _fits = self.inner.size();
-        Intervals::with_table(&self.inner, self.heads.as_ref())
     }
 
     /// Wraps a block of any bytes, if its payload is the encoding of some ordered, non-empty list
@@ -278,7 +265,7 @@ impl IndexBlock {
             → MatchResult result (λ found. found.items ≡ items) (λ e. e ≡ Error.Memory) }
     {
         let block = IndexBlock::check_once(block)?;
-        let heads = block.intervals().make_table(alloc)?;
+        let heads = block.by_ref().make_heads(alloc)?;
         Ok(IndexBlock {
             inner: block.inner,
             heads: Some(heads),
@@ -332,16 +319,14 @@ impl IndexBlock {
         self.inner
     }
 
-    // The block, with what its trailer says.
-    fn opened(&self) -> &Block
-        ensures payload { result.now.payload ≡ self.now.payload }
-        ensures trailer { 31 ≤ length self.now.payload }
-        ensures count { (trailer_in self.now.payload).item_count ≡ length self.now.items }
-        ensures some { 1 ≤ length self.now.items }
+    /// Returns the block over its payload, which is borrowed, with its table of heads, if it has
+    /// one. Takes no memory.
+    #[inline(always)]
+    pub fn by_ref(&self) -> IndexBlockRef<'_>
+        ensures { result ≡ ref_of_block self.now }
     {
-        // The proof needs the bound on the payload's length.
-        let _fits = self.inner.size();
-        &self.inner
+        let payload = self.inner.data().as_slice();
+        IndexBlockRef::over(payload, self.heads.as_ref())
     }
 
     /// Returns the number of handles, which is at least one.
@@ -349,7 +334,7 @@ impl IndexBlock {
         ensures count { result ≡ length self.now.items }
         ensures some { 1 ≤ result }
     {
-        Trailer::new(self.opened()).item_count()
+        self.by_ref().len()
     }
 
     /// Returns an iterator over the handles, as ranges of the payload. Takes no memory.
@@ -359,7 +344,7 @@ impl IndexBlock {
         ensures window { result.window ≡ whole self.now.items }
         ensures counts { IsZero result.steps }
     {
-        Iter::new(Decoder::over(self.intervals()))
+        self.by_ref().iter()
     }
 
     /// Returns an iterator over the handles, each of which borrows the block. Takes no memory.

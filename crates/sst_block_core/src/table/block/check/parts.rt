@@ -10,7 +10,6 @@ use crate::table::block::hash_index::MAX_POINTERS_FOR_HASH_INDEX;
 use crate::table::block::trailer::{
     ITEM_COUNT_AT, TRAILER_SIZE, TRAILER_START_MARKER, TRUNCATION_FLAG_AT, Trailer, TrailerNumbers,
 };
-use sst_base::table::block::Block;
 use sst_base::{Error, Result};
 
 // Returns whether these are the nine fixed bytes of a trailer.
@@ -58,27 +57,34 @@ fn has_parts(payload: &[u8], t: &TrailerNumbers) -> bool
     heads <= MAX_POINTERS_FOR_HASH_INDEX as u64 && u64::from(t.hash_offset) == end
 }
 
-/// Returns the numbers of a block's trailer, if they fit each other and the payload.
+/// Returns the numbers of the trailer of a block's payload, if they fit each other and the payload.
 ///
 /// # Errors
 ///
 /// `Error::Truncated` if the payload has fewer than 31 bytes; `Error::BadTrailer` if the numbers do
 /// not fit.
-pub fn parts_of(block: &Block) -> Result<TrailerNumbers>
-    ensures trailer { IfOk result (λ t. trailer_by t ≡ trailer_in block.now.payload) }
-    ensures long { OnOk result (HasTrailer block.now.payload) }
-    ensures parts { OnOk result (HasParts (trailer_in block.now.payload) block.now.payload) }
-    ensures bytes { IsBytes block.now.payload }
-    ensures refused { IfErr result
-        (IsPartsRefusal (trailer_in block.now.payload) block.now.payload) }
+pub fn parts_of(payload: &[u8]) -> Result<TrailerNumbers>
+    ensures trailer { IfOk result (λ t. trailer_by t ≡ trailer_in payload.now) }
+    ensures long { OnOk result (HasTrailer payload.now) }
+    ensures parts { OnOk result (HasParts (trailer_in payload.now) payload.now) }
+    ensures bytes { IsBytes payload.now }
+    ensures refused { IfErr result (IsPartsRefusal (trailer_in payload.now) payload.now) }
 {
-    let payload = block.data().as_slice();
+    note_bytes(payload);
     if payload.len() < TRAILER_SIZE {
         return Err(Error::Truncated);
     }
-    let numbers = Trailer::new(block).numbers();
+    let numbers = Trailer::new(payload).numbers();
     if !has_parts(payload, &numbers) {
         return Err(Error::BadTrailer);
     }
     Ok(numbers)
+}
+
+// States for a proof that the cells of a slice are bytes. Does nothing.
+#[inline(always)]
+fn note_bytes(bytes: &[u8])
+    ensures { IsBytes bytes.now }
+{
+    let _ = bytes;
 }
