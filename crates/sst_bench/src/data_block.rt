@@ -199,8 +199,11 @@ fn add_entries(so_far: u64, block: &DataBlock<Poly31>, alloc: Global) -> Option<
     let mut sum = so_far;
     let mut iter = block.iter();
     while let Some(item) = iter.next() {
-        let entry = item.materialize(alloc, payload).ok()?;
-        sum = sum.wrapping_add(entry_sum(&entry));
+        let made = item.materialize(alloc, payload);
+        match &made {
+            Ok(entry) => sum = sum.wrapping_add(entry_sum(entry)),
+            Err(_) => return None,
+        }
     }
     Some(sum)
 }

@@ -95,8 +95,11 @@ fn add_scanned(
     let mut scan = table.scan();
     let mut sum = so_far;
     for _ in 0..count {
-        let entry = scan.next_entry(alloc).ok()??;
-        sum = sum.wrapping_add(entry_sum(&entry));
+        let step = scan.next_entry(alloc);
+        match &step {
+            Ok(Some(entry)) => sum = sum.wrapping_add(entry_sum(entry)),
+            _ => return None,
+        }
     }
     Some(sum)
 }
@@ -142,8 +145,11 @@ fn add_trusted(
     let mut scan = table.scan();
     let mut sum = so_far;
     for _ in 0..count {
-        let entry = scan.next_entry(alloc).ok()??;
-        sum = sum.wrapping_add(entry_sum(&entry));
+        let step = scan.next_entry(alloc);
+        match &step {
+            Ok(Some(entry)) => sum = sum.wrapping_add(entry_sum(entry)),
+            _ => return None,
+        }
     }
     Some(sum)
 }

@@ -238,30 +238,31 @@ module _ (c : Hashes) (r : KeyRange) (hs : List Handle) where
       ap (λ xs. map Ok front ++ (blocks_read c all r (between hs lo hi) ++ map Ok xs)) none ∙ ap (λ ks. map Ok front ++ (blocks_read c all r ks ++ [])) (none_between hs lo hi less)
       ∙ append-nil (map Ok front)
 
-  -- a step from the front that takes from the back's block
-  pub none_first : (o : Option (List ℕ)) (first : List ℕ → List Read) (front front' back back' : List Entry) (lo hi : ℕ) (P R : Type 0) (res : Result (Option Entry) Error) → front ≡ [] → front' ≡ [] → hi ≤ lo
-      → IfSome o (λ all. Left c r hs all front lo hi back ≡ first all) → IfOk res (λ x. MatchOption x ((back ≡ []) × (back' ≡ [])) (λ y. back ≡ y ∷ back')) → IsOkUnless res Memory
-      → IfSome o (λ all. GivesFirst P R (first all) (Left c r hs all front' lo hi back') res)
-  none_first None first front front' back back' lo hi P R res none none' less known given memory = tt
-  none_first (Some all) first front front' back back' lo hi P R (Ok None) none none' less known given memory =
-      (sym known ∙ bare all front back lo hi none less ∙ ap (map Ok) given.0, bare all front' back' lo hi none' less ∙ ap (map Ok) given.1)
-  none_first (Some all) first front front' back back' lo hi P R (Ok (Some x)) none none' less known given memory =
-      sym known ∙ bare all front back lo hi none less ∙ ap (map Ok) given ∙ ap (λ xs. Ok x ∷ xs) (sym (bare all front' back' lo hi none' less))
-  none_first (Some all) first front front' back back' lo hi P R (Err e) none none' less known given memory = λ other. absurd (other memory)
+  -- the ends change their blocks where one end has no entry and none is left between
+  pub front_turned : (o : Option (List ℕ)) (first : List ℕ → List Read) (front back : List Entry) (lo hi : ℕ) → front ≡ [] → hi ≤ lo
+      → IfSome o (λ all. Left c r hs all front lo hi back ≡ first all) → IfSome o (λ all. Left c r hs all back lo hi front ≡ first all)
+  front_turned None first front back lo hi none less known = tt
+  front_turned (Some all) first front back lo hi none less known = bare_back all back front lo hi none less ∙ sym (bare all front back lo hi none less) ∙ known
 
-  -- a step from the back that takes from the front's block
-  pub none_last : (o : Option (List ℕ)) (first : List ℕ → List Read) (front front' back back' : List Entry) (lo hi : ℕ) (P R : Type 0) (res : Result (Option Entry) Error) → back ≡ [] → back' ≡ [] → hi ≤ lo
-      → IfSome o (λ all. Left c r hs all front lo hi back ≡ first all) → IfOk res (λ x. MatchOption x ((front ≡ []) × (front' ≡ [])) (λ y. front ≡ front' ++ y ∷ [])) → IsOkUnless res Memory
-      → IfSome o (λ all. GivesLast P R (first all) (Left c r hs all front' lo hi back') res)
-  none_last None first front front' back back' lo hi P R res none none' less known given memory = tt
-  none_last (Some all) first front front' back back' lo hi P R (Ok None) none none' less known given memory =
-      (sym known ∙ bare_back all front back lo hi none less ∙ ap (map Ok) given.0, bare_back all front' back' lo hi none' less ∙ ap (map Ok) given.1)
-  none_last (Some all) first front front' back back' lo hi P R (Ok (Some x)) none none' less known given memory =
-      sym known ∙ bare_back all front back lo hi none less ∙ ap (map Ok) given ∙ map-append Ok front' (x ∷ []) ∙ ap (λ xs. xs ++ Ok x ∷ []) (sym (bare_back all front' back' lo hi none' less))
-  none_last (Some all) first front front' back back' lo hi P R (Err e) none none' less known given memory = λ other. absurd (other memory)
+  pub back_turned : (o : Option (List ℕ)) (first : List ℕ → List Read) (front back : List Entry) (lo hi : ℕ) → back ≡ [] → hi ≤ lo
+      → IfSome o (λ all. Left c r hs all front lo hi back ≡ first all) → IfSome o (λ all. Left c r hs all back lo hi front ≡ first all)
+  back_turned None first front back lo hi none less known = tt
+  back_turned (Some all) first front back lo hi none less known = bare all back front lo hi none less ∙ sym (bare_back all front back lo hi none less) ∙ known
+
+  -- the step of an end that was made ready: only where nothing is left it has no entry
+  pub ready_first : (o : Option (List ℕ)) (first : List ℕ → List Read) (front front' back : List Entry) (lo hi : ℕ) (P R : Type 0) (res : Result (Option Entry) Error) → (front ≡ [] → (hi ≤ lo) × (back ≡ []))
+      → IfSome o (λ all. Left c r hs all front lo hi back ≡ first all) → IfOk res (λ x. MatchOption x ((front ≡ []) × (front' ≡ [])) (λ y. front ≡ y ∷ front')) → IsOkUnless res Memory
+      → IfSome o (λ all. GivesFirst P R (first all) (Left c r hs all front' lo hi back) res)
+  ready_first None first front front' back lo hi P R res done known given memory = tt
+  ready_first (Some all) first front front' back lo hi P R (Ok None) done known given memory =
+      let d = done given.0 in
+      (sym known ∙ bare all front back lo hi given.0 d.0 ∙ ap (map Ok) d.1, bare all front' back lo hi given.1 d.0 ∙ ap (map Ok) d.1)
+  ready_first (Some all) first front front' back lo hi P R (Ok (Some x)) done known given memory =
+      sym known ∙ ap (λ xs. map Ok xs ++ (blocks_read c all r (between hs lo hi) ++ map Ok back)) given
+  ready_first (Some all) first front front' back lo hi P R (Err e) done known given memory = λ other. absurd (other memory)
 
   -- a step from the back that takes from its block
-  pub some_last : (o : Option (List ℕ)) (first : List ℕ → List Read) (front back back' : List Entry) (lo hi : ℕ) (x : Entry) → back ≡ back' ++ x ∷ [] → IfSome o (λ all. Left c r hs all front lo hi back ≡ first all)
+  some_last : (o : Option (List ℕ)) (first : List ℕ → List Read) (front back back' : List Entry) (lo hi : ℕ) (x : Entry) → back ≡ back' ++ x ∷ [] → IfSome o (λ all. Left c r hs all front lo hi back ≡ first all)
       → IfSome o (λ all. first all ≡ Left c r hs all front lo hi back' ++ Ok x ∷ [])
   some_last None first front back back' lo hi x given known = tt
   some_last (Some all) first front back back' lo hi x given known =
@@ -270,22 +271,15 @@ module _ (c : Hashes) (r : KeyRange) (hs : List Handle) where
       sym known ∙ ap (λ xs. map Ok front ++ (B ++ map Ok xs)) given ∙ ap (λ xs. map Ok front ++ (B ++ xs)) (map-append Ok back' (x ∷ []))
       ∙ ap (λ xs. map Ok front ++ xs) (sym (append_assoc B (map Ok back') last)) ∙ sym (append_assoc (map Ok front) (B ++ map Ok back') last)
 
-  -- a step from the front where its block has an entry, and from the back
-  pub quick_first : (o : Option (List ℕ)) (front front' back : List Entry) (lo hi : ℕ) (P R : Type 0) (res : Result (Option Entry) Error) → ltb 0 (length front) ≡ true
-      → IfOk res (λ x. MatchOption x ((front ≡ []) × (front' ≡ [])) (λ y. front ≡ y ∷ front')) → IsOkUnless res Memory
-      → IfSome o (λ all. GivesFirst P R (Left c r hs all front lo hi back) (Left c r hs all front' lo hi back) res)
-  quick_first None front front' back lo hi P R res some given memory = tt
-  quick_first (Some all) front front' back lo hi P R (Ok None) some given memory = absurd (let no : true ≡ false = sym some ∙ ap (λ xs. ltb 0 (length xs)) given.0 in cc)
-  quick_first (Some all) front front' back lo hi P R (Ok (Some x)) some given memory = ap (λ xs. map Ok xs ++ (blocks_read c all r (between hs lo hi) ++ map Ok back)) given
-  quick_first (Some all) front front' back lo hi P R (Err e) some given memory = λ other. absurd (other memory)
-
-  pub quick_last : (o : Option (List ℕ)) (front back back' : List Entry) (lo hi : ℕ) (P R : Type 0) (res : Result (Option Entry) Error) → ltb 0 (length back) ≡ true
-      → IfOk res (λ x. MatchOption x ((back ≡ []) × (back' ≡ [])) (λ y. back ≡ back' ++ y ∷ [])) → IsOkUnless res Memory
-      → IfSome o (λ all. GivesLast P R (Left c r hs all front lo hi back) (Left c r hs all front lo hi back') res)
-  quick_last None front back back' lo hi P R res some given memory = tt
-  quick_last (Some all) front back back' lo hi P R (Ok None) some given memory = absurd (let no : true ≡ false = sym some ∙ ap (λ xs. ltb 0 (length xs)) given.0 in cc)
-  quick_last (Some all) front back back' lo hi P R (Ok (Some x)) some given memory = some_last (Some all) (λ a. Left c r hs a front lo hi back) front back back' lo hi x given refl
-  quick_last (Some all) front back back' lo hi P R (Err e) some given memory = λ other. absurd (other memory)
+  pub ready_last : (o : Option (List ℕ)) (first : List ℕ → List Read) (front back back' : List Entry) (lo hi : ℕ) (P R : Type 0) (res : Result (Option Entry) Error) → (back ≡ [] → (hi ≤ lo) × (front ≡ []))
+      → IfSome o (λ all. Left c r hs all front lo hi back ≡ first all) → IfOk res (λ x. MatchOption x ((back ≡ []) × (back' ≡ [])) (λ y. back ≡ back' ++ y ∷ [])) → IsOkUnless res Memory
+      → IfSome o (λ all. GivesLast P R (first all) (Left c r hs all front lo hi back') res)
+  ready_last None first front back back' lo hi P R res done known given memory = tt
+  ready_last (Some all) first front back back' lo hi P R (Ok None) done known given memory =
+      let d = done given.0 in
+      (sym known ∙ bare_back all front back lo hi given.0 d.0 ∙ ap (map Ok) d.1, bare_back all front back' lo hi given.1 d.0 ∙ ap (map Ok) d.1)
+  ready_last (Some all) first front back back' lo hi P R (Ok (Some x)) done known given memory = some_last (Some all) first front back back' lo hi x given known
+  ready_last (Some all) first front back back' lo hi P R (Err e) done known given memory = λ other. absurd (other memory)
 
   -- the same for the index of the table after a step
   pub seen_after : (o : Option (List ℕ)) (ks : List Handle) (G : List ℕ → List Read → Type 0) (front back : List Entry) (lo hi : ℕ) (ended : Option Error) → ks ≡ hs

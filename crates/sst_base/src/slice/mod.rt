@@ -260,7 +260,9 @@ impl Slice {
         Ok(Slice::fuse(alloc, left, right)?)
     }
 
-    // Copies two byte strings, the second after the first.
+    // Copies two byte strings, the second after the first. It is a call, so that short strings are
+    // joined in registers by those that compile `joined` in.
+    #[inline(never)]
     fn fuse(alloc: Global, left: &[u8], right: &[u8]) -> AllocResult<Slice>
         ensures { IfOk result (λ s. s ≡ left.now ++ right.now) }
     {
@@ -280,6 +282,7 @@ impl Slice {
     /// # Errors
     ///
     /// If an allocation fails.
+    #[inline(always)]
     pub fn joined(
         alloc: Global,
         bytes: &[u8],

@@ -128,7 +128,7 @@ impl<'k, H: BlockHash, S: FrameSource> Scan<'k, H, S> {
             &self.bounds,
             &mut self.blocks,
         );
-        self.ended = error_in(&first);
+        keep_error(&mut self.ended, &first);
         first
     }
 
@@ -165,19 +165,19 @@ impl<'k, H: BlockHash, S: FrameSource> Scan<'k, H, S> {
             &self.bounds,
             &mut self.blocks,
         );
-        self.ended = error_in(&last);
+        keep_error(&mut self.ended, &last);
         last
     }
 }
 
-// The error of a step, if it is one.
+// Keeps the error of a step, if it is one. No step before it failed.
 #[inline(always)]
-pub(crate) fn error_in(found: &Result<Option<InternalValue>>) -> Option<Error>
-    ensures { result ≡ error_of found.now }
+pub(crate) fn keep_error(ended: &mut Option<Error>, found: &Result<Option<InternalValue>>)
+    requires { ended.old ≡ None }
+    ensures { ended.new ≡ error_of found.now }
 {
-    match found {
-        Ok(_) => None,
-        Err(error) => Some(*error),
+    if let Err(error) = found {
+        *ended = Some(*error);
     }
 }
 

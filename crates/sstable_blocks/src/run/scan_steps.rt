@@ -21,6 +21,7 @@ use sst_block_kinds::IndexBlock;
 use sst_block_kinds::table::data_block::IntoEntries;
 use std::alloc::Global;
 use std::marker::Model;
+use std::mem;
 use std::ops::Bound;
 
 /// The bounds of a scan. Clauses see the range of keys.
@@ -323,49 +324,89 @@ fn fill_back<H: BlockHash, B: BlockOpener<H>>(
     Ok(())
 }
 
-// Takes the first entry left of a scan where the front's block has no entry left.
+// Opens blocks from the front until one has an entry in the range. Where none is left between the
+// ends, the ends change their blocks.
 #[inline(never)]
-fn next_front<H: BlockHash, B: BlockOpener<H>>(
+fn turn_front<H: BlockHash, B: BlockOpener<H>>(
     alloc: Global,
     opener: &mut B,
     bounds: &Bounds<'_>,
     blocks: &mut Blocks<H>,
-) -> Result<Option<InternalValue>>
+) -> Result<()>
     requires { AreScanEnds (B.kept opener.old).index bounds.now (left_in blocks.old.front)
         blocks.old.hi (left_in blocks.old.back) }
     ensures kept { B.kept opener.new ≡ B.kept opener.old }
     ensures source { KeepsSource B.bytes B.failures B.is_reliable opener.old opener.new }
-    ensures reads { B.reads opener.new
-        + length (between (B.kept opener.old).index blocks.new.lo blocks.new.hi)
-        ≡ B.reads opener.old
-        + length (between (B.kept opener.old).index blocks.old.lo blocks.old.hi) }
+    ensures reads { B.reads opener.new + (blocks.new.hi - blocks.new.lo)
+        ≡ B.reads opener.old + (blocks.old.hi - blocks.old.lo) }
     ensures io { IfErr result
         (λ e. e ≡ Io → B.failures opener.old < B.failures opener.new) }
     ensures ends { AreScanEnds (B.kept opener.old).index bounds.now (left_in blocks.new.front)
         blocks.new.hi (left_in blocks.new.back) }
-    ensures in_range { IfOk result (λ x. IfSome x
-        (λ entry. in_range bounds.now entry.key.user_key ≡ true)) }
-    ensures exact { IfSome (B.bytes opener.old) (λ all.
-        GivesFirst (B.failures opener.old < B.failures opener.new)
+    ensures fewer { most_among (left_in blocks.new.front) (blocks.new.hi - blocks.new.lo)
+        (left_in blocks.new.back)
+        ≤ most_among (left_in blocks.old.front) (blocks.old.hi - blocks.old.lo)
+        (left_in blocks.old.back) }
+    ensures done { OnOk result (left_in blocks.new.front ≡ []
+        → (blocks.new.hi ≤ blocks.new.lo) × (left_in blocks.new.back ≡ [])) }
+    ensures exact { IfSome (B.bytes opener.old) (λ all. MatchResult result
+        (λ _. reads_among (hashes H.hash64 H.hash128) all bounds.now (left_in blocks.new.front)
+        (between (B.kept opener.old).index blocks.new.lo blocks.new.hi) (left_in blocks.new.back)
+        ≡ reads_among (hashes H.hash64 H.hash128) all bounds.now (left_in blocks.old.front)
+        (between (B.kept opener.old).index blocks.old.lo blocks.old.hi) (left_in blocks.old.back))
+        (FailsFirst (B.failures opener.old < B.failures opener.new)
         (B.is_reliable opener.old)
         (reads_among (hashes H.hash64 H.hash128) all bounds.now (left_in blocks.old.front)
-        (between (B.kept opener.old).index blocks.old.lo blocks.old.hi) (left_in blocks.old.back))
-        (reads_among (hashes H.hash64 H.hash128) all bounds.now (left_in blocks.new.front)
-        (between (B.kept opener.old).index blocks.new.lo blocks.new.hi) (left_in blocks.new.back))
-        result) }
-    ensures fewer { IfOk result (IsFewer
-        (most_among (left_in blocks.old.front)
-        (length (between (B.kept opener.old).index blocks.old.lo blocks.old.hi))
-        (left_in blocks.old.back))
-        (most_among (left_in blocks.new.front)
-        (length (between (B.kept opener.old).index blocks.new.lo blocks.new.hi))
-        (left_in blocks.new.back))) }
+        (between (B.kept opener.old).index blocks.old.lo blocks.old.hi)
+        (left_in blocks.old.back)))) }
 {
     fill_front::<H, B>(alloc, opener, bounds, blocks)?;
-    match take_first::<H>(alloc, &mut blocks.front)? {
-        Some(entry) => Ok(Some(entry)),
-        None => take_first::<H>(alloc, &mut blocks.back),
+    if has_entry::<H>(&blocks.front) {
+        return Ok(());
     }
+    mem::swap(&mut blocks.front, &mut blocks.back);
+    Ok(())
+}
+
+// Leaves a block with an entry in the range at the front, if there is one.
+#[inline(always)]
+fn ready_front<H: BlockHash, B: BlockOpener<H>>(
+    alloc: Global,
+    opener: &mut B,
+    bounds: &Bounds<'_>,
+    blocks: &mut Blocks<H>,
+) -> Result<()>
+    requires { AreScanEnds (B.kept opener.old).index bounds.now (left_in blocks.old.front)
+        blocks.old.hi (left_in blocks.old.back) }
+    ensures kept { B.kept opener.new ≡ B.kept opener.old }
+    ensures source { KeepsSource B.bytes B.failures B.is_reliable opener.old opener.new }
+    ensures reads { B.reads opener.new + (blocks.new.hi - blocks.new.lo)
+        ≡ B.reads opener.old + (blocks.old.hi - blocks.old.lo) }
+    ensures io { IfErr result
+        (λ e. e ≡ Io → B.failures opener.old < B.failures opener.new) }
+    ensures ends { AreScanEnds (B.kept opener.old).index bounds.now (left_in blocks.new.front)
+        blocks.new.hi (left_in blocks.new.back) }
+    ensures fewer { most_among (left_in blocks.new.front) (blocks.new.hi - blocks.new.lo)
+        (left_in blocks.new.back)
+        ≤ most_among (left_in blocks.old.front) (blocks.old.hi - blocks.old.lo)
+        (left_in blocks.old.back) }
+    ensures done { OnOk result (left_in blocks.new.front ≡ []
+        → (blocks.new.hi ≤ blocks.new.lo) × (left_in blocks.new.back ≡ [])) }
+    ensures exact { IfSome (B.bytes opener.old) (λ all. MatchResult result
+        (λ _. reads_among (hashes H.hash64 H.hash128) all bounds.now (left_in blocks.new.front)
+        (between (B.kept opener.old).index blocks.new.lo blocks.new.hi) (left_in blocks.new.back)
+        ≡ reads_among (hashes H.hash64 H.hash128) all bounds.now (left_in blocks.old.front)
+        (between (B.kept opener.old).index blocks.old.lo blocks.old.hi) (left_in blocks.old.back))
+        (FailsFirst (B.failures opener.old < B.failures opener.new)
+        (B.is_reliable opener.old)
+        (reads_among (hashes H.hash64 H.hash128) all bounds.now (left_in blocks.old.front)
+        (between (B.kept opener.old).index blocks.old.lo blocks.old.hi)
+        (left_in blocks.old.back)))) }
+{
+    if has_entry::<H>(&blocks.front) {
+        return Ok(());
+    }
+    turn_front::<H, B>(alloc, opener, bounds, blocks)
 }
 
 /// Takes the first entry left of a scan, from the front's block, from the next one that has an
@@ -407,56 +448,93 @@ pub(crate) fn step_front<H: BlockHash, B: BlockOpener<H>>(
         (length (between (B.kept opener.old).index blocks.new.lo blocks.new.hi))
         (left_in blocks.new.back))) }
 {
-    if has_entry::<H>(&blocks.front) {
-        take_first::<H>(alloc, &mut blocks.front)
-    } else {
-        next_front::<H, B>(alloc, opener, bounds, blocks)
-    }
+    ready_front::<H, B>(alloc, opener, bounds, blocks)?;
+    take_first::<H>(alloc, &mut blocks.front)
 }
 
-// Takes the last entry left of a scan where the back's block has no entry left.
+// Opens blocks from the back until one has an entry in the range. Where none is left between the
+// ends, the ends change their blocks.
 #[inline(never)]
-fn next_back<H: BlockHash, B: BlockOpener<H>>(
+fn turn_back<H: BlockHash, B: BlockOpener<H>>(
     alloc: Global,
     opener: &mut B,
     bounds: &Bounds<'_>,
     blocks: &mut Blocks<H>,
-) -> Result<Option<InternalValue>>
+) -> Result<()>
     requires { AreScanEnds (B.kept opener.old).index bounds.now (left_in blocks.old.front)
         blocks.old.hi (left_in blocks.old.back) }
     ensures kept { B.kept opener.new ≡ B.kept opener.old }
     ensures source { KeepsSource B.bytes B.failures B.is_reliable opener.old opener.new }
-    ensures reads { B.reads opener.new
-        + length (between (B.kept opener.old).index blocks.new.lo blocks.new.hi)
-        ≡ B.reads opener.old
-        + length (between (B.kept opener.old).index blocks.old.lo blocks.old.hi) }
+    ensures reads { B.reads opener.new + (blocks.new.hi - blocks.new.lo)
+        ≡ B.reads opener.old + (blocks.old.hi - blocks.old.lo) }
     ensures io { IfErr result
         (λ e. e ≡ Io → B.failures opener.old < B.failures opener.new) }
     ensures ends { AreScanEnds (B.kept opener.old).index bounds.now (left_in blocks.new.front)
         blocks.new.hi (left_in blocks.new.back) }
-    ensures in_range { IfOk result (λ x. IfSome x
-        (λ entry. in_range bounds.now entry.key.user_key ≡ true)) }
-    ensures exact { IfSome (B.bytes opener.old) (λ all.
-        GivesLast (B.failures opener.old < B.failures opener.new)
+    ensures fewer { most_among (left_in blocks.new.front) (blocks.new.hi - blocks.new.lo)
+        (left_in blocks.new.back)
+        ≤ most_among (left_in blocks.old.front) (blocks.old.hi - blocks.old.lo)
+        (left_in blocks.old.back) }
+    ensures done { OnOk result (left_in blocks.new.back ≡ []
+        → (blocks.new.hi ≤ blocks.new.lo) × (left_in blocks.new.front ≡ [])) }
+    ensures exact { IfSome (B.bytes opener.old) (λ all. MatchResult result
+        (λ _. reads_among (hashes H.hash64 H.hash128) all bounds.now (left_in blocks.new.front)
+        (between (B.kept opener.old).index blocks.new.lo blocks.new.hi) (left_in blocks.new.back)
+        ≡ reads_among (hashes H.hash64 H.hash128) all bounds.now (left_in blocks.old.front)
+        (between (B.kept opener.old).index blocks.old.lo blocks.old.hi) (left_in blocks.old.back))
+        (FailsLast (B.failures opener.old < B.failures opener.new)
         (B.is_reliable opener.old)
         (reads_among (hashes H.hash64 H.hash128) all bounds.now (left_in blocks.old.front)
-        (between (B.kept opener.old).index blocks.old.lo blocks.old.hi) (left_in blocks.old.back))
-        (reads_among (hashes H.hash64 H.hash128) all bounds.now (left_in blocks.new.front)
-        (between (B.kept opener.old).index blocks.new.lo blocks.new.hi) (left_in blocks.new.back))
-        result) }
-    ensures fewer { IfOk result (IsFewer
-        (most_among (left_in blocks.old.front)
-        (length (between (B.kept opener.old).index blocks.old.lo blocks.old.hi))
-        (left_in blocks.old.back))
-        (most_among (left_in blocks.new.front)
-        (length (between (B.kept opener.old).index blocks.new.lo blocks.new.hi))
-        (left_in blocks.new.back))) }
+        (between (B.kept opener.old).index blocks.old.lo blocks.old.hi)
+        (left_in blocks.old.back)))) }
 {
     fill_back::<H, B>(alloc, opener, bounds, blocks)?;
-    match take_last::<H>(alloc, &mut blocks.back)? {
-        Some(entry) => Ok(Some(entry)),
-        None => take_last::<H>(alloc, &mut blocks.front),
+    if has_entry::<H>(&blocks.back) {
+        return Ok(());
     }
+    mem::swap(&mut blocks.front, &mut blocks.back);
+    Ok(())
+}
+
+// Leaves a block with an entry in the range at the back, if there is one.
+#[inline(always)]
+fn ready_back<H: BlockHash, B: BlockOpener<H>>(
+    alloc: Global,
+    opener: &mut B,
+    bounds: &Bounds<'_>,
+    blocks: &mut Blocks<H>,
+) -> Result<()>
+    requires { AreScanEnds (B.kept opener.old).index bounds.now (left_in blocks.old.front)
+        blocks.old.hi (left_in blocks.old.back) }
+    ensures kept { B.kept opener.new ≡ B.kept opener.old }
+    ensures source { KeepsSource B.bytes B.failures B.is_reliable opener.old opener.new }
+    ensures reads { B.reads opener.new + (blocks.new.hi - blocks.new.lo)
+        ≡ B.reads opener.old + (blocks.old.hi - blocks.old.lo) }
+    ensures io { IfErr result
+        (λ e. e ≡ Io → B.failures opener.old < B.failures opener.new) }
+    ensures ends { AreScanEnds (B.kept opener.old).index bounds.now (left_in blocks.new.front)
+        blocks.new.hi (left_in blocks.new.back) }
+    ensures fewer { most_among (left_in blocks.new.front) (blocks.new.hi - blocks.new.lo)
+        (left_in blocks.new.back)
+        ≤ most_among (left_in blocks.old.front) (blocks.old.hi - blocks.old.lo)
+        (left_in blocks.old.back) }
+    ensures done { OnOk result (left_in blocks.new.back ≡ []
+        → (blocks.new.hi ≤ blocks.new.lo) × (left_in blocks.new.front ≡ [])) }
+    ensures exact { IfSome (B.bytes opener.old) (λ all. MatchResult result
+        (λ _. reads_among (hashes H.hash64 H.hash128) all bounds.now (left_in blocks.new.front)
+        (between (B.kept opener.old).index blocks.new.lo blocks.new.hi) (left_in blocks.new.back)
+        ≡ reads_among (hashes H.hash64 H.hash128) all bounds.now (left_in blocks.old.front)
+        (between (B.kept opener.old).index blocks.old.lo blocks.old.hi) (left_in blocks.old.back))
+        (FailsLast (B.failures opener.old < B.failures opener.new)
+        (B.is_reliable opener.old)
+        (reads_among (hashes H.hash64 H.hash128) all bounds.now (left_in blocks.old.front)
+        (between (B.kept opener.old).index blocks.old.lo blocks.old.hi)
+        (left_in blocks.old.back)))) }
+{
+    if has_entry::<H>(&blocks.back) {
+        return Ok(());
+    }
+    turn_back::<H, B>(alloc, opener, bounds, blocks)
 }
 
 /// Takes the last entry left of a scan, from the back's block, from the next one before it that has
@@ -498,9 +576,6 @@ pub(crate) fn step_back<H: BlockHash, B: BlockOpener<H>>(
         (length (between (B.kept opener.old).index blocks.new.lo blocks.new.hi))
         (left_in blocks.new.back))) }
 {
-    if has_entry::<H>(&blocks.back) {
-        take_last::<H>(alloc, &mut blocks.back)
-    } else {
-        next_back::<H, B>(alloc, opener, bounds, blocks)
-    }
+    ready_back::<H, B>(alloc, opener, bounds, blocks)?;
+    take_last::<H>(alloc, &mut blocks.back)
 }

@@ -11,7 +11,7 @@ ghost use Rattle.sstable_blocks.specs.Sound.{IsSound};
 
 use super::laws::sound_is_scanned;
 use super::opener::BlockOpener;
-use super::scan::error_in;
+use super::scan::keep_error;
 use super::scan_steps::{Blocks, Bounds, step_back, step_front};
 use super::trusted::Trusted;
 use sst_base::{BlockHash, Count, Error, InternalValue, Result};
@@ -121,7 +121,7 @@ impl<'a, 'k, H: BlockHash> TrustedScan<'a, 'k, H> {
             &self.bounds,
             &mut self.blocks,
         );
-        self.ended = error_in(&first);
+        keep_error(&mut self.ended, &first);
         first
     }
 
@@ -146,7 +146,7 @@ impl<'a, 'k, H: BlockHash> TrustedScan<'a, 'k, H> {
             &self.bounds,
             &mut self.blocks,
         );
-        self.ended = error_in(&last);
+        keep_error(&mut self.ended, &last);
         last
     }
 }

@@ -4,7 +4,6 @@ ghost use Rattle.std.specs.Prelude.{◌≤◌, List, [], ◌∷◌};
 ghost use Rattle.std.specs.Prelude.{length, take, drop, Some, None, IfSome, IfOk};
 ghost use Rattle.std.specs.Prelude.{IsSome, IsSomeAnd};
 ghost use Rattle.std.specs.Option.{option_map};
-ghost use Rattle.std.specs.Prelude.{IsOkUnless};
 ghost use Rattle.std.specs.Ordering.{nat_cmp};
 ghost use Rattle.std.specs.Cmp.Lexicographic.{slice_cmp};
 ghost use Rattle.std.specs.Iterator.{at_most};
@@ -29,7 +28,7 @@ use crate::table::block::ends::Ends;
 use crate::table::block::heads::HeadTable;
 use crate::table::block::intervals::Intervals;
 use sst_base::double_ended_peekable::ListIterator;
-use sst_base::{Error, Result, Slice, Steps};
+use sst_base::{AllocResult, Slice, Steps};
 use std::alloc::Global;
 use std::cmp::Ordering;
 use std::marker::Model;
@@ -73,15 +72,15 @@ pub trait ParsedItem<Item: BlockItem> {
         ensures { result.now
             ≡ drop (shared_len self.now) (Item.kind.key (item_of payload.now self.now)) };
 
-    /// Makes the item. Only a truncated key is joined and copied.
+    /// Makes the item. Only a truncated key is joined and copied. The error has no parts, so that a
+    /// hot caller needs no space for one.
     ///
     /// # Errors
     ///
-    /// `Error::Memory` if an allocation fails.
-    fn materialize(&self, alloc: Global, payload: &Slice) -> Result<Item>
+    /// If an allocation fails.
+    fn materialize(&self, alloc: Global, payload: &Slice) -> AllocResult<Item>
         requires { is_found payload.now self.now }
-        ensures ok { IfOk result (λ x. x ≡ item_of payload.now self.now) }
-        ensures memory { IsOkUnless result Error.Memory };
+        ensures ok { IfOk result (λ x. x ≡ item_of payload.now self.now) };
 }
 
 /// Items that can be read from a block.

@@ -84,6 +84,7 @@ pub fn compare_parts(prefix: &[u8], rest: &[u8], other_prefix: &[u8], other_rest
 /// # Errors
 ///
 /// If an allocation fails.
+#[inline(always)]
 pub fn join_ranges(
     alloc: Global,
     payload: &Slice,

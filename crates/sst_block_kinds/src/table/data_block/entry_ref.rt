@@ -122,11 +122,12 @@ impl<'a> EntryRef<'a> {
     /// # Errors
     ///
     /// `Error::Memory` if an allocation fails.
+    #[inline(always)]
     pub fn materialize(&self, alloc: Global) -> Result<InternalValue>
         ensures ok { IfOk result (λ entry. entry ≡ self.now) }
         ensures memory { IsOkUnless result Error.Memory }
     {
-        self.item.materialize(alloc, self.payload)
+        Ok(self.item.materialize(alloc, self.payload)?)
     }
 }
 

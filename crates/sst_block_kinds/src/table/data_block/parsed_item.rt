@@ -3,7 +3,7 @@ ghost use Rattle.std.specs.Prelude.{◌≡◌, ℕ, ◌+◌, ◌≤◌, List, le
 ghost use Rattle.sst_block_kinds.specs.ParsedEntry.{entry_of, IsParsedEntry};
 
 use sst_base::table::util::SliceIndexes;
-use sst_base::{InternalKey, InternalValue, Result, SeqNo, Slice, ValueType};
+use sst_base::{AllocResult, InternalKey, InternalValue, SeqNo, Slice, ValueType};
 use sst_block_core::table::block::ParsedItem;
 use sst_block_core::table::block::key_ranges::{bytes_of, compare_ranges, join_ranges, prefix_len};
 use std::alloc::Global;
@@ -75,7 +75,7 @@ impl ParsedItem<InternalValue> for DataBlockParsedItem {
     }
 
     #[inline(always)]
-    fn materialize(&self, alloc: Global, payload: &Slice) -> Result<InternalValue> {
+    fn materialize(&self, alloc: Global, payload: &Slice) -> AllocResult<InternalValue> {
         let user_key = join_ranges(alloc, payload, &self.prefix, &self.key)?;
         let value = match &self.value {
             Some(value) => payload.part(value.0..value.1)?,

@@ -98,7 +98,7 @@ impl<'a> HandleRef<'a> {
         ensures ok { IfOk result (λ handle. handle ≡ self.now) }
         ensures memory { IsOkUnless result Error.Memory }
     {
-        self.item.materialize(alloc, self.payload)
+        Ok(self.item.materialize(alloc, self.payload)?)
     }
 }
 

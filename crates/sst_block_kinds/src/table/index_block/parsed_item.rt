@@ -2,7 +2,7 @@
 use crate::table::index_block::block_handle::KeyedBlockHandle;
 use sst_base::table::block::{BlockHandle, BlockOffset};
 use sst_base::table::util::SliceIndexes;
-use sst_base::{Result, SeqNo, Slice};
+use sst_base::{AllocResult, SeqNo, Slice};
 use sst_block_core::table::block::ParsedItem;
 use sst_block_core::table::block::key_ranges::{bytes_of, compare_ranges, join_ranges, prefix_len};
 use std::alloc::Global;
@@ -58,7 +58,7 @@ impl ParsedItem<KeyedBlockHandle> for IndexBlockParsedItem {
         bytes_of(payload, &self.end_key)
     }
 
-    fn materialize(&self, alloc: Global, payload: &Slice) -> Result<KeyedBlockHandle> {
+    fn materialize(&self, alloc: Global, payload: &Slice) -> AllocResult<KeyedBlockHandle> {
         let end_key = join_ranges(alloc, payload, &self.prefix, &self.end_key)?;
         let handle = BlockHandle::new(self.offset, self.size);
         Ok(KeyedBlockHandle::new(end_key, self.seqno, handle))

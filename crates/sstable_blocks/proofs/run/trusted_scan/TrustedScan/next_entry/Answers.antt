@@ -33,5 +33,5 @@ invariant_of-self g c =
     let e = c.step_front-first.ensures in
     let same = same_run n.opener.run s.cutter.run e.source.same (ap (λ (k : KeptParts). k.handles) e.kept) in (
       subst (λ (x : RunParts). AreScanEnds (index_in x.bytes x.handles.index) s.bounds (left_in n.blocks.front) n.blocks.hi (left_in n.blocks.back)) (sym same) e.ends,
-      subst (λ o. IfSome o (λ x. x ≡ Memory)) (sym c.error_in-self-inside.ensures) (error_is c.step_front-first.result (taken g c)),
+      subst (λ o. IfSome o (λ x. x ≡ Memory)) (sym c.keep_error.ensures) (error_is c.step_front-first.result (taken g c)),
     )
