@@ -1,0 +1,45 @@
+-- Blocks that are known to be one, and where the parts of an entry are.
+use Rattle.std.specs.Prelude.{◌≡◌, ℕ, ◌+◌, ◌≤◌, ◌<◌, ◌^◌, List, ◌++◌, length, take, drop, Option, Some, None}
+use Rattle.sst_base.specs.Bytes.{IsBytes}
+use Rattle.sst_base.specs.Entry.{Entry, IsEntry}
+use Rattle.sst_base.specs.Hashes.{poly31}
+use Rattle.sst_base.specs.ValueType.{value_type_byte}
+use Rattle.sst_block_core.specs.Entries.{entries}
+use Rattle.sst_block_core.specs.Payload.{IsBlock}
+use Rattle.sst_block_core.specs.Stages.{items_in}
+use Rattle.sst_block_core.specs.Window.{first_match}
+use Rattle.sst_c.specs.declared.codes.Status.{Status}
+use Rattle.sst_c.specs.declared.codes.Status.TheVariants.{Done, NotFound}
+use Rattle.sst_c.specs.declared.data_block.SstPlace.{SstPlace}
+
+-- bytes are a data block: the encoding of some ordered, non-empty list of entries, shorter than 2^32
+pub record IsDataBlock (p : List ℕ) : Type 0 where
+  pub fits : length p < 2 ^ 32
+  pub encoding : (items : List Entry) × (r : ℕ) × (b : ℕ) × IsBlock entries IsEntry (poly31 64) p items r b
+
+-- so many bytes of a payload, from an offset on
+abbrev pub bytes_at : List ℕ → ℕ → ℕ → List ℕ
+bytes_at p offset len = take len (drop offset p)
+
+-- a place says where the parts of this entry are in a payload
+pub record IsPlaceOf (p : List ℕ) (f : SstPlace) (e : Entry) : Type 0 where
+  pub seqno : f.seqno ≡ e.key.seqno
+  pub value_type : f.value_type ≡ value_type_byte e.key.value_type
+  pub key : bytes_at p f.prefix_offset f.prefix_len ++ bytes_at p f.key_offset f.key_len ≡ e.key.user_key
+  pub value : bytes_at p f.value_offset f.value_len ≡ e.value
+  pub prefix_inside : f.prefix_offset + f.prefix_len ≤ length p
+  pub key_inside : f.key_offset + f.key_len ≤ length p
+  pub value_inside : f.value_offset + f.value_len ≤ length p
+
+-- an answer, if there is one, is this entry, if there is one
+abbrev pub IsAnswer : List ℕ → Option SstPlace → Option Entry → Type 0
+IsAnswer p None None = Unit {0}
+IsAnswer p (Some f) (Some e) = IsPlaceOf p f e
+IsAnswer p None (Some e) = ⊥
+IsAnswer p (Some f) None = ⊥
+
+-- what a search of a key below a sequence number says: where the first match is, or that there is none
+abbrev pub IsFind : List ℕ → Option Entry → SstPlace → SstPlace → Status → Type 0
+IsFind p (Some e) old new Done = IsPlaceOf p new e
+IsFind p None old new NotFound = new ≡ old
+IsFind p match old new _ = ⊥

@@ -1,0 +1,5 @@
+pub mod Codes
+pub mod Blocks
+pub mod Checks
+pub mod Given
+pub mod Index

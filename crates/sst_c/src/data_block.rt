@@ -1,0 +1,239 @@
+//! Data blocks.
+ghost use Rattle.std.specs.Prelude.{◌≡◌, ◌⊎◌, ◌+◌, ◌≤◌, ◌<◌, ◌^◌, List, length, IfOk, IfErr};
+ghost use Rattle.sst_base.specs.Entry.{Entry};
+ghost use Rattle.sst_base.specs.Hashes.{poly31};
+ghost use Rattle.sst_block_core.specs.Encoders.{IsRefusal};
+ghost use Rattle.sst_block_core.specs.Entries.{entries};
+ghost use Rattle.sst_block_core.specs.Found.{IsOptionalRange, optional_range};
+ghost use Rattle.sst_block_core.specs.Stages.{items_in};
+ghost use Rattle.sst_block_core.specs.Window.{first_match};
+ghost use Rattle.sst_block_kinds.specs.Checks.{data_check};
+ghost use Rattle.sst_block_kinds.specs.ParsedEntry.{entry_of, IsParsedEntry};
+ghost use Rattle.sst_c.specs.Blocks.{bytes_at, IsAnswer, IsDataBlock, IsFind, IsPlaceOf};
+ghost use Rattle.sst_c.specs.Checks.{IsCheck};
+ghost use Rattle.sst_c.specs.Codes.{code_of};
+ghost use Rattle.sst_c.specs.Given.{block_payload, CanEncode, IsEncode, IsFailure, IsWritten, AreGiven};
+ghost use Rattle.sst_c.specs.declared.codes.Status.{Status};
+ghost use Rattle.sst_c.specs.declared.codes.Status.TheVariants.{Failed, BadArgument};
+ghost use Rattle.sst_base.specs.declared.error.Error.TheVariants.{Memory};
+ghost use Rattle.sst_block_core.specs.Kind.{IsOrdered};
+
+use crate::codes::Status;
+use crate::entries::{SstEntry, items_of};
+use sst_base::table::util::SliceIndexes;
+use sst_base::{HashRatio, InternalValue, Poly31, SeqNo, Steps};
+use sst_block_kinds::table::data_block::{DataBlock, DataBlockParsedItem, DataBlockRef};
+use std::alloc::Global;
+
+/// Where the parts of an entry are in a payload: its user key is the prefix and then the key's own
+/// bytes. An offset counts bytes from the start of the payload.
+#[repr(C)]
+#[derive(Drop)]
+pub struct SstPlace {
+    /// The sequence number.
+    pub seqno: u64,
+    /// Where the prefix begins that the key shares with another entry's.
+    pub prefix_offset: usize,
+    /// The length of the prefix; 0 for a key that is stored whole.
+    pub prefix_len: usize,
+    /// Where the key's own bytes begin.
+    pub key_offset: usize,
+    /// The number of the key's own bytes.
+    pub key_len: usize,
+    /// Where the value begins.
+    pub value_offset: usize,
+    /// The length of the value; 0 for a tombstone.
+    pub value_len: usize,
+    /// The byte of the value type: 0 value, 1 tombstone, 2 weak tombstone, 4 indirection.
+    pub value_type: u8,
+}
+
+// The offset and the length of a range, if there is one.
+fn place_of_range(payload: &[u8], range: &Option<SliceIndexes>) -> (usize, usize)
+    requires { IsOptionalRange payload.now range.now }
+    ensures bytes { bytes_at payload.now result.0 result.1 ≡ optional_range payload.now range.now }
+    ensures inside { result.0 + result.1 ≤ length payload.now }
+{
+    match range {
+        Some(range) => (range.0, range.1 - range.0),
+        None => (0, 0),
+    }
+}
+
+// Where a parsed item's parts are.
+fn place_of(payload: &[u8], item: &DataBlockParsedItem) -> SstPlace
+    requires { IsParsedEntry payload.now item.now }
+    ensures { IsPlaceOf payload.now result (entry_of payload.now item.now) }
+{
+    let prefix = place_of_range(payload, &item.prefix);
+    let value = place_of_range(payload, &item.value);
+    SstPlace {
+        seqno: item.seqno,
+        prefix_offset: prefix.0,
+        prefix_len: prefix.1,
+        key_offset: item.key.0,
+        key_len: item.key.1 - item.key.0,
+        value_offset: value.0,
+        value_len: value.1,
+        value_type: u8::from(item.value_type),
+    }
+}
+
+// Where the first entry of a key below a sequence number is.
+fn find(payload: &[u8], key: &[u8], below: SeqNo) -> Option<SstPlace>
+    requires { IsDataBlock payload.now }
+    ensures { IsAnswer payload.now result
+        (first_match entries key.now below (items_in entries payload.now)) }
+{
+    let block = DataBlockRef::<Poly31>::new(payload);
+    match block.find(key, below, &mut Steps::new()) {
+        Some(item) => Some(place_of(payload, &item)),
+        None => None,
+    }
+}
+
+// Notes where the first entry of a key below a sequence number is.
+fn note_found(payload: &[u8], key: &[u8], below: SeqNo, place: &mut SstPlace) -> Status
+    requires { IsDataBlock payload.now }
+    ensures { IsFind payload.now
+        (first_match entries key.now below (items_in entries payload.now)) place.old place.new
+        result }
+{
+    match find(payload, key, below) {
+        Some(found) => {
+            *place = found;
+            Status::Done
+        }
+        None => Status::NotFound,
+    }
+}
+
+/// Finds the first entry of a key strictly below a sequence number, in bytes that are known to be a
+/// data block: those that [`sst_data_block_check`] accepted or [`sst_data_block_encode`] wrote. No
+/// memory is taken, and nothing is copied.
+///
+/// Returns 0 and where the entry is, a tombstone too; or 16 if there is none, and leaves `place`.
+#[unsafe(no_mangle)]
+pub extern "C" fn sst_data_block_find(
+    payload: &[u8],
+    key: &[u8],
+    below_seqno: u64,
+    place: &mut SstPlace,
+) -> u32
+    requires { IsDataBlock payload.now }
+    ensures { (s : Status) × (result ≡ code_of s)
+        × IsFind payload.now
+        (first_match entries key.now below_seqno (items_in entries payload.now)) place.old
+        place.new s }
+{
+    note_found(payload, key, below_seqno, place).code()
+}
+
+// Checks any bytes, and notes the number of entries.
+fn check(alloc: Global, payload: &[u8], count: &mut usize) -> Status
+    ensures { IsCheck (IsDataBlock payload.now) payload.now (data_check (poly31 64) payload.now)
+        (length (items_in entries payload.now)) count.old count.new result }
+{
+    match DataBlockRef::<Poly31>::check(alloc, payload) {
+        Ok(block) => {
+            *count = block.len();
+            Status::Done
+        }
+        Err(error) => Status::Failed(error),
+    }
+}
+
+/// Checks any bytes as a data block.
+///
+/// Returns 0 and the number of entries exactly if they are the encoding of some ordered, non-empty
+/// list of entries; 6 exactly if there are 2^32 bytes or more; 7 to 12 for the first stage of the
+/// check that fails; 15 only if an allocation fails, which is made where buckets are stored. But
+/// for 0 `count` is left.
+#[unsafe(no_mangle)]
+pub extern "C" fn sst_data_block_check(payload: &[u8], count: &mut usize, alloc: Global) -> u32
+    ensures { (s : Status) × (result ≡ code_of s)
+        × IsCheck (IsDataBlock payload.now) payload.now (data_check (poly31 64) payload.now)
+        (length (items_in entries payload.now)) count.old count.new s }
+{
+    check(alloc, payload, count).code()
+}
+
+// The entries that are given, if they can be encoded.
+fn checked_items(
+    alloc: Global,
+    entries: &[SstEntry<'_>],
+    interval: u8,
+    ratio: HashRatio,
+) -> Result<Vec<InternalValue>, Status>
+    ensures ok { IfOk result (λ items. CanEncode entries.now interval ratio.den items.items) }
+    ensures refused { IfErr result (λ s. (s ≡ Failed Memory) ⊎ ((s ≡ BadArgument)
+        × ((items : List Entry) → CanEncode entries.now interval ratio.den items → ⊥))) }
+{
+    if interval == 0 || ratio.den == 0 || entries.is_empty() {
+        return Err(Status::BadArgument);
+    }
+    let items = items_of(alloc, entries)?;
+    if !DataBlock::<Poly31>::is_ordered(items.as_slice()) {
+        return Err(Status::BadArgument);
+    }
+    Ok(items)
+}
+
+// Writes bytes at the front of a buffer, and notes their number.
+fn write_bytes(bytes: &[u8], out: &mut [u8], out_len: &mut usize) -> Status
+    ensures { IsWritten bytes.now out.old out.new out_len.new result }
+{
+    *out_len = bytes.len();
+    if out.len() < bytes.len() {
+        return Status::NoRoom;
+    }
+    out[..bytes.len()].copy_from_slice(bytes);
+    Status::Done
+}
+
+// Encodes the entries that are given into a buffer.
+fn encode(
+    alloc: Global,
+    entries: &[SstEntry<'_>],
+    interval: u8,
+    ratio: HashRatio,
+    out: &mut [u8],
+    out_len: &mut usize,
+) -> Status
+    ensures { IsEncode entries.now interval ratio.num ratio.den out.old out.new out_len.old
+        out_len.new result }
+{
+    let items = match checked_items(alloc, entries, interval, ratio) {
+        Ok(items) => items,
+        Err(status) => return status,
+    };
+    match DataBlock::<Poly31>::encode_into_vec(alloc, items.as_slice(), interval, ratio) {
+        Ok(payload) => write_bytes(payload.as_slice(), out, out_len),
+        Err(error) => Status::Failed(error),
+    }
+}
+
+/// Encodes entries as a data block into a buffer: at least one, in order (by key rising, then by
+/// sequence number falling), at a restart interval of at least 1, with `num / den` buckets of the
+/// hash index for each entry (0 and 1 for none).
+///
+/// Returns 0, and the length of the block, which is then the front of `out`; 18 where `out` is too
+/// short, and the length that is needed; 17 exactly where the entries can't be encoded: none, one
+/// that is not an entry, out of order, an interval or a denominator of 0; 6 only where the block
+/// has 2^32 bytes or more; 15 if an allocation fails. But for 0 `out` is left, and but for 0 and 18
+/// `out_len`.
+#[unsafe(no_mangle)]
+pub extern "C" fn sst_data_block_encode(
+    entries: &[SstEntry<'_>],
+    interval: u8,
+    num: u32,
+    den: u32,
+    out: &mut [u8],
+    out_len: &mut usize,
+    alloc: Global,
+) -> u32
+    ensures { (s : Status) × (result ≡ code_of s)
+        × IsEncode entries.now interval num den out.old out.new out_len.old out_len.new s }
+{
+    encode(alloc, entries, interval, HashRatio { num, den }, out, out_len).code()
+}

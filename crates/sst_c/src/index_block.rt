@@ -1,0 +1,110 @@
+//! Index blocks.
+ghost use Rattle.std.specs.Prelude.{◌≡◌, length};
+ghost use Rattle.sst_block_core.specs.Stages.{items_in};
+ghost use Rattle.sst_block_kinds.specs.Checks.{index_check};
+ghost use Rattle.sst_block_kinds.specs.Handles.{handles};
+ghost use Rattle.sst_c.specs.Checks.{IsCheck};
+ghost use Rattle.sst_c.specs.Codes.{code_of};
+ghost use Rattle.sst_c.specs.Index.{first_for, IsHandleAnswer, IsHandleFind, IsIndexPayload};
+ghost use Rattle.sst_c.specs.declared.codes.Status.{Status};
+
+use crate::codes::Status;
+use sst_base::SeqNo;
+use sst_base::table::block::BlockHandle;
+use sst_block_core::table::block::bound::Bound;
+use sst_block_kinds::table::index_block::IndexBlockRef;
+
+/// Where the frame of a block is.
+#[repr(C)]
+#[derive(Drop)]
+pub struct SstHandle {
+    /// Where the frame begins in the file of the table, in bytes.
+    pub offset: u64,
+    /// The length of the frame in bytes.
+    pub size: u32,
+}
+
+// The range of the first handle that can lead to a key below a sequence number.
+fn find(payload: &[u8], key: &[u8], below: SeqNo) -> Option<BlockHandle>
+    requires { IsIndexPayload payload.now }
+    ensures { IsHandleAnswer result (first_for key.now below (items_in handles payload.now)) }
+{
+    let block = IndexBlockRef::new(payload);
+    let passed = Bound {
+        needle: key,
+        from: Some(below),
+    };
+    let index = block.position(&passed);
+    if index < block.len() {
+        Some(block.handle_at(index))
+    } else {
+        None
+    }
+}
+
+// Notes where the block is that can have an entry of a key below a sequence number.
+fn note_found(payload: &[u8], key: &[u8], below: SeqNo, handle: &mut SstHandle) -> Status
+    requires { IsIndexPayload payload.now }
+    ensures { IsHandleFind (first_for key.now below (items_in handles payload.now)) handle.old
+        handle.new result }
+{
+    match find(payload, key, below) {
+        Some(found) => {
+            *handle = SstHandle {
+                offset: *found.offset(),
+                size: found.size(),
+            };
+            Status::Done
+        }
+        None => Status::NotFound,
+    }
+}
+
+/// Finds the one block that can hold the first entry of a key strictly below a sequence number, in
+/// bytes that are known to be an index block: those that [`sst_index_block_check`] accepted or the
+/// library wrote. No memory is taken, and nothing is copied.
+///
+/// Returns 0 and the handle of the first block whose last entry does not sort before the key below
+/// that number; or 16 if there is none, and leaves `handle`.
+#[unsafe(no_mangle)]
+pub extern "C" fn sst_index_block_find(
+    payload: &[u8],
+    key: &[u8],
+    below_seqno: u64,
+    handle: &mut SstHandle,
+) -> u32
+    requires { IsIndexPayload payload.now }
+    ensures { (s : Status) × (result ≡ code_of s)
+        × IsHandleFind (first_for key.now below_seqno (items_in handles payload.now)) handle.old
+        handle.new s }
+{
+    note_found(payload, key, below_seqno, handle).code()
+}
+
+// Checks any bytes, and notes the number of handles.
+fn check(payload: &[u8], count: &mut usize) -> Status
+    ensures { IsCheck (IsIndexPayload payload.now) payload.now (index_check payload.now)
+        (length (items_in handles payload.now)) count.old count.new result }
+{
+    match IndexBlockRef::check(payload) {
+        Ok(block) => {
+            *count = block.len();
+            Status::Done
+        }
+        Err(error) => Status::Failed(error),
+    }
+}
+
+/// Checks any bytes as an index block. No memory is taken.
+///
+/// Returns 0 and the number of handles exactly if they are the encoding of some ordered, non-empty
+/// list of handles, each of whose blocks ends below 2^64; 6 exactly if there are 2^32 bytes or
+/// more; 7 to 11 or 14 for the first stage of the check that fails. But for 0 `count` is left.
+#[unsafe(no_mangle)]
+pub extern "C" fn sst_index_block_check(payload: &[u8], count: &mut usize) -> u32
+    ensures { (s : Status) × (result ≡ code_of s)
+        × IsCheck (IsIndexPayload payload.now) payload.now (index_check payload.now)
+        (length (items_in handles payload.now)) count.old count.new s }
+{
+    check(payload, count).code()
+}

@@ -1,0 +1,10 @@
+//! The block layer behind calls from C: `c/sst.h` in `examples/c` is the document for callers.
+//!
+//! Bytes and arrays are borrowed for the call; nothing that owns memory crosses, and nothing is kept
+//! between calls, so any thread may call. A call returns a code: see [`codes`].
+#![tactic(auto)]
+
+pub mod codes;
+pub mod data_block;
+pub mod entries;
+pub mod index_block;
