@@ -6,7 +6,9 @@ use Rattle.sst_base.specs.ReadingLaws.{value_type_of-byte}
 use Rattle.sst_base.specs.ValueType.{value_type_byte, value_type_of}
 use Rattle.sst_base.specs.declared.value_type.ValueType.{ValueType}
 use Rattle.sst_c.specs.Given.{Parts, parts_given, parts_of, AreGiven, IsGiven}
+use Rattle.sst_c.specs.Index.{HasEndKey}
 use Rattle.sst_c.specs.declared.entries.SstEntry.{SstEntry}
+use Rattle.sst_c.specs.declared.handles.SstKeyedHandle.{SstKeyedHandle}
 
 -- a byte that is read as no type is that of no entry
 pub no_type : (g : SstEntry) (e : Entry) → value_type_of g.value_type ≡ None → parts_of e ≡ parts_given g → ⊥
@@ -49,3 +51,9 @@ given_at (x ∷ gs) (e ∷ items) zero other less are =
 given_at (x ∷ gs) (e ∷ items) (suc i) other less are =
     let others : map parts_of items ≡ map parts_given gs = let s = are.1 in cc in
     given_at gs items i other (omega (arith, less)) (are.0.1, others)
+
+-- each of the end keys given is not too long
+pub end_key_at : (gs : List SstKeyedHandle) (i : ℕ) (other : SstKeyedHandle) → i < length gs → AllByRecursion HasEndKey gs → HasEndKey (slice_index_or gs i other)
+end_key_at [] i other less all = absurd (omega (arith, less))
+end_key_at (x ∷ gs) zero other less all = all.0
+end_key_at (x ∷ gs) (suc i) other less all = end_key_at gs i other (omega (arith, less)) all.1

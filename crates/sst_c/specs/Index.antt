@@ -1,11 +1,17 @@
 -- Index blocks, and the handle that leads to a key.
-use Rattle.std.specs.Prelude.{◌≡◌, ℕ, ◌<◌, ◌^◌, List, length, slice_get, Option, Some, None}
+use Rattle.std.specs.Prelude.{◌≡◌, ◌⊎◌, ℕ, ◌≤◌, ◌<◌, ◌^◌, List, length, map, slice_get, Option, Some, None}
+use Rattle.std.specs.List.{AllByRecursion}
 use Rattle.sst_base.specs.BlockHandle.{HandleParts}
+use Rattle.sst_base.specs.declared.error.Error.{Error}
+use Rattle.sst_base.specs.declared.error.Error.TheVariants.{TooLong, Memory}
+use Rattle.sst_block_core.specs.Kind.{IsOrdered}
 use Rattle.sst_block_core.specs.Window.{count_passed}
-use Rattle.sst_block_kinds.specs.Handles.{Handle, handles, IsIndexBlock}
+use Rattle.sst_block_kinds.specs.Handles.{Handle, handles, index_payload, EndFits, IsIndexBlock}
+use Rattle.sst_c.specs.Given.{AreKept, IsWritten}
 use Rattle.sst_c.specs.declared.codes.Status.{Status}
-use Rattle.sst_c.specs.declared.codes.Status.TheVariants.{Done, NotFound}
+use Rattle.sst_c.specs.declared.codes.Status.TheVariants.{Done, Failed, NotFound, BadArgument, NoRoom}
 use Rattle.sst_c.specs.declared.index_block.SstHandle.{SstHandle}
+use Rattle.sst_c.specs.declared.handles.SstKeyedHandle.{SstKeyedHandle}
 
 -- bytes are an index block: the encoding of some ordered, non-empty list of handles, shorter than 2^32
 pub record IsIndexPayload (p : List ℕ) : Type 0 where
@@ -28,3 +34,30 @@ abbrev pub IsHandleFind : Option Handle → SstHandle → SstHandle → Status �
 IsHandleFind (Some h) old new Done = (new.offset ≡ h.offset) × (new.size ≡ h.size)
 IsHandleFind None old new NotFound = new ≡ old
 IsHandleFind h old new _ = ⊥
+
+-- the handle that is given
+abbrev pub handle_given : SstKeyedHandle → Handle
+handle_given g = record { offset = g.offset; size = g.size; seqno = g.seqno; end_key = g.end_key.now }
+
+-- the end key that is given is not too long
+abbrev pub HasEndKey : SstKeyedHandle → Type 0
+HasEndKey g = length g.end_key.now ≤ 65535
+
+-- the handles that are given can be encoded
+pub record CanEncodeHandles (given : List SstKeyedHandle) (interval : ℕ) : Type 0 where
+  pub some : 1 ≤ length given
+  pub end_keys : AllByRecursion HasEndKey given
+  pub ordered : IsOrdered handles (map handle_given given)
+  pub ends : AllByRecursion EndFits (map handle_given given)
+  pub some_interval : 1 ≤ interval
+
+-- an encoding failed: the block is too long, or an allocation failed
+pub record IsIndexFailure (given : List SstKeyedHandle) (interval : ℕ) (old new : List ℕ) (len_old len_new : ℕ) (e : Error) : Type 0 where
+  pub cause : (e ≡ Memory) ⊎ ((e ≡ TooLong) × CanEncodeHandles given interval × (2 ^ 32 ≤ length (index_payload (map handle_given given) interval)))
+  pub kept : AreKept old new len_old len_new
+
+-- what becomes of an encoding: an argument is refused exactly if the handles can't be encoded
+abbrev pub IsIndexEncode : List SstKeyedHandle → ℕ → List ℕ → List ℕ → ℕ → ℕ → Status → Type 0
+IsIndexEncode given interval old new len_old len_new BadArgument = (CanEncodeHandles given interval → ⊥) × AreKept old new len_old len_new
+IsIndexEncode given interval old new len_old len_new (Failed e) = IsIndexFailure given interval old new len_old len_new e
+IsIndexEncode given interval old new len_old len_new s = CanEncodeHandles given interval × IsWritten (index_payload (map handle_given given) interval) old new len_new s

@@ -12,7 +12,7 @@ ghost use Rattle.sst_block_kinds.specs.ParsedEntry.{entry_of, IsParsedEntry};
 ghost use Rattle.sst_c.specs.Blocks.{bytes_at, IsAnswer, IsDataBlock, IsFind, IsPlaceOf};
 ghost use Rattle.sst_c.specs.Checks.{IsCheck};
 ghost use Rattle.sst_c.specs.Codes.{code_of};
-ghost use Rattle.sst_c.specs.Given.{block_payload, CanEncode, IsEncode, IsFailure, IsWritten, AreGiven};
+ghost use Rattle.sst_c.specs.Given.{block_payload, CanEncode, IsEncode, IsFailure, AreGiven};
 ghost use Rattle.sst_c.specs.declared.codes.Status.{Status};
 ghost use Rattle.sst_c.specs.declared.codes.Status.TheVariants.{Failed, BadArgument};
 ghost use Rattle.sst_base.specs.declared.error.Error.TheVariants.{Memory};
@@ -20,6 +20,7 @@ ghost use Rattle.sst_block_core.specs.Kind.{IsOrdered};
 
 use crate::codes::Status;
 use crate::entries::{SstEntry, items_of};
+use crate::output::write_bytes;
 use sst_base::table::util::SliceIndexes;
 use sst_base::{HashRatio, InternalValue, Poly31, SeqNo, Steps};
 use sst_block_kinds::table::data_block::{DataBlock, DataBlockParsedItem, DataBlockRef};
@@ -177,18 +178,6 @@ fn checked_items(
         return Err(Status::BadArgument);
     }
     Ok(items)
-}
-
-// Writes bytes at the front of a buffer, and notes their number.
-fn write_bytes(bytes: &[u8], out: &mut [u8], out_len: &mut usize) -> Status
-    ensures { IsWritten bytes.now out.old out.new out_len.new result }
-{
-    *out_len = bytes.len();
-    if out.len() < bytes.len() {
-        return Status::NoRoom;
-    }
-    out[..bytes.len()].copy_from_slice(bytes);
-    Status::Done
 }
 
 // Encodes the entries that are given into a buffer.

@@ -38,8 +38,8 @@ fn has_lengths(entry: &SstEntry<'_>) -> bool
     1 <= key && key <= MAX_KEY_LEN && value <= MAX_VALUE_LEN
 }
 
-// The bytes, copied.
-fn slice_of(alloc: Global, bytes: &[u8]) -> Result<Slice, Status>
+/// Copies bytes.
+pub(crate) fn slice_of(alloc: Global, bytes: &[u8]) -> Result<Slice, Status>
     ensures ok { IfOk result (λ s. s ≡ bytes.now) }
     ensures memory { IsOkUnless result (Failed Memory) }
 {

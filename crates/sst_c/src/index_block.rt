@@ -1,18 +1,25 @@
 //! Index blocks.
-ghost use Rattle.std.specs.Prelude.{◌≡◌, length};
+ghost use Rattle.std.specs.Prelude.{◌≡◌, ◌⊎◌, ◌≤◌, ◌^◌, length, map, IfOk, IfErr};
 ghost use Rattle.sst_block_core.specs.Stages.{items_in};
 ghost use Rattle.sst_block_kinds.specs.Checks.{index_check};
 ghost use Rattle.sst_block_kinds.specs.Handles.{handles};
 ghost use Rattle.sst_c.specs.Checks.{IsCheck};
 ghost use Rattle.sst_c.specs.Codes.{code_of};
-ghost use Rattle.sst_c.specs.Index.{first_for, IsHandleAnswer, IsHandleFind, IsIndexPayload};
+ghost use Rattle.sst_base.specs.declared.error.Error.TheVariants.{Memory};
+ghost use Rattle.sst_c.specs.Index.{first_for, handle_given, CanEncodeHandles, IsHandleAnswer};
+ghost use Rattle.sst_c.specs.Index.{IsHandleFind, IsIndexEncode, IsIndexPayload};
 ghost use Rattle.sst_c.specs.declared.codes.Status.{Status};
+ghost use Rattle.sst_c.specs.declared.codes.Status.TheVariants.{Failed, BadArgument};
 
 use crate::codes::Status;
+use crate::handles::{SstKeyedHandle, items_of};
+use crate::output::write_bytes;
 use sst_base::SeqNo;
 use sst_base::table::block::BlockHandle;
 use sst_block_core::table::block::bound::Bound;
 use sst_block_kinds::table::index_block::IndexBlockRef;
+use sst_block_kinds::{IndexBlock, KeyedBlockHandle};
+use std::alloc::Global;
 
 /// Where the frame of a block is.
 #[repr(C)]
@@ -107,4 +114,67 @@ pub extern "C" fn sst_index_block_check(payload: &[u8], count: &mut usize) -> u3
         (length (items_in handles payload.now)) count.old count.new s }
 {
     check(payload, count).code()
+}
+
+// The handles that are given, if they can be encoded.
+fn checked_items(
+    alloc: Global,
+    given: &[SstKeyedHandle<'_>],
+    interval: u8,
+) -> Result<Vec<KeyedBlockHandle>, Status>
+    ensures ok { IfOk result (λ items. items.items ≡ map handle_given given.now) }
+    ensures can { IfOk result (λ _. CanEncodeHandles given.now interval) }
+    ensures refused { IfErr result (λ s. (s ≡ Failed Memory)
+        ⊎ ((s ≡ BadArgument) × (CanEncodeHandles given.now interval → ⊥))) }
+{
+    if interval == 0 || given.is_empty() {
+        return Err(Status::BadArgument);
+    }
+    let items = items_of(alloc, given)?;
+    if !IndexBlock::is_ordered(items.as_slice()) || !IndexBlock::ends_fit(items.as_slice()) {
+        return Err(Status::BadArgument);
+    }
+    Ok(items)
+}
+
+// Encodes the handles that are given into a buffer.
+fn encode(
+    alloc: Global,
+    given: &[SstKeyedHandle<'_>],
+    interval: u8,
+    out: &mut [u8],
+    out_len: &mut usize,
+) -> Status
+    ensures { IsIndexEncode given.now interval out.old out.new out_len.old out_len.new result }
+{
+    let items = match checked_items(alloc, given, interval) {
+        Ok(items) => items,
+        Err(status) => return status,
+    };
+    match IndexBlock::encode_into_vec_with(alloc, items.as_slice(), interval) {
+        Ok(payload) => write_bytes(payload.as_slice(), out, out_len),
+        Err(error) => Status::Failed(error),
+    }
+}
+
+/// Encodes handles as an index block into a buffer: at least one, in order (by end key rising, then
+/// by sequence number falling), at a restart interval of at least 1.
+///
+/// Returns 0, and the length of the block, which is then the front of `out`; 18 where `out` is too
+/// short, and the length that is needed; 17 exactly where the handles can't be encoded: none, an end
+/// key of more than 65535 bytes, out of order, a frame that ends at 2^64 or above, an interval of 0;
+/// 6 only where the block has 2^32 bytes or more; 15 if an allocation fails. But for 0 `out` is
+/// left, and but for 0 and 18 `out_len`.
+#[unsafe(no_mangle)]
+pub extern "C" fn sst_index_block_encode(
+    handles: &[SstKeyedHandle<'_>],
+    interval: u8,
+    out: &mut [u8],
+    out_len: &mut usize,
+    alloc: Global,
+) -> u32
+    ensures { (s : Status) × (result ≡ code_of s)
+        × IsIndexEncode handles.now interval out.old out.new out_len.old out_len.new s }
+{
+    encode(alloc, handles, interval, out, out_len).code()
 }

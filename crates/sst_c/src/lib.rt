@@ -7,4 +7,6 @@
 pub mod codes;
 pub mod data_block;
 pub mod entries;
+pub mod handles;
 pub mod index_block;
+mod output;

@@ -1,0 +1,131 @@
+/* The block layer of a log-structured storage engine, for C and C++: data and index blocks over bytes
+   that the caller lends. Link libsst_c.a (tools/c-library OUT makes it) and the kit's liblibc_c.a.
+
+   What a caller owes each call:
+   - every pointer is valid for its length, aligned for its type, and never null, also with length 0;
+   - what a call writes overlaps nothing else that it is given;
+   - nobody writes what is lent while a call runs;
+   - the calls that say "a data block" or "an index block" get only bytes that the check accepted, or
+     that the library wrote. What they do with other bytes is not stated.
+   The rest is proved: each call ends, stays within the bytes that it is given, and does what is said
+   here for all arguments. A call keeps nothing and starts nothing, so any number of threads may call at
+   once. Offsets and lengths are in bytes. Keys sort bytewise; a block holds entries by key rising, then
+   by sequence number falling. A read "below" a number takes versions with a number strictly below. */
+#pragma once
+#include <stddef.h>
+#include <stdint.h>
+#ifdef __cplusplus
+extern "C" {
+#endif
+
+/* What a call returns. 1 to 15 are the library's errors E1 to E15. */
+enum sst_status {
+    SST_OK = 0,
+    SST_IO = 1,
+    SST_INVALID_HEADER = 2,
+    SST_INVALID_TAG = 3,
+    SST_CHECKSUM_MISMATCH = 4,
+    SST_LENGTH_MISMATCH = 5,
+    SST_TOO_LONG = 6,       /* 2^32 bytes or more */
+    SST_TRUNCATED = 7,      /* no room for a trailer */
+    SST_BAD_TRAILER = 8,    /* its numbers don't fit each other and the bytes */
+    SST_BAD_ENTRY = 9,      /* not as many items in their forms as the trailer says, and nothing else */
+    SST_OUT_OF_ORDER = 10,  /* an item sorts before the one before it */
+    SST_BAD_INDEX = 11,     /* a pointer of the binary index is not the offset of its head */
+    SST_BAD_HASH_INDEX = 12,
+    SST_BAD_FILTER = 13,
+    SST_BAD_HANDLE = 14,    /* a handle's block ends at 2^64 or above */
+    SST_MEMORY = 15,        /* an allocation failed */
+    SST_NOT_FOUND = 16,
+    SST_BAD_ARGUMENT = 17,
+    SST_NO_ROOM = 18        /* the buffer is too short; the length that is needed is told */
+};
+
+/* The type of an entry. A tombstone of either kind has no value. */
+enum sst_value_type { SST_VALUE = 0, SST_TOMBSTONE = 1, SST_WEAK_TOMBSTONE = 2, SST_INDIRECTION = 4 };
+
+/* The name of what a call returned. */
+static inline const char *sst_error_name(uint32_t status) {
+    static const char *const names[] = {
+        "ok", "Io", "InvalidHeader", "InvalidTag", "ChecksumMismatch", "LengthMismatch", "TooLong",
+        "Truncated", "BadTrailer", "BadEntry", "OutOfOrder", "BadIndex", "BadHashIndex", "BadFilter",
+        "BadHandle", "Memory", "not found", "bad argument", "no room"};
+    return status < sizeof names / sizeof *names ? names[status] : "no status";
+}
+
+/* An entry that is given. */
+struct sst_entry {
+    const uint8_t *key;    /* of 1 to 65535 bytes */
+    size_t key_len;
+    const uint8_t *value;  /* of at most 2^32 - 1 bytes; that of a tombstone is not stored */
+    size_t value_len;
+    uint64_t seqno;
+    uint8_t value_type;
+};
+
+/* Where the parts of an entry are in a payload. Its key is the prefix and then the key's own bytes. */
+struct sst_place {
+    uint64_t seqno;
+    size_t prefix_offset, prefix_len;
+    size_t key_offset, key_len;
+    size_t value_offset, value_len;
+    uint8_t value_type;
+};
+
+/* A handle that is given: the key and the sequence number of a block's last entry, and where its frame
+   is. */
+struct sst_keyed_handle {
+    const uint8_t *end_key;  /* of at most 65535 bytes */
+    size_t end_key_len;
+    uint64_t seqno;
+    uint64_t offset;
+    uint32_t size;
+};
+
+/* Where the frame of a block is. */
+struct sst_handle {
+    uint64_t offset;
+    uint32_t size;
+};
+
+/* Encodes entries as a data block at the front of out: restart intervals of `interval` entries, and
+   num / den buckets of the hash index for each entry (0 and 1: none).
+   SST_OK: *out_len bytes of out are the block. SST_NO_ROOM: out_cap is less than *out_len, the length
+   of the block. SST_BAD_ARGUMENT: exactly if the entries can't be encoded: there is none, one is not an
+   entry (lengths, type), they are out of order, or interval or den is 0. SST_TOO_LONG: only where the
+   block has 2^32 bytes or more. SST_MEMORY. But for SST_OK out is left, and but for SST_OK and
+   SST_NO_ROOM *out_len. Allocates: each entry is copied. */
+uint32_t sst_data_block_encode(const struct sst_entry *entries, size_t count, uint8_t interval,
+                               uint32_t num, uint32_t den, uint8_t *out, size_t out_cap,
+                               size_t *out_len);
+
+/* Checks any bytes. SST_OK: exactly if they are a data block, of *count entries. SST_TOO_LONG: exactly
+   if len is 2^32 or more. Else the first of SST_TRUNCATED to SST_BAD_HASH_INDEX that fails, in this
+   order. SST_MEMORY: only where buckets are stored. But for SST_OK *count is left. */
+uint32_t sst_data_block_check(const uint8_t *payload, size_t len, size_t *count);
+
+/* Finds the first entry of a key below a sequence number in a data block, a tombstone too. SST_OK:
+   *place is where it is. SST_NOT_FOUND: there is none, and *place is left. Takes no memory. */
+uint32_t sst_data_block_find(const uint8_t *payload, size_t len, const uint8_t *key, size_t key_len,
+                             uint64_t below_seqno, struct sst_place *place);
+
+/* Encodes handles as an index block at the front of out, in restart intervals of `interval` handles. The
+   codes are those of sst_data_block_encode; SST_BAD_ARGUMENT: exactly if there is no handle, an end key
+   is too long, the handles are out of order, a frame ends at 2^64 or above, or interval is 0. */
+uint32_t sst_index_block_encode(const struct sst_keyed_handle *handles, size_t count, uint8_t interval,
+                                uint8_t *out, size_t out_cap, size_t *out_len);
+
+/* Checks any bytes. SST_OK: exactly if they are an index block, of *count handles. SST_TOO_LONG: exactly
+   if len is 2^32 or more. Else the first that fails of SST_TRUNCATED, SST_BAD_TRAILER, SST_BAD_ENTRY,
+   SST_BAD_HANDLE, SST_OUT_OF_ORDER, SST_BAD_INDEX. But for SST_OK *count is left. Takes no memory. */
+uint32_t sst_index_block_check(const uint8_t *payload, size_t len, size_t *count);
+
+/* Finds in an index block the one block that can hold the first entry of a key below a sequence number:
+   the first whose last entry does not sort before it. SST_OK: *handle is where its frame is.
+   SST_NOT_FOUND: there is none, and *handle is left. Takes no memory. */
+uint32_t sst_index_block_find(const uint8_t *payload, size_t len, const uint8_t *key, size_t key_len,
+                              uint64_t below_seqno, struct sst_handle *handle);
+
+#ifdef __cplusplus
+}
+#endif

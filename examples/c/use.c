@@ -1,0 +1,109 @@
+/* Writes a data block, checks it, reads keys, and damages it. */
+#include "sst.h"
+#include <stdio.h>
+#include <stdlib.h>
+#include <string.h>
+
+#define COUNT 78
+static uint8_t keys[COUNT][17], values[COUNT][32];
+static struct sst_entry entries[COUNT];
+
+static void fill(void) {
+    for (int i = 0; i < COUNT; i++) {
+        snprintf((char *)keys[i], sizeof keys[i], "tbl1%012x", 2 * i);
+        memset(values[i], 'a' + i % 26, sizeof values[i]);
+        entries[i] = (struct sst_entry){keys[i], 16, values[i], 32, 100 + i,
+                                        i == 5 ? SST_TOMBSTONE : SST_VALUE};
+    }
+}
+
+static void encode(uint8_t *out, size_t cap, size_t *len, size_t count, uint8_t interval) {
+    uint32_t status = sst_data_block_encode(entries, count, interval, 1, 2, out, cap, len);
+    printf("encode %zu at %u into %zu bytes: %s, %zu\n", count, interval, cap, sst_error_name(status), *len);
+}
+
+static void find(const uint8_t *block, size_t len, const char *key, uint64_t below) {
+    struct sst_place at = {0};
+    uint32_t status = sst_data_block_find(block, len, (const uint8_t *)key, strlen(key), below, &at);
+    printf("find %s below %llu: %s", key, (unsigned long long)below, sst_error_name(status));
+    if (status == SST_OK)
+        printf(", seqno %llu, type %u, key %.*s%.*s, value %.*s", (unsigned long long)at.seqno, at.value_type,
+               (int)at.prefix_len, (const char *)block + at.prefix_offset, (int)at.key_len,
+               (const char *)block + at.key_offset, (int)at.value_len, (const char *)block + at.value_offset);
+    printf("\n");
+}
+
+static void check(const char *what, const uint8_t *block, size_t len) {
+    size_t count = 0, handles = 0;
+    uint32_t status = sst_data_block_check(block, len, &count);
+    printf("check %s: %s, %zu entries; as an index block: %s\n", what, sst_error_name(status), count,
+           sst_error_name(sst_index_block_check(block, len, &handles)));
+}
+
+static void route(const uint8_t *index, size_t len, const char *key, uint64_t below) {
+    struct sst_handle at = {0, 0};
+    uint32_t status = sst_index_block_find(index, len, (const uint8_t *)key, strlen(key), below, &at);
+    printf("route %s below %llu: %s, %llu, %u\n", key, (unsigned long long)below, sst_error_name(status),
+           (unsigned long long)at.offset, at.size);
+}
+
+/* Encodes two handles as an index block, and looks up keys. */
+static void use_index(void) {
+    struct sst_keyed_handle handles[2] = {{(const uint8_t *)"b", 1, 5, 0, 100},
+                                          {(const uint8_t *)"d", 1, 3, 100, 50}};
+    uint8_t index[100];
+    size_t len = 0, count = 0;
+    uint32_t status = sst_index_block_encode(handles, 2, 1, index, sizeof index, &len);
+    printf("encode 2 handles: %s, %zu\n", sst_error_name(status), len);
+    printf("check the index: %s, ", sst_error_name(sst_index_block_check(index, len, &count)));
+    printf("%zu handles\n", count);
+    route(index, len, "a", UINT64_MAX);
+    route(index, len, "b", UINT64_MAX);
+    route(index, len, "b", 5);
+    route(index, len, "d", UINT64_MAX);
+    route(index, len, "e", UINT64_MAX);
+    handles[1].offset = UINT64_MAX;
+    status = sst_index_block_encode(handles, 2, 1, index, sizeof index, &len);
+    printf("encode a frame that ends at 2^64: %s\n", sst_error_name(status));
+    status = sst_index_block_encode(handles, 2, 0, index, sizeof index, &len);
+    printf("encode at 0: %s\n", sst_error_name(status));
+}
+
+int main(void) {
+    fill();
+    uint8_t small[16];
+    size_t len = 0;
+    encode(small, sizeof small, &len, COUNT, 16);
+    uint8_t *block = malloc(len);
+    if (block == NULL) return 1;
+    encode(block, len, &len, COUNT, 16);
+    check("the block", block, len);
+    find(block, len, (const char *)keys[7], UINT64_MAX);
+    find(block, len, (const char *)keys[5], UINT64_MAX);
+    find(block, len, (const char *)keys[7], 107);
+    find(block, len, "tbl2", UINT64_MAX);
+    size_t unused = 0;
+    encode(small, sizeof small, &unused, 0, 16);
+    encode(small, sizeof small, &unused, COUNT, 0);
+    entries[0].value_type = 3;
+    encode(small, sizeof small, &unused, COUNT, 16);
+    entries[0].value_type = SST_VALUE;
+    entries[0].key_len = 0;
+    encode(small, sizeof small, &unused, COUNT, 16);
+    entries[0] = entries[77];
+    encode(small, sizeof small, &unused, COUNT, 16);
+    /* in a form, in a key, in the binary index, in the hash index, in the trailer */
+    const size_t places[] = {0, 5, len - 31 - 39 - 10, len - 31 - 1, len - 31, len - 1};
+    for (size_t i = 0; i < sizeof places / sizeof *places; i++) {
+        char what[48];
+        snprintf(what, sizeof what, "byte %zu turned", places[i]);
+        block[places[i]] ^= 0x55;
+        check(what, block, len);
+        block[places[i]] ^= 0x55;
+    }
+    check("30 bytes", block, 30);
+    check("no bytes", block, 0);
+    free(block);
+    use_index();
+    return 0;
+}
