@@ -1,5 +1,6 @@
 pub mod Codes
 pub mod Blocks
 pub mod Checks
+pub mod Frames
 pub mod Given
 pub mod Index

@@ -1,0 +1,36 @@
+-- Frames in a caller's buffers.
+use Rattle.std.specs.Prelude.{◌≡◌, ◌⊎◌, ℕ, ◌≤◌, ◌^◌, List, length, Ok, Err}
+use Rattle.sst_base.specs.Block.{BlockParts}
+use Rattle.sst_base.specs.BlockType.{block_type_byte, block_type_of}
+use Rattle.sst_base.specs.Frame.{frame, frame_in}
+use Rattle.sst_base.specs.Hashes.{poly31}
+use Rattle.sst_base.specs.declared.error.Error.{Error}
+use Rattle.sst_base.specs.declared.error.Error.TheVariants.{TooLong, Memory}
+use Rattle.sst_base.specs.declared.table.block.block_type.BlockType.{BlockType}
+use Rattle.sst_c.specs.Given.{AreKept, IsWritten}
+use Rattle.sst_c.specs.declared.codes.Status.{Status}
+use Rattle.sst_c.specs.declared.codes.Status.TheVariants.{Done, Failed, BadArgument, NoRoom}
+
+-- the error that ends a write: the payload is too long, or an allocation failed
+pub record IsFrameFailure (payload old new : List ℕ) (len_old len_new : ℕ) (e : Error) : Type 0 where
+  pub cause : (e ≡ Memory) ⊎ ((e ≡ TooLong) × (2 ^ 32 ≤ length payload))
+  pub kept : AreKept old new len_old len_new
+
+-- what becomes of a frame that is written: an argument is refused exactly if its byte is that of no type of block
+abbrev pub IsFrameWrite : List ℕ → ℕ → List ℕ → List ℕ → ℕ → ℕ → Status → Type 0
+IsFrameWrite payload byte old new len_old len_new BadArgument = ((t : BlockType) → block_type_of byte ≡ Ok t → ⊥) × AreKept old new len_old len_new
+IsFrameWrite payload byte old new len_old len_new (Failed e) = IsFrameFailure payload old new len_old len_new e
+IsFrameWrite payload byte old new len_old len_new s = (t : BlockType) × (block_type_of byte ≡ Ok t) × IsWritten (frame (poly31 128) t payload) old new len_new s
+
+-- bytes are refused as a frame, by the first error, or an allocation failed; what a check tells is left
+pub record IsNoFrame (bytes : List ℕ) (type_old type_new len_old len_new : ℕ) (e : Error) : Type 0 where
+  pub cause : (e ≡ Memory) ⊎ (frame_in (poly31 128) bytes ≡ Err e)
+  pub kept_type : type_new ≡ type_old
+  pub kept_len : len_new ≡ len_old
+
+-- what a check of a frame says: the byte of its type and the length of its payload, or the error
+abbrev pub IsFrameCheck : List ℕ → ℕ → ℕ → ℕ → ℕ → Status → Type 0
+IsFrameCheck bytes type_old type_new len_old len_new Done =
+    (b : BlockParts) × (frame_in (poly31 128) bytes ≡ Ok b) × (type_new ≡ block_type_byte b.header.block_type) × (len_new ≡ length b.payload)
+IsFrameCheck bytes type_old type_new len_old len_new (Failed e) = IsNoFrame bytes type_old type_new len_old len_new e
+IsFrameCheck bytes type_old type_new len_old len_new _ = ⊥

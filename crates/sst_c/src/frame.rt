@@ -1,0 +1,107 @@
+//! Frames: a header of 33 bytes with checksums, and a payload.
+ghost use Rattle.std.specs.Prelude.{◌≡◌, ◌⊎◌, ◌≤◌, ◌^◌, length, IfOk, IfErr};
+ghost use Rattle.sst_base.specs.Frame.{frame};
+ghost use Rattle.sst_base.specs.Hashes.{poly31};
+ghost use Rattle.sst_base.specs.declared.error.Error.TheVariants.{Memory, TooLong};
+ghost use Rattle.sst_c.specs.Codes.{code_of};
+ghost use Rattle.sst_c.specs.Frames.{IsFrameCheck, IsFrameWrite};
+ghost use Rattle.sst_c.specs.declared.codes.Status.{Status};
+
+use crate::codes::Status;
+use crate::output::write_bytes;
+use sst_base::{Block, BlockType, Error, Poly31, Result, Slice};
+use std::alloc::Global;
+
+// The frame of a payload.
+fn frame_of(alloc: Global, payload: &[u8], block_type: BlockType) -> Result<Vec<u8>>
+    ensures ok { IfOk result (λ v. v.items ≡ frame (poly31 128) block_type payload.now) }
+    ensures cause { IfErr result
+        (λ e. (e ≡ Memory) ⊎ ((e ≡ TooLong) × (2 ^ 32 ≤ length payload.now))) }
+{
+    let mut bytes = Vec::new(alloc);
+    match Block::write_into::<Poly31, Vec<u8>>(&mut bytes, payload, block_type) {
+        Ok(_) => Ok(bytes),
+        Err(Error::TooLong) => Err(Error::TooLong),
+        // A vector fails as a writer where its allocation does.
+        Err(_) => Err(Error::Memory),
+    }
+}
+
+// Writes the frame of a payload into a buffer.
+fn write(
+    alloc: Global,
+    payload: &[u8],
+    block_type: u8,
+    out: &mut [u8],
+    out_len: &mut usize,
+) -> Status
+    ensures { IsFrameWrite payload.now block_type out.old out.new out_len.old out_len.new result }
+{
+    let Ok(block_type) = BlockType::try_from(block_type) else {
+        return Status::BadArgument;
+    };
+    match frame_of(alloc, payload, block_type) {
+        Ok(bytes) => write_bytes(bytes.as_slice(), out, out_len),
+        Err(error) => Status::Failed(error),
+    }
+}
+
+/// Writes the frame of a payload into a buffer: its header with type, lengths and checksums, 33
+/// bytes, and the payload. The byte of the type is 0 for a data block, 1 for an index block, 2 for
+/// a filter, 3 for anything else.
+///
+/// Returns 0, and the length of the frame, which is then the front of `out`; 18 where `out` is too
+/// short, and the length that is needed; 17 exactly where the byte is that of no type; 6 only where
+/// the payload has 2^32 bytes or more; 15 if an allocation fails. But for 0 `out` is left, and but
+/// for 0 and 18 `out_len`.
+#[unsafe(no_mangle)]
+pub extern "C" fn sst_frame_write(
+    payload: &[u8],
+    block_type: u8,
+    out: &mut [u8],
+    out_len: &mut usize,
+    alloc: Global,
+) -> u32
+    ensures { (s : Status) × (result ≡ code_of s)
+        × IsFrameWrite payload.now block_type out.old out.new out_len.old out_len.new s }
+{
+    write(alloc, payload, block_type, out, out_len).code()
+}
+
+// Checks bytes as a frame, and notes what it says.
+fn check(alloc: Global, bytes: &[u8], block_type: &mut u8, payload_len: &mut usize) -> Status
+    ensures { IsFrameCheck bytes.now block_type.old block_type.new payload_len.old
+        payload_len.new result }
+{
+    let bytes = match Slice::new(alloc, bytes) {
+        Ok(bytes) => bytes,
+        Err(error) => return Status::Failed(error),
+    };
+    match Block::from_frame::<Poly31>(bytes) {
+        Ok(block) => {
+            *block_type = u8::from(block.header().block_type);
+            *payload_len = block.data().len();
+            Status::Done
+        }
+        Err(error) => Status::Failed(error),
+    }
+}
+
+/// Checks any bytes as a whole frame. The bytes are copied.
+///
+/// Returns 0, the byte of the type, and the length of the payload, which is the rest of the bytes
+/// after the first 33; or the first error: 7 below 33 bytes, 2 if they begin with another magic, 3
+/// for the byte of no type, 4 if header or payload do not have their checksums, 5 if the lengths do
+/// not fit the bytes; 15 if an allocation fails. But for 0 `block_type` and `payload_len` are left.
+#[unsafe(no_mangle)]
+pub extern "C" fn sst_frame_check(
+    bytes: &[u8],
+    block_type: &mut u8,
+    payload_len: &mut usize,
+    alloc: Global,
+) -> u32
+    ensures { (s : Status) × (result ≡ code_of s)
+        × IsFrameCheck bytes.now block_type.old block_type.new payload_len.old payload_len.new s }
+{
+    check(alloc, bytes, block_type, payload_len).code()
+}
