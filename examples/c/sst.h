@@ -126,6 +126,38 @@ uint32_t sst_index_block_check(const uint8_t *payload, size_t len, size_t *count
 uint32_t sst_index_block_find(const uint8_t *payload, size_t len, const uint8_t *key, size_t key_len,
                               uint64_t below_seqno, struct sst_handle *handle);
 
+/* A byte string that is given, such as a key of a filter. */
+struct sst_bytes {
+    const uint8_t *data;
+    size_t len;
+};
+
+/* Builds a Bloom filter of keys at so many bits for each at the front of out. SST_OK: *out_len bytes of
+   out are its payload. SST_NO_ROOM: out_cap is less than *out_len. SST_BAD_ARGUMENT: exactly if there is
+   no key, no bit, or more than 34359737920 bits in all. SST_MEMORY. But for SST_OK out is left, and but
+   for SST_OK and SST_NO_ROOM *out_len. */
+uint32_t sst_filter_build(const struct sst_bytes *keys, size_t count, uint32_t bits_per_key, uint8_t *out,
+                          size_t out_cap, size_t *out_len);
+
+/* Asks the filter in any bytes about a key. SST_OK: the key may have been inserted; for each key that
+   was, that is the answer. SST_NOT_FOUND: it was not. Else the bytes are no filter, by the first that
+   fails of SST_TRUNCATED, SST_INVALID_HEADER, SST_INVALID_TAG, SST_BAD_FILTER. Takes no memory. */
+uint32_t sst_filter_may_contain(const uint8_t *payload, size_t len, const uint8_t *key, size_t key_len);
+
+/* Writes the frame of a payload at the front of out: 33 bytes of type, lengths and checksums, and the
+   payload. block_type: 0 data, 1 index, 2 filter, 3 anything else. SST_OK: *out_len bytes of out are the
+   frame. SST_NO_ROOM: out_cap is less than *out_len. SST_BAD_ARGUMENT: exactly if block_type is none of
+   these. SST_TOO_LONG: only where len is 2^32 or more. SST_MEMORY. But for SST_OK out is left, and but
+   for SST_OK and SST_NO_ROOM *out_len. */
+uint32_t sst_frame_write(const uint8_t *payload, size_t len, uint8_t block_type, uint8_t *out, size_t out_cap,
+                         size_t *out_len);
+
+/* Checks any bytes as a whole frame. SST_OK: they are one, of a block of this type, whose payload is the
+   *payload_len bytes after the first 33. Else the first that fails of SST_TRUNCATED, SST_INVALID_HEADER,
+   SST_INVALID_TAG, SST_CHECKSUM_MISMATCH (header), SST_LENGTH_MISMATCH, SST_CHECKSUM_MISMATCH (payload);
+   or SST_MEMORY. But for SST_OK *block_type and *payload_len are left. Allocates: the frame is copied. */
+uint32_t sst_frame_check(const uint8_t *bytes, size_t len, uint8_t *block_type, size_t *payload_len);
+
 #ifdef __cplusplus
 }
 #endif

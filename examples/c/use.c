@@ -69,6 +69,45 @@ static void use_index(void) {
     printf("encode at 0: %s\n", sst_error_name(status));
 }
 
+/* Builds a filter of all keys, and asks it. */
+static void use_filter(void) {
+    struct sst_bytes names[COUNT];
+    for (int i = 0; i < COUNT; i++) names[i] = (struct sst_bytes){keys[i], 16};
+    uint8_t filter[200];
+    size_t len = 0;
+    uint32_t status = sst_filter_build(names, COUNT, 10, filter, sizeof filter, &len);
+    printf("build a filter: %s, %zu\n", sst_error_name(status), len);
+    int found = 0;
+    for (int i = 0; i < COUNT; i++) found += sst_filter_may_contain(filter, len, keys[i], 16) == SST_OK;
+    printf("of %d keys: %d\n", COUNT, found);
+    printf("another key: %s\n", sst_error_name(sst_filter_may_contain(filter, len, (const uint8_t *)"key", 3)));
+    printf("21 bytes: %s\n", sst_error_name(sst_filter_may_contain(filter, 21, keys[0], 16)));
+    filter[0] ^= 1;
+    printf("other magic: %s\n", sst_error_name(sst_filter_may_contain(filter, len, keys[0], 16)));
+    status = sst_filter_build(names, 0, 10, filter, sizeof filter, &len);
+    printf("of no key: %s\n", sst_error_name(status));
+}
+
+/* Writes a frame, checks it, and damages it. */
+static void use_frame(const uint8_t *block, size_t block_len) {
+    static uint8_t frame[4096];
+    size_t len = 0, payload_len = 0;
+    uint8_t type = 9;
+    uint32_t status = sst_frame_write(block, block_len, 0, frame, sizeof frame, &len);
+    printf("write a frame: %s, %zu\n", sst_error_name(status), len);
+    status = sst_frame_check(frame, len, &type, &payload_len);
+    printf("check it: %s, type %u, %zu bytes\n", sst_error_name(status), type, payload_len);
+    const size_t places[] = {0, 4, 5, 25, 32, 33, len - 1};
+    for (size_t i = 0; i < sizeof places / sizeof *places; i++) {
+        frame[places[i]] ^= 0x55;
+        status = sst_frame_check(frame, len, &type, &payload_len);
+        printf("byte %zu of it turned: %s\n", places[i], sst_error_name(status));
+        frame[places[i]] ^= 0x55;
+    }
+    printf("a byte less: %s\n", sst_error_name(sst_frame_check(frame, len - 1, &type, &payload_len)));
+    printf("of type 4: %s\n", sst_error_name(sst_frame_write(block, block_len, 4, frame, sizeof frame, &len)));
+}
+
 int main(void) {
     fill();
     uint8_t small[16];
@@ -103,7 +142,9 @@ int main(void) {
     }
     check("30 bytes", block, 30);
     check("no bytes", block, 0);
+    use_frame(block, len);
     free(block);
     use_index();
+    use_filter();
     return 0;
 }

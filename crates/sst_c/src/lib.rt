@@ -7,6 +7,7 @@
 pub mod codes;
 pub mod data_block;
 pub mod entries;
+pub mod filter;
 pub mod frame;
 pub mod handles;
 pub mod index_block;

@@ -1,0 +1,107 @@
+//! Bloom filters.
+ghost use Rattle.std.specs.Prelude.{◌≡◌, [], length, map, IfOk, IsOkUnless};
+ghost use Rattle.sst_base.specs.Hashes.{poly31};
+ghost use Rattle.sst_c.specs.Codes.{code_of};
+ghost use Rattle.sst_c.specs.Filters.{CanBuild, IsFilterAnswer, IsFilterBuild, IsFilterPayload};
+ghost use Rattle.sst_c.specs.declared.codes.Status.{Status};
+ghost use Rattle.sstable_blocks.specs.Filter.{filter_at, IsFilterOf};
+
+use crate::codes::Status;
+use crate::output::write_bytes;
+use sst_base::{BlockHash, Error, Poly31, Result};
+use sstable_blocks::table::filter::policy::BloomConstructionPolicy;
+use sstable_blocks::table::filter::standard_bloom::{Builder, StandardBloomFilterReader};
+use std::alloc::Global;
+
+// What the filter in any bytes says of a key.
+fn ask(payload: &[u8], key: &[u8]) -> Status
+    ensures { IsFilterAnswer (filter_at payload.now) (poly31 64 key.now) result }
+{
+    match StandardBloomFilterReader::new(payload) {
+        Ok(filter) => {
+            if filter.contains_hash(Poly31::hash64(key)) {
+                Status::Done
+            } else {
+                Status::NotFound
+            }
+        }
+        Err(error) => Status::Failed(error),
+    }
+}
+
+/// Asks the filter in any bytes about a key. No memory is taken.
+///
+/// Returns 0 if the key may have been inserted, as it is returned for each key that was; 16 if it
+/// was not; or the error that refuses the bytes: 7 below 22 bytes, 2 for another magic, 3 for
+/// another type of filter or of hash, 13 if the numbers of bits and probes do not fit the bytes.
+#[unsafe(no_mangle)]
+pub extern "C" fn sst_filter_may_contain(payload: &[u8], key: &[u8]) -> u32
+    ensures { (s : Status) × (result ≡ code_of s)
+        × IsFilterAnswer (filter_at payload.now) (poly31 64 key.now) s }
+{
+    ask(payload, key).code()
+}
+
+// Inserts the hash of each key.
+fn insert(builder: &mut Builder, keys: &[&[u8]])
+    requires { IsFilterOf [] builder.old }
+    ensures { IsFilterOf (map (λ k. poly31 64 k.now) keys.now) builder.new }
+{
+    for key in keys {
+        builder.set_with_hash(Poly31::hash64(key));
+    }
+}
+
+// The payload of a filter of keys.
+fn payload_of(alloc: Global, keys: &[&[u8]], bits: u32) -> Result<Vec<u8>>
+    requires { CanBuild (length keys.now) bits }
+    ensures ok { IfOk result (λ v. IsFilterPayload (map (λ k. poly31 64 k.now) keys.now) v.items) }
+    ensures memory { IsOkUnless result Error.Memory }
+{
+    let mut builder = Builder::with_bpk(alloc, keys.len(), bits)?;
+    insert(&mut builder, keys);
+    builder.build(alloc)
+}
+
+// Builds a filter of keys into a buffer.
+fn build(
+    alloc: Global,
+    keys: &[&[u8]],
+    bits: u32,
+    out: &mut [u8],
+    out_len: &mut usize,
+) -> Status
+    ensures { IsFilterBuild (length keys.now) bits (map (λ k. poly31 64 k.now) keys.now) out.old
+        out.new out_len.old out_len.new result }
+{
+    let policy = BloomConstructionPolicy::BitsPerKey(bits);
+    if keys.is_empty() || bits == 0 || !policy.fits(keys.len()) {
+        return Status::BadArgument;
+    }
+    match payload_of(alloc, keys, bits) {
+        Ok(payload) => write_bytes(payload.as_slice(), out, out_len),
+        Err(error) => Status::Failed(error),
+    }
+}
+
+/// Builds a Bloom filter of keys, at least one, at so many bits for each, at least 1, into a
+/// buffer.
+///
+/// Returns 0, and the length of the filter's payload, which is then the front of `out`; 18 where
+/// `out` is too short, and the length that is needed; 17 exactly where there is no key, no bit, or
+/// more than 34359737920 bits in all; 15 if an allocation fails. But for 0 `out` is left, and but
+/// for 0 and 18 `out_len`.
+#[unsafe(no_mangle)]
+pub extern "C" fn sst_filter_build(
+    keys: &[&[u8]],
+    bits_per_key: u32,
+    out: &mut [u8],
+    out_len: &mut usize,
+    alloc: Global,
+) -> u32
+    ensures { (s : Status) × (result ≡ code_of s)
+        × IsFilterBuild (length keys.now) bits_per_key (map (λ k. poly31 64 k.now) keys.now)
+        out.old out.new out_len.old out_len.new s }
+{
+    build(alloc, keys, bits_per_key, out, out_len).code()
+}
