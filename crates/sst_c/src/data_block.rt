@@ -224,5 +224,13 @@ pub extern "C" fn sst_data_block_encode(
     ensures { (s : Status) × (result ≡ code_of s)
         × IsEncode entries.now interval num den out.old out.new out_len.old out_len.new s }
 {
-    encode(alloc, entries, interval, HashRatio { num, den }, out, out_len).code()
+    encode(
+        alloc,
+        entries,
+        interval,
+        HashRatio { num, den },
+        out,
+        out_len,
+    )
+    .code()
 }

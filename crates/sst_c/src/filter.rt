@@ -64,13 +64,7 @@ fn payload_of(alloc: Global, keys: &[&[u8]], bits: u32) -> Result<Vec<u8>>
 }
 
 // Builds a filter of keys into a buffer.
-fn build(
-    alloc: Global,
-    keys: &[&[u8]],
-    bits: u32,
-    out: &mut [u8],
-    out_len: &mut usize,
-) -> Status
+fn build(alloc: Global, keys: &[&[u8]], bits: u32, out: &mut [u8], out_len: &mut usize) -> Status
     ensures { IsFilterBuild (length keys.now) bits (map (λ k. poly31 64 k.now) keys.now) out.old
         out.new out_len.old out_len.new result }
 {
