@@ -184,7 +184,7 @@ fn handle_of(
 ) -> Result<KeyedBlockHandle>
     requires { IsParsedHandle payload.now item.now }
 {
-    item.materialize(alloc, payload)
+    Ok(item.materialize(alloc, payload)?)
 }
 
 /// The handles of an index block.
