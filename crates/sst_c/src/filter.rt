@@ -60,7 +60,8 @@ fn payload_of(alloc: Global, keys: &[&[u8]], bits: u32) -> Result<Vec<u8>>
 {
     let mut builder = Builder::with_bpk(alloc, keys.len(), bits)?;
     insert(&mut builder, keys);
-    builder.build(alloc)
+    let payload = builder.build(alloc)?;
+    Ok(payload)
 }
 
 // Builds a filter of keys into a buffer.

@@ -4,4 +4,4 @@ use Rattle.sstable_blocks.specs.Filter.{IsFilterOf}
 use Rattle.sst_c.proofs.filter.insert.Given as goal
 
 abbrev pub invariant-loop-key : goal.invariant-loop-key
-invariant-loop-key l = IsFilterOf (map (λ k. poly31 64 k.now) (take l.key-index l.keys)) l.builder.now
+invariant-loop-key l = IsFilterOf (map (λ k. poly31 64 k.now) (take l.key-index l.keys)) l.builder
