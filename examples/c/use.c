@@ -80,7 +80,7 @@ static void use_filter(void) {
     int found = 0;
     for (int i = 0; i < COUNT; i++) found += sst_filter_may_contain(filter, len, keys[i], 16) == SST_OK;
     printf("of %d keys: %d\n", COUNT, found);
-    printf("another key: %s\n", sst_error_name(sst_filter_may_contain(filter, len, (const uint8_t *)"no key", 6)));
+    printf("another key: %s\n", sst_error_name(sst_filter_may_contain(filter, len, (const uint8_t *)"tbl100000000000f", 16)));
     printf("21 bytes: %s\n", sst_error_name(sst_filter_may_contain(filter, 21, keys[0], 16)));
     filter[0] ^= 1;
     printf("other magic: %s\n", sst_error_name(sst_filter_may_contain(filter, len, keys[0], 16)));
