@@ -2,7 +2,6 @@
 ghost use Rattle.std.specs.Prelude.{◌≡◌, ◌⊎◌, ◌+◌, ◌≤◌, ◌<◌, ◌^◌, List, length, IfOk, IfErr};
 ghost use Rattle.sst_base.specs.Entry.{Entry};
 ghost use Rattle.sst_base.specs.Hashes.{poly31};
-ghost use Rattle.sst_block_core.specs.Encoders.{IsRefusal};
 ghost use Rattle.sst_block_core.specs.Entries.{entries};
 ghost use Rattle.sst_block_core.specs.Found.{IsOptionalRange, optional_range};
 ghost use Rattle.sst_block_core.specs.Stages.{items_in};
@@ -12,11 +11,10 @@ ghost use Rattle.sst_block_kinds.specs.ParsedEntry.{entry_of, IsParsedEntry};
 ghost use Rattle.sst_c.specs.Blocks.{bytes_at, IsAnswer, IsDataBlock, IsFind, IsPlaceOf};
 ghost use Rattle.sst_c.specs.Checks.{IsCheck};
 ghost use Rattle.sst_c.specs.Codes.{code_of};
-ghost use Rattle.sst_c.specs.Given.{block_payload, CanEncode, IsEncode, IsFailure, AreGiven};
+ghost use Rattle.sst_c.specs.Given.{CanEncode, IsEncode};
 ghost use Rattle.sst_c.specs.declared.codes.Status.{Status};
 ghost use Rattle.sst_c.specs.declared.codes.Status.TheVariants.{Failed, BadArgument};
 ghost use Rattle.sst_base.specs.declared.error.Error.TheVariants.{Memory};
-ghost use Rattle.sst_block_core.specs.Kind.{IsOrdered};
 
 use crate::codes::Status;
 use crate::entries::{SstEntry, items_of};

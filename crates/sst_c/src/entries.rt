@@ -1,5 +1,5 @@
 //! Entries as C gives them.
-ghost use Rattle.std.specs.Prelude.{◌≡◌, ◌↔◌, ◌⊎◌, ◌≤◌, ◌<◌, ◌^◌, List, length, IfOk, IfErr, IsTrue, IsOkUnless};
+ghost use Rattle.std.specs.Prelude.{◌≡◌, ◌↔◌, ◌⊎◌, ◌<◌, ◌^◌, List, length, IfOk, IfErr, IsTrue, IsOkUnless};
 ghost use Rattle.sst_base.specs.Entry.{Entry};
 ghost use Rattle.sst_base.specs.declared.error.Error.TheVariants.{Memory};
 ghost use Rattle.sst_c.specs.Given.{AreGiven, HasLengths, IsGiven};
