@@ -69,6 +69,15 @@ int main() {
                                kBits, times, At(needles), needles.size(), 16);
           });
   }
+  Print("find of a key that is there in a trusted table, beside read_entry", kNeedles,
+        [&](uint64_t times) {
+          return sst_views_find(At(bytes), bytes.size(), kCount, kPerBlock, kInterval, 0, 100,
+                                kBits, times, At(entries.hits), entries.hits.size(), 16);
+        },
+        [&](uint64_t times) {
+          return sst_run_get(At(bytes), bytes.size(), kCount, kPerBlock, kInterval, 0, 100, kBits,
+                             times, At(entries.hits), entries.hits.size(), 16);
+        });
   const Repeated parts = [&](uint64_t times) {
     const uint64_t turns = times * blocks;
     return sst_frame_read(At(frame), frame.size(), turns) +
@@ -97,6 +106,19 @@ int main() {
                                   kBits, times);
         },
         walks);
+  const Repeated views = [&](uint64_t times) {
+    return sst_views_walk(At(block), block.size(), kPerBlock, kInterval, 0, 100, times * blocks);
+  };
+  for (bool made : {false, true}) {
+    Print(made ? "scan of borrowed bytes that makes entries, beside the walks that make entries"
+               : "scan of borrowed bytes, an entry, beside the walks over borrowed bytes",
+          kCount,
+          [&, made](uint64_t times) {
+            return sst_views_scan(At(bytes), bytes.size(), kCount, kPerBlock, kInterval, 0, 100,
+                                  kBits, made, times);
+          },
+          made ? walks : views);
+  }
   Print("check of the run without a filter, an entry, beside the frames and checks", kCount,
         [&](uint64_t times) {
           return sst_run_check(At(bytes), bytes.size(), kCount, kPerBlock, kInterval, 0, 100, 0,
@@ -118,5 +140,15 @@ int main() {
                                    kBits, kTables, times);
         },
         walks);
+  for (bool made : {false, true}) {
+    Print(made ? "merge of 8 scans of borrowed bytes that makes entries, beside the walks that do"
+               : "merge of 8 scans of borrowed bytes, beside the walks over borrowed bytes",
+          kCount,
+          [&, made](uint64_t times) {
+            return sst_views_merge(At(bytes), bytes.size(), kCount, kPerBlock, kInterval, 0, 100,
+                                   kBits, kTables, made, times);
+          },
+          made ? walks : views);
+  }
   return 0;
 }

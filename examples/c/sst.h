@@ -158,6 +158,55 @@ uint32_t sst_frame_write(const uint8_t *payload, size_t len, uint8_t block_type,
    or SST_MEMORY. But for SST_OK *block_type and *payload_len are left. Allocates: the frame is copied. */
 uint32_t sst_frame_check(const uint8_t *bytes, size_t len, uint8_t *block_type, size_t *payload_len);
 
+/* How a run is written: num / den buckets of each block's hash index for an entry (0 and 1: none), bits of
+   the filter for each entry (0: no filter), and the numbers of entries and of handles in a restart
+   interval. */
+struct sst_run_config {
+    uint32_t num, den;
+    uint32_t bits_per_key;
+    uint8_t restart_interval;
+    uint8_t index_interval;
+};
+
+/* Where the frames of a run's index and of its filter are. There is no filter where its size is 0. */
+struct sst_run_handles {
+    uint64_t index_offset, filter_offset;
+    uint32_t index_size, filter_size;
+};
+
+/* What a check of a run counts. */
+struct sst_summary {
+    size_t blocks;
+    uint64_t entries;
+    uint64_t least_seqno, greatest_seqno;
+};
+
+/* Writes entries as a run at the front of out: the frames of their blocks, of the index, and of the
+   filter. cuts has the indexes of the entries that begin a block but the first: they rise, and are at
+   least 1 and below count. SST_OK: *out_len bytes of out are the run, and *handles tells its frames.
+   SST_NO_ROOM: out_cap is less than *out_len. SST_BAD_ARGUMENT: exactly if the entries can't be written
+   so: those of sst_data_block_encode, cuts that don't fit, or an interval of 0. SST_TOO_LONG: only where
+   a block has more than 4294967262 bytes, the filter more than 34359737920 bits, or the run 2^64 bytes
+   or more. SST_MEMORY. But for SST_OK out and *handles are left, and but for SST_OK and SST_NO_ROOM
+   *out_len. */
+uint32_t sst_run_write(const struct sst_entry *entries, size_t count, const size_t *cuts, size_t cut_count,
+                       const struct sst_run_config *config, uint8_t *out, size_t out_cap, size_t *out_len,
+                       struct sst_run_handles *handles);
+
+/* Checks any bytes and handles. SST_OK: exactly if they are a run: its frames have their checksums and
+   follow each other, its blocks, index and filter are encodings, all entries are in order, each handle
+   of the index has the last entry of its block, and the filter hides no key. Else the first error of
+   SST_INVALID_HEADER to SST_BAD_HANDLE, the blocks in their order, or SST_MEMORY, and *summary is left.
+   Each frame is copied while it is checked. */
+uint32_t sst_run_check(const uint8_t *run, size_t len, const struct sst_run_handles *handles,
+                       struct sst_summary *summary);
+
+/* Finds the first entry of a key below a sequence number in a run that sst_run_check accepted or
+   sst_run_write wrote, a tombstone too. SST_OK: *place is where it is in the run. SST_NOT_FOUND: there is
+   none, and *place is left. Takes no memory, and copies nothing. */
+uint32_t sst_run_get(const uint8_t *run, size_t len, const struct sst_run_handles *handles,
+                     const uint8_t *key, size_t key_len, uint64_t below_seqno, struct sst_place *place);
+
 #ifdef __cplusplus
 }
 #endif

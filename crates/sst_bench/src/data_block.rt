@@ -49,7 +49,7 @@ pub(crate) fn items_in(
 }
 
 // The block of the entries, if it can be encoded.
-fn block_in(
+pub(crate) fn block_in(
     alloc: Global,
     bytes: &[u8],
     count: usize,

@@ -19,6 +19,7 @@ pub mod merges;
 pub mod run;
 pub mod sums;
 pub mod tables;
+pub mod views;
 
 /// What a call returns that does not take its input.
 pub const REFUSED: u64 = u64::MAX;

@@ -22,7 +22,7 @@ type ScannedTrusted<'a, 'k> = Head<InternalValue, TrustedScan<'a, 'k, Poly31>>;
 
 // A run in memory.
 #[derive(Drop)]
-struct Stored {
+pub(crate) struct Stored {
     bytes: Slice,
     handles: RunHandles,
 }
@@ -44,7 +44,7 @@ fn every(
 }
 
 // The runs of the parts of a list.
-fn runs_of(
+pub(crate) fn runs_of(
     alloc: Global,
     items: &[InternalValue],
     per_block: usize,
@@ -64,7 +64,7 @@ fn runs_of(
 }
 
 // Opens a table over each run.
-fn tables_of(alloc: Global, runs: &[Stored]) -> Option<Vec<Table<Poly31, MemorySource>>> {
+pub(crate) fn tables_of(alloc: Global, runs: &[Stored]) -> Option<Vec<Table<Poly31, MemorySource>>> {
     let mut tables = Vec::new(alloc);
     for run in runs {
         let source = MemorySource::new(run.bytes.clone().ok()?);
@@ -120,7 +120,7 @@ fn trusted_of(
 }
 
 // Checks tables whole, and trusts them.
-fn all_trusted<'a>(
+pub(crate) fn all_trusted<'a>(
     alloc: Global,
     tables: &'a mut [Table<Poly31, MemorySource>],
 ) -> Option<Vec<Trusted<'a, Poly31>>> {

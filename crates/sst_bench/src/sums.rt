@@ -4,6 +4,7 @@ ghost use Rattle.sst_bench.specs.Blocks.{entry_sum};
 
 use sst_base::InternalValue;
 use sst_base::table::util::SliceIndexes;
+use sst_block_kinds::table::data_block::EntryView;
 use sst_block_kinds::{DataBlockParsedItem, IndexBlockParsedItem};
 
 // Start and end of a range, each times a factor.
@@ -63,5 +64,19 @@ pub fn entry_sum(entry: &InternalValue) -> u64
         .wrapping_add(key.len() as u64)
         .wrapping_add(value.len() as u64)
         .wrapping_add(last_byte(key))
+        .wrapping_add(last_byte(value))
+}
+
+/// The same of an entry that borrows its block.
+#[inline(always)]
+pub fn view_sum(entry: &EntryView<'_>) -> u64 {
+    let (prefix, rest) = entry.key_parts();
+    let value = entry.value();
+    entry
+        .seqno()
+        .wrapping_add(prefix.len() as u64)
+        .wrapping_add(rest.len() as u64)
+        .wrapping_add(value.len() as u64)
+        .wrapping_add(last_byte(rest))
         .wrapping_add(last_byte(value))
 }

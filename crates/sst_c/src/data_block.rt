@@ -59,8 +59,8 @@ fn place_of_range(payload: &[u8], range: &Option<SliceIndexes>) -> (usize, usize
     }
 }
 
-// Where a parsed item's parts are.
-fn place_of(payload: &[u8], item: &DataBlockParsedItem) -> SstPlace
+/// Where a parsed item's parts are.
+pub(crate) fn place_of(payload: &[u8], item: &DataBlockParsedItem) -> SstPlace
     requires { IsParsedEntry payload.now item.now }
     ensures { IsPlaceOf payload.now result (entry_of payload.now item.now) }
 {

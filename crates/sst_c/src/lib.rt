@@ -12,3 +12,4 @@ pub mod frame;
 pub mod handles;
 pub mod index_block;
 mod output;
+pub mod run;

@@ -11,8 +11,9 @@ use crate::reader::Reader;
 use crate::source::{BackSource, Source};
 use sst_base::{BlockHash, InternalValue, Result, SeqNo, Steps};
 use sst_block_kinds::laws::first_match_of_plain;
+use sst_block_kinds::table::data_block::EntryView;
 use sstable_blocks::run::laws::{accepted_run_is_sound, sound_is_scanned};
-use sstable_blocks::run::{FrameSource, Scan, Table, TrustedScan};
+use sstable_blocks::run::{FrameSource, RunScan, Scan, Table, TrustedScan};
 use std::alloc::Global;
 
 /// A scan of a stored table. Its entries are known where the bytes of the table are, every block
@@ -57,6 +58,27 @@ impl<'a, 'k, H: BlockHash> BackSource<InternalValue> for TrustedScan<'a, 'k, H> 
 
     fn next_entry_back(&mut self, alloc: Global) -> Result<Option<InternalValue>> {
         TrustedScan::next_entry_back(self, alloc)
+    }
+}
+
+/// A scan of a run over borrowed bytes, whose entries are known. It gives entries that borrow these
+/// bytes, takes no memory, and never fails.
+impl<'a, 'k, H: BlockHash> Source<EntryView<'a>> for RunScan<'a, 'k, H> {
+    ghost left = { λ s. record { list = Some s.left; most = length s.left } };
+
+    #[inline(always)]
+    fn next_entry(&mut self, _alloc: Global) -> Result<Option<EntryView<'a>>> {
+        Ok(self.next())
+    }
+}
+
+/// The same scan, from the back.
+impl<'a, 'k, H: BlockHash> BackSource<EntryView<'a>> for RunScan<'a, 'k, H> {
+    ghost left_back = { λ s. record { list = Some s.left; most = length s.left } };
+
+    #[inline(always)]
+    fn next_entry_back(&mut self, _alloc: Global) -> Result<Option<EntryView<'a>>> {
+        Ok(self.next_back())
     }
 }
 

@@ -6,7 +6,8 @@ ghost use Rattle.sst_base.specs.Entry.{Entry};
 ghost use Rattle.sst_merge.specs.Merge.{entry_cmp};
 ghost use Rattle.sst_merge.specs.Snapshot.{deletes};
 
-use sst_base::{InternalValue, SeqNo, UserKey, ValueType};
+use sst_base::{InternalValue, SeqNo, Slice, UserKey, ValueType};
+use sst_block_kinds::table::data_block::EntryView;
 use std::alloc::{AllocError, Global};
 use std::cmp::Ordering;
 
@@ -62,6 +63,39 @@ impl Version for InternalValue {
 
     fn is_tombstone(&self) -> bool {
         match self.key().value_type() {
+            ValueType::Tombstone | ValueType::WeakTombstone => true,
+            ValueType::Value | ValueType::Indirection => false,
+        }
+    }
+}
+
+/// An entry that borrows the bytes of its block: it is compared and passed on without being made.
+impl<'a> Version for EntryView<'a> {
+    ghost entry = { λ e. e };
+
+    #[inline(always)]
+    fn compare(&self, other: &EntryView<'a>) -> Ordering {
+        EntryView::compare(self, other)
+    }
+
+    fn seqno(&self) -> SeqNo {
+        EntryView::seqno(self)
+    }
+
+    fn has_user_key(&self, user_key: &[u8]) -> bool {
+        self.compare_key(user_key).is_eq()
+    }
+
+    fn user_key(&self, alloc: Global) -> Result<UserKey, AllocError> {
+        let (prefix, rest) = self.key_parts();
+        match Slice::fused(alloc, prefix, rest) {
+            Ok(user_key) => Ok(user_key),
+            Err(_) => Err(AllocError),
+        }
+    }
+
+    fn is_tombstone(&self) -> bool {
+        match self.value_type() {
             ValueType::Tombstone | ValueType::WeakTombstone => true,
             ValueType::Value | ValueType::Indirection => false,
         }

@@ -32,4 +32,5 @@ pub mod ScanCounts
 pub mod ScanSteps
 pub mod ScanCuts
 pub mod TrustedScans
+pub mod RunScans
 pub mod KeptReads

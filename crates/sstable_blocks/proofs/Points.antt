@@ -1,14 +1,16 @@
 -- A point read of a run, by what a reader finds in it.
 use Rattle.std.proofs.Common.{◌≡◌, ℕ, ◌+◌, ◌-◌, ◌≤◌, List, length, take, drop, refl, arith, sym, ◌∙◌, ap, subst, Option, Some, None, Result, Ok}
+use Rattle.std.proofs.Math.Nat.{min-le_left}
+use Rattle.std.proofs.lemmas.List.{length-take}
 use Rattle.std.specs.List.{slice_get}
 use Rattle.std.specs.Option.{option_map}
 use Rattle.sst_base.specs.BlockHandle.{HandleParts}
 use Rattle.sst_base.specs.declared.error.Error.{Error}
-use Rattle.sst_block_kinds.specs.DataBlock.{DataBlockParts}
+use Rattle.sst_block_kinds.specs.DataBlock.{DataBlockParts, DataRefParts}
 use Rattle.sst_block_core.specs.Entries.{entries}
 use Rattle.sst_block_kinds.specs.Handles.{Handle, handles}
 use Rattle.sst_block_core.specs.Intervals.{digits}
-use Rattle.sst_block_kinds.specs.PointReads.{lookup, heads_most, entries_most, read_heads, read_entries}
+use Rattle.sst_block_kinds.specs.PointReads.{lookup, ref_lookup, heads_most, entries_most, read_heads, read_entries, ref_read_most}
 use Rattle.sst_block_core.specs.Pointers.{head_count}
 use Rattle.sst_block_core.specs.Stages.{items_in}
 use Rattle.sst_block_core.specs.Window.{first_match}
@@ -43,6 +45,22 @@ entries_by Anywhere n = omega arith
 
 pub block_entries : (hash : List ℕ → ℕ) (d : DataBlockParts) (key : List ℕ) → read_entries hash d key ≤ d.interval + 1
 block_entries hash d key = entries_by (lookup hash d key) d.interval
+
+-- the same where the payload is borrowed
+pub ref_heads : (hash : List ℕ → ℕ) (d : DataRefParts) (key : List ℕ) → (ref_read_most hash d key).0 ≤ digits (head_count d.interval (length d.items))
+ref_heads hash d key = heads_by (ref_lookup hash d key) (head_count d.interval (length d.items))
+
+pub ref_entries : (hash : List ℕ → ℕ) (d : DataRefParts) (key : List ℕ) → (ref_read_most hash d key).1 ≤ d.interval + 1
+ref_entries hash d key = entries_by (ref_lookup hash d key) d.interval
+
+-- a payload has no more bytes than its frame
+pub payload_fits : (bytes : List ℕ) (h : HandleParts) → length (payload_in bytes h) ≤ h.size
+unfolding payload_in
+payload_fits bytes h =
+    let rest = drop (h.offset + 33) bytes in
+    let least = min-le_left (h.size - 33) (length rest) in
+    let size = length-take (h.size - 33) rest in
+    omega (arith, least, size)
 
 pub some_range : (x : Option Handle) (k : HandleParts) → option_map range_of x ≡ Some k → (g : Handle) × (x ≡ Some g) × (range_of g ≡ k)
 some_range None k e = cc

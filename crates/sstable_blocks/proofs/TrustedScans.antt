@@ -17,12 +17,12 @@ use Rattle.sstable_blocks.specs.RunReading.{Hashes, items_at}
 use Rattle.sstable_blocks.specs.Scans.{KeyRange, Read, within, block_within, reads_of, blocks_read, reads_among, between, entries_read, error_of, IsRead, GivesFirst, GivesLast}
 
 module _ {X : Type 0} (P : X → Type 0) where
-  some_dropped : (n : ℕ) (xs : List X) → AllByRecursion P xs → AllByRecursion P (drop n xs)
+  pub some_dropped : (n : ℕ) (xs : List X) → AllByRecursion P xs → AllByRecursion P (drop n xs)
   some_dropped zero xs a = a
   some_dropped (suc n) [] a = tt
   some_dropped (suc n) (x ∷ xs) a = some_dropped n xs a.1
 
-  some_taken : (n : ℕ) (xs : List X) → AllByRecursion P xs → AllByRecursion P (take n xs)
+  pub some_taken : (n : ℕ) (xs : List X) → AllByRecursion P xs → AllByRecursion P (take n xs)
   some_taken zero xs a = tt
   some_taken (suc n) [] a = tt
   some_taken (suc n) (x ∷ xs) a = (a.0, some_taken n xs a.1)

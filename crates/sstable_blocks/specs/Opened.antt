@@ -1,9 +1,12 @@
 -- What a reader finds in a run.
 use Rattle.std.specs.Prelude.{◌≡◌, ℕ, ◌+◌, ◌-◌, ◌≤◌, List, length, map, take, drop, slice_get, Option, Some, None, IfSome, Ok}
+use Rattle.std.specs.Option.{option_map}
 use Rattle.sst_base.specs.BlockHandle.{HandleParts}
 use Rattle.sst_base.specs.Entry.{Entry, IsEntry, plain}
 use Rattle.sst_block_core.specs.Entries.{entries}
 use Rattle.sst_block_kinds.specs.Handles.{Handle, handles, IsIndexBlock}
+use Rattle.sst_block_kinds.specs.ParsedEntry.{entry_of, IsParsedEntry}
+use Rattle.sst_block_kinds.specs.declared.table.data_block.parsed_item.DataBlockParsedItem.{DataBlockParsedItem}
 use Rattle.sst_block_core.specs.Payload.{IsBlock}
 use Rattle.sst_block_core.specs.Stages.{items_in}
 use Rattle.sst_block_core.specs.Window.{first_match}
@@ -72,3 +75,12 @@ pub record Opened (hash64 : List ℕ → ℕ) (blocks : List (List Entry)) (byte
   pub filter_range : IfSome h.filter (IsFrameRange bytes)
   pub filter_reads : IfSome h.filter (λ g. (x : Filter) × (filter_at (payload_in bytes g) ≡ Ok x))
   pub filter_denies : (needle : List ℕ) (seqno : ℕ) → IsDenied bytes h.filter (hash64 needle) → first_match entries needle seqno (joined blocks) ≡ None
+
+-- an item that was found, if one was, is parsed in the payload of its block, whose frame is in the bytes
+abbrev pub IsFoundIn : List ℕ → Option (HandleParts × DataBlockParsedItem) → Type 0
+IsFoundIn bytes None = Unit {0}
+IsFoundIn bytes (Some f) = IsFrameRange bytes f.0 × IsParsedEntry (payload_in bytes f.0) f.1
+
+-- the entry that was found, if one was
+abbrev pub found_entry : List ℕ → Option (HandleParts × DataBlockParsedItem) → Option Entry
+found_entry bytes found = option_map (λ f. entry_of (payload_in bytes f.0) f.1) found

@@ -8,6 +8,7 @@ use Rattle.sst_base.specs.Entry.{Entry}
 use Rattle.sst_base.specs.Header.{◌>>=◌}
 use Rattle.sst_base.specs.declared.error.Error.{Error}
 use Rattle.sst_base.specs.declared.error.Error.TheVariants.{Io, Memory, BadHandle}
+use Rattle.std.specs.Iterator.{YieldsFirst, YieldsLast}
 use Rattle.std.specs.List.{AllByRecursion}
 use Rattle.sst_block_core.specs.Entries.{entries}
 use Rattle.sst_block_core.specs.Scan.{Scan}
@@ -226,3 +227,41 @@ pub record TrustedScanParts : Type 0 where
   pub range : KeyRange
   pub left : List Entry
   pub ended : Option Error
+
+-- the entries in a range of the blocks of handles, as they are in bytes
+abbrev pub entries_within : List ℕ → KeyRange → List Handle → List Entry
+entries_within bytes r [] = []
+entries_within bytes r (h ∷ hs) = within r (items_in entries (payload_in bytes (range_of h))) ++ entries_within bytes r hs
+
+-- entries, those in a range of the blocks of handles, and entries
+abbrev pub entries_among : List ℕ → KeyRange → List Entry → List Handle → List Entry → List Entry
+entries_among bytes r front hs back = front ++ (entries_within bytes r hs ++ back)
+
+-- the entries left of a block that was opened over borrowed bytes, if one was
+abbrev pub views_left : Option (List Entry) → List Entry
+views_left None = []
+views_left (Some xs) = xs
+
+-- the entries left of a run by the ends of a scan: those of the blocks opened from the front and from the back, and those
+-- of the blocks of handles between two indexes
+abbrev pub left_by : RunParts → KeyRange → Option (List Entry) → ℕ → ℕ → Option (List Entry) → List Entry
+left_by run r front lo hi back =
+    entries_among run.bytes r (views_left front) (between (index_in run.bytes run.handles.index) lo hi) (views_left back)
+
+-- what contracts see of a scan over borrowed bytes: the bytes and the handles, the range, and the entries left
+pub record RunScanParts : Type 0 where
+  pub run : RunParts
+  pub range : KeyRange
+  pub left : List Entry
+
+-- a step from the front of a scan gives the first entry left, which is then gone
+pub record ScansFirst (old : RunScanParts) (result : Option Entry) (new : RunScanParts) : Type 0 where
+  pub run : new.run ≡ old.run
+  pub range : new.range ≡ old.range
+  pub first : YieldsFirst (λ xs. xs) old.left result new.left
+
+-- a step from the back gives the last
+pub record ScansLast (old : RunScanParts) (result : Option Entry) (new : RunScanParts) : Type 0 where
+  pub run : new.run ≡ old.run
+  pub range : new.range ≡ old.range
+  pub last : YieldsLast (λ xs. xs) old.left result new.left

@@ -108,12 +108,17 @@ impl<H: BlockHash> Opened<H> {
         let mut steps = Steps::new();
         let by_table = self.table.get(alloc, needle, below, &mut steps)?;
         let by_trusted = trusted.get(alloc, needle, below, &mut steps)?;
+        let by_ref = match trusted.by_ref().find(needle, below, &mut steps) {
+            Some(view) => Some(view.to_entry(alloc)?),
+            None => None,
+        };
         let by_checked = self.checked.get(alloc, needle, below, &mut steps)?;
         let source = &mut self.source;
         let by_source = read_entry_checked::<H, _>(alloc, source, &self.handles, needle, below)?;
         Ok(
             is_found(wanted, by_table.as_ref())
                 && is_found(wanted, by_trusted.as_ref())
+                && is_found(wanted, by_ref.as_ref())
                 && is_found(wanted, by_checked.as_ref())
                 && is_found(wanted, by_source.as_ref()),
         )

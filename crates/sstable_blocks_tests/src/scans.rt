@@ -7,8 +7,8 @@ use crate::runs::{THREE_BLOCKS, handles_of, value_of};
 use sst_base::{ByteSum, Error, InternalValue, Result, Slice, Steps};
 use sst_block_kinds_tests::random::{Random, key_of};
 use sstable_blocks::{
-    FileSource, FrameSource, MemorySource, RunConfig, Scan, SizedSource, Table, TrustedScan,
-    encode_footer, write_run,
+    BorrowedSource, FileSource, FrameSource, MemorySource, RunConfig, RunScan, Scan, SizedSource,
+    Table, TrustedScan, encode_footer, write_run,
 };
 use std::alloc::Global;
 use std::io::Cursor;
@@ -87,6 +87,9 @@ fn worked_run_is_scanned(rt: HostRuntime) -> crate::Tested {
         let file = FileSource::new(Cursor::new(THREE_BLOCKS.as_slice()));
         let values = scan_worked(alloc, file, &range, 5)?;
         assert!(rt; values.as_slice() == wanted, "file");
+        let borrowed = BorrowedSource::new(&THREE_BLOCKS);
+        let values = scan_worked(alloc, borrowed, &range, 6)?;
+        assert!(rt; values.as_slice() == wanted, "borrowed");
     }
     Ok(())
 }
@@ -277,6 +280,16 @@ impl BothEnds for TrustedScan<'_, '_, ByteSum> {
     }
 }
 
+impl BothEnds for RunScan<'_, '_, ByteSum> {
+    fn step(&mut self, alloc: Global, is_first: bool) -> Result<Option<InternalValue>> {
+        let taken = if is_first { self.next() } else { self.next_back() };
+        match taken {
+            Some(view) => Ok(Some(view.to_entry(alloc)?)),
+            None => Ok(None),
+        }
+    }
+}
+
 /// Whether a scan gives the entries of a list at these indexes, from both ends in a random mixture,
 /// and then none.
 fn gives_all<S: BothEnds>(
@@ -331,8 +344,10 @@ fn is_scanned(alloc: Global, seed: u64) -> Result<bool> {
         let to = bound_at(&end, &mut random);
         let indexes = indexes_in(alloc, &list, &from, &to)?;
         let mut cut = trusted.scan_range(from, to);
+        let mut views = trusted.by_ref().scan_range(from, to);
         let mut scan = table.scan_range(from, to);
         if !gives_all(alloc, &mut cut, &list, &indexes, &mut random)?
+            || !gives_all(alloc, &mut views, &list, &indexes, &mut random)?
             || !gives_all(alloc, &mut scan, &list, &indexes, &mut random)?
         {
             return Ok(false);

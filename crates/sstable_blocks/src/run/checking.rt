@@ -21,7 +21,7 @@ use super::source::FrameSource;
 use crate::table::filter::standard_bloom::StandardBloomFilterReader;
 use sst_base::{BlockHandle, BlockHash, BlockType, Error, Result, SeqNo, Slice, UserKey};
 use sst_block_core::table::block::ParsedItem;
-use sst_block_kinds::table::data_block::EntryRef;
+use sst_block_kinds::table::data_block::EntryView;
 use sst_block_kinds::{DataBlock, IndexBlock, KeyedBlockHandle};
 use std::alloc::Global;
 
@@ -106,7 +106,7 @@ fn starts_after_end<H: BlockHash>(last: &Option<KeyedBlockHandle>, block: &DataB
 }
 
 // Whether an entry has the end key and the sequence number of a handle.
-fn is_end_of(handle: &KeyedBlockHandle, entry: &EntryRef<'_>) -> bool
+fn is_end_of(handle: &KeyedBlockHandle, entry: &EntryView<'_>) -> bool
     ensures { result ≡ is_end handle.now entry.now }
 {
     entry.seqno() == handle.seqno() && entry.compare_key(handle.end_key().as_slice()).is_eq()
@@ -116,7 +116,7 @@ fn is_end_of(handle: &KeyedBlockHandle, entry: &EntryRef<'_>) -> bool
 fn is_allowed<H: BlockHash>(
     alloc: Global,
     filter: &Option<StandardBloomFilterReader<'_>>,
-    entry: &EntryRef<'_>,
+    entry: &EntryView<'_>,
 ) -> Result<bool>
     ensures ok { IfOk result (λ b. b ≡ allows H.hash64 filter.now entry.now) }
     ensures memory { IsOkUnless result Error.Memory }
@@ -145,7 +145,7 @@ fn check_entries<H: BlockHash>(
 {
     let (mut least, mut greatest) = range;
     let mut ends = false;
-    for entry in block.entries() {
+    for entry in block.by_ref().entries() {
         if !is_allowed::<H>(alloc, filter, &entry)? {
             return Err(Error::BadFilter);
         }

@@ -1,6 +1,7 @@
 //! Runs: an ordered list of entries in blocks, written as frames with an index and a filter.
 ghost use Rattle.std.specs.Prelude.{◌≡◌};
 
+mod bounds;
 pub mod checked;
 pub mod checked_run;
 pub mod checking;
@@ -11,6 +12,8 @@ mod opener;
 pub mod read;
 pub mod round_trip;
 mod run_core;
+pub mod run_ref;
+pub mod run_scan;
 pub mod scan;
 mod scan_steps;
 pub mod source;
@@ -26,8 +29,10 @@ pub use checking::{RunSummary, check};
 pub use footer::{decode_footer, encode_footer};
 pub use read::read_entry;
 pub use round_trip::write_and_read;
+pub use run_ref::RunRef;
+pub use run_scan::RunScan;
 pub use scan::Scan;
-pub use source::{FileSource, FrameSource, MemorySource, SizedSource};
+pub use source::{BorrowedSource, FileSource, FrameSource, MemorySource, SizedSource};
 use sst_base::{BlockHandle, HashRatio};
 pub use table::{OpenError, Table};
 pub use trusted::Trusted;

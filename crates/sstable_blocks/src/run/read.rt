@@ -6,6 +6,7 @@ ghost use Rattle.std.specs.Option.{option_map};
 ghost use Rattle.sst_base.specs.Counted.{CountsExactly, CountsBetween};
 ghost use Rattle.sst_base.specs.Entry.{Entry, IsEntry};
 ghost use Rattle.sst_block_core.specs.Entries.{entries};
+ghost use Rattle.sst_block_kinds.specs.DataBlock.{data_ref_of};
 ghost use Rattle.sst_block_kinds.specs.Handles.{Handle, handles, IsIndexBlock};
 ghost use Rattle.sst_block_core.specs.Intervals.{digits};
 ghost use Rattle.sst_block_core.specs.Payload.{IsBlock};
@@ -16,7 +17,7 @@ ghost use Rattle.sst_block_core.specs.Window.{first_match};
 ghost use Rattle.sstable_blocks.specs.Blocks.{joined};
 ghost use Rattle.sstable_blocks.specs.Lookup.{handle_for};
 ghost use Rattle.sstable_blocks.specs.Opened.{range_of, index_in, payload_in};
-ghost use Rattle.sstable_blocks.specs.Opened.{IsDenied, IsFrameRange};
+ghost use Rattle.sstable_blocks.specs.Opened.{IsDenied, IsFoundIn, IsFrameRange, found_entry};
 ghost use Rattle.sstable_blocks.specs.ReadCosts.{handles_most, heads_most_in, entries_most_in};
 ghost use Rattle.sstable_blocks.specs.RunReading.{hashes};
 ghost use Rattle.sstable_blocks.specs.Sound.{IsSound};
@@ -28,6 +29,8 @@ use sst_base::table::block::header::HEADER_LEN;
 use sst_base::{
     Block, BlockHandle, BlockHash, BlockType, Error, InternalValue, Result, SeqNo, Slice, Steps,
 };
+use sst_block_kinds::table::data_block::{DataBlockParsedItem, DataBlockRef};
+use sst_block_kinds::table::index_block::IndexBlockRef;
 use sst_block_kinds::{DataBlock, IndexBlock};
 use std::alloc::Global;
 
@@ -67,8 +70,8 @@ fn is_allowed(bytes: &[u8], filter: &Option<BlockHandle>, hash: u64) -> bool
 
 // The first handle of an index that can lead to a key below a sequence number.
 #[tactic(auto, using(crate::proofs::IndexSteps::found_range, crate::proofs::IndexSteps::handles_by_scan))]
-pub(crate) fn find_handle(
-    index: &IndexBlock,
+pub(crate) fn find_handle_in(
+    index: &IndexBlockRef<'_>,
     needle: &[u8],
     seqno: SeqNo,
     steps: &mut Steps,
@@ -88,6 +91,23 @@ pub(crate) fn find_handle(
         Some(item) => Some(BlockHandle::new(item.offset, item.size)),
         None => None,
     }
+}
+
+// The same for an index that owns its payload.
+pub(crate) fn find_handle(
+    index: &IndexBlock,
+    needle: &[u8],
+    seqno: SeqNo,
+    steps: &mut Steps,
+) -> Option<BlockHandle>
+    ensures found { result
+        ≡ option_map range_of (handle_for handles needle.now seqno index.now.items) }
+    ensures counts { CountsBetween steps.old steps.new (1, 0) (
+      digits (head_count index.now.interval (length index.now.items)),
+      handles_most index.now.interval,
+    ) }
+{
+    find_handle_in(&index.by_ref(), needle, seqno, steps)
 }
 
 // The handle of the block that can hold a key below a sequence number, by the index in a frame.
@@ -156,6 +176,50 @@ pub(crate) fn match_in<H: BlockHash>(
 {
     let block = DataBlock::<H>::new(block_at(bytes, handle, BlockType::Data)?);
     block.point_read(alloc, needle, seqno, steps)
+}
+
+// The data block in a frame, over the same bytes.
+#[tactic(auto, using(crate::proofs::Points::payload_fits))]
+pub(crate) fn block_over<'a, H: BlockHash>(
+    bytes: &'a [u8],
+    handle: &BlockHandle,
+) -> DataBlockRef<'a, H>
+    requires range { IsFrameRange bytes.now handle.now }
+    requires block { (items : List Entry) × (r : ℕ) × (b : ℕ)
+        × IsBlock entries IsEntry H.hash64 (payload_in bytes.now handle.now) items r b }
+    ensures { result ≡ data_ref_of (payload_in bytes.now handle.now) }
+{
+    // The proof needs the bound on the size.
+    let _fits = handle.size();
+    DataBlockRef::new(payload_at(bytes, handle))
+}
+
+// Where the first match in the block in a frame is.
+#[tactic(auto, using(crate::proofs::Points::ref_heads, crate::proofs::Points::ref_entries))]
+pub(crate) fn item_in<H: BlockHash>(
+    bytes: &[u8],
+    handle: BlockHandle,
+    needle: &[u8],
+    seqno: SeqNo,
+    steps: &mut Steps,
+) -> Option<(BlockHandle, DataBlockParsedItem)>
+    requires range { IsFrameRange bytes.now handle }
+    requires block { (items : List Entry) × (r : ℕ) × (b : ℕ)
+        × IsBlock entries IsEntry H.hash64 (payload_in bytes.now handle) items r b }
+    ensures found { found_entry bytes.now result
+        ≡ first_match entries needle.now seqno
+        (items_in entries (payload_in bytes.now handle)) }
+    ensures place { IsFoundIn bytes.now result }
+    ensures counts { let p = payload_in bytes.now handle in
+        CountsBetween steps.old steps.new (0, 0) (
+          digits (head_count (trailer_in p).interval (length (items_in entries p))),
+          (trailer_in p).interval + 1,
+        ) }
+{
+    match block_over::<H>(bytes, &handle).find(needle, seqno, steps) {
+        Some(item) => Some((handle, item)),
+        None => None,
+    }
 }
 
 /// Returns the first entry of a run with this key whose sequence number is strictly below `seqno`.

@@ -13,8 +13,9 @@ ghost use Rattle.sstable_blocks.specs.Scans.{reads_left, within};
 ghost use Rattle.sstable_blocks.specs.Sound.{IsSound};
 ghost use Rattle.sstable_blocks.specs.Sources.{KeepsSource};
 
+use super::bounds::Bounds;
 use super::laws::sound_is_scanned;
-use super::scan_steps::{Blocks, Bounds, step_back, step_front};
+use super::scan_steps::{Blocks, step_back, step_front};
 use super::source::FrameSource;
 use super::table::Table;
 use sst_base::{BlockHash, Error, InternalValue, Result};

@@ -4,130 +4,22 @@ ghost use Rattle.std.specs.Prelude.{None, Some, drop, length, slice_get, take};
 ghost use Rattle.std.specs.Prelude.{OnOk, IfOk, IfErr, IfSome, IsOkUnless, MatchResult};
 ghost use Rattle.std.specs.Iterator.{YieldsFirst, YieldsLast};
 ghost use Rattle.sst_base.specs.declared.error.Error.TheVariants.{Io};
-ghost use Rattle.sst_block_core.specs.Window.{items_left, whole};
+ghost use Rattle.sst_block_core.specs.Window.{items_left};
 ghost use Rattle.sst_block_kinds.specs.Handles.{Handle};
 ghost use Rattle.sstable_blocks.specs.RunReading.{hashes};
 ghost use Rattle.sstable_blocks.specs.Scans.{AllWithin, AreScanEnds, between, block_within};
-ghost use Rattle.sstable_blocks.specs.Scans.{blocks_up_to, end_block, end_entry, first_block};
-ghost use Rattle.sstable_blocks.specs.Scans.{first_entry, in_range};
+ghost use Rattle.sstable_blocks.specs.Scans.{end_block, first_block, in_range};
 ghost use Rattle.sstable_blocks.specs.Scans.{IsFewer, left_in, most_among, reads_among, within};
 ghost use Rattle.sstable_blocks.specs.Scans.{FailsFirst, FailsLast, GivesFirst, GivesLast};
 ghost use Rattle.sstable_blocks.specs.Sources.{GivesOr, KeepsSource};
 
+use super::bounds::Bounds;
 use super::opener::BlockOpener;
 use sst_base::{BlockHash, Error, InternalValue, Result};
-use sst_block_core::table::block::bound::Bound as SeekBound;
 use sst_block_kinds::IndexBlock;
 use sst_block_kinds::table::data_block::IntoEntries;
 use std::alloc::Global;
-use std::marker::Model;
 use std::mem;
-use std::ops::Bound;
-
-/// The bounds of a scan. Clauses see the range of keys.
-#[derive(Drop)]
-pub(crate) struct Bounds<'k> {
-    pub(crate) from: Bound<&'k [u8]>,
-    pub(crate) to: Bound<&'k [u8]>,
-}
-
-impl<'k> Model for Bounds<'k> {
-    ghost use Rattle.std.specs.Range.Bound.{bound_map};
-    ghost use Rattle.sstable_blocks.specs.Scans.{KeyRange};
-
-    ghost Value = { KeyRange };
-
-    ghost view = { λ b. record {
-      from = bound_map (λ k. k.now) b.from;
-      to = bound_map (λ k. k.now) b.to;
-    } };
-}
-
-impl<'k> Bounds<'k> {
-    /// Returns the index of the first block that can have a key in the range.
-    pub(crate) fn first_block(&self, index: &IndexBlock) -> usize
-        ensures { result ≡ first_block self.now index.now.items }
-    {
-        match self.from {
-            Bound::Included(start) => index.position(&SeekBound::below(start)),
-            Bound::Excluded(start) => index.position(&SeekBound::up_to(start)),
-            Bound::Unbounded => 0,
-        }
-    }
-
-    // How many blocks end up to the end of the range.
-    fn blocks_up_to(&self, index: &IndexBlock) -> usize
-        ensures { result ≡ blocks_up_to self.now index.now.items }
-    {
-        match self.to {
-            Bound::Included(end) => index.position(&SeekBound::up_to(end)),
-            Bound::Excluded(end) => index.position(&SeekBound::below(end)),
-            Bound::Unbounded => index.len(),
-        }
-    }
-
-    /// Returns the index after the last block that can have a key in the range.
-    pub(crate) fn end_block(&self, index: &IndexBlock) -> usize
-        ensures value { result ≡ end_block self.now index.now.items }
-        ensures inside { result ≤ length index.now.items }
-    {
-        let len = index.len();
-        let last = self.blocks_up_to(index);
-        if last < len { last + 1 } else { len }
-    }
-
-    // Moves the front of a block's entries to the start of the range.
-    fn cut_front<H: BlockHash>(&self, entries: &mut IntoEntries<H>)
-        requires { entries.old.window.lo ≡ 0 }
-        ensures { entries.new.window ≡ record {
-          list = entries.old.window.list;
-          lo = first_entry self.now entries.old.window.list;
-          hi = entries.old.window.hi;
-        } }
-    {
-        match self.from {
-            Bound::Included(start) => {
-                entries.seek(start);
-            }
-            Bound::Excluded(start) => {
-                entries.seek_exclusive(start);
-            }
-            Bound::Unbounded => {}
-        }
-    }
-
-    // Moves the back of a block's entries to the end of the range.
-    fn cut_back<H: BlockHash>(&self, entries: &mut IntoEntries<H>)
-        requires { entries.old.window.hi ≡ length entries.old.window.list }
-        ensures { entries.new.window ≡ record {
-          list = entries.old.window.list;
-          lo = entries.old.window.lo;
-          hi = end_entry self.now entries.old.window.list;
-        } }
-    {
-        match self.to {
-            Bound::Included(end) => {
-                entries.seek_upper(end);
-            }
-            Bound::Excluded(end) => {
-                entries.seek_upper_exclusive(end);
-            }
-            Bound::Unbounded => {}
-        }
-    }
-
-    // Leaves the entries of a block that are in the range.
-    fn cut<H: BlockHash>(&self, entries: &mut IntoEntries<H>)
-        requires { entries.old.window ≡ whole entries.old.window.list }
-        ensures left { items_left entries.new.window ≡ within self.now entries.old.window.list }
-        ensures all { AllWithin self.now (items_left entries.new.window) }
-    {
-        // The proof needs that the entries are ordered.
-        let _count = entries.count_left();
-        self.cut_front(entries);
-        self.cut_back(entries);
-    }
-}
 
 /// The blocks of a scan: those opened from the front and from the back, and the indexes of the
 /// handles between them.
@@ -147,10 +39,11 @@ impl<H: BlockHash> Blocks<H> {
         ensures hi { result.hi ≡ end_block bounds.now index.now.items }
         ensures inside { result.hi ≤ length index.now.items }
     {
+        let index = index.by_ref();
         Blocks {
             front: None,
-            lo: bounds.first_block(index),
-            hi: bounds.end_block(index),
+            lo: bounds.first_block(&index),
+            hi: bounds.end_block(&index),
             back: None,
         }
     }

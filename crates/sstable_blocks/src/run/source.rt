@@ -152,6 +152,82 @@ impl SizedSource for MemorySource {
     }
 }
 
+/// A run in bytes that are borrowed. A frame is copied where it is read; a
+/// [`RunRef`](super::RunRef) over the same bytes copies nothing.
+#[derive(Drop)]
+pub struct BorrowedSource<'a> {
+    bytes: &'a [u8],
+    reads: Count,
+}
+
+impl<'a> Model for BorrowedSource<'a> {
+    ghost use Rattle.std.specs.Prelude.{ℕ, List};
+    ghost use Rattle.sst_base.specs.Bytes.{IsBytes};
+    ghost use Rattle.sstable_blocks.specs.Sources.{SourceParts};
+
+    ghost Value = { SourceParts (List ℕ) };
+
+    ghost view = { λ s. record { inner = s.bytes.now; failures = 0; reads = s.reads } };
+
+    ghost invariant = { λ s. IsBytes s.bytes.now };
+}
+
+impl<'a> BorrowedSource<'a> {
+    /// Wraps the bytes of a run.
+    pub fn new(bytes: &'a [u8]) -> BorrowedSource<'a>
+        ensures { result ≡ record { inner = bytes.now; failures = 0; reads = 0 } }
+    {
+        BorrowedSource {
+            bytes,
+            reads: Count::new(),
+        }
+    }
+
+    /// Returns the bytes of the run.
+    pub fn bytes(&self) -> &'a [u8]
+        ensures { result.now ≡ self.now.inner }
+    {
+        self.bytes
+    }
+
+    // States in a proof that memory never fails.
+    pub(crate) fn note_reliable(&self)
+        ensures { self.now.failures ≡ 0 }
+    {
+        let _reads = &self.reads;
+    }
+}
+
+/// `Error::BadHandle` and `Error::Memory` alone.
+impl<'a> FrameSource for BorrowedSource<'a> {
+    ghost bytes = { λ s. Some s.inner };
+
+    ghost failures = { λ s. s.failures };
+
+    ghost reads = { λ s. s.reads };
+
+    ghost is_reliable = { λ s. Unit {0} };
+
+    ghost may_refuse = { λ s h. length s.inner < h.offset + h.size };
+
+    #[tactic(auto, unfolding(crate::specs::RunReading::range_at))]
+    fn read_frame(&mut self, alloc: Global, handle: &BlockHandle) -> Result<Slice> {
+        self.reads.add_one();
+        let len = self.bytes.len() as u64;
+        let (offset, size) = (*handle.offset(), u64::from(handle.size()));
+        if size > len || offset > len - size {
+            return Err(Error::BadHandle);
+        }
+        Slice::new(alloc, &self.bytes[offset as usize..(offset + size) as usize])
+    }
+}
+
+impl<'a> SizedSource for BorrowedSource<'a> {
+    fn byte_len(&mut self) -> Result<u64> {
+        Ok(self.bytes.len() as u64)
+    }
+}
+
 /// A run in a file, or in anything else that can be read and moved.
 ///
 /// Clauses see the file, with its bytes where they are known, how often it failed, and how many

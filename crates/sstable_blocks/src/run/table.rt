@@ -27,7 +27,8 @@ use super::checking::{RunSummary, check};
 use super::footer::read_footer;
 use super::laws::sound_is_read;
 use super::read::find_handle;
-use super::source::{FrameSource, MemorySource, SizedSource};
+use super::run_ref::RunRef;
+use super::source::{BorrowedSource, FrameSource, MemorySource, SizedSource};
 use super::trusted::Trusted;
 use crate::table::filter::FilterBlock;
 use crate::table::filter::standard_bloom::StandardBloomFilterReader;
@@ -451,5 +452,18 @@ impl<H: BlockHash> Table<H, MemorySource> {
             ≡ record { bytes = self.now.source.inner; handles = self.now.handles } }
     {
         Trusted::new(self.source.bytes(), &self.handles, &self.index)
+    }
+}
+
+impl<'a, H: BlockHash> Table<H, BorrowedSource<'a>> {
+    /// Returns the run without checks, over the bytes that the table's source borrows, with the
+    /// index and the filter that the table keeps. The bytes are a sound run, as `verify` finds out.
+    pub fn trusted_ref(&self) -> RunRef<'_, H>
+        requires { (blocks : List (List Entry))
+            × IsSound (hashes H.hash64 H.hash128) blocks self.now.source.inner self.now.handles }
+        ensures { result
+            ≡ record { bytes = self.now.source.inner; handles = self.now.handles } }
+    {
+        RunRef::with_index(self.source.bytes(), &self.handles, self.index.by_ref())
     }
 }

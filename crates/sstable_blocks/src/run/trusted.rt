@@ -19,6 +19,7 @@ use super::RunHandles;
 use super::laws::{sound_opens, sound_run_is_read};
 use super::open_filter::OpenFilter;
 use super::read::{block_in, find_handle, match_in};
+use super::run_ref::RunRef;
 use sst_base::{BlockHash, Error, InternalValue, Result, SeqNo, Slice, Steps};
 use sst_block_kinds::{DataBlock, IndexBlock};
 use std::alloc::Global;
@@ -74,6 +75,14 @@ impl<'a, H: BlockHash> Trusted<'a, H> {
             index,
             hash: PhantomData,
         }
+    }
+
+    /// Returns the run over its borrowed bytes, with the index and the table of its heads that were
+    /// kept: it gives entries that borrow the bytes, and takes no memory.
+    pub fn by_ref(&self) -> RunRef<'a, H>
+        ensures { result ≡ self.now }
+    {
+        RunRef::with_index(self.bytes.as_slice(), self.handles, self.index.by_ref())
     }
 
     /// Returns the first entry with this key whose sequence number is strictly below `seqno`, as

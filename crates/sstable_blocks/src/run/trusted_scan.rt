@@ -9,10 +9,11 @@ ghost use Rattle.sstable_blocks.specs.RunReading.{hashes};
 ghost use Rattle.sstable_blocks.specs.Scans.{EndsBy, within};
 ghost use Rattle.sstable_blocks.specs.Sound.{IsSound};
 
+use super::bounds::Bounds;
 use super::laws::sound_is_scanned;
 use super::opener::BlockOpener;
 use super::scan::keep_error;
-use super::scan_steps::{Blocks, Bounds, step_back, step_front};
+use super::scan_steps::{Blocks, step_back, step_front};
 use super::trusted::Trusted;
 use sst_base::{BlockHash, Count, Error, InternalValue, Result};
 use sst_block_kinds::DataBlock;

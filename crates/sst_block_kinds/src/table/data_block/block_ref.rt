@@ -235,7 +235,7 @@ impl<'a, H: BlockHash> DataBlockRef<'a, H> {
     pub fn entries(&self) -> EntryViews<'a>
         ensures { result ≡ self.now.items }
     {
-        EntryViews::new(self)
+        EntryViews::new(self, self.iter())
     }
 
     /// Returns the entry of an item that a search or an iterator over the block gave. It borrows

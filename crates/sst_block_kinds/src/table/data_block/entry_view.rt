@@ -1,11 +1,12 @@
 //! Entries that borrow the bytes of their block, and the iterator over them.
-ghost use Rattle.std.specs.Prelude.{◌≡◌, ◌↔◌, ◌++◌, IfOk, IsOkUnless, IsTrue, refl};
+ghost use Rattle.std.specs.Prelude.{◌≡◌, ◌↔◌, ◌++◌, IfOk, IsOkUnless, IsTrue, length, refl};
 ghost use Rattle.std.specs.Ordering.{nat_cmp};
 ghost use Rattle.std.specs.Cmp.Lexicographic.{slice_cmp};
 ghost use Rattle.std.specs.Iterator.{YieldsFirst, YieldsLast, item_count};
 ghost use Rattle.sst_base.specs.ValueType.{IsTombstone};
 ghost use Rattle.sst_block_core.specs.Entries.{entries};
 ghost use Rattle.sst_block_core.specs.Kind.{item_cmp};
+ghost use Rattle.sst_block_core.specs.Window.{items_left};
 ghost use Rattle.sst_block_kinds.specs.ParsedEntry.{entry_of, IsParsedEntry};
 ghost use Rattle.sst_block_kinds.specs.Tombstones.{is_tombstone};
 
@@ -42,9 +43,9 @@ impl<'a> Model for EntryView<'a> {
 }
 
 impl<'a> EntryView<'a> {
-    // The entry of a parsed item of a payload.
+    /// Views the entry of a parsed item of a payload.
     #[inline(always)]
-    pub(super) fn new(payload: &'a [u8], item: DataBlockParsedItem) -> EntryView<'a>
+    pub fn new(payload: &'a [u8], item: DataBlockParsedItem) -> EntryView<'a>
         requires { IsParsedEntry payload.now item }
         ensures { result ≡ entry_of payload.now item }
     {
@@ -197,14 +198,24 @@ impl<'a> Model for EntryViews<'a> {
 }
 
 impl<'a> EntryViews<'a> {
-    /// Returns an iterator over the entries of a block. Takes no memory.
-    pub fn new<H: BlockHash>(block: &DataBlockRef<'a, H>) -> EntryViews<'a>
-        ensures { result ≡ block.now.items }
+    /// Returns an iterator over the entries that an iterator over the same block has left, where
+    /// its seeks have left it. Takes no memory.
+    pub fn new<H: BlockHash>(block: &DataBlockRef<'a, H>, iter: Iter<'a>) -> EntryViews<'a>
+        requires { iter.payload ≡ block.now.payload }
+        ensures { result ≡ items_left iter.entry.window }
     {
         EntryViews {
-            iter: block.iter(),
+            iter,
             payload: block.as_slice(),
         }
+    }
+
+    /// Returns the number of entries left.
+    #[inline(always)]
+    pub fn count_left(&self) -> usize
+        ensures { result ≡ length self.now }
+    {
+        self.iter.count_left()
     }
 }
 

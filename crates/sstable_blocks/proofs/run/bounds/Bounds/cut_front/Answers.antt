@@ -1,5 +1,5 @@
 use Rattle.sstable_blocks.proofs.ScanCuts.{start_is, front_by, front_included, front_excluded, front_unbounded}
-use Rattle.sstable_blocks.proofs.run.scan_steps.Bounds.cut_front.Goals as goal
+use Rattle.sstable_blocks.proofs.run.bounds.Bounds.cut_front.Goals as goal
 
 pub returns-in-Included : goal.returns-in-Included
 returns-in-Included g c =

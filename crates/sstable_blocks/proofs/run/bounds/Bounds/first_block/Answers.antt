@@ -1,5 +1,5 @@
 use Rattle.sstable_blocks.proofs.ScanCuts.{start_is, before_included, before_excluded, none_before}
-use Rattle.sstable_blocks.proofs.run.scan_steps.Bounds.first_block.Goals as goal
+use Rattle.sstable_blocks.proofs.run.bounds.Bounds.first_block.Goals as goal
 
 pub returns-in-Included : goal.returns-in-Included
 returns-in-Included c = before_included _ _ _ _ _ _ c.position.ensures c.below.ensures.needle c.below.ensures.from (start_is (λ k. k.now) _ _ _ _ c.self.view_is c.in-Included.is)

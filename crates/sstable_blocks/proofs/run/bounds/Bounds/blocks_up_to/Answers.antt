@@ -1,5 +1,5 @@
 use Rattle.sstable_blocks.proofs.ScanCuts.{end_is, up_to_included, up_to_excluded, all_up_to}
-use Rattle.sstable_blocks.proofs.run.scan_steps.Bounds.blocks_up_to.Goals as goal
+use Rattle.sstable_blocks.proofs.run.bounds.Bounds.blocks_up_to.Goals as goal
 
 pub returns-in-Included : goal.returns-in-Included
 returns-in-Included c = up_to_included _ _ _ _ _ _ c.position.ensures c.up_to.ensures.needle c.up_to.ensures.from (end_is (λ k. k.now) _ _ _ _ c.self.view_is c.in-Included.is)

@@ -2,7 +2,7 @@ use Rattle.std.proofs.Common.{sym, subst}
 use Rattle.sstable_blocks.specs.Scans.{AllWithin}
 use Rattle.sstable_blocks.proofs.ScanCuts.{cut_left}
 use Rattle.sstable_blocks.proofs.ScanSteps.{all_within}
-use Rattle.sstable_blocks.proofs.run.scan_steps.Bounds.cut.Goals as goal
+use Rattle.sstable_blocks.proofs.run.bounds.Bounds.cut.Goals as goal
 
 pub returns-clause-left : goal.returns-clause-left
 returns-clause-left g c = cut_left c.args.self.now c.args.entries.now c.cut_front.new.entries c.cut_back.new.entries c.count_left-count.ensures.ordered c.requires c.cut_front.ensures c.cut_back.ensures

@@ -1,5 +1,5 @@
 use Rattle.sstable_blocks.proofs.ScanCuts.{end_is, back_by, back_included, back_excluded, back_unbounded}
-use Rattle.sstable_blocks.proofs.run.scan_steps.Bounds.cut_back.Goals as goal
+use Rattle.sstable_blocks.proofs.run.bounds.Bounds.cut_back.Goals as goal
 
 pub returns-in-Included : goal.returns-in-Included
 returns-in-Included g c =

@@ -1,0 +1,272 @@
+//! Scans and merges of runs over borrowed bytes, whose entries borrow them too.
+//!
+//! The arguments are those of the calls of `run` and `merges`. Where `made` is not 0 each entry is
+//! made as well.
+ghost use Rattle.std.specs.Prelude.{◌≤◌, List};
+ghost use Rattle.sst_base.specs.Entry.{Entry};
+ghost use Rattle.sst_base.specs.Hashes.{poly31};
+ghost use Rattle.sstable_blocks.specs.RunReading.{hashes};
+ghost use Rattle.sstable_blocks.specs.Sound.{IsSound};
+
+use crate::REFUSED;
+use crate::data_block::{NEWEST, block_in, items_in};
+use crate::keys::keys_in;
+use crate::merges::{Stored, all_trusted, runs_of, tables_of};
+use crate::run::run_in;
+use crate::sums::{entry_sum, view_sum};
+use sst_base::{HashRatio, Poly31, Slice, Steps};
+use sst_block_kinds::DataBlock;
+use sst_block_kinds::table::data_block::EntryView;
+use sst_merge::{Head, Merge, Source};
+use sstable_blocks::run::{RunRef, RunScan, Trusted};
+use sstable_blocks::{MemorySource, RunConfig, RunHandles, Table};
+use std::alloc::Global;
+
+// A scan whose first entry is held.
+type Scanned<'a, 'k> = Head<EntryView<'a>, RunScan<'a, 'k, Poly31>>;
+
+// Adds each entry of a block.
+#[inline(never)]
+fn add_views(so_far: u64, block: &DataBlock<Poly31>) -> u64 {
+    let mut sum = so_far;
+    for view in block.by_ref().entries() {
+        sum = sum.wrapping_add(view_sum(&view));
+    }
+    sum
+}
+
+/// Walks over the entries of a block, each of which borrows it, and adds each.
+#[unsafe(no_mangle)]
+pub extern "C" fn sst_views_walk(
+    bytes: &[u8],
+    count: usize,
+    interval: u8,
+    num: u32,
+    den: u32,
+    times: u64,
+    alloc: Global,
+) -> u64 {
+    let Some(block) = block_in(alloc, bytes, count, interval, HashRatio { num, den }) else {
+        return REFUSED;
+    };
+    let mut sum = 0;
+    for _ in 0..times {
+        sum = add_views(sum, &block);
+    }
+    sum
+}
+
+// Scans a run, and adds each entry.
+#[inline(never)]
+fn add_scanned(so_far: u64, run: &RunRef<'_, Poly31>) -> u64 {
+    let mut sum = so_far;
+    for view in run.scan() {
+        sum = sum.wrapping_add(view_sum(&view));
+    }
+    sum
+}
+
+// Scans a run, makes each entry, and adds it.
+#[inline(never)]
+fn add_scanned_made(so_far: u64, run: &RunRef<'_, Poly31>, alloc: Global) -> Option<u64> {
+    let mut sum = so_far;
+    for view in run.scan() {
+        match view.to_entry(alloc) {
+            Ok(entry) => sum = sum.wrapping_add(entry_sum(&entry)),
+            Err(_) => return None,
+        }
+    }
+    Some(sum)
+}
+
+// Scans a run, so many times.
+fn scanned_in(
+    alloc: Global,
+    run: &[u8],
+    handles: &RunHandles,
+    times: u64,
+    made: bool,
+) -> Option<u64>
+    requires { (blocks : List (List Entry))
+        × IsSound (hashes (poly31 64) (poly31 128)) blocks run.now handles.now }
+{
+    let run = RunRef::<Poly31>::new(run, handles);
+    let mut sum = 0;
+    for _ in 0..times {
+        sum = if made { add_scanned_made(sum, &run, alloc)? } else { add_scanned(sum, &run) };
+    }
+    Some(sum)
+}
+
+/// Scans the run without checks, and adds each entry.
+#[unsafe(no_mangle)]
+pub extern "C" fn sst_views_scan(
+    bytes: &[u8],
+    count: usize,
+    per_block: usize,
+    interval: u8,
+    num: u32,
+    den: u32,
+    bits: u32,
+    made: u32,
+    times: u64,
+    alloc: Global,
+) -> u64 {
+    let config = RunConfig::new(interval, HashRatio { num, den }, bits);
+    let Some((run, handles)) = run_in(alloc, bytes, count, per_block, config) else {
+        return REFUSED;
+    };
+    scanned_in(alloc, run.as_slice(), &handles, times, made != 0).unwrap_or(REFUSED)
+}
+
+// Reads each needle, and adds the entry that is found, or 1 for none.
+#[inline(never)]
+fn add_found(so_far: u64, run: &RunRef<'_, Poly31>, needles: &[&[u8]]) -> u64 {
+    let mut sum = so_far;
+    for needle in needles {
+        let found = run.find(needle, NEWEST, &mut Steps::new());
+        sum = sum.wrapping_add(found.map_or(1, |view| view_sum(&view)));
+    }
+    sum
+}
+
+// Reads each needle from a table that is opened once and trusted, so many times.
+fn found_in(
+    alloc: Global,
+    run: Slice,
+    handles: RunHandles,
+    needles: &[&[u8]],
+    times: u64,
+) -> Option<u64>
+    requires { (blocks : List (List Entry))
+        × IsSound (hashes (poly31 64) (poly31 128)) blocks run handles }
+{
+    let source = MemorySource::new(run);
+    let table = Table::<Poly31, MemorySource>::open(alloc, source, handles).ok()?;
+    let run = table.trusted().by_ref();
+    let mut sum = 0;
+    for _ in 0..times {
+        sum = add_found(sum, &run, needles);
+    }
+    Some(sum)
+}
+
+/// Finds each needle in a table that is opened once and trusted, and adds the entry that is found,
+/// which borrows the run, or 1 for none.
+#[unsafe(no_mangle)]
+pub extern "C" fn sst_views_find(
+    bytes: &[u8],
+    count: usize,
+    per_block: usize,
+    interval: u8,
+    num: u32,
+    den: u32,
+    bits: u32,
+    times: u64,
+    needles: &[u8],
+    key_len: usize,
+    alloc: Global,
+) -> u64 {
+    let config = RunConfig::new(interval, HashRatio { num, den }, bits);
+    let Some((run, handles)) = run_in(alloc, bytes, count, per_block, config) else {
+        return REFUSED;
+    };
+    let (Ok(run), Some(needles)) = (Slice::from_vec(run), keys_in(alloc, needles, key_len)) else {
+        return REFUSED;
+    };
+    found_in(alloc, run, handles, needles.as_slice(), times).unwrap_or(REFUSED)
+}
+
+// Scans of runs.
+fn scans_of<'a>(
+    alloc: Global,
+    tables: &[Trusted<'a, Poly31>],
+) -> Option<Vec<Scanned<'a, 'static>>> {
+    let mut scans = Vec::new(alloc);
+    for table in tables {
+        scans.push(Head::new(alloc, table.by_ref().scan()).ok()?).ok()?;
+    }
+    Some(scans)
+}
+
+// Merges scans of runs, and adds each entry.
+#[inline(never)]
+fn add_merged(
+    so_far: u64,
+    tables: &[Trusted<'_, Poly31>],
+    count: usize,
+    alloc: Global,
+) -> Option<u64> {
+    let mut merged = Merge::new(scans_of(alloc, tables)?);
+    let mut sum = so_far;
+    for _ in 0..count {
+        let view = merged.next_entry(alloc).ok()??;
+        sum = sum.wrapping_add(view_sum(&view));
+    }
+    Some(sum)
+}
+
+// Merges scans of runs, makes each entry, and adds it.
+#[inline(never)]
+fn add_merged_made(
+    so_far: u64,
+    tables: &[Trusted<'_, Poly31>],
+    count: usize,
+    alloc: Global,
+) -> Option<u64> {
+    let mut merged = Merge::new(scans_of(alloc, tables)?);
+    let mut sum = so_far;
+    for _ in 0..count {
+        let view = merged.next_entry(alloc).ok()??;
+        let entry = view.to_entry(alloc).ok()?;
+        sum = sum.wrapping_add(entry_sum(&entry));
+    }
+    Some(sum)
+}
+
+// Opens and checks the tables, and merges their scans, so many times.
+fn merged_in(
+    alloc: Global,
+    runs: &[Stored],
+    count: usize,
+    times: u64,
+    made: bool,
+) -> Option<u64> {
+    let mut tables = tables_of(alloc, runs)?;
+    let trusted = all_trusted(alloc, tables.as_mut_slice())?;
+    let mut sum = 0;
+    for _ in 0..times {
+        sum = if made {
+            add_merged_made(sum, &trusted, count, alloc)?
+        } else {
+            add_merged(sum, &trusted, count, alloc)?
+        };
+    }
+    Some(sum)
+}
+
+/// Opens tables over the runs of the entries' parts once, merges their scans without checks, and
+/// adds each entry.
+#[unsafe(no_mangle)]
+pub extern "C" fn sst_views_merge(
+    bytes: &[u8],
+    count: usize,
+    per_block: usize,
+    interval: u8,
+    num: u32,
+    den: u32,
+    bits: u32,
+    tables: usize,
+    made: u32,
+    times: u64,
+    alloc: Global,
+) -> u64 {
+    let config = RunConfig::new(interval, HashRatio { num, den }, bits);
+    let Some(items) = items_in(alloc, bytes, count, interval, config.ratio) else {
+        return REFUSED;
+    };
+    let Some(runs) = runs_of(alloc, items.as_slice(), per_block, config, tables) else {
+        return REFUSED;
+    };
+    merged_in(alloc, &runs, count, times, made != 0).unwrap_or(REFUSED)
+}

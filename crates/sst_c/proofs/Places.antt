@@ -1,0 +1,52 @@
+-- Places in a run, by those in the payload of one of its blocks.
+use Rattle.std.proofs.Common.{◌≡◌, ℕ, zero, suc, ◌+◌, ◌-◌, ◌≤◌, List, [], ◌∷◌, ◌++◌, length, take, drop, refl, arith, sym, ◌∙◌, ap}
+use Rattle.std.proofs.Math.Nat.{min-le_left}
+use Rattle.std.proofs.lemmas.List.{drop-drop, drop-take, length-take}
+use Rattle.sst_base.specs.BlockHandle.{HandleParts}
+use Rattle.sst_base.specs.Entry.{Entry}
+use Rattle.sstable_blocks.specs.Opened.{IsFrameRange, payload_in}
+use Rattle.sst_c.specs.Blocks.{bytes_at, IsPlaceOf}
+use Rattle.sst_c.specs.declared.data_block.SstPlace.{SstPlace}
+
+take_within : (a b : ℕ) (xs : List ℕ) → a ≤ b → take a (take b xs) ≡ take a xs
+take_within zero b xs h = refl
+take_within (suc a) zero xs h = absurd (omega (arith, h))
+take_within (suc a) (suc b) [] h = refl
+take_within (suc a) (suc b) (x ∷ xs) h = ap (λ ys. x ∷ ys) (take_within a b xs (omega (arith, h)))
+
+-- a part of a part
+part_of_part : (bytes : List ℕ) (start n offset len : ℕ) → offset + len ≤ n → bytes_at bytes (start + offset) len ≡ bytes_at (take n (drop start bytes)) offset len
+part_of_part bytes start n offset len inside =
+    let k = n - offset in
+    let whole : n ≡ offset + k = omega (arith, inside) in
+    sym (ap (λ m. take len (drop offset (take m (drop start bytes)))) whole
+    ∙ ap (take len) (drop-take offset k (drop start bytes))
+    ∙ take_within len k (drop offset (drop start bytes)) (omega (arith, inside))
+    ∙ ap (take len) (drop-drop offset start bytes))
+
+-- the place in a run of what is at a place in the payload of a frame
+pub placed : (bytes : List ℕ) (h : HandleParts) (f : SstPlace) (e : Entry) → IsFrameRange bytes h → IsPlaceOf (payload_in bytes h) f e
+    → IsPlaceOf bytes (record f { prefix_offset = h.offset + 33 + f.prefix_offset; key_offset = h.offset + 33 + f.key_offset; value_offset = h.offset + 33 + f.value_offset }) e
+unfolding payload_in
+placed bytes h f e range at =
+    let start = h.offset + 33 in
+    let n = h.size - 33 in
+    let size = length-take n (drop start bytes) in
+    let least = min-le_left n (length (drop start bytes)) in
+    let fits : length (payload_in bytes h) ≤ n = omega (arith, size, least) in
+    let inside = range.inside in
+    let header = range.header in
+    let p = at.prefix_inside in
+    let k = at.key_inside in
+    let v = at.value_inside in
+    record {
+      seqno = at.seqno;
+      value_type = at.value_type;
+      key = ap (λ xs. xs ++ bytes_at bytes (start + f.key_offset) f.key_len) (part_of_part bytes start n f.prefix_offset f.prefix_len (omega (arith, p, fits)))
+          ∙ ap (λ xs. bytes_at (payload_in bytes h) f.prefix_offset f.prefix_len ++ xs) (part_of_part bytes start n f.key_offset f.key_len (omega (arith, k, fits)))
+          ∙ at.key;
+      value = part_of_part bytes start n f.value_offset f.value_len (omega (arith, v, fits)) ∙ at.value;
+      prefix_inside = omega (arith, p, fits, inside, header);
+      key_inside = omega (arith, k, fits, inside, header);
+      value_inside = omega (arith, v, fits, inside, header);
+    }

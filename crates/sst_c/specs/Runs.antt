@@ -1,0 +1,93 @@
+-- Runs in a caller's buffers.
+use Rattle.std.specs.Prelude.{◌≡◌, ◌⊎◌, ℕ, ◌==◌, ◌≤◌, if◌then◌else◌, List, length, Option, Some, None, Err}
+use Rattle.sst_base.specs.Entry.{Entry}
+use Rattle.sst_base.specs.Hashes.{poly31}
+use Rattle.sst_base.specs.declared.config.HashRatio.{HashRatio}
+use Rattle.sst_base.specs.declared.error.Error.{Error}
+use Rattle.sst_base.specs.declared.error.Error.TheVariants.{TooLong, Memory}
+use Rattle.sst_block_core.specs.Entries.{entries}
+use Rattle.sst_block_core.specs.Kind.{IsOrdered}
+use Rattle.sstable_blocks.specs.Blocks.{CutsFit, blocks_of}
+use Rattle.sstable_blocks.specs.Run.{Form, form, IsLayout, IsWritable, RunFits}
+use Rattle.sstable_blocks.specs.RunChecks.{check_run, summary_of}
+use Rattle.sstable_blocks.specs.RunReading.{Hashes, hashes}
+use Rattle.sstable_blocks.specs.Sound.{IsSound}
+use Rattle.sstable_blocks.specs.declared.run.RunConfig.{RunConfig}
+use Rattle.sstable_blocks.specs.declared.run.RunHandles.{RunHandles}
+use Rattle.sst_c.specs.Given.{AreGiven, AreKept, IsWritten}
+use Rattle.sst_c.specs.declared.codes.Status.{Status}
+use Rattle.sst_c.specs.declared.codes.Status.TheVariants.{Done, Failed, NotFound, BadArgument, NoRoom}
+use Rattle.sst_c.specs.declared.entries.SstEntry.{SstEntry}
+use Rattle.sst_c.specs.declared.run.SstRunConfig.{SstRunConfig}
+use Rattle.sst_c.specs.declared.run.SstRunHandles.{SstRunHandles}
+use Rattle.sst_c.specs.declared.run.SstSummary.{SstSummary}
+
+-- the hashes of runs that C writes and reads
+abbrev pub run_hashes : Hashes
+run_hashes = hashes (poly31 64) (poly31 128)
+
+-- the handles that are given: there is no filter where its size is 0
+abbrev pub handles_given : SstRunHandles → RunHandles
+handles_given h = record {
+  index = record { offset = h.index_offset; size = h.index_size };
+  filter = if h.filter_size == 0 then None else Some (record { offset = h.filter_offset; size = h.filter_size });
+}
+
+-- the numbers of a summary of blocks
+pub record IsSummaryOf (blocks : List (List Entry)) (s : SstSummary) : Type 0 where
+  pub blocks_are : s.blocks ≡ (summary_of blocks).blocks
+  pub entries_are : s.entries ≡ (summary_of blocks).entries
+  pub least_is : s.least_seqno ≡ (summary_of blocks).least_seqno
+  pub greatest_is : s.greatest_seqno ≡ (summary_of blocks).greatest_seqno
+
+-- bytes and handles are no sound run, by the first error of the check, or an allocation failed; the summary is left
+pub record IsNoRun (bytes : List ℕ) (h : RunHandles) (old new : SstSummary) (e : Error) : Type 0 where
+  pub cause : (e ≡ Memory) ⊎ (check_run run_hashes bytes h ≡ Err e)
+  pub kept : new ≡ old
+
+-- what a check of a run says
+abbrev pub IsRunCheck : List ℕ → RunHandles → SstSummary → SstSummary → Status → Type 0
+IsRunCheck bytes h old new Done = (blocks : List (List Entry)) × IsSound run_hashes blocks bytes h × IsSummaryOf blocks new
+IsRunCheck bytes h old new (Failed e) = IsNoRun bytes h old new e
+IsRunCheck bytes h old new _ = ⊥
+
+-- the configuration that is given
+abbrev pub config_given : SstRunConfig → RunConfig
+config_given c = record {
+  restart_interval = c.restart_interval;
+  ratio = record { num = c.num; den = c.den };
+  bits_per_key = c.bits_per_key;
+  index_interval = c.index_interval;
+}
+
+-- these entries are the ones given, and can be written as a run that is cut so
+pub record CanWrite (given : List SstEntry) (cuts : List ℕ) (config : RunConfig) (items : List Entry) : Type 0 where
+  pub are : AreGiven given items
+  pub some : 1 ≤ length items
+  pub ordered : IsOrdered entries items
+  pub cut : CutsFit 0 (length items) cuts
+  pub writable : IsWritable config
+
+-- how C writes runs
+abbrev pub run_form : RunConfig → Form
+run_form config = form (poly31 64) (poly31 128) config
+
+-- a write failed: something is too long, or an allocation failed; all is left as it was
+pub record IsRunFailure (given : List SstEntry) (cuts : List ℕ) (config : RunConfig) (old new : List ℕ) (len_old len_new : ℕ) (handles_old handles_new : SstRunHandles) (e : Error) : Type 0 where
+  pub cause : (e ≡ Memory) ⊎ ((e ≡ TooLong) × ((items : List Entry) × CanWrite given cuts config items × (RunFits (run_form config) (blocks_of cuts items) → ⊥)))
+  pub kept : AreKept old new len_old len_new
+  pub kept_handles : handles_new ≡ handles_old
+
+-- the handles of a run are told where it was written, and else left
+abbrev pub AreTold : RunHandles → SstRunHandles → SstRunHandles → Status → Type 0
+AreTold h old new Done = handles_given new ≡ h
+AreTold h old new _ = new ≡ old
+
+-- what becomes of a run that is written: an argument is refused exactly if the entries can't be written so
+abbrev pub IsRunWrite : List SstEntry → List ℕ → RunConfig → List ℕ → List ℕ → ℕ → ℕ → SstRunHandles → SstRunHandles → Status → Type 0
+IsRunWrite given cuts config old new len_old len_new h_old h_new BadArgument =
+    ((items : List Entry) → CanWrite given cuts config items → ⊥) × AreKept old new len_old len_new × (h_new ≡ h_old)
+IsRunWrite given cuts config old new len_old len_new h_old h_new (Failed e) = IsRunFailure given cuts config old new len_old len_new h_old h_new e
+IsRunWrite given cuts config old new len_old len_new h_old h_new s =
+    (items : List Entry) × CanWrite given cuts config items
+    × ((bytes : List ℕ) × (h : RunHandles) × IsLayout (run_form config) (blocks_of cuts items) bytes h × IsWritten bytes old new len_new s × AreTold h h_old h_new s)

@@ -1,0 +1,382 @@
+//! Runs: blocks, their index and their filter in one string of bytes.
+ghost use Rattle.std.specs.Prelude.{◌≡◌, ◌⊎◌, ◌+◌, ◌<◌, ◌^◌, List, IfOk, IfErr, IfSome};
+ghost use Rattle.sst_base.specs.Entry.{Entry};
+ghost use Rattle.sst_block_core.specs.Entries.{entries};
+ghost use Rattle.sst_block_core.specs.Window.{first_match};
+ghost use Rattle.sst_block_kinds.specs.ParsedEntry.{entry_of, IsParsedEntry};
+ghost use Rattle.sstable_blocks.specs.Blocks.{blocks_of, joined};
+ghost use Rattle.sstable_blocks.specs.Opened.{IsFrameRange, payload_in};
+ghost use Rattle.sstable_blocks.specs.Run.{IsLayout, RunFits};
+ghost use Rattle.sstable_blocks.specs.Sound.{IsSound};
+ghost use Rattle.sst_base.specs.declared.error.Error.TheVariants.{Memory, TooLong};
+ghost use Rattle.sst_c.specs.Blocks.{IsAnswer, IsFind, IsPlaceOf};
+ghost use Rattle.sst_c.specs.Codes.{code_of};
+ghost use Rattle.sst_c.specs.Runs.{config_given, handles_given, run_form, run_hashes};
+ghost use Rattle.sst_c.specs.Given.{IsWritten};
+ghost use Rattle.sst_c.specs.Runs.{AreTold, CanWrite, IsRunCheck, IsRunWrite};
+ghost use Rattle.sst_c.specs.declared.codes.Status.{Status};
+ghost use Rattle.sst_c.specs.declared.entries.SstEntry.{SstEntry};
+ghost use Rattle.sst_c.specs.declared.codes.Status.TheVariants.{Failed, BadArgument};
+
+use crate::codes::Status;
+use crate::data_block::{SstPlace, place_of};
+use crate::entries::{SstEntry, items_of};
+use crate::output::write_bytes;
+use sst_base::table::block::header::HEADER_LEN;
+use sst_base::table::block::{BlockHandle, BlockOffset};
+use sst_base::{Error, HashRatio, InternalValue, Poly31, Result, SeqNo, Steps};
+use sst_block_kinds::DataBlock;
+use sst_block_kinds::table::data_block::DataBlockParsedItem;
+use sstable_blocks::run::RunRef;
+use sstable_blocks::run::laws::{layout_is_sound, sound_opens};
+use sstable_blocks::{RunConfig, RunHandles, cuts_fit, write_run};
+use std::alloc::Global;
+
+/// Where the frames of a run's index and of its filter are.
+#[repr(C)]
+#[derive(Drop)]
+pub struct SstRunHandles {
+    /// Where the frame of the index begins in the run, in bytes.
+    pub index_offset: u64,
+    /// Where the frame of the filter begins.
+    pub filter_offset: u64,
+    /// The length of the frame of the index in bytes.
+    pub index_size: u32,
+    /// The length of the frame of the filter; 0 where there is no filter.
+    pub filter_size: u32,
+}
+
+/// How a run is written.
+#[repr(C)]
+#[derive(Drop)]
+pub struct SstRunConfig {
+    /// The number of buckets of a block's hash index is `num / den` for each entry: 0 and 1 for
+    /// none.
+    pub num: u32,
+    /// The denominator, at least 1.
+    pub den: u32,
+    /// The number of bits of the filter for each entry; 0 for no filter.
+    pub bits_per_key: u32,
+    /// The number of entries in a restart interval of a data block, at least 1.
+    pub restart_interval: u8,
+    /// The number of handles in a restart interval of the index, at least 1.
+    pub index_interval: u8,
+}
+
+/// What a check of a run counts.
+#[repr(C)]
+#[derive(Drop)]
+pub struct SstSummary {
+    /// The number of blocks.
+    pub blocks: usize,
+    /// The number of entries.
+    pub entries: u64,
+    /// The least sequence number.
+    pub least_seqno: u64,
+    /// The greatest sequence number.
+    pub greatest_seqno: u64,
+}
+
+// The handles that are given.
+fn run_handles(given: &SstRunHandles) -> RunHandles
+    ensures { result ≡ handles_given given.now }
+{
+    let filter = if given.filter_size == 0 {
+        None
+    } else {
+        Some(BlockHandle::new(BlockOffset(given.filter_offset), given.filter_size))
+    };
+    RunHandles {
+        index: BlockHandle::new(BlockOffset(given.index_offset), given.index_size),
+        filter,
+    }
+}
+
+// Checks any bytes and handles, and notes what is counted.
+fn check(
+    alloc: Global,
+    bytes: &[u8],
+    handles: &RunHandles,
+    summary: &mut SstSummary,
+) -> Status
+    ensures { IsRunCheck bytes.now handles.now summary.old summary.new result }
+{
+    match RunRef::<Poly31>::check(alloc, bytes, handles) {
+        Ok((_, found)) => {
+            *summary = SstSummary {
+                blocks: found.blocks,
+                entries: found.entries,
+                least_seqno: found.least_seqno,
+                greatest_seqno: found.greatest_seqno,
+            };
+            Status::Done
+        }
+        Err(error) => Status::Failed(error),
+    }
+}
+
+/// Checks any bytes and handles as a run. Each frame is copied while it is checked.
+///
+/// Returns 0 and what was counted exactly if they are a sound run: the frames of the blocks follow
+/// each other from offset 0, each with its checksums; each block, the index and the filter are
+/// encodings; the entries are in order, within a block and across blocks; each handle of the index
+/// has the last entry of its block; and the filter, if there is one, may contain each key. Else the
+/// number of the first error, 1 excepted, or 15 if an allocation fails, and `summary` is left.
+#[unsafe(no_mangle)]
+pub extern "C" fn sst_run_check(
+    bytes: &[u8],
+    handles: &SstRunHandles,
+    summary: &mut SstSummary,
+    alloc: Global,
+) -> u32
+    ensures { (s : Status) × (result ≡ code_of s)
+        × IsRunCheck bytes.now (handles_given handles.now) summary.old summary.new s }
+{
+    check(alloc, bytes, &run_handles(handles), summary).code()
+}
+
+// The place of an entry in a run, by its place in the payload of a block that begins at an offset.
+fn place_behind(start: usize, place: &SstPlace) -> SstPlace
+    requires prefix { start + place.now.prefix_offset < 2 ^ 64 }
+    requires key { start + place.now.key_offset < 2 ^ 64 }
+    requires value { start + place.now.value_offset < 2 ^ 64 }
+    ensures { result ≡ record place.now {
+      prefix_offset = start + place.now.prefix_offset;
+      key_offset = start + place.now.key_offset;
+      value_offset = start + place.now.value_offset;
+    } }
+{
+    SstPlace {
+        seqno: place.seqno,
+        prefix_offset: start + place.prefix_offset,
+        prefix_len: place.prefix_len,
+        key_offset: start + place.key_offset,
+        key_len: place.key_len,
+        value_offset: start + place.value_offset,
+        value_len: place.value_len,
+        value_type: place.value_type,
+    }
+}
+
+// Where an item of the block in a frame is in a run.
+fn place_in(bytes: &[u8], handle: &BlockHandle, item: &DataBlockParsedItem) -> SstPlace
+    requires range { IsFrameRange bytes.now handle.now }
+    requires item { IsParsedEntry (payload_in bytes.now handle.now) item.now }
+    ensures { IsPlaceOf bytes.now result (entry_of (payload_in bytes.now handle.now) item.now) }
+{
+    let size = handle.size();
+    let start = *handle.offset() as usize;
+    let payload = &bytes[start + HEADER_LEN..start + size as usize];
+    place_behind(start + HEADER_LEN, &place_of(payload, item))
+}
+
+// Where the first entry of a key below a sequence number is.
+fn find(bytes: &[u8], handles: &RunHandles, key: &[u8], below: SeqNo) -> Option<SstPlace>
+    requires { (blocks : List (List Entry)) × IsSound run_hashes blocks bytes.now handles.now }
+    ensures { (blocks : List (List Entry)) → IsSound run_hashes blocks bytes.now handles.now
+        → IsAnswer bytes.now result (first_match entries key.now below (joined blocks)) }
+{
+    let run = RunRef::<Poly31>::new(bytes, handles);
+    match run.locate(key, below, &mut Steps::new()) {
+        Some((handle, item)) => Some(place_in(bytes, &handle, &item)),
+        None => None,
+    }
+}
+
+// Notes where the first entry of a key below a sequence number is.
+fn note_found(
+    bytes: &[u8],
+    handles: &RunHandles,
+    key: &[u8],
+    below: SeqNo,
+    place: &mut SstPlace,
+) -> Status
+    requires { (blocks : List (List Entry)) × IsSound run_hashes blocks bytes.now handles.now }
+    ensures { (blocks : List (List Entry)) → IsSound run_hashes blocks bytes.now handles.now
+        → IsFind bytes.now (first_match entries key.now below (joined blocks)) place.old place.new
+        result }
+{
+    match find(bytes, handles, key, below) {
+        Some(found) => {
+            *place = found;
+            Status::Done
+        }
+        None => Status::NotFound,
+    }
+}
+
+/// Finds the first entry of a key strictly below a sequence number in a run, by its filter and its
+/// index: in bytes and handles that [`sst_run_check`] accepted or [`sst_run_write`] wrote. No memory
+/// is taken, and nothing is copied; the offsets of the place are those in the run.
+///
+/// Returns 0 and where the entry is, a tombstone too; or 16 if there is none, and leaves `place`.
+#[unsafe(no_mangle)]
+pub extern "C" fn sst_run_get(
+    bytes: &[u8],
+    handles: &SstRunHandles,
+    key: &[u8],
+    below_seqno: u64,
+    place: &mut SstPlace,
+) -> u32
+    requires { (blocks : List (List Entry))
+        × IsSound run_hashes blocks bytes.now (handles_given handles.now) }
+    ensures { (s : Status) × (result ≡ code_of s)
+        × ((blocks : List (List Entry))
+        → IsSound run_hashes blocks bytes.now (handles_given handles.now)
+        → IsFind bytes.now (first_match entries key.now below_seqno (joined blocks)) place.old
+        place.new s) }
+{
+    note_found(bytes, &run_handles(handles), key, below_seqno, place).code()
+}
+
+// The configuration that is given.
+fn config_of(given: &SstRunConfig) -> RunConfig
+    ensures { result ≡ config_given given.now }
+{
+    RunConfig {
+        restart_interval: given.restart_interval,
+        ratio: HashRatio {
+            num: given.num,
+            den: given.den,
+        },
+        bits_per_key: given.bits_per_key,
+        index_interval: given.index_interval,
+    }
+}
+
+// The entries that are given, if they can be written so.
+fn checked_items(
+    alloc: Global,
+    entries: &[SstEntry<'_>],
+    cuts: &[usize],
+    config: &RunConfig,
+) -> Result<Vec<InternalValue>, Status>
+    ensures ok { IfOk result (λ items. CanWrite entries.now cuts.now config.now items.items) }
+    ensures refused { IfErr result (λ s. (s ≡ Failed Memory) ⊎ ((s ≡ BadArgument)
+        × ((items : List Entry) → CanWrite entries.now cuts.now config.now items → ⊥))) }
+{
+    if config.restart_interval == 0 || config.index_interval == 0 || config.ratio.den == 0 {
+        return Err(Status::BadArgument);
+    }
+    if entries.is_empty() || !cuts_fit(entries.len(), cuts) {
+        return Err(Status::BadArgument);
+    }
+    let items = items_of(alloc, entries)?;
+    if !DataBlock::<Poly31>::is_ordered(items.as_slice()) {
+        return Err(Status::BadArgument);
+    }
+    Ok(items)
+}
+
+// Writes the run of entries.
+fn run_of(
+    alloc: Global,
+    items: &[InternalValue],
+    cuts: &[usize],
+    config: RunConfig,
+) -> Result<(Vec<u8>, RunHandles)>
+    requires { (given : List SstEntry) × CanWrite given cuts.now config items.now }
+    ensures ok { IfOk result
+        (λ r. IsLayout (run_form config) (blocks_of cuts.now items.now) r.0.items r.1) }
+    ensures filter { IfOk result (λ r. IfSome r.1.filter (λ f. 0 < f.size)) }
+    ensures cause { IfErr result (λ e. (e ≡ Memory) ⊎ ((e ≡ TooLong)
+        × (RunFits (run_form config) (blocks_of cuts.now items.now) → ⊥))) }
+{
+    layout_is_sound();
+    sound_opens();
+    let mut bytes = Vec::new(alloc);
+    match write_run::<Poly31, Vec<u8>>(alloc, &mut bytes, items, cuts, config) {
+        Ok(handles) => Ok((bytes, handles)),
+        Err(Error::TooLong) => Err(Error::TooLong),
+        // A vector fails as a writer where its allocation does.
+        Err(_) => Err(Error::Memory),
+    }
+}
+
+// The handles as C has them.
+fn handles_told(handles: &RunHandles) -> SstRunHandles
+    requires { IfSome handles.now.filter (λ f. 0 < f.size) }
+    ensures { handles_given result ≡ handles.now }
+{
+    let (filter_offset, filter_size) = match &handles.filter {
+        Some(filter) => (*filter.offset(), filter.size()),
+        None => (0, 0),
+    };
+    SstRunHandles {
+        index_offset: *handles.index.offset(),
+        filter_offset,
+        index_size: handles.index.size(),
+        filter_size,
+    }
+}
+
+// Writes a run into a buffer, if it has room for it, and tells its handles.
+fn tell(
+    bytes: &[u8],
+    found: &RunHandles,
+    out: &mut [u8],
+    out_len: &mut usize,
+    handles: &mut SstRunHandles,
+) -> Status
+    requires { IfSome found.now.filter (λ f. 0 < f.size) }
+    ensures written { IsWritten bytes.now out.old out.new out_len.new result }
+    ensures told { AreTold found.now handles.old handles.new result }
+{
+    match write_bytes(bytes, out, out_len) {
+        Status::Done => {
+            *handles = handles_told(found);
+            Status::Done
+        }
+        status => status,
+    }
+}
+
+// Writes the run of the entries that are given into a buffer.
+fn write(
+    alloc: Global,
+    entries: &[SstEntry<'_>],
+    cuts: &[usize],
+    config: RunConfig,
+    out: &mut [u8],
+    out_len: &mut usize,
+    handles: &mut SstRunHandles,
+) -> Status
+    ensures { IsRunWrite entries.now cuts.now config out.old out.new out_len.old out_len.new
+        handles.old handles.new result }
+{
+    let items = match checked_items(alloc, entries, cuts, &config) {
+        Ok(items) => items,
+        Err(status) => return status,
+    };
+    match run_of(alloc, items.as_slice(), cuts, config) {
+        Ok((bytes, found)) => tell(bytes.as_slice(), &found, out, out_len, handles),
+        Err(error) => Status::Failed(error),
+    }
+}
+
+/// Writes entries as a run into a buffer: at least one, in order (by key rising, then by sequence
+/// number falling), cut into blocks where `cuts` says: the indexes of the entries that begin a
+/// block but the first, rising strictly, at least 1 and below the number of entries.
+///
+/// Returns 0, and the length of the run, which is then the front of `out`, and its handles; 18
+/// where `out` is too short, and the length that is needed; 17 exactly where the entries can't be
+/// written so: none, one that is not an entry, out of order, cuts that do not fit, an interval or a
+/// denominator of 0; 6 only where a block has more than 4294967262 bytes, the filter more than
+/// 34359737920 bits, or all frames 2^64 bytes or more; 15 if an allocation fails. But for 0 `out`
+/// and `handles` are left, and but for 0 and 18 `out_len`.
+#[unsafe(no_mangle)]
+pub extern "C" fn sst_run_write(
+    entries: &[SstEntry<'_>],
+    cuts: &[usize],
+    config: &SstRunConfig,
+    out: &mut [u8],
+    out_len: &mut usize,
+    handles: &mut SstRunHandles,
+    alloc: Global,
+) -> u32
+    ensures { (s : Status) × (result ≡ code_of s)
+        × IsRunWrite entries.now cuts.now (config_given config.now) out.old out.new out_len.old
+        out_len.new handles.old handles.new s }
+{
+    write(alloc, entries, cuts, config_of(config), out, out_len, handles).code()
+}

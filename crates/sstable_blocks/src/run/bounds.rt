@@ -1,0 +1,171 @@
+//! The bounds of a scan.
+ghost use Rattle.std.specs.Prelude.{◌≡◌, ◌≤◌, length};
+ghost use Rattle.sst_block_core.specs.Window.{items_left, whole};
+ghost use Rattle.sstable_blocks.specs.Scans.{AllWithin, blocks_up_to, end_block, end_entry};
+ghost use Rattle.sstable_blocks.specs.Scans.{first_block, first_entry, within};
+
+use sst_base::BlockHash;
+use sst_block_core::table::block::bound::Bound as SeekBound;
+use sst_block_kinds::table::data_block::{IntoEntries, Iter};
+use sst_block_kinds::table::index_block::IndexBlockRef;
+use std::marker::Model;
+use std::ops::Bound;
+
+/// The bounds of a scan. Clauses see the range of keys.
+#[derive(Drop)]
+pub(crate) struct Bounds<'k> {
+    pub(crate) from: Bound<&'k [u8]>,
+    pub(crate) to: Bound<&'k [u8]>,
+}
+
+impl<'k> Model for Bounds<'k> {
+    ghost use Rattle.std.specs.Range.Bound.{bound_map};
+    ghost use Rattle.sstable_blocks.specs.Scans.{KeyRange};
+
+    ghost Value = { KeyRange };
+
+    ghost view = { λ b. record {
+      from = bound_map (λ k. k.now) b.from;
+      to = bound_map (λ k. k.now) b.to;
+    } };
+}
+
+impl<'k> Bounds<'k> {
+    /// Returns the index of the first block that can have a key in the range.
+    pub(crate) fn first_block(&self, index: &IndexBlockRef<'_>) -> usize
+        ensures { result ≡ first_block self.now index.now.items }
+    {
+        match self.from {
+            Bound::Included(start) => index.position(&SeekBound::below(start)),
+            Bound::Excluded(start) => index.position(&SeekBound::up_to(start)),
+            Bound::Unbounded => 0,
+        }
+    }
+
+    // How many blocks end up to the end of the range.
+    fn blocks_up_to(&self, index: &IndexBlockRef<'_>) -> usize
+        ensures { result ≡ blocks_up_to self.now index.now.items }
+    {
+        match self.to {
+            Bound::Included(end) => index.position(&SeekBound::up_to(end)),
+            Bound::Excluded(end) => index.position(&SeekBound::below(end)),
+            Bound::Unbounded => index.len(),
+        }
+    }
+
+    /// Returns the index after the last block that can have a key in the range.
+    pub(crate) fn end_block(&self, index: &IndexBlockRef<'_>) -> usize
+        ensures value { result ≡ end_block self.now index.now.items }
+        ensures inside { result ≤ length index.now.items }
+    {
+        let len = index.len();
+        let last = self.blocks_up_to(index);
+        if last < len { last + 1 } else { len }
+    }
+
+    // Moves the front of a block's entries to the start of the range.
+    fn cut_front<H: BlockHash>(&self, entries: &mut IntoEntries<H>)
+        requires { entries.old.window.lo ≡ 0 }
+        ensures { entries.new.window ≡ record {
+          list = entries.old.window.list;
+          lo = first_entry self.now entries.old.window.list;
+          hi = entries.old.window.hi;
+        } }
+    {
+        match self.from {
+            Bound::Included(start) => {
+                entries.seek(start);
+            }
+            Bound::Excluded(start) => {
+                entries.seek_exclusive(start);
+            }
+            Bound::Unbounded => {}
+        }
+    }
+
+    // Moves the back of a block's entries to the end of the range.
+    fn cut_back<H: BlockHash>(&self, entries: &mut IntoEntries<H>)
+        requires { entries.old.window.hi ≡ length entries.old.window.list }
+        ensures { entries.new.window ≡ record {
+          list = entries.old.window.list;
+          lo = entries.old.window.lo;
+          hi = end_entry self.now entries.old.window.list;
+        } }
+    {
+        match self.to {
+            Bound::Included(end) => {
+                entries.seek_upper(end);
+            }
+            Bound::Excluded(end) => {
+                entries.seek_upper_exclusive(end);
+            }
+            Bound::Unbounded => {}
+        }
+    }
+
+    /// Leaves the entries of a block that are in the range.
+    pub(crate) fn cut<H: BlockHash>(&self, entries: &mut IntoEntries<H>)
+        requires { entries.old.window ≡ whole entries.old.window.list }
+        ensures left { items_left entries.new.window ≡ within self.now entries.old.window.list }
+        ensures all { AllWithin self.now (items_left entries.new.window) }
+    {
+        // The proof needs that the entries are ordered.
+        let _count = entries.count_left();
+        self.cut_front(entries);
+        self.cut_back(entries);
+    }
+
+    // The same for entries that borrow their block.
+    fn cut_iter_front(&self, iter: &mut Iter<'_>)
+        requires { iter.old.window.lo ≡ 0 }
+        ensures payload { iter.new.payload ≡ iter.old.payload }
+        ensures window { iter.new.window ≡ record {
+          list = iter.old.window.list;
+          lo = first_entry self.now iter.old.window.list;
+          hi = iter.old.window.hi;
+        } }
+    {
+        match self.from {
+            Bound::Included(start) => {
+                iter.seek(start);
+            }
+            Bound::Excluded(start) => {
+                iter.seek_exclusive(start);
+            }
+            Bound::Unbounded => {}
+        }
+    }
+
+    // The same for entries that borrow their block.
+    fn cut_iter_back(&self, iter: &mut Iter<'_>)
+        requires { iter.old.window.hi ≡ length iter.old.window.list }
+        ensures payload { iter.new.payload ≡ iter.old.payload }
+        ensures window { iter.new.window ≡ record {
+          list = iter.old.window.list;
+          lo = iter.old.window.lo;
+          hi = end_entry self.now iter.old.window.list;
+        } }
+    {
+        match self.to {
+            Bound::Included(end) => {
+                iter.seek_upper(end);
+            }
+            Bound::Excluded(end) => {
+                iter.seek_upper_exclusive(end);
+            }
+            Bound::Unbounded => {}
+        }
+    }
+
+    /// The same for entries that borrow their block.
+    pub(crate) fn cut_iter(&self, iter: &mut Iter<'_>)
+        requires { iter.old.window ≡ whole iter.old.window.list }
+        ensures payload { iter.new.payload ≡ iter.old.payload }
+        ensures left { items_left iter.new.window ≡ within self.now iter.old.window.list }
+    {
+        // The proof needs that the entries are ordered.
+        let _count = iter.count_left();
+        self.cut_iter_front(iter);
+        self.cut_iter_back(iter);
+    }
+}

@@ -1,0 +1,288 @@
+//! Sound runs over borrowed bytes, read without checks and without memory.
+ghost use Rattle.std.specs.Prelude.{◌≡◌, ◌≢◌, ◌<◌, List, length, slice_get};
+ghost use Rattle.std.specs.Prelude.{Ok, Err, IfOk, IfErr, MatchResult};
+ghost use Rattle.sst_base.specs.Counted.{CountsExactly, CountsBetween};
+ghost use Rattle.sst_base.specs.Entry.{Entry};
+ghost use Rattle.sst_block_core.specs.Entries.{entries};
+ghost use Rattle.sst_block_core.specs.Stages.{items_in};
+ghost use Rattle.sst_block_core.specs.Window.{first_match};
+ghost use Rattle.sst_block_kinds.specs.DataBlock.{data_ref_of};
+ghost use Rattle.sst_block_kinds.specs.Handles.{Handle};
+ghost use Rattle.sstable_blocks.specs.Blocks.{joined};
+ghost use Rattle.sstable_blocks.specs.Opened.{IsDenied, IsFoundIn, found_entry, index_in};
+ghost use Rattle.sstable_blocks.specs.Opened.{payload_in, range_of};
+ghost use Rattle.sstable_blocks.specs.ReadCosts.{heads_most_in, entries_most_in};
+ghost use Rattle.sstable_blocks.specs.RunChecks.{check_run, summary_of};
+ghost use Rattle.sstable_blocks.specs.RunReading.{hashes};
+ghost use Rattle.sstable_blocks.specs.Scans.{IsReadRun};
+ghost use Rattle.sstable_blocks.specs.Sound.{IsSound};
+ghost use Rattle.sstable_blocks.specs.Tables.{IsIndexIn};
+
+use super::RunHandles;
+use super::checking::{RunSummary, check};
+use super::laws::{sound_opens, sound_run_is_read};
+use super::open_filter::OpenFilter;
+use super::read::{block_over, find_handle_in, item_in, payload_at};
+use super::source::BorrowedSource;
+use sst_base::{BlockHandle, BlockHash, Error, Result, SeqNo, Steps};
+use sst_block_kinds::table::data_block::{DataBlockParsedItem, DataBlockRef, EntryView};
+use sst_block_kinds::table::index_block::IndexBlockRef;
+use std::alloc::Global;
+use std::marker::{Model, PhantomData};
+
+/// A sound run over bytes that it borrows, such as a mapped file or the pages of a cache. It is
+/// read without checks and checksums, nothing is copied, no memory is taken, and no read fails.
+/// What it gives borrows these bytes, and may be kept as long as they are lent.
+///
+/// Clauses see its bytes and its handles, which are a sound run.
+#[derive(Drop)]
+pub struct RunRef<'a, H: BlockHash> {
+    bytes: &'a [u8],
+    handles: &'a RunHandles,
+    filter: OpenFilter<'a>,
+    index: IndexBlockRef<'a>,
+    hash: PhantomData<H>,
+}
+
+impl<'a, H: BlockHash> Model for RunRef<'a, H> {
+    ghost use Rattle.std.specs.Prelude.{◌≡◌, List};
+    ghost use Rattle.sst_base.specs.Entry.{Entry};
+    ghost use Rattle.sstable_blocks.specs.RunReading.{hashes};
+    ghost use Rattle.sstable_blocks.specs.Sound.{IsSound, RunParts};
+    ghost use Rattle.sstable_blocks.specs.Tables.{IsIndexIn};
+
+    ghost Value = { RunParts };
+
+    ghost view = { λ r. record { bytes = r.bytes.now; handles = r.handles.now } };
+
+    ghost invariant = { λ r. ((blocks : List (List Entry))
+        × IsSound (hashes H.hash64 H.hash128) blocks r.bytes.now r.handles.now)
+        × IsIndexIn r.bytes.now r.handles.now.index r.index.items r.index.interval
+        × (r.filter ≡ record { bytes = r.bytes.now; handle = r.handles.now.filter }) };
+}
+
+impl<'a, H: BlockHash> RunRef<'a, H> {
+    /// Reads bytes and handles that are a sound run, as `write_run` writes one of any configuration
+    /// and [`super::check`] accepts it. Nothing of it is tested, and no checksum is computed.
+    #[tactic(auto, using(crate::proofs::Points::payload_fits))]
+    pub fn new(bytes: &'a [u8], handles: &'a RunHandles) -> RunRef<'a, H>
+        requires { (blocks : List (List Entry))
+            × IsSound (hashes H.hash64 H.hash128) blocks bytes.now handles.now }
+        ensures { result ≡ record { bytes = bytes.now; handles = handles.now } }
+    {
+        sound_opens();
+        // The proof needs the bound on the size of the index.
+        let _fits = handles.index.size();
+        let index = IndexBlockRef::new(payload_at(bytes, &handles.index));
+        RunRef::with_index(bytes, handles, index)
+    }
+
+    /// Checks a whole run of any bytes, as [`super::check`] does, and returns it with its summary.
+    /// A frame is copied while it is checked.
+    ///
+    /// # Errors
+    ///
+    /// Those of [`super::check`] but for `Error::Io`.
+    pub fn check(
+        alloc: Global,
+        bytes: &'a [u8],
+        handles: &'a RunHandles,
+    ) -> Result<(RunRef<'a, H>, RunSummary)>
+        ensures run { IfOk result
+            (λ r. r.0 ≡ record { bytes = bytes.now; handles = handles.now }) }
+        ensures checked { IfOk result
+            (λ r. check_run (hashes H.hash64 H.hash128) bytes.now handles.now ≡ Ok r.1) }
+        ensures refused { IfErr result (λ e. e ≢ Error.Memory
+            → check_run (hashes H.hash64 H.hash128) bytes.now handles.now ≡ Err e) }
+
+        // What is accepted is a sound run, and the summary is that of its blocks.
+        ensures sound { IfOk result (λ r. (blocks : List (List Entry))
+            × IsSound (hashes H.hash64 H.hash128) blocks bytes.now handles.now
+            × (r.1 ≡ summary_of blocks)) }
+
+        // A sound run is accepted.
+        ensures accepts { (blocks : List (List Entry))
+            → IsSound (hashes H.hash64 H.hash128) blocks bytes.now handles.now
+            → MatchResult result (λ r. r.1 ≡ summary_of blocks) (λ e. e ≡ Error.Memory) }
+    {
+        match summary_in::<H>(alloc, bytes, handles) {
+            Ok(summary) => Ok((RunRef::new(bytes, handles), summary)),
+            Err(error) => Err(error),
+        }
+    }
+
+    // The run with an index that was opened, and may have a table of its heads.
+    pub(crate) fn with_index(
+        bytes: &'a [u8],
+        handles: &'a RunHandles,
+        index: IndexBlockRef<'a>,
+    ) -> RunRef<'a, H>
+        requires sound { (blocks : List (List Entry))
+            × IsSound (hashes H.hash64 H.hash128) blocks bytes.now handles.now }
+        requires index { IsIndexIn bytes.now handles.now.index index.items index.interval }
+        ensures { result ≡ record { bytes = bytes.now; handles = handles.now } }
+    {
+        sound_opens();
+        RunRef {
+            bytes,
+            handles,
+            filter: OpenFilter::new(bytes, &handles.filter),
+            index,
+            hash: PhantomData,
+        }
+    }
+
+    /// Finds the first entry with this key whose sequence number is strictly below `seqno`, and
+    /// returns the frame of its block and where its parts are in the block's payload, which is the
+    /// frame without its first 33 bytes. Takes no memory.
+    ///
+    /// What is examined is added to `steps`, as [`super::read_entry`] does.
+    pub fn locate(
+        &self,
+        needle: &[u8],
+        seqno: SeqNo,
+        steps: &mut Steps,
+    ) -> Option<(BlockHandle, DataBlockParsedItem)>
+        ensures found { (blocks : List (List Entry))
+            → IsSound (hashes H.hash64 H.hash128) blocks self.now.bytes self.now.handles
+            → found_entry self.now.bytes result
+            ≡ first_match entries needle.now seqno (joined blocks) }
+        ensures place { IsFoundIn self.now.bytes result }
+        ensures counts { CountsBetween steps.old steps.new (0, 0) (
+          heads_most_in self.now.bytes self.now.handles needle.now seqno,
+          entries_most_in self.now.bytes self.now.handles needle.now seqno,
+        ) }
+        ensures looked { (IsDenied self.now.bytes self.now.handles.filter (H.hash64 needle.now) → ⊥)
+            → steps.old.heads < steps.new.heads }
+        ensures denied { IsDenied self.now.bytes self.now.handles.filter (H.hash64 needle.now)
+            → CountsExactly steps.old steps.new 0 0 }
+    {
+        sound_opens();
+        if !self.filter.allows(H::hash64(needle)) {
+            return None;
+        }
+        item_by_index::<H>(self.bytes, self.handles, &self.index, needle, seqno, steps)
+    }
+
+    /// Finds the first entry with this key whose sequence number is strictly below `seqno`. Takes
+    /// no memory.
+    ///
+    /// What is examined is added to `steps`, as [`super::read_entry`] does.
+    #[inline(always)]
+    pub fn find(&self, needle: &[u8], seqno: SeqNo, steps: &mut Steps) -> Option<EntryView<'a>>
+        ensures found { (blocks : List (List Entry))
+            → IsSound (hashes H.hash64 H.hash128) blocks self.now.bytes self.now.handles
+            → result ≡ first_match entries needle.now seqno (joined blocks) }
+        ensures counts { CountsBetween steps.old steps.new (0, 0) (
+          heads_most_in self.now.bytes self.now.handles needle.now seqno,
+          entries_most_in self.now.bytes self.now.handles needle.now seqno,
+        ) }
+        ensures looked { (IsDenied self.now.bytes self.now.handles.filter (H.hash64 needle.now) → ⊥)
+            → steps.old.heads < steps.new.heads }
+        ensures denied { IsDenied self.now.bytes self.now.handles.filter (H.hash64 needle.now)
+            → CountsExactly steps.old steps.new 0 0 }
+    {
+        match self.locate(needle, seqno, steps) {
+            Some((handle, item)) => Some(EntryView::new(payload_at(self.bytes, &handle), item)),
+            None => None,
+        }
+    }
+
+    // The index, with the table of its heads, if it has one.
+    fn index_again(&self) -> IndexBlockRef<'a>
+        ensures { IsIndexIn self.now.bytes self.now.handles.index result.items result.interval }
+    {
+        let index = IndexBlockRef::new(self.index.as_slice());
+        match self.index.heads() {
+            Some(heads) => index.with_table(heads),
+            None => index,
+        }
+    }
+
+    // The same run.
+    pub(crate) fn again(&self) -> RunRef<'a, H>
+        ensures { result ≡ self.now }
+    {
+        RunRef::with_index(self.bytes, self.handles, self.index_again())
+    }
+
+    // The index.
+    pub(crate) fn index(&self) -> &IndexBlockRef<'a>
+        ensures { result.now.items ≡ index_in self.now.bytes self.now.handles.index }
+    {
+        &self.index
+    }
+
+    // States in a proof that the index is read, and the block of each of its handles.
+    pub(crate) fn note_read(&self)
+        ensures { IsReadRun (hashes H.hash64 H.hash128) self.now.bytes self.now.handles }
+    {
+        sound_run_is_read();
+        // The proof needs that the run is sound.
+        let _sound = self.bytes;
+    }
+
+    // The block of the handle at an index of the index.
+    pub(crate) fn block_at(&self, index: usize) -> DataBlockRef<'a, H>
+        requires { index < length (index_in self.now.bytes self.now.handles.index) }
+        ensures { (h : Handle)
+            → slice_get (index_in self.now.bytes self.now.handles.index) index ≡ Some h
+            → result ≡ data_ref_of (payload_in self.now.bytes (range_of h)) }
+    {
+        sound_opens();
+        let handle = self.index.handle_at(index);
+        block_over::<H>(self.bytes, &handle)
+    }
+}
+
+// Checks a whole run of any bytes.
+fn summary_in<H: BlockHash>(
+    alloc: Global,
+    bytes: &[u8],
+    handles: &RunHandles,
+) -> Result<RunSummary>
+    ensures checked { IfOk result
+        (λ s. check_run (hashes H.hash64 H.hash128) bytes.now handles.now ≡ Ok s) }
+    ensures refused { IfErr result (λ e. e ≢ Error.Memory
+        → check_run (hashes H.hash64 H.hash128) bytes.now handles.now ≡ Err e) }
+    ensures sound { IfOk result (λ s. (blocks : List (List Entry))
+        × IsSound (hashes H.hash64 H.hash128) blocks bytes.now handles.now
+        × (s ≡ summary_of blocks)) }
+    ensures accepts { (blocks : List (List Entry))
+        → IsSound (hashes H.hash64 H.hash128) blocks bytes.now handles.now
+        → MatchResult result (λ s. s ≡ summary_of blocks) (λ e. e ≡ Error.Memory) }
+{
+    let mut source = BorrowedSource::new(bytes);
+    let summary = check::<H, BorrowedSource<'_>>(alloc, &mut source, handles);
+    source.note_reliable();
+    summary
+}
+
+// Where the first match of a sound run is, by its index.
+fn item_by_index<H: BlockHash>(
+    bytes: &[u8],
+    handles: &RunHandles,
+    index: &IndexBlockRef<'_>,
+    needle: &[u8],
+    seqno: SeqNo,
+    steps: &mut Steps,
+) -> Option<(BlockHandle, DataBlockParsedItem)>
+    requires sound { (blocks : List (List Entry))
+        × IsSound (hashes H.hash64 H.hash128) blocks bytes.now handles.now }
+    requires index { IsIndexIn bytes.now handles.now.index index.now.items index.now.interval }
+    ensures found { (blocks : List (List Entry))
+        → IsSound (hashes H.hash64 H.hash128) blocks bytes.now handles.now
+        → found_entry bytes.now result ≡ first_match entries needle.now seqno (joined blocks) }
+    ensures place { IsFoundIn bytes.now result }
+    ensures counts { CountsBetween steps.old steps.new (0, 0) (
+      heads_most_in bytes.now handles.now needle.now seqno,
+      entries_most_in bytes.now handles.now needle.now seqno,
+    ) }
+    ensures looked { steps.old.heads < steps.new.heads }
+{
+    sound_opens();
+    match find_handle_in(index, needle, seqno, steps) {
+        None => None,
+        Some(handle) => item_in::<H>(bytes, handle, needle, seqno, steps),
+    }
+}
