@@ -1,1 +1,2 @@
 pub mod Givens
+pub mod Listings

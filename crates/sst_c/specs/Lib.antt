@@ -5,3 +5,4 @@ pub mod Filters
 pub mod Frames
 pub mod Given
 pub mod Index
+pub mod Listing
