@@ -168,7 +168,7 @@ fn put_fields(form: &mut [u8], at: usize, item: &EntryParts<'_>) -> usize
 // length with it.
 #[inline(always)]
 fn put_value(writer: &mut Vec<u8>, at: usize, item: &EntryParts<'_>) -> AllocResult<usize>
-    requires { at + 10 ≤ length writer.old.items }
+    requires { at + 50 ≤ length writer.old.items }
     ensures bytes { IfOk result (λ end. take end writer.new.items
         ≡ take at writer.old.items ++ value_part item.now.key.value_type item.now.value) }
     ensures inside { IfOk result (λ end. end ≤ length writer.new.items) }
