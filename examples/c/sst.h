@@ -94,7 +94,7 @@ struct sst_handle {
    of the block. SST_BAD_ARGUMENT: exactly if the entries can't be encoded: there is none, one is not an
    entry (lengths, type), they are out of order, or interval or den is 0. SST_TOO_LONG: only where the
    block has 2^32 bytes or more. SST_MEMORY. But for SST_OK out is left, and but for SST_OK and
-   SST_NO_ROOM *out_len. Allocates: each entry is copied. */
+   SST_NO_ROOM *out_len. Allocates: keys and values are copied into the block alone. */
 uint32_t sst_data_block_encode(const struct sst_entry *entries, size_t count, uint8_t interval,
                                uint32_t num, uint32_t den, uint8_t *out, size_t out_cap,
                                size_t *out_len);
@@ -108,6 +108,12 @@ uint32_t sst_data_block_check(const uint8_t *payload, size_t len, size_t *count)
    *place is where it is. SST_NOT_FOUND: there is none, and *place is left. Takes no memory. */
 uint32_t sst_data_block_find(const uint8_t *payload, size_t len, const uint8_t *key, size_t key_len,
                              uint64_t below_seqno, struct sst_place *place);
+
+/* Writes where all entries of a data block are, in its order, tombstones too: the first *count places of
+   the array. SST_OK: *count is the number of entries, and the places after theirs are left. SST_NO_ROOM:
+   cap is less than *count, the number of entries, and the places are left. Takes no memory. */
+uint32_t sst_data_block_entries(const uint8_t *payload, size_t len, struct sst_place *places, size_t cap,
+                                size_t *count);
 
 /* Encodes handles as an index block at the front of out, in restart intervals of `interval` handles. The
    codes are those of sst_data_block_encode; SST_BAD_ARGUMENT: exactly if there is no handle, an end key

@@ -1,4 +1,4 @@
-/* Writes a data block, checks it, reads keys, and damages it. */
+/* Writes a data block, checks it, reads keys, lists all entries, and damages it. */
 #include "sst.h"
 #include <stdio.h>
 #include <stdlib.h>
@@ -31,6 +31,35 @@ static void find(const uint8_t *block, size_t len, const char *key, uint64_t bel
                (int)at.prefix_len, (const char *)block + at.prefix_offset, (int)at.key_len,
                (const char *)block + at.key_offset, (int)at.value_len, (const char *)block + at.value_offset);
     printf("\n");
+}
+
+/* Lists the entries of a block, and compares them with those that were given. */
+static void list(const uint8_t *block, size_t len, struct sst_place *places, size_t cap) {
+    size_t count = 0, same = 0;
+    uint32_t status = sst_data_block_entries(block, len, places, cap, &count);
+    for (size_t i = 0; status == SST_OK && i < count; i++) {
+        const struct sst_place *at = &places[i];
+        const struct sst_entry *given = &entries[i];
+        size_t value_len = given->value_type == SST_TOMBSTONE ? 0 : given->value_len;
+        same += at->seqno == given->seqno && at->value_type == given->value_type &&
+                at->prefix_len + at->key_len == given->key_len &&
+                memcmp(block + at->prefix_offset, given->key, at->prefix_len) == 0 &&
+                memcmp(block + at->key_offset, given->key + at->prefix_len, at->key_len) == 0 &&
+                at->value_len == value_len && memcmp(block + at->value_offset, given->value, value_len) == 0;
+    }
+    printf("list into %zu places: %s, %zu, %zu as given\n", cap, sst_error_name(status), count, same);
+}
+
+/* Lists into too few places, which are left, into just enough, and into one more, which is left. */
+static void use_entries(const uint8_t *block, size_t len) {
+    static struct sst_place places[COUNT + 1];
+    places[0].seqno = places[COUNT].seqno = 7;
+    list(block, len, places, 0);
+    list(block, len, places, COUNT - 1);
+    printf("first place: %llu\n", (unsigned long long)places[0].seqno);
+    list(block, len, places, COUNT);
+    list(block, len, places, COUNT + 1);
+    printf("last place: %llu\n", (unsigned long long)places[COUNT].seqno);
 }
 
 static void check(const char *what, const uint8_t *block, size_t len) {
@@ -121,6 +150,7 @@ int main(void) {
     find(block, len, (const char *)keys[5], UINT64_MAX);
     find(block, len, (const char *)keys[7], 107);
     find(block, len, "tbl2", UINT64_MAX);
+    use_entries(block, len);
     size_t unused = 0;
     encode(small, sizeof small, &unused, 0, 16);
     encode(small, sizeof small, &unused, COUNT, 0);

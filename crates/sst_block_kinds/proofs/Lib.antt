@@ -19,3 +19,4 @@ mod ExactHandles
 mod CheckRefusals
 mod Disorder
 mod MadeEntries
+mod TwoEnds

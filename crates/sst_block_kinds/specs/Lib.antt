@@ -13,3 +13,4 @@ pub mod Checks
 pub mod PointReads
 pub mod Disorder
 pub mod Tombstones
+pub mod EntryParts

@@ -4,5 +4,5 @@
 pub mod laws;
 pub mod table;
 
-pub use table::data_block::{DataBlock, DataBlockParsedItem, DataBlockRef};
+pub use table::data_block::{DataBlock, DataBlockParsedItem, DataBlockRef, EntryParts};
 pub use table::index_block::{IndexBlock, IndexBlockParsedItem, IndexBlockRef, KeyedBlockHandle};

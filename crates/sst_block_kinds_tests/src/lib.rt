@@ -16,6 +16,8 @@ mod index_blocks;
 mod lists;
 #[cfg(test)]
 mod owners;
+#[cfg(test)]
+mod parts;
 pub mod plain;
 pub mod random;
 #[cfg(test)]

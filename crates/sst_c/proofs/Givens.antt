@@ -1,21 +1,12 @@
 -- Entries as C gives them.
-use Rattle.std.proofs.Common.{◌≡◌, ◌<◌, ℕ, zero, suc, List, [], ◌∷◌, map, refl, sym, ◌∙◌, ap, arith, Option, Some, None, slice_index_or, length}
+use Rattle.std.proofs.Common.{◌≡◌, ◌<◌, ℕ, zero, suc, List, [], ◌∷◌, map, refl, sym, ◌∙◌, ap, arith, Some, slice_index_or, length}
 use Rattle.std.specs.List.{AllByRecursion}
 use Rattle.sst_base.specs.Entry.{Entry, IsEntry}
 use Rattle.sst_base.specs.ReadingLaws.{value_type_of-byte}
 use Rattle.sst_base.specs.ValueType.{value_type_byte, value_type_of}
 use Rattle.sst_base.specs.declared.value_type.ValueType.{ValueType}
 use Rattle.sst_c.specs.Given.{Parts, parts_given, parts_of, AreGiven, IsGiven}
-use Rattle.sst_c.specs.Index.{HasEndKey}
 use Rattle.sst_c.specs.declared.entries.SstEntry.{SstEntry}
-use Rattle.sst_c.specs.declared.handles.SstKeyedHandle.{SstKeyedHandle}
-
--- a byte that is read as no type is that of no entry
-pub no_type : (g : SstEntry) (e : Entry) → value_type_of g.value_type ≡ None → parts_of e ≡ parts_given g → ⊥
-no_type g e none same =
-    let byte : value_type_byte e.key.value_type ≡ g.value_type = ap (λ (p : Parts). p.byte) same in
-    let some : Some e.key.value_type ≡ None = sym (value_type_of-byte e.key.value_type) ∙ ap value_type_of byte ∙ none in
-    cc
 
 -- an entry is the one of its parts
 pub same_entry : (a b : Entry) → parts_of a ≡ parts_of b → a ≡ b
@@ -42,18 +33,16 @@ same_entries (x ∷ xs) (y ∷ ys) same =
     cc
 
 -- each of the entries given is one
-pub given_at : (gs : List SstEntry) (items : List Entry) (i : ℕ) (other : SstEntry) → i < length gs → AreGiven gs items → (e : Entry) × IsGiven (slice_index_or gs i other) e
-given_at [] items i other less are = absurd (omega (arith, less))
-given_at (x ∷ gs) [] i other less are = absurd (let s = are.1 in cc)
-given_at (x ∷ gs) (e ∷ items) zero other less are =
+pub each_given : (gs : List SstEntry) (items : List Entry) → AreGiven gs items → AllByRecursion (λ g. (e : Entry) × IsGiven g e) gs
+each_given [] items are = tt
+each_given (x ∷ gs) [] are = absurd (let s = are.1 in cc)
+each_given (x ∷ gs) (e ∷ items) are =
     let first : parts_of e ≡ parts_given x = let s = are.1 in cc in
-    (e, (are.0.0, first))
-given_at (x ∷ gs) (e ∷ items) (suc i) other less are =
     let others : map parts_of items ≡ map parts_given gs = let s = are.1 in cc in
-    given_at gs items i other (omega (arith, less)) (are.0.1, others)
+    ((e, (are.0.0, first)), each_given gs items (are.0.1, others))
 
--- each of the end keys given is not too long
-pub end_key_at : (gs : List SstKeyedHandle) (i : ℕ) (other : SstKeyedHandle) → i < length gs → AllByRecursion HasEndKey gs → HasEndKey (slice_index_or gs i other)
-end_key_at [] i other less all = absurd (omega (arith, less))
-end_key_at (x ∷ gs) zero other less all = all.0
-end_key_at (x ∷ gs) (suc i) other less all = end_key_at gs i other (omega (arith, less)) all.1
+-- what holds of each element holds of the one at an index
+pub at_index : {X : Type 0} (P : X → Type 0) (xs : List X) (i : ℕ) (other : X) → i < length xs → AllByRecursion P xs → P (slice_index_or xs i other)
+at_index P [] i other less all = absurd (omega (arith, less))
+at_index P (x ∷ xs) zero other less all = all.0
+at_index P (x ∷ xs) (suc i) other less all = at_index P xs i other (omega (arith, less)) all.1

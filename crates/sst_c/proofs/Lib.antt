@@ -1,2 +1,3 @@
 pub mod Givens
 pub mod Places
+pub mod Listings

@@ -26,12 +26,6 @@ parts_given e = record { key = e.key.now; value = e.value.now; seqno = e.seqno; 
 abbrev pub parts_of : Entry → Parts
 parts_of e = record { key = e.key.user_key; value = e.value; seqno = e.key.seqno; byte = value_type_byte e.key.value_type }
 
--- the lengths of key and value are within an entry's limits
-pub record HasLengths (given : SstEntry) : Type 0 where
-  pub some : 1 ≤ length given.key.now
-  pub key : length given.key.now ≤ 65535
-  pub value : length given.value.now < 2 ^ 32
-
 -- this entry is the one given
 abbrev pub IsGiven : SstEntry → Entry → Type 0
 IsGiven given e = IsEntry e × (parts_of e ≡ parts_given given)

@@ -6,3 +6,4 @@ pub mod Frames
 pub mod Given
 pub mod Index
 pub mod Runs
+pub mod Listing

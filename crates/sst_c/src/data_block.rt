@@ -12,6 +12,7 @@ ghost use Rattle.sst_c.specs.Blocks.{bytes_at, IsAnswer, IsDataBlock, IsFind, Is
 ghost use Rattle.sst_c.specs.Checks.{IsCheck};
 ghost use Rattle.sst_c.specs.Codes.{code_of};
 ghost use Rattle.sst_c.specs.Given.{CanEncode, IsEncode};
+ghost use Rattle.sst_c.specs.Listing.{AreListed, IsListing};
 ghost use Rattle.sst_c.specs.declared.codes.Status.{Status};
 ghost use Rattle.sst_c.specs.declared.codes.Status.TheVariants.{Failed, BadArgument};
 ghost use Rattle.sst_base.specs.declared.error.Error.TheVariants.{Memory};
@@ -20,8 +21,10 @@ use crate::codes::Status;
 use crate::entries::{SstEntry, items_of};
 use crate::output::write_bytes;
 use sst_base::table::util::SliceIndexes;
-use sst_base::{HashRatio, InternalValue, Poly31, SeqNo, Steps};
-use sst_block_kinds::table::data_block::{DataBlock, DataBlockParsedItem, DataBlockRef};
+use sst_base::{HashRatio, Poly31, SeqNo, Steps};
+use sst_block_kinds::table::data_block::{
+    DataBlock, DataBlockParsedItem, DataBlockRef, EntryParts,
+};
 use std::alloc::Global;
 
 /// Where the parts of an entry are in a payload: its user key is the prefix and then the key's own
@@ -128,6 +131,56 @@ pub extern "C" fn sst_data_block_find(
     note_found(payload, key, below_seqno, place).code()
 }
 
+// Writes where the entries of a block are, from the first place on.
+fn write_places(block: &DataBlockRef<'_, Poly31>, places: &mut [SstPlace])
+    requires { length block.now.items ≤ length places.old }
+    ensures { AreListed block.now.payload block.now.items places.old places.new }
+{
+    let payload = block.as_slice();
+    let mut items = block.iter();
+    for i in 0..block.len() {
+        let Some(item) = items.next() else {
+            return;
+        };
+        places[i] = place_of(payload, &item);
+    }
+}
+
+// Writes where all entries are, if there is room for them, and notes their number.
+fn list(payload: &[u8], places: &mut [SstPlace], count: &mut usize) -> Status
+    requires { IsDataBlock payload.now }
+    ensures { IsListing payload.now (items_in entries payload.now) places.old places.new count.new
+        result }
+{
+    let block = DataBlockRef::<Poly31>::new(payload);
+    *count = block.len();
+    if places.len() < block.len() {
+        return Status::NoRoom;
+    }
+    write_places(&block, places);
+    Status::Done
+}
+
+/// Writes where all entries of a data block are, in bytes that are known to be one as for
+/// [`sst_data_block_find`]: in the block's order, tombstones too, from the first place on. No
+/// memory is taken, and nothing is copied.
+///
+/// Returns 0 and the number of entries, each of which has its place then, and leaves the places
+/// after them; or 18 where `places` is too short, and the number that is needed, and leaves
+/// `places`.
+#[unsafe(no_mangle)]
+pub extern "C" fn sst_data_block_entries(
+    payload: &[u8],
+    places: &mut [SstPlace],
+    count: &mut usize,
+) -> u32
+    requires { IsDataBlock payload.now }
+    ensures { (s : Status) × (result ≡ code_of s)
+        × IsListing payload.now (items_in entries payload.now) places.old places.new count.new s }
+{
+    list(payload, places, count).code()
+}
+
 // Checks any bytes, and notes the number of entries.
 fn check(alloc: Global, payload: &[u8], count: &mut usize) -> Status
     ensures { IsCheck (IsDataBlock payload.now) payload.now (data_check (poly31 64) payload.now)
@@ -157,13 +210,13 @@ pub extern "C" fn sst_data_block_check(payload: &[u8], count: &mut usize, alloc:
     check(alloc, payload, count).code()
 }
 
-// The entries that are given, if they can be encoded.
-fn checked_items(
+// The entries that are given, if they can be encoded, over the same bytes.
+fn checked_items<'a>(
     alloc: Global,
-    entries: &[SstEntry<'_>],
+    entries: &[SstEntry<'a>],
     interval: u8,
     ratio: HashRatio,
-) -> Result<Vec<InternalValue>, Status>
+) -> Result<Vec<EntryParts<'a>>, Status>
     ensures ok { IfOk result (λ items. CanEncode entries.now interval ratio.den items.items) }
     ensures refused { IfErr result (λ s. (s ≡ Failed Memory) ⊎ ((s ≡ BadArgument)
         × ((items : List Entry) → CanEncode entries.now interval ratio.den items → ⊥))) }
@@ -172,7 +225,7 @@ fn checked_items(
         return Err(Status::BadArgument);
     }
     let items = items_of(alloc, entries)?;
-    if !DataBlock::<Poly31>::is_ordered(items.as_slice()) {
+    if !DataBlock::<Poly31>::are_parts_ordered(items.as_slice()) {
         return Err(Status::BadArgument);
     }
     Ok(items)
@@ -194,7 +247,7 @@ fn encode(
         Ok(items) => items,
         Err(status) => return status,
     };
-    match DataBlock::<Poly31>::encode_into_vec(alloc, items.as_slice(), interval, ratio) {
+    match DataBlock::<Poly31>::encode_parts_into_vec(alloc, items.as_slice(), interval, ratio) {
         Ok(payload) => write_bytes(payload.as_slice(), out, out_len),
         Err(error) => Status::Failed(error),
     }

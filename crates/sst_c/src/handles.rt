@@ -6,14 +6,11 @@ ghost use Rattle.sst_c.specs.Index.{handle_given, HasEndKey};
 ghost use Rattle.sst_c.specs.declared.codes.Status.TheVariants.{Failed, BadArgument};
 
 use crate::codes::Status;
-use crate::entries::slice_of;
-use sst_base::Error;
+use sst_base::key::MAX_KEY_LEN;
 use sst_base::table::block::{BlockHandle, BlockOffset};
+use sst_base::{Error, Slice};
 use sst_block_kinds::KeyedBlockHandle;
 use std::alloc::Global;
-
-/// The greatest length of an end key.
-const MAX_KEY_LEN: usize = 65535;
 
 /// A handle of a data block: the key and the sequence number of its last entry, and where its frame
 /// is.
@@ -39,7 +36,10 @@ fn item_of(alloc: Global, given: &SstKeyedHandle<'_>) -> Result<KeyedBlockHandle
     if given.end_key.len() > MAX_KEY_LEN {
         return Err(Status::BadArgument);
     }
-    let end_key = slice_of(alloc, given.end_key)?;
+    let end_key = match Slice::new(alloc, given.end_key) {
+        Ok(end_key) => end_key,
+        Err(error) => return Err(Status::Failed(error)),
+    };
     let handle = BlockHandle::new(BlockOffset(given.offset), given.size);
     Ok(KeyedBlockHandle::new(end_key, given.seqno, handle))
 }

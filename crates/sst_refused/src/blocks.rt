@@ -1,7 +1,7 @@
 //! Encoding, checks, and tables of heads.
 ghost use Rattle.std.specs.Prelude.{◌≡◌, []};
 
-use crate::lists::{LONG, NO_BUCKETS, ONE_EACH, SHORT, data_block, index_block, list_of};
+use crate::lists::{LONG, NO_BUCKETS, ONE_EACH, SHORT, data_block, index_block, list_of, parts_of};
 use crate::output::print_bytes;
 use sst_base::{Block, ByteSum, Error, InternalValue, Result};
 use sst_block_core::table::block::encoder::Encoder;
@@ -30,6 +30,21 @@ pub fn encode(rt: &impl Print, alloc: Global, times: u32) -> Result<()> {
         let mut bytes = Vec::new(alloc);
         let results = encode_into(&mut bytes, &list);
         print!(rt; "{results:?} ")?;
+        print_bytes(rt, &bytes)?;
+    }
+    Ok(())
+}
+
+/// Encodes entries whose parts are borrowed, with buckets: what is returned, and the bytes.
+pub fn encode_parts(rt: &impl Print, alloc: Global, times: u32) -> Result<()> {
+    let parts = parts_of(alloc, &SHORT)?;
+    if parts.is_empty() || !DataBlock::<ByteSum>::are_parts_ordered(&parts) {
+        return Err(Error::OutOfOrder);
+    }
+    for _ in 0..times {
+        let mut bytes = Vec::new(alloc);
+        let returned = DataBlock::<ByteSum>::encode_parts_into(&mut bytes, &parts, 2, ONE_EACH);
+        print!(rt; "{returned:?} ")?;
         print_bytes(rt, &bytes)?;
     }
     Ok(())

@@ -6,7 +6,7 @@ ghost use Rattle.sstable_blocks.specs.Blocks.{CutsFit};
 
 use sst_base::table::block::{Block, BlockHandle, BlockOffset, BlockType};
 use sst_base::{ByteSum, Error, HashRatio, InternalValue, Result, Slice, ValueType};
-use sst_block_kinds::{DataBlock, IndexBlock, KeyedBlockHandle};
+use sst_block_kinds::{DataBlock, EntryParts, IndexBlock, KeyedBlockHandle};
 use sstable_blocks::run::{RunConfig, cuts_fit};
 use std::alloc::Global;
 
@@ -60,6 +60,18 @@ pub fn list_of(alloc: Global, rows: &[Row]) -> Result<Vec<InternalValue>> {
         list.push(InternalValue::from_components(key, value, *seqno, *value_type))?;
     }
     Ok(list)
+}
+
+/// Makes the list of some rows as entries whose parts are borrowed.
+pub fn parts_of(alloc: Global, rows: &'static [Row]) -> Result<Vec<EntryParts<'static>>> {
+    let mut parts = Vec::new(alloc);
+    for (key, value, seqno, value_type) in rows {
+        let Some(part) = EntryParts::new(key, value, *seqno, *value_type) else {
+            return Err(Error::TooLong);
+        };
+        parts.push(part)?;
+    }
+    Ok(parts)
 }
 
 /// Makes the data block of some rows at interval 2.

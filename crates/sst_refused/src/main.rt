@@ -18,6 +18,7 @@ use std::rt::Env;
 fn on_block(rt: &impl Print, alloc: Global, operation: &str, times: u32) -> Result<()> {
     match operation {
         "encode" => blocks::encode(rt, alloc, times),
+        "encode_parts" => blocks::encode_parts(rt, alloc, times),
         "check_data" => blocks::check_data(rt, alloc, times),
         "check_index" => blocks::check_index(rt, alloc, times),
         "heads_data" => blocks::heads_data(rt, alloc, times),

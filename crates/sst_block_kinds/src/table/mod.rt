@@ -2,3 +2,5 @@
 pub mod answer;
 pub mod data_block;
 pub mod index_block;
+mod order;
+mod put_bytes;

@@ -23,6 +23,7 @@ ghost use Rattle.sst_block_kinds.specs.ParsedEntry.{entry_of, IsParsedEntry};
 pub mod block_ref;
 mod checking;
 mod decoding;
+pub mod entry_parts;
 pub mod entry_ref;
 pub mod entry_view;
 pub mod into_entries;
@@ -33,7 +34,9 @@ mod point_read;
 
 use crate::laws::data_check_is_by_stages;
 pub use crate::table::answer::Answer;
+use crate::table::order;
 pub use block_ref::DataBlockRef;
+pub use entry_parts::EntryParts;
 pub use entry_ref::{Entries, EntryRef};
 pub use entry_view::{EntryView, EntryViews};
 pub use into_entries::IntoEntries;
@@ -175,6 +178,84 @@ impl<H: BlockHash> DataBlock<H> {
     {
         let mut writer = Vec::new(alloc);
         DataBlock::<H>::encode_into(&mut writer, items, restart_interval, ratio)?;
+        Ok(writer)
+    }
+
+    /// Returns whether no entry sorts before its predecessor, as [`DataBlock::is_ordered`] does for
+    /// entries whose parts are borrowed.
+    pub fn are_parts_ordered(items: &[EntryParts<'_>]) -> bool
+        ensures { IsTrue result ↔ IsOrdered entries items.now }
+    {
+        order::is_ordered(items)
+    }
+
+    /// Encodes a non-empty ordered list of entries whose parts are borrowed, as
+    /// [`DataBlock::encode_into`] does: no [`InternalValue`] is made, and keys and values are copied
+    /// once, into the block.
+    ///
+    /// # Errors
+    ///
+    /// `Error::TooLong` only where the block has 2^32 bytes or more; `Error::Memory` if an
+    /// allocation fails. The vector is then empty.
+    pub fn encode_parts_into(
+        writer: &mut Vec<u8>,
+        items: &[EntryParts<'_>],
+        restart_interval: u8,
+        ratio: HashRatio,
+    ) -> Result<()>
+        requires empty { writer.old.items ≡ [] }
+        requires some { 1 ≤ length items.now }
+        requires ordered { IsOrdered entries items.now }
+        requires interval { 1 ≤ restart_interval }
+        requires den { 1 ≤ ratio.den }
+        ensures written { OnOk result (IsBlockPayload
+            (IsBlock entries IsEntry H.hash64 writer.new.items items.now restart_interval
+            (bucket_count ratio.num ratio.den (length items.now)))
+            (data_payload H.hash64 items.now restart_interval
+            (bucket_count ratio.num ratio.den (length items.now)))
+            writer.new.items) }
+        ensures empty { OnErr result (writer.new.items ≡ []) }
+        ensures cause { IfErr result (IsRefusal None
+            (2 ^ 32
+            ≤ length
+            (data_payload H.hash64 items.now restart_interval
+            (bucket_count ratio.num ratio.den (length items.now))))) }
+    {
+        encode_all::<EntryParts<'_>, H>(writer, items, restart_interval, ratio)
+    }
+
+    /// Encodes a non-empty ordered list of entries whose parts are borrowed, as
+    /// [`DataBlock::encode_parts_into`] does, into a vector of its own.
+    ///
+    /// # Errors
+    ///
+    /// `Error::TooLong` only where the block has 2^32 bytes or more; `Error::Memory` if an
+    /// allocation fails.
+    pub fn encode_parts_into_vec(
+        alloc: Global,
+        items: &[EntryParts<'_>],
+        restart_interval: u8,
+        ratio: HashRatio,
+    ) -> Result<Vec<u8>>
+        requires some { 1 ≤ length items.now }
+        requires ordered { IsOrdered entries items.now }
+        requires interval { 1 ≤ restart_interval }
+        requires den { 1 ≤ ratio.den }
+        ensures payload { IfOk result (λ v. v.items
+            ≡ data_payload H.hash64 items.now restart_interval
+            (bucket_count ratio.num ratio.den (length items.now))) }
+        ensures block { IfOk result
+            (λ v. IsBlock entries IsEntry H.hash64 v.items items.now restart_interval
+            (bucket_count ratio.num ratio.den (length items.now))) }
+        ensures fits { IfOk result (λ v. length v.items < 2 ^ 32) }
+        ensures cause { IfErr result (IsRefusal None
+            (2 ^ 32
+            ≤ length
+            (data_payload H.hash64 items.now restart_interval
+            (bucket_count ratio.num ratio.den (length items.now))))) }
+    {
+        let mut writer = Vec::new(alloc);
+        DataBlock::<H>::encode_parts_into(&mut writer, items, restart_interval, ratio)?;
         Ok(writer)
     }
 

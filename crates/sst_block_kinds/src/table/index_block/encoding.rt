@@ -1,8 +1,11 @@
 //! Handles as items of a block: how they are encoded.
 ghost use Rattle.std.specs.Prelude.{◌≡◌, ◌+◌, ◌≤◌, ◌++◌, take, length};
+ghost use Rattle.std.specs.Ordering.{is_lt};
+ghost use Rattle.sst_block_core.specs.Kind.{item_cmp};
 ghost use Rattle.sst_block_kinds.specs.Handles.{fields, fields_of};
 
 use crate::table::index_block::block_handle::KeyedBlockHandle;
+use crate::table::order::Sorted;
 use sst_base::AllocResult;
 use sst_base::in_place::{make_room, put_byte, put_length_prefixed, put_varint};
 use sst_block_core::BlockItem;
@@ -20,6 +23,12 @@ impl BlockItem for KeyedBlockHandle {
     ghost valid = { IsHandle };
 
     ghost is_kind = { IsKind-handles };
+}
+
+impl Sorted for KeyedBlockHandle {
+    fn sorts_before(&self, other: &KeyedBlockHandle) -> bool {
+        self.compare(other).is_lt()
+    }
 }
 
 // Writes what precedes an end key after the first `at` bytes, where there is capacity for it.

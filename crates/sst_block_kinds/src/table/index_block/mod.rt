@@ -28,6 +28,7 @@ mod positions;
 
 use crate::laws::index_check_is_by_stages;
 pub use crate::table::answer::Answer;
+use crate::table::order;
 pub use block_handle::{BlockHandle, KeyedBlockHandle};
 pub use block_ref::IndexBlockRef;
 pub use handle_ref::{HandleRef, Handles};
@@ -76,12 +77,7 @@ impl IndexBlock {
     pub fn is_ordered(items: &[KeyedBlockHandle]) -> bool
         ensures { IsTrue result ↔ IsOrdered handles items.now }
     {
-        for i in 1..items.len() {
-            if items[i].compare(&items[i - 1]).is_lt() {
-                return false;
-            }
-        }
-        true
+        order::is_ordered(items)
     }
 
     /// Returns whether the frame of each handle ends below 2^64.

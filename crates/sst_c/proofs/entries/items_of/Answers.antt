@@ -1,9 +1,9 @@
-use Rattle.std.proofs.Common.{inl, inr}
-use Rattle.sst_c.proofs.Givens.{given_at}
+use Rattle.std.proofs.Common.{refl, inr}
+use Rattle.sst_base.specs.Entry.{Entry}
+use Rattle.sst_c.specs.Given.{IsGiven}
+use Rattle.sst_c.proofs.Givens.{at_index, each_given}
 use Rattle.sst_c.proofs.entries.items_of.Goals as goal
 
-pub returns-in-Err-clause-refused : goal.returns-in-Err-clause-refused
-returns-in-Err-clause-refused c = elim c.in-Err.ensures.refused [
-  | inl memory ↦ inl memory
-  | inr bad ↦ inr (bad.0, λ items are. (let at = given_at c.args.entries.now items c.loop-entry.entry-index _ c.loop-entry-test.true are in bad.1 at.0 at.1))
-]
+pub returns-in_default-item_of-clause-refused : goal.returns-in_default-item_of-clause-refused
+returns-in_default-item_of-clause-refused c =
+    inr (refl, λ items are. (let at = at_index (λ g. (e : Entry) × IsGiven g e) c.args.entries.now c.loop-entry.entry-index _ c.loop-entry-test.true (each_given c.args.entries.now items are) in c.in_default-item_of.ensures.refused refl at.0 at.1))

@@ -1,9 +1,10 @@
 use Rattle.std.proofs.Common.{inl, inr}
-use Rattle.sst_c.proofs.Givens.{end_key_at}
+use Rattle.sst_c.specs.Index.{HasEndKey}
+use Rattle.sst_c.proofs.Givens.{at_index}
 use Rattle.sst_c.proofs.handles.items_of.Goals as goal
 
 pub returns-in-Err-clause-refused : goal.returns-in-Err-clause-refused
 returns-in-Err-clause-refused c = elim c.in-Err.ensures.refused [
   | inl memory ↦ inl memory
-  | inr bad ↦ inr (bad.0, λ all. bad.1 (end_key_at c.args.given.now c.loop-handle.handle-index _ c.loop-handle-test.true all))
+  | inr bad ↦ inr (bad.0, λ all. bad.1 (at_index HasEndKey c.args.given.now c.loop-handle.handle-index _ c.loop-handle-test.true all))
 ]
