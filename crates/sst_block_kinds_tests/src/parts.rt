@@ -125,7 +125,8 @@ fn parts_of_constants_are_encoded(rt: HostRuntime) -> Tested {
 fn limits_of_parts(rt: HostRuntime) -> Tested {
     let bytes = vec![in rt.alloc(); b'k'; 65536]?;
     for (len, is_entry) in [(0, false), (1, true), (65535, true), (65536, false)] {
-        let part = EntryParts::new(&bytes[..len], &bytes, 7, ValueType::WeakTombstone);
+        let key = bytes.as_slice().get(0..len).ok_or(Error::TooLong)?;
+        let part = EntryParts::new(key, &bytes, 7, ValueType::WeakTombstone);
         assert!(&rt; part.is_some() == is_entry);
         if let Some(part) = part {
             assert!(&rt; part.user_key().len() == len);
@@ -137,14 +138,24 @@ fn limits_of_parts(rt: HostRuntime) -> Tested {
     Ok(())
 }
 
-/// Parts out of order are no list of a block.
+/// The older version of a key first.
+const OLDER_FIRST: [Row; 2] = [
+    (b"ab", b"zz", 1, ValueType::Tombstone),
+    (b"ab", b"x", 2, ValueType::Value),
+];
+
+/// The greater key first.
+const GREATER_FIRST: [Row; 2] = [
+    (b"ac", b"y", 300, ValueType::Value),
+    (b"ab", b"x", 400, ValueType::Value),
+];
+
+/// Parts out of order are told, by key and by sequence number.
 #[test]
 fn parts_out_of_order(rt: HostRuntime) -> Tested {
-    let mut parts = parts_of_rows(rt.alloc(), &ROWS)?;
-    parts.swap(0, 1);
-    assert!(&rt; !DataBlock::<ByteSum>::are_parts_ordered(&parts));
-    parts.swap(0, 1);
-    parts.swap(1, 2);
-    assert!(&rt; !DataBlock::<ByteSum>::are_parts_ordered(&parts));
+    let older = parts_of_rows(rt.alloc(), &OLDER_FIRST)?;
+    assert!(&rt; !DataBlock::<ByteSum>::are_parts_ordered(&older));
+    let greater = parts_of_rows(rt.alloc(), &GREATER_FIRST)?;
+    assert!(&rt; !DataBlock::<ByteSum>::are_parts_ordered(&greater));
     Ok(())
 }
