@@ -1,7 +1,7 @@
 -- Entries as C gives them.
 use Rattle.std.proofs.Common.{◌≡◌, ◌<◌, ℕ, zero, suc, List, [], ◌∷◌, map, refl, sym, ◌∙◌, ap, arith, Some, slice_index_or, length}
 use Rattle.std.specs.List.{AllByRecursion}
-use Rattle.sst_base.specs.Entry.{Entry, IsEntry}
+use Rattle.sst_base.specs.Entry.{Entry}
 use Rattle.sst_base.specs.ReadingLaws.{value_type_of-byte}
 use Rattle.sst_base.specs.ValueType.{value_type_byte, value_type_of}
 use Rattle.sst_base.specs.declared.value_type.ValueType.{ValueType}

@@ -1,5 +1,5 @@
 -- The places of a block's entries, one after the other.
-use Rattle.std.proofs.Common.{◌≡◌, ◌≢◌, ℕ, zero, suc, ◌+◌, ◌<◌, ◌≤◌, List, [], ◌∷◌, length, take, drop, set, get_or, sym, ◌∙◌, ap, refl, arith, Some, inl, inr, subst, length-set, take_all}
+use Rattle.std.proofs.Common.{◌≡◌, ◌≢◌, ℕ, zero, suc, ◌+◌, ◌<◌, ◌≤◌, List, [], ◌∷◌, length, take, drop, set, get_or, sym, ◌∙◌, ap, arith, Some, inl, inr, subst, length-set}
 use Rattle.std.specs.Prelude.{slice_get}
 use Rattle.std.proofs.lemmas.Bool.{cases_order}
 use Rattle.std.proofs.lemmas.Grind.{get_or-set_at}
@@ -11,14 +11,6 @@ use Rattle.sst_block_kinds.specs.declared.table.data_block.parsed_item.DataBlock
 use Rattle.sst_c.specs.Blocks.{IsPlaceOf}
 use Rattle.sst_c.specs.Listing.{AreListed}
 use Rattle.sst_c.specs.declared.data_block.SstPlace.{SstPlace}
-
--- no place is listed at first
-pub none_listed : (p : List ℕ) (items : List Entry) (places : List SstPlace) → AreListed p (take 0 items) places places
-none_listed p items places = record {
-  each = λ i f e here there. (let absent : slice_get {X = Entry} [] i ≡ Some e = there in cc);
-  others = refl;
-  kept = refl;
-}
 
 -- a place more
 pub one_more_listed : (p : List ℕ) (items : List Entry) (old new : List SstPlace) (i : ℕ) (f : SstPlace) (e : Entry) → i < length items → length items ≤ length old
@@ -67,10 +59,6 @@ one_more_listed p items old new i f e within room at is so_far = record {
         | inr more ↦ absurd (omega (arith, slice_get_within (take (i + 1) items) j d there, more_len, more))
       ]
     ]
-
--- all places
-pub all_listed : (p : List ℕ) (items : List Entry) (old new : List SstPlace) (n : ℕ) → length items ≤ n → AreListed p (take n items) old new → AreListed p items old new
-all_listed p items old new n whole listed = subst (λ xs. AreListed p xs old new) (take_all n items whole) listed
 
 -- the element at an index, by the elements from there on
 pub first_from : {X : Type 0} (xs rest : List X) (i : ℕ) (x : X) → drop i xs ≡ x ∷ rest → (i < length xs) × (slice_get xs i ≡ Some x) × (drop (suc i) xs ≡ rest)

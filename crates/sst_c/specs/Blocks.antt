@@ -1,13 +1,10 @@
 -- Blocks that are known to be one, and where the parts of an entry are.
 use Rattle.std.specs.Prelude.{◌≡◌, ℕ, ◌+◌, ◌≤◌, ◌<◌, ◌^◌, List, ◌++◌, length, take, drop, Option, Some, None}
-use Rattle.sst_base.specs.Bytes.{IsBytes}
 use Rattle.sst_base.specs.Entry.{Entry, IsEntry}
 use Rattle.sst_base.specs.Hashes.{poly31}
 use Rattle.sst_base.specs.ValueType.{value_type_byte}
 use Rattle.sst_block_core.specs.Entries.{entries}
 use Rattle.sst_block_core.specs.Payload.{IsBlock}
-use Rattle.sst_block_core.specs.Stages.{items_in}
-use Rattle.sst_block_core.specs.Window.{first_match}
 use Rattle.sst_c.specs.declared.codes.Status.{Status}
 use Rattle.sst_c.specs.declared.codes.Status.TheVariants.{Done, NotFound}
 use Rattle.sst_c.specs.declared.data_block.SstPlace.{SstPlace}

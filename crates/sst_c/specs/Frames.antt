@@ -9,7 +9,7 @@ use Rattle.sst_base.specs.declared.error.Error.TheVariants.{TooLong, Memory}
 use Rattle.sst_base.specs.declared.table.block.block_type.BlockType.{BlockType}
 use Rattle.sst_c.specs.Given.{AreKept, IsWritten}
 use Rattle.sst_c.specs.declared.codes.Status.{Status}
-use Rattle.sst_c.specs.declared.codes.Status.TheVariants.{Done, Failed, BadArgument, NoRoom}
+use Rattle.sst_c.specs.declared.codes.Status.TheVariants.{Done, Failed, BadArgument}
 
 -- the error that ends a write: the payload is too long, or an allocation failed
 pub record IsFrameFailure (payload old new : List ℕ) (len_old len_new : ℕ) (e : Error) : Type 0 where

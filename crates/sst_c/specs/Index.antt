@@ -9,7 +9,7 @@ use Rattle.sst_block_core.specs.Window.{count_passed}
 use Rattle.sst_block_kinds.specs.Handles.{Handle, handles, index_payload, EndFits, IsIndexBlock}
 use Rattle.sst_c.specs.Given.{AreKept, IsWritten}
 use Rattle.sst_c.specs.declared.codes.Status.{Status}
-use Rattle.sst_c.specs.declared.codes.Status.TheVariants.{Done, Failed, NotFound, BadArgument, NoRoom}
+use Rattle.sst_c.specs.declared.codes.Status.TheVariants.{Done, Failed, NotFound, BadArgument}
 use Rattle.sst_c.specs.declared.index_block.SstHandle.{SstHandle}
 use Rattle.sst_c.specs.declared.handles.SstKeyedHandle.{SstKeyedHandle}
 

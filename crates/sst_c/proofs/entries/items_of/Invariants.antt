@@ -1,4 +1,4 @@
-use Rattle.std.proofs.Common.{◌≡◌, take}
+use Rattle.std.proofs.Common.{take}
 use Rattle.sst_c.specs.Given.{AreGiven}
 use Rattle.sst_c.proofs.entries.items_of.Given as goal
 
