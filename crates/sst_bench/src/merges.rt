@@ -64,7 +64,10 @@ pub(crate) fn runs_of(
 }
 
 // Opens a table over each run.
-pub(crate) fn tables_of(alloc: Global, runs: &[Stored]) -> Option<Vec<Table<Poly31, MemorySource>>> {
+pub(crate) fn tables_of(
+    alloc: Global,
+    runs: &[Stored],
+) -> Option<Vec<Table<Poly31, MemorySource>>> {
     let mut tables = Vec::new(alloc);
     for run in runs {
         let source = MemorySource::new(run.bytes.clone().ok()?);

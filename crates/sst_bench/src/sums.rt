@@ -77,6 +77,6 @@ pub fn view_sum(entry: &EntryView<'_>) -> u64 {
         .wrapping_add(prefix.len() as u64)
         .wrapping_add(rest.len() as u64)
         .wrapping_add(value.len() as u64)
-        .wrapping_add(last_byte(rest))
+        .wrapping_add(last_byte(if rest.is_empty() { prefix } else { rest }))
         .wrapping_add(last_byte(value))
 }

@@ -93,7 +93,11 @@ fn scanned_in(
     let run = RunRef::<Poly31>::new(run, handles);
     let mut sum = 0;
     for _ in 0..times {
-        sum = if made { add_scanned_made(sum, &run, alloc)? } else { add_scanned(sum, &run) };
+        sum = if made {
+            add_scanned_made(sum, &run, alloc)?
+        } else {
+            add_scanned(sum, &run)
+        };
     }
     Some(sum)
 }
@@ -184,7 +188,9 @@ fn scans_of<'a>(
 ) -> Option<Vec<Scanned<'a, 'static>>> {
     let mut scans = Vec::new(alloc);
     for table in tables {
-        scans.push(Head::new(alloc, table.by_ref().scan()).ok()?).ok()?;
+        scans
+            .push(Head::new(alloc, table.by_ref().scan()).ok()?)
+            .ok()?;
     }
     Some(scans)
 }
@@ -225,13 +231,7 @@ fn add_merged_made(
 }
 
 // Opens and checks the tables, and merges their scans, so many times.
-fn merged_in(
-    alloc: Global,
-    runs: &[Stored],
-    count: usize,
-    times: u64,
-    made: bool,
-) -> Option<u64> {
+fn merged_in(alloc: Global, runs: &[Stored], count: usize, times: u64, made: bool) -> Option<u64> {
     let mut tables = tables_of(alloc, runs)?;
     let trusted = all_trusted(alloc, tables.as_mut_slice())?;
     let mut sum = 0;

@@ -50,3 +50,11 @@ placed bytes h f e range at =
       key_inside = omega (arith, k, fits, inside, header);
       value_inside = omega (arith, v, fits, inside, header);
     }
+
+-- the payload of a frame, by its range
+pub frame_payload : (bytes : List ℕ) (h : HandleParts) → IsFrameRange bytes h → take (h.offset + h.size - (h.offset + 33)) (drop (h.offset + 33) bytes) ≡ payload_in bytes h
+unfolding payload_in
+frame_payload bytes h range =
+    let header = range.header in
+    let size : h.offset + h.size - (h.offset + 33) ≡ h.size - 33 = omega (arith, header) in
+    ap (λ n. take n (drop (h.offset + 33) bytes)) size

@@ -1,5 +1,5 @@
 //! Runs: blocks, their index and their filter in one string of bytes.
-ghost use Rattle.std.specs.Prelude.{◌≡◌, ◌⊎◌, ◌+◌, ◌<◌, ◌^◌, List, IfOk, IfErr, IfSome};
+ghost use Rattle.std.specs.Prelude.{◌≡◌, ◌⊎◌, ◌+◌, ◌<◌, ◌^◌, List, IfOk, IfErr, IfSome, IsOkUnless};
 ghost use Rattle.sst_base.specs.Entry.{Entry};
 ghost use Rattle.sst_block_core.specs.Entries.{entries};
 ghost use Rattle.sst_block_core.specs.Window.{first_match};
@@ -24,9 +24,9 @@ use crate::entries::{SstEntry, items_of};
 use crate::output::write_bytes;
 use sst_base::table::block::header::HEADER_LEN;
 use sst_base::table::block::{BlockHandle, BlockOffset};
-use sst_base::{Error, HashRatio, InternalValue, Poly31, Result, SeqNo, Steps};
+use sst_base::{Error, HashRatio, InternalValue, Poly31, Result, SeqNo, Slice, Steps};
 use sst_block_kinds::DataBlock;
-use sst_block_kinds::table::data_block::DataBlockParsedItem;
+use sst_block_kinds::table::data_block::{DataBlockParsedItem, EntryParts};
 use sstable_blocks::run::RunRef;
 use sstable_blocks::run::laws::{layout_is_sound, sound_opens};
 use sstable_blocks::{RunConfig, RunHandles, cuts_fit, write_run};
@@ -93,12 +93,7 @@ fn run_handles(given: &SstRunHandles) -> RunHandles
 }
 
 // Checks any bytes and handles, and notes what is counted.
-fn check(
-    alloc: Global,
-    bytes: &[u8],
-    handles: &RunHandles,
-    summary: &mut SstSummary,
-) -> Status
+fn check(alloc: Global, bytes: &[u8], handles: &RunHandles, summary: &mut SstSummary) -> Status
     ensures { IsRunCheck bytes.now handles.now summary.old summary.new result }
 {
     match RunRef::<Poly31>::check(alloc, bytes, handles) {
@@ -159,6 +154,7 @@ fn place_behind(start: usize, place: &SstPlace) -> SstPlace
 }
 
 // Where an item of the block in a frame is in a run.
+#[tactic(auto, using(crate::proofs::Places::frame_payload, crate::proofs::Places::placed))]
 fn place_in(bytes: &[u8], handle: &BlockHandle, item: &DataBlockParsedItem) -> SstPlace
     requires range { IsFrameRange bytes.now handle.now }
     requires item { IsParsedEntry (payload_in bytes.now handle.now) item.now }
@@ -245,12 +241,12 @@ fn config_of(given: &SstRunConfig) -> RunConfig
 }
 
 // The entries that are given, if they can be written so.
-fn checked_items(
+fn checked_items<'a>(
     alloc: Global,
-    entries: &[SstEntry<'_>],
+    entries: &[SstEntry<'a>],
     cuts: &[usize],
     config: &RunConfig,
-) -> Result<Vec<InternalValue>, Status>
+) -> Result<Vec<EntryParts<'a>>, Status>
     ensures ok { IfOk result (λ items. CanWrite entries.now cuts.now config.now items.items) }
     ensures refused { IfErr result (λ s. (s ≡ Failed Memory) ⊎ ((s ≡ BadArgument)
         × ((items : List Entry) → CanWrite entries.now cuts.now config.now items → ⊥))) }
@@ -258,14 +254,45 @@ fn checked_items(
     if config.restart_interval == 0 || config.index_interval == 0 || config.ratio.den == 0 {
         return Err(Status::BadArgument);
     }
-    if entries.is_empty() || !cuts_fit(entries.len(), cuts) {
+    if entries.is_empty() {
         return Err(Status::BadArgument);
     }
     let items = items_of(alloc, entries)?;
-    if !DataBlock::<Poly31>::is_ordered(items.as_slice()) {
+    if !cuts_fit(items.len(), cuts) {
+        return Err(Status::BadArgument);
+    }
+    if !DataBlock::<Poly31>::are_parts_ordered(items.as_slice()) {
         return Err(Status::BadArgument);
     }
     Ok(items)
+}
+
+// Makes an entry, with copies of its key and its value.
+fn owned(alloc: Global, item: &EntryParts<'_>) -> Result<InternalValue>
+    ensures ok { IfOk result (λ entry. entry ≡ item.now) }
+    ensures memory { IsOkUnless result Error.Memory }
+{
+    let user_key = Slice::new(alloc, item.user_key())?;
+    let value = Slice::new(alloc, item.value())?;
+    Ok(InternalValue::from_components(user_key, value, item.seqno(), item.value_type()))
+}
+
+// Makes entries.
+fn all_owned(alloc: Global, items: &[EntryParts<'_>]) -> Result<Vec<InternalValue>>
+    ensures ok { IfOk result (λ all. all.items ≡ items.now) }
+    ensures memory { IsOkUnless result Error.Memory }
+{
+    let mut all = Vec::with_capacity(alloc, items.len())?;
+    for item in items {
+        let entry = match owned(alloc, item) {
+            Ok(entry) => entry,
+            Err(error) => return Err(error),
+        };
+        if all.push(entry).is_err() {
+            return Err(Error::Memory);
+        }
+    }
+    Ok(all)
 }
 
 // Writes the run of entries.
@@ -344,9 +371,13 @@ fn write(
     ensures { IsRunWrite entries.now cuts.now config out.old out.new out_len.old out_len.new
         handles.old handles.new result }
 {
-    let items = match checked_items(alloc, entries, cuts, &config) {
-        Ok(items) => items,
+    let parts = match checked_items(alloc, entries, cuts, &config) {
+        Ok(parts) => parts,
         Err(status) => return status,
+    };
+    let items = match all_owned(alloc, parts.as_slice()) {
+        Ok(items) => items,
+        Err(error) => return Status::Failed(error),
     };
     match run_of(alloc, items.as_slice(), cuts, config) {
         Ok((bytes, found)) => tell(bytes.as_slice(), &found, out, out_len, handles),
@@ -363,7 +394,7 @@ fn write(
 /// written so: none, one that is not an entry, out of order, cuts that do not fit, an interval or a
 /// denominator of 0; 6 only where a block has more than 4294967262 bytes, the filter more than
 /// 34359737920 bits, or all frames 2^64 bytes or more; 15 if an allocation fails. But for 0 `out`
-/// and `handles` are left, and but for 0 and 18 `out_len`.
+/// and `handles` are left, and but for 0 and 18 `out_len`. Each entry is copied.
 #[unsafe(no_mangle)]
 pub extern "C" fn sst_run_write(
     entries: &[SstEntry<'_>],
@@ -378,5 +409,14 @@ pub extern "C" fn sst_run_write(
         × IsRunWrite entries.now cuts.now (config_given config.now) out.old out.new out_len.old
         out_len.new handles.old handles.new s }
 {
-    write(alloc, entries, cuts, config_of(config), out, out_len, handles).code()
+    write(
+        alloc,
+        entries,
+        cuts,
+        config_of(config),
+        out,
+        out_len,
+        handles,
+    )
+    .code()
 }

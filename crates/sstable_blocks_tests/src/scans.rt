@@ -282,7 +282,11 @@ impl BothEnds for TrustedScan<'_, '_, ByteSum> {
 
 impl BothEnds for RunScan<'_, '_, ByteSum> {
     fn step(&mut self, alloc: Global, is_first: bool) -> Result<Option<InternalValue>> {
-        let taken = if is_first { self.next() } else { self.next_back() };
+        let taken = if is_first {
+            self.next()
+        } else {
+            self.next_back()
+        };
         match taken {
             Some(view) => Ok(Some(view.to_entry(alloc)?)),
             None => Ok(None),

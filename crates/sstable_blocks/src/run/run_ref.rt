@@ -236,11 +236,7 @@ impl<'a, H: BlockHash> RunRef<'a, H> {
 }
 
 // Checks a whole run of any bytes.
-fn summary_in<H: BlockHash>(
-    alloc: Global,
-    bytes: &[u8],
-    handles: &RunHandles,
-) -> Result<RunSummary>
+fn summary_in<H: BlockHash>(alloc: Global, bytes: &[u8], handles: &RunHandles) -> Result<RunSummary>
     ensures checked { IfOk result
         (λ s. check_run (hashes H.hash64 H.hash128) bytes.now handles.now ≡ Ok s) }
     ensures refused { IfErr result (λ e. e ≢ Error.Memory

@@ -85,11 +85,7 @@ fn take_last<'a>(views: &mut Option<EntryViews<'a>>) -> Option<EntryView<'a>>
 }
 
 // Opens blocks from the front until one has an entry in the range, or none is left.
-fn fill_front<'a, H: BlockHash>(
-    run: &RunRef<'a, H>,
-    bounds: &Bounds<'_>,
-    opened: &mut Opened<'a>,
-)
+fn fill_front<'a, H: BlockHash>(run: &RunRef<'a, H>, bounds: &Bounds<'_>, opened: &mut Opened<'a>)
     requires { opened.old.hi ≤ length (index_in run.now.bytes run.now.handles.index) }
     ensures hi { opened.new.hi ≡ opened.old.hi }
     ensures back { opened.new.back ≡ opened.old.back }
@@ -110,11 +106,7 @@ fn fill_front<'a, H: BlockHash>(
 }
 
 // Opens blocks from the back until one has an entry in the range, or none is left.
-fn fill_back<'a, H: BlockHash>(
-    run: &RunRef<'a, H>,
-    bounds: &Bounds<'_>,
-    opened: &mut Opened<'a>,
-)
+fn fill_back<'a, H: BlockHash>(run: &RunRef<'a, H>, bounds: &Bounds<'_>, opened: &mut Opened<'a>)
     requires { opened.old.hi ≤ length (index_in run.now.bytes run.now.handles.index) }
     ensures inside { opened.new.hi ≤ length (index_in run.now.bytes run.now.handles.index) }
     ensures front { opened.new.front ≡ opened.old.front }
@@ -135,11 +127,7 @@ fn fill_back<'a, H: BlockHash>(
 // Leaves a block with an entry in the range at the front, if there is one: opens blocks, and where
 // none is left between the ends, these change their blocks.
 #[inline(never)]
-fn turn_front<'a, H: BlockHash>(
-    run: &RunRef<'a, H>,
-    bounds: &Bounds<'_>,
-    opened: &mut Opened<'a>,
-)
+fn turn_front<'a, H: BlockHash>(run: &RunRef<'a, H>, bounds: &Bounds<'_>, opened: &mut Opened<'a>)
     requires { opened.old.hi ≤ length (index_in run.now.bytes run.now.handles.index) }
     ensures inside { opened.new.hi ≤ length (index_in run.now.bytes run.now.handles.index) }
     ensures left { left_by run.now bounds.now opened.new.front opened.new.lo opened.new.hi
@@ -158,11 +146,7 @@ fn turn_front<'a, H: BlockHash>(
 
 // Leaves a block with an entry in the range at the back, if there is one.
 #[inline(never)]
-fn turn_back<'a, H: BlockHash>(
-    run: &RunRef<'a, H>,
-    bounds: &Bounds<'_>,
-    opened: &mut Opened<'a>,
-)
+fn turn_back<'a, H: BlockHash>(run: &RunRef<'a, H>, bounds: &Bounds<'_>, opened: &mut Opened<'a>)
     requires { opened.old.hi ≤ length (index_in run.now.bytes run.now.handles.index) }
     ensures inside { opened.new.hi ≤ length (index_in run.now.bytes run.now.handles.index) }
     ensures left { left_by run.now bounds.now opened.new.front opened.new.lo opened.new.hi
@@ -181,11 +165,7 @@ fn turn_back<'a, H: BlockHash>(
 
 // Leaves a block with an entry in the range at the front, if there is one.
 #[inline(always)]
-fn ready_front<'a, H: BlockHash>(
-    run: &RunRef<'a, H>,
-    bounds: &Bounds<'_>,
-    opened: &mut Opened<'a>,
-)
+fn ready_front<'a, H: BlockHash>(run: &RunRef<'a, H>, bounds: &Bounds<'_>, opened: &mut Opened<'a>)
     requires { opened.old.hi ≤ length (index_in run.now.bytes run.now.handles.index) }
     ensures inside { opened.new.hi ≤ length (index_in run.now.bytes run.now.handles.index) }
     ensures left { left_by run.now bounds.now opened.new.front opened.new.lo opened.new.hi
@@ -203,11 +183,7 @@ fn ready_front<'a, H: BlockHash>(
 
 // Leaves a block with an entry in the range at the back, if there is one.
 #[inline(always)]
-fn ready_back<'a, H: BlockHash>(
-    run: &RunRef<'a, H>,
-    bounds: &Bounds<'_>,
-    opened: &mut Opened<'a>,
-)
+fn ready_back<'a, H: BlockHash>(run: &RunRef<'a, H>, bounds: &Bounds<'_>, opened: &mut Opened<'a>)
     requires { opened.old.hi ≤ length (index_in run.now.bytes run.now.handles.index) }
     ensures inside { opened.new.hi ≤ length (index_in run.now.bytes run.now.handles.index) }
     ensures left { left_by run.now bounds.now opened.new.front opened.new.lo opened.new.hi
@@ -351,11 +327,7 @@ impl<'a, H: BlockHash> RunRef<'a, H> {
 
     /// Scans the entries whose user keys are between two bounds: see [`RunScan`]. A range that ends
     /// before it starts has no keys.
-    pub fn scan_range<'k>(
-        &self,
-        from: Bound<&'k [u8]>,
-        to: Bound<&'k [u8]>,
-    ) -> RunScan<'a, 'k, H>
+    pub fn scan_range<'k>(&self, from: Bound<&'k [u8]>, to: Bound<&'k [u8]>) -> RunScan<'a, 'k, H>
         ensures run { result.run ≡ self.now }
         ensures range { result.range ≡ record {
           from = bound_map (λ k. k.now) from.entry;

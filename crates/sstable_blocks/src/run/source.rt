@@ -218,7 +218,10 @@ impl<'a> FrameSource for BorrowedSource<'a> {
         if size > len || offset > len - size {
             return Err(Error::BadHandle);
         }
-        Slice::new(alloc, &self.bytes[offset as usize..(offset + size) as usize])
+        Slice::new(
+            alloc,
+            &self.bytes[offset as usize..(offset + size) as usize],
+        )
     }
 }
 

@@ -1,0 +1,29 @@
+use Rattle.std.proofs.Common.{◌≡◌, List, inl, inr, refl, sym, ◌∙◌, subst, ap, length}
+use Rattle.sst_base.specs.Entry.{Entry}
+use Rattle.sst_block_core.specs.Entries.{entries}
+use Rattle.sst_block_core.specs.Kind.{IsOrdered}
+use Rattle.sstable_blocks.specs.Blocks.{CutsFit}
+use Rattle.sst_c.proofs.Givens.{same_entries}
+use Rattle.sst_c.proofs.run.checked_items.Goals as goal
+
+pub returns-then-not-are_parts_ordered-clause-refused : goal.returns-then-not-are_parts_ordered-clause-refused
+returns-then-not-are_parts_ordered-clause-refused c = inr (
+  refl,
+  λ items can.
+      (let made = c.in_ok-items.ensures.ok in
+      let same = same_entries items c.in_ok-items.items.items (can.are.1 ∙ sym made.1) in
+      let yes = c.are_parts_ordered.ensures.1 (subst (IsOrdered entries) (same ∙ sym c.as_slice.ensures.value) can.ordered) in
+      let no = c.if-not-are_parts_ordered.true in
+      cc),
+)
+
+pub returns-then-not-cuts_fit-clause-refused : goal.returns-then-not-cuts_fit-clause-refused
+returns-then-not-cuts_fit-clause-refused c = inr (
+  refl,
+  λ items can.
+      (let made = c.in_ok-items.ensures.ok in
+      let same = same_entries items c.in_ok-items.items.items (can.are.1 ∙ sym made.1) in
+      let yes = c.cuts_fit.ensures.1 (subst (λ n. CutsFit 0 n c.args.cuts.now) (ap (λ (xs : List Entry). length xs) same ∙ sym c.len.ensures) can.cut) in
+      let no = c.if-not-cuts_fit.true in
+      cc),
+)
