@@ -7,6 +7,14 @@ use sst_block_kinds::{DataBlock, DataBlockRef, IndexBlockRef};
 use std::alloc::Global;
 use std::process::Abort;
 
+/// Returns whether an entry over borrowed bytes has the length of its copy's key, and its value.
+fn is_copied(view: &EntryView<'_>, copy: &InternalValue) -> bool {
+    let (prefix, rest) = view.key_parts();
+    let length = prefix.len().saturating_add(rest.len());
+    let is_value = copy.value().eq_bytes(view.value());
+    is_value && length == copy.key().user_key().len()
+}
+
 /// Checks an entry over borrowed bytes: its copy, the length of its key's parts, and its value.
 fn check_view(
     rt: &impl Abort,
@@ -16,14 +24,45 @@ fn check_view(
 ) -> Result<()> {
     let copy = view.to_entry(alloc)?;
     assert!(rt; is_same(wanted, Some(&copy)));
-    let (prefix, rest) = view.key_parts();
-    assert!(rt; prefix.len().saturating_add(rest.len()) == copy.key().user_key().len());
-    assert!(rt; copy.value().eq_bytes(view.value()));
+    assert!(rt; is_copied(view, &copy));
     Ok(())
 }
 
+/// Checks an entry that was found in bytes, whose value is at an offset and of a length.
+fn check_found(
+    rt: &impl Abort,
+    alloc: Global,
+    page: &DataBlockRef<'_, Poly31>,
+    view: &EntryView<'_>,
+    range: (usize, usize),
+    wanted: Option<&InternalValue>,
+) -> Result<()> {
+    let (offset, len) = range;
+    let value = page.as_slice().get(offset..offset.saturating_add(len));
+    assert!(rt; value == Some(view.value()));
+    check_view(rt, alloc, view, wanted)
+}
+
+/// Reads a key below a sequence number in bytes, and checks the entry. The value is where the item
+/// says.
+fn check_read(
+    rt: &impl Abort,
+    alloc: Global,
+    page: &DataBlockRef<'_, Poly31>,
+    sought: (&[u8], u64),
+    wanted: Option<&InternalValue>,
+) -> Result<()> {
+    let (key, below) = sought;
+    let Some(item) = page.find(key, below, &mut Steps::new()) else {
+        assert!(rt; wanted.is_none());
+        return Ok(());
+    };
+    let range = item.value_range();
+    check_found(rt, alloc, page, &page.entry(item), range, wanted)
+}
+
 /// Reads a key below a sequence number in bytes and in the block that owns them: both find the same
-/// entry, and count the same. The value is where the item says.
+/// entry.
 fn read_both(
     rt: &impl Abort,
     alloc: Global,
@@ -32,19 +71,8 @@ fn read_both(
     sought: (&[u8], u64),
 ) -> Result<()> {
     let (key, below) = sought;
-    let mut wanted_steps = Steps::new();
-    let mut steps = Steps::new();
-    let wanted = block.point_read(alloc, key, below, &mut wanted_steps)?;
-    let Some(item) = page.find(key, below, &mut steps) else {
-        assert!(rt; wanted.is_none());
-        return Ok(());
-    };
-    let (offset, len) = item.value_range();
-    let view = page.entry(item);
-    check_view(rt, alloc, &view, wanted.as_ref())?;
-    let value = page.as_slice().get(offset..offset.saturating_add(len));
-    assert!(rt; value == Some(view.value()));
-    Ok(())
+    let wanted = block.point_read(alloc, key, below, &mut Steps::new())?;
+    check_read(rt, alloc, page, sought, wanted.as_ref())
 }
 
 /// Reads each entry of a list at its sequence number, and above it.
@@ -63,25 +91,45 @@ fn read_all(
     Ok(())
 }
 
-/// Walks over the entries of bytes from one end, and checks that they are those of the list.
-fn walk_from(
+/// Checks that an iterator took an entry over borrowed bytes.
+fn check_taken(
+    rt: &impl Abort,
+    alloc: Global,
+    view: Option<EntryView<'_>>,
+    wanted: &InternalValue,
+) -> Result<()> {
+    assert!(rt; view.is_some());
+    match view {
+        Some(view) => check_view(rt, alloc, &view, Some(wanted)),
+        None => Ok(()),
+    }
+}
+
+/// Walks over the entries of bytes from the front, and checks that they are those of the list.
+fn walk_forwards(
     rt: &impl Abort,
     alloc: Global,
     page: &DataBlockRef<'_, Poly31>,
     list: &[InternalValue],
-    from_back: bool,
 ) -> Result<()> {
     let mut views = page.entries();
-    for place in 0..list.len() {
-        let (view, wanted) = if from_back {
-            (views.next_back(), list.get(list.len() - 1 - place))
-        } else {
-            (views.next(), list.get(place))
-        };
-        match view {
-            Some(view) => check_view(rt, alloc, &view, wanted)?,
-            None => assert!(rt; false),
-        }
+    for wanted in list {
+        check_taken(rt, alloc, views.next(), wanted)?;
+    }
+    assert!(rt; views.next().is_none());
+    Ok(())
+}
+
+/// Walks over the entries of bytes from the back, and checks that they are those of the list.
+fn walk_backwards(
+    rt: &impl Abort,
+    alloc: Global,
+    page: &DataBlockRef<'_, Poly31>,
+    list: &[InternalValue],
+) -> Result<()> {
+    let mut views = page.entries();
+    for wanted in list.iter().rev() {
+        check_taken(rt, alloc, views.next_back(), wanted)?;
     }
     assert!(rt; views.next().is_none());
     Ok(())
@@ -99,11 +147,25 @@ fn compare_both(
     assert!(rt; page.binary_index_len() == block.binary_index_len());
     assert!(rt; page.hash_bucket_count() == block.hash_bucket_count());
     read_all(rt, alloc, block, page, list)?;
-    walk_from(rt, alloc, page, list, false)?;
-    walk_from(rt, alloc, page, list, true)
+    walk_forwards(rt, alloc, page, list)?;
+    walk_backwards(rt, alloc, page, list)
 }
 
 /// Compares the bytes of a list's block, with and without a table of their heads, with the block.
+fn compare_pages(
+    rt: &impl Abort,
+    alloc: Global,
+    block: &DataBlock<Poly31>,
+    list: &[InternalValue],
+) -> Result<()> {
+    let page = DataBlockRef::<Poly31>::check(alloc, block.as_slice().as_slice())?;
+    assert!(rt; page.heads().is_none());
+    compare_both(rt, alloc, block, &page, list)?;
+    let heads = page.make_heads(alloc)?;
+    compare_both(rt, alloc, block, &page.with_table(&heads), list)
+}
+
+/// Compares the bytes of the block of a list at an interval and a ratio with the block.
 fn compare_at(
     rt: &impl Abort,
     alloc: Global,
@@ -112,11 +174,16 @@ fn compare_at(
     ratio: HashRatio,
 ) -> Result<()> {
     let block = block_of::<Poly31>(rt, alloc, list, interval, ratio)?;
-    let page = DataBlockRef::<Poly31>::check(alloc, block.as_slice().as_slice())?;
-    assert!(rt; page.heads().is_none());
-    compare_both(rt, alloc, &block, &page, list)?;
-    let heads = page.make_heads(alloc)?;
-    compare_both(rt, alloc, &block, &page.with_table(&heads), list)
+    compare_pages(rt, alloc, &block, list)
+}
+
+/// Compares the bytes of the blocks of a list, with and without buckets, with the blocks.
+fn compare_list(rt: &impl Abort, alloc: Global, list: &[InternalValue]) -> Result<()> {
+    for interval in &[1, 2, 5, 255] {
+        compare_at(rt, alloc, list, *interval, NO_BUCKETS)?;
+        compare_at(rt, alloc, list, *interval, ONE_EACH)?;
+    }
+    Ok(())
 }
 
 /// Bytes are read as the block that owns them is: each entry, from both ends, with and without
@@ -124,14 +191,29 @@ fn compare_at(
 #[test]
 fn bytes_are_read_as_their_block(rt: HostRuntime) -> Tested {
     let alloc = rt.alloc();
-    for list in [List::Versions, List::Prefixes(9, 2), List::Pairs(250, 280)] {
-        let list = list_of(&rt, alloc, list)?;
-        for interval in [1, 2, 5, 255] {
-            compare_at(&rt, alloc, &list, interval, NO_BUCKETS)?;
-            compare_at(&rt, alloc, &list, interval, ONE_EACH)?;
-        }
+    for list in &[List::Versions, List::Prefixes(9, 2), List::Pairs(250, 280)] {
+        compare_list(&rt, alloc, &list_of(&rt, alloc, *list)?)?;
     }
     Ok(())
+}
+
+/// Checks that bytes are refused, as data and as an index.
+fn check_refused(rt: &impl Abort, alloc: Global, bytes: &[u8]) {
+    assert!(rt; DataBlockRef::<Poly31>::check(alloc, bytes).is_err());
+    let refused = IndexBlockRef::check(bytes).err();
+    let wanted = if bytes.len() < 31 {
+        Error::Truncated
+    } else {
+        Error::BadTrailer
+    };
+    assert!(rt; refused == Some(wanted));
+}
+
+/// Checks that bytes, cut at each length, are refused.
+fn check_cuts(rt: &impl Abort, alloc: Global, bytes: &[u8]) {
+    for len in 0..bytes.len() {
+        check_refused(rt, alloc, &bytes[..len]);
+    }
 }
 
 /// Bytes that are cut at the end are refused, as data and as an index.
@@ -140,12 +222,6 @@ fn cut_bytes_are_refused(rt: HostRuntime) -> Tested {
     let alloc = rt.alloc();
     let list = list_of(&rt, alloc, List::Versions)?;
     let block = block_of::<Poly31>(&rt, alloc, &list, 4, ONE_EACH)?;
-    let bytes = block.as_slice().as_slice();
-    for len in 0..bytes.len() {
-        assert!(&rt; DataBlockRef::<Poly31>::check(alloc, &bytes[..len]).is_err());
-        let refused = IndexBlockRef::check(&bytes[..len]).err();
-        assert!(&rt; len >= 31 || refused == Some(Error::Truncated));
-        assert!(&rt; len < 31 || refused == Some(Error::BadTrailer));
-    }
+    check_cuts(&rt, alloc, block.as_slice().as_slice());
     Ok(())
 }

@@ -1,10 +1,11 @@
 //! Checks of blocks of any bytes: damaged test vectors, and test vectors with each byte changed to
 //! each other value, cut before each byte, and lengthened.
+ghost use Rattle.std.specs.Prelude.{◌≡◌, length};
 ghost use Rattle.sst_block_kinds.specs.ParsedHandle.{IsParsedHandle};
 
 use crate::Tested;
-use crate::index_blocks::THREE_HEADS;
-use crate::lists::{NO_BUCKETS, block_of, push};
+use crate::index_blocks::{self, THREE_HEADS};
+use crate::lists::{List, NO_BUCKETS, Row, block_of, list_of};
 use crate::stages::{Kind, judge};
 use sst_base::table::block::{Block, BlockType};
 use sst_base::{ByteSum, Error, HashRatio, InternalValue, Result, Slice, ValueType};
@@ -155,25 +156,62 @@ const CASES: [Case; 31] = [
     (Kind::Data, &ONE_ENTRY, 0, 0, Ok(1)),
 ];
 
+/// The ratio at which the block of a list has these buckets.
+fn ratio_of(buckets: Option<usize>, entries: usize) -> HashRatio {
+    HashRatio {
+        num: u32::try_from(buckets.unwrap_or(0)).unwrap_or(0),
+        den: u32::try_from(entries).unwrap_or(1),
+    }
+}
+
+/// Checks that the block of a list at an interval and a ratio has this payload.
+fn encodes(
+    rt: &impl Abort,
+    alloc: Global,
+    list: &[InternalValue],
+    payload: &Slice,
+    ratio: HashRatio,
+) -> Result<()> {
+    let bytes = payload.as_slice();
+    assert!(rt; bytes.len() >= 31);
+    let again = block_of::<ByteSum>(rt, alloc, list, bytes[bytes.len() - 31], ratio)?;
+    assert!(rt; again.as_slice() == payload);
+    Ok(())
+}
+
+/// Checks that a data block has the payload, and encodes to it again. Returns its number of entries.
+fn check_entries(
+    rt: &impl Abort,
+    alloc: Global,
+    checked: &DataBlock<ByteSum>,
+    payload: &Slice,
+) -> Result<usize> {
+    let list = checked.to_vec(alloc)?;
+    assert!(rt; checked.len() == list.len());
+    assert!(rt; checked.as_slice() == payload);
+    let ratio = ratio_of(checked.hash_bucket_count(), list.len());
+    encodes(rt, alloc, &list, payload, ratio)?;
+    Ok(list.len())
+}
+
+/// Checks that two blocks are the same.
+fn compare(rt: &impl Abort, given: &Block, block: &Block) {
+    assert!(rt; given.header() == block.header());
+    assert!(rt; given.data() == block.data());
+}
+
+/// A copy of a block as a data block, if it is one.
+fn data_of(alloc: Global, block: &Block) -> Result<DataBlock<ByteSum>> {
+    DataBlock::<ByteSum>::check(alloc, block.clone()?)
+}
+
 /// Checks a copy of a block as a data block. A block that is accepted has the payload, encodes to
 /// it again, and is returned unchanged.
 fn check_data(rt: &impl Abort, alloc: Global, block: &Block) -> Result<usize> {
-    let checked = DataBlock::<ByteSum>::check(alloc, block.clone()?)?;
-    let list = checked.to_vec(alloc)?;
-    assert!(rt; checked.len() == list.len());
-    assert!(rt; checked.as_slice() == block.data());
-    let bytes = block.data().as_slice();
-    assert!(rt; bytes.len() >= 31);
-    let ratio = HashRatio {
-        num: u32::try_from(checked.hash_bucket_count().unwrap_or(0)).unwrap_or(0),
-        den: u32::try_from(list.len()).unwrap_or(1),
-    };
-    let again = block_of::<ByteSum>(rt, alloc, &list, bytes[bytes.len() - 31], ratio)?;
-    assert!(rt; again.as_slice() == block.data());
-    let given = checked.into_inner();
-    assert!(rt; given.header() == block.header());
-    assert!(rt; given.data() == block.data());
-    Ok(list.len())
+    let checked = data_of(alloc, block)?;
+    let count = check_entries(rt, alloc, &checked, block.data())?;
+    compare(rt, &checked.into_inner(), block);
+    Ok(count)
 }
 
 /// The handle of an item of a payload.
@@ -196,48 +234,75 @@ fn handles_of(alloc: Global, block: &IndexBlock) -> Result<Vec<KeyedBlockHandle>
     Ok(all)
 }
 
-/// Checks a copy of a block as an index block. A block that is accepted has the payload, encodes to
-/// it again, and is returned unchanged.
-fn check_index(rt: &impl Abort, alloc: Global, block: &Block) -> Result<usize> {
-    let checked = IndexBlock::check(alloc, block.clone()?)?;
-    let list = handles_of(alloc, &checked)?;
-    assert!(rt; checked.len() == list.len());
-    assert!(rt; checked.as_slice() == block.data());
-    let bytes = block.data().as_slice();
+/// Checks that the block of a list of handles has this payload.
+fn encodes_handles(
+    rt: &impl Abort,
+    alloc: Global,
+    list: &[KeyedBlockHandle],
+    payload: &Slice,
+) -> Result<()> {
+    let bytes = payload.as_slice();
     assert!(rt; bytes.len() >= 31);
-    let interval = bytes[bytes.len() - 31];
-    assert!(rt; interval >= 1);
-    assert!(rt; !list.is_empty());
-    assert!(rt; IndexBlock::is_ordered(&list));
-    assert!(rt; IndexBlock::ends_fit(&list));
-    let again = IndexBlock::encode_into_vec_with(alloc, &list, interval)?;
-    assert!(rt; again.as_slice() == bytes);
-    let given = checked.into_inner();
-    assert!(rt; given.header() == block.header());
-    assert!(rt; given.data() == block.data());
+    let again = index_blocks::block_of(rt, alloc, list, bytes[bytes.len() - 31])?;
+    assert!(rt; again.as_slice() == payload);
+    Ok(())
+}
+
+/// Checks that an index block has the payload, and encodes to it again. Returns its number of
+/// handles.
+fn check_handles(
+    rt: &impl Abort,
+    alloc: Global,
+    checked: &IndexBlock,
+    payload: &Slice,
+) -> Result<usize> {
+    let list = handles_of(alloc, checked)?;
+    assert!(rt; checked.len() == list.len());
+    assert!(rt; checked.as_slice() == payload);
+    encodes_handles(rt, alloc, &list, payload)?;
     Ok(list.len())
 }
 
-/// Checks these bytes as a block of a kind. A check that borrows the block returns the same.
+/// A copy of a block as an index block, if it is one.
+fn index_of(alloc: Global, block: &Block) -> Result<IndexBlock> {
+    IndexBlock::check(alloc, block.clone()?)
+}
+
+/// Checks a copy of a block as an index block. A block that is accepted has the payload, encodes to
+/// it again, and is returned unchanged.
+fn check_index(rt: &impl Abort, alloc: Global, block: &Block) -> Result<usize> {
+    let checked = index_of(alloc, block)?;
+    let count = check_handles(rt, alloc, &checked, block.data())?;
+    compare(rt, &checked.into_inner(), block);
+    Ok(count)
+}
+
+/// Checks a data block. A check that borrows the block returns the same.
+fn check_data_twice(rt: &impl Abort, alloc: Global, block: &Block) -> Result<usize> {
+    let found = check_data(rt, alloc, block);
+    assert!(rt; found == DataBlock::<ByteSum>::check_ref(alloc, block));
+    found
+}
+
+/// Checks an index block. A check that borrows the block returns the same.
+fn check_index_twice(rt: &impl Abort, alloc: Global, block: &Block) -> Result<usize> {
+    let found = check_index(rt, alloc, block);
+    assert!(rt; found == IndexBlock::check_ref(block));
+    found
+}
+
+/// Checks these bytes as a block of a kind.
 fn check(rt: &impl Abort, alloc: Global, kind: Kind, bytes: Vec<u8>) -> Result<usize> {
     assert!(rt; bytes.len() < 1000);
-    let block_type = match kind {
-        Kind::Data => BlockType::Data,
-        Kind::Index => BlockType::Index,
-    };
-    let block = Block::from_payload(block_type, Slice::from_vec(bytes)?);
-    let (found, lent) = match kind {
-        Kind::Data => (
-            check_data(rt, alloc, &block),
-            DataBlock::<ByteSum>::check_ref(alloc, &block),
-        ),
-        Kind::Index => (
-            check_index(rt, alloc, &block),
-            IndexBlock::check_ref(&block),
-        ),
-    };
-    assert!(rt; found == lent);
-    found
+    let payload = Slice::from_vec(bytes)?;
+    match kind {
+        Kind::Data => {
+            check_data_twice(rt, alloc, &Block::from_payload(BlockType::Data, payload))
+        }
+        Kind::Index => {
+            check_index_twice(rt, alloc, &Block::from_payload(BlockType::Index, payload))
+        }
+    }
 }
 
 /// A copy of bytes, one of them changed.
@@ -249,19 +314,26 @@ fn with_byte(alloc: Global, bytes: &[u8], at: usize, byte: u8) -> Result<Vec<u8>
     Ok(all)
 }
 
+/// Checks a case by the library and by the stages.
+fn check_case(rt: &impl Abort, alloc: Global, case: &Case) -> Result<()> {
+    let (kind, payload, at, byte, wanted) = case;
+    let bytes = with_byte(alloc, payload, *at, *byte)?;
+    let judged = judge(*kind, &bytes);
+    let found = check(rt, alloc, *kind, bytes);
+    assert!(rt;
+        found == *wanted,
+        "{payload:?}, byte {at} as {byte}: {found:?}"
+    );
+    assert!(rt; judged == *wanted, "{payload:?}, byte {at} as {byte}");
+    Ok(())
+}
+
 /// The first failing stage decides. Versions of one key may have one sequence number, and the end
 /// of a block may be 2^64 - 1.
 #[test]
 fn payloads_are_checked(rt: HostRuntime) -> Tested {
-    for (kind, payload, at, byte, wanted) in CASES {
-        let bytes = with_byte(rt.alloc(), payload, at, byte)?;
-        let judged = judge(kind, &bytes);
-        let found = check(&rt, rt.alloc(), kind, bytes);
-        assert!(&rt;
-            found == wanted,
-            "{payload:?}, byte {at} as {byte}: {found:?}"
-        );
-        assert!(&rt; judged == wanted, "{payload:?}, byte {at} as {byte}");
+    for case in &CASES {
+        check_case(&rt, rt.alloc(), case)?;
     }
     Ok(())
 }
@@ -292,32 +364,49 @@ fn check_change(
     Ok(check(rt, alloc, kind, bytes) == wanted)
 }
 
+/// Checks each change of a payload.
+fn check_changes(rt: &impl Abort, alloc: Global, kind: Kind, payload: &[u8]) {
+    for number in 0..change_count(payload.len()) {
+        let is_wanted = check_change(rt, alloc, kind, payload, number);
+        assert!(rt; is_wanted == Ok(true), "{payload:?}, change {number}");
+    }
+}
+
 /// Each change of a test vector is accepted, and then encodes again to itself, or is refused with
 /// the error of the first stage that fails.
 #[test]
 fn changes_are_checked(rt: HostRuntime) {
-    for (kind, payload) in WORKED {
-        for number in 0..change_count(payload.len()) {
-            let is_wanted = check_change(&rt, rt.alloc(), kind, payload, number);
-            assert!(&rt; is_wanted == Ok(true), "{payload:?}, change {number}");
-        }
+    for (kind, payload) in &WORKED {
+        check_changes(&rt, rt.alloc(), *kind, payload);
     }
 }
 
-/// An encoder accepts entries out of order; a check refuses their block.
-#[test]
-fn an_encoder_writes_entries_out_of_order(rt: HostRuntime) -> Tested {
-    let mut list = Vec::new(rt.alloc());
-    push(&rt, &mut list, b"b", b"", 0, ValueType::Value)?;
-    push(&rt, &mut list, b"a", b"", 0, ValueType::Value)?;
-    assert!(&rt; list.len() == 2);
-    let mut bytes = Vec::new(rt.alloc());
+/// Two keys in falling order.
+const FALLING: [Row; 2] = [
+    (b"b", b"", 0, ValueType::Value),
+    (b"a", b"", 0, ValueType::Value),
+];
+
+/// The payload that an encoder writes of a list.
+fn written(alloc: Global, list: &[InternalValue]) -> Result<Vec<u8>>
+    requires { length list.now ≡ 2 }
+{
+    let mut bytes = Vec::new(alloc);
     let mut encoder: Encoder<'_, '_, InternalValue, ByteSum> = Encoder::new(
         &mut bytes, 2, 1, NO_BUCKETS,
     );
     encoder.write(&list[0])?;
     encoder.write(&list[1])?;
     encoder.finish()?;
+    Ok(bytes)
+}
+
+/// An encoder accepts entries out of order; a check refuses their block.
+#[test]
+fn an_encoder_writes_entries_out_of_order(rt: HostRuntime) -> Tested {
+    let list = list_of(&rt, rt.alloc(), List::Rows(&FALLING))?;
+    assert!(&rt; list.len() == 2);
+    let bytes = written(rt.alloc(), &list)?;
     assert!(&rt; bytes.as_slice() == DISORDER.as_slice());
     Ok(())
 }

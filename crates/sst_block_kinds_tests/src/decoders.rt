@@ -312,14 +312,23 @@ fn make_calls(
     Ok(())
 }
 
+/// Makes calls of one decoder of the block of a list.
+fn check_calls(
+    rt: &impl Abort,
+    alloc: Global,
+    script: &Calls,
+    list: &[InternalValue],
+) -> Result<()> {
+    let block = block_of::<Poly31>(rt, alloc, list, script.interval, NO_BUCKETS)?;
+    make_calls(rt, alloc, &block, script.interval, script.calls)
+}
+
 /// Each call of a decoder returns the expected result.
 #[test]
 fn decoders_return_what_is_written(rt: HostRuntime) -> Tested {
     let alloc = rt.alloc();
     for script in &CALLS {
-        let list = list_of(&rt, alloc, script.list)?;
-        let block = block_of::<Poly31>(&rt, alloc, &list, script.interval, NO_BUCKETS)?;
-        make_calls(&rt, alloc, &block, script.interval, script.calls)?;
+        check_calls(&rt, alloc, script, &list_of(&rt, alloc, script.list)?)?;
     }
     Ok(())
 }

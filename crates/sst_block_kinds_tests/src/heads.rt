@@ -3,6 +3,7 @@
 
 use crate::Tested;
 use crate::lists::{NO_BUCKETS, block_of, push, with_table};
+use sst_base::table::block::Block;
 use sst_base::{BlockHash, InternalValue, Poly31, Result, Steps, ValueType};
 use sst_block_core::table::block::heads::{HeadTable, front_of};
 use sst_block_kinds::DataBlock;
@@ -28,6 +29,18 @@ pub(crate) fn counts_of<H: BlockHash>(
     Some((below, at_most, index))
 }
 
+/// What a head adds to the counts.
+fn counts_at(entry: &InternalValue, needle: &[u8], seqno: u64) -> Counts {
+    let key = entry.key().user_key().as_slice();
+    let (is_below, is_equal) = (key < needle, key == needle);
+    let is_newer = entry.key().seqno() >= seqno;
+    (
+        usize::from(is_below),
+        usize::from(is_below || is_equal),
+        usize::from(is_below || is_equal && is_newer),
+    )
+}
+
 /// The counts over the heads of a list, each of which is examined.
 pub(crate) fn plain_counts(
     list: &[InternalValue],
@@ -37,16 +50,11 @@ pub(crate) fn plain_counts(
 ) -> Counts {
     let mut counts = (0usize, 0usize, 0usize);
     for (index, entry) in list.iter().enumerate() {
-        let is_head = interval > 0 && index % usize::from(interval) == 0;
-        let key = entry.key().user_key().as_slice();
-        if is_head && key < needle {
-            counts.0 = counts.0.saturating_add(1);
-        }
-        if is_head && key <= needle {
-            counts.1 = counts.1.saturating_add(1);
-        }
-        if is_head && (key < needle || key == needle && entry.key().seqno() >= seqno) {
-            counts.2 = counts.2.saturating_add(1);
+        if interval > 0 && index % usize::from(interval) == 0 {
+            let (below, at_most, skipped) = counts_at(entry, needle, seqno);
+            counts.0 = counts.0.saturating_add(below);
+            counts.1 = counts.1.saturating_add(at_most);
+            counts.2 = counts.2.saturating_add(skipped);
         }
     }
     counts
@@ -107,9 +115,53 @@ fn keys_sharing(
     Ok(list)
 }
 
-/// Compares the counts by the table of a list's block with counts one by one, for needles with all
-/// of the prefix, and with one byte less or more of it.
+/// Compares the counts by the table of a list's block with counts one by one, for a needle.
+fn check_needle(
+    rt: &impl Abort,
+    block: &DataBlock<Poly31>,
+    list: &[InternalValue],
+    interval: u8,
+    needle: &[u8],
+) {
+    for seqno in 0..3 {
+        let wanted = plain_counts(list, interval, needle, seqno);
+        let found = counts_of(block, needle, seqno);
+        assert!(rt; found == Some(wanted), "{needle:?} from {seqno}");
+    }
+}
+
+/// Compares the counts for needles with this many bytes of the prefix.
 fn check_needles(
+    rt: &impl Abort,
+    alloc: Global,
+    block: &DataBlock<Poly31>,
+    list: &[InternalValue],
+    interval: u8,
+    length: usize,
+) -> Result<()> {
+    for rest in &NEEDLES {
+        check_needle(rt, block, list, interval, &key_of(alloc, length, rest)?);
+    }
+    Ok(())
+}
+
+/// Compares the counts for needles with all of the prefix, and with one byte less or more of it.
+fn check_lengths(
+    rt: &impl Abort,
+    alloc: Global,
+    block: &DataBlock<Poly31>,
+    list: &[InternalValue],
+    interval: u8,
+    prefix: usize,
+) -> Result<()> {
+    check_needles(rt, alloc, block, list, interval, 0)?;
+    check_needles(rt, alloc, block, list, interval, prefix.saturating_sub(1))?;
+    check_needles(rt, alloc, block, list, interval, prefix)?;
+    check_needles(rt, alloc, block, list, interval, prefix.saturating_add(1))
+}
+
+/// Compares the counts of the block of a list at an interval.
+fn check_heads(
     rt: &impl Abort,
     alloc: Global,
     list: &[InternalValue],
@@ -118,21 +170,33 @@ fn check_needles(
 ) -> Result<()> {
     let block = block_of::<Poly31>(rt, alloc, list, interval, NO_BUCKETS)?;
     assert!(rt; counts_of(&block, b"p", 0).is_none());
-    let block = with_table(rt, alloc, block)?;
-    for length in [
-        0,
-        prefix.saturating_sub(1),
+    check_lengths(
+        rt,
+        alloc,
+        &with_table(rt, alloc, block)?,
+        list,
+        interval,
         prefix,
-        prefix.saturating_add(1),
-    ] {
-        for rest in &NEEDLES {
-            let needle = key_of(alloc, length, rest)?;
-            for seqno in [0, 1, 2] {
-                let wanted = plain_counts(list, interval, &needle, seqno);
-                let found = counts_of(&block, &needle, seqno);
-                assert!(rt; found == Some(wanted), "{needle:?} from {seqno}");
-            }
-        }
+    )
+}
+
+/// Compares the counts of the block of a list at each interval.
+fn check_intervals(
+    rt: &impl Abort,
+    alloc: Global,
+    list: &[InternalValue],
+    prefix: usize,
+) -> Result<()> {
+    check_heads(rt, alloc, list, prefix, 1)?;
+    check_heads(rt, alloc, list, prefix, 2)?;
+    check_heads(rt, alloc, list, prefix, 255)
+}
+
+/// Compares the counts of heads that share a prefix of this length, 1, 2, 3 and 8 of them.
+fn check_prefix(rt: &impl Abort, alloc: Global, prefix: usize) -> Result<()> {
+    for count in &[1, 2, 3, 8] {
+        let list = keys_sharing(rt, alloc, prefix, *count)?;
+        check_intervals(rt, alloc, &list, prefix)?;
     }
     Ok(())
 }
@@ -140,13 +204,8 @@ fn check_needles(
 /// Heads that share 0, 7, 8, 9 and 300 bytes, one head alone among them.
 #[test]
 fn heads_are_counted(rt: HostRuntime) -> Tested {
-    for prefix in [0, 7, 8, 9, 300] {
-        for count in [1, 2, 3, 8] {
-            let list = keys_sharing(&rt, rt.alloc(), prefix, count)?;
-            for interval in [1, 2, 255] {
-                check_needles(&rt, rt.alloc(), &list, prefix, interval)?;
-            }
-        }
+    for prefix in &[0, 7, 8, 9, 300] {
+        check_prefix(&rt, rt.alloc(), *prefix)?;
     }
     Ok(())
 }
@@ -179,37 +238,83 @@ fn tabled(rt: &impl Abort, alloc: Global, keys: &[&[u8]]) -> Result<DataBlock<Po
     with_table(rt, alloc, block_of(rt, alloc, &list, 1, NO_BUCKETS)?)
 }
 
+/// Whether an entry with this key was found.
+fn has_key(found: &Option<InternalValue>, key: &[u8]) -> bool {
+    match found {
+        Some(entry) => entry.key().user_key().eq_bytes(key),
+        None => false,
+    }
+}
+
+/// Checks the counts, and a read, of the last of two keys with the same first 8 bytes.
+fn check_long_keys(rt: &impl Abort, alloc: Global, block: &DataBlock<Poly31>) -> Result<()> {
+    assert!(rt; counts_of(block, b"aaaaaaaac", 1) == Some((1, 2, 1)));
+    let found = block.point_read(alloc, b"aaaaaaaac", 1, &mut Steps::new())?;
+    assert!(rt; has_key(&found, b"aaaaaaaac"));
+    Ok(())
+}
+
+/// Checks the counts, and a seek, of a key that differs from others by zero bytes at its end.
+fn check_short_keys(rt: &impl Abort, block: &DataBlock<Poly31>) {
+    assert!(rt; counts_of(block, b"a\x00", 1) == Some((1, 2, 1)));
+    let mut iter = block.iter();
+    assert!(rt; iter.seek(b"a\x00"));
+    let found = iter.next();
+    assert!(rt; found.is_some());
+}
+
 /// Keys with the same first 8 bytes are distinguished.
 #[test]
 fn equal_fronts_are_told_apart(rt: HostRuntime) -> Tested {
     let alloc = rt.alloc();
-    let block = tabled(&rt, alloc, &[b"aaaaaaaab", b"aaaaaaaac"])?;
-    let found = block.point_read(alloc, b"aaaaaaaac", 1, &mut Steps::new())?;
-    assert!(&rt; found.is_some_and(|entry| entry.key().user_key().eq_bytes(b"aaaaaaaac")));
-    assert!(&rt; counts_of(&block, b"aaaaaaaac", 1) == Some((1, 2, 1)));
-    let block = tabled(&rt, alloc, &[b"a", b"a\x00", b"a\x00\x00"])?;
-    assert!(&rt; counts_of(&block, b"a\x00", 1) == Some((1, 2, 1)));
-    let mut iter = block.iter();
-    assert!(&rt; iter.seek(b"a\x00"));
-    let found = iter.next();
-    assert!(&rt; found.is_some());
+    check_long_keys(
+        &rt,
+        alloc,
+        &tabled(&rt, alloc, &[b"aaaaaaaab", b"aaaaaaaac"])?,
+    )?;
+    check_short_keys(&rt, &tabled(&rt, alloc, &[b"a", b"a\x00", b"a\x00\x00"])?);
+    Ok(())
+}
+
+/// Whether a block has a table of three heads.
+fn has_three_heads(block: &DataBlock<Poly31>) -> bool {
+    block
+        .heads()
+        .is_some_and(|table| table.len() == 3 && !table.is_empty())
+}
+
+/// The clone of a block, which has its own table.
+fn cloned(rt: &impl Abort, block: &DataBlock<Poly31>) -> Result<DataBlock<Poly31>> {
+    let copy = block.clone()?;
+    assert!(rt; has_three_heads(&copy));
+    Ok(copy)
+}
+
+/// Whether the clone of a block has no table.
+fn has_bare_clone(block: &DataBlock<Poly31>) -> Result<bool> {
+    Ok(block.clone()?.heads().is_none())
+}
+
+/// Checks that a new block has no table, nor has its clone, and returns its block.
+fn bared(rt: &impl Abort, block: DataBlock<Poly31>) -> Result<Block> {
+    let bare = DataBlock::<Poly31>::new(block.into_inner());
+    assert!(rt; bare.heads().is_none());
+    let has_bare_clone = has_bare_clone(&bare)?;
+    assert!(rt; has_bare_clone);
+    Ok(bare.into_inner())
+}
+
+/// Checks that a check makes the table of a block's heads.
+fn check_made(rt: &impl Abort, alloc: Global, block: DataBlock<Poly31>) -> Result<()> {
+    let checked = DataBlock::<Poly31>::check(alloc, bared(rt, block)?)?;
+    assert!(rt; has_three_heads(&checked));
     Ok(())
 }
 
 /// A check makes the table, a clone has its own, and a new block has none.
 #[test]
 fn a_check_makes_the_table(rt: HostRuntime) -> Tested {
-    let alloc = rt.alloc();
-    let block = tabled(&rt, alloc, &[b"a", b"b", b"c"])?;
-    let copy = block.clone()?;
-    assert!(&rt;
-        copy.heads()
-            .is_some_and(|table| table.len() == 3 && !table.is_empty())
-    );
-    let bare = DataBlock::<Poly31>::new(copy.into_inner());
-    assert!(&rt; bare.heads().is_none());
-    assert!(&rt; bare.clone()?.heads().is_none());
-    let checked = DataBlock::<Poly31>::check(alloc, bare.into_inner())?;
-    assert!(&rt; checked.heads().is_some_and(|table| table.len() == 3));
+    let block = tabled(&rt, rt.alloc(), &[b"a", b"b", b"c"])?;
+    check_made(&rt, rt.alloc(), cloned(&rt, &block)?)?;
     Ok(())
 }

@@ -67,7 +67,7 @@ fn handles_of(rt: &impl Abort, alloc: Global, rows: &[Row]) -> Result<Vec<KeyedB
 }
 
 /// The block of a list of handles at an interval.
-fn block_of(
+pub(crate) fn block_of(
     rt: &impl Abort,
     alloc: Global,
     list: &[KeyedBlockHandle],
@@ -81,6 +81,33 @@ fn block_of(
     Ok(IndexBlock::new(Block::from_payload(BlockType::Index, Slice::from_vec(bytes)?)))
 }
 
+/// The same block with the table of its heads.
+fn with_table(rt: &impl Abort, alloc: Global, block: IndexBlock) -> Result<IndexBlock> {
+    assert!(rt; block.heads().is_none());
+    let block = block.with_heads(alloc).ok().ok_or(Error::Memory)?;
+    assert!(rt; block.heads().is_some_and(|table| !table.is_empty()));
+    Ok(block)
+}
+
+/// The block of a list of handles at an interval, with the table of its heads.
+fn tabled_of(
+    rt: &impl Abort,
+    alloc: Global,
+    list: &[KeyedBlockHandle],
+    interval: u8,
+) -> Result<IndexBlock> {
+    with_table(rt, alloc, block_of(rt, alloc, list, interval)?)
+}
+
+/// The results of operations over the clone of a block.
+fn walk_clone(
+    alloc: Global,
+    block: &IndexBlock,
+    ops: &[IndexOp],
+) -> Result<Vec<Answer<KeyedBlockHandle>>> {
+    walk(alloc, &block.clone()?, ops)
+}
+
 /// The results of operations over the block of a list of handles at an interval, with or without
 /// the table of its heads.
 fn answers_of(
@@ -91,31 +118,54 @@ fn answers_of(
     has_table: bool,
     ops: &[IndexOp],
 ) -> Result<Vec<Answer<KeyedBlockHandle>>> {
-    let block = block_of(rt, alloc, list, interval)?;
-    assert!(rt; block.heads().is_none());
-    if !has_table {
-        return walk(alloc, &block, ops);
+    if has_table {
+        walk_clone(alloc, &tabled_of(rt, alloc, list, interval)?, ops)
+    } else {
+        walk(alloc, &block_of(rt, alloc, list, interval)?, ops)
     }
-    let block = block.with_heads(alloc).ok().ok_or(Error::Memory)?;
-    assert!(rt; block.heads().is_some_and(|table| !table.is_empty()));
-    walk(alloc, &block.clone()?, ops)
+}
+
+/// Whether a block is this payload of three handles.
+fn is_payload(block: &IndexBlock, payload: &[u8]) -> bool {
+    let is_same = block.as_slice().eq_bytes(payload);
+    is_same && block.len() == 3
+}
+
+/// Checks that the block of a list at an interval is this payload of three handles.
+fn check_payload(
+    rt: &impl Abort,
+    alloc: Global,
+    list: &[KeyedBlockHandle],
+    interval: u8,
+    payload: &[u8],
+) -> Result<()> {
+    let is_payload = is_payload(&block_of(rt, alloc, list, interval)?, payload);
+    assert!(rt; is_payload, "interval {interval}");
+    Ok(())
+}
+
+/// Checks the encoding of a list without an interval.
+fn check_bytes(rt: &impl Abort, alloc: Global, list: &[KeyedBlockHandle]) -> Result<()> {
+    assert!(rt; !list.is_empty());
+    assert!(rt; IndexBlock::is_ordered(list));
+    assert!(rt; IndexBlock::ends_fit(list));
+    let bytes = IndexBlock::encode_into_vec(alloc, list)?;
+    assert!(rt; bytes.as_slice() == THREE_HEADS.as_slice());
+    Ok(())
+}
+
+/// Checks the payloads of a list at the intervals 1 and 2, and without an interval.
+fn check_payloads(rt: &impl Abort, alloc: Global, list: &[KeyedBlockHandle]) -> Result<()> {
+    check_bytes(rt, alloc, list)?;
+    check_payload(rt, alloc, list, 1, &THREE_HEADS)?;
+    check_payload(rt, alloc, list, 2, &THREE_HANDLES)
 }
 
 /// The payloads of the three handles: first with each handle a head, which is also the encoding
 /// without an interval, then with the second handle truncated.
 #[test]
 fn payloads_are_the_test_vectors(rt: HostRuntime) -> Tested {
-    let list = handles_of(&rt, rt.alloc(), &THREE)?;
-    assert!(&rt; !list.is_empty());
-    assert!(&rt; IndexBlock::is_ordered(&list));
-    assert!(&rt; IndexBlock::ends_fit(&list));
-    let bytes = IndexBlock::encode_into_vec(rt.alloc(), &list)?;
-    assert!(&rt; bytes.as_slice() == THREE_HEADS.as_slice());
-    for (interval, payload) in [(1, THREE_HEADS.as_slice()), (2, THREE_HANDLES.as_slice())] {
-        let block = block_of(&rt, rt.alloc(), &list, interval)?;
-        assert!(&rt; block.as_slice().eq_bytes(payload), "interval {interval}");
-        assert!(&rt; block.len() == 3);
-    }
+    check_payloads(&rt, rt.alloc(), &handles_of(&rt, rt.alloc(), &THREE)?)?;
     Ok(())
 }
 
@@ -231,16 +281,21 @@ const SCRIPTS: [Script; 10] = [
     },
 ];
 
+/// The operation of a step.
+fn op_of(alloc: Global, step: &Step) -> Result<IndexOp> {
+    match step {
+        Step::Next(_) => Ok(IndexOp::Next),
+        Step::NextBack(_) => Ok(IndexOp::NextBack),
+        Step::Seek(key, seqno, _) => Ok(IndexOp::Seek(Slice::new(alloc, key)?, *seqno)),
+        Step::SeekUpper(key, seqno) => Ok(IndexOp::SeekUpper(Slice::new(alloc, key)?, *seqno)),
+    }
+}
+
 /// The operations of some steps.
 fn ops_of(alloc: Global, steps: &[Step]) -> Result<Vec<IndexOp>> {
     let mut ops = Vec::new(alloc);
     for step in steps {
-        ops.push(match step {
-            Step::Next(_) => IndexOp::Next,
-            Step::NextBack(_) => IndexOp::NextBack,
-            Step::Seek(key, seqno, _) => IndexOp::Seek(Slice::new(alloc, key)?, *seqno),
-            Step::SeekUpper(key, seqno) => IndexOp::SeekUpper(Slice::new(alloc, key)?, *seqno),
-        })?;
+        ops.push(op_of(alloc, step)?)?;
     }
     Ok(ops)
 }
@@ -258,26 +313,64 @@ fn returns(step: &Step, answer: &Answer<KeyedBlockHandle>) -> bool {
     }
 }
 
+/// Performs operations over a list's block at an interval, and checks that each step of a script
+/// returns its expected result.
+fn check_steps(
+    rt: &impl Abort,
+    alloc: Global,
+    script: &Script,
+    list: &[KeyedBlockHandle],
+    ops: &[IndexOp],
+    form: (u8, bool),
+) -> Result<()> {
+    let (interval, has_table) = form;
+    let found = answers_of(rt, alloc, list, interval, has_table, ops)?;
+    assert!(rt; found.len() == script.steps.len());
+    for (step, answer) in script.steps.iter().zip(found.iter()) {
+        assert!(rt; returns(step, answer), "{} at {interval}", script.name);
+    }
+    Ok(())
+}
+
+/// Performs operations over a list's block at each interval of a script, with and without the table
+/// of its heads.
+fn check_script(
+    rt: &impl Abort,
+    alloc: Global,
+    script: &Script,
+    list: &[KeyedBlockHandle],
+) -> Result<()> {
+    let ops = ops_of(alloc, script.steps)?;
+    for interval in script.intervals {
+        check_steps(rt, alloc, script, list, &ops, (*interval, false))?;
+        check_steps(rt, alloc, script, list, &ops, (*interval, true))?;
+    }
+    Ok(())
+}
+
 /// Each step of each script returns its expected result.
 #[test]
 fn scripts_return_what_is_written(rt: HostRuntime) -> Tested {
-    let alloc = rt.alloc();
     for script in &SCRIPTS {
-        let list = handles_of(&rt, alloc, script.rows)?;
-        let ops = ops_of(alloc, script.steps)?;
-        for (interval, has_table) in script
-            .intervals
-            .iter()
-            .flat_map(|interval| [(*interval, false), (*interval, true)])
-        {
-            let found = answers_of(&rt, alloc, &list, interval, has_table, &ops)?;
-            assert!(&rt; found.len() == script.steps.len());
-            for (step, answer) in script.steps.iter().zip(found.iter()) {
-                assert!(&rt; returns(step, answer), "{} at {interval}", script.name);
-            }
-        }
+        let list = handles_of(&rt, rt.alloc(), script.rows)?;
+        check_script(&rt, rt.alloc(), script, &list)?;
     }
     Ok(())
+}
+
+/// Returns whether a handle is of 73 bytes at offset 150.
+fn is_at_150(handle: &KeyedBlockHandle) -> bool {
+    let is_offset = handle.offset() == BlockOffset(150) && *handle.offset() == 150;
+    let is_size = handle.size() == 73;
+    let is_plain = *handle.as_ref() == BlockHandle::new(BlockOffset(150), 73);
+    is_offset && is_size && is_plain
+}
+
+/// Checks the parts of a handle of 73 bytes at offset 150.
+fn check_parts(rt: &impl Abort, handle: &KeyedBlockHandle) {
+    assert!(rt; is_at_150(handle));
+    assert!(rt; handle.seqno() == 5);
+    assert!(rt; handle.end_key().eq_bytes(b"key"));
 }
 
 /// The accessors of a handle of 73 bytes at offset 146, and a shift by 4 bytes.
@@ -287,12 +380,7 @@ fn a_handle_has_its_parts(rt: HostRuntime) -> Tested {
     let mut handle = KeyedBlockHandle::new(Slice::new(rt.alloc(), b"key")?, 5, plain);
     let before = handle.clone()?;
     handle.shift(BlockOffset(4));
-    assert!(&rt; handle.offset() == BlockOffset(150));
-    assert!(&rt; *handle.offset() == 150);
-    assert!(&rt; handle.size() == 73);
-    assert!(&rt; handle.seqno() == 5);
-    assert!(&rt; handle.end_key().eq_bytes(b"key"));
-    assert!(&rt; *handle.as_ref() == BlockHandle::new(BlockOffset(150), 73));
+    check_parts(&rt, &handle);
     assert!(&rt; handle != before);
     assert!(&rt; before.into_inner() == plain);
     Ok(())
@@ -395,50 +483,99 @@ fn random_list(
     Ok(list)
 }
 
-/// `count` random operations with the keys of numbers below `keys`: steps as often as seeks.
+/// The key of a number.
+fn slice_of(alloc: Global, number: u64) -> Result<Slice> {
+    Ok(Slice::from_vec(key_of(alloc, number)?)?)
+}
+
+/// A random operation with the key of a number below `keys`: steps as often as seeks.
+fn random_op(alloc: Global, random: &mut Random, keys: u64) -> Result<IndexOp>
+    requires { 1 ≤ keys }
+{
+    let kind = random.below(4);
+    let number = random.below(keys);
+    let seqno = random.below(100);
+    match kind {
+        0 => Ok(IndexOp::Next),
+        1 => Ok(IndexOp::NextBack),
+        2 => Ok(IndexOp::Seek(slice_of(alloc, number)?, seqno)),
+        _ => Ok(IndexOp::SeekUpper(slice_of(alloc, number)?, seqno)),
+    }
+}
+
+/// `count` random operations with the keys of numbers below `keys`.
 fn random_ops(alloc: Global, random: &mut Random, keys: u64, count: usize) -> Result<Vec<IndexOp>>
     requires { 1 ≤ keys }
 {
     let mut ops = Vec::new(alloc);
     for _ in 0..count {
-        let kind = random.below(4);
-        let key = Slice::from_vec(key_of(alloc, random.below(keys))?)?;
-        let seqno = random.below(100);
-        ops.push(match kind {
-            0 => IndexOp::Next,
-            1 => IndexOp::NextBack,
-            2 => IndexOp::Seek(key, seqno),
-            _ => IndexOp::SeekUpper(key, seqno),
-        })?;
+        ops.push(random_op(alloc, random, keys)?)?;
     }
     Ok(ops)
 }
+
+/// Performs operations over a list's block, and checks that they return what the plain window does.
+fn check_window(
+    rt: &impl Abort,
+    alloc: Global,
+    list: &[KeyedBlockHandle],
+    ops: &[IndexOp],
+    form: (u8, bool),
+) -> Result<()> {
+    let (interval, has_table) = form;
+    let found = answers_of(rt, alloc, list, interval, has_table, ops)?;
+    assert!(rt; found.len() == ops.len());
+    let hi = list.len();
+    let mut window = Window { list, lo: 0, hi };
+    for (op, answer) in ops.iter().zip(found.iter()) {
+        assert!(rt; window.perform(op).is(answer), "{op:?} at {interval}");
+    }
+    Ok(())
+}
+
+/// Checks 200 random operations over the block of a list, with and without the table of its heads.
+fn check_random_ops(
+    rt: &impl Abort,
+    alloc: Global,
+    random: &mut Random,
+    list: &[KeyedBlockHandle],
+    interval: u8,
+) -> Result<()> {
+    let keys = (list.len() as u64).saturating_add(4);
+    let ops = random_ops(alloc, random, keys, 200)?;
+    check_window(rt, alloc, list, &ops, (interval, false))?;
+    check_window(rt, alloc, list, &ops, (interval, true))
+}
+
+/// The intervals up to 16, and the longest.
+const INTERVALS: [u8; 17] = [1, 2, 3, 4, 5, 6, 7, 8, 9, 10, 11, 12, 13, 14, 15, 16, 255];
 
 /// 200 random operations over the block of a random list of 1 to 40 handles return what the plain
 /// window does, at each interval up to 16, and at 255.
 #[test]
 fn random_operations_return_what_the_window_does(rt: HostRuntime) -> Tested {
-    let alloc = rt.alloc();
     let mut random = Random::new(11);
-    for interval in [1, 2, 3, 4, 5, 6, 7, 8, 9, 10, 11, 12, 13, 14, 15, 16, 255] {
+    for interval in &INTERVALS {
         let count = 1 + random.below(40);
-        let list = random_list(&rt, alloc, &mut random, count)?;
-        let ops = random_ops(alloc, &mut random, count + 4, 200)?;
-        for has_table in [false, true] {
-            let found = answers_of(&rt, alloc, &list, interval, has_table, &ops)?;
-            assert!(&rt; found.len() == ops.len());
-            let hi = list.len();
-            let mut window = Window {
-                list: &list,
-                lo: 0,
-                hi,
-            };
-            for (op, answer) in ops.iter().zip(found.iter()) {
-                assert!(&rt; window.perform(op).is(answer), "{op:?} at {interval}");
-            }
-        }
+        let list = random_list(&rt, rt.alloc(), &mut random, count)?;
+        check_random_ops(&rt, rt.alloc(), &mut random, &list, *interval)?;
     }
     Ok(())
+}
+
+/// Returns whether a handle that borrows its block has the parts of a handle.
+fn has_parts(read: &HandleRef<'_>, wanted: &KeyedBlockHandle) -> bool {
+    let is_offset = read.offset() == wanted.offset();
+    let is_size = read.size() == wanted.size();
+    let is_seqno = read.seqno() == wanted.seqno();
+    let is_plain = read.handle() == BlockHandle::new(wanted.offset(), wanted.size());
+    let is_key = read.compare_key(wanted.end_key().as_slice()).is_eq();
+    is_offset && is_size && is_seqno && is_plain && is_key
+}
+
+/// Returns whether the clone of a handle that borrows its block is made as a handle.
+fn is_made(alloc: Global, read: &HandleRef<'_>, wanted: &KeyedBlockHandle) -> Result<bool> {
+    Ok(read.clone()?.materialize(alloc)? == *wanted)
 }
 
 /// Returns whether a handle that borrows its block is a handle of a list, by each of its calls.
@@ -450,30 +587,39 @@ fn is_handle(
     let Some(read) = read else {
         return Ok(false);
     };
-    let plain = BlockHandle::new(wanted.offset(), wanted.size());
-    Ok(
-        read.offset() == wanted.offset()
-            && read.size() == wanted.size()
-            && read.seqno() == wanted.seqno()
-            && read.handle() == plain
-            && read.compare_key(wanted.end_key().as_slice()).is_eq()
-            && read.clone()?.materialize(alloc)? == *wanted,
-    )
+    let is_copy = is_made(alloc, &read, wanted)?;
+    Ok(has_parts(&read, wanted) && is_copy)
+}
+
+/// Checks that a handle was taken, and is the handle of a list.
+fn check_handle(
+    rt: &impl Abort,
+    alloc: Global,
+    read: Option<HandleRef<'_>>,
+    wanted: &KeyedBlockHandle,
+) -> Result<()> {
+    let is_wanted = is_handle(alloc, read, wanted)?;
+    assert!(rt; is_wanted);
+    Ok(())
+}
+
+/// Checks that no handle is left.
+fn check_end(rt: &impl Abort, handles: &mut Handles<'_>) {
+    assert!(rt; handles.next().is_none());
+    assert!(rt; handles.next_back().is_none());
 }
 
 /// Checks that handles left are those of a list, from the front.
 fn check_front(
     rt: &impl Abort,
     alloc: Global,
-    handles: Handles<'_>,
+    handles: &mut Handles<'_>,
     list: &[KeyedBlockHandle],
 ) -> Result<()> {
-    let mut handles = handles;
     for wanted in list {
-        assert!(rt; is_handle(alloc, handles.next(), wanted)?);
+        check_handle(rt, alloc, handles.next(), wanted)?;
     }
-    assert!(rt; handles.next().is_none());
-    assert!(rt; handles.next_back().is_none());
+    check_end(rt, handles);
     Ok(())
 }
 
@@ -481,20 +627,57 @@ fn check_front(
 fn check_back(
     rt: &impl Abort,
     alloc: Global,
-    handles: Handles<'_>,
+    handles: &mut Handles<'_>,
     list: &[KeyedBlockHandle],
 ) -> Result<()> {
-    let mut handles = handles;
     for wanted in list.iter().rev() {
-        assert!(rt; is_handle(alloc, handles.next_back(), wanted)?);
+        check_handle(rt, alloc, handles.next_back(), wanted)?;
     }
-    assert!(rt; handles.next_back().is_none());
-    assert!(rt; handles.next().is_none());
+    check_end(rt, handles);
     Ok(())
 }
 
-/// Checks the handles between two bounds, and that the first of them is the handle of the iterator's
-/// item.
+/// Checks the handles between two bounds, the lower one sought first, from the front.
+fn check_forwards(
+    rt: &impl Abort,
+    alloc: Global,
+    block: &IndexBlock,
+    left: &[KeyedBlockHandle],
+    bounds: (&[u8], &[u8]),
+) -> Result<()> {
+    let (from, upto) = bounds;
+    let mut iter = block.iter();
+    iter.seek(from, 5);
+    iter.seek_upper(upto, 5);
+    assert!(rt; iter.count_left() == left.len());
+    check_front(rt, alloc, &mut Handles::new(block, iter), left)
+}
+
+/// Checks that the first of the handles between two bounds, the upper one sought first, is the
+/// handle of the iterator's item, and the others from the back.
+fn check_backwards(
+    rt: &impl Abort,
+    alloc: Global,
+    block: &IndexBlock,
+    left: &[KeyedBlockHandle],
+    bounds: (&[u8], &[u8]),
+) -> Result<()> {
+    let (from, upto) = bounds;
+    let mut iter = block.iter();
+    iter.seek_upper(upto, 5);
+    iter.seek(from, 5);
+    let Some(item) = iter.next() else {
+        return Ok(());
+    };
+    let Some((first, others)) = left.split_first() else {
+        assert!(rt; false);
+        return Ok(());
+    };
+    check_handle(rt, alloc, Some(block.handle(item)), first)?;
+    check_back(rt, alloc, &mut Handles::new(block, iter), others)
+}
+
+/// Checks the handles between two bounds.
 fn check_between(
     rt: &impl Abort,
     alloc: Global,
@@ -504,22 +687,39 @@ fn check_between(
 ) -> Result<()> {
     let (from, upto) = bounds;
     let hi = list.len();
-    let mut window = Window { list, lo: 0, hi };
-    window.lo = window.passed(from, 5);
-    window.hi = hi.min(window.passed(upto, 0).saturating_add(1));
-    let left = list.get(window.lo..window.hi).unwrap_or(&list[..0]);
-    let mut iter = block.iter();
-    iter.seek(from, 5);
-    iter.seek_upper(upto, 5);
-    assert!(rt; iter.count_left() == left.len());
-    check_front(rt, alloc, Handles::new(block, iter), left)?;
-    let mut iter = block.iter();
-    iter.seek_upper(upto, 5);
-    iter.seek(from, 5);
-    if let Some(item) = iter.next() {
-        assert!(rt; !left.is_empty());
-        assert!(rt; is_handle(alloc, Some(block.handle(item)), &left[0])?);
-        check_back(rt, alloc, Handles::new(block, iter), &left[1..])?;
+    let window = Window { list, lo: 0, hi };
+    let lo = window.passed(from, 5);
+    let hi = hi.min(window.passed(upto, 0).saturating_add(1));
+    let left = list.get(lo..hi).unwrap_or(&list[..0]);
+    check_forwards(rt, alloc, block, left, bounds)?;
+    check_backwards(rt, alloc, block, left, bounds)
+}
+
+/// Checks the handles between two random bounds.
+fn check_random_bounds(
+    rt: &impl Abort,
+    alloc: Global,
+    random: &mut Random,
+    block: &IndexBlock,
+    list: &[KeyedBlockHandle],
+) -> Result<()> {
+    let from = key_of(alloc, random.below(44))?;
+    let upto = key_of(alloc, random.below(44))?;
+    check_between(rt, alloc, block, list, (&from, &upto))
+}
+
+/// Checks the handles of a block, from the front, from the back, and between 20 pairs of bounds.
+fn check_handles(
+    rt: &impl Abort,
+    alloc: Global,
+    random: &mut Random,
+    block: &IndexBlock,
+    list: &[KeyedBlockHandle],
+) -> Result<()> {
+    check_front(rt, alloc, &mut block.handles(), list)?;
+    check_back(rt, alloc, &mut block.handles(), list)?;
+    for _ in 0..20 {
+        check_random_bounds(rt, alloc, random, block, list)?;
     }
     Ok(())
 }
@@ -528,19 +728,12 @@ fn check_between(
 /// back, also between two bounds.
 #[test]
 fn handles_are_the_list(rt: HostRuntime) -> Tested {
-    let alloc = rt.alloc();
     let mut random = Random::new(13);
-    for interval in [1, 2, 3, 5, 16, 255] {
+    for interval in &[1, 2, 3, 5, 16, 255] {
         let count = 1 + random.below(40);
-        let list = random_list(&rt, alloc, &mut random, count)?;
-        let block = block_of(&rt, alloc, &list, interval)?;
-        check_front(&rt, alloc, block.handles(), &list)?;
-        check_back(&rt, alloc, block.handles(), &list)?;
-        for _ in 0..20 {
-            let from = key_of(alloc, random.below(44))?;
-            let upto = key_of(alloc, random.below(44))?;
-            check_between(&rt, alloc, &block, &list, (&from, &upto))?;
-        }
+        let list = random_list(&rt, rt.alloc(), &mut random, count)?;
+        let block = block_of(&rt, rt.alloc(), &list, *interval)?;
+        check_handles(&rt, rt.alloc(), &mut random, &block, &list)?;
     }
     Ok(())
 }

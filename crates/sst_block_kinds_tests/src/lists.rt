@@ -124,10 +124,12 @@ const VERSIONS: [(&[u8], usize); 21] = [
     (b"xzx", 3),
 ];
 
-/// Keys of up to 20001 bytes, values of up to 70000 bytes, and sequence numbers of 1 to 10 bytes:
-/// the number of bytes k, the bytes after them, the number of bytes v, the sequence number and the
+/// The number of bytes k, the bytes after them, the number of bytes v, the sequence number and the
 /// type.
-const LONG: [(usize, &[u8], usize, u64, ValueType); 20] = [
+type LongRow = (usize, &'static [u8], usize, u64, ValueType);
+
+/// Keys of up to 20001 bytes, values of up to 70000 bytes, and sequence numbers of 1 to 10 bytes.
+const LONG: [LongRow; 20] = [
     (1, b"", 300, u64::MAX, ValueType::Value),
     (1, b"", 0, 1 << 63, ValueType::Tombstone),
     (1, b"", 300, 1 << 28, ValueType::Value),
@@ -150,13 +152,42 @@ const LONG: [(usize, &[u8], usize, u64, ValueType); 20] = [
     (0, b"l", 70000, 300, ValueType::Value),
 ];
 
+/// A number of bytes k, and the bytes after them.
+fn long_key(alloc: Global, length: usize, rest: &[u8]) -> Result<Vec<u8>> {
+    let mut key = vec![in alloc; b'k'; length]?;
+    key.extend_from_slice(rest)?;
+    Ok(key)
+}
+
+/// Appends an entry of [`LONG`].
+fn push_long_row(rt: &impl Abort, list: &mut Vec<InternalValue>, row: &LongRow) -> Result<()> {
+    let (length, rest, size, seqno, value_type) = row;
+    let key = long_key(*list.allocator(), *length, rest)?;
+    let value = vec![in *list.allocator(); b'v'; *size]?;
+    push(rt, list, &key, &value, *seqno, *value_type)
+}
+
 /// Appends the entries of [`LONG`].
 fn push_long(rt: &impl Abort, list: &mut Vec<InternalValue>) -> Result<()> {
-    for (length, rest, size, seqno, value_type) in LONG {
-        let mut key = vec![in *list.allocator(); b'k'; length]?;
-        key.extend_from_slice(rest)?;
-        let value = vec![in *list.allocator(); b'v'; size]?;
-        push(rt, list, &key, &value, seqno, value_type)?;
+    for row in &LONG {
+        push_long_row(rt, list, row)?;
+    }
+    Ok(())
+}
+
+/// Appends versions of a key, whose sequence numbers are three apart and end at 0.
+fn push_versions_of(
+    rt: &impl Abort,
+    list: &mut Vec<InternalValue>,
+    key: &[u8],
+    count: usize,
+) -> Result<()> {
+    assert!(rt; count <= 5);
+    for n in 1..count + 1 {
+        let value = if n % 2 == 0 { b"value".as_slice() } else { b"" };
+        let seqno = 3 * (count - n) as u64;
+        let value_type = type_of(n.wrapping_add(key.len()));
+        push(rt, list, key, value, seqno, value_type)?;
     }
     Ok(())
 }
@@ -164,20 +195,23 @@ fn push_long(rt: &impl Abort, list: &mut Vec<InternalValue>) -> Result<()> {
 /// Appends the versions of [`VERSIONS`], whose sequence numbers are three apart and end at 0, of
 /// every type, every second one with a value.
 fn push_versions(rt: &impl Abort, list: &mut Vec<InternalValue>) -> Result<()> {
-    for (key, count) in VERSIONS {
-        assert!(rt; count <= 5);
-        for n in 1..count + 1 {
-            let value = if n % 2 == 0 { b"value".as_slice() } else { b"" };
-            let seqno = 3 * (count - n) as u64;
-            push(
-                rt,
-                list,
-                key,
-                value,
-                seqno,
-                type_of(n.wrapping_add(key.len())),
-            )?;
-        }
+    for (key, count) in &VERSIONS {
+        push_versions_of(rt, list, key, *count)?;
+    }
+    Ok(())
+}
+
+/// Appends versions of a key, of every type, with and without values.
+fn push_each(
+    rt: &impl Abort,
+    list: &mut Vec<InternalValue>,
+    key: &[u8],
+    each: usize,
+) -> Result<()> {
+    for n in 0..each {
+        let value = if n % 3 == 0 { b"".as_slice() } else { b"value" };
+        let value_type = type_of(n.wrapping_add(key.len()));
+        push(rt, list, key, value, (each - n) as u64, value_type)?;
     }
     Ok(())
 }
@@ -191,13 +225,34 @@ fn push_prefixes(
     each: usize,
 ) -> Result<()> {
     for shorter in 0..keys {
-        let length = shorter.wrapping_add(1);
-        let key = vec![in *list.allocator(); b'k'; length]?;
-        for n in 0..each {
-            let value = if n % 3 == 0 { b"".as_slice() } else { b"value" };
-            let value_type = type_of(n.wrapping_add(length));
-            push(rt, list, &key, value, (each - n) as u64, value_type)?;
-        }
+        let key = vec![in *list.allocator(); b'k'; shorter.wrapping_add(1)]?;
+        push_each(rt, list, &key, each)?;
+    }
+    Ok(())
+}
+
+/// Appends the entries of a table.
+fn push_rows(rt: &impl Abort, list: &mut Vec<InternalValue>, rows: &[Row]) -> Result<()> {
+    for (key, value, seqno, value_type) in rows {
+        push(rt, list, key, value, *seqno, *value_type)?;
+    }
+    Ok(())
+}
+
+/// Appends keys of one byte, from the first to the last.
+fn push_bytes(rt: &impl Abort, list: &mut Vec<InternalValue>, first: u16, last: u16) -> Result<()> {
+    for n in first..=last {
+        let bytes = n.to_be_bytes();
+        push(rt, list, &bytes[1..], b"", 0, ValueType::Value)?;
+    }
+    Ok(())
+}
+
+/// Appends keys of two bytes, from the first to the last.
+fn push_pairs(rt: &impl Abort, list: &mut Vec<InternalValue>, first: u16, last: u16) -> Result<()> {
+    for n in first..=last {
+        let bytes = n.to_be_bytes();
+        push(rt, list, &bytes[..], b"v", u64::from(n), ValueType::Value)?;
     }
     Ok(())
 }
@@ -206,39 +261,13 @@ fn push_prefixes(
 pub(crate) fn list_of(rt: &impl Abort, alloc: Global, list: List) -> Result<Vec<InternalValue>> {
     let mut all = Vec::new(alloc);
     match list {
-        List::Rows(rows) => {
-            for (key, value, seqno, value_type) in rows {
-                push(rt, &mut all, key, value, *seqno, *value_type)?;
-            }
-        }
-        List::Bytes(first, last) => {
-            for n in first..=last {
-                push(
-                    rt,
-                    &mut all,
-                    &n.to_be_bytes()[1..],
-                    b"",
-                    0,
-                    ValueType::Value,
-                )?;
-            }
-        }
-        List::Pairs(first, last) => {
-            for n in first..=last {
-                push(
-                    rt,
-                    &mut all,
-                    &n.to_be_bytes()[..],
-                    b"v",
-                    u64::from(n),
-                    ValueType::Value,
-                )?;
-            }
-        }
-        List::Prefixes(keys, each) => push_prefixes(rt, &mut all, keys, each)?,
-        List::Versions => push_versions(rt, &mut all)?,
-        List::Long => push_long(rt, &mut all)?,
-    }
+        List::Rows(rows) => push_rows(rt, &mut all, rows),
+        List::Bytes(first, last) => push_bytes(rt, &mut all, first, last),
+        List::Pairs(first, last) => push_pairs(rt, &mut all, first, last),
+        List::Prefixes(keys, each) => push_prefixes(rt, &mut all, keys, each),
+        List::Versions => push_versions(rt, &mut all),
+        List::Long => push_long(rt, &mut all),
+    }?;
     Ok(all)
 }
 
@@ -284,7 +313,7 @@ pub(crate) fn is_same(written: Option<&InternalValue>, read: Option<&InternalVal
     } else {
         written.value().as_slice()
     };
-    read.key() == written.key()
-        && read.key().value_type() == written.key().value_type()
-        && read.value().eq_bytes(value)
+    let is_key = read.key() == written.key();
+    let is_type = read.key().value_type() == written.key().value_type();
+    is_key && is_type && read.value().eq_bytes(value)
 }

@@ -14,6 +14,7 @@ use sst_base::{
 };
 use sst_block_core::ParsedItem;
 use sst_block_core::table::block::hash_index::Lookup;
+use sst_block_kinds::table::data_block::EntryRef;
 use sst_block_kinds::{DataBlock, DataBlockParsedItem};
 use std::alloc::Global;
 use std::process::Abort;
@@ -305,6 +306,18 @@ const EXAMPLES: [Example; 12] = [
     },
 ];
 
+/// Returns whether a read of a key below a sequence number gives this entry, or none.
+fn is_read<H: BlockHash>(
+    alloc: Global,
+    block: &DataBlock<H>,
+    needle: &[u8],
+    below: u64,
+    wanted: Option<&InternalValue>,
+) -> Result<bool> {
+    let read = block.point_read(alloc, needle, below, &mut Steps::new())?;
+    Ok(is_same(wanted, read.as_ref()))
+}
+
 /// Reads a key below a sequence number, and checks that the result is this entry, or none.
 fn check_read<H: BlockHash>(
     rt: &impl Abort,
@@ -314,9 +327,8 @@ fn check_read<H: BlockHash>(
     below: u64,
     wanted: Option<&InternalValue>,
 ) {
-    let mut steps = Steps::new();
-    match block.point_read(alloc, needle, below, &mut steps) {
-        Ok(read) => assert!(rt; is_same(wanted, read.as_ref()), "{needle:?} below {below}"),
+    match is_read(alloc, block, needle, below, wanted) {
+        Ok(is_wanted) => assert!(rt; is_wanted, "{needle:?} below {below}"),
         Err(_) => assert!(rt; false, "no memory"),
     }
 }
@@ -370,17 +382,36 @@ fn check_reads<H: BlockHash>(
     }
 }
 
-/// Checks a block against what is expected of it, and its reads with and without the table of its
-/// heads.
-fn check_example<H: BlockHash>(rt: &impl Abort, alloc: Global, case: &Example) -> Result<()> {
-    let list = list_of(rt, alloc, case.list)?;
-    let block = block_of::<H>(rt, alloc, &list, case.interval, case.ratio)?;
+/// Checks a block without the table of its heads against what is expected of it.
+fn check_block<H: BlockHash>(
+    rt: &impl Abort,
+    alloc: Global,
+    block: &DataBlock<H>,
+    list: &[InternalValue],
+    case: &Example,
+) {
     assert!(rt; block.heads().is_none());
-    check_bytes(rt, &block, case);
-    check_buckets(rt, &block, case);
-    check_reads(rt, alloc, &block, &list, case);
-    check_reads(rt, alloc, &with_table(rt, alloc, block)?, &list, case);
+    check_bytes(rt, block, case);
+    check_buckets(rt, block, case);
+    check_reads(rt, alloc, block, list, case);
+}
+
+/// Checks the block of a list, and its reads with and without the table of its heads.
+fn check_entries<H: BlockHash>(
+    rt: &impl Abort,
+    alloc: Global,
+    list: &[InternalValue],
+    case: &Example,
+) -> Result<()> {
+    let block = block_of::<H>(rt, alloc, list, case.interval, case.ratio)?;
+    check_block(rt, alloc, &block, list, case);
+    check_reads(rt, alloc, &with_table(rt, alloc, block)?, list, case);
     Ok(())
+}
+
+/// Checks an example.
+fn check_example<H: BlockHash>(rt: &impl Abort, alloc: Global, case: &Example) -> Result<()> {
+    check_entries::<H>(rt, alloc, &list_of(rt, alloc, case.list)?, case)
 }
 
 /// Each example has its bytes, its buckets and its reads.
@@ -476,6 +507,15 @@ pub(crate) struct Query<'a> {
     wanted: Option<&'a InternalValue>,
 }
 
+/// A prefix, with another last byte if there is one.
+fn key_with(alloc: Global, prefix: &[u8], last: Option<u8>) -> Result<Slice> {
+    let mut bytes = prefix.to_vec(alloc)?;
+    if let Some(byte) = last {
+        bytes.push(byte)?;
+    }
+    Ok(Slice::from_vec(bytes)?)
+}
+
 /// Appends the read of a prefix with another last byte, if there is one, below a sequence number.
 fn push_query<'a>(
     queries: &mut Vec<Query<'a>>,
@@ -484,48 +524,58 @@ fn push_query<'a>(
     last: Option<u8>,
     below: u64,
 ) -> Result<()> {
-    let mut bytes = prefix.to_vec(*queries.allocator())?;
-    if let Some(byte) = last {
-        bytes.push(byte)?;
-    }
-    let key = Slice::from_vec(bytes)?;
+    let key = key_with(*queries.allocator(), prefix, last)?;
     let wanted = plain_first_match(list, key.as_slice(), below);
     queries.push(Query { key, below, wanted })?;
     Ok(())
 }
 
-/// The reads of each key at its sequence number and the next, of an extension, of its prefix, of
-/// the keys around it, and of its end; and of keys below and above all.
+/// Appends the reads of an entry's key at its sequence number and the next, of an extension, of its
+/// prefix, of the keys around it, and of its end.
+fn push_queries<'a>(
+    queries: &mut Vec<Query<'a>>,
+    list: &'a [InternalValue],
+    entry: &InternalValue,
+) -> Result<()> {
+    let key = entry.key().user_key().as_slice();
+    let seqno = entry.key().seqno();
+    let next = seqno.wrapping_add(1);
+    let Some((last, prefix)) = key.split_last() else {
+        return Ok(());
+    };
+    let reads = [
+        (key, None, seqno),
+        (key, None, next),
+        (key, Some(b'm'), next),
+        (prefix, None, next),
+        (prefix, Some(last.wrapping_add(1)), u64::MAX),
+        (prefix, Some(last.wrapping_sub(1)), u64::MAX),
+        (&key[1..], None, seqno),
+    ];
+    for (prefix, last, below) in &reads {
+        push_query(queries, list, prefix, *last, *below)?;
+    }
+    Ok(())
+}
+
+/// Keys below and above all, and the sequence numbers below which they are read.
+const OUTER: [(&[u8], u64); 4] = [(b"a", u64::MAX), (b"zz", u64::MAX), (b"", 1), (b"zz", 9)];
+
+/// Appends the reads of keys below and above all.
+fn push_outer<'a>(queries: &mut Vec<Query<'a>>, list: &'a [InternalValue]) -> Result<()> {
+    for (key, below) in &OUTER {
+        push_query(queries, list, key, None, *below)?;
+    }
+    Ok(())
+}
+
+/// The reads of each entry's key and of the keys around it, and of keys below and above all.
 fn queries_of(alloc: Global, list: &[InternalValue]) -> Result<Vec<Query<'_>>> {
     let mut all = Vec::new(alloc);
     for entry in list {
-        let key = entry.key().user_key().as_slice();
-        let seqno = entry.key().seqno();
-        let next = seqno.wrapping_add(1);
-        let Some((last, prefix)) = key.split_last() else {
-            continue;
-        };
-        let reads = [
-            (key, None, seqno),
-            (key, None, next),
-            (key, Some(b'm'), next),
-            (prefix, None, next),
-            (prefix, Some(last.wrapping_add(1)), u64::MAX),
-            (prefix, Some(last.wrapping_sub(1)), u64::MAX),
-            (&key[1..], None, seqno),
-        ];
-        for (prefix, last, below) in reads {
-            push_query(&mut all, list, prefix, last, below)?;
-        }
+        push_queries(&mut all, list, entry)?;
     }
-    for (key, below) in [
-        (b"a".as_slice(), u64::MAX),
-        (b"zz", u64::MAX),
-        (b"", 1),
-        (b"zz", 9),
-    ] {
-        push_query(&mut all, list, key, None, below)?;
-    }
+    push_outer(&mut all, list)?;
     Ok(all)
 }
 
@@ -559,25 +609,57 @@ fn iterates<H: BlockHash>(
     Ok(())
 }
 
-/// Makes the entries of a block, and checks that they are the list; and that the entries that
-/// borrow the block have the same tombstones.
+/// Returns whether an entry that borrows its block is a tombstone as in the list.
+fn is_dead_as(written: Option<&InternalValue>, entry: &EntryRef<'_>) -> bool {
+    match written {
+        Some(written) => written.is_tombstone() == entry.is_tombstone(),
+        None => false,
+    }
+}
+
+/// Checks an entry as made, and as it borrows its block, against the entry of the list at a place.
+fn check_made(
+    rt: &impl Abort,
+    written: Option<&InternalValue>,
+    made: Option<&InternalValue>,
+    entry: &EntryRef<'_>,
+    place: usize,
+) {
+    assert!(rt; is_same(written, made), "place {place}");
+    assert!(rt; is_dead_as(written, entry));
+}
+
+/// Checks that the entries of a block, as made, are the list, and that the entries that borrow the
+/// block have the same tombstones.
+fn compare_made<H: BlockHash>(
+    rt: &impl Abort,
+    block: &DataBlock<H>,
+    list: &[InternalValue],
+    all: &[InternalValue],
+) {
+    let mut place = 0usize;
+    for entry in block.entries() {
+        check_made(rt, list.get(place), all.get(place), &entry, place);
+        place = place.saturating_add(1);
+    }
+    assert!(rt; place == list.len());
+    assert!(rt; place == all.len());
+    assert!(rt; place == block.len());
+}
+
+/// The entries of a block, made by a copy of it.
+fn made_of<H: BlockHash>(alloc: Global, block: &DataBlock<H>) -> Result<Vec<InternalValue>> {
+    block.clone()?.to_vec(alloc)
+}
+
+/// Makes the entries of a block, and checks that they are the list.
 fn makes<H: BlockHash>(
     rt: &impl Abort,
     alloc: Global,
     block: &DataBlock<H>,
     list: &[InternalValue],
 ) -> Result<()> {
-    let all = block.clone()?.to_vec(alloc)?;
-    assert!(rt; block.len() == list.len());
-    assert!(rt; all.len() == list.len());
-    let mut place = 0usize;
-    for entry in block.entries() {
-        let written = list.get(place);
-        assert!(rt; is_same(written, all.get(place)), "place {place}");
-        assert!(rt; written.map(|item| item.is_tombstone()) == Some(entry.is_tombstone()));
-        place = place.saturating_add(1);
-    }
-    assert!(rt; place == list.len());
+    compare_made(rt, block, list, &made_of(alloc, block)?);
     Ok(())
 }
 
@@ -633,10 +715,41 @@ fn check_counts<H: BlockHash>(
     }
 }
 
-/// Writes a list at an interval and a ratio, iterates over it, and performs the reads, with and
-/// without the table of the heads. Without hash index the payload is compared with the plain
-/// program's, which recurses over a key, so long keys are left out.
-pub(crate) fn check_list<H: BlockHash>(
+/// Iterates over the block of a list, and performs the reads. Without hash index the payload is
+/// compared with the plain program's, which recurses over a key, so long keys are left out.
+fn check_untabled<H: BlockHash>(
+    rt: &impl Abort,
+    alloc: Global,
+    block: &DataBlock<H>,
+    list: &[InternalValue],
+    queries: &[Query<'_>],
+    form: (u8, HashRatio),
+) -> Result<()> {
+    let (interval, ratio) = form;
+    if ratio.num == 0 && block.as_slice().len() < 20_000 {
+        check_payload(rt, alloc, block, list, interval)?;
+    }
+    iterates(rt, alloc, block, list)?;
+    makes(rt, alloc, block, list)?;
+    check_queries(rt, alloc, block, queries);
+    Ok(())
+}
+
+/// Performs the reads, and counts the heads, by the table of the heads of a list's block.
+fn check_tabled<H: BlockHash>(
+    rt: &impl Abort,
+    alloc: Global,
+    block: &DataBlock<H>,
+    list: &[InternalValue],
+    queries: &[Query<'_>],
+    interval: u8,
+) {
+    check_queries(rt, alloc, block, queries);
+    check_counts(rt, block, list, interval, queries);
+}
+
+/// Writes a list at an interval and a ratio, and checks its block with the table of the heads.
+fn check_with_table<H: BlockHash>(
     rt: &impl Abort,
     alloc: Global,
     list: &[InternalValue],
@@ -645,29 +758,72 @@ pub(crate) fn check_list<H: BlockHash>(
     ratio: HashRatio,
 ) -> Result<()> {
     let block = block_of::<H>(rt, alloc, list, interval, ratio)?;
-    if ratio.num == 0 && block.as_slice().len() < 20_000 {
-        check_payload(rt, alloc, &block, list, interval)?;
-    }
-    iterates(rt, alloc, &block, list)?;
-    makes(rt, alloc, &block, list)?;
-    check_queries(rt, alloc, &block, queries);
     let tabled = with_table(rt, alloc, block)?;
-    check_queries(rt, alloc, &tabled, queries);
-    check_counts(rt, &tabled, list, interval, queries);
+    check_tabled(rt, alloc, &tabled, list, queries, interval);
     Ok(())
 }
 
-/// Checks each list at each of its intervals and ratios.
+/// Writes a list at an interval and a ratio, and checks its block without the table of the heads.
+fn check_without_table<H: BlockHash>(
+    rt: &impl Abort,
+    alloc: Global,
+    list: &[InternalValue],
+    queries: &[Query<'_>],
+    interval: u8,
+    ratio: HashRatio,
+) -> Result<()> {
+    let block = block_of::<H>(rt, alloc, list, interval, ratio)?;
+    check_untabled(rt, alloc, &block, list, queries, (interval, ratio))
+}
+
+/// Writes a list at an interval and a ratio, and checks its block with and without the table of the
+/// heads.
+pub(crate) fn check_list<H: BlockHash>(
+    rt: &impl Abort,
+    alloc: Global,
+    list: &[InternalValue],
+    queries: &[Query<'_>],
+    interval: u8,
+    ratio: HashRatio,
+) -> Result<()> {
+    check_without_table::<H>(rt, alloc, list, queries, interval, ratio)?;
+    check_with_table::<H>(rt, alloc, list, queries, interval, ratio)
+}
+
+/// Checks a list at an interval, at each ratio.
+fn check_ratios<H: BlockHash>(
+    rt: &impl Abort,
+    alloc: Global,
+    list: &[InternalValue],
+    queries: &[Query<'_>],
+    interval: u8,
+    ratios: &[HashRatio],
+) -> Result<()> {
+    for ratio in ratios {
+        check_list::<H>(rt, alloc, list, queries, interval, *ratio)?;
+    }
+    Ok(())
+}
+
+/// Checks a list at each of its intervals and ratios.
+fn check_intervals<H: BlockHash>(
+    rt: &impl Abort,
+    alloc: Global,
+    list: &[InternalValue],
+    many: &Many,
+) -> Result<()> {
+    assert!(rt; list.len() == many.entries);
+    let queries = queries_of(alloc, list)?;
+    for interval in many.intervals {
+        check_ratios::<H>(rt, alloc, list, &queries, *interval, many.ratios)?;
+    }
+    Ok(())
+}
+
+/// Checks each list.
 fn check_lists<H: BlockHash>(rt: &impl Abort, alloc: Global) -> Result<()> {
     for many in &MANY {
-        let list = list_of(rt, alloc, many.list)?;
-        assert!(rt; list.len() == many.entries);
-        let queries = queries_of(alloc, &list)?;
-        for interval in many.intervals {
-            for ratio in many.ratios {
-                check_list::<H>(rt, alloc, &list, &queries, *interval, *ratio)?;
-            }
-        }
+        check_intervals::<H>(rt, alloc, &list_of(rt, alloc, many.list)?, many)?;
     }
     Ok(())
 }

@@ -168,19 +168,27 @@ const SCRIPTS: [Script; 8] = [
     },
 ];
 
+/// The operation of a step. `None` for a move.
+fn op_of(alloc: Global, step: &Step<'_>) -> Result<Option<Op>> {
+    match step {
+        Step::Next => Ok(Some(Op::Next)),
+        Step::NextBack => Ok(Some(Op::NextBack)),
+        Step::Seek(key) => Ok(Some(Op::Seek(Slice::new(alloc, key)?))),
+        Step::SeekUpper(key) => Ok(Some(Op::SeekUpper(Slice::new(alloc, key)?))),
+        Step::SeekExclusive(key) => Ok(Some(Op::SeekExclusive(Slice::new(alloc, key)?))),
+        Step::SeekUpperExclusive(key) => Ok(Some(Op::SeekUpperExclusive(Slice::new(alloc, key)?))),
+        Step::Move(_, _) => Ok(None),
+    }
+}
+
 /// The operations of some lines up to a move.
 fn ops_of(alloc: Global, lines: &[Line<'_>]) -> Result<Vec<Op>> {
     let mut ops = Vec::new(alloc);
     for (step, _) in lines {
-        ops.push(match step {
-            Step::Next => Op::Next,
-            Step::NextBack => Op::NextBack,
-            Step::Seek(key) => Op::Seek(Slice::new(alloc, key)?),
-            Step::SeekUpper(key) => Op::SeekUpper(Slice::new(alloc, key)?),
-            Step::SeekExclusive(key) => Op::SeekExclusive(Slice::new(alloc, key)?),
-            Step::SeekUpperExclusive(key) => Op::SeekUpperExclusive(Slice::new(alloc, key)?),
-            Step::Move(_, _) => return Ok(ops),
-        })?;
+        match op_of(alloc, step)? {
+            Some(op) => ops.push(op)?,
+            None => break,
+        }
     }
     Ok(ops)
 }
@@ -270,6 +278,16 @@ fn perform_all(
     Ok(all)
 }
 
+/// Returns whether a call over a list returned its expected result.
+fn is_wanted(list: &[InternalValue], wanted: &Wanted, answer: &Answer<InternalValue>) -> bool {
+    match (wanted, answer) {
+        (Wanted::Found(wanted), Answer::Found(found)) => wanted == found,
+        (Wanted::At(at), Answer::Item(Some(read))) => is_same(list.get(*at), Some(read)),
+        (Wanted::End, Answer::Item(None)) => true,
+        _ => false,
+    }
+}
+
 /// Checks that calls over a list returned the expected results.
 fn compare(
     rt: &impl Abort,
@@ -278,19 +296,12 @@ fn compare(
     found: &[Answer<InternalValue>],
 ) {
     for ((step, wanted), answer) in lines.iter().zip(found.iter()) {
-        let is_wanted = match (wanted, answer) {
-            (Wanted::Found(wanted), Answer::Found(found)) => wanted == found,
-            (Wanted::At(at), Answer::Item(Some(read))) => is_same(list.get(*at), Some(read)),
-            (Wanted::End, Answer::Item(None)) => true,
-            _ => false,
-        };
-        assert!(rt; is_wanted, "{step:?}: {wanted:?}");
+        assert!(rt; is_wanted(list, wanted, answer), "{step:?}: {wanted:?}");
     }
 }
 
-/// Makes calls over a block of a list at an interval, by an iterator, by `walk`, and by an iterator
-/// that owns a copy of the block.
-fn check_block(
+/// Makes calls over the block of a list at an interval, by an iterator.
+fn check_calls(
     rt: &impl Abort,
     alloc: Global,
     block: &DataBlock<Poly31>,
@@ -303,20 +314,91 @@ fn check_block(
     let found = perform_all(rt, alloc, block, interval, lines)?;
     assert!(rt; found.len() == lines.len());
     compare(rt, list, lines, &found);
+    Ok(())
+}
+
+/// Makes calls over the block of a list by `walk`. Returns their number.
+fn check_walk(
+    rt: &impl Abort,
+    alloc: Global,
+    block: &DataBlock<Poly31>,
+    list: &[InternalValue],
+    lines: &[Line<'_>],
+) -> Result<usize> {
     let ops = ops_of(alloc, lines)?;
     let found = walk(alloc, block, &ops)?;
     assert!(rt; found.len() == ops.len());
     compare(rt, list, lines, &found);
+    Ok(ops.len())
+}
+
+/// The steps of some lines.
+fn steps_of<'a>(alloc: Global, lines: &[Line<'a>]) -> Result<Vec<Step<'a>>> {
     let mut steps = Vec::new(alloc);
     for (step, _) in lines {
         steps.push(*step)?;
     }
-    for by_item in [false, true] {
-        let found = perform_owned(rt, alloc, block, by_item, &steps)?;
-        assert!(rt; found.len() == ops.len());
-        compare(rt, list, lines, &found);
-    }
+    Ok(steps)
+}
+
+/// Makes calls over the block of a list, up to a count, by an iterator that owns a copy of it.
+fn check_owned(
+    rt: &impl Abort,
+    alloc: Global,
+    block: &DataBlock<Poly31>,
+    list: &[InternalValue],
+    lines: &[Line<'_>],
+    count: usize,
+    by_item: bool,
+) -> Result<()> {
+    let steps = steps_of(alloc, lines)?;
+    let found = perform_owned(rt, alloc, block, by_item, &steps)?;
+    assert!(rt; found.len() == count);
+    compare(rt, list, lines, &found);
     Ok(())
+}
+
+/// Makes calls over the block of a list at an interval, by an iterator, by `walk`, and by an iterator
+/// that owns a copy of the block.
+fn check_block(
+    rt: &impl Abort,
+    alloc: Global,
+    block: &DataBlock<Poly31>,
+    list: &[InternalValue],
+    interval: u8,
+    lines: &[Line<'_>],
+) -> Result<()>
+    requires { block.now.interval ≡ interval }
+{
+    check_calls(rt, alloc, block, list, interval, lines)?;
+    let count = check_walk(rt, alloc, block, list, lines)?;
+    check_owned(rt, alloc, block, list, lines, count, false)?;
+    check_owned(rt, alloc, block, list, lines, count, true)
+}
+
+/// Makes calls over the block of a list at an interval, without the table of its heads.
+fn check_without_table(
+    rt: &impl Abort,
+    alloc: Global,
+    list: &[InternalValue],
+    interval: u8,
+    lines: &[Line<'_>],
+) -> Result<()> {
+    let block = block_of::<Poly31>(rt, alloc, list, interval, NO_BUCKETS)?;
+    check_block(rt, alloc, &block, list, interval, lines)
+}
+
+/// Makes calls over the block of a list at an interval, with the table of its heads.
+fn check_with_table(
+    rt: &impl Abort,
+    alloc: Global,
+    list: &[InternalValue],
+    interval: u8,
+    lines: &[Line<'_>],
+) -> Result<()> {
+    let block = block_of::<Poly31>(rt, alloc, list, interval, NO_BUCKETS)?;
+    let block = with_table(rt, alloc, block)?;
+    check_block(rt, alloc, &block, list, interval, lines)
 }
 
 /// Makes calls over the block of a list at an interval, with and without the table of its heads.
@@ -327,10 +409,8 @@ fn check_lines(
     interval: u8,
     lines: &[Line<'_>],
 ) -> Result<()> {
-    let block = block_of::<Poly31>(rt, alloc, list, interval, NO_BUCKETS)?;
-    check_block(rt, alloc, &block, list, interval, lines)?;
-    let block = with_table(rt, alloc, block)?;
-    check_block(rt, alloc, &block, list, interval, lines)
+    check_without_table(rt, alloc, list, interval, lines)?;
+    check_with_table(rt, alloc, list, interval, lines)
 }
 
 /// Each call of each script returns its expected result.
@@ -358,7 +438,8 @@ impl Window<'_> {
         let mut count = 0usize;
         for item in self.list {
             let key = item.key().user_key().as_slice();
-            if key < needle || with_equal && key == needle {
+            let (is_below, is_equal) = (key < needle, key == needle);
+            if is_below || with_equal && is_equal {
                 count = count.saturating_add(1);
             }
         }
@@ -391,25 +472,58 @@ impl Window<'_> {
         Wanted::At(self.hi)
     }
 
+    /// Moves the front to the first key not below a needle: whether it is the needle.
+    fn seek(&mut self, needle: &[u8]) -> Wanted {
+        self.lo = self.count(needle, false);
+        Wanted::Found(self.has_key(self.lo, needle))
+    }
+
+    /// Moves the back after the last key not above a needle: whether it is the needle.
+    fn seek_upper(&mut self, needle: &[u8]) -> Wanted {
+        self.hi = self.count(needle, true);
+        Wanted::Found(self.has_key(self.hi.wrapping_sub(1), needle))
+    }
+
+    /// Moves the front after the last key not above a needle: whether an entry is left.
+    fn seek_exclusive(&mut self, needle: &[u8]) -> Wanted {
+        self.lo = self.count(needle, true);
+        Wanted::Found(self.lo < self.hi)
+    }
+
+    /// Moves the back to the first key not below a needle: whether an entry is left.
+    fn seek_upper_exclusive(&mut self, needle: &[u8]) -> Wanted {
+        self.hi = self.count(needle, false);
+        Wanted::Found(self.lo < self.hi)
+    }
+
     /// Makes a call.
     fn perform(&mut self, step: &Step<'_>) -> Wanted {
         match step {
-            Step::Next => return self.next(),
-            Step::NextBack => return self.next_back(),
-            Step::Seek(key) => {
-                self.lo = self.count(key, false);
-                return Wanted::Found(self.has_key(self.lo, key));
-            }
-            Step::SeekUpper(key) => {
-                self.hi = self.count(key, true);
-                return Wanted::Found(self.has_key(self.hi.wrapping_sub(1), key));
-            }
-            Step::SeekExclusive(key) => self.lo = self.count(key, true),
-            Step::SeekUpperExclusive(key) => self.hi = self.count(key, false),
-            Step::Move(_, _) => {}
+            Step::Next => self.next(),
+            Step::NextBack => self.next_back(),
+            Step::Seek(key) => self.seek(key),
+            Step::SeekUpper(key) => self.seek_upper(key),
+            Step::SeekExclusive(key) => self.seek_exclusive(key),
+            Step::SeekUpperExclusive(key) => self.seek_upper_exclusive(key),
+            Step::Move(_, _) => Wanted::Found(self.lo < self.hi),
         }
-        Wanted::Found(self.lo < self.hi)
     }
+}
+
+/// Appends an entry: every fourth a tombstone, the others with values of up to three bytes.
+fn push_random(
+    rt: &impl Abort,
+    list: &mut Vec<InternalValue>,
+    random: &mut Random,
+    key: &[u8],
+    seqno: u64,
+) -> Result<()> {
+    if random.below(4) == 0 {
+        return push(rt, list, key, b"", seqno, ValueType::Tombstone);
+    }
+    let length = random.below(4) as usize;
+    let value = &b"xyz".as_slice()[..length];
+    push(rt, list, key, value, seqno, ValueType::Value)
 }
 
 /// A random list of `count` entries: some keys in several versions, some numbers of keys left out,
@@ -427,25 +541,33 @@ fn random_list(
     for place in 0..count {
         number = number.wrapping_add(random.below(3));
         let key = key_of(alloc, number)?;
-        let seqno = (count - place) * 70;
-        if random.below(4) == 0 {
-            push(rt, &mut list, &key, b"", seqno, ValueType::Tombstone)?;
-        } else {
-            let length = random.below(4) as usize;
-            push(
-                rt,
-                &mut list,
-                &key,
-                &b"xyz".as_slice()[..length],
-                seqno,
-                ValueType::Value,
-            )?;
-        }
+        push_random(rt, &mut list, random, &key, (count - place) * 70)?;
     }
     Ok(list)
 }
 
-/// 200 random calls with some keys, steps as often as seeks, and the results of the plain window.
+/// The call of a kind with a key.
+fn step_of(kind: u64, key: &[u8]) -> Step<'_> {
+    match kind {
+        0 | 1 => Step::Next,
+        2 | 3 => Step::NextBack,
+        4 => Step::Seek(key),
+        5 => Step::SeekUpper(key),
+        6 => Step::SeekExclusive(key),
+        _ => Step::SeekUpperExclusive(key),
+    }
+}
+
+/// A random call with some keys, steps as often as seeks.
+fn random_step<'a>(random: &mut Random, keys: &'a [Vec<u8>]) -> Step<'a>
+    requires { 1 ≤ length keys.now }
+{
+    let kind = random.below(8);
+    let key = &keys[random.below(keys.len() as u64) as usize];
+    step_of(kind, key.as_slice())
+}
+
+/// 200 random calls with some keys, and the results of the plain window.
 fn random_lines<'a>(
     rt: &impl Abort,
     alloc: Global,
@@ -458,16 +580,7 @@ fn random_lines<'a>(
     let mut window = Window { list, lo: 0, hi };
     let mut lines = Vec::new(alloc);
     for _ in 0..200 {
-        let kind = random.below(8);
-        let key = keys[random.below(keys.len() as u64) as usize].as_slice();
-        let step = match kind {
-            0 | 1 => Step::Next,
-            2 | 3 => Step::NextBack,
-            4 => Step::Seek(key),
-            5 => Step::SeekUpper(key),
-            6 => Step::SeekExclusive(key),
-            _ => Step::SeekUpperExclusive(key),
-        };
+        let step = random_step(random, keys);
         lines.push((step, window.perform(&step)))?;
     }
     Ok(lines)
@@ -482,20 +595,40 @@ fn keys_of(alloc: Global, count: u64) -> Result<Vec<Vec<u8>>> {
     Ok(keys)
 }
 
+/// Makes 200 random calls over the block of a list at an interval, with the keys of its entries and
+/// others.
+fn check_random_lines(
+    rt: &impl Abort,
+    alloc: Global,
+    random: &mut Random,
+    list: &[InternalValue],
+    interval: u8,
+) -> Result<()> {
+    let keys = keys_of(alloc, (list.len() as u64).saturating_add(4))?;
+    let lines = random_lines(rt, alloc, random, list, &keys)?;
+    check_lines(rt, alloc, list, interval, &lines)
+}
+
+/// The intervals up to 16, and the longest.
+const INTERVALS: [u8; 17] = [1, 2, 3, 4, 5, 6, 7, 8, 9, 10, 11, 12, 13, 14, 15, 16, 255];
+
+/// Makes random calls over a random list of 1 to 40 entries at each interval.
+fn check_random_lists(rt: &impl Abort, alloc: Global, random: &mut Random) -> Result<()> {
+    for interval in &INTERVALS {
+        let count = 1 + random.below(40);
+        let list = random_list(rt, alloc, random, count)?;
+        check_random_lines(rt, alloc, random, &list, *interval)?;
+    }
+    Ok(())
+}
+
 /// Three times 200 random calls over random lists of 1 to 40 entries return what the plain window
 /// does, at each interval up to 16, and at 255.
 #[test]
 fn random_calls_return_what_the_window_does(rt: HostRuntime) -> Tested {
-    let alloc = rt.alloc();
     let mut random = Random::new(1);
     for _ in 0..3 {
-        for interval in [1, 2, 3, 4, 5, 6, 7, 8, 9, 10, 11, 12, 13, 14, 15, 16, 255] {
-            let count = 1 + random.below(40);
-            let list = random_list(&rt, alloc, &mut random, count)?;
-            let keys = keys_of(alloc, count + 4)?;
-            let lines = random_lines(&rt, alloc, &mut random, &list, &keys)?;
-            check_lines(&rt, alloc, &list, interval, &lines)?;
-        }
+        check_random_lists(&rt, rt.alloc(), &mut random)?;
     }
     Ok(())
 }
@@ -506,27 +639,31 @@ fn lines_back(alloc: Global, count: usize) -> Result<Vec<Line<'static>>> {
     for place in 0..count {
         lines.push((Step::NextBack, Wanted::At(count - 1 - place)))?;
     }
-    lines.push((Step::NextBack, Wanted::End))?;
-    lines.push((Step::Next, Wanted::End))?;
+    lines.extend_from_slice(&[(Step::NextBack, Wanted::End), (Step::Next, Wanted::End)])?;
     Ok(lines)
+}
+
+/// Checks all entries of a list from the front, and from the back, at several intervals.
+fn check_backwards(rt: &impl Abort, alloc: Global, list: &[InternalValue]) -> Result<()> {
+    let lines = lines_back(alloc, list.len())?;
+    for interval in &[1, 2, 3, 16, 255] {
+        check_list::<Poly31>(rt, alloc, list, &[], *interval, NO_BUCKETS)?;
+        check_lines(rt, alloc, list, *interval, &lines)?;
+    }
+    Ok(())
 }
 
 /// All entries of a list from the front, and from the back, at several intervals.
 #[test]
 fn all_from_the_back_are_those_from_the_front(rt: HostRuntime) -> Tested {
     let alloc = rt.alloc();
-    let mut random = Random::new(7);
-    let lists = [
-        random_list(&rt, alloc, &mut random, 40)?,
-        list_of(&rt, alloc, LETTERS)?,
-        list_of(&rt, alloc, List::Rows(&TWO))?,
-    ];
-    for list in &lists {
-        let lines = lines_back(alloc, list.len())?;
-        for interval in [1, 2, 3, 16, 255] {
-            check_list::<Poly31>(&rt, alloc, list, &[], interval, NO_BUCKETS)?;
-            check_lines(&rt, alloc, list, interval, &lines)?;
-        }
+    check_backwards(
+        &rt,
+        alloc,
+        &random_list(&rt, alloc, &mut Random::new(7), 40)?,
+    )?;
+    for list in &[LETTERS, List::Rows(&TWO)] {
+        check_backwards(&rt, alloc, &list_of(&rt, alloc, *list)?)?;
     }
     Ok(())
 }

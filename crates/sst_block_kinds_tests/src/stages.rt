@@ -59,23 +59,35 @@ fn little(bytes: &[u8], at: usize, count: usize) -> usize {
     number
 }
 
-/// Returns the key at an offset, in two parts, and the offset after it. The first part of a head's
-/// key is empty; the first part of another item's key is the longest that it shares with its head.
-fn key_at<'a>(
-    body: &'a [u8],
-    at: usize,
-    head: Option<&'a [u8]>,
-) -> Option<(&'a [u8], &'a [u8], usize)> {
-    let Some(head) = head else {
-        let (key, after) = counted(body, at, 65536)?;
-        return Some((b"", key, after));
-    };
+/// A key in two parts, and the offset after it.
+type Key<'a> = (&'a [u8], &'a [u8], usize);
+
+/// Returns the truncated key at an offset, behind a head of this key: its first part is the longest
+/// that it shares with the head.
+fn truncated_at<'a>(body: &'a [u8], at: usize, head: &'a [u8]) -> Option<Key<'a>> {
     let (shared, at) = number(body, at, 65536)?;
     let (rest, after) = counted(body, at, 65536)?;
     let prefix = head.get(..shared as usize)?;
     let others = head.get(shared as usize..)?;
-    let is_key = plain_shared(others, rest) == 0 && prefix.len().saturating_add(rest.len()) < 65536;
-    is_key.then_some((prefix, rest, after))
+    let is_longest = plain_shared(others, rest) == 0;
+    let is_short = prefix.len().saturating_add(rest.len()) < 65536;
+    if is_longest && is_short {
+        Some((prefix, rest, after))
+    } else {
+        None
+    }
+}
+
+/// Returns the key at an offset, in two parts, and the offset after it. The first part of a head's
+/// key is empty.
+fn key_at<'a>(body: &'a [u8], at: usize, head: Option<&'a [u8]>) -> Option<Key<'a>> {
+    match head {
+        Some(head) => truncated_at(body, at, head),
+        None => {
+            let (key, after) = counted(body, at, 65536)?;
+            Some((b"", key, after))
+        }
+    }
 }
 
 /// Returns the entry at an offset.
@@ -202,10 +214,9 @@ impl<'a> Parts<'a> {
         let fixed = self
             .payload
             .get(self.end.wrapping_add(18)..self.end.wrapping_add(27));
-        heads >= 1
-            && heads == self.heads
-            && matches!(self.width, 2 | 4)
-            && fixed == Some([1, 0, 0, 0, 0, 0, 0, 0, 0].as_slice())
+        let is_fixed = fixed == Some([1, 0, 0, 0, 0, 0, 0, 0, 0].as_slice());
+        let has_heads = heads >= 1 && heads == self.heads;
+        is_fixed && has_heads && matches!(self.width, 2 | 4)
     }
 
     /// Whether the binary index and the buckets lie between the end marker and the trailer.
