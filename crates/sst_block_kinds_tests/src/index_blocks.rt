@@ -119,10 +119,11 @@ fn answers_of(
     ops: &[IndexOp],
 ) -> Result<Vec<Answer<KeyedBlockHandle>>> {
     if has_table {
-        walk_clone(alloc, &tabled_of(rt, alloc, list, interval)?, ops)
-    } else {
-        walk(alloc, &block_of(rt, alloc, list, interval)?, ops)
+        return walk_clone(alloc, &tabled_of(rt, alloc, list, interval)?, ops);
     }
+    let block = block_of(rt, alloc, list, interval)?;
+    assert!(rt; block.heads().is_none());
+    walk(alloc, &block, ops)
 }
 
 /// Whether a block is this payload of three handles.
