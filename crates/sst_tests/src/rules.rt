@@ -108,7 +108,7 @@ pub const MAKERS: [&str; 28] = [
 
 /// A source, one of [`MAKERS`], and how often it occurs. Where none is given it occurs
 /// nowhere.
-pub const MADE: [(&str, &str, usize); 46] = [
+pub const MADE: [(&str, &str, usize); 48] = [
     // The one reader that counts is made where intervals are opened.
     (
         "sst_block_core/src/table/block/form_reader.rt",
@@ -183,6 +183,11 @@ pub const MADE: [(&str, &str, usize); 46] = [
     ),
     (
         "sst_block_kinds/src/table/data_block/block_ref.rt",
+        ". iter (",
+        1,
+    ),
+    (
+        "sst_block_kinds/src/table/data_block/block_ref.rt",
         "EntryViews : : new (",
         1,
     ),
@@ -211,11 +216,6 @@ pub const MADE: [(&str, &str, usize); 46] = [
         "sst_block_kinds/src/table/data_block/entry_view.rt",
         "bytes_of (",
         5,
-    ),
-    (
-        "sst_block_kinds/src/table/data_block/entry_view.rt",
-        ". iter (",
-        1,
     ),
     // A block that owns its bytes has the iterators of the block over them.
     ("sst_block_kinds/src/table/data_block/mod.rt", ". iter (", 1),
@@ -311,6 +311,12 @@ pub const MADE: [(&str, &str, usize); 46] = [
     // that checks, and one of a table, counts what it examines for nobody. A table also opens the
     // filter.
     ("sstable_blocks/src/run/read.rt", ". iter (", 1),
+    ("sstable_blocks/src/run/run_scan.rt", ". iter (", 1),
+    (
+        "sstable_blocks/src/run/run_scan.rt",
+        "EntryViews : : new (",
+        1,
+    ),
     ("sstable_blocks/src/run/checked.rt", "Steps : : new", 2),
     ("sstable_blocks/src/run/round_trip.rt", "Steps : : new", 1),
     ("sstable_blocks/src/run/table.rt", ". data (", 1),
