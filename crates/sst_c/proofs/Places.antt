@@ -1,5 +1,5 @@
 -- Places in a run, by those in the payload of one of its blocks.
-use Rattle.std.proofs.Common.{◌≡◌, ℕ, zero, suc, ◌+◌, ◌-◌, ◌≤◌, List, [], ◌∷◌, ◌++◌, length, take, drop, refl, arith, sym, ◌∙◌, ap}
+use Rattle.std.proofs.Common.{◌≡◌, ℕ, zero, suc, ◌+◌, ◌-◌, ◌≤◌, ◌<◌, Option, Some, None, IfSome, List, [], ◌∷◌, ◌++◌, length, take, drop, refl, arith, sym, ◌∙◌, ap}
 use Rattle.std.proofs.Math.Nat.{min-le_left}
 use Rattle.std.proofs.lemmas.List.{drop-drop, drop-take, length-take}
 use Rattle.sst_base.specs.BlockHandle.{HandleParts}
@@ -58,3 +58,19 @@ frame_payload bytes h range =
     let header = range.header in
     let size : h.offset + h.size - (h.offset + 33) ≡ h.size - 33 = omega (arith, header) in
     ap (λ n. take n (drop (h.offset + 33) bytes)) size
+
+-- and it ends within the bytes
+pub payload_end : (bytes : List ℕ) (h : HandleParts) → IsFrameRange bytes h → h.offset + 33 + length (payload_in bytes h) ≤ length bytes
+unfolding payload_in
+payload_end bytes h range =
+    let rest = drop (h.offset + 33) bytes in
+    let size = length-take (h.size - 33) rest in
+    let least = min-le_left (h.size - 33) (length rest) in
+    let inside = range.inside in
+    let header = range.header in
+    omega (arith, size, least, inside, header)
+
+-- a frame has some bytes
+pub some_frame : (bytes : List ℕ) (f : Option HandleParts) → IfSome f (IsFrameRange bytes) → IfSome f (λ h. 0 < h.size)
+some_frame bytes None range = tt
+some_frame bytes (Some h) range = let header = range.header in omega (arith, header)

@@ -1,12 +1,11 @@
 -- Filters in a caller's buffers.
 use Rattle.std.specs.Prelude.{◌≡◌, ℕ, ◌*◌, ◌≤◌, List, Result, Ok, Err}
-use Rattle.sst_base.specs.Hashes.{poly31}
 use Rattle.sst_base.specs.declared.error.Error.{Error}
 use Rattle.sst_base.specs.declared.error.Error.TheVariants.{Memory}
 use Rattle.sstable_blocks.specs.Filter.{Filter, filter_payload, IsFilterOf, MayContain}
 use Rattle.sst_c.specs.Given.{AreKept, IsWritten}
 use Rattle.sst_c.specs.declared.codes.Status.{Status}
-use Rattle.sst_c.specs.declared.codes.Status.TheVariants.{Done, Failed, NotFound, BadArgument, NoRoom}
+use Rattle.sst_c.specs.declared.codes.Status.TheVariants.{Done, Failed, NotFound, BadArgument}
 
 -- what a filter that is read from bytes says of a hash, or the error that refuses the bytes
 abbrev pub IsFilterAnswer : Result Filter Error → ℕ → Status → Type 0

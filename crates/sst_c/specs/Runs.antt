@@ -1,8 +1,7 @@
 -- Runs in a caller's buffers.
-use Rattle.std.specs.Prelude.{◌≡◌, ◌⊎◌, ℕ, ◌==◌, ◌≤◌, if◌then◌else◌, List, length, Option, Some, None, Err}
+use Rattle.std.specs.Prelude.{◌≡◌, ◌⊎◌, ℕ, ◌==◌, ◌≤◌, if◌then◌else◌, List, length, Some, None, Err}
 use Rattle.sst_base.specs.Entry.{Entry}
 use Rattle.sst_base.specs.Hashes.{poly31}
-use Rattle.sst_base.specs.declared.config.HashRatio.{HashRatio}
 use Rattle.sst_base.specs.declared.error.Error.{Error}
 use Rattle.sst_base.specs.declared.error.Error.TheVariants.{TooLong, Memory}
 use Rattle.sst_block_core.specs.Entries.{entries}
@@ -16,7 +15,7 @@ use Rattle.sstable_blocks.specs.declared.run.RunConfig.{RunConfig}
 use Rattle.sstable_blocks.specs.declared.run.RunHandles.{RunHandles}
 use Rattle.sst_c.specs.Given.{AreGiven, AreKept, IsWritten}
 use Rattle.sst_c.specs.declared.codes.Status.{Status}
-use Rattle.sst_c.specs.declared.codes.Status.TheVariants.{Done, Failed, NotFound, BadArgument, NoRoom}
+use Rattle.sst_c.specs.declared.codes.Status.TheVariants.{Done, Failed, BadArgument}
 use Rattle.sst_c.specs.declared.entries.SstEntry.{SstEntry}
 use Rattle.sst_c.specs.declared.run.SstRunConfig.{SstRunConfig}
 use Rattle.sst_c.specs.declared.run.SstRunHandles.{SstRunHandles}

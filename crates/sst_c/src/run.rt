@@ -24,11 +24,11 @@ use crate::entries::{SstEntry, items_of};
 use crate::output::write_bytes;
 use sst_base::table::block::header::HEADER_LEN;
 use sst_base::table::block::{BlockHandle, BlockOffset};
-use sst_base::{Error, HashRatio, InternalValue, Poly31, Result, SeqNo, Slice, Steps};
+use sst_base::{Error, HashRatio, InternalValue, Poly31, SeqNo, Slice, Steps};
 use sst_block_kinds::DataBlock;
 use sst_block_kinds::table::data_block::{DataBlockParsedItem, EntryParts};
 use sstable_blocks::run::RunRef;
-use sstable_blocks::run::laws::{layout_is_sound, sound_opens};
+use sstable_blocks::run::laws::sound_opens;
 use sstable_blocks::{RunConfig, RunHandles, cuts_fit, write_run};
 use std::alloc::Global;
 
@@ -130,17 +130,29 @@ pub extern "C" fn sst_run_check(
     check(alloc, bytes, &run_handles(handles), summary).code()
 }
 
-// The place of an entry in a run, by its place in the payload of a block that begins at an offset.
-fn place_behind(start: usize, place: &SstPlace) -> SstPlace
-    requires prefix { start + place.now.prefix_offset < 2 ^ 64 }
-    requires key { start + place.now.key_offset < 2 ^ 64 }
-    requires value { start + place.now.value_offset < 2 ^ 64 }
+// The payload of a frame.
+#[tactic(auto, using(crate::proofs::Places::frame_payload))]
+fn payload_of<'a>(bytes: &'a [u8], handle: &BlockHandle) -> &'a [u8]
+    requires { IsFrameRange bytes.now handle.now }
+    ensures { result.now ≡ payload_in bytes.now handle.now }
+{
+    let size = handle.size();
+    let start = *handle.offset() as usize;
+    &bytes[start + HEADER_LEN..start + size as usize]
+}
+
+// The place of an entry in a run, by its place in the payload of the block in a frame.
+fn place_behind(handle: &BlockHandle, place: &SstPlace) -> SstPlace
+    requires prefix { handle.now.offset + 33 + place.now.prefix_offset < 2 ^ 64 }
+    requires key { handle.now.offset + 33 + place.now.key_offset < 2 ^ 64 }
+    requires value { handle.now.offset + 33 + place.now.value_offset < 2 ^ 64 }
     ensures { result ≡ record place.now {
-      prefix_offset = start + place.now.prefix_offset;
-      key_offset = start + place.now.key_offset;
-      value_offset = start + place.now.value_offset;
+      prefix_offset = handle.now.offset + 33 + place.now.prefix_offset;
+      key_offset = handle.now.offset + 33 + place.now.key_offset;
+      value_offset = handle.now.offset + 33 + place.now.value_offset;
     } }
 {
+    let start = *handle.offset() as usize + HEADER_LEN;
     SstPlace {
         seqno: place.seqno,
         prefix_offset: start + place.prefix_offset,
@@ -154,16 +166,16 @@ fn place_behind(start: usize, place: &SstPlace) -> SstPlace
 }
 
 // Where an item of the block in a frame is in a run.
-#[tactic(auto, using(crate::proofs::Places::frame_payload, crate::proofs::Places::placed))]
+#[tactic(auto, using(crate::proofs::Places::payload_end))]
 fn place_in(bytes: &[u8], handle: &BlockHandle, item: &DataBlockParsedItem) -> SstPlace
     requires range { IsFrameRange bytes.now handle.now }
     requires item { IsParsedEntry (payload_in bytes.now handle.now) item.now }
     ensures { IsPlaceOf bytes.now result (entry_of (payload_in bytes.now handle.now) item.now) }
 {
-    let size = handle.size();
-    let start = *handle.offset() as usize;
-    let payload = &bytes[start + HEADER_LEN..start + size as usize];
-    place_behind(start + HEADER_LEN, &place_of(payload, item))
+    // The proof needs the bound on the length of the bytes.
+    let _len = bytes.len();
+    let place = place_of(payload_of(bytes, handle), item);
+    place_behind(handle, &place)
 }
 
 // Where the first entry of a key below a sequence number is.
@@ -258,17 +270,18 @@ fn checked_items<'a>(
         return Err(Status::BadArgument);
     }
     let items = items_of(alloc, entries)?;
-    if !cuts_fit(items.len(), cuts) {
+    let parts = items.as_slice();
+    if !cuts_fit(parts.len(), cuts) {
         return Err(Status::BadArgument);
     }
-    if !DataBlock::<Poly31>::are_parts_ordered(items.as_slice()) {
+    if !DataBlock::<Poly31>::are_parts_ordered(parts) {
         return Err(Status::BadArgument);
     }
     Ok(items)
 }
 
 // Makes an entry, with copies of its key and its value.
-fn owned(alloc: Global, item: &EntryParts<'_>) -> Result<InternalValue>
+fn owned(alloc: Global, item: &EntryParts<'_>) -> Result<InternalValue, Error>
     ensures ok { IfOk result (λ entry. entry ≡ item.now) }
     ensures memory { IsOkUnless result Error.Memory }
 {
@@ -278,7 +291,7 @@ fn owned(alloc: Global, item: &EntryParts<'_>) -> Result<InternalValue>
 }
 
 // Makes entries.
-fn all_owned(alloc: Global, items: &[EntryParts<'_>]) -> Result<Vec<InternalValue>>
+fn all_owned(alloc: Global, items: &[EntryParts<'_>]) -> Result<Vec<InternalValue>, Error>
     ensures ok { IfOk result (λ all. all.items ≡ items.now) }
     ensures memory { IsOkUnless result Error.Memory }
 {
@@ -301,7 +314,7 @@ fn run_of(
     items: &[InternalValue],
     cuts: &[usize],
     config: RunConfig,
-) -> Result<(Vec<u8>, RunHandles)>
+) -> Result<(Vec<u8>, RunHandles), Error>
     requires { (given : List SstEntry) × CanWrite given cuts.now config items.now }
     ensures ok { IfOk result
         (λ r. IsLayout (run_form config) (blocks_of cuts.now items.now) r.0.items r.1) }
@@ -309,7 +322,6 @@ fn run_of(
     ensures cause { IfErr result (λ e. (e ≡ Memory) ⊎ ((e ≡ TooLong)
         × (RunFits (run_form config) (blocks_of cuts.now items.now) → ⊥))) }
 {
-    layout_is_sound();
     sound_opens();
     let mut bytes = Vec::new(alloc);
     match write_run::<Poly31, Vec<u8>>(alloc, &mut bytes, items, cuts, config) {

@@ -1,4 +1,4 @@
-use Rattle.std.proofs.Common.{◌≡◌, ◌∙◌, ℕ, List, [], ◌∷◌, ◌++◌, Bor, map, take, ap, subst, sym}
+use Rattle.std.proofs.Common.{◌∙◌, ℕ, List, [], ◌∷◌, ◌++◌, Bor, map, take, ap, subst, sym}
 use Rattle.std.proofs.lemmas.List.{map-append, take_more}
 use Rattle.sst_base.specs.Hashes.{poly31}
 use Rattle.sstable_blocks.specs.Filter.{IsFilterOf}

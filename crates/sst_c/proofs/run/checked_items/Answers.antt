@@ -1,4 +1,4 @@
-use Rattle.std.proofs.Common.{◌≡◌, List, inl, inr, refl, sym, ◌∙◌, subst, ap, length}
+use Rattle.std.proofs.Common.{List, inr, refl, sym, ◌∙◌, subst, ap, length}
 use Rattle.sst_base.specs.Entry.{Entry}
 use Rattle.sst_block_core.specs.Entries.{entries}
 use Rattle.sst_block_core.specs.Kind.{IsOrdered}
@@ -12,7 +12,7 @@ returns-then-not-are_parts_ordered-clause-refused c = inr (
   λ items can.
       (let made = c.in_ok-items.ensures.ok in
       let same = same_entries items c.in_ok-items.items.items (can.are.1 ∙ sym made.1) in
-      let yes = c.are_parts_ordered.ensures.1 (subst (IsOrdered entries) (same ∙ sym c.as_slice.ensures.value) can.ordered) in
+      let yes = c.are_parts_ordered.ensures.1 (subst (IsOrdered entries) (same ∙ sym c.as_slice-parts.ensures.value) can.ordered) in
       let no = c.if-not-are_parts_ordered.true in
       cc),
 )
@@ -23,7 +23,7 @@ returns-then-not-cuts_fit-clause-refused c = inr (
   λ items can.
       (let made = c.in_ok-items.ensures.ok in
       let same = same_entries items c.in_ok-items.items.items (can.are.1 ∙ sym made.1) in
-      let yes = c.cuts_fit.ensures.1 (subst (λ n. CutsFit 0 n c.args.cuts.now) (ap (λ (xs : List Entry). length xs) same ∙ sym c.len.ensures) can.cut) in
+      let yes = c.cuts_fit.ensures.1 (subst (λ n. CutsFit 0 n c.args.cuts.now) (ap (λ (xs : List Entry). length xs) (same ∙ sym c.as_slice-parts.ensures.value)) can.cut) in
       let no = c.if-not-cuts_fit.true in
       cc),
 )

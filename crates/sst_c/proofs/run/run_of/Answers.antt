@@ -1,0 +1,10 @@
+use Rattle.sst_base.specs.Hashes.{poly31}
+use Rattle.sstable_blocks.specs.RunReading.{hashes}
+use Rattle.sst_c.proofs.Places.{some_frame}
+use Rattle.sst_c.proofs.run.run_of.Goals as goal
+
+pub returns-in-Ok-clause-filter : goal.returns-in-Ok-clause-filter
+returns-in-Ok-clause-filter c =
+    let s = c.in-Ok.ensures.sound in
+    let o = c.sound_opens.ensures (hashes (poly31 64) (poly31 128)) _ s.0 c.in-Ok.handles s.1 in
+    some_frame s.0 c.in-Ok.handles.filter o.filter_range
