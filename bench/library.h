@@ -75,8 +75,12 @@ uint64_t sst_table_merge(const uint8_t* entries, size_t entries_len, size_t coun
 uint64_t sst_trusted_merge(const uint8_t* entries, size_t entries_len, size_t count,
                            size_t per_block, uint8_t interval, uint32_t num, uint32_t den,
                            uint32_t bits, size_t tables, uint64_t times);
-uint64_t sst_views_walk(const uint8_t* entries, size_t entries_len, size_t count, uint8_t interval,
-                        uint32_t num, uint32_t den, uint64_t times);
+uint64_t sst_blocks_walk(const uint8_t* entries, size_t entries_len, size_t count,
+                         size_t per_block, uint8_t interval, uint32_t num, uint32_t den,
+                         uint32_t made, uint64_t times);
+uint64_t sst_blocks_check(const uint8_t* entries, size_t entries_len, size_t count,
+                          size_t per_block, uint8_t interval, uint32_t num, uint32_t den,
+                          uint64_t times);
 uint64_t sst_views_find(const uint8_t* entries, size_t entries_len, size_t count, size_t per_block,
                         uint8_t interval, uint32_t num, uint32_t den, uint32_t bits,
                         uint64_t times, const uint8_t* needles, size_t needles_len,

@@ -40,19 +40,7 @@ int main() {
   PinToCore(-1);
   const Entries entries(kCount, 16, 32);
   const std::string bytes = entries.Bytes();
-  const std::string block = Entries(kPerBlock, 16, 32).Bytes();
   const size_t blocks = (kCount + kPerBlock - 1) / kPerBlock;
-  std::string payload(2 * block.size() + 1000, '\0');
-  const uint64_t len = sst_encode(At(block), block.size(), kPerBlock, kInterval, 0, 100, 1,
-                                  reinterpret_cast<uint8_t*>(payload.data()), payload.size());
-  Must(len, "block");
-  payload.resize(len);
-  std::string frame(len + 100, '\0');
-  const uint64_t frame_len = sst_frame_write(At(payload), payload.size(), 0, 1,
-                                             reinterpret_cast<uint8_t*>(frame.data()),
-                                             frame.size());
-  Must(frame_len, "frame");
-  frame.resize(frame_len);
   printf("| Table of %zu entries in %zu blocks | ns | Beside it, ns | Ratio |\n|---|---|---|---|\n",
          kCount, blocks);
   for (bool hits : {true, false}) {
@@ -79,12 +67,10 @@ int main() {
                              times, At(entries.hits), entries.hits.size(), 16);
         });
   const Repeated parts = [&](uint64_t times) {
-    const uint64_t turns = times * blocks;
-    return sst_frame_read(At(frame), frame.size(), turns) +
-           sst_check(At(payload), payload.size(), turns);
+    return sst_blocks_check(At(bytes), bytes.size(), kCount, kPerBlock, kInterval, 0, 100, times);
   };
   const Repeated walks = [&](uint64_t times) {
-    return sst_materialize(At(block), block.size(), kPerBlock, kInterval, 0, 100, times * blocks);
+    return sst_blocks_walk(At(bytes), bytes.size(), kCount, kPerBlock, kInterval, 0, 100, 1, times);
   };
   Print("check of the run, an entry, beside the frames and checks of its blocks", kCount,
         [&](uint64_t times) {
@@ -107,7 +93,7 @@ int main() {
         },
         walks);
   const Repeated views = [&](uint64_t times) {
-    return sst_views_walk(At(block), block.size(), kPerBlock, kInterval, 0, 100, times * blocks);
+    return sst_blocks_walk(At(bytes), bytes.size(), kCount, kPerBlock, kInterval, 0, 100, 0, times);
   };
   for (bool made : {false, true}) {
     Print(made ? "scan of borrowed bytes that makes entries, beside the walks that make entries"

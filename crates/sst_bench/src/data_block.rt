@@ -49,7 +49,7 @@ pub(crate) fn items_in(
 }
 
 // The block of the entries, if it can be encoded.
-pub(crate) fn block_in(
+fn block_in(
     alloc: Global,
     bytes: &[u8],
     count: usize,
@@ -194,7 +194,7 @@ pub extern "C" fn sst_walk_back(
 
 // Materializes each entry of a block, and adds it.
 #[inline(never)]
-fn add_entries(so_far: u64, block: &DataBlock<Poly31>, alloc: Global) -> Option<u64> {
+pub(crate) fn add_entries(so_far: u64, block: &DataBlock<Poly31>, alloc: Global) -> Option<u64> {
     let payload = block.as_slice();
     let mut sum = so_far;
     let mut iter = block.iter();

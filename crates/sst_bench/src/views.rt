@@ -9,14 +9,14 @@ ghost use Rattle.sstable_blocks.specs.RunReading.{hashes};
 ghost use Rattle.sstable_blocks.specs.Sound.{IsSound};
 
 use crate::REFUSED;
-use crate::data_block::{NEWEST, block_in, items_in};
+use crate::data_block::{NEWEST, add_entries, items_in};
 use crate::keys::keys_in;
 use crate::merges::{Stored, all_trusted, runs_of, tables_of};
 use crate::run::run_in;
 use crate::sums::{entry_sum, view_sum};
-use sst_base::{HashRatio, Poly31, Slice, Steps};
+use sst_base::{Block, BlockHash, BlockType, HashRatio, InternalValue, Poly31, Slice, Steps};
 use sst_block_kinds::DataBlock;
-use sst_block_kinds::table::data_block::EntryView;
+use sst_block_kinds::table::data_block::{DataBlockRef, EntryView};
 use sst_merge::{Head, Merge, Source};
 use sstable_blocks::run::{RunRef, RunScan, Trusted};
 use sstable_blocks::{MemorySource, RunConfig, RunHandles, Table};
@@ -35,25 +35,151 @@ fn add_views(so_far: u64, block: &DataBlock<Poly31>) -> u64 {
     sum
 }
 
-/// Walks over the entries of a block, each of which borrows it, and adds each.
+// Adds each entry of blocks.
+fn add_blocks(so_far: u64, blocks: &[DataBlock<Poly31>]) -> u64 {
+    let mut sum = so_far;
+    for block in blocks {
+        sum = add_views(sum, block);
+    }
+    sum
+}
+
+// Makes each entry of blocks, and adds it.
+fn add_blocks_made(so_far: u64, blocks: &[DataBlock<Poly31>], alloc: Global) -> Option<u64> {
+    let mut sum = so_far;
+    for block in blocks {
+        sum = add_entries(sum, block, alloc)?;
+    }
+    Some(sum)
+}
+
+// The block of entries, if they can be encoded.
+fn block_of(
+    alloc: Global,
+    items: &[InternalValue],
+    interval: u8,
+    ratio: HashRatio,
+) -> Option<DataBlock<Poly31>> {
+    if interval == 0 || ratio.den == 0 || items.is_empty() {
+        return None;
+    }
+    if !DataBlock::<Poly31>::is_ordered(items) {
+        return None;
+    }
+    let payload = DataBlock::<Poly31>::encode_into_vec(alloc, items, interval, ratio).ok()?;
+    let payload = Slice::from_vec(payload).ok()?;
+    Some(DataBlock::new(Block::from_payload(BlockType::Data, payload)))
+}
+
+// The blocks of entries, so many in each, the last perhaps of fewer.
+fn blocks_of(
+    alloc: Global,
+    items: &[InternalValue],
+    per_block: usize,
+    interval: u8,
+    ratio: HashRatio,
+) -> Option<Vec<DataBlock<Poly31>>>
+    requires { 1 ≤ per_block }
+{
+    let mut blocks = Vec::new(alloc);
+    let mut rest = items;
+    for _ in 0..items.len().div_ceil(per_block) {
+        let (part, after) = rest.split_at(per_block.min(rest.len()));
+        blocks.push(block_of(alloc, part, interval, ratio)?).ok()?;
+        rest = after;
+    }
+    Some(blocks)
+}
+
+// Walks over blocks, so many times.
+fn walked_in(alloc: Global, blocks: &[DataBlock<Poly31>], times: u64, made: bool) -> Option<u64> {
+    let mut sum = 0;
+    for _ in 0..times {
+        sum = if made {
+            add_blocks_made(sum, blocks, alloc)?
+        } else {
+            add_blocks(sum, blocks)
+        };
+    }
+    Some(sum)
+}
+
+/// Walks over blocks of the entries, `per_block` in each, one after the other, and adds each entry.
 #[unsafe(no_mangle)]
-pub extern "C" fn sst_views_walk(
+pub extern "C" fn sst_blocks_walk(
     bytes: &[u8],
     count: usize,
+    per_block: usize,
+    interval: u8,
+    num: u32,
+    den: u32,
+    made: u32,
+    times: u64,
+    alloc: Global,
+) -> u64 {
+    let ratio = HashRatio { num, den };
+    let Some(items) = items_in(alloc, bytes, count, interval, ratio) else {
+        return REFUSED;
+    };
+    if per_block == 0 {
+        return REFUSED;
+    }
+    let Some(blocks) = blocks_of(alloc, items.as_slice(), per_block, interval, ratio) else {
+        return REFUSED;
+    };
+    walked_in(alloc, blocks.as_slice(), times, made != 0).unwrap_or(REFUSED)
+}
+
+// Hashes the payload of a block, as a frame's checksum does, and checks it.
+#[inline(never)]
+fn add_check(so_far: u64, block: &DataBlock<Poly31>, alloc: Global) -> Option<u64> {
+    let payload = block.as_slice().as_slice();
+    let hash = Poly31::hash128(payload) as u64;
+    let checked = DataBlockRef::<Poly31>::check(alloc, payload).ok()?;
+    Some(so_far.wrapping_add(hash).wrapping_add(checked.len() as u64))
+}
+
+// Hashes and checks blocks.
+fn add_checks(so_far: u64, blocks: &[DataBlock<Poly31>], alloc: Global) -> Option<u64> {
+    let mut sum = so_far;
+    for block in blocks {
+        sum = add_check(sum, block, alloc)?;
+    }
+    Some(sum)
+}
+
+// Hashes and checks blocks, so many times.
+fn checked_in(alloc: Global, blocks: &[DataBlock<Poly31>], times: u64) -> Option<u64> {
+    let mut sum = 0;
+    for _ in 0..times {
+        sum = add_checks(sum, blocks, alloc)?;
+    }
+    Some(sum)
+}
+
+/// Hashes and checks blocks of the entries, `per_block` in each, one after the other.
+#[unsafe(no_mangle)]
+pub extern "C" fn sst_blocks_check(
+    bytes: &[u8],
+    count: usize,
+    per_block: usize,
     interval: u8,
     num: u32,
     den: u32,
     times: u64,
     alloc: Global,
 ) -> u64 {
-    let Some(block) = block_in(alloc, bytes, count, interval, HashRatio { num, den }) else {
+    let ratio = HashRatio { num, den };
+    let Some(items) = items_in(alloc, bytes, count, interval, ratio) else {
         return REFUSED;
     };
-    let mut sum = 0;
-    for _ in 0..times {
-        sum = add_views(sum, &block);
+    if per_block == 0 {
+        return REFUSED;
     }
-    sum
+    let Some(blocks) = blocks_of(alloc, items.as_slice(), per_block, interval, ratio) else {
+        return REFUSED;
+    };
+    checked_in(alloc, blocks.as_slice(), times).unwrap_or(REFUSED)
 }
 
 // Scans a run, and adds each entry.
