@@ -134,7 +134,7 @@ pub extern "C" fn sst_blocks_walk(
 #[inline(never)]
 fn add_check(so_far: u64, block: &DataBlock<Poly31>, alloc: Global) -> Option<u64> {
     let payload = block.as_slice().as_slice();
-    let hash = Poly31::hash128(payload) as u64;
+    let hash = (Poly31::hash128(payload) % (1 << 64)) as u64;
     let checked = DataBlockRef::<Poly31>::check(alloc, payload).ok()?;
     Some(so_far.wrapping_add(hash).wrapping_add(checked.len() as u64))
 }
