@@ -1,18 +1,12 @@
 -- Places in a run, by those in the payload of one of its blocks.
-use Rattle.std.proofs.Common.{◌≡◌, ℕ, zero, suc, ◌+◌, ◌-◌, ◌≤◌, ◌<◌, Option, Some, None, IfSome, List, [], ◌∷◌, ◌++◌, length, take, drop, refl, arith, sym, ◌∙◌, ap}
+use Rattle.std.proofs.Common.{◌≡◌, ℕ, ◌+◌, ◌-◌, ◌≤◌, ◌<◌, Option, Some, None, IfSome, List, ◌++◌, length, take, drop, arith, sym, ◌∙◌, ap}
 use Rattle.std.proofs.Math.Nat.{min-le_left}
-use Rattle.std.proofs.lemmas.List.{drop-drop, drop-take, length-take}
+use Rattle.std.proofs.lemmas.List.{drop-drop, drop-take, length-take, take-take}
 use Rattle.sst_base.specs.BlockHandle.{HandleParts}
 use Rattle.sst_base.specs.Entry.{Entry}
 use Rattle.sstable_blocks.specs.Opened.{IsFrameRange, payload_in}
 use Rattle.sst_c.specs.Blocks.{bytes_at, IsPlaceOf}
 use Rattle.sst_c.specs.declared.data_block.SstPlace.{SstPlace}
-
-take_within : (a b : ℕ) (xs : List ℕ) → a ≤ b → take a (take b xs) ≡ take a xs
-take_within zero b xs h = refl
-take_within (suc a) zero xs h = absurd (omega (arith, h))
-take_within (suc a) (suc b) [] h = refl
-take_within (suc a) (suc b) (x ∷ xs) h = ap (λ ys. x ∷ ys) (take_within a b xs (omega (arith, h)))
 
 -- a part of a part
 part_of_part : (bytes : List ℕ) (start n offset len : ℕ) → offset + len ≤ n → bytes_at bytes (start + offset) len ≡ bytes_at (take n (drop start bytes)) offset len
@@ -21,7 +15,7 @@ part_of_part bytes start n offset len inside =
     let whole : n ≡ offset + k = omega (arith, inside) in
     sym (ap (λ m. take len (drop offset (take m (drop start bytes)))) whole
     ∙ ap (take len) (drop-take offset k (drop start bytes))
-    ∙ take_within len k (drop offset (drop start bytes)) (omega (arith, inside))
+    ∙ take-take len k (drop offset (drop start bytes)) (omega (arith, inside))
     ∙ ap (take len) (drop-drop offset start bytes))
 
 -- the place in a run of what is at a place in the payload of a frame
