@@ -1,5 +1,5 @@
 // Prints what the calls for C cost over bytes that are lent: a search of a data block, the same behind a
-// copy of the block, the encoding of entries, and a call that only refuses its argument.
+// copy of the block, the encoding of entries, an empty call, and a call that only refuses its argument.
 #include <cstdio>
 #include <cstdlib>
 #include <cstring>
@@ -80,8 +80,15 @@ uint64_t FindInCopy(const std::string& block, const std::string& needles, size_t
   return sum;
 }
 
+// A call that only returns.
+uint64_t Empty(uint64_t times) {
+  uint64_t sum = 0;
+  for (; times > 0; times--) sum += sst_version();
+  return sum;
+}
+
 // A call that refuses its argument.
-uint64_t Empty(std::string* out, uint64_t times) {
+uint64_t Refuse(std::string* out, uint64_t times) {
   uint64_t sum = 0;
   for (; times > 0; times--) {
     size_t len = 0;
@@ -109,17 +116,18 @@ void Print(size_t kib) {
     times[1][miss] =
         TimeOf(kNeedles, [&](uint64_t turns) { return FindInCopy(block, needles, 16, turns); });
   }
-  const double empty = TimeOf(1, [&](uint64_t turns) { return Empty(&out, turns); });
-  printf("| %zu | %.0f, %.0f | %.0f, %.0f | %.1f | %.1f |\n", kib, times[0][0], times[0][1],
-         times[1][0], times[1][1], encode, empty);
+  const double empty = TimeOf(1, [&](uint64_t turns) { return Empty(turns); });
+  const double refused = TimeOf(1, [&](uint64_t turns) { return Refuse(&out, turns); });
+  printf("| %zu | %.0f, %.0f | %.0f, %.0f | %.1f | %.1f | %.1f |\n", kib, times[0][0], times[0][1],
+         times[1][0], times[1][1], encode, empty, refused);
 }
 
 }  // namespace
 
 int main() {
   PinToCore(-1);
-  printf("| Block, KiB | find: there, not there, ns | behind a copy | encode, an entry | an empty call |\n");
-  printf("|---|---|---|---|---|\n");
+  printf("| Block, KiB | find: there, not there, ns | behind a copy | encoding, an entry | an empty call | a refused one |\n");
+  printf("|---|---|---|---|---|---|\n");
   Print(4);
   Print(64);
   return 0;

@@ -34,6 +34,16 @@ void Print(const char* name, size_t operations, const Repeated& ours, const Repe
   printf("| %s | %.1f | %.1f | %.2f |\n", name, times.ours, times.other, times.ours / times.other);
 }
 
+// The payload of the filter of keys of 16 bytes.
+std::string FilterOf(const std::string& keys) {
+  std::string payload(22 + (keys.size() / 16 * kBits + 7) / 8 + 8, '\0');
+  const uint64_t len = sst_filter_build(At(keys), keys.size(), 16, kBits, 1,
+                                        reinterpret_cast<uint8_t*>(payload.data()), payload.size());
+  Must(len, "filter");
+  payload.resize(len);
+  return payload;
+}
+
 }  // namespace
 
 int main() {
@@ -72,12 +82,21 @@ int main() {
   const Repeated walks = [&](uint64_t times) {
     return sst_blocks_walk(At(bytes), bytes.size(), kCount, kPerBlock, kInterval, 0, 100, 1, times);
   };
-  Print("check of the run, an entry, beside the frames and checks of its blocks", kCount,
+  // The filter is checked by a question for each key.
+  std::string keys;
+  for (const Entry& entry : entries.list) keys += entry.key;
+  const std::string filter = FilterOf(keys);
+  const Repeated asks = [&](uint64_t times) {
+    return sst_filter_contains(At(filter), filter.size(), times, At(keys), keys.size(), 16);
+  };
+  Print("check of the run, an entry, beside its frames, checks and questions to the filter", kCount,
         [&](uint64_t times) {
           return sst_run_check(At(bytes), bytes.size(), kCount, kPerBlock, kInterval, 0, 100,
                                kBits, times);
         },
-        parts);
+        [&](uint64_t times) {
+          return parts(times) + asks(times);
+        });
   Print("scan, an entry, beside these and the walks that make entries", kCount,
         [&](uint64_t times) {
           return sst_table_scan(At(bytes), bytes.size(), kCount, kPerBlock, kInterval, 0, 100,

@@ -18,6 +18,11 @@
 extern "C" {
 #endif
 
+/* The version of the calls that this header declares, which rises where a call or a struct changes its
+   meaning; and that of the library that is linked. */
+#define SST_VERSION 1
+uint32_t sst_version(void);
+
 /* What a call returns. 1 to 15 are the library's errors E1 to E15. */
 enum sst_status {
     SST_OK = 0,

@@ -138,6 +138,7 @@ static void use_frame(const uint8_t *block, size_t block_len) {
 }
 
 int main(void) {
+    printf("the version is %s\n", sst_version() == SST_VERSION ? "the header's" : "another");
     fill();
     uint8_t small[16];
     size_t len = 0;

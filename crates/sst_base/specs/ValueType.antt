@@ -19,6 +19,14 @@ value_type_of byte =
     else if nat_eq byte 4 then Some Indirection
     else None
 
+-- the type that a word stands for: that of its byte, a value for any other word
+abbrev pub type_of_word : ℕ → ValueType
+type_of_word word =
+    if nat_eq word 1 then Tombstone
+    else if nat_eq word 2 then WeakTombstone
+    else if nat_eq word 4 then Indirection
+    else Value
+
 -- an entry of this type deletes its key
 abbrev pub IsTombstone : ValueType → Type 0
 IsTombstone value_type = (value_type ≡ Tombstone) ⊎ (value_type ≡ WeakTombstone)

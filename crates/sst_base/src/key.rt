@@ -10,7 +10,7 @@ ghost use Rattle.sst_base.specs.Order.{key_cmp};
 ghost use Rattle.sst_base.specs.ValueType.{IsTombstone};
 
 use crate::slice::Slice;
-use crate::value_type::ValueType;
+use crate::value_type::{TypeWord, ValueType};
 use std::alloc::AllocError;
 use std::cmp::Ordering;
 use std::fmt;
@@ -33,7 +33,7 @@ pub const MAX_KEY_LEN: usize = 65535;
 pub struct InternalKey {
     user_key: UserKey,
     seqno: SeqNo,
-    value_type: ValueType,
+    value_type: TypeWord,
 }
 
 impl Model for InternalKey {
@@ -58,7 +58,7 @@ impl InternalKey {
         InternalKey {
             user_key,
             seqno,
-            value_type,
+            value_type: TypeWord::new(value_type),
         }
     }
 
@@ -83,14 +83,14 @@ impl InternalKey {
     pub fn value_type(&self) -> ValueType
         ensures { result ≡ self.now.value_type }
     {
-        self.value_type
+        self.value_type.get()
     }
 
     /// Returns whether the value type is a tombstone.
     pub fn is_tombstone(&self) -> bool
         ensures { IsTrue result ↔ IsTombstone self.now.value_type }
     {
-        self.value_type.is_tombstone()
+        self.value_type().is_tombstone()
     }
 }
 
@@ -143,7 +143,7 @@ impl Clone for InternalKey {
         Ok(InternalKey {
             user_key: self.user_key.clone()?,
             seqno: self.seqno,
-            value_type: self.value_type,
+            value_type: self.value_type.again(),
         })
     }
 }
@@ -153,7 +153,9 @@ impl fmt::Debug for InternalKey {
         write!(
             f,
             "{:?}:{}:{:?}",
-            self.user_key, self.seqno, self.value_type
+            self.user_key,
+            self.seqno,
+            self.value_type()
         )
     }
 }

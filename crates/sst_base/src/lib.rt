@@ -34,4 +34,4 @@ pub use table::util::{
     SliceIndexes, compare_bytes, compare_prefixed_slice, longest_shared_prefix_length,
 };
 pub use value::{InternalValue, UserValue};
-pub use value_type::ValueType;
+pub use value_type::{TypeWord, ValueType};

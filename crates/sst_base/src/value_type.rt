@@ -3,6 +3,8 @@ ghost use Rattle.std.specs.Prelude.{◌≡◌, ◌↔◌, IsTrue};
 ghost use Rattle.std.specs.Option.{ok_or};
 ghost use Rattle.sst_base.specs.ValueType.{IsTombstone, value_type_byte, value_type_of};
 
+use std::marker::Model;
+
 /// The value type of an entry. Its byte in a block is given beside each.
 #[derive(Clone, Copy, Debug, PartialEq, Eq)]
 pub enum ValueType {
@@ -52,6 +54,58 @@ impl From<ValueType> for u8 {
             ValueType::Tombstone => 1,
             ValueType::WeakTombstone => 2,
             ValueType::Indirection => 4,
+        }
+    }
+}
+
+/// A value type that fills a whole word. Clauses see the value type.
+///
+/// It is for the fields of entries: beside a type of one byte lie seven bytes of padding, and each
+/// move of an entry would copy them in pieces that overlap.
+#[derive(Drop)]
+pub struct TypeWord {
+    // the byte of the type
+    word: u64,
+}
+
+impl Model for TypeWord {
+    ghost use Rattle.sst_base.specs.ValueType.{type_of_word};
+    ghost use Rattle.sst_base.specs.declared.value_type.ValueType.{ValueType};
+
+    ghost Value = { ValueType };
+
+    ghost view = { λ t. type_of_word t.word };
+}
+
+impl TypeWord {
+    /// Makes the word of a value type.
+    #[inline(always)]
+    pub fn new(value_type: ValueType) -> TypeWord
+        ensures { result ≡ value_type }
+    {
+        TypeWord {
+            word: u64::from(u8::from(value_type)),
+        }
+    }
+
+    /// Returns a copy.
+    #[inline(always)]
+    pub fn again(&self) -> TypeWord
+        ensures { result ≡ self.now }
+    {
+        TypeWord { word: self.word }
+    }
+
+    /// Returns the value type.
+    #[inline(always)]
+    pub fn get(&self) -> ValueType
+        ensures { result ≡ self.now }
+    {
+        match self.word {
+            1 => ValueType::Tombstone,
+            2 => ValueType::WeakTombstone,
+            4 => ValueType::Indirection,
+            _ => ValueType::Value,
         }
     }
 }

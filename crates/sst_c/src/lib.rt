@@ -13,3 +13,4 @@ pub mod handles;
 pub mod index_block;
 mod output;
 pub mod run;
+pub mod version;

@@ -8,7 +8,7 @@ ghost use Rattle.sst_base.specs.declared.error.Error.TheVariants.{Io};
 ghost use Rattle.sstable_blocks.specs.Blocks.{joined};
 ghost use Rattle.sstable_blocks.specs.RunReading.{hashes};
 ghost use Rattle.sstable_blocks.specs.Scans.{EndsBy, GivesFirst, GivesLast, IsFewer, IsSameScan};
-ghost use Rattle.sstable_blocks.specs.Scans.{error_of, handles_within, in_range, most_left};
+ghost use Rattle.sstable_blocks.specs.Scans.{handles_within, in_range, most_left};
 ghost use Rattle.sstable_blocks.specs.Scans.{reads_left, within};
 ghost use Rattle.sstable_blocks.specs.Sound.{IsSound};
 ghost use Rattle.sstable_blocks.specs.Sources.{KeepsSource};
@@ -123,14 +123,13 @@ impl<'k, H: BlockHash, S: FrameSource> Scan<'k, H, S> {
         if let Some(error) = self.ended {
             return Err(error);
         }
-        let first = step_front::<H, Table<H, S>>(
+        step_front::<H, Table<H, S>>(
             alloc,
             &mut self.table,
             &self.bounds,
             &mut self.blocks,
-        );
-        keep_error(&mut self.ended, &first);
-        first
+            &mut self.ended,
+        )
     }
 
     /// Takes the last entry left, or returns `None` if none is left.
@@ -160,25 +159,13 @@ impl<'k, H: BlockHash, S: FrameSource> Scan<'k, H, S> {
         if let Some(error) = self.ended {
             return Err(error);
         }
-        let last = step_back::<H, Table<H, S>>(
+        step_back::<H, Table<H, S>>(
             alloc,
             &mut self.table,
             &self.bounds,
             &mut self.blocks,
-        );
-        keep_error(&mut self.ended, &last);
-        last
-    }
-}
-
-// Keeps the error of a step, if it is one. No step before it failed.
-#[inline(always)]
-pub(crate) fn keep_error(ended: &mut Option<Error>, found: &Result<Option<InternalValue>>)
-    requires { ended.old ≡ None }
-    ensures { ended.new ≡ error_of found.now }
-{
-    if let Err(error) = found {
-        *ended = Some(*error);
+            &mut self.ended,
+        )
     }
 }
 

@@ -7,7 +7,7 @@ ghost use Rattle.sst_base.specs.declared.error.Error.TheVariants.{Io};
 ghost use Rattle.sst_block_core.specs.Window.{items_left};
 ghost use Rattle.sst_block_kinds.specs.Handles.{Handle};
 ghost use Rattle.sstable_blocks.specs.RunReading.{hashes};
-ghost use Rattle.sstable_blocks.specs.Scans.{AllWithin, AreScanEnds, between, block_within};
+ghost use Rattle.sstable_blocks.specs.Scans.{AllWithin, AreScanEnds, between, block_within, error_of};
 ghost use Rattle.sstable_blocks.specs.Scans.{end_block, first_block, in_range};
 ghost use Rattle.sstable_blocks.specs.Scans.{IsFewer, left_in, most_among, reads_among, within};
 ghost use Rattle.sstable_blocks.specs.Scans.{FailsFirst, FailsLast, GivesFirst, GivesLast};
@@ -91,43 +91,62 @@ fn has_entry<H: BlockHash>(entries: &Option<IntoEntries<H>>) -> bool
     }
 }
 
-// Takes the first entry left of an opened block.
+// Keeps the error of a step, if it is one. No step before it failed.
+#[inline(always)]
+fn keep_error<T>(ended: &mut Option<Error>, found: &Result<T>)
+    requires { ended.old ≡ None }
+    ensures { ended.new ≡ error_of found.now }
+{
+    if let Err(error) = found {
+        *ended = Some(*error);
+    }
+}
+
+// Takes the first entry left of an opened block, and keeps the error.
 #[inline(always)]
 fn take_first<H: BlockHash>(
     alloc: Global,
     entries: &mut Option<IntoEntries<H>>,
+    ended: &mut Option<Error>,
 ) -> Result<Option<InternalValue>>
+    requires { ended.old ≡ None }
+    ensures ended { ended.new ≡ error_of result }
     ensures first { IfOk result
         (λ x. YieldsFirst (λ xs. xs) (left_in entries.old) x (left_in entries.new)) }
     ensures rest { left_in entries.new ≡ drop 1 (left_in entries.old) }
     ensures memory { IsOkUnless result Error.Memory }
 {
-    match entries {
-        Some(entries) => entries.next_entry(alloc),
-        None => Ok(None),
-    }
+    let Some(entries) = entries else {
+        return Ok(None);
+    };
+    let first = entries.next_entry(alloc);
+    keep_error(ended, &first);
+    first
 }
 
-// Takes the last entry left of an opened block.
+// Takes the last entry left of an opened block, and keeps the error.
 #[inline(always)]
 fn take_last<H: BlockHash>(
     alloc: Global,
     entries: &mut Option<IntoEntries<H>>,
+    ended: &mut Option<Error>,
 ) -> Result<Option<InternalValue>>
+    requires { ended.old ≡ None }
+    ensures ended { ended.new ≡ error_of result }
     ensures last { IfOk result
         (λ x. YieldsLast (λ xs. xs) (left_in entries.old) x (left_in entries.new)) }
     ensures rest { left_in entries.new
         ≡ take (length (left_in entries.old) - 1) (left_in entries.old) }
     ensures memory { IsOkUnless result Error.Memory }
 {
-    match entries {
-        Some(entries) => {
-            // The proof needs that the end lies within the block.
-            let _count = entries.count_left();
-            entries.next_entry_back(alloc)
-        }
-        None => Ok(None),
-    }
+    let Some(entries) = entries else {
+        return Ok(None);
+    };
+    // The proof needs that the end lies within the block.
+    let _count = entries.count_left();
+    let last = entries.next_entry_back(alloc);
+    keep_error(ended, &last);
+    last
 }
 
 // Opens blocks from the front until one has an entry in the range, or none is left.
@@ -310,9 +329,12 @@ pub(crate) fn step_front<H: BlockHash, B: BlockOpener<H>>(
     opener: &mut B,
     bounds: &Bounds<'_>,
     blocks: &mut Blocks<H>,
+    ended: &mut Option<Error>,
 ) -> Result<Option<InternalValue>>
-    requires { AreScanEnds (B.kept opener.old).index bounds.now (left_in blocks.old.front)
+    requires fresh { ended.old ≡ None }
+    requires ends { AreScanEnds (B.kept opener.old).index bounds.now (left_in blocks.old.front)
         blocks.old.hi (left_in blocks.old.back) }
+    ensures ended { ended.new ≡ error_of result }
     ensures kept { B.kept opener.new ≡ B.kept opener.old }
     ensures source { KeepsSource B.bytes B.failures B.is_reliable opener.old opener.new }
     ensures reads { B.reads opener.new
@@ -341,8 +363,10 @@ pub(crate) fn step_front<H: BlockHash, B: BlockOpener<H>>(
         (length (between (B.kept opener.old).index blocks.new.lo blocks.new.hi))
         (left_in blocks.new.back))) }
 {
-    ready_front::<H, B>(alloc, opener, bounds, blocks)?;
-    take_first::<H>(alloc, &mut blocks.front)
+    let ready = ready_front::<H, B>(alloc, opener, bounds, blocks);
+    keep_error(ended, &ready);
+    ready?;
+    take_first::<H>(alloc, &mut blocks.front, ended)
 }
 
 // Opens blocks from the back until one has an entry in the range. Where none is left between the
@@ -438,9 +462,12 @@ pub(crate) fn step_back<H: BlockHash, B: BlockOpener<H>>(
     opener: &mut B,
     bounds: &Bounds<'_>,
     blocks: &mut Blocks<H>,
+    ended: &mut Option<Error>,
 ) -> Result<Option<InternalValue>>
-    requires { AreScanEnds (B.kept opener.old).index bounds.now (left_in blocks.old.front)
+    requires fresh { ended.old ≡ None }
+    requires ends { AreScanEnds (B.kept opener.old).index bounds.now (left_in blocks.old.front)
         blocks.old.hi (left_in blocks.old.back) }
+    ensures ended { ended.new ≡ error_of result }
     ensures kept { B.kept opener.new ≡ B.kept opener.old }
     ensures source { KeepsSource B.bytes B.failures B.is_reliable opener.old opener.new }
     ensures reads { B.reads opener.new
@@ -469,6 +496,8 @@ pub(crate) fn step_back<H: BlockHash, B: BlockOpener<H>>(
         (length (between (B.kept opener.old).index blocks.new.lo blocks.new.hi))
         (left_in blocks.new.back))) }
 {
-    ready_back::<H, B>(alloc, opener, bounds, blocks)?;
-    take_last::<H>(alloc, &mut blocks.back)
+    let ready = ready_back::<H, B>(alloc, opener, bounds, blocks);
+    keep_error(ended, &ready);
+    ready?;
+    take_last::<H>(alloc, &mut blocks.back, ended)
 }

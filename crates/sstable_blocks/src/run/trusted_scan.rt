@@ -12,7 +12,6 @@ ghost use Rattle.sstable_blocks.specs.Sound.{IsSound};
 use super::bounds::Bounds;
 use super::laws::sound_is_scanned;
 use super::opener::BlockOpener;
-use super::scan::keep_error;
 use super::scan_steps::{Blocks, step_back, step_front};
 use super::trusted::Trusted;
 use sst_base::{BlockHash, Count, Error, InternalValue, Result};
@@ -116,14 +115,13 @@ impl<'a, 'k, H: BlockHash> TrustedScan<'a, 'k, H> {
             return Err(error);
         }
         self.cutter.run.note_read();
-        let first = step_front::<H, Cutter<'a, H>>(
+        step_front::<H, Cutter<'a, H>>(
             alloc,
             &mut self.cutter,
             &self.bounds,
             &mut self.blocks,
-        );
-        keep_error(&mut self.ended, &first);
-        first
+            &mut self.ended,
+        )
     }
 
     /// Takes the last entry left, or returns `None` if none is left.
@@ -141,14 +139,13 @@ impl<'a, 'k, H: BlockHash> TrustedScan<'a, 'k, H> {
             return Err(error);
         }
         self.cutter.run.note_read();
-        let last = step_back::<H, Cutter<'a, H>>(
+        step_back::<H, Cutter<'a, H>>(
             alloc,
             &mut self.cutter,
             &self.bounds,
             &mut self.blocks,
-        );
-        keep_error(&mut self.ended, &last);
-        last
+            &mut self.ended,
+        )
     }
 }
 

@@ -5,6 +5,7 @@ ghost use Rattle.std.specs.Cmp.Lexicographic.{slice_cmp};
 ghost use Rattle.std.specs.Iterator.{YieldsFirst, YieldsLast, item_count};
 ghost use Rattle.sst_base.specs.ValueType.{IsTombstone};
 ghost use Rattle.sst_block_core.specs.Entries.{entries};
+ghost use Rattle.sst_block_core.specs.Found.{IsOptionalRange, optional_range};
 ghost use Rattle.sst_block_core.specs.Kind.{item_cmp};
 ghost use Rattle.sst_block_core.specs.Window.{items_left};
 ghost use Rattle.sst_block_kinds.specs.ParsedEntry.{entry_of, IsParsedEntry};
@@ -14,32 +15,63 @@ use crate::table::data_block::block_ref::DataBlockRef;
 use crate::table::data_block::iter::Iter;
 use crate::table::data_block::parsed_item::DataBlockParsedItem;
 use sst_base::double_ended_peekable::ListIterator;
-use sst_base::{AllocResult, BlockHash, Error, InternalValue, Result, SeqNo, Slice, ValueType};
-use sst_block_core::table::block::ParsedItem;
+use sst_base::table::util::{SliceIndexes, compare_prefixed_slice};
+use sst_base::{
+    AllocResult, BlockHash, Error, InternalValue, Result, SeqNo, Slice, TypeWord, ValueType,
+};
 use sst_block_core::table::block::key_ranges::{bytes_of, compare_parts};
 use std::alloc::Global;
 use std::cmp::Ordering;
 use std::marker::Model;
 
-/// An entry of a block, over the bytes of the block's payload. Clauses see the entry.
+/// An entry of a block, whose parts borrow the bytes of the block's payload. Clauses see the entry.
 #[derive(Drop)]
 pub struct EntryView<'a> {
-    payload: &'a [u8],
-    item: DataBlockParsedItem,
+    // The bytes that the key shares with the head of its restart interval, none in a full form.
+    prefix: &'a [u8],
+    // The key's own bytes.
+    rest: &'a [u8],
+    // The value, empty for a tombstone.
+    value: &'a [u8],
+    seqno: SeqNo,
+    value_type: TypeWord,
 }
 
 impl<'a> Model for EntryView<'a> {
-    ghost use Rattle.sst_base.specs.Entry.{Entry};
-    ghost use Rattle.sst_block_core.specs.Entries.{entries};
-    ghost use Rattle.sst_block_core.specs.Kind.{item_cmp};
-    ghost use Rattle.sst_block_kinds.specs.ParsedEntry.{entry_of, IsParsedEntry};
-    ghost use Rattle.sst_block_kinds.specs.Tombstones.{is_tombstone};
+    ghost use Rattle.std.specs.Prelude.{◌++◌};
+    ghost use Rattle.sst_base.specs.Entry.{Entry, IsEntry};
 
     ghost Value = { Entry };
 
-    ghost view = { λ e. entry_of e.payload.now e.item };
+    ghost view = { λ e. record {
+      key = record {
+        user_key = e.prefix.now ++ e.rest.now;
+        seqno = e.seqno;
+        value_type = e.value_type;
+      };
+      value = e.value.now;
+    } };
 
-    ghost invariant = { λ e. IsParsedEntry e.payload.now e.item };
+    ghost invariant = { λ e. IsEntry (record {
+      key = record {
+        user_key = e.prefix.now ++ e.rest.now;
+        seqno = e.seqno;
+        value_type = e.value_type;
+      };
+      value = e.value.now;
+    }) };
+}
+
+// The bytes of a range, none where there is no range.
+#[inline(always)]
+fn optional_bytes<'a>(payload: &'a [u8], range: &Option<SliceIndexes>) -> &'a [u8]
+    requires { IsOptionalRange payload.now range.now }
+    ensures { result.now ≡ optional_range payload.now range.now }
+{
+    match range {
+        Some(range) => bytes_of(payload, range),
+        None => &[],
+    }
 }
 
 impl<'a> EntryView<'a> {
@@ -49,7 +81,13 @@ impl<'a> EntryView<'a> {
         requires { IsParsedEntry payload.now item }
         ensures { result ≡ entry_of payload.now item }
     {
-        EntryView { payload, item }
+        EntryView {
+            prefix: optional_bytes(payload, &item.prefix),
+            rest: bytes_of(payload, &item.key),
+            value: optional_bytes(payload, &item.value),
+            seqno: item.seqno,
+            value_type: TypeWord::new(item.value_type),
+        }
     }
 
     /// Returns its sequence number.
@@ -57,7 +95,7 @@ impl<'a> EntryView<'a> {
     pub fn seqno(&self) -> SeqNo
         ensures { result ≡ self.now.key.seqno }
     {
-        self.item.seqno
+        self.seqno
     }
 
     /// Returns its value type.
@@ -65,7 +103,7 @@ impl<'a> EntryView<'a> {
     pub fn value_type(&self) -> ValueType
         ensures { result ≡ self.now.key.value_type }
     {
-        self.item.value_type
+        self.value_type.get()
     }
 
     /// Returns whether it is a tombstone of either kind.
@@ -73,7 +111,7 @@ impl<'a> EntryView<'a> {
         ensures value { result ≡ is_tombstone self.now.key.value_type }
         ensures tombstone { IsTrue result ↔ IsTombstone self.now.key.value_type }
     {
-        self.item.value_type.is_tombstone()
+        self.value_type.get().is_tombstone()
     }
 
     /// Returns the two parts of its user key: the bytes that it shares with the head of its
@@ -83,11 +121,7 @@ impl<'a> EntryView<'a> {
     pub fn key_parts(&self) -> (&'a [u8], &'a [u8])
         ensures { result.0.now ++ result.1.now ≡ self.now.key.user_key }
     {
-        let rest = bytes_of(self.payload, &self.item.key);
-        match &self.item.prefix {
-            Some(prefix) => (bytes_of(self.payload, prefix), rest),
-            None => (&rest[..0], rest),
-        }
+        (self.prefix, self.rest)
     }
 
     /// Returns its value, which is empty for a tombstone.
@@ -95,17 +129,14 @@ impl<'a> EntryView<'a> {
     pub fn value(&self) -> &'a [u8]
         ensures { result.now ≡ self.now.value }
     {
-        match &self.item.value {
-            Some(value) => bytes_of(self.payload, value),
-            None => &[],
-        }
+        self.value
     }
 
     /// Compares its user key with a needle, without joining prefix and rest.
     pub fn compare_key(&self, needle: &[u8]) -> Ordering
         ensures { result ≡ slice_cmp nat_cmp self.now.key.user_key needle.now }
     {
-        self.item.compare_key(needle, self.payload)
+        compare_prefixed_slice(self.prefix, self.rest, needle)
     }
 
     /// Compares its user key with that of another entry, which may be of another block. Nothing is
@@ -113,9 +144,7 @@ impl<'a> EntryView<'a> {
     pub fn compare_user_key(&self, other: &EntryView<'_>) -> Ordering
         ensures { result ≡ slice_cmp nat_cmp self.now.key.user_key other.now.key.user_key }
     {
-        let (prefix, rest) = self.key_parts();
-        let (other_prefix, other_rest) = other.key_parts();
-        compare_parts(prefix, rest, other_prefix, other_rest)
+        compare_parts(self.prefix, self.rest, other.prefix, other.rest)
     }
 
     /// Compares it with another entry, which may be of another block: by user key rising, then by
@@ -124,7 +153,7 @@ impl<'a> EntryView<'a> {
         ensures { result ≡ item_cmp entries self.now other.now }
     {
         self.compare_user_key(other)
-            .then(other.item.seqno.cmp(&self.item.seqno))
+            .then(other.seqno.cmp(&self.seqno))
     }
 
     /// Returns the 64-bit hash of its user key. A key is joined only where it is prefix-truncated
@@ -137,15 +166,13 @@ impl<'a> EntryView<'a> {
         ensures ok { IfOk result (λ hash. hash ≡ H.hash64 self.now.key.user_key) }
         ensures memory { IsOkUnless result Error.Memory }
     {
-        let rest = bytes_of(self.payload, &self.item.key);
-        let Some(prefix) = &self.item.prefix else {
-            return Ok(H::hash64(rest));
-        };
-        let prefix = bytes_of(self.payload, prefix);
-        if let Some(hash) = H::hash64_behind(H::hash64(prefix), rest) {
+        if self.prefix.is_empty() {
+            return Ok(H::hash64(self.rest));
+        }
+        if let Some(hash) = H::hash64_behind(H::hash64(self.prefix), self.rest) {
             return Ok(hash);
         }
-        let key = Slice::fused(alloc, prefix, rest)?;
+        let key = Slice::fused(alloc, self.prefix, self.rest)?;
         Ok(H::hash64(key.as_slice()))
     }
 
@@ -158,10 +185,9 @@ impl<'a> EntryView<'a> {
         ensures ok { IfOk result (λ entry. entry ≡ self.now) }
         ensures memory { IsOkUnless result Error.Memory }
     {
-        let (prefix, rest) = self.key_parts();
-        let user_key = Slice::fused(alloc, prefix, rest)?;
-        let value = Slice::new(alloc, self.value())?;
-        Ok(InternalValue::from_components(user_key, value, self.item.seqno, self.item.value_type))
+        let user_key = Slice::fused(alloc, self.prefix, self.rest)?;
+        let value = Slice::new(alloc, self.value)?;
+        Ok(InternalValue::from_components(user_key, value, self.seqno, self.value_type.get()))
     }
 }
 
@@ -171,8 +197,11 @@ impl<'a> Clone for EntryView<'a> {
 
     fn clone(&self) -> AllocResult<EntryView<'a>> {
         Ok(EntryView {
-            payload: self.payload,
-            item: self.item,
+            prefix: self.prefix,
+            rest: self.rest,
+            value: self.value,
+            seqno: self.seqno,
+            value_type: self.value_type.again(),
         })
     }
 }
@@ -232,10 +261,7 @@ impl<'a> Iterator for EntryViews<'a> {
         let Some(item) = self.iter.next() else {
             return None;
         };
-        Some(EntryView {
-            payload: self.payload,
-            item,
-        })
+        Some(EntryView::new(self.payload, item))
     }
 }
 
@@ -248,10 +274,7 @@ impl<'a> DoubleEndedIterator for EntryViews<'a> {
         let Some(item) = self.iter.next_back() else {
             return None;
         };
-        Some(EntryView {
-            payload: self.payload,
-            item,
-        })
+        Some(EntryView::new(self.payload, item))
     }
 }
 

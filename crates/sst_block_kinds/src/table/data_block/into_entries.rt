@@ -1,7 +1,6 @@
 //! The iterator over the entries of a data block that owns the block.
 ghost use Rattle.std.specs.Prelude.{◌≡◌, ◌+◌, ◌-◌, ◌*◌, ◌≤◌};
-ghost use Rattle.std.specs.Prelude.{length, IfOk, IfSome, IsOkUnless};
-ghost use Rattle.std.specs.Option.{option_map};
+ghost use Rattle.std.specs.Prelude.{length, IfOk, IsOkUnless};
 ghost use Rattle.std.specs.Iterator.{at_most, YieldsFirst, YieldsLast};
 ghost use Rattle.std.proofs.Common.{ap};
 ghost use Rattle.sst_base.specs.Counted.{IsZero, CountsBetween};
@@ -220,25 +219,6 @@ impl<H: BlockHash> IntoEntries<H> {
         self.ends.has_left()
     }
 
-    // Makes the entry of an item that was taken, if one was.
-    #[inline(always)]
-    fn made(
-        &self,
-        alloc: Global,
-        item: Option<DataBlockParsedItem>,
-    ) -> Result<Option<InternalValue>>
-        requires { IfSome item (IsParsedEntry self.now.payload) }
-        ensures ok { IfOk result
-            (λ entry. entry ≡ option_map (entry_of self.now.payload) item) }
-        ensures memory { IsOkUnless result Error.Memory }
-    {
-        let block = &self.block;
-        match item {
-            Some(item) => Ok(Some(item.materialize(alloc, block.as_slice())?)),
-            None => Ok(None),
-        }
-    }
-
     /// Takes the first entry left, if there is one, and makes it. The entry is taken also where it
     /// can't be made.
     ///
@@ -256,8 +236,13 @@ impl<H: BlockHash> IntoEntries<H> {
             (items_left self.new.window)) }
         ensures memory { IsOkUnless result Error.Memory }
     {
-        let item = self.next();
-        self.made(alloc, item)
+        let Some(item) = self.next() else {
+            return Ok(None);
+        };
+        match item.materialize(alloc, self.block.as_slice()) {
+            Ok(entry) => Ok(Some(entry)),
+            Err(_) => Err(Error::Memory),
+        }
     }
 
     /// Takes the last entry left, if there is one, and makes it. The entry is taken also where it
@@ -277,8 +262,13 @@ impl<H: BlockHash> IntoEntries<H> {
             (items_left self.new.window)) }
         ensures memory { IsOkUnless result Error.Memory }
     {
-        let item = self.next_back();
-        self.made(alloc, item)
+        let Some(item) = self.next_back() else {
+            return Ok(None);
+        };
+        match item.materialize(alloc, self.block.as_slice()) {
+            Ok(entry) => Ok(Some(entry)),
+            Err(_) => Err(Error::Memory),
+        }
     }
 }
 
