@@ -100,8 +100,11 @@ fn add_taken<I: Source<InternalValue>>(
 ) -> Option<u64> {
     let mut sum = so_far;
     for _ in 0..count {
-        let entry = source.next_entry(alloc).ok()??;
-        sum = sum.wrapping_add(entry_sum(&entry));
+        let step = source.next_entry(alloc);
+        match &step {
+            Ok(Some(entry)) => sum = sum.wrapping_add(entry_sum(entry)),
+            _ => return None,
+        }
     }
     Some(sum)
 }

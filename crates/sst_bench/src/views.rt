@@ -332,8 +332,11 @@ fn add_merged(
     let mut merged = Merge::new(scans_of(alloc, tables)?);
     let mut sum = so_far;
     for _ in 0..count {
-        let view = merged.next_entry(alloc).ok()??;
-        sum = sum.wrapping_add(view_sum(&view));
+        let step = merged.next_entry(alloc);
+        match &step {
+            Ok(Some(view)) => sum = sum.wrapping_add(view_sum(view)),
+            _ => return None,
+        }
     }
     Some(sum)
 }
@@ -349,9 +352,14 @@ fn add_merged_made(
     let mut merged = Merge::new(scans_of(alloc, tables)?);
     let mut sum = so_far;
     for _ in 0..count {
-        let view = merged.next_entry(alloc).ok()??;
-        let entry = view.to_entry(alloc).ok()?;
-        sum = sum.wrapping_add(entry_sum(&entry));
+        let step = merged.next_entry(alloc);
+        let Ok(Some(view)) = &step else {
+            return None;
+        };
+        match view.to_entry(alloc) {
+            Ok(entry) => sum = sum.wrapping_add(entry_sum(&entry)),
+            Err(_) => return None,
+        }
     }
     Some(sum)
 }

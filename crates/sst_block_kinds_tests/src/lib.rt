@@ -9,6 +9,8 @@ mod checks;
 #[cfg(test)]
 mod decoders;
 #[cfg(test)]
+mod examples;
+#[cfg(test)]
 mod heads;
 #[cfg(test)]
 mod index_blocks;

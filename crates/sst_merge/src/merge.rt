@@ -71,8 +71,11 @@ impl<T: Drop, I: Source<T>> Head<T, I> {
         if self.held.is_none() {
             return Ok(None);
         }
-        let next = self.source.next_entry(alloc)?;
-        Ok(mem::replace(&mut self.held, next))
+        // (a `?` would copy what it passes on)
+        match self.source.next_entry(alloc) {
+            Ok(next) => Ok(mem::replace(&mut self.held, next)),
+            Err(error) => Err(error),
+        }
     }
 }
 

@@ -60,8 +60,11 @@ impl<T: Version + Drop, I: BackSource<T>> Tail<T, I> {
         if self.held.is_none() {
             return Ok(None);
         }
-        let next = self.source.next_entry_back(alloc)?;
-        Ok(mem::replace(&mut self.held, next))
+        // (a `?` would copy what it passes on)
+        match self.source.next_entry_back(alloc) {
+            Ok(next) => Ok(mem::replace(&mut self.held, next)),
+            Err(error) => Err(error),
+        }
     }
 }
 

@@ -185,9 +185,17 @@ impl<'a> EntryView<'a> {
         ensures ok { IfOk result (λ entry. entry ≡ self.now) }
         ensures memory { IsOkUnless result Error.Memory }
     {
-        let user_key = Slice::fused(alloc, self.prefix, self.rest)?;
-        let value = Slice::new(alloc, self.value)?;
-        Ok(InternalValue::from_components(user_key, value, self.seqno, self.value_type.get()))
+        // (a `?` would copy what it passes on)
+        let user_key = match Slice::fused(alloc, self.prefix, self.rest) {
+            Ok(user_key) => user_key,
+            Err(error) => return Err(error),
+        };
+        let value = match Slice::new(alloc, self.value) {
+            Ok(value) => value,
+            Err(error) => return Err(error),
+        };
+        let value_type = self.value_type.get();
+        Ok(InternalValue::from_components(user_key, value, self.seqno, value_type))
     }
 }
 

@@ -76,12 +76,18 @@ impl ParsedItem<InternalValue> for DataBlockParsedItem {
 
     #[inline(always)]
     fn materialize(&self, alloc: Global, payload: &Slice) -> AllocResult<InternalValue> {
-        let user_key = join_ranges(alloc, payload, &self.prefix, &self.key)?;
-        let value = match &self.value {
-            Some(value) => payload.part(value.0..value.1)?,
-            None => Slice::empty(alloc),
+        // (a `?` would copy what it passes on)
+        let user_key = match join_ranges(alloc, payload, &self.prefix, &self.key) {
+            Ok(user_key) => user_key,
+            Err(error) => return Err(error),
         };
         let key = InternalKey::new(user_key, self.seqno, self.value_type);
-        Ok(InternalValue::new(key, value))
+        let Some(range) = &self.value else {
+            return Ok(InternalValue::new(key, Slice::empty(alloc)));
+        };
+        match payload.part(range.0..range.1) {
+            Ok(value) => Ok(InternalValue::new(key, value)),
+            Err(error) => Err(error),
+        }
     }
 }
