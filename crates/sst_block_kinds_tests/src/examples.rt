@@ -417,5 +417,3 @@ fn examples_have_their_bytes(rt: HostRuntime) -> Tested {
     }
     Ok(())
 }
-
-/// A list, its number of entries, and the intervals and ratios at which it is encoded.

@@ -13,6 +13,7 @@ use sst_block_kinds::{DataBlock, DataBlockParsedItem};
 use std::alloc::Global;
 use std::process::Abort;
 
+/// A list, its number of entries, and the intervals and ratios at which it is encoded.
 #[derive(Clone, Copy)]
 struct Many {
     list: List,

@@ -37,7 +37,7 @@ pub const CHECKS: [&str; 2] = [
 /// The calls that a payload may be passed to: those of the item traits, of the decoder, of the
 /// intervals, of the trailer, of the index readers, of the one reader that counts, of blocks, of
 /// those that make an item of its ranges, and of the table of heads, with what it calls itself.
-pub const CALLS: [&str; 33] = [
+pub const CALLS: [&str; 34] = [
     "Item::read_head",
     "Item::read_full",
     "Item::read_truncated",
@@ -71,6 +71,7 @@ pub const CALLS: [&str; 33] = [
     "self.compare_rest",
     "self.behind_prefix",
     "bytes_of",
+    "optional_bytes",
 ];
 
 /// What makes a reader, a decoder, an iterator or counters, gets at the payload, or reads numbers;
@@ -211,11 +212,11 @@ pub const MADE: [(&str, &str, usize); 48] = [
         ". intervals (",
         2,
     ),
-    // (for the hash of a key, for the parts of a key, and for a value)
+    // (for a key's own bytes, and for a range that may be missing)
     (
         "sst_block_kinds/src/table/data_block/entry_view.rt",
         "bytes_of (",
-        5,
+        2,
     ),
     // A block that owns its bytes has the iterators of the block over them.
     ("sst_block_kinds/src/table/data_block/mod.rt", ". iter (", 1),
