@@ -115,8 +115,11 @@ fn is_data_bound(tokens: &[String], i: usize) -> bool {
 /// Returns whether the bytes of a block, taken by `as_slice()`, are bound to a payload, or the
 /// whole argument of a call that may be passed one.
 fn is_slice_bound(tokens: &[String], i: usize, opened: Option<&String>) -> bool {
-    let lead = before(tokens, i, 3);
-    let is_payload = (lead == "=" || lead == ":") && before(tokens, i, 4) == "payload";
+    // (the block may be one of `self`)
+    let is_of_self = before(tokens, i, 3) == "." && before(tokens, i, 4) == "self";
+    let start = if is_of_self { i.saturating_sub(2) } else { i };
+    let lead = before(tokens, start, 3);
+    let is_payload = (lead == "=" || lead == ":") && before(tokens, start, 4) == "payload";
     let end = behind(tokens, i, 3);
     let is_whole = (lead == "," || lead == "(") && (end == ")" || end == ",");
     is_payload || (is_whole && may_take(opened))

@@ -1,7 +1,7 @@
 //! Planted texts: reads that the rules must find, and lines that they must leave alone.
 
 /// A text, and whether it gets at the bytes of a block where it may not.
-pub const PLANTED: [(&str, bool); 32] = [
+pub const PLANTED: [(&str, bool); 34] = [
     ("let b = payload[at];", true),
     ("        let b = self.payload[at];\n", true),
     ("let (_, rest) = payload.split_at(at);", true),
@@ -23,6 +23,7 @@ pub const PLANTED: [(&str, bool); 32] = [
     ("self.inner.data().as_slice()[0]", true),
     ("let first = self.as_slice().as_slice()[0];", true),
     ("hash(block.as_slice())", true),
+    ("hash(self.block.as_slice())", true),
     ("let found = iter.payload;", true),
     ("fn leak(&self) -> u8 { self.payload[0] }", true),
     (
@@ -37,6 +38,10 @@ pub const PLANTED: [(&str, bool); 32] = [
     ("fn new(payload: &'a [u8]) -> FormReader<'a> {", false),
     ("let fits = payload.len() < 9;", false),
     ("Some(item.materialize(alloc, self.as_slice())?)", false),
+    (
+        "match item.materialize(alloc, self.block.as_slice()) {",
+        false,
+    ),
     (
         "self.item.compare_key(needle, self.payload.as_slice())",
         false,
