@@ -17,12 +17,13 @@ ghost use Rattle.sst_base.specs.Bytes.{IsBytes};
 ghost use Rattle.sst_base.specs.Header.{bytes_at};
 ghost use Rattle.sst_base.specs.Inputs.{ReadsAllocating};
 
+mod shared;
 mod short;
 
 use crate::error::{AllocResult, Error, Result};
 use crate::input::{Input, note_bytes};
 use crate::table::util::{SliceIndexes, compare_bytes};
-use bytes::Bytes;
+use shared::SharedBytes;
 pub use short::SHORT_LEN;
 use short::ShortBytes;
 use std::alloc::Global;
@@ -39,7 +40,7 @@ const PIECE_LEN: usize = 65536;
 #[derive(Drop)]
 enum Held {
     Short(ShortBytes),
-    Shared(Bytes<Global>),
+    Shared(SharedBytes),
 }
 
 /// An immutable byte string. Clauses see its list of bytes.
@@ -77,7 +78,7 @@ impl Slice {
 
     // A byte string that shares its bytes.
     #[inline(always)]
-    fn shared(bytes: Bytes<Global>) -> Slice
+    fn shared(bytes: SharedBytes) -> Slice
         ensures { result ≡ bytes }
     {
         note_bytes(bytes.as_slice());
@@ -98,7 +99,7 @@ impl Slice {
         if bytes.len() <= SHORT_LEN {
             return Ok(Slice::short(ShortBytes::new(bytes)));
         }
-        Ok(Slice::shared(Bytes::copy_from_slice(alloc, bytes)?))
+        Ok(Slice::shared(SharedBytes::copied(alloc, bytes)?))
     }
 
     /// Returns the empty byte string. Takes no memory.
@@ -120,7 +121,7 @@ impl Slice {
         if bytes.len() <= SHORT_LEN {
             return Ok(Slice::short(ShortBytes::new(bytes.as_slice())));
         }
-        Ok(Slice::shared(Bytes::from_vec(bytes)?))
+        Ok(Slice::shared(SharedBytes::from_vec(bytes)?))
     }
 
     /// Takes the bytes of a `String`.
@@ -132,7 +133,7 @@ impl Slice {
         ensures ok { IfOk result (λ s. s ≡ string_bytes text) }
         ensures memory { IsOkUnless result Error.Memory }
     {
-        Ok(Slice::shared(Bytes::from_string(text)?))
+        Ok(Slice::shared(SharedBytes::from_vec(text.into_bytes())?))
     }
 
     /// Copies the bytes of a `str`.
@@ -235,7 +236,10 @@ impl Slice {
     {
         match &self.held {
             Held::Shared(bytes) if range.end - range.start > SHORT_LEN => {
-                Ok(Slice::shared(bytes.slice(range.start..range.end)?))
+                match bytes.part(range.start, range.end) {
+                    Ok(part) => Ok(Slice::shared(part)),
+                    Err(error) => Err(error),
+                }
             }
             Held::Shared(bytes) => {
                 let cut = ShortBytes::cut(bytes.as_slice(), range.start, range.end);
@@ -273,7 +277,7 @@ impl Slice {
         let mut both = Vec::with_capacity(alloc, len)?;
         both.extend_from_slice(left)?;
         both.extend_from_slice(right)?;
-        Ok(Slice::shared(Bytes::from_vec(both)?))
+        Ok(Slice::shared(SharedBytes::from_vec(both)?))
     }
 
     /// Copies the bytes of two ranges of these bytes, the second after the first. Both ranges lie
@@ -367,7 +371,7 @@ impl Clone for Slice {
     fn clone(&self) -> AllocResult<Slice> {
         match &self.held {
             Held::Short(bytes) => Ok(Slice::short(bytes.again())),
-            Held::Shared(bytes) => Ok(Slice::shared(bytes.clone()?)),
+            Held::Shared(bytes) => Ok(Slice::shared(bytes.again()?)),
         }
     }
 }
