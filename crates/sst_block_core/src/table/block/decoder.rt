@@ -253,6 +253,18 @@ impl<'a, Item: Decodable<Parsed>, Parsed: ParsedItem<Item>> Decoder<'a, Item, Pa
         Decoder { intervals, ends }
     }
 
+    /// Starts again with all items of other intervals. The room for offsets stays where it is: a
+    /// decoder has a KiB of it, which a new one would move.
+    pub fn restart(&mut self, intervals: Intervals<'a, Item, Parsed>)
+        ensures payload { self.new.payload ≡ intervals.entry.list.payload }
+        ensures interval { self.new.interval ≡ intervals.entry.list.interval }
+        ensures window { self.new.window ≡ whole intervals.entry.list.items }
+        ensures steps { self.new.steps ≡ intervals.entry.steps }
+    {
+        intervals.reset(&mut self.ends);
+        self.intervals = intervals;
+    }
+
     /// Moves the front to a head. A predicate over keys and sequence numbers, true of the first
     /// heads and false of the others, picks it: the last head of which it is true, or the first
     /// head where it is true of none. With `second_partition` it picks the first head of which it

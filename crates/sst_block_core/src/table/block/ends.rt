@@ -49,6 +49,17 @@ impl<'a, Item: Decodable<Parsed>, Parsed: ParsedItem<Item>> Intervals<'a, Item, 
         }
     }
 
+    /// Makes ends those of all items, whatever block they were of. Takes no memory.
+    pub fn reset(&self, ends: &mut Ends)
+        ensures ends { AreEnds Item.kind self.now.list ends.new }
+        ensures window { window_between self.now.list.items ends.new
+            ≡ whole self.now.list.items }
+    {
+        ends.front = self.first();
+        ends.back.hi = self.item_count();
+        ends.back.stack.clear();
+    }
+
     /// Returns the number of items left between two ends of the block.
     pub fn count_left(&self, ends: &Ends) -> usize
         requires { AreEnds Item.kind self.now.list ends.now }
