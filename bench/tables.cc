@@ -139,12 +139,16 @@ int main() {
                           times);
   });
   Print("merge of 8 scans, an entry, beside the walks that make entries", kCount, merge, walks);
-  Print("merge of 8 trusted scans, an entry, beside the walks that make entries", kCount,
-        [&](uint64_t times) {
-          return sst_trusted_merge(At(bytes), bytes.size(), kCount, kPerBlock, kInterval, 0, 100,
-                                   kBits, kTables, times);
-        },
-        walks);
+  for (bool taken : {false, true}) {
+    Print(taken ? "merge of 8 trusted scans, where each entry is taken"
+                : "merge of 8 trusted scans, an entry, beside the walks that make entries",
+          kCount,
+          [&, taken](uint64_t times) {
+            return sst_trusted_merge(At(bytes), bytes.size(), kCount, kPerBlock, kInterval, 0, 100,
+                                     kBits, kTables, taken, times);
+          },
+          walks);
+  }
   for (bool made : {false, true}) {
     Print(made ? "merge of 8 scans of borrowed bytes that makes entries, beside the walks that do"
                : "merge of 8 scans of borrowed bytes, beside the walks over borrowed bytes",

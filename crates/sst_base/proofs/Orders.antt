@@ -1,6 +1,6 @@
 -- The bytewise order, a word or a byte a step.
 use Rattle.std.proofs.Common.{◌≡◌, ◌≢◌, ℕ, ◌+◌, ◌*◌, ◌<◌, ◌≤◌, suc, List, [], ◌∷◌, ◌++◌, length, get_or, take, drop, min, refl, arith, sym, ◌∙◌, ap, drop-cons, length-drop, add-one, take-add}
-use Rattle.std.proofs.lemmas.List.{length-take-le}
+use Rattle.std.proofs.lemmas.List.{length-take-le, take-append-drop}
 use Rattle.std.proofs.lemmas.Cmp.{ranked}
 use Rattle.std.specs.Cmp.{nat_cmp_is}
 use Rattle.std.specs.Cmp.Lexicographic.{slice_cmp}
@@ -70,24 +70,37 @@ word_cmp a b i c d h k =
     slice_cmp-big_number 8 (take 8 (drop i a)) (take 8 (drop i b)) (IsBytes-take 8 (drop i a) (IsBytes-drop i a c)) (IsBytes-take 8 (drop i b) (IsBytes-drop i b d)) la lb
     ∙ (λ j. nat_cmp (big_from-take 0 8 8 (drop i a) (omega arith) j) (big_from-take 0 8 8 (drop i b) (omega arith) j))
 
-pub words_same : (a b : List ℕ) (i x y : ℕ) (whole : Ordering) → IsBytes a → IsBytes b → 8 * i + 8 ≤ length a → 8 * i + 8 ≤ length b → x ≡ big_number 8 (drop (8 * i) a) → y ≡ big_number 8 (drop (8 * i) b) → x ≡ y → slice_cmp nat_cmp (drop (8 * i) a) (drop (8 * i) b) ≡ whole → slice_cmp nat_cmp (drop (8 * (i + 1)) a) (drop (8 * (i + 1)) b) ≡ whole
-words_same a b i x y whole c d h k p q e s =
-    let n : 8 * (i + 1) ≡ 8 * i + 8 = omega arith in
-    let same : slice_cmp nat_cmp (take 8 (drop (8 * i) a)) (take 8 (drop (8 * i) b)) ≡ Equal = word_cmp a b (8 * i) c d h k ∙ sym (nat_cmp_is _ _ Equal (sym p ∙ e ∙ q)) in
-    ap (λ m. slice_cmp nat_cmp (drop m a) (drop m b)) n
-    ∙ ap (λ o. ordering_then o (slice_cmp nat_cmp (drop (8 * i + 8) a) (drop (8 * i + 8) b))) (sym same)
-    ∙ sym (at_word a b (8 * i) h k) ∙ s
-
-pub words_differ : (a b : List ℕ) (i x y : ℕ) (whole : Ordering) → IsBytes a → IsBytes b → 8 * i + 8 ≤ length a → 8 * i + 8 ≤ length b → x ≡ big_number 8 (drop (8 * i) a) → y ≡ big_number 8 (drop (8 * i) b) → x ≢ y → slice_cmp nat_cmp (drop (8 * i) a) (drop (8 * i) b) ≡ whole → nat_cmp x y ≡ whole
-words_differ a b i x y whole c d h k p q ne s =
-    let cmp : nat_cmp x y ≡ slice_cmp nat_cmp (take 8 (drop (8 * i) a)) (take 8 (drop (8 * i) b)) = ap (λ m. nat_cmp m y) p ∙ ap (nat_cmp _) q ∙ sym (word_cmp a b (8 * i) c d h k) in
-    sym (decided (nat_cmp x y) (slice_cmp nat_cmp (drop (8 * i + 8) a) (drop (8 * i + 8) b)) (differ x y ne))
-    ∙ ap (λ o. ordering_then o (slice_cmp nat_cmp (drop (8 * i + 8) a) (drop (8 * i + 8) b))) cmp
-    ∙ sym (at_word a b (8 * i) h k) ∙ s
-
 -- one more word agrees
 pub words_agree : (a b : List ℕ) (i x y : ℕ) → IsBytes a → IsBytes b → 8 * i + 8 ≤ length a → 8 * i + 8 ≤ length b → x ≡ big_number 8 (drop (8 * i) a) → y ≡ big_number 8 (drop (8 * i) b) → x ≡ y → take (8 * i) a ≡ take (8 * i) b → take (8 * (i + 1)) a ≡ take (8 * (i + 1)) b
 words_agree a b i x y c d h k p q e s =
     let n : 8 * (i + 1) ≡ 8 * i + 8 = omega arith in
     let same : take 8 (drop (8 * i) a) ≡ take 8 (drop (8 * i) b) = (slice_cmp-equal _ _).0 (word_cmp a b (8 * i) c d h k ∙ sym (nat_cmp_is _ _ Equal (sym p ∙ e ∙ q))) in
     ap (λ m. take m a) n ∙ take-add (8 * i) 8 a ∙ (λ j. s j ++ same j) ∙ sym (take-add (8 * i) 8 b) ∙ ap (λ m. take m b) (sym n)
+
+-- where the first bytes are the same, the others decide
+pub same_front : (a b : List ℕ) (n : ℕ) → n ≤ length a → n ≤ length b → take n a ≡ take n b → slice_cmp nat_cmp (drop n a) (drop n b) ≡ slice_cmp nat_cmp a b
+same_front a b n h k s =
+    let la : length (take n a) ≡ n = length-take-le n a h in
+    let lb : length (take n b) ≡ n = length-take-le n b k in
+    let same : slice_cmp nat_cmp (take n a) (take n b) ≡ Equal = (slice_cmp-equal _ _).1 s in
+    ap (λ o. ordering_then o (slice_cmp nat_cmp (drop n a) (drop n b))) (sym same)
+    ∙ sym (slice_cmp-append (take n a) (take n b) (drop n a) (drop n b) (la ∙ sym lb))
+    ∙ (λ j. slice_cmp nat_cmp (take-append-drop n a j) (take-append-drop n b j))
+
+-- behind the same bytes the words at an index decide where they differ
+pub words_decide : (a b : List ℕ) (i x y : ℕ) → IsBytes a → IsBytes b → i + 8 ≤ length a → i + 8 ≤ length b → x ≡ big_number 8 (drop i a) → y ≡ big_number 8 (drop i b) → x ≢ y → take i a ≡ take i b → nat_cmp x y ≡ slice_cmp nat_cmp a b
+words_decide a b i x y c d h k p q ne s =
+    let cmp : nat_cmp x y ≡ slice_cmp nat_cmp (take 8 (drop i a)) (take 8 (drop i b)) = ap (λ m. nat_cmp m y) p ∙ ap (nat_cmp _) q ∙ sym (word_cmp a b i c d h k) in
+    sym (decided (nat_cmp x y) (slice_cmp nat_cmp (drop (i + 8) a) (drop (i + 8) b)) (differ x y ne))
+    ∙ ap (λ o. ordering_then o (slice_cmp nat_cmp (drop (i + 8) a) (drop (i + 8) b))) cmp
+    ∙ sym (at_word a b i h k) ∙ same_front a b i (omega (arith, h)) (omega (arith, k)) s
+
+-- where they are the same, and end the shorter string, the lengths decide
+pub last_words_same : (a b : List ℕ) (i x y : ℕ) → IsBytes a → IsBytes b → i + 8 ≡ min (length a) (length b) → x ≡ big_number 8 (drop i a) → y ≡ big_number 8 (drop i b) → x ≡ y → take i a ≡ take i b → nat_cmp (length a) (length b) ≡ slice_cmp nat_cmp a b
+last_words_same a b i x y c d e p q xy s =
+    let h : i + 8 ≤ length a = omega (arith, e) in
+    let k : i + 8 ≤ length b = omega (arith, e) in
+    let same : slice_cmp nat_cmp (take 8 (drop i a)) (take 8 (drop i b)) ≡ Equal = word_cmp a b i c d h k ∙ sym (nat_cmp_is _ _ Equal (sym p ∙ xy ∙ q)) in
+    tails_end a b (i + 8) (slice_cmp nat_cmp a b) e
+    (ap (λ o. ordering_then o (slice_cmp nat_cmp (drop (i + 8) a) (drop (i + 8) b))) (sym same)
+    ∙ sym (at_word a b i h k) ∙ same_front a b i (omega (arith, h)) (omega (arith, k)) s)

@@ -30,3 +30,4 @@ pub mod SliceBytes
 pub mod Peekable
 pub mod ListIterators
 pub mod Reciprocal
+pub mod NumberLaws

@@ -1,5 +1,6 @@
 -- The bytes of the types of entries.
 use Rattle.std.specs.Prelude.{◌≡◌, ℕ, ◌⊎◌, nat_eq, if◌then◌else◌, Option, Some, None}
+use Rattle.std.specs.Option.{unwrap_or}
 use Rattle.sst_base.specs.declared.value_type.ValueType.{ValueType}
 use Rattle.sst_base.specs.declared.value_type.ValueType.TheVariants.{Value, Tombstone, WeakTombstone, Indirection}
 
@@ -21,11 +22,7 @@ value_type_of byte =
 
 -- the type that a word stands for: that of its byte, a value for any other word
 abbrev pub type_of_word : ℕ → ValueType
-type_of_word word =
-    if nat_eq word 1 then Tombstone
-    else if nat_eq word 2 then WeakTombstone
-    else if nat_eq word 4 then Indirection
-    else Value
+type_of_word word = unwrap_or (value_type_of word) Value
 
 -- an entry of this type deletes its key
 abbrev pub IsTombstone : ValueType → Type 0

@@ -109,11 +109,32 @@ fn add_taken<I: Source<InternalValue>>(
     Some(sum)
 }
 
+// Adds each of so many entries where its source holds it, and passes it.
+#[inline(always)]
+fn add_passed<I: Source<InternalValue> + Drop>(
+    so_far: u64,
+    merged: &mut Merge<InternalValue, I>,
+    count: usize,
+    alloc: Global,
+) -> Option<u64> {
+    let mut sum = so_far;
+    for _ in 0..count {
+        match merged.peek() {
+            Some(entry) => sum = sum.wrapping_add(entry_sum(entry)),
+            None => return None,
+        }
+        if merged.advance(alloc).is_err() {
+            return None;
+        }
+    }
+    Some(sum)
+}
+
 // Opens the tables, merges their scans, and adds each entry.
 #[inline(never)]
 fn add_merged(so_far: u64, runs: &[Stored], count: usize, alloc: Global) -> Option<u64> {
     let mut merged = Merge::new(scans_of(alloc, tables_of(alloc, runs)?)?);
-    add_taken(so_far, &mut merged, count, alloc)
+    add_passed(so_far, &mut merged, count, alloc)
 }
 
 // Checks a table whole, and trusts it.
@@ -149,9 +170,21 @@ fn trusted_scans_of<'a>(
     Some(scans)
 }
 
-// Merges scans of trusted tables, and adds each entry.
+// Merges scans of trusted tables, and adds each entry where its source holds it.
 #[inline(never)]
 fn add_trusted_merged(
+    so_far: u64,
+    tables: &[Trusted<'_, Poly31>],
+    count: usize,
+    alloc: Global,
+) -> Option<u64> {
+    let mut merged = Merge::new(trusted_scans_of(alloc, tables)?);
+    add_passed(so_far, &mut merged, count, alloc)
+}
+
+// Merges scans of trusted tables, takes each entry, and adds it.
+#[inline(never)]
+fn add_trusted_taken(
     so_far: u64,
     tables: &[Trusted<'_, Poly31>],
     count: usize,
@@ -162,12 +195,22 @@ fn add_trusted_merged(
 }
 
 // Opens and checks the tables, and merges their scans without checks, so many times.
-fn trusted_merged_in(alloc: Global, runs: &[Stored], count: usize, times: u64) -> Option<u64> {
+fn trusted_merged_in(
+    alloc: Global,
+    runs: &[Stored],
+    count: usize,
+    times: u64,
+    taken: bool,
+) -> Option<u64> {
     let mut tables = tables_of(alloc, runs)?;
     let trusted = all_trusted(alloc, tables.as_mut_slice())?;
     let mut sum = 0;
     for _ in 0..times {
-        sum = add_trusted_merged(sum, &trusted, count, alloc)?;
+        sum = if taken {
+            add_trusted_taken(sum, &trusted, count, alloc)?
+        } else {
+            add_trusted_merged(sum, &trusted, count, alloc)?
+        };
     }
     Some(sum)
 }
@@ -205,7 +248,7 @@ pub extern "C" fn sst_table_merge(
 }
 
 /// Opens tables over the runs of the entries' parts once, merges their scans without checks, and
-/// adds each entry.
+/// adds each entry: one that is taken, or else where its source holds it.
 #[unsafe(no_mangle)]
 pub extern "C" fn sst_trusted_merge(
     bytes: &[u8],
@@ -216,6 +259,7 @@ pub extern "C" fn sst_trusted_merge(
     den: u32,
     bits: u32,
     tables: usize,
+    taken: u32,
     times: u64,
     alloc: Global,
 ) -> u64 {
@@ -226,5 +270,5 @@ pub extern "C" fn sst_trusted_merge(
     let Some(runs) = runs_of(alloc, items.as_slice(), per_block, config, tables) else {
         return REFUSED;
     };
-    trusted_merged_in(alloc, &runs, count, times).unwrap_or(REFUSED)
+    trusted_merged_in(alloc, &runs, count, times, taken != 0).unwrap_or(REFUSED)
 }

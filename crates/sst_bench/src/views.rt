@@ -17,7 +17,7 @@ use crate::sums::{entry_sum, view_sum};
 use sst_base::{Block, BlockHash, BlockType, HashRatio, InternalValue, Poly31, Slice, Steps};
 use sst_block_kinds::DataBlock;
 use sst_block_kinds::table::data_block::{DataBlockRef, EntryView};
-use sst_merge::{Head, Merge, Source};
+use sst_merge::{Head, Merge};
 use sstable_blocks::run::{RunRef, RunScan, Trusted};
 use sstable_blocks::{MemorySource, RunConfig, RunHandles, Table};
 use std::alloc::Global;
@@ -321,7 +321,7 @@ fn scans_of<'a>(
     Some(scans)
 }
 
-// Merges scans of runs, and adds each entry.
+// Merges scans of runs, and adds each entry where its source holds it.
 #[inline(never)]
 fn add_merged(
     so_far: u64,
@@ -332,10 +332,12 @@ fn add_merged(
     let mut merged = Merge::new(scans_of(alloc, tables)?);
     let mut sum = so_far;
     for _ in 0..count {
-        let step = merged.next_entry(alloc);
-        match &step {
-            Ok(Some(view)) => sum = sum.wrapping_add(view_sum(view)),
-            _ => return None,
+        match merged.peek() {
+            Some(view) => sum = sum.wrapping_add(view_sum(view)),
+            None => return None,
+        }
+        if merged.advance(alloc).is_err() {
+            return None;
         }
     }
     Some(sum)
@@ -352,13 +354,15 @@ fn add_merged_made(
     let mut merged = Merge::new(scans_of(alloc, tables)?);
     let mut sum = so_far;
     for _ in 0..count {
-        let step = merged.next_entry(alloc);
-        let Ok(Some(view)) = &step else {
+        let Some(view) = merged.peek() else {
             return None;
         };
-        match view.to_entry(alloc) {
-            Ok(entry) => sum = sum.wrapping_add(entry_sum(&entry)),
+        match &view.to_entry(alloc) {
+            Ok(entry) => sum = sum.wrapping_add(entry_sum(entry)),
             Err(_) => return None,
+        }
+        if merged.advance(alloc).is_err() {
+            return None;
         }
     }
     Some(sum)

@@ -1,1 +1,4 @@
 pub mod MadePicks
+pub mod FrontNumbers
+pub mod FrontOrder
+pub mod Peeks

@@ -49,7 +49,7 @@ module _ {X : Type 0} (wins : List X → List X → Bool) where
       step_by t i m behind (place k.rest k.known) ∙ ap (λ b. i + cond b 0 (suc m)) u ∙ ap (λ yss. i + pick wins yss) (sym k.is)
 
   -- the list of the source that is picked
-  picked_list : (ls : List (Left X)) (n place : ℕ) (l : Left X) (xss : List (List X)) → l ≡ get_or ls place l → IsPick wins ls n place → lists_left (drop n ls) ≡ Some xss → l.list ≡ Some (list_at xss (pick wins xss))
+  pub picked_list : (ls : List (Left X)) (n place : ℕ) (l : Left X) (xss : List (List X)) → l ≡ get_or ls place l → IsPick wins ls n place → lists_left (drop n ls) ≡ Some xss → l.list ≡ Some (list_at xss (pick wins xss))
   picked_list ls n place l xss here p known =
       let f = λ (s : Left X). s.list in
       let m = pick wins xss in

@@ -4,6 +4,7 @@ pub mod Compact
 pub mod CompactLaws
 pub mod Counts
 pub mod CountLaws
+pub mod Fronts
 pub mod Merge
 pub mod MergeLaws
 pub mod MergeReads

@@ -1,5 +1,5 @@
 -- Laws of what is known of sources.
-use Rattle.std.proofs.Common.{◌≡◌, ℕ, zero, suc, ◌+◌, ◌<◌, ◌≤◌, List, [], ◌∷◌, length, map, get_or, Option, Some, None, refl, sym, ap, subst, ◌∙◌, arith}
+use Rattle.std.proofs.Common.{◌≡◌, ℕ, zero, suc, ◌+◌, ◌<◌, ◌≤◌, List, [], ◌∷◌, length, map, get_or, Option, Some, None, refl, sym, ap, subst, ◌∙◌, arith, Bool, true, false, is_some}
 use Rattle.std.specs.Prelude.{IfSome}
 use Rattle.std.specs.Option.{option_map}
 use Rattle.std.proofs.Math.ListN.{set}
@@ -9,7 +9,7 @@ use Rattle.std.specs.List.{sum_by}
 use Rattle.std.specs.declared.cmp.Ordering.{Ordering}
 use Rattle.sst_merge.specs.Merge.{merged}
 use Rattle.sst_merge.specs.Picks.{IsPick, list_at, least, least_none, least_some, wins}
-use Rattle.sst_merge.specs.Sources.{Left, TakesFirst, before, held_count, IsHeld, all_known, lists_left, all_left}
+use Rattle.sst_merge.specs.Sources.{Left, TakesFirst, PassesFirst, before, held_count, left_held, IsHeld, all_known, lists_left, all_left}
 
 same_list : {X : Type 0} (o : Option (List X)) → option_map (before None) o ≡ o
 same_list None = refl
@@ -27,6 +27,13 @@ held_is s t (Some x) h = tt
 pub held_most : {X : Type 0} (s t : Left X) (r : Option X) → TakesFirst s r t → held_count r + t.most ≤ s.most
 held_most s t None h = omega (arith, h.2)
 held_most s t (Some x) h = omega (arith, h.1)
+
+-- the item that was held is passed, and the next one is held
+pub passed_held : {X : Type 0} (h : Option X) (s t all : Left X) (r : Option X) → left_held h s ≡ all → is_some h ≡ true → TakesFirst s r t → PassesFirst all true (left_held r t)
+passed_held None s t all r e n step = absurd (cc)
+passed_held (Some x) s t all r e n step =
+    let kept : TakesFirst (left_held (Some x) s) (Some x) (left_held r t) = (ap (option_map (λ xs. x ∷ xs)) (sym (held_before s t r step)), (let m = held_most s t r step in omega (arith, m))) in
+    (x, subst (λ o. TakesFirst o (Some x) (left_held r t)) e kept)
 
 some_is : {A : Type 0} (x y : A) → ◌≡◌ {A = Option A} (Some x) (Some y) → x ≡ y
 some_is x y e = cc
@@ -178,6 +185,12 @@ module _ {X : Type 0} (cmp : X → X → Ordering) where
   taken_merge ls i old new all r whole p is step =
       subst (λ o. TakesFirst o r (all_left (merged cmp) (set ls i new))) whole
       (taken_from ls i old new r (λ xss known. (let e = p.is xss known in omega (arith, e))) p.inside is step)
+
+  -- the same of a step that passes it
+  pub passed_merge : (ls : List (Left X)) (i : ℕ) (old new all : Left X) (passed : Bool) → all_left (merged cmp) ls ≡ all → IsPick (wins cmp) ls 0 i → old ≡ get_or ls i old
+      → PassesFirst old passed new → PassesFirst all passed (all_left (merged cmp) (set ls i new))
+  passed_merge ls i old new all true whole p is step = (step.0, taken_merge ls i old new all (Some step.0) whole p is step.1)
+  passed_merge ls i old new all false whole p is step = taken_merge ls i old new all None whole p is step
 
 -- as many lists are known as there are sources
 pub lists_length : {X : Type 0} (ls : List (Left X)) (xss : List (List X)) → lists_left ls ≡ Some xss → length xss ≡ length ls

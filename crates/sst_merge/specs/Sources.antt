@@ -1,5 +1,5 @@
 -- What clauses know of sources.
-use Rattle.std.specs.Prelude.{◌≡◌, ℕ, ◌+◌, ◌<◌, ◌≤◌, List, [], ◌∷◌, ◌++◌, map, Option, Some, None, IfSome}
+use Rattle.std.specs.Prelude.{◌≡◌, ℕ, ◌+◌, ◌<◌, ◌≤◌, List, [], ◌∷◌, ◌++◌, map, Option, Some, None, IfSome, Bool, true, false}
 use Rattle.std.specs.Option.{option_map}
 use Rattle.std.specs.List.{sum_by}
 use Rattle.std.specs.declared.cmp.Ordering.{Ordering}
@@ -15,6 +15,11 @@ pub record Left (X : Type 0) : Type 0 where
 abbrev pub TakesFirst : {X : Type 0} → Left X → Option X → Left X → Type 0
 TakesFirst s None t = (t.list ≡ s.list) × IfSome s.list (λ xs. xs ≡ []) × (t.most ≤ s.most)
 TakesFirst s (Some x) t = (s.list ≡ option_map (λ xs. x ∷ xs) t.list) × (t.most < s.most)
+
+-- a step passes the first item of what is left, if there is one, and tells whether there was
+abbrev pub PassesFirst : {X : Type 0} → Left X → Bool → Left X → Type 0
+PassesFirst {X = X} s true t = (x : X) × TakesFirst s (Some x) t
+PassesFirst s false t = TakesFirst s None t
 
 -- these items were taken, and what is left after them is known where they are
 abbrev pub IsTaken : {X : Type 0} → Option (List X) → List X → Option (List X) → Type 0

@@ -4,6 +4,7 @@
 
 pub mod compact;
 pub mod compaction;
+pub mod front;
 pub mod laws;
 pub mod memory;
 pub mod merge;

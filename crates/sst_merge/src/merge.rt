@@ -1,9 +1,10 @@
 //! Ordered merges of any number of sources.
 ghost use Rattle.std.specs.Prelude.{◌≡◌, ◌+◌, ◌<◌, ◌≤◌, List, length, slice_get, IfOk, IfSome, OnErr, OnOk, Some};
 ghost use Rattle.std.specs.Option.{option_map};
+ghost use Rattle.sst_merge.specs.Fronts.{IsFrontOf};
 ghost use Rattle.sst_merge.specs.Merge.{order_by, merged};
 ghost use Rattle.sst_merge.specs.Picks.{ArePicks, IsPick, wins};
-ghost use Rattle.sst_merge.specs.Sources.{TakesFirst, all_left};
+ghost use Rattle.sst_merge.specs.Sources.{TakesFirst, PassesFirst, all_left};
 
 use crate::source::Source;
 use crate::version::Version;
@@ -15,22 +16,37 @@ use std::mem;
 
 /// A source whose first version is held. Clauses see the versions left, that one included.
 #[derive(Drop)]
-pub struct Head<T, I: Source<T>> {
+pub struct Head<T: Version, I: Source<T>> {
     held: Option<T>,
+    // The front of the version that is held, the greatest number where none is.
+    front: u128,
     source: I,
 }
 
-impl<T, I: Source<T>> Model for Head<T, I> {
+impl<T: Version, I: Source<T>> Model for Head<T, I> {
+    ghost use Rattle.sst_merge.specs.Fronts.{IsFrontOf};
     ghost use Rattle.sst_merge.specs.Sources.{Left, left_held, IsHeld};
 
     ghost Value = { Left T };
 
     ghost view = { λ h. left_held h.held (I.left h.source) };
 
-    ghost invariant = { λ h. IsHeld h.held (I.left h.source).list };
+    ghost invariant = { λ h. IsHeld h.held (I.left h.source).list
+        × IsFrontOf T.entry h.held h.front };
 }
 
-impl<T: Drop, I: Source<T> + Drop> Head<T, I> {
+// The front of a version that may be held.
+#[inline(always)]
+fn front_of_held<T: Version>(held: &Option<T>) -> u128
+    ensures { IsFrontOf T.entry held.now result }
+{
+    match held {
+        Some(version) => version.front(),
+        None => u128::MAX,
+    }
+}
+
+impl<T: Version + Drop, I: Source<T> + Drop> Head<T, I> {
     /// Takes the first version of a source, and holds it.
     ///
     /// # Errors
@@ -42,11 +58,16 @@ impl<T: Drop, I: Source<T> + Drop> Head<T, I> {
         ensures most { IfOk result (λ head. head.most ≤ (I.left source).most) }
     {
         let held = source.next_entry(alloc)?;
-        Ok(Head { held, source })
+        let front = front_of_held(&held);
+        Ok(Head {
+            held,
+            front,
+            source,
+        })
     }
 }
 
-impl<T, I: Source<T>> Head<T, I> {
+impl<T: Version, I: Source<T>> Head<T, I> {
     /// Returns the first version left, if there is one.
     #[inline(always)]
     pub fn peek(&self) -> Option<&T>
@@ -58,7 +79,7 @@ impl<T, I: Source<T>> Head<T, I> {
     }
 }
 
-impl<T: Drop, I: Source<T>> Head<T, I> {
+impl<T: Version + Drop, I: Source<T>> Head<T, I> {
     /// Takes the first version left, if there is one.
     ///
     /// # Errors
@@ -73,18 +94,48 @@ impl<T: Drop, I: Source<T>> Head<T, I> {
         }
         // (a `?` would copy what it passes on)
         match self.source.next_entry(alloc) {
-            Ok(next) => Ok(mem::replace(&mut self.held, next)),
+            Ok(next) => {
+                self.front = front_of_held(&next);
+                Ok(mem::replace(&mut self.held, next))
+            }
+            Err(error) => Err(error),
+        }
+    }
+
+    /// Passes the first version left, if there is one: the next one is then held in its place.
+    /// Returns whether there was one.
+    ///
+    /// # Errors
+    ///
+    /// Those of the source's step. The first version is then still held.
+    #[inline(always)]
+    pub fn advance(&mut self, alloc: Global) -> Result<bool>
+        ensures { IfOk result (λ passed. PassesFirst self.old passed self.new) }
+    {
+        if self.held.is_none() {
+            return Ok(false);
+        }
+        match self.source.next_entry(alloc) {
+            Ok(next) => {
+                self.front = front_of_held(&next);
+                self.held = next;
+                Ok(true)
+            }
             Err(error) => Err(error),
         }
     }
 }
 
-// Whether the version that is held of one source comes before that of a later source.
+// Whether the version that is held of one source comes before that of a later source. Where their
+// fronts differ, nothing else is compared.
 #[inline(always)]
 fn goes_first<T: Version, I: Source<T>>(first: &Head<T, I>, second: &Head<T, I>) -> bool
     ensures { (xs ys : List T) → first.now.list ≡ Some xs → second.now.list ≡ Some ys
         → result ≡ wins (order_by T.entry) xs ys }
 {
+    if first.front != second.front {
+        return first.front < second.front;
+    }
     match (&first.held, &second.held) {
         (_, None) => true,
         (None, Some(_)) => false,
@@ -121,6 +172,7 @@ fn pick_at<T: Version, I: Source<T>>(heads: &[Head<T, I>], picks: &[usize], i: u
 }
 
 // Makes the picks before an index, from the last to the first, and returns the pick of all.
+#[inline(always)]
 fn pick_of_all<T: Version, I: Source<T>>(
     heads: &[Head<T, I>],
     picks: &mut [usize],
@@ -140,25 +192,70 @@ fn pick_of_all<T: Version, I: Source<T>>(
     picks[0]
 }
 
-// Gives each source a pick, if they have none yet, and returns from which index on they are made.
+// Gives each source a pick, and returns from which index on they are made: none is yet.
+#[inline(never)]
 fn place_picks<T: Version, I: Source<T>>(
     alloc: Global,
     heads: &[Head<T, I>],
     picks: &mut Vec<usize>,
-    made: usize,
 ) -> Result<usize>
-    requires { ArePicks (wins (order_by T.entry)) heads.now picks.old.items made }
     ensures len { OnOk result (length picks.new.items ≡ length heads.now) }
     ensures made { IfOk result
         (λ made. ArePicks (wins (order_by T.entry)) heads.now picks.new.items made) }
     ensures kept { OnErr result (picks.new.items ≡ picks.old.items) }
 {
     let count = heads.len();
-    if picks.len() == count {
-        return Ok(made);
-    }
     *picks = vec![in alloc; 0; count]?;
     Ok(count)
+}
+
+// Makes the picks that are still to be made, and returns the pick of all sources.
+#[inline(always)]
+fn pick_first<T: Version, I: Source<T>>(
+    alloc: Global,
+    heads: &[Head<T, I>],
+    picks: &mut Vec<usize>,
+    made: &mut usize,
+) -> Result<usize>
+    requires some { 0 < length heads.now }
+    requires picks { ArePicks (wins (order_by T.entry)) heads.now picks.old.items made.old }
+    ensures kept { ArePicks (wins (order_by T.entry)) heads.now picks.new.items made.new }
+    ensures all { OnOk result (made.new ≡ 0) }
+    ensures first { IfOk result (IsPick (wins (order_by T.entry)) heads.now 0) }
+{
+    if picks.len() != heads.len() {
+        *made = place_picks(alloc, heads, picks)?;
+    }
+    let first = pick_of_all(heads, picks.as_mut_slice(), *made);
+    *made = 0;
+    Ok(first)
+}
+
+// The pick of all sources, where no picks are made.
+fn pick_anew<T: Version, I: Source<T>>(heads: &[Head<T, I>]) -> usize
+    requires { 0 < length heads.now }
+    ensures { IsPick (wins (order_by T.entry)) heads.now 0 result }
+{
+    let mut i = heads.len() - 1;
+    let mut pick = i;
+    while i > 0 {
+        i -= 1;
+        pick = better(heads, i, pick);
+    }
+    pick
+}
+
+// The pick of all sources, from those that are made or anew.
+#[inline(always)]
+fn pick_now<T: Version, I: Source<T>>(heads: &[Head<T, I>], picks: &[usize], made: usize) -> usize
+    requires some { 0 < length heads.now }
+    requires picks { ArePicks (wins (order_by T.entry)) heads.now picks.now made }
+    ensures { IsPick (wins (order_by T.entry)) heads.now 0 result }
+{
+    match picks.first() {
+        Some(first) if made == 0 => *first,
+        _ => pick_anew(heads),
+    }
 }
 
 /// The ordered merge of any number of sources: of equal versions, those of the earlier source come
@@ -199,6 +296,43 @@ impl<T: Version, I: Source<T>> Merge<T, I> {
     }
 }
 
+impl<T: Version, I: Source<T>> Merge<T, I> {
+    /// Returns the first version left, if there is one, where its source holds it: it is not moved,
+    /// as [`Merge::advance`] passes it and [`Source::next_entry`] takes it.
+    ///
+    /// Where the last step was an `advance`, nothing is compared.
+    pub fn peek(&self) -> Option<&T>
+        ensures first { IfSome self.now.list
+            (λ xs. option_map (λ x. x.now) result ≡ slice_get xs 0) }
+    {
+        if self.heads.is_empty() {
+            return None;
+        }
+        self.heads[pick_now(&self.heads, &self.picks, self.made)].peek()
+    }
+}
+
+impl<T: Version + Drop, I: Source<T> + Drop> Merge<T, I> {
+    /// Passes the first version left, if there is one. Returns whether there was one.
+    ///
+    /// # Errors
+    ///
+    /// Those of the source's step, and `Error::Memory` if an allocation fails. What is left then is
+    /// not said.
+    pub fn advance(&mut self, alloc: Global) -> Result<bool>
+        ensures { IfOk result (λ passed. PassesFirst self.old passed self.new) }
+    {
+        if self.heads.is_empty() {
+            return Ok(false);
+        }
+        let first = pick_first(alloc, &self.heads, &mut self.picks, &mut self.made)?;
+        self.made = first + 1;
+        let passed = self.heads[first].advance(alloc)?;
+        pick_first(alloc, &self.heads, &mut self.picks, &mut self.made)?;
+        Ok(passed)
+    }
+}
+
 /// Takes the first version of the merge.
 impl<T: Version + Drop, I: Source<T> + Drop> Source<T> for Merge<T, I> {
     ghost left = { λ m. m };
@@ -207,8 +341,7 @@ impl<T: Version + Drop, I: Source<T> + Drop> Source<T> for Merge<T, I> {
         if self.heads.is_empty() {
             return Ok(None);
         }
-        self.made = place_picks(alloc, &self.heads, &mut self.picks, self.made)?;
-        let first = pick_of_all(&self.heads, self.picks.as_mut_slice(), self.made);
+        let first = pick_first(alloc, &self.heads, &mut self.picks, &mut self.made)?;
         self.made = first + 1;
         self.heads[first].take(alloc)
     }

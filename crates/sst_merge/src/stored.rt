@@ -25,6 +25,7 @@ impl<'k, H: BlockHash, S: FrameSource> Source<InternalValue> for Scan<'k, H, S> 
       most = most_left s;
     } };
 
+    #[inline(always)]
     fn next_entry(&mut self, alloc: Global) -> Result<Option<InternalValue>> {
         self.next_entry(alloc)
     }
@@ -38,6 +39,7 @@ impl<'k, H: BlockHash, S: FrameSource> BackSource<InternalValue> for Scan<'k, H,
       most = most_left s;
     } };
 
+    #[inline(always)]
     fn next_entry_back(&mut self, alloc: Global) -> Result<Option<InternalValue>> {
         self.next_entry_back(alloc)
     }
@@ -47,6 +49,7 @@ impl<'k, H: BlockHash, S: FrameSource> BackSource<InternalValue> for Scan<'k, H,
 impl<'a, 'k, H: BlockHash> Source<InternalValue> for TrustedScan<'a, 'k, H> {
     ghost left = { λ s. record { list = Some s.left; most = length s.left } };
 
+    #[inline(always)]
     fn next_entry(&mut self, alloc: Global) -> Result<Option<InternalValue>> {
         TrustedScan::next_entry(self, alloc)
     }
@@ -56,6 +59,7 @@ impl<'a, 'k, H: BlockHash> Source<InternalValue> for TrustedScan<'a, 'k, H> {
 impl<'a, 'k, H: BlockHash> BackSource<InternalValue> for TrustedScan<'a, 'k, H> {
     ghost left_back = { λ s. record { list = Some s.left; most = length s.left } };
 
+    #[inline(always)]
     fn next_entry_back(&mut self, alloc: Global) -> Result<Option<InternalValue>> {
         TrustedScan::next_entry_back(self, alloc)
     }

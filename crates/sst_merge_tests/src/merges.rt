@@ -2,7 +2,7 @@
 use crate::Tested;
 use crate::lists::{Memory, Row, T, V, W, drained, list_of, merge_of};
 use sst_base::{InternalValue, Result};
-use sst_merge::{Compact, Merge, Snapshot};
+use sst_merge::{Compact, Merge, Snapshot, Source};
 use std::alloc::Global;
 
 /// The lists of the worked example, the newest first. Of the two versions of c at 7 that of the
@@ -70,6 +70,44 @@ fn lists_are_merged(rt: HostRuntime) -> Tested {
         (b'e', 8, 3),
     ];
     assert!(rt; are(&merged, &wanted));
+    Ok(())
+}
+
+/// Passes all versions of a merge, each of which is copied before.
+fn passed(
+    alloc: Global,
+    merged: &mut Merge<InternalValue, Memory>,
+) -> Result<Vec<InternalValue>> {
+    let mut entries = Vec::new(alloc);
+    for _ in 0..WORKED {
+        if let Some(entry) = merged.peek() {
+            entries.push(entry.clone()?)?;
+        }
+        merged.advance(alloc)?;
+    }
+    Ok(entries)
+}
+
+/// The number of the versions in the worked lists.
+const WORKED: usize = 10;
+
+#[test]
+fn versions_are_passed_as_they_are_taken(rt: HostRuntime) -> Tested {
+    let alloc = rt.alloc();
+    for taken in 0..=WORKED {
+        let mut merged = worked(alloc)?;
+        let mut rest = worked(alloc)?;
+        for _ in 0..taken {
+            merged.advance(alloc)?;
+            rest.next_entry(alloc)?;
+            let first = merged.peek();
+            assert!(rt; first == rest.peek());
+        }
+        let passed = passed(alloc, &mut merged)?;
+        assert_eq!(rt; passed.len(), WORKED - taken);
+        assert!(rt; passed == drained(alloc, &mut rest)?);
+        assert!(rt; merged.peek().is_none());
+    }
     Ok(())
 }
 

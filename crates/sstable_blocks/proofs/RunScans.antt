@@ -12,7 +12,7 @@ use Rattle.sst_block_kinds.specs.Handles.{Handle}
 use Rattle.sstable_blocks.specs.Blocks.{joined}
 use Rattle.sstable_blocks.specs.Opened.{range_of, payload_in}
 use Rattle.sstable_blocks.specs.RunReading.{Hashes}
-use Rattle.sstable_blocks.specs.Scans.{KeyRange, within, reads_of, blocks_read, block_within, between, entries_read, entries_within, entries_among, first_block, end_block, handles_within, IsRead}
+use Rattle.sstable_blocks.specs.Scans.{KeyRange, within, reads_of, blocks_read, between, entries_read, entries_within, entries_among, first_block, end_block, handles_within, IsRead}
 use Rattle.sstable_blocks.proofs.ScanSteps.{taken, taken_back, none_between}
 use Rattle.sstable_blocks.proofs.TrustedScans.{entries_again, some_dropped, some_taken}
 

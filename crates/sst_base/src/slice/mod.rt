@@ -92,6 +92,7 @@ impl Slice {
     /// # Errors
     ///
     /// `Error::Memory` if an allocation fails.
+    #[inline(always)]
     pub fn new(alloc: Global, bytes: &[u8]) -> Result<Slice>
         ensures ok { IfOk result (λ s. s ≡ bytes.now) }
         ensures memory { IsOkUnless result Error.Memory }
@@ -99,7 +100,10 @@ impl Slice {
         if bytes.len() <= SHORT_LEN {
             return Ok(Slice::short(ShortBytes::new(bytes)));
         }
-        Ok(Slice::shared(SharedBytes::copied(alloc, bytes)?))
+        match SharedBytes::copied(alloc, bytes) {
+            Ok(copy) => Ok(Slice::shared(copy)),
+            Err(_) => Err(Error::Memory),
+        }
     }
 
     /// Returns the empty byte string. Takes no memory.
@@ -257,27 +261,18 @@ impl Slice {
     /// # Errors
     ///
     /// `Error::Memory` if an allocation fails.
+    #[inline(always)]
     pub fn fused(alloc: Global, left: &[u8], right: &[u8]) -> Result<Slice>
         ensures ok { IfOk result (λ s. s ≡ left.now ++ right.now) }
         ensures memory { IsOkUnless result Error.Memory }
     {
-        Ok(Slice::fuse(alloc, left, right)?)
-    }
-
-    // Copies two byte strings, the second after the first. It is a call, so that short strings are
-    // joined in registers by those that compile `joined` in.
-    #[inline(never)]
-    fn fuse(alloc: Global, left: &[u8], right: &[u8]) -> AllocResult<Slice>
-        ensures { IfOk result (λ s. s ≡ left.now ++ right.now) }
-    {
-        let len = left.len() + right.len();
-        if len <= SHORT_LEN {
+        if left.len() + right.len() <= SHORT_LEN {
             return Ok(Slice::short(ShortBytes::joined(left, right)));
         }
-        let mut both = Vec::with_capacity(alloc, len)?;
-        both.extend_from_slice(left)?;
-        both.extend_from_slice(right)?;
-        Ok(Slice::shared(SharedBytes::from_vec(both)?))
+        match SharedBytes::fused(alloc, left, right) {
+            Ok(both) => Ok(Slice::shared(both)),
+            Err(_) => Err(Error::Memory),
+        }
     }
 
     /// Copies the bytes of two ranges of these bytes, the second after the first. Both ranges lie
@@ -303,7 +298,10 @@ impl Slice {
         if (left.1 - left.0) + (right.1 - right.0) <= SHORT_LEN {
             return Ok(Slice::short(ShortBytes::joined_parts(bytes, left, right)));
         }
-        Slice::fuse(alloc, &bytes[left.0..left.1], &bytes[right.0..right.1])
+        match SharedBytes::fused(alloc, &bytes[left.0..left.1], &bytes[right.0..right.1]) {
+            Ok(both) => Ok(Slice::shared(both)),
+            Err(error) => Err(error),
+        }
     }
 
     /// Returns the bytes.

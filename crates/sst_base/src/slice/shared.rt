@@ -1,20 +1,27 @@
 //! Byte strings whose bytes are shared.
-ghost use Rattle.std.specs.Prelude.{◌≡◌, ◌-◌, ◌≤◌, length, take, drop, slice_range, IfOk};
+ghost use Rattle.std.specs.Prelude.{◌≡◌, ◌-◌, ◌≤◌, ◌++◌, length, take, drop, slice_range, IfOk};
 
 use crate::error::AllocResult;
 use std::alloc::Global;
 use std::marker::Model;
 use std::sync::Arc;
 
+// Words that fill the room of a short byte string.
+const FILL: [usize; 2] = [0, 0];
+
 /// A part of a byte string that may have several owners. Clauses see the list of its bytes.
 ///
-/// It consists of whole words: a field of one byte, as that of an `Option`, would lie over the bytes
-/// of a short string and cut them in odd pieces wherever a [`super::Slice`] is moved.
+/// Its room is that of a short byte string's 40 bytes, which are copied as two pieces of 16 bytes
+/// and one of 8. The pointer is the last word: where a [`super::Slice`] is moved, its place is moved
+/// apart from the others, and these are then the same pieces. A pointer in another place, or a field
+/// of one byte, would cut the bytes in other pieces, and each read of one of them would wait until
+/// those that it lies over are stored.
 #[derive(Drop)]
 pub(crate) struct SharedBytes {
-    owner: Arc<Vec<u8>>,
     start: usize,
     end: usize,
+    fill: [usize; 2],
+    owner: Arc<Vec<u8>>,
 }
 
 impl Model for SharedBytes {
@@ -40,9 +47,10 @@ impl SharedBytes {
         let alloc = *bytes.allocator();
         match Arc::new(alloc, bytes) {
             Ok(owner) => Ok(SharedBytes {
-                owner,
                 start: 0,
                 end,
+                fill: FILL,
+                owner,
             }),
             Err(failed) => Err(failed.into()),
         }
@@ -59,6 +67,22 @@ impl SharedBytes {
         let mut copy = Vec::with_capacity(alloc, bytes.len())?;
         copy.extend_from_slice(bytes)?;
         SharedBytes::from_vec(copy)
+    }
+
+    /// Copies two byte strings, the second after the first. It is a call, so that short strings are
+    /// joined in registers by those that compile [`super::Slice::joined`] in.
+    ///
+    /// # Errors
+    ///
+    /// If an allocation fails.
+    #[inline(never)]
+    pub(crate) fn fused(alloc: Global, left: &[u8], right: &[u8]) -> AllocResult<SharedBytes>
+        ensures { IfOk result (λ s. s ≡ left.now ++ right.now) }
+    {
+        let mut both = Vec::with_capacity(alloc, left.len() + right.len())?;
+        both.extend_from_slice(left)?;
+        both.extend_from_slice(right)?;
+        SharedBytes::from_vec(both)
     }
 
     /// Returns the bytes.
@@ -82,9 +106,10 @@ impl SharedBytes {
     {
         match self.owner.clone() {
             Ok(owner) => Ok(SharedBytes {
-                owner,
                 start: self.start + start,
                 end: self.start + end,
+                fill: FILL,
+                owner,
             }),
             Err(error) => Err(error),
         }
@@ -101,9 +126,10 @@ impl SharedBytes {
     {
         match self.owner.clone() {
             Ok(owner) => Ok(SharedBytes {
-                owner,
                 start: self.start,
                 end: self.end,
+                fill: FILL,
+                owner,
             }),
             Err(error) => Err(error),
         }

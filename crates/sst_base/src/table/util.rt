@@ -1,5 +1,5 @@
 //! Comparisons of byte strings.
-ghost use Rattle.std.specs.Prelude.{◌≡◌, ◌+◌, ◌≤◌, ◌++◌, length, take, drop};
+ghost use Rattle.std.specs.Prelude.{◌≡◌, ◌+◌, ◌-◌, ◌≤◌, ◌++◌, length, take, drop, min};
 ghost use Rattle.std.specs.Ordering.{nat_cmp};
 ghost use Rattle.std.specs.Cmp.Lexicographic.{slice_cmp};
 ghost use Rattle.byteorder.specs.Endian.{big_number};
@@ -22,7 +22,7 @@ fn word_at(bytes: &[u8], at: usize) -> u64
     BigEndian::read_u64(rest)
 }
 
-// The same as `compare_bytes`, a byte a step.
+// The same as `compare_bytes`, a byte a step: for strings one of which has less than eight bytes.
 #[tactic(auto, using(crate::proofs::Orders::tails_same, crate::proofs::Orders::tails_differ, crate::proofs::Orders::tails_end))]
 fn compare_tails(a: &[u8], b: &[u8]) -> Ordering
     ensures { result ≡ slice_cmp nat_cmp a.now b.now }
@@ -36,11 +36,29 @@ fn compare_tails(a: &[u8], b: &[u8]) -> Ordering
     a.len().cmp(&b.len())
 }
 
+// Compares two byte strings of at least eight bytes by the last eight of the shorter length, where
+// those before them are the same.
+#[inline(always)]
+fn compare_last_words(a: &[u8], b: &[u8], end: usize) -> Ordering
+    requires end { end ≡ min (length a.now) (length b.now) }
+    requires word { 8 ≤ end }
+    requires same { take (end - 8) a.now ≡ take (end - 8) b.now }
+    ensures { result ≡ slice_cmp nat_cmp a.now b.now }
+{
+    let x = word_at(a, end - 8);
+    let y = word_at(b, end - 8);
+    if x != y {
+        return x.cmp(&y);
+    }
+    a.len().cmp(&b.len())
+}
+
 /// Compares two byte strings bytewise: by the first byte in which they differ, else by length.
 pub fn compare_bytes(a: &[u8], b: &[u8]) -> Ordering
     ensures { result ≡ slice_cmp nat_cmp a.now b.now }
 {
-    let words = a.len().min(b.len()) / 8;
+    let end = a.len().min(b.len());
+    let words = end / 8;
     for i in 0..words {
         let x = word_at(a, 8 * i);
         let y = word_at(b, 8 * i);
@@ -48,9 +66,11 @@ pub fn compare_bytes(a: &[u8], b: &[u8]) -> Ordering
             return x.cmp(&y);
         }
     }
-    let (_, left) = a.split_at(8 * words);
-    let (_, right) = b.split_at(8 * words);
-    compare_tails(left, right)
+    if words == 0 {
+        compare_tails(a, b)
+    } else {
+        compare_last_words(a, b, end)
+    }
 }
 
 // The same as `longest_shared_prefix_length`, a byte a step.

@@ -7,6 +7,7 @@ pub mod checked_run;
 pub mod checking;
 pub mod footer;
 pub mod laws;
+mod open_block;
 mod open_filter;
 mod opener;
 pub mod read;

@@ -15,10 +15,11 @@ ghost use Rattle.sstable_blocks.specs.Sound.{IsSound};
 
 use super::bounds::Bounds;
 use super::laws::sound_is_scanned;
+use super::open_block::{OpenBlock, has_entry, open_at, take_first, take_last};
 use super::run_ref::RunRef;
 use sst_base::double_ended_peekable::ListIterator;
 use sst_base::{BlockHash, InternalValue};
-use sst_block_kinds::table::data_block::{EntryView, EntryViews};
+use sst_block_kinds::table::data_block::EntryView;
 use std::marker::Model;
 use std::mem;
 use std::ops::Bound;
@@ -27,61 +28,10 @@ use std::ops::Bound;
 // handles between them.
 #[derive(Drop)]
 struct Opened<'a> {
-    front: Option<EntryViews<'a>>,
+    front: Option<OpenBlock<'a>>,
     lo: usize,
     hi: usize,
-    back: Option<EntryViews<'a>>,
-}
-
-// Opens the block of a handle: its entries in the range.
-fn open_block<'a, H: BlockHash>(
-    run: &RunRef<'a, H>,
-    bounds: &Bounds<'_>,
-    index: usize,
-) -> EntryViews<'a>
-    requires { index < length (index_in run.now.bytes run.now.handles.index) }
-    ensures { (h : Handle)
-        → slice_get (index_in run.now.bytes run.now.handles.index) index ≡ Some h
-        → result
-        ≡ within bounds.now (items_in entries (payload_in run.now.bytes (range_of h))) }
-{
-    let block = run.block_at(index);
-    let mut entries = block.iter();
-    bounds.cut_iter(&mut entries);
-    EntryViews::new(&block, entries)
-}
-
-// Whether an opened block has an entry left.
-#[inline(always)]
-fn has_view(views: &Option<EntryViews<'_>>) -> bool
-    ensures { result ≡ nat_lt 0 (length (views_left views.now)) }
-{
-    match views {
-        Some(views) => views.count_left() > 0,
-        None => false,
-    }
-}
-
-// Takes the first entry left of an opened block.
-#[inline(always)]
-fn take_first<'a>(views: &mut Option<EntryViews<'a>>) -> Option<EntryView<'a>>
-    ensures { YieldsFirst (λ xs. xs) (views_left views.old) result (views_left views.new) }
-{
-    match views {
-        Some(views) => views.next(),
-        None => None,
-    }
-}
-
-// Takes the last entry left of an opened block.
-#[inline(always)]
-fn take_last<'a>(views: &mut Option<EntryViews<'a>>) -> Option<EntryView<'a>>
-    ensures { YieldsLast (λ xs. xs) (views_left views.old) result (views_left views.new) }
-{
-    match views {
-        Some(views) => views.next_back(),
-        None => None,
-    }
+    back: Option<OpenBlock<'a>>,
 }
 
 // Opens blocks from the front until one has an entry in the range, or none is left.
@@ -97,11 +47,10 @@ fn fill_front<'a, H: BlockHash>(run: &RunRef<'a, H>, bounds: &Bounds<'_>, opened
 {
     // The proof needs that the number of handles fits its type.
     let _count = run.index().len();
-    'open: while opened.lo < opened.hi && !has_view(&opened.front) {
+    'open: while opened.lo < opened.hi && !has_entry(&opened.front) {
         let index = opened.lo;
         opened.lo = index + 1;
-        let views = open_block::<H>(run, bounds, index);
-        opened.front = Some(views);
+        open_at::<H>(run, bounds, index, &mut opened.front);
     }
 }
 
@@ -116,11 +65,10 @@ fn fill_back<'a, H: BlockHash>(run: &RunRef<'a, H>, bounds: &Bounds<'_>, opened:
         opened.old.back }
     ensures done { views_left opened.new.back ≡ [] → opened.new.hi ≤ opened.new.lo }
 {
-    'open: while opened.lo < opened.hi && !has_view(&opened.back) {
+    'open: while opened.lo < opened.hi && !has_entry(&opened.back) {
         let index = opened.hi - 1;
         opened.hi = index;
-        let views = open_block::<H>(run, bounds, index);
-        opened.back = Some(views);
+        open_at::<H>(run, bounds, index, &mut opened.back);
     }
 }
 
@@ -138,7 +86,7 @@ fn turn_front<'a, H: BlockHash>(run: &RunRef<'a, H>, bounds: &Bounds<'_>, opened
         → (opened.new.hi ≤ opened.new.lo) × (views_left opened.new.back ≡ []) }
 {
     fill_front::<H>(run, bounds, opened);
-    if has_view(&opened.front) {
+    if has_entry(&opened.front) {
         return;
     }
     mem::swap(&mut opened.front, &mut opened.back);
@@ -157,7 +105,7 @@ fn turn_back<'a, H: BlockHash>(run: &RunRef<'a, H>, bounds: &Bounds<'_>, opened:
         → (opened.new.hi ≤ opened.new.lo) × (views_left opened.new.front ≡ []) }
 {
     fill_back::<H>(run, bounds, opened);
-    if has_view(&opened.back) {
+    if has_entry(&opened.back) {
         return;
     }
     mem::swap(&mut opened.front, &mut opened.back);
@@ -175,7 +123,7 @@ fn ready_front<'a, H: BlockHash>(run: &RunRef<'a, H>, bounds: &Bounds<'_>, opene
     ensures done { views_left opened.new.front ≡ []
         → (opened.new.hi ≤ opened.new.lo) × (views_left opened.new.back ≡ []) }
 {
-    if has_view(&opened.front) {
+    if has_entry(&opened.front) {
         return;
     }
     turn_front::<H>(run, bounds, opened);
@@ -193,7 +141,7 @@ fn ready_back<'a, H: BlockHash>(run: &RunRef<'a, H>, bounds: &Bounds<'_>, opened
     ensures done { views_left opened.new.back ≡ []
         → (opened.new.hi ≤ opened.new.lo) × (views_left opened.new.front ≡ []) }
 {
-    if has_view(&opened.back) {
+    if has_entry(&opened.back) {
         return;
     }
     turn_back::<H>(run, bounds, opened);

@@ -102,6 +102,7 @@ impl<'k, H: BlockHash, S: FrameSource> Scan<'k, H, S> {
     ///
     /// Those of [`Table::block_at`] for the blocks that are reached, in order, and `Error::Memory`
     /// if an allocation fails. After an error each step returns that error.
+    #[inline(always)]
     pub fn next_entry(&mut self, alloc: Global) -> Result<Option<InternalValue>>
         ensures same { IsSameScan self.old self.new }
         ensures source { KeepsSource S.bytes S.failures S.is_reliable self.old.table.source
@@ -138,6 +139,7 @@ impl<'k, H: BlockHash, S: FrameSource> Scan<'k, H, S> {
     ///
     /// Those of [`Table::block_at`] for the blocks that are reached, from the last on, and
     /// `Error::Memory` if an allocation fails. After an error each step returns that error.
+    #[inline(always)]
     pub fn next_entry_back(&mut self, alloc: Global) -> Result<Option<InternalValue>>
         ensures same { IsSameScan self.old self.new }
         ensures source { KeepsSource S.bytes S.failures S.is_reliable self.old.table.source

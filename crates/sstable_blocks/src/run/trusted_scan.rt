@@ -104,6 +104,7 @@ impl<'a, 'k, H: BlockHash> TrustedScan<'a, 'k, H> {
     /// # Errors
     ///
     /// `Error::Memory` if an allocation fails. After an error each step returns that error.
+    #[inline(always)]
     pub fn next_entry(&mut self, alloc: Global) -> Result<Option<InternalValue>>
         ensures same { (self.new.run ≡ self.old.run) × (self.new.range ≡ self.old.range) }
         ensures first { IfOk result
@@ -129,6 +130,7 @@ impl<'a, 'k, H: BlockHash> TrustedScan<'a, 'k, H> {
     /// # Errors
     ///
     /// `Error::Memory` if an allocation fails. After an error each step returns that error.
+    #[inline(always)]
     pub fn next_entry_back(&mut self, alloc: Global) -> Result<Option<InternalValue>>
         ensures same { (self.new.run ≡ self.old.run) × (self.new.range ≡ self.old.range) }
         ensures last { IfOk result (λ x. YieldsLast (λ left. left) self.old.left x self.new.left) }

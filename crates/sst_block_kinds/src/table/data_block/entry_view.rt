@@ -181,6 +181,7 @@ impl<'a> EntryView<'a> {
     /// # Errors
     ///
     /// `Error::Memory` if an allocation fails.
+    #[inline(always)]
     pub fn to_entry(&self, alloc: Global) -> Result<InternalValue>
         ensures ok { IfOk result (λ entry. entry ≡ self.now) }
         ensures memory { IsOkUnless result Error.Memory }

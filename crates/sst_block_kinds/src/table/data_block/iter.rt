@@ -3,7 +3,7 @@ ghost use Rattle.std.specs.Prelude.{◌≡◌, ℕ, ◌+◌, ◌-◌, ◌*◌, �
 ghost use Rattle.std.specs.Prelude.{length, true};
 ghost use Rattle.std.specs.Iterator.{at_most};
 ghost use Rattle.std.proofs.Common.{ap};
-ghost use Rattle.sst_base.specs.Counted.{CountsExactly, CountsBetween};
+ghost use Rattle.sst_base.specs.Counted.{IsZero, CountsExactly, CountsBetween};
 ghost use Rattle.sst_block_core.specs.Body.{place_offset};
 ghost use Rattle.sst_block_core.specs.Kind.{IsOrdered};
 ghost use Rattle.sst_block_core.specs.Entries.{entries};
@@ -14,11 +14,12 @@ ghost use Rattle.sst_block_core.specs.Intervals.{digits};
 ghost use Rattle.sst_block_core.specs.Backs.{GivesStep, GivesNextBack};
 ghost use Rattle.sst_block_core.specs.ListSteps.{scan_gives_first, scan_gives_last};
 ghost use Rattle.sst_block_core.specs.Window.{found, items_left, seek, seek_exclusive, seek_upper};
-ghost use Rattle.sst_block_core.specs.Window.{seek_upper_exclusive};
+ghost use Rattle.sst_block_core.specs.Window.{seek_upper_exclusive, whole};
 
+use crate::table::data_block::block_ref::DataBlockRef;
 use crate::table::data_block::parsed_item::DataBlockParsedItem;
 use sst_base::double_ended_peekable::ListIterator;
-use sst_base::{InternalValue, Steps};
+use sst_base::{BlockHash, InternalValue, Steps};
 use sst_block_core::table::block::Decoder;
 use sst_block_core::table::block::bound::Bound;
 use std::marker::Model;
@@ -55,7 +56,18 @@ impl<'a> Iter<'a> {
         Iter { decoder }
     }
 
-    /// Returns what was counted since the iterator was made.
+    /// Starts again with all entries of a block, the same or another one. This costs less than a
+    /// new iterator, whose KiB of room for offsets has to be moved to its place.
+    pub fn restart<H: BlockHash>(&mut self, block: &DataBlockRef<'a, H>)
+        ensures payload { self.new.payload ≡ block.now.payload }
+        ensures interval { self.new.interval ≡ block.now.interval }
+        ensures window { self.new.window ≡ whole block.now.items }
+        ensures counts { IsZero self.new.steps }
+    {
+        self.decoder.restart(block.intervals());
+    }
+
+    /// Returns what was counted since the iterator was made, or started again.
     pub fn steps(&self) -> &Steps
         ensures { result.now ≡ self.now.steps }
     {

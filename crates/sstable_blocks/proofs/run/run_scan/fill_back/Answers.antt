@@ -5,26 +5,14 @@ use Rattle.sstable_blocks.proofs.ScanSteps.{no_items}
 use Rattle.sstable_blocks.proofs.RunScans.{back_opened}
 use Rattle.sstable_blocks.proofs.run.run_scan.fill_back.Goals as goal
 
-pub open-preserved-then-not-has_view : goal.open-preserved-then-not-has_view
-open-preserved-then-not-has_view g c =
-    let run = c.args.run.now in
-    let i = c.open.invariant in
-    let o = c.open.opened in
-    let none = no_items (views_left o.back) (sym c.has_view.ensures ∙ c.if-not-has_view.true) in
-    record {
-      inside = let within = i.inside in omega (arith, within);
-      front = i.front;
-      left = back_opened run.bytes c.args.bounds.now (index_in run.bytes run.handles.index) (views_left o.front) c.open_block-views.result (views_left o.back) o.lo o.hi none c.open-test.true i.inside c.open_block-views.ensures ∙ i.left;
-    }
-
 pub open-preserved : goal.open-preserved
 open-preserved g c =
     let run = c.args.run.now in
     let i = c.open.invariant in
     let o = c.open.opened in
-    let none = no_items (views_left o.back) (sym c.has_view.ensures ∙ c.if-not-has_view.true) in
+    let none = no_items (views_left o.back) (sym c.has_entry.ensures ∙ c.if-not-has_entry.true) in
     record {
       inside = let within = i.inside in omega (arith, within);
       front = i.front;
-      left = back_opened run.bytes c.args.bounds.now (index_in run.bytes run.handles.index) (views_left o.front) c.open_block-views.result (views_left o.back) o.lo o.hi none c.open-test.true i.inside c.open_block-views.ensures ∙ i.left;
+      left = back_opened run.bytes c.args.bounds.now (index_in run.bytes run.handles.index) (views_left o.front) (views_left c.open_at.new.opened) (views_left o.back) o.lo o.hi none c.open-test.true i.inside c.open_at.ensures ∙ i.left;
     }

@@ -1,0 +1,7 @@
+use Rattle.std.proofs.Common.{arith, ◌≡◌, ◌≤◌, ◌<◌, ◌+◌, ◌-◌, ◌*◌, ◌/◌, ◌^◌, ◌++◌, ◌∙◌, sym, ap, length, drop, subst, []}
+use Rattle.sst_block_core.specs.Heads.{front}
+use Rattle.sst_merge.proofs.FrontNumbers.{front_of_long, front_joined, front_small, behind_short, key_front_is, bytes_joined}
+use Rattle.sst_merge.proofs.front.front_behind.Goals as goal
+
+pub returns : goal.returns
+returns c = c.front_of.ensures ∙ ap front (behind_short c.args.left.now c.args.right.now _ _ (omega (arith, c.if-left-ge8.false)) c.min-passed.ensures c.split_at-2.ensures.back)

@@ -1,0 +1,18 @@
+-- The fronts of keys: numbers by which a merge compares most versions.
+use Rattle.std.specs.Prelude.{◌≡◌, ℕ, List, Option, Some, None, IfSome}
+use Rattle.byteorder.specs.Endian.{big_number}
+use Rattle.sst_base.specs.Bytes.{IsBytes}
+use Rattle.sst_base.specs.Entry.{Entry}
+
+-- the first 16 bytes of a key as a big-endian number, fewer than 16 being filled with 00
+unfoldable pub key_front : List ℕ → ℕ
+key_front key = big_number 16 key
+
+-- the front of the key of what a source holds, the greatest number of 128 bits where it holds nothing
+abbrev pub held_front : {X : Type 0} → (X → Entry) → Option X → ℕ
+held_front entry None = 340282366920938463463374607431768211455
+held_front entry (Some x) = key_front (entry x).key.user_key
+
+-- a number is the front of what is held, whose key consists of bytes
+abbrev pub IsFrontOf : {X : Type 0} → (X → Entry) → Option X → ℕ → Type 0
+IsFrontOf entry held number = (number ≡ held_front entry held) × IfSome held (λ x. IsBytes (entry x).key.user_key)

@@ -1,0 +1,46 @@
+//! Fronts of keys: their first bytes as numbers, so that a merge compares most versions by a number.
+ghost use Rattle.std.specs.Prelude.{◌≡◌, ◌++◌, length, drop};
+ghost use Rattle.sst_base.specs.Bytes.{IsBytes};
+ghost use Rattle.sst_block_core.specs.Heads.{front};
+ghost use Rattle.sst_merge.specs.Fronts.{key_front};
+
+use sst_block_core::table::block::heads::front_of;
+
+// The front of two byte strings joined: their first 8 bytes.
+#[inline(always)]
+fn front_of_parts(left: &[u8], right: &[u8]) -> u64
+    ensures { result ≡ front (left.now ++ right.now) }
+{
+    if left.len() >= 8 {
+        return front_of(left);
+    }
+    front_of(left) + (front_of(right) >> (8 * left.len()))
+}
+
+// The front of what follows the first 8 bytes of two byte strings joined.
+#[inline(always)]
+fn front_behind(left: &[u8], right: &[u8]) -> u64
+    ensures { result ≡ front (drop 8 (left.now ++ right.now)) }
+{
+    if left.len() >= 8 {
+        let (_, rest) = left.split_at(8);
+        return front_of_parts(rest, right);
+    }
+    let passed = (8 - left.len()).min(right.len());
+    let (_, rest) = right.split_at(passed);
+    front_of(rest)
+}
+
+/// Returns the first 16 bytes of a key in two parts as a big-endian number; fewer are filled with
+/// 00. Nothing is joined.
+///
+/// Where the numbers of two keys differ, the keys have the order of the numbers.
+#[inline(always)]
+pub fn front_of_key(left: &[u8], right: &[u8]) -> u128
+    ensures value { result ≡ key_front (left.now ++ right.now) }
+    ensures bytes { IsBytes (left.now ++ right.now) }
+{
+    let high = front_of_parts(left, right);
+    let low = front_behind(left, right);
+    u128::from(high) * 18446744073709551616 + u128::from(low)
+}
