@@ -2,7 +2,7 @@
 use crate::Tested;
 use crate::lists::{List, NO_BUCKETS, ONE_EACH, block_of, is_same, list_of};
 use sst_base::{Error, HashRatio, InternalValue, Poly31, Result, Steps};
-use sst_block_kinds::table::data_block::EntryView;
+use sst_block_kinds::table::data_block::{EntryView, EntryViews};
 use sst_block_kinds::{DataBlock, DataBlockRef, IndexBlockRef};
 use std::alloc::Global;
 use std::process::Abort;
@@ -135,6 +135,32 @@ fn walk_backwards(
     Ok(())
 }
 
+/// Takes some entries of bytes from both ends, starts again, and checks that the entries are those of
+/// the list.
+fn walk_again(
+    rt: &impl Abort,
+    alloc: Global,
+    page: &DataBlockRef<'_, Poly31>,
+    list: &[InternalValue],
+) -> Result<()> {
+    let mut iter = page.iter();
+    for taken in 0..3 {
+        iter.restart(page);
+        assert!(rt; iter.count_left() == list.len());
+        for _ in 0..taken {
+            iter.next();
+            iter.next_back();
+        }
+    }
+    iter.restart(page);
+    let mut views = EntryViews::new(page, iter);
+    for wanted in list {
+        check_taken(rt, alloc, views.next(), wanted)?;
+    }
+    assert!(rt; views.next().is_none());
+    Ok(())
+}
+
 /// Compares bytes with the block that owns them.
 fn compare_both(
     rt: &impl Abort,
@@ -148,6 +174,7 @@ fn compare_both(
     assert!(rt; page.hash_bucket_count() == block.hash_bucket_count());
     read_all(rt, alloc, block, page, list)?;
     walk_forwards(rt, alloc, page, list)?;
+    walk_again(rt, alloc, page, list)?;
     walk_backwards(rt, alloc, page, list)
 }
 

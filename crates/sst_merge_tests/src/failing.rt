@@ -74,3 +74,29 @@ fn a_failed_step_passes_through(rt: HostRuntime) -> Tested {
     }
     Ok(())
 }
+
+/// How many versions a merge passes before it fails.
+fn passes(alloc: Global, merged: &mut Merge<InternalValue, Failing>) -> usize {
+    for passed in 0..ROWS.len() {
+        let Ok(true) = merged.advance(alloc) else {
+            return passed;
+        };
+    }
+    ROWS.len()
+}
+
+// A step that fails leaves the version that it was to pass.
+#[test]
+fn a_version_is_not_passed_by_a_failed_step(rt: HostRuntime) -> Tested {
+    let alloc = rt.alloc();
+    for steps in 1..5 {
+        let mut heads = Vec::new(alloc);
+        heads.push(Head::new(alloc, failing_after(alloc, steps)?)?)?;
+        let mut merged = Merge::new(heads);
+        assert_eq!(rt; passes(alloc, &mut merged), steps - 1);
+        assert_eq!(rt; merged.peek().map(|version| version.key().seqno()), Some(ROWS[steps - 1].1));
+        assert_eq!(rt; passes(alloc, &mut merged), 5 - steps);
+        assert!(rt; merged.peek().is_none());
+    }
+    Ok(())
+}

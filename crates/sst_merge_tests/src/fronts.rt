@@ -1,4 +1,6 @@
 // Fronts of keys, and merges of keys that begin alike.
+ghost use Rattle.std.specs.Prelude.{◌≤◌};
+
 use crate::Tested;
 use crate::lists::{Memory, drained, merge_of};
 use sst_base::{InternalValue, Result, Slice, ValueType};
@@ -41,7 +43,7 @@ fn fronts_are_first_bytes(rt: HostRuntime) -> Tested {
     Ok(())
 }
 
-/// Keys in order, of which each but the last begins as the next one does, or has its front.
+/// Keys in order. Many begin alike, and some have one front.
 const KEYS: &[&[u8]] = &[
     b"\0",
     b"\0\0",
@@ -62,7 +64,9 @@ const KEYS: &[&[u8]] = &[
 ];
 
 /// The entries of every so many keys, from a key on. Their values are their numbers.
-fn every(alloc: Global, from: usize, step: usize) -> Result<Vec<InternalValue>> {
+fn every(alloc: Global, from: usize, step: usize) -> Result<Vec<InternalValue>>
+    requires { 1 ≤ step }
+{
     let mut entries = Vec::new(alloc);
     for (number, key) in KEYS.iter().enumerate() {
         if number % step == from {
@@ -75,7 +79,9 @@ fn every(alloc: Global, from: usize, step: usize) -> Result<Vec<InternalValue>> 
 }
 
 /// The keys, each so many of them in one of so many lists, merged.
-fn dealt(alloc: Global, lists: usize) -> Result<Merge<InternalValue, Memory>> {
+fn dealt(alloc: Global, lists: usize) -> Result<Merge<InternalValue, Memory>>
+    requires { 1 ≤ lists }
+{
     let mut all = Vec::new(alloc);
     for from in 0..lists {
         all.push(every(alloc, from, lists)?)?;
@@ -90,7 +96,7 @@ fn keys_that_begin_alike_are_merged(rt: HostRuntime) -> Tested {
         let merged = drained(alloc, &mut dealt(alloc, lists)?)?;
         assert_eq!(rt; merged.len(), KEYS.len());
         for (number, entry) in merged.iter().enumerate() {
-            assert_eq!(rt; entry.value().as_slice(), &[number as u8]);
+            assert!(rt; entry.value().eq_bytes(&[number as u8]));
         }
     }
     Ok(())

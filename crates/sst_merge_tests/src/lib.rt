@@ -7,6 +7,8 @@ mod backs;
 #[cfg(test)]
 mod failing;
 #[cfg(test)]
+mod fronts;
+#[cfg(test)]
 mod histories;
 #[cfg(test)]
 mod lists;

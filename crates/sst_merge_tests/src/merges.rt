@@ -42,72 +42,70 @@ fn worked(alloc: Global) -> Result<Merge<InternalValue, Memory>> {
 /// a tombstone, which has no value.
 type Wanted = (u8, u64, u8);
 
+/// Whether an entry is the one that is wanted.
+fn is(entry: &InternalValue, wanted: &Wanted) -> bool {
+    let (key, seqno, list) = wanted;
+    let value = entry.value().as_slice().first().copied().unwrap_or(255);
+    entry.key().user_key().eq_bytes(&[*key]) && entry.key().seqno() == *seqno && value == *list
+}
+
 /// Whether entries are those that are wanted.
 fn are(entries: &[InternalValue], wanted: &[Wanted]) -> bool {
     if entries.len() != wanted.len() {
         return false;
     }
-    entries.iter().zip(wanted).all(|(entry, (key, seqno, list))| {
-        let value = entry.value().as_slice().first().copied().unwrap_or(255);
-        entry.key().user_key().eq_bytes(&[*key]) && entry.key().seqno() == *seqno && value == *list
-    })
+    entries.iter().zip(wanted).all(|(entry, wanted)| is(entry, wanted))
 }
+
+/// The merge of the worked lists.
+const MERGED: &[Wanted] = &[
+    (b'a', 9, 0),
+    (b'a', 5, 0),
+    (b'a', 3, 1),
+    (b'b', 6, 255),
+    (b'b', 2, 1),
+    (b'c', 7, 0),
+    (b'c', 7, 1),
+    (b'd', 4, 255),
+    (b'd', 1, 1),
+    (b'e', 8, 3),
+];
 
 #[test]
 fn lists_are_merged(rt: HostRuntime) -> Tested {
     let alloc = rt.alloc();
     let merged = drained(alloc, &mut worked(alloc)?)?;
-    let wanted = [
-        (b'a', 9, 0),
-        (b'a', 5, 0),
-        (b'a', 3, 1),
-        (b'b', 6, 255),
-        (b'b', 2, 1),
-        (b'c', 7, 0),
-        (b'c', 7, 1),
-        (b'd', 4, 255),
-        (b'd', 1, 1),
-        (b'e', 8, 3),
-    ];
-    assert!(rt; are(&merged, &wanted));
+    assert!(rt; are(&merged, MERGED));
     Ok(())
 }
-
-/// Passes all versions of a merge, each of which is copied before.
-fn passed(
-    alloc: Global,
-    merged: &mut Merge<InternalValue, Memory>,
-) -> Result<Vec<InternalValue>> {
-    let mut entries = Vec::new(alloc);
-    for _ in 0..WORKED {
-        if let Some(entry) = merged.peek() {
-            entries.push(entry.clone()?)?;
-        }
-        merged.advance(alloc)?;
-    }
-    Ok(entries)
-}
-
-/// The number of the versions in the worked lists.
-const WORKED: usize = 10;
 
 #[test]
 fn versions_are_passed_as_they_are_taken(rt: HostRuntime) -> Tested {
     let alloc = rt.alloc();
-    for taken in 0..=WORKED {
-        let mut merged = worked(alloc)?;
-        let mut rest = worked(alloc)?;
-        for _ in 0..taken {
-            merged.advance(alloc)?;
-            rest.next_entry(alloc)?;
-            let first = merged.peek();
-            assert!(rt; first == rest.peek());
-        }
-        let passed = passed(alloc, &mut merged)?;
-        assert_eq!(rt; passed.len(), WORKED - taken);
-        assert!(rt; passed == drained(alloc, &mut rest)?);
-        assert!(rt; merged.peek().is_none());
+    let mut merged = worked(alloc)?;
+    for wanted in MERGED {
+        assert!(rt; merged.peek().is_some_and(|first| is(first, wanted)));
+        assert!(rt; merged.advance(alloc)?);
     }
+    assert!(rt; merged.peek().is_none());
+    assert!(rt; !merged.advance(alloc)?);
+    Ok(())
+}
+
+#[test]
+fn versions_are_passed_and_taken_in_turn(rt: HostRuntime) -> Tested {
+    let alloc = rt.alloc();
+    let mut merged = worked(alloc)?;
+    for (turn, wanted) in MERGED.iter().enumerate() {
+        assert!(rt; merged.peek().is_some_and(|first| is(first, wanted)));
+        if turn % 3 == 1 {
+            assert!(rt; merged.advance(alloc)?);
+        } else {
+            assert!(rt; merged.next_entry(alloc)?.is_some_and(|first| is(&first, wanted)));
+        }
+    }
+    assert!(rt; merged.next_entry(alloc)?.is_none());
+    assert!(rt; merged.peek().is_none());
     Ok(())
 }
 
