@@ -135,8 +135,8 @@ fn walk_backwards(
     Ok(())
 }
 
-/// Takes some entries of bytes from both ends, starts again, and checks that the entries are those of
-/// the list.
+/// Takes some entries of bytes from both ends, starts again, and checks that the entries are those
+/// of the list.
 fn walk_again(
     rt: &impl Abort,
     alloc: Global,

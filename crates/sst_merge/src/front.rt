@@ -1,4 +1,4 @@
-//! Fronts of keys: their first bytes as numbers, so that a merge compares most versions by a number.
+//! Fronts of keys: their first bytes as numbers, by which a merge compares most versions.
 ghost use Rattle.std.specs.Prelude.{◌≡◌, ◌++◌, length, drop};
 ghost use Rattle.sst_base.specs.Bytes.{IsBytes};
 ghost use Rattle.sst_block_core.specs.Heads.{front};

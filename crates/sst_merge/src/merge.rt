@@ -1,5 +1,6 @@
 //! Ordered merges of any number of sources.
-ghost use Rattle.std.specs.Prelude.{◌≡◌, ◌+◌, ◌<◌, ◌≤◌, List, length, slice_get, IfOk, IfSome, OnErr, OnOk, Some};
+ghost use Rattle.std.specs.Prelude.{◌≡◌, ◌+◌, ◌<◌, ◌≤◌, List, length, slice_get, IfOk, IfSome};
+ghost use Rattle.std.specs.Prelude.{OnErr, OnOk, Some};
 ghost use Rattle.std.specs.Option.{option_map};
 ghost use Rattle.sst_merge.specs.Fronts.{IsFrontOf};
 ghost use Rattle.sst_merge.specs.Merge.{order_by, merged};

@@ -94,7 +94,10 @@ fn a_version_is_not_passed_by_a_failed_step(rt: HostRuntime) -> Tested {
         heads.push(Head::new(alloc, failing_after(alloc, steps)?)?)?;
         let mut merged = Merge::new(heads);
         assert_eq!(rt; passes(alloc, &mut merged), steps - 1);
-        assert_eq!(rt; merged.peek().map(|version| version.key().seqno()), Some(ROWS[steps - 1].1));
+        assert_eq!(rt;
+            merged.peek().map(|version| version.key().seqno()),
+            Some(ROWS[steps - 1].1)
+        );
         assert_eq!(rt; passes(alloc, &mut merged), 5 - steps);
         assert!(rt; merged.peek().is_none());
     }

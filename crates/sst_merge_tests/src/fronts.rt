@@ -20,11 +20,31 @@ const FRONTS: &[(&[u8], &[u8], u128)] = &[
     (b"12345678", b"", 0x3132_3334_3536_3738_0000_0000_0000_0000),
     (b"12345678", b"9", 0x3132_3334_3536_3738_3900_0000_0000_0000),
     (b"123", b"456789", 0x3132_3334_3536_3738_3900_0000_0000_0000),
-    (b"", b"0123456789abcdef", 0x3031_3233_3435_3637_3839_6162_6364_6566),
-    (b"0123456789abcde", b"f", 0x3031_3233_3435_3637_3839_6162_6364_6566),
-    (b"012345", b"6789abcdefgh", 0x3031_3233_3435_3637_3839_6162_6364_6566),
-    (b"0123456789abcdefg", b"h", 0x3031_3233_3435_3637_3839_6162_6364_6566),
-    (b"\xff\xff\xff\xff\xff\xff\xff\xff", b"\xff\xff\xff\xff\xff\xff\xff\xff", u128::MAX),
+    (
+        b"",
+        b"0123456789abcdef",
+        0x3031_3233_3435_3637_3839_6162_6364_6566,
+    ),
+    (
+        b"0123456789abcde",
+        b"f",
+        0x3031_3233_3435_3637_3839_6162_6364_6566,
+    ),
+    (
+        b"012345",
+        b"6789abcdefgh",
+        0x3031_3233_3435_3637_3839_6162_6364_6566,
+    ),
+    (
+        b"0123456789abcdefg",
+        b"h",
+        0x3031_3233_3435_3637_3839_6162_6364_6566,
+    ),
+    (
+        b"\xff\xff\xff\xff\xff\xff\xff\xff",
+        b"\xff\xff\xff\xff\xff\xff\xff\xff",
+        u128::MAX,
+    ),
 ];
 
 #[test]
@@ -36,7 +56,8 @@ fn fronts_are_first_bytes(rt: HostRuntime) -> Tested {
         assert_eq!(rt; front_of_key(key.as_slice(), &[]), *wanted);
         assert_eq!(rt; front_of_key(&[], key.as_slice()), *wanted);
         if !key.is_empty() {
-            let entry = InternalValue::from_components(key, Slice::empty(alloc), 1, ValueType::Value);
+            let value = Slice::empty(alloc);
+            let entry = InternalValue::from_components(key, value, 1, ValueType::Value);
             assert_eq!(rt; entry.front(), *wanted);
         }
     }

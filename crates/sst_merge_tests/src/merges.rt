@@ -54,7 +54,10 @@ fn are(entries: &[InternalValue], wanted: &[Wanted]) -> bool {
     if entries.len() != wanted.len() {
         return false;
     }
-    entries.iter().zip(wanted).all(|(entry, wanted)| is(entry, wanted))
+    entries
+        .iter()
+        .zip(wanted)
+        .all(|(entry, wanted)| is(entry, wanted))
 }
 
 /// The merge of the worked lists.
@@ -101,7 +104,11 @@ fn versions_are_passed_and_taken_in_turn(rt: HostRuntime) -> Tested {
         if turn % 3 == 1 {
             assert!(rt; merged.advance(alloc)?);
         } else {
-            assert!(rt; merged.next_entry(alloc)?.is_some_and(|first| is(&first, wanted)));
+            assert!(rt;
+                merged
+                    .next_entry(alloc)?
+                    .is_some_and(|first| is(&first, wanted))
+            );
         }
     }
     assert!(rt; merged.next_entry(alloc)?.is_none());
