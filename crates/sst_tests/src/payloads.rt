@@ -80,13 +80,14 @@ fn is_set(tokens: &[String], i: usize, opened: Option<&String>) -> bool {
     let is_named = !is_own(tokens, i) && lead != ".";
     let is_declared = is_named && next == ":" && behind(tokens, i, 2) != ":";
     let is_bound = is_named && before(tokens, i, 1) == "let" && next == "=";
+    let is_assigned = is_own(tokens, i) && next == "=" && behind(tokens, i, 2) != "=";
     let in_struct = match opened {
         Some(bracket) => bracket.as_str() == "{",
         None => false,
     };
     let is_field = in_struct && next == "," && (lead == "{" || lead == "," || lead == ":");
     let is_length = next == "." && behind(tokens, i, 2) == "len" && behind(tokens, i, 3) == "(";
-    is_declared || is_bound || (is_field && lead != ".") || is_length
+    is_declared || is_bound || is_assigned || (is_field && lead != ".") || is_length
 }
 
 /// Returns whether a payload is a whole argument of a call that may be passed one.
@@ -119,10 +120,11 @@ fn is_slice_bound(tokens: &[String], i: usize, opened: Option<&String>) -> bool 
     let is_of_self = before(tokens, i, 3) == "." && before(tokens, i, 4) == "self";
     let start = if is_of_self { i.saturating_sub(2) } else { i };
     let lead = before(tokens, start, 3);
-    let is_payload = (lead == "=" || lead == ":") && before(tokens, start, 4) == "payload";
     let end = behind(tokens, i, 3);
+    let is_all = end == ";" || end == "," || end == "}";
+    let is_set = (lead == "=" || lead == ":") && before(tokens, start, 4) == "payload";
     let is_whole = (lead == "," || lead == "(") && (end == ")" || end == ",");
-    is_payload || (is_whole && may_take(opened))
+    (is_set && is_all) || (is_whole && may_take(opened))
 }
 
 /// Returns whether a token is allowed where it is, in these brackets.

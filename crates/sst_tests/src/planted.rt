@@ -1,7 +1,7 @@
 //! Planted texts: reads that the rules must find, and lines that they must leave alone.
 
 /// A text, and whether it gets at the bytes of a block where it may not.
-pub const PLANTED: [(&str, bool); 34] = [
+pub const PLANTED: [(&str, bool); 37] = [
     ("let b = payload[at];", true),
     ("        let b = self.payload[at];\n", true),
     ("let (_, rest) = payload.split_at(at);", true),
@@ -26,6 +26,8 @@ pub const PLANTED: [(&str, bool); 34] = [
     ("hash(self.block.as_slice())", true),
     ("let found = iter.payload;", true),
     ("fn leak(&self) -> u8 { self.payload[0] }", true),
+    ("if self.payload == needle {", true),
+    ("self.payload = self.as_slice().split_at(at).1;", true),
     (
         "Item::read_head(self.payload, offset, &mut self.steps)",
         false,
@@ -47,6 +49,7 @@ pub const PLANTED: [(&str, bool); 34] = [
         false,
     ),
     ("EntryRef { payload: self.payload, item }", false),
+    ("self.payload = block.as_slice();", false),
     ("fn as_slice(&self) -> &'a [u8] { self.payload }", false),
     ("// let b = payload[at];", false),
     (

@@ -212,6 +212,12 @@ pub const MADE: [(&str, &str, usize); 48] = [
         ". intervals (",
         2,
     ),
+    // An iterator that starts again takes the opened intervals of its block.
+    (
+        "sst_block_kinds/src/table/data_block/iter.rt",
+        ". intervals (",
+        1,
+    ),
     // (for a key's own bytes, and for a range that may be missing)
     (
         "sst_block_kinds/src/table/data_block/entry_view.rt",
@@ -312,12 +318,8 @@ pub const MADE: [(&str, &str, usize); 48] = [
     // that checks, and one of a table, counts what it examines for nobody. A table also opens the
     // filter.
     ("sstable_blocks/src/run/read.rt", ". iter (", 1),
-    ("sstable_blocks/src/run/run_scan.rt", ". iter (", 1),
-    (
-        "sstable_blocks/src/run/run_scan.rt",
-        "EntryViews : : new (",
-        1,
-    ),
+    // A scan over borrowed bytes makes an iterator for the first block at either end.
+    ("sstable_blocks/src/run/open_block.rt", ". iter (", 1),
     ("sstable_blocks/src/run/checked.rt", "Steps : : new", 2),
     ("sstable_blocks/src/run/round_trip.rt", "Steps : : new", 1),
     ("sstable_blocks/src/run/table.rt", ". data (", 1),
