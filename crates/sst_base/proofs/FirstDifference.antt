@@ -8,9 +8,9 @@ use Rattle.std.specs.Int.Bits.{bit_xor, xor_self, xor_add_and}
 use Rattle.std.specs.Int.Count.{count_leading_zeros, leading_unique}
 use Rattle.byteorder.specs.Endian.{big_number}
 use Rattle.byteorder.specs.Numbers.{big_from-cons, big_from-lt}
-use Rattle.byteorder.proofs.Bytes.{pow256}
 use Rattle.sst_base.specs.Bytes.{IsBytes}
 use Rattle.sst_base.specs.BytesLaws.{IsBytes-drop}
+use Rattle.sst_base.specs.NumberLaws.{pow_256}
 use Rattle.sst_base.specs.SharedPrefix.{shared_prefix_length}
 use Rattle.sst_base.specs.SharedPrefixLaws.{shared_prefix_behind}
 
@@ -35,10 +35,10 @@ no_zeros_before k d h l =
 
 -- the number in one byte more
 one_more : (k x : ℕ) (xs : List ℕ) → big_number (suc k) (x ∷ xs) ≡ x * 2 ^ (8 * k) + big_number k xs
-one_more k x xs = ap (λ r. x * 256 ^ k + r) (big_from-cons 0 k x xs) ∙ ap (λ p. x * p + big_number k xs) (pow256 k)
+one_more k x xs = ap (λ r. x * 256 ^ k + r) (big_from-cons 0 k x xs) ∙ ap (λ p. x * p + big_number k xs) (pow_256 k)
 
 below : (k : ℕ) (xs : List ℕ) → IsBytes xs → big_number k xs < 2 ^ (8 * k)
-below k xs b = subst (λ p. big_number k xs < p) (pow256 k) (big_from-lt 0 k xs b)
+below k xs b = subst (λ p. big_number k xs < p) (pow_256 k) (big_from-lt 0 k xs b)
 
 nothing : (p r : ℕ) → 0 * p + r ≡ r
 nothing p r = omega arith

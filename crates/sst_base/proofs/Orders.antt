@@ -12,7 +12,8 @@ use Rattle.byteorder.specs.Numbers.{big_from-take}
 use Rattle.sst_base.specs.Bytes.{IsBytes}
 use Rattle.sst_base.specs.BytesLaws.{IsBytes-take, IsBytes-drop, take-drop-more}
 use Rattle.sst_base.specs.KeyOrderLaws.{slice_cmp-equal}
-use Rattle.sst_base.specs.OrderLaws.{nat_cmp-add_left, slice_cmp-append, slice_cmp-big_number}
+use Rattle.sst_base.specs.NumberLaws.{slice_cmp-big_number}
+use Rattle.sst_base.specs.OrderLaws.{nat_cmp-add_left, slice_cmp-append}
 
 -- where one string has ended, the lengths decide
 one_ended : (x y : List ℕ) → min (length x) (length y) ≡ 0 → slice_cmp nat_cmp x y ≡ nat_cmp (length x) (length y)

@@ -201,7 +201,7 @@ pub(crate) fn array_from<const N: usize, R: Input>(reader: &mut R) -> Result<[u8
 
 /// States for a proof that the cells of a slice are bytes. Does nothing.
 #[inline(always)]
-pub(crate) fn note_bytes(bytes: &[u8])
+pub fn note_bytes(bytes: &[u8])
     ensures { IsBytes bytes.now }
 {
     let _ = bytes;

@@ -1,5 +1,6 @@
 // Slices: each call that makes one, of few bytes and of many.
 use crate::rows::{Row, check_rows};
+use bytes::Bytes;
 use sst_base::{Error, Result, Slice};
 use std::alloc::Global;
 
@@ -20,6 +21,10 @@ enum Constructor {
     Fifty,
     /// `Slice::from_vec`.
     Owned(&'static [u8]),
+    /// `Slice::from_bytes`.
+    Taken(&'static [u8]),
+    /// `Slice::from_bytes` of what `Slice::to_bytes` returns.
+    TakenBack(&'static [u8]),
     /// `Slice::collect_bytes`.
     Collected(&'static [u8]),
     /// `Slice::fused`.
@@ -67,6 +72,12 @@ fn make(alloc: Global, call: &Constructor) -> Result<Slice> {
         Constructor::Two => Slice::from_array(alloc, *b"ab"),
         Constructor::Fifty => Slice::from_array(alloc, [7; 50]),
         Constructor::Owned(bytes) => Slice::from_vec(bytes.to_vec(alloc)?),
+        Constructor::Taken(bytes) => {
+            Slice::from_bytes(alloc, Bytes::copy_from_slice(alloc, bytes)?)
+        }
+        Constructor::TakenBack(bytes) => {
+            Slice::from_bytes(alloc, Slice::new(alloc, bytes)?.to_bytes(alloc)?)
+        }
         Constructor::Collected(bytes) => Slice::collect_bytes(alloc, bytes.iter().copied()),
         Constructor::Fused(left, right) => Slice::fused(alloc, left, right),
         Constructor::Cut(bytes, part) => cut(&Slice::new(alloc, bytes)?, part),
@@ -78,18 +89,22 @@ fn make(alloc: Global, call: &Constructor) -> Result<Slice> {
 struct Made(Constructor, &'static [u8]);
 
 /// Each call.
-static MADE: [Made; 16] = [
+static MADE: [Made; 20] = [
     Made(Constructor::Empty, b""),
     Made(Constructor::New(b"ab"), b"ab"),
     Made(Constructor::Text("ab"), b"ab"),
     Made(Constructor::OwnedText("ab"), b"ab"),
     Made(Constructor::Two, b"ab"),
     Made(Constructor::Owned(b"ab"), b"ab"),
+    Made(Constructor::Taken(b"ab"), b"ab"),
+    Made(Constructor::TakenBack(b"ab"), b"ab"),
     Made(Constructor::Collected(b"ab"), b"ab"),
     Made(Constructor::Fused(b"a", b"b"), b"ab"),
     Made(Constructor::New(&[7; 50]), &[7; 50]),
     Made(Constructor::Fifty, &[7; 50]),
     Made(Constructor::Owned(&[7; 50]), &[7; 50]),
+    Made(Constructor::Taken(&[7; 50]), &[7; 50]),
+    Made(Constructor::TakenBack(&[7; 50]), &[7; 50]),
     Made(Constructor::Collected(&[7; 50]), &[7; 50]),
     Made(Constructor::Fused(&[7; 10], &[7; 40]), &[7; 50]),
     Made(Constructor::Cut(&[7; 50], Part::Clone), &[7; 50]),

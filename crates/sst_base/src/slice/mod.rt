@@ -23,6 +23,7 @@ mod short;
 use crate::error::{AllocResult, Error, Result};
 use crate::input::{Input, note_bytes};
 use crate::table::util::{SliceIndexes, compare_bytes};
+use bytes::Bytes;
 use shared::SharedBytes;
 pub use short::SHORT_LEN;
 use short::ShortBytes;
@@ -126,6 +127,36 @@ impl Slice {
             return Ok(Slice::short(ShortBytes::new(bytes.as_slice())));
         }
         Ok(Slice::shared(SharedBytes::from_vec(bytes)?))
+    }
+
+    /// Takes the bytes of a `Bytes`. More than 40 bytes are shared, and none of them is copied.
+    ///
+    /// # Errors
+    ///
+    /// `Error::Memory` if an allocation fails.
+    pub fn from_bytes(alloc: Global, bytes: Bytes) -> Result<Slice>
+        ensures ok { IfOk result (λ s. s ≡ bytes) }
+        ensures memory { IsOkUnless result Error.Memory }
+    {
+        if bytes.len() <= SHORT_LEN {
+            return Ok(Slice::short(ShortBytes::new(bytes.as_slice())));
+        }
+        Ok(Slice::shared(SharedBytes::from_bytes(alloc, bytes)?))
+    }
+
+    /// Returns the bytes as a `Bytes`. Bytes that are held in place are copied, others are shared.
+    ///
+    /// # Errors
+    ///
+    /// `Error::Memory` if an allocation fails.
+    pub fn to_bytes(&self, alloc: Global) -> Result<Bytes>
+        ensures ok { IfOk result (λ b. b ≡ self.now) }
+        ensures memory { IsOkUnless result Error.Memory }
+    {
+        match &self.held {
+            Held::Short(bytes) => Ok(Bytes::copy_from_slice(alloc, bytes.as_slice())?),
+            Held::Shared(bytes) => Ok(bytes.to_bytes()?),
+        }
     }
 
     /// Takes the bytes of a `String`.

@@ -2,6 +2,7 @@
 ghost use Rattle.std.specs.Prelude.{◌≡◌, ◌-◌, ◌≤◌, ◌++◌, length, take, drop, slice_range, IfOk};
 
 use crate::error::AllocResult;
+use bytes::Bytes;
 use std::alloc::Global;
 use std::marker::Model;
 use std::sync::Arc;
@@ -9,32 +10,53 @@ use std::sync::Arc;
 // Words that fill the room of a short byte string.
 const FILL: [usize; 2] = [0, 0];
 
-/// A part of a byte string that may have several owners. Clauses see the list of its bytes.
+/// A part of the bytes of a `Bytes` that may have several owners. Clauses see the list of its bytes.
 ///
 /// Its room is that of a short byte string's 40 bytes, which are copied as two pieces of 16 bytes
 /// and one of 8. The pointer is the last word: where a [`super::Slice`] is moved, its place is moved
 /// apart from the others, and these are then the same pieces. A pointer in another place, or a field
-/// of one byte, would cut the bytes in other pieces, and each read of one of them would wait until
-/// those that it lies over are stored.
+/// of one byte, as a `Bytes` has one, would cut the bytes in other pieces, and each read of one of
+/// them would wait until those that it lies over are stored. So the `Bytes` lies behind the pointer.
 #[derive(Drop)]
 pub(crate) struct SharedBytes {
     start: usize,
     end: usize,
     fill: [usize; 2],
-    owner: Arc<Vec<u8>>,
+    owner: Arc<Bytes>,
 }
 
 impl Model for SharedBytes {
-    ghost use Rattle.std.specs.Prelude.{ℕ, List, ◌-◌, ◌≤◌, length, take, drop};
+    ghost use Rattle.std.specs.Prelude.{ℕ, List, ◌-◌, ◌≤◌, ◌<◌, ◌^◌, length, take, drop};
 
     ghost Value = { List ℕ };
 
-    ghost view = { λ s. take (s.end - s.start) (drop s.start s.owner.value.items) };
+    ghost view = { λ s. take (s.end - s.start) (drop s.start s.owner.value) };
 
-    ghost invariant = { λ s. (s.start ≤ s.end) × (s.end ≤ length s.owner.value.items) };
+    ghost invariant = { λ s. (s.start ≤ s.end) × (s.end ≤ length s.owner.value)
+        × (s.end < 2 ^ 63) };
 }
 
 impl SharedBytes {
+    /// Shares bytes that a `Bytes` holds. None is copied.
+    ///
+    /// # Errors
+    ///
+    /// If an allocation fails.
+    pub(crate) fn from_bytes(alloc: Global, bytes: Bytes) -> AllocResult<SharedBytes>
+        ensures { IfOk result (λ s. s ≡ bytes) }
+    {
+        let end = bytes.len();
+        match Arc::new(alloc, bytes) {
+            Ok(owner) => Ok(SharedBytes {
+                start: 0,
+                end,
+                fill: FILL,
+                owner,
+            }),
+            Err(failed) => Err(failed.into()),
+        }
+    }
+
     /// Takes the bytes of a vector.
     ///
     /// # Errors
@@ -43,15 +65,9 @@ impl SharedBytes {
     pub(crate) fn from_vec(bytes: Vec<u8>) -> AllocResult<SharedBytes>
         ensures { IfOk result (λ s. s ≡ bytes.items) }
     {
-        let end = bytes.len();
         let alloc = *bytes.allocator();
-        match Arc::new(alloc, bytes) {
-            Ok(owner) => Ok(SharedBytes {
-                start: 0,
-                end,
-                fill: FILL,
-                owner,
-            }),
+        match Bytes::from_vec(bytes) {
+            Ok(bytes) => SharedBytes::from_bytes(alloc, bytes),
             Err(failed) => Err(failed.into()),
         }
     }
@@ -91,6 +107,17 @@ impl SharedBytes {
         ensures { result.now ≡ self.now }
     {
         &self.owner.as_slice()[self.start..self.end]
+    }
+
+    /// Returns the bytes as a `Bytes`, which shares the memory.
+    ///
+    /// # Errors
+    ///
+    /// If there are too many owners.
+    pub(crate) fn to_bytes(&self) -> AllocResult<Bytes>
+        ensures { IfOk result (λ b. b ≡ self.now) }
+    {
+        self.owner.slice(self.start..self.end)
     }
 
     /// Returns the bytes from one index to another, which share the memory.

@@ -13,7 +13,8 @@ use Rattle.std.specs.declared.cmp.Ordering.{Ordering}
 use Rattle.std.specs.declared.cmp.Ordering.TheVariants.{Less, Equal, Greater}
 use Rattle.sst_base.specs.declared.table.util.SliceIndexes.{SliceIndexes}
 use Rattle.sst_base.specs.KeyOrderLaws.{slice_cmp-equal}
-use Rattle.sst_base.specs.OrderLaws.{slice_cmp-append, slice_cmp-big_number}
+use Rattle.sst_base.specs.NumberLaws.{slice_cmp-big_number}
+use Rattle.sst_base.specs.OrderLaws.{slice_cmp-append}
 use Rattle.sst_block_core.specs.Found.{range_of, IsRange}
 use Rattle.sst_block_core.specs.KeyRanges.{key_by, version_cmp}
 use Rattle.sst_block_core.specs.declared.table.block.check.keys.KeyRanges.{KeyRanges}

@@ -10,6 +10,7 @@ use crate::table::block::hash_index::MAX_POINTERS_FOR_HASH_INDEX;
 use crate::table::block::trailer::{
     ITEM_COUNT_AT, TRAILER_SIZE, TRAILER_START_MARKER, TRUNCATION_FLAG_AT, Trailer, TrailerNumbers,
 };
+use sst_base::input::note_bytes;
 use sst_base::{Error, Result};
 
 // Returns whether these are the nine fixed bytes of a trailer.
@@ -79,12 +80,4 @@ pub fn parts_of(payload: &[u8]) -> Result<TrailerNumbers>
         return Err(Error::BadTrailer);
     }
     Ok(numbers)
-}
-
-// States for a proof that the cells of a slice are bytes. Does nothing.
-#[inline(always)]
-fn note_bytes(bytes: &[u8])
-    ensures { IsBytes bytes.now }
-{
-    let _ = bytes;
 }
