@@ -1,5 +1,5 @@
 -- Tables of heads, and how many heads a bound passes.
-use Rattle.std.specs.Prelude.{◌≡◌, ◌≢◌, ℕ, ◌*◌, ◌/◌, ◌≤◌, ◌++◌, List, length, drop, count_by, slice_get, slice_index, Option, Some, None, Bool, if◌then◌else◌}
+use Rattle.std.specs.Prelude.{◌≡◌, ◌≢◌, ℕ, ◌*◌, ◌/◌, ◌≤◌, ◌++◌, List, length, drop, count_by, slice_get, slice_index, Option, Some, Bool, if◌then◌else◌}
 use Rattle.std.specs.Ordering.{nat_cmp, ordering_then}
 use Rattle.std.specs.Cmp.Lexicographic.{slice_cmp}
 use Rattle.std.specs.declared.cmp.Ordering.TheVariants.{Less}
@@ -108,10 +108,3 @@ pub record IsNextHead {X : Type 0} (kind : Kind X) (payload : List ℕ) (t : Tab
 pub record KeepsPrefixAndRoom (old new : Table) : Type 0 where
   pub prefix : new.prefix ≡ old.prefix
   pub room : old.room ≤ new.room
-
--- a copy of a table, if there is one
-abbrev pub IsCopy : Option Table → Option Table → Type 0
-IsCopy None None = Unit {0}
-IsCopy None (Some u) = ⊥
-IsCopy (Some t) None = ⊥
-IsCopy (Some t) (Some u) = (u.heads ≡ t.heads) × (u.prefix ≡ t.prefix) × (u.fronts ≡ t.fronts)

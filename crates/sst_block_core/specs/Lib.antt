@@ -24,7 +24,6 @@ pub mod WindowLaws
 pub mod KeyRanges
 pub mod Passes
 pub mod Heads
-pub mod HeadLaws
 pub mod TrailerLaws
 pub mod PayloadLaws
 pub mod PlaceLaws

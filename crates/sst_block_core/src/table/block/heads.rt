@@ -9,7 +9,7 @@ ghost use Rattle.sst_base.specs.Counted.{CountsExactly, CountsBetween};
 ghost use Rattle.sst_base.specs.Order.{versions_cmp};
 ghost use Rattle.sst_block_core.specs.Found.{IsRange, range_of};
 ghost use Rattle.sst_block_core.specs.Heads.{front, key_in, Begins, IsTable, IsHeadPassedBit, head_of};
-ghost use Rattle.sst_block_core.specs.Heads.{heads_before, IsCopy, KeepsPrefixAndRoom};
+ghost use Rattle.sst_block_core.specs.Heads.{heads_before, KeepsPrefixAndRoom};
 ghost use Rattle.sst_block_core.specs.Intervals.{digits};
 ghost use Rattle.sst_block_core.specs.Passes.{last_of};
 ghost use Rattle.sst_block_core.specs.declared.table.block.heads.Head.{Head};
@@ -18,10 +18,11 @@ use crate::table::block::bound::Bound;
 use crate::table::block::key_ranges::bytes_of;
 use byteorder::{BigEndian, ByteOrder};
 use sst_base::table::util::{SliceIndexes, compare_bytes};
-use sst_base::{AllocResult, Error, Result, SeqNo, Steps};
+use sst_base::{Error, Result, SeqNo, Steps};
 use std::alloc::Global;
 use std::cmp::Ordering;
 use std::marker::Model;
+use std::sync::Arc;
 
 /// A head: the offset of its form in the payload, its sequence number, and the range of its key in
 /// the payload.
@@ -152,6 +153,21 @@ impl HeadTable {
         })
     }
 
+    /// Moves the table to where it may have several owners, such as a block and its clones.
+    ///
+    /// # Errors
+    ///
+    /// `Error::Memory` if an allocation fails.
+    pub fn into_shared(self, alloc: Global) -> Result<Arc<HeadTable>>
+        ensures ok { IfOk result (λ t. t.value ≡ self) }
+        ensures memory { IsOkUnless result Error.Memory }
+    {
+        match Arc::new(alloc, self) {
+            Ok(table) => Ok(table),
+            Err(_) => Err(Error::Memory),
+        }
+    }
+
     /// Returns the number of heads.
     pub fn len(&self) -> usize
         ensures { result ≡ length self.now.heads }
@@ -239,12 +255,13 @@ impl HeadTable {
         compare_bytes(prefix, start)
     }
 
-    // Compares the key of head j with a needle that begins with the prefix, by what follows. Seldom
-    // called, as numbers are seldom the same.
+    // Compares the key of head j with a needle that begins with the prefix, by what follows. Only
+    // where the numbers decide nothing may the bytes be compared, which is seldom.
     #[inline(never)]
     fn compare_rest(&self, j: usize, payload: &[u8], rest: &[u8]) -> Ordering
         requires table { IsTable payload.now self.now }
         requires inside { j < length self.now.heads }
+        requires undecided { slice_index self.now.fronts j ≡ front rest.now / 2 }
         ensures { (h : Head) → slice_get self.now.heads j ≡ Some h
             → result
             ≡ slice_cmp nat_cmp
@@ -387,32 +404,5 @@ impl HeadTable {
             from: Some(seqno),
         };
         self.count(payload, &bound, steps)
-    }
-}
-
-impl Clone for HeadTable {
-    ghost is_clone = { λ t copy. (copy.heads ≡ t.heads) × (copy.prefix ≡ t.prefix)
-        × (copy.fronts ≡ t.fronts) };
-
-    fn clone(&self) -> AllocResult<HeadTable> {
-        Ok(HeadTable {
-            heads: self.heads.clone()?,
-            prefix: self.prefix,
-            fronts: self.fronts.clone()?,
-        })
-    }
-}
-
-/// Returns a copy of a table, if there is one.
-///
-/// # Errors
-///
-/// `AllocError` if an allocation fails.
-pub fn clone_table(table: &Option<HeadTable>) -> AllocResult<Option<HeadTable>>
-    ensures { IfOk result (λ copy. IsCopy table.now copy) }
-{
-    match table {
-        Some(table) => Ok(Some(table.clone()?)),
-        None => Ok(None),
     }
 }

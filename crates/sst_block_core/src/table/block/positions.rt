@@ -1,7 +1,11 @@
 //! Items of a block by their index.
-ghost use Rattle.std.specs.Prelude.{◌≡◌, ◌<◌, length};
+ghost use Rattle.std.specs.Prelude.{◌≡◌, ◌+◌, ◌%◌, ◌<◌, length};
+ghost use Rattle.sst_base.specs.Counted.{CountsExactly, CountsBetween};
+ghost use Rattle.sst_block_core.specs.Candidates.{scan_cost};
+ghost use Rattle.sst_block_core.specs.Intervals.{digits};
 ghost use Rattle.sst_block_core.specs.Kind.{IsOrdered};
 ghost use Rattle.sst_block_core.specs.Places.{IsItemAt};
+ghost use Rattle.sst_block_core.specs.Pointers.{head_count};
 ghost use Rattle.sst_block_core.specs.Window.{count_passed};
 
 use crate::table::block::bound::Bound;
@@ -16,16 +20,23 @@ impl<'a, Item: Decodable<Parsed>, Parsed: ParsedItem<Item> + Drop> Intervals<'a,
         ensures list { self.new.list ≡ self.old.list }
         ensures count { result
             ≡ count_passed Item.kind bound.now.needle.now bound.now.from self.old.list.items }
+        ensures counts { CountsBetween self.old.steps self.new.steps (1, 0) (
+          digits (head_count self.old.list.interval (length self.old.list.items)),
+          scan_cost self.old.list.interval,
+        ) }
     {
         let (place, _) = self.seek_item(bound);
         place.index
     }
 
-    /// Decodes the item at an index: goes from the head of its interval to the item.
+    /// Decodes the item at an index: goes from the head of its interval to the item. Counts the
+    /// entries up to it.
     pub fn item_at(&mut self, index: usize) -> Parsed
         requires { index < length self.old.list.items }
         ensures list { self.new.list ≡ self.old.list }
         ensures item { IsItemAt Parsed.item_of Parsed.is_found self.old.list index result }
+        ensures counts { CountsExactly self.old.steps self.new.steps 0
+            (index % self.old.list.interval + 1) }
     {
         let interval = usize::from(self.interval());
         let mut at = self.start(index / interval);

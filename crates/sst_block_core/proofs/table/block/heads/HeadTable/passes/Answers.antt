@@ -27,6 +27,14 @@ is_below-requires-clause-right c =
     let small = half_small c.args.rest.now (λ k. let h = c.type_inv.rest k in omega (arith, h)) in
     omega (arith, c.requires.number, small)
 
+pub compare_rest-requires-clause-undecided : goal.compare_rest-requires-clause-undecided
+compare_rest-requires-clause-undecided c =
+    let table = rw (← c.self.view_is) at c.requires.table in
+    let inside = rw (← c.self.view_is) at c.requires.inside in
+    let count = table.count in
+    let own = get_or_read _ c.args.j c.index-own.result.now (omega (arith, count, inside)) c.index-own.ensures 0 in
+    rw (← c.self.view_is) (omega (arith, own, c.requires.number, c.if-own-number.false))
+
 pub returns-then-own-number-clause-tells : goal.returns-then-own-number-clause-tells
 returns-then-own-number-clause-tells c =
     let table = rw (← c.self.view_is) at c.requires.table in
