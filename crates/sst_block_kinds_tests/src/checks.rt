@@ -5,7 +5,7 @@ ghost use Rattle.sst_block_kinds.specs.ParsedHandle.{IsParsedHandle};
 
 use crate::Tested;
 use crate::index_blocks::{self, THREE_HEADS};
-use crate::lists::{List, NO_BUCKETS, Row, block_of, list_of};
+use crate::lists::{List, NO_BUCKETS, Row, all_of, block_of, list_of};
 use crate::stages::{Kind, judge};
 use sst_base::table::block::{Block, BlockType};
 use sst_base::{ByteSum, Error, HashRatio, InternalValue, Result, Slice, ValueType};
@@ -186,7 +186,7 @@ fn check_entries(
     checked: &DataBlock<ByteSum>,
     payload: &Slice,
 ) -> Result<usize> {
-    let list = checked.to_vec(alloc)?;
+    let list = all_of(alloc, checked)?;
     assert!(rt; checked.len() == list.len());
     assert!(rt; checked.as_slice() == payload);
     let ratio = ratio_of(checked.hash_bucket_count(), list.len());

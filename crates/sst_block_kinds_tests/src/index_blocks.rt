@@ -32,6 +32,9 @@ const LETTERS: [Row; 5] = [
     (b"e", 0, 40, 10),
 ];
 
+/// Handles of two versions of one end key, and of another.
+const VERSIONS: [Row; 3] = [(b"a", 3, 0, 10), (b"a", 1, 10, 10), (b"b", 4, 20, 10)];
+
 /// One handle with an empty end key.
 const EMPTY_KEY: [Row; 1] = [(b"", 0, 0, 6000)];
 
@@ -170,11 +173,12 @@ fn payloads_are_the_test_vectors(rt: HostRuntime) -> Tested {
     Ok(())
 }
 
-/// A step or a seek, and its result: for a step the end key of the handle that it takes, or none;
-/// for a seek whether there is a handle. An upper seek always returns true.
+/// A step or a seek, and its result: for a step the end key of the handle that it takes, of a version
+/// also its sequence number, or none; for a seek whether there is a handle. An upper seek always returns true.
 #[derive(Clone, Copy)]
 enum Step {
     Next(Option<&'static [u8]>),
+    NextVersion(&'static [u8], u64),
     NextBack(Option<&'static [u8]>),
     Seek(&'static [u8], u64, bool),
     SeekUpper(&'static [u8], u64),
@@ -191,7 +195,50 @@ struct Script {
 
 /// Seeks find the first handle that can lead to a key; a seek past all handles leaves the back; an
 /// upper bound keeps the first greater handle; an end key may be empty.
-const SCRIPTS: [Script; 10] = [
+static SCRIPTS: [Script; 14] = [
+    Script {
+        name: "versions of an end key, above all",
+        rows: &VERSIONS,
+        intervals: &[1, 2, 3, 255],
+        steps: &[
+            Step::Seek(b"a", 4, true),
+            Step::NextVersion(b"a", 3),
+            Step::NextVersion(b"a", 1),
+            Step::NextVersion(b"b", 4),
+            Step::Next(None),
+        ],
+    },
+    Script {
+        name: "versions of an end key, the newest passed",
+        rows: &VERSIONS,
+        intervals: &[1, 2, 3, 255],
+        steps: &[
+            Step::Seek(b"a", 3, true),
+            Step::NextVersion(b"a", 1),
+            Step::NextVersion(b"b", 4),
+            Step::Next(None),
+        ],
+    },
+    Script {
+        name: "versions of an end key, both passed",
+        rows: &VERSIONS,
+        intervals: &[1, 2, 3, 255],
+        steps: &[
+            Step::Seek(b"a", 1, true),
+            Step::NextVersion(b"b", 4),
+            Step::Next(None),
+        ],
+    },
+    Script {
+        name: "versions of an end key, below all",
+        rows: &VERSIONS,
+        intervals: &[1, 2, 3, 255],
+        steps: &[
+            Step::Seek(b"a", 0, true),
+            Step::NextVersion(b"b", 4),
+            Step::Next(None),
+        ],
+    },
     Script {
         name: "the end key itself",
         rows: &THREE,
@@ -239,7 +286,7 @@ const SCRIPTS: [Script; 10] = [
     Script {
         name: "two bounds from the front",
         rows: &LETTERS,
-        intervals: &[1, 2],
+        intervals: &[1, 2, 3, 255],
         steps: &[
             Step::Seek(b"b", 1, true),
             Step::SeekUpper(b"c", 1),
@@ -252,7 +299,7 @@ const SCRIPTS: [Script; 10] = [
     Script {
         name: "two bounds from the back",
         rows: &LETTERS,
-        intervals: &[1, 2],
+        intervals: &[1, 2, 3, 255],
         steps: &[
             Step::Seek(b"b", 1, true),
             Step::SeekUpper(b"c", 1),
@@ -265,19 +312,19 @@ const SCRIPTS: [Script; 10] = [
     Script {
         name: "an upper bound alone",
         rows: &LETTERS,
-        intervals: &[1],
+        intervals: &[1, 2, 3, 255],
         steps: &[Step::SeekUpper(b"c", 1), Step::Next(Some(b"a"))],
     },
     Script {
         name: "an empty end key at its own sequence number",
         rows: &EMPTY_KEY,
-        intervals: &[1],
+        intervals: &[1, 2, 3, 255],
         steps: &[Step::Seek(b"", 0, false), Step::Next(None)],
     },
     Script {
         name: "an empty end key below a sequence number",
         rows: &EMPTY_KEY,
-        intervals: &[1],
+        intervals: &[1, 2, 3, 255],
         steps: &[Step::Seek(b"", 1, true), Step::Next(Some(b""))],
     },
 ];
@@ -285,7 +332,7 @@ const SCRIPTS: [Script; 10] = [
 /// The operation of a step.
 fn op_of(alloc: Global, step: &Step) -> Result<IndexOp> {
     match step {
-        Step::Next(_) => Ok(IndexOp::Next),
+        Step::Next(_) | Step::NextVersion(_, _) => Ok(IndexOp::Next),
         Step::NextBack(_) => Ok(IndexOp::NextBack),
         Step::Seek(key, seqno, _) => Ok(IndexOp::Seek(Slice::new(alloc, key)?, *seqno)),
         Step::SeekUpper(key, seqno) => Ok(IndexOp::SeekUpper(Slice::new(alloc, key)?, *seqno)),
@@ -307,6 +354,9 @@ fn returns(step: &Step, answer: &Answer<KeyedBlockHandle>) -> bool {
         (Step::Next(None) | Step::NextBack(None), Answer::Item(None)) => true,
         (Step::Next(Some(key)) | Step::NextBack(Some(key)), Answer::Item(Some(handle))) => {
             handle.end_key().as_slice() == *key
+        }
+        (Step::NextVersion(key, seqno), Answer::Item(Some(handle))) => {
+            handle.end_key().as_slice() == *key && handle.seqno() == *seqno
         }
         (Step::Seek(_, _, wanted), Answer::Found(found)) => wanted == found,
         (Step::SeekUpper(_, _), Answer::Found(found)) => *found,

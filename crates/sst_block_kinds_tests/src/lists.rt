@@ -289,6 +289,20 @@ pub(crate) fn block_of<H: BlockHash>(
     Ok(DataBlock::new(Block::from_payload(BlockType::Data, Slice::from_vec(bytes)?)))
 }
 
+/// Makes all entries of a block.
+pub(crate) fn all_of<H: BlockHash>(
+    alloc: Global,
+    block: &DataBlock<H>,
+) -> Result<Vec<InternalValue>>
+    ensures { IfOk result (λ all. all.items ≡ block.now.items) }
+{
+    let mut all = Vec::with_capacity(alloc, block.len())?;
+    for entry in block.entries() {
+        all.push(entry.materialize(alloc)?)?;
+    }
+    Ok(all)
+}
+
 /// Returns a block with the table of its heads.
 pub(crate) fn with_table<H: BlockHash>(
     rt: &impl Abort,

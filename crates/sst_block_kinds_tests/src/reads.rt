@@ -4,7 +4,7 @@ ghost use Rattle.sst_block_kinds.specs.ParsedEntry.{IsParsedEntry};
 use crate::Tested;
 use crate::examples::{MORE, check_read};
 use crate::heads::{counts_of, plain_counts};
-use crate::lists::{List, NO_BUCKETS, ONE_EACH, block_of, is_same, list_of, with_table};
+use crate::lists::{List, NO_BUCKETS, ONE_EACH, all_of, block_of, is_same, list_of, with_table};
 use crate::plain::{plain_first_match, plain_payload};
 use sst_base::{BlockHash, ByteSum, HashRatio, InternalValue, Poly31, Result, Slice};
 use sst_block_core::ParsedItem;
@@ -236,7 +236,7 @@ fn compare_made<H: BlockHash>(
 
 /// The entries of a block, made by a copy of it.
 fn made_of<H: BlockHash>(alloc: Global, block: &DataBlock<H>) -> Result<Vec<InternalValue>> {
-    block.clone()?.to_vec(alloc)
+    all_of(alloc, &block.clone()?)
 }
 
 /// Makes the entries of a block, and checks that they are the list.

@@ -6,7 +6,7 @@ ghost use Rattle.sst_block_core.specs.Entries.{entries};
 ghost use Rattle.sst_block_kinds.specs.ParsedEntry.{IsParsedEntry};
 
 use crate::Tested;
-use crate::lists::{List, NO_BUCKETS, Row, block_of, is_same, list_of, push, with_table};
+use crate::lists::{List, NO_BUCKETS, Row, all_of, block_of, is_same, list_of, push, with_table};
 use crate::owners::perform_owned;
 use crate::plain::plain_offset;
 use crate::random::{Random, key_of};
@@ -206,7 +206,7 @@ pub(crate) fn offset_of(
     ensures offset { IfOk result
         (λ offset. offset ≡ place_offset entries interval block.now.items (head * interval)) }
 {
-    let list = block.to_vec(alloc)?;
+    let list = all_of(alloc, block)?;
     assert!(rt; interval >= 1);
     assert!(rt; head <= 100);
     let place = head * usize::from(interval);

@@ -14,8 +14,8 @@ ghost use Rattle.sst_c.specs.declared.codes.Status.TheVariants.{Failed, BadArgum
 use crate::codes::Status;
 use crate::handles::{SstKeyedHandle, items_of};
 use crate::output::write_bytes;
-use sst_base::SeqNo;
 use sst_base::table::block::BlockHandle;
+use sst_base::{SeqNo, Steps};
 use sst_block_core::table::block::bound::Bound;
 use sst_block_kinds::table::index_block::IndexBlockRef;
 use sst_block_kinds::{IndexBlock, KeyedBlockHandle};
@@ -41,9 +41,10 @@ fn find(payload: &[u8], key: &[u8], below: SeqNo) -> Option<BlockHandle>
         needle: key,
         from: Some(below),
     };
-    let index = block.position(&passed);
+    let mut steps = Steps::new();
+    let index = block.position(&passed, &mut steps);
     if index < block.len() {
-        Some(block.handle_at(index))
+        Some(block.handle_at(index, &mut steps))
     } else {
         None
     }

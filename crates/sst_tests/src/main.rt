@@ -1,24 +1,22 @@
-//! Checks the sources of the repository: that the code which reads blocks gets at their bytes by
-//! the calls that count alone, a rule that no contract can state.
+//! Checks the sources of the repository: that code which has counters of heads and entries reads
+//! blocks through them alone, a rule that no contract can state.
 //!
-//! The words are the folder of the crates, and the sources below it that the rules cover. With none
-//! the rules are tried on planted texts alone. Prints a line for each rule that is broken, and then
-//! how many sources keep them; the status is 1 if one is broken or a source cannot be read.
+//! The words are the folder of the crates, and the sources below it that the rule covers. With none
+//! the rule is tried on planted texts alone. Prints a line for each place where it is broken, and
+//! then how many sources keep it; the status is 1 if one breaks it or cannot be read.
 #![tactic(auto)]
 
-mod payloads;
 mod planted;
 mod rules;
 mod tokens;
 
-use payloads::{count, first_misuse};
-use planted::{COUNTED, PLANTED};
-use rules::{CHECKS, MADE, MAKERS, READERS};
+use planted::PLANTED;
+use rules::{ALLOWED, DENIED, SCANS};
 use std::env::Env;
 use std::process::ExitCode;
 use std::rt::Files;
 use std::{env, fs, io};
-use tokens::tokens_of;
+use tokens::{count, tokens_of};
 
 /// Returns the tokens of a source below the folder of the crates.
 fn source<R: Files + AllocGlobal>(rt: &R, folder: &str, name: &str) -> io::Result<Vec<String>> {
@@ -26,70 +24,45 @@ fn source<R: Files + AllocGlobal>(rt: &R, folder: &str, name: &str) -> io::Resul
     tokens_of(rt, fs::read_to_string(rt, path.as_str())?.as_str())
 }
 
-/// Returns how often a source may have what makes a reader, an iterator or counters.
-fn allowed(name: &str, maker: &str) -> usize {
-    for (source, made, number) in MADE {
-        if source == name && made == maker {
-            return number;
+/// Returns how often a source may name one of the denied sequences.
+fn allowed(name: &str, denied: &str) -> usize {
+    for (source, named, number) in &ALLOWED {
+        if *source == name && *named == denied {
+            return *number;
         }
     }
     0
 }
 
-/// Returns whether a source makes readers, iterators and counters only where it may, and prints
-/// where not.
-fn makers_hold<R: AllocGlobal + Print>(rt: &R, name: &str, tokens: &[String]) -> io::Result<bool> {
+/// Returns whether a source is one that counts: it names the counters, or is one of the scans.
+fn is_counted(name: &str, tokens: &[String]) -> bool {
+    let is_scan = SCANS.iter().any(|scan| *scan == name);
+    is_scan || tokens.iter().any(|token| token.as_str() == "Steps")
+}
+
+/// Returns whether the rule holds for a source, and prints where not.
+fn holds<R: Files + AllocGlobal + Print>(rt: &R, folder: &str, name: &str) -> io::Result<bool> {
+    let tokens = source(rt, folder, name)?;
+    if !is_counted(name, tokens.as_slice()) {
+        return Ok(true);
+    }
     let mut holds = true;
-    for maker in MAKERS {
-        let (found, wanted) = (count(rt, tokens, maker)?, allowed(name, maker));
+    for denied in &DENIED {
+        let (found, wanted) = (count(rt, tokens.as_slice(), denied)?, allowed(name, denied));
         if found != wanted {
-            println!(rt; "{name}: {found} times {maker}, not {wanted}")?;
+            println!(rt; "{name}: {found} times {denied}, not {wanted}")?;
             holds = false;
         }
     }
     Ok(holds)
 }
 
-/// Returns whether a source leaves the bytes of blocks alone, and prints where not.
-fn payloads_hold<R: AllocGlobal + Print>(
-    rt: &R,
-    name: &str,
-    tokens: &[String],
-) -> io::Result<bool> {
-    let Some(at) = first_misuse(rt, tokens)? else {
-        return Ok(true);
-    };
-    println!(rt; "{name}: the bytes of a block are got at, about:")?;
-    for token in tokens.iter().skip(at.saturating_sub(8)).take(16) {
-        println!(rt; "    {token}")?;
-    }
-    Ok(false)
-}
-
-/// Returns whether the rules hold for a source.
-fn holds<R: Files + AllocGlobal + Print>(rt: &R, folder: &str, name: &str) -> io::Result<bool> {
-    if READERS.iter().any(|reader| *reader == name) || CHECKS.iter().any(|check| *check == name) {
-        return Ok(true);
-    }
-    let tokens = source(rt, folder, name)?;
-    let makers = makers_hold(rt, name, tokens.as_slice())?;
-    let payloads = payloads_hold(rt, name, tokens.as_slice())?;
-    Ok(makers && payloads)
-}
-
-/// Returns whether the rules distinguish the planted texts, and prints where not.
+/// Returns whether the planted texts are counted right, and prints where not.
 fn planted_hold<R: AllocGlobal + Print>(rt: &R) -> io::Result<bool> {
     let mut holds = true;
-    for (text, is_misuse) in PLANTED {
+    for (text, denied, number) in &PLANTED {
         let tokens = tokens_of(rt, text)?;
-        if first_misuse(rt, tokens.as_slice())?.is_some() != is_misuse {
-            println!(rt; "planted text told wrong: {text}")?;
-            holds = false;
-        }
-    }
-    for (text, maker, number) in COUNTED {
-        let tokens = tokens_of(rt, text)?;
-        if count(rt, tokens.as_slice(), maker)? != number {
+        if count(rt, tokens.as_slice(), denied)? != *number {
             println!(rt; "planted text counted wrong: {text}")?;
             holds = false;
         }
@@ -97,19 +70,28 @@ fn planted_hold<R: AllocGlobal + Print>(rt: &R) -> io::Result<bool> {
     Ok(holds)
 }
 
-/// Returns whether each source of [`MADE`] is among the names, and prints those that are not.
+/// Returns whether a source is among the names, and prints it if not.
+fn is_named(rt: &impl Print, names: &[String], source: &str) -> io::Result<bool> {
+    let is_named = names.iter().any(|name| name.as_str() == source);
+    if !is_named {
+        println!(rt; "{source}: not among the sources")?;
+    }
+    Ok(is_named)
+}
+
+/// Returns whether each source of the tables is among the names, and prints those that are not.
 fn all_named(rt: &impl Print, names: &[String]) -> io::Result<bool> {
     let mut holds = true;
-    for (source, _, _) in MADE {
-        if !names.iter().any(|name| name.as_str() == source) {
-            println!(rt; "{source}: not among the sources")?;
-            holds = false;
-        }
+    for (source, _, _) in &ALLOWED {
+        holds = is_named(rt, names, source)? && holds;
+    }
+    for source in &SCANS {
+        holds = is_named(rt, names, source)? && holds;
     }
     Ok(holds)
 }
 
-/// Returns whether the rules hold for all sources of these names.
+/// Returns whether the rule holds for all sources of these names.
 fn check<R: Files + AllocGlobal + Print>(
     rt: &R,
     folder: &str,
@@ -128,7 +110,7 @@ fn main(rt: HostRuntime) -> io::Result<ExitCode> {
     if !planted_hold(&rt)? {
         return Ok(ExitCode::FAILURE);
     }
-    let planted = PLANTED.len() + COUNTED.len();
+    let planted = PLANTED.len();
     println!(rt; "{planted} planted texts are told apart")?;
     let mut words = env::args(&rt)?.skip(1);
     let Some(folder) = words.next() else {

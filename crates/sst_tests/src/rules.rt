@@ -1,249 +1,76 @@
-//! What the code that reads blocks may name: the bytes of a block are read by the calls of the item
-//! traits alone, which count, so no head and no entry is examined that the counters do not count.
+//! What a source that counts may not name. A read is handed the caller's counters, and what it
+//! examines is added to them. So code that has counters gets at blocks by calls that take them, and
+//! by nothing that reads a block with counters of its own, with none, or by its bytes.
+//!
+//! Within the engine no rule is needed: a `FormReader` keeps the payload to itself, and all of its
+//! calls count.
 
-/// Sources that read bytes themselves, or write them: the checks and what they alone call, the
-/// encoder and the writer of runs, the trailer and the two indexes, and the implementations of the
-/// item traits with what they call.
-pub const READERS: [&str; 21] = [
-    "sst_block_core/src/table/block/check/buckets.rt",
-    "sst_block_core/src/table/block/check/keys.rt",
-    "sst_block_core/src/table/block/check/mod.rt",
-    "sst_block_core/src/table/block/check/parts.rt",
-    "sst_block_core/src/table/block/check/pass.rt",
-    "sst_block_core/src/table/block/check/tally.rt",
-    "sst_block_core/src/table/block/check/truncation.rt",
-    "sst_block_core/src/table/block/encoder.rt",
-    "sstable_blocks/src/run/checking.rt",
-    "sstable_blocks/src/run/run_core.rt",
-    "sst_block_core/src/table/block/trailer.rt",
-    "sst_block_core/src/table/block/binary_index/builder.rt",
-    "sst_block_core/src/table/block/binary_index/reader.rt",
-    "sst_block_core/src/table/block/hash_index/builder.rt",
-    "sst_block_core/src/table/block/hash_index/reader.rt",
-    "sst_block_core/src/table/block/key_ranges.rt",
-    "sst_block_core/src/table/block/reading.rt",
-    "sst_block_kinds/src/table/data_block/decoding.rt",
-    "sst_block_kinds/src/table/data_block/parsed_item.rt",
-    "sst_block_kinds/src/table/index_block/decoding.rt",
-    "sst_block_kinds/src/table/index_block/parsed_item.rt",
-];
-
-/// Sources of the check in the kinds, which call nothing but parsers.
-pub const CHECKS: [&str; 2] = [
-    "sst_block_kinds/src/table/data_block/checking.rt",
-    "sst_block_kinds/src/table/index_block/checking.rt",
-];
-
-/// The calls that a payload may be passed to: those of the item traits, of the decoder, of the
-/// intervals, of the trailer, of the index readers, of the one reader that counts, of blocks, of
-/// those that make an item of its ranges, and of the table of heads, with what it calls itself.
-pub const CALLS: [&str; 34] = [
-    "Item::read_head",
-    "Item::read_full",
-    "Item::read_truncated",
-    "item.prefix_len",
-    "item.own_key",
-    "item.compare_key",
-    "item.materialize",
-    "EntryRef::new",
-    "HandleRef::new",
-    "EntryView::new",
-    "HandleView::new",
-    "FormReader::new",
-    "Reader::new",
-    "Trailer::new",
-    "Intervals::new",
-    "Intervals::with_table",
-    "Decoder::new",
-    "DataBlockRef::over",
-    "IndexBlockRef::over",
-    "Block::from_payload",
-    "StandardBloomFilterReader::new",
-    "materialized",
-    "perform",
-    "table.head",
-    "table.count",
-    "table.push",
-    "self.count",
-    "self.count_behind",
-    "self.passes",
-    "self.compare_prefix",
-    "self.compare_rest",
-    "self.behind_prefix",
-    "bytes_of",
-    "optional_bytes",
-];
-
-/// What makes a reader, a decoder, an iterator or counters, gets at the payload, or reads numbers;
-/// each as tokens.
-pub const MAKERS: [&str; 28] = [
-    "FormReader : : new (",
-    "Intervals : : new (",
-    "Intervals : : with_table (",
-    "Decoder : : new (",
-    "Decoder : : over (",
-    "Iter : : new (",
-    "Entries : : new (",
-    "EntryViews : : new (",
-    "Reader : : new (",
-    "FormReader {",
-    "Intervals {",
-    "Decoder {",
+/// What reads a block past the caller's counters; each as tokens.
+pub static DENIED: [&str; 22] = [
+    // Counters that nobody sees.
+    "Steps : : new (",
+    "Steps : : default",
+    "Default : : default",
+    // Iterators, which have counters of their own.
     ". iter (",
     ". into_iter (",
     ". entries (",
+    ". handles (",
+    ". into_entries (",
+    "Iter : : new (",
+    "walk (",
+    // Restart intervals, which start at zero: what they counted is then added.
     ". intervals (",
+    // The bytes of a block, and the bytes of the keys of a table of heads.
+    ". as_slice (",
     ". data (",
-    "{ self . payload }",
-    "Steps : : new",
-    "Steps : : default",
-    "Default : : default",
-    "decode_varint",
-    "count_head",
-    "count_entry",
-    "read_number",
-    "from_le_bytes",
-    "bytes_of (",
+    ". inner (",
+    ". into_inner (",
+    "payload [",
+    "compare_bytes (",
     "unsafe",
+    // What reads a whole block, or copies one.
+    "check_once (",
+    "check_ref (",
+    ": : check (",
+    ". clone (",
 ];
 
-/// A source, one of [`MAKERS`], and how often it occurs. Where none is given it occurs
-/// nowhere.
-pub const MADE: [(&str, &str, usize); 48] = [
-    // The one reader that counts is made where intervals are opened.
+/// The scans, which are counted sources though they do not name the counters.
+pub static SCANS: [&str; 4] = [
+    "sstable_blocks/src/run/open_block.rt",
+    "sstable_blocks/src/run/opener.rt",
+    "sstable_blocks/src/run/scan.rt",
+    "sstable_blocks/src/run/trusted_scan.rt",
+];
+
+/// A counted source, one of [`DENIED`], and how often it occurs there. Elsewhere it occurs nowhere.
+pub static ALLOWED: [(&str, &str, usize); 30] = [
+    // The check counts for nobody.
+    (
+        "sst_block_core/src/table/block/check/pass.rt",
+        "Steps : : new (",
+        1,
+    ),
+    // The one reader of a block starts at zero; what it counted is added by those that opened it.
     (
         "sst_block_core/src/table/block/form_reader.rt",
-        "FormReader {",
+        "Steps : : new (",
         1,
     ),
+    // The prefix, by its two lengths, and the rest of a key where numbers decide nothing.
     (
-        "sst_block_core/src/table/block/form_reader.rt",
-        "Steps : : new",
-        1,
-    ),
-    (
-        "sst_block_core/src/table/block/intervals.rt",
-        "FormReader : : new (",
-        1,
-    ),
-    (
-        "sst_block_core/src/table/block/intervals.rt",
-        "Reader : : new (",
-        1,
-    ),
-    (
-        "sst_block_core/src/table/block/intervals.rt",
-        "Intervals {",
-        1,
-    ),
-    (
-        "sst_block_core/src/table/block/decoder.rt",
-        "Intervals : : new (",
-        1,
-    ),
-    ("sst_block_core/src/table/block/decoder.rt", "Decoder {", 1),
-    // The table of heads reads the keys of heads, and counts each that it examines.
-    (
-        "sst_block_core/src/table/block/decoder.rt",
-        "Intervals : : with_table (",
-        1,
-    ),
-    (
-        "sst_block_core/src/table/block/decoder.rt",
-        "Decoder : : over (",
-        2,
-    ),
-    (
-        "sst_block_core/src/table/block/intervals.rt",
-        "Intervals : : with_table (",
-        1,
-    ),
-    (
-        "sst_block_core/src/table/block/form_reader.rt",
-        "bytes_of (",
-        2,
-    ),
-    ("sst_block_core/src/table/block/heads.rt", "bytes_of (", 6),
-    ("sst_block_core/src/table/block/heads.rt", "count_head", 4),
-    // A block over borrowed bytes opens its intervals for an iterator, for the table of its heads,
-    // and for the offset of a head; a point read opens them once. It gives its payload back whole.
-    (
-        "sst_block_kinds/src/table/data_block/block_ref.rt",
-        "Intervals : : with_table (",
-        1,
-    ),
-    (
-        "sst_block_kinds/src/table/data_block/block_ref.rt",
-        "Decoder : : over (",
-        1,
-    ),
-    (
-        "sst_block_kinds/src/table/data_block/block_ref.rt",
-        "Iter : : new (",
-        1,
-    ),
-    (
-        "sst_block_kinds/src/table/data_block/block_ref.rt",
-        ". iter (",
-        1,
-    ),
-    (
-        "sst_block_kinds/src/table/data_block/block_ref.rt",
-        "EntryViews : : new (",
-        1,
-    ),
-    (
-        "sst_block_kinds/src/table/data_block/block_ref.rt",
-        "Reader : : new (",
-        1,
-    ),
-    (
-        "sst_block_kinds/src/table/data_block/block_ref.rt",
-        ". intervals (",
+        "sst_block_core/src/table/block/heads.rt",
+        "compare_bytes (",
         3,
     ),
+    // An iterator that owns its block opens it for each step and seek, for its ends, and for the
+    // number of entries left; the bytes are for an entry that was taken.
     (
-        "sst_block_kinds/src/table/data_block/block_ref.rt",
-        "{ self . payload }",
+        "sst_block_kinds/src/table/data_block/into_entries.rt",
+        "Steps : : new (",
         1,
     ),
-    (
-        "sst_block_kinds/src/table/data_block/point_read.rt",
-        ". intervals (",
-        2,
-    ),
-    // An iterator that starts again takes the opened intervals of its block.
-    (
-        "sst_block_kinds/src/table/data_block/iter.rt",
-        ". intervals (",
-        1,
-    ),
-    // (for a key's own bytes, and for a range that may be missing)
-    (
-        "sst_block_kinds/src/table/data_block/entry_view.rt",
-        "bytes_of (",
-        2,
-    ),
-    // A block that owns its bytes has the iterators of the block over them.
-    ("sst_block_kinds/src/table/data_block/mod.rt", ". iter (", 1),
-    (
-        "sst_block_kinds/src/table/data_block/mod.rt",
-        "Entries : : new (",
-        1,
-    ),
-    (
-        "sst_block_kinds/src/table/data_block/mod.rt",
-        ". entries (",
-        1,
-    ),
-    ("sst_block_kinds/src/table/data_block/mod.rt", ". data (", 2),
-    (
-        "sst_block_kinds/src/table/data_block/entry_ref.rt",
-        ". iter (",
-        1,
-    ),
-    // An iterator that owns its block opens the intervals for each step and each seek, for its first
-    // ends, and for the number of entries left.
     (
         "sst_block_kinds/src/table/data_block/into_entries.rt",
         ". intervals (",
@@ -251,76 +78,65 @@ pub const MADE: [(&str, &str, usize); 48] = [
     ),
     (
         "sst_block_kinds/src/table/data_block/into_entries.rt",
-        "Steps : : new",
+        ". as_slice (",
+        3,
+    ),
+    // An iterator that starts again.
+    (
+        "sst_block_kinds/src/table/data_block/iter.rt",
+        ". intervals (",
         1,
     ),
-    ("sst_block_kinds/src/table/data_block/ops.rt", ". iter (", 1),
-    // An index block over borrowed bytes likewise, and for the handle at an index and how many
-    // handles a bound passes.
+    // A look-up, and what a block passes on of the one below.
     (
-        "sst_block_kinds/src/table/index_block/block_ref.rt",
-        "Intervals : : with_table (",
-        1,
-    ),
-    (
-        "sst_block_kinds/src/table/index_block/block_ref.rt",
-        "Decoder : : over (",
-        1,
-    ),
-    (
-        "sst_block_kinds/src/table/index_block/block_ref.rt",
-        "Iter : : new (",
-        1,
-    ),
-    (
-        "sst_block_kinds/src/table/index_block/block_ref.rt",
-        ". iter (",
-        1,
-    ),
-    (
-        "sst_block_kinds/src/table/index_block/block_ref.rt",
+        "sst_block_kinds/src/table/data_block/point_read.rt",
         ". intervals (",
         2,
     ),
+    // The parser, which counts.
     (
-        "sst_block_kinds/src/table/index_block/block_ref.rt",
-        "{ self . payload }",
+        "sst_block_kinds/src/table/index_block/decoding.rt",
+        "payload [",
         1,
     ),
+    // Positions, and handles by their index.
     (
         "sst_block_kinds/src/table/index_block/positions.rt",
         ". intervals (",
         2,
     ),
-    (
-        "sst_block_kinds/src/table/index_block/handle_view.rt",
-        "bytes_of (",
-        2,
-    ),
-    (
-        "sst_block_kinds/src/table/index_block/mod.rt",
-        ". data (",
-        2,
-    ),
-    // (over handles that are to be written, of the block over the bytes, and for the handles that
-    // borrow the block)
-    (
-        "sst_block_kinds/src/table/index_block/mod.rt",
-        ". iter (",
-        3,
-    ),
-    (
-        "sst_block_kinds/src/table/index_block/ops.rt",
-        ". iter (",
-        1,
-    ),
-    // A read of a run opens one index block and one data block, and reads each by one call. One
-    // that checks, and one of a table, counts what it examines for nobody. A table also opens the
-    // filter.
-    ("sstable_blocks/src/run/read.rt", ". iter (", 1),
+    // A read that checks: its blocks are checked whole, and what it examines is counted for nobody.
+    ("sstable_blocks/src/run/checked.rt", "Steps : : new (", 1),
+    ("sstable_blocks/src/run/checked.rt", "check_once (", 4),
+    // The bytes of a run are given back.
+    ("sstable_blocks/src/run/checked_run.rt", ". into_inner (", 1),
     // A scan over borrowed bytes makes an iterator for the first block at either end.
     ("sstable_blocks/src/run/open_block.rt", ". iter (", 1),
-    ("sstable_blocks/src/run/checked.rt", "Steps : : new", 2),
-    ("sstable_blocks/src/run/round_trip.rt", "Steps : : new", 1),
+    ("sstable_blocks/src/run/open_block.rt", ". as_slice (", 2),
+    // The index is sought by an iterator, whose steps are added.
+    ("sstable_blocks/src/run/read.rt", ". iter (", 1),
+    ("sstable_blocks/src/run/read.rt", ". as_slice (", 1),
+    // A read of what was just written.
+    ("sstable_blocks/src/run/round_trip.rt", "Steps : : new (", 1),
+    // A block by its index, for scans; the bytes of a run.
+    ("sstable_blocks/src/run/run_ref.rt", "Steps : : new (", 1),
+    ("sstable_blocks/src/run/run_ref.rt", ". as_slice (", 1),
+    // Which blocks are in the range.
+    ("sstable_blocks/src/run/run_scan.rt", "Steps : : new (", 1),
+    // The same for scans that own their blocks; a block that was opened becomes an iterator.
+    ("sstable_blocks/src/run/scan_steps.rt", "Steps : : new (", 1),
+    (
+        "sstable_blocks/src/run/scan_steps.rt",
+        ". into_entries (",
+        1,
+    ),
+    ("sstable_blocks/src/run/scan_steps.rt", ". as_slice (", 1),
+    // A block by its index, for scans; filter and index are checked when a table is opened.
+    ("sstable_blocks/src/run/table.rt", "Steps : : new (", 1),
+    ("sstable_blocks/src/run/table.rt", ". as_slice (", 1),
     ("sstable_blocks/src/run/table.rt", ". data (", 1),
+    ("sstable_blocks/src/run/table.rt", ": : check (", 1),
+    // A block by its index, for scans; the bytes of a run.
+    ("sstable_blocks/src/run/trusted.rt", "Steps : : new (", 1),
+    ("sstable_blocks/src/run/trusted.rt", ". as_slice (", 2),
 ];

@@ -95,3 +95,30 @@ pub fn tokens_of(rt: &impl AllocGlobal, text: &str) -> io::Result<Vec<String>> {
     }
     Ok(reading.tokens)
 }
+
+/// Returns how often a sequence of tokens, written with spaces between, occurs in others.
+pub fn count(rt: &impl AllocGlobal, tokens: &[String], words: &str) -> io::Result<usize> {
+    let mut wanted = Vec::new(rt.alloc());
+    for word in words.split(' ') {
+        wanted.push(word)?;
+    }
+    let mut found = 0usize;
+    for i in 0..tokens.len() {
+        if occurs_at(tokens, i, wanted.as_slice()) {
+            found = found.saturating_add(1);
+        }
+    }
+    Ok(found)
+}
+
+/// Returns whether a sequence of tokens begins at an index of others.
+fn occurs_at(tokens: &[String], i: usize, wanted: &[&str]) -> bool {
+    for (k, word) in wanted.iter().enumerate() {
+        let token = i.checked_add(k).and_then(|at| tokens.get(at));
+        match token {
+            Some(token) if token.as_str() == *word => {}
+            _ => return false,
+        }
+    }
+    true
+}

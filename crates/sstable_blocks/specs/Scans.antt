@@ -11,6 +11,9 @@ use Rattle.sst_base.specs.declared.error.Error.TheVariants.{Io, Memory, BadHandl
 use Rattle.std.specs.Iterator.{YieldsFirst, YieldsLast}
 use Rattle.std.specs.List.{AllByRecursion}
 use Rattle.sst_block_core.specs.Entries.{entries}
+use Rattle.sst_block_core.specs.Candidates.{scan_cost}
+use Rattle.sst_block_core.specs.Intervals.{digits}
+use Rattle.sst_block_core.specs.Pointers.{head_count}
 use Rattle.sst_block_core.specs.Scan.{Scan}
 use Rattle.sst_block_core.specs.Stages.{items_in}
 use Rattle.sst_block_core.specs.Window.{items_left}
@@ -62,6 +65,10 @@ end_block r hs = min (length hs) (blocks_up_to r hs + 1)
 -- the handles of the blocks that can have a key in a range, by the index alone
 unfoldable pub handles_within : KeyRange → List Handle → List Handle
 handles_within r hs = items_left (record { list = hs; lo = first_block r hs; hi = end_block r hs })
+
+-- the most heads and the most handles that are examined to find a key among so many handles of an index, by its interval
+abbrev pub index_cost : ℕ → ℕ → ℕ × ℕ
+index_cost interval count = (digits (head_count interval count), scan_cost interval)
 
 -- what a scan reads: entries, or the error that a block is refused with
 abbrev pub Read : Type 0

@@ -8,7 +8,7 @@ use crate::place::{TableBlock, footer_block_at};
 use crate::progress::Progress;
 use crate::words::FILE;
 use clap::ArgMatches;
-use sstable_blocks::Error;
+use sstable_blocks::{Error, Steps};
 use std::alloc::Global;
 use std::io::Write;
 use std::rt::{Clock, Files};
@@ -19,7 +19,8 @@ fn data_block_at<R: Files + Clock + Eprint>(table: &FileTable<'_, R>, offset: u6
 {
     let mut index = 0usize;
     while index < table.index().len() {
-        if *table.index().handle_at(index).offset() == offset {
+        let handle = table.index().handle_at(index, &mut Steps::new());
+        if *handle.offset() == offset {
             return Some(index);
         }
         index += 1;

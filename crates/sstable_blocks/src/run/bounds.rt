@@ -1,10 +1,11 @@
 //! The bounds of a scan.
 ghost use Rattle.std.specs.Prelude.{◌≡◌, ◌≤◌, length};
+ghost use Rattle.sst_base.specs.Counted.{CountsBetween};
 ghost use Rattle.sst_block_core.specs.Window.{items_left, whole};
 ghost use Rattle.sstable_blocks.specs.Scans.{AllWithin, blocks_up_to, end_block, end_entry};
-ghost use Rattle.sstable_blocks.specs.Scans.{first_block, first_entry, within};
+ghost use Rattle.sstable_blocks.specs.Scans.{first_block, first_entry, index_cost, within};
 
-use sst_base::BlockHash;
+use sst_base::{BlockHash, Steps};
 use sst_block_core::table::block::bound::Bound as SeekBound;
 use sst_block_kinds::table::data_block::{IntoEntries, Iter};
 use sst_block_kinds::table::index_block::IndexBlockRef;
@@ -31,35 +32,43 @@ impl<'k> Model for Bounds<'k> {
 }
 
 impl<'k> Bounds<'k> {
-    /// Returns the index of the first block that can have a key in the range.
-    pub(crate) fn first_block(&self, index: &IndexBlockRef<'_>) -> usize
-        ensures { result ≡ first_block self.now index.now.items }
+    /// Returns the index of the first block that can have a key in the range. What is examined is
+    /// added to `steps`.
+    pub(crate) fn first_block(&self, index: &IndexBlockRef<'_>, steps: &mut Steps) -> usize
+        ensures value { result ≡ first_block self.now index.now.items }
+        ensures counts { CountsBetween steps.old steps.new (0, 0)
+            (index_cost index.now.interval (length index.now.items)) }
     {
         match self.from {
-            Bound::Included(start) => index.position(&SeekBound::below(start)),
-            Bound::Excluded(start) => index.position(&SeekBound::up_to(start)),
+            Bound::Included(start) => index.position(&SeekBound::below(start), steps),
+            Bound::Excluded(start) => index.position(&SeekBound::up_to(start), steps),
             Bound::Unbounded => 0,
         }
     }
 
     // How many blocks end up to the end of the range.
-    fn blocks_up_to(&self, index: &IndexBlockRef<'_>) -> usize
-        ensures { result ≡ blocks_up_to self.now index.now.items }
+    fn blocks_up_to(&self, index: &IndexBlockRef<'_>, steps: &mut Steps) -> usize
+        ensures value { result ≡ blocks_up_to self.now index.now.items }
+        ensures counts { CountsBetween steps.old steps.new (0, 0)
+            (index_cost index.now.interval (length index.now.items)) }
     {
         match self.to {
-            Bound::Included(end) => index.position(&SeekBound::up_to(end)),
-            Bound::Excluded(end) => index.position(&SeekBound::below(end)),
+            Bound::Included(end) => index.position(&SeekBound::up_to(end), steps),
+            Bound::Excluded(end) => index.position(&SeekBound::below(end), steps),
             Bound::Unbounded => index.len(),
         }
     }
 
-    /// Returns the index after the last block that can have a key in the range.
-    pub(crate) fn end_block(&self, index: &IndexBlockRef<'_>) -> usize
+    /// Returns the index after the last block that can have a key in the range. What is examined
+    /// is added to `steps`.
+    pub(crate) fn end_block(&self, index: &IndexBlockRef<'_>, steps: &mut Steps) -> usize
         ensures value { result ≡ end_block self.now index.now.items }
         ensures inside { result ≤ length index.now.items }
+        ensures counts { CountsBetween steps.old steps.new (0, 0)
+            (index_cost index.now.interval (length index.now.items)) }
     {
         let len = index.len();
-        let last = self.blocks_up_to(index);
+        let last = self.blocks_up_to(index, steps);
         if last < len { last + 1 } else { len }
     }
 

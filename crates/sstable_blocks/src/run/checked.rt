@@ -196,8 +196,9 @@ fn read_by_index<H: BlockHash, S: FrameSource>(
 {
     let block = block_from::<H, S>(alloc, source, index, BlockType::Index)?;
     let index = IndexBlock::check_once(block)?;
-    let handle = find_handle(&index, needle, seqno, &mut Steps::new());
-    read_in_block::<H, S>(alloc, source, &handle, needle, seqno, &mut Steps::new())
+    let mut steps = Steps::new();
+    let handle = find_handle(&index, needle, seqno, &mut steps);
+    read_in_block::<H, S>(alloc, source, &handle, needle, seqno, &mut steps)
 }
 
 // The first match of a run on any bytes, in stages.

@@ -187,7 +187,7 @@ pub(crate) fn block_over<'a, H: BlockHash>(
     requires range { IsFrameRange bytes.now handle.now }
     requires block { (items : List Entry) × (r : ℕ) × (b : ℕ)
         × IsBlock entries IsEntry H.hash64 (payload_in bytes.now handle.now) items r b }
-    ensures { result ≡ data_ref_of (payload_in bytes.now handle.now) }
+    ensures { result ≡ data_ref_of (payload_in bytes.now handle.now) false }
 {
     // The proof needs the bound on the size.
     let _fits = handle.size();

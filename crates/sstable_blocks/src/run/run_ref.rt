@@ -227,10 +227,10 @@ impl<'a, H: BlockHash> RunRef<'a, H> {
         requires { index < length (index_in self.now.bytes self.now.handles.index) }
         ensures { (h : Handle)
             → slice_get (index_in self.now.bytes self.now.handles.index) index ≡ Some h
-            → result ≡ data_ref_of (payload_in self.now.bytes (range_of h)) }
+            → result ≡ data_ref_of (payload_in self.now.bytes (range_of h)) false }
     {
         sound_opens();
-        let handle = self.index.handle_at(index);
+        let handle = self.index.handle_at(index, &mut Steps::new());
         block_over::<H>(self.bytes, &handle)
     }
 }

@@ -18,7 +18,7 @@ use super::laws::sound_is_scanned;
 use super::open_block::{OpenBlock, has_entry, open_at, take_first, take_last};
 use super::run_ref::RunRef;
 use sst_base::double_ended_peekable::ListIterator;
-use sst_base::{BlockHash, InternalValue};
+use sst_base::{BlockHash, InternalValue, Steps};
 use sst_block_kinds::table::data_block::EntryView;
 use std::marker::Model;
 use std::mem;
@@ -289,10 +289,11 @@ impl<'a, H: BlockHash> RunRef<'a, H> {
         self.note_read();
         let bounds = Bounds { from, to };
         let index = self.index();
+        let mut steps = Steps::new();
         let opened = Opened {
             front: None,
-            lo: bounds.first_block(index),
-            hi: bounds.end_block(index),
+            lo: bounds.first_block(index, &mut steps),
+            hi: bounds.end_block(index, &mut steps),
             back: None,
         };
         RunScan {

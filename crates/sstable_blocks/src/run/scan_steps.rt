@@ -15,7 +15,7 @@ ghost use Rattle.sstable_blocks.specs.Sources.{GivesOr, KeepsSource};
 
 use super::bounds::Bounds;
 use super::opener::BlockOpener;
-use sst_base::{BlockHash, Error, InternalValue, Result};
+use sst_base::{BlockHash, Error, InternalValue, Result, Steps};
 use sst_block_kinds::IndexBlock;
 use sst_block_kinds::table::data_block::IntoEntries;
 use std::alloc::Global;
@@ -40,10 +40,11 @@ impl<H: BlockHash> Blocks<H> {
         ensures inside { result.hi ≤ length index.now.items }
     {
         let index = index.by_ref();
+        let mut steps = Steps::new();
         Blocks {
             front: None,
-            lo: bounds.first_block(&index),
-            hi: bounds.end_block(&index),
+            lo: bounds.first_block(&index, &mut steps),
+            hi: bounds.end_block(&index, &mut steps),
             back: None,
         }
     }

@@ -1,6 +1,6 @@
 //! Tables: runs in a source, whose filter and index are read once.
 ghost use Rattle.std.specs.Prelude.{◌≡◌, ◌≢◌, ◌+◌, ◌≤◌, ◌<◌, List, Ok, OnOk, IfOk, IfErr, IfSome};
-ghost use Rattle.std.specs.Prelude.{MatchResult, Some, length, slice_get};
+ghost use Rattle.std.specs.Prelude.{MatchResult, Some, length, slice_get, true};
 ghost use Rattle.std.specs.Option.{option_map};
 ghost use Rattle.sst_base.specs.Counted.{CountsBetween};
 ghost use Rattle.sst_base.specs.Entry.{Entry};
@@ -54,7 +54,7 @@ pub struct Table<H: BlockHash, S: FrameSource> {
 }
 
 impl<H: BlockHash, S: FrameSource> Model for Table<H, S> {
-    ghost use Rattle.std.specs.Prelude.{IfSome};
+    ghost use Rattle.std.specs.Prelude.{◌≡◌, IfSome, true};
     ghost use Rattle.std.specs.Option.{option_map};
     ghost use Rattle.sstable_blocks.specs.RunReading.{hashes};
     ghost use Rattle.sstable_blocks.specs.Tables.{TableParts, IsKeptOf};
@@ -71,7 +71,8 @@ impl<H: BlockHash, S: FrameSource> Model for Table<H, S> {
 
     ghost invariant = { λ t. IfSome (S.bytes t.source)
         (IsKeptOf (hashes H.hash64 H.hash128) t.handles (option_map (λ b. b.payload) t.filter)
-        t.index.items t.index.interval) };
+        t.index.items t.index.interval)
+        × (t.index.heads ≡ true) };
 }
 
 /// Why a table was not opened, with its source.
@@ -165,6 +166,7 @@ fn kept_index_from<H: BlockHash, S: FrameSource>(
         (handles_at (hashes H.hash64 H.hash128) all handle.now)) }
     ensures place { IfOk result (λ b. IfSome (S.bytes source.old)
         (λ all. IsIndexIn all handle.now b.items b.interval)) }
+    ensures heads { IfOk result (λ b. b.heads ≡ true) }
 {
     index_check_is_by_stages();
     let block = block_from::<H, S>(alloc, source, handle, BlockType::Index)?;
@@ -188,6 +190,7 @@ fn kept_from<H: BlockHash, S: FrameSource>(
         (λ all. GivesOr (S.failures source.old < S.failures source.new) (S.is_reliable source.old)
         (λ k. (option_map (λ b. b.payload) k.0, k.1.items)) result
         (kept_of (hashes H.hash64 H.hash128) all handles.now)) }
+    ensures heads { IfOk result (λ k. k.1.heads ≡ true) }
 {
     let filter = filter_block_from::<H, S>(alloc, source, &handles.filter)?;
     let index = kept_index_from::<H, S>(alloc, source, &handles.index)?;
@@ -305,6 +308,7 @@ impl<H: BlockHash, S: FrameSource> Table<H, S> {
     pub fn index(&self) -> &IndexBlock
         ensures items { result.now.items ≡ self.now.index }
         ensures interval { result.now.interval ≡ self.now.interval }
+        ensures heads { result.now.heads ≡ true }
         ensures kept { IfSome (S.bytes self.now.source)
             (λ all. handles_at (hashes H.hash64 H.hash128) all self.now.handles.index
             ≡ Ok self.now.index) }
@@ -334,7 +338,7 @@ impl<H: BlockHash, S: FrameSource> Table<H, S> {
             (S.is_reliable self.old.source) (λ b. b.items) result
             (items_at (hashes H.hash64 H.hash128) all (range_of h))) }
     {
-        let handle = self.index.handle_at(index);
+        let handle = self.index.handle_at(index, &mut Steps::new());
         data_block_from::<H, S>(alloc, &mut self.source, &handle)
     }
 

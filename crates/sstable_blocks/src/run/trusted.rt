@@ -162,7 +162,7 @@ impl<'a, H: BlockHash> Trusted<'a, H> {
         ensures memory { IsOkUnless result Error.Memory }
     {
         sound_opens();
-        let handle = self.index.handle_at(index);
+        let handle = self.index.handle_at(index, &mut Steps::new());
         block_in::<H>(self.bytes, &handle)
     }
 }

@@ -1,6 +1,6 @@
 //! Data blocks whose payload is borrowed.
 ghost use Rattle.std.specs.Prelude.{◌≡◌, ℕ, ◌*◌, ◌^◌, ◌<◌, ◌≤◌, List, length, map, None, Some};
-ghost use Rattle.std.specs.Prelude.{IfOk, IfSome, IsOkUnless, ◌==◌, if◌then◌else◌};
+ghost use Rattle.std.specs.Prelude.{IfOk, IfSome, IsOkUnless, is_some, true, false, ◌==◌, if◌then◌else◌};
 ghost use Rattle.sst_base.specs.Counted.{IsZero};
 ghost use Rattle.sst_base.specs.Entry.{Entry, IsEntry, plain};
 ghost use Rattle.sst_block_core.specs.Body.{place_offset};
@@ -42,7 +42,7 @@ pub struct DataBlockRef<'a, H: BlockHash> {
 }
 
 impl<'a, H: BlockHash> Model for DataBlockRef<'a, H> {
-    ghost use Rattle.std.specs.Prelude.{ℕ, List, length, ◌<◌, ◌^◌, IfSome};
+    ghost use Rattle.std.specs.Prelude.{ℕ, List, length, ◌<◌, ◌^◌, IfSome, is_some};
     ghost use Rattle.sst_base.specs.Bytes.{IsBytes};
     ghost use Rattle.sst_base.specs.Entry.{Entry, IsEntry};
     ghost use Rattle.sst_block_core.specs.Entries.{entries};
@@ -52,7 +52,7 @@ impl<'a, H: BlockHash> Model for DataBlockRef<'a, H> {
 
     ghost Value = { DataRefParts };
 
-    ghost view = { λ d. data_ref_of d.payload.now };
+    ghost view = { λ d. data_ref_of d.payload.now (is_some d.heads) };
 
     ghost invariant = { λ d. (length d.payload.now < 2 ^ 32)
         × IsBytes d.payload.now
@@ -69,7 +69,7 @@ impl<'a, H: BlockHash> DataBlockRef<'a, H> {
         requires encoding { (items : List Entry) × (r : ℕ) × (b : ℕ)
             × IsBlock entries IsEntry H.hash64 payload.now items r b }
         ensures payload { result.payload ≡ payload.now }
-        ensures parts { result ≡ data_ref_of payload.now }
+        ensures parts { result ≡ data_ref_of payload.now false }
         ensures read { (items : List Entry) (r b : ℕ)
             → IsBlock entries IsEntry H.hash64 payload.now items r b
             → (result.items ≡ map plain items) × (result.interval ≡ r)
@@ -86,7 +86,7 @@ impl<'a, H: BlockHash> DataBlockRef<'a, H> {
             × IsBlock entries IsEntry H.hash64 payload.now items r b }
         requires heads { IfSome heads
             (λ t. IsTableOf entries (listed_in entries payload.now) t.now) }
-        ensures { result ≡ data_ref_of payload.now }
+        ensures { result ≡ data_ref_of payload.now (is_some heads.entry) }
     {
         DataBlockRef {
             hash: PhantomData,
@@ -99,7 +99,7 @@ impl<'a, H: BlockHash> DataBlockRef<'a, H> {
     /// compare numbers of the table, and examine the payload only where these are equal.
     pub fn with_table(&self, heads: &'a HeadTable) -> DataBlockRef<'a, H>
         requires { IsTableOf entries (listed_in entries self.now.payload) heads.now }
-        ensures { result ≡ self.now }
+        ensures { result ≡ record self.now { heads = true } }
     {
         DataBlockRef {
             hash: PhantomData,
@@ -126,7 +126,8 @@ impl<'a, H: BlockHash> DataBlockRef<'a, H> {
 
     /// Returns the table of the block's heads, if it has one.
     pub fn heads(&self) -> Option<&'a HeadTable>
-        ensures { IfSome result
+        ensures there { is_some result ≡ self.now.heads }
+        ensures table { IfSome result
             (λ t. IsTableOf entries (listed_in entries self.now.payload) t.now) }
     {
         self.heads

@@ -1,5 +1,5 @@
 //! The check of a data block, and entries as items that are checked.
-ghost use Rattle.std.specs.Prelude.{◌≡◌, ◌≢◌, ◌↔◌, ◌^◌, ◌<◌, ◌≤◌, ℕ, List, length, map};
+ghost use Rattle.std.specs.Prelude.{false, ◌≡◌, ◌≢◌, ◌↔◌, ◌^◌, ◌<◌, ◌≤◌, ℕ, List, length, map};
 ghost use Rattle.std.specs.Prelude.{OnOk, IfOk, IfErr, IsErrOf, Ok, Err, MatchResult};
 ghost use Rattle.sst_base.specs.Bytes.{IsBytes};
 ghost use Rattle.sst_base.specs.Entry.{Entry, IsEntry, plain};
@@ -91,7 +91,7 @@ impl<'a, H: BlockHash> DataBlockRef<'a, H> {
     /// [`DataBlock::check`].
     pub fn check(alloc: Global, payload: &'a [u8]) -> Result<DataBlockRef<'a, H>>
         ensures checked { IfOk result (λ b. data_check H.hash64 payload.now ≡ Ok b.items) }
-        ensures parts { IfOk result (λ b. b ≡ data_ref_of payload.now) }
+        ensures parts { IfOk result (λ b. b ≡ data_ref_of payload.now false) }
         ensures encoded { IfOk result
             (λ b. IsBlock entries IsEntry H.hash64 payload.now b.items b.interval b.stored) }
         ensures too_long { IsErrOf result Error.TooLong ↔ (2 ^ 32 ≤ length payload.now) }

@@ -1,6 +1,6 @@
 //! Data blocks: blocks of entries.
 ghost use Rattle.std.specs.Prelude.{◌≡◌, ◌↔◌, ℕ, ◌+◌, ◌*◌, ◌^◌, ◌<◌, MatchResult};
-ghost use Rattle.std.specs.Prelude.{◌≤◌, List, length, map, [], IsTrue};
+ghost use Rattle.std.specs.Prelude.{◌≤◌, List, length, map, [], IsTrue, true, false, is_some};
 ghost use Rattle.std.specs.Prelude.{IsSome, OnOk, OnErr, IfOk, IfErr, IsOkUnless, None, Some};
 ghost use Rattle.std.specs.Prelude.{IfSome, IsNone, take, ◌==◌, if◌then◌else◌, ◌≢◌, Ok, Err};
 ghost use Rattle.sst_base.specs.Counted.{IsZero, CountsBetween};
@@ -44,15 +44,14 @@ pub use iter::Iter;
 pub use ops::{Op, walk};
 pub use parsed_item::DataBlockParsedItem;
 use sst_base::table::block::Block;
-use sst_base::{
-    AllocResult, BlockHash, Error, HashRatio, InternalValue, Result, SeqNo, Slice, Steps,
-};
+use sst_base::{AllocResult, BlockHash, Error, HashRatio, InternalValue, Result, Slice};
 use sst_block_core::table::block::encoder::encode_all;
-use sst_block_core::table::block::heads::{HeadTable, clone_table};
+use sst_block_core::table::block::heads::HeadTable;
 use sst_block_core::table::block::{ParsedItem, hash_index};
 use std::alloc::Global;
 use std::fmt;
 use std::marker::{Model, PhantomData};
+use std::sync::Arc;
 
 /// A block of entries, whose hash index, if it has one, is made by `H`.
 ///
@@ -63,12 +62,12 @@ use std::marker::{Model, PhantomData};
 pub struct DataBlock<H: BlockHash> {
     hash: PhantomData<H>,
     inner: Block,
-    // The table of the heads, if one was made.
-    heads: Option<HeadTable>,
+    // The table of the heads, if one was made. Clones share it.
+    heads: Option<Arc<HeadTable>>,
 }
 
 impl<H: BlockHash> Model for DataBlock<H> {
-    ghost use Rattle.std.specs.Prelude.{ℕ, List};
+    ghost use Rattle.std.specs.Prelude.{ℕ, List, is_some};
     ghost use Rattle.sst_base.specs.Entry.{Entry, IsEntry};
     ghost use Rattle.sst_block_core.specs.Entries.{entries};
     ghost use Rattle.std.specs.Prelude.{IfSome};
@@ -78,11 +77,11 @@ impl<H: BlockHash> Model for DataBlock<H> {
 
     ghost Value = { DataBlockParts };
 
-    ghost view = { λ d. data_block_of d.inner };
+    ghost view = { λ d. data_block_of d.inner (is_some d.heads) };
 
     ghost invariant = { λ d. ((items : List Entry) × (r : ℕ) × (b : ℕ)
         × IsBlock entries IsEntry H.hash64 d.inner.payload items r b)
-        × IfSome d.heads (λ t. IsTableOf entries (listed_in entries d.inner.payload) t) };
+        × IfSome d.heads (λ t. IsTableOf entries (listed_in entries d.inner.payload) t.value) };
 }
 
 impl<H: BlockHash> DataBlock<H> {
@@ -266,7 +265,7 @@ impl<H: BlockHash> DataBlock<H> {
             × IsBlock entries IsEntry H.hash64 block.payload items r b }
         ensures inner { block_of result ≡ block }
         ensures payload { result.payload ≡ block.payload }
-        ensures parts { result ≡ data_block_of block }
+        ensures parts { result ≡ data_block_of block false }
         ensures read { (items : List Entry) (r b : ℕ)
             → IsBlock entries IsEntry H.hash64 block.payload items r b
             → (result.items ≡ map plain items) × (result.interval ≡ r)
@@ -293,11 +292,10 @@ impl<H: BlockHash> DataBlock<H> {
         self,
         alloc: Global,
     ) -> std::result::Result<DataBlock<H>, (Error, DataBlock<H>)>
-        ensures ok { IfOk result (λ b. b ≡ self) }
+        ensures ok { IfOk result (λ b. b ≡ record self { heads = true }) }
         ensures err { IfErr result (λ e. (e.0 ≡ Error.Memory) × (e.1 ≡ self)) }
     {
-        let made = self.by_ref().make_heads(alloc);
-        match made {
+        match self.make_shared(alloc) {
             Ok(heads) => Ok(DataBlock {
                 hash: PhantomData,
                 inner: self.inner,
@@ -310,10 +308,23 @@ impl<H: BlockHash> DataBlock<H> {
     /// Returns the table of the block's heads, if one was made: by [`DataBlock::check`] or
     /// [`DataBlock::with_heads`].
     pub fn heads(&self) -> Option<&HeadTable>
-        ensures { IfSome result
+        ensures there { is_some result ≡ self.now.heads }
+        ensures table { IfSome result
             (λ t. IsTableOf entries (listed_in entries self.now.payload) t.now) }
     {
-        self.heads.as_ref()
+        match &self.heads {
+            Some(heads) => Some(&**heads),
+            None => None,
+        }
+    }
+
+    // Makes the table of the block's heads, which clones of the block will share.
+    fn make_shared(&self, alloc: Global) -> Result<Arc<HeadTable>>
+        ensures ok { IfOk result
+            (λ t. IsTableOf entries (listed_in entries self.now.payload) t.value) }
+        ensures memory { IsOkUnless result Error.Memory }
+    {
+        self.by_ref().make_heads(alloc)?.into_shared(alloc)
     }
 
     /// Wraps a block of any bytes, if its payload is the encoding of some ordered, non-empty list
@@ -333,7 +344,7 @@ impl<H: BlockHash> DataBlock<H> {
     /// the bucket of the entries. `Error::Memory` if an allocation fails.
     pub fn check(alloc: Global, block: Block) -> Result<DataBlock<H>>
         ensures checked { IfOk result (λ b. data_check H.hash64 block.payload ≡ Ok b.items) }
-        ensures parts { IfOk result (λ b. b ≡ data_block_of block) }
+        ensures parts { IfOk result (λ b. b ≡ data_block_of block true) }
         ensures encoded { IfOk result
             (λ b. IsBlock entries IsEntry H.hash64 block.payload b.items b.interval b.stored) }
         ensures refused { IfErr result
@@ -346,7 +357,7 @@ impl<H: BlockHash> DataBlock<H> {
             (λ e. e ≡ Error.Memory) }
     {
         let block = DataBlock::<H>::check_once(alloc, block)?;
-        let heads = block.by_ref().make_heads(alloc)?;
+        let heads = block.make_shared(alloc)?;
         Ok(DataBlock {
             hash: PhantomData,
             inner: block.inner,
@@ -362,7 +373,7 @@ impl<H: BlockHash> DataBlock<H> {
     /// Those of [`DataBlock::check`].
     pub fn check_once(alloc: Global, block: Block) -> Result<DataBlock<H>>
         ensures checked { IfOk result (λ b. data_check H.hash64 block.payload ≡ Ok b.items) }
-        ensures parts { IfOk result (λ b. b ≡ data_block_of block) }
+        ensures parts { IfOk result (λ b. b ≡ data_block_of block false) }
         ensures encoded { IfOk result
             (λ b. IsBlock entries IsEntry H.hash64 block.payload b.items b.interval b.stored) }
         ensures refused { IfErr result
@@ -414,7 +425,7 @@ impl<H: BlockHash> DataBlock<H> {
         ensures { result ≡ ref_of_block self.now }
     {
         let payload = self.inner.data().as_slice();
-        DataBlockRef::over(payload, self.heads.as_ref())
+        DataBlockRef::over(payload, self.heads())
     }
 
     /// Returns the number of entries, which is at least one.
@@ -490,22 +501,6 @@ impl<H: BlockHash> DataBlock<H> {
         IntoEntries::new(self)
     }
 
-    /// Makes all entries.
-    ///
-    /// # Errors
-    ///
-    /// `Error::Memory` if an allocation fails.
-    pub fn to_vec(&self, alloc: Global) -> Result<Vec<InternalValue>>
-        ensures ok { IfOk result (λ v. v.items ≡ self.now.items) }
-        ensures memory { IsOkUnless result Error.Memory }
-    {
-        let mut all = Vec::with_capacity(alloc, self.len())?;
-        for entry in self.entries() {
-            all.push(entry.materialize(alloc)?)?;
-        }
-        Ok(all)
-    }
-
     // Makes the entry that a read returns. It is not inlined, so that a read without a match needs
     // no space for an entry.
     #[inline(never)]
@@ -516,47 +511,16 @@ impl<H: BlockHash> DataBlock<H> {
     {
         Ok(Some(item.materialize(alloc, self.as_slice())?))
     }
-
-    /// Returns the first entry with this key whose sequence number is strictly below `seqno`. A
-    /// tombstone has no value.
-    ///
-    /// What is examined is added to `steps`. Where the hash index says that the key is not in the
-    /// block, that is nothing. Where it gives a restart interval, that is at least one entry and at
-    /// most the entries of the interval. Else it is at least one head and at most as many heads as
-    /// their number has binary digits, and at most the entries of one interval and one more.
-    ///
-    /// # Errors
-    ///
-    /// `Error::Memory` if an allocation fails, which is possible only where there is such an entry.
-    pub fn point_read(
-        &self,
-        alloc: Global,
-        needle: &[u8],
-        seqno: SeqNo,
-        steps: &mut Steps,
-    ) -> Result<Option<InternalValue>>
-        ensures found { IfOk result
-            (λ item. item ≡ first_match entries needle.now seqno self.now.items) }
-        ensures memory { IsOkUnless result Error.Memory }
-        ensures only_found { OnErr result
-            (IsSome (first_match entries needle.now seqno self.now.items)) }
-        ensures counts { CountsBetween steps.old steps.new
-            (read_least H.hash64 self.now needle.now) (read_most H.hash64 self.now needle.now) }
-        ensures counted { IsSome (first_match entries needle.now seqno self.now.items)
-            → steps.old.entries + 1 ≤ steps.new.entries }
-    {
-        match self.find_version(needle, seqno, steps) {
-            Some(item) => self.found(alloc, &item),
-            None => Ok(None),
-        }
-    }
 }
 
 impl<H: BlockHash> Clone for DataBlock<H> {
     ghost is_clone = { λ d copy. copy ≡ d };
 
     fn clone(&self) -> AllocResult<DataBlock<H>> {
-        let heads = clone_table(&self.heads)?;
+        let heads = match &self.heads {
+            Some(heads) => Some(heads.clone()?),
+            None => None,
+        };
         Ok(DataBlock {
             hash: PhantomData,
             inner: self.inner.clone()?,

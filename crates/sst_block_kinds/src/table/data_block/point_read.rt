@@ -1,5 +1,5 @@
 //! The look-up of a point read.
-ghost use Rattle.std.specs.Prelude.{◌≡◌, ◌+◌, ◌<◌, ◌≤◌, IfSome, length, map};
+ghost use Rattle.std.specs.Prelude.{◌≡◌, ◌+◌, ◌<◌, ◌≤◌, IfSome, IfOk, IsSome, OnErr, IsOkUnless, length, map};
 ghost use Rattle.std.specs.Option.{option_map};
 ghost use Rattle.sst_base.specs.Counted.{found_item, IsZero, CountsBetween};
 ghost use Rattle.sst_base.specs.Entry.{plain};
@@ -14,9 +14,10 @@ ghost use Rattle.sst_block_core.specs.Window.{first_match};
 use crate::table::data_block::DataBlock;
 use crate::table::data_block::block_ref::DataBlockRef;
 use crate::table::data_block::parsed_item::DataBlockParsedItem;
-use sst_base::{BlockHash, InternalValue, SeqNo, Steps};
+use sst_base::{BlockHash, Error, InternalValue, Result, SeqNo, Steps};
 use sst_block_core::table::block::hash_index::Lookup;
 use sst_block_core::table::block::intervals::Intervals;
+use std::alloc::Global;
 
 impl<'a, H: BlockHash> DataBlockRef<'a, H> {
     // What the hash index says of a key, if there is one.
@@ -101,5 +102,39 @@ impl<H: BlockHash> DataBlock<H> {
         ensures counted { steps.old.entries + found_item result ≤ steps.new.entries }
     {
         self.by_ref().find(needle, seqno, steps)
+    }
+
+    /// Returns the first entry with this key whose sequence number is strictly below `seqno`. A
+    /// tombstone has no value.
+    ///
+    /// What is examined is added to `steps`. Where the hash index says that the key is not in the
+    /// block, that is nothing. Where it gives a restart interval, that is at least one entry and at
+    /// most the entries of the interval. Else it is at least one head and at most as many heads as
+    /// their number has binary digits, and at most the entries of one interval and one more.
+    ///
+    /// # Errors
+    ///
+    /// `Error::Memory` if an allocation fails, which is possible only where there is such an entry.
+    pub fn point_read(
+        &self,
+        alloc: Global,
+        needle: &[u8],
+        seqno: SeqNo,
+        steps: &mut Steps,
+    ) -> Result<Option<InternalValue>>
+        ensures found { IfOk result
+            (λ item. item ≡ first_match entries needle.now seqno self.now.items) }
+        ensures memory { IsOkUnless result Error.Memory }
+        ensures only_found { OnErr result
+            (IsSome (first_match entries needle.now seqno self.now.items)) }
+        ensures counts { CountsBetween steps.old steps.new
+            (read_least H.hash64 self.now needle.now) (read_most H.hash64 self.now needle.now) }
+        ensures counted { IsSome (first_match entries needle.now seqno self.now.items)
+            → steps.old.entries + 1 ≤ steps.new.entries }
+    {
+        match self.find_version(needle, seqno, steps) {
+            Some(item) => self.found(alloc, &item),
+            None => Ok(None),
+        }
     }
 }

@@ -1,6 +1,6 @@
 //! Index blocks whose payload is borrowed.
 ghost use Rattle.std.specs.Prelude.{◌≡◌, ℕ, ◌^◌, ◌<◌, ◌≤◌, List, length, None, Some};
-ghost use Rattle.std.specs.Prelude.{IfOk, IfSome, IsOkUnless};
+ghost use Rattle.std.specs.Prelude.{IfOk, IfSome, IsOkUnless, is_some, true, false};
 ghost use Rattle.sst_base.specs.Counted.{IsZero};
 ghost use Rattle.sst_block_core.specs.Heads.{IsTableOf, listed_in};
 ghost use Rattle.sst_block_core.specs.Kind.{IsOrdered};
@@ -34,7 +34,7 @@ pub struct IndexBlockRef<'a> {
 }
 
 impl<'a> Model for IndexBlockRef<'a> {
-    ghost use Rattle.std.specs.Prelude.{ℕ, List, length, ◌<◌, ◌^◌, IfSome};
+    ghost use Rattle.std.specs.Prelude.{ℕ, List, length, ◌<◌, ◌^◌, IfSome, is_some};
     ghost use Rattle.sst_base.specs.Bytes.{IsBytes};
     ghost use Rattle.sst_block_core.specs.Heads.{IsTableOf, listed_in};
     ghost use Rattle.sst_block_kinds.specs.Handles.{Handle, handles, IsIndexBlock};
@@ -42,7 +42,7 @@ impl<'a> Model for IndexBlockRef<'a> {
 
     ghost Value = { IndexRefParts };
 
-    ghost view = { λ b. index_ref_of b.payload.now };
+    ghost view = { λ b. index_ref_of b.payload.now (is_some b.heads) };
 
     ghost invariant = { λ b. (length b.payload.now < 2 ^ 32)
         × IsBytes b.payload.now
@@ -57,7 +57,7 @@ impl<'a> IndexBlockRef<'a> {
         requires fits { length payload.now < 2 ^ 32 }
         requires encoding { (items : List Handle) × (r : ℕ) × IsIndexBlock payload.now items r }
         ensures payload { result.payload ≡ payload.now }
-        ensures parts { result ≡ index_ref_of payload.now }
+        ensures parts { result ≡ index_ref_of payload.now false }
         ensures read { (items : List Handle) (r : ℕ) → IsIndexBlock payload.now items r
             → (result.items ≡ items) × (result.interval ≡ r) }
     {
@@ -71,7 +71,7 @@ impl<'a> IndexBlockRef<'a> {
         requires encoding { (items : List Handle) × (r : ℕ) × IsIndexBlock payload.now items r }
         requires heads { IfSome heads
             (λ t. IsTableOf handles (listed_in handles payload.now) t.now) }
-        ensures { result ≡ index_ref_of payload.now }
+        ensures { result ≡ index_ref_of payload.now (is_some heads.entry) }
     {
         IndexBlockRef { payload, heads }
     }
@@ -80,7 +80,7 @@ impl<'a> IndexBlockRef<'a> {
     /// numbers of the table, and examine the payload only where these are equal.
     pub fn with_table(&self, heads: &'a HeadTable) -> IndexBlockRef<'a>
         requires { IsTableOf handles (listed_in handles self.now.payload) heads.now }
-        ensures { result ≡ self.now }
+        ensures { result ≡ record self.now { heads = true } }
     {
         IndexBlockRef {
             payload: self.payload,
@@ -106,7 +106,8 @@ impl<'a> IndexBlockRef<'a> {
 
     /// Returns the table of the block's heads, if it has one.
     pub fn heads(&self) -> Option<&'a HeadTable>
-        ensures { IfSome result
+        ensures there { is_some result ≡ self.now.heads }
+        ensures table { IfSome result
             (λ t. IsTableOf handles (listed_in handles self.now.payload) t.now) }
     {
         self.heads

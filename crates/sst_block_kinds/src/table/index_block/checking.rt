@@ -1,5 +1,5 @@
 //! The check of an index block, and handles as items that are checked.
-ghost use Rattle.std.specs.Prelude.{◌≡◌, ◌≢◌, ◌↔◌, ◌^◌, ◌<◌, ◌≤◌, ℕ, List, length};
+ghost use Rattle.std.specs.Prelude.{false, ◌≡◌, ◌≢◌, ◌↔◌, ◌^◌, ◌<◌, ◌≤◌, ℕ, List, length};
 ghost use Rattle.std.specs.Prelude.{OnOk, IfOk, IfErr, IsErrOf, MatchResult, Ok, Err};
 ghost use Rattle.sst_base.specs.Bytes.{IsBytes};
 ghost use Rattle.sst_block_kinds.specs.Checks.{index_check};
@@ -83,7 +83,7 @@ impl<'a> IndexBlockRef<'a> {
     /// [`IndexBlock::check`] other than `Error::Memory`.
     pub fn check(payload: &'a [u8]) -> Result<IndexBlockRef<'a>>
         ensures checked { IfOk result (λ b. index_check payload.now ≡ Ok b.items) }
-        ensures parts { IfOk result (λ b. b ≡ index_ref_of payload.now) }
+        ensures parts { IfOk result (λ b. b ≡ index_ref_of payload.now false) }
         ensures encoded { IfOk result (λ b. IsIndexBlock payload.now b.items b.interval) }
         ensures too_long { IsErrOf result Error.TooLong ↔ (2 ^ 32 ≤ length payload.now) }
         ensures refused { IfErr result

@@ -1,6 +1,6 @@
 //! Index blocks: blocks of handles.
 ghost use Rattle.std.specs.Prelude.{◌≡◌, ◌↔◌, ℕ, ◌^◌, ◌<◌, ◌≤◌, List};
-ghost use Rattle.std.specs.Prelude.{length, [], IsTrue};
+ghost use Rattle.std.specs.Prelude.{length, [], IsTrue, true, false, is_some, IsOkUnless};
 ghost use Rattle.std.specs.Prelude.{OnOk, OnErr, IfOk, IfErr, IfSome, MatchResult, None, Ok, Err, ◌≢◌};
 ghost use Rattle.std.specs.List.{AllByRecursion};
 ghost use Rattle.sst_base.specs.Counted.{IsZero};
@@ -39,10 +39,11 @@ pub use parsed_item::IndexBlockParsedItem;
 use sst_base::table::block::Block;
 use sst_base::{AllocResult, Error, HashRatio, Poly31, Result, Slice};
 use sst_block_core::table::block::encoder::encode_all;
-use sst_block_core::table::block::heads::{HeadTable, clone_table};
+use sst_block_core::table::block::heads::HeadTable;
 use std::alloc::Global;
 use std::fmt;
 use std::marker::Model;
+use std::sync::Arc;
 
 /// A block of handles.
 ///
@@ -51,24 +52,24 @@ use std::marker::Model;
 #[derive(Drop)]
 pub struct IndexBlock {
     inner: Block,
-    // The table of the heads, if one was made.
-    heads: Option<HeadTable>,
+    // The table of the heads, if one was made. Clones share it.
+    heads: Option<Arc<HeadTable>>,
 }
 
 impl Model for IndexBlock {
     ghost use Rattle.std.specs.Prelude.{ℕ, List};
-    ghost use Rattle.std.specs.Prelude.{IfSome};
+    ghost use Rattle.std.specs.Prelude.{IfSome, is_some};
     ghost use Rattle.sst_block_core.specs.Heads.{IsTableOf, listed_in};
     ghost use Rattle.sst_block_kinds.specs.Handles.{Handle, handles, IsIndexBlock};
     ghost use Rattle.sst_block_kinds.specs.IndexBlock.{IndexBlockParts, index_block_of};
 
     ghost Value = { IndexBlockParts };
 
-    ghost view = { λ b. index_block_of b.inner };
+    ghost view = { λ b. index_block_of b.inner (is_some b.heads) };
 
     ghost invariant = { λ b. ((items : List Handle) × (r : ℕ)
         × IsIndexBlock b.inner.payload items r)
-        × IfSome b.heads (λ t. IsTableOf handles (listed_in handles b.inner.payload) t) };
+        × IfSome b.heads (λ t. IsTableOf handles (listed_in handles b.inner.payload) t.value) };
 }
 
 impl IndexBlock {
@@ -192,7 +193,7 @@ impl IndexBlock {
         requires { (items : List Handle) × (r : ℕ) × IsIndexBlock block.payload items r }
         ensures inner { block_of result ≡ block }
         ensures payload { result.payload ≡ block.payload }
-        ensures parts { result ≡ index_block_of block }
+        ensures parts { result ≡ index_block_of block false }
         ensures read { (items : List Handle) (r : ℕ) → IsIndexBlock block.payload items r
             → (result.items ≡ items) × (result.interval ≡ r) }
     {
@@ -212,11 +213,10 @@ impl IndexBlock {
     ///
     /// `Error::Memory` if an allocation fails, with the unchanged block.
     pub fn with_heads(self, alloc: Global) -> std::result::Result<IndexBlock, (Error, IndexBlock)>
-        ensures ok { IfOk result (λ b. b ≡ self) }
+        ensures ok { IfOk result (λ b. b ≡ record self { heads = true }) }
         ensures err { IfErr result (λ e. (e.0 ≡ Error.Memory) × (e.1 ≡ self)) }
     {
-        let made = self.by_ref().make_heads(alloc);
-        match made {
+        match self.make_shared(alloc) {
             Ok(heads) => Ok(IndexBlock {
                 inner: self.inner,
                 heads: Some(heads),
@@ -228,10 +228,23 @@ impl IndexBlock {
     /// Returns the table of the block's heads, if one was made: by [`IndexBlock::check`] or
     /// [`IndexBlock::with_heads`].
     pub fn heads(&self) -> Option<&HeadTable>
-        ensures { IfSome result
+        ensures there { is_some result ≡ self.now.heads }
+        ensures table { IfSome result
             (λ t. IsTableOf handles (listed_in handles self.now.payload) t.now) }
     {
-        self.heads.as_ref()
+        match &self.heads {
+            Some(heads) => Some(&**heads),
+            None => None,
+        }
+    }
+
+    // Makes the table of the block's heads, which clones of the block will share.
+    fn make_shared(&self, alloc: Global) -> Result<Arc<HeadTable>>
+        ensures ok { IfOk result
+            (λ t. IsTableOf handles (listed_in handles self.now.payload) t.value) }
+        ensures memory { IsOkUnless result Error.Memory }
+    {
+        self.by_ref().make_heads(alloc)?.into_shared(alloc)
     }
 
     /// Wraps a block of any bytes, if its payload is the encoding of some ordered, non-empty list
@@ -251,7 +264,7 @@ impl IndexBlock {
     /// `Error::Memory` if the allocation of the table fails.
     pub fn check(alloc: Global, block: Block) -> Result<IndexBlock>
         ensures checked { IfOk result (λ b. index_check block.payload ≡ Ok b.items) }
-        ensures parts { IfOk result (λ b. b ≡ index_block_of block) }
+        ensures parts { IfOk result (λ b. b ≡ index_block_of block true) }
         ensures encoded { IfOk result (λ b. IsIndexBlock block.payload b.items b.interval) }
         ensures refused { IfErr result
             (λ e. e ≢ Error.Memory → index_check block.payload ≡ Err e) }
@@ -261,7 +274,7 @@ impl IndexBlock {
             → MatchResult result (λ found. found.items ≡ items) (λ e. e ≡ Error.Memory) }
     {
         let block = IndexBlock::check_once(block)?;
-        let heads = block.by_ref().make_heads(alloc)?;
+        let heads = block.make_shared(alloc)?;
         Ok(IndexBlock {
             inner: block.inner,
             heads: Some(heads),
@@ -276,7 +289,7 @@ impl IndexBlock {
     /// Those of [`IndexBlock::check`] other than `Error::Memory`.
     pub fn check_once(block: Block) -> Result<IndexBlock>
         ensures checked { IfOk result (λ b. index_check block.payload ≡ Ok b.items) }
-        ensures parts { IfOk result (λ b. b ≡ index_block_of block) }
+        ensures parts { IfOk result (λ b. b ≡ index_block_of block false) }
         ensures encoded { IfOk result (λ b. IsIndexBlock block.payload b.items b.interval) }
         ensures refused { IfErr result (λ e. index_check block.payload ≡ Err e) }
         ensures not_io { IfErr result (λ e. e ≢ Error.Io) }
@@ -322,7 +335,7 @@ impl IndexBlock {
         ensures { result ≡ ref_of_block self.now }
     {
         let payload = self.inner.data().as_slice();
-        IndexBlockRef::over(payload, self.heads.as_ref())
+        IndexBlockRef::over(payload, self.heads())
     }
 
     /// Returns the number of handles, which is at least one.
@@ -363,7 +376,10 @@ impl Clone for IndexBlock {
     ghost is_clone = { λ b copy. copy ≡ b };
 
     fn clone(&self) -> AllocResult<IndexBlock> {
-        let heads = clone_table(&self.heads)?;
+        let heads = match &self.heads {
+            Some(heads) => Some(heads.clone()?),
+            None => None,
+        };
         Ok(IndexBlock {
             inner: self.inner.clone()?,
             heads,

@@ -19,5 +19,5 @@ returns-clause-left g c = λ blocks sound.
     let hi = c.end_block.result in
     ap (λ (x : RunParts). left_by x r None lo hi None) c.again.ensures
     ∙ fresh_entries run.bytes r h hs [] [] lo hi blocks c.note_read.ensures.blocks refl refl
-    (c.first_block.ensures ∙ ap (λ (ks : List Handle). first_block r ks) same) (c.end_block.ensures.value ∙ ap (λ (ks : List Handle). end_block r ks) same)
+    (c.first_block.ensures.value ∙ ap (λ (ks : List Handle). first_block r ks) same) (c.end_block.ensures.value ∙ ap (λ (ks : List Handle). end_block r ks) same)
     (c.sound_is_scanned.ensures h blocks run.bytes run.handles r hs g.met.H.BlockHash.hash128_fits sound c.note_read.ensures.index)
