@@ -1,5 +1,5 @@
 -- What a read by a table counts, in terms of the run's bytes.
-use Rattle.std.proofs.Common.{◌≡◌, ◌≢◌, ℕ, ◌+◌, List, length, arith, sym, ◌∙◌, ap, subst, Option, Some, None, IfSome, IfOk, IfErr, Result, Ok, Err}
+use Rattle.std.proofs.Common.{◌≡◌, ◌≢◌, ℕ, ◌+◌, Bool, List, length, arith, sym, ◌∙◌, ap, subst, Option, Some, None, IfSome, IfOk, IfErr, Result, Ok, Err}
 use Rattle.std.specs.Option.{option_map}
 use Rattle.sst_base.specs.Block.{BlockParts}
 use Rattle.sst_base.specs.BlockHandle.{HandleParts}
@@ -34,20 +34,20 @@ placed c t None k p cells read = tt
 placed c t (Some all) k p cells read = (frame_range c t all p k (payload_at_takes c t all k p cells read)).1
 
 -- so are the handles of an index and its interval
-pub index_placed : (c : Hashes) (o : Option (List ℕ)) (k : HandleParts) (b : BlockParts) (d : IndexBlockParts) → d ≡ index_block_of b → IfSome o IsBytes → IfSome o (λ all. payload_at c types.Index all k ≡ Ok b.payload)
+pub index_placed : (c : Hashes) (o : Option (List ℕ)) (k : HandleParts) (b : BlockParts) (heads : Bool) (d : IndexBlockParts) → d ≡ index_block_of b heads → IfSome o IsBytes → IfSome o (λ all. payload_at c types.Index all k ≡ Ok b.payload)
     → IfSome o (λ all. IsIndexIn all k d.items d.interval)
-index_placed c None k b d is cells read = tt
-index_placed c (Some all) k b d is cells read =
+index_placed c None k b heads d is cells read = tt
+index_placed c (Some all) k b heads d is cells read =
     let at : payload_in all k ≡ b.payload = placed c types.Index (Some all) k b.payload cells read in
     record {
       index_is = ap (λ (x : IndexBlockParts). x.items) is ∙ ap (λ q. items_in handles q) (sym at);
       interval_is = ap (λ (x : IndexBlockParts). x.interval) is ∙ ap (λ q. (trailer_in q).interval) (sym at);
     }
 
-pub index_placed_ok : (c : Hashes) (o : Option (List ℕ)) (k : HandleParts) (b : BlockParts) (r : Result IndexBlockParts Error) → IfOk r (λ d. d ≡ index_block_of b) → IfSome o IsBytes → IfSome o (λ all. payload_at c types.Index all k ≡ Ok b.payload)
+pub index_placed_ok : (c : Hashes) (o : Option (List ℕ)) (k : HandleParts) (b : BlockParts) (heads : Bool) (r : Result IndexBlockParts Error) → IfOk r (λ d. d ≡ index_block_of b heads) → IfSome o IsBytes → IfSome o (λ all. payload_at c types.Index all k ≡ Ok b.payload)
     → IfOk r (λ d. IfSome o (λ all. IsIndexIn all k d.items d.interval))
-index_placed_ok c o k b (Ok d) is cells read = index_placed c o k b d is cells read
-index_placed_ok c o k b (Err e) is cells read = tt
+index_placed_ok c o k b heads (Ok d) is cells read = index_placed c o k b heads d is cells read
+index_placed_ok c o k b heads (Err e) is cells read = tt
 
 -- the check of an index never reports a source that failed
 pub check_not_io : {X : Type 0} (p : List ℕ) (r : Result X Error) (P : Type 0) → IndexVerdict (trailer_in p) p (index_check p) → IfErr r (λ e. e ≢ Memory → index_check p ≡ Err e) → IfErr r (λ e. e ≡ Io → P)
@@ -58,11 +58,11 @@ check_not_io p (Err e) P verdict refused = λ io.
     absurd (subst (IndexVerdict (trailer_in p) p) is verdict)
 
 -- a point read of a block that was read counts at most what that block's bytes say
-pub block_counted : (c : Hashes) (o : Option (List ℕ)) (r : Option HandleParts) (k : HandleParts) (b : BlockParts) (d : DataBlockParts) (needle : List ℕ) (s t : Counted) (least : ℕ × ℕ) → r ≡ Some k → d ≡ data_block_of b → IfSome o IsBytes
+pub block_counted : (c : Hashes) (o : Option (List ℕ)) (r : Option HandleParts) (k : HandleParts) (b : BlockParts) (made : Bool) (d : DataBlockParts) (needle : List ℕ) (s t : Counted) (least : ℕ × ℕ) → r ≡ Some k → d ≡ data_block_of b made → IfSome o IsBytes
     → IfSome o (λ all. payload_at c types.Data all k ≡ Ok b.payload) → CountsBetween s t least (read_most c.hash64 d needle)
     → IfSome o (λ all. (h : Option Handle) → r ≡ option_map range_of h → CountsBetween s t (0, 0) (digits (heads_at all h), entries_at all h))
-block_counted c None r k b d needle s t least at_k is cells read counts = tt
-block_counted c (Some all) r k b d needle s t least at_k is cells read counts = λ h e.
+block_counted c None r k b made d needle s t least at_k is cells read counts = tt
+block_counted c (Some all) r k b made d needle s t least at_k is cells read counts = λ h e.
     let g = some_range h k (sym e ∙ at_k) in
     let at : payload_in all k ≡ b.payload = placed c types.Data (Some all) k b.payload cells read in
     let here : payload_in all (range_of g.0) ≡ b.payload = ap (payload_in all) g.2 ∙ at in

@@ -1,6 +1,6 @@
 //! Sound runs over borrowed bytes, read without checks and without memory.
 ghost use Rattle.std.specs.Prelude.{◌≡◌, ◌≢◌, ◌<◌, List, length, slice_get};
-ghost use Rattle.std.specs.Prelude.{Ok, Err, IfOk, IfErr, MatchResult};
+ghost use Rattle.std.specs.Prelude.{Ok, Err, IfOk, IfErr, MatchResult, false};
 ghost use Rattle.sst_base.specs.Counted.{CountsExactly, CountsBetween};
 ghost use Rattle.sst_base.specs.Entry.{Entry};
 ghost use Rattle.sst_block_core.specs.Entries.{entries};

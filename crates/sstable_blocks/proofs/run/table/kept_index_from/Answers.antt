@@ -8,4 +8,4 @@ returns-clause-io g c = check_not_io c.in_ok-block.block.payload _ _ (c.index_ch
 pub returns-clause-place : goal.returns-clause-place
 returns-clause-place g c =
     let a = c.in_ok-block.ensures in
-    index_placed_ok (hashes g.H.BlockHash.hash64 g.H.BlockHash.hash128) _ _ c.in_ok-block.block _ c.check.ensures.parts a.cells a.exact
+    index_placed_ok (hashes g.H.BlockHash.hash64 g.H.BlockHash.hash128) _ _ c.in_ok-block.block _ _ c.check.ensures.parts a.cells a.exact
