@@ -12,6 +12,7 @@ use Rattle.sstable_blocks.specs.Lookup.{handle_for}
 use Rattle.sstable_blocks.specs.Opened.{range_of}
 use Rattle.sstable_blocks.specs.RunReading.{Hashes, payload_at, filter_says, read_block, read_blocks, read_checked}
 use Rattle.sstable_blocks.specs.declared.run.RunHandles.{RunHandles}
+use Rattle.sstable_blocks.specs.SourceLaws.{source_fails}
 use Rattle.sstable_blocks.specs.Sources.{GivesOr}
 use Rattle.sst_base.specs.Entry.{Entry}
 use Rattle.sst_block_kinds.specs.Checks.{all_below, index_check}
@@ -64,7 +65,7 @@ asked_not_io p (Err e) err = subst NotIo err (filter_not_io p)
 pub gives_or_later : {X Y : Type 0} (P Q R T : Type 0) (view : X → Y) (r : Result X Error) (read : Result Y Error) → (P → Q) → (T → R) → GivesOr P R view r read → GivesOr Q T view r read
 gives_or_later P Q R T view (Ok x) read f k h = h
 gives_or_later P Q R T view (Err e) read f k h = λ other. elim (h other) [
-  | inl failed ↦ inl (failed.0, f failed.1, λ t. failed.2 (k t))
+  | inl failed ↦ inl (source_fails f k (λ bad. bad) failed)
   | inr same ↦ inr same
 ]
 

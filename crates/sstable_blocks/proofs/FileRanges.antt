@@ -8,7 +8,7 @@ use Rattle.sst_base.specs.Header.{bytes_at}
 use Rattle.sst_base.specs.HeaderLaws.{bytes_at_takes}
 use Rattle.sst_base.specs.Inputs.{ReadsAllocating}
 use Rattle.sst_base.specs.declared.error.Error.{Error}
-use Rattle.sst_base.specs.declared.error.Error.TheVariants.{Io, Memory, BadHandle}
+use Rattle.sst_base.specs.declared.error.Error.TheVariants.{Io, Truncated, Memory, BadHandle}
 use Rattle.sstable_blocks.specs.RunReading.{range_at}
 use Rattle.sstable_blocks.specs.Sources.{IsRangeRead, IsRangeRefused}
 
@@ -47,32 +47,32 @@ module _ (all : List ℕ) (h : HandleParts) where
       ] in
       inside le ∙ ap (λ xs. Ok xs) front
 
-  short_outside : bytes_at h.size (drop h.offset all) ≡ Err Io → range_at all h ≡ Err BadHandle
+  short_outside : bytes_at h.size (drop h.offset all) ≡ Err Io → (range_at all h ≡ Err BadHandle) × (0 < h.size)
   short_outside e = elim (cases_lt (length (drop h.offset all)) h.size) [
-    | inl less ↦ outside (let d = length-drop h.offset all in omega arith)
+    | inl less ↦ (outside (let d = length-drop h.offset all in omega arith), omega arith)
     | inr enough ↦ absurd (let whole : bytes_at h.size (drop h.offset all) ≡ Ok (take h.size (drop h.offset all), drop h.size (drop h.offset all)) = rw (not_less _ _ enough) refl in cc (whole, e))
   ]
 
   -- what a reader that was moved to the offset gives
   pub read_range : (m n : Type 0) (r : Result (List ℕ) Error) (left : Option (List ℕ)) → (m → n) → (h.size ≡ 0 → h.offset ≤ length all)
-      → ReadsAllocating n r left (bytes_at h.size (drop h.offset all)) → IsRangeRead m r (range_at all h)
+      → ReadsAllocating n r left (bytes_at h.size (drop h.offset all)) → IsRangeRead m h.size r (range_at all h)
   read_range m n (Ok s) left k none read = found_inside s read.0 none read.2
   read_range m n (Err Memory) left k none read = tt
   read_range m n (Err Io) left k none read = λ over. short_outside (read (k over))
   read_range m n (Err e) left k none read = absurd (let io : e ≡ Io = only_io h.size (drop h.offset all) e read in cc)
 
 -- where the bytes are known: a range that ends at 2^64 or above
-pub long_range : (o : Option (List ℕ)) (h : HandleParts) (m : Type 0) (len : ℕ) → 2 ^ 64 ≤ h.offset + h.size → len < 2 ^ 64 → IfSome o (λ all. len ≡ length all) → IfSome o (λ all. IsRangeRefused m BadHandle (range_at all h))
+pub long_range : (o : Option (List ℕ)) (h : HandleParts) (m : Type 0) (len : ℕ) → 2 ^ 64 ≤ h.offset + h.size → len < 2 ^ 64 → IfSome o (λ all. len ≡ length all) → IfSome o (λ all. IsRangeRefused m h.size BadHandle (range_at all h))
 long_range None h m len long short is = tt
 long_range (Some all) h m len long short is = outside all h (omega arith)
 
 -- and one of no bytes, after the end
-pub past_range : (o : Option (List ℕ)) (h : HandleParts) (m : Type 0) (len : ℕ) → len < h.offset → IfSome o (λ all. len ≡ length all) → IfSome o (λ all. IsRangeRefused m Io (range_at all h))
-past_range None h m len past is = tt
-past_range (Some all) h m len past is = λ over. outside all h (omega arith)
+pub past_range : (o : Option (List ℕ)) (h : HandleParts) (m : Type 0) (len : ℕ) → h.size ≡ 0 → len < h.offset → IfSome o (λ all. len ≡ length all) → IfSome o (λ all. IsRangeRefused m h.size Truncated (range_at all h))
+past_range None h m len none past is = tt
+past_range (Some all) h m len none past is = (outside all h (omega arith), none)
 
 pub file_range : (o : Option (List ℕ)) (h : HandleParts) (m n : Type 0) (r : Result (List ℕ) Error) (moved left : Option (List ℕ)) → (m → n) → IfSome o (λ all. h.size ≡ 0 → h.offset ≤ length all)
-    → IfSome o (λ all. moved ≡ Some (drop h.offset all)) → ((bytes : List ℕ) → moved ≡ Some bytes → ReadsAllocating n r left (bytes_at h.size bytes)) → IfSome o (λ all. IsRangeRead m r (range_at all h))
+    → IfSome o (λ all. moved ≡ Some (drop h.offset all)) → ((bytes : List ℕ) → moved ≡ Some bytes → ReadsAllocating n r left (bytes_at h.size bytes)) → IfSome o (λ all. IsRangeRead m h.size r (range_at all h))
 file_range None h m n r moved left k none is read = tt
 file_range (Some all) h m n r moved left k none is read = read_range all h m n r left k none (read (drop h.offset all) is)
 

@@ -51,7 +51,12 @@ footer_read all frame bytes h r P R whole found is e =
 
 pub footer_fails : (all : List ℕ) (h : HandleParts) (error : Error) (P R : Type 0) (read : Result RunHandles Error) → range_at all h ≡ Ok (drop (length all - 24) all) → FailsAs P R (range_at all h) error → FailsAs (P × (R → ⊥)) ⊥ read error
 footer_fails all h error P R read whole fails = λ other. elim (fails other) [
-  | inl failed ↦ inl (failed.0, (failed.1, λ r. let wrong : ◌≡◌ {A = Result (List ℕ) Error} (Ok (drop (length all - 24) all)) (Err BadHandle) = sym whole ∙ failed.2 r in cc), λ no. absurd no)
+  | inl failed ↦ (
+      let inside : range_at all h ≡ Err BadHandle → ⊥ = λ bad. (let wrong : ◌≡◌ {A = Result (List ℕ) Error} (Ok (drop (length all - 24) all)) (Err BadHandle) = sym whole ∙ bad in cc) in
+      elim failed.1 [
+        | inl io ↦ inl ((failed.0, λ r. inside (io.1 r)), inl (io.0, λ no. absurd no))
+        | inr past ↦ absurd (inside past.1)
+      ])
   | inr same ↦ absurd (let wrong : ◌≡◌ {A = Result (List ℕ) Error} (Ok (drop (length all - 24) all)) (Err error) = sym whole ∙ same in cc)
 ]
 

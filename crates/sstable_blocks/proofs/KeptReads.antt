@@ -13,6 +13,7 @@ use Rattle.sstable_blocks.specs.Filter.{filter_at}
 use Rattle.sstable_blocks.specs.Footer.{table_handles}
 use Rattle.sstable_blocks.specs.Lookup.{handle_for}
 use Rattle.sstable_blocks.specs.RunReading.{Hashes, payload_at, handles_at, filter_says, filter_answer, read_block, read_blocks, read_checked}
+use Rattle.sstable_blocks.specs.SourceLaws.{source_fails}
 use Rattle.sstable_blocks.specs.Sources.{GivesOr, FailsAs}
 use Rattle.sstable_blocks.specs.Tables.{filter_kept, kept_of, kept_by_footer, IsIndexIn, IsKeptOf, kept_says, read_kept}
 use Rattle.sstable_blocks.specs.declared.run.RunHandles.{RunHandles}
@@ -80,7 +81,7 @@ module _ (c : Hashes) (h : RunHandles) where
   filter_fails (Some all) P Q e f =
       let go : Result (Option (List ℕ)) Error → Result (Option (List ℕ) × List Handle) Error = λ (r : Result (Option (List ℕ)) Error). r >>= (λ (x : Option (List ℕ)). handles_at c all h.index >>= (λ (hs : List Handle). Ok (x, hs))) in
       λ other. elim (f other) [
-        | inl io ↦ inl (io.0, io.1, λ t. ap go (io.2 t))
+        | inl failed ↦ inl (source_fails (λ p. p) (λ t. t) (ap go) failed)
         | inr is ↦ inr (ap go is)
       ]
 
@@ -93,7 +94,7 @@ module _ (c : Hashes) (h : RunHandles) where
       let go : Result (List Handle) Error → Result (Option (List ℕ) × List Handle) Error = λ (r : Result (List Handle) Error). r >>= (λ (hs : List Handle). Ok (filter, hs)) in
       let whole : kept_of c all h ≡ go (handles_at c all h.index) = ap (λ r. r >>= (λ (x : Option (List ℕ)). handles_at c all h.index >>= (λ (hs : List Handle). Ok (x, hs)))) f in
       λ other. elim (here other) [
-        | inl io ↦ inl (io.0, grew io.1, λ t. whole ∙ ap go (io.2 (kept t)))
+        | inl failed ↦ inl (source_fails grew kept (λ bad. whole ∙ ap go bad) failed)
         | inr is ↦ inr (whole ∙ ap go is)
       ]
 
@@ -114,7 +115,7 @@ module _ (c : Hashes) where
   unfolding kept_by_footer
   footer_fails_first None P R e f = tt
   footer_fails_first (Some all) P R e f = λ other. elim (f other) [
-    | inl io ↦ inl (io.0, io.1, λ t. ap (λ r. r >>= (λ (x : RunHandles). rest_of all x)) (io.2 t))
+    | inl failed ↦ inl (source_fails (λ p. p) (λ t. t) (ap (λ r. r >>= (λ (x : RunHandles). rest_of all x))) failed)
     | inr is ↦ inr (ap (λ r. r >>= (λ (x : RunHandles). rest_of all x)) is)
   ]
 
@@ -126,7 +127,7 @@ module _ (c : Hashes) where
         by_handles all h found ∙ ap (λ r. r >>= (λ (k : Option (List ℕ) × List Handle). Ok (h, k.0, k.1))) is
         ∙ ap (λ (k : RunHandles). Ok (k, filter_of t, index_of t)) (sym same)
     file_at all (Err e) found same grew kept fails = λ other. elim (fails other) [
-      | inl io ↦ inl (io.0, grew e io.1, λ t. by_handles all h found ∙ ap (λ r. r >>= (λ (k : Option (List ℕ) × List Handle). Ok (h, k.0, k.1))) (io.2 (kept t)))
+      | inl failed ↦ inl (source_fails (grew e) kept (λ bad. by_handles all h found ∙ ap (λ r. r >>= (λ (k : Option (List ℕ) × List Handle). Ok (h, k.0, k.1))) bad) failed)
       | inr is ↦ inr (by_handles all h found ∙ ap (λ r. r >>= (λ (k : Option (List ℕ) × List Handle). Ok (h, k.0, k.1))) is)
     ]
 

@@ -20,6 +20,7 @@ use Rattle.sstable_blocks.specs.Filter.{Filter, filter_at}
 use Rattle.sstable_blocks.specs.Opened.{range_of}
 use Rattle.sstable_blocks.specs.RunChecks.{is_end, allows, check_entries, check_items, check_block, check_from, none_passed, summary_by, filter_in_run, check_by_index, check_run, summary_of}
 use Rattle.sstable_blocks.specs.RunReading.{Hashes, payload_at, items_at, handles_at}
+use Rattle.sstable_blocks.specs.SourceLaws.{source_fails}
 use Rattle.sstable_blocks.specs.Sources.{GivesOr, FailsAs}
 use Rattle.sstable_blocks.specs.Sound.{IsSound}
 use Rattle.sstable_blocks.specs.declared.run.RunHandles.{RunHandles}
@@ -31,7 +32,7 @@ use Rattle.sstable_blocks.proofs.CheckedReads.{gives_or_later}
 pub gives_or_over : {X Y : Type 0} (P Q R : Type 0) (view : X → Y) (r : Result X Error) (read : Result Y Error) → GivesOr ⊥ R view r read → GivesOr P Q view r read
 gives_or_over P Q R view (Ok x) read h = h
 gives_or_over P Q R view (Err e) read h = λ other. elim (h other) [
-  | inl failed ↦ absurd failed.1
+  | inl failed ↦ absurd failed.0
   | inr same ↦ inr same
 ]
 
@@ -89,7 +90,7 @@ module _ (c : Hashes) (f : Option Filter) (hs : List Handle) where
       let go : Result Passed Error → Result Passed Error = λ (q : Result Passed Error). q >>= (λ (u : Passed). check_from c all f u more) in
       let whole : check_from c all f none_passed hs ≡ go (check_block c all f s h) = known ∙ ap (check_from c all f s) is in
       λ other. elim (failed other) [
-        | inl io ↦ inl (io.0, on io.1, λ t. whole ∙ ap go (io.2 (kept t)))
+        | inl io ↦ inl (source_fails on kept (λ bad. whole ∙ ap go bad) io)
         | inr is_err ↦ inr (whole ∙ ap go is_err)
       ]
 
@@ -118,7 +119,7 @@ module _ (c : Hashes) (f : Option Filter) (s : Passed) (h : Handle) where
   block_fail (Some all) r e P Q at is read =
       let go : Result (List Entry) Error → Result Passed Error = λ (q : Result (List Entry) Error). q >>= (λ (xs : List Entry). check_items c.hash64 f s h xs) in
       λ other. elim (read other) [
-        | inl io ↦ inl (io.0, io.1, λ t. block_is all r at is ∙ ap go (io.2 t))
+        | inl io ↦ inl (source_fails (λ p. p) (λ t. t) (λ bad. block_is all r at is ∙ ap go bad) io)
         | inr same ↦ inr (block_is all r at is ∙ ap go same)
       ]
 
@@ -132,7 +133,7 @@ index_fail c f (Some all) after P Q R T index hs e same on kept read failed =
     let go : Result Passed Error → Result RunSummary Error = λ (q : Result Passed Error). q >>= (λ (t : Passed). Ok (summary_by (length hs) t)) in
     let whole : check_by_index c all f index ≡ go (check_from c all f none_passed hs) = ap (λ q. q >>= (λ (xs : List Handle). check_from c all f none_passed xs >>= (λ (t : Passed). Ok (summary_by (length xs) t)))) read in
     λ other. elim (here other) [
-      | inl io ↦ inl (io.0, on io.1, λ t. whole ∙ ap go (io.2 (kept t)))
+      | inl io ↦ inl (source_fails on kept (λ bad. whole ∙ ap go bad) io)
       | inr is_err ↦ inr (whole ∙ ap go is_err)
     ]
 

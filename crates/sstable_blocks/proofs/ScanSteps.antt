@@ -18,6 +18,7 @@ use Rattle.sstable_blocks.specs.Scans.{KeyRange, Read, in_range, within, block_w
 use Rattle.sstable_blocks.specs.Blocks.{joined}
 use Rattle.sstable_blocks.specs.Sound.{IsSound}
 use Rattle.sstable_blocks.specs.declared.run.RunHandles.{RunHandles}
+use Rattle.sstable_blocks.specs.SourceLaws.{source_fails}
 use Rattle.sstable_blocks.specs.Sources.{FailsAs}
 
 -- the first handle between two indexes, and the last
@@ -122,7 +123,7 @@ module _ (c : Hashes) (r : KeyRange) (hs : List Handle) where
       let k = taken hs lo hi less inside in
       let at : (h : Handle) → slice_get ks lo ≡ Some h → FailsAs P R (block_within c all r h) e = subst (λ x. IfSome x (λ ys. (h : Handle) → slice_get ks lo ≡ Some h → FailsAs P R (block_within c ys r h) e)) same given in
       λ other. elim (at k.0 (ap (λ xs. slice_get xs lo) index ∙ k.1) other) [
-        | inl io ↦ inl (io.0, grew io.1, λ t. subst (StartsWith (Err BadHandle)) known (front_bad all front back lo hi k.0 BadHandle none k.2 (io.2 (kept t))))
+        | inl failed ↦ inl (source_fails grew kept (λ bad. subst (StartsWith (Err BadHandle)) known (front_bad all front back lo hi k.0 BadHandle none k.2 bad)) failed)
         | inr is ↦ inr (subst (StartsWith (Err e)) known (front_bad all front back lo hi k.0 e none k.2 is))
       ]
 
@@ -168,7 +169,7 @@ module _ (c : Hashes) (r : KeyRange) (hs : List Handle) where
       let k = taken_back hs lo hi less inside in
       let at : (h : Handle) → slice_get ks (hi - 1) ≡ Some h → FailsAs P R (block_within c all r h) e = subst (λ x. IfSome x (λ ys. (h : Handle) → slice_get ks (hi - 1) ≡ Some h → FailsAs P R (block_within c ys r h) e)) same given in
       λ other. elim (at k.0 (ap (λ xs. slice_get xs (hi - 1)) index ∙ k.1) other) [
-        | inl io ↦ inl (io.0, grew io.1, λ t. subst (EndsWith (Err BadHandle)) known (back_bad all front back lo hi k.0 BadHandle none k.2 (io.2 (kept t))))
+        | inl failed ↦ inl (source_fails grew kept (λ bad. subst (EndsWith (Err BadHandle)) known (back_bad all front back lo hi k.0 BadHandle none k.2 bad)) failed)
         | inr is ↦ inr (subst (EndsWith (Err e)) known (back_bad all front back lo hi k.0 e none k.2 is))
       ]
 

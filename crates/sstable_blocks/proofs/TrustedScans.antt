@@ -105,7 +105,7 @@ first_entry P R old new (Ok None) never a given = ((ap entries_read given.0, ap 
 first_entry P R old new (Err e) never a given = (
   tt,
   is_memory e (λ other. elim (given other) [
-    | inl io ↦ never io.1
+    | inl failed ↦ never failed.0
     | inr starts ↦ (subst AllEntries starts.1 a).0
   ]),
 )
@@ -118,7 +118,7 @@ last_entry P R old new (Ok None) never a given = ((ap entries_read given.0, ap e
 last_entry P R old new (Err e) never a given = (
   tt,
   is_memory e (λ other. elim (given other) [
-    | inl io ↦ never io.1
+    | inl failed ↦ never failed.0
     | inr ends ↦ (second IsEntryRead ends.0 (Err e ∷ []) (subst AllEntries ends.1 a)).0
   ]),
 )

@@ -12,6 +12,7 @@ pub mod ReadCosts
 pub mod Writing
 pub mod RunReading
 pub mod Sources
+pub mod SourceLaws
 pub mod Sound
 pub mod RunChecks
 pub mod Footer

@@ -7,7 +7,7 @@ use Rattle.std.specs.declared.ops.Bound.TheVariants.{Included, Excluded, Unbound
 use Rattle.sst_base.specs.Entry.{Entry}
 use Rattle.sst_base.specs.Header.{◌>>=◌}
 use Rattle.sst_base.specs.declared.error.Error.{Error}
-use Rattle.sst_base.specs.declared.error.Error.TheVariants.{Io, Memory, BadHandle}
+use Rattle.sst_base.specs.declared.error.Error.TheVariants.{Memory, BadHandle}
 use Rattle.std.specs.Iterator.{YieldsFirst, YieldsLast}
 use Rattle.std.specs.List.{AllByRecursion}
 use Rattle.sst_block_core.specs.Entries.{entries}
@@ -22,6 +22,7 @@ use Rattle.sstable_blocks.specs.Opened.{range_of, index_in, payload_in}
 use Rattle.sstable_blocks.specs.ReadCosts.{interval_in}
 use Rattle.sstable_blocks.specs.RunReading.{Hashes, items_at, handles_at}
 use Rattle.sstable_blocks.specs.Sound.{RunParts}
+use Rattle.sstable_blocks.specs.Sources.{IsSourceFailure}
 use Rattle.sstable_blocks.specs.Tables.{TableParts, KeptParts}
 use Rattle.sstable_blocks.specs.declared.run.RunHandles.{RunHandles}
 
@@ -131,11 +132,11 @@ EndsWith x reads = (others : List Read) × (reads ≡ others ++ x ∷ [])
 
 -- an error is the first of what was left, or a failed allocation, or a failure of the source
 abbrev pub FailsFirst : Type 0 → Type 0 → List Read → Error → Type 0
-FailsFirst failed reliable old e = e ≢ Memory → ((e ≡ Io) × failed × (reliable → StartsWith (Err BadHandle) old)) ⊎ StartsWith (Err e) old
+FailsFirst failed reliable old e = e ≢ Memory → IsSourceFailure failed reliable (StartsWith (Err BadHandle) old) e ⊎ StartsWith (Err e) old
 
 -- or the last
 abbrev pub FailsLast : Type 0 → Type 0 → List Read → Error → Type 0
-FailsLast failed reliable old e = e ≢ Memory → ((e ≡ Io) × failed × (reliable → EndsWith (Err BadHandle) old)) ⊎ EndsWith (Err e) old
+FailsLast failed reliable old e = e ≢ Memory → IsSourceFailure failed reliable (EndsWith (Err BadHandle) old) e ⊎ EndsWith (Err e) old
 
 -- a step from the front gives the first of what was left, which is then gone
 abbrev pub GivesFirst : Type 0 → Type 0 → List Read → List Read → Result (Option Entry) Error → Type 0

@@ -1,9 +1,9 @@
 -- How a clause says that a call over a source of frames returns exactly this, where an allocation or the source may
 -- fail.
-use Rattle.std.specs.Prelude.{◌≡◌, ◌≢◌, ◌⊎◌, ◌≤◌, ℕ, Option, None, Some, Result, Ok, Err, List}
+use Rattle.std.specs.Prelude.{◌≡◌, ◌≢◌, ◌⊎◌, ◌≤◌, ◌<◌, ℕ, Option, None, Some, Result, Ok, Err, List}
 use Rattle.sst_base.specs.BlockHandle.{HandleParts}
 use Rattle.sst_base.specs.declared.error.Error.{Error}
-use Rattle.sst_base.specs.declared.error.Error.TheVariants.{Memory, Io, BadHandle}
+use Rattle.sst_base.specs.declared.error.Error.TheVariants.{Memory, Io, Truncated, BadHandle}
 
 -- what is read, how often that failed, and how many frames were requested
 pub record SourceParts (F : Type 0) : Type 0 where
@@ -17,26 +17,32 @@ pub record KeepsSource {S : Type 0} (bytes : S → Option (List ℕ)) (failures 
   pub failures_grow : failures old ≤ failures new
   pub kept : is_reliable old → is_reliable new
 
--- An error is a failed allocation, or a failure of the source, or that of the reading. A reliable source, as one over
--- memory, fails only where the reading meets a range that isn't inside.
+-- An error is a failure of the source: `Io`, which a reliable one, as one over memory, reports only of a range that isn't
+-- inside, or `Truncated`, which any reports only of such a range.
+abbrev pub IsSourceFailure : Type 0 → Type 0 → Type 0 → Error → Type 0
+IsSourceFailure failed reliable outside e = failed × (((e ≡ Io) × (reliable → outside)) ⊎ ((e ≡ Truncated) × outside))
+
+-- an error is a failed allocation, or a failure of the source, or that of the reading
 abbrev pub FailsAs : {Y : Type 0} → Type 0 → Type 0 → Result Y Error → Error → Type 0
-FailsAs failed reliable read e = e ≢ Memory → ((e ≡ Io) × failed × (reliable → read ≡ Err BadHandle)) ⊎ (read ≡ Err e)
+FailsAs failed reliable read e = e ≢ Memory → IsSourceFailure failed reliable (read ≡ Err BadHandle) e ⊎ (read ≡ Err e)
 
 -- a result, seen by `view`, is exactly that of the reading, unless an allocation or the source failed
 abbrev pub GivesOr : {X Y : Type 0} → Type 0 → Type 0 → (X → Y) → Result X Error → Result Y Error → Type 0
 GivesOr failed reliable view (Ok x) read = read ≡ Ok (view x)
 GivesOr failed reliable view (Err e) read = FailsAs failed reliable read e
 
--- the range isn't inside, or an allocation failed, or a file that isn't over memory
-abbrev pub IsRangeRefused : {Y : Type 0} → Type 0 → Error → Result Y Error → Type 0
-IsRangeRefused over_memory Io range = over_memory → range ≡ Err BadHandle
-IsRangeRefused over_memory Memory range = Unit {0}
-IsRangeRefused over_memory e range = range ≡ Err e
+-- A range of this size isn't inside, or an allocation failed, or a file that isn't over memory. Where it isn't inside and
+-- has no bytes, a file over memory reports `Truncated`, and never `Io`.
+abbrev pub IsRangeRefused : {Y : Type 0} → Type 0 → ℕ → Error → Result Y Error → Type 0
+IsRangeRefused over_memory size Io range = over_memory → (range ≡ Err BadHandle) × (0 < size)
+IsRangeRefused over_memory size Truncated range = (range ≡ Err BadHandle) × (size ≡ 0)
+IsRangeRefused over_memory size Memory range = Unit {0}
+IsRangeRefused over_memory size e range = range ≡ Err e
 
 -- or its bytes were read
-abbrev pub IsRangeRead : {Y : Type 0} → Type 0 → Result Y Error → Result Y Error → Type 0
-IsRangeRead over_memory (Ok y) range = range ≡ Ok y
-IsRangeRead over_memory (Err e) range = IsRangeRefused over_memory e range
+abbrev pub IsRangeRead : {Y : Type 0} → Type 0 → ℕ → Result Y Error → Result Y Error → Type 0
+IsRangeRead over_memory size (Ok y) range = range ≡ Ok y
+IsRangeRead over_memory size (Err e) range = IsRangeRefused over_memory size e range
 
 -- how many frames are requested for a filter, if there is one
 abbrev pub filter_frames : Option HandleParts → ℕ

@@ -4,7 +4,8 @@ ghost use Rattle.std.specs.Prelude.{◌<◌, ◌^◌, List, Option, Some};
 ghost use Rattle.std.specs.Prelude.{length, OnOk, OnErr, IfOk, IfErr, IfSome, IsOk, IsOkUnless, MatchResult};
 ghost use Rattle.sst_base.specs.BlockHandle.{HandleParts};
 ghost use Rattle.sst_base.specs.Bytes.{IsBytes};
-ghost use Rattle.sst_base.specs.declared.error.Error.TheVariants.{Io, BadHandle, Memory};
+ghost use Rattle.sst_base.specs.declared.error.Error.TheVariants.{Io, Truncated, BadHandle};
+ghost use Rattle.sst_base.specs.declared.error.Error.TheVariants.{Memory};
 ghost use Rattle.sstable_blocks.specs.RunReading.{range_at};
 ghost use Rattle.sstable_blocks.specs.Sources.{GivesOr, KeepsSource, IsRangeRead, IsRangeRefused};
 
@@ -32,18 +33,25 @@ pub trait FrameSource {
     // may the range of a handle not be inside?
     ghost may_refuse: { Self → HandleParts → Type 0 } = { λ _ _. Unit {0} };
 
+    // may the range of a handle be reported as truncated?
+    ghost may_truncate: { Self → HandleParts → Type 0 } = { λ _ _. ⊥ };
+
     /// Reads the bytes that a handle names.
     ///
     /// # Errors
     ///
     /// `Error::BadHandle` if the range of the handle is not inside, `Error::Io` if the source
-    /// fails, or ends before, `Error::Memory` if an allocation fails.
+    /// fails, or ends before the last byte, `Error::Truncated` if a file ends before the range of
+    /// a handle of no bytes, `Error::Memory` if an allocation fails.
     fn read_frame(&mut self, alloc: Global, handle: &BlockHandle) -> Result<Slice>
         ensures source { KeepsSource bytes failures is_reliable self.old self.new }
         ensures reads { reads self.new ≡ reads self.old + 1 }
         ensures io { IfErr result (λ e. e ≡ Io → failures self.old < failures self.new) }
+        ensures requested { IfSome (bytes self.old) (λ all. IfErr result (λ e. e ≡ Io
+            → is_reliable self.old → 0 < handle.now.size)) }
         ensures errors { IfErr result (λ e. (e ≡ Io) ⊎ (e ≡ Memory)
-            ⊎ ((e ≡ BadHandle) × may_refuse self.old handle.now)) }
+            ⊎ ((e ≡ BadHandle) × may_refuse self.old handle.now)
+            ⊎ ((e ≡ Truncated) × may_truncate self.old handle.now)) }
         ensures size { IfOk result (λ s. length s ≡ handle.now.size) }
         ensures cells { OnOk result (IfSome (bytes self.old) IsBytes) }
         ensures range { IfSome (bytes self.old)
@@ -263,7 +271,8 @@ impl<F: SeekInput> FileSource<F> {
     }
 }
 
-/// `Error::BadHandle` if the range ends at 2^64 or above.
+/// `Error::BadHandle` if the range ends at 2^64 or above, and `Error::Truncated`, which counts as a
+/// failure, for a handle of no bytes after the end of the file.
 impl<F: SeekInput> FrameSource for FileSource<F> {
     ghost bytes = { λ s. F.whole s.inner };
 
@@ -275,10 +284,12 @@ impl<F: SeekInput> FrameSource for FileSource<F> {
 
     ghost may_refuse = { λ s h. 2 ^ 64 ≤ h.offset + h.size };
 
+    ghost may_truncate = { λ s h. h.size ≡ 0 };
+
     fn read_frame(&mut self, alloc: Global, handle: &BlockHandle) -> Result<Slice> {
         self.reads.add_one();
         let read = read_at(alloc, &mut self.file, handle);
-        if let Err(Error::Io) = &read {
+        if let Err(Error::Io | Error::Truncated) = &read {
             self.failures.add_one();
         }
         read
@@ -300,10 +311,12 @@ fn check_range<F: SeekInput>(file: &mut F, handle: &BlockHandle) -> Result<()>
     ensures whole { F.whole file.new ≡ F.whole file.old }
     ensures kept { F.is_memory file.old → F.is_memory file.new }
     ensures errors { IfErr result (λ e. (e ≡ Io)
-        ⊎ ((e ≡ BadHandle) × (2 ^ 64 ≤ handle.now.offset + handle.now.size))) }
+        ⊎ ((e ≡ BadHandle) × (2 ^ 64 ≤ handle.now.offset + handle.now.size))
+        ⊎ ((e ≡ Truncated) × (handle.now.size ≡ 0))) }
     ensures range { IfSome (F.whole file.old) (λ all. MatchResult result
         (λ _. handle.now.size ≡ 0 → handle.now.offset ≤ length all)
-        (λ e. IsRangeRefused (F.is_memory file.old) e (range_at all handle.now))) }
+        (λ e. IsRangeRefused (F.is_memory file.old) handle.now.size e
+        (range_at all handle.now))) }
 {
     let (offset, size) = (*handle.offset(), handle.size());
     if offset.checked_add(u64::from(size)).is_none() {
@@ -313,8 +326,10 @@ fn check_range<F: SeekInput>(file: &mut F, handle: &BlockHandle) -> Result<()>
     if size > 0 {
         return Ok(());
     }
+    // An offset that no seek reaches is `Error::Io`, as that of any other handle.
+    file.move_to(offset)?;
     if file.stream_len()? < offset {
-        return Err(Error::Io);
+        return Err(Error::Truncated);
     }
     Ok(())
 }
@@ -325,10 +340,12 @@ fn read_at<F: SeekInput>(alloc: Global, file: &mut F, handle: &BlockHandle) -> R
     ensures kept { F.is_memory file.old → F.is_memory file.new }
     ensures size { IfOk result (λ s. length s ≡ handle.now.size) }
     ensures errors { IfErr result (λ e. (e ≡ Io) ⊎ (e ≡ Memory)
-        ⊎ ((e ≡ BadHandle) × (2 ^ 64 ≤ handle.now.offset + handle.now.size))) }
+        ⊎ ((e ≡ BadHandle) × (2 ^ 64 ≤ handle.now.offset + handle.now.size))
+        ⊎ ((e ≡ Truncated) × (handle.now.size ≡ 0))) }
     ensures cells { OnOk result (IfSome (F.whole file.old) IsBytes) }
     ensures range { IfSome (F.whole file.old)
-        (λ all. IsRangeRead (F.is_memory file.old) result (range_at all handle.now)) }
+        (λ all. IsRangeRead (F.is_memory file.old) handle.now.size result
+        (range_at all handle.now)) }
 {
     check_range(file, handle)?;
     file.move_to(*handle.offset())?;

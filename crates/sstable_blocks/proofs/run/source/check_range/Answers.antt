@@ -1,4 +1,4 @@
-use Rattle.std.proofs.Common.{arith, rules, ◌≤◌, ◌<◌, ◌^◌, ◌+◌}
+use Rattle.std.proofs.Common.{arith, rules, subst, length, IfSome, List, Option, ℕ, ◌≡◌, ◌≤◌, ◌<◌, ◌^◌, ◌+◌}
 use Rattle.sstable_blocks.proofs.FileRanges.{long_range, past_range, some_size, no_size}
 use Rattle.sstable_blocks.proofs.run.source.check_range.Goals as goal
 
@@ -15,11 +15,14 @@ returns-then-size-gt0-clause-range g c = some_size (g.F.Input.whole c.args.file.
 pub returns-then-branch-offset-clause-range : goal.returns-then-branch-offset-clause-range
 returns-then-branch-offset-clause-range g c =
     let h = c.args.handle.now in
+    let none : h.size ≡ 0 = (let k = c.size-size.ensures in omega arith) in
     let past : c.in_ok-stream_len-2.field-0 < h.offset = search rules in
-    past_range (g.F.Input.whole c.args.file.now) h (g.F.Input.is_memory c.args.file.now) c.in_ok-stream_len-2.field-0 past c.in_ok-stream_len-2.ensures.len
+    past_range (g.F.Input.whole c.args.file.now) h (g.F.Input.is_memory c.args.file.now) c.in_ok-stream_len-2.field-0 none past
+    (subst (λ (o : Option (List ℕ)). IfSome o (λ all. c.in_ok-stream_len-2.field-0 ≡ length all)) c.in_ok-move_to.ensures.whole c.in_ok-stream_len-2.ensures.len)
 
 pub returns-clause-range : goal.returns-clause-range
 returns-clause-range g c =
     let h = c.args.handle.now in
     let low : h.offset ≤ c.in_ok-stream_len-2.field-0 = search rules in
-    no_size (g.F.Input.whole c.args.file.now) h c.in_ok-stream_len-2.field-0 low c.in_ok-stream_len-2.ensures.len
+    no_size (g.F.Input.whole c.args.file.now) h c.in_ok-stream_len-2.field-0 low
+    (subst (λ (o : Option (List ℕ)). IfSome o (λ all. c.in_ok-stream_len-2.field-0 ≡ length all)) c.in_ok-move_to.ensures.whole c.in_ok-stream_len-2.ensures.len)
