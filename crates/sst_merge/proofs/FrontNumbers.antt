@@ -1,11 +1,11 @@
 -- Numbers of first bytes: of joined strings, and of twice as many bytes.
-use Rattle.std.proofs.Common.{◌≡◌, ℕ, zero, suc, ◌+◌, ◌-◌, ◌*◌, ◌/◌, ◌%◌, ◌^◌, ◌<◌, ◌≤◌, List, [], ◌∷◌, ◌++◌, length, drop, refl, arith, sym, slice_index, get_or, ◌∙◌, ap, min}
+use Rattle.std.proofs.Common.{◌≡◌, ℕ, zero, suc, ◌+◌, ◌-◌, ◌*◌, ◌/◌, ◌^◌, ◌<◌, ◌≤◌, List, [], ◌∷◌, ◌++◌, length, drop, refl, arith, sym, slice_index, ◌∙◌, ap, min}
 use Rattle.std.proofs.Math.Nat.{pow-succ', div-div-eq-div-mul}
-use Rattle.std.proofs.lemmas.List.{get_or_past, get_or-drop, drop-append-le}
+use Rattle.std.proofs.lemmas.List.{get_or-drop}
 use Rattle.std.proofs.lemmas.Nat.{pow-add}
 use Rattle.std.proofs.Math.Seq.{drop-append-add}
 use Rattle.byteorder.specs.Endian.{big_number, big_from}
-use Rattle.byteorder.specs.Numbers.{big_from-cons, big_from-lt, big_from-append}
+use Rattle.byteorder.specs.Numbers.{big_from-lt, big_from-append}
 use Rattle.sst_base.specs.Bytes.{IsBytes}
 use Rattle.sst_base.specs.NumberLaws.{big_number-cons, number_past_end}
 use Rattle.sst_block_core.specs.Heads.{front}

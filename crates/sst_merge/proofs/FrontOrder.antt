@@ -1,18 +1,17 @@
 -- Fronts decide which of two versions goes first.
-use Rattle.std.proofs.Common.{◌≡◌, ◌≢◌, ℕ, ◌+◌, ◌<◌, ◌≤◌, ◌^◌, Bool, true, false, not, nat_lt, inl, inr, List, [], ◌∷◌, Option, Some, None, refl, arith, sym, ◌∙◌, ap}
+use Rattle.std.proofs.Common.{◌≡◌, ◌≢◌, ℕ, ◌<◌, ◌^◌, true, false, not, nat_lt, inl, inr, List, [], ◌∷◌, Option, Some, None, arith, sym, ◌∙◌, ap}
 use Rattle.std.proofs.lemmas.Bool.{cases_lt, lt-ltb, le-ltb}
 use Rattle.std.specs.Option.{option_map}
 use Rattle.std.specs.Cmp.{nat_cmp_is}
 use Rattle.std.specs.Cmp.Lexicographic.{slice_cmp}
 use Rattle.std.specs.Ordering.{nat_cmp, ordering_then, is_lt}
-use Rattle.std.specs.declared.cmp.Ordering.{Ordering}
 use Rattle.std.specs.declared.cmp.Ordering.TheVariants.{Less, Greater}
 use Rattle.byteorder.specs.Numbers.{big_from-lt}
 use Rattle.sst_base.specs.Bytes.{IsBytes}
 use Rattle.sst_base.specs.Entry.{Entry}
 use Rattle.sst_base.specs.NumberLaws.{numbers_decide}
-use Rattle.sst_merge.specs.Fronts.{key_front, held_front, IsFrontOf}
-use Rattle.sst_merge.specs.Merge.{order_by, entry_cmp}
+use Rattle.sst_merge.specs.Fronts.{key_front, IsFrontOf}
+use Rattle.sst_merge.specs.Merge.{order_by}
 use Rattle.sst_merge.specs.Picks.{wins}
 use Rattle.sst_merge.specs.Sources.{before, IsHeld}
 

@@ -1,19 +1,10 @@
 -- Picks that are kept from step to step, and made again where a source went on.
-use Rattle.std.proofs.Common.{◌≡◌, ℕ, suc, ◌+◌, ◌<◌, Bool, true, false, cond, List, [], ◌∷◌, ◌++◌, length, map, take, drop, get_or, Option, Some, None, refl, sym, ap, subst, ◌∙◌, arith}
+use Rattle.std.proofs.Common.{◌≡◌, ℕ, suc, ◌+◌, ◌<◌, Bool, true, false, cond, List, [], ◌∷◌, length, map, drop, get_or, Option, Some, None, refl, sym, ap, subst, ◌∙◌, arith}
 use Rattle.std.proofs.Math.ListN.{set}
-use Rattle.std.proofs.lemmas.List.{drop_more, drop-set-lt, get_or-drop, get_or-map, length-drop, length-map, length-set, take-append-le}
-use Rattle.std.proofs.Math.Seq.{take-length}
+use Rattle.std.proofs.lemmas.List.{drop_more, drop-set-lt, get_or-drop, get_or-map, length-drop, length-map, length-set}
 use Rattle.sst_merge.specs.Picks.{list_at, pick, IsPick, ArePicks}
 use Rattle.sst_merge.specs.Sources.{Left, all_known, lists_left}
 use Rattle.sst_merge.specs.SourceLaws.{known_at, known_split, lists_length}
-
--- places that were written as a slice
-abbrev written : ℕ → List ℕ → List ℕ → List ℕ
-written n old new = take n (new ++ drop (length new) old)
-
-written_whole : (n : ℕ) (old new : List ℕ) → n ≡ length new → written n old new ≡ new
-written_whole n old new e =
-    take-append-le n new (drop (length new) old) (omega (arith, e)) ∙ ap (λ m. take m new) e ∙ take-length new
 
 module _ {X : Type 0} (wins : List X → List X → Bool) where
   module _ (wins_nil : (xs : List X) → wins xs [] ≡ true) where
@@ -89,8 +80,5 @@ module _ {X : Type 0} (wins : List X → List X → Bool) where
       }
 
   -- where its source went on, those behind it are picked as they were
-  pub still_picks : (ls seen : List (Left X)) (old new : List ℕ) (n first : ℕ) (l : Left X) → seen ≡ ls → first < length seen → n ≡ length new → ArePicks wins seen new 0
-      → ArePicks wins (set ls first l) (written n old new) (first + 1)
-  still_picks ls seen old new n first l same inside whole picks =
-      subst (λ places. ArePicks wins (set ls first l) places (first + 1)) (sym (written_whole n old new whole))
-      (subst (λ xs. ArePicks wins (set xs first l) new (first + 1)) same (picks_behind seen new first l inside picks))
+  pub still_picks : (ls seen : List (Left X)) (places : List ℕ) (first : ℕ) (l : Left X) → seen ≡ ls → first < length seen → ArePicks wins seen places 0 → ArePicks wins (set ls first l) places (first + 1)
+  still_picks ls seen places first l same inside picks = subst (λ xs. ArePicks wins (set xs first l) places (first + 1)) same (picks_behind seen places first l inside picks)

@@ -10,6 +10,7 @@ use Rattle.std.specs.declared.cmp.Ordering.{Ordering}
 use Rattle.sst_base.specs.Entry.{Entry}
 use Rattle.sst_base.specs.KeyOrderLaws.{versions_cmp_total}
 use Rattle.sst_base.specs.Order.{IsInOrder}
+use Rattle.sst_base.specs.declared.error.Error.{Error}
 use Rattle.sst_merge.specs.Backs.{last_push, front_ordered, greatest_none, greatest_some, parts_ordered}
 use Rattle.sst_merge.specs.Merge.{merged, order_by}
 use Rattle.sst_merge.specs.Picks.{IsPick, list_at, greatest, beats, beats_by}
@@ -22,14 +23,14 @@ module _ {X : Type 0} (cmp : X → X → Ordering) where
   after_none (Some xs) = refl
 
   -- what a step took is held after what is left
-  after_by : (s t : Option (List X)) (r : Option X) (m n : ℕ) → TakesLast cmp (record { list = s; most = m }) r (record { list = t; most = n }) → IfSome s (λ xs. IsInOrder cmp xs → option_map (after r) t ≡ Some xs)
-  after_by None t r m n h = tt
-  after_by (Some xs) t None m n h = λ up. after_none t ∙ h.0
-  after_by (Some xs) t (Some x) m n h = λ up. sym (h.0 up)
+  after_by : (s t : Option (List X)) (r : Option X) (m n : ℕ) (a b : Option Error) → TakesLast cmp (record { list = s; most = m; ended = a }) r (record { list = t; most = n; ended = b }) → IfSome s (λ xs. IsInOrder cmp xs → option_map (after r) t ≡ Some xs)
+  after_by None t r m n a b h = tt
+  after_by (Some xs) t None m n a b h = λ up. after_none t ∙ h.0
+  after_by (Some xs) t (Some x) m n a b h = λ up. sym (h.0 up)
 
   pub held_after : (s t : Left X) (r : Option X) → TakesLast cmp s r t → IfSome s.list (λ xs. IsInOrder cmp xs → option_map (after r) t.list ≡ Some xs)
-  held_after s t None h = after_by s.list t.list None s.most t.most h
-  held_after s t (Some x) h = after_by s.list t.list (Some x) s.most t.most h
+  held_after s t None h = after_by s.list t.list None s.most t.most s.ended t.ended h
+  held_after s t (Some x) h = after_by s.list t.list (Some x) s.most t.most s.ended t.ended h
 
   pub back_is : (s t : Left X) (r : Option X) → TakesLast cmp s r t → IsHeld r t.list
   back_is s t None h = subst (λ o. IfSome o (λ xs. xs ≡ [])) (sym h.0) h.1
@@ -45,16 +46,16 @@ module _ {X : Type 0} (cmp : X → X → Ordering) where
   take_list (Some xs) t r x h = λ up. sym (ap (option_map (λ front. front ++ x ∷ [])) (h (front_ordered cmp xs x up)))
 
   -- what is held is the last
-  pub take_held : (s t : Left X) (r : Option X) (x : X) → TakesLast cmp s r t → TakesLast cmp (left_held_back (Some x) s) (Some x) (left_held_back r t)
-  take_held s t r x h = (take_list s.list t.list r x (held_after s t r h), (let m = back_most s t r h in omega (arith, m)))
+  pub take_held : (a b : Option Error) (s t : Left X) (r : Option X) (x : X) → TakesLast cmp s r t → TakesLast cmp (left_held_back (Some x) a s) (Some x) (left_held_back r b t)
+  take_held a b s t r x h = (take_list s.list t.list r x (held_after s t r h), (let m = back_most s t r h in omega (arith, m)))
 
   none_held : (o : Option (List X)) → IfSome o (λ xs. xs ≡ []) → IfSome (option_map (after None) o) (λ xs. xs ≡ [])
   none_held None h = tt
   none_held (Some xs) h = h
 
   -- where none is held, none is left
-  pub take_none : (s : Left X) → IsHeld None s.list → TakesLast cmp (left_held_back None s) None (left_held_back None s)
-  take_none s h = (refl, none_held s.list h, omega arith)
+  pub take_none : (a b : Option Error) (s : Left X) → IsHeld None s.list → TakesLast cmp (left_held_back None a s) None (left_held_back None b s)
+  take_none a b s h = (refl, none_held s.list h, omega arith)
 
   ordered_at : (xss : List (List X)) (i : ℕ) → AllByRecursion (IsInOrder cmp) xss → IsInOrder cmp (list_at xss i)
   ordered_at [] i all = tt
@@ -94,9 +95,9 @@ module _ {X : Type 0} (cmp : X → X → Ordering) where
         greatest_none cmp xss (ap (list_at xss) (sym (place xss e)) ∙ subst (λ p. IfSome p (λ xs. xs ≡ [])) here step)
 
     -- what is taken from the source that has the greatest is taken from the back of the merge
-    pub taken_back : (ls : List (Left X)) (i : ℕ) (old new : Left X) (r : Option X) → ((xss : List (List X)) → lists_left ls ≡ Some xss → i ≡ greatest cmp xss) → i < length ls → old ≡ get_or ls i old
-        → TakesLast cmp old r new → TakesLast cmp (all_left (merged cmp) ls) r (all_left (merged cmp) (set ls i new))
-    taken_back ls i old new None place inside is step =
+    pub taken_back : (a b : Option Error) (ls : List (Left X)) (i : ℕ) (old new : Left X) (r : Option X) → ((xss : List (List X)) → lists_left ls ≡ Some xss → i ≡ greatest cmp xss) → i < length ls → old ≡ get_or ls i old
+        → TakesLast cmp old r new → TakesLast cmp (all_left (merged cmp) a ls) r (all_left (merged cmp) b (set ls i new))
+    taken_back a b ls i old new None place inside is step =
         let os = map (λ (s : Left X). s.list) ls in
         let n : length os ≡ length ls = length-map ls (λ (s : Left X). s.list) in
         let here = list_of cmp ls i old inside is in
@@ -105,7 +106,7 @@ module _ {X : Type 0} (cmp : X → X → Ordering) where
           none_known os (all_known os) i old.list refl place (omega (arith, n, inside)) here step.1,
           (let k = taken_most cmp ls i old new 0 inside is (omega (arith, step.2)) in omega (arith, k)),
         )
-    taken_back ls i old new (Some x) place inside is step =
+    taken_back a b ls i old new (Some x) place inside is step =
         let os = map (λ (s : Left X). s.list) ls in
         let n : length os ≡ length ls = length-map ls (λ (s : Left X). s.list) in (
           subst (λ ps. IfSome (left os) (λ all. IsInOrder cmp all → Some all ≡ option_map (λ front. front ++ x ∷ []) (left ps))) (sym (map-set (λ (s : Left X). s.list) ls i new))
@@ -114,11 +115,11 @@ module _ {X : Type 0} (cmp : X → X → Ordering) where
         )
 
     -- the same, where the source is the pick of all and what is left is known by another name
-    pub taken_merge_back : (ls : List (Left X)) (i : ℕ) (old new all : Left X) (r : Option X) → all_left (merged cmp) ls ≡ all → IsPick (beats cmp) ls 0 i → old ≡ get_or ls i old
-        → TakesLast cmp old r new → TakesLast cmp all r (all_left (merged cmp) (set ls i new))
-    taken_merge_back ls i old new all r whole p is step =
-        subst (λ o. TakesLast cmp o r (all_left (merged cmp) (set ls i new))) whole
-        (taken_back ls i old new r (λ xss known. (let e = p.is xss known in omega (arith, e))) p.inside is step)
+    pub taken_merge_back : (a b : Option Error) (ls : List (Left X)) (i : ℕ) (old new all : Left X) (r : Option X) → all_left (merged cmp) a ls ≡ all → IsPick (beats cmp) ls 0 i → old ≡ get_or ls i old
+        → TakesLast cmp old r new → TakesLast cmp all r (all_left (merged cmp) b (set ls i new))
+    taken_merge_back a b ls i old new all r whole p is step =
+        subst (λ o. TakesLast cmp o r (all_left (merged cmp) b (set ls i new))) whole
+        (taken_back a b ls i old new r (λ xss known. (let e = p.is xss known in omega (arith, e))) p.inside is step)
 
 -- the last of what is left is the item that is held
 pub last_held : {X : Type 0} (held : Option X) (o : Option (List X)) (xs : List X) → IsHeld held o → option_map (after held) o ≡ Some xs → last_or None xs ≡ held
@@ -129,12 +130,12 @@ last_held (Some x) (Some ys) xs h e = let f : ys ++ x ∷ [] ≡ xs = cc in ap (
 
 module _ {X : Type 0} (cmp : X → X → Ordering) where
   -- what is taken of a source whose last item is held
-  pub take_tail : (held r dest out : Option X) (s t self : Left X) → left_held_back held s ≡ self → is_some held ≡ true → TakesLast cmp s r t → dest ≡ r → out ≡ held → TakesLast cmp self out (left_held_back dest t)
-  take_tail None r dest out s t self whole some step e f = absurd (cc)
-  take_tail (Some x) r dest out s t self whole some step e f =
-      subst (λ d. TakesLast cmp self out (left_held_back d t)) (sym e)
-      (subst (λ o. TakesLast cmp self o (left_held_back r t)) (sym f)
-      (subst (λ all. TakesLast cmp all (Some x) (left_held_back r t)) whole (take_held cmp s t r x step)))
+  pub take_tail : (a b : Option Error) (held r dest out : Option X) (s t self : Left X) → left_held_back held a s ≡ self → is_some held ≡ true → TakesLast cmp s r t → dest ≡ r → out ≡ held → TakesLast cmp self out (left_held_back dest b t)
+  take_tail a b None r dest out s t self whole some step e f = absurd (cc)
+  take_tail a b (Some x) r dest out s t self whole some step e f =
+      subst (λ d. TakesLast cmp self out (left_held_back d b t)) (sym e)
+      (subst (λ o. TakesLast cmp self o (left_held_back r b t)) (sym f)
+      (subst (λ all. TakesLast cmp all (Some x) (left_held_back r b t)) whole (take_held cmp a b s t r x step)))
 
   -- which of two lists gives its last item, by the items that are held
   pub beats_held : (xs ys : List X) (a b : Option X) → last_or None xs ≡ a → last_or None ys ≡ b → beats_by cmp a b ≡ beats cmp xs ys

@@ -1,5 +1,5 @@
 -- Laws of what is known of sources.
-use Rattle.std.proofs.Common.{◌≡◌, ℕ, zero, suc, ◌+◌, ◌<◌, ◌≤◌, List, [], ◌∷◌, length, map, get_or, Option, Some, None, refl, sym, ap, subst, ◌∙◌, arith, Bool, true, false, is_some}
+use Rattle.std.proofs.Common.{◌≡◌, ℕ, zero, suc, ◌+◌, ◌<◌, ◌≤◌, List, [], ◌∷◌, length, map, get_or, Option, Some, None, Result, Ok, Err, refl, sym, ap, subst, ◌∙◌, arith, Bool, true, false, is_some}
 use Rattle.std.specs.Prelude.{IfSome}
 use Rattle.std.specs.Option.{option_map}
 use Rattle.std.proofs.Math.ListN.{set}
@@ -7,6 +7,8 @@ use Rattle.std.proofs.lemmas.List.{set-get_or, map-set, get_or-map, length-map}
 use Rattle.std.proofs.lemmas.List.Sums.{sum_by-set}
 use Rattle.std.specs.List.{sum_by}
 use Rattle.std.specs.declared.cmp.Ordering.{Ordering}
+use Rattle.sst_base.specs.declared.error.Error.{Error}
+use Rattle.sstable_blocks.specs.Scans.{EndsBy}
 use Rattle.sst_merge.specs.Merge.{merged}
 use Rattle.sst_merge.specs.Picks.{IsPick, list_at, least, least_none, least_some, wins}
 use Rattle.sst_merge.specs.Sources.{Left, TakesFirst, PassesFirst, before, held_count, left_held, IsHeld, all_known, lists_left, all_left}
@@ -29,11 +31,11 @@ held_most s t None h = omega (arith, h.2)
 held_most s t (Some x) h = omega (arith, h.1)
 
 -- the item that was held is passed, and the next one is held
-pub passed_held : {X : Type 0} (h : Option X) (s t all : Left X) (r : Option X) → left_held h s ≡ all → is_some h ≡ true → TakesFirst s r t → PassesFirst all true (left_held r t)
-passed_held None s t all r e n step = absurd (cc)
-passed_held (Some x) s t all r e n step =
-    let kept : TakesFirst (left_held (Some x) s) (Some x) (left_held r t) = (ap (option_map (λ xs. x ∷ xs)) (sym (held_before s t r step)), (let m = held_most s t r step in omega (arith, m))) in
-    (x, subst (λ o. TakesFirst o (Some x) (left_held r t)) e kept)
+pub passed_held : {X : Type 0} (a b : Option Error) (h : Option X) (s t all : Left X) (r : Option X) → left_held h a s ≡ all → is_some h ≡ true → TakesFirst s r t → PassesFirst all true (left_held r b t)
+passed_held a b None s t all r e n step = absurd (cc)
+passed_held a b (Some x) s t all r e n step =
+    let kept : TakesFirst (left_held (Some x) a s) (Some x) (left_held r b t) = (ap (option_map (λ xs. x ∷ xs)) (sym (held_before s t r step)), (let m = held_most s t r step in omega (arith, m))) in
+    (x, subst (λ o. TakesFirst o (Some x) (left_held r b t)) e kept)
 
 some_is : {A : Type 0} (x y : A) → ◌≡◌ {A = Option A} (Some x) (Some y) → x ≡ y
 some_is x y e = cc
@@ -169,29 +171,34 @@ module _ {X : Type 0} (cmp : X → X → Ordering) where
       let o : f (get_or ls i old) ≡ old.most = ap f (sym is) in
       omega (arith, e, o, less)
 
-  taken_both : (ls : List (Left X)) (i : ℕ) (old new : Left X) (r : Option X) → i < length ls → old ≡ get_or ls i old → TakesFirst old r new
+  taken_both : (a b : Option Error) (ls : List (Left X)) (i : ℕ) (old new : Left X) (r : Option X) → i < length ls → old ≡ get_or ls i old → TakesFirst old r new
       → TakesList (left (map (λ (s : Left X). s.list) ls)) r (left (map (λ (s : Left X). s.list) (set ls i new)))
-      → TakesFirst (all_left (merged cmp) ls) r (all_left (merged cmp) (set ls i new))
-  taken_both ls i old new None inside is step lists = (lists.0, lists.1, (let k = taken_most ls i old new 0 inside is (omega (arith, step.2)) in omega (arith, k)))
-  taken_both ls i old new (Some x) inside is step lists = (lists, (let k = taken_most ls i old new 1 inside is (omega (arith, step.1)) in omega (arith, k)))
+      → TakesFirst (all_left (merged cmp) a ls) r (all_left (merged cmp) b (set ls i new))
+  taken_both a b ls i old new None inside is step lists = (lists.0, lists.1, (let k = taken_most ls i old new 0 inside is (omega (arith, step.2)) in omega (arith, k)))
+  taken_both a b ls i old new (Some x) inside is step lists = (lists, (let k = taken_most ls i old new 1 inside is (omega (arith, step.1)) in omega (arith, k)))
 
-  pub taken_from : (ls : List (Left X)) (i : ℕ) (old new : Left X) (r : Option X) → ((xss : List (List X)) → lists_left ls ≡ Some xss → i ≡ least cmp xss) → i < length ls → old ≡ get_or ls i old
-      → TakesFirst old r new → TakesFirst (all_left (merged cmp) ls) r (all_left (merged cmp) (set ls i new))
-  taken_from ls i old new r place inside is step = taken_both ls i old new r inside is step (taken_list ls i old new r place inside is step)
+  pub taken_from : (a b : Option Error) (ls : List (Left X)) (i : ℕ) (old new : Left X) (r : Option X) → ((xss : List (List X)) → lists_left ls ≡ Some xss → i ≡ least cmp xss) → i < length ls → old ≡ get_or ls i old
+      → TakesFirst old r new → TakesFirst (all_left (merged cmp) a ls) r (all_left (merged cmp) b (set ls i new))
+  taken_from a b ls i old new r place inside is step = taken_both a b ls i old new r inside is step (taken_list ls i old new r place inside is step)
 
   -- the same, where the source is the pick of all and what is left is known by another name
-  pub taken_merge : (ls : List (Left X)) (i : ℕ) (old new all : Left X) (r : Option X) → all_left (merged cmp) ls ≡ all → IsPick (wins cmp) ls 0 i → old ≡ get_or ls i old
-      → TakesFirst old r new → TakesFirst all r (all_left (merged cmp) (set ls i new))
-  taken_merge ls i old new all r whole p is step =
-      subst (λ o. TakesFirst o r (all_left (merged cmp) (set ls i new))) whole
-      (taken_from ls i old new r (λ xss known. (let e = p.is xss known in omega (arith, e))) p.inside is step)
+  pub taken_merge : (a b : Option Error) (ls : List (Left X)) (i : ℕ) (old new all : Left X) (r : Option X) → all_left (merged cmp) a ls ≡ all → IsPick (wins cmp) ls 0 i → old ≡ get_or ls i old
+      → TakesFirst old r new → TakesFirst all r (all_left (merged cmp) b (set ls i new))
+  taken_merge a b ls i old new all r whole p is step =
+      subst (λ o. TakesFirst o r (all_left (merged cmp) b (set ls i new))) whole
+      (taken_from a b ls i old new r (λ xss known. (let e = p.is xss known in omega (arith, e))) p.inside is step)
 
   -- the same of a step that passes it
-  pub passed_merge : (ls : List (Left X)) (i : ℕ) (old new all : Left X) (passed : Bool) → all_left (merged cmp) ls ≡ all → IsPick (wins cmp) ls 0 i → old ≡ get_or ls i old
-      → PassesFirst old passed new → PassesFirst all passed (all_left (merged cmp) (set ls i new))
-  passed_merge ls i old new all true whole p is step = (step.0, taken_merge ls i old new all (Some step.0) whole p is step.1)
-  passed_merge ls i old new all false whole p is step = taken_merge ls i old new all None whole p is step
+  pub passed_merge : (a b : Option Error) (ls : List (Left X)) (i : ℕ) (old new all : Left X) (passed : Bool) → all_left (merged cmp) a ls ≡ all → IsPick (wins cmp) ls 0 i → old ≡ get_or ls i old
+      → PassesFirst old passed new → PassesFirst all passed (all_left (merged cmp) b (set ls i new))
+  passed_merge a b ls i old new all true whole p is step = (step.0, taken_merge a b ls i old new all (Some step.0) whole p is step.1)
+  passed_merge a b ls i old new all false whole p is step = taken_merge a b ls i old new all None whole p is step
 
 -- as many lists are known as there are sources
 pub lists_length : {X : Type 0} (ls : List (Left X)) (xss : List (List X)) → lists_left ls ≡ Some xss → length xss ≡ length ls
 lists_length {X = X} ls xss known = known_length (map (λ (s : Left X). s.list) ls) xss known ∙ length-map ls (λ (s : Left X). s.list)
+
+-- a step without an error ends no source, and was one of a source that had not ended
+pub same_end : {X : Type 0} (old new : Option Error) (x : X) → EndsBy old new (Ok x) → new ≡ old
+same_end None new x h = h.ended
+same_end {X = X} (Some e) new x h = absurd (let f : ◌≡◌ {A = Result X Error} (Ok x) (Err e) = h.repeated in cc)

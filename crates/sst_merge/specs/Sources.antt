@@ -4,12 +4,14 @@ use Rattle.std.specs.Option.{option_map}
 use Rattle.std.specs.List.{sum_by}
 use Rattle.std.specs.declared.cmp.Ordering.{Ordering}
 use Rattle.sst_base.specs.Order.{IsInOrder}
+use Rattle.sst_base.specs.declared.error.Error.{Error}
 
 -- What is left of a source: the list of its items, where the bytes are known that they are read from, and else nothing
--- is said of it; and at most how many they are.
+-- is said of it; at most how many they are; and the error that ended the source, if one did.
 pub record Left (X : Type 0) : Type 0 where
   pub list : Option (List X)
   pub most : ℕ
+  pub ended : Option Error
 
 -- a step takes the first item of what is left, or there is none
 abbrev pub TakesFirst : {X : Type 0} → Left X → Option X → Left X → Type 0
@@ -25,9 +27,9 @@ PassesFirst s false t = TakesFirst s None t
 abbrev pub IsTaken : {X : Type 0} → Option (List X) → List X → Option (List X) → Type 0
 IsTaken s items t = s ≡ option_map (λ rest. items ++ rest) t
 
--- what is left, in a list of other items
-abbrev pub left_as : {X Y : Type 0} → (List X → List Y) → Left X → Left Y
-left_as f s = record { list = option_map f s.list; most = s.most }
+-- what is left, in a list of other items, where this error ended it, if one did
+abbrev pub left_as : {X Y : Type 0} → (List X → List Y) → Option Error → Left X → Left Y
+left_as f ended s = record { list = option_map f s.list; most = s.most; ended = ended }
 
 -- an item, if there is one, before others
 abbrev pub before : {X : Type 0} → Option X → List X → List X
@@ -38,9 +40,9 @@ abbrev pub held_count : {X : Type 0} → Option X → ℕ
 held_count None = 0
 held_count (Some x) = 1
 
--- what is left where an item is held before it
-abbrev pub left_held : {X : Type 0} → Option X → Left X → Left X
-left_held held s = record { list = option_map (before held) s.list; most = held_count held + s.most }
+-- what is left where an item is held before it, and this error ended it, if one did
+abbrev pub left_held : {X : Type 0} → Option X → Option Error → Left X → Left X
+left_held held ended s = record { list = option_map (before held) s.list; most = held_count held + s.most; ended = ended }
 
 -- where none is held, none is left
 abbrev pub IsHeld : {X : Type 0} → Option X → Option (List X) → Type 0
@@ -56,9 +58,9 @@ all_known (Some a ∷ all) = option_map (λ rest. a ∷ rest) (all_known all)
 abbrev pub lists_left : {X : Type 0} → List (Left X) → Option (List (List X))
 lists_left {X = X} lefts = all_known (map (λ (s : Left X). s.list) lefts)
 
--- what is left of sources together, put into one list
-abbrev pub all_left : {X : Type 0} → (List (List X) → List X) → List (Left X) → Left X
-all_left {X = X} together lefts = record { list = option_map together (lists_left lefts); most = sum_by (λ (s : Left X). s.most) lefts }
+-- what is left of sources together, put into one list, where this error ended it, if one did
+abbrev pub all_left : {X : Type 0} → (List (List X) → List X) → Option Error → List (Left X) → Left X
+all_left {X = X} together ended lefts = record { list = option_map together (lists_left lefts); most = sum_by (λ (s : Left X). s.most) lefts; ended = ended }
 
 -- a step takes the last item of what is left, where that is in order; or there is none
 abbrev pub TakesLast : {X : Type 0} → (X → X → Ordering) → Left X → Option X → Left X → Type 0
@@ -70,6 +72,6 @@ abbrev pub after : {X : Type 0} → Option X → List X → List X
 after None xs = xs
 after (Some x) xs = xs ++ x ∷ []
 
--- what is left where an item is held after it
-abbrev pub left_held_back : {X : Type 0} → Option X → Left X → Left X
-left_held_back held s = record { list = option_map (after held) s.list; most = held_count held + s.most }
+-- what is left where an item is held after it, and this error ended it, if one did
+abbrev pub left_held_back : {X : Type 0} → Option X → Option Error → Left X → Left X
+left_held_back held ended s = record { list = option_map (after held) s.list; most = held_count held + s.most; ended = ended }

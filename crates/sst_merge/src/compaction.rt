@@ -4,6 +4,7 @@ ghost use Rattle.std.specs.Option.{option_map};
 ghost use Rattle.sst_merge.specs.Compact.{compacted};
 ghost use Rattle.sst_merge.specs.Outputs.{AreWritten};
 ghost use Rattle.sstable_blocks.specs.Run.{form, IsWritable};
+ghost use Rattle.sstable_blocks.specs.Scans.{EndsBy};
 
 use crate::compact::Compact;
 use crate::merge::Head;
@@ -14,11 +15,38 @@ use sst_base::{BlockHash, InternalValue, Result, SeqNo};
 use sstable_blocks::RunConfig;
 use std::alloc::Global;
 
+// Writes all that is left of a source as tables, where no error ended it.
+fn all_tables<H: BlockHash, I: Source<InternalValue>, O: Outputs>(
+    alloc: Global,
+    source: &mut Head<InternalValue, I>,
+    outputs: &mut O,
+    config: RunConfig,
+    sizes: Sizes,
+) -> Result<()>
+    requires writable { IsWritable config }
+    ensures written { OnOk result
+        (AreWritten (form H.hash64 H.hash128 config) O.start source.old.list
+        (option_map (λ _. []) source.old.list) (O.tables outputs.old) (O.tables outputs.new)) }
+    ensures ended { OnOk result (source.new.ended ≡ source.old.ended) }
+{
+    while source.peek().is_some() {
+        let writer = outputs.open()?;
+        let table = write_table::<H, I, O::Writer>(alloc, source, writer, config, sizes)?;
+        let Some((handles, writer)) = table else {
+            return Ok(());
+        };
+        outputs.close(handles, writer)?;
+    }
+    Ok(())
+}
+
 /// Writes all that is left of a source as tables.
 ///
 /// # Errors
 ///
-/// Those of the source, of the outputs and of [`write_table`]. The tables closed before stay.
+/// Those of the source, of the outputs and of [`write_table`]. The tables closed before stay. Each
+/// of them ends the source, since entries may have been taken of it that are in no table: each
+/// later step returns the error again.
 pub fn write_tables<H: BlockHash, I: Source<InternalValue>, O: Outputs>(
     alloc: Global,
     source: &mut Head<InternalValue, I>,
@@ -30,16 +58,15 @@ pub fn write_tables<H: BlockHash, I: Source<InternalValue>, O: Outputs>(
     ensures written { OnOk result
         (AreWritten (form H.hash64 H.hash128 config) O.start source.old.list
         (option_map (λ _. []) source.old.list) (O.tables outputs.old) (O.tables outputs.new)) }
+    ensures ended { EndsBy source.old.ended source.new.ended result }
 {
-    while source.peek().is_some() {
-        let writer = outputs.open()?;
-        let table = write_table::<H, I, O::Writer>(alloc, source, writer, config, sizes)?;
-        let Some((handles, writer)) = table else {
-            return Ok(());
-        };
-        outputs.close(handles, writer)?;
+    if let Some(error) = source.end() {
+        return Err(error);
     }
-    Ok(())
+    match all_tables::<H, I, O>(alloc, source, outputs, config, sizes) {
+        Ok(()) => Ok(()),
+        Err(error) => Err(source.end_with(&error)),
+    }
 }
 
 /// Compacts what is left of a source, which is in order: writes as tables the versions that a read

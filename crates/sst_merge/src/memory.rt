@@ -1,5 +1,5 @@
 //! Versions in memory, as a source.
-ghost use Rattle.std.specs.Prelude.{Some, length};
+ghost use Rattle.std.specs.Prelude.{None, Some, length};
 ghost use Rattle.std.specs.Vec.Iter.{into_iter_items};
 
 use crate::source::{BackSource, Source};
@@ -13,6 +13,7 @@ impl<T: Drop> Source<T> for vec::IntoIter<T, Global> {
     ghost left = { λ s. record {
       list = Some (into_iter_items s);
       most = length (into_iter_items s);
+      ended = None;
     } };
 
     fn next_entry(&mut self, _alloc: Global) -> Result<Option<T>> {
@@ -25,6 +26,7 @@ impl<T: Version + Drop> BackSource<T> for vec::IntoIter<T, Global> {
     ghost left_back = { λ s. record {
       list = Some (into_iter_items s);
       most = length (into_iter_items s);
+      ended = None;
     } };
 
     fn next_entry_back(&mut self, _alloc: Global) -> Result<Option<T>> {

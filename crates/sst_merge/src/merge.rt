@@ -1,27 +1,31 @@
 //! Ordered merges of any number of sources.
 ghost use Rattle.std.specs.Prelude.{◌≡◌, ◌+◌, ◌<◌, ◌≤◌, List, length, slice_get, IfOk, IfSome};
-ghost use Rattle.std.specs.Prelude.{OnErr, OnOk, Some};
+ghost use Rattle.std.specs.Prelude.{None, OnErr, OnOk, Some};
 ghost use Rattle.std.specs.Option.{option_map};
 ghost use Rattle.sst_merge.specs.Fronts.{IsFrontOf};
 ghost use Rattle.sst_merge.specs.Merge.{order_by, merged};
 ghost use Rattle.sst_merge.specs.Picks.{ArePicks, IsPick, wins};
 ghost use Rattle.sst_merge.specs.Sources.{TakesFirst, PassesFirst, all_left};
+ghost use Rattle.sstable_blocks.specs.Scans.{EndsBy};
 
-use crate::source::Source;
+use crate::source::{Source, keep_error, note_error};
 use crate::version::Version;
-use sst_base::Result;
+use sst_base::{Error, Result};
 use std::alloc::Global;
 use std::cmp::Ordering;
 use std::marker::Model;
 use std::mem;
 
-/// A source whose first version is held. Clauses see the versions left, that one included.
+/// A source whose first version is held. An error ends it: each later step returns it again.
+///
+/// Clauses see the versions left, that one included, and the error that ended it, if one did.
 #[derive(Drop)]
 pub struct Head<T: Version, I: Source<T>> {
     held: Option<T>,
     // The front of the version that is held, the greatest number where none is.
     front: u128,
     source: I,
+    ended: Option<Error>,
 }
 
 impl<T: Version, I: Source<T>> Model for Head<T, I> {
@@ -30,7 +34,7 @@ impl<T: Version, I: Source<T>> Model for Head<T, I> {
 
     ghost Value = { Left T };
 
-    ghost view = { λ h. left_held h.held (I.left h.source) };
+    ghost view = { λ h. left_held h.held h.ended (I.left h.source) };
 
     ghost invariant = { λ h. IsHeld h.held (I.left h.source).list
         × IsFrontOf T.entry h.held h.front };
@@ -52,11 +56,12 @@ impl<T: Version + Drop, I: Source<T> + Drop> Head<T, I> {
     ///
     /// # Errors
     ///
-    /// Those of the source's step.
+    /// Those of the source's step. The source is then dropped.
     #[tactic(auto, using(crate::specs::SourceLaws::held_before, crate::specs::SourceLaws::held_is, crate::specs::SourceLaws::held_most))]
     pub fn new(alloc: Global, mut source: I) -> Result<Head<T, I>>
         ensures list { IfOk result (λ head. head.list ≡ (I.left source).list) }
         ensures most { IfOk result (λ head. head.most ≤ (I.left source).most) }
+        ensures fresh { IfOk result (λ head. head.ended ≡ None) }
     {
         let held = source.next_entry(alloc)?;
         let front = front_of_held(&held);
@@ -64,12 +69,15 @@ impl<T: Version + Drop, I: Source<T> + Drop> Head<T, I> {
             held,
             front,
             source,
+            ended: None,
         })
     }
 }
 
 impl<T: Version, I: Source<T>> Head<T, I> {
-    /// Returns the first version left, if there is one.
+    /// Returns the version that is held: the first one left, if there is one. An error changes
+    /// nothing of it, so of a source that an error ended it is the one that the failed step was to
+    /// take or to pass.
     #[inline(always)]
     pub fn peek(&self) -> Option<&T>
         ensures first { IfSome self.now.list
@@ -78,6 +86,22 @@ impl<T: Version, I: Source<T>> Head<T, I> {
     {
         self.held.as_ref()
     }
+
+    // Returns the error that ended the source, if one did.
+    #[inline(always)]
+    pub(crate) fn end(&self) -> Option<Error>
+        ensures { result ≡ self.now.ended }
+    {
+        self.ended
+    }
+
+    // Ends the source with an error, which is returned: so does each later step.
+    pub(crate) fn end_with(&mut self, error: &Error) -> Error
+        ensures ended { self.new ≡ record self.old { ended = Some error.now } }
+        ensures same { result ≡ error.now }
+    {
+        note_error(&mut self.ended, error)
+    }
 }
 
 impl<T: Version + Drop, I: Source<T>> Head<T, I> {
@@ -85,11 +109,15 @@ impl<T: Version + Drop, I: Source<T>> Head<T, I> {
     ///
     /// # Errors
     ///
-    /// Those of the source's step. The first version is then still held.
+    /// Those of the source's step. An error ends the source: each later step returns it again.
     #[inline(always)]
     pub fn take(&mut self, alloc: Global) -> Result<Option<T>>
-        ensures { IfOk result (λ r. TakesFirst self.old r self.new) }
+        ensures first { IfOk result (λ r. TakesFirst self.old r self.new) }
+        ensures ended { EndsBy self.old.ended self.new.ended result }
     {
+        if let Some(error) = self.ended {
+            return Err(error);
+        }
         if self.held.is_none() {
             return Ok(None);
         }
@@ -99,7 +127,7 @@ impl<T: Version + Drop, I: Source<T>> Head<T, I> {
                 self.front = front_of_held(&next);
                 Ok(mem::replace(&mut self.held, next))
             }
-            Err(error) => Err(error),
+            Err(error) => Err(note_error(&mut self.ended, &error)),
         }
     }
 
@@ -108,11 +136,15 @@ impl<T: Version + Drop, I: Source<T>> Head<T, I> {
     ///
     /// # Errors
     ///
-    /// Those of the source's step. The first version is then still held.
+    /// Those of the source's step. An error ends the source: each later step returns it again.
     #[inline(always)]
     pub fn advance(&mut self, alloc: Global) -> Result<bool>
-        ensures { IfOk result (λ passed. PassesFirst self.old passed self.new) }
+        ensures first { IfOk result (λ passed. PassesFirst self.old passed self.new) }
+        ensures ended { EndsBy self.old.ended self.new.ended result }
     {
+        if let Some(error) = self.ended {
+            return Err(error);
+        }
         if self.held.is_none() {
             return Ok(false);
         }
@@ -122,7 +154,7 @@ impl<T: Version + Drop, I: Source<T>> Head<T, I> {
                 self.held = next;
                 Ok(true)
             }
-            Err(error) => Err(error),
+            Err(error) => Err(note_error(&mut self.ended, &error)),
         }
     }
 }
@@ -213,26 +245,42 @@ fn place_picks<T: Version, I: Source<T>>(
     Ok(count)
 }
 
-// Makes the picks that are still to be made, and returns the pick of all sources.
+// Gives each source a pick, if they have none yet.
 #[inline(always)]
-fn pick_first<T: Version, I: Source<T>>(
+fn ready_picks<T: Version, I: Source<T>>(
     alloc: Global,
     heads: &[Head<T, I>],
     picks: &mut Vec<usize>,
     made: &mut usize,
-) -> Result<usize>
-    requires some { 0 < length heads.now }
-    requires picks { ArePicks (wins (order_by T.entry)) heads.now picks.old.items made.old }
+) -> Result<()>
+    requires { ArePicks (wins (order_by T.entry)) heads.now picks.old.items made.old }
     ensures kept { ArePicks (wins (order_by T.entry)) heads.now picks.new.items made.new }
-    ensures all { OnOk result (made.new ≡ 0) }
-    ensures first { IfOk result (IsPick (wins (order_by T.entry)) heads.now 0) }
+    ensures len { OnOk result (length picks.new.items ≡ length heads.now) }
 {
     if picks.len() != heads.len() {
         *made = place_picks(alloc, heads, picks)?;
     }
+    Ok(())
+}
+
+// Makes the picks that are still to be made, and returns the pick of all sources.
+#[inline(always)]
+fn pick_first<T: Version, I: Source<T>>(
+    heads: &[Head<T, I>],
+    picks: &mut Vec<usize>,
+    made: &mut usize,
+) -> usize
+    requires some { 0 < length heads.now }
+    requires len { length picks.old.items ≡ length heads.now }
+    requires picks { ArePicks (wins (order_by T.entry)) heads.now picks.old.items made.old }
+    ensures len { length picks.new.items ≡ length heads.now }
+    ensures kept { ArePicks (wins (order_by T.entry)) heads.now picks.new.items 0 }
+    ensures all { made.new ≡ 0 }
+    ensures first { IsPick (wins (order_by T.entry)) heads.now 0 result }
+{
     let first = pick_of_all(heads, picks.as_mut_slice(), *made);
     *made = 0;
-    Ok(first)
+    first
 }
 
 // The pick of all sources, where no picks are made.
@@ -263,7 +311,8 @@ fn pick_now<T: Version, I: Source<T>>(heads: &[Head<T, I>], picks: &[usize], mad
 }
 
 /// The ordered merge of any number of sources: of equal versions, those of the earlier source come
-/// first. Clauses see the versions left, where those of all sources are known.
+/// first. An error ends the merge: each later step returns it again. Clauses see the versions left,
+/// where those of all sources are known, and the error that ended the merge, if one did.
 ///
 /// A step compares anew the source that the last step took from and those before it; the first step
 /// compares all, and allocates.
@@ -274,6 +323,7 @@ pub struct Merge<T: Version, I: Source<T>> {
     // are still to be made; before the first step there are none.
     picks: Vec<usize>,
     made: usize,
+    ended: Option<Error>,
 }
 
 impl<T: Version, I: Source<T>> Model for Merge<T, I> {
@@ -283,7 +333,7 @@ impl<T: Version, I: Source<T>> Model for Merge<T, I> {
 
     ghost Value = { Left T };
 
-    ghost view = { λ m. all_left (merged (order_by T.entry)) m.heads.items };
+    ghost view = { λ m. all_left (merged (order_by T.entry)) m.ended m.heads.items };
 
     ghost invariant = { λ m.
         ArePicks (wins (order_by T.entry)) m.heads.items m.picks.items m.made };
@@ -292,11 +342,16 @@ impl<T: Version, I: Source<T>> Model for Merge<T, I> {
 impl<T: Version, I: Source<T>> Merge<T, I> {
     /// Merges sources, of which the first versions are held.
     pub fn new(heads: Vec<Head<T, I>>) -> Merge<T, I>
-        ensures { result ≡ all_left (merged (order_by T.entry)) heads.items }
+        ensures { result ≡ all_left (merged (order_by T.entry)) None heads.items }
     {
         let picks = Vec::new(*heads.allocator());
         let made = heads.len();
-        Merge { heads, picks, made }
+        Merge {
+            heads,
+            picks,
+            made,
+            ended: None,
+        }
     }
 }
 
@@ -304,7 +359,9 @@ impl<T: Version, I: Source<T>> Merge<T, I> {
     /// Returns the first version left, if there is one, where its source holds it: it is not moved,
     /// as [`Merge::advance`] passes it and [`Source::next_entry`] takes it.
     ///
-    /// Where the last step was an `advance`, nothing is compared.
+    /// Where the last step was an `advance`, nothing is compared. An error changes nothing of what
+    /// is held, so of a merge that an error ended it is the first of the versions that its sources
+    /// hold.
     pub fn peek(&self) -> Option<&T>
         ensures first { IfSome self.now.list
             (λ xs. option_map (λ x. x.now) result ≡ slice_get xs 0) }
@@ -321,19 +378,27 @@ impl<T: Version + Drop, I: Source<T> + Drop> Merge<T, I> {
     ///
     /// # Errors
     ///
-    /// Those of the source's step, and `Error::Memory` if an allocation fails. What is left then is
-    /// not said.
+    /// Those of the source's step, and `Error::Memory` if an allocation fails. An error ends the
+    /// merge: each later step returns it again.
     pub fn advance(&mut self, alloc: Global) -> Result<bool>
-        ensures { IfOk result (λ passed. PassesFirst self.old passed self.new) }
+        ensures first { IfOk result (λ passed. PassesFirst self.old passed self.new) }
+        ensures ended { EndsBy self.old.ended self.new.ended result }
     {
+        if let Some(error) = self.ended {
+            return Err(error);
+        }
         if self.heads.is_empty() {
             return Ok(false);
         }
-        let first = pick_first(alloc, &self.heads, &mut self.picks, &mut self.made)?;
+        let ready = ready_picks(alloc, &self.heads, &mut self.picks, &mut self.made);
+        keep_error(&mut self.ended, &ready);
+        ready?;
+        let first = pick_first(&self.heads, &mut self.picks, &mut self.made);
         self.made = first + 1;
-        let passed = self.heads[first].advance(alloc)?;
-        pick_first(alloc, &self.heads, &mut self.picks, &mut self.made)?;
-        Ok(passed)
+        let passed = self.heads[first].advance(alloc);
+        keep_error(&mut self.ended, &passed);
+        pick_first(&self.heads, &mut self.picks, &mut self.made);
+        passed
     }
 }
 
@@ -342,11 +407,19 @@ impl<T: Version + Drop, I: Source<T> + Drop> Source<T> for Merge<T, I> {
     ghost left = { λ m. m };
 
     fn next_entry(&mut self, alloc: Global) -> Result<Option<T>> {
+        if let Some(error) = self.ended {
+            return Err(error);
+        }
         if self.heads.is_empty() {
             return Ok(None);
         }
-        let first = pick_first(alloc, &self.heads, &mut self.picks, &mut self.made)?;
+        let ready = ready_picks(alloc, &self.heads, &mut self.picks, &mut self.made);
+        keep_error(&mut self.ended, &ready);
+        ready?;
+        let first = pick_first(&self.heads, &mut self.picks, &mut self.made);
         self.made = first + 1;
-        self.heads[first].take(alloc)
+        let taken = self.heads[first].take(alloc);
+        keep_error(&mut self.ended, &taken);
+        taken
     }
 }

@@ -1,21 +1,24 @@
 //! What a snapshot sees of ordered versions.
-ghost use Rattle.std.specs.Prelude.{◌≡◌};
-ghost use Rattle.sst_merge.specs.Snapshot.{snapshot, has_last_key};
-ghost use Rattle.sst_merge.specs.Sources.{left_as};
+ghost use Rattle.std.specs.Prelude.{◌≡◌, IfOk, None};
+ghost use Rattle.sst_merge.specs.Snapshot.{snapshot, visible_from, has_last_key};
+ghost use Rattle.sst_merge.specs.Sources.{TakesFirst, left_as};
 
-use crate::source::Source;
+use crate::source::{Source, keep_error};
 use crate::version::Version;
-use sst_base::{Result, SeqNo, UserKey};
+use sst_base::{Error, Result, SeqNo, UserKey};
 use std::alloc::Global;
 use std::marker::{Model, PhantomData};
 
 /// Of each user key the newest version with a sequence number strictly below the snapshot's, unless
-/// it is a tombstone. Clauses see the versions left, where those of the source are known.
+/// it is a tombstone. An error ends the view: each later step returns it again. Clauses see the
+/// versions left, where those of the source are known, and the error that ended the view, if one
+/// did.
 #[derive(Drop)]
 pub struct Snapshot<T: Version, I: Source<T>> {
     source: I,
     seqno: SeqNo,
     last: Option<UserKey>,
+    ended: Option<Error>,
     versions: PhantomData<T>,
 }
 
@@ -25,7 +28,8 @@ impl<T: Version, I: Source<T>> Model for Snapshot<T, I> {
 
     ghost Value = { Left T };
 
-    ghost view = { λ s. left_as (visible_from T.entry s.seqno s.last) (I.left s.source) };
+    ghost view = { λ s. left_as (visible_from T.entry s.seqno s.last) s.ended
+        (I.left s.source) };
 }
 
 // Whether a version has the last key.
@@ -41,15 +45,41 @@ pub(crate) fn has_last_key<T: Version>(last: &Option<UserKey>, item: &T) -> bool
 impl<T: Version, I: Source<T>> Snapshot<T, I> {
     /// Makes the view of ordered versions at a sequence number: what a read at it sees.
     pub fn new(source: I, seqno: SeqNo) -> Snapshot<T, I>
-        ensures { result ≡ left_as (snapshot T.entry seqno) (I.left source) }
+        ensures { result ≡ left_as (snapshot T.entry seqno) None (I.left source) }
     {
         Snapshot {
             source,
             seqno,
             last: None,
+            ended: None,
             versions: PhantomData,
         }
     }
+}
+
+// Takes versions from a source up to the first that a snapshot sees, and notes the key of the newest
+// one below its sequence number.
+#[inline(always)]
+fn next_seen<T: Version + Drop, I: Source<T>>(
+    alloc: Global,
+    source: &mut I,
+    seqno: SeqNo,
+    last: &mut Option<UserKey>,
+) -> Result<Option<T>>
+    ensures { IfOk result (λ r.
+        TakesFirst (left_as (visible_from T.entry seqno last.old) None (I.left source.old)) r
+        (left_as (visible_from T.entry seqno last.new) None (I.left source.new))) }
+{
+    while let Some(item) = source.next_entry(alloc)? {
+        if item.seqno() >= seqno || has_last_key(last, &item) {
+            continue;
+        }
+        *last = Some(item.user_key(alloc)?);
+        if !item.is_tombstone() {
+            return Ok(Some(item));
+        }
+    }
+    Ok(None)
 }
 
 /// Takes the first version that the snapshot sees.
@@ -57,15 +87,11 @@ impl<T: Version + Drop, I: Source<T> + Drop> Source<T> for Snapshot<T, I> {
     ghost left = { λ s. s };
 
     fn next_entry(&mut self, alloc: Global) -> Result<Option<T>> {
-        while let Some(item) = self.source.next_entry(alloc)? {
-            if item.seqno() >= self.seqno || has_last_key(&self.last, &item) {
-                continue;
-            }
-            self.last = Some(item.user_key(alloc)?);
-            if !item.is_tombstone() {
-                return Ok(Some(item));
-            }
+        if let Some(error) = self.ended {
+            return Err(error);
         }
-        Ok(None)
+        let step = next_seen(alloc, &mut self.source, self.seqno, &mut self.last);
+        keep_error(&mut self.ended, &step);
+        step
     }
 }

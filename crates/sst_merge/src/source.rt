@@ -1,32 +1,39 @@
 //! Sources of versions.
-ghost use Rattle.std.specs.Prelude.{IfOk};
+ghost use Rattle.std.specs.Prelude.{◌≡◌, IfOk, None, Some};
 ghost use Rattle.sst_merge.specs.Merge.{order_by};
 ghost use Rattle.sst_merge.specs.Sources.{Left, TakesFirst, TakesLast};
+ghost use Rattle.sstable_blocks.specs.Scans.{EndsBy, error_of};
 
 use crate::version::Version;
-use sst_base::Result;
+use sst_base::{Error, Result};
 use std::alloc::Global;
 
 /// An ordered list of versions, which are taken one after the other: a scan of a table, what an
 /// engine holds in memory, or a merge of others.
+///
+/// An error ends the source: each later step returns it again.
 pub trait Source<T> {
     // The versions left, where they are known (those of a file whose bytes nothing is known of are
-    // not), and at most how many they are.
+    // not), at most how many they are, and the error that ended the source, if one did.
     ghost left: { Self → Left T };
 
     /// Takes the first version left, or returns `None` where none is left.
     ///
     /// # Errors
     ///
-    /// Those of what the versions are read from, and `Error::Memory` if an allocation fails. What
-    /// is left then is not said.
+    /// Those of what the versions are read from, and `Error::Memory` if an allocation fails. An
+    /// error ends the source: each later step returns it again.
     fn next_entry(&mut self, alloc: Global) -> Result<Option<T>>
-        ensures { IfOk result (λ r. TakesFirst (left self.old) r (left self.new)) };
+        ensures first { IfOk result (λ r. TakesFirst (left self.old) r (left self.new)) }
+        ensures ended { EndsBy (left self.old).ended (left self.new).ended result };
 }
 
 /// Versions in order, which are taken from the last to the first.
+///
+/// An error ends the source: each later step returns it again.
 pub trait BackSource<T: Version> {
-    // The versions left, where they are known, and at most how many they are.
+    // The versions left, where they are known, at most how many they are, and the error that ended
+    // the source, if one did.
     ghost left_back: { Self → Left T };
 
     /// Takes the last version left, or returns `None` where none is left. Which one is taken is
@@ -34,9 +41,31 @@ pub trait BackSource<T: Version> {
     ///
     /// # Errors
     ///
-    /// Those of what the versions are read from, and `Error::Memory` if an allocation fails. What
-    /// is left then is not said.
+    /// Those of what the versions are read from, and `Error::Memory` if an allocation fails. An
+    /// error ends the source: each later step returns it again.
     fn next_entry_back(&mut self, alloc: Global) -> Result<Option<T>>
-        ensures { IfOk result (λ r. TakesLast (order_by T.entry) (left_back self.old) r
-            (left_back self.new)) };
+        ensures last { IfOk result (λ r. TakesLast (order_by T.entry) (left_back self.old) r
+            (left_back self.new)) }
+        ensures ended { EndsBy (left_back self.old).ended (left_back self.new).ended result };
+}
+
+// Keeps the error of a step, if it is one. No step before it failed.
+#[inline(always)]
+pub(crate) fn keep_error<T>(ended: &mut Option<Error>, step: &Result<T>)
+    requires { ended.old ≡ None }
+    ensures { ended.new ≡ error_of step.now }
+{
+    if let Err(error) = step {
+        *ended = Some(*error);
+    }
+}
+
+// Notes the error that ends a source, and returns it.
+#[inline(always)]
+pub(crate) fn note_error(ended: &mut Option<Error>, error: &Error) -> Error
+    ensures ended { ended.new ≡ Some error.now }
+    ensures same { result ≡ error.now }
+{
+    *ended = Some(*error);
+    *error
 }

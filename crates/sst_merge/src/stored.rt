@@ -2,7 +2,7 @@
 ghost use Rattle.sstable_blocks.specs.RunReading.{hashes};
 ghost use Rattle.sstable_blocks.specs.Scans.{most_left, reads_left};
 ghost use Rattle.std.specs.Option.{option_map};
-ghost use Rattle.std.specs.Prelude.{Some, length};
+ghost use Rattle.std.specs.Prelude.{None, Some, length};
 ghost use Rattle.sstable_blocks.specs.ReadCosts.{heads_most_in, entries_most_in};
 ghost use Rattle.sst_merge.specs.Stored.{scan_list, table_list};
 ghost use Rattle.sst_merge.specs.TableReads.{table_ordered};
@@ -23,6 +23,7 @@ impl<'k, H: BlockHash, S: FrameSource> Source<InternalValue> for Scan<'k, H, S> 
       list = scan_list s.ended (S.bytes s.table.source)
           (λ all. reads_left (hashes H.hash64 H.hash128) all s);
       most = most_left s;
+      ended = s.ended;
     } };
 
     #[inline(always)]
@@ -37,6 +38,7 @@ impl<'k, H: BlockHash, S: FrameSource> BackSource<InternalValue> for Scan<'k, H,
       list = scan_list s.ended (S.bytes s.table.source)
           (λ all. reads_left (hashes H.hash64 H.hash128) all s);
       most = most_left s;
+      ended = s.ended;
     } };
 
     #[inline(always)]
@@ -47,7 +49,7 @@ impl<'k, H: BlockHash, S: FrameSource> BackSource<InternalValue> for Scan<'k, H,
 
 /// A scan of a trusted table, whose entries are known.
 impl<'a, 'k, H: BlockHash> Source<InternalValue> for TrustedScan<'a, 'k, H> {
-    ghost left = { λ s. record { list = Some s.left; most = length s.left } };
+    ghost left = { λ s. record { list = Some s.left; most = length s.left; ended = s.ended } };
 
     #[inline(always)]
     fn next_entry(&mut self, alloc: Global) -> Result<Option<InternalValue>> {
@@ -57,7 +59,11 @@ impl<'a, 'k, H: BlockHash> Source<InternalValue> for TrustedScan<'a, 'k, H> {
 
 /// The same scan, from the back.
 impl<'a, 'k, H: BlockHash> BackSource<InternalValue> for TrustedScan<'a, 'k, H> {
-    ghost left_back = { λ s. record { list = Some s.left; most = length s.left } };
+    ghost left_back = { λ s. record {
+      list = Some s.left;
+      most = length s.left;
+      ended = s.ended;
+    } };
 
     #[inline(always)]
     fn next_entry_back(&mut self, alloc: Global) -> Result<Option<InternalValue>> {
@@ -68,7 +74,7 @@ impl<'a, 'k, H: BlockHash> BackSource<InternalValue> for TrustedScan<'a, 'k, H> 
 /// A scan of a run over borrowed bytes, whose entries are known. It gives entries that borrow these
 /// bytes, takes no memory, and never fails.
 impl<'a, 'k, H: BlockHash> Source<EntryView<'a>> for RunScan<'a, 'k, H> {
-    ghost left = { λ s. record { list = Some s.left; most = length s.left } };
+    ghost left = { λ s. record { list = Some s.left; most = length s.left; ended = None } };
 
     #[inline(always)]
     fn next_entry(&mut self, _alloc: Global) -> Result<Option<EntryView<'a>>> {
@@ -78,7 +84,11 @@ impl<'a, 'k, H: BlockHash> Source<EntryView<'a>> for RunScan<'a, 'k, H> {
 
 /// The same scan, from the back.
 impl<'a, 'k, H: BlockHash> BackSource<EntryView<'a>> for RunScan<'a, 'k, H> {
-    ghost left_back = { λ s. record { list = Some s.left; most = length s.left } };
+    ghost left_back = { λ s. record {
+      list = Some s.left;
+      most = length s.left;
+      ended = None;
+    } };
 
     #[inline(always)]
     fn next_entry_back(&mut self, _alloc: Global) -> Result<Option<EntryView<'a>>> {

@@ -2,6 +2,7 @@
 ghost use Rattle.std.specs.Prelude.{◌≡◌, ◌+◌, ◌≤◌, ◌<◌, ◌++◌, ◌∷◌, [], ◌⊎◌, ℕ, false, true};
 ghost use Rattle.std.specs.Prelude.{None, length, IfOk, OnOk, IfSome, IfNone};
 ghost use Rattle.sstable_blocks.specs.Run.{form, IsWritable};
+ghost use Rattle.sstable_blocks.specs.Scans.{EndsBy};
 ghost use Rattle.sstable_blocks.specs.Writing.{IsSameRun};
 ghost use Rattle.sst_merge.specs.Sources.{IsTaken};
 ghost use Rattle.sst_merge.specs.Tables.{IsApart, IsFilled, IsTableOf, capped, entries_len};
@@ -48,6 +49,7 @@ fn fill_block<I: Source<InternalValue>>(
     ensures taken { OnOk result (IsTaken source.old.list block.new.items source.new.list) }
     ensures most { OnOk result (source.new.most + length block.new.items ≤ source.old.most) }
     ensures filled { OnOk result (IsFilled size source.new.list block.new.items) }
+    ensures ended { OnOk result (source.new.ended ≡ source.old.ended) }
     ensures len { IfOk result (λ len. len ≡ capped (entries_len block.new.items)) }
 {
     let mut len = 0usize;
@@ -77,6 +79,7 @@ fn add_block<H: BlockHash, I: Source<InternalValue>, W: Write>(
     ensures most { OnOk result (source.new.most < source.old.most) }
     ensures some { OnOk result (1 ≤ length block.new.items) }
     ensures filled { OnOk result (IsFilled size source.new.list block.new.items) }
+    ensures ended { OnOk result (source.new.ended ≡ source.old.ended) }
     ensures len { IfOk result (λ len. len ≡ capped (entries_len block.new.items)) }
 {
     block.clear();
@@ -116,13 +119,43 @@ fn goes_on<I: Source<InternalValue>>(
     }
 }
 
+// Writes the next table of a source that no error ended.
+fn next_table<H: BlockHash, I: Source<InternalValue>, W: Write + Drop>(
+    alloc: Global,
+    source: &mut Head<InternalValue, I>,
+    writer: W,
+    config: RunConfig,
+    sizes: Sizes,
+) -> Result<Option<(RunHandles, W)>>
+    requires writable { IsWritable config }
+    ensures table { IfOk result (λ r. IfSome r (λ t.
+        IsTableOf (form H.hash64 H.hash128 config) sizes (W.contents writer) (W.contents t.1)
+        t.0 source.old.list source.new.list)) }
+    ensures most { IfOk result (λ r. IfSome r (λ t. source.new.most < source.old.most)) }
+    ensures done { IfOk result (λ r. IfNone r (IfSome source.old.list (λ xs. xs ≡ []))) }
+    ensures ended { OnOk result (source.new.ended ≡ source.old.ended) }
+{
+    if source.peek().is_none() {
+        return Ok(None);
+    }
+    let mut run = RunWriter::<H, W>::new(alloc, writer, config);
+    let mut block = Vec::new(alloc);
+    let mut len = add_block(alloc, source, &mut run, &mut block, sizes.block)?;
+    while goes_on(source, &block, len, sizes.table) {
+        len = len.saturating_add(add_block(alloc, source, &mut run, &mut block, sizes.block)?);
+    }
+    Ok(Some(run.finish()?))
+}
+
 /// Writes the next table of a source: entries in blocks, up to a size. Returns its handles and the
 /// writer, or `None` where nothing is left; nothing is written then. Memory is taken for one block,
 /// and what a `RunWriter` keeps.
 ///
 /// # Errors
 ///
-/// Those of the source and of `RunWriter`; `Error::OutOfOrder` if the source is not in order.
+/// Those of the source and of `RunWriter`; `Error::OutOfOrder` if the source is not in order. Each
+/// of them ends the source, since entries were taken of it that are in no table: each later step
+/// returns the error again.
 pub fn write_table<H: BlockHash, I: Source<InternalValue>, W: Write + Drop>(
     alloc: Global,
     source: &mut Head<InternalValue, I>,
@@ -136,15 +169,13 @@ pub fn write_table<H: BlockHash, I: Source<InternalValue>, W: Write + Drop>(
         t.0 source.old.list source.new.list)) }
     ensures most { IfOk result (λ r. IfSome r (λ t. source.new.most < source.old.most)) }
     ensures done { IfOk result (λ r. IfNone r (IfSome source.old.list (λ xs. xs ≡ []))) }
+    ensures ended { EndsBy source.old.ended source.new.ended result }
 {
-    if source.peek().is_none() {
-        return Ok(None);
+    if let Some(error) = source.end() {
+        return Err(error);
     }
-    let mut run = RunWriter::<H, W>::new(alloc, writer, config);
-    let mut block = Vec::new(alloc);
-    let mut len = add_block(alloc, source, &mut run, &mut block, sizes.block)?;
-    while goes_on(source, &block, len, sizes.table) {
-        len = len.saturating_add(add_block(alloc, source, &mut run, &mut block, sizes.block)?);
+    match next_table::<H, I, W>(alloc, source, writer, config, sizes) {
+        Ok(table) => Ok(table),
+        Err(error) => Err(source.end_with(&error)),
     }
-    Ok(Some(run.finish()?))
 }

@@ -1,6 +1,6 @@
-use Rattle.std.proofs.Common.{arith, ◌≡◌, ◌≤◌, ◌<◌, ◌+◌, ◌-◌, ◌*◌, ◌/◌, ◌^◌, ◌++◌, ◌∙◌, sym, ap, length, drop, subst, []}
+use Rattle.std.proofs.Common.{arith, ◌∙◌, ap}
 use Rattle.sst_block_core.specs.Heads.{front}
-use Rattle.sst_merge.proofs.FrontNumbers.{front_of_long, front_joined, front_small, behind_short, key_front_is, bytes_joined}
+use Rattle.sst_merge.proofs.FrontNumbers.{behind_short}
 use Rattle.sst_merge.proofs.front.front_behind.Goals as goal
 
 pub returns : goal.returns

@@ -1,5 +1,4 @@
 use Rattle.std.proofs.Common.{◌∙◌, ap}
-use Rattle.sst_merge.specs.Sources.{Left}
 use Rattle.sst_merge.proofs.FrontOrder.{lesser_wins, greater_loses}
 use Rattle.sst_merge.proofs.merge.goes_first.Goals as goal
 

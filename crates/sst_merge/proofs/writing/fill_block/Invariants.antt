@@ -10,6 +10,7 @@ invariant-loop-alloc g l = record {
   most : l.source.most + length l.block.items ≤ l.fn.source.most;
   len : l.len ≡ capped (entries_len l.block.items);
   below : IsBelow l.size l.block.items;
+  ended : l.source.ended ≡ l.fn.source.ended;
 }
 
 abbrev pub decreases-loop-alloc : goal.decreases-loop-alloc

@@ -1,5 +1,5 @@
 use Rattle.sst_merge.specs.SourceLaws.{passed_held}
 use Rattle.sst_merge.proofs.merge.Head.advance.Goals as goal
 
-pub returns-in-Ok : goal.returns-in-Ok
-returns-in-Ok g c = passed_held c.self.inside.held _ _ _ c.in-Ok.next c.self.view_is c.if-is_none.ensures c.in-Ok.ensures
+pub returns-in-Ok-clause-first : goal.returns-in-Ok-clause-first
+returns-in-Ok-clause-first g c = passed_held c.self.inside.ended c.self.inside.ended c.self.inside.held (g.I.Source.left c.self.inside.source) (g.I.Source.left c.next_entry.new.self) _ c.in-Ok.next c.self.view_is c.if-is_none.ensures c.in-Ok.ensures.first

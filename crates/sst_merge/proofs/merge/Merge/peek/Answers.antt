@@ -3,7 +3,6 @@ use Rattle.std.specs.Prelude.{IfSome}
 use Rattle.std.specs.Option.{option_map}
 use Rattle.sst_merge.specs.Merge.{order_by}
 use Rattle.sst_merge.specs.Picks.{IsPick, wins}
-use Rattle.sst_merge.specs.Sources.{Left}
 use Rattle.sst_merge.proofs.Peeks.{peeked}
 use Rattle.sst_merge.proofs.merge.Merge.peek.Goals as goal
 

@@ -6,8 +6,8 @@ use Rattle.sst_merge.specs.Merge.{order_by}
 use Rattle.sst_merge.specs.StoredLaws.{scan_step_back}
 use Rattle.sst_merge.proofs.stored.ScanBackSourceInternalValue.next_entry_back.Goals as goal
 
-pub returns : goal.returns
-returns g c =
+pub returns-clause-last : goal.returns-clause-last
+returns-clause-last g c =
     let h = hashes g.H.BlockHash.hash64 g.H.BlockHash.hash128 in
     let old = c.args.self.now in
     let new = c.next_entry_back.new.self in

@@ -4,8 +4,8 @@ use Rattle.sstable_blocks.specs.Scans.{most_left, reads_left}
 use Rattle.sst_merge.specs.StoredLaws.{scan_step}
 use Rattle.sst_merge.proofs.stored.ScanSourceInternalValue.next_entry.Goals as goal
 
-pub returns : goal.returns
-returns g c =
+pub returns-clause-first : goal.returns-clause-first
+returns-clause-first g c =
     let h = hashes g.H.BlockHash.hash64 g.H.BlockHash.hash128 in
     let old = c.args.self.now in
     let new = c.next_entry.new.self in

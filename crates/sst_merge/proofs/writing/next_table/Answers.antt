@@ -9,7 +9,7 @@ use Rattle.sst_merge.specs.SizeLaws.{filled_more, joined_some, len_block, reache
 use Rattle.sst_merge.specs.Sources.{IsTaken}
 use Rattle.sst_merge.specs.TableLaws.{apart_blocks, taken_block, some_push, none_left}
 use Rattle.sst_merge.specs.Tables.{IsApart, IsFilled, IsShortest, capped, entries_len}
-use Rattle.sst_merge.proofs.writing.write_table.Goals as goal
+use Rattle.sst_merge.proofs.writing.next_table.Goals as goal
 
 pub returns-then-is_none-clause-done : goal.returns-then-is_none-clause-done
 returns-then-is_none-clause-done g c = none_left (λ r. r.now) c.args.source.now.list c.peek.result c.peek.ensures.first c.if-is_none.ensures
@@ -37,6 +37,7 @@ loop-alloc-preserved g c =
       taken = subst (λ (bs : List (List Entry)). IsTaken c.args.source.now.list (joined bs) left) (sym added.blocks)
           (taken_block c.args.source.now.list c.loop-alloc.source.list left c.loop-alloc.run.blocks block before.taken added.taken);
       most = (let less = added.most in let e = before.most in omega (arith, less, e));
+      ended = added.ended ∙ before.ended;
     }
 
 pub returns-clause-table : goal.returns-clause-table

@@ -5,7 +5,7 @@ use Rattle.sst_base.specs.Entry.{Entry}
 use Rattle.sstable_blocks.specs.Blocks.{joined}
 use Rattle.sst_merge.specs.Sources.{IsTaken}
 use Rattle.sst_merge.specs.Tables.{IsFilled, IsShortest, capped, entries_len}
-use Rattle.sst_merge.proofs.writing.write_table.Given as goal
+use Rattle.sst_merge.proofs.writing.next_table.Given as goal
 
 abbrev pub invariant-loop-alloc : goal.invariant-loop-alloc
 invariant-loop-alloc g l = record {
@@ -20,6 +20,7 @@ invariant-loop-alloc g l = record {
   shortest : IfSome l.fn.source.list (λ _. IsShortest l.sizes.table l.run.blocks);
   taken : IsTaken l.fn.source.list (joined l.run.blocks) l.source.list;
   most : l.source.most < l.fn.source.most;
+  ended : l.source.ended ≡ l.fn.source.ended;
 }
 
 abbrev pub decreases-loop-alloc : goal.decreases-loop-alloc

@@ -1,0 +1,13 @@
+use Rattle.std.proofs.Common.{◌≡◌, ◌≤◌}
+use Rattle.std.specs.Option.{option_map}
+use Rattle.sst_merge.specs.Compact.{compact_from}
+use Rattle.sst_merge.proofs.compact.next_staying.Given as goal
+
+abbrev pub invariant-loop-item : goal.invariant-loop-item
+invariant-loop-item g l = record {
+  list : option_map (compact_from g.T.Version.entry l.snapshot l.bottom l.last) (g.I.Source.left l.source).list ≡ option_map (compact_from g.T.Version.entry l.snapshot l.bottom l.fn.last) (g.I.Source.left l.fn.source).list;
+  most : (g.I.Source.left l.source).most ≤ (g.I.Source.left l.fn.source).most;
+}
+
+abbrev pub decreases-loop-item : goal.decreases-loop-item
+decreases-loop-item g l = (g.I.Source.left l.source).most
