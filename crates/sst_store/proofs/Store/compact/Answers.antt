@@ -1,4 +1,4 @@
-use Rattle.std.proofs.Common.{◌≡◌, ℕ, true, List, [], Option, Some, map, ◌∙◌, ap, sym, subst}
+use Rattle.std.proofs.Common.{◌≡◌, ℕ, true, List, [], Option, Some, None, map, ◌∙◌, ap, sym, subst}
 use Rattle.std.specs.Option.{option_map}
 use Rattle.sst_base.specs.Entry.{Entry, plain}
 use Rattle.sst_merge.specs.Compact.{compacted}
@@ -9,7 +9,7 @@ use Rattle.sst_store.specs.Levels.{AreLevels, levels, or_none, read}
 use Rattle.sst_store.specs.Tables.{IsTableOf, MemoryTable, merged_tables}
 
 -- the table has what the compaction of the tables' merge leaves
-written : (snapshot : ℕ) (tables lent : List MemoryTable) (merged source : Left Entry) (table : Option MemoryTable) → merged.list ≡ merged_tables lent → lent ≡ tables → source ≡ left_as (compacted (λ (e : Entry). e) snapshot true) merged
+written : (snapshot : ℕ) (tables lent : List MemoryTable) (merged source : Left Entry) (table : Option MemoryTable) → merged.list ≡ merged_tables lent → lent ≡ tables → source ≡ left_as (compacted (λ (e : Entry). e) snapshot true) None merged
     → ((items : List Entry) → source.list ≡ Some items → IsTableOf table (map plain items)) → (older : List Entry) → merged_tables tables ≡ Some older → IsTableOf table (map plain (compacted (λ (e : Entry). e) snapshot true older))
 written snapshot tables lent merged source table is same compacts of older known =
     let left = compacted (λ (e : Entry). e) snapshot true in
