@@ -2,12 +2,11 @@
 use Rattle.std.proofs.Common.{◌≡◌, ℕ, zero, suc, ◌+◌, ◌-◌, ◌*◌, ◌/◌, ◌^◌, ◌<◌, ◌≤◌, List, [], ◌∷◌, ◌++◌, length, drop, refl, arith, sym, slice_index, ◌∙◌, ap, min}
 use Rattle.std.proofs.Math.Nat.{pow-succ', div-div-eq-div-mul}
 use Rattle.std.proofs.lemmas.List.{get_or-drop}
-use Rattle.std.proofs.lemmas.Nat.{pow-add}
 use Rattle.std.proofs.Math.Seq.{drop-append-add}
 use Rattle.byteorder.specs.Endian.{big_number, big_from}
 use Rattle.byteorder.specs.Numbers.{big_from-lt, big_from-append}
 use Rattle.sst_base.specs.Bytes.{IsBytes}
-use Rattle.sst_base.specs.NumberLaws.{big_number-cons, number_past_end}
+use Rattle.sst_base.specs.NumberLaws.{big_number-cons, number_past_end, pow_256}
 use Rattle.sst_block_core.specs.Heads.{front}
 use Rattle.sst_merge.specs.Fronts.{key_front}
 
@@ -67,14 +66,6 @@ number_of_16 xs =
 pub front_of_long : (p r : List ℕ) → 8 ≤ length p → front p ≡ front (p ++ r)
 unfolding front
 front_of_long p r h = sym (big_from-append 8 p r h)
-
--- a byte has 8 bits
-pow_256 : (k : ℕ) → 256 ^ k ≡ 2 ^ (8 * k)
-pow_256 zero = refl
-pow_256 (suc k) =
-    let e = pow_256 k in
-    let a : 2 ^ (8 * suc k) ≡ 2 ^ (8 * k) * 2 ^ 8 = ap (λ n. 2 ^ n) (omega arith) ∙ pow-add 2 (8 * k) 8 in
-    omega (arith, pow-succ' 256 k, e, a)
 
 -- a short string before another
 pub front_joined : (p r : List ℕ) (a b : ℕ) → IsBytes r → length p < 8 → a ≡ front p → b ≡ front r → a + b / 2 ^ (8 * length p) ≡ front (p ++ r)

@@ -19,9 +19,14 @@ front_fits : (key : List ℕ) → IsBytes key → key_front key < 2 ^ 128
 unfolding key_front
 front_fits key b = let h = big_from-lt 0 16 key b in omega (arith, h)
 
-fronts_decide : (x y : List ℕ) → IsBytes x → IsBytes y → key_front x ≢ key_front y → nat_cmp (key_front x) (key_front y) ≡ slice_cmp nat_cmp x y
+-- keys whose fronts differ have the order of their fronts
+pub fronts_decide : (x y : List ℕ) → IsBytes x → IsBytes y → key_front x ≢ key_front y → nat_cmp (key_front x) (key_front y) ≡ slice_cmp nat_cmp x y
 unfolding key_front
 fronts_decide x y b c n = numbers_decide 16 x y b c n
+
+-- so has a key beside all others, by its number
+pub number_decides : (key : List ℕ) (number : ℕ) → IsBytes key → number ≡ key_front key → HasOrderOf key number
+number_decides key number b e = λ other c n. ap (λ k. nat_cmp k (key_front other)) e ∙ fronts_decide key other b c (λ same. n (e ∙ same))
 
 module _ {X : Type 0} (entry : X → Entry) where
   by_key : (x y : X) (a b : ℕ) → IsBytes (entry x).key.user_key → IsBytes (entry y).key.user_key → a ≡ key_front (entry x).key.user_key → b ≡ key_front (entry y).key.user_key → a ≢ b

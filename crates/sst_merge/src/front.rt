@@ -2,7 +2,7 @@
 ghost use Rattle.std.specs.Prelude.{◌≡◌, ◌++◌, length, drop};
 ghost use Rattle.sst_base.specs.Bytes.{IsBytes};
 ghost use Rattle.sst_block_core.specs.Heads.{front};
-ghost use Rattle.sst_merge.specs.Fronts.{key_front};
+ghost use Rattle.sst_merge.specs.Fronts.{HasOrderOf, key_front};
 
 use sst_block_core::table::block::heads::front_of;
 
@@ -38,6 +38,7 @@ fn front_behind(left: &[u8], right: &[u8]) -> u64
 #[inline(always)]
 pub fn front_of_key(left: &[u8], right: &[u8]) -> u128
     ensures value { result ≡ key_front (left.now ++ right.now) }
+    ensures order { HasOrderOf (left.now ++ right.now) result }
     ensures bytes { IsBytes (left.now ++ right.now) }
 {
     let high = front_of_parts(left, right);

@@ -4,7 +4,7 @@ ghost use Rattle.std.specs.Ordering.{nat_cmp, is_eq};
 ghost use Rattle.std.specs.Cmp.Lexicographic.{slice_cmp};
 ghost use Rattle.sst_base.specs.Bytes.{IsBytes};
 ghost use Rattle.sst_base.specs.Entry.{Entry};
-ghost use Rattle.sst_merge.specs.Fronts.{key_front};
+ghost use Rattle.sst_merge.specs.Fronts.{HasOrderOf, key_front};
 ghost use Rattle.sst_merge.specs.Merge.{entry_cmp};
 ghost use Rattle.sst_merge.specs.Snapshot.{deletes};
 
@@ -28,6 +28,7 @@ pub trait Version: Sized {
     /// Where the numbers of two versions differ, their user keys have the order of the numbers.
     fn front(&self) -> u128
         ensures value { result ≡ key_front (entry self.now).key.user_key }
+        ensures order { HasOrderOf (entry self.now).key.user_key result }
         ensures bytes { IsBytes (entry self.now).key.user_key };
 
     /// Returns its sequence number.
