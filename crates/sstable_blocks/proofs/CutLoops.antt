@@ -1,6 +1,6 @@
 -- Writing the blocks of a list one after the other.
 use Rattle.std.proofs.Common.{◌≡◌, ℕ, ◌+◌, ◌-◌, ◌<◌, ◌≤◌, List, [], ◌∷◌, ◌++◌, length, take, drop, get_or, refl, arith, sym, ◌∙◌, ap, subst, append_assoc, length-append, inl, inr, Option, Some, None, Result, Ok, Err, IfOk}
-use Rattle.std.proofs.lemmas.List.{append-nil, drop_more, drop_all, drop-drop}
+use Rattle.std.proofs.lemmas.List.{drop_more, drop_all, drop-drop}
 use Rattle.std.specs.Io.KnownBytes.{Appends}
 use Rattle.std.specs.List.{AllByRecursion}
 use Rattle.sst_base.specs.Entry.{Entry}
@@ -11,6 +11,7 @@ use Rattle.sstable_blocks.specs.Blocks.{joined, CutsFit, blocks_from}
 use Rattle.sstable_blocks.specs.Run.{Form, block_payload, block_frame, block_frames, IsFramed, RunFits}
 use Rattle.sstable_blocks.proofs.Cuts.{CutsLeft, cuts_below}
 use Rattle.sstable_blocks.proofs.Ends.{front_in_order}
+use Rattle.sstable_blocks.proofs.Kept.{block_frames-push}
 use Rattle.sstable_blocks.specs.Writing.{FrameFits, IsWriteRefusal, AppendsLayout, AppendsEnd}
 use Rattle.sstable_blocks.specs.declared.run.RunHandles.{RunHandles}
 
@@ -63,9 +64,6 @@ module _ (f : Form) where
   block_frames-append [] ys = refl
   block_frames-append (b ∷ bs) ys = ap (λ zs. block_frame f b ++ zs) (block_frames-append bs ys) ∙ sym (append_assoc (block_frame f b) (block_frames f bs) (block_frames f ys))
 
-  pub frames_next : (blocks : List (List Entry)) (b : List Entry) → block_frames f (blocks ++ b ∷ []) ≡ block_frames f blocks ++ block_frame f b
-  frames_next blocks b = block_frames-append blocks (b ∷ []) ∙ ap (λ xs. block_frames f blocks ++ xs) (append-nil (block_frame f b))
-
   fits_one : (blocks : List (List Entry)) (b : List Entry) (bs : List (List Entry)) → RunFits f (blocks ++ b ∷ bs) → FrameFits f (length (block_frames f blocks)) b
   fits_one blocks b bs fits =
       let all = blocks ++ b ∷ bs in
@@ -99,7 +97,7 @@ rest_is start cut items rest behind h r b =
     b ∙ ap (drop (cut - start)) r ∙ drop-drop (cut - start) start items ∙ ap (λ k. drop k items) n
 
 pub bytes_next : (f : Form) (a b c : Option (List ℕ)) (old new : List (List Entry)) (block : List Entry) → Appends a b (block_frames f old) → Appends b c (block_frame f block) → new ≡ old ++ block ∷ [] → Appends a c (block_frames f new)
-bytes_next f a b c old new block h k n = subst (Appends a c) (sym (ap (block_frames f) n ∙ frames_next f old block)) (appends_then a b c _ _ h k)
+bytes_next f a b c old new block h k n = subst (Appends a c) (sym (ap (block_frames f) n ∙ block_frames-push f old block)) (appends_then a b c _ _ h k)
 
 -- the frames of all blocks, and then the end, are a layout
 pub layout_joined : (f : Form) (blocks : List (List Entry)) (a b c : Option (List ℕ)) (h : RunHandles) → Appends a b (block_frames f blocks) → AppendsEnd f blocks b c h → AppendsLayout f blocks a c h

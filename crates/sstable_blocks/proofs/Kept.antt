@@ -29,7 +29,7 @@ pub joined-push : {X : Type 0} (blocks : List (List X)) (b : List X) → joined 
 joined-push [] b = append-nil b
 joined-push (c ∷ cs) b = ap (λ xs. c ++ xs) (joined-push cs b) ∙ sym (append_assoc c (joined cs) b)
 
-all_append : {X : Type 0} (P : X → Type 0) (xs ys : List X) → AllByRecursion P xs → AllByRecursion P ys → AllByRecursion P (xs ++ ys)
+pub all_append : {X : Type 0} (P : X → Type 0) (xs ys : List X) → AllByRecursion P xs → AllByRecursion P ys → AllByRecursion P (xs ++ ys)
 all_append P [] ys h k = k
 all_append P (x ∷ xs) ys h k = (h.0, all_append P xs ys h.1 k)
 

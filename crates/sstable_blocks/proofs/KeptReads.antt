@@ -1,5 +1,5 @@
 -- Reading by the filter and the index that a table keeps.
-use Rattle.std.proofs.Common.{◌≡◌, ℕ, Bool, true, List, refl, sym, ◌∙◌, ap, subst, inl, inr, if◌then◌else◌, Option, Some, None, IfSome, IfOk, Result, Ok, Err}
+use Rattle.std.proofs.Common.{◌≡◌, ℕ, Bool, List, refl, sym, ◌∙◌, ap, subst, inl, inr, if◌then◌else◌, Option, Some, None, IfSome, IfOk, Result, Ok, Err}
 use Rattle.std.specs.Prelude.{MatchResult}
 use Rattle.sst_base.specs.BlockHandle.{HandleParts}
 use Rattle.sst_base.specs.Entry.{Entry}
@@ -50,15 +50,6 @@ pub checked_on : (c : Hashes) (o : Option (List ℕ)) (h : RunHandles) (filter :
 checked_on c None h filter index interval needle seqno P Q r k given = tt
 checked_on c (Some all) h filter index interval needle seqno P Q r k given = subst (GivesOr P Q (λ x. x) r) (kept_is_checked c h filter index interval all needle seqno k) given
 
--- the block by a filter that was kept and allows the needle
-pub kept_on : (c : Hashes) (o : Option (List ℕ)) (filter : Option (List ℕ)) (index : List Handle) (needle : List ℕ) (seqno : ℕ) (P Q : Type 0) (r : Result (Option Entry) Error) (may : Bool) → may ≡ true → Ok may ≡ kept_says c.hash64 filter needle
-    → IfSome o (λ all. GivesOr P Q (λ x. x) r (read_block c all (handle_for handles needle seqno index) needle seqno)) → IfSome o (λ all. GivesOr P Q (λ x. x) r (read_kept c all filter index needle seqno))
-kept_on c None filter index needle seqno P Q r may is says given = tt
-kept_on c (Some all) filter index needle seqno P Q r may is says given =
-    let go : Result Bool Error → Result (Option Entry) Error = λ (q : Result Bool Error). q >>= (λ (b : Bool). if b then read_block c all (handle_for handles needle seqno index) needle seqno else Ok None) in
-    let whole : read_kept c all filter index needle seqno ≡ read_block c all (handle_for handles needle seqno index) needle seqno = ap go (sym says) ∙ ap (λ b. go (Ok b)) is in
-    subst (GivesOr P Q (λ x. x) r) (sym whole) given
-
 -- opening: filter, then index
 module _ (c : Hashes) (h : RunHandles) (filter : Option (List ℕ)) (index : List Handle) (interval : ℕ) where
   kept_at : (o : Option (List ℕ)) → IfSome o (λ all. filter_kept c all h.filter ≡ Ok filter) → IfSome o (λ all. handles_at c all h.index ≡ Ok index) → IfSome o (λ all. IsIndexIn all h.index index interval) → IfSome o (IsKeptOf c h filter index interval)
@@ -97,10 +88,6 @@ module _ (c : Hashes) (h : RunHandles) where
         | inl failed ↦ inl (source_fails grew kept (λ bad. whole ∙ ap go bad) failed)
         | inr is ↦ inr (whole ∙ ap go is)
       ]
-
--- what was kept of a run is kept of the same bytes
-pub kept_still : (c : Hashes) (h : RunHandles) (filter : Option (List ℕ)) (index : List Handle) (interval : ℕ) (before after : Option (List ℕ)) → after ≡ before → IfSome before (IsKeptOf c h filter index interval) → IfSome after (IsKeptOf c h filter index interval)
-kept_still c h filter index interval before after same k = subst (λ o. IfSome o (IsKeptOf c h filter index interval)) (sym same) k
 
 -- opening by a footer: the handles, then what is kept
 module _ (c : Hashes) where

@@ -1,13 +1,12 @@
 -- The check of a run, step by step.
-use Rattle.std.proofs.Common.{◌≡◌, ℕ, inl, inr, Bool, true, false, min, max, List, [], ◌∷◌, sym, ◌∙◌, ap, subst, Option, Some, None, IfSome, IfOk, Result, Ok, Err, OnOk, if◌then◌else◌, length}
+use Rattle.std.proofs.Common.{◌≡◌, ℕ, inl, inr, Bool, List, [], ◌∷◌, sym, ◌∙◌, ap, subst, Option, Some, None, IfSome, Result, Ok, Err, length}
 use Rattle.std.proofs.lemmas.Bool.{eq-eqb}
 use Rattle.sst_base.specs.BlockHandle.{HandleParts}
-use Rattle.sst_base.specs.Bytes.{IsBytes}
 use Rattle.sst_base.specs.Entry.{Entry}
 use Rattle.sst_base.specs.Frame.{demand}
 use Rattle.sst_base.specs.Header.{◌>>=◌}
 use Rattle.sst_base.specs.declared.error.Error.{Error}
-use Rattle.sst_base.specs.declared.error.Error.TheVariants.{BadHandle, BadFilter}
+use Rattle.sst_base.specs.declared.error.Error.TheVariants.{BadHandle}
 use Rattle.sst_base.specs.declared.table.block.block_type.BlockType.TheVariants as types
 use Rattle.sst_block_core.specs.Candidates.{GivesNextHeld}
 use Rattle.sst_block_core.specs.Scan.{Scan}
@@ -18,7 +17,7 @@ use Rattle.sst_block_kinds.specs.ParsedHandle.{handle_of, IsParsedHandle}
 use Rattle.sst_block_kinds.specs.declared.table.index_block.parsed_item.IndexBlockParsedItem.{IndexBlockParsedItem}
 use Rattle.sstable_blocks.specs.Filter.{Filter, filter_at}
 use Rattle.sstable_blocks.specs.Opened.{range_of}
-use Rattle.sstable_blocks.specs.RunChecks.{is_end, allows, check_entries, check_items, check_block, check_from, none_passed, summary_by, filter_in_run, check_by_index, check_run, summary_of}
+use Rattle.sstable_blocks.specs.RunChecks.{check_entries, check_items, check_block, check_from, none_passed, summary_by, filter_in_run, check_by_index, check_run, summary_of}
 use Rattle.sstable_blocks.specs.RunReading.{Hashes, payload_at, items_at, handles_at}
 use Rattle.sstable_blocks.specs.SourceLaws.{source_fails}
 use Rattle.sstable_blocks.specs.Sources.{GivesOr, FailsAs}
@@ -41,22 +40,6 @@ module _ (hash : List ℕ → ℕ) (f : Option Filter) (h : Handle) (known : Res
   abbrev pub Left : Bool → ℕ → ℕ → List Entry → Type 0
   Left ends least greatest left = known ≡ check_entries hash f h ends (least, greatest) left
 
-  pub entry_on : (ends now : Bool) (least greatest : ℕ) (left more : List Entry) (x : Entry) (b : Bool) → Left ends least greatest left → left ≡ x ∷ more → b ≡ allows hash f x → b ≡ true → now ≡ is_end h x
-      → Left now (min least x.key.seqno) (max greatest x.key.seqno) more
-  entry_on ends now least greatest left more x b e is allowed so same =
-      e ∙ ap (check_entries hash f h ends (least, greatest)) is
-      ∙ ap (λ t. if t then check_entries hash f h (is_end h x) (min least x.key.seqno, max greatest x.key.seqno) more else Err BadFilter) (sym allowed ∙ so)
-      ∙ ap (λ t. check_entries hash f h t (min least x.key.seqno, max greatest x.key.seqno) more) (sym same)
-
-  pub entry_not : (ends : Bool) (least greatest : ℕ) (left more : List Entry) (x : Entry) (b : Bool) → Left ends least greatest left → left ≡ x ∷ more → b ≡ allows hash f x → b ≡ false → known ≡ Err BadFilter
-  entry_not ends least greatest left more x b e is allowed so =
-      e ∙ ap (check_entries hash f h ends (least, greatest)) is
-      ∙ ap (λ t. if t then check_entries hash f h (is_end h x) (min least x.key.seqno, max greatest x.key.seqno) more else Err BadFilter) (sym allowed ∙ so)
-
-  pub entries_end : (ends b : Bool) (least greatest : ℕ) (left : List Entry) → Left ends least greatest left → left ≡ [] → ends ≡ b → known ≡ (if b then Ok (least, greatest) else Err BadHandle)
-  entries_end ends b least greatest left e is same =
-      e ∙ ap (check_entries hash f h ends (least, greatest)) is ∙ ap (λ t. if t then Ok (least, greatest) else Err BadHandle) same
-
 -- a step of the iterator over an index, and the handle that was made of its item
 pub handle_left : (s t : Scan Handle) (p : IndexBlockParsedItem) (payload : List ℕ) (h : Handle) → GivesNextHeld handle_of IsParsedHandle s (Some p) t → s.payload ≡ payload → h ≡ handle_of payload p → items_left s.window ≡ h ∷ items_left t.window
 handle_left s t p payload h gives same is =
@@ -70,10 +53,6 @@ none_left s t gives = (next_none s.window t.window gives.step).0
 module _ (c : Hashes) (f : Option Filter) (hs : List Handle) where
   abbrev pub BlocksLeft : Option (List ℕ) → Passed → List Handle → Type 0
   BlocksLeft o s left = IfSome o (λ all. check_from c all f none_passed hs ≡ check_from c all f s left)
-
-  pub blocks_start : (o : Option (List ℕ)) (s : Passed) (left : List Handle) → s ≡ none_passed → left ≡ hs → BlocksLeft o s left
-  blocks_start None s left none e = tt
-  blocks_start (Some all) s left none e = ap (check_from c all f none_passed) (sym e) ∙ ap (λ (t : Passed). check_from c all f t left) (sym none)
 
   pub blocks_on : (o now : Option (List ℕ)) (s t : Passed) (left more : List Handle) (h : Handle) → now ≡ o → BlocksLeft o s left → left ≡ h ∷ more
       → IfSome now (λ all. check_block c all f s h ≡ Ok t) → BlocksLeft o t more
@@ -149,15 +128,6 @@ filter_on c (Some all) after P Q R T h g p f res same on kept is at read given =
     let found : filter_in_run c all h.filter ≡ Ok (Some f) = ap (filter_in_run c all) is ∙ ap (λ q. q >>= (λ (x : List ℕ). filter_at x >>= (λ (y : Filter). Ok (Some y)))) at ∙ ap (λ q. q >>= (λ (y : Filter). Ok (Some y))) read in
     let whole : check_run c all h ≡ check_by_index c all (Some f) h.index = ap go found in
     subst (GivesOr Q T (λ x. x) res) (sym whole) (gives_or_later P Q R T (λ x. x) res (check_by_index c all (Some f) h.index) on kept here)
-
--- what an exact result means of known bytes
-pub accepted_on : (c : Hashes) (o : Option (List ℕ)) (h : RunHandles) (P Q : Type 0) (res : Result RunSummary Error)
-    → ((all : List ℕ) (s : RunSummary) → IsBytes all → check_run c all h ≡ Ok s → (blocks : List (List Entry)) × IsSound c blocks all h × (s ≡ summary_of blocks))
-    → OnOk res (IfSome o IsBytes) → IfSome o (λ all. GivesOr P Q (λ x. x) res (check_run c all h))
-    → IfSome o (λ all. IfOk res (λ s. (blocks : List (List Entry)) × IsSound c blocks all h × (s ≡ summary_of blocks)))
-accepted_on c None h P Q res law cells given = tt
-accepted_on c (Some all) h P Q (Ok s) law cells given = law all s cells given
-accepted_on c (Some all) h P Q (Err e) law cells given = tt
 
 pub sound_on_check : (c : Hashes) (o : Option (List ℕ)) (h : RunHandles) (P Q : Type 0) (res : Result RunSummary Error)
     → ((all : List ℕ) (blocks : List (List Entry)) → IsSound c blocks all h → check_run c all h ≡ Ok (summary_of blocks))

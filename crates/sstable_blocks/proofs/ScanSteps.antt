@@ -1,12 +1,11 @@
 -- The steps of a scan.
-use Rattle.std.proofs.Common.{◌≡◌, ℕ, inl, inr, zero, suc, ◌+◌, ◌-◌, ◌<◌, ◌≤◌, true, false, cond, ltb, List, [], ◌∷◌, ◌++◌, length, map, take, drop, filter, refl, arith, sym, ◌∙◌, ap, subst, append_assoc, append-nil, length-append, Option, Some, None, IfSome, IfOk, Result, Ok, Err}
+use Rattle.std.proofs.Common.{◌≡◌, ℕ, inl, inr, ◌+◌, ◌-◌, ◌<◌, ◌≤◌, true, false, cond, ltb, List, [], ◌∷◌, ◌++◌, length, map, take, drop, filter, refl, arith, sym, ◌∙◌, ap, subst, append_assoc, append-nil, length-append, Option, Some, None, IfSome, IfOk, Result, Ok, Err}
 use Rattle.std.proofs.lemmas.Bool.{cases_Bool, lt-ltb, ltb-false}
 use Rattle.std.proofs.lemmas.List.{map-append}
 use Rattle.std.proofs.Math.Seq.{take-append_seam}
 use Rattle.std.proofs.lemmas.Option.{slice_get_cases}
 use Rattle.std.specs.List.{slice_get}
 use Rattle.std.specs.Prelude.{MatchOption, IsOkUnless}
-use Rattle.std.proofs.lemmas.List.{length-take-le, length-drop}
 use Rattle.sst_base.specs.Entry.{Entry, plain}
 use Rattle.sst_base.specs.declared.error.Error.{Error}
 use Rattle.sst_base.specs.declared.error.Error.TheVariants.{Memory, BadHandle}
@@ -56,16 +55,7 @@ pub no_items : {X : Type 0} (xs : List X) → ltb 0 (length xs) ≡ false → xs
 no_items [] e = refl
 no_items (x ∷ xs) e = absurd (let most : length (x ∷ xs) ≤ 0 = ltb-false 0 (length (x ∷ xs)) e in omega arith)
 
--- entries that are left are in the range
-pub all_drop : (r : KeyRange) (xs : List Entry) → AllWithin r xs → AllWithin r (drop 1 xs)
-all_drop r [] a = tt
-all_drop r (x ∷ xs) a = a.1
-
-pub all_take : (r : KeyRange) (n : ℕ) (xs : List Entry) → AllWithin r xs → AllWithin r (take n xs)
-all_take r zero xs a = tt
-all_take r (suc n) [] a = tt
-all_take r (suc n) (x ∷ xs) a = (a.0, all_take r n xs a.1)
-
+-- the entries within a range are in it
 pub all_within : (r : KeyRange) (xs : List Entry) → AllWithin r (within r xs)
 unfolding within
 all_within r [] = tt
@@ -206,28 +196,6 @@ next_rest w = next_rest_by w (first_left w) refl
 
 pub back_rest : (w : Window Entry) → w.hi ≤ length w.list → items_left (next_back w).0 ≡ take (length (items_left w) - 1) (items_left w)
 back_rest w inside = back_rest_by w (last_left w) inside refl
-
--- the first of the entries in the range
-pub all_first : (r : KeyRange) (o : Option Entry) (xs ys : List Entry) → AllWithin r xs → MatchOption o ((xs ≡ []) × (ys ≡ [])) (λ x. xs ≡ x ∷ ys) → IfSome o (λ x. in_range r x.key.user_key ≡ true)
-all_first r None xs ys a e = tt
-all_first r (Some x) xs ys a e = (subst (AllWithin r) e a).0
-
-all_end : (r : KeyRange) (xs : List Entry) (x : Entry) → AllWithin r (xs ++ x ∷ []) → in_range r x.key.user_key ≡ true
-all_end r [] x a = a.0
-all_end r (y ∷ ys) x a = all_end r ys x a.1
-
-pub all_last : (r : KeyRange) (o : Option Entry) (xs ys : List Entry) → AllWithin r xs → MatchOption o ((xs ≡ []) × (ys ≡ [])) (λ x. xs ≡ ys ++ x ∷ []) → IfSome o (λ x. in_range r x.key.user_key ≡ true)
-all_last r None xs ys a e = tt
-all_last r (Some x) xs ys a e = all_end r ys x (subst (AllWithin r) e a)
-
--- the frames that were requested, by the handles that are left
-between_length : (hs : List Handle) (lo hi : ℕ) → hi ≤ length hs → length (between hs lo hi) ≡ hi - lo
-between_length hs lo hi inside =
-    let rest = length-drop lo hs in
-    length-take-le (hi - lo) (drop lo hs) (omega arith)
-
-pub reads_by : (hs : List Handle) (a b lo hi lo' hi' : ℕ) → hi ≤ length hs → hi' ≤ length hs → a + (hi - lo) ≡ b + (hi' - lo') → a + length (between hs lo hi) ≡ b + length (between hs lo' hi')
-reads_by hs a b lo hi lo' hi' in1 in2 e = ap (λ n. a + n) (between_length hs lo hi in1) ∙ e ∙ ap (λ n. b + n) (sym (between_length hs lo' hi' in2))
 
 module _ (c : Hashes) (r : KeyRange) (hs : List Handle) where
   bare : (all : List ℕ) (front back : List Entry) (lo hi : ℕ) → front ≡ [] → hi ≤ lo → Left c r hs all front lo hi back ≡ map Ok back

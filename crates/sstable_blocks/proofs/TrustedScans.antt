@@ -15,6 +15,8 @@ use Rattle.sstable_blocks.specs.Sound.{RunParts}
 use Rattle.sstable_blocks.specs.Sources.{GivesOr}
 use Rattle.sstable_blocks.specs.RunReading.{Hashes, items_at}
 use Rattle.sstable_blocks.specs.Scans.{KeyRange, Read, within, block_within, reads_of, blocks_read, reads_among, between, entries_read, error_of, IsRead, GivesFirst, GivesLast}
+use Rattle.sstable_blocks.proofs.Ends.{all_back}
+use Rattle.sstable_blocks.proofs.Kept.{all_append}
 
 module _ {X : Type 0} (P : X → Type 0) where
   pub some_dropped : (n : ℕ) (xs : List X) → AllByRecursion P xs → AllByRecursion P (drop n xs)
@@ -26,14 +28,6 @@ module _ {X : Type 0} (P : X → Type 0) where
   some_taken zero xs a = tt
   some_taken (suc n) [] a = tt
   some_taken (suc n) (x ∷ xs) a = (a.0, some_taken n xs a.1)
-
-  both : (xs ys : List X) → AllByRecursion P xs → AllByRecursion P ys → AllByRecursion P (xs ++ ys)
-  both [] ys a b = b
-  both (x ∷ xs) ys a b = (a.0, both xs ys a.1 b)
-
-  second : (xs ys : List X) → AllByRecursion P (xs ++ ys) → AllByRecursion P ys
-  second [] ys a = a
-  second (x ∷ xs) ys a = second xs ys a.1
 
 -- what is read is an entry
 abbrev IsEntryRead : Read → Type 0
@@ -65,14 +59,14 @@ module _ (c : Hashes) (all : List ℕ) (r : KeyRange) where
 
   blocks_entries : (hs : List Handle) → AllByRecursion (IsRead c all) hs → AllEntries (blocks_read c all r hs)
   blocks_entries [] a = tt
-  blocks_entries (h ∷ hs) a = both IsEntryRead (reads_of (block_within c all r h)) (blocks_read c all r hs) (block_entries h a.0) (blocks_entries hs a.1)
+  blocks_entries (h ∷ hs) a = all_append IsEntryRead (reads_of (block_within c all r h)) (blocks_read c all r hs) (block_entries h a.0) (blocks_entries hs a.1)
 
   -- all that is left of a scan of blocks that are read
   pub left_entries : (hs : List Handle) (front back : List Entry) (lo hi : ℕ) → AllByRecursion (IsRead c all) hs → AllEntries (reads_among c all r front (between hs lo hi) back)
   left_entries hs front back lo hi a =
       let some = some_taken (IsRead c all) (hi - lo) (drop lo hs) (some_dropped (IsRead c all) lo hs a) in
-      both IsEntryRead (map Ok front) (blocks_read c all r (between hs lo hi) ++ map Ok back) (entries_all front)
-      (both IsEntryRead (blocks_read c all r (between hs lo hi)) (map Ok back) (blocks_entries (between hs lo hi) some) (entries_all back))
+      all_append IsEntryRead (map Ok front) (blocks_read c all r (between hs lo hi) ++ map Ok back) (entries_all front)
+      (all_append IsEntryRead (blocks_read c all r (between hs lo hi)) (map Ok back) (blocks_entries (between hs lo hi) some) (entries_all back))
 
 -- a block that is cut
 pub cut_gives : {X : Type 0} (view : X → List Entry) (P R : Type 0) (c : Hashes) (bytes : List ℕ) (hs : List Handle) (n : ℕ) (h : Handle) (res : Result X Error) → AllByRecursion (IsRead c bytes) hs → slice_get hs n ≡ Some h
@@ -119,6 +113,6 @@ last_entry P R old new (Err e) never a given = (
   tt,
   is_memory e (λ other. elim (given other) [
     | inl failed ↦ never failed.0
-    | inr ends ↦ (second IsEntryRead ends.0 (Err e ∷ []) (subst AllEntries ends.1 a)).0
+    | inr ends ↦ (all_back IsEntryRead ends.0 (Err e ∷ []) (subst AllEntries ends.1 a)).0
   ]),
 )

@@ -15,7 +15,6 @@ ghost use Rattle.sstable_blocks.specs.Opened.{range_of};
 ghost use Rattle.sstable_blocks.specs.ReadCosts.{CountsGrow, heads_at, entries_at};
 ghost use Rattle.sstable_blocks.specs.RunReading.{hashes, payload_at, filter_says, filter_answer};
 ghost use Rattle.sstable_blocks.specs.RunReading.{read_block, items_at, handles_at};
-ghost use Rattle.sst_block_kinds.specs.Checks.{data_check, index_check};
 ghost use Rattle.sstable_blocks.specs.RunReading.{read_blocks, read_checked, AnswerMeans};
 ghost use Rattle.sstable_blocks.specs.Sound.{IsSound};
 ghost use Rattle.sstable_blocks.specs.Sources.{GivesOr, KeepsSource, filter_frames};

@@ -4,7 +4,6 @@ ghost use Rattle.std.specs.Prelude.{Ok, Err, IfOk, IfErr, MatchResult, false};
 ghost use Rattle.sst_base.specs.Counted.{CountsExactly, CountsBetween};
 ghost use Rattle.sst_base.specs.Entry.{Entry};
 ghost use Rattle.sst_block_core.specs.Entries.{entries};
-ghost use Rattle.sst_block_core.specs.Stages.{items_in};
 ghost use Rattle.sst_block_core.specs.Window.{first_match};
 ghost use Rattle.sst_block_kinds.specs.DataBlock.{data_ref_of};
 ghost use Rattle.sst_block_kinds.specs.Handles.{Handle};

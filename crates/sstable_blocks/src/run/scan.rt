@@ -1,6 +1,6 @@
 //! Scans of tables: the entries within a range of keys, from both ends.
 ghost use Rattle.std.specs.Prelude.{◌≡◌, ◌+◌, ◌<◌, List, [], Ok, true, length, map};
-ghost use Rattle.std.specs.Prelude.{IfOk, IfErr, IfSome, Err, None};
+ghost use Rattle.std.specs.Prelude.{IfOk, IfErr, IfSome, None};
 ghost use Rattle.std.specs.Range.Bound.{bound_map};
 ghost use Rattle.std.specs.declared.ops.Bound.TheVariants.{Unbounded};
 ghost use Rattle.sst_base.specs.Entry.{Entry, plain};

@@ -1,5 +1,5 @@
 //! The steps of a scan: which blocks are opened, and which entries are taken.
-ghost use Rattle.std.specs.Prelude.{◌≡◌, ◌+◌, ◌≤◌, ◌<◌, ◌-◌, ◌^◌, List, [], true, nat_lt};
+ghost use Rattle.std.specs.Prelude.{◌≡◌, ◌+◌, ◌≤◌, ◌<◌, ◌-◌, ◌^◌, [], true, nat_lt};
 ghost use Rattle.std.specs.Prelude.{None, Some, drop, length, slice_get, take};
 ghost use Rattle.std.specs.Prelude.{OnOk, IfOk, IfErr, IfSome, IsOkUnless, MatchResult};
 ghost use Rattle.std.specs.Iterator.{YieldsFirst, YieldsLast};
@@ -9,7 +9,7 @@ ghost use Rattle.sst_block_kinds.specs.Handles.{Handle};
 ghost use Rattle.sstable_blocks.specs.RunReading.{hashes};
 ghost use Rattle.sstable_blocks.specs.Scans.{AllWithin, AreScanEnds, between, block_within, error_of};
 ghost use Rattle.sstable_blocks.specs.Scans.{end_block, first_block, in_range};
-ghost use Rattle.sstable_blocks.specs.Scans.{IsFewer, left_in, most_among, reads_among, within};
+ghost use Rattle.sstable_blocks.specs.Scans.{IsFewer, left_in, most_among, reads_among};
 ghost use Rattle.sstable_blocks.specs.Scans.{FailsFirst, FailsLast, GivesFirst, GivesLast};
 ghost use Rattle.sstable_blocks.specs.Sources.{GivesOr, KeepsSource};
 

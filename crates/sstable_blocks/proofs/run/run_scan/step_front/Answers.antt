@@ -1,5 +1,4 @@
 use Rattle.sstable_blocks.specs.Opened.{index_in}
-use Rattle.sstable_blocks.specs.Scans.{views_left, left_by}
 use Rattle.sstable_blocks.proofs.RunScans.{first_ready}
 use Rattle.sstable_blocks.proofs.run.run_scan.step_front.Goals as goal
 
