@@ -75,9 +75,8 @@ impl<T: Version + Drop, I: Source<T> + Drop> Head<T, I> {
 }
 
 impl<T: Version, I: Source<T>> Head<T, I> {
-    /// Returns the version that is held: the first one left, if there is one. An error changes
-    /// nothing of it, so of a source that an error ended it is the one that the failed step was to
-    /// take or to pass.
+    /// Returns the version that is held: the first one left, if there is one. An error that ends the
+    /// source leaves it, so it is still shown, though no later step gives it.
     #[inline(always)]
     pub fn peek(&self) -> Option<&T>
         ensures first { IfSome self.now.list
@@ -359,9 +358,9 @@ impl<T: Version, I: Source<T>> Merge<T, I> {
     /// Returns the first version left, if there is one, where its source holds it: it is not moved,
     /// as [`Merge::advance`] passes it and [`Source::next_entry`] takes it.
     ///
-    /// Where the last step was an `advance`, nothing is compared. An error changes nothing of what
-    /// is held, so of a merge that an error ended it is the first of the versions that its sources
-    /// hold.
+    /// Where the last step was an `advance`, nothing is compared. An error that ends the merge
+    /// leaves what its sources hold, so the first of it is still shown, though no later step gives
+    /// it.
     pub fn peek(&self) -> Option<&T>
         ensures first { IfSome self.now.list
             (λ xs. option_map (λ x. x.now) result ≡ slice_get xs 0) }

@@ -1,30 +1,65 @@
-// Sources that fail: the error passes through, and what was held is not lost.
+// Sources that fail: an error ends them, and all that is made of them.
 ghost use Rattle.std.specs.Prelude.{None, length};
 ghost use Rattle.std.specs.Vec.Iter.{into_iter_items};
 
 use crate::Tested;
-use crate::lists::{Memory, Row, V, list_of};
-use sst_base::{Error, InternalValue, Result};
-use sst_merge::{Compact, Head, Merge, Snapshot, Source};
-use std::alloc::Global;
+use crate::lists::{Memory, Row, T, V, entry_of, list_of};
+use sst_base::{ByteSum, Error, HashRatio, InternalValue, Result, SeqNo, UserKey};
+use sst_merge::{
+    BackSource, Compact, Head, Merge, MergeBack, Sizes, Snapshot, Source, Tail, Version,
+    write_table,
+};
+use sstable_blocks::{RunConfig, RunHandles};
+use std::alloc::{AllocError, Global};
+use std::cmp::Ordering;
+use std::io::Write;
+use std::{io, vec};
 
-/// A source whose step fails where so many steps are left; the step after that goes on.
+/// A source that fails after so many steps.
 #[derive(Drop)]
 pub(crate) struct Failing {
     source: Memory,
     steps: usize,
+    ended: Option<Error>,
 }
 
 impl Source<InternalValue> for Failing {
-    ghost left = { λ s. record { list = None; most = length (into_iter_items s.source) } };
+    ghost left = { λ s. record {
+      list = None;
+      most = length (into_iter_items s.source);
+      ended = s.ended;
+    } };
 
-    fn next_entry(&mut self, alloc: Global) -> Result<Option<InternalValue>> {
+    fn next_entry(&mut self, _alloc: Global) -> Result<Option<InternalValue>> {
+        if let Some(error) = self.ended {
+            return Err(error);
+        }
         if self.steps == 0 {
-            self.steps = usize::MAX;
+            self.ended = Some(Error::Io);
             return Err(Error::Io);
         }
         self.steps -= 1;
-        self.source.next_entry(alloc)
+        Ok(self.source.next())
+    }
+}
+
+impl BackSource<InternalValue> for Failing {
+    ghost left_back = { λ s. record {
+      list = None;
+      most = length (into_iter_items s.source);
+      ended = s.ended;
+    } };
+
+    fn next_entry_back(&mut self, _alloc: Global) -> Result<Option<InternalValue>> {
+        if let Some(error) = self.ended {
+            return Err(error);
+        }
+        if self.steps == 0 {
+            self.ended = Some(Error::Io);
+            return Err(Error::Io);
+        }
+        self.steps -= 1;
+        Ok(self.source.next_back())
     }
 }
 
@@ -41,36 +76,81 @@ pub(crate) fn failing_after(alloc: Global, steps: usize) -> Result<Failing> {
     Ok(Failing {
         source: list_of(alloc, ROWS, 0)?.into_iter(),
         steps,
+        ended: None,
     })
 }
 
-/// How many versions a source gives before it fails, and how many after that.
-fn counts<I: Source<InternalValue>>(alloc: Global, source: &mut I) -> (usize, usize) {
+/// How many versions a source gives before a step gives none, and whether that step's error is this
+/// one at each of three later steps.
+fn counts<T: Drop, I: Source<T>>(alloc: Global, source: &mut I, wanted: Error) -> (usize, bool) {
     let mut before = 0usize;
     while let Ok(Some(_)) = source.next_entry(alloc) {
         before = before.saturating_add(1);
     }
-    let mut after = 0usize;
-    while let Ok(Some(_)) = source.next_entry(alloc) {
-        after = after.saturating_add(1);
-    }
-    (before, after)
+    let wanted = Some(wanted);
+    let again = [
+        source.next_entry(alloc).err(),
+        source.next_entry(alloc).err(),
+        source.next_entry(alloc).err(),
+    ];
+    (before, again.iter().all(|error| *error == wanted))
 }
 
-// A merge holds the first version of each source, so it fails a step earlier, and loses nothing.
+/// The same from the back.
+fn counts_back<I: BackSource<InternalValue>>(
+    alloc: Global,
+    source: &mut I,
+    wanted: Error,
+) -> (usize, bool) {
+    let mut before = 0usize;
+    while let Ok(Some(_)) = source.next_entry_back(alloc) {
+        before = before.saturating_add(1);
+    }
+    let wanted = Some(wanted);
+    let again = [
+        source.next_entry_back(alloc).err(),
+        source.next_entry_back(alloc).err(),
+        source.next_entry_back(alloc).err(),
+    ];
+    (before, again.iter().all(|error| *error == wanted))
+}
+
+/// The merge of a source that fails after so many steps.
+fn failing_merge(alloc: Global, steps: usize) -> Result<Merge<InternalValue, Failing>> {
+    let mut heads = Vec::new(alloc);
+    heads.push(Head::new(alloc, failing_after(alloc, steps)?)?)?;
+    Ok(Merge::new(heads))
+}
+
+// A merge holds the first version of each source, so it fails a step earlier.
 #[test]
-fn a_failed_step_passes_through(rt: HostRuntime) -> Tested {
+fn a_failed_step_ends_what_is_made_of_its_source(rt: HostRuntime) -> Tested {
     let alloc = rt.alloc();
     assert!(rt; Head::new(alloc, failing_after(alloc, 0)?).is_err());
     for steps in 1..5 {
-        let mut heads = Vec::new(alloc);
-        heads.push(Head::new(alloc, failing_after(alloc, steps)?)?)?;
-        let mut merged = Merge::new(heads);
-        assert_eq!(rt; counts(alloc, &mut merged), (steps - 1, 5 - steps));
+        let mut merged = failing_merge(alloc, steps)?;
+        assert_eq!(rt; counts(alloc, &mut merged, Error::Io), (steps - 1, true));
         let mut snapshot = Snapshot::new(failing_after(alloc, steps)?, u64::MAX);
-        assert_eq!(rt; counts(alloc, &mut snapshot).0, [1, 1, 2, 3][steps - 1]);
+        let shown = [1, 1, 2, 3][steps - 1];
+        assert_eq!(rt; counts(alloc, &mut snapshot, Error::Io), (shown, true));
         let mut compact = Compact::new(failing_after(alloc, steps)?, 6, false);
-        assert_eq!(rt; counts(alloc, &mut compact).0, steps);
+        assert_eq!(rt; counts(alloc, &mut compact, Error::Io), (steps, true));
+    }
+    Ok(())
+}
+
+#[test]
+fn a_failed_step_ends_a_merge_from_the_back(rt: HostRuntime) -> Tested {
+    let alloc = rt.alloc();
+    assert!(rt; Tail::new(alloc, failing_after(alloc, 0)?).is_err());
+    for steps in 1..5 {
+        let mut tails = Vec::new(alloc);
+        tails.push(Tail::new(alloc, failing_after(alloc, steps)?)?)?;
+        let mut merged = MergeBack::new(tails);
+        assert_eq!(rt;
+            counts_back(alloc, &mut merged, Error::Io),
+            (steps - 1, true)
+        );
     }
     Ok(())
 }
@@ -85,21 +165,145 @@ fn passes(alloc: Global, merged: &mut Merge<InternalValue, Failing>) -> usize {
     ROWS.len()
 }
 
-// A step that fails leaves the version that it was to pass.
+// The version that the step was to pass is still shown.
 #[test]
 fn a_version_is_not_passed_by_a_failed_step(rt: HostRuntime) -> Tested {
     let alloc = rt.alloc();
     for steps in 1..5 {
-        let mut heads = Vec::new(alloc);
-        heads.push(Head::new(alloc, failing_after(alloc, steps)?)?)?;
-        let mut merged = Merge::new(heads);
+        let mut merged = failing_merge(alloc, steps)?;
         assert_eq!(rt; passes(alloc, &mut merged), steps - 1);
-        assert_eq!(rt;
-            merged.peek().map(|version| version.key().seqno()),
-            Some(ROWS[steps - 1].1)
-        );
-        assert_eq!(rt; passes(alloc, &mut merged), 5 - steps);
-        assert!(rt; merged.peek().is_none());
+        for _ in 0..3 {
+            assert_eq!(rt; merged.advance(alloc), Err(Error::Io));
+            assert_eq!(rt;
+                merged.peek().map(|version| version.key().seqno()),
+                Some(ROWS[steps - 1].1)
+            );
+        }
+        assert_eq!(rt; counts(alloc, &mut merged, Error::Io), (0, true));
     }
+    Ok(())
+}
+
+/// An entry whose user key may be refused.
+#[derive(Drop)]
+struct Refused {
+    entry: InternalValue,
+    is_refused: bool,
+}
+
+impl Version for Refused {
+    ghost entry = { λ v. v.entry };
+
+    fn compare(&self, other: &Refused) -> Ordering {
+        self.entry.compare(&other.entry)
+    }
+
+    fn front(&self) -> u128 {
+        self.entry.front()
+    }
+
+    fn seqno(&self) -> SeqNo {
+        Version::seqno(&self.entry)
+    }
+
+    fn has_user_key(&self, user_key: &[u8]) -> bool {
+        self.entry.has_user_key(user_key)
+    }
+
+    fn user_key(&self, alloc: Global) -> std::result::Result<UserKey, AllocError> {
+        if self.is_refused {
+            return Err(AllocError);
+        }
+        self.entry.user_key(alloc)
+    }
+
+    fn is_tombstone(&self) -> bool {
+        Version::is_tombstone(&self.entry)
+    }
+}
+
+/// Versions of a key, of which the user key of one number is refused.
+fn refused_at(alloc: Global, number: u64) -> Result<vec::IntoIter<Refused, Global>> {
+    let mut versions = Vec::new(alloc);
+    for row in &[Row(b'k', 12, V), Row(b'k', 9, T), Row(b'k', 5, V)] {
+        versions.push(Refused {
+            entry: entry_of(alloc, row, 0)?,
+            is_refused: row.1 == number,
+        })?;
+    }
+    Ok(versions.into_iter())
+}
+
+// Where the key of a tombstone is refused, the version that it hides is not given.
+#[test]
+fn a_refused_key_ends_a_snapshot_and_a_compaction(rt: HostRuntime) -> Tested {
+    let alloc = rt.alloc();
+    let mut snapshot = Snapshot::new(refused_at(alloc, 9)?, 10);
+    assert_eq!(rt; counts(alloc, &mut snapshot, Error::Memory), (0, true));
+    for bottom in [false, true] {
+        let mut compact = Compact::new(refused_at(alloc, 9)?, 10, bottom);
+        assert_eq!(rt; counts(alloc, &mut compact, Error::Memory), (1, true));
+    }
+    Ok(())
+}
+
+/// A writer that fails.
+#[derive(Drop)]
+struct Full;
+
+impl Write for Full {
+    fn write(&mut self, _buf: &[u8]) -> io::Result<usize> {
+        Ok(0)
+    }
+
+    fn flush(&mut self) -> io::Result<()> {
+        Ok(())
+    }
+}
+
+/// Writes the next table of a source.
+fn written<I: Source<InternalValue>, W: Write + Drop>(
+    alloc: Global,
+    source: &mut Head<InternalValue, I>,
+    writer: W,
+) -> Result<Option<(RunHandles, W)>> {
+    let config = RunConfig::new(2, HashRatio { num: 1, den: 1 }, 10);
+    let sizes = Sizes { block: 4, table: 4 };
+    write_table::<ByteSum, I, W>(alloc, source, writer, config, sizes)
+}
+
+/// Whether a source fails with an error at each step, also one that would write a table.
+fn has_ended<I: Source<InternalValue>>(
+    alloc: Global,
+    source: &mut Head<InternalValue, I>,
+    wanted: Error,
+) -> bool {
+    let wanted = Some(wanted);
+    let taken = source.take(alloc).err();
+    let passed = source.advance(alloc).err();
+    let table = written(alloc, source, Vec::new(alloc)).err();
+    taken == wanted && passed == wanted && table == wanted
+}
+
+// Entries are taken for a block before it is written, so none of them is given again.
+#[test]
+fn a_table_that_is_not_written_ends_its_source(rt: HostRuntime) -> Tested {
+    let alloc = rt.alloc();
+    let mut source = Head::new(alloc, list_of(alloc, ROWS, 0)?.into_iter())?;
+    assert_eq!(rt; written(alloc, &mut source, Full).err(), Some(Error::Io));
+    assert!(rt; has_ended(alloc, &mut source, Error::Io));
+    let rows = [Row(b'b', 1, V), Row(b'a', 1, V)];
+    let mut source = Head::new(alloc, list_of(alloc, &rows, 0)?.into_iter())?;
+    assert_eq!(rt;
+        written(alloc, &mut source, Vec::new(alloc)).err(),
+        Some(Error::OutOfOrder)
+    );
+    assert!(rt; has_ended(alloc, &mut source, Error::OutOfOrder));
+    let mut source = Head::new(alloc, failing_after(alloc, 2)?)?;
+    assert_eq!(rt;
+        written(alloc, &mut source, Vec::new(alloc)).err(),
+        Some(Error::Io)
+    );
+    assert!(rt; has_ended(alloc, &mut source, Error::Io));
     Ok(())
 }

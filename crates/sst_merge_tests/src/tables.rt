@@ -6,11 +6,12 @@ use crate::Tested;
 use crate::backs::{are_reversed, drained_back, merge_back_of};
 use crate::failing::failing_after;
 use crate::histories::{KEYS, OPERATIONS, Tables, history, lists_of, seen};
-use crate::lists::{Row, V, drained, list_of, merge_of};
+use crate::lists::{Memory, Row, V, drained, list_of, merge_of};
 use sst_base::{ByteSum, Error, HashRatio, InternalValue, Result, Slice, Steps};
 use sst_block_kinds_tests::random::Random;
 use sst_merge::{
     Head, Merge, MergeBack, Outputs, Ranged, Sizes, Source, Tail, compact_tables, read_tables,
+    write_tables,
 };
 use sstable_blocks::run::Scan;
 use sstable_blocks::{MemorySource, RunConfig, RunHandles, Table};
@@ -250,6 +251,34 @@ fn closed_tables_stay_where_an_output_fails(rt: HostRuntime) -> Tested {
         assert!(rt; done == Err(Error::Io));
         let counts = counts_of(alloc, &tables)?;
         assert!(rt; counts.len() == more && counts.iter().all(|count| *count == (1, 1)));
+    }
+    Ok(())
+}
+
+// An output that fails ends the source, whose entries are in no table.
+#[test]
+fn an_output_that_fails_ends_the_source(rt: HostRuntime) -> Tested {
+    let alloc = rt.alloc();
+    let sizes = Sizes { block: 1, table: 1 };
+    let config = RunConfig::new(2, HashRatio { num: 1, den: 1 }, 10);
+    let mut source = Head::new(alloc, entries_of_keys(alloc, 12)?.into_iter())?;
+    let mut kept = Kept {
+        alloc,
+        tables: Vec::new(alloc),
+        more: 3,
+    };
+    for _ in 0..3 {
+        let done = write_tables::<ByteSum, Memory, Kept>(
+            alloc,
+            &mut source,
+            &mut kept,
+            config,
+            sizes,
+        );
+        assert_eq!(rt; done, Err(Error::Io));
+        assert_eq!(rt; kept.tables.len(), 3);
+        assert_eq!(rt; source.take(alloc).err(), Some(Error::Io));
+        kept.more = 100;
     }
     Ok(())
 }

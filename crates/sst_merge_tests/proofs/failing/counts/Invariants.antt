@@ -2,6 +2,3 @@ use Rattle.sst_merge_tests.proofs.failing.counts.Given as goal
 
 abbrev pub decreases-loop-before : goal.decreases-loop-before
 decreases-loop-before g l = (g.I.Source.left l.source).most
-
-abbrev pub decreases-loop-after : goal.decreases-loop-after
-decreases-loop-after g l = (g.I.Source.left l.source).most
