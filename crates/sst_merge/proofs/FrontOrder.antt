@@ -10,7 +10,7 @@ use Rattle.byteorder.specs.Numbers.{big_from-lt}
 use Rattle.sst_base.specs.Bytes.{IsBytes}
 use Rattle.sst_base.specs.Entry.{Entry}
 use Rattle.sst_base.specs.NumberLaws.{numbers_decide}
-use Rattle.sst_merge.specs.Fronts.{key_front, IsFrontOf}
+use Rattle.sst_merge.specs.Fronts.{HasOrderOf, key_front, IsFrontOf}
 use Rattle.sst_merge.specs.Merge.{order_by}
 use Rattle.sst_merge.specs.Picks.{wins}
 use Rattle.sst_merge.specs.Sources.{before, IsHeld}
