@@ -1,16 +1,14 @@
 -- Reading the blocks of an index one by one.
-use Rattle.std.proofs.Common.{◌≡◌, ◌≢◌, ◌⊎◌, ℕ, ◌+◌, ◌-◌, ◌^◌, inl, inr, List, [], ◌∷◌, ◌++◌, length, take, drop, min, arith, refl, sym, ◌∙◌, ap, subst, append_assoc, append-nil, length-append, length-drop, Option, Some, None, Result, Ok, Err, IfSome, IfErr, true, false, if◌then◌else◌}
-use Rattle.std.proofs.Math.Seq.{take-append_seam, take-length}
-use Rattle.std.specs.Prelude.{IsOk, nat_lt, nat_le}
-use Rattle.std.proofs.lemmas.Bool.Decides.{nat_tests}
+use Rattle.std.proofs.Common.{◌≡◌, ◌≢◌, ◌⊎◌, ℕ, ◌+◌, ◌-◌, ◌^◌, inl, inr, List, [], ◌∷◌, ◌++◌, length, take, min, arith, refl, sym, ◌∙◌, ap, subst, append_assoc, append-nil, length-append, Option, Some, None, Result, Ok, Err, IfSome, true, false}
+use Rattle.std.proofs.Math.Seq.{take-append_seam}
+use Rattle.std.specs.Prelude.{IsOk}
 use Rattle.std.proofs.KnownBytes.{Appends-nil, Appends-trans, Appends-kept, Keeps-refl}
 use Rattle.std.specs.Io.KnownBytes.{Appends, Keeps}
 use Rattle.sst_base.specs.BlockHandle.{HandleParts}
 use Rattle.sst_base.specs.Entry.{Entry}
-use Rattle.sst_base.specs.FrameErrorLaws.{NotIo}
 use Rattle.sst_base.specs.Header.{◌>>=◌}
 use Rattle.sst_base.specs.declared.error.Error.{Error}
-use Rattle.sst_base.specs.declared.error.Error.TheVariants.{Io, Truncated, BadHandle}
+use Rattle.sst_base.specs.declared.error.Error.TheVariants.{Io, BadHandle}
 use Rattle.sst_block_core.specs.Candidates.{GivesNextHeld}
 use Rattle.sst_block_core.specs.Scan.{Scan}
 use Rattle.sst_block_core.specs.Window.{Window, items_left, whole}
@@ -19,9 +17,8 @@ use Rattle.sst_block_kinds.specs.Handles.{Handle}
 use Rattle.sst_block_kinds.specs.ParsedHandle.{handle_of, IsParsedHandle}
 use Rattle.sst_block_kinds.specs.declared.table.index_block.parsed_item.IndexBlockParsedItem.{IndexBlockParsedItem}
 use Rattle.sstable_blocks.specs.Blocks.{joined}
-use Rattle.sstable_blocks.specs.RunReading.{range_at}
-use Rattle.sstable_blocks.specs.Sources.{FailsAs, GivesOr}
-use Rattle.sstable_blocks.specs.declared.run.RunHandles.{RunHandles}
+use Rattle.sstable_blocks.specs.SourceLaws.{source_fails}
+use Rattle.sstable_blocks.specs.Sources.{FailsAs}
 use Rattle.sst_program.specs.Outcome.{lines_text_of}
 use Rattle.sst_program.specs.TableReads.{block_read, block_count, blocks_read, before_refusal, first_refusal, entry_count, entries_counted, PrintsUntil, PrintsFirst, FailsAround, FailsAmong}
 use Rattle.sst_program.proofs.Outcomes.{lines-append}
@@ -179,12 +176,9 @@ pub counts_fail_on : (o o' : Option (List ℕ)) (hs : List Handle) (s t : Scan H
 counts_fail_on None o' hs s t p h count error P Q R T same to is gives later kept fails = tt
 counts_fail_on (Some all) o' hs s t p h count error P Q R T same to is gives later kept fails = λ other.
     elim ((subst (λ x. IfSome x (λ bytes. FailsAs P R (block_count bytes h) error)) same fails) other) [
-      | inl failed ↦ inl (
-        failed.0,
-        later failed.1,
-        λ r. counts_refused all hs (blocks_read all (items_left s.window)) (blocks_read all (items_left t.window)) count BadHandle to
-            (read_step all s t p h (Err BadHandle) is gives (count_refused (block_read all h) BadHandle (failed.2 (kept r)))),
-      )
+      | inl failed ↦ inl (source_fails later kept
+          (λ bad. counts_refused all hs (blocks_read all (items_left s.window)) (blocks_read all (items_left t.window)) count BadHandle to
+          (read_step all s t p h (Err BadHandle) is gives (count_refused (block_read all h) BadHandle bad))) failed)
       | inr refused ↦ inr (counts_refused all hs (blocks_read all (items_left s.window)) (blocks_read all (items_left t.window)) count error to
           (read_step all s t p h (Err error) is gives (count_refused (block_read all h) error refused)))
     ]

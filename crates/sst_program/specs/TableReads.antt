@@ -1,13 +1,13 @@
 -- Reading a table from bytes: its footer, its filter, its index, and its blocks in order, each with its check. The
 -- first refusal ends it.
-use Rattle.std.specs.Prelude.{◌≡◌, ◌≢◌, ◌⊎◌, ◌≤◌, IsOk, ℕ, ◌-◌, ◌^◌, min, List, [], ◌∷◌, length, take, drop, map, Option, Some, None, Result, Ok, Err}
+use Rattle.std.specs.Prelude.{◌≡◌, ◌≢◌, ◌⊎◌, ◌≤◌, IsOk, ℕ, ◌-◌, ◌^◌, min, List, [], ◌∷◌, length, take, map, Option, Some, None, Result, Ok, Err}
 use Rattle.std.specs.Io.KnownBytes.{Appends}
 use Rattle.sst_base.specs.BlockHandle.{HandleParts}
 use Rattle.sst_base.specs.Entry.{Entry}
 use Rattle.sst_base.specs.Hashes.{poly31}
 use Rattle.sst_base.specs.Header.{◌>>=◌}
 use Rattle.sst_base.specs.declared.error.Error.{Error}
-use Rattle.sst_base.specs.declared.error.Error.TheVariants.{Io, Memory, BadHandle}
+use Rattle.sst_base.specs.declared.error.Error.TheVariants.{Io, Truncated, Memory, BadHandle}
 use Rattle.sst_program.specs.declared.fault.Fault.{Fault}
 use Rattle.sst_program.specs.declared.fault.Fault.TheVariants.{Refused}
 use Rattle.sst_base.specs.declared.table.block.block_type.BlockType.TheVariants as types
@@ -136,6 +136,11 @@ IsCutOff read = (read ≡ Err BadHandle) ⊎ (read ≡ Err Io)
 abbrev pub AreCutOff : List (Result (List Entry) Error) → Type 0
 AreCutOff reads = (first_refusal reads ≡ Some BadHandle) ⊎ (first_refusal reads ≡ Some Io)
 
+-- An error is that of the reading; or `Truncated` of a source that failed, where the reading meets a range that isn't
+-- inside.
+abbrev pub IsRefusalOf : {X : Type 0} → Type 0 → Result X Error → Error → Type 0
+IsRefusalOf failed read e = ((e ≡ Truncated) × failed × (read ≡ Err BadHandle)) ⊎ (read ≡ Err e)
+
 -- A call failed: the source, which if it is reliable fails only where the reading meets a range that isn't inside; or
 -- the output, once the reading gave something.
 abbrev pub FailsAround : {X : Type 0} → Type 0 → Type 0 → Result X Error → Type 0
@@ -150,7 +155,7 @@ FailsAmong failed reliable reads = (failed × (reliable → AreCutOff reads)) �
 pub record IsTableFault {X : Type 0} (over_memory : Type 0) (read : Result X Error) (fault : Fault) : Type 0 where
   pub error : Error
   pub told : fault ≡ Refused error
-  pub read_is : error ≢ Memory → error ≢ Io → read ≡ Err error
+  pub read_is : error ≢ Memory → error ≢ Io → IsRefusalOf (Unit {0}) read error
   pub failed : error ≡ Io → over_memory → IsCutOff read ⊎ IsOk read
 
 -- a reading gave some value, and of that value this holds
@@ -174,6 +179,10 @@ pub record PrintsUntil (old new : Option (List ℕ)) (reads : List (Result (List
   pub until : first_refusal reads ≡ refusal
   pub lines : Appends old new (lines_text_of (joined (before_refusal reads)))
 
+-- the same, where the first refusal is an error, or a range that isn't inside, of which a source reported `Truncated`
+abbrev pub PrintsBefore : Type 0 → Option (List ℕ) → Option (List ℕ) → List (Result (List Entry) Error) → Error → Type 0
+PrintsBefore failed old new reads e = ((e ≡ Truncated) × failed × PrintsUntil old new reads (Some BadHandle)) ⊎ PrintsUntil old new reads (Some e)
+
 -- by the lines of the first of these blocks
 pub record PrintsFirst (old new : Option (List ℕ)) (reads : List (Result (List Entry) Error)) : Type 0 where
   pub count : ℕ
@@ -183,5 +192,5 @@ pub record PrintsFirst (old new : Option (List ℕ)) (reads : List (Result (List
 pub record IsWalkFault (over_memory : Type 0) (old new : Option (List ℕ)) (reads : List (Result (List Entry) Error)) (fault : Fault) : Type 0 where
   pub error : Error
   pub told : fault ≡ Refused error
-  pub until : error ≢ Memory → error ≢ Io → PrintsUntil old new reads (Some error)
+  pub until : error ≢ Memory → error ≢ Io → PrintsBefore (Unit {0}) old new reads error
   pub failed : error ≡ Io → over_memory → AreCutOff reads ⊎ (1 ≤ length (before_refusal reads))

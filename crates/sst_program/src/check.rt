@@ -1,5 +1,5 @@
 //! `check`: the frames of a table file, one after the other.
-ghost use Rattle.std.specs.Prelude.{◌≡◌, ◌≢◌, ◌⊎◌, ◌<◌, Err, OnOk};
+ghost use Rattle.std.specs.Prelude.{◌≡◌, ◌≢◌, ◌⊎◌, ◌<◌, OnOk};
 ghost use Rattle.std.specs.Prelude.{IfOk, IfErr, IfSome};
 ghost use Rattle.std.specs.Prelude.{IsOkUnless, string_bytes};
 ghost use Rattle.std.specs.Io.KnownBytes.{Keeps};
@@ -7,7 +7,8 @@ ghost use Rattle.sst_base.specs.declared.error.Error.TheVariants.{Io, Memory};
 ghost use Rattle.sstable_blocks.specs.Sources.{GivesOr, KeepsSource};
 ghost use Rattle.sst_program.specs.TableReads.{block_count, filter_check, run_filter_check};
 ghost use Rattle.sst_program.specs.TableReads.{entries_counted, run_counts, PrintsCountsOf};
-ghost use Rattle.sst_program.specs.TableReads.{FailsAround, table_counts, IsTableFault};
+ghost use Rattle.sst_program.specs.TableReads.{FailsAround, IsRefusalOf};
+ghost use Rattle.sst_program.specs.TableReads.{table_counts, IsTableFault};
 ghost use Rattle.sst_program.specs.Outcome.{checked_text_of, PrintsCounts, PrintsNothing, IsRefused};
 
 use crate::fault;
@@ -135,7 +136,8 @@ pub fn print_counts<S: FrameSource, O: Write>(
         (O.contents output.new))) }
     ensures refused { IfSome (S.bytes source.old)
         (λ all. IfErr result (λ e. e ≢ Memory → e ≢ Io
-        → run_counts all handles.now ≡ Err e)) }
+        → IsRefusalOf (S.failures source.old < S.failures source.new)
+        (run_counts all handles.now) e)) }
     ensures io { IfSome (S.bytes source.old) (λ all. IfErr result (λ e. e ≡ Io
         → FailsAround (S.failures source.old < S.failures source.new) (S.is_reliable source.old)
         (run_counts all handles.now))) }

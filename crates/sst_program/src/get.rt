@@ -1,5 +1,5 @@
 //! `get`: one look-up in a table file.
-ghost use Rattle.std.specs.Prelude.{◌≡◌, ◌≢◌, ◌⊎◌, ◌+◌, ◌≤◌, ◌<◌, Err, OnOk};
+ghost use Rattle.std.specs.Prelude.{◌≡◌, ◌≢◌, ◌⊎◌, ◌+◌, ◌≤◌, ◌<◌, OnOk};
 ghost use Rattle.std.specs.Prelude.{IfOk, IfErr, IfSome};
 ghost use Rattle.std.specs.Prelude.{IsOkUnless, string_bytes};
 ghost use Rattle.std.specs.Io.KnownBytes.{Keeps};
@@ -7,6 +7,7 @@ ghost use Rattle.sst_base.specs.declared.error.Error.TheVariants.{Io, Memory};
 ghost use Rattle.sstable_blocks.specs.RunReading.{read_checked};
 ghost use Rattle.sstable_blocks.specs.Sources.{GivesOr, KeepsSource, filter_frames};
 ghost use Rattle.sst_program.specs.TableReads.{sst_hashes, PrintsAnswerOf, FailsAround};
+ghost use Rattle.sst_program.specs.TableReads.{IsRefusalOf};
 ghost use Rattle.sst_program.specs.TableReads.{table_answer, IsTableFault};
 ghost use Rattle.sst_program.specs.Outcome.{answer_text_of, PrintsAnswer, PrintsNothing, IsRefused};
 
@@ -72,7 +73,8 @@ pub fn print_found<S: FrameSource, O: Write>(
         (O.contents output.old) (O.contents output.new))) }
     ensures refused { IfSome (S.bytes source.old)
         (λ all. IfErr result (λ e. e ≢ Memory → e ≢ Io
-        → read_checked sst_hashes all handles.now words.now.needle words.now.seqno ≡ Err e)) }
+        → IsRefusalOf (S.failures source.old < S.failures source.new)
+        (read_checked sst_hashes all handles.now words.now.needle words.now.seqno) e)) }
     ensures io { IfSome (S.bytes source.old) (λ all. IfErr result (λ e. e ≡ Io
         → FailsAround (S.failures source.old < S.failures source.new) (S.is_reliable source.old)
         (read_checked sst_hashes all handles.now words.now.needle words.now.seqno))) }

@@ -1,5 +1,5 @@
 //! Table files: a run and its footer.
-ghost use Rattle.std.specs.Prelude.{◌≡◌, ◌⊎◌, ◌<◌, length, IfErr};
+ghost use Rattle.std.specs.Prelude.{◌≡◌, ◌⊎◌, ◌<◌, IfErr};
 ghost use Rattle.std.specs.Prelude.{IfSome, IfOk, IsOkUnless};
 ghost use Rattle.sst_base.specs.declared.error.Error.TheVariants.{Io, Truncated, Memory};
 ghost use Rattle.sst_program.specs.TableReads.{index_read, block_read};

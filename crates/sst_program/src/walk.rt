@@ -1,6 +1,6 @@
 //! `walk`: all entries of a table file.
 ghost use Rattle.std.specs.Prelude.{◌≡◌, ◌≢◌, ◌⊎◌, ◌<◌, None};
-ghost use Rattle.std.specs.Prelude.{Some, Err, OnOk, IfErr};
+ghost use Rattle.std.specs.Prelude.{OnOk, IfErr};
 ghost use Rattle.std.specs.Prelude.{IfSome};
 ghost use Rattle.std.specs.Io.KnownBytes.{Keeps};
 ghost use Rattle.sst_base.specs.declared.error.Error.TheVariants.{Io, Memory};
@@ -8,7 +8,8 @@ ghost use Rattle.sst_program.specs.declared.fault.Fault.TheVariants.{Refused};
 ghost use Rattle.sst_program.specs.Outcome.{PrintsLines, IsRefused};
 ghost use Rattle.sst_program.specs.TableReads.{block_read, blocks_read, run_blocks};
 ghost use Rattle.sst_program.specs.TableReads.{FailsAround, FailsAmong, table_blocks, IsWalkFault};
-ghost use Rattle.sst_program.specs.TableReads.{PrintsLinesOf, PrintsUntil, PrintsFirst};
+ghost use Rattle.sst_program.specs.TableReads.{IsRefusalOf, PrintsLinesOf, PrintsUntil};
+ghost use Rattle.sst_program.specs.TableReads.{PrintsBefore, PrintsFirst};
 ghost use Rattle.sstable_blocks.specs.Sources.{KeepsSource};
 
 use crate::entry_printer::print_entries_of;
@@ -35,7 +36,8 @@ fn print_block<S: FrameSource, O: Write>(
         (O.contents output.new))) }
     ensures refused { IfSome (S.bytes source.old)
         (λ all. IfErr result (λ e. e ≢ Memory → e ≢ Io
-        → block_read all handle.now ≡ Err e)) }
+        → IsRefusalOf (S.failures source.old < S.failures source.new)
+        (block_read all handle.now) e)) }
     ensures io { IfSome (S.bytes source.old) (λ all. IfErr result (λ e. e ≡ Io
         → FailsAround (S.failures source.old < S.failures source.new) (S.is_reliable source.old)
         (block_read all handle.now))) }
@@ -61,8 +63,9 @@ fn print_blocks<S: FrameSource, O: Write>(
         (blocks_read all index.now.items) None)) }
     ensures refused { IfSome (S.bytes source.old)
         (λ all. IfErr result (λ e. e ≢ Memory → e ≢ Io
-        → PrintsUntil (O.contents output.old) (O.contents output.new)
-        (blocks_read all index.now.items) (Some e))) }
+        → PrintsBefore (S.failures source.old < S.failures source.new)
+        (O.contents output.old) (O.contents output.new)
+        (blocks_read all index.now.items) e)) }
     ensures first { IfSome (S.bytes source.old) (λ all. IfErr result (λ e. (e ≡ Io)
         ⊎ PrintsFirst (O.contents output.old) (O.contents output.new)
         (blocks_read all index.now.items))) }
@@ -97,8 +100,8 @@ pub fn print_entries<S: FrameSource, O: Write>(
         (run_blocks all index.now) None)) }
     ensures refused { IfSome (S.bytes source.old)
         (λ all. IfErr result (λ e. e ≢ Memory → e ≢ Io
-        → PrintsUntil (O.contents output.old) (O.contents output.new)
-        (run_blocks all index.now) (Some e))) }
+        → PrintsBefore (S.failures source.old < S.failures source.new)
+        (O.contents output.old) (O.contents output.new) (run_blocks all index.now) e)) }
     ensures first { IfSome (S.bytes source.old) (λ all. IfErr result (λ e. (e ≡ Io)
         ⊎ PrintsFirst (O.contents output.old) (O.contents output.new)
         (run_blocks all index.now))) }

@@ -31,8 +31,14 @@ returns-in_err-print_block-clause-refused g c =
     let i = c.loop-item.invariant in
     let e = c.in_err-print_block.ensures in
     let r = err_from_is_err_and c.from_residual.result c.from_residual.ensures.1 in
-    rw (r.1, r.2) (known_both _ _ _ _ _ i.same (λ all p q. λ not_memory not_io.
-    prints_refused _ _ _ _ _ _ _ p (read_step all _ _ _ _ (Err _) c.new-handle.ensures c.in-Some.ensures.steps (q not_memory not_io)) (kept_unless _ _ _ not_io e.kept)) i.known e.refused)
+    rw (r.1, r.2) (known_both _ _ _ _ _ i.same (λ all p q. λ not_memory not_io. elim (q not_memory not_io) [
+      | inl past ↦ inl (
+        past.0,
+        omega (arith, past.1, i.failures_grow),
+        prints_refused _ _ _ _ _ _ _ p (read_step all _ _ _ _ (Err _) c.new-handle.ensures c.in-Some.ensures.steps past.2) (kept_unless _ _ _ not_io e.kept),
+      )
+      | inr same ↦ inr (prints_refused _ _ _ _ _ _ _ p (read_step all _ _ _ _ (Err _) c.new-handle.ensures c.in-Some.ensures.steps same) (kept_unless _ _ _ not_io e.kept))
+    ]) i.known e.refused)
 
 pub returns-in_err-print_block-clause-first : goal.returns-in_err-print_block-clause-first
 returns-in_err-print_block-clause-first g c =
