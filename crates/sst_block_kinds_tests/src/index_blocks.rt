@@ -184,14 +184,16 @@ enum Step {
     SeekUpper(&'static [u8], u64),
 }
 
-/// Steps over the block of some rows, at each of some intervals.
+/// Steps over the block of some rows.
 #[derive(Clone, Copy)]
 struct Script {
     name: &'static str,
     rows: &'static [Row],
-    intervals: &'static [u8],
     steps: &'static [Step],
 }
+
+/// The restart intervals of a script's block: each handle a head, two forms, and one interval.
+static INTERVALS: [u8; 4] = [1, 2, 3, 255];
 
 /// Seeks find the first handle that can lead to a key; a seek past all handles leaves the back; an
 /// upper bound keeps the first greater handle; an end key may be empty.
@@ -199,7 +201,6 @@ static SCRIPTS: [Script; 14] = [
     Script {
         name: "versions of an end key, above all",
         rows: &VERSIONS,
-        intervals: &[1, 2, 3, 255],
         steps: &[
             Step::Seek(b"a", 4, true),
             Step::NextVersion(b"a", 3),
@@ -211,7 +212,6 @@ static SCRIPTS: [Script; 14] = [
     Script {
         name: "versions of an end key, the newest passed",
         rows: &VERSIONS,
-        intervals: &[1, 2, 3, 255],
         steps: &[
             Step::Seek(b"a", 3, true),
             Step::NextVersion(b"a", 1),
@@ -222,7 +222,6 @@ static SCRIPTS: [Script; 14] = [
     Script {
         name: "versions of an end key, both passed",
         rows: &VERSIONS,
-        intervals: &[1, 2, 3, 255],
         steps: &[
             Step::Seek(b"a", 1, true),
             Step::NextVersion(b"b", 4),
@@ -232,7 +231,6 @@ static SCRIPTS: [Script; 14] = [
     Script {
         name: "versions of an end key, below all",
         rows: &VERSIONS,
-        intervals: &[1, 2, 3, 255],
         steps: &[
             Step::Seek(b"a", 0, true),
             Step::NextVersion(b"b", 4),
@@ -242,19 +240,16 @@ static SCRIPTS: [Script; 14] = [
     Script {
         name: "the end key itself",
         rows: &THREE,
-        intervals: &[1, 2, 3, 255],
         steps: &[Step::Seek(b"bcdef", 1, true), Step::Next(Some(b"bcdef"))],
     },
     Script {
         name: "a key within a block",
         rows: &THREE,
-        intervals: &[1, 2, 3, 255],
         steps: &[Step::Seek(b"c", 0, true), Step::Next(Some(b"def"))],
     },
     Script {
         name: "a key past all",
         rows: &THREE,
-        intervals: &[1, 2, 3, 255],
         steps: &[
             Step::Seek(b"zzz", 0, false),
             Step::Next(None),
@@ -264,7 +259,6 @@ static SCRIPTS: [Script; 14] = [
     Script {
         name: "an upper bound",
         rows: &THREE,
-        intervals: &[1, 2, 3, 255],
         steps: &[
             Step::SeekUpper(b"b", 1),
             Step::Next(Some(b"b")),
@@ -275,7 +269,6 @@ static SCRIPTS: [Script; 14] = [
     Script {
         name: "the back after a seek past all",
         rows: &THREE,
-        intervals: &[1, 2, 3, 255],
         steps: &[
             Step::Seek(b"zzz", 0, false),
             Step::Seek(b"b", 1, true),
@@ -286,7 +279,6 @@ static SCRIPTS: [Script; 14] = [
     Script {
         name: "two bounds from the front",
         rows: &LETTERS,
-        intervals: &[1, 2, 3, 255],
         steps: &[
             Step::Seek(b"b", 1, true),
             Step::SeekUpper(b"c", 1),
@@ -299,7 +291,6 @@ static SCRIPTS: [Script; 14] = [
     Script {
         name: "two bounds from the back",
         rows: &LETTERS,
-        intervals: &[1, 2, 3, 255],
         steps: &[
             Step::Seek(b"b", 1, true),
             Step::SeekUpper(b"c", 1),
@@ -312,19 +303,16 @@ static SCRIPTS: [Script; 14] = [
     Script {
         name: "an upper bound alone",
         rows: &LETTERS,
-        intervals: &[1, 2, 3, 255],
         steps: &[Step::SeekUpper(b"c", 1), Step::Next(Some(b"a"))],
     },
     Script {
         name: "an empty end key at its own sequence number",
         rows: &EMPTY_KEY,
-        intervals: &[1, 2, 3, 255],
         steps: &[Step::Seek(b"", 0, false), Step::Next(None)],
     },
     Script {
         name: "an empty end key below a sequence number",
         rows: &EMPTY_KEY,
-        intervals: &[1, 2, 3, 255],
         steps: &[Step::Seek(b"", 1, true), Step::Next(Some(b""))],
     },
 ];
@@ -383,8 +371,8 @@ fn check_steps(
     Ok(())
 }
 
-/// Performs operations over a list's block at each interval of a script, with and without the table
-/// of its heads.
+/// Performs operations over a list's block at each interval, with and without the table of its
+/// heads.
 fn check_script(
     rt: &impl Abort,
     alloc: Global,
@@ -392,7 +380,7 @@ fn check_script(
     list: &[KeyedBlockHandle],
 ) -> Result<()> {
     let ops = ops_of(alloc, script.steps)?;
-    for interval in script.intervals {
+    for interval in &INTERVALS {
         check_steps(rt, alloc, script, list, &ops, (*interval, false))?;
         check_steps(rt, alloc, script, list, &ops, (*interval, true))?;
     }
