@@ -10,12 +10,8 @@ use Rattle.std.specs.declared.cmp.Ordering.TheVariants.{Less, Equal, Greater}
 use Rattle.sst_base.specs.Order.{IsInOrder}
 use Rattle.sst_merge.specs.Merge.{merge, merge_after, merged}
 use Rattle.sst_merge.specs.MergeLaws.{merge-nil, merge-first, merge-second, merge-ordered, Rises, rises, in_order}
-use Rattle.sst_merge.specs.MergeReads.{ge_trans, is_not_lt}
+use Rattle.sst_merge.specs.MergeReads.{ge_trans, is_not_lt, not_lt}
 use Rattle.sst_merge.specs.Picks.{list_at, greatest, beats, beats_by}
-
-append_nil : {X : Type 0} (xs : List X) → xs ++ [] ≡ xs
-append_nil [] = refl
-append_nil (x ∷ xs) = ap (λ ys. x ∷ ys) (append_nil xs)
 
 pub last_push : {X : Type 0} (o : Option X) (xs : List X) (x : X) → last_or o (xs ++ x ∷ []) ≡ Some x
 last_push o [] x = refl
@@ -72,11 +68,6 @@ module _ {X : Type 0} (cmp : X → X → Ordering) where
     lt_is Less h = refl
     lt_is Equal h = absurd (cc)
     lt_is Greater h = absurd (cc)
-
-    not_lt : (o : Ordering) → is_lt o ≡ false → o ≢ Less
-    not_lt Less h e = absurd (cc)
-    not_lt Equal h e = absurd (cc)
-    not_lt Greater h e = absurd (cc)
 
     tail_of : (x : X) (xs : List X) → IsInOrder cmp (x ∷ xs) → IsInOrder cmp xs
     tail_of x [] h = tt

@@ -18,9 +18,6 @@ use Rattle.sst_merge.specs.SnapshotReads.{first, first_hit, first_miss, both_fal
 lt_test : (a b : ℕ) → a < b → nat_lt a b ≡ true
 lt_test a b h = grind (arith, nat_tests)
 
-ge_test : (a b : ℕ) → b ≤ a → nat_lt a b ≡ false
-ge_test a b h = grind (arith, nat_tests)
-
 module _ {X : Type 0} (entry : X → Entry) (s : ℕ) (bottom : Bool) where
   abbrev go : Option (List ℕ) → List X → List X
   go = compact_from entry s bottom

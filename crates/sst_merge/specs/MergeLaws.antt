@@ -1,13 +1,13 @@
 -- Laws of merges.
-use Rattle.std.proofs.Common.{◌≡◌, ◌≢◌, true, false, List, [], ◌∷◌, ◌++◌, refl, sym, ◌∙◌, inl, inr, IsPermutation, append-nil}
+use Rattle.std.proofs.Common.{◌≡◌, ◌≢◌, true, false, List, [], ◌∷◌, refl, sym, ◌∙◌, inl, inr}
 use Rattle.std.proofs.lemmas.Bool.{cases_Bool}
-use Rattle.std.proofs.lemmas.List.Sorted.{IsPermutation-refl, IsPermutation-trans, IsPermutation-sym, IsPermutation-cons, IsPermutation-middle}
 use Rattle.std.specs.Cmp.{IsTotalOrder}
 use Rattle.std.specs.Ordering.{is_lt, ordering_reverse}
 use Rattle.std.specs.declared.cmp.Ordering.{Ordering}
 use Rattle.std.specs.declared.cmp.Ordering.TheVariants.{Less, Equal, Greater}
 use Rattle.sst_base.specs.Order.{IsInOrder}
 use Rattle.sst_merge.specs.Merge.{merge, merge_after}
+use Rattle.sst_merge.specs.MergeReads.{not_lt}
 
 module _ {X : Type 0} (cmp : X → X → Ordering) where
   -- merging with nothing
@@ -22,18 +22,6 @@ module _ {X : Type 0} (cmp : X → X → Ordering) where
   -- it is not
   pub merge-first : (x y : X) (xs ys : List X) → is_lt (cmp y x) ≡ false → merge cmp (x ∷ xs) (y ∷ ys) ≡ x ∷ merge cmp xs (y ∷ ys)
   merge-first x y xs ys h = rw h refl
-
-  permuted : (x : X) (xs : List X) (after : List X → List X) → ((ys : List X) → IsPermutation (after ys) (xs ++ ys)) → (ys : List X) → IsPermutation (merge_after cmp x xs after ys) (x ∷ (xs ++ ys))
-  permuted x xs after h [] = rw append-nil (IsPermutation-refl (x ∷ xs))
-  permuted x xs after h (y ∷ ys) = elim (cases_Bool (is_lt (cmp y x))) [
-    | inl second ↦ rw second (IsPermutation-trans _ _ _ (IsPermutation-cons y _ _ (permuted x xs after h ys)) (IsPermutation-sym _ _ (IsPermutation-middle (x ∷ xs) y ys)))
-    | inr first ↦ rw first (IsPermutation-cons x _ _ (h (y ∷ ys)))
-  ]
-
-  -- a merge holds exactly the items of both lists
-  pub merge-permutation : (xs ys : List X) → IsPermutation (merge cmp xs ys) (xs ++ ys)
-  merge-permutation [] ys = IsPermutation-refl ys
-  merge-permutation (x ∷ xs) ys = permuted x xs (merge cmp xs) (merge-permutation xs) ys
 
   -- P holds of the first item, and no item sorts before its predecessor
   abbrev pub Rises : (X → Type 0) → List X → Type 0
@@ -58,11 +46,6 @@ module _ {X : Type 0} (cmp : X → X → Ordering) where
   below Equal h e = absurd (cc)
   below Greater h e = absurd (cc)
 
-  not_below : (o : Ordering) → is_lt o ≡ false → o ≢ Less
-  not_below Less h e = absurd (cc)
-  not_below Equal h e = absurd (cc)
-  not_below Greater h e = absurd (cc)
-
   module _ (order : IsTotalOrder cmp) where
     rises_at : (x : X) (xs : List X) (after : List X → List X) → Rises (λ y. cmp y x ≢ Less) xs
         → ((ys : List X) → Rises (λ y. cmp y x ≢ Less) ys → Rises (λ y. cmp y x ≢ Less) (after ys))
@@ -70,7 +53,7 @@ module _ {X : Type 0} (cmp : X → X → Ordering) where
     rises_at x xs after rest go [] P p h = (p, rest)
     rises_at x xs after rest go (y ∷ ys) P p h = elim (cases_Bool (is_lt (cmp y x))) [
       | inl second ↦ rw second (h.0, rises_at x xs after rest go ys (λ z. cmp z y ≢ Less) (λ e. below (cmp y x) second (sym (order.antisymm x y) ∙ e)) h.1)
-      | inr first ↦ rw first (p, go (y ∷ ys) (not_below (cmp y x) first, h.1))
+      | inr first ↦ rw first (p, go (y ∷ ys) (not_lt (cmp y x) first, h.1))
     ]
 
     rises_merge : (xs ys : List X) (P : X → Type 0) → Rises P xs → Rises P ys → Rises P (merge cmp xs ys)

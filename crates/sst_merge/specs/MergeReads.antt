@@ -14,10 +14,7 @@ lt_is Less h = refl
 lt_is Equal h = absurd (cc)
 lt_is Greater h = absurd (cc)
 
-lt_of : (o : Ordering) → o ≡ Less → is_lt o ≡ true
-lt_of o e = ap is_lt e
-
-not_lt : (o : Ordering) → is_lt o ≡ false → o ≢ Less
+pub not_lt : (o : Ordering) → is_lt o ≡ false → o ≢ Less
 not_lt Less h e = absurd (cc)
 not_lt Equal h e = absurd (cc)
 not_lt Greater h e = absurd (cc)

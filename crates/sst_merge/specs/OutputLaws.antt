@@ -1,5 +1,5 @@
 -- Laws of tables that a compaction wrote.
-use Rattle.std.proofs.Common.{◌≡◌, ℕ, ◌+◌, ◌-◌, ◌≤◌, length, take, drop, slice_get, inl, inr, arith, List, [], ◌∷◌, ◌++◌, map, Option, Some, None, refl, sym, ap, subst, ◌∙◌}
+use Rattle.std.proofs.Common.{◌≡◌, ℕ, ◌+◌, ◌-◌, ◌≤◌, length, take, drop, slice_get, inl, inr, arith, List, [], ◌∷◌, ◌++◌, map, Option, Some, None, refl, sym, ap, subst, ◌∙◌, append-nil}
 use Rattle.std.proofs.lemmas.Bool.{cases_lt}
 use Rattle.std.proofs.lemmas.List.{append_assoc, length_push, take-append-le, drop-append-le, take_all, drop_all}
 use Rattle.std.specs.List.{AllZip}
@@ -65,11 +65,7 @@ apart_after runs blocks (Some ys) (Some rest) taken some all here =
 
 -- no table was written yet
 pub none_written : (f : Form) (start : Option (List ℕ)) (s : Option (List Entry)) (tables : List Output) → AreWritten f start s s tables tables
-none_written f start s tables = record { outputs = []; runs = []; grown = sym (append_nil tables); each = tt; taken = taken_none s; apart = none_apart s }
-  where
-    append_nil : {X : Type 0} (xs : List X) → xs ++ [] ≡ xs
-    append_nil [] = refl
-    append_nil (x ∷ xs) = ap (λ ys. x ∷ ys) (append_nil xs)
+none_written f start s tables = record { outputs = []; runs = []; grown = sym (append-nil tables); each = tt; taken = taken_none s; apart = none_apart s }
 
 -- one table more
 pub one_written : (f : Form) (sizes : Sizes) (start : Option (List ℕ)) (before mid after : Option (List Entry)) (old now new : List Output) (o : Output) → AreWritten f start before mid old now → IsTableOf f sizes start o.bytes o.handles mid after → new ≡ now ++ o ∷ []

@@ -1,5 +1,5 @@
 -- Lists that are the parts of one ordered list, one after the other.
-use Rattle.std.proofs.Common.{◌≡◌, ◌≢◌, List, [], ◌∷◌, ◌++◌, refl, sym, ap, ◌∙◌}
+use Rattle.std.proofs.Common.{◌≡◌, ◌≢◌, List, [], ◌∷◌, ◌++◌, refl, sym, ap, ◌∙◌, append-nil}
 use Rattle.std.specs.Cmp.{IsTotalOrder}
 use Rattle.std.specs.declared.cmp.Ordering.{Ordering}
 use Rattle.std.specs.declared.cmp.Ordering.TheVariants.{Less}
@@ -12,10 +12,6 @@ use Rattle.sstable_blocks.specs.Blocks.{joined}
 use Rattle.sst_merge.specs.Merge.{merge, merged, entry_cmp}
 use Rattle.sst_merge.specs.MergeLaws.{merge-first}
 use Rattle.sst_merge.specs.MergeReads.{ge_trans, is_not_lt}
-
-append_nil : {X : Type 0} (xs : List X) → xs ++ [] ≡ xs
-append_nil [] = refl
-append_nil (x ∷ xs) = ap (λ ys. x ∷ ys) (append_nil xs)
 
 module _ {X : Type 0} (cmp : X → X → Ordering) (order : IsTotalOrder cmp) where
   tail_of : (x : X) (xs : List X) → IsInOrder cmp (x ∷ xs) → IsInOrder cmp xs
@@ -34,7 +30,7 @@ module _ {X : Type 0} (cmp : X → X → Ordering) (order : IsTotalOrder cmp) wh
   -- the merge of a list with one that comes after it
   merge_parts : (xs ys : List X) → IsInOrder cmp (xs ++ ys) → merge cmp xs ys ≡ xs ++ ys
   merge_parts [] ys h = refl
-  merge_parts (x ∷ xs) [] h = sym (append_nil (x ∷ xs))
+  merge_parts (x ∷ xs) [] h = sym (append-nil (x ∷ xs))
   merge_parts (x ∷ xs) (y ∷ ys) h =
       merge-first cmp x y xs ys (is_not_lt (cmp y x) (not_before x xs y ys h))
       ∙ ap (λ zs. x ∷ zs) (merge_parts xs (y ∷ ys) (tail_of x (xs ++ y ∷ ys) h))

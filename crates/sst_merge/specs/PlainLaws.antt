@@ -10,16 +10,11 @@ use Rattle.std.specs.Ordering.{nat_cmp, is_eq, ordering_then, ordering_reverse}
 use Rattle.std.specs.declared.cmp.Ordering.{Ordering}
 use Rattle.std.specs.declared.cmp.Ordering.TheVariants.{Less, Equal, Greater}
 use Rattle.sst_base.specs.Entry.{Entry}
-use Rattle.sst_base.specs.KeyOrderLaws.{slice_cmp-equal}
 use Rattle.sst_base.specs.Order.{IsInOrder}
+use Rattle.sst_block_core.specs.VersionLaws.{keys_equal}
 use Rattle.sst_merge.specs.Compact.{compact_from, compacted, unless_dropped, stays, staying}
 use Rattle.sst_merge.specs.Snapshot.{visible_from, snapshot, unless_deleted, deletes, has_last_key, has_version, is_shown, shown, kept_after}
 use Rattle.sst_merge.specs.SnapshotReads.{order, order_tail, skip}
-
-eq_is : (o : Ordering) → is_eq o ≡ true → o ≡ Equal
-eq_is Less h = absurd (cc)
-eq_is Equal h = refl
-eq_is Greater h = absurd (cc)
 
 or_same : (b : Bool) → (b || b) ≡ b
 or_same true = refl
@@ -62,7 +57,7 @@ module _ {X : Type 0} (entry : X → Entry) (s : ℕ) where
 
   -- the key of a version
   last_is : (k : List ℕ) (x : X) → has_last_key entry (Some k) x ≡ true → key_of x ≡ k
-  last_is k x h = (slice_cmp-equal (key_of x) k).0 (eq_is (slice_cmp nat_cmp (key_of x) k) h)
+  last_is k x h = keys_equal (key_of x) k h
 
   other_by : (k : List ℕ) (x e : X) (o : Ordering) → slice_cmp nat_cmp (key_of x) k ≡ o → o ≢ Less → is_eq o ≡ false → slice_cmp nat_cmp (key_of e) (key_of x) ≢ Less → has_last_key entry (Some k) e ≡ false
   other_by k x e Less i n f up = absurd (n refl)
@@ -104,13 +99,6 @@ module _ {X : Type 0} (entry : X → Entry) (s : ℕ) where
         sym (or_false b) ∙ ap (λ c. b || c) (sym none) ∙ ap (λ c. (c && b) || has_version entry s before e) (sym below),
     agree_fresh last x before rest xs below fresh h k.1 all.1,
   )
-
-  module _ (test : List X → X → Bool) where
-    passes : (before : List X) (x : X) (xs : List X) → test before x ≡ true → kept_after test before (x ∷ xs) ≡ x ∷ kept_after test (x ∷ before) xs
-    passes before x xs h = ap (λ b. cond b (x ∷ kept_after test (x ∷ before) xs) (kept_after test (x ∷ before) xs)) h
-
-    fails : (before : List X) (x : X) (xs : List X) → test before x ≡ false → kept_after test before (x ∷ xs) ≡ kept_after test (x ∷ before) xs
-    fails before x xs h = ap (λ b. cond b (x ∷ kept_after test (x ∷ before) xs) (kept_after test (x ∷ before) xs)) h
 
   module _ (bottom : Bool) where
     abbrev go : Option (List ℕ) → List X → List X

@@ -8,12 +8,12 @@ use Rattle.std.specs.List.{AllByRecursion}
 use Rattle.std.specs.Option.{option_map, IfSome}
 use Rattle.std.specs.Ordering.{nat_cmp, is_eq}
 use Rattle.std.specs.declared.cmp.Ordering.{Ordering}
-use Rattle.std.specs.declared.cmp.Ordering.TheVariants.{Less, Equal, Greater}
 use Rattle.sst_base.specs.Entry.{Entry, plain}
-use Rattle.sst_base.specs.KeyOrderLaws.{slice_cmp-equal, versions_cmp_total}
+use Rattle.sst_base.specs.KeyOrderLaws.{versions_cmp_total}
 use Rattle.sst_base.specs.Order.{IsInOrder}
 use Rattle.sst_block_core.specs.Entries.{entries}
 use Rattle.sst_block_core.specs.Kind.{IsOrdered}
+use Rattle.sst_block_core.specs.VersionLaws.{keys_equal}
 use Rattle.sst_block_core.specs.Window.{first_match, is_version}
 use Rattle.sst_merge.specs.MergeReads.{ge_trans}
 use Rattle.sst_merge.specs.Ranges.{covers, ranged}
@@ -87,18 +87,13 @@ ranged_ordered first last items up = filter_ordered _ (versions_cmp_total entrie
 pub ranged_all : (first last : List ℕ) (items : List Entry) → AllByRecursion (λ (e : Entry). covers first last e.key.user_key ≡ true) items → ranged first last items ≡ items
 ranged_all first last items all = filter_all (λ (e : Entry). covers first last e.key.user_key) items all
 
-eq_is : (o : Ordering) → is_eq o ≡ true → o ≡ Equal
-eq_is Less h = absurd (cc)
-eq_is Equal h = refl
-eq_is Greater h = absurd (cc)
-
 second_of : (a b : Bool) → (a && b) ≡ true → b ≡ true
 second_of true b h = h
 second_of false b h = absurd (cc)
 
 module _ (first last needle : List ℕ) (s : ℕ) where
   key_is : (e : Entry) → is_version entries needle s e ≡ true → e.key.user_key ≡ needle
-  key_is e h = (slice_cmp-equal e.key.user_key needle).0 (eq_is (slice_cmp nat_cmp e.key.user_key needle) (second_of (nat_lt e.key.seqno s) (is_eq (slice_cmp nat_cmp e.key.user_key needle)) h))
+  key_is e h = keys_equal e.key.user_key needle (second_of (nat_lt e.key.seqno s) (is_eq (slice_cmp nat_cmp e.key.user_key needle)) h)
 
   -- a read of a key within the range
   pub ranged_match : (items : List Entry) → covers first last needle ≡ true → first_match entries needle s (ranged first last items) ≡ first_match entries needle s items

@@ -12,22 +12,8 @@ use Rattle.sst_merge.specs.Sources.{IsTaken}
 use Rattle.sst_merge.specs.TableLaws.{joined_push, last_of}
 use Rattle.sst_merge.specs.Tables.{IsApart, IsFilled, IsShortest, Reaches, capped, entries_len, entry_len}
 
-pub capped_more : (a b n m : ℕ) → n ≡ capped a → m ≡ min (n + b) (2 ^ 64 - 1) → m ≡ capped (a + b)
-capped_more a b n m e f = omega arith
-
--- a capped sum is below a size where the sum is
-pub below_size : (a n size : ℕ) → n ≡ capped a → size < 2 ^ 64 → n < size → a < size
-below_size a n size e fits h = omega arith
-
 pub reaches_size : (a n size : ℕ) → n ≡ capped a → size ≤ n → size ≤ a
 reaches_size a n size e h = omega arith
-
--- of one entry more
-pub len_push : (es : List Entry) (e : Entry) → entries_len (es ++ e ∷ []) ≡ entries_len es + entry_len e
-len_push es e = let k = sum_by-append entry_len es (e ∷ []) in omega (arith, k)
-
-pub len_more : (es : List Entry) (e : Entry) (n m : ℕ) → n ≡ capped (entries_len es) → m ≡ min (n + entry_len e) (2 ^ 64 - 1) → m ≡ capped (entries_len (es ++ e ∷ []))
-len_more es e n m h k = capped_more (entries_len es) (entry_len e) n m h k ∙ ap capped (sym (len_push es e))
 
 -- of one block more
 pub len_block : (blocks : List (List Entry)) (b : List Entry) (n k m : ℕ) → n ≡ capped (entries_len (joined blocks)) → k ≡ capped (entries_len b) → m ≡ min (n + k) (2 ^ 64 - 1) → m ≡ capped (entries_len (joined (blocks ++ b ∷ [])))
@@ -38,16 +24,6 @@ len_block blocks b n k m e f g =
 
 abbrev pub IsBelow : ℕ → List Entry → Type 0
 IsBelow size block = (n : ℕ) → 1 ≤ n → n < length block → entries_len (take n block) < size
-
--- a block that was empty or below the size, with one entry more
-pub below_more : (size : ℕ) (block : List Entry) (e : Entry) → IsBelow size block → (1 ≤ length block → entries_len block < size) → IsBelow size (block ++ e ∷ [])
-below_more size block e all here n some inside =
-    let l = length_push block e in
-    let t : take n (block ++ e ∷ []) ≡ take n block = take-append-le n block (e ∷ []) (omega (arith, l, inside)) in
-    subst (λ xs. entries_len xs < size) (sym t) (elim (cases_lt n (length block)) [
-      | inl less ↦ all n some less
-      | inr more ↦ subst (λ xs. entries_len xs < size) (sym (take_all n block more)) (here (omega (arith, l, inside, more, some)))
-    ])
 
 -- where nothing was left, nothing is left later
 pub none_later : (s t : Option (List Entry)) (items : List Entry) → IfSome s (λ xs. xs ≡ []) → IsTaken s items t → IfSome t (λ xs. xs ≡ [])
@@ -120,10 +96,6 @@ shortest_more size blocks front last b rest t all ends some filled is on n one i
           subst (λ (xs : List (List Entry)). entries_len (joined xs) < size) (sym whole) (on q))
     ])
 
--- a table of one block
-pub shortest_one : (size : ℕ) (b : List Entry) → IsShortest size (b ∷ [])
-shortest_one size b n one inside = absurd (omega arith)
-
 -- one block more, where the table went on and its list is known
 pub shortest_block : (size : ℕ) (blocks front : List (List Entry)) (last b : List Entry) (before s t : Option (List Entry)) → IsTaken before (joined blocks) s → IsTaken s b t → IfSome before (λ _. IsShortest size blocks) → blocks ≡ front ++ last ∷ [] → 1 ≤ length last → 1 ≤ length b
     → IfSome s (λ rest. IsApart last rest → entries_len (joined blocks) < size) → IfSome before (λ _. IsShortest size (blocks ++ b ∷ []))
@@ -131,10 +103,6 @@ shortest_block size blocks front last b None s t taken more all ends some filled
 shortest_block size blocks front last b (Some xs) None t taken more all ends some filled on = absurd (cc)
 shortest_block size blocks front last b (Some xs) (Some rest) None taken more all ends some filled on = absurd (cc)
 shortest_block size blocks front last b (Some xs) (Some rest) (Some ys) taken more all ends some filled on = shortest_more size blocks front last b rest ys all ends some filled (cc) on
-
-pub if_any : {A : Type 0} {P : Type 0} (o : Option A) → P → IfSome o (λ _. P)
-if_any None h = tt
-if_any (Some a) h = h
 
 pub reaches_by : (s : Option (List Entry)) (blocks : List (List Entry)) (n size : ℕ) → n ≡ capped (entries_len (joined blocks)) → (size ≤ n) ⊎ IfSome s (λ xs. xs ≡ []) → Reaches size (joined blocks) s
 reaches_by s blocks n size e h = elim h [
@@ -148,11 +116,6 @@ none_peeked f None r e h = tt
 none_peeked f (Some []) r e h = refl
 none_peeked f (Some (x ∷ xs)) None e h = absurd (cc)
 none_peeked f (Some (x ∷ xs)) (Some y) e h = absurd (cc)
-
--- what is below a size by the capped sum is below it by the sum
-pub on_below : (o : Option (List Entry)) (last : List Entry) (n total size : ℕ) → n ≡ capped total → size < 2 ^ 64 → IfSome o (λ rest. IsApart last rest → n < size) → IfSome o (λ rest. IsApart last rest → total < size)
-on_below None last n total size e fits h = tt
-on_below (Some rest) last n total size e fits h = λ apart. below_size total n size e fits (h apart)
 
 -- entries have a last one
 pub some_last : {X : Type 0} (xs : List X) → 1 ≤ length xs → None ≡ slice_get xs (length xs - 1) → ⊥

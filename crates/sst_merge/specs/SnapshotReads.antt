@@ -10,14 +10,10 @@ use Rattle.std.proofs.lemmas.Cmp.{nat_list_cmp_total}
 use Rattle.sst_base.specs.Entry.{Entry}
 use Rattle.sst_base.specs.Order.{versions_cmp, IsInOrder}
 use Rattle.sst_base.specs.KeyOrderLaws.{slice_cmp-equal, versions_cmp_total}
+use Rattle.sst_block_core.specs.VersionLaws.{keys_equal}
 use Rattle.sst_merge.specs.Snapshot.{visible_from, snapshot, is_newest, deletes, has_last_key}
 use Rattle.sst_merge.specs.SnapshotLaws.{visible-passed, visible-newest}
 use Rattle.sst_merge.specs.MergeReads.{ge_trans}
-
-eq_is : (o : Ordering) → is_eq o ≡ true → o ≡ Equal
-eq_is Less h = absurd (cc)
-eq_is Equal h = refl
-eq_is Greater h = absurd (cc)
 
 pub both_false : (a b : Bool) → b ≡ false → (a && b) ≡ false
 both_false true b h = h
@@ -67,10 +63,7 @@ module _ {X : Type 0} (entry : X → Entry) (k : List ℕ) (seqno : ℕ) where
   unless_hidden (Some x) = cond (deletes (entry x).key.value_type) None (Some x)
 
   pub has_key : (x : X) → has x ≡ true → key x ≡ k
-  has_key x h = (slice_cmp-equal (key x) k).0 (eq_is (slice_cmp nat_cmp (key x) k) h)
-
-  pub has_of : (x : X) → key x ≡ k → has x ≡ true
-  has_of x e = ap is_eq ((slice_cmp-equal (key x) k).1 e)
+  has_key x h = keys_equal (key x) k h
 
   abbrev pub NoneHas : List X → Type 0
   NoneHas [] = Unit {0}
@@ -136,7 +129,7 @@ module _ {X : Type 0} (entry : X → Entry) (k : List ℕ) (seqno : ℕ) where
 
   turned : (l : List ℕ) → is_eq (slice_cmp nat_cmp l k) ≡ false → is_eq (slice_cmp nat_cmp k l) ≡ false
   turned l o = elim (cases_Bool (is_eq (slice_cmp nat_cmp k l))) [
-    | inl same ↦ absurd (let e : true ≡ false = sym (ap is_eq ((slice_cmp-equal l k).1 (sym ((slice_cmp-equal k l).0 (eq_is (slice_cmp nat_cmp k l) same))))) ∙ o in cc)
+    | inl same ↦ absurd (let e : true ≡ false = sym (ap is_eq ((slice_cmp-equal l k).1 (sym (keys_equal k l same)))) ∙ o in cc)
     | inr other ↦ other
   ]
 

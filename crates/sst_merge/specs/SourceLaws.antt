@@ -109,9 +109,6 @@ module _ {X : Type 0} (cmp : X → X → Ordering) where
   abbrev left : List (Option (List X)) → Option (List X)
   left os = option_map (merged cmp) (all_known os)
 
-  more_left : (x : X) (xss : List (List X)) (o : Option (List (List X))) → o ≡ Some xss → (ys : List X) → merged cmp xss ≡ ys → option_map (merged cmp) o ≡ Some ys
-  more_left x xss o e ys f = ap (option_map (merged cmp)) e ∙ ap Some f
-
   -- the item of a list that is known
   taken_some : (xs : List X) (x : X) (o : Option (List X)) → ◌≡◌ {A = Option (List X)} (Some xs) (option_map (λ ys. x ∷ ys) o) → IsSplit x o xs
   taken_some xs x None e = absurd (cc)

@@ -1,5 +1,5 @@
 -- Laws of what was taken from a source.
-use Rattle.std.proofs.Common.{◌≡◌, suc, ◌-◌, ◌≤◌, false, List, [], ◌∷◌, ◌++◌, length, slice_get, Option, Some, None, refl, sym, ap, subst, ◌∙◌, arith, length-append}
+use Rattle.std.proofs.Common.{◌≡◌, suc, ◌-◌, ◌≤◌, false, List, [], ◌∷◌, ◌++◌, length, slice_get, Option, Some, None, refl, sym, ap, subst, ◌∙◌, arith, length-append, append-nil}
 use Rattle.std.proofs.lemmas.List.{append_assoc, length_push}
 use Rattle.std.specs.Option.{option_map, is_some, IfSome}
 use Rattle.sst_base.specs.Entry.{Entry}
@@ -12,14 +12,6 @@ pub taken_none : {X : Type 0} (s : Option (List X)) → IsTaken s [] s
 taken_none None = refl
 taken_none (Some xs) = refl
 
--- one more was taken
-more_by : {X : Type 0} (xs : List X) (x : X) (u : Option (List X)) → option_map (λ rest. xs ++ rest) (option_map (λ rest. x ∷ rest) u) ≡ option_map (λ rest. (xs ++ x ∷ []) ++ rest) u
-more_by xs x None = refl
-more_by xs x (Some rest) = ap Some (sym (append_assoc xs (x ∷ []) rest))
-
-pub taken_more : {X : Type 0} (s t u : Option (List X)) (xs : List X) (x : X) → IsTaken s xs t → t ≡ option_map (λ rest. x ∷ rest) u → IsTaken s (xs ++ x ∷ []) u
-taken_more s t u xs x h e = h ∙ ap (option_map (λ rest. xs ++ rest)) e ∙ more_by xs x u
-
 -- what was taken after what was taken
 both_by : {X : Type 0} (xs ys : List X) (u : Option (List X)) → option_map (λ rest. xs ++ rest) (option_map (λ rest. ys ++ rest) u) ≡ option_map (λ rest. (xs ++ ys) ++ rest) u
 both_by xs ys None = refl
@@ -29,11 +21,7 @@ pub taken_both : {X : Type 0} (s t u : Option (List X)) (xs ys : List X) → IsT
 taken_both s t u xs ys h k = h ∙ ap (option_map (λ rest. xs ++ rest)) k ∙ both_by xs ys u
 
 pub joined_push : {X : Type 0} (blocks : List (List X)) (b : List X) → joined (blocks ++ b ∷ []) ≡ joined blocks ++ b
-joined_push [] b = append_nil b
-  where
-    append_nil : {X : Type 0} (xs : List X) → xs ++ [] ≡ xs
-    append_nil [] = refl
-    append_nil (x ∷ xs) = ap (λ ys. x ∷ ys) (append_nil xs)
+joined_push [] b = append-nil b
 joined_push (c ∷ cs) b = ap (λ xs. c ++ xs) (joined_push cs b) ∙ sym (append_assoc c (joined cs) b)
 
 -- and then a block

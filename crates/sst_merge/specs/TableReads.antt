@@ -1,12 +1,10 @@
 -- Laws of tables as readers.
-use Rattle.std.proofs.Common.{◌≡◌, ◌≢◌, ℕ, zero, suc, ◌<◌, ◌^◌, arith, map, Bool, true, false, not, cond, List, [], ◌∷◌, Option, Some, None, Result, Ok, Err, refl, sym, ap, subst, ◌∙◌}
+use Rattle.std.proofs.Common.{◌≡◌, ℕ, zero, suc, ◌<◌, ◌^◌, arith, map, Bool, true, false, not, cond, List, [], ◌∷◌, Option, Some, None, Result, Ok, Err, refl, sym, ap, subst, ◌∙◌}
 use Rattle.std.proofs.lemmas.Bool.{ltb-true}
 use Rattle.std.specs.Option.{option_map, IfSome}
 use Rattle.std.specs.Ordering.{is_lt}
 use Rattle.std.specs.List.{AllByRecursion}
 use Rattle.std.specs.Prelude.{nat_lt, ◌&&◌}
-use Rattle.std.specs.declared.cmp.Ordering.{Ordering}
-use Rattle.std.specs.declared.cmp.Ordering.TheVariants.{Less, Equal, Greater}
 use Rattle.sst_base.specs.Bytes.{IsBytes}
 use Rattle.sst_base.specs.Entry.{Entry, plain}
 use Rattle.sst_base.specs.declared.error.Error.{Error}
@@ -24,14 +22,10 @@ use Rattle.sstable_blocks.specs.Sound.{IsSound}
 use Rattle.sstable_blocks.specs.declared.run.RunHandles.{RunHandles}
 use Rattle.sstable_blocks.specs.declared.run.checking.RunSummary.{RunSummary}
 use Rattle.sst_merge.specs.Merge.{entry_cmp}
+use Rattle.sst_merge.specs.MergeReads.{not_lt}
 use Rattle.sst_merge.specs.RangeLaws.{filter_all}
 use Rattle.sst_merge.specs.Stored.{all_keys, are_bytes, check_of, checked_list, filter_fits, is_in_order, known_reads, table_list}
 use Rattle.sst_merge.specs.StoredLaws.{known_all}
-
-not_less : (o : Ordering) → is_lt o ≡ false → o ≢ Less
-not_less Less h e = absurd (cc)
-not_less Equal h e = absurd (cc)
-not_less Greater h e = absurd (cc)
 
 both : (a b : Bool) → (a && b) ≡ true → (a ≡ true) × (b ≡ true)
 both true b h = (refl, h)
@@ -46,7 +40,7 @@ passes_ordered [] h = tt
 passes_ordered (x ∷ []) h = tt
 passes_ordered (x ∷ y ∷ xs) h =
     let k = both (not (is_lt (entry_cmp y x))) (is_in_order (y ∷ xs)) h in
-    (not_less (entry_cmp y x) (flip (is_lt (entry_cmp y x)) k.0), passes_ordered (y ∷ xs) k.1)
+    (not_lt (entry_cmp y x) (flip (is_lt (entry_cmp y x)) k.0), passes_ordered (y ∷ xs) k.1)
 
 -- what holds of entries where they are in order
 if_any : (P : List Entry → Type 0) (xs : List Entry) (t : Bool) → is_in_order xs ≡ t → (is_in_order xs ≡ true → P xs) → IfSome (cond t (Some xs) None) P

@@ -1,5 +1,5 @@
 //! Readers whose range of user keys is known.
-ghost use Rattle.std.specs.Prelude.{◌≡◌, ℕ, Option, Some, None, true, false, if◌then◌else◌};
+ghost use Rattle.std.specs.Prelude.{◌≡◌, Some, None, true, false, if◌then◌else◌};
 ghost use Rattle.std.specs.Prelude.{IfOk, IfSome, Ok};
 ghost use Rattle.std.specs.List.{AllByRecursion};
 ghost use Rattle.std.specs.Option.{option_map};
