@@ -322,7 +322,10 @@ pub extern "C" fn sst_get(
     let Some(needles) = keys_in(alloc, needles, key_len) else {
         return REFUSED;
     };
-    add_found_often(&block, needles.as_slice(), times, alloc).unwrap_or(REFUSED)
+    match add_found_often(&block, needles.as_slice(), times, alloc) {
+        Some(sum) => sum,
+        None => REFUSED,
+    }
 }
 
 // The block of the entries with the table of its heads, if it can be encoded and memory suffices.

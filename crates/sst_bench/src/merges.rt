@@ -142,8 +142,10 @@ fn trusted_of(
     alloc: Global,
     table: &mut Table<Poly31, MemorySource>,
 ) -> Option<Trusted<'_, Poly31>> {
-    table.verify(alloc).ok()?;
-    Some(table.trusted())
+    match table.verify(alloc) {
+        Ok(_) => Some(table.trusted()),
+        Err(_) => None,
+    }
 }
 
 // Checks tables whole, and trusts them.

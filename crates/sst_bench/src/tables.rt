@@ -46,7 +46,9 @@ fn found_in(
         × IsSound (hashes (poly31 64) (poly31 128)) blocks run handles }
 {
     let source = MemorySource::new(run);
-    let table = Table::<Poly31, MemorySource>::open(alloc, source, handles).ok()?;
+    let Ok(table) = Table::<Poly31, MemorySource>::open(alloc, source, handles) else {
+        return None;
+    };
     let trusted = table.trusted();
     let mut sum = 0;
     for _ in 0..times {
@@ -166,7 +168,9 @@ fn scanned_in(
         × IsSound (hashes (poly31 64) (poly31 128)) blocks run handles }
 {
     let source = MemorySource::new(run);
-    let table = Table::<Poly31, MemorySource>::open(alloc, source, handles).ok()?;
+    let Ok(table) = Table::<Poly31, MemorySource>::open(alloc, source, handles) else {
+        return None;
+    };
     let trusted = table.trusted();
     let mut sum = 0;
     for _ in 0..times {

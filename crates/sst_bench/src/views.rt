@@ -272,7 +272,9 @@ fn found_in(
         × IsSound (hashes (poly31 64) (poly31 128)) blocks run handles }
 {
     let source = MemorySource::new(run);
-    let table = Table::<Poly31, MemorySource>::open(alloc, source, handles).ok()?;
+    let Ok(table) = Table::<Poly31, MemorySource>::open(alloc, source, handles) else {
+        return None;
+    };
     let run = table.trusted().by_ref();
     let mut sum = 0;
     for _ in 0..times {
