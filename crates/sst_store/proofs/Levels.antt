@@ -22,10 +22,6 @@ use Rattle.sst_store.specs.Levels.{AreBelow, AreLevels, ArePlain, IsWritten, Lev
 use Rattle.sst_store.specs.Tables.{IsTableOf, MemoryTable, merged_tables, table_entries}
 use Rattle.sst_store.proofs.Newer.{all_compact, all_merge, all_plain, all_weaker, newer_read, one_read, or_older, or_older_both, version_key}
 
--- no level holds a version yet
-pub none_yet : AreLevels [] (Some []) 0
-none_yet = record { memory_ordered = tt; memory_plain = tt; memory_below = tt; older = []; known = refl; older_ordered = tt; older_below = tt; newer = tt }
-
 -- all versions in order
 abbrev all_versions : List Entry → Option (List Entry) → List Entry
 all_versions memory tables = merge entry_cmp memory (or_none tables)

@@ -2,14 +2,12 @@
 use Rattle.std.proofs.Common.{◌≡◌, ℕ, zero, suc, ◌<◌, ◌≤◌, true, false, cond, List, [], ◌∷◌, ◌++◌, length, take, drop, get_or, filter, slice_get, Option, Some, None, refl, sym, ap, subst, ◌∙◌, arith}
 use Rattle.std.proofs.Math.Seq.{drop-cons}
 use Rattle.std.proofs.lemmas.List.{drop_all}
-use Rattle.std.specs.List.{AllByRecursion, insert}
+use Rattle.std.specs.List.{AllByRecursion}
 use Rattle.std.specs.Option.{option_map}
-use Rattle.std.specs.Ordering.{is_lt}
 use Rattle.sst_base.specs.Entry.{Entry, plain}
 use Rattle.sst_block_core.specs.Entries.{entries}
 use Rattle.sst_block_core.specs.Window.{first_match, is_version}
 use Rattle.sst_merge.specs.Merge.{entry_cmp, merge}
-use Rattle.sst_merge.specs.MergeLaws.{merge-first, merge-second}
 
 -- what holds of all holds of the member at an index
 pub all_at : {X : Type 0} (P : X → Type 0) (xs : List X) (i : ℕ) (x : X) → AllByRecursion P xs → i < length xs → x ≡ get_or xs i x → P x
@@ -21,26 +19,6 @@ module _ (e : Entry) where
   -- a list, with the version merged into what is at an index and after it
   abbrev pub placed : List Entry → ℕ → List Entry
   placed xs i = take i xs ++ merge entry_cmp (e ∷ []) (drop i xs)
-
-  step_at : (xs : List Entry) (i : ℕ) (held : Entry) → i < length xs → held ≡ get_or xs i held → is_lt (entry_cmp held e) ≡ true → placed xs i ≡ placed xs (suc i)
-  step_at [] i held inside is less = absurd (omega arith)
-  step_at (x ∷ xs) zero held inside is less = merge-second entry_cmp e x [] xs (ap (λ y. is_lt (entry_cmp y e)) (sym is) ∙ less)
-  step_at (x ∷ xs) (suc i) held inside is less = ap (λ ys. x ∷ ys) (step_at xs i held (omega arith) is less)
-
-  -- past a version that sorts before it
-  pub place_more : (xs : List Entry) (i j : ℕ) (held : Entry) (all : List Entry) → all ≡ placed xs i → i < length xs → held ≡ get_or xs i held → is_lt (entry_cmp held e) ≡ true → j ≡ suc i → all ≡ placed xs j
-  place_more xs i j held all so_far inside is less next = so_far ∙ step_at xs i held inside is less ∙ sym (ap (placed xs) next)
-
-  -- before the first one that does not
-  pub place_here : (xs : List Entry) (i : ℕ) (held : Entry) → i < length xs → held ≡ get_or xs i held → is_lt (entry_cmp held e) ≡ false → insert xs i e ≡ placed xs i
-  place_here [] i held inside is more = absurd (omega arith)
-  place_here (x ∷ xs) zero held inside is more = sym (merge-first entry_cmp e x [] xs (ap (λ y. is_lt (entry_cmp y e)) (sym is) ∙ more))
-  place_here (x ∷ xs) (suc i) held inside is more = ap (λ ys. x ∷ ys) (place_here xs i held (omega arith) is more)
-
-  -- or at the end
-  pub place_last : (xs : List Entry) → insert xs (length xs) e ≡ placed xs (length xs)
-  place_last [] = refl
-  place_last (x ∷ xs) = ap (λ ys. x ∷ ys) (place_last xs)
 
 module _ (needle : List ℕ) (s : ℕ) where
   first_by : (x : Entry) (xs : List Entry) → first_match entries needle s (x ∷ xs) ≡ cond (is_version entries needle s x) (Some (plain x)) (first_match entries needle s xs)

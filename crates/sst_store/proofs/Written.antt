@@ -41,12 +41,12 @@ pub record AreKnown (os : List (Option (List Entry))) (older : List Entry) : Typ
   pub known : all_known os ≡ Some all
   pub is : merged entry_cmp all ≡ older
 
+some_items : (xs ys : List Entry) → ◌≡◌ {A = Option (List Entry)} (Some xs) (Some ys) → xs ≡ ys
+some_items xs ys e = cc
+
 known_by : (os : List (Option (List Entry))) (o : Option (List (List Entry))) (older : List Entry) → all_known os ≡ o → option_map (merged entry_cmp) o ≡ Some older → AreKnown os older
 known_by os None older e h = absurd (cc)
-known_by os (Some all) older e h = record { all = all; known = e; is = some_same (merged entry_cmp all) older h }
-  where
-    some_same : (xs ys : List Entry) → ◌≡◌ {A = Option (List Entry)} (Some xs) (Some ys) → xs ≡ ys
-    some_same xs ys e = cc
+known_by os (Some all) older e h = record { all = all; known = e; is = some_items (merged entry_cmp all) older h }
 
 pub lists_known : (tables : List MemoryTable) (older : List Entry) → merged_tables tables ≡ Some older → AreKnown (map table_entries tables) older
 lists_known tables older h = known_by (map table_entries tables) (all_known (map table_entries tables)) older refl h
@@ -56,9 +56,6 @@ pub record IsRunOf (f : Form) (bytes : List ℕ) (h : RunHandles) (items : List 
   pub blocks : List (List Entry)
   pub layout : IsLayout f blocks bytes h
   pub is : joined blocks ≡ items
-
-some_items : (xs ys : List Entry) → ◌≡◌ {A = Option (List Entry)} (Some xs) (Some ys) → xs ≡ ys
-some_items xs ys e = cc
 
 all_taken : (items all : List Entry) (after : Option (List Entry)) → Some items ≡ option_map (λ rest. all ++ rest) after → IfSome after (λ xs. xs ≡ []) → all ≡ items
 all_taken items all None taken none = absurd (cc)

@@ -1,5 +1,5 @@
 //! The tables: written into memory, opened, and scanned.
-ghost use Rattle.std.specs.Prelude.{◌≡◌, List, Some, map, length, IfOk, OnOk, OnErr, IsSome};
+ghost use Rattle.std.specs.Prelude.{◌≡◌, List, Some, map, IfOk, OnOk, OnErr, IsSome};
 ghost use Rattle.sst_base.specs.Entry.{Entry, plain};
 ghost use Rattle.sst_merge.specs.Sources.{before};
 ghost use Rattle.sst_store.specs.Tables.{IsTableOf, merged_tables, table_entries, table_hashes};
