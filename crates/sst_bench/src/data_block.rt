@@ -368,7 +368,10 @@ pub extern "C" fn sst_get_table(
     let Some(needles) = keys_in(alloc, needles, key_len) else {
         return REFUSED;
     };
-    add_found_often(&block, needles.as_slice(), times, alloc).unwrap_or(REFUSED)
+    match add_found_often(&block, needles.as_slice(), times, alloc) {
+        Some(sum) => sum,
+        None => REFUSED,
+    }
 }
 
 /// Makes the table of the block's heads `times` times, each in place of the one before, and returns

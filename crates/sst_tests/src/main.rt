@@ -26,9 +26,10 @@ fn source<R: Files + AllocGlobal>(rt: &R, folder: &str, name: &str) -> io::Resul
 
 /// Returns how often a source may name one of the denied sequences.
 fn allowed(name: &str, denied: &str) -> usize {
-    for (source, named, number) in &ALLOWED {
-        if *source == name && *named == denied {
-            return *number;
+    for row in &ALLOWED {
+        let (source, named, number) = *row;
+        if source == name && named == denied {
+            return number;
         }
     }
     0
