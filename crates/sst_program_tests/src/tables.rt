@@ -129,7 +129,7 @@ const IO: &str = "sst: E1 Io";
 
 const TAG: &str = "sst: E3 InvalidTag";
 
-const DAMAGES: [Damage; 19] = [
+const DAMAGES: [Damage; 21] = [
     (&[], FOUND, THREE, WHOLE),
     // the first block, which `get` does not read
     (&[(33, 1)], FOUND, CHECKSUM, CHECKSUM),
@@ -149,6 +149,9 @@ const DAMAGES: [Damage; 19] = [
     (&[(376, 32)], TRUNCATED, TRUNCATED, TRUNCATED),
     (&[(376, 91)], LENGTH, LENGTH, LENGTH),
     (&[(379, 255)], IO, IO, IO),
+    // an index of no bytes after the end of the file, and where no seek reaches
+    (&[(370, 1), (376, 0)], TRUNCATED, TRUNCATED, TRUNCATED),
+    (&[(375, 128), (376, 0)], IO, IO, IO),
     // frames of another type
     (&[(368, 0), (376, 73)], TAG, TAG, TAG),
     (&[(380, 0), (381, 0), (388, 73)], TAG, THREE, TAG),
@@ -172,10 +175,15 @@ const DAMAGES: [Damage; 19] = [
     ),
 ];
 
+// The footer of an index of no bytes at offset 1000.
+const INDEX_AT_1000: [u8; 24] = [
+    232, 3, 0, 0, 0, 0, 0, 0, 0, 0, 0, 0, 0, 0, 0, 0, 0, 0, 0, 0, 0, 0, 0, 0,
+];
+
 // Of 500 bytes 7.
 const KEPT_HASH: u64 = 16241953971456033472;
 
-const FILES: [Step<'static>; 38] = [
+const FILES: [Step<'static>; 45] = [
     // Files that cannot be opened.
     Run("pack no_folder/t 1 0 1 10 1", THREE_LINES, IO),
     Run("get no_folder/t 61 3", THREE_LINES, IO),
@@ -235,6 +243,14 @@ const FILES: [Step<'static>; 38] = [
     Run("get part 61 3", b"", IO),
     Run("walk part", b"", IO),
     Run("check part", b"", IO),
+    // A footer alone, whose index has no bytes: after the end of the file, and at it.
+    Write("past", &INDEX_AT_1000),
+    Run("get past 61 3", b"", TRUNCATED),
+    Run("walk past", b"", TRUNCATED),
+    Run("check past", b"", TRUNCATED),
+    Change("past", "at_end", &[(0, 24), (1, 0)]),
+    Run("walk at_end", b"", TRUNCATED),
+    Run("check at_end", b"", TRUNCATED),
 ];
 
 #[test]
