@@ -110,7 +110,7 @@ enum Source {
 #[derive(Drop)]
 struct Handles(Source, Places, Result<Option<u8>>);
 
-const HANDLES: [Handles; 13] = [
+const HANDLES: [Handles; 15] = [
     Handles(Source::Memory, WORKED, Ok(Some(b'y'))),
     Handles(
         Source::Memory,
@@ -150,7 +150,9 @@ const HANDLES: [Handles; 13] = [
     Handles(Source::File, WORKED, Ok(Some(b'y'))),
     Handles(Source::File, ((300, 90), None), Err(Error::Io)),
     Handles(Source::File, ((368, 0), None), Err(Error::Truncated)),
-    Handles(Source::File, ((369, 0), None), Err(Error::Io)),
+    Handles(Source::File, ((369, 0), None), Err(Error::Truncated)),
+    Handles(Source::File, ((369, 1), None), Err(Error::Io)),
+    Handles(Source::File, ((u64::MAX, 0), None), Err(Error::Truncated)),
     Handles(Source::File, ((u64::MAX, 1), None), Err(Error::BadHandle)),
 ];
 
