@@ -30,16 +30,28 @@ pub const THREE: [Row; 3] = [
 /// A key of more bytes than an entry keeps itself.
 pub const LONG_KEY: &[u8] = b"0123456789012345678901234567890123456789a";
 
+/// Another key of as many bytes, which sorts after it.
+pub const OTHER_KEY: &[u8] = b"0123456789012345678901234567890123456789b";
+
 /// Three entries of long keys, the second of which is joined of two parts at interval 2.
 pub const LONG: [Row; 3] = [
     (LONG_KEY, b"x", 3, ValueType::Value),
     (LONG_KEY, b"y", 1, ValueType::Value),
-    (
-        b"0123456789012345678901234567890123456789b",
-        b"z",
-        4,
-        ValueType::Value,
-    ),
+    (OTHER_KEY, b"z", 4, ValueType::Value),
+];
+
+/// Two versions of a long key, the newer one of which deletes it, and one of another.
+pub const DELETED: [Row; 3] = [
+    (LONG_KEY, b"", 9, ValueType::Tombstone),
+    (LONG_KEY, b"x", 5, ValueType::Value),
+    (OTHER_KEY, b"z", 4, ValueType::Value),
+];
+
+/// Newer and older versions of the same keys.
+pub const WRITTEN: [Row; 3] = [
+    (LONG_KEY, b"w", 7, ValueType::Value),
+    (OTHER_KEY, b"", 6, ValueType::Tombstone),
+    (OTHER_KEY, b"y", 3, ValueType::Value),
 ];
 
 /// No hash index.

@@ -4,9 +4,12 @@
 
 mod blocks;
 mod lists;
+mod merges;
 mod output;
 mod reads;
 mod runs;
+mod scans;
+mod stores;
 
 use sst_base::{Error, Result};
 use std::alloc::Global;
@@ -34,6 +37,29 @@ fn on_block(rt: &impl Print, alloc: Global, operation: &str, times: u32) -> Resu
     }
 }
 
+// Sets an operation on tables or a store up, and performs it this many times.
+fn on_tables(rt: &impl Print, alloc: Global, operation: &str, times: u32) -> Result<()> {
+    match operation {
+        "scan_table" => scans::table(rt, alloc, times),
+        "scan_table_back" => scans::table_back(rt, alloc, times),
+        "scan_trusted" => scans::trusted(rt, alloc, times),
+        "scan_trusted_back" => scans::trusted_back(rt, alloc, times),
+        "check_run" => scans::check(rt, alloc, times),
+        "snapshot" => merges::snapshot(rt, alloc, times),
+        "compact" => merges::compact(rt, alloc, times),
+        "merge" => merges::merge(rt, alloc, times),
+        "advance" => merges::advance(rt, alloc, times),
+        "merge_back" => merges::merge_back(rt, alloc, times),
+        "write_table" => merges::written(rt, alloc, times),
+        "read_tables" => merges::tables(rt, alloc, times),
+        "store_put" => stores::put(rt, alloc, times),
+        "store_get" => stores::get(rt, alloc, times),
+        "store_flush" => stores::flush(rt, alloc, times),
+        "store_compact" => stores::compact(rt, alloc, times),
+        _ => on_block(rt, alloc, operation, times),
+    }
+}
+
 // Sets an operation up, and performs it this many times.
 fn perform(rt: &impl Print, alloc: Global, operation: &str, times: u32) -> Result<()> {
     match operation {
@@ -43,7 +69,7 @@ fn perform(rt: &impl Print, alloc: Global, operation: &str, times: u32) -> Resul
         "read_memory" => runs::read_memory(rt, alloc, times),
         "read_file" => runs::read_file(rt, alloc, times),
         "false_length" => runs::false_length(rt, alloc, times),
-        _ => on_block(rt, alloc, operation, times),
+        _ => on_tables(rt, alloc, operation, times),
     }
 }
 

@@ -1,5 +1,5 @@
 //! Runs: written, and read.
-use crate::lists::{LONG, LONG_KEY, NO_BUCKETS, ONE_EACH, THREE, can_be_written, list_of};
+use crate::lists::{LONG, LONG_KEY, NO_BUCKETS, ONE_EACH, Row, THREE, can_be_written, list_of};
 use crate::output::print_bytes;
 use sst_base::{Block, ByteSum, Error, InternalValue, Result, Slice, Steps};
 use sstable_blocks::run::{
@@ -94,9 +94,9 @@ pub fn read(rt: &impl Print, alloc: Global, times: u32) -> Result<()> {
     Ok(())
 }
 
-// The bytes of the same run, and its handles.
-fn long_run(alloc: Global) -> Result<(Slice, RunHandles)> {
-    let (list, config) = (list_of(alloc, &LONG)?, RunConfig::new(2, ONE_EACH, 10));
+/// Makes the run of some rows, one block with buckets: its bytes and its handles.
+pub fn run_of(alloc: Global, rows: &[Row]) -> Result<(Slice, RunHandles)> {
+    let (list, config) = (list_of(alloc, rows)?, RunConfig::new(2, ONE_EACH, 10));
     if !can_be_written(&list, &[], &config) {
         return Err(Error::OutOfOrder);
     }
@@ -107,7 +107,7 @@ fn long_run(alloc: Global) -> Result<(Slice, RunHandles)> {
 
 /// Reads the key from the same run in memory, with checks.
 pub fn read_memory(rt: &impl Print, alloc: Global, times: u32) -> Result<()> {
-    let (bytes, handles) = long_run(alloc)?;
+    let (bytes, handles) = run_of(alloc, &LONG)?;
     let mut source = MemorySource::new(bytes);
     for _ in 0..times {
         let found = read_entry_checked::<ByteSum, _>(alloc, &mut source, &handles, LONG_KEY, 2);
@@ -118,7 +118,7 @@ pub fn read_memory(rt: &impl Print, alloc: Global, times: u32) -> Result<()> {
 
 /// Reads the key from the same run as from a file, with checks.
 pub fn read_file(rt: &impl Print, alloc: Global, times: u32) -> Result<()> {
-    let (bytes, handles) = long_run(alloc)?;
+    let (bytes, handles) = run_of(alloc, &LONG)?;
     let mut source = FileSource::new(Cursor::new(bytes.as_slice()));
     for _ in 0..times {
         let found = read_entry_checked::<ByteSum, _>(alloc, &mut source, &handles, LONG_KEY, 2);

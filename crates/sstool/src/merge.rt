@@ -44,7 +44,11 @@ impl<'p, 'f, R: Files + Clock + Eprint> Source<InternalValue> for Merged<'p, 'f,
     ghost use Rattle.std.specs.Prelude.{None};
     ghost use Rattle.sstable_blocks.specs.Scans.{most_left};
 
-    ghost left = { λ s. record { list = None; most = most_left s.scan.scan } };
+    ghost left = { λ s. record {
+      list = None;
+      most = most_left s.scan.scan;
+      ended = s.scan.scan.ended;
+    } };
 
     fn next_entry(&mut self, alloc: Global) -> sstable_blocks::Result<Option<InternalValue>> {
         let entry = self.scan.next_entry(alloc);

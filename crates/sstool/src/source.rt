@@ -29,7 +29,7 @@ impl<'k, S: FrameSource> Scanned<'k, S> {
 }
 
 impl<'k, S: FrameSource> Source<InternalValue> for Scanned<'k, S> {
-    ghost left = { λ s. record { list = None; most = most_left s.scan } };
+    ghost left = { λ s. record { list = None; most = most_left s.scan; ended = s.scan.ended } };
 
     fn next_entry(&mut self, alloc: Global) -> Result<Option<InternalValue>> {
         if self.is_reverse {
