@@ -394,10 +394,13 @@ impl<T: Version + Drop, I: Source<T> + Drop> Merge<T, I> {
         ready?;
         let first = pick_first(&self.heads, &mut self.picks, &mut self.made);
         self.made = first + 1;
-        let passed = self.heads[first].advance(alloc);
-        keep_error(&mut self.ended, &passed);
-        pick_first(&self.heads, &mut self.picks, &mut self.made);
-        passed
+        match self.heads[first].advance(alloc) {
+            Ok(passed) => {
+                pick_first(&self.heads, &mut self.picks, &mut self.made);
+                Ok(passed)
+            }
+            Err(error) => Err(note_error(&mut self.ended, &error)),
+        }
     }
 }
 
@@ -417,8 +420,10 @@ impl<T: Version + Drop, I: Source<T> + Drop> Source<T> for Merge<T, I> {
         ready?;
         let first = pick_first(&self.heads, &mut self.picks, &mut self.made);
         self.made = first + 1;
-        let taken = self.heads[first].take(alloc);
-        keep_error(&mut self.ended, &taken);
-        taken
+        // (what a `?` or a variable passes on is copied)
+        match self.heads[first].take(alloc) {
+            Ok(taken) => Ok(taken),
+            Err(error) => Err(note_error(&mut self.ended, &error)),
+        }
     }
 }
