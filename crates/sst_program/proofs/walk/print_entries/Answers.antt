@@ -1,6 +1,6 @@
 use Rattle.std.proofs.Common.{arith}
 use Rattle.std.proofs.lemmas.Result.{err_from_is_err_and}
-use Rattle.sst_program.proofs.TableFaults.{among, blocks_late}
+use Rattle.sst_program.proofs.TableFaults.{among, blocks_fail, blocks_late}
 use Rattle.sst_program.proofs.walk.print_entries.Goals as goal
 
 pub returns-in_err-index-clause-io : goal.returns-in_err-index-clause-io
@@ -13,3 +13,8 @@ returns-clause-refused g c =
     let i = c.in_ok-index.ensures in
     let p = c.print_blocks.ensures in
     blocks_late _ _ _ _ c.args.index.now c.in_ok-index.index.items _ _ c.print_blocks.result i.source.same i.exact (λ less. omega (arith, less, i.source.failures_grow)) p.refused
+
+pub returns-clause-io : goal.returns-clause-io
+returns-clause-io g c =
+    let i = c.in_ok-index.ensures in
+    blocks_fail _ _ _ _ _ _ c.args.index.now c.in_ok-index.index.items c.print_blocks.result i.source.same i.exact (λ less. omega (arith, less, i.source.failures_grow)) i.source.kept c.print_blocks.ensures.io
