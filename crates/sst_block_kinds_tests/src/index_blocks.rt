@@ -193,7 +193,7 @@ struct Script {
 }
 
 /// The restart intervals of a script's block: each handle a head, two forms, and one interval.
-static INTERVALS: [u8; 4] = [1, 2, 3, 255];
+static SCRIPT_INTERVALS: [u8; 4] = [1, 2, 3, 255];
 
 /// Seeks find the first handle that can lead to a key; a seek past all handles leaves the back; an
 /// upper bound keeps the first greater handle; an end key may be empty.
@@ -380,7 +380,7 @@ fn check_script(
     list: &[KeyedBlockHandle],
 ) -> Result<()> {
     let ops = ops_of(alloc, script.steps)?;
-    for interval in &INTERVALS {
+    for interval in &SCRIPT_INTERVALS {
         check_steps(rt, alloc, script, list, &ops, (*interval, false))?;
         check_steps(rt, alloc, script, list, &ops, (*interval, true))?;
     }
