@@ -15,8 +15,6 @@ ghost use Rattle.sst_store.specs.Levels.{IsFull, IsWritten, read, version, versi
 pub mod laws;
 mod memory;
 mod tables;
-#[cfg(test)]
-mod tests;
 
 use crate::memory::{newest, place_of, shown};
 use crate::tables::{Stored, add_table, merge_of, table_of};

@@ -18,8 +18,6 @@ use std::alloc::Global;
 
 pub mod framed;
 pub mod newest;
-#[cfg(test)]
-mod tests;
 
 /// Items per restart interval.
 const INTERVAL: u8 = 16;
@@ -86,7 +84,3 @@ pub fn read(
 {
     block.point_read(alloc, key, seqno, &mut Steps::new())
 }
-
-/// What a test returns that ends early where a call fails.
-#[cfg(test)]
-type Tested = std::result::Result<(), std::test::Fail>;
