@@ -1,11 +1,4 @@
 //! The check of data blocks and of index blocks of any bytes.
-ghost use Rattle.std.specs.Prelude.{◌≡◌, ◌+◌, ◌%◌, ◌^◌, ◌<◌, List, length};
-ghost use Rattle.std.specs.Prelude.{Ok, IfSome};
-ghost use Rattle.sst_base.specs.Entry.{Entry};
-ghost use Rattle.sst_base.specs.Hashes.{poly31};
-ghost use Rattle.sst_block_kinds.specs.Checks.{data_check, index_check};
-ghost use Rattle.sst_block_kinds.specs.Handles.{Handle};
-ghost use Rattle.sst_bench.specs.Turns.{OrRefused};
 
 use crate::REFUSED;
 use sst_base::{Block, BlockType, Poly31, Slice};
@@ -13,31 +6,21 @@ use sst_block_kinds::{DataBlock, IndexBlock};
 use std::alloc::Global;
 
 // The block of a payload, which is copied.
-fn block_of(alloc: Global, payload: &[u8], block_type: BlockType) -> Option<Block>
-    ensures { IfSome result (λ block. block.payload ≡ payload.now) }
-{
+fn block_of(alloc: Global, payload: &[u8], block_type: BlockType) -> Option<Block> {
     u32::try_from(payload.len()).ok()?;
     Some(Block::from_payload(block_type, Slice::new(alloc, payload).ok()?))
 }
 
 // Checks a block, and adds the number of its entries.
 #[inline(never)]
-fn add_checked(so_far: u64, block: &Block, alloc: Global) -> Option<u64>
-    ensures { IfSome result (λ sum. (items : List Entry)
-        × (data_check (poly31 64) block.now.payload ≡ Ok items)
-        × (sum ≡ (so_far + length items) % 2 ^ 64)) }
-{
+fn add_checked(so_far: u64, block: &Block, alloc: Global) -> Option<u64> {
     let count = DataBlock::<Poly31>::check_ref(alloc, block).ok()?;
     Some(so_far.wrapping_add(count as u64))
 }
 
 // Checks an index block, and adds the number of its handles.
 #[inline(never)]
-fn add_checked_index(so_far: u64, block: &Block) -> Option<u64>
-    ensures { IfSome result (λ sum. (items : List Handle)
-        × (index_check block.now.payload ≡ Ok items)
-        × (sum ≡ (so_far + length items) % 2 ^ 64)) }
-{
+fn add_checked_index(so_far: u64, block: &Block) -> Option<u64> {
     let count = IndexBlock::check_ref(block).ok()?;
     Some(so_far.wrapping_add(count as u64))
 }
@@ -45,15 +28,12 @@ fn add_checked_index(so_far: u64, block: &Block) -> Option<u64>
 /// Checks the payload of a data block as bytes from outside, and adds the number of its entries.
 /// Refuses what the check refuses.
 #[unsafe(no_mangle)]
-pub extern "C" fn sst_check(payload: &[u8], times: u64, alloc: Global) -> u64
-    ensures { OrRefused result
-        (0 < times → (items : List Entry) × (data_check (poly31 64) payload.now ≡ Ok items)) }
-{
+pub extern "C" fn sst_check(payload: &[u8], times: u64, alloc: Global) -> u64 {
     let Some(block) = block_of(alloc, payload, BlockType::Data) else {
         return REFUSED;
     };
     let mut sum = 0;
-    for turn in 0..times {
+    for _ in 0..times {
         match add_checked(sum, &block, alloc) {
             Some(more) => sum = more,
             None => return REFUSED,
@@ -65,15 +45,12 @@ pub extern "C" fn sst_check(payload: &[u8], times: u64, alloc: Global) -> u64
 /// Checks the payload of an index block as bytes from outside, and adds the number of its handles.
 /// Refuses what the check refuses.
 #[unsafe(no_mangle)]
-pub extern "C" fn sst_index_check(payload: &[u8], times: u64, alloc: Global) -> u64
-    ensures { OrRefused result
-        (0 < times → (items : List Handle) × (index_check payload.now ≡ Ok items)) }
-{
+pub extern "C" fn sst_index_check(payload: &[u8], times: u64, alloc: Global) -> u64 {
     let Some(block) = block_of(alloc, payload, BlockType::Index) else {
         return REFUSED;
     };
     let mut sum = 0;
-    for turn in 0..times {
+    for _ in 0..times {
         match add_checked_index(sum, &block) {
             Some(more) => sum = more,
             None => return REFUSED,

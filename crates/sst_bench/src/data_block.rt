@@ -2,20 +2,14 @@
 //!
 //! Each call takes entries as bytes (see `entries`), a restart interval and a hash ratio `num /
 //! den`. It refuses an empty list, entries out of order, an interval of 0, and a denominator of 0.
-ghost use Rattle.std.specs.Prelude.{◌≡◌, ℕ, ◌<◌, ◌≤◌, List, length, map, OnSome};
-ghost use Rattle.std.specs.Prelude.{IfSome};
-ghost use Rattle.sst_base.specs.Entry.{Entry, plain};
+ghost use Rattle.std.specs.Prelude.{◌≤◌, length, IfSome, OnSome};
 ghost use Rattle.sst_block_core.specs.Kind.{IsOrdered};
 ghost use Rattle.sst_block_core.specs.Entries.{entries};
-ghost use Rattle.sst_bench.specs.Blocks.{block_payload, BeginAlike, Copied, add_found};
-ghost use Rattle.sst_bench.specs.Inputs.{AreEntries};
-ghost use Rattle.sst_bench.specs.Keys.{AreKeys};
-ghost use Rattle.sst_bench.specs.Turns.{OrRefused, repeated};
 
 use crate::REFUSED;
 use crate::entries::entries_in;
 use crate::keys::keys_in;
-use crate::sums::{entry_sum, item_sum};
+use crate::sums::{entry_sum, found_sum, item_sum, next_sum};
 use sst_base::{Block, BlockType, HashRatio, InternalValue, Poly31, SeqNo, Slice, Steps};
 use sst_block_core::ParsedItem;
 use sst_block_kinds::DataBlock;
@@ -32,7 +26,6 @@ pub(crate) fn items_in(
     interval: u8,
     ratio: HashRatio,
 ) -> Option<Vec<InternalValue>>
-    ensures read { IfSome result (λ items. AreEntries bytes.now count items.items) }
     ensures some { IfSome result (λ items. 1 ≤ length items.items) }
     ensures ordered { IfSome result (λ items. IsOrdered entries items.items) }
     ensures interval { OnSome result (1 ≤ interval) }
@@ -48,32 +41,38 @@ pub(crate) fn items_in(
     Some(items)
 }
 
-// The block of the entries, if it can be encoded.
+// The block of entries, if it can be encoded.
+pub(crate) fn block_of(
+    alloc: Global,
+    items: &[InternalValue],
+    interval: u8,
+    ratio: HashRatio,
+) -> Option<DataBlock<Poly31>> {
+    if interval == 0 || ratio.den == 0 || items.is_empty() {
+        return None;
+    }
+    if !DataBlock::<Poly31>::is_ordered(items) {
+        return None;
+    }
+    let payload = DataBlock::<Poly31>::encode_into_vec(alloc, items, interval, ratio).ok()?;
+    let payload = Slice::from_vec(payload).ok()?;
+    Some(DataBlock::new(Block::from_payload(BlockType::Data, payload)))
+}
+
+// The block of entries as bytes, if it can be encoded.
 fn block_in(
     alloc: Global,
     bytes: &[u8],
     count: usize,
     interval: u8,
     ratio: HashRatio,
-) -> Option<DataBlock<Poly31>>
-    ensures { IfSome result (λ block. (items : List Entry) × AreEntries bytes.now count items
-        × (block.items ≡ map plain items)) }
-{
-    let items = items_in(alloc, bytes, count, interval, ratio)?;
-    let payload = DataBlock::<Poly31>::encode_into_vec(
-        alloc,
-        items.as_slice(),
-        interval,
-        ratio,
-    ).ok()?;
-    let payload = Slice::from_vec(payload).ok()?;
-    Some(DataBlock::new(Block::from_payload(BlockType::Data, payload)))
+) -> Option<DataBlock<Poly31>> {
+    let items = entries_in(alloc, bytes, count)?;
+    block_of(alloc, items.as_slice(), interval, ratio)
 }
 
 // Copies as many bytes as fit.
-pub(crate) fn copy_front(out: &mut [u8], bytes: &[u8])
-    ensures { BeginAlike out.new bytes.now }
-{
+pub(crate) fn copy_front(out: &mut [u8], bytes: &[u8]) {
     let len = out.len().min(bytes.len());
     out[..len].copy_from_slice(&bytes[..len]);
 }
@@ -90,8 +89,6 @@ fn encode(
     requires ordered { IsOrdered entries items.now }
     requires interval { 1 ≤ interval }
     requires den { 1 ≤ ratio.den }
-    ensures { OnSome result
-        (0 < times → writer.new.items ≡ block_payload items.now interval ratio.num ratio.den) }
 {
     for _ in 0..times {
         writer.clear();
@@ -111,10 +108,7 @@ pub extern "C" fn sst_encode(
     times: u64,
     out: &mut [u8],
     alloc: Global,
-) -> u64
-    ensures { OrRefused result ((items : List Entry) × AreEntries bytes.now count items
-        × (0 < times → Copied result out.new (block_payload items interval num den))) }
-{
+) -> u64 {
     let ratio = HashRatio { num, den };
     let Some(items) = items_in(alloc, bytes, count, interval, ratio) else {
         return REFUSED;
@@ -235,8 +229,7 @@ pub extern "C" fn sst_materialize(
 // Adds the first parsed item of a block.
 #[inline(never)]
 fn add_first(so_far: u64, block: &DataBlock<Poly31>) -> u64 {
-    let first = block.iter().next();
-    so_far.wrapping_add(first.map_or(0, |item| item_sum(&item)))
+    so_far.wrapping_add(next_sum(&block.iter().next()))
 }
 
 /// Makes an iterator over the block, takes one item, and adds it.
@@ -267,35 +260,35 @@ fn add_found(
     block: &DataBlock<Poly31>,
     needles: &[&[u8]],
     alloc: Global,
-) -> Option<u64>
-    ensures { IfSome result (λ sum. sum
-        ≡ add_found block.now.items (map (λ needle. needle.now) needles.now) so_far) }
-{
+) -> Option<u64> {
     let mut sum = so_far;
     for needle in needles {
         let mut steps = Steps::new();
         let found = block.point_read(alloc, needle, NEWEST, &mut steps).ok()?;
-        sum = sum.wrapping_add(found.map_or(1, |entry| entry_sum(&entry)));
+        sum = sum.wrapping_add(found_sum(&found));
     }
     Some(sum)
 }
 
-// Does the point reads of all needles `times` times, from 0.
-fn add_found_often(
-    block: &DataBlock<Poly31>,
-    needles: &[&[u8]],
-    times: u64,
+// Does a point read of each needle `times` times, from 0.
+fn reads_of(
     alloc: Global,
-) -> Option<u64>
-    ensures { IfSome result (λ sum. sum
-        ≡ repeated (add_found block.now.items (map (λ needle. needle.now) needles.now)) times
-        0) }
-{
+    block: Option<DataBlock<Poly31>>,
+    needles: &[u8],
+    key_len: usize,
+    times: u64,
+) -> u64 {
+    let (Some(block), Some(needles)) = (block, keys_in(alloc, needles, key_len)) else {
+        return REFUSED;
+    };
     let mut sum = 0;
     for _ in 0..times {
-        sum = add_found(sum, block, needles, alloc)?;
+        match add_found(sum, &block, needles.as_slice(), alloc) {
+            Some(more) => sum = more,
+            None => return REFUSED,
+        }
     }
-    Some(sum)
+    sum
 }
 
 /// Does a point read of each needle, and adds the entry that is found, or 1 for none.
@@ -310,22 +303,9 @@ pub extern "C" fn sst_get(
     needles: &[u8],
     key_len: usize,
     alloc: Global,
-) -> u64
-    ensures { OrRefused result
-        ((items : List Entry) × (keys : List (List ℕ)) × AreEntries bytes.now count items
-        × AreKeys needles.now key_len keys
-        × (result ≡ repeated (add_found (map plain items) keys) times 0)) }
-{
-    let Some(block) = block_in(alloc, bytes, count, interval, HashRatio { num, den }) else {
-        return REFUSED;
-    };
-    let Some(needles) = keys_in(alloc, needles, key_len) else {
-        return REFUSED;
-    };
-    match add_found_often(&block, needles.as_slice(), times, alloc) {
-        Some(sum) => sum,
-        None => REFUSED,
-    }
+) -> u64 {
+    let block = block_in(alloc, bytes, count, interval, HashRatio { num, den });
+    reads_of(alloc, block, needles, key_len, times)
 }
 
 // The block of the entries with the table of its heads, if it can be encoded and memory suffices.
@@ -335,10 +315,7 @@ fn tabled_in(
     count: usize,
     interval: u8,
     ratio: HashRatio,
-) -> Option<DataBlock<Poly31>>
-    ensures { IfSome result (λ block. (items : List Entry) × AreEntries bytes.now count items
-        × (block.items ≡ map plain items)) }
-{
+) -> Option<DataBlock<Poly31>> {
     block_in(alloc, bytes, count, interval, ratio)?
         .with_heads(alloc)
         .ok()
@@ -356,22 +333,9 @@ pub extern "C" fn sst_get_table(
     needles: &[u8],
     key_len: usize,
     alloc: Global,
-) -> u64
-    ensures { OrRefused result
-        ((items : List Entry) × (keys : List (List ℕ)) × AreEntries bytes.now count items
-        × AreKeys needles.now key_len keys
-        × (result ≡ repeated (add_found (map plain items) keys) times 0)) }
-{
-    let Some(block) = tabled_in(alloc, bytes, count, interval, HashRatio { num, den }) else {
-        return REFUSED;
-    };
-    let Some(needles) = keys_in(alloc, needles, key_len) else {
-        return REFUSED;
-    };
-    match add_found_often(&block, needles.as_slice(), times, alloc) {
-        Some(sum) => sum,
-        None => REFUSED,
-    }
+) -> u64 {
+    let block = tabled_in(alloc, bytes, count, interval, HashRatio { num, den });
+    reads_of(alloc, block, needles, key_len, times)
 }
 
 /// Makes the table of the block's heads `times` times, each in place of the one before, and returns
@@ -395,7 +359,10 @@ pub extern "C" fn sst_make_table(
             Err(_) => return REFUSED,
         }
     }
-    block.heads().map_or(0, |table| table.len() as u64)
+    match block.heads() {
+        Some(table) => table.len() as u64,
+        None => 0,
+    }
 }
 
 // Seeks each needle with a new iterator, adds 1 where the seek returns `true`, and the next item.
@@ -405,7 +372,25 @@ fn add_next(so_far: u64, block: &DataBlock<Poly31>, needles: &[&[u8]]) -> u64 {
     for needle in needles {
         let mut iter = block.iter();
         sum = sum.wrapping_add(u64::from(iter.seek(needle)));
-        sum = sum.wrapping_add(iter.next().map_or(0, |item| item_sum(&item)));
+        sum = sum.wrapping_add(next_sum(&iter.next()));
+    }
+    sum
+}
+
+// Seeks each needle `times` times, from 0.
+fn seeks_of(
+    alloc: Global,
+    block: Option<DataBlock<Poly31>>,
+    needles: &[u8],
+    key_len: usize,
+    times: u64,
+) -> u64 {
+    let (Some(block), Some(needles)) = (block, keys_in(alloc, needles, key_len)) else {
+        return REFUSED;
+    };
+    let mut sum = 0;
+    for _ in 0..times {
+        sum = add_next(sum, &block, needles.as_slice());
     }
     sum
 }
@@ -424,17 +409,8 @@ pub extern "C" fn sst_seek_next(
     key_len: usize,
     alloc: Global,
 ) -> u64 {
-    let Some(block) = block_in(alloc, bytes, count, interval, HashRatio { num, den }) else {
-        return REFUSED;
-    };
-    let Some(needles) = keys_in(alloc, needles, key_len) else {
-        return REFUSED;
-    };
-    let mut sum = 0;
-    for _ in 0..times {
-        sum = add_next(sum, &block, needles.as_slice());
-    }
-    sum
+    let block = block_in(alloc, bytes, count, interval, HashRatio { num, den });
+    seeks_of(alloc, block, needles, key_len, times)
 }
 
 /// Makes the seeks of [`sst_seek_next`] in a block with the table of its heads.
@@ -450,17 +426,8 @@ pub extern "C" fn sst_seek_next_table(
     key_len: usize,
     alloc: Global,
 ) -> u64 {
-    let Some(block) = tabled_in(alloc, bytes, count, interval, HashRatio { num, den }) else {
-        return REFUSED;
-    };
-    let Some(needles) = keys_in(alloc, needles, key_len) else {
-        return REFUSED;
-    };
-    let mut sum = 0;
-    for _ in 0..times {
-        sum = add_next(sum, &block, needles.as_slice());
-    }
-    sum
+    let block = tabled_in(alloc, bytes, count, interval, HashRatio { num, den });
+    seeks_of(alloc, block, needles, key_len, times)
 }
 
 // Seeks each needle from the back with a new iterator, adds 1 where the seek returns `true`, and
@@ -471,16 +438,25 @@ fn add_next_back(so_far: u64, block: &DataBlock<Poly31>, needles: &[&[u8]]) -> u
     for needle in needles {
         let mut iter = block.iter();
         sum = sum.wrapping_add(u64::from(iter.seek_upper(needle)));
-        sum = sum.wrapping_add(iter.next_back().map_or(0, |item| item_sum(&item)));
+        sum = sum.wrapping_add(next_sum(&iter.next_back()));
     }
     sum
 }
 
-// Seeks all needles from the back `times` times, from 0.
-fn add_next_back_often(block: &DataBlock<Poly31>, needles: &[&[u8]], times: u64) -> u64 {
+// Seeks each needle from the back `times` times, from 0.
+fn seeks_back_of(
+    alloc: Global,
+    block: Option<DataBlock<Poly31>>,
+    needles: &[u8],
+    key_len: usize,
+    times: u64,
+) -> u64 {
+    let (Some(block), Some(needles)) = (block, keys_in(alloc, needles, key_len)) else {
+        return REFUSED;
+    };
     let mut sum = 0;
     for _ in 0..times {
-        sum = add_next_back(sum, block, needles);
+        sum = add_next_back(sum, &block, needles.as_slice());
     }
     sum
 }
@@ -499,13 +475,8 @@ pub extern "C" fn sst_seek_upper_back(
     key_len: usize,
     alloc: Global,
 ) -> u64 {
-    let Some(block) = block_in(alloc, bytes, count, interval, HashRatio { num, den }) else {
-        return REFUSED;
-    };
-    let Some(needles) = keys_in(alloc, needles, key_len) else {
-        return REFUSED;
-    };
-    add_next_back_often(&block, needles.as_slice(), times)
+    let block = block_in(alloc, bytes, count, interval, HashRatio { num, den });
+    seeks_back_of(alloc, block, needles, key_len, times)
 }
 
 /// Makes the seeks of [`sst_seek_upper_back`] in a block with the table of its heads.
@@ -521,11 +492,6 @@ pub extern "C" fn sst_seek_upper_back_table(
     key_len: usize,
     alloc: Global,
 ) -> u64 {
-    let Some(block) = tabled_in(alloc, bytes, count, interval, HashRatio { num, den }) else {
-        return REFUSED;
-    };
-    let Some(needles) = keys_in(alloc, needles, key_len) else {
-        return REFUSED;
-    };
-    add_next_back_often(&block, needles.as_slice(), times)
+    let block = tabled_in(alloc, bytes, count, interval, HashRatio { num, den });
+    seeks_back_of(alloc, block, needles, key_len, times)
 }

@@ -10,28 +10,19 @@
 //! | value | value length |
 //!
 //! Numbers are little-endian. Entries are concatenated.
-ghost use Rattle.std.specs.Prelude.{◌≡◌, ◌∷◌, ◌++◌, length, IfSome};
-ghost use Rattle.byteorder.specs.Endian.{little_bytes};
-ghost use Rattle.sst_base.specs.ValueType.{value_type_byte};
-ghost use Rattle.sst_bench.specs.Inputs.{entry_bytes, AreEntries};
 
 use byteorder::{ByteOrder, LittleEndian};
 use sst_base::{InternalValue, Slice, ValueType};
 use std::alloc::Global;
 
 // The value type at the start, and the bytes after it.
-#[tactic(auto, using(sst_base::specs::ReadingLaws::value_type_of_takes))]
-fn type_in(bytes: &[u8]) -> Option<(ValueType, &[u8])>
-    ensures { IfSome result (λ p. bytes.now ≡ value_type_byte p.0 ∷ p.1.now) }
-{
+fn type_in(bytes: &[u8]) -> Option<(ValueType, &[u8])> {
     let (byte, rest) = bytes.split_first()?;
     Some((ValueType::try_from(*byte).ok()?, rest))
 }
 
 // The number of two bytes at the start, and the bytes after it.
-pub(crate) fn u16_in(bytes: &[u8]) -> Option<(u16, &[u8])>
-    ensures { IfSome result (λ p. bytes.now ≡ little_bytes 2 p.0 ++ p.1.now) }
-{
+pub(crate) fn u16_in(bytes: &[u8]) -> Option<(u16, &[u8])> {
     if bytes.len() < 2 {
         return None;
     }
@@ -40,9 +31,7 @@ pub(crate) fn u16_in(bytes: &[u8]) -> Option<(u16, &[u8])>
 }
 
 // The number of four bytes at the start, and the bytes after it.
-pub(crate) fn u32_in(bytes: &[u8]) -> Option<(u32, &[u8])>
-    ensures { IfSome result (λ p. bytes.now ≡ little_bytes 4 p.0 ++ p.1.now) }
-{
+pub(crate) fn u32_in(bytes: &[u8]) -> Option<(u32, &[u8])> {
     if bytes.len() < 4 {
         return None;
     }
@@ -51,9 +40,7 @@ pub(crate) fn u32_in(bytes: &[u8]) -> Option<(u32, &[u8])>
 }
 
 // The number of eight bytes at the start, and the bytes after it.
-pub(crate) fn u64_in(bytes: &[u8]) -> Option<(u64, &[u8])>
-    ensures { IfSome result (λ p. bytes.now ≡ little_bytes 8 p.0 ++ p.1.now) }
-{
+pub(crate) fn u64_in(bytes: &[u8]) -> Option<(u64, &[u8])> {
     if bytes.len() < 8 {
         return None;
     }
@@ -62,10 +49,7 @@ pub(crate) fn u64_in(bytes: &[u8]) -> Option<(u64, &[u8])>
 }
 
 // The first `len` bytes, and the bytes after them.
-pub(crate) fn bytes_in(bytes: &[u8], len: usize) -> Option<(&[u8], &[u8])>
-    ensures joined { IfSome result (λ p. bytes.now ≡ p.0.now ++ p.1.now) }
-    ensures length { IfSome result (λ p. length p.0.now ≡ len) }
-{
+pub(crate) fn bytes_in(bytes: &[u8], len: usize) -> Option<(&[u8], &[u8])> {
     if bytes.len() < len {
         return None;
     }
@@ -73,10 +57,7 @@ pub(crate) fn bytes_in(bytes: &[u8], len: usize) -> Option<(&[u8], &[u8])>
 }
 
 // The entry at the start of bytes, and the bytes after it.
-#[tactic(auto, using(crate::proofs::Parts::six_parts), unfolding(crate::specs::Inputs::entry_bytes))]
-fn entry_in(alloc: Global, bytes: &[u8]) -> Option<(InternalValue, &[u8])>
-    ensures { IfSome result (λ p. bytes.now ≡ entry_bytes p.0 ++ p.1.now) }
-{
+fn entry_in(alloc: Global, bytes: &[u8]) -> Option<(InternalValue, &[u8])> {
     let (value_type, rest) = type_in(bytes)?;
     let (seqno, rest) = u64_in(rest)?;
     let (key_len, rest) = u16_in(rest)?;
@@ -94,10 +75,7 @@ fn entry_in(alloc: Global, bytes: &[u8]) -> Option<(InternalValue, &[u8])>
 
 /// Reads `count` entries. `None` if the bytes are not that many entries and nothing else, or an
 /// allocation fails.
-#[tactic(auto, using(crate::proofs::Parts::entries_more))]
-pub fn entries_in(alloc: Global, bytes: &[u8], count: usize) -> Option<Vec<InternalValue>>
-    ensures { IfSome result (λ items. AreEntries bytes.now count items.items) }
-{
+pub fn entries_in(alloc: Global, bytes: &[u8], count: usize) -> Option<Vec<InternalValue>> {
     let mut entries = Vec::new(alloc);
     let mut rest = bytes;
     for _ in 0..count {

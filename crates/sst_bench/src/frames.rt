@@ -1,22 +1,13 @@
 //! Frames: writing and reading with the polynomial hash.
-ghost use Rattle.std.specs.Prelude.{◌≡◌, ◌<◌, Ok, OnSome};
-ghost use Rattle.sst_base.specs.BlockType.{block_type_of};
-ghost use Rattle.sst_base.specs.Frame.{frame};
-ghost use Rattle.sst_base.specs.Hashes.{poly31};
-ghost use Rattle.sst_base.specs.declared.table.block.block_type.BlockType.{BlockType};
-ghost use Rattle.sst_bench.specs.Blocks.{Copied};
-ghost use Rattle.sst_bench.specs.Turns.{OrRefused};
 
 use crate::REFUSED;
 use crate::data_block::copy_front;
+use crate::sums::last_byte;
 use sst_base::{Block, BlockType, Poly31};
 use std::alloc::Global;
 
 // Writes the frame `times` times, each time into the same vector, emptied first.
-fn write(writer: &mut Vec<u8>, payload: &[u8], block_type: BlockType, times: u64) -> Option<()>
-    ensures { OnSome result
-        (0 < times → writer.new.items ≡ frame (poly31 128) block_type payload.now) }
-{
+fn write(writer: &mut Vec<u8>, payload: &[u8], block_type: BlockType, times: u64) -> Option<()> {
     for _ in 0..times {
         writer.clear();
         Block::write_into::<Poly31, Vec<u8>>(writer, payload, block_type).ok()?;
@@ -33,10 +24,7 @@ pub extern "C" fn sst_frame_write(
     times: u64,
     out: &mut [u8],
     alloc: Global,
-) -> u64
-    ensures { OrRefused result ((t : BlockType) × (block_type_of block_type ≡ Ok t)
-        × (0 < times → Copied result out.new (frame (poly31 128) t payload.now))) }
-{
+) -> u64 {
     let Ok(block_type) = BlockType::try_from(block_type) else {
         return REFUSED;
     };
@@ -57,7 +45,7 @@ fn block_sum(block: &Block) -> u64 {
     (payload.len() as u64)
         .wrapping_add(u64::from(u8::from(block.header().block_type)))
         .wrapping_add((block.header().checksum.into_u128() % (1 << 64)) as u64)
-        .wrapping_add(payload.last().map_or(0, |byte| u64::from(*byte)))
+        .wrapping_add(last_byte(payload))
 }
 
 // Reads the frame through the reader of bytes, and adds its block.

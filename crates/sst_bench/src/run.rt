@@ -9,15 +9,14 @@ ghost use Rattle.sst_base.specs.Hashes.{poly31};
 ghost use Rattle.sst_block_core.specs.Entries.{entries};
 ghost use Rattle.sst_block_core.specs.Kind.{IsOrdered};
 ghost use Rattle.sstable_blocks.specs.Blocks.{CutsFit, blocks_of};
-ghost use Rattle.sstable_blocks.specs.Run.{form, IsLayout};
 ghost use Rattle.sstable_blocks.specs.RunReading.{hashes};
 ghost use Rattle.sstable_blocks.specs.Sound.{IsSound};
-ghost use Rattle.sst_bench.specs.Runs.{IsRunOf};
 
 use crate::REFUSED;
 use crate::data_block::{NEWEST, copy_front, items_in};
+use crate::entries::entries_in;
 use crate::keys::keys_in;
-use crate::sums::entry_sum;
+use crate::sums::found_sum;
 use sst_base::{HashRatio, InternalValue, Poly31, Slice, Steps};
 use sst_block_kinds::DataBlock;
 use sstable_blocks::{RunConfig, RunHandles, cuts_fit, read_entry, write_run};
@@ -55,30 +54,12 @@ fn written(
     requires interval { 1 ≤ config.restart_interval }
     requires index_interval { 1 ≤ config.index_interval }
     requires den { 1 ≤ config.ratio.den }
-    ensures layout { IfSome result (λ r. IsLayout (form (poly31 64) (poly31 128) config)
-        (blocks_of cuts.now items.now) r.0.items r.1) }
     ensures sound { IfSome result (λ r. IsSound (hashes (poly31 64) (poly31 128))
         (blocks_of cuts.now items.now) r.0.items r.1) }
 {
     let mut bytes = Vec::new(alloc);
     let handles = write_run::<Poly31, Vec<u8>>(alloc, &mut bytes, items, cuts, config).ok()?;
     Some((bytes, handles))
-}
-
-/// The run of entries as bytes.
-pub(crate) fn run_in(
-    alloc: Global,
-    bytes: &[u8],
-    count: usize,
-    per_block: usize,
-    config: RunConfig,
-) -> Option<(Vec<u8>, RunHandles)>
-    requires { 1 ≤ config.index_interval }
-    ensures { IfSome result (λ r. IsRunOf bytes.now count config r.0.items r.1) }
-{
-    let items = items_in(alloc, bytes, count, config.restart_interval, config.ratio)?;
-    let cuts = cuts_of(alloc, items.len(), per_block)?;
-    written(alloc, items.as_slice(), cuts.as_slice(), config)
 }
 
 /// The run of entries, if there are any, they are in order, and the configuration is one that
@@ -90,6 +71,8 @@ pub(crate) fn run_of(
     config: RunConfig,
 ) -> Option<(Vec<u8>, RunHandles)>
     requires { 1 ≤ config.index_interval }
+    ensures { IfSome result (λ r. (blocks : List (List Entry))
+        × IsSound (hashes (poly31 64) (poly31 128)) blocks r.0.items r.1) }
 {
     if config.restart_interval == 0 || config.ratio.den == 0 || items.is_empty() {
         return None;
@@ -99,6 +82,22 @@ pub(crate) fn run_of(
     }
     let cuts = cuts_of(alloc, items.len(), per_block)?;
     written(alloc, items, cuts.as_slice(), config)
+}
+
+/// The run of entries as bytes.
+pub(crate) fn run_in(
+    alloc: Global,
+    bytes: &[u8],
+    count: usize,
+    per_block: usize,
+    config: RunConfig,
+) -> Option<(Vec<u8>, RunHandles)>
+    requires { 1 ≤ config.index_interval }
+    ensures { IfSome result (λ r. (blocks : List (List Entry))
+        × IsSound (hashes (poly31 64) (poly31 128)) blocks r.0.items r.1) }
+{
+    let items = entries_in(alloc, bytes, count)?;
+    run_of(alloc, items.as_slice(), per_block, config)
 }
 
 /// Writes the run, and copies as much of it into `out` as fits.
@@ -151,7 +150,7 @@ fn add_found(
     for needle in needles {
         let mut steps = Steps::new();
         let found = read_entry::<Poly31>(alloc, bytes, handles, needle, NEWEST, &mut steps).ok()?;
-        sum = sum.wrapping_add(found.map_or(1, |entry| entry_sum(&entry)));
+        sum = sum.wrapping_add(found_sum(&found));
     }
     Some(sum)
 }

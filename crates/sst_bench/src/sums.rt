@@ -1,7 +1,4 @@
 //! Sums of the parts of items and entries, modulo 2^64: what calls that read return.
-ghost use Rattle.std.specs.Prelude.{◌≡◌, ◌-◌, length, slice_index};
-ghost use Rattle.sst_bench.specs.Blocks.{entry_sum};
-
 use sst_base::InternalValue;
 use sst_base::table::util::SliceIndexes;
 use sst_block_kinds::table::data_block::EntryView;
@@ -32,6 +29,15 @@ pub fn item_sum(item: &DataBlockParsedItem) -> u64 {
     sum
 }
 
+/// The sum of the item that is there, or 0 for none.
+#[inline(always)]
+pub fn next_sum(item: &Option<DataBlockParsedItem>) -> u64 {
+    match item {
+        Some(item) => item_sum(item),
+        None => 0,
+    }
+}
+
 /// Offset, size, sequence number, and start and end of the end key's own bytes of a parsed handle,
 /// each times a factor.
 #[inline(always)]
@@ -43,20 +49,27 @@ pub fn handle_sum(item: &IndexBlockParsedItem) -> u64 {
         .wrapping_add(range_sum(&item.end_key, 7, 9))
 }
 
-// The last byte, or 0 for none.
+/// The sum of the handle that is there, or 0 for none.
 #[inline(always)]
-fn last_byte(bytes: &[u8]) -> u64
-    ensures { result ≡ slice_index bytes.now (length bytes.now - 1) }
-{
-    bytes.last().map_or(0, |byte| u64::from(*byte))
+pub fn next_handle_sum(item: &Option<IndexBlockParsedItem>) -> u64 {
+    match item {
+        Some(item) => handle_sum(item),
+        None => 0,
+    }
+}
+
+/// The last byte, or 0 for none.
+#[inline(always)]
+pub fn last_byte(bytes: &[u8]) -> u64 {
+    match bytes.last() {
+        Some(byte) => u64::from(*byte),
+        None => 0,
+    }
 }
 
 /// Sequence number, lengths of key and value, and their last bytes, of an entry.
 #[inline(always)]
-#[tactic(auto, unfolding(crate::specs::Blocks::entry_sum))]
-pub fn entry_sum(entry: &InternalValue) -> u64
-    ensures { result ≡ entry_sum entry.now }
-{
+pub fn entry_sum(entry: &InternalValue) -> u64 {
     let (key, value) = (entry.key().user_key().as_slice(), entry.value().as_slice());
     entry
         .key()
@@ -65,6 +78,15 @@ pub fn entry_sum(entry: &InternalValue) -> u64
         .wrapping_add(value.len() as u64)
         .wrapping_add(last_byte(key))
         .wrapping_add(last_byte(value))
+}
+
+/// The sum of the entry that is found, or 1 for none.
+#[inline(always)]
+pub fn found_sum(found: &Option<InternalValue>) -> u64 {
+    match found {
+        Some(entry) => entry_sum(entry),
+        None => 1,
+    }
 }
 
 /// The same of an entry that borrows its block.
@@ -79,4 +101,13 @@ pub fn view_sum(entry: &EntryView<'_>) -> u64 {
         .wrapping_add(value.len() as u64)
         .wrapping_add(last_byte(if rest.is_empty() { prefix } else { rest }))
         .wrapping_add(last_byte(value))
+}
+
+/// The sum of the entry that is found and borrows its block, or 1 for none.
+#[inline(always)]
+pub fn view_found_sum(found: &Option<EntryView<'_>>) -> u64 {
+    match found {
+        Some(entry) => view_sum(entry),
+        None => 1,
+    }
 }

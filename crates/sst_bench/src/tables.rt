@@ -11,7 +11,7 @@ use crate::REFUSED;
 use crate::data_block::NEWEST;
 use crate::keys::keys_in;
 use crate::run::run_in;
-use crate::sums::entry_sum;
+use crate::sums::{entry_sum, found_sum};
 use sst_base::{HashRatio, Poly31, Slice, Steps};
 use sstable_blocks::run::{Trusted, check};
 use sstable_blocks::{MemorySource, RunConfig, RunHandles, Table};
@@ -29,7 +29,7 @@ fn add_found(
     for needle in needles {
         let mut steps = Steps::new();
         let found = table.get(alloc, needle, NEWEST, &mut steps).ok()?;
-        sum = sum.wrapping_add(found.map_or(1, |entry| entry_sum(&entry)));
+        sum = sum.wrapping_add(found_sum(&found));
     }
     Some(sum)
 }

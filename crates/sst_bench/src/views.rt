@@ -9,12 +9,12 @@ ghost use Rattle.sstable_blocks.specs.RunReading.{hashes};
 ghost use Rattle.sstable_blocks.specs.Sound.{IsSound};
 
 use crate::REFUSED;
-use crate::data_block::{NEWEST, add_entries, items_in};
+use crate::data_block::{NEWEST, add_entries, block_of, items_in};
 use crate::keys::keys_in;
 use crate::merges::{Stored, all_trusted, runs_of, tables_of};
 use crate::run::run_in;
-use crate::sums::{entry_sum, view_sum};
-use sst_base::{Block, BlockHash, BlockType, HashRatio, InternalValue, Poly31, Slice, Steps};
+use crate::sums::{entry_sum, view_found_sum, view_sum};
+use sst_base::{BlockHash, HashRatio, InternalValue, Poly31, Slice, Steps};
 use sst_block_kinds::DataBlock;
 use sst_block_kinds::table::data_block::{DataBlockRef, EntryView};
 use sst_merge::{Head, Merge};
@@ -51,24 +51,6 @@ fn add_blocks_made(so_far: u64, blocks: &[DataBlock<Poly31>], alloc: Global) -> 
         sum = add_entries(sum, block, alloc)?;
     }
     Some(sum)
-}
-
-// The block of entries, if they can be encoded.
-fn block_of(
-    alloc: Global,
-    items: &[InternalValue],
-    interval: u8,
-    ratio: HashRatio,
-) -> Option<DataBlock<Poly31>> {
-    if interval == 0 || ratio.den == 0 || items.is_empty() {
-        return None;
-    }
-    if !DataBlock::<Poly31>::is_ordered(items) {
-        return None;
-    }
-    let payload = DataBlock::<Poly31>::encode_into_vec(alloc, items, interval, ratio).ok()?;
-    let payload = Slice::from_vec(payload).ok()?;
-    Some(DataBlock::new(Block::from_payload(BlockType::Data, payload)))
 }
 
 // The blocks of entries, so many in each, the last perhaps of fewer.
@@ -255,7 +237,7 @@ fn add_found(so_far: u64, run: &RunRef<'_, Poly31>, needles: &[&[u8]]) -> u64 {
     let mut sum = so_far;
     for needle in needles {
         let found = run.find(needle, NEWEST, &mut Steps::new());
-        sum = sum.wrapping_add(found.map_or(1, |view| view_sum(&view)));
+        sum = sum.wrapping_add(view_found_sum(&found));
     }
     sum
 }

@@ -1,3 +1,0 @@
-pub mod KeyLists
-pub mod Numbers
-pub mod Parts

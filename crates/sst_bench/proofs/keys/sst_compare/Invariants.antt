@@ -1,7 +1,0 @@
-use Rattle.std.proofs.Common.{◌≡◌, map}
-use Rattle.sst_bench.specs.Keys.{add_rising}
-use Rattle.sst_bench.specs.Turns.{repeated}
-use Rattle.sst_bench.proofs.keys.sst_compare.Given as goal
-
-abbrev pub invariant-loop : goal.invariant-loop
-invariant-loop l = l.sum ≡ repeated (add_rising (map (λ key. key.now) l.keys.items)) l.counter 0
