@@ -10,6 +10,7 @@
 //! | value | value length |
 //!
 //! Numbers are little-endian. Entries are concatenated.
+ghost use Rattle.std.specs.Prelude.{◌≡◌, length, IfSome};
 
 use byteorder::{ByteOrder, LittleEndian};
 use sst_base::{InternalValue, Slice, ValueType};
@@ -49,7 +50,9 @@ pub(crate) fn u64_in(bytes: &[u8]) -> Option<(u64, &[u8])> {
 }
 
 // The first `len` bytes, and the bytes after them.
-pub(crate) fn bytes_in(bytes: &[u8], len: usize) -> Option<(&[u8], &[u8])> {
+pub(crate) fn bytes_in(bytes: &[u8], len: usize) -> Option<(&[u8], &[u8])>
+    ensures { IfSome result (λ p. length p.0.now ≡ len) }
+{
     if bytes.len() < len {
         return None;
     }
