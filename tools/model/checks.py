@@ -45,7 +45,7 @@ def changes_of(payload):
             changed = bytearray(payload)
             changed[at] ^= by
             yield bytes(changed)
-    yield from ()
+    yield from longer(payload)
 
 
 def summary(room, payloads, kind):
