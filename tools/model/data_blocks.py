@@ -143,6 +143,21 @@ def read(room, words):
     return first_match(block(room)[0], bytes_of(key), number_of(seqno))
 
 
+def place(room, words):
+    """Where the value of an entry that a read finds is in the payload: KEY SEQNO. A tombstone has none,
+    at 0."""
+    key, seqno = only(words, 2)
+    key, seqno, after = bytes_of(key), number_of(seqno), 0
+    items, trailer = block(room)
+    for at, item in enumerate(items):
+        head = items[at - at % trailer.interval].key if at % trailer.interval else None
+        after = entries.read(room.payload, after, head)[2]
+        if item.key == key and item.seqno < seqno:
+            length = len(item.value)
+            return "0 0" if item.is_tombstone() else f"{after - length} {length}"
+    return "none"
+
+
 def queries_of(item):
     """Returns keys and sequence numbers to read around an entry: its own, the next, an extension,
     its prefix, the keys around it, and its end."""
@@ -269,6 +284,7 @@ COMMANDS = {
     "offsets": offsets,
     "bucket": bucket,
     "read": read,
+    "place": place,
     "queries": queries,
     "entries": all_entries,
     "counts": counts,

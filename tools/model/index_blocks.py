@@ -7,7 +7,7 @@ from blocks import Encoded
 from handles import Handle, handle_of
 from room import only
 from windows import Window
-from words import Digest, Fault, bad_word, number_of, truth
+from words import Digest, Fault, bad_word, bytes_of, number_of, truth
 
 
 def add(room, words):
@@ -65,6 +65,19 @@ def steps(room, words):
     return walks.answers(walks.INDEX, Window(items), trailer.interval, words)
 
 
+def between(room, words):
+    """The handles between two bounds: KEY:SEQNO KEY:SEQNO."""
+    bounds = [word.split(":") for word in only(words, 2)]
+    if any(len(bound) != 2 for bound in bounds):
+        raise bad_word()
+    window = Window(block(room)[0])
+    (lower, seqno), (upper, _) = bounds
+    window.seek_handle(bytes_of(lower), number_of(seqno))
+    window.upper_handle(bytes_of(upper))
+    left = window.items[window.low : window.high]
+    return " ".join([f"{len(left)} left"] + [handle.word() for handle in left])
+
+
 def all_handles(room, words):
     """The number of the handles, and their digest."""
     only(words, 0)
@@ -99,6 +112,7 @@ COMMANDS = {
     "index": encode,
     "walk_index": walk,
     "steps_index": steps,
+    "between": between,
     "handles_of": all_handles,
     "shift": shift,
     "table_index": table,
