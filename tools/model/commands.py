@@ -4,8 +4,9 @@ the room and of the words behind the name that return the result."""
 import checks
 import data_blocks
 import index_blocks
+import values
 
-MODULES = [data_blocks, index_blocks, checks]
+MODULES = [data_blocks, index_blocks, checks, values]
 
 
 def table():

@@ -14,6 +14,7 @@ mod digest;
 mod fault;
 mod index_blocks;
 mod room;
+mod values;
 mod words;
 mod zero_hash;
 
@@ -41,6 +42,9 @@ fn perform<H: BlockHash>(
         return Ok(answer);
     }
     if let Some(answer) = checks::perform::<H>(alloc, room, name, words)? {
+        return Ok(answer);
+    }
+    if let Some(answer) = values::perform::<H>(alloc, name, words)? {
         return Ok(answer);
     }
     Err(Fault::Word)
