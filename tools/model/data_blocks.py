@@ -200,6 +200,13 @@ def all_entries(room, words):
     return f"{len(items)} entries, {total}"
 
 
+def take(room, words):
+    """Takes the entries of the payload as the list."""
+    only(words, 0)
+    room.entries = block(room)[0]
+    return f"{len(room.entries)} entries"
+
+
 def counts(room, words):
     """How many heads have keys below each needle, at most it, and how many an index seek passes
     over: SEQNO NEEDLE .."""
@@ -287,6 +294,7 @@ COMMANDS = {
     "place": place,
     "queries": queries,
     "entries": all_entries,
+    "take": take,
     "counts": counts,
     "front": front,
     "table": table,

@@ -87,6 +87,13 @@ def all_handles(room, words):
     return f"{len(items)} handles, {total}"
 
 
+def take(room, words):
+    """Takes the handles of the payload as the list."""
+    only(words, 0)
+    room.handles = block(room)[0]
+    return f"{len(room.handles)} handles"
+
+
 def shift(room, words):
     """A handle whose offset is greater by a number: HANDLE NUMBER."""
     word, by = only(words, 2)
@@ -114,6 +121,7 @@ COMMANDS = {
     "steps_index": steps,
     "between": between,
     "handles_of": all_handles,
+    "take_handles": take,
     "shift": shift,
     "table_index": table,
 }

@@ -154,6 +154,16 @@ fn queries<H: BlockHash>(alloc: Global, room: &Room) -> Result<String> {
     Ok(format!(in alloc; "{count} reads, {found} found, {state:016x}")?)
 }
 
+/// Takes the entries of the payload as the list.
+fn take<H: BlockHash>(alloc: Global, room: &mut Room) -> Result<String> {
+    let block = data_block::<H>(alloc, room, false)?;
+    room.entries = Vec::new(alloc);
+    for entry in block.entries() {
+        room.entries.push(entry.materialize(alloc)?)?;
+    }
+    Ok(format!(in alloc; "{} entries", room.entries.len())?)
+}
+
 /// The number and the digest of the words of entries.
 fn digest_of(alloc: Global, words: &[String]) -> Result<String> {
     let mut digest = Digest::new();
@@ -242,7 +252,7 @@ fn entries<H: BlockHash>(alloc: Global, room: &Room) -> Result<String> {
 /// Performs a command, if it reads entries.
 pub fn perform<H: BlockHash>(
     alloc: Global,
-    room: &Room,
+    room: &mut Room,
     name: &str,
     words: &[&str],
 ) -> Result<Option<String>> {
@@ -251,6 +261,7 @@ pub fn perform<H: BlockHash>(
         "place" => place::<H>(alloc, room, words),
         "queries" => queries::<H>(alloc, room),
         "entries" => entries::<H>(alloc, room),
+        "take" => take::<H>(alloc, room),
         _ => return Ok(None),
     };
     Ok(Some(answer?))

@@ -235,13 +235,29 @@ fn handles(alloc: Global, room: &Room) -> Result<String> {
     )
 }
 
+/// Takes the handles of the payload as the list.
+fn take(alloc: Global, room: &mut Room) -> Result<String> {
+    let block = index_block(alloc, room, false)?;
+    room.handles = Vec::new(alloc);
+    for handle in block.handles() {
+        room.handles.push(handle.materialize(alloc)?)?;
+    }
+    Ok(format!(in alloc; "{} handles", room.handles.len())?)
+}
+
 /// Performs a command, if it is one on iterators over index blocks.
-pub fn perform(alloc: Global, room: &Room, name: &str, words: &[&str]) -> Result<Option<String>> {
+pub fn perform(
+    alloc: Global,
+    room: &mut Room,
+    name: &str,
+    words: &[&str],
+) -> Result<Option<String>> {
     let answer = match name {
         "walk_index" => walks(alloc, room, words),
         "steps_index" => steps(alloc, room, words),
         "between" => between(alloc, room, words),
         "handles_of" => handles(alloc, room),
+        "take_handles" => take(alloc, room),
         _ => return Ok(None),
     };
     Ok(Some(answer?))

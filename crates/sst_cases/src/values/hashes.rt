@@ -33,7 +33,10 @@ fn hash<H: BlockHash>(alloc: Global, words: &[&str]) -> Result<String> {
     };
     let bytes = bytes_of(alloc, bytes)?;
     let (short, long) = (H::hash64(bytes.as_slice()), H::hash128(bytes.as_slice()));
-    let (stream, count) = (in_pieces::<H>(bytes.as_slice()), continued::<H>(bytes.as_slice()));
+    let (stream, count) = (
+        in_pieces::<H>(bytes.as_slice()),
+        continued::<H>(bytes.as_slice()),
+    );
     if stream == long {
         return Ok(format!(in alloc; "{short} {long}, continued at {count}")?);
     }
@@ -57,11 +60,7 @@ fn checksum(alloc: Global, words: &[&str]) -> Result<String> {
 }
 
 /// Performs a command, if it is one on hashes.
-pub fn perform<H: BlockHash>(
-    alloc: Global,
-    name: &str,
-    words: &[&str],
-) -> Result<Option<String>> {
+pub fn perform<H: BlockHash>(alloc: Global, name: &str, words: &[&str]) -> Result<Option<String>> {
     let answer = match name {
         "hash" => hash::<H>(alloc, words),
         "checksum" => checksum(alloc, words),

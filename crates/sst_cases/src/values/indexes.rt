@@ -74,11 +74,7 @@ fn pointers(alloc: Global, words: &[&str]) -> Result<String> {
 }
 
 /// Performs a command, if it is one on indexes.
-pub fn perform<H: BlockHash>(
-    alloc: Global,
-    name: &str,
-    words: &[&str],
-) -> Result<Option<String>> {
+pub fn perform<H: BlockHash>(alloc: Global, name: &str, words: &[&str]) -> Result<Option<String>> {
     let answer = match name {
         "ratio" => ratio::<H>(alloc, words),
         "set" => set::<H>(alloc, words),

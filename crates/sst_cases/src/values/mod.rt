@@ -26,11 +26,7 @@ fn compare(alloc: Global, name: &str, words: &[&str]) -> Result<Option<String>> 
 }
 
 /// Performs a command, if it is one on values.
-pub fn perform<H: BlockHash>(
-    alloc: Global,
-    name: &str,
-    words: &[&str],
-) -> Result<Option<String>> {
+pub fn perform<H: BlockHash>(alloc: Global, name: &str, words: &[&str]) -> Result<Option<String>> {
     if let Some(answer) = compare(alloc, name, words)? {
         return Ok(Some(answer));
     }

@@ -136,7 +136,11 @@ fn peekable(alloc: Global, words: &[&str]) -> Result<String> {
     let text = steps(alloc, borrowed, words)?;
     let again = bytes.as_slice().iter().double_ended_peekable();
     let again = steps(alloc, again.double_ended_peekable(), words)?;
-    let owned = steps(alloc, bytes.to_vec(alloc)?.into_iter().double_ended_peekable(), words)?;
+    let owned = steps(
+        alloc,
+        bytes.to_vec(alloc)?.into_iter().double_ended_peekable(),
+        words,
+    )?;
     let text = alike(alloc, text, "wrapped again", again)?;
     alike(alloc, text, "by an owner", owned)
 }

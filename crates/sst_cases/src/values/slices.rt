@@ -86,7 +86,10 @@ fn fused(alloc: Global, words: &[&str]) -> Result<String> {
         return Err(Fault::Word);
     };
     let (left, right) = (bytes_of(alloc, left)?, bytes_of(alloc, right)?);
-    text_of(alloc, &Slice::fused(alloc, left.as_slice(), right.as_slice())?)
+    text_of(
+        alloc,
+        &Slice::fused(alloc, left.as_slice(), right.as_slice())?,
+    )
 }
 
 /// A part of a slice, from an offset up to another: BYTES START END.
