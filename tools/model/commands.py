@@ -1,5 +1,5 @@
-"""The commands of files of cases, by modules. A module has a table `COMMANDS`: names, and functions of
-the room and of the words behind the name that return the result."""
+"""The commands of files of cases, by modules. A module has a table `COMMANDS`: names, and functions
+of the room and of the words behind the name that return the result."""
 
 import checks
 import data_blocks

@@ -144,8 +144,8 @@ def read(room, words):
 
 
 def place(room, words):
-    """Where the value of an entry that a read finds is in the payload: KEY SEQNO. A tombstone has none,
-    at 0."""
+    """Where the value of an entry that a read finds is in the payload: KEY SEQNO. A tombstone has
+    none, at 0."""
     key, seqno = only(words, 2)
     key, seqno, after = bytes_of(key), number_of(seqno), 0
     items, trailer = block(room)
@@ -253,8 +253,9 @@ def parts(room, words):
     entry = entries.parts_of(only(words, 1)[0])
     if not 1 <= len(entry.key) <= entries.MOST_KEY:
         return "none"
+    name, dead = entries.NAMES[entry.letter], truth(entry.is_tombstone())
     lengths = f"key of {len(entry.key)}, value of {len(entry.value)}"
-    return f"{entries.NAMES[entry.letter]} {entry.seqno}, {lengths}, tombstone {truth(entry.is_tombstone())}"
+    return f"{name} {entry.seqno}, {lengths}, tombstone {dead}"
 
 
 def walk(room, words):

@@ -22,7 +22,7 @@ def varint_at(room, words):
 
 
 def split(room, words):
-    """How the bytes of a prefix and a suffix, joined, compare with a needle: PREFIX SUFFIX NEEDLE."""
+    """How a prefix and a suffix, joined, compare with a needle: PREFIX SUFFIX NEEDLE."""
     prefix, suffix, needle = [bytes_of(word) for word in only(words, 3)]
     return order_of(prefix + suffix, needle)
 
@@ -37,8 +37,8 @@ def order(room, words):
 
 
 def hash_of(room, words):
-    """The hashes of bytes, of 64 and of 128 bits, and at how many places they are continued: BYTES. The
-    hash that is 0 everywhere is not continued."""
+    """The hashes of bytes, of 64 and of 128 bits, and at how many places they are continued: BYTES.
+    The hash that is 0 everywhere is not continued."""
     data = bytes_of(only(words, 1)[0])
     count = 0 if room.hash.__name__ == "Zero" else len(data)
     return f"{room.hash.hash64(data)} {room.hash.hash128(data)}, continued at {count}"
@@ -122,8 +122,8 @@ def ratio(room, words):
 
 
 def set_two(room, words):
-    """Two interval numbers that are set in one bucket: whether each is kept, the bucket's byte, and how
-    many conflicts there are: NUMBER NUMBER."""
+    """Two interval numbers that are set in one bucket: whether each is kept, the bucket's byte, and
+    how many conflicts there are: NUMBER NUMBER."""
     first, second = [number_of(word, 254) for word in only(words, 2)]
     same = first == second
     return f"true {truth(same)} {first if same else CONFLICT}, {int(not same)} conflicts"
@@ -139,6 +139,9 @@ def pointers(room, words):
     places = range(offset, offset + count * width, width)
     found = [int.from_bytes(data[at : at + width], "little") for at in places]
     return " ".join(str(number) for number in [count] + found)
+
+
+STEPS = ("peek", "peek_back", "next", "back", "if")
 
 
 class Peeked:
@@ -162,7 +165,7 @@ class Peeked:
     def step(self, word):
         """Returns the answer to a call: a list of an item, or of none."""
         name, _, byte = word.partition(":")
-        if name not in ("peek", "peek_back", "next", "back", "if") or (name == "if") != (":" in word):
+        if name not in STEPS or (name == "if") != (":" in word):
             raise bad_word()
         place = self.peek_back() if name in ("peek_back", "back") else self.peek()
         found = place[:1]
@@ -174,8 +177,8 @@ class Peeked:
 
 
 def peekable(room, words):
-    """Calls of an iterator over bytes that can be peeked at: BYTES STEP .. Of a queue, `add:` adds a
-    byte behind those that were not looked at."""
+    """Calls of an iterator over bytes that can be peeked at: BYTES STEP .. Of a queue, `add:` adds
+    a byte behind those that were not looked at."""
     if not words:
         raise bad_word()
     items, found = Peeked(bytes_of(words[0])), []
