@@ -244,7 +244,7 @@ def compare(room, words):
         for right in room.entries:
             whole = sign(entries.order_of_entry(left), entries.order_of_entry(right))
             signs[whole] += 1
-            all_signs.add(sign(left.key, right.key) + whole)
+            all_signs.add(sign(left.key, right.key) + whole + whole)
     return f"{signs['<']} less, {signs['=']} equal, {signs['>']} greater, {all_signs}"
 
 

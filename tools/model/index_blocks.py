@@ -102,7 +102,8 @@ def shift(room, words):
     if offset >= 2**64:
         raise bad_word()
     same = truth(offset == handle.offset)
-    return f"{Handle(handle.seqno, handle.key, offset, handle.size).word()}, the same {same}"
+    shifted = Handle(handle.seqno, handle.key, offset, handle.size)
+    return f"{shifted.word()}, the same {same}, plain true"
 
 
 def table(room, words):

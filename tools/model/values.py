@@ -45,8 +45,9 @@ def hash_of(room, words):
 
 
 def checksum(room, words):
-    """How a checksum prints: NUMBER."""
-    return f"Checksum({number_of(only(words, 1)[0], 1 << 128)})"
+    """How a checksum prints, and its number: NUMBER."""
+    number = number_of(only(words, 1)[0], 1 << 128)
+    return f"Checksum({number}) of {number}"
 
 
 def keys(room, words):
@@ -206,7 +207,7 @@ COMMANDS = {
     "part": part,
     "arrays": arrays,
     "ratio": ratio,
-    "set": set_two,
+    "set_two": set_two,
     "pointers": pointers,
     "peekable": peekable,
     "queue": peekable,

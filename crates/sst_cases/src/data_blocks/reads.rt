@@ -228,16 +228,23 @@ fn by_views<H: BlockHash>(alloc: Global, page: &DataBlockRef<'_, H>) -> Result<S
     digest_of(alloc, words.as_slice())
 }
 
+/// The entries of bytes that are lent, from the back.
+fn by_views_back<H: BlockHash>(alloc: Global, page: &DataBlockRef<'_, H>) -> Result<String> {
+    let mut words = Vec::new(alloc);
+    for view in page.entries().rev() {
+        words.push(word_of_view(alloc, &view)?)?;
+    }
+    words.reverse();
+    digest_of(alloc, words.as_slice())
+}
+
 /// The entries of bytes that are lent, with a table of their heads that is lent too.
 fn by_page<H: BlockHash>(alloc: Global, room: &Room) -> Result<String> {
     let page = DataBlockRef::<H>::check(alloc, room.payload.as_slice())?;
     let heads = page.make_heads(alloc)?;
-    alike(
-        alloc,
-        by_views(alloc, &page)?,
-        "with a table",
-        by_views(alloc, &page.with_table(&heads))?,
-    )
+    let all = by_views(alloc, &page)?;
+    let all = alike(alloc, all, "with a table", by_views(alloc, &page.with_table(&heads))?)?;
+    alike(alloc, all, "from the back", by_views_back(alloc, &page)?)
 }
 
 /// The number of the entries, and their digest, by each way to go over them.

@@ -43,17 +43,18 @@ fn ops_of(alloc: Global, words: &[&str]) -> Result<Vec<IndexOp>> {
     Ok(ops)
 }
 
-/// Returns the word of a handle that borrows its block. Its parts are those of the handle that it is
-/// made as.
+/// Returns the word of a handle that borrows its block, and says if its parts are not those of the
+/// handle that it is made as.
 fn word_of_ref(alloc: Global, handle: &HandleRef<'_>) -> Result<String> {
     let made = handle.clone()?.materialize(alloc)?;
+    let word = word_of(alloc, &made)?;
     let is_number = handle.seqno() == made.seqno();
     let is_place = handle.offset() == made.offset() && handle.size() == made.size();
     let is_plain = handle.handle() == BlockHandle::new(made.offset(), made.size());
     if is_number && is_place && is_plain && handle.compare_key(made.end_key().as_slice()).is_eq() {
-        return word_of(alloc, &made);
+        return Ok(word);
     }
-    Err(Fault::Word)
+    Ok(format!(in alloc; "{word} of other parts")?)
 }
 
 /// The word of an item that a step takes.

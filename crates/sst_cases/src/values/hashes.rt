@@ -43,7 +43,7 @@ fn hash<H: BlockHash>(alloc: Global, words: &[&str]) -> Result<String> {
     Ok(format!(in alloc; "{short} {long}, in pieces {stream}, continued at {count}")?)
 }
 
-/// How a checksum prints: NUMBER.
+/// How a checksum prints, and its number: NUMBER.
 fn checksum(alloc: Global, words: &[&str]) -> Result<String> {
     let [number] = words else {
         return Err(Fault::Word);
@@ -53,10 +53,7 @@ fn checksum(alloc: Global, words: &[&str]) -> Result<String> {
         Err(_) => return Err(Fault::Word),
     };
     let checksum = Checksum::from_raw(number);
-    if checksum.into_u128() != number {
-        return Err(Fault::Word);
-    }
-    Ok(format!(in alloc; "{checksum}")?)
+    Ok(format!(in alloc; "{checksum} of {}", checksum.into_u128())?)
 }
 
 /// Performs a command, if it is one on hashes.

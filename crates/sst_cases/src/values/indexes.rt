@@ -30,7 +30,7 @@ fn ratio<H: BlockHash>(alloc: Global, words: &[&str]) -> Result<String> {
 
 /// Two interval numbers that are set in one bucket: whether each is kept, the bucket's byte, and how
 /// many conflicts there are: NUMBER NUMBER.
-fn set<H: BlockHash>(alloc: Global, words: &[&str]) -> Result<String> {
+fn set_two<H: BlockHash>(alloc: Global, words: &[&str]) -> Result<String> {
     let [first, second] = words else {
         return Err(Fault::Word);
     };
@@ -77,7 +77,7 @@ fn pointers(alloc: Global, words: &[&str]) -> Result<String> {
 pub fn perform<H: BlockHash>(alloc: Global, name: &str, words: &[&str]) -> Result<Option<String>> {
     let answer = match name {
         "ratio" => ratio::<H>(alloc, words),
-        "set" => set::<H>(alloc, words),
+        "set_two" => set_two::<H>(alloc, words),
         "pointers" => pointers(alloc, words),
         _ => return Ok(None),
     };
