@@ -243,7 +243,12 @@ fn by_page<H: BlockHash>(alloc: Global, room: &Room) -> Result<String> {
     let page = DataBlockRef::<H>::check(alloc, room.payload.as_slice())?;
     let heads = page.make_heads(alloc)?;
     let all = by_views(alloc, &page)?;
-    let all = alike(alloc, all, "with a table", by_views(alloc, &page.with_table(&heads))?)?;
+    let all = alike(
+        alloc,
+        all,
+        "with a table",
+        by_views(alloc, &page.with_table(&heads))?,
+    )?;
     alike(alloc, all, "from the back", by_views_back(alloc, &page)?)
 }
 
