@@ -1,0 +1,43 @@
+//! Why a case cannot be run.
+ghost use Rattle.std.specs.Prelude.{◌≡◌};
+
+use sst_base::Error;
+use std::alloc::AllocError;
+use std::io;
+
+/// Why a case cannot be run.
+#[derive(Clone, Copy, Debug, PartialEq, Eq)]
+pub enum Fault {
+    /// A command or a word of it that is none.
+    Word,
+    /// The library refused.
+    Refused(Error),
+    /// A file cannot be read, or the output failed.
+    Io,
+}
+
+pub type Result<T> = std::result::Result<T, Fault>;
+
+impl From<Error> for Fault {
+    fn from(error: Error) -> Fault {
+        Fault::Refused(error)
+    }
+}
+
+impl From<AllocError> for Fault {
+    fn from(_error: AllocError) -> Fault {
+        Fault::Refused(Error::Memory)
+    }
+}
+
+impl<T: Drop> From<std::alloc::AllocFailed<T>> for Fault {
+    fn from(_error: std::alloc::AllocFailed<T>) -> Fault {
+        Fault::Refused(Error::Memory)
+    }
+}
+
+impl From<io::Error> for Fault {
+    fn from(_error: io::Error) -> Fault {
+        Fault::Io
+    }
+}

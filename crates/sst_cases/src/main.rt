@@ -1,0 +1,157 @@
+//! Runs the cases of files: a line is a command, and behind ` => ` stands what it has to answer.
+//!
+//! The words are names of files; the ending of a name says which hash its blocks have: `.sum`,
+//! `.zero` or `.poly`. Prints a line for each case that is answered otherwise, with the file and the
+//! number of the line, and then how many cases of the file hold; the status is 1 if one does not.
+//!
+//! The commands stand in modules by what they are about. Each module has a function `perform`, which
+//! returns the answer to a command, or `None` where the command is none of the module's.
+#![tactic(auto)]
+
+mod checks;
+mod data_blocks;
+mod digest;
+mod fault;
+mod index_blocks;
+mod room;
+mod values;
+mod words;
+mod zero_hash;
+
+use fault::{Fault, Result};
+use room::Room;
+use sst_base::{BlockHash, ByteSum, Poly31};
+use std::alloc::Global;
+use std::env::Env;
+use std::process::ExitCode;
+use std::rt::Files;
+use std::{env, fs};
+use zero_hash::ZeroHash;
+
+/// Performs a command: asks one module after the other whether the command is one of its own.
+fn perform<H: BlockHash>(
+    alloc: Global,
+    room: &mut Room,
+    name: &str,
+    words: &[&str],
+) -> Result<String> {
+    if let Some(answer) = data_blocks::perform::<H>(alloc, room, name, words)? {
+        return Ok(answer);
+    }
+    if let Some(answer) = index_blocks::perform(alloc, room, name, words)? {
+        return Ok(answer);
+    }
+    if let Some(answer) = checks::perform::<H>(alloc, room, name, words)? {
+        return Ok(answer);
+    }
+    if let Some(answer) = values::perform::<H>(alloc, name, words)? {
+        return Ok(answer);
+    }
+    Err(Fault::Word)
+}
+
+/// The words of a line.
+fn words_of(alloc: Global, line: &str) -> Result<Vec<&str>> {
+    let mut words = Vec::new(alloc);
+    for word in line.split(' ') {
+        if !word.is_empty() {
+            words.push(word)?;
+        }
+    }
+    Ok(words)
+}
+
+/// Performs the command of a line. Returns its answer, or why there is none.
+fn answer<H: BlockHash>(alloc: Global, room: &mut Room, command: &str) -> Result<String> {
+    let words = words_of(alloc, command)?;
+    let Some((name, words)) = words.as_slice().split_first() else {
+        return Err(Fault::Word);
+    };
+    match perform::<H>(alloc, room, name, words) {
+        Ok(text) => Ok(text),
+        Err(fault) => Ok(format!(in alloc; "{fault:?}")?),
+    }
+}
+
+/// A file of cases: its name, the number of the line that was read last, how many cases were read,
+/// and how many of them hold.
+#[derive(Drop)]
+struct File<'a> {
+    name: &'a str,
+    line: usize,
+    cases: usize,
+    held: usize,
+}
+
+/// Runs the case of a line, if it has one. Prints a case that does not hold.
+fn run_line<H: BlockHash, R: Print + AllocGlobal>(
+    rt: &R,
+    room: &mut Room,
+    file: &mut File<'_>,
+    line: &str,
+) -> Result<()> {
+    file.line = file.line.saturating_add(1);
+    let Some((command, wanted)) = line.split_once(" =>") else {
+        return Ok(());
+    };
+    let (found, wanted) = (answer::<H>(rt.alloc(), room, command)?, wanted.trim());
+    file.cases = file.cases.saturating_add(1);
+    if found.as_str() == wanted {
+        file.held = file.held.saturating_add(1);
+        return Ok(());
+    }
+    let (name, number) = (file.name, file.line);
+    println!(rt; "{name}:{number}: {command} => {found}, not {wanted}")?;
+    Ok(())
+}
+
+/// Runs the cases of a file. Prints those that do not hold, and how many hold. Returns whether all do.
+fn run<H: BlockHash, R: Print + AllocGlobal>(rt: &R, name: &str, text: &str) -> Result<bool> {
+    let mut room = Room::new(rt.alloc());
+    let mut file = File {
+        name,
+        line: 0,
+        cases: 0,
+        held: 0,
+    };
+    for line in text.lines() {
+        run_line::<H, R>(rt, &mut room, &mut file, line)?;
+    }
+    let (held, cases) = (file.held, file.cases);
+    println!(rt; "{name}: {held} of {cases} cases hold")?;
+    Ok(held == cases)
+}
+
+/// Runs the cases of a file of this name. Returns whether all hold.
+fn run_file<R: Files + Print + AllocGlobal>(rt: &R, name: &str) -> Result<bool> {
+    let text = fs::read_to_string(rt, name)?;
+    if name.ends_with(".poly") {
+        run::<Poly31, R>(rt, name, text.as_str())
+    } else if name.ends_with(".zero") {
+        run::<ZeroHash, R>(rt, name, text.as_str())
+    } else {
+        run::<ByteSum, R>(rt, name, text.as_str())
+    }
+}
+
+/// Runs the cases of the files that the words name. Returns whether all hold.
+fn run_all<R: Env + Files + Print + AllocGlobal>(rt: &R) -> Result<bool> {
+    let mut holds = true;
+    for name in env::args(rt)?.skip(1) {
+        if !run_file(rt, name.as_str())? {
+            holds = false;
+        }
+    }
+    Ok(holds)
+}
+
+fn main(rt: HostRuntime) -> ExitCode {
+    match run_all(&rt) {
+        Ok(true) => ExitCode::SUCCESS,
+        Ok(false) => ExitCode::FAILURE,
+        Err(fault) => {
+            let _ = eprintln!(rt; "{fault:?}");
+            ExitCode::FAILURE
+        }
+    }
+}

@@ -1,0 +1,180 @@
+//! Words of a case: numbers, byte strings and entries.
+
+use crate::fault::{Fault, Result};
+use sst_base::{InternalValue, Slice, ValueType};
+use std::alloc::Global;
+
+/// The longest key, and the most bytes that a word may encode.
+const MAX_KEY_LEN: usize = 65535;
+
+const MAX_LEN: usize = 1_000_000;
+
+/// Returns the number that a word encodes.
+pub fn number_of(word: &str) -> Result<u64> {
+    match word.parse::<u64>() {
+        Ok(number) => Ok(number),
+        Err(_) => Err(Fault::Word),
+    }
+}
+
+/// Returns the number below 256 that a word encodes.
+pub fn small_of(word: &str) -> Result<u8> {
+    match word.parse::<u8>() {
+        Ok(number) => Ok(number),
+        Err(_) => Err(Fault::Word),
+    }
+}
+
+/// Returns the number below 65536 that a word encodes.
+pub fn wide_of(word: &str) -> Result<u16> {
+    match word.parse::<u16>() {
+        Ok(number) => Ok(number),
+        Err(_) => Err(Fault::Word),
+    }
+}
+
+/// Appends the bytes of a part of a word: hex digits, or hex digits, `*` and how often.
+fn push_part(alloc: Global, bytes: &mut Vec<u8>, part: &str) -> Result<()> {
+    let (digits, times) = match part.split_once('*') {
+        Some((digits, times)) => (digits, number_of(times)?),
+        None => (part, 1),
+    };
+    let digits = hex::decode(alloc, digits).ok().ok_or(Fault::Word)?;
+    for _ in 0..times {
+        if bytes.len() > MAX_LEN {
+            return Err(Fault::Word);
+        }
+        bytes.extend_from_slice(digits.as_slice())?;
+    }
+    Ok(())
+}
+
+/// Returns the byte string that a word encodes: parts joined by `+`, or `-` for none.
+pub fn bytes_of(alloc: Global, word: &str) -> Result<Vec<u8>> {
+    let mut bytes = Vec::new(alloc);
+    if word != "-" {
+        for part in word.split('+') {
+            push_part(alloc, &mut bytes, part)?;
+        }
+    }
+    Ok(bytes)
+}
+
+/// Returns the type that a letter names.
+pub fn type_of(letter: &str) -> Result<ValueType> {
+    match letter {
+        "V" => Ok(ValueType::Value),
+        "T" => Ok(ValueType::Tombstone),
+        "W" => Ok(ValueType::WeakTombstone),
+        "I" => Ok(ValueType::Indirection),
+        _ => Err(Fault::Word),
+    }
+}
+
+/// Returns the letter of a type.
+fn letter_of(value_type: ValueType) -> &'static str {
+    match value_type {
+        ValueType::Value => "V",
+        ValueType::Tombstone => "T",
+        ValueType::WeakTombstone => "W",
+        ValueType::Indirection => "I",
+    }
+}
+
+/// Returns an entry of its parts.
+pub fn entry_with(
+    alloc: Global,
+    key: &[u8],
+    value: &[u8],
+    seqno: u64,
+    value_type: ValueType,
+) -> Result<InternalValue> {
+    if key.is_empty() || key.len() > MAX_KEY_LEN || value.len() > 2 * MAX_LEN {
+        return Err(Fault::Word);
+    }
+    let (key, value) = (Slice::new(alloc, key)?, Slice::new(alloc, value)?);
+    Ok(InternalValue::from_components(key, value, seqno, value_type))
+}
+
+/// Returns the entry that a word encodes: letter, sequence number, key and value, joined by dots.
+pub fn entry_of(alloc: Global, word: &str) -> Result<InternalValue> {
+    let (letter, rest) = word.split_once('.').ok_or(Fault::Word)?;
+    let (seqno, rest) = rest.split_once('.').ok_or(Fault::Word)?;
+    let (key, value) = rest.split_once('.').ok_or(Fault::Word)?;
+    let (key, value) = (bytes_of(alloc, key)?, bytes_of(alloc, value)?);
+    entry_with(
+        alloc,
+        key.as_slice(),
+        value.as_slice(),
+        number_of(seqno)?,
+        type_of(letter)?,
+    )
+}
+
+/// Returns bytes as hex digits, or `-` for none.
+pub fn hex_of(alloc: Global, bytes: &[u8]) -> Result<String> {
+    if bytes.is_empty() {
+        return Ok(String::from_str(alloc, "-")?);
+    }
+    Ok(hex::encode(alloc, bytes)?)
+}
+
+/// Returns the word of an entry.
+pub fn word_of(alloc: Global, entry: &InternalValue) -> Result<String> {
+    let key = entry.key();
+    let (letter, seqno) = (letter_of(key.value_type()), key.seqno());
+    let user_key = hex_of(alloc, key.user_key().as_slice())?;
+    let value = hex_of(alloc, entry.value().as_slice())?;
+    Ok(format!(in alloc; "{letter}.{seqno}.{user_key}.{value}")?)
+}
+
+/// Returns the word of an entry, or `none`.
+pub fn word_of_found(alloc: Global, found: Option<&InternalValue>) -> Result<String> {
+    match found {
+        Some(entry) => word_of(alloc, entry),
+        None => Ok(String::from_str(alloc, "none")?),
+    }
+}
+
+/// Returns the word of a truth value.
+pub fn truth(alloc: Global, value: bool) -> Result<String> {
+    Ok(String::from_str(alloc, if value { "true" } else { "false" })?)
+}
+
+/// Appends a word to a text, behind a space if it is not the first.
+pub fn push_word(text: &mut String, word: &str) -> Result<()> {
+    if !text.is_empty() {
+        text.push(' ')?;
+    }
+    text.push_str(word)?;
+    Ok(())
+}
+
+/// Returns an answer that is also given in another way, or both where they differ.
+pub fn alike(alloc: Global, answer: String, way: &str, other: String) -> Result<String> {
+    if answer == other {
+        return Ok(answer);
+    }
+    Ok(format!(in alloc; "{answer}, {way} {other}")?)
+}
+
+/// Appends a word, or as many as it stands for: its name, `*` and their number.
+fn push_repeated<'a>(all: &mut Vec<&'a str>, word: &'a str) -> Result<()> {
+    let (name, times) = match word.split_once('*') {
+        Some((name, times)) if !name.contains(':') => (name, wide_of(times)?),
+        _ => (word, 1),
+    };
+    for _ in 0..times {
+        all.push(name)?;
+    }
+    Ok(())
+}
+
+/// Returns words, of which one with `*` and a number behind its name stands for as many.
+pub fn repeated<'a>(alloc: Global, words: &[&'a str]) -> Result<Vec<&'a str>> {
+    let mut all = Vec::new(alloc);
+    for word in words {
+        push_repeated(&mut all, word)?;
+    }
+    Ok(all)
+}
