@@ -4,7 +4,7 @@ use Rattle.std.proofs.lemmas.List.{get_or-drop, get_or-take, get_or-append-add, 
 use Rattle.std.proofs.lemmas.Bool.{cases_lt, lt-leb}
 use Rattle.std.proofs.lemmas.Bool.Decides.{nat_tests}
 use Rattle.std.proofs.lemmas.Nat.{mul-mod_first}
-use Rattle.xxh3.specs.declared.stream.Stream.{Stream}
+use Rattle.xxh3.specs.declared.state.State.{State}
 use Rattle.xxh3.specs.Pieces.{IsSame, IsPut}
 use Rattle.xxh3.specs.Held.{IsHeldAt}
 use Rattle.xxh3.specs.declared.words.Halves.{Halves}
@@ -25,7 +25,7 @@ put_inside old new place bytes p k l = p.inside.each k l ∙ moved bytes (0 + k)
 pub grown : (m d : List ℕ) (n : ℕ) → n ≤ length m → IsSame m 0 (m ++ d) 0 n
 grown m d n fits = record { each = λ k l. sym (get_or_append_left m d 0 (0 + k) (omega arith)) }
 
-module _ (s t : Stream) (m d : List ℕ) (n : ℕ) (h : IsHeldAt s m n) where
+module _ (s t : State) (m d : List ℕ) (n : ℕ) (h : IsHeldAt s m n) where
   -- bytes that wait behind the others
   pub waits_more : IsPut s.window t.window (64 + s.filled) d → t.filled ≡ s.filled + length d → t.total ≡ (s.total + length d) % 2 ^ 64
       → t.place ≡ s.place → t.has_stripes ≡ s.has_stripes → t.sums ≡ s.sums → IsHeldAt t (m ++ d) n
@@ -128,7 +128,7 @@ module _ (s t : Stream) (m d : List ℕ) (n : ℕ) (h : IsHeldAt s m n) where
       ]
 
 -- the four stripes that wait
-pub takes_buffer : (s t : Stream) (m : List ℕ) (n : ℕ) → IsHeldAt s m n → (last : List ℕ) → s.filled ≡ 256
+pub takes_buffer : (s t : State) (m : List ℕ) (n : ℕ) → IsHeldAt s m n → (last : List ℕ) → s.filled ≡ 256
     → t.sums ≡ with_stripes default_secret s.sums s.window 64 s.place 4 → IsPut s.window t.window 0 last → last ≡ take 64 (drop 256 s.window) → length last ≡ 64
     → t.filled ≡ 0 → t.place ≡ (s.place + 4) % 16 → t.has_stripes ≡ true → t.total ≡ s.total → IsHeldAt t m (n + 4)
 takes_buffer s t m n h last full sums p last_is long filled place stripes total =
@@ -153,7 +153,7 @@ takes_buffer s t m n h last full sums p last_is long filled place stripes total 
     }
 
 -- the sums at the end of the message
-pub ends : (s : Stream) (m : List ℕ) (n : ℕ) → IsHeldAt s m n → 4 ≤ n → 0 < s.filled → (count : ℕ) → count ≡ (s.filled - 1) / 64 → (sums result : List ℕ)
+pub ends : (s : State) (m : List ℕ) (n : ℕ) → IsHeldAt s m n → 4 ≤ n → 0 < s.filled → (count : ℕ) → count ≡ (s.filled - 1) / 64 → (sums result : List ℕ)
     → sums ≡ with_stripes default_secret s.sums s.window 64 s.place count → result ≡ with_stripe default_secret sums s.window s.filled 121 → result ≡ message_sums default_secret m
 unfolding message_sums
 ends s m n h four waits count count_is sums result sums_is result_is =
@@ -176,7 +176,7 @@ ends s m n h four waits count count_is sums result sums_is result_is =
     ∙ ap (λ (x : List ℕ). with_stripe default_secret x m (length m - 64) 121) (before ∙ ap (with_stripes default_secret first_sums m 0 0) stripes)
 
 -- a message of which no stripe is in the sums
-pub whole : (s : Stream) (m : List ℕ) (n : ℕ) → IsHeldAt s m n → s.has_stripes ≡ false → length s.window ≡ 320 → s.filled ≤ 256 → (k : ℕ) → k ≡ s.filled
+pub whole : (s : State) (m : List ℕ) (n : ℕ) → IsHeldAt s m n → s.has_stripes ≡ false → length s.window ≡ 320 → s.filled ≤ 256 → (k : ℕ) → k ≡ s.filled
     → take k (drop 64 s.window) ≡ m
 whole s m n h empty long fits k k_is =
     let all = h.length_is in
@@ -201,7 +201,7 @@ unfolding hash128_by
 hash128_of_long secret m h =
     rw (lt-not-eqb (length m) 0 (omega arith), lt-leb (length m) 3 (omega arith), lt-leb (length m) 8 (omega arith), lt-leb (length m) 16 (omega arith), lt-leb (length m) 128 (omega arith), lt-leb (length m) 240 h) refl
 
-module _ (s : Stream) (m : List ℕ) (n : ℕ) (h : IsHeldAt s m n) (stripes : s.has_stripes ≡ true) (waits : 0 < s.filled) (sums : List ℕ)
+module _ (s : State) (m : List ℕ) (n : ℕ) (h : IsHeldAt s m n) (stripes : s.has_stripes ≡ true) (waits : 0 < s.filled) (sums : List ℕ)
     (sums_are : sums ≡ message_sums default_secret m) where
   -- a product with the length, from its remainder
   times_length : (p : ℕ) → (s.total * p) % 2 ^ 64 ≡ (length m * p) % 2 ^ 64

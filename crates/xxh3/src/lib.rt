@@ -4,6 +4,7 @@
 mod hash128;
 mod hash64;
 mod secret;
+mod state;
 mod stream;
 mod sums;
 mod window;
