@@ -1,0 +1,146 @@
+//! Messages of more than 240 bytes: eight sums over stripes of 64 bytes, in blocks of 16 stripes.
+ghost use Rattle.std.specs.Prelude.{◌≡◌, ◌+◌, ◌*◌, ◌≤◌, ◌<◌, length};
+ghost use Rattle.xxh3.specs.Xxh3.{words, with_stripe, scrambled, with_stripes, message_sums, merged, first_sums};
+
+use crate::secret::SECRET_LEN;
+use crate::words::{self, avalanche, folded_product, word};
+use std::simd::prelude::*;
+
+// The length of a stripe in bytes, and of a block in stripes.
+pub(crate) const STRIPE_LEN: usize = 64;
+
+pub(crate) const BLOCK_STRIPES: usize = 16;
+
+// Where the eight sums begin.
+const FIRST_SUMS: [u64; 8] = [
+    words::PRIME32_3,
+    words::PRIME64_1,
+    words::PRIME64_2,
+    words::PRIME64_3,
+    words::PRIME64_4,
+    words::PRIME32_2,
+    words::PRIME64_5,
+    words::PRIME32_1,
+];
+
+#[inline(always)]
+pub(crate) fn first_sums() -> u64x8
+    ensures { result ≡ first_sums }
+{
+    u64x8::from_array(FIRST_SUMS)
+}
+
+// Eight words from `at` on.
+#[inline(always)]
+#[tactic(auto, unfolding(crate::specs::Xxh3::words))]
+fn words(bytes: &[u8], at: usize) -> u64x8
+    requires { at + 64 ≤ length bytes.now }
+    ensures { result ≡ words bytes.now at }
+{
+    u64x8::from_array([
+        word(bytes, at),
+        word(bytes, at + 8),
+        word(bytes, at + 16),
+        word(bytes, at + 24),
+        word(bytes, at + 32),
+        word(bytes, at + 40),
+        word(bytes, at + 48),
+        word(bytes, at + 56),
+    ])
+}
+
+// The sums with the stripe at `at`, by the secret at `key_at`.
+#[inline(always)]
+#[tactic(auto, unfolding(crate::specs::Xxh3::with_stripe))]
+pub(crate) fn with_stripe(
+    secret: &[u8; SECRET_LEN],
+    sums: u64x8,
+    bytes: &[u8],
+    at: usize,
+    key_at: usize,
+) -> u64x8
+    requires inside { at + 64 ≤ length bytes.now }
+    requires keyed { key_at + 64 ≤ 192 }
+    requires eight { length sums ≡ 8 }
+    ensures value { result ≡ with_stripe secret.now sums bytes.now at key_at }
+    ensures eight { length result ≡ 8 }
+{
+    let stripe = words(bytes, at);
+    let keyed = stripe ^ words(secret, key_at);
+    let products = (keyed & u64x8::splat(0xffff_ffff)) * (keyed >> u64x8::splat(32));
+    sums + stripe.swizzle([1, 0, 3, 2, 5, 4, 7, 6]) + products
+}
+
+// The sums at the end of a block.
+#[inline(always)]
+#[tactic(auto, unfolding(crate::specs::Xxh3::scrambled))]
+fn scrambled(secret: &[u8; SECRET_LEN], sums: u64x8) -> u64x8
+    requires { length sums ≡ 8 }
+    ensures value { result ≡ scrambled secret.now sums }
+    ensures eight { length result ≡ 8 }
+{
+    let shifted = sums ^ (sums >> u64x8::splat(47));
+    (shifted ^ words(secret, 128)) * u64x8::splat(words::PRIME32_1)
+}
+
+// The sums with `count` stripes from `at` on, the first of which is the stripe `first` of its block.
+#[inline(always)]
+#[tactic(auto, using(crate::proofs::Steps::stripe_steps), unfolding(crate::specs::Xxh3::with_stripes))]
+pub(crate) fn with_stripes(
+    secret: &[u8; SECRET_LEN],
+    start: u64x8,
+    bytes: &[u8],
+    at: usize,
+    first: usize,
+    count: usize,
+) -> u64x8
+    requires inside { at + 64 * count ≤ length bytes.now }
+    requires in_block { first < 16 }
+    requires eight { length start ≡ 8 }
+    ensures value { result ≡ with_stripes secret.now start bytes.now at first count }
+    ensures eight { length result ≡ 8 }
+{
+    let mut sums = start;
+    for i in 0..count {
+        let place = (first + i) % BLOCK_STRIPES;
+        sums = with_stripe(secret, sums, bytes, at + STRIPE_LEN * i, 8 * place);
+        if place == BLOCK_STRIPES - 1 {
+            sums = scrambled(secret, sums);
+        }
+    }
+    sums
+}
+
+// The sums of a message.
+#[tactic(auto, unfolding(crate::specs::Xxh3::message_sums))]
+pub(crate) fn message_sums(secret: &[u8; SECRET_LEN], bytes: &[u8]) -> u64x8
+    requires { 64 < length bytes.now }
+    ensures value { result ≡ message_sums secret.now bytes.now }
+    ensures eight { length result ≡ 8 }
+{
+    let len = bytes.len();
+    let stripes = (len - 1) / STRIPE_LEN;
+    let sums = with_stripes(secret, first_sums(), bytes, 0, 0, stripes);
+    with_stripe(secret, sums, bytes, len - STRIPE_LEN, 121)
+}
+
+// The sums as one word, by the secret at `key_at`.
+#[inline(always)]
+#[tactic(auto, unfolding(crate::specs::Xxh3::merged))]
+pub(crate) fn merged(secret: &[u8; SECRET_LEN], sums: &[u64; 8], key_at: usize, start: u64) -> u64
+    requires { key_at + 64 ≤ 192 }
+    ensures { result ≡ merged secret.now sums.now key_at start }
+{
+    let [a, b, c, d, e, f, g, h] = *sums;
+    let first = folded_product(a ^ word(secret, key_at), b ^ word(secret, key_at + 8));
+    let second = folded_product(c ^ word(secret, key_at + 16), d ^ word(secret, key_at + 24));
+    let third = folded_product(e ^ word(secret, key_at + 32), f ^ word(secret, key_at + 40));
+    let fourth = folded_product(g ^ word(secret, key_at + 48), h ^ word(secret, key_at + 56));
+    avalanche(
+        start
+            .wrapping_add(first)
+            .wrapping_add(second)
+            .wrapping_add(third)
+            .wrapping_add(fourth),
+    )
+}
