@@ -86,10 +86,33 @@ pub fn check_with<H: BlockHash>(
     text_of(alloc, check_as::<H>(alloc, payload.as_slice(), kind)?)
 }
 
-/// A copy of bytes with the change of a number: of each byte to each other value, and a cut before
-/// each byte.
-fn changed(alloc: Global, bytes: &[u8], number: usize) -> Result<Vec<u8>> {
+/// The number of changes of this many bytes.
+pub fn change_count(len: usize) -> usize {
+    len.saturating_mul(256).saturating_add(6)
+}
+
+/// Returns bytes with 1 or 40 more after them: all 0, all 255, or the last of the bytes again.
+fn lengthened(alloc: Global, bytes: &[u8], by: u8) -> Result<Vec<u8>> {
+    let count = if by % 2 == 0 { 1usize } else { 40 };
+    let mut all = bytes.to_vec(alloc)?;
+    for place in 0..count {
+        let last = bytes.len().wrapping_sub(count).wrapping_add(place);
+        all.push(match by / 2 {
+            0 => 0,
+            1 => 255,
+            _ => bytes.get(last).copied().unwrap_or(0),
+        })?;
+    }
+    Ok(all)
+}
+
+/// Returns a copy of bytes with the change of a number: of each byte to each other value, a cut
+/// before each byte, and six longer ones.
+pub fn changed(alloc: Global, bytes: &[u8], number: usize) -> Result<Vec<u8>> {
     let (at, by) = (number / 256, (number % 256) as u8);
+    if at >= bytes.len() {
+        return lengthened(alloc, bytes, by);
+    }
     let mut all = bytes.to_vec(alloc)?;
     if by == 0 {
         all.truncate(at);
@@ -99,8 +122,11 @@ fn changed(alloc: Global, bytes: &[u8], number: usize) -> Result<Vec<u8>> {
     Ok(all)
 }
 
+/// The digest of no text.
+pub const START: u64 = 0xcbf2_9ce4_8422_2325;
+
 /// Continues a digest of texts.
-fn digest(before: u64, text: &str) -> u64 {
+pub fn digest(before: u64, text: &str) -> u64 {
     let mut state = before;
     for byte in text.as_bytes() {
         state = (state ^ u64::from(*byte)).wrapping_mul(0x100_0000_01b3);
@@ -112,7 +138,7 @@ fn digest(before: u64, text: &str) -> u64 {
 /// results: KIND.
 pub fn changes<H: BlockHash>(alloc: Global, room: &Room, kind: &str) -> Result<String> {
     let payload = room.payload.as_slice();
-    let (mut accepted, mut state) = (0u64, 0xcbf2_9ce4_8422_2325u64);
+    let (mut accepted, mut state) = (0u64, START);
     for number in 0..payload.len().saturating_mul(256) {
         let checked = check_as::<H>(alloc, changed(alloc, payload, number)?.as_slice(), kind)?;
         accepted = accepted.saturating_add(u64::from(checked.is_ok()));

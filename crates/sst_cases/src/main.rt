@@ -8,7 +8,13 @@
 mod blocks;
 mod checks;
 mod fault;
+mod filters;
+mod frames;
+mod ranges;
+mod reads;
 mod room;
+mod runs;
+mod texts;
 mod walks;
 mod words;
 mod zero_hash;
@@ -38,7 +44,7 @@ fn prepare<H: BlockHash>(alloc: Global, room: &mut Room, words: &[&str]) -> Resu
             room.payload = words::bytes_of(alloc, bytes)?;
             Ok(format!(in alloc; "{} bytes", room.payload.len())?)
         }
-        _ => Err(Fault::Word),
+        _ => perform_run::<H>(alloc, room, words),
     }
 }
 
@@ -57,6 +63,45 @@ fn perform<H: BlockHash>(alloc: Global, room: &mut Room, words: &[&str]) -> Resu
     }
 }
 
+/// Performs a command on frames, filters or runs.
+fn perform_run<H: BlockHash>(alloc: Global, room: &mut Room, words: &[&str]) -> Result<String> {
+    let found = frames::perform::<H>(alloc, room, words);
+    if !matches!(&found, Err(Fault::Word)) {
+        return found;
+    }
+    let found = filters::perform::<H>(alloc, room, words);
+    if !matches!(&found, Err(Fault::Word)) {
+        return found;
+    }
+    let found = runs::perform::<H>(alloc, room, words);
+    if !matches!(&found, Err(Fault::Word)) {
+        return found;
+    }
+    reads::perform::<H>(alloc, room, words)
+}
+
+/// Performs a command with each change of the payload, and digests the results.
+fn each<H: BlockHash>(alloc: Global, room: &mut Room, words: &[&str]) -> Result<String> {
+    let payload = room.payload.to_vec(alloc)?;
+    let (mut accepted, mut state) = (0u64, checks::START);
+    for number in 0..checks::change_count(payload.len()) {
+        room.payload = checks::changed(alloc, payload.as_slice(), number)?;
+        let found = perform_run::<H>(alloc, room, words);
+        accepted = accepted.saturating_add(u64::from(found.is_ok()));
+        state = checks::digest(state, told(alloc, found)?.as_str());
+    }
+    room.payload = payload;
+    Ok(format!(in alloc; "{accepted} accepted, {state:016x}")?)
+}
+
+/// Returns the text of a result.
+fn told(alloc: Global, found: Result<String>) -> Result<String> {
+    match found {
+        Ok(text) => Ok(text),
+        Err(fault) => Ok(format!(in alloc; "{fault:?}")?),
+    }
+}
+
 /// Performs the command of a line.
 fn answer<H: BlockHash>(alloc: Global, room: &mut Room, command: &str) -> Result<String> {
     let mut words: Vec<&str> = Vec::new(alloc);
@@ -65,10 +110,11 @@ fn answer<H: BlockHash>(alloc: Global, room: &mut Room, command: &str) -> Result
             words.push(word)?;
         }
     }
-    match perform::<H>(alloc, room, words.as_slice()) {
-        Ok(text) => Ok(text),
-        Err(fault) => Ok(format!(in alloc; "{fault:?}")?),
-    }
+    let found = match words.as_slice() {
+        ["each", command @ ..] => each::<H>(alloc, room, command),
+        command => perform::<H>(alloc, room, command),
+    };
+    told(alloc, found)
 }
 
 /// Runs the cases of a file. Prints those that do not hold, and returns how many there are, and how

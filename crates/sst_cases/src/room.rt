@@ -5,13 +5,16 @@ use crate::words::{entry_of, entry_with, small_of, wide_of};
 use sst_base::table::block::{Block, BlockType};
 use sst_base::{BlockHash, InternalValue, Slice, ValueType};
 use sst_block_kinds::DataBlock;
+use sstable_blocks::RunHandles;
 use std::alloc::Global;
 
-/// A list of entries, and the payload of a block.
+/// A list of entries, the payload of a block, a frame, a filter or a run, and where the index and the
+/// filter of a run are.
 #[derive(Drop)]
 pub struct Room {
     pub list: Vec<InternalValue>,
     pub payload: Vec<u8>,
+    pub handles_of_run: Option<RunHandles>,
 }
 
 impl Room {
@@ -20,6 +23,7 @@ impl Room {
         Room {
             list: Vec::new(alloc),
             payload: Vec::new(alloc),
+            handles_of_run: None,
         }
     }
 }
