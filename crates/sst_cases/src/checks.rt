@@ -1,99 +1,137 @@
 //! Commands that check bytes as blocks, and all changes of them.
 
+use crate::digest::Digest;
 use crate::fault::{Fault, Result};
 use crate::room::{Room, block_with};
-use crate::words::{number_of, small_of};
+use crate::words::{alike, number_of, small_of};
 use sst_base::table::block::{Block, BlockType};
 use sst_base::{BlockHash, Error};
-use sst_block_kinds::{DataBlock, IndexBlock};
+use sst_block_kinds::{DataBlock, DataBlockRef, IndexBlock, IndexBlockRef};
 use std::alloc::Global;
 
 type Checked = std::result::Result<usize, Error>;
 
-/// The check of a data block by each of its calls, which agree.
-fn check_data<H: BlockHash>(alloc: Global, payload: &[u8]) -> Result<Checked> {
-    let block = block_with(alloc, BlockType::Data, payload)?;
-    let by_ref = DataBlock::<H>::check_ref(alloc, &block);
-    let once = match DataBlock::<H>::check_once(alloc, block) {
-        Ok(block) => Ok(block.len()),
-        Err(error) => Err(error),
-    };
-    let block = block_with(alloc, BlockType::Data, payload)?;
-    let tabled = match DataBlock::<H>::check(alloc, block) {
-        Ok(block) => Ok(block.len()),
-        Err(error) => Err(error),
-    };
-    if once == tabled && once == by_ref {
-        Ok(once)
-    } else {
-        Err(Fault::Word)
-    }
+/// The kinds of blocks.
+#[derive(Clone, Copy)]
+enum Kind {
+    Data,
+    Index,
 }
 
-/// The check of an index block by each of its calls, which agree.
-fn check_index(alloc: Global, payload: &[u8]) -> Result<Checked> {
-    let block = block_with(alloc, BlockType::Index, payload)?;
-    let by_ref = IndexBlock::check_ref(&block);
-    let once = match IndexBlock::check_once(block) {
-        Ok(block) => Ok(block.len()),
-        Err(error) => Err(error),
-    };
-    let block = block_with(alloc, BlockType::Index, payload)?;
-    let tabled = match IndexBlock::check(alloc, block) {
-        Ok(block) => Ok(block.len()),
-        Err(error) => Err(error),
-    };
-    if once == tabled && once == by_ref {
-        Ok(once)
-    } else {
-        Err(Fault::Word)
-    }
-}
-
-/// The check of bytes as a block of a kind.
-fn check_as<H: BlockHash>(alloc: Global, payload: &[u8], kind: &str) -> Result<Checked> {
-    match kind {
-        "data" => check_data::<H>(alloc, payload),
-        "index" => check_index(alloc, payload),
+/// The kind of a word.
+fn kind_of(word: &str) -> Result<Kind> {
+    match word {
+        "data" => Ok(Kind::Data),
+        "index" => Ok(Kind::Index),
         _ => Err(Fault::Word),
     }
 }
 
+/// The check of a data block that makes the table of its heads, and the one that makes none.
+fn data_checks<H: BlockHash>(alloc: Global, payload: &[u8]) -> Result<(Checked, Checked)> {
+    let once = DataBlock::<H>::check_once(alloc, block_with(alloc, BlockType::Data, payload)?);
+    let once = match once {
+        Ok(block) => Ok(block.len()),
+        Err(error) => Err(error),
+    };
+    let tabled = DataBlock::<H>::check(alloc, block_with(alloc, BlockType::Data, payload)?);
+    match tabled {
+        Ok(block) => Ok((once, Ok(block.len()))),
+        Err(error) => Ok((once, Err(error))),
+    }
+}
+
+/// The check of a data block that borrows it, and the one of bytes that are lent.
+fn lent_data_checks<H: BlockHash>(alloc: Global, payload: &[u8]) -> Result<(Checked, Checked)> {
+    let block = block_with(alloc, BlockType::Data, payload)?;
+    let by_ref = DataBlock::<H>::check_ref(alloc, &block);
+    match DataBlockRef::<H>::check(alloc, payload) {
+        Ok(page) => Ok((by_ref, Ok(page.len()))),
+        Err(error) => Ok((by_ref, Err(error))),
+    }
+}
+
+/// The check of an index block that makes the table of its heads, and the one that makes none.
+fn index_checks(alloc: Global, payload: &[u8]) -> Result<(Checked, Checked)> {
+    let once = IndexBlock::check_once(block_with(alloc, BlockType::Index, payload)?);
+    let once = match once {
+        Ok(block) => Ok(block.len()),
+        Err(error) => Err(error),
+    };
+    let tabled = IndexBlock::check(alloc, block_with(alloc, BlockType::Index, payload)?);
+    match tabled {
+        Ok(block) => Ok((once, Ok(block.len()))),
+        Err(error) => Ok((once, Err(error))),
+    }
+}
+
+/// The check of an index block that borrows it, and the one of bytes that are lent.
+fn lent_index_checks(alloc: Global, payload: &[u8]) -> Result<(Checked, Checked)> {
+    let block = block_with(alloc, BlockType::Index, payload)?;
+    let by_ref = IndexBlock::check_ref(&block);
+    match IndexBlockRef::check(payload) {
+        Ok(page) => Ok((by_ref, Ok(page.len()))),
+        Err(error) => Ok((by_ref, Err(error))),
+    }
+}
+
 /// The text of a check.
-fn text_of(alloc: Global, checked: Checked) -> Result<String> {
+fn text_of(alloc: Global, checked: &Checked) -> Result<String> {
     match checked {
         Ok(count) => Ok(format!(in alloc; "{count}")?),
         Err(error) => Ok(format!(in alloc; "{error:?}")?),
     }
 }
 
-/// The check of the payload: KIND.
-pub fn check<H: BlockHash>(alloc: Global, room: &Room, kind: &str) -> Result<String> {
-    text_of(alloc, check_as::<H>(alloc, room.payload.as_slice(), kind)?)
+/// The result of the checks of bytes as a block of a kind: the number of items or the error, and each
+/// where they differ.
+fn check_as<H: BlockHash>(alloc: Global, payload: &[u8], kind: Kind) -> Result<String> {
+    let (owned, lent) = match kind {
+        Kind::Data => (
+            data_checks::<H>(alloc, payload)?,
+            lent_data_checks::<H>(alloc, payload)?,
+        ),
+        Kind::Index => (
+            index_checks(alloc, payload)?,
+            lent_index_checks(alloc, payload)?,
+        ),
+    };
+    let text = text_of(alloc, &owned.0)?;
+    if owned.0 == owned.1 && owned.0 == lent.0 && owned.0 == lent.1 {
+        return Ok(text);
+    }
+    let text = alike(alloc, text, "with a table", text_of(alloc, &owned.1)?)?;
+    let text = alike(alloc, text, "borrowed", text_of(alloc, &lent.0)?)?;
+    alike(alloc, text, "lent", text_of(alloc, &lent.1)?)
 }
 
 /// The check of the payload with a byte changed: KIND AT BYTE.
-pub fn check_with<H: BlockHash>(
+fn check_with<H: BlockHash>(
     alloc: Global,
     room: &Room,
-    kind: &str,
+    kind: Kind,
     at: &str,
     byte: &str,
 ) -> Result<String> {
     let mut payload = room.payload.to_vec(alloc)?;
     let place = payload.get_mut(number_of(at)? as usize).ok_or(Fault::Word)?;
     *place = small_of(byte)?;
-    text_of(alloc, check_as::<H>(alloc, payload.as_slice(), kind)?)
+    check_as::<H>(alloc, payload.as_slice(), kind)
 }
 
-/// The number of changes of this many bytes.
-pub fn change_count(len: usize) -> usize {
-    len.saturating_mul(256).saturating_add(6)
+/// The check of the payload, as it is or with a byte changed.
+fn check<H: BlockHash>(alloc: Global, room: &Room, words: &[&str]) -> Result<String> {
+    match words {
+        [kind] => check_as::<H>(alloc, room.payload.as_slice(), kind_of(kind)?),
+        [kind, at, byte] => check_with::<H>(alloc, room, kind_of(kind)?, at, byte),
+        _ => Err(Fault::Word),
+    }
 }
 
-/// Returns bytes with 1 or 40 more after them: all 0, all 255, or the last of the bytes again.
-fn lengthened(alloc: Global, bytes: &[u8], by: u8) -> Result<Vec<u8>> {
-    let count = if by % 2 == 0 { 1usize } else { 40 };
+/// Bytes with 1 or 40 more behind them, by an odd number the latter: all 0, all 255, or the last of
+/// the bytes again.
+fn longer(alloc: Global, bytes: &[u8], by: usize) -> Result<Vec<u8>> {
+    let count = if by % 2 == 0 { 1 } else { 40usize };
     let mut all = bytes.to_vec(alloc)?;
     for place in 0..count {
         let last = bytes.len().wrapping_sub(count).wrapping_add(place);
@@ -106,12 +144,12 @@ fn lengthened(alloc: Global, bytes: &[u8], by: u8) -> Result<Vec<u8>> {
     Ok(all)
 }
 
-/// Returns a copy of bytes with the change of a number: of each byte to each other value, a cut
-/// before each byte, and six longer ones.
+/// Returns a copy of bytes with the change of a number: a cut before each byte, each byte changed to each other
+/// value, and six longer ones.
 pub fn changed(alloc: Global, bytes: &[u8], number: usize) -> Result<Vec<u8>> {
     let (at, by) = (number / 256, (number % 256) as u8);
     if at >= bytes.len() {
-        return lengthened(alloc, bytes, by);
+        return longer(alloc, bytes, usize::from(by));
     }
     let mut all = bytes.to_vec(alloc)?;
     if by == 0 {
@@ -122,27 +160,78 @@ pub fn changed(alloc: Global, bytes: &[u8], number: usize) -> Result<Vec<u8>> {
     Ok(all)
 }
 
-/// The digest of no text.
-pub const START: u64 = 0xcbf2_9ce4_8422_2325;
-
-/// Continues a digest of texts.
-pub fn digest(before: u64, text: &str) -> u64 {
-    let mut state = before;
-    for byte in text.as_bytes() {
-        state = (state ^ u64::from(*byte)).wrapping_mul(0x100_0000_01b3);
-    }
-    state.wrapping_mul(31).wrapping_add(1)
+/// How many payloads are accepted, and the digest of the results of all.
+#[derive(Drop)]
+struct Results {
+    accepted: usize,
+    digest: Digest,
 }
 
-/// The checks of all changes of the payload, as the number that are accepted, and a digest of all
-/// results: KIND.
-pub fn changes<H: BlockHash>(alloc: Global, room: &Room, kind: &str) -> Result<String> {
-    let payload = room.payload.as_slice();
-    let (mut accepted, mut state) = (0u64, START);
-    for number in 0..payload.len().saturating_mul(256) {
-        let checked = check_as::<H>(alloc, changed(alloc, payload, number)?.as_slice(), kind)?;
-        accepted = accepted.saturating_add(u64::from(checked.is_ok()));
-        state = digest(state, text_of(alloc, checked)?.as_str());
+impl Results {
+    /// Makes the results of no checks.
+    fn new() -> Results {
+        Results {
+            accepted: 0,
+            digest: Digest::new(),
+        }
     }
-    Ok(format!(in alloc; "{accepted} accepted, {state:016x}")?)
+
+    /// Checks a payload.
+    fn add<H: BlockHash>(&mut self, alloc: Global, payload: &[u8], kind: Kind) -> Result<()> {
+        let text = check_as::<H>(alloc, payload, kind)?;
+        if number_of(text.as_str()).is_ok() {
+            self.accepted = self.accepted.saturating_add(1);
+        }
+        self.digest.add(text.as_str());
+        Ok(())
+    }
+
+    /// The text of the results.
+    fn text(&self, alloc: Global) -> Result<String> {
+        let (accepted, state) = (self.accepted, self.digest.state);
+        Ok(format!(in alloc; "{accepted} accepted, {state:016x}")?)
+    }
+}
+
+/// The checks of all changes of the payload: KIND.
+fn changes<H: BlockHash>(alloc: Global, room: &Room, words: &[&str]) -> Result<String> {
+    let [kind] = words else {
+        return Err(Fault::Word);
+    };
+    let (kind, payload) = (kind_of(kind)?, room.payload.as_slice());
+    let mut results = Results::new();
+    for number in 0..payload.len().saturating_mul(256).saturating_add(6) {
+        let changed = changed(alloc, payload, number)?;
+        results.add::<H>(alloc, changed.as_slice(), kind)?;
+    }
+    results.text(alloc)
+}
+
+/// The checks of the payload cut before each byte: KIND.
+fn cuts<H: BlockHash>(alloc: Global, room: &Room, words: &[&str]) -> Result<String> {
+    let [kind] = words else {
+        return Err(Fault::Word);
+    };
+    let (kind, payload) = (kind_of(kind)?, room.payload.as_slice());
+    let mut results = Results::new();
+    for end in 0..payload.len() {
+        results.add::<H>(alloc, payload.get(..end).ok_or(Fault::Word)?, kind)?;
+    }
+    results.text(alloc)
+}
+
+/// Performs a command, if it is one on checks.
+pub fn perform<H: BlockHash>(
+    alloc: Global,
+    room: &Room,
+    name: &str,
+    words: &[&str],
+) -> Result<Option<String>> {
+    let answer = match name {
+        "check" => check::<H>(alloc, room, words),
+        "changes" => changes::<H>(alloc, room, words),
+        "cuts" => cuts::<H>(alloc, room, words),
+        _ => return Ok(None),
+    };
+    Ok(Some(answer?))
 }

@@ -4,7 +4,7 @@ ghost use Rattle.std.specs.Prelude.{◌≡◌};
 use crate::fault::{Fault, Result};
 use crate::room::Room;
 use crate::texts::{agreed, joined};
-use crate::words::{bytes_of, hex_of, number_of, size_of, small_of};
+use crate::words::{bytes_of, hex_of, number_of, push_word, size_of, small_of};
 use sst_base::{Block, BlockHash, BlockType, Slice};
 use sstable_blocks::table::filter::bit_array::{self, BitArrayReader};
 use sstable_blocks::table::filter::standard_bloom::{
@@ -36,15 +36,13 @@ fn insert(alloc: Global, room: &mut Room, mut filter: Builder, hashes: &[&str]) 
 }
 
 /// Makes a filter of hashes: POLICY KEYS BITS HASH ..
-fn build(alloc: Global, room: &mut Room, by: &str, words: &[&str]) -> Result<String> {
-    match words {
-        [keys, bits, hashes @ ..] => {
-            let keys = number_of(keys)? as usize;
-            let filter = empty(alloc, keys, size_of(bits)?, by == "policy")?;
-            insert(alloc, room, filter, hashes)
-        }
-        _ => Err(Fault::Word),
-    }
+fn build(alloc: Global, room: &mut Room, words: &[&str]) -> Result<String> {
+    let [by, keys, bits, hashes @ ..] = words else {
+        return Err(Fault::Word);
+    };
+    let keys = number_of(keys)? as usize;
+    let filter = empty(alloc, keys, size_of(bits)?, *by == "policy")?;
+    insert(alloc, room, filter, hashes)
 }
 
 /// Returns the payload as the block of a filter.
@@ -56,13 +54,9 @@ fn block_of(alloc: Global, room: &Room) -> Result<FilterBlock> {
     Ok(FilterBlock::new(Block::from_payload(BlockType::Filter, payload)).clone()?)
 }
 
-/// Appends a truth value to a text.
-fn push_truth(text: &mut String, value: bool) -> Result<()> {
-    if !text.is_empty() {
-        text.push(' ')?;
-    }
-    text.push_str(if value { "true" } else { "false" })?;
-    Ok(())
+/// Returns the word of a truth value.
+fn truth_of(value: bool) -> &'static str {
+    if value { "true" } else { "false" }
 }
 
 /// Returns whether the payload, read as a filter, may contain hashes.
@@ -70,7 +64,8 @@ fn by_reader(alloc: Global, room: &Room, hashes: &[&str]) -> Result<String> {
     let reader = StandardBloomFilterReader::new(room.payload.as_slice())?;
     let mut text = String::new(alloc);
     for hash in hashes {
-        push_truth(&mut text, reader.contains_hash(number_of(hash)?))?;
+        let found = reader.contains_hash(number_of(hash)?);
+        push_word(&mut text, truth_of(found))?;
     }
     Ok(text)
 }
@@ -80,14 +75,18 @@ fn by_block(alloc: Global, room: &Room, hashes: &[&str]) -> Result<String> {
     let block = block_of(alloc, room)?;
     let mut text = String::new(alloc);
     for hash in hashes {
-        push_truth(&mut text, block.maybe_contains_hash(number_of(hash)?)?)?;
+        let found = block.maybe_contains_hash(number_of(hash)?)?;
+        push_word(&mut text, truth_of(found))?;
     }
     Ok(text)
 }
 
 /// Whether the payload may contain hashes, by the reader and by the block, which agree: HASH ..
 fn hashed(alloc: Global, room: &Room, hashes: &[&str]) -> Result<String> {
-    let found = [by_reader(alloc, room, hashes), by_block(alloc, room, hashes)];
+    let found = [
+        by_reader(alloc, room, hashes),
+        by_block(alloc, room, hashes),
+    ];
     agreed(alloc, &found)
 }
 
@@ -99,7 +98,7 @@ fn keyed<H: BlockHash>(alloc: Global, room: &Room, keys: &[&str]) -> Result<Stri
         let key = bytes_of(alloc, key)?;
         let hash = Builder::get_hash::<H>(key.as_slice());
         let found = reader.contains::<H>(key.as_slice());
-        push_truth(&mut text, found)?;
+        push_word(&mut text, truth_of(found))?;
         if found != reader.contains_hash(hash) {
             text.push('!')?;
         }
@@ -129,14 +128,17 @@ fn insert_all<H: BlockHash>(filter: &mut Builder, count: usize) {
 
 /// How many of the numbers from a first to a last one a filter of the numbers below a count may
 /// contain: COUNT BITS FIRST LAST.
-fn sweep<H: BlockHash>(alloc: Global, words: [&str; 4]) -> Result<String> {
-    let (count, bits) = (number_of(words[0])? as usize, size_of(words[1])?);
+fn sweep<H: BlockHash>(alloc: Global, words: &[&str]) -> Result<String> {
+    let [count, bits, first, last] = words else {
+        return Err(Fault::Word);
+    };
+    let (count, bits) = (number_of(count)? as usize, size_of(bits)?);
     let mut filter = empty(alloc, count, bits, true)?;
     insert_all::<H>(&mut filter, count);
     let payload = filter.build(alloc)?;
     let reader = StandardBloomFilterReader::new(payload.as_slice())?;
     let mut found = 0usize;
-    for number in number_of(words[2])?..number_of(words[3])? {
+    for number in number_of(first)?..number_of(last)? {
         if reader.contains_hash(hash_of::<H>(number)) {
             found = found.saturating_add(1);
         }
@@ -145,12 +147,19 @@ fn sweep<H: BlockHash>(alloc: Global, words: [&str; 4]) -> Result<String> {
 }
 
 /// What a policy says of so many keys: BITS KEYS.
-fn policy(alloc: Global, bits: &str, keys: &str) -> Result<String> {
+fn policy(alloc: Global, words: &[&str]) -> Result<String> {
+    let [bits, keys] = words else {
+        return Err(Fault::Word);
+    };
     let policy = BloomConstructionPolicy::BitsPerKey(size_of(bits)?);
     let keys = number_of(keys)? as usize;
     let is_default = policy == BloomConstructionPolicy::default();
     let kind = if is_default { "default, " } else { "" };
-    let state = if policy.is_active() { "active" } else { "inactive" };
+    let state = if policy.is_active() {
+        "active"
+    } else {
+        "inactive"
+    };
     if policy.fits(keys) {
         let size = policy.estimated_filter_size(keys);
         Ok(format!(in alloc; "{kind}{state}, {size} bytes")?)
@@ -160,7 +169,10 @@ fn policy(alloc: Global, bits: &str, keys: &str) -> Result<String> {
 }
 
 /// Sets a bit of the payload: INDEX.
-fn set_bit(alloc: Global, room: &mut Room, index: &str) -> Result<String> {
+fn set_bit(alloc: Global, room: &mut Room, words: &[&str]) -> Result<String> {
+    let [index] = words else {
+        return Err(Fault::Word);
+    };
     let index = number_of(index)? as usize;
     let mut bits = bit_array::Builder::from_bytes(room.payload.to_vec(alloc)?);
     if index / 8 >= bits.bytes().len() {
@@ -183,37 +195,58 @@ fn bits(alloc: Global, room: &Room) -> Result<String> {
     joined(alloc, texts.as_slice(), " ")
 }
 
+/// The number by which the probes of a hash are apart: HASH.
+fn secondary(alloc: Global, words: &[&str]) -> Result<String> {
+    let [hash] = words else {
+        return Err(Fault::Word);
+    };
+    let number = secondary_hash(number_of(hash)?);
+    Ok(format!(in alloc; "{number}")?)
+}
+
 /// The filter type of a byte: BYTE.
-fn type_of(alloc: Global, byte: &str) -> Result<String> {
+fn type_of(alloc: Global, words: &[&str]) -> Result<String> {
+    let [byte] = words else {
+        return Err(Fault::Word);
+    };
     let byte = small_of(byte)?;
     let kind = FilterType::try_from(byte)?;
     let again = u8::from(kind);
     Ok(format!(in alloc; "{kind:?} {again}")?)
 }
 
-/// Performs a command on bits and numbers.
-fn perform_small(alloc: Global, room: &mut Room, words: &[&str]) -> Result<String> {
-    match words {
-        ["policy", bits, keys] => policy(alloc, bits, keys),
-        ["bit", index] => set_bit(alloc, room, index),
-        ["bits"] => bits(alloc, room),
-        ["secondary", hash] => {
-            let number = secondary_hash(number_of(hash)?);
-            Ok(format!(in alloc; "{number}")?)
-        }
-        ["filter-type", byte] => type_of(alloc, byte),
-        _ => Err(Fault::Word),
-    }
+/// Performs a command on bits and numbers, if it is one.
+fn perform_small(
+    alloc: Global,
+    room: &mut Room,
+    name: &str,
+    words: &[&str],
+) -> Result<Option<String>> {
+    let answer = match name {
+        "policy" => policy(alloc, words),
+        "bit" => set_bit(alloc, room, words),
+        "bits" => bits(alloc, room),
+        "secondary" => secondary(alloc, words),
+        "filter-type" => type_of(alloc, words),
+        _ => return Ok(None),
+    };
+    Ok(Some(answer?))
 }
 
-/// Performs a command of this module.
-pub fn perform<H: BlockHash>(alloc: Global, room: &mut Room, words: &[&str]) -> Result<String> {
-    match words {
-        ["filter", by, rest @ ..] => build(alloc, room, by, rest),
-        ["numbers"] => numbers(alloc, room),
-        ["hashed", hashes @ ..] => hashed(alloc, room, hashes),
-        ["keyed", keys @ ..] => keyed::<H>(alloc, room, keys),
-        ["sweep", count, bits, first, last] => sweep::<H>(alloc, [count, bits, first, last]),
-        _ => perform_small(alloc, room, words),
-    }
+/// Performs a command, if it is one on filters.
+pub fn perform<H: BlockHash>(
+    alloc: Global,
+    room: &mut Room,
+    name: &str,
+    words: &[&str],
+) -> Result<Option<String>> {
+    let answer = match name {
+        "filter" => build(alloc, room, words),
+        "numbers" => numbers(alloc, room),
+        "hashed" => hashed(alloc, room, words),
+        "keyed" => keyed::<H>(alloc, room, words),
+        "sweep" => sweep::<H>(alloc, words),
+        _ => return perform_small(alloc, room, name, words),
+    };
+    Ok(Some(answer?))
 }

@@ -10,6 +10,15 @@ use sst_base::{BlockHash, Slice};
 use std::alloc::Global;
 use std::io::Cursor;
 
+/// A way to read bytes.
+#[derive(Clone, Copy)]
+enum Way {
+    Stream,
+    Whole,
+    Header,
+    Handle,
+}
+
 /// Returns the block type of a word.
 fn type_of(word: &str) -> Result<BlockType> {
     match word {
@@ -29,12 +38,15 @@ fn text_of(alloc: Global, header: &Header) -> Result<String> {
 }
 
 /// Makes the payload its frame: TYPE.
-fn frame<H: BlockHash>(alloc: Global, room: &mut Room, kind: &str) -> Result<String> {
+fn frame<H: BlockHash>(alloc: Global, room: &mut Room, words: &[&str]) -> Result<Option<String>> {
+    let [kind] = words else {
+        return Err(Fault::Word);
+    };
     let mut frame = Vec::new(alloc);
     let kind = type_of(kind)?;
     let header = Block::write_into::<H, Vec<u8>>(&mut frame, room.payload.as_slice(), kind)?;
     room.payload = frame;
-    text_of(alloc, &header)
+    Ok(Some(text_of(alloc, &header)?))
 }
 
 /// Sets the checksum of a header to that of the bytes before it.
@@ -116,34 +128,52 @@ fn handle(alloc: Global, bytes: &[u8]) -> Result<String> {
 }
 
 /// Reads the frame that a handle names in a file of the payload: OFFSET SIZE.
-fn file<H: BlockHash>(alloc: Global, room: &Room, offset: &str, size: &str) -> Result<String> {
+fn file<H: BlockHash>(alloc: Global, room: &Room, words: &[&str]) -> Result<Option<String>> {
+    let [offset, size] = words else {
+        return Err(Fault::Word);
+    };
     let handle = BlockHandle::new(BlockOffset(number_of(offset)?), size_of(size)?);
     let mut file = Cursor::new(room.payload.as_slice());
     let block = Block::from_file::<H, Cursor<&[u8]>>(alloc, &mut file, handle)?;
-    seen(alloc, &block, 0)
+    Ok(Some(seen(alloc, &block, 0)?))
 }
 
-/// Performs a command that reads bytes.
-fn read<H: BlockHash>(alloc: Global, bytes: &[u8], name: &str) -> Result<String> {
+/// Reads the payload, with checksums that fit where the words say so, in a way.
+fn read<H: BlockHash>(
+    alloc: Global,
+    room: &Room,
+    words: &[&str],
+    way: Way,
+) -> Result<Option<String>> {
+    let bytes = match words {
+        [] => mended::<H>(alloc, room, "none")?,
+        ["mended", which] => mended::<H>(alloc, room, which)?,
+        _ => return Err(Fault::Word),
+    };
+    let bytes = bytes.as_slice();
+    let answer = match way {
+        Way::Stream => stream::<H>(alloc, bytes),
+        Way::Whole => whole::<H>(alloc, bytes),
+        Way::Header => header::<H>(alloc, bytes),
+        Way::Handle => handle(alloc, bytes),
+    };
+    Ok(Some(answer?))
+}
+
+/// Performs a command, if it is one on frames, headers or lone handles.
+pub fn perform<H: BlockHash>(
+    alloc: Global,
+    room: &mut Room,
+    name: &str,
+    words: &[&str],
+) -> Result<Option<String>> {
     match name {
-        "stream" => stream::<H>(alloc, bytes),
-        "whole" => whole::<H>(alloc, bytes),
-        "header" => header::<H>(alloc, bytes),
-        "handle" => handle(alloc, bytes),
-        _ => Err(Fault::Word),
-    }
-}
-
-/// Performs a command of this module.
-pub fn perform<H: BlockHash>(alloc: Global, room: &mut Room, words: &[&str]) -> Result<String> {
-    match words {
-        ["frame", kind] => frame::<H>(alloc, room, kind),
-        ["file", offset, size] => file::<H>(alloc, room, offset, size),
-        [name] => read::<H>(alloc, room.payload.as_slice(), name),
-        [name, "mended", which] => {
-            let bytes = mended::<H>(alloc, room, which)?;
-            read::<H>(alloc, bytes.as_slice(), name)
-        }
-        _ => Err(Fault::Word),
+        "stream" => read::<H>(alloc, room, words, Way::Stream),
+        "whole" => read::<H>(alloc, room, words, Way::Whole),
+        "header" => read::<H>(alloc, room, words, Way::Header),
+        "handle" => read::<H>(alloc, room, words, Way::Handle),
+        "frame" => frame::<H>(alloc, room, words),
+        "file" => file::<H>(alloc, room, words),
+        _ => Ok(None),
     }
 }

@@ -1,21 +1,24 @@
 //! Runs the cases of files: a line is a command, and behind ` => ` stands what it has to answer.
 //!
 //! The words are names of files; the ending of a name says which hash its blocks have: `.sum`,
-//! `.zero` or `.poly`. Prints a line for each case that is answered otherwise, and then how many
-//! cases of the file hold; the status is 1 if one does not.
+//! `.zero` or `.poly`. Prints a line for each case that is answered otherwise, with the file and the
+//! number of the line, and then how many cases of the file hold; the status is 1 if one does not.
+//!
+//! The commands stand in modules by what they are about. Each module has a function `perform`, which
+//! returns the answer to a command, or `None` where the command is none of the module's.
 #![tactic(auto)]
 
-mod blocks;
 mod checks;
+mod data_blocks;
+mod digest;
+mod each;
 mod fault;
 mod filters;
 mod frames;
-mod ranges;
-mod reads;
+mod index_blocks;
 mod room;
 mod runs;
 mod texts;
-mod walks;
 mod words;
 mod zero_hash;
 
@@ -29,129 +32,113 @@ use std::rt::Files;
 use std::{env, fs};
 use zero_hash::ZeroHash;
 
-/// Performs a command that changes what is in the room.
-fn prepare<H: BlockHash>(alloc: Global, room: &mut Room, words: &[&str]) -> Result<String> {
-    match words {
-        ["list", entries @ ..] => {
-            room.list = Vec::new(alloc);
-            room::add(alloc, room, entries)
+/// Performs a command: asks one module after the other whether the command is one of its own.
+fn perform<H: BlockHash>(
+    alloc: Global,
+    room: &mut Room,
+    name: &str,
+    words: &[&str],
+) -> Result<String> {
+    if let Some(answer) = data_blocks::perform::<H>(alloc, room, name, words)? {
+        return Ok(answer);
+    }
+    if let Some(answer) = index_blocks::perform(alloc, room, name, words)? {
+        return Ok(answer);
+    }
+    if let Some(answer) = checks::perform::<H>(alloc, room, name, words)? {
+        return Ok(answer);
+    }
+    if let Some(answer) = each::perform::<H>(alloc, room, name, words)? {
+        return Ok(answer);
+    }
+    Err(Fault::Word)
+}
+
+/// The words of a line.
+fn words_of(alloc: Global, line: &str) -> Result<Vec<&str>> {
+    let mut words = Vec::new(alloc);
+    for word in line.split(' ') {
+        if !word.is_empty() {
+            words.push(word)?;
         }
-        ["add", entries @ ..] => room::add(alloc, room, entries),
-        ["bytes", first, last] => room::add_bytes(alloc, room, first, last),
-        ["pairs", first, last] => room::add_pairs(alloc, room, first, last),
-        ["encode", interval, num, den] => blocks::encode::<H>(alloc, room, interval, num, den),
-        ["payload", bytes] => {
-            room.payload = words::bytes_of(alloc, bytes)?;
-            Ok(format!(in alloc; "{} bytes", room.payload.len())?)
-        }
-        _ => perform_run::<H>(alloc, room, words),
     }
+    Ok(words)
 }
 
-/// Performs a command.
-fn perform<H: BlockHash>(alloc: Global, room: &mut Room, words: &[&str]) -> Result<String> {
-    match words {
-        ["at", offset, count] => blocks::bytes(alloc, room, offset, count),
-        ["bucket", key] => blocks::bucket::<H>(alloc, room, key),
-        ["read", key, seqno] => blocks::read::<H>(alloc, room, key, seqno),
-        ["steps", steps @ ..] => walks::steps::<H>(alloc, room, steps),
-        ["walk", steps @ ..] => walks::walks::<H>(alloc, room, steps),
-        ["check", kind] => checks::check::<H>(alloc, room, kind),
-        ["check", kind, at, byte] => checks::check_with::<H>(alloc, room, kind, at, byte),
-        ["changes", kind] => checks::changes::<H>(alloc, room, kind),
-        _ => prepare::<H>(alloc, room, words),
-    }
-}
-
-/// Performs a command on frames, filters or runs.
-fn perform_run<H: BlockHash>(alloc: Global, room: &mut Room, words: &[&str]) -> Result<String> {
-    let found = frames::perform::<H>(alloc, room, words);
-    if !matches!(&found, Err(Fault::Word)) {
-        return found;
-    }
-    let found = filters::perform::<H>(alloc, room, words);
-    if !matches!(&found, Err(Fault::Word)) {
-        return found;
-    }
-    let found = runs::perform::<H>(alloc, room, words);
-    if !matches!(&found, Err(Fault::Word)) {
-        return found;
-    }
-    reads::perform::<H>(alloc, room, words)
-}
-
-/// Performs a command with each change of the payload, and digests the results.
-fn each<H: BlockHash>(alloc: Global, room: &mut Room, words: &[&str]) -> Result<String> {
-    let payload = room.payload.to_vec(alloc)?;
-    let (mut accepted, mut state) = (0u64, checks::START);
-    for number in 0..checks::change_count(payload.len()) {
-        room.payload = checks::changed(alloc, payload.as_slice(), number)?;
-        let found = perform_run::<H>(alloc, room, words);
-        accepted = accepted.saturating_add(u64::from(found.is_ok()));
-        state = checks::digest(state, told(alloc, found)?.as_str());
-    }
-    room.payload = payload;
-    Ok(format!(in alloc; "{accepted} accepted, {state:016x}")?)
-}
-
-/// Returns the text of a result.
-fn told(alloc: Global, found: Result<String>) -> Result<String> {
-    match found {
+/// Performs the command of a line. Returns its answer, or why there is none.
+fn answer<H: BlockHash>(alloc: Global, room: &mut Room, command: &str) -> Result<String> {
+    let words = words_of(alloc, command)?;
+    let Some((name, words)) = words.as_slice().split_first() else {
+        return Err(Fault::Word);
+    };
+    match perform::<H>(alloc, room, name, words) {
         Ok(text) => Ok(text),
         Err(fault) => Ok(format!(in alloc; "{fault:?}")?),
     }
 }
 
-/// Performs the command of a line.
-fn answer<H: BlockHash>(alloc: Global, room: &mut Room, command: &str) -> Result<String> {
-    let mut words: Vec<&str> = Vec::new(alloc);
-    for word in command.split(' ') {
-        if !word.is_empty() {
-            words.push(word)?;
-        }
-    }
-    let found = match words.as_slice() {
-        ["each", command @ ..] => each::<H>(alloc, room, command),
-        command => perform::<H>(alloc, room, command),
-    };
-    told(alloc, found)
+/// A file of cases: its name, the number of the line that was read last, how many cases were read,
+/// and how many of them hold.
+#[derive(Drop)]
+struct File<'a> {
+    name: &'a str,
+    line: usize,
+    cases: usize,
+    held: usize,
 }
 
-/// Runs the cases of a file. Prints those that do not hold, and returns how many there are, and how
-/// many hold.
-fn run<H: BlockHash, R: Print + AllocGlobal>(rt: &R, text: &str) -> Result<(usize, usize)> {
-    let mut room = Room::new(rt.alloc());
-    let (mut cases, mut held) = (0usize, 0usize);
-    for line in text.lines() {
-        let Some((command, wanted)) = line.split_once(" => ") else {
-            continue;
-        };
-        let found = answer::<H>(rt.alloc(), &mut room, command)?;
-        cases = cases.saturating_add(1);
-        if found.as_str() == wanted {
-            held = held.saturating_add(1);
-        } else {
-            println!(rt; "{command} => {found}, not {wanted}")?;
-        }
+/// Runs the case of a line, if it has one. Prints a case that does not hold.
+fn run_line<H: BlockHash, R: Print + AllocGlobal>(
+    rt: &R,
+    room: &mut Room,
+    file: &mut File<'_>,
+    line: &str,
+) -> Result<()> {
+    file.line = file.line.saturating_add(1);
+    let Some((command, wanted)) = line.split_once(" =>") else {
+        return Ok(());
+    };
+    let (found, wanted) = (answer::<H>(rt.alloc(), room, command)?, wanted.trim());
+    file.cases = file.cases.saturating_add(1);
+    if found.as_str() == wanted {
+        file.held = file.held.saturating_add(1);
+        return Ok(());
     }
-    Ok((cases, held))
+    let (name, number) = (file.name, file.line);
+    println!(rt; "{name}:{number}: {command} => {found}, not {wanted}")?;
+    Ok(())
+}
+
+/// Runs the cases of a file. Prints those that do not hold, and how many hold. Returns whether all do.
+fn run<H: BlockHash, R: Print + AllocGlobal>(rt: &R, name: &str, text: &str) -> Result<bool> {
+    let mut room = Room::new(rt.alloc());
+    let mut file = File {
+        name,
+        line: 0,
+        cases: 0,
+        held: 0,
+    };
+    for line in text.lines() {
+        run_line::<H, R>(rt, &mut room, &mut file, line)?;
+    }
+    let (held, cases) = (file.held, file.cases);
+    println!(rt; "{name}: {held} of {cases} cases hold")?;
+    Ok(held == cases)
 }
 
 /// Runs the cases of a file of this name. Returns whether all hold.
 fn run_file<R: Files + Print + AllocGlobal>(rt: &R, name: &str) -> Result<bool> {
     let text = fs::read_to_string(rt, name)?;
-    let (cases, held) = if name.ends_with(".poly") {
-        run::<Poly31, R>(rt, text.as_str())?
+    if name.ends_with(".poly") {
+        run::<Poly31, R>(rt, name, text.as_str())
     } else if name.ends_with(".zero") {
-        run::<ZeroHash, R>(rt, text.as_str())?
+        run::<ZeroHash, R>(rt, name, text.as_str())
     } else {
-        run::<ByteSum, R>(rt, text.as_str())?
-    };
-    println!(rt; "{name}: {held} of {cases} cases hold")?;
-    Ok(held == cases)
+        run::<ByteSum, R>(rt, name, text.as_str())
+    }
 }
 
-/// Runs the cases of the files that the words name.
+/// Runs the cases of the files that the words name. Returns whether all hold.
 fn run_all<R: Env + Files + Print + AllocGlobal>(rt: &R) -> Result<bool> {
     let mut holds = true;
     for name in env::args(rt)?.skip(1) {

@@ -1,5 +1,6 @@
 //! Texts of results that several modules of commands print.
 
+use crate::digest::hash_of;
 use crate::fault::{Fault, Result};
 use crate::words::hex_of;
 use std::alloc::Global;
@@ -7,21 +8,12 @@ use std::alloc::Global;
 /// How many bytes a result shows. Of more it has the number and a digest.
 const SHOWN: usize = 100;
 
-/// Returns the hash FNV-1a of bytes.
-pub fn digest_of(bytes: &[u8]) -> u64 {
-    let mut state = 0xcbf2_9ce4_8422_2325u64;
-    for byte in bytes {
-        state = (state ^ u64::from(*byte)).wrapping_mul(0x100_0000_01b3);
-    }
-    state
-}
-
 /// Returns bytes as hex digits, or their number and their digest if they are many.
 pub fn shown(alloc: Global, bytes: &[u8]) -> Result<String> {
     if bytes.len() <= SHOWN {
         return hex_of(alloc, bytes);
     }
-    let (len, digest) = (bytes.len(), digest_of(bytes));
+    let (len, digest) = (bytes.len(), hash_of(bytes));
     Ok(format!(in alloc; "{len} bytes {digest:016x}")?)
 }
 

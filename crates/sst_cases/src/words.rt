@@ -69,7 +69,7 @@ pub fn bytes_of(alloc: Global, word: &str) -> Result<Vec<u8>> {
 }
 
 /// Returns the type that a letter names.
-fn type_of(letter: &str) -> Result<ValueType> {
+pub fn type_of(letter: &str) -> Result<ValueType> {
     match letter {
         "V" => Ok(ValueType::Value),
         "T" => Ok(ValueType::Tombstone),
@@ -142,4 +142,47 @@ pub fn word_of_found(alloc: Global, found: Option<&InternalValue>) -> Result<Str
         Some(entry) => word_of(alloc, entry),
         None => Ok(String::from_str(alloc, "none")?),
     }
+}
+
+/// Returns the word of a truth value.
+pub fn truth(alloc: Global, value: bool) -> Result<String> {
+    Ok(String::from_str(alloc, if value { "true" } else { "false" })?)
+}
+
+/// Appends a word to a text, behind a space if it is not the first.
+pub fn push_word(text: &mut String, word: &str) -> Result<()> {
+    if !text.is_empty() {
+        text.push(' ')?;
+    }
+    text.push_str(word)?;
+    Ok(())
+}
+
+/// Returns an answer that is also given in another way, or both where they differ.
+pub fn alike(alloc: Global, answer: String, way: &str, other: String) -> Result<String> {
+    if answer == other {
+        return Ok(answer);
+    }
+    Ok(format!(in alloc; "{answer}, {way} {other}")?)
+}
+
+/// Appends a word, or as many as it stands for: its name, `*` and their number.
+fn push_repeated<'a>(all: &mut Vec<&'a str>, word: &'a str) -> Result<()> {
+    let (name, times) = match word.split_once('*') {
+        Some((name, times)) if !name.contains(':') => (name, wide_of(times)?),
+        _ => (word, 1),
+    };
+    for _ in 0..times {
+        all.push(name)?;
+    }
+    Ok(())
+}
+
+/// Returns words, of which one with `*` and a number behind its name stands for as many.
+pub fn repeated<'a>(alloc: Global, words: &[&'a str]) -> Result<Vec<&'a str>> {
+    let mut all = Vec::new(alloc);
+    for word in words {
+        push_repeated(&mut all, word)?;
+    }
+    Ok(all)
 }

@@ -1,0 +1,171 @@
+//! Commands on decoders of data blocks: seeks by predicates over heads.
+ghost use Rattle.std.specs.Prelude.{◌≡◌, IfSome};
+ghost use Rattle.sst_block_core.specs.Window.{whole};
+ghost use Rattle.sst_block_kinds.specs.ParsedEntry.{IsParsedEntry};
+
+use super::data_block;
+use crate::fault::{Fault, Result};
+use crate::room::Room;
+use crate::words::{bytes_of, number_of, push_word, repeated, truth, word_of, word_of_found};
+use sst_base::{BlockHash, InternalValue, Slice, compare_bytes};
+use sst_block_core::{Decoder, ParsedItem};
+use sst_block_kinds::laws::data_block_is_read;
+use sst_block_kinds::{DataBlock, DataBlockParsedItem};
+use std::alloc::Global;
+
+/// A decoder of the entries of a data block.
+type Entries<'a> = Decoder<'a, InternalValue, DataBlockParsedItem>;
+
+/// A predicate over keys and sequence numbers.
+#[derive(Drop)]
+enum Predicate {
+    /// Keys below this one.
+    Below(Vec<u8>),
+    /// Sequence numbers above this one.
+    Above(u64),
+    All,
+}
+
+impl Predicate {
+    /// Returns whether the predicate is true of a key and a sequence number.
+    fn holds(&self, key: &[u8], seqno: u64) -> bool {
+        match self {
+            Predicate::Below(bound) => compare_bytes(key, bound.as_slice()).is_lt(),
+            Predicate::Above(bound) => seqno > *bound,
+            Predicate::All => true,
+        }
+    }
+}
+
+/// The predicate of a word.
+fn predicate_of(alloc: Global, word: &str) -> Result<Predicate> {
+    if word == "all" {
+        return Ok(Predicate::All);
+    }
+    let (name, bound) = word.split_once(':').ok_or(Fault::Word)?;
+    match name {
+        "below" => Ok(Predicate::Below(bytes_of(alloc, bound)?)),
+        "above" => Ok(Predicate::Above(number_of(bound)?)),
+        _ => Err(Fault::Word),
+    }
+}
+
+/// A decoder of a block, at its first entry.
+fn decoder_of<H: BlockHash>(block: &DataBlock<H>) -> Entries<'_>
+    ensures payload { result.payload ≡ block.now.payload }
+    ensures interval { result.interval ≡ block.now.interval }
+    ensures window { result.window ≡ whole block.now.items }
+{
+    // The proof needs that the payload is the encoding of the entries as decoded.
+    let payload = block.as_slice();
+    let _plain = block.iter();
+    data_block_is_read();
+    Decoder::new(payload.as_slice())
+}
+
+/// The word of an item that a step takes.
+fn taken(alloc: Global, payload: &Slice, item: Option<DataBlockParsedItem>) -> Result<String>
+    requires { IfSome item (IsParsedEntry payload.now) }
+{
+    match item {
+        Some(item) => word_of(alloc, &item.materialize(alloc, payload)?),
+        None => word_of_found(alloc, None),
+    }
+}
+
+/// Moves the front, or the back, to the head that a predicate picks.
+fn seek(decoder: &mut Entries<'_>, form: &str, predicate: &Predicate) -> Result<bool>
+    ensures payload { decoder.new.payload ≡ decoder.old.payload }
+    ensures interval { decoder.new.interval ≡ decoder.old.interval }
+    ensures list { decoder.new.window.list ≡ decoder.old.window.list }
+{
+    let holds = |key: &[u8], seqno: u64| predicate.holds(key, seqno);
+    match form {
+        "last" => Ok(decoder.seek(&holds, false)),
+        "first" => Ok(decoder.seek(&holds, true)),
+        "back_last" => Ok(decoder.seek_upper(&holds, false)),
+        "back_first" => Ok(decoder.seek_upper(&holds, true)),
+        _ => Err(Fault::Word),
+    }
+}
+
+/// Makes a call of a decoder: a move to a head, or a seek by a predicate.
+fn move_to<H: BlockHash>(
+    alloc: Global,
+    block: &DataBlock<H>,
+    decoder: &mut Entries<'_>,
+    word: &str,
+) -> Result<String>
+    requires interval { decoder.old.interval ≡ block.now.interval }
+    requires list { decoder.old.window.list ≡ block.now.items }
+    ensures payload { decoder.new.payload ≡ decoder.old.payload }
+    ensures interval { decoder.new.interval ≡ block.now.interval }
+    ensures list { decoder.new.window.list ≡ block.now.items }
+{
+    let (name, rest) = word.split_once(':').ok_or(Fault::Word)?;
+    if name != "move" {
+        return truth(alloc, seek(decoder, name, &predicate_of(alloc, rest)?)?);
+    }
+    let head = number_of(rest)? as usize;
+    if head >= block.binary_index_len() as usize {
+        return Err(Fault::Word);
+    }
+    decoder.set_lo_offset(block.head_offset(head));
+    truth(alloc, true)
+}
+
+/// Makes a call of a decoder.
+fn call<H: BlockHash>(
+    alloc: Global,
+    block: &DataBlock<H>,
+    decoder: &mut Entries<'_>,
+    word: &str,
+) -> Result<String>
+    requires payload { decoder.old.payload ≡ block.now.payload }
+    requires interval { decoder.old.interval ≡ block.now.interval }
+    requires list { decoder.old.window.list ≡ block.now.items }
+    ensures payload { decoder.new.payload ≡ block.now.payload }
+    ensures interval { decoder.new.interval ≡ block.now.interval }
+    ensures list { decoder.new.window.list ≡ block.now.items }
+{
+    match word {
+        "next" => taken(alloc, block.as_slice(), decoder.next()),
+        "back" => taken(alloc, block.as_slice(), decoder.next_back()),
+        "left" => Ok(format!(in alloc; "{}", decoder.count_left())?),
+        _ => move_to(alloc, block, decoder, word),
+    }
+}
+
+/// Makes calls of a decoder of a block.
+fn calls<H: BlockHash>(alloc: Global, block: &DataBlock<H>, words: &[&str]) -> Result<String> {
+    let mut decoder = decoder_of(block);
+    let mut text = String::new(alloc);
+    for word in words {
+        push_word(&mut text, call(alloc, block, &mut decoder, word)?.as_str())?;
+    }
+    Ok(text)
+}
+
+/// Calls of a decoder: `next`, `back`, `left`, `move:` and a head, and a form of a seek, `:` and a
+/// predicate.
+fn decode<H: BlockHash>(alloc: Global, room: &Room, words: &[&str]) -> Result<String> {
+    let words = repeated(alloc, words)?;
+    calls(
+        alloc,
+        &data_block::<H>(alloc, room, false)?,
+        words.as_slice(),
+    )
+}
+
+/// Performs a command, if it is one on decoders.
+pub fn perform<H: BlockHash>(
+    alloc: Global,
+    room: &Room,
+    name: &str,
+    words: &[&str],
+) -> Result<Option<String>> {
+    if name == "decode" {
+        return Ok(Some(decode::<H>(alloc, room, words)?));
+    }
+    Ok(None)
+}

@@ -1,0 +1,131 @@
+//! Commands that compare entries of two blocks, and that show the parts of an entry.
+
+use super::encoding::encoded;
+use crate::digest::Digest;
+use crate::fault::{Fault, Result};
+use crate::room::Room;
+use crate::words::{bytes_of, number_of, small_of, truth, type_of};
+use sst_base::BlockHash;
+use sst_block_kinds::table::data_block::EntryRef;
+use sst_block_kinds::{DataBlock, EntryParts};
+use std::alloc::Global;
+use std::cmp::Ordering;
+
+/// How many pairs compared as less, as equal and as greater, and the digest of all.
+#[derive(Drop)]
+struct Signs {
+    less: usize,
+    equal: usize,
+    greater: usize,
+    digest: Digest,
+}
+
+/// The sign of an order.
+fn sign(order: Ordering) -> &'static str {
+    match order {
+        Ordering::Less => "<",
+        Ordering::Equal => "=",
+        Ordering::Greater => ">",
+    }
+}
+
+impl Signs {
+    /// Adds how two user keys compare, and two entries.
+    fn add(&mut self, alloc: Global, keys: Ordering, entries: Ordering) -> Result<()> {
+        match entries {
+            Ordering::Less => self.less = self.less.saturating_add(1),
+            Ordering::Equal => self.equal = self.equal.saturating_add(1),
+            Ordering::Greater => self.greater = self.greater.saturating_add(1),
+        }
+        let (first, second) = (sign(keys), sign(entries));
+        self.digest
+            .add(format!(in alloc; "{first}{second}")?.as_str());
+        Ok(())
+    }
+}
+
+/// Compares two entries that borrow their blocks; copies of them compare alike.
+fn compare_entries(
+    alloc: Global,
+    signs: &mut Signs,
+    left: &EntryRef<'_>,
+    right: &EntryRef<'_>,
+) -> Result<()> {
+    let (keys, entries) = (left.compare_user_key(right), left.compare(right));
+    if left.clone()?.compare(&right.clone()?) != entries {
+        return Err(Fault::Word);
+    }
+    signs.add(alloc, keys, entries)
+}
+
+/// Compares an entry with each of a block.
+fn compare_with<H: BlockHash>(
+    alloc: Global,
+    signs: &mut Signs,
+    left: &EntryRef<'_>,
+    block: &DataBlock<H>,
+) -> Result<()> {
+    for right in block.entries() {
+        compare_entries(alloc, signs, left, &right)?;
+    }
+    Ok(())
+}
+
+/// Compares the entries of the list's block at an interval with those of its block at another, each
+/// with each: INTERVAL INTERVAL.
+fn compare<H: BlockHash>(alloc: Global, room: &Room, words: &[&str]) -> Result<String> {
+    let [first, second] = words else {
+        return Err(Fault::Word);
+    };
+    let entries = room.entries.as_slice();
+    let left = encoded::<H>(alloc, entries, small_of(first)?)?;
+    let right = encoded::<H>(alloc, entries, small_of(second)?)?;
+    let mut signs = Signs {
+        less: 0,
+        equal: 0,
+        greater: 0,
+        digest: Digest::new(),
+    };
+    for entry in left.entries() {
+        compare_with(alloc, &mut signs, &entry, &right)?;
+    }
+    let (less, equal, greater) = (signs.less, signs.equal, signs.greater);
+    let state = signs.digest.state;
+    Ok(format!(in alloc; "{less} less, {equal} equal, {greater} greater, {state:016x}")?)
+}
+
+/// The parts of an entry, whose key may be too long: ENTRY.
+fn parts(alloc: Global, words: &[&str]) -> Result<String> {
+    let [word] = words else {
+        return Err(Fault::Word);
+    };
+    let (letter, rest) = word.split_once('.').ok_or(Fault::Word)?;
+    let (seqno, rest) = rest.split_once('.').ok_or(Fault::Word)?;
+    let (key, value) = rest.split_once('.').ok_or(Fault::Word)?;
+    let (key, value) = (bytes_of(alloc, key)?, bytes_of(alloc, value)?);
+    let (seqno, value_type) = (number_of(seqno)?, type_of(letter)?);
+    let Some(parts) = EntryParts::new(key.as_slice(), value.as_slice(), seqno, value_type) else {
+        return Ok(String::from_str(alloc, "none")?);
+    };
+    let (key, value) = (parts.user_key().len(), parts.value().len());
+    let (value_type, seqno) = (parts.value_type(), parts.seqno());
+    let dead = truth(alloc, parts.is_tombstone())?;
+    Ok(format!(in alloc;
+        "{value_type:?} {seqno}, key of {key}, value of {value}, tombstone {dead}"
+    )?)
+}
+
+/// Performs a command, if it is one on pairs of entries or on the parts of one.
+pub fn perform<H: BlockHash>(
+    alloc: Global,
+    room: &Room,
+    name: &str,
+    words: &[&str],
+) -> Result<Option<String>> {
+    let answer = match name {
+        "compare" => compare::<H>(alloc, room, words),
+        "parts" => parts(alloc, words),
+        _ => return Ok(None),
+    };
+    Ok(Some(answer?))
+}

@@ -1,0 +1,287 @@
+//! Commands on iterators over data blocks: seeks, steps and moves, by each kind of iterator.
+ghost use Rattle.std.specs.Prelude.{◌≡◌, IfSome};
+ghost use Rattle.sst_block_kinds.specs.ParsedEntry.{IsParsedEntry};
+
+use super::data_block;
+use crate::fault::{Fault, Result};
+use crate::room::Room;
+use crate::words::{
+    alike, bytes_of, number_of, push_word, repeated, truth, word_of, word_of_found,
+};
+use sst_base::{BlockHash, InternalValue, Slice};
+use sst_block_core::ParsedItem;
+use sst_block_kinds::table::data_block::{Answer, IntoEntries, Iter, Op, walk};
+use sst_block_kinds::{DataBlock, DataBlockParsedItem};
+use std::alloc::Global;
+
+/// A call of an iterator.
+#[derive(Drop)]
+enum Step {
+    Op(Op),
+    /// Moves the front to a head.
+    Move(usize),
+    /// Counts the entries left.
+    Left,
+    /// Starts again with all entries.
+    Again,
+}
+
+/// The seek, or the move, of a word: its name, `:` and its key or its number.
+fn seek_of(alloc: Global, word: &str) -> Result<Step> {
+    let (name, key) = word.split_once(':').ok_or(Fault::Word)?;
+    if name == "move" {
+        return Ok(Step::Move(number_of(key)? as usize));
+    }
+    let key = Slice::from_vec(bytes_of(alloc, key)?)?;
+    match name {
+        "seek" => Ok(Step::Op(Op::Seek(key))),
+        "upper" => Ok(Step::Op(Op::SeekUpper(key))),
+        "above" => Ok(Step::Op(Op::SeekExclusive(key))),
+        "below" => Ok(Step::Op(Op::SeekUpperExclusive(key))),
+        _ => Err(Fault::Word),
+    }
+}
+
+/// The step of a word.
+fn step_of(alloc: Global, word: &str) -> Result<Step> {
+    match word {
+        "next" => Ok(Step::Op(Op::Next)),
+        "back" => Ok(Step::Op(Op::NextBack)),
+        "left" => Ok(Step::Left),
+        "again" => Ok(Step::Again),
+        _ => seek_of(alloc, word),
+    }
+}
+
+/// The steps of some words.
+fn steps_of(alloc: Global, words: &[&str]) -> Result<Vec<Step>> {
+    let words = repeated(alloc, words)?;
+    let mut steps = Vec::new(alloc);
+    for word in &words {
+        steps.push(step_of(alloc, word)?)?;
+    }
+    Ok(steps)
+}
+
+/// The operations of some words, which hold no other step.
+fn ops_of(alloc: Global, words: &[&str]) -> Result<Vec<Op>> {
+    let words = repeated(alloc, words)?;
+    let mut ops = Vec::new(alloc);
+    for word in &words {
+        match step_of(alloc, word)? {
+            Step::Op(op) => ops.push(op)?,
+            _ => return Err(Fault::Word),
+        }
+    }
+    Ok(ops)
+}
+
+/// The word of an item that a step takes.
+fn taken(alloc: Global, payload: &Slice, item: Option<DataBlockParsedItem>) -> Result<String>
+    requires { IfSome item (IsParsedEntry payload.now) }
+{
+    match item {
+        Some(item) => word_of(alloc, &item.materialize(alloc, payload)?),
+        None => word_of_found(alloc, None),
+    }
+}
+
+/// Performs an operation of an iterator that borrows its block.
+fn perform_op<H: BlockHash>(
+    alloc: Global,
+    block: &DataBlock<H>,
+    iter: &mut Iter<'_>,
+    op: &Op,
+) -> Result<String>
+    requires payload { iter.old.payload ≡ block.now.payload }
+    ensures payload { iter.new.payload ≡ iter.old.payload }
+    ensures interval { iter.new.interval ≡ iter.old.interval }
+    ensures list { iter.new.window.list ≡ iter.old.window.list }
+{
+    match op {
+        Op::Next => taken(alloc, block.as_slice(), iter.next()),
+        Op::NextBack => taken(alloc, block.as_slice(), iter.next_back()),
+        Op::Seek(key) => truth(alloc, iter.seek(key.as_slice())),
+        Op::SeekUpper(key) => truth(alloc, iter.seek_upper(key.as_slice())),
+        Op::SeekExclusive(key) => truth(alloc, iter.seek_exclusive(key.as_slice())),
+        Op::SeekUpperExclusive(key) => truth(alloc, iter.seek_upper_exclusive(key.as_slice())),
+    }
+}
+
+/// Makes a call of an iterator that borrows its block.
+fn call<'a, H: BlockHash>(
+    alloc: Global,
+    block: &'a DataBlock<H>,
+    iter: &mut Iter<'a>,
+    step: &Step,
+) -> Result<String>
+    requires payload { iter.old.payload ≡ block.now.payload }
+    requires interval { iter.old.interval ≡ block.now.interval }
+    requires list { iter.old.window.list ≡ block.now.items }
+    ensures payload { iter.new.payload ≡ block.now.payload }
+    ensures interval { iter.new.interval ≡ block.now.interval }
+    ensures list { iter.new.window.list ≡ block.now.items }
+{
+    match step {
+        Step::Op(op) => perform_op(alloc, block, iter, op),
+        Step::Move(head) => {
+            if *head >= block.binary_index_len() as usize {
+                return Err(Fault::Word);
+            }
+            truth(alloc, iter.seek_to_offset(block.head_offset(*head)))
+        }
+        Step::Left => Ok(format!(in alloc; "{}", iter.count_left())?),
+        Step::Again => {
+            iter.restart(&block.by_ref());
+            Ok(String::from_str(alloc, "again")?)
+        }
+    }
+}
+
+/// Makes calls of an iterator that borrows its block.
+fn by_iterator<H: BlockHash>(
+    alloc: Global,
+    block: &DataBlock<H>,
+    steps: &[Step],
+) -> Result<String> {
+    let mut iter = block.iter();
+    let mut text = String::new(alloc);
+    for step in steps {
+        push_word(&mut text, call(alloc, block, &mut iter, step)?.as_str())?;
+    }
+    Ok(text)
+}
+
+/// Steps of an iterator, of any kind, without the table of the heads and with it.
+fn steps<H: BlockHash>(alloc: Global, room: &Room, words: &[&str]) -> Result<String> {
+    let steps = steps_of(alloc, words)?;
+    let bare = data_block::<H>(alloc, room, false)?;
+    let tabled = data_block::<H>(alloc, room, true)?;
+    alike(
+        alloc,
+        by_iterator(alloc, &bare, steps.as_slice())?,
+        "by the table",
+        by_iterator(alloc, &tabled, steps.as_slice())?,
+    )
+}
+
+/// The text of what `walk` answers.
+fn text_of(alloc: Global, answers: &[Answer<InternalValue>]) -> Result<String> {
+    let mut text = String::new(alloc);
+    for answer in answers {
+        let word = match answer {
+            Answer::Found(found) => truth(alloc, *found)?,
+            Answer::Item(entry) => word_of_found(alloc, entry.as_ref())?,
+        };
+        push_word(&mut text, word.as_str())?;
+    }
+    Ok(text)
+}
+
+/// Takes an entry from an iterator that owns its block, and makes it: by one call, or by the item of
+/// the step.
+fn take_owned<H: BlockHash>(
+    alloc: Global,
+    iter: &mut IntoEntries<H>,
+    is_back: bool,
+    by_item: bool,
+) -> Result<Option<InternalValue>> {
+    match (is_back, by_item) {
+        (false, false) => Ok(iter.next_entry(alloc)?),
+        (true, false) => Ok(iter.next_entry_back(alloc)?),
+        (false, true) => match iter.next() {
+            Some(item) => Ok(Some(iter.entry(item).materialize(alloc)?)),
+            None => Ok(None),
+        },
+        (true, true) => match iter.next_back() {
+            Some(item) => Ok(Some(iter.entry(item).materialize(alloc)?)),
+            None => Ok(None),
+        },
+    }
+}
+
+/// Performs an operation of an iterator that owns its block.
+fn perform_owned<H: BlockHash>(
+    alloc: Global,
+    iter: &mut IntoEntries<H>,
+    op: &Op,
+    by_item: bool,
+) -> Result<String> {
+    match op {
+        Op::Next => word_of_found(alloc, take_owned(alloc, iter, false, by_item)?.as_ref()),
+        Op::NextBack => word_of_found(alloc, take_owned(alloc, iter, true, by_item)?.as_ref()),
+        Op::Seek(key) => truth(alloc, iter.seek(key.as_slice())),
+        Op::SeekUpper(key) => truth(alloc, iter.seek_upper(key.as_slice())),
+        Op::SeekExclusive(key) => truth(alloc, iter.seek_exclusive(key.as_slice())),
+        Op::SeekUpperExclusive(key) => truth(alloc, iter.seek_upper_exclusive(key.as_slice())),
+    }
+}
+
+/// Performs operations of an iterator that owns its block.
+fn perform_all<H: BlockHash>(
+    alloc: Global,
+    iter: &mut IntoEntries<H>,
+    ops: &[Op],
+    by_item: bool,
+) -> Result<String> {
+    let mut text = String::new(alloc);
+    for op in ops {
+        push_word(&mut text, perform_owned(alloc, iter, op, by_item)?.as_str())?;
+    }
+    Ok(text)
+}
+
+/// Performs operations of an iterator that owns its block, and takes what is left, which are as many
+/// entries as it says; the iterator returns its block.
+fn by_owner<H: BlockHash>(
+    alloc: Global,
+    block: DataBlock<H>,
+    ops: &[Op],
+    by_item: bool,
+) -> Result<String> {
+    let size = block.len();
+    let mut iter = block.into_entries();
+    let text = perform_all(alloc, &mut iter, ops, by_item)?;
+    let left = iter.count_left();
+    let mut taken = 0usize;
+    for _ in 0..size {
+        if iter.next_entry(alloc)?.is_some() {
+            taken = taken.saturating_add(1);
+        }
+    }
+    if taken == left && iter.block().len() == size && iter.into_block().len() == size {
+        return Ok(text);
+    }
+    Ok(format!(in alloc; "{text}, {left} left, {taken} taken")?)
+}
+
+/// Steps of an iterator that every kind has: by one that borrows its block, by `walk`, and by one that
+/// owns it.
+fn walks<H: BlockHash>(alloc: Global, room: &Room, words: &[&str]) -> Result<String> {
+    let all = steps::<H>(alloc, room, words)?;
+    let ops = ops_of(alloc, words)?;
+    let bare = data_block::<H>(alloc, room, false)?;
+    let tabled = data_block::<H>(alloc, room, true)?;
+    let walked = walk(alloc, &tabled, ops.as_slice())?;
+    let walked = text_of(alloc, walked.as_slice())?;
+    let all = alike(alloc, all, "by walk", walked)?;
+    let owned = by_owner(alloc, bare, ops.as_slice(), false)?;
+    let all = alike(alloc, all, "by an owner", owned)?;
+    let by_item = by_owner(alloc, tabled, ops.as_slice(), true)?;
+    alike(alloc, all, "by its items", by_item)
+}
+
+/// Performs a command, if it is one on iterators.
+pub fn perform<H: BlockHash>(
+    alloc: Global,
+    room: &Room,
+    name: &str,
+    words: &[&str],
+) -> Result<Option<String>> {
+    let answer = match name {
+        "steps" => steps::<H>(alloc, room, words),
+        "walk" => walks::<H>(alloc, room, words),
+        _ => return Ok(None),
+    };
+    Ok(Some(answer?))
+}

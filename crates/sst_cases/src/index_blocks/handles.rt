@@ -1,0 +1,150 @@
+//! Commands that make lists of handles, and encode them as an index block.
+
+use super::index_block;
+use crate::data_blocks::tables::word_of_table;
+use crate::fault::{Fault, Result};
+use crate::room::Room;
+use crate::words::{alike, bytes_of, hex_of, number_of, small_of, truth};
+use sst_base::table::block::{BlockHandle, BlockOffset};
+use sst_base::{Error, Slice};
+use sst_block_kinds::{IndexBlock, KeyedBlockHandle};
+use std::alloc::Global;
+
+/// The longest end key.
+const MAX_KEY_LEN: usize = 65535;
+
+/// Returns the size that a word encodes.
+fn size_of(word: &str) -> Result<u32> {
+    match word.parse::<u32>() {
+        Ok(size) => Ok(size),
+        Err(_) => Err(Fault::Word),
+    }
+}
+
+/// Returns the handle that a word encodes: sequence number, end key, offset and size, joined by dots.
+fn handle_of(alloc: Global, word: &str) -> Result<KeyedBlockHandle> {
+    let (seqno, rest) = word.split_once('.').ok_or(Fault::Word)?;
+    let (key, rest) = rest.split_once('.').ok_or(Fault::Word)?;
+    let (offset, size) = rest.split_once('.').ok_or(Fault::Word)?;
+    let key = bytes_of(alloc, key)?;
+    let handle = BlockHandle::new(BlockOffset(number_of(offset)?), size_of(size)?);
+    if key.len() > MAX_KEY_LEN {
+        return Err(Fault::Word);
+    }
+    let key = Slice::from_vec(key)?;
+    Ok(KeyedBlockHandle::new(key, number_of(seqno)?, handle))
+}
+
+/// Returns the word of a handle.
+pub fn word_of(alloc: Global, handle: &KeyedBlockHandle) -> Result<String> {
+    let key = hex_of(alloc, handle.end_key().as_slice())?;
+    let (seqno, offset, size) = (handle.seqno(), *handle.offset(), handle.size());
+    Ok(format!(in alloc; "{seqno}.{key}.{offset}.{size}")?)
+}
+
+/// Appends the handles of some words.
+fn add(alloc: Global, room: &mut Room, words: &[&str]) -> Result<String> {
+    for word in words {
+        room.handles.push(handle_of(alloc, word)?)?;
+    }
+    Ok(format!(in alloc; "{} handles", room.handles.len())?)
+}
+
+/// Whether the handles are in order, and whether all frames end below 2^64.
+fn tests(alloc: Global, room: &Room) -> Result<String> {
+    let handles = room.handles.as_slice();
+    let ordered = truth(alloc, IndexBlock::is_ordered(handles))?;
+    let fit = truth(alloc, IndexBlock::ends_fit(handles))?;
+    Ok(format!(in alloc; "ordered {ordered}, fit {fit}")?)
+}
+
+/// Encodes handles at an interval; at 1 by the call without an interval too.
+fn encoded(alloc: Global, handles: &[KeyedBlockHandle], interval: u8) -> Result<Vec<u8>> {
+    if handles.is_empty() || interval == 0 || !IndexBlock::is_ordered(handles) {
+        return Err(Fault::Word);
+    }
+    if !IndexBlock::ends_fit(handles) {
+        return Err(Fault::Word);
+    }
+    let bytes = IndexBlock::encode_into_vec_with(alloc, handles, interval)?;
+    if interval == 1
+        && IndexBlock::encode_into_vec(alloc, handles)?.as_slice() != bytes.as_slice()
+    {
+        return Err(Fault::Word);
+    }
+    Ok(bytes)
+}
+
+/// Encodes the handles: INTERVAL.
+fn encode(alloc: Global, room: &mut Room, words: &[&str]) -> Result<String> {
+    let [interval] = words else {
+        return Err(Fault::Word);
+    };
+    room.payload = encoded(alloc, room.handles.as_slice(), small_of(interval)?)?;
+    let block = index_block(alloc, room, true)?;
+    let heads = word_of_table(alloc, block.heads())?;
+    Ok(format!(in alloc; "{} bytes, {heads} heads", room.payload.len())?)
+}
+
+/// A handle whose offset is greater by a number, and whether it is the handle before: HANDLE NUMBER.
+fn shift(alloc: Global, words: &[&str]) -> Result<String> {
+    let [word, by] = words else {
+        return Err(Fault::Word);
+    };
+    let (mut handle, by) = (handle_of(alloc, word)?, number_of(by)?);
+    let before = handle.clone()?;
+    if *handle.offset() > u64::MAX - by {
+        return Err(Fault::Word);
+    }
+    handle.shift(BlockOffset(by));
+    let same = truth(alloc, handle == before)?;
+    let parts = BlockHandle::new(handle.offset(), handle.size());
+    if *handle.as_ref() != parts {
+        return Err(Fault::Word);
+    }
+    let word = word_of(alloc, &handle)?;
+    if handle.into_inner() != parts {
+        return Err(Fault::Word);
+    }
+    Ok(format!(in alloc; "{word}, the same {same}")?)
+}
+
+/// Which blocks have a table of their heads, and of how many: one that was checked, its clone, one that
+/// is new, its clone, and one of which the table was made.
+fn table(alloc: Global, room: &Room) -> Result<String> {
+    let checked = index_block(alloc, room, true)?;
+    let first = word_of_table(alloc, checked.heads())?;
+    let second = word_of_table(alloc, checked.clone()?.heads())?;
+    let new = IndexBlock::new(checked.into_inner());
+    let third = word_of_table(alloc, new.heads())?;
+    let fourth = word_of_table(alloc, new.clone()?.heads())?;
+    let made = match new.with_heads(alloc) {
+        Ok(block) => word_of_table(alloc, block.heads())?,
+        Err(_) => return Err(Fault::Refused(Error::Memory)),
+    };
+    Ok(format!(in alloc;
+        "checked {first}, clone {second}, new {third}, clone {fourth}, made {made}"
+    )?)
+}
+
+/// Performs a command, if it is one on handles.
+pub fn perform(
+    alloc: Global,
+    room: &mut Room,
+    name: &str,
+    words: &[&str],
+) -> Result<Option<String>> {
+    let answer = match name {
+        "handles" => {
+            room.handles = Vec::new(alloc);
+            add(alloc, room, words)
+        }
+        "add_handles" => add(alloc, room, words),
+        "tests" => tests(alloc, room),
+        "index" => encode(alloc, room, words),
+        "shift" => shift(alloc, words),
+        "table_index" => table(alloc, room),
+        _ => return Ok(None),
+    };
+    Ok(Some(answer?))
+}

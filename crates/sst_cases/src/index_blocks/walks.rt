@@ -1,0 +1,248 @@
+//! Commands on iterators over index blocks: seeks and steps, by each kind of iterator.
+ghost use Rattle.std.specs.Prelude.{◌≡◌, IfSome};
+ghost use Rattle.sst_block_kinds.specs.ParsedHandle.{IsParsedHandle};
+
+use super::handles::word_of;
+use super::index_block;
+use crate::digest::Digest;
+use crate::fault::{Fault, Result};
+use crate::room::Room;
+use crate::words::{alike, bytes_of, number_of, push_word, repeated, truth};
+use sst_base::Slice;
+use sst_base::table::block::BlockHandle;
+use sst_block_kinds::table::index_block::{Answer, HandleRef, Handles, IndexOp, Iter, walk};
+use sst_block_kinds::{IndexBlock, IndexBlockParsedItem, IndexBlockRef, KeyedBlockHandle};
+use std::alloc::Global;
+
+/// The operation of a word: a step, or a seek with its name, its key and its sequence number, joined
+/// by `:`.
+fn op_of(alloc: Global, word: &str) -> Result<IndexOp> {
+    if word == "next" {
+        return Ok(IndexOp::Next);
+    }
+    if word == "back" {
+        return Ok(IndexOp::NextBack);
+    }
+    let (name, rest) = word.split_once(':').ok_or(Fault::Word)?;
+    let (key, seqno) = rest.split_once(':').ok_or(Fault::Word)?;
+    let key = Slice::from_vec(bytes_of(alloc, key)?)?;
+    match name {
+        "seek" => Ok(IndexOp::Seek(key, number_of(seqno)?)),
+        "upper" => Ok(IndexOp::SeekUpper(key, number_of(seqno)?)),
+        _ => Err(Fault::Word),
+    }
+}
+
+/// The operations of some words.
+fn ops_of(alloc: Global, words: &[&str]) -> Result<Vec<IndexOp>> {
+    let words = repeated(alloc, words)?;
+    let mut ops = Vec::new(alloc);
+    for word in &words {
+        ops.push(op_of(alloc, word)?)?;
+    }
+    Ok(ops)
+}
+
+/// Returns the word of a handle that borrows its block. Its parts are those of the handle that it is
+/// made as.
+fn word_of_ref(alloc: Global, handle: &HandleRef<'_>) -> Result<String> {
+    let made = handle.clone()?.materialize(alloc)?;
+    let is_number = handle.seqno() == made.seqno();
+    let is_place = handle.offset() == made.offset() && handle.size() == made.size();
+    let is_plain = handle.handle() == BlockHandle::new(made.offset(), made.size());
+    if is_number && is_place && is_plain && handle.compare_key(made.end_key().as_slice()).is_eq() {
+        return word_of(alloc, &made);
+    }
+    Err(Fault::Word)
+}
+
+/// The word of an item that a step takes.
+fn taken(alloc: Global, block: &IndexBlock, item: Option<IndexBlockParsedItem>) -> Result<String>
+    requires { IfSome item (IsParsedHandle block.now.payload) }
+{
+    match item {
+        Some(item) => word_of_ref(alloc, &block.handle(item)),
+        None => Ok(String::from_str(alloc, "none")?),
+    }
+}
+
+/// Makes a call of an iterator that borrows its block.
+fn call(alloc: Global, block: &IndexBlock, iter: &mut Iter<'_>, word: &str) -> Result<String>
+    requires { iter.old.payload ≡ block.now.payload }
+    ensures { iter.new.payload ≡ block.now.payload }
+{
+    if word == "left" {
+        return Ok(format!(in alloc; "{}", iter.count_left())?);
+    }
+    match op_of(alloc, word)? {
+        IndexOp::Next => taken(alloc, block, iter.next()),
+        IndexOp::NextBack => taken(alloc, block, iter.next_back()),
+        IndexOp::Seek(key, seqno) => truth(alloc, iter.seek(key.as_slice(), seqno)),
+        IndexOp::SeekUpper(key, seqno) => truth(alloc, iter.seek_upper(key.as_slice(), seqno)),
+    }
+}
+
+/// Makes calls of an iterator that borrows its block.
+fn by_iterator(alloc: Global, block: &IndexBlock, words: &[&str]) -> Result<String> {
+    let mut iter = block.iter();
+    let mut text = String::new(alloc);
+    for word in words {
+        push_word(&mut text, call(alloc, block, &mut iter, word)?.as_str())?;
+    }
+    Ok(text)
+}
+
+/// Steps of an iterator, counts among them, without the table of the heads and with it.
+fn steps(alloc: Global, room: &Room, words: &[&str]) -> Result<String> {
+    let words = repeated(alloc, words)?;
+    let bare = index_block(alloc, room, false)?;
+    let tabled = index_block(alloc, room, true)?;
+    alike(
+        alloc,
+        by_iterator(alloc, &bare, words.as_slice())?,
+        "by the table",
+        by_iterator(alloc, &tabled, words.as_slice())?,
+    )
+}
+
+/// The text of what `walk` answers.
+fn text_of(alloc: Global, answers: &[Answer<KeyedBlockHandle>]) -> Result<String> {
+    let mut text = String::new(alloc);
+    for answer in answers {
+        let word = match answer {
+            Answer::Found(found) => truth(alloc, *found)?,
+            Answer::Item(Some(handle)) => word_of(alloc, handle)?,
+            Answer::Item(None) => String::from_str(alloc, "none")?,
+        };
+        push_word(&mut text, word.as_str())?;
+    }
+    Ok(text)
+}
+
+/// What `walk` answers over a block.
+fn walked(alloc: Global, block: &IndexBlock, ops: &[IndexOp]) -> Result<String> {
+    let answers = walk(alloc, block, ops)?;
+    text_of(alloc, answers.as_slice())
+}
+
+/// Steps of an iterator, by one that borrows its block, and by `walk` over a clone, without the table
+/// of the heads and with it.
+fn walks(alloc: Global, room: &Room, words: &[&str]) -> Result<String> {
+    let all = steps(alloc, room, words)?;
+    let ops = ops_of(alloc, words)?;
+    let bare = index_block(alloc, room, false)?.clone()?;
+    let tabled = index_block(alloc, room, true)?.clone()?;
+    let all = alike(alloc, all, "by walk", walked(alloc, &bare, ops.as_slice())?)?;
+    alike(
+        alloc,
+        all,
+        "by walk with a table",
+        walked(alloc, &tabled, ops.as_slice())?,
+    )
+}
+
+/// The words of handles from the front.
+fn words_of(alloc: Global, handles: Handles<'_>) -> Result<Vec<String>> {
+    let mut words = Vec::new(alloc);
+    for handle in handles {
+        words.push(word_of_ref(alloc, &handle)?)?;
+    }
+    Ok(words)
+}
+
+/// The words of handles from the back, the first of which stands first again.
+fn words_back(alloc: Global, handles: Handles<'_>) -> Result<Vec<String>> {
+    let mut words = Vec::new(alloc);
+    for handle in handles.rev() {
+        words.push(word_of_ref(alloc, &handle)?)?;
+    }
+    words.reverse();
+    Ok(words)
+}
+
+/// The text of the words of handles: their number, and each of them.
+fn joined(alloc: Global, words: &[String]) -> Result<String> {
+    let mut text = format!(in alloc; "{} left", words.len())?;
+    for word in words {
+        push_word(&mut text, word.as_str())?;
+    }
+    Ok(text)
+}
+
+/// A bound of a word: a key, `:` and a sequence number.
+fn bound_of(alloc: Global, word: &str) -> Result<(Vec<u8>, u64)> {
+    let (key, seqno) = word.split_once(':').ok_or(Fault::Word)?;
+    Ok((bytes_of(alloc, key)?, number_of(seqno)?))
+}
+
+/// The handles between two bounds, the lower one sought first from the front, and the upper one first
+/// from the back: BOUND BOUND.
+fn between(alloc: Global, room: &Room, words: &[&str]) -> Result<String> {
+    let [from, upto] = words else {
+        return Err(Fault::Word);
+    };
+    let (from, upto) = (bound_of(alloc, from)?, bound_of(alloc, upto)?);
+    let block = index_block(alloc, room, false)?;
+    let mut iter = block.iter();
+    iter.seek(from.0.as_slice(), from.1);
+    iter.seek_upper(upto.0.as_slice(), upto.1);
+    let front = words_of(alloc, Handles::new(&block, iter))?;
+    let mut iter = block.iter();
+    iter.seek_upper(upto.0.as_slice(), upto.1);
+    iter.seek(from.0.as_slice(), from.1);
+    let back = words_back(alloc, Handles::new(&block, iter))?;
+    alike(
+        alloc,
+        joined(alloc, front.as_slice())?,
+        "from the back",
+        joined(alloc, back.as_slice())?,
+    )
+}
+
+/// The number and the digest of the words of handles.
+fn digest_of(alloc: Global, words: &[String]) -> Result<String> {
+    let mut digest = Digest::new();
+    for word in words {
+        digest.add(word.as_str());
+    }
+    let (count, state) = (words.len(), digest.state);
+    Ok(format!(in alloc; "{count} handles, {state:016x}")?)
+}
+
+/// The handles of bytes that are lent, with or without a table of their heads.
+fn by_views(alloc: Global, page: &IndexBlockRef<'_>) -> Result<String> {
+    let mut words = Vec::new(alloc);
+    for view in page.handles() {
+        words.push(word_of(alloc, &view.to_handle(alloc)?)?)?;
+    }
+    digest_of(alloc, words.as_slice())
+}
+
+/// The number of the handles, and their digest, by each way to go over them.
+fn handles(alloc: Global, room: &Room) -> Result<String> {
+    let block = index_block(alloc, room, false)?;
+    let front = digest_of(alloc, words_of(alloc, block.handles())?.as_slice())?;
+    let back = digest_of(alloc, words_back(alloc, block.handles())?.as_slice())?;
+    let all = alike(alloc, front, "from the back", back)?;
+    let page = IndexBlockRef::check(room.payload.as_slice())?;
+    let heads = page.make_heads(alloc)?;
+    let all = alike(alloc, all, "by views", by_views(alloc, &page)?)?;
+    alike(
+        alloc,
+        all,
+        "with a table",
+        by_views(alloc, &page.with_table(&heads))?,
+    )
+}
+
+/// Performs a command, if it is one on iterators over index blocks.
+pub fn perform(alloc: Global, room: &Room, name: &str, words: &[&str]) -> Result<Option<String>> {
+    let answer = match name {
+        "walk_index" => walks(alloc, room, words),
+        "steps_index" => steps(alloc, room, words),
+        "between" => between(alloc, room, words),
+        "handles_of" => handles(alloc, room),
+        _ => return Ok(None),
+    };
+    Ok(Some(answer?))
+}

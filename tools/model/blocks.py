@@ -1,0 +1,160 @@
+"""Blocks of items of any kind: their encoding and their check. A kind is a module with the forms of
+its items: `entries` or `handles`."""
+
+import entries
+import handles
+
+END_MARKER = 0xFF
+FREE, CONFLICT = 0xFE, 0xFF
+MOST_HEADS_HASHED = 254
+TRAILER = 31
+FIXED = bytes([1, 0, 0, 0, 0, 0, 0, 0, 0])
+
+
+class Refused(Exception):
+    """The error of the first stage that fails. Its text is the name."""
+
+
+def little(number, count):
+    """Returns a number in bytes, least significant first."""
+    return number.to_bytes(count, "little")
+
+
+def shared_length(left, right):
+    """Returns the greatest length at which two byte strings agree."""
+    length = 0
+    while length < min(len(left), len(right)) and left[length] == right[length]:
+        length += 1
+    return length
+
+
+def bucket_count(count, num, den):
+    """Returns the number of buckets of this many items at a ratio."""
+    return 0 if num == 0 else min(max(count * num // den, 1), 2**32 - 1)
+
+
+def buckets_of(items, interval, count, hash64):
+    """Returns the bytes of the buckets of items."""
+    found = [set() for _ in range(count)]
+    for at, item in enumerate(items):
+        found[hash64(item.key) % count].add(at // interval)
+    one = lambda numbers: numbers.pop() if len(numbers) == 1 else CONFLICT if numbers else FREE
+    return bytes(one(numbers) for numbers in found)
+
+
+class Encoded:
+    """The encoding of items, and what it consists of."""
+
+    def __init__(self, kind, items, interval, count=0, hash64=None):
+        self.kind, self.items, self.interval = kind, items, interval
+        body = bytearray()
+        self.offsets = []
+        for at, item in enumerate(items):
+            if at % interval == 0:
+                head = item
+                self.offsets.append(len(body))
+                body += kind.full(item)
+            else:
+                body += kind.truncated(item, shared_length(head.key, item.key))
+        self.body = bytes(body)
+        self.heads = len(self.offsets)
+        self.width = 2 if self.offsets[-1] <= 65535 else 4
+        is_hashed = count > 0 and self.heads <= MOST_HEADS_HASHED
+        self.buckets = buckets_of(items, interval, count, hash64) if is_hashed else b""
+        self.payload = self._payload()
+
+    def _payload(self):
+        """Returns the payload."""
+        index = len(self.body) + 1
+        pointers = b"".join(little(offset, self.width) for offset in self.offsets)
+        hashed = index + len(pointers) if self.buckets else 0
+        trailer = bytes([self.interval, self.width])
+        for number in [self.heads, index, len(self.buckets), hashed]:
+            trailer += little(number, 4)
+        trailer += FIXED + little(len(self.items), 4)
+        return self.body + bytes([END_MARKER]) + pointers + self.buckets + trailer
+
+    def conflicts(self):
+        """Returns how many buckets have a conflict."""
+        return self.buckets.count(CONFLICT)
+
+
+class Trailer:
+    """The last 31 bytes of a payload."""
+
+    def __init__(self, payload):
+        if len(payload) < TRAILER:
+            raise Refused("Truncated")
+        trailer = payload[-TRAILER:]
+        number = lambda at: int.from_bytes(trailer[at : at + 4], "little")
+        self.interval, self.width = trailer[0], trailer[1]
+        self.heads, self.index = number(2), number(6)
+        self.buckets, self.hashed = number(10), number(14)
+        self.fixed, self.count = trailer[18:27], number(27)
+        self.end = len(payload) - TRAILER
+
+    def has_fields(self):
+        """Returns whether the numbers agree with each other."""
+        if self.interval < 1 or self.width not in (2, 4) or self.count < 1:
+            return False
+        return self.heads == -(-self.count // self.interval) and self.fixed == FIXED
+
+    def has_parts(self, payload, may_hash):
+        """Returns whether the parts of the payload are where the trailer says."""
+        after = self.index + self.heads * self.width
+        if not 1 <= self.index <= self.end or payload[self.index - 1] != END_MARKER:
+            return False
+        if self.buckets == 0:
+            return self.hashed == 0 and after == self.end
+        if not may_hash or self.heads > MOST_HEADS_HASHED or self.hashed != after:
+            return False
+        return after + self.buckets == self.end
+
+
+def read_forms(kind, body, count, interval):
+    """Returns the items of as many forms, which are all of a body, and the offsets of the heads. A
+    shared length has to be the greatest."""
+    items, offsets, at = [], [], 0
+    for number in range(count):
+        head = None if number % interval == 0 else items[number - number % interval].key
+        found = kind.read(body, at, head)
+        if found is None:
+            raise Refused("BadEntry")
+        item, shared, after = found
+        if head is None:
+            offsets.append(at)
+        elif shared != shared_length(head, item.key):
+            raise Refused("BadEntry")
+        items.append(item)
+        at = after
+    if at != len(body):
+        raise Refused("BadEntry")
+    return items, offsets
+
+
+def check(kind, payload, hash64):
+    """Returns the items of a payload and its trailer, or raises the error of the first stage that
+    fails."""
+    trailer = Trailer(payload)
+    if not trailer.has_fields() or not trailer.has_parts(payload, kind is entries):
+        raise Refused("BadTrailer")
+    body = payload[: trailer.index - 1]
+    items, offsets = read_forms(kind, body, trailer.count, trailer.interval)
+    if not all(kind.fits(item) for item in items):
+        raise Refused("BadHandle")
+    if not kind.is_ordered(items):
+        raise Refused("OutOfOrder")
+    pointers = payload[trailer.index : trailer.index + trailer.heads * trailer.width]
+    is_narrow = offsets[-1] <= 65535
+    if pointers != b"".join(little(offset % 2**(8 * trailer.width), trailer.width) for offset in offsets):
+        raise Refused("BadIndex")
+    if trailer.width != (2 if is_narrow else 4):
+        raise Refused("BadIndex")
+    stored = payload[trailer.hashed : trailer.end] if trailer.buckets else b""
+    if stored != (buckets_of(items, trailer.interval, trailer.buckets, hash64) if stored else b""):
+        raise Refused("BadHashIndex")
+    return items, trailer
+
+
+# The kinds by their names in commands.
+KINDS = {"data": entries, "index": handles}

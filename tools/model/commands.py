@@ -1,0 +1,23 @@
+"""The commands of files of cases, by modules. A module has a table `COMMANDS`: names, and functions of
+the room and of the words behind the name that return the result."""
+
+import changes
+import checks
+import data_blocks
+import filter_cases
+import frame_cases
+import index_blocks
+import run_cases
+
+MODULES = [data_blocks, index_blocks, checks, frame_cases, filter_cases, run_cases, changes]
+
+
+def table():
+    """Returns the functions of all commands by their names."""
+    found = {}
+    for module in MODULES:
+        for name, function in module.COMMANDS.items():
+            if name in found:
+                raise ValueError(f"two commands {name}")
+            found[name] = function
+    return found

@@ -1,0 +1,60 @@
+"""Hash functions: the sum of the bytes, none, and the polynomial `Poly31` of docs/FORMAT.md."""
+
+
+class ByteSum:
+    """The sum of the bytes."""
+
+    @staticmethod
+    def hash64(data):
+        """Returns the hash of 64 bits."""
+        return sum(data) % 2**64
+
+    @staticmethod
+    def hash128(data):
+        """Returns the hash of 128 bits."""
+        return sum(data) % 2**128
+
+
+class Zero:
+    """The hash of each byte string is 0."""
+
+    @staticmethod
+    def hash64(data):
+        """Returns the hash of 64 bits."""
+        return 0
+
+    @staticmethod
+    def hash128(data):
+        """Returns the hash of 128 bits."""
+        return 0
+
+
+class Poly31:
+    """From 0, `h = h * 31 + byte` for each byte."""
+
+    @staticmethod
+    def polynomial(data):
+        """Returns the hash without a bound on its size."""
+        number = 0
+        for byte in data:
+            number = (number * 31 + byte) % 2**128
+        return number
+
+    @staticmethod
+    def hash64(data):
+        """Returns the hash of 64 bits."""
+        return Poly31.polynomial(data) % 2**64
+
+    @staticmethod
+    def hash128(data):
+        """Returns the hash of 128 bits."""
+        return Poly31.polynomial(data)
+
+
+# The hash function that the ending of a file's name names.
+BY_ENDING = {"sum": ByteSum, "zero": Zero, "poly": Poly31}
+
+
+def hash_of_file(name):
+    """Returns the hash function of the blocks of a file of cases: by default the sum."""
+    return BY_ENDING.get(name.rpartition(".")[2], ByteSum)
