@@ -7,9 +7,10 @@ import data_blocks
 import filter_cases
 import frame_cases
 import index_blocks
+import merge_cases
 import run_cases
 
-MODULES = [data_blocks, index_blocks, checks, frame_cases, filter_cases, run_cases, changes]
+MODULES = [data_blocks, index_blocks, checks, frame_cases, filter_cases, run_cases, changes, merge_cases]
 
 
 def table():

@@ -16,6 +16,7 @@ mod fault;
 mod filters;
 mod frames;
 mod index_blocks;
+mod merges;
 mod room;
 mod runs;
 mod texts;
@@ -49,6 +50,9 @@ fn perform<H: BlockHash>(
         return Ok(answer);
     }
     if let Some(answer) = each::perform::<H>(alloc, room, name, words)? {
+        return Ok(answer);
+    }
+    if let Some(answer) = merges::perform::<H>(alloc, room, name, words)? {
         return Ok(answer);
     }
     Err(Fault::Word)

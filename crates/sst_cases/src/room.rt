@@ -1,20 +1,23 @@
 //! What the commands of a file work on.
 
 use crate::fault::{Fault, Result};
+use crate::merges::KeptTable;
 use sst_base::table::block::{Block, BlockType};
 use sst_base::{InternalValue, Slice};
 use sst_block_kinds::KeyedBlockHandle;
 use sstable_blocks::RunHandles;
 use std::alloc::Global;
 
-/// A list of entries, a list of handles, the payload of a block, a frame, a filter or a run, and where
-/// the index and the filter of a run are.
+/// A list of entries, a list of handles, the payload of a block, a frame, a filter or a run, where the
+/// index and the filter of a run are, sources of a merge, and tables.
 #[derive(Drop)]
 pub struct Room {
     pub entries: Vec<InternalValue>,
     pub handles: Vec<KeyedBlockHandle>,
     pub payload: Vec<u8>,
     pub places: Option<RunHandles>,
+    pub sources: Vec<Vec<InternalValue>>,
+    pub tables: Vec<KeptTable>,
 }
 
 impl Room {
@@ -25,6 +28,8 @@ impl Room {
             handles: Vec::new(alloc),
             payload: Vec::new(alloc),
             places: None,
+            sources: Vec::new(alloc),
+            tables: Vec::new(alloc),
         }
     }
 }
