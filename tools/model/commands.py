@@ -8,9 +8,20 @@ import filter_cases
 import frame_cases
 import index_blocks
 import merge_cases
+import program_cases
 import run_cases
 
-MODULES = [data_blocks, index_blocks, checks, frame_cases, filter_cases, run_cases, changes, merge_cases]
+MODULES = [
+    data_blocks,
+    index_blocks,
+    checks,
+    frame_cases,
+    filter_cases,
+    run_cases,
+    changes,
+    merge_cases,
+    program_cases,
+]
 
 
 def table():

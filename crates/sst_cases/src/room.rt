@@ -9,7 +9,8 @@ use sstable_blocks::RunHandles;
 use std::alloc::Global;
 
 /// A list of entries, a list of handles, the payload of a block, a frame, a filter or a run, where the
-/// index and the filter of a run are, sources of a merge, and tables.
+/// index and the filter of a run are, sources of a merge, tables, and the
+/// input of a program.
 #[derive(Drop)]
 pub struct Room {
     pub entries: Vec<InternalValue>,
@@ -18,6 +19,7 @@ pub struct Room {
     pub places: Option<RunHandles>,
     pub sources: Vec<Vec<InternalValue>>,
     pub tables: Vec<KeptTable>,
+    pub input: Vec<u8>,
 }
 
 impl Room {
@@ -30,6 +32,7 @@ impl Room {
             places: None,
             sources: Vec::new(alloc),
             tables: Vec::new(alloc),
+            input: Vec::new(alloc),
         }
     }
 }
