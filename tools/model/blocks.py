@@ -33,13 +33,29 @@ def bucket_count(count, num, den):
     return 0 if num == 0 else min(max(count * num // den, 1), 2**32 - 1)
 
 
+def bucket_byte(numbers):
+    """Returns the byte of a bucket whose keys are in intervals of these numbers."""
+    if not numbers:
+        return FREE
+    return min(numbers) if len(numbers) == 1 else CONFLICT
+
+
 def buckets_of(items, interval, count, hash64):
     """Returns the bytes of the buckets of items."""
     found = [set() for _ in range(count)]
     for at, item in enumerate(items):
         found[hash64(item.key) % count].add(at // interval)
-    one = lambda numbers: numbers.pop() if len(numbers) == 1 else CONFLICT if numbers else FREE
-    return bytes(one(numbers) for numbers in found)
+    return bytes(bucket_byte(numbers) for numbers in found)
+
+
+def width_of(offsets):
+    """Returns the width of a pointer to any of these offsets of heads."""
+    return 2 if offsets[-1] <= 65535 else 4
+
+
+def pointers_of(offsets, width):
+    """Returns the pointers to offsets."""
+    return b"".join(little(offset, width) for offset in offsets)
 
 
 class Encoded:
@@ -58,7 +74,7 @@ class Encoded:
                 body += kind.truncated(item, shared_length(head.key, item.key))
         self.body = bytes(body)
         self.heads = len(self.offsets)
-        self.width = 2 if self.offsets[-1] <= 65535 else 4
+        self.width = width_of(self.offsets)
         is_hashed = count > 0 and self.heads <= MOST_HEADS_HASHED
         self.buckets = buckets_of(items, interval, count, hash64) if is_hashed else b""
         self.payload = self._payload()
@@ -66,7 +82,7 @@ class Encoded:
     def _payload(self):
         """Returns the payload."""
         index = len(self.body) + 1
-        pointers = b"".join(little(offset, self.width) for offset in self.offsets)
+        pointers = pointers_of(self.offsets, self.width)
         hashed = index + len(pointers) if self.buckets else 0
         trailer = bytes([self.interval, self.width])
         for number in [self.heads, index, len(self.buckets), hashed]:
@@ -145,14 +161,13 @@ def check(kind, payload, hash64):
     if not kind.is_ordered(items):
         raise Refused("OutOfOrder")
     pointers = payload[trailer.index : trailer.index + trailer.heads * trailer.width]
-    is_narrow = offsets[-1] <= 65535
-    if pointers != b"".join(little(offset % 2**(8 * trailer.width), trailer.width) for offset in offsets):
+    width = width_of(offsets)
+    if trailer.width != width or pointers != pointers_of(offsets, width):
         raise Refused("BadIndex")
-    if trailer.width != (2 if is_narrow else 4):
-        raise Refused("BadIndex")
-    stored = payload[trailer.hashed : trailer.end] if trailer.buckets else b""
-    if stored != (buckets_of(items, trailer.interval, trailer.buckets, hash64) if stored else b""):
-        raise Refused("BadHashIndex")
+    if trailer.buckets:
+        stored = payload[trailer.hashed : trailer.end]
+        if stored != buckets_of(items, trailer.interval, trailer.buckets, hash64):
+            raise Refused("BadHashIndex")
     return items, trailer
 
 

@@ -31,9 +31,9 @@ def check(room, words):
 def longer(payload):
     """Yields the payload with 1 and 40 more bytes after it: all 0, all 255, or its last ones
     again."""
-    for more in [lambda count: bytes(count), lambda count: b"\xff" * count, lambda count: payload[-count:]]:
-        for count in [1, 40]:
-            yield payload + (bytes(count) + more(count))[-count:]
+    for tail in [bytes(40), b"\xff" * 40, bytes(40) + payload]:
+        yield payload + tail[-1:]
+        yield payload + tail[-40:]
 
 
 def changes_of(payload):

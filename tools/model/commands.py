@@ -1,5 +1,5 @@
-"""The commands of files of cases, by modules. A module has a table `COMMANDS`: names, and functions of
-the room and of the words behind the name that return the result."""
+"""The commands of files of cases, by modules. A module has a table `COMMANDS`: names, and functions
+of the room and of the words behind the name that return the result."""
 
 import changes
 import checks
@@ -10,11 +10,13 @@ import index_blocks
 import merge_cases
 import program_cases
 import run_cases
+import values
 
 MODULES = [
     data_blocks,
     index_blocks,
     checks,
+    values,
     frame_cases,
     filter_cases,
     run_cases,

@@ -143,6 +143,21 @@ def read(room, words):
     return first_match(block(room)[0], bytes_of(key), number_of(seqno))
 
 
+def place(room, words):
+    """Where the value of an entry that a read finds is in the payload: KEY SEQNO. A tombstone has
+    none, at 0."""
+    key, seqno = only(words, 2)
+    key, seqno, after = bytes_of(key), number_of(seqno), 0
+    items, trailer = block(room)
+    for at, item in enumerate(items):
+        head = items[at - at % trailer.interval].key if at % trailer.interval else None
+        after = entries.read(room.payload, after, head)[2]
+        if item.key == key and item.seqno < seqno:
+            length = len(item.value)
+            return "0 0" if item.is_tombstone() else f"{after - length} {length}"
+    return "none"
+
+
 def queries_of(item):
     """Returns keys and sequence numbers to read around an entry: its own, the next, an extension,
     its prefix, the keys around it, and its end."""
@@ -185,6 +200,13 @@ def all_entries(room, words):
     return f"{len(items)} entries, {total}"
 
 
+def take(room, words):
+    """Takes the entries of the payload as the list."""
+    only(words, 0)
+    room.entries = block(room)[0]
+    return f"{len(room.entries)} entries"
+
+
 def counts(room, words):
     """How many heads have keys below each needle, at most it, and how many an index seek passes
     over: SEQNO NEEDLE .."""
@@ -222,7 +244,7 @@ def compare(room, words):
         for right in room.entries:
             whole = sign(entries.order_of_entry(left), entries.order_of_entry(right))
             signs[whole] += 1
-            all_signs.add(sign(left.key, right.key) + whole)
+            all_signs.add(sign(left.key, right.key) + whole + whole)
     return f"{signs['<']} less, {signs['=']} equal, {signs['>']} greater, {all_signs}"
 
 
@@ -231,8 +253,9 @@ def parts(room, words):
     entry = entries.parts_of(only(words, 1)[0])
     if not 1 <= len(entry.key) <= entries.MOST_KEY:
         return "none"
+    name, dead = entries.NAMES[entry.letter], truth(entry.is_tombstone())
     lengths = f"key of {len(entry.key)}, value of {len(entry.value)}"
-    return f"{entries.NAMES[entry.letter]} {entry.seqno}, {lengths}, tombstone {truth(entry.is_tombstone())}"
+    return f"{name} {entry.seqno}, {lengths}, tombstone {dead}"
 
 
 def walk(room, words):
@@ -269,8 +292,10 @@ COMMANDS = {
     "offsets": offsets,
     "bucket": bucket,
     "read": read,
+    "place": place,
     "queries": queries,
     "entries": all_entries,
+    "take": take,
     "counts": counts,
     "front": front,
     "table": table,

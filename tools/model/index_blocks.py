@@ -7,7 +7,7 @@ from blocks import Encoded
 from handles import Handle, handle_of
 from room import only
 from windows import Window
-from words import Digest, Fault, bad_word, number_of, truth
+from words import Digest, Fault, bad_word, bytes_of, number_of, truth
 
 
 def add(room, words):
@@ -65,6 +65,19 @@ def steps(room, words):
     return walks.answers(walks.INDEX, Window(items), trailer.interval, words)
 
 
+def between(room, words):
+    """The handles between two bounds: KEY:SEQNO KEY:SEQNO."""
+    bounds = [word.split(":") for word in only(words, 2)]
+    if any(len(bound) != 2 for bound in bounds):
+        raise bad_word()
+    window = Window(block(room)[0])
+    (lower, seqno), (upper, _) = bounds
+    window.seek_handle(bytes_of(lower), number_of(seqno))
+    window.upper_handle(bytes_of(upper))
+    left = window.items[window.low : window.high]
+    return " ".join([f"{len(left)} left"] + [handle.word() for handle in left])
+
+
 def all_handles(room, words):
     """The number of the handles, and their digest."""
     only(words, 0)
@@ -72,6 +85,13 @@ def all_handles(room, words):
     for item in items:
         total.add(item.word())
     return f"{len(items)} handles, {total}"
+
+
+def take(room, words):
+    """Takes the handles of the payload as the list."""
+    only(words, 0)
+    room.handles = block(room)[0]
+    return f"{len(room.handles)} handles"
 
 
 def shift(room, words):
@@ -82,7 +102,8 @@ def shift(room, words):
     if offset >= 2**64:
         raise bad_word()
     same = truth(offset == handle.offset)
-    return f"{Handle(handle.seqno, handle.key, offset, handle.size).word()}, the same {same}"
+    shifted = Handle(handle.seqno, handle.key, offset, handle.size)
+    return f"{shifted.word()}, the same {same}, plain true"
 
 
 def table(room, words):
@@ -99,7 +120,9 @@ COMMANDS = {
     "index": encode,
     "walk_index": walk,
     "steps_index": steps,
+    "between": between,
     "handles_of": all_handles,
+    "take_handles": take,
     "shift": shift,
     "table_index": table,
 }

@@ -63,7 +63,7 @@ def picked(window, interval, name, bound, is_second):
 
 
 def front_to(is_second):
-    """Returns the step that moves the front to the head that a predicate picks."""
+    """Returns the step that moves the front to the picked head."""
 
     def step(window, interval, name, bound="-"):
         head = picked(window, interval, name, bound, is_second)
@@ -74,7 +74,7 @@ def front_to(is_second):
 
 
 def back_to(is_second):
-    """Returns the step that moves the back after the interval of the head that a predicate picks."""
+    """Returns the step that moves the back after the interval of the picked head."""
 
     def step(window, interval, name, bound="-"):
         head = picked(window, interval, name, bound, is_second)

@@ -10,13 +10,9 @@ mod frames;
 mod hostile;
 pub mod numbers;
 #[cfg(test)]
-mod peekable;
+mod refused;
 #[cfg(test)]
 mod rows;
-#[cfg(test)]
-mod slices;
-#[cfg(test)]
-mod values;
 #[cfg(test)]
 mod vectors;
 

@@ -21,6 +21,7 @@ mod program;
 mod room;
 mod runs;
 mod texts;
+mod values;
 mod words;
 mod zero_hash;
 
@@ -48,6 +49,9 @@ fn perform<H: BlockHash>(
         return Ok(answer);
     }
     if let Some(answer) = checks::perform::<H>(alloc, room, name, words)? {
+        return Ok(answer);
+    }
+    if let Some(answer) = values::perform::<H>(alloc, name, words)? {
         return Ok(answer);
     }
     if let Some(answer) = each::perform::<H>(alloc, room, name, words)? {

@@ -28,7 +28,7 @@ fn data_block<H: BlockHash>(alloc: Global, room: &Room, tabled: bool) -> Result<
 /// Performs a command that reads the block of the payload, if it is one.
 fn read<H: BlockHash>(
     alloc: Global,
-    room: &Room,
+    room: &mut Room,
     name: &str,
     words: &[&str],
 ) -> Result<Option<String>> {

@@ -30,32 +30,40 @@ fn sign(order: Ordering) -> &'static str {
 }
 
 impl Signs {
-    /// Adds how two user keys compare, and two entries.
-    fn add(&mut self, alloc: Global, keys: Ordering, entries: Ordering) -> Result<()> {
+    /// Adds how two user keys compare, two entries, and copies of these.
+    fn add(
+        &mut self,
+        alloc: Global,
+        keys: Ordering,
+        entries: Ordering,
+        copies: Ordering,
+    ) -> Result<()> {
         match entries {
             Ordering::Less => self.less = self.less.saturating_add(1),
             Ordering::Equal => self.equal = self.equal.saturating_add(1),
             Ordering::Greater => self.greater = self.greater.saturating_add(1),
         }
-        let (first, second) = (sign(keys), sign(entries));
+        let (first, second, third) = (sign(keys), sign(entries), sign(copies));
         self.digest
-            .add(format!(in alloc; "{first}{second}")?.as_str());
+            .add(format!(in alloc; "{first}{second}{third}")?.as_str());
         Ok(())
     }
 }
 
-/// Compares two entries that borrow their blocks; copies of them compare alike.
+/// Compares two entries that borrow their blocks, and copies of them.
 fn compare_entries(
     alloc: Global,
     signs: &mut Signs,
     left: &EntryRef<'_>,
     right: &EntryRef<'_>,
 ) -> Result<()> {
-    let (keys, entries) = (left.compare_user_key(right), left.compare(right));
-    if left.clone()?.compare(&right.clone()?) != entries {
-        return Err(Fault::Word);
-    }
-    signs.add(alloc, keys, entries)
+    let copies = left.clone()?.compare(&right.clone()?);
+    signs.add(
+        alloc,
+        left.compare_user_key(right),
+        left.compare(right),
+        copies,
+    )
 }
 
 /// Compares an entry with each of a block.

@@ -154,6 +154,16 @@ fn queries<H: BlockHash>(alloc: Global, room: &Room) -> Result<String> {
     Ok(format!(in alloc; "{count} reads, {found} found, {state:016x}")?)
 }
 
+/// Takes the entries of the payload as the list.
+fn take<H: BlockHash>(alloc: Global, room: &mut Room) -> Result<String> {
+    let block = data_block::<H>(alloc, room, false)?;
+    room.entries = Vec::new(alloc);
+    for entry in block.entries() {
+        room.entries.push(entry.materialize(alloc)?)?;
+    }
+    Ok(format!(in alloc; "{} entries", room.entries.len())?)
+}
+
 /// The number and the digest of the words of entries.
 fn digest_of(alloc: Global, words: &[String]) -> Result<String> {
     let mut digest = Digest::new();
@@ -218,16 +228,28 @@ fn by_views<H: BlockHash>(alloc: Global, page: &DataBlockRef<'_, H>) -> Result<S
     digest_of(alloc, words.as_slice())
 }
 
+/// The entries of bytes that are lent, from the back.
+fn by_views_back<H: BlockHash>(alloc: Global, page: &DataBlockRef<'_, H>) -> Result<String> {
+    let mut words = Vec::new(alloc);
+    for view in page.entries().rev() {
+        words.push(word_of_view(alloc, &view)?)?;
+    }
+    words.reverse();
+    digest_of(alloc, words.as_slice())
+}
+
 /// The entries of bytes that are lent, with a table of their heads that is lent too.
 fn by_page<H: BlockHash>(alloc: Global, room: &Room) -> Result<String> {
     let page = DataBlockRef::<H>::check(alloc, room.payload.as_slice())?;
     let heads = page.make_heads(alloc)?;
-    alike(
+    let all = by_views(alloc, &page)?;
+    let all = alike(
         alloc,
-        by_views(alloc, &page)?,
+        all,
         "with a table",
         by_views(alloc, &page.with_table(&heads))?,
-    )
+    )?;
+    alike(alloc, all, "from the back", by_views_back(alloc, &page)?)
 }
 
 /// The number of the entries, and their digest, by each way to go over them.
@@ -242,7 +264,7 @@ fn entries<H: BlockHash>(alloc: Global, room: &Room) -> Result<String> {
 /// Performs a command, if it reads entries.
 pub fn perform<H: BlockHash>(
     alloc: Global,
-    room: &Room,
+    room: &mut Room,
     name: &str,
     words: &[&str],
 ) -> Result<Option<String>> {
@@ -251,6 +273,7 @@ pub fn perform<H: BlockHash>(
         "place" => place::<H>(alloc, room, words),
         "queries" => queries::<H>(alloc, room),
         "entries" => entries::<H>(alloc, room),
+        "take" => take::<H>(alloc, room),
         _ => return Ok(None),
     };
     Ok(Some(answer?))

@@ -43,17 +43,18 @@ fn ops_of(alloc: Global, words: &[&str]) -> Result<Vec<IndexOp>> {
     Ok(ops)
 }
 
-/// Returns the word of a handle that borrows its block. Its parts are those of the handle that it is
-/// made as.
+/// Returns the word of a handle that borrows its block, and says if its parts are not those of the
+/// handle that it is made as.
 fn word_of_ref(alloc: Global, handle: &HandleRef<'_>) -> Result<String> {
     let made = handle.clone()?.materialize(alloc)?;
+    let word = word_of(alloc, &made)?;
     let is_number = handle.seqno() == made.seqno();
     let is_place = handle.offset() == made.offset() && handle.size() == made.size();
     let is_plain = handle.handle() == BlockHandle::new(made.offset(), made.size());
     if is_number && is_place && is_plain && handle.compare_key(made.end_key().as_slice()).is_eq() {
-        return word_of(alloc, &made);
+        return Ok(word);
     }
-    Err(Fault::Word)
+    Ok(format!(in alloc; "{word} of other parts")?)
 }
 
 /// The word of an item that a step takes.
@@ -235,13 +236,29 @@ fn handles(alloc: Global, room: &Room) -> Result<String> {
     )
 }
 
+/// Takes the handles of the payload as the list.
+fn take(alloc: Global, room: &mut Room) -> Result<String> {
+    let block = index_block(alloc, room, false)?;
+    room.handles = Vec::new(alloc);
+    for handle in block.handles() {
+        room.handles.push(handle.materialize(alloc)?)?;
+    }
+    Ok(format!(in alloc; "{} handles", room.handles.len())?)
+}
+
 /// Performs a command, if it is one on iterators over index blocks.
-pub fn perform(alloc: Global, room: &Room, name: &str, words: &[&str]) -> Result<Option<String>> {
+pub fn perform(
+    alloc: Global,
+    room: &mut Room,
+    name: &str,
+    words: &[&str],
+) -> Result<Option<String>> {
     let answer = match name {
         "walk_index" => walks(alloc, room, words),
         "steps_index" => steps(alloc, room, words),
         "between" => between(alloc, room, words),
         "handles_of" => handles(alloc, room),
+        "take_handles" => take(alloc, room),
         _ => return Ok(None),
     };
     Ok(Some(answer?))
