@@ -1,19 +1,11 @@
-//! Tests of merges, snapshots and compaction by their public calls: worked lists, random histories
-//! beside a plain map of lists, sources that fail, and tables that are read again.
+//! Tests of merges, snapshots and compaction over sources, outputs and writers that fail. The cases of
+//! merges and tables are data: see `sst_cases`.
 #![tactic(auto)]
 
 #[cfg(test)]
-mod backs;
-#[cfg(test)]
 mod failing;
 #[cfg(test)]
-mod fronts;
-#[cfg(test)]
-mod histories;
-#[cfg(test)]
 mod lists;
-#[cfg(test)]
-mod merges;
 #[cfg(test)]
 mod tables;
 
