@@ -3,35 +3,28 @@
 import filter_cases
 import frame_cases
 import run_cases
+from checks import changes_of, longer
 from words import Digest, Fault, bad_word
 
 CHANGED = {**frame_cases.COMMANDS, **filter_cases.COMMANDS, **run_cases.COMMANDS}
 
 
-def longer(data):
-    """Yields bytes with 1 or 40 more after them: all 0, all 255, or the last of the bytes again."""
-    for fill in [0, 255, None]:
-        for count in [1, 40]:
-            last = (bytes(count) + data)[-count:]
-            yield data + (last if fill is None else bytes([fill]) * count)
-
-
-def changes_of(data):
-    """Yields each change of bytes: cut before each byte, each byte changed to each other value, and
-    six longer ones."""
+def flips_of(data):
+    """Yields each change of a single bit: bytes cut before each byte, with each of its bits
+    changed, and the longer ones."""
     for at in range(len(data)):
         yield data[:at]
-        for by in range(1, 256):
-            yield data[:at] + bytes([data[at] ^ by]) + data[at + 1 :]
+        for bit in range(8):
+            yield data[:at] + bytes([data[at] ^ 1 << bit]) + data[at + 1 :]
     yield from longer(data)
 
 
-def each(room, words):
-    """A command with each change of the payload: COMMAND WORD .."""
+def summary(room, words, changes):
+    """Returns how many answers to a command are no errors, and a digest of all answers."""
     if not words or words[0] not in CHANGED:
         raise bad_word()
     payload, accepted, results = room.payload, 0, Digest()
-    for changed in changes_of(payload):
+    for changed in changes(payload):
         room.payload = changed
         try:
             result = CHANGED[words[0]](room, words[1:])
@@ -43,4 +36,14 @@ def each(room, words):
     return f"{accepted} accepted, {results}"
 
 
-COMMANDS = {"each": each}
+def each(room, words):
+    """A command with each change of the payload: COMMAND WORD .."""
+    return summary(room, words, changes_of)
+
+
+def flips(room, words):
+    """A command with each change of a single bit of the payload: COMMAND WORD .."""
+    return summary(room, words, flips_of)
+
+
+COMMANDS = {"each": each, "flips": flips}

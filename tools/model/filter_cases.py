@@ -23,7 +23,8 @@ def build(room, words):
 
 
 def numbers(room, words):
-    """The numbers of the payload as a filter: its length with its front, its bits and its probes."""
+    """The numbers of the payload as a filter: its length with its front, its bits and its
+    probes."""
     only(words, 0)
     found = Filter(room.payload)
     return f"{len(room.payload)} bytes, {len(found.data)} of bits, {found.count} probes"

@@ -65,8 +65,8 @@ def snapshot(room, words):
 
 
 def tables(room, words):
-    """Compacts the sources into tables: SNAPSHOT LEVEL BLOCK_SIZE TABLE_SIZE. Of each table the numbers
-    of its entries and of its blocks."""
+    """Compacts the sources into tables: SNAPSHOT LEVEL BLOCK_SIZE TABLE_SIZE. Of each table the
+    numbers of its entries and of its blocks."""
     seqno, level, block, table = only(words, 4)
     items = merges.compacted(merges.merged(sources_of(room)), number_of(seqno), level_of(level))
     room.tables = merges.tables_of(items, number_of(block), number_of(table))

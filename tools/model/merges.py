@@ -6,8 +6,11 @@ from runs import first_match
 
 
 def merged(sources):
-    """Returns the entries of all sources in order; of equal ones those of an earlier source first."""
-    numbered = [(order_of_entry(item), number, item) for number, source in enumerate(sources) for item in source]
+    """Returns the entries of all sources in order; of equal ones those of an earlier source
+    first."""
+    numbered = []
+    for number, source in enumerate(sources):
+        numbered += [(order_of_entry(item), number, item) for item in source]
     return [item for _, _, item in sorted(numbered, key=lambda found: found[:2])]
 
 
@@ -24,8 +27,8 @@ def snapshot(items, seqno):
 
 
 def compacted(items, seqno, is_bottom):
-    """Returns the entries without those below a snapshot but the newest of each key; and at the bottom
-    level without that one too, if it is a tombstone."""
+    """Returns the entries without those below a snapshot but the newest of each key; and at the
+    bottom level without that one too, if it is a tombstone."""
     kept = []
     for at, item in enumerate(items):
         is_newest = newest_below(items, at, seqno)
@@ -49,8 +52,8 @@ def next_block(items, size):
 
 
 def ends_table(blocks, rest, size):
-    """Returns whether a table ends after these blocks: nothing is left, or the table has its size and
-    another key comes."""
+    """Returns whether a table ends after these blocks: nothing is left, or the table has its size
+    and another key comes."""
     has_size = sum(size_of(block) for block in blocks) >= size
     return not rest or has_size and rest[0].key != blocks[-1][-1].key
 

@@ -139,7 +139,8 @@ class Program:
     def pack(self, words):
         """Writes a table file."""
         forms = [name, INTERVAL, SIZE, SOME, SIZE, SOME]
-        file, interval, num, den, bits, each, *more = parsed(words, forms + [INTERVAL] * (len(words) == 7))
+        forms += [INTERVAL] * (len(words) == 7)
+        file, interval, num, den, bits, each, *more = parsed(words, forms)
         items = entries_in(self.input)
         blocks = [items[at : at + each] for at in range(0, len(items), each)]
         form = runs.Form(interval, num, den, bits, more[0] if more else 1)

@@ -14,8 +14,8 @@ def plain_text(part):
 
 
 def text_in(word):
-    """Returns the text of a word: `_` is a space and `~` an end of line, and between `<` and `>` stand
-    bytes. The word `-` is no text."""
+    """Returns the text of a word: `_` is a space and `~` an end of line, and between `<` and `>`
+    stand bytes. The word `-` is no text."""
     if word == "-":
         return b""
     first, *others = word.split("<")
@@ -57,8 +57,10 @@ def sst(room, words):
 def lines(room, words):
     """Makes the lines of the list the input."""
     only(words, 0)
-    parts = [(item.letter, item.seqno, hex_of(item.key), hex_of(item.value)) for item in room.entries]
-    room.input = "".join("%s %d %s %s\n" % part for part in parts).encode()
+    text = ""
+    for item in room.entries:
+        text += f"{item.letter} {item.seqno} {hex_of(item.key)} {hex_of(item.value)}\n"
+    room.input = text.encode()
     return word_of_text(room.input)
 
 

@@ -93,8 +93,8 @@ def get(room, words):
 
 
 def reads(room, words):
-    """Reads of a sound run, of each key of the list below its sequence number and above it, and of a
-    key after all; how many find one, and their digest."""
+    """Reads of a sound run, of each key of the list below its sequence number and above it, and of
+    a key after all; how many find one, and their digest."""
     only(words, 0)
     items, found, results = entries_of(room), 0, Digest()
     queries = [(item.key, item.seqno + more) for item in room.entries for more in (0, 1)]
@@ -128,7 +128,8 @@ def keys_of(start, end):
 
 
 def steps_of(scan, steps):
-    """Returns what steps of a scan give: `n` takes the first entry left, another letter the last."""
+    """Returns what steps of a scan give: `n` takes the first entry left, another letter the
+    last."""
     return " ".join(scan.step(letter == "n") for letter in steps)
 
 
@@ -159,8 +160,8 @@ def can_follow(last, items):
 
 
 def follows(room, words):
-    """Whether entries can be the block after that of the list, which is added first if it can be the
-    first one: ENTRY .."""
+    """Whether entries can be the block after that of the list, which is added first if it can be
+    the first one: ENTRY .."""
     items, first = [entry_of(word) for word in words], room.entries
     is_added = can_follow(None, first)
     last = first[-1] if is_added else None

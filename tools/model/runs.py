@@ -69,8 +69,8 @@ def read_footer(data):
 
 
 class Reader:
-    """Bytes in memory or in a file, of which frames are read. What a frame is read as is kept, since
-    the runs of many cases have frames in common."""
+    """Bytes in memory or in a file, of which frames are read. What a frame is read as is kept,
+    since the runs of many cases have frames in common."""
 
     kept = {}
 

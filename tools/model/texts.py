@@ -15,6 +15,7 @@ def refusing(function):
     """Returns the command of a function, whose result is the error where bytes are refused."""
 
     def command(room, words):
+        """Performs the command."""
         try:
             return function(room, words)
         except Refused as refused:

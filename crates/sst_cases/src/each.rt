@@ -45,15 +45,37 @@ fn add<H: BlockHash>(
     }
 }
 
-/// Performs a command with each change of the payload: how many answers are no errors, and a digest
-/// of all: COMMAND WORD ..
-fn each<H: BlockHash>(alloc: Global, room: &mut Room, words: &[&str]) -> Result<String> {
+/// Returns the number, among all changes of this many bytes, of the one with a number among those of
+/// single bits: a cut before each byte, each of its bits changed, and the longer ones.
+fn flip_of(len: usize, number: usize) -> usize {
+    let (at, by) = (number / 9, number % 9);
+    if at >= len {
+        let longer = number.saturating_sub(len.saturating_mul(9));
+        return len.saturating_mul(256).saturating_add(longer);
+    }
+    let by = match by {
+        0 => 0,
+        bit => 1usize << (bit - 1),
+    };
+    at.saturating_mul(256).saturating_add(by)
+}
+
+/// Performs a command with each change of the payload, or with each of a single bit: how many answers
+/// are no errors, and a digest of all: COMMAND WORD ..
+fn each<H: BlockHash>(
+    alloc: Global,
+    room: &mut Room,
+    words: &[&str],
+    is_flip: bool,
+) -> Result<String> {
     let Some((name, words)) = words.split_first() else {
         return Err(Fault::Word);
     };
     let payload = room.payload.to_vec(alloc)?;
+    let (len, per_byte) = (payload.len(), if is_flip { 9 } else { 256usize });
     let (mut accepted, mut results) = (0usize, Digest::new());
-    for number in 0..payload.len().saturating_mul(256).saturating_add(6) {
+    for number in 0..len.saturating_mul(per_byte).saturating_add(6) {
+        let number = if is_flip { flip_of(len, number) } else { number };
         room.payload = changed(alloc, payload.as_slice(), number)?;
         if add::<H>(alloc, room, name, words, &mut results)? {
             accepted = accepted.saturating_add(1);
@@ -72,9 +94,9 @@ pub fn perform<H: BlockHash>(
     name: &str,
     words: &[&str],
 ) -> Result<Option<String>> {
-    if name == "each" {
-        Ok(Some(each::<H>(alloc, room, words)?))
-    } else {
-        perform_one::<H>(alloc, room, name, words)
+    match name {
+        "each" => Ok(Some(each::<H>(alloc, room, words, false)?)),
+        "flips" => Ok(Some(each::<H>(alloc, room, words, true)?)),
+        _ => perform_one::<H>(alloc, room, name, words),
     }
 }

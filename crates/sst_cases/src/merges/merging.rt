@@ -4,55 +4,58 @@ use super::{Memory, drained, memory_of, merge_of, or_none};
 use crate::fault::{Fault, Result};
 use crate::room::Room;
 use crate::texts::agreed;
-use crate::words::{number_of, push_word, word_of};
+use crate::words::{number_of, push_word, word_of, word_of_found};
 use sst_base::InternalValue;
 use sst_merge::{BackSource, Compact, Merge, MergeBack, Snapshot, Source, Tail};
 use std::alloc::Global;
 
-/// The merge of the sources, each version passed as it is shown.
-fn passed(alloc: Global, merge: &mut Merge<InternalValue, Memory>) -> Result<String> {
+/// The number of the entries of all sources.
+fn total_of(room: &Room) -> usize {
+    let mut total = 0usize;
+    for list in &room.sources {
+        total = total.saturating_add(list.len());
+    }
+    total
+}
+
+/// The merge of this many versions, each passed as it is shown.
+fn passed(
+    alloc: Global,
+    merge: &mut Merge<InternalValue, Memory>,
+    total: usize,
+) -> Result<String> {
     let mut text = String::new(alloc);
-    while let Some(entry) = merge.peek() {
-        push_word(&mut text, word_of(alloc, entry)?.as_str())?;
+    for _ in 0..total {
+        let word = word_of_found(alloc, merge.peek())?;
+        push_word(&mut text, word.as_str())?;
         if !merge.advance(alloc)? {
             text.push_str(" not passed")?;
         }
     }
-    if merge.advance(alloc)? {
+    if merge.peek().is_some() || merge.advance(alloc)? {
         text.push_str(" and one more")?;
     }
     or_none(alloc, text)
 }
 
-/// Takes the first version of a merge, which is the one that is shown.
-fn take(alloc: Global, merge: &mut Merge<InternalValue, Memory>) -> Result<Option<String>> {
-    let shown = match merge.peek() {
-        Some(entry) => Some(word_of(alloc, entry)?),
-        None => None,
-    };
-    let taken = match merge.next_entry(alloc)? {
-        Some(entry) => Some(word_of(alloc, &entry)?),
-        None => None,
-    };
-    if shown == taken {
-        Ok(taken)
-    } else {
-        Err(Fault::Word)
-    }
-}
-
-/// The merge of the sources, each third version passed and the others taken.
-fn in_turn(alloc: Global, merge: &mut Merge<InternalValue, Memory>) -> Result<String> {
-    let (mut text, mut turn) = (String::new(alloc), 0u8);
-    while let Some(entry) = merge.peek() {
-        let word = word_of(alloc, entry)?;
-        push_word(&mut text, word.as_str())?;
-        if turn == 1 {
+/// The merge of this many versions, every third one passed and the others taken.
+fn in_turn(
+    alloc: Global,
+    merge: &mut Merge<InternalValue, Memory>,
+    total: usize,
+) -> Result<String> {
+    let mut text = String::new(alloc);
+    for turn in 0..total {
+        let word = word_of_found(alloc, merge.peek())?;
+        if turn % 3 == 1 {
             merge.advance(alloc)?;
-        } else if take(alloc, merge)? != Some(word) {
+        } else if word_of_found(alloc, merge.next_entry(alloc)?.as_ref())? != word {
             text.push_str(" not taken")?;
         }
-        turn = if turn == 2 { 0 } else { turn + 1 };
+        push_word(&mut text, word.as_str())?;
+    }
+    if merge.next_entry(alloc)?.is_some() {
+        text.push_str(" and one more")?;
     }
     or_none(alloc, text)
 }
@@ -81,10 +84,11 @@ fn merge_back_of(alloc: Global, room: &Room) -> Result<MergeBack<InternalValue, 
 
 /// The merge of the sources, in each way.
 pub fn merge(alloc: Global, room: &Room) -> Result<String> {
+    let total = total_of(room);
     let found = [
         drained(alloc, &mut merge_of(alloc, room)?),
-        passed(alloc, &mut merge_of(alloc, room)?),
-        in_turn(alloc, &mut merge_of(alloc, room)?),
+        passed(alloc, &mut merge_of(alloc, room)?, total),
+        in_turn(alloc, &mut merge_of(alloc, room)?, total),
         drained_back(alloc, &mut merge_back_of(alloc, room)?),
     ];
     agreed(alloc, &found)

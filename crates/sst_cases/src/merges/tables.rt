@@ -59,12 +59,12 @@ struct Plan {
     sizes: Sizes,
 }
 
-/// Returns the sizes of two words.
-fn sizes_of(block: &str, table: &str) -> Result<Sizes> {
-    Ok(Sizes {
-        block: number_of(block)? as usize,
-        table: number_of(table)? as usize,
-    })
+/// Returns the sizes of two numbers.
+fn sizes_of(block: u64, table: u64) -> Sizes {
+    Sizes {
+        block: block as usize,
+        table: table as usize,
+    }
 }
 
 /// Compacts a source into tables in memory.
@@ -114,7 +114,7 @@ fn tables<H: BlockHash>(alloc: Global, room: &mut Room, words: &[&str]) -> Resul
     let plan = Plan {
         seqno: number_of(seqno)?,
         bottom: level_of(level)?,
-        sizes: sizes_of(block, table)?,
+        sizes: sizes_of(number_of(block)?, number_of(table)?),
     };
     let merge = merge_of(alloc, room)?;
     room.tables = compact_into::<H, _>(alloc, merge, plan)?;
@@ -206,7 +206,7 @@ fn stored<H: BlockHash>(alloc: Global, room: &Room, words: &[&str]) -> Result<St
     let [block, table] = words else {
         return Err(Fault::Word);
     };
-    let sizes = sizes_of(block, table)?;
+    let sizes = sizes_of(number_of(block)?, number_of(table)?);
     let found = [
         merged_scans::<H>(alloc, room, sizes),
         merged_scans_back::<H>(alloc, room, sizes),

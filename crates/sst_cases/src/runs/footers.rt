@@ -34,8 +34,11 @@ fn set_places(alloc: Global, room: &mut Room, words: &[&str]) -> Result<String> 
 
 /// Appends the footer of the run.
 fn end(alloc: Global, room: &mut Room) -> Result<String> {
-    let handles = room.places.ok_or(Fault::Word)?;
-    room.payload.extend_from_slice(&encode_footer(&handles))?;
+    let footer = match &room.places {
+        Some(handles) => encode_footer(handles),
+        None => return Err(Fault::Word),
+    };
+    room.payload.extend_from_slice(&footer)?;
     Ok(format!(in alloc; "{} bytes", room.payload.len())?)
 }
 
