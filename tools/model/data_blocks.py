@@ -74,9 +74,9 @@ def encode(room, words):
 
 
 def write(room, words):
-    """Encodes the list, in order or not, without buckets: INTERVAL."""
+    """Encodes a list of two entries, in order or not, without buckets: INTERVAL."""
     interval = number_of(only(words, 1)[0], 256)
-    if not room.entries or interval == 0:
+    if len(room.entries) != 2 or interval == 0:
         raise bad_word()
     room.payload = Encoded(entries, room.entries, interval).payload
     return f"{len(room.payload)} bytes"

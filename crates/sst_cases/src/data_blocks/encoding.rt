@@ -82,30 +82,25 @@ fn encode<H: BlockHash>(alloc: Global, room: &mut Room, words: &[&str]) -> Resul
     numbers_of::<H>(alloc, room)
 }
 
-/// What an encoder writes of entries, in order or not, without buckets.
+/// What an encoder writes of two entries, in order or not, without buckets.
 fn written<H: BlockHash>(alloc: Global, entries: &[InternalValue], interval: u8) -> Result<Vec<u8>>
     requires { 1 ≤ interval }
 {
-    let Some((first, others)) = entries.split_first() else {
+    let [first, second] = entries else {
         return Err(Fault::Word);
     };
     let mut bytes = Vec::new(alloc);
     let ratio = HashRatio { num: 0, den: 1 };
     let mut encoder: Encoder<'_, '_, InternalValue, H> = Encoder::new(
-        &mut bytes,
-        entries.len(),
-        interval,
-        ratio,
+        &mut bytes, 2, interval, ratio,
     );
     encoder.write(first)?;
-    for entry in others {
-        encoder.write(entry)?;
-    }
+    encoder.write(second)?;
     encoder.finish()?;
     Ok(bytes)
 }
 
-/// Writes the list, in order or not, without buckets: INTERVAL.
+/// Writes a list of two entries, in order or not, without buckets: INTERVAL.
 fn write<H: BlockHash>(alloc: Global, room: &mut Room, words: &[&str]) -> Result<String> {
     let [interval] = words else {
         return Err(Fault::Word);
