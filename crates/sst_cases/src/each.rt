@@ -75,7 +75,11 @@ fn each<H: BlockHash>(
     let (len, per_byte) = (payload.len(), if is_flip { 9 } else { 256usize });
     let (mut accepted, mut results) = (0usize, Digest::new());
     for number in 0..len.saturating_mul(per_byte).saturating_add(6) {
-        let number = if is_flip { flip_of(len, number) } else { number };
+        let number = if is_flip {
+            flip_of(len, number)
+        } else {
+            number
+        };
         room.payload = changed(alloc, payload.as_slice(), number)?;
         if add::<H>(alloc, room, name, words, &mut results)? {
             accepted = accepted.saturating_add(1);

@@ -19,11 +19,7 @@ fn total_of(room: &Room) -> usize {
 }
 
 /// The merge of this many versions, each passed as it is shown.
-fn passed(
-    alloc: Global,
-    merge: &mut Merge<InternalValue, Memory>,
-    total: usize,
-) -> Result<String> {
+fn passed(alloc: Global, merge: &mut Merge<InternalValue, Memory>, total: usize) -> Result<String> {
     let mut text = String::new(alloc);
     for _ in 0..total {
         let word = word_of_found(alloc, merge.peek())?;
