@@ -1,12 +1,10 @@
-// Frames, headers, handles and streams: examples, damaged bytes, slow and failing devices.
+// Frames, headers and streams over slow and failing devices, and where one allocation fails.
 use crate::Tested;
 use crate::devices::{Failure, SlowFile, SlowReader, SlowWriter};
-use crate::rows::{Row, check_rows};
 use sst_base::checksum::{ChecksummedReader, ChecksummedWriter};
-use sst_base::coding::{Decode, Encode};
-use sst_base::hash::{ByteSum, Poly31};
+use sst_base::hash::ByteSum;
 use sst_base::table::block::{Block, BlockHandle, BlockOffset, BlockType, Header};
-use sst_base::{Checksum, Error, HeaderName, Result, Slice, TagName};
+use sst_base::{Checksum, Error, Result, Slice};
 use std::alloc::Global;
 use std::fs;
 use std::fs::File;
@@ -19,21 +17,9 @@ const LONGER: [u8; 38] = [
 ];
 
 // The frame of `abc`.
-pub(crate) const ABC: [u8; 36] = [
+const ABC: [u8; 36] = [
     0x4c, 0x53, 0x4d, 0x03, 0x00, 0x26, 0x01, 0, 0, 0, 0, 0, 0, 0, 0, 0, 0, 0, 0, 0, 0, 3, 0, 0, 0,
     3, 0, 0, 0, 0x1c, 0x01, 0, 0, 0x61, 0x62, 0x63,
-];
-
-// The frame of no bytes.
-pub(crate) const EMPTY: [u8; 33] = [
-    0x4c, 0x53, 0x4d, 0x03, 0x03, 0, 0, 0, 0, 0, 0, 0, 0, 0, 0, 0, 0, 0, 0, 0, 0, 0, 0, 0, 0, 0, 0,
-    0, 0, 0xf2, 0, 0, 0,
-];
-
-// A header alone.
-pub(crate) const HEADER_ONLY: [u8; 33] = [
-    0x4c, 0x53, 0x4d, 0x03, 0x00, 0x05, 0, 0, 0, 0, 0, 0, 0, 0, 0, 0, 0, 0, 0, 0, 0, 0xc4, 0xd9,
-    0x03, 0x00, 0xdc, 0xfb, 0x65, 0x07, 0xd7, 0x04, 0x00, 0x00,
 ];
 
 // The header of `abc`.
@@ -48,14 +34,6 @@ fn header_of(block_type: BlockType, checksum: u128, len: u32) -> Header {
         checksum: Checksum::from_raw(checksum),
         data_length: len,
         uncompressed_length: len,
-    }
-}
-
-// The error of two checksums.
-fn mismatch(got: u128, expected: u128) -> Error {
-    Error::ChecksumMismatch {
-        got: Checksum::from_raw(got),
-        expected: Checksum::from_raw(expected),
     }
 }
 
@@ -84,24 +62,6 @@ fn read_slowly(alloc: Global, reader: &mut SlowReader<'_>) -> Result<Seen> {
 // Reads a frame whole.
 fn read_frame(alloc: Global, bytes: &[u8]) -> Result<Seen> {
     see(Block::from_frame::<ByteSum>(Slice::new(alloc, bytes)?), 0)
-}
-
-// What is wanted of a read: the block of `abc` and the number of bytes left, an error, or the error
-// of two checksums, the computed and the stored.
-#[derive(Drop)]
-enum Wanted {
-    Abc(usize),
-    Refused(Error),
-    Mismatch(u128, u128),
-}
-
-// The same as a result.
-fn wanted_result(wanted: &Wanted) -> Result<Seen> {
-    match wanted {
-        Wanted::Abc(left) => Ok((abc_header(), true, *left)),
-        Wanted::Refused(error) => Err(*error),
-        Wanted::Mismatch(got, expected) => Err(mismatch(*got, *expected)),
-    }
 }
 
 // Other bytes at some offsets of a frame.
@@ -134,81 +94,6 @@ const TOO_LONG: Changes = &[
     (30, 0x08),
 ];
 
-const NO_HEADER: Wanted = Wanted::Refused(Error::InvalidHeader(HeaderName::Block));
-
-const NO_TYPE: Wanted = Wanted::Refused(Error::InvalidTag(TagName::BlockType, 4));
-
-// The changes of the frame of `abc`, its length or the length of a prefix of it, what is read from
-// a reader, and what is read of the frame.
-#[derive(Drop)]
-struct Damaged(Changes, usize, Wanted, Wanted);
-
-const FRAMES: [Damaged; 10] = [
-    Damaged(&[], 36, Wanted::Abc(0), Wanted::Abc(0)),
-    Damaged(
-        &[],
-        38,
-        Wanted::Abc(2),
-        Wanted::Refused(Error::LengthMismatch),
-    ),
-    Damaged(
-        &[],
-        32,
-        Wanted::Refused(Error::Io),
-        Wanted::Refused(Error::Truncated),
-    ),
-    Damaged(
-        &[],
-        35,
-        Wanted::Refused(Error::Io),
-        Wanted::Refused(Error::LengthMismatch),
-    ),
-    Damaged(
-        &[(35, 0x64)],
-        36,
-        Wanted::Mismatch(295, 294),
-        Wanted::Mismatch(295, 294),
-    ),
-    Damaged(
-        &[(25, 4), (29, 0x1d)],
-        36,
-        Wanted::Refused(Error::LengthMismatch),
-        Wanted::Refused(Error::LengthMismatch),
-    ),
-    Damaged(&[(0, 0x4d)], 36, NO_HEADER, NO_HEADER),
-    Damaged(&[(4, 4)], 36, NO_TYPE, NO_TYPE),
-    Damaged(
-        &[(5, 0x27)],
-        36,
-        Wanted::Mismatch(285, 284),
-        Wanted::Mismatch(285, 284),
-    ),
-    Damaged(
-        TOO_LONG,
-        36,
-        Wanted::Refused(Error::Io),
-        Wanted::Refused(Error::LengthMismatch),
-    ),
-];
-
-// Whether a frame is read from memory, from a reader that gives a byte a call, and whole.
-impl Row for Damaged {
-    fn holds(&self, alloc: Global) -> Result<bool> {
-        let Damaged(changes, len, from_reader, of_frame) = self;
-        let bytes = changed(changes);
-        let (bytes, _) = bytes.as_slice().split_at(bytes.len().min(*len));
-        let slowly = read_slowly(alloc, &mut SlowReader::new(bytes, usize::MAX));
-        let wanted = wanted_result(from_reader);
-        let is_read = read_memory(alloc, bytes) == wanted && slowly == wanted;
-        Ok(is_read && read_frame(alloc, bytes) == wanted_result(of_frame))
-    }
-}
-
-#[test]
-fn frames_are_read_or_refused(rt: HostRuntime) {
-    check_rows(&rt, rt.alloc(), &FRAMES);
-}
-
 // Reads the frame of `abc`, whole or from memory.
 fn read_abc(alloc: Global, is_whole: bool) -> Result<Seen> {
     if is_whole {
@@ -223,7 +108,7 @@ fn is_read_again(alloc: Global, is_whole: bool) -> bool {
         Err(Error::Memory) => read_abc(alloc, is_whole),
         seen => seen,
     };
-    seen == wanted_result(&Wanted::Abc(0))
+    seen == Ok((abc_header(), true, 0))
 }
 
 // For a run in which one allocation fails.
@@ -347,64 +232,9 @@ fn a_byte_a_call_is_written(rt: HostRuntime) {
     }
 }
 
-// A payload, its type, its checksum, its length and its frame.
-#[derive(Drop)]
-struct Written(&'static [u8], BlockType, u128, u32, &'static [u8]);
-
-static WRITTEN: [Written; 2] = [
-    Written(b"abc", BlockType::Data, 294, 3, &ABC),
-    Written(b"", BlockType::Meta, 0, 0, &EMPTY),
-];
-
-impl Row for Written {
-    fn holds(&self, alloc: Global) -> Result<bool> {
-        let Written(payload, block_type, checksum, len, frame) = self;
-        let mut bytes = Vec::new(alloc);
-        let header = Block::write_into::<ByteSum, Vec<u8>>(&mut bytes, payload, *block_type);
-        Ok(header == Ok(header_of(*block_type, *checksum, *len)) && bytes.as_slice() == *frame)
-    }
-}
-
-#[test]
-fn frames_are_written(rt: HostRuntime) {
-    check_rows(&rt, rt.alloc(), &WRITTEN);
-}
-
-// Whether a block has a payload.
-fn has_payload(block: Result<Block>, payload: &[u8]) -> Result<bool> {
-    Ok(block?.data().eq_bytes(payload))
-}
-
-// Whether a payload of a length is read, and what follows its frame is left.
-fn is_read_in_pieces(alloc: Global, len: usize) -> Result<bool> {
-    let payload = vec![in alloc; 7u8; len]?;
-    let mut frame = Vec::new(alloc);
-    let written = Block::write_into::<Poly31, Vec<u8>>(&mut frame, &payload, BlockType::Filter);
-    frame.extend_from_slice(&[7, 8])?;
-    let mut rest = frame.as_slice();
-    let block = Block::from_reader::<Poly31, &[u8]>(alloc, &mut rest);
-    let is_left = written.is_ok() && rest == [7, 8].as_slice();
-    Ok(is_left && has_payload(block, &payload)?)
-}
-
-#[test]
-fn long_payloads_are_read_in_pieces(rt: HostRuntime) {
-    for len in [3, 200_000] {
-        assert!(rt; is_read_in_pieces(rt.alloc(), len) == Ok(true), "{len}");
-    }
-}
-
-// The size of a handle, and what is read by it from a file of the frame of `abc`.
-const SIZES: [(u32, Wanted); 4] = [
-    (36, Wanted::Abc(0)),
-    (35, Wanted::Refused(Error::LengthMismatch)),
-    (20, Wanted::Refused(Error::Truncated)),
-    (40, Wanted::Refused(Error::Io)),
-];
-
-// Reads the frame at the start of a file by a handle of a size.
-fn read_file(alloc: Global, mut file: File, size: u32) -> Result<Seen> {
-    let handle = BlockHandle::new(BlockOffset(0), size);
+// Reads the frame of `abc` from a file.
+fn read_file(alloc: Global, mut file: File) -> Result<Seen> {
+    let handle = BlockHandle::new(BlockOffset(0), 36);
     see(
         Block::from_file::<ByteSum, File>(alloc, &mut file, handle),
         0,
@@ -412,51 +242,11 @@ fn read_file(alloc: Global, mut file: File, size: u32) -> Result<Seen> {
 }
 
 #[test]
-fn frames_are_read_from_a_file(rt: HostRuntime) -> Tested {
+fn a_frame_is_read_from_a_file(rt: HostRuntime) -> Tested {
     fs::write(&rt, "frame", ABC)?;
-    for (size, wanted) in &SIZES {
-        let seen = read_file(rt.alloc(), File::open(&rt, "frame")?, *size);
-        assert!(rt; seen == wanted_result(wanted), "{size}");
-    }
+    let seen = read_file(rt.alloc(), File::open(&rt, "frame")?);
+    assert!(rt; seen == Ok((abc_header(), true, 0)));
     Ok(())
-}
-
-// The byte at offset 5 of the header alone, and the two checksums if they differ.
-#[derive(Drop)]
-struct HeaderByte(u8, Option<(u128, u128)>);
-
-static HEADERS: [HeaderByte; 2] = [HeaderByte(5, None), HeaderByte(6, Some((1240, 1239)))];
-
-impl Row for HeaderByte {
-    fn holds(&self, alloc: Global) -> Result<bool> {
-        let HeaderByte(byte, error) = self;
-        let header = Header {
-            block_type: BlockType::Data,
-            checksum: Checksum::from_raw(5),
-            data_length: 252356,
-            uncompressed_length: 124124124,
-        };
-        let mut out = Vec::new(alloc);
-        let is_encoded = header.encode_into::<ByteSum, Vec<u8>>(&mut out) == Ok(());
-        let mut bytes = HEADER_ONLY;
-        bytes[5] = *byte;
-        let read = Header::decode_from::<ByteSum, &[u8]>(&mut bytes.as_slice());
-        let is_read = match error {
-            None => read == Ok(header),
-            Some((got, expected)) => read == Err(mismatch(*got, *expected)),
-        };
-        Ok(
-            is_read
-                && is_encoded
-                && out.as_slice() == HEADER_ONLY.as_slice()
-                && Header::serialized_len() == 33,
-        )
-    }
-}
-
-#[test]
-fn headers_are_written_and_read(rt: HostRuntime) {
-    check_rows(&rt, rt.alloc(), &HEADERS);
 }
 
 // A slow writer that hashes: what it takes of three bytes, and the checksum; whether three more are
@@ -492,37 +282,6 @@ fn accepted_and_given_bytes_are_hashed(rt: HostRuntime) {
     assert!(rt; hash_written(rt.alloc()) == (Some(1), one, true, three, true));
     let (two, four) = (Checksum::from_raw(195), Checksum::from_raw(394));
     assert!(rt; hash_read() == (Some(2), two, true, four, true));
-}
-
-// Bytes, and the offset and the size of the handle that they are decoded as.
-#[derive(Drop)]
-struct Handle(&'static [u8], Result<(u64, u32)>);
-
-const HANDLES: [Handle; 3] = [
-    Handle(&[0x92, 0x01, 0x49], Ok((146, 73))),
-    Handle(&[0x80, 0x00, 0x49], Err(Error::BadHandle)),
-    Handle(&[0x00], Err(Error::Io)),
-];
-
-impl Row for Handle {
-    fn holds(&self, alloc: Global) -> Result<bool> {
-        let Handle(bytes, wanted) = self;
-        let decoded = BlockHandle::decode_from(&mut &**bytes);
-        let (offset, size) = match wanted {
-            Ok(parts) => *parts,
-            Err(error) => return Ok(decoded == Err(*error)),
-        };
-        let handle = BlockHandle::new(BlockOffset(offset), size);
-        let mut appended = Vec::new(alloc);
-        let is_encoded = handle.encode_into(&mut appended) == Ok(());
-        let is_vector = handle.encode_into_vec(alloc)?.as_slice() == *bytes;
-        Ok(decoded == Ok(handle) && is_encoded && is_vector && appended.as_slice() == *bytes)
-    }
-}
-
-#[test]
-fn handles_are_encoded_and_decoded(rt: HostRuntime) {
-    check_rows(&rt, rt.alloc(), &HANDLES);
 }
 
 // Whether a stream that hashes flushes its writer, once.

@@ -1,18 +1,12 @@
-//! Tests of `sst_base` by its public calls: what no clause says, as values from outside, printed
-//! text, and that a call succeeds where memory is ample.
+//! Tests of `sst_base` by its public calls over devices that are slow or fail, and where an allocation
+//! fails, and worked values of the definitions. The cases of bytes are data: see `sst_cases`.
 #![tactic(auto)]
 
-pub mod changes;
 pub mod devices;
 #[cfg(test)]
 mod frames;
 #[cfg(test)]
-mod hostile;
-pub mod numbers;
-#[cfg(test)]
 mod refused;
-#[cfg(test)]
-mod rows;
 #[cfg(test)]
 mod vectors;
 

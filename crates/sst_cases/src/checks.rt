@@ -144,9 +144,9 @@ fn longer(alloc: Global, bytes: &[u8], by: usize) -> Result<Vec<u8>> {
     Ok(all)
 }
 
-/// A copy of bytes with the change of a number: a cut before each byte, each byte changed to each other
+/// Returns a copy of bytes with the change of a number: a cut before each byte, each byte changed to each other
 /// value, and six longer ones.
-fn changed(alloc: Global, bytes: &[u8], number: usize) -> Result<Vec<u8>> {
+pub fn changed(alloc: Global, bytes: &[u8], number: usize) -> Result<Vec<u8>> {
     let (at, by) = (number / 256, (number % 256) as u8);
     if at >= bytes.len() {
         return longer(alloc, bytes, usize::from(by));

@@ -11,9 +11,16 @@
 mod checks;
 mod data_blocks;
 mod digest;
+mod each;
 mod fault;
+mod filters;
+mod frames;
 mod index_blocks;
+mod merges;
+mod program;
 mod room;
+mod runs;
+mod texts;
 mod values;
 mod words;
 mod zero_hash;
@@ -21,10 +28,10 @@ mod zero_hash;
 use fault::{Fault, Result};
 use room::Room;
 use sst_base::{BlockHash, ByteSum, Poly31};
+use sst_program::replace::LockFiles;
 use std::alloc::Global;
 use std::env::Env;
 use std::process::ExitCode;
-use std::rt::Files;
 use std::{env, fs};
 use zero_hash::ZeroHash;
 
@@ -47,6 +54,12 @@ fn perform<H: BlockHash>(
     if let Some(answer) = values::perform::<H>(alloc, name, words)? {
         return Ok(answer);
     }
+    if let Some(answer) = each::perform::<H>(alloc, room, name, words)? {
+        return Ok(answer);
+    }
+    if let Some(answer) = merges::perform::<H>(alloc, room, name, words)? {
+        return Ok(answer);
+    }
     Err(Fault::Word)
 }
 
@@ -62,12 +75,22 @@ fn words_of(alloc: Global, line: &str) -> Result<Vec<&str>> {
 }
 
 /// Performs the command of a line. Returns its answer, or why there is none.
-fn answer<H: BlockHash>(alloc: Global, room: &mut Room, command: &str) -> Result<String> {
+fn answer<H: BlockHash, R: LockFiles + AllocGlobal>(
+    rt: &R,
+    room: &mut Room,
+    command: &str,
+) -> Result<String> {
+    let alloc = rt.alloc();
     let words = words_of(alloc, command)?;
     let Some((name, words)) = words.as_slice().split_first() else {
         return Err(Fault::Word);
     };
-    match perform::<H>(alloc, room, name, words) {
+    let found = match program::perform(rt, room, name, words) {
+        Ok(Some(text)) => Ok(text),
+        Ok(None) => perform::<H>(alloc, room, name, words),
+        Err(fault) => Err(fault),
+    };
+    match found {
         Ok(text) => Ok(text),
         Err(fault) => Ok(format!(in alloc; "{fault:?}")?),
     }
@@ -84,7 +107,7 @@ struct File<'a> {
 }
 
 /// Runs the case of a line, if it has one. Prints a case that does not hold.
-fn run_line<H: BlockHash, R: Print + AllocGlobal>(
+fn run_line<H: BlockHash, R: LockFiles + Print + AllocGlobal>(
     rt: &R,
     room: &mut Room,
     file: &mut File<'_>,
@@ -94,7 +117,7 @@ fn run_line<H: BlockHash, R: Print + AllocGlobal>(
     let Some((command, wanted)) = line.split_once(" =>") else {
         return Ok(());
     };
-    let (found, wanted) = (answer::<H>(rt.alloc(), room, command)?, wanted.trim());
+    let (found, wanted) = (answer::<H, R>(rt, room, command)?, wanted.trim());
     file.cases = file.cases.saturating_add(1);
     if found.as_str() == wanted {
         file.held = file.held.saturating_add(1);
@@ -106,7 +129,11 @@ fn run_line<H: BlockHash, R: Print + AllocGlobal>(
 }
 
 /// Runs the cases of a file. Prints those that do not hold, and how many hold. Returns whether all do.
-fn run<H: BlockHash, R: Print + AllocGlobal>(rt: &R, name: &str, text: &str) -> Result<bool> {
+fn run<H: BlockHash, R: LockFiles + Print + AllocGlobal>(
+    rt: &R,
+    name: &str,
+    text: &str,
+) -> Result<bool> {
     let mut room = Room::new(rt.alloc());
     let mut file = File {
         name,
@@ -123,7 +150,7 @@ fn run<H: BlockHash, R: Print + AllocGlobal>(rt: &R, name: &str, text: &str) -> 
 }
 
 /// Runs the cases of a file of this name. Returns whether all hold.
-fn run_file<R: Files + Print + AllocGlobal>(rt: &R, name: &str) -> Result<bool> {
+fn run_file<R: LockFiles + Print + AllocGlobal>(rt: &R, name: &str) -> Result<bool> {
     let text = fs::read_to_string(rt, name)?;
     if name.ends_with(".poly") {
         run::<Poly31, R>(rt, name, text.as_str())
@@ -135,7 +162,7 @@ fn run_file<R: Files + Print + AllocGlobal>(rt: &R, name: &str) -> Result<bool> 
 }
 
 /// Runs the cases of the files that the words name. Returns whether all hold.
-fn run_all<R: Env + Files + Print + AllocGlobal>(rt: &R) -> Result<bool> {
+fn run_all<R: Env + LockFiles + Print + AllocGlobal>(rt: &R) -> Result<bool> {
     let mut holds = true;
     for name in env::args(rt)?.skip(1) {
         if !run_file(rt, name.as_str())? {

@@ -1,17 +1,25 @@
 //! What the commands of a file work on.
 
 use crate::fault::{Fault, Result};
+use crate::merges::KeptTable;
 use sst_base::table::block::{Block, BlockType};
 use sst_base::{InternalValue, Slice};
 use sst_block_kinds::KeyedBlockHandle;
+use sstable_blocks::RunHandles;
 use std::alloc::Global;
 
-/// A list of entries, a list of handles, and the payload of a block.
+/// A list of entries, a list of handles, the payload of a block, a frame, a filter or a run, where the
+/// index and the filter of a run are, sources of a merge, tables, and the
+/// input of a program.
 #[derive(Drop)]
 pub struct Room {
     pub entries: Vec<InternalValue>,
     pub handles: Vec<KeyedBlockHandle>,
     pub payload: Vec<u8>,
+    pub places: Option<RunHandles>,
+    pub sources: Vec<Vec<InternalValue>>,
+    pub tables: Vec<KeptTable>,
+    pub input: Vec<u8>,
 }
 
 impl Room {
@@ -21,6 +29,10 @@ impl Room {
             entries: Vec::new(alloc),
             handles: Vec::new(alloc),
             payload: Vec::new(alloc),
+            places: None,
+            sources: Vec::new(alloc),
+            tables: Vec::new(alloc),
+            input: Vec::new(alloc),
         }
     }
 }

@@ -33,6 +33,14 @@ pub fn wide_of(word: &str) -> Result<u16> {
     }
 }
 
+/// Returns the number below 2^32 that a word encodes.
+pub fn size_of(word: &str) -> Result<u32> {
+    match word.parse::<u32>() {
+        Ok(number) => Ok(number),
+        Err(_) => Err(Fault::Word),
+    }
+}
+
 /// Appends the bytes of a part of a word: hex digits, or hex digits, `*` and how often.
 fn push_part(alloc: Global, bytes: &mut Vec<u8>, part: &str) -> Result<()> {
     let (digits, times) = match part.split_once('*') {

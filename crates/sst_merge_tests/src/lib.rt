@@ -1,20 +1,12 @@
-//! Tests of merges, snapshots and compaction by their public calls: worked lists, random histories
-//! beside a plain map of lists, sources that fail, and tables that are read again; of the store over
-//! them, and of the functions that use the library.
+//! Tests of merges, snapshots and compaction over sources, outputs and writers that fail; of the store
+//! over them, and of the functions that use the library. The cases of merges and tables are data: see
+//! `sst_cases`.
 #![tactic(auto)]
 
 #[cfg(test)]
-mod backs;
-#[cfg(test)]
 mod failing;
 #[cfg(test)]
-mod fronts;
-#[cfg(test)]
-mod histories;
-#[cfg(test)]
 mod lists;
-#[cfg(test)]
-mod merges;
 #[cfg(test)]
 mod stores;
 #[cfg(test)]

@@ -1,6 +1,5 @@
 // Lists of versions, as rows of a key, a sequence number and a type.
 use sst_base::{InternalValue, Result, Slice, ValueType};
-use sst_merge::{Head, Merge, Source};
 use std::alloc::Global;
 use std::vec;
 
@@ -13,9 +12,6 @@ pub(crate) const V: ValueType = ValueType::Value;
 
 /// A tombstone.
 pub(crate) const T: ValueType = ValueType::Tombstone;
-
-/// A weak tombstone.
-pub(crate) const W: ValueType = ValueType::WeakTombstone;
 
 /// The entry of a row. Its value is a byte, the number of its list.
 pub(crate) fn entry_of(alloc: Global, row: &Row, list: u8) -> Result<InternalValue> {
@@ -39,27 +35,3 @@ pub(crate) fn list_of(alloc: Global, rows: &[Row], list: u8) -> Result<Vec<Inter
 
 /// A source of entries in memory.
 pub(crate) type Memory = vec::IntoIter<InternalValue, Global>;
-
-/// The merge of lists of entries.
-pub(crate) fn merge_of(
-    alloc: Global,
-    lists: Vec<Vec<InternalValue>>,
-) -> Result<Merge<InternalValue, Memory>> {
-    let mut heads = Vec::new(alloc);
-    for list in lists {
-        heads.push(Head::new(alloc, list.into_iter())?)?;
-    }
-    Ok(Merge::new(heads))
-}
-
-/// All that is left of a source, at most so many.
-pub(crate) fn drained<I: Source<InternalValue>>(
-    alloc: Global,
-    source: &mut I,
-) -> Result<Vec<InternalValue>> {
-    let mut entries = Vec::new(alloc);
-    while let Some(entry) = source.next_entry(alloc)? {
-        entries.push(entry)?;
-    }
-    Ok(entries)
-}

@@ -1,6 +1,5 @@
 //! The program's arguments.
 use sst_program::fault::Fault;
-use sst_program::sst_main;
 use sst_program::words::words_of;
 use std::alloc::Global;
 use std::env::{Env, FillError};
@@ -54,23 +53,4 @@ fn an_argument_that_is_not_utf8_is_usage(rt: HostRuntime) {
     let arguments: [&[u8]; 3] = [b"sst", b"point", b"\xff\xfe"];
     let found = has_words(rt.alloc(), &arguments, &[]);
     assert_eq!(rt; found, Err(Fault::Usage));
-}
-
-#[test]
-fn a_word_that_is_not_utf8_is_usage(rt: HostRuntime) {
-    let words: [&[u8]; 4] = [b"point", b"1", b"\xff\xfe", b"1"];
-    let mut place = [0u8; 32];
-    let mut faults: &mut [u8] = &mut place;
-    let mut input: &[u8] = b"V 0 62 62\n";
-    let mut output = Vec::new(rt.alloc());
-    let status = sst_main(
-        &rt,
-        rt.alloc(),
-        &words,
-        &mut input,
-        &mut output,
-        &mut faults,
-    );
-    assert_eq!(rt; status, 1);
-    assert!(rt; place.starts_with(b"sst: usage\n\0"));
 }

@@ -2,7 +2,10 @@
 //! what it should print. These are the tests to run with each allocation failing in turn; the
 //! others may fail there.
 use crate::scripts::{Run, make_run};
+use sst_base::Error;
+use sst_program::fault::Fault;
 use std::fs;
+use std::test::Fail;
 
 // Words and input of a run, what it prints, and whether it reads the table file.
 type Row = (&'static str, &'static [u8], &'static [u8], bool);
@@ -60,4 +63,12 @@ fn refused_memory_changes_no_answer(rt: HostRuntime) {
         };
         assert!(rt; is_well, "{words}");
     }
+}
+
+#[test]
+fn refused_memory_has_a_line(rt: HostRuntime) -> Result<(), Fail> {
+    let fault = Fault::from(Error::Memory);
+    let found = format!(in rt.alloc(); "{fault}")?;
+    assert_eq!(rt; found.as_str(), "sst: E15 Memory");
+    Ok(())
 }

@@ -1,21 +1,21 @@
 // Devices and sources that move a byte a call or fail at a call: the whole run, or `Error::Io` and
-// nothing read; and the same run by a hash that is always 0.
+// nothing read; writers and sources that fail.
 ghost use Rattle.std.specs.Prelude.{None};
 
-use crate::lists::{NO_BUCKETS, NoHash, can_be_written};
-use crate::runs::{Places, THREE, THREE_BLOCKS, handles_of, list_of, value_of};
-use sst_base::{BlockHandle, BlockHash, ByteSum, Count, Error, InternalValue, Result, Slice};
+use crate::lists::{NO_BUCKETS, can_be_written};
+use crate::runs::{THREE, THREE_BLOCKS, list_of, value_of, worked_handles};
+use sst_base::{BlockHandle, ByteSum, Count, Error, InternalValue, Result, Slice};
 use sst_base_tests::devices::{Failure, SlowFile, SlowWriter};
+use sstable_blocks::Table;
 use sstable_blocks::run::{
-    FileSource, FrameSource, MemorySource, RunConfig, RunHandles, RunWriter, read_entry_checked,
-    write_run,
+    FileSource, FrameSource, MemorySource, RunConfig, RunHandles, RunWriter, Scan,
+    read_entry_checked, write_run,
 };
 use std::alloc::Global;
+use std::io;
+use std::io::{ErrorKind, Write};
 
-/// The handles of the example run.
-const WORKED: Places = ((219, 90), Some((309, 59)));
-
-/// Writes the example run at once.
+/// Writes the worked run at once.
 fn write_once(to: &mut SlowWriter, list: &[InternalValue]) -> Result<RunHandles> {
     let alloc = *to.taken.allocator();
     let config = RunConfig::new(1, NO_BUCKETS, 10);
@@ -25,7 +25,7 @@ fn write_once(to: &mut SlowWriter, list: &[InternalValue]) -> Result<RunHandles>
     write_run::<ByteSum, SlowWriter>(alloc, to, list, &[1, 2], config)
 }
 
-/// Writes the example run block by block. After a block is refused, each further one is.
+/// Writes the worked run block by block. After a block is refused, each further one is.
 fn write_blocks(to: &mut SlowWriter, list: &[InternalValue]) -> Result<RunHandles> {
     let alloc = *to.taken.allocator();
     let mut writer: RunWriter<ByteSum, &mut SlowWriter> = RunWriter::new(
@@ -76,7 +76,7 @@ const WAYS: [(Way, usize); 6] = [
 
 /// A source of frames in memory that counts the frames requested, and fails at one.
 #[derive(Drop)]
-pub(crate) struct FailingSource {
+struct FailingSource {
     inner: MemorySource,
     calls: usize,
     fails_at: usize,
@@ -86,7 +86,7 @@ pub(crate) struct FailingSource {
 
 impl FailingSource {
     /// Wraps the bytes of a run. The call of this number fails.
-    pub(crate) fn new(bytes: Slice, fails_at: usize) -> FailingSource {
+    fn new(bytes: Slice, fails_at: usize) -> FailingSource {
         FailingSource {
             inner: MemorySource::new(bytes),
             calls: 0,
@@ -120,24 +120,24 @@ impl FrameSource for FailingSource {
 }
 
 /// The value of (a, 3) in a source.
-fn read_from<H: BlockHash, S: FrameSource>(alloc: Global, source: &mut S) -> Result<Option<u8>> {
-    let found = read_entry_checked::<H, S>(alloc, source, &handles_of(&WORKED), b"a", 3)?;
+fn read_from<S: FrameSource>(alloc: Global, source: &mut S) -> Result<Option<u8>> {
+    let found = read_entry_checked::<ByteSum, S>(alloc, source, &worked_handles(), b"a", 3)?;
     Ok(value_of(&found))
 }
 
 /// What was written, or read: the value of (a, 3), if the writer took these bytes and the handles
-/// are those of the example run.
+/// are those of the worked run.
 fn see_written(written: Result<RunHandles>, to: &SlowWriter) -> (Result<Option<u8>>, usize) {
     let is_run = to.taken.as_slice() == THREE_BLOCKS.as_slice();
     let seen = match written {
-        Ok(handles) if is_run && handles == handles_of(&WORKED) => Ok(Some(b'y')),
+        Ok(handles) if is_run && handles == worked_handles() => Ok(Some(b'y')),
         Ok(_) => Err(Error::TooLong),
         Err(error) => Err(error),
     };
     (seen, to.calls)
 }
 
-/// Moves the example run in a way, the call of this number failing: what is seen, and how many
+/// Moves the worked run in a way, the call of this number failing: what is seen, and how many
 /// calls did not fail.
 fn move_by(alloc: Global, way: Way, fails_at: usize) -> Result<(Result<Option<u8>>, usize)> {
     match way {
@@ -153,12 +153,12 @@ fn move_by(alloc: Global, way: Way, fails_at: usize) -> Result<(Result<Option<u8
         }
         Way::File => {
             let mut file = SlowFile::new(&THREE_BLOCKS, fails_at);
-            let read = read_from::<ByteSum, _>(alloc, &mut FileSource::new(&mut file));
+            let read = read_from(alloc, &mut FileSource::new(&mut file));
             Ok((read, file.calls))
         }
         Way::Source => {
             let mut source = FailingSource::new(Slice::new(alloc, &THREE_BLOCKS)?, fails_at);
-            let read = read_from::<ByteSum, _>(alloc, &mut source);
+            let read = read_from(alloc, &mut source);
             Ok((read, source.calls))
         }
     }
@@ -179,52 +179,99 @@ fn each_call_may_fail(rt: HostRuntime) {
     }
 }
 
-/// A key, a sequence number, and the value that is read below it.
-const READS: [(&[u8], u64, Option<u8>); 5] = [
-    (b"a", 3, Some(b'y')),
-    (b"a", 1, None),
-    (b"b", 5, Some(b'z')),
-    (b"a", 0, None),
-    (b"", 9, None),
-];
-
-/// The example run by the hash that is always 0.
-fn run_without_hash(alloc: Global) -> Result<(Vec<u8>, RunHandles)> {
-    let (list, config) = (list_of(alloc, THREE)?, RunConfig::new(1, NO_BUCKETS, 10));
-    let mut bytes = Vec::new(alloc);
-    if !can_be_written(&list, &[1, 2], &config) {
-        return Err(Error::OutOfOrder);
-    }
-    let handles = write_run::<NoHash, Vec<u8>>(alloc, &mut bytes, &list, &[1, 2], config)?;
-    Ok((bytes, handles))
+/// Takes bytes up to its capacity, and then fails.
+#[derive(Drop)]
+struct Room {
+    taken: Vec<u8>,
+    left: usize,
 }
 
-/// Reads an entry of a run by the hash that is always 0.
-fn read_without_hash(alloc: Global, bytes: &[u8], key: &[u8], seqno: u64) -> Result<Option<u8>> {
-    let mut source = MemorySource::new(Slice::new(alloc, bytes)?);
-    let handles = handles_of(&WORKED);
-    let found = read_entry_checked::<NoHash, _>(alloc, &mut source, &handles, key, seqno)?;
-    Ok(value_of(&found))
-}
-
-/// Whether the run by the hash that is always 0 is read as the example run; its filter has one bit;
-/// and a byte of an entry, which no checksum guards, is judged by the check.
-fn is_read_without_hash(alloc: Global) -> Result<bool> {
-    let (mut bytes, handles) = run_without_hash(alloc)?;
-    for (key, seqno, wanted) in READS {
-        if read_without_hash(alloc, &bytes, key, seqno)? != wanted {
-            return Ok(false);
+impl Write for Room {
+    fn write(&mut self, buf: &[u8]) -> io::Result<usize> {
+        if self.left == 0 {
+            return Err(io::Error::from(ErrorKind::Other));
         }
+        let n = self.left.min(buf.len());
+        let (front, _) = buf.split_at(n);
+        if self.taken.extend_from_slice(front).is_err() {
+            return Err(io::Error::from(ErrorKind::OutOfMemory));
+        }
+        self.left -= n;
+        Ok(n)
     }
-    let bits = bytes.get(364..) == Some([0x80, 0, 0, 0].as_slice());
-    if let Some(place) = bytes.get_mut(106) {
-        *place = 3;
+
+    fn flush(&mut self) -> io::Result<()> {
+        Ok(())
     }
-    let refused = read_without_hash(alloc, &bytes, b"a", 3);
-    Ok(bits && handles == handles_of(&WORKED) && refused == Err(Error::BadEntry))
+}
+
+/// What is returned as each of three blocks is added to a writer, the number of blocks then, and what
+/// is returned at the end.
+type Added = ([Result<()>; 3], usize, Option<Error>);
+
+/// Adds the entries of the worked run as blocks to a writer that takes so many bytes.
+fn add_to(alloc: Global, to: &mut Room) -> Result<Added> {
+    let list = list_of(alloc, THREE)?;
+    let config = RunConfig::new(1, NO_BUCKETS, 10);
+    let mut writer: RunWriter<ByteSum, &mut Room> = RunWriter::new(alloc, to, config);
+    let mut answers = [Ok(()); 3];
+    for (block, answer) in list.chunks(1).zip(answers.iter_mut()) {
+        if !writer.fits_after(block) {
+            return Err(Error::OutOfOrder);
+        }
+        *answer = writer.add_block(block);
+    }
+    let count = writer.block_count();
+    if count == 0 {
+        return Err(Error::TooLong);
+    }
+    Ok((answers, count, writer.finish().err()))
+}
+
+// A writer that is full inside the second block is not touched again.
+#[test]
+fn a_writer_that_is_full_ends_a_run(rt: HostRuntime) {
+    let mut to = Room {
+        taken: Vec::new(rt.alloc()),
+        left: 100,
+    };
+    let added = add_to(rt.alloc(), &mut to);
+    let answers = [Ok(()), Err(Error::Io), Err(Error::Io)];
+    assert!(rt; added == Ok((answers, 1, Some(Error::Io))));
+    assert!(rt; THREE_BLOCKS.get(..100) == Some(to.taken.as_slice()));
+}
+
+/// Takes all that a scan gives before it ends.
+fn drain<S: FrameSource>(alloc: Global, scan: &mut Scan<'_, ByteSum, S>) {
+    for _ in 0..10u8 {
+        let _ = scan.next_entry(alloc);
+    }
+}
+
+/// The errors of two steps over a source that fails at a call.
+fn errors_at(alloc: Global, fails_at: usize) -> Result<(Option<Error>, Option<Error>)> {
+    let source = FailingSource::new(Slice::new(alloc, &THREE_BLOCKS)?, fails_at);
+    let table = Table::<ByteSum, _>::open(alloc, source, worked_handles())?;
+    let mut scan = table.scan();
+    drain(alloc, &mut scan);
+    let first = scan.next_entry(alloc).err();
+    let last = scan.next_entry_back(alloc).err();
+    Ok((first, last))
 }
 
 #[test]
-fn a_hash_that_is_always_0(rt: HostRuntime) {
-    assert!(rt; is_read_without_hash(rt.alloc()) == Ok(true));
+fn scan_over_a_source_that_fails(rt: HostRuntime) {
+    for fails_at in 0..2 {
+        let opened = errors_at(rt.alloc(), fails_at);
+        assert!(rt; opened == Err(Error::Io), "open {fails_at}");
+    }
+    for fails_at in 2..5 {
+        let errors = errors_at(rt.alloc(), fails_at);
+        assert!(rt;
+            errors == Ok((Some(Error::Io), Some(Error::Io))),
+            "scan {fails_at}"
+        );
+    }
+    let errors = errors_at(rt.alloc(), 5);
+    assert!(rt; errors == Ok((None, None)), "none");
 }

@@ -1,0 +1,56 @@
+//! Texts of results that several modules of commands print.
+
+use crate::digest::hash_of;
+use crate::fault::{Fault, Result};
+use crate::words::hex_of;
+use std::alloc::Global;
+
+/// How many bytes a result shows. Of more it has the number and a digest.
+const SHOWN: usize = 100;
+
+/// Returns bytes as hex digits, or their number and their digest if they are many.
+pub fn shown(alloc: Global, bytes: &[u8]) -> Result<String> {
+    if bytes.len() <= SHOWN {
+        return hex_of(alloc, bytes);
+    }
+    let (len, digest) = (bytes.len(), hash_of(bytes));
+    Ok(format!(in alloc; "{len} bytes {digest:016x}")?)
+}
+
+/// Returns texts joined, with a part between them.
+pub fn joined(alloc: Global, texts: &[String], between: &str) -> Result<String> {
+    let mut all = String::new(alloc);
+    for (number, text) in texts.iter().enumerate() {
+        if number > 0 {
+            all.push_str(between)?;
+        }
+        all.push_str(text.as_str())?;
+    }
+    Ok(all)
+}
+
+/// Returns all that several ways answer.
+fn all_of(alloc: Global, found: &[Result<String>]) -> Result<String> {
+    let mut texts = Vec::new(alloc);
+    for answer in found {
+        match answer {
+            Ok(text) => texts.push(text.clone()?)?,
+            Err(fault) => texts.push(format!(in alloc; "{fault:?}")?)?,
+        }
+    }
+    joined(alloc, texts.as_slice(), " / ")
+}
+
+/// Returns what several ways answer: one answer where they agree, and else all of them.
+pub fn agreed(alloc: Global, found: &[Result<String>]) -> Result<String> {
+    let first = found.first().ok_or(Fault::Word)?;
+    for answer in found {
+        if answer != first {
+            return all_of(alloc, found);
+        }
+    }
+    match first {
+        Ok(text) => Ok(text.clone()?),
+        Err(fault) => Err(*fault),
+    }
+}

@@ -1,0 +1,142 @@
+"""Frames: a header of 33 bytes and a payload; and lone handles (docs/FORMAT.md, "Frame")."""
+
+from blocks import Refused, little
+
+MAGIC = bytes.fromhex("4c534d03")
+HEADER = 33
+
+# The block types, by their bytes.
+DATA, INDEX, FILTER, META = 0, 1, 2, 3
+TYPES = ["Data", "Index", "Filter", "Meta"]
+
+
+def number_at(data, at, count):
+    """Returns the number of some bytes at an offset, least significant first."""
+    return int.from_bytes(data[at : at + count], "little")
+
+
+def mismatch(got, expected):
+    """Returns the refusal of a checksum."""
+    got, expected = f"Checksum({got})", f"Checksum({expected})"
+    return Refused(f"ChecksumMismatch {{ got: {got}, expected: {expected} }}")
+
+
+def frame_of(hashing, block_type, payload):
+    """Returns the frame of a payload."""
+    length = little(len(payload), 4)
+    checksum = little(hashing.hash128(payload), 16)
+    front = MAGIC + bytes([block_type]) + checksum + length + length
+    return front + little(hashing.hash128(front) % 2**32, 4) + payload
+
+
+class Header:
+    """The fields of a header."""
+
+    def __init__(self, data):
+        self.block_type = data[4]
+        self.checksum = number_at(data, 5, 16)
+        self.length = number_at(data, 21, 4)
+        self.uncompressed = number_at(data, 25, 4)
+
+
+def read_header(hashing, data):
+    """Returns the header at the start of an input, which is judged in the order of its bytes."""
+    if len(data) < 4:
+        raise Refused("Io")
+    if data[:4] != MAGIC:
+        raise Refused("InvalidHeader(Block)")
+    if len(data) < 5:
+        raise Refused("Io")
+    if data[4] >= len(TYPES):
+        raise Refused(f"InvalidTag(BlockType, {data[4]})")
+    if len(data) < HEADER:
+        raise Refused("Io")
+    got, expected = hashing.hash128(data[:29]) % 2**32, number_at(data, 29, 4)
+    if got != expected:
+        raise mismatch(got, expected)
+    return Header(data)
+
+
+def judge_payload(hashing, header, payload):
+    """Refuses a payload that has another checksum than its header says."""
+    got = hashing.hash128(payload)
+    if got != header.checksum:
+        raise mismatch(got, header.checksum)
+
+
+def read_stream(hashing, data):
+    """Returns the header and the payload of the frame at the start of an input."""
+    header = read_header(hashing, data)
+    if header.length != header.uncompressed:
+        raise Refused("LengthMismatch")
+    end = HEADER + header.length
+    if len(data) < end:
+        raise Refused("Io")
+    judge_payload(hashing, header, data[HEADER:end])
+    return header, data[HEADER:end]
+
+
+def read_whole(hashing, data):
+    """Returns the header and the payload of the frame that all bytes are."""
+    if len(data) < HEADER:
+        raise Refused("Truncated")
+    header = read_header(hashing, data)
+    if header.length != header.uncompressed or len(data) != HEADER + header.length:
+        raise Refused("LengthMismatch")
+    judge_payload(hashing, header, data[HEADER:])
+    return header, data[HEADER:]
+
+
+def in_memory(data, offset, size):
+    """Returns the bytes that a handle names in memory."""
+    if offset + size > len(data):
+        raise Refused("BadHandle")
+    return data[offset : offset + size]
+
+
+def read_from(data, offset, size):
+    """Returns bytes of a file from an offset on."""
+    if size > 0 and offset + size > len(data):
+        raise Refused("Io")
+    return data[offset : offset + size]
+
+
+def in_file(data, offset, size):
+    """Returns the bytes of a file that a handle of a source of frames names."""
+    if offset + size >= 2**64:
+        raise Refused("BadHandle")
+    return read_from(data, offset, size)
+
+
+def mended(hashing, data, which):
+    """Returns bytes with checksums that fit: that of the header, or `both`."""
+    data = bytearray(data)
+    if which == "both":
+        data[5:21] = little(hashing.hash128(data[HEADER:]), 16)[: max(len(data) - 5, 0)]
+    checksum = little(hashing.hash128(data[:29]) % 2**32, 4)
+    data[29:33] = checksum[: max(len(data) - 29, 0)]
+    return bytes(data)
+
+
+def read_number(data, at, most, top):
+    """Returns the varint at an offset of a lone handle and the offset after it: of at most `most`
+    bytes, the last of these at most `top`."""
+    number = 0
+    for place in range(most):
+        if at + place >= len(data):
+            break
+        byte = data[at + place]
+        is_wide = place == most - 1 and byte > top
+        if is_wide or byte == 0 and place > 0:
+            raise Refused("BadHandle")
+        number += byte % 128 * 128**place
+        if byte < 128:
+            return number, at + place + 1
+    raise Refused("Io")
+
+
+def read_handle(data):
+    """Returns the lone handle at the start of bytes: offset, size and the offset after it."""
+    offset, at = read_number(data, 0, 10, 1)
+    size, at = read_number(data, at, 5, 15)
+    return offset, size, at

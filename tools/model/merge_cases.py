@@ -1,0 +1,110 @@
+"""Commands on merges, snapshots and compactions of sources, and on the tables that these become."""
+
+import merges
+from entries import entry_of, is_ordered
+from room import only
+from run_cases import word_of_found
+from runs import first_match
+from words import bad_word, bytes_of, number_of
+
+
+def sources_of(room):
+    """Returns the sources."""
+    return room.kept("sources", list)
+
+
+def no_sources(room, words):
+    """Begins without sources."""
+    only(words, 0)
+    room.sources = []
+    return "0 sources"
+
+
+def source(room, words):
+    """Adds a source: ENTRY .."""
+    items = [entry_of(word) for word in words]
+    if not is_ordered(items):
+        raise bad_word()
+    sources_of(room).append(items)
+    return f"{len(room.sources)} sources, {len(items)} entries"
+
+
+def words_of(items):
+    """Returns the words of entries, or `none`."""
+    return " ".join(item.word() for item in items) or "none"
+
+
+def merge(room, words):
+    """The merge of the sources."""
+    only(words, 0)
+    return words_of(merges.merged(sources_of(room)))
+
+
+def level_of(word):
+    """Returns whether a word names the bottom level."""
+    if word not in ("above", "bottom"):
+        raise bad_word()
+    return word == "bottom"
+
+
+def compact(room, words):
+    """A compaction of the sources: SNAPSHOT LEVEL."""
+    seqno, level = only(words, 2)
+    items = merges.merged(sources_of(room))
+    return words_of(merges.compacted(items, number_of(seqno), level_of(level)))
+
+
+def snapshot(room, words):
+    """What a snapshot sees of the sources, or of a compaction of them: SEQNO, or SEQNO SNAPSHOT
+    LEVEL."""
+    items = merges.merged(sources_of(room))
+    if len(words) == 3:
+        items = merges.compacted(items, number_of(words[1]), level_of(words[2]))
+        words = words[:1]
+    return words_of(merges.snapshot(items, number_of(only(words, 1)[0])))
+
+
+def tables(room, words):
+    """Compacts the sources into tables: SNAPSHOT LEVEL BLOCK_SIZE TABLE_SIZE. Of each table the
+    numbers of its entries and of its blocks."""
+    seqno, level, block, table = only(words, 4)
+    items = merges.compacted(merges.merged(sources_of(room)), number_of(seqno), level_of(level))
+    room.tables = merges.tables_of(items, number_of(block), number_of(table))
+    counts = [f"{sum(map(len, blocks))}/{len(blocks)}" for blocks in room.tables]
+    return " ".join(counts) or "none"
+
+
+def look(room, words):
+    """Reads over the tables: SEQNO KEY .."""
+    if not words:
+        raise bad_word()
+    items = [item for blocks in room.kept("tables", list) for block in blocks for item in block]
+    seqno = number_of(words[0])
+    found = [first_match(items, bytes_of(word), seqno) for word in words[1:]]
+    return " ".join(word_of_found(item) for item in found)
+
+
+def stored(room, words):
+    """The merge of scans of tables into which each source is written: BLOCK_SIZE TABLE_SIZE."""
+    for word in only(words, 2):
+        number_of(word)
+    return words_of(merges.merged(sources_of(room)))
+
+
+def key_front(room, words):
+    """The front of a key, in two parts: BYTES BYTES."""
+    left, right = only(words, 2)
+    return merges.front_of(bytes_of(left) + bytes_of(right)).hex()
+
+
+COMMANDS = {
+    "sources": no_sources,
+    "source": source,
+    "merge": merge,
+    "compact": compact,
+    "snapshot": snapshot,
+    "tables": tables,
+    "look": look,
+    "stored": stored,
+    "key-front": key_front,
+}

@@ -1,0 +1,76 @@
+"""Merges of ordered lists of entries, what a snapshot sees, and compaction, by the plain words of
+docs/PROMISES.md."""
+
+from entries import order_of_entry
+from runs import first_match
+
+
+def merged(sources):
+    """Returns the entries of all sources in order; of equal ones those of an earlier source
+    first."""
+    numbered = []
+    for number, source in enumerate(sources):
+        numbered += [(order_of_entry(item), number, item) for item in source]
+    return [item for _, _, item in sorted(numbered, key=lambda found: found[:2])]
+
+
+def newest_below(items, at, seqno):
+    """Returns whether the entry at an index is the first of its key below a sequence number."""
+    item = items[at]
+    return first_match(items, item.key, seqno) is item
+
+
+def snapshot(items, seqno):
+    """Returns what a read at a sequence number sees of each key, unless it is a tombstone."""
+    newest = [item for at, item in enumerate(items) if newest_below(items, at, seqno)]
+    return [item for item in newest if not item.is_tombstone()]
+
+
+def compacted(items, seqno, is_bottom):
+    """Returns the entries without those below a snapshot but the newest of each key; and at the
+    bottom level without that one too, if it is a tombstone."""
+    kept = []
+    for at, item in enumerate(items):
+        is_newest = newest_below(items, at, seqno)
+        if item.seqno >= seqno or is_newest and not (is_bottom and item.is_tombstone()):
+            kept.append(item)
+    return kept
+
+
+def size_of(items):
+    """Returns the bytes of the keys and values of entries."""
+    return sum(len(item.key) + len(item.value) for item in items)
+
+
+def next_block(items, size):
+    """Returns how many entries are the next block: those up to the one with which it reaches its
+    size."""
+    for count in range(1, len(items) + 1):
+        if size_of(items[:count]) >= size:
+            return count
+    return len(items)
+
+
+def ends_table(blocks, rest, size):
+    """Returns whether a table ends after these blocks: nothing is left, or the table has its size
+    and another key comes."""
+    has_size = sum(size_of(block) for block in blocks) >= size
+    return not rest or has_size and rest[0].key != blocks[-1][-1].key
+
+
+def tables_of(items, block_size, table_size):
+    """Returns entries cut into tables, and each of these into blocks."""
+    tables, blocks, rest = [], [], items
+    while rest:
+        count = next_block(rest, block_size)
+        blocks.append(rest[:count])
+        rest = rest[count:]
+        if ends_table(blocks, rest, table_size):
+            tables.append(blocks)
+            blocks = []
+    return tables
+
+
+def front_of(key):
+    """Returns the first 16 bytes of a key, fewer being filled with 00."""
+    return (key + bytes(16))[:16]
