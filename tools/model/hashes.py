@@ -1,4 +1,6 @@
-"""Hash functions: the sum of the bytes, none, and the polynomial `Poly31` of docs/FORMAT.md."""
+"""Hash functions: the sum of the bytes, none, the polynomial `Poly31` of docs/FORMAT.md, and XXH3."""
+
+import xxh3
 
 
 class ByteSum:
@@ -51,8 +53,15 @@ class Poly31:
         return Poly31.polynomial(data)
 
 
+class Xxh3:
+    """XXH3 with the seed 0."""
+
+    hash64 = staticmethod(xxh3.hash64)
+    hash128 = staticmethod(xxh3.hash128)
+
+
 # The hash function that the ending of a file's name names.
-BY_ENDING = {"sum": ByteSum, "zero": Zero, "poly": Poly31}
+BY_ENDING = {"sum": ByteSum, "zero": Zero, "poly": Poly31, "xxh3": Xxh3}
 
 
 def hash_of_file(name):

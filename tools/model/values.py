@@ -38,10 +38,19 @@ def order(room, words):
 
 def hash_of(room, words):
     """The hashes of bytes, of 64 and of 128 bits, and at how many places they are continued: BYTES.
-    The hash that is 0 everywhere is not continued."""
+    The hash that is 0 everywhere is not continued, and XXH3 cannot be."""
     data = bytes_of(only(words, 1)[0])
-    count = 0 if room.hash.__name__ == "Zero" else len(data)
+    count = 0 if room.hash.__name__ in ("Zero", "Xxh3") else len(data)
     return f"{room.hash.hash64(data)} {room.hash.hash128(data)}, continued at {count}"
+
+
+def pattern(room, words):
+    """The hashes of the first bytes of a pattern in hex, of 64 and of 128 bits: LENGTH."""
+    state, data = 1, bytearray()
+    for _ in range(number_of(only(words, 1)[0])):
+        state = (state * 1103515245 + 12345) % 2**32
+        data.append(state >> 24)
+    return f"{room.hash.hash64(data):016x} {room.hash.hash128(data):032x}"
 
 
 def checksum(room, words):
@@ -197,6 +206,7 @@ COMMANDS = {
     "split": split,
     "order": order,
     "hash": hash_of,
+    "pattern": pattern,
     "checksum": checksum,
     "keys": keys,
     "print": print_entry,

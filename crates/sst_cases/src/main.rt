@@ -1,11 +1,14 @@
-//! Runs the cases of files: a line is a command, and behind ` => ` stands what it has to answer.
+//! Runs the cases of files: a line `COMMAND => RESULT` is a case.
 //!
 //! The words are names of files; the ending of a name says which hash its blocks have: `.sum`,
-//! `.zero` or `.poly`. Prints a line for each case that is answered otherwise, with the file and the
+//! `.zero`, `.poly` or `.xxh3`. Prints a line for each case that is answered otherwise, with the file and the
 //! number of the line, and then how many cases of the file hold; the status is 1 if one does not.
 //!
 //! The commands stand in modules by what they are about. Each module has a function `perform`, which
-//! returns the answer to a command, or `None` where the command is none of the module's.
+//! returns the result of a command, or `None` where the command is none of the module's.
+//!
+//! After the word `refused` the words are an operation and a number: it is performed so often, for runs
+//! in which an allocation fails.
 #![tactic(auto)]
 
 mod checks;
@@ -18,6 +21,7 @@ mod frames;
 mod index_blocks;
 mod merges;
 mod program;
+mod refused;
 mod room;
 mod runs;
 mod texts;
@@ -29,6 +33,7 @@ use fault::{Fault, Result};
 use room::Room;
 use sst_base::{BlockHash, ByteSum, Poly31};
 use sst_program::replace::LockFiles;
+use sst_xxh3::Xxh3;
 use std::alloc::Global;
 use std::env::Env;
 use std::process::ExitCode;
@@ -154,6 +159,8 @@ fn run_file<R: LockFiles + Print + AllocGlobal>(rt: &R, name: &str) -> Result<bo
     let text = fs::read_to_string(rt, name)?;
     if name.ends_with(".poly") {
         run::<Poly31, R>(rt, name, text.as_str())
+    } else if name.ends_with(".xxh3") {
+        run::<Xxh3, R>(rt, name, text.as_str())
     } else if name.ends_with(".zero") {
         run::<ZeroHash, R>(rt, name, text.as_str())
     } else {
@@ -161,10 +168,10 @@ fn run_file<R: LockFiles + Print + AllocGlobal>(rt: &R, name: &str) -> Result<bo
     }
 }
 
-/// Runs the cases of the files that the words name. Returns whether all hold.
-fn run_all<R: Env + LockFiles + Print + AllocGlobal>(rt: &R) -> Result<bool> {
+/// Runs the cases of files of these names. Returns whether all hold.
+fn run_files<R: LockFiles + Print + AllocGlobal>(rt: &R, names: &[String]) -> Result<bool> {
     let mut holds = true;
-    for name in env::args(rt)?.skip(1) {
+    for name in names {
         if !run_file(rt, name.as_str())? {
             holds = false;
         }
@@ -172,8 +179,20 @@ fn run_all<R: Env + LockFiles + Print + AllocGlobal>(rt: &R) -> Result<bool> {
     Ok(holds)
 }
 
+/// Does what the words say. Returns whether all cases hold.
+fn run_words<R: Env + LockFiles + Print + AllocGlobal>(rt: &R) -> Result<bool> {
+    let words: Vec<String> = env::args(rt)?.skip(1).collect(rt.alloc())?;
+    match words.as_slice() {
+        [first, operation, times] if first.as_str() == "refused" => {
+            refused::run(rt, rt.alloc(), operation.as_str(), times.as_str())?;
+            Ok(true)
+        }
+        names => run_files(rt, names),
+    }
+}
+
 fn main(rt: HostRuntime) -> ExitCode {
-    match run_all(&rt) {
+    match run_words(&rt) {
         Ok(true) => ExitCode::SUCCESS,
         Ok(false) => ExitCode::FAILURE,
         Err(fault) => {

@@ -1,7 +1,7 @@
 //! Commands on hash functions and checksums.
 
 use crate::fault::{Fault, Result};
-use crate::words::bytes_of;
+use crate::words::{bytes_of, number_of};
 use sst_base::{BlockHash, Checksum};
 use std::alloc::Global;
 
@@ -43,6 +43,34 @@ fn hash<H: BlockHash>(alloc: Global, words: &[&str]) -> Result<String> {
     Ok(format!(in alloc; "{short} {long}, in pieces {stream}, continued at {count}")?)
 }
 
+/// The greatest length of a pattern.
+const MAX_PATTERN_LEN: u64 = 100_000;
+
+/// The first bytes of a pattern: the high bytes of the numbers of a linear congruential generator.
+fn pattern_of(alloc: Global, len: u64) -> Result<Vec<u8>> {
+    let mut bytes = Vec::new(alloc);
+    let mut state = 1u32;
+    for _ in 0..len.min(MAX_PATTERN_LEN) {
+        state = state.wrapping_mul(1_103_515_245).wrapping_add(12345);
+        bytes.push((state >> 24) as u8)?;
+    }
+    Ok(bytes)
+}
+
+/// The hashes of the first bytes of a pattern in hex, of 64 and of 128 bits: LENGTH.
+fn pattern<H: BlockHash>(alloc: Global, words: &[&str]) -> Result<String> {
+    let [len] = words else {
+        return Err(Fault::Word);
+    };
+    let bytes = pattern_of(alloc, number_of(len)?)?;
+    let (short, long) = (H::hash64(bytes.as_slice()), H::hash128(bytes.as_slice()));
+    let stream = in_pieces::<H>(bytes.as_slice());
+    if stream == long {
+        return Ok(format!(in alloc; "{short:016x} {long:032x}")?);
+    }
+    Ok(format!(in alloc; "{short:016x} {long:032x}, in pieces {stream:032x}")?)
+}
+
 /// How a checksum prints, and its number: NUMBER.
 fn checksum(alloc: Global, words: &[&str]) -> Result<String> {
     let [number] = words else {
@@ -60,6 +88,7 @@ fn checksum(alloc: Global, words: &[&str]) -> Result<String> {
 pub fn perform<H: BlockHash>(alloc: Global, name: &str, words: &[&str]) -> Result<Option<String>> {
     let answer = match name {
         "hash" => hash::<H>(alloc, words),
+        "pattern" => pattern::<H>(alloc, words),
         "checksum" => checksum(alloc, words),
         _ => return Ok(None),
     };

@@ -1,6 +1,8 @@
 //! Runs: written, and read.
-use crate::lists::{LONG, LONG_KEY, NO_BUCKETS, ONE_EACH, Row, THREE, can_be_written, list_of};
-use crate::output::print_bytes;
+use crate::refused::lists::{
+    LONG, LONG_KEY, NO_BUCKETS, ONE_EACH, Row, THREE, can_be_written, list_of,
+};
+use crate::refused::output::print_bytes;
 use sst_base::{Block, ByteSum, Error, InternalValue, Result, Slice, Steps};
 use sstable_blocks::run::{
     FileSource, MemorySource, RunConfig, RunHandles, RunWriter, read_entry, read_entry_checked,

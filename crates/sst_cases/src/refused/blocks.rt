@@ -1,8 +1,10 @@
 //! Encoding, checks, and tables of heads.
 ghost use Rattle.std.specs.Prelude.{◌≡◌, []};
 
-use crate::lists::{LONG, NO_BUCKETS, ONE_EACH, SHORT, data_block, index_block, list_of, parts_of};
-use crate::output::print_bytes;
+use crate::refused::lists::{
+    LONG, NO_BUCKETS, ONE_EACH, SHORT, data_block, index_block, list_of, parts_of,
+};
+use crate::refused::output::print_bytes;
 use sst_base::{Block, ByteSum, Error, InternalValue, Result};
 use sst_block_core::table::block::encoder::Encoder;
 use sst_block_kinds::{DataBlock, IndexBlock};

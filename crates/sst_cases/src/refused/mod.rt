@@ -1,6 +1,5 @@
-//! Performs an operation of the library a number of times, and prints a line of what each returns:
+//! Operations of the library that are performed a number of times, each with a line of what it returns:
 //! for runs in which an allocation fails, and for counts of allocations.
-#![tactic(auto)]
 
 mod blocks;
 mod lists;
@@ -11,11 +10,9 @@ mod runs;
 mod scans;
 mod stores;
 
+use crate::fault::{self, Fault};
 use sst_base::{Error, Result};
 use std::alloc::Global;
-use std::env;
-use std::process::ExitCode;
-use std::rt::Env;
 
 // Sets an operation on a block up, and performs it this many times.
 fn on_block(rt: &impl Print, alloc: Global, operation: &str, times: u32) -> Result<()> {
@@ -73,21 +70,15 @@ fn perform(rt: &impl Print, alloc: Global, operation: &str, times: u32) -> Resul
     }
 }
 
-// Reads the words, an operation and a number, and performs it.
-fn run<R: Print + Env + AllocGlobal>(rt: &R) -> Result<()> {
-    let mut words = env::args(rt)?.skip(1);
-    let operation = words.next().ok_or(Error::TooLong)?;
-    let times = words.next().ok_or(Error::TooLong)?;
-    let times = times.as_str().parse::<u32>().ok().ok_or(Error::TooLong)?;
-    perform(rt, rt.alloc(), operation.as_str(), times)
-}
-
-fn main(rt: HostRuntime) -> ExitCode {
-    match run(&rt) {
-        Ok(()) => ExitCode::SUCCESS,
-        Err(error) => {
-            let _ = eprintln!(rt; "{error:?}");
-            ExitCode::FAILURE
-        }
-    }
+/// Sets an operation up, performs it a number of times, and prints a line for each.
+///
+/// # Errors
+///
+/// `Fault::Word` for a word that is no number, and the error of what sets the operation up.
+pub fn run(rt: &impl Print, alloc: Global, operation: &str, times: &str) -> fault::Result<()> {
+    let times = match times.parse::<u32>() {
+        Ok(times) => times,
+        Err(_) => return Err(Fault::Word),
+    };
+    Ok(perform(rt, alloc, operation, times)?)
 }

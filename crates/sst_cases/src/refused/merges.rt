@@ -1,7 +1,7 @@
 //! Merges, snapshots, compactions and reads of runs of long keys. A step that fails is made again.
-use crate::lists::{DELETED, LONG_KEY, NO_BUCKETS, WRITTEN};
-use crate::output::{print_left, print_left_back};
-use crate::runs::run_of;
+use crate::refused::lists::{DELETED, LONG_KEY, NO_BUCKETS, WRITTEN};
+use crate::refused::output::{print_left, print_left_back};
+use crate::refused::runs::run_of;
 use sst_base::{ByteSum, InternalValue, Result, Slice, Steps};
 use sst_block_kinds::table::data_block::EntryView;
 use sst_merge::{

@@ -1,6 +1,6 @@
 //! Walks, steps and reads of blocks.
 
-use crate::lists::{LONG, LONG_KEY, NO_BUCKETS, ONE_EACH, SHORT, data_block, index_block};
+use crate::refused::lists::{LONG, LONG_KEY, NO_BUCKETS, ONE_EACH, SHORT, data_block, index_block};
 use sst_base::{ByteSum, InternalValue, Result, Slice, Steps};
 use sst_block_core::Decoder;
 use sst_block_kinds::laws::data_block_is_read;

@@ -1,8 +1,8 @@
 //! Scans and checks of tables of long keys. A step that fails is made again.
-use crate::lists::LONG;
-use crate::merges::table_of;
-use crate::output::{print_left, print_left_back};
-use crate::runs::run_of;
+use crate::refused::lists::LONG;
+use crate::refused::merges::table_of;
+use crate::refused::output::{print_left, print_left_back};
+use crate::refused::runs::run_of;
 use sst_base::{ByteSum, Result};
 use sstable_blocks::run::RunRef;
 use std::alloc::Global;
