@@ -166,23 +166,28 @@ pub fn alike(alloc: Global, answer: String, way: &str, other: String) -> Result<
     Ok(format!(in alloc; "{answer}, {way} {other}")?)
 }
 
-/// Appends a word, or as many as it stands for: its name, `*` and their number.
-fn push_repeated<'a>(all: &mut Vec<&'a str>, word: &'a str) -> Result<()> {
-    let (name, times) = match word.split_once('*') {
-        Some((name, times)) if !name.contains(':') => (name, wide_of(times)?),
-        _ => (word, 1),
+/// The name of a word and how often it stands: a name with `*` and a number behind it, else once.
+fn repetition_of(word: &str) -> (&str, u16) {
+    let Some((name, times)) = word.split_once('*') else {
+        return (word, 1);
     };
-    for _ in 0..times {
-        all.push(name)?;
+    if word.contains(':') {
+        return (word, 1);
     }
-    Ok(())
+    match times.parse::<u16>() {
+        Ok(times) => (name, times),
+        Err(_) => (word, 1),
+    }
 }
 
 /// Returns words, of which one with `*` and a number behind its name stands for as many.
 pub fn repeated<'a>(alloc: Global, words: &[&'a str]) -> Result<Vec<&'a str>> {
     let mut all = Vec::new(alloc);
     for word in words {
-        push_repeated(&mut all, word)?;
+        let (name, times) = repetition_of(word);
+        for _ in 0..times {
+            all.push(name)?;
+        }
     }
     Ok(all)
 }
