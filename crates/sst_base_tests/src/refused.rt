@@ -33,7 +33,10 @@ fn is_written_again(alloc: Global, numbers: &[u64], bytes: &[u8]) -> Result<bool
 #[test]
 fn a_failed_growth_leaves_the_vector(rt: HostRuntime) {
     for (numbers, bytes) in &WRITTEN {
-        assert!(rt; is_written_again(rt.alloc(), numbers, bytes) == Ok(true), "{numbers:?}");
+        assert!(rt;
+            is_written_again(rt.alloc(), numbers, bytes) == Ok(true),
+            "{numbers:?}"
+        );
     }
 }
 
