@@ -1,12 +1,13 @@
 //! Commands that check bytes as blocks, and all changes of them.
 
-use crate::digest::Digest;
-use crate::fault::{Fault, Result};
-use crate::room::{Room, block_with};
-use crate::words::{alike, number_of, small_of};
 use sst_base::table::block::{Block, BlockType};
 use sst_base::{BlockHash, Error};
 use sst_block_kinds::{DataBlock, DataBlockRef, IndexBlock, IndexBlockRef};
+use sst_case_room::changes::changed;
+use sst_case_room::digest::Digest;
+use sst_case_room::fault::{Fault, Result};
+use sst_case_room::room::{Room, block_with};
+use sst_case_room::words::{alike, number_of, small_of};
 use std::alloc::Global;
 
 type Checked = std::result::Result<usize, Error>;
@@ -126,38 +127,6 @@ fn check<H: BlockHash>(alloc: Global, room: &Room, words: &[&str]) -> Result<Str
         [kind, at, byte] => check_with::<H>(alloc, room, kind_of(kind)?, at, byte),
         _ => Err(Fault::Word),
     }
-}
-
-/// Bytes with 1 or 40 more behind them, by an odd number the latter: all 0, all 255, or the last of
-/// the bytes again.
-fn longer(alloc: Global, bytes: &[u8], by: usize) -> Result<Vec<u8>> {
-    let count = if by % 2 == 0 { 1 } else { 40usize };
-    let mut all = bytes.to_vec(alloc)?;
-    for place in 0..count {
-        let last = bytes.len().wrapping_sub(count).wrapping_add(place);
-        all.push(match by / 2 {
-            0 => 0,
-            1 => 255,
-            _ => bytes.get(last).copied().unwrap_or(0),
-        })?;
-    }
-    Ok(all)
-}
-
-/// Returns a copy of bytes with the change of a number: a cut before each byte, each byte changed to each other
-/// value, and six longer ones.
-pub fn changed(alloc: Global, bytes: &[u8], number: usize) -> Result<Vec<u8>> {
-    let (at, by) = (number / 256, (number % 256) as u8);
-    if at >= bytes.len() {
-        return longer(alloc, bytes, usize::from(by));
-    }
-    let mut all = bytes.to_vec(alloc)?;
-    if by == 0 {
-        all.truncate(at);
-    } else if let Some(place) = all.get_mut(at) {
-        *place ^= by;
-    }
-    Ok(all)
 }
 
 /// How many payloads are accepted, and the digest of the results of all.

@@ -4,13 +4,15 @@ ghost use Rattle.sst_block_core.specs.Window.{whole};
 ghost use Rattle.sst_block_kinds.specs.ParsedEntry.{IsParsedEntry};
 
 use super::data_block;
-use crate::fault::{Fault, Result};
-use crate::room::Room;
-use crate::words::{bytes_of, number_of, push_word, repeated, truth, word_of, word_of_found};
 use sst_base::{BlockHash, InternalValue, Slice, compare_bytes};
 use sst_block_core::{Decoder, ParsedItem};
 use sst_block_kinds::laws::data_block_is_read;
 use sst_block_kinds::{DataBlock, DataBlockParsedItem};
+use sst_case_room::fault::{Fault, Result};
+use sst_case_room::room::Room;
+use sst_case_room::words::{
+    bytes_of, number_of, push_word, repeated, truth, word_of, word_of_found,
+};
 use std::alloc::Global;
 
 /// A decoder of the entries of a data block.

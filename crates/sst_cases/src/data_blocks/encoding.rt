@@ -2,16 +2,16 @@
 ghost use Rattle.std.specs.Prelude.{◌≤◌};
 
 use super::data_block;
-use super::lists::parts_of;
-use crate::digest::hash_of;
-use crate::fault::{Fault, Result};
-use crate::room::Room;
-use crate::words::{bytes_of, hex_of, number_of, small_of};
 use sst_base::table::block::{Block, BlockType};
 use sst_base::{BlockHash, HashRatio, InternalValue, Slice};
 use sst_block_core::table::block::encoder::Encoder;
 use sst_block_core::table::block::hash_index::Lookup;
 use sst_block_kinds::DataBlock;
+use sst_case_room::digest::hash_of;
+use sst_case_room::fault::{Fault, Result};
+use sst_case_room::lists::parts_of;
+use sst_case_room::room::Room;
+use sst_case_room::words::{bytes_of, hex_of, number_of, small_of};
 use std::alloc::Global;
 
 /// The numbers of a block.
@@ -113,30 +113,6 @@ fn write<H: BlockHash>(alloc: Global, room: &mut Room, words: &[&str]) -> Result
     Ok(format!(in alloc; "{} bytes", room.payload.len())?)
 }
 
-/// Takes bytes as the payload: BYTES.
-fn payload(alloc: Global, room: &mut Room, words: &[&str]) -> Result<String> {
-    let [bytes] = words else {
-        return Err(Fault::Word);
-    };
-    room.payload = bytes_of(alloc, bytes)?;
-    Ok(format!(in alloc; "{} bytes", room.payload.len())?)
-}
-
-/// Some bytes of the payload: OFFSET COUNT.
-fn bytes(alloc: Global, room: &Room, words: &[&str]) -> Result<String> {
-    let [offset, count] = words else {
-        return Err(Fault::Word);
-    };
-    let (offset, count) = (number_of(offset)? as usize, number_of(count)? as usize);
-    let end = offset.checked_add(count).ok_or(Fault::Word)?;
-    hex_of(alloc, room.payload.get(offset..end).ok_or(Fault::Word)?)
-}
-
-/// The hash FNV-1a of the payload.
-fn digest(alloc: Global, room: &Room) -> Result<String> {
-    Ok(format!(in alloc; "{:016x}", hash_of(room.payload.as_slice()))?)
-}
-
 /// The byte of the bucket of a key, and what it says: KEY.
 fn bucket<H: BlockHash>(alloc: Global, room: &Room, words: &[&str]) -> Result<String> {
     let [key] = words else {
@@ -163,9 +139,6 @@ pub fn perform<H: BlockHash>(
     let answer = match name {
         "encode" => encode::<H>(alloc, room, words),
         "write" => write::<H>(alloc, room, words),
-        "payload" => payload(alloc, room, words),
-        "at" => bytes(alloc, room, words),
-        "digest" => digest(alloc, room),
         "bucket" => bucket::<H>(alloc, room, words),
         _ => return Ok(None),
     };

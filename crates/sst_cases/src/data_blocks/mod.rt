@@ -2,17 +2,16 @@
 
 mod decoding;
 mod encoding;
-mod lists;
 mod pairs;
 mod reads;
 pub mod tables;
 mod walks;
 
-use crate::fault::Result;
-use crate::room::{Room, block_with};
 use sst_base::BlockHash;
 use sst_base::table::block::BlockType;
 use sst_block_kinds::DataBlock;
+use sst_case_room::fault::Result;
+use sst_case_room::room::{Room, block_with};
 use std::alloc::Global;
 
 /// Returns the payload as a data block, with the table of its heads or without.
@@ -51,9 +50,6 @@ pub fn perform<H: BlockHash>(
     name: &str,
     words: &[&str],
 ) -> Result<Option<String>> {
-    if let Some(answer) = lists::perform::<H>(alloc, room, name, words)? {
-        return Ok(Some(answer));
-    }
     if let Some(answer) = encoding::perform::<H>(alloc, room, name, words)? {
         return Ok(Some(answer));
     }

@@ -1,13 +1,13 @@
 //! Commands that compare entries of two blocks, and that show the parts of an entry.
 
 use super::encoding::encoded;
-use crate::digest::Digest;
-use crate::fault::{Fault, Result};
-use crate::room::Room;
-use crate::words::{bytes_of, number_of, small_of, truth, type_of};
 use sst_base::BlockHash;
 use sst_block_kinds::table::data_block::EntryRef;
 use sst_block_kinds::{DataBlock, EntryParts};
+use sst_case_room::digest::Digest;
+use sst_case_room::fault::{Fault, Result};
+use sst_case_room::room::Room;
+use sst_case_room::words::{bytes_of, number_of, small_of, truth, type_of};
 use std::alloc::Global;
 use std::cmp::Ordering;
 

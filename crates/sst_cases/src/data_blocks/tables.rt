@@ -1,12 +1,12 @@
 //! Commands on the heads of a data block, and on the table of them.
 
 use super::data_block;
-use crate::fault::{Fault, Result};
-use crate::room::Room;
-use crate::words::{bytes_of, hex_of, number_of, push_word};
 use sst_base::{BlockHash, Error, Steps};
 use sst_block_core::table::block::heads::{HeadTable, front_of};
 use sst_block_kinds::DataBlock;
+use sst_case_room::fault::{Fault, Result};
+use sst_case_room::room::Room;
+use sst_case_room::words::{bytes_of, hex_of, number_of, push_word};
 use std::alloc::Global;
 
 /// The offsets of the heads, by the binary index.

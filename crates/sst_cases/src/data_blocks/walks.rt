@@ -3,15 +3,15 @@ ghost use Rattle.std.specs.Prelude.{◌≡◌, IfSome};
 ghost use Rattle.sst_block_kinds.specs.ParsedEntry.{IsParsedEntry};
 
 use super::data_block;
-use crate::fault::{Fault, Result};
-use crate::room::Room;
-use crate::words::{
-    alike, bytes_of, number_of, push_word, repeated, truth, word_of, word_of_found,
-};
 use sst_base::{BlockHash, InternalValue, Slice};
 use sst_block_core::ParsedItem;
 use sst_block_kinds::table::data_block::{Answer, IntoEntries, Iter, Op, walk};
 use sst_block_kinds::{DataBlock, DataBlockParsedItem};
+use sst_case_room::fault::{Fault, Result};
+use sst_case_room::room::Room;
+use sst_case_room::words::{
+    alike, bytes_of, number_of, push_word, repeated, truth, word_of, word_of_found,
+};
 use std::alloc::Global;
 
 /// A call of an iterator.

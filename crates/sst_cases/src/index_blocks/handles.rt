@@ -2,12 +2,12 @@
 
 use super::index_block;
 use crate::data_blocks::tables::word_of_table;
-use crate::fault::{Fault, Result};
-use crate::room::Room;
-use crate::words::{alike, bytes_of, hex_of, number_of, small_of, truth};
 use sst_base::table::block::{BlockHandle, BlockOffset};
 use sst_base::{Error, Slice};
 use sst_block_kinds::{IndexBlock, KeyedBlockHandle};
+use sst_case_room::fault::{Fault, Result};
+use sst_case_room::room::Room;
+use sst_case_room::words::{alike, bytes_of, hex_of, number_of, small_of, truth};
 use std::alloc::Global;
 
 /// The longest end key.

@@ -3,10 +3,10 @@
 mod handles;
 mod walks;
 
-use crate::fault::Result;
-use crate::room::{Room, block_with};
 use sst_base::table::block::BlockType;
 use sst_block_kinds::IndexBlock;
+use sst_case_room::fault::Result;
+use sst_case_room::room::{Room, block_with};
 use std::alloc::Global;
 
 /// Returns the payload as an index block, with the table of its heads or without.

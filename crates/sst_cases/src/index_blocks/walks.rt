@@ -4,14 +4,14 @@ ghost use Rattle.sst_block_kinds.specs.ParsedHandle.{IsParsedHandle};
 
 use super::handles::word_of;
 use super::index_block;
-use crate::digest::Digest;
-use crate::fault::{Fault, Result};
-use crate::room::Room;
-use crate::words::{alike, bytes_of, number_of, push_word, repeated, truth};
 use sst_base::Slice;
 use sst_base::table::block::BlockHandle;
 use sst_block_kinds::table::index_block::{Answer, HandleRef, Handles, IndexOp, Iter, walk};
 use sst_block_kinds::{IndexBlock, IndexBlockParsedItem, IndexBlockRef, KeyedBlockHandle};
+use sst_case_room::digest::Digest;
+use sst_case_room::fault::{Fault, Result};
+use sst_case_room::room::Room;
+use sst_case_room::words::{alike, bytes_of, number_of, push_word, repeated, truth};
 use std::alloc::Global;
 
 /// The operation of a word: a step, or a seek with its name, its key and its sequence number, joined

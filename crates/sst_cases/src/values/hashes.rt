@@ -1,8 +1,8 @@
 //! Commands on hash functions and checksums.
 
-use crate::fault::{Fault, Result};
-use crate::words::{bytes_of, number_of};
 use sst_base::{BlockHash, Checksum};
+use sst_case_room::fault::{Fault, Result};
+use sst_case_room::words::{bytes_of, number_of};
 use std::alloc::Global;
 
 /// The hash of a stream that bytes come to in pieces.

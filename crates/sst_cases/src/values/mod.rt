@@ -7,8 +7,8 @@ mod numbers;
 mod peekable;
 mod slices;
 
-use crate::fault::Result;
 use sst_base::BlockHash;
+use sst_case_room::fault::Result;
 use std::alloc::Global;
 
 /// Performs a command, if it is one on numbers, byte strings or keys.

@@ -1,0 +1,93 @@
+//! Performs an operation of the library a number of times, and prints a line of what each returns:
+//! for runs in which an allocation fails, and for counts of allocations.
+#![tactic(auto)]
+
+mod blocks;
+mod lists;
+mod merges;
+mod output;
+mod reads;
+mod runs;
+mod scans;
+mod stores;
+
+use sst_base::{Error, Result};
+use std::alloc::Global;
+use std::env;
+use std::process::ExitCode;
+use std::rt::Env;
+
+// Sets an operation on a block up, and performs it this many times.
+fn on_block(rt: &impl Print, alloc: Global, operation: &str, times: u32) -> Result<()> {
+    match operation {
+        "encode" => blocks::encode(rt, alloc, times),
+        "encode_parts" => blocks::encode_parts(rt, alloc, times),
+        "check_data" => blocks::check_data(rt, alloc, times),
+        "check_index" => blocks::check_index(rt, alloc, times),
+        "heads_data" => blocks::heads_data(rt, alloc, times),
+        "heads_index" => blocks::heads_index(rt, alloc, times),
+        "walk_data" => reads::walk_data(rt, alloc, times),
+        "walk_index" => reads::walk_index(rt, alloc, times),
+        "point_read" => reads::point_read(rt, alloc, times),
+        "free_bucket" => reads::free_bucket(rt, alloc, times),
+        "steps_data" => reads::steps_data(rt, alloc, times),
+        "steps_index" => reads::steps_index(rt, alloc, times),
+        "decoder" => reads::decoder(rt, alloc, times),
+        _ => Err(Error::TooLong),
+    }
+}
+
+// Sets an operation on tables or a store up, and performs it this many times.
+fn on_tables(rt: &impl Print, alloc: Global, operation: &str, times: u32) -> Result<()> {
+    match operation {
+        "scan_table" => scans::table(rt, alloc, times),
+        "scan_table_back" => scans::table_back(rt, alloc, times),
+        "scan_trusted" => scans::trusted(rt, alloc, times),
+        "scan_trusted_back" => scans::trusted_back(rt, alloc, times),
+        "check_run" => scans::check(rt, alloc, times),
+        "snapshot" => merges::snapshot(rt, alloc, times),
+        "compact" => merges::compact(rt, alloc, times),
+        "merge" => merges::merge(rt, alloc, times),
+        "advance" => merges::advance(rt, alloc, times),
+        "merge_back" => merges::merge_back(rt, alloc, times),
+        "write_table" => merges::written(rt, alloc, times),
+        "read_tables" => merges::tables(rt, alloc, times),
+        "store_put" => stores::put(rt, alloc, times),
+        "store_get" => stores::get(rt, alloc, times),
+        "store_flush" => stores::flush(rt, alloc, times),
+        "store_compact" => stores::compact(rt, alloc, times),
+        _ => on_block(rt, alloc, operation, times),
+    }
+}
+
+// Sets an operation up, and performs it this many times.
+fn perform(rt: &impl Print, alloc: Global, operation: &str, times: u32) -> Result<()> {
+    match operation {
+        "write_run" => runs::write(rt, alloc, times),
+        "run_writer" => runs::add_blocks(rt, alloc, times),
+        "read_entry" => runs::read(rt, alloc, times),
+        "read_memory" => runs::read_memory(rt, alloc, times),
+        "read_file" => runs::read_file(rt, alloc, times),
+        "false_length" => runs::false_length(rt, alloc, times),
+        _ => on_tables(rt, alloc, operation, times),
+    }
+}
+
+// Reads the words, an operation and a number, and performs it.
+fn run<R: Print + Env + AllocGlobal>(rt: &R) -> Result<()> {
+    let mut words = env::args(rt)?.skip(1);
+    let operation = words.next().ok_or(Error::TooLong)?;
+    let times = words.next().ok_or(Error::TooLong)?;
+    let times = times.as_str().parse::<u32>().ok().ok_or(Error::TooLong)?;
+    perform(rt, rt.alloc(), operation.as_str(), times)
+}
+
+fn main(rt: HostRuntime) -> ExitCode {
+    match run(&rt) {
+        Ok(()) => ExitCode::SUCCESS,
+        Err(error) => {
+            let _ = eprintln!(rt; "{error:?}");
+            ExitCode::FAILURE
+        }
+    }
+}

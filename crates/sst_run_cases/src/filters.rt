@@ -1,0 +1,252 @@
+//! Commands on Bloom filters.
+ghost use Rattle.std.specs.Prelude.{◌≡◌};
+
+use sst_base::{Block, BlockHash, BlockType, Slice};
+use sst_case_room::fault::{Fault, Result};
+use sst_case_room::room::Room;
+use sst_case_room::texts::{agreed, joined};
+use sst_case_room::words::{bytes_of, hex_of, number_of, push_word, size_of, small_of};
+use sstable_blocks::table::filter::bit_array::{self, BitArrayReader};
+use sstable_blocks::table::filter::standard_bloom::{
+    Builder, StandardBloomFilterReader, secondary_hash,
+};
+use sstable_blocks::table::filter::{BloomConstructionPolicy, FilterBlock, FilterType};
+use std::alloc::Global;
+
+/// Returns an empty filter for so many keys, as the policy makes it, or as the builder does.
+fn empty(alloc: Global, keys: usize, bits_per_key: u32, by_policy: bool) -> Result<Builder> {
+    let policy = BloomConstructionPolicy::BitsPerKey(bits_per_key);
+    if keys == 0 || !policy.is_active() || !policy.fits(keys) {
+        return Err(Fault::Word);
+    }
+    if by_policy {
+        Ok(policy.init(alloc, keys)?)
+    } else {
+        Ok(Builder::with_bpk(alloc, keys, bits_per_key)?)
+    }
+}
+
+/// Inserts hashes in a filter, and makes its payload that of the room.
+fn insert(alloc: Global, room: &mut Room, mut filter: Builder, hashes: &[&str]) -> Result<String> {
+    for hash in hashes {
+        filter.set_with_hash(number_of(hash)?);
+    }
+    room.payload = filter.build(alloc)?;
+    Ok(format!(in alloc; "{} bytes", room.payload.len())?)
+}
+
+/// Makes a filter of hashes: POLICY KEYS BITS HASH ..
+fn build(alloc: Global, room: &mut Room, words: &[&str]) -> Result<String> {
+    let [by, keys, bits, hashes @ ..] = words else {
+        return Err(Fault::Word);
+    };
+    let keys = number_of(keys)? as usize;
+    let filter = empty(alloc, keys, size_of(bits)?, *by == "policy")?;
+    insert(alloc, room, filter, hashes)
+}
+
+/// Returns the payload as the block of a filter.
+fn block_of(alloc: Global, room: &Room) -> Result<FilterBlock> {
+    if room.payload.len() > 1_000_000_000 {
+        return Err(Fault::Word);
+    }
+    let payload = Slice::new(alloc, room.payload.as_slice())?;
+    Ok(FilterBlock::new(Block::from_payload(BlockType::Filter, payload)).clone()?)
+}
+
+/// Returns the word of a truth value.
+fn truth_of(value: bool) -> &'static str {
+    if value { "true" } else { "false" }
+}
+
+/// Returns whether the payload, read as a filter, may contain hashes.
+fn by_reader(alloc: Global, room: &Room, hashes: &[&str]) -> Result<String> {
+    let reader = StandardBloomFilterReader::new(room.payload.as_slice())?;
+    let mut text = String::new(alloc);
+    for hash in hashes {
+        let found = reader.contains_hash(number_of(hash)?);
+        push_word(&mut text, truth_of(found))?;
+    }
+    Ok(text)
+}
+
+/// Returns the same as the block of a filter says.
+fn by_block(alloc: Global, room: &Room, hashes: &[&str]) -> Result<String> {
+    let block = block_of(alloc, room)?;
+    let mut text = String::new(alloc);
+    for hash in hashes {
+        let found = block.maybe_contains_hash(number_of(hash)?)?;
+        push_word(&mut text, truth_of(found))?;
+    }
+    Ok(text)
+}
+
+/// Whether the payload may contain hashes, by the reader and by the block, which agree: HASH ..
+fn hashed(alloc: Global, room: &Room, hashes: &[&str]) -> Result<String> {
+    let found = [
+        by_reader(alloc, room, hashes),
+        by_block(alloc, room, hashes),
+    ];
+    agreed(alloc, &found)
+}
+
+/// Whether the payload may contain keys: KEY ..
+fn keyed<H: BlockHash>(alloc: Global, room: &Room, keys: &[&str]) -> Result<String> {
+    let reader = StandardBloomFilterReader::new(room.payload.as_slice())?;
+    let mut text = String::new(alloc);
+    for key in keys {
+        let key = bytes_of(alloc, key)?;
+        let hash = Builder::get_hash::<H>(key.as_slice());
+        let found = reader.contains::<H>(key.as_slice());
+        push_word(&mut text, truth_of(found))?;
+        if found != reader.contains_hash(hash) {
+            text.push('!')?;
+        }
+    }
+    Ok(text)
+}
+
+/// The numbers of the payload as a filter: its length with its front, its bits and its probes.
+fn numbers(alloc: Global, room: &Room) -> Result<String> {
+    let size = block_of(alloc, room)?.size();
+    let reader = StandardBloomFilterReader::new(room.payload.as_slice())?;
+    let (len, probes) = (reader.len(), reader.probe_count());
+    Ok(format!(in alloc; "{size} bytes, {len} of bits, {probes} probes")?)
+}
+
+/// The hash of a number as a key of eight bytes.
+fn hash_of<H: BlockHash>(number: u64) -> u64 {
+    H::hash64(&number.to_be_bytes())
+}
+
+/// Inserts the numbers below a count as keys.
+fn insert_all<H: BlockHash>(filter: &mut Builder, count: usize) {
+    for number in 0..count {
+        filter.set_with_hash(hash_of::<H>(number as u64));
+    }
+}
+
+/// How many of the numbers from a first to a last one a filter of the numbers below a count may
+/// contain: COUNT BITS FIRST LAST.
+fn sweep<H: BlockHash>(alloc: Global, words: &[&str]) -> Result<String> {
+    let [count, bits, first, last] = words else {
+        return Err(Fault::Word);
+    };
+    let (count, bits) = (number_of(count)? as usize, size_of(bits)?);
+    let mut filter = empty(alloc, count, bits, true)?;
+    insert_all::<H>(&mut filter, count);
+    let payload = filter.build(alloc)?;
+    let reader = StandardBloomFilterReader::new(payload.as_slice())?;
+    let mut found = 0usize;
+    for number in number_of(first)?..number_of(last)? {
+        if reader.contains_hash(hash_of::<H>(number)) {
+            found = found.saturating_add(1);
+        }
+    }
+    Ok(format!(in alloc; "{} bytes, {found} found", payload.len())?)
+}
+
+/// What a policy says of so many keys: BITS KEYS.
+fn policy(alloc: Global, words: &[&str]) -> Result<String> {
+    let [bits, keys] = words else {
+        return Err(Fault::Word);
+    };
+    let policy = BloomConstructionPolicy::BitsPerKey(size_of(bits)?);
+    let keys = number_of(keys)? as usize;
+    let is_default = policy == BloomConstructionPolicy::default();
+    let kind = if is_default { "default, " } else { "" };
+    let state = if policy.is_active() {
+        "active"
+    } else {
+        "inactive"
+    };
+    if policy.fits(keys) {
+        let size = policy.estimated_filter_size(keys);
+        Ok(format!(in alloc; "{kind}{state}, {size} bytes")?)
+    } else {
+        Ok(format!(in alloc; "{kind}{state}, too long")?)
+    }
+}
+
+/// Sets a bit of the payload: INDEX.
+fn set_bit(alloc: Global, room: &mut Room, words: &[&str]) -> Result<String> {
+    let [index] = words else {
+        return Err(Fault::Word);
+    };
+    let index = number_of(index)? as usize;
+    let mut bits = bit_array::Builder::from_bytes(room.payload.to_vec(alloc)?);
+    if index / 8 >= bits.bytes().len() {
+        return Err(Fault::Word);
+    }
+    bits.enable_bit(index);
+    room.payload = bits.bytes().to_vec(alloc)?;
+    hex_of(alloc, room.payload.as_slice())
+}
+
+/// The bits of the payload that are set.
+fn bits(alloc: Global, room: &Room) -> Result<String> {
+    let bits = BitArrayReader::new(room.payload.as_slice());
+    let mut texts = Vec::new(alloc);
+    for index in 0..room.payload.len().saturating_mul(8) {
+        if index / 8 < bits.bytes().len() && bits.get(index) {
+            texts.push(format!(in alloc; "{index}")?)?;
+        }
+    }
+    joined(alloc, texts.as_slice(), " ")
+}
+
+/// The number by which the probes of a hash are apart: HASH.
+fn secondary(alloc: Global, words: &[&str]) -> Result<String> {
+    let [hash] = words else {
+        return Err(Fault::Word);
+    };
+    let number = secondary_hash(number_of(hash)?);
+    Ok(format!(in alloc; "{number}")?)
+}
+
+/// The filter type of a byte: BYTE.
+fn type_of(alloc: Global, words: &[&str]) -> Result<String> {
+    let [byte] = words else {
+        return Err(Fault::Word);
+    };
+    let byte = small_of(byte)?;
+    let kind = FilterType::try_from(byte)?;
+    let again = u8::from(kind);
+    Ok(format!(in alloc; "{kind:?} {again}")?)
+}
+
+/// Performs a command on bits and numbers, if it is one.
+fn perform_small(
+    alloc: Global,
+    room: &mut Room,
+    name: &str,
+    words: &[&str],
+) -> Result<Option<String>> {
+    let answer = match name {
+        "policy" => policy(alloc, words),
+        "bit" => set_bit(alloc, room, words),
+        "bits" => bits(alloc, room),
+        "secondary" => secondary(alloc, words),
+        "filter-type" => type_of(alloc, words),
+        _ => return Ok(None),
+    };
+    Ok(Some(answer?))
+}
+
+/// Performs a command, if it is one on filters.
+pub fn perform<H: BlockHash>(
+    alloc: Global,
+    room: &mut Room,
+    name: &str,
+    words: &[&str],
+) -> Result<Option<String>> {
+    let answer = match name {
+        "filter" => build(alloc, room, words),
+        "numbers" => numbers(alloc, room),
+        "hashed" => hashed(alloc, room, words),
+        "keyed" => keyed::<H>(alloc, room, words),
+        "sweep" => sweep::<H>(alloc, words),
+        _ => return perform_small(alloc, room, name, words),
+    };
+    Ok(Some(answer?))
+}

@@ -1,0 +1,119 @@
+//! Commands on merges of sources, on what a snapshot sees, and on compactions.
+
+mod merging;
+mod tables;
+
+use sst_base::{BlockHash, InternalValue, Slice, ValueType};
+use sst_block_kinds::DataBlock;
+use sst_case_room::fault::{Fault, Result};
+use sst_case_room::room::Room;
+use sst_case_room::words::{bytes_of, entry_of, hex_of, push_word, word_of};
+use sst_merge::front::front_of_key;
+use sst_merge::{Head, Merge, Source, Version};
+use std::alloc::Global;
+use std::vec;
+
+/// A source of entries in memory.
+type Memory = vec::IntoIter<InternalValue, Global>;
+
+/// A source of the entries of a list.
+fn memory_of(list: &[InternalValue], alloc: Global) -> Result<Memory> {
+    let mut copies = Vec::new(alloc);
+    for entry in list {
+        copies.push(entry.clone()?)?;
+    }
+    Ok(copies.into_iter())
+}
+
+/// The merge of the sources.
+fn merge_of(alloc: Global, room: &Room) -> Result<Merge<InternalValue, Memory>> {
+    let mut heads = Vec::new(alloc);
+    for list in &room.sources {
+        heads.push(Head::new(alloc, memory_of(list.as_slice(), alloc)?)?)?;
+    }
+    Ok(Merge::new(heads))
+}
+
+/// The words of all that is left of a source, or `none`.
+fn drained<I: Source<InternalValue>>(alloc: Global, source: &mut I) -> Result<String> {
+    let mut text = String::new(alloc);
+    while let Some(entry) = source.next_entry(alloc)? {
+        push_word(&mut text, word_of(alloc, &entry)?.as_str())?;
+    }
+    or_none(alloc, text)
+}
+
+/// Returns a text, or `none` if it is empty.
+fn or_none(alloc: Global, text: String) -> Result<String> {
+    if text.is_empty() {
+        return Ok(String::from_str(alloc, "none")?);
+    }
+    Ok(text)
+}
+
+/// Begins without sources.
+fn no_sources(alloc: Global, room: &mut Room) -> Result<String> {
+    room.sources = Vec::new(alloc);
+    Ok(String::from_str(alloc, "0 sources")?)
+}
+
+/// Adds a source: ENTRY ..
+fn source<H: BlockHash>(alloc: Global, room: &mut Room, words: &[&str]) -> Result<String> {
+    let mut list = Vec::new(alloc);
+    for word in words {
+        list.push(entry_of(alloc, word)?)?;
+    }
+    if !DataBlock::<H>::is_ordered(list.as_slice()) {
+        return Err(Fault::Word);
+    }
+    let count = list.len();
+    room.sources.push(list)?;
+    Ok(format!(in alloc; "{} sources, {count} entries", room.sources.len())?)
+}
+
+/// The front of an entry with a key, of at most 65535 bytes and at least one.
+fn entry_front(alloc: Global, key: &[u8]) -> Result<u128> {
+    if key.is_empty() || key.len() > 65535 {
+        return Ok(front_of_key(key, &[]));
+    }
+    let (key, value) = (Slice::new(alloc, key)?, Slice::empty(alloc));
+    Ok(InternalValue::from_components(key, value, 1, ValueType::Value).front())
+}
+
+/// The front of a key, in two parts: BYTES BYTES.
+fn key_front(alloc: Global, words: &[&str]) -> Result<String> {
+    let [left, right] = words else {
+        return Err(Fault::Word);
+    };
+    let (left, right) = (bytes_of(alloc, left)?, bytes_of(alloc, right)?);
+    let front = front_of_key(left.as_slice(), right.as_slice());
+    let mut key = left;
+    key.extend_from_slice(right.as_slice())?;
+    let (whole, of_entry) = (
+        front_of_key(&[], key.as_slice()),
+        entry_front(alloc, key.as_slice())?,
+    );
+    if front == whole && front == of_entry {
+        return hex_of(alloc, &front.to_be_bytes());
+    }
+    Ok(format!(in alloc; "{front}, whole {whole}, of an entry {of_entry}")?)
+}
+
+/// Performs a command, if it is one on sources.
+pub fn perform<H: BlockHash>(
+    alloc: Global,
+    room: &mut Room,
+    name: &str,
+    words: &[&str],
+) -> Result<Option<String>> {
+    let answer = match name {
+        "sources" => no_sources(alloc, room),
+        "source" => source::<H>(alloc, room, words),
+        "key-front" => key_front(alloc, words),
+        "merge" => merging::merge(alloc, room),
+        "compact" => merging::compact(alloc, room, words),
+        "snapshot" => merging::snapshot(alloc, room, words),
+        _ => return tables::perform::<H>(alloc, room, name, words),
+    };
+    Ok(Some(answer?))
+}

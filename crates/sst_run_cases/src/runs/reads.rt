@@ -1,0 +1,212 @@
+//! Point reads of runs, by each kind of reader.
+ghost use Rattle.std.specs.Prelude.{List};
+ghost use Rattle.sst_base.specs.Entry.{Entry};
+ghost use Rattle.sstable_blocks.specs.RunReading.{hashes};
+ghost use Rattle.sstable_blocks.specs.Sound.{IsSound};
+
+use super::{file_of, run_of};
+use sst_base::{BlockHash, Error, InternalValue, Slice, Steps};
+use sst_case_room::digest::Digest;
+use sst_case_room::fault::{Fault, Result};
+use sst_case_room::room::Room;
+use sst_case_room::texts::agreed;
+use sst_case_room::words::{bytes_of, number_of, word_of_found};
+use sstable_blocks::Table;
+use sstable_blocks::run::{
+    BorrowedSource, CheckedRun, FrameSource, MemorySource, RunHandles, Trusted, read_entry,
+    read_entry_checked,
+};
+use std::alloc::Global;
+
+/// A key, and a sequence number.
+type Query<'a> = (&'a [u8], u64);
+
+/// What is found, as a text.
+type Found = std::result::Result<Option<InternalValue>, Error>;
+
+/// Returns the text of what is found.
+fn text_of(alloc: Global, found: Found) -> Result<String> {
+    let found = found?;
+    word_of_found(alloc, found.as_ref())
+}
+
+/// A checked read of the run in a source.
+fn fetched<H: BlockHash, S: FrameSource + Drop>(
+    alloc: Global,
+    mut source: S,
+    handles: &RunHandles,
+    query: Query<'_>,
+) -> Result<String> {
+    let found = read_entry_checked::<H, S>(alloc, &mut source, handles, query.0, query.1);
+    text_of(alloc, found)
+}
+
+/// A read of a run in a source by a table.
+fn by_table<H: BlockHash, S: FrameSource + Drop>(
+    alloc: Global,
+    source: S,
+    handles: &RunHandles,
+    query: Query<'_>,
+) -> Result<String> {
+    let mut table = match Table::<H, S>::open(alloc, source, *handles) {
+        Ok(table) => table,
+        Err(refused) => return Err(Fault::Refused(refused.error)),
+    };
+    text_of(alloc, table.get(alloc, query.0, query.1, &mut Steps::new()))
+}
+
+/// A read of a sound run without checks.
+fn by_bytes<H: BlockHash>(
+    alloc: Global,
+    run: &Slice,
+    handles: &RunHandles,
+    query: Query<'_>,
+) -> Result<String>
+    requires { (blocks : List (List Entry))
+        × IsSound (hashes H.hash64 H.hash128) blocks run.now handles.now }
+{
+    let found = read_entry::<H>(alloc, run, handles, query.0, query.1, &mut Steps::new());
+    text_of(alloc, found)
+}
+
+/// A read that borrows what it finds.
+fn by_ref<H: BlockHash>(
+    alloc: Global,
+    trusted: &Trusted<'_, H>,
+    query: Query<'_>,
+) -> Result<String> {
+    match trusted.by_ref().find(query.0, query.1, &mut Steps::new()) {
+        Some(view) => {
+            let entry = view.to_entry(alloc)?;
+            word_of_found(alloc, Some(&entry))
+        }
+        None => word_of_found(alloc, None),
+    }
+}
+
+/// The reads of a sound run in memory by a table without checks.
+fn by_trusted<H: BlockHash>(
+    alloc: Global,
+    run: &Slice,
+    handles: &RunHandles,
+    query: Query<'_>,
+) -> Result<String>
+    requires { (blocks : List (List Entry))
+        × IsSound (hashes H.hash64 H.hash128) blocks run.now handles.now }
+{
+    let table = Table::<H, _>::open(alloc, MemorySource::new(run.clone()?), *handles);
+    let table = match table {
+        Ok(table) => table,
+        Err(refused) => return Err(Fault::Refused(refused.error)),
+    };
+    let trusted = table.trusted();
+    let found = trusted.get(alloc, query.0, query.1, &mut Steps::new());
+    agreed(
+        alloc,
+        &[text_of(alloc, found), by_ref::<H>(alloc, &trusted, query)],
+    )
+}
+
+/// The reads of a sound run in memory by all that take no source.
+fn unchecked<H: BlockHash>(alloc: Global, room: &Room, query: Query<'_>) -> Result<String> {
+    let (run, handles) = run_of(alloc, room)?;
+    let checked = CheckedRun::<H>::open(alloc, run.clone()?, handles)?;
+    checked.note_sound();
+    let found = [
+        text_of(
+            alloc,
+            checked.get(alloc, query.0, query.1, &mut Steps::new()),
+        ),
+        by_bytes::<H>(alloc, &run, &handles, query),
+        by_trusted::<H>(alloc, &run, &handles, query),
+    ];
+    agreed(alloc, &found)
+}
+
+/// The reads of a sound run, by each of its readers.
+fn found<H: BlockHash>(alloc: Global, room: &Room, query: Query<'_>) -> Result<String> {
+    let (run, handles) = run_of(alloc, room)?;
+    let unchecked = unchecked::<H>(alloc, room, query)?;
+    let found = [
+        Ok(unchecked),
+        by_table::<H, _>(alloc, file_of(room), &handles, query),
+        fetched::<H, _>(alloc, MemorySource::new(run), &handles, query),
+        fetched::<H, _>(alloc, file_of(room), &handles, query),
+    ];
+    agreed(alloc, &found)
+}
+
+/// The reads of a sound run: KEY SEQNO.
+fn get<H: BlockHash>(alloc: Global, room: &Room, words: &[&str]) -> Result<String> {
+    let [key, seqno] = words else {
+        return Err(Fault::Word);
+    };
+    let (key, seqno) = (bytes_of(alloc, key)?, number_of(seqno)?);
+    found::<H>(alloc, room, (key.as_slice(), seqno))
+}
+
+/// The query of a number: each key of the list below its sequence number and above it, and then a
+/// key after all.
+fn query_at(list: &[InternalValue], number: usize) -> Query<'_> {
+    match list.get(number / 2) {
+        Some(entry) => {
+            let below = entry.key().seqno().wrapping_add((number % 2) as u64);
+            (entry.key().user_key().as_slice(), below)
+        }
+        None => (b"zz", u64::MAX),
+    }
+}
+
+/// Reads of each key of the list: how many find one, and a digest of all results.
+fn reads<H: BlockHash>(alloc: Global, room: &Room) -> Result<String> {
+    let total = room.entries.len().saturating_mul(2).saturating_add(1);
+    let (mut count, mut results) = (0usize, Digest::new());
+    for number in 0..total {
+        let text = found::<H>(alloc, room, query_at(room.entries.as_slice(), number))?;
+        if text.as_str() != "none" {
+            count = count.saturating_add(1);
+        }
+        results.add(text.as_str());
+    }
+    let state = results.state;
+    Ok(format!(in alloc; "{total} reads, {count} found, {state:016x}")?)
+}
+
+/// A checked read, in memory or in a file: WHERE KEY SEQNO.
+fn fetch<H: BlockHash>(alloc: Global, room: &Room, words: &[&str]) -> Result<String> {
+    let [place, key, seqno] = words else {
+        return Err(Fault::Word);
+    };
+    let (key, seqno) = (bytes_of(alloc, key)?, number_of(seqno)?);
+    let query = (key.as_slice(), seqno);
+    let (run, handles) = run_of(alloc, room)?;
+    if *place == "file" {
+        return fetched::<H, _>(alloc, file_of(room), &handles, query);
+    }
+    let found = [
+        fetched::<H, _>(alloc, MemorySource::new(run), &handles, query),
+        fetched::<H, _>(
+            alloc,
+            BorrowedSource::new(room.payload.as_slice()),
+            &handles,
+            query,
+        ),
+    ];
+    agreed(alloc, &found)
+}
+
+/// Performs a command, if it is one that reads a key of a run.
+pub fn perform<H: BlockHash>(
+    alloc: Global,
+    room: &Room,
+    name: &str,
+    words: &[&str],
+) -> Result<Option<String>> {
+    let answer = match name {
+        "get" => get::<H>(alloc, room, words),
+        "reads" => reads::<H>(alloc, room),
+        "fetch" => fetch::<H>(alloc, room, words),
+        _ => return Ok(None),
+    };
+    Ok(Some(answer?))
+}

@@ -1,0 +1,163 @@
+//! Commands that write runs.
+ghost use Rattle.std.specs.Prelude.{◌↔◌, ◌≤◌, length, IsTrue};
+ghost use Rattle.sst_block_core.specs.Entries.{entries};
+ghost use Rattle.sst_block_core.specs.Kind.{IsOrdered};
+ghost use Rattle.sstable_blocks.specs.Blocks.{CutsFit};
+
+use super::text_of;
+use sst_base::{BlockHash, ByteSum, HashRatio, InternalValue};
+use sst_block_kinds::DataBlock;
+use sst_case_room::fault::{Fault, Result};
+use sst_case_room::room::Room;
+use sst_case_room::words::{entry_of, number_of, size_of, small_of};
+use sstable_blocks::run::{RunConfig, RunHandles, RunWriter, cuts_fit, write_run};
+use std::alloc::Global;
+
+/// Returns how a run is written: INTERVAL NUM DEN BITS INDEX_INTERVAL.
+fn config_of(words: &[&str]) -> Result<RunConfig> {
+    let [interval, num, den, bits, index_interval] = words else {
+        return Err(Fault::Word);
+    };
+    Ok(RunConfig {
+        restart_interval: small_of(interval)?,
+        ratio: HashRatio {
+            num: size_of(num)?,
+            den: size_of(den)?,
+        },
+        bits_per_key: size_of(bits)?,
+        index_interval: small_of(index_interval)?,
+    })
+}
+
+/// Returns the numbers of some words.
+fn numbers_of(alloc: Global, words: &[&str]) -> Result<Vec<usize>> {
+    let mut numbers = Vec::new(alloc);
+    for word in words {
+        numbers.push(number_of(word)? as usize)?;
+    }
+    Ok(numbers)
+}
+
+/// Returns whether a run of these entries, cut like this, can be written.
+fn can_be_written(items: &[InternalValue], cuts: &[usize], config: &RunConfig) -> bool
+    ensures { IsTrue result
+        ↔ ((1 ≤ length items.now) × IsOrdered entries items.now
+        × CutsFit 0 (length items.now) cuts.now
+        × (1 ≤ config.now.restart_interval) × (1 ≤ config.now.index_interval)
+        × (1 ≤ config.now.ratio.den)) }
+{
+    items.len() >= 1
+        && DataBlock::<ByteSum>::is_ordered(items)
+        && cuts_fit(items.len(), cuts)
+        && config.restart_interval >= 1
+        && config.index_interval >= 1
+        && config.ratio.den >= 1
+}
+
+/// Adds entries to a writer, in the blocks into which they are cut.
+fn add_blocks<H: BlockHash>(
+    writer: &mut RunWriter<H, Vec<u8>>,
+    items: &[InternalValue],
+    cuts: &[usize],
+) -> Result<()> {
+    let mut start = 0;
+    for cut in cuts {
+        add_block::<H>(writer, items.get(start..*cut).ok_or(Fault::Word)?)?;
+        start = *cut;
+    }
+    add_block::<H>(writer, items.get(start..).ok_or(Fault::Word)?)
+}
+
+/// Adds a block to a writer.
+fn add_block<H: BlockHash>(
+    writer: &mut RunWriter<H, Vec<u8>>,
+    items: &[InternalValue],
+) -> Result<()> {
+    if !writer.fits_after(items) {
+        return Err(Fault::Word);
+    }
+    Ok(writer.add_block(items)?)
+}
+
+/// Returns the bytes and the handles of a run that is written block by block.
+fn write_blocks<H: BlockHash>(
+    alloc: Global,
+    items: &[InternalValue],
+    cuts: &[usize],
+    config: RunConfig,
+) -> Result<(RunHandles, Vec<u8>)> {
+    if config.restart_interval == 0 || config.index_interval == 0 || config.ratio.den == 0 {
+        return Err(Fault::Word);
+    }
+    let mut writer: RunWriter<H, Vec<u8>> = RunWriter::new(alloc, Vec::new(alloc), config);
+    add_blocks::<H>(&mut writer, items, cuts)?;
+    if writer.block_count() == 0 {
+        return Err(Fault::Word);
+    }
+    Ok(writer.finish()?)
+}
+
+/// Writes the list as a run, at once and block by block: INTERVAL NUM DEN BITS INDEX_INTERVAL CUT ..
+fn write<H: BlockHash>(alloc: Global, room: &mut Room, words: &[&str]) -> Result<String> {
+    let (form, cuts) = words.split_at_checked(5).ok_or(Fault::Word)?;
+    let (config, cuts) = (config_of(form)?, numbers_of(alloc, cuts)?);
+    let (items, cuts) = (room.entries.as_slice(), cuts.as_slice());
+    if !can_be_written(items, cuts, &config) {
+        return Err(Fault::Word);
+    }
+    let mut bytes = Vec::new(alloc);
+    let handles = write_run::<H, Vec<u8>>(alloc, &mut bytes, items, cuts, config)?;
+    let (again, by_blocks) = write_blocks::<H>(alloc, items, cuts, config)?;
+    let text = text_of(alloc, &handles)?;
+    let len = bytes.len();
+    if again != handles || by_blocks != bytes {
+        return Ok(format!(in alloc; "{len} bytes, {text}, otherwise block by block")?);
+    }
+    room.payload = bytes;
+    room.places = Some(handles);
+    Ok(format!(in alloc; "{len} bytes, {text}")?)
+}
+
+/// Whether cuts fit a list of a length: LENGTH CUT ..
+fn fits(alloc: Global, words: &[&str]) -> Result<String> {
+    let [len, cuts @ ..] = words else {
+        return Err(Fault::Word);
+    };
+    let fits = cuts_fit(
+        number_of(len)? as usize,
+        numbers_of(alloc, cuts)?.as_slice(),
+    );
+    Ok(format!(in alloc; "{fits}")?)
+}
+
+/// Whether entries can be the block after that of the list, which is added first if it can be the
+/// first one: ENTRY ..
+fn follows<H: BlockHash>(alloc: Global, room: &Room, words: &[&str]) -> Result<String> {
+    let mut next = Vec::new(alloc);
+    for word in words {
+        next.push(entry_of(alloc, word)?)?;
+    }
+    let config = RunConfig::new(1, HashRatio { num: 0, den: 1 }, 10);
+    let mut writer: RunWriter<H, Vec<u8>> = RunWriter::new(alloc, Vec::new(alloc), config);
+    if writer.fits_after(room.entries.as_slice()) {
+        writer.add_block(room.entries.as_slice())?;
+    }
+    let (count, fits) = (writer.block_count(), writer.fits_after(next.as_slice()));
+    Ok(format!(in alloc; "{count} blocks, {fits}")?)
+}
+
+/// Performs a command, if it is one that writes runs.
+pub fn perform<H: BlockHash>(
+    alloc: Global,
+    room: &mut Room,
+    name: &str,
+    words: &[&str],
+) -> Result<Option<String>> {
+    let answer = match name {
+        "run" => write::<H>(alloc, room, words),
+        "fits" => fits(alloc, words),
+        "follows" => follows::<H>(alloc, room, words),
+        _ => return Ok(None),
+    };
+    Ok(Some(answer?))
+}
