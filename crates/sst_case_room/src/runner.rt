@@ -6,9 +6,8 @@ use crate::zero_hash::ZeroHash;
 use sst_base::{BlockHash, ByteSum, Poly31};
 use sst_xxh3::Xxh3;
 use std::alloc::Global;
-use std::env::Env;
+use std::fs;
 use std::rt::Files;
-use std::{env, fs};
 
 /// The commands of a program that runs cases.
 pub trait Commands<R> {
@@ -117,14 +116,17 @@ fn run_file<C: Commands<R>, R: Files + Print + AllocGlobal>(rt: &R, name: &str) 
     }
 }
 
-/// Runs the cases of the files that the words name. Returns whether all hold.
+/// Runs the cases of the files of these names. Returns whether all hold.
 ///
 /// # Errors
 ///
 /// `Fault::Io` if a file cannot be read or the output fails, `Fault::Refused` if an allocation fails.
-pub fn run_files<C: Commands<R>, R: Env + Files + Print + AllocGlobal>(rt: &R) -> Result<bool> {
+pub fn run_files<C: Commands<R>, R: Files + Print + AllocGlobal>(
+    rt: &R,
+    names: &[String],
+) -> Result<bool> {
     let mut holds = true;
-    for name in env::args(rt)?.skip(1) {
+    for name in names {
         if !run_file::<C, R>(rt, name.as_str())? {
             holds = false;
         }

@@ -1,49 +1,27 @@
-//! Runs the cases of files, which the words name: a line `COMMAND => RESULT` is a case.
+//! Runs cases: the words name files, in which a line `COMMAND => RESULT` is a case.
 //!
 //! The ending of a name says which hash the blocks of a file have: `.sum`, `.zero`, `.poly` or `.xxh3`.
 //! Prints a line for each case that does not hold, with the file and the number of the line, and then
 //! how many cases of the file hold; the status is 1 if one does not.
 //!
-//! The commands stand in modules by what they are about. Each module has a function `perform`, which
-//! returns the result of a command, or `None` where the command is none of the module's.
+//! With the words `repeat OPERATION TIMES` it performs an operation of the library as often and prints
+//! what each returns, for runs in which an allocation fails.
 #![tactic(auto)]
-
-mod checks;
-mod data_blocks;
-mod index_blocks;
-mod values;
 
 use sst_base::BlockHash;
 use sst_case_room::fault::Result;
 use sst_case_room::room::Room;
 use sst_case_room::runner::{Commands, run_files};
 use sst_case_room::{lists, payloads};
-use std::alloc::Global;
+use sst_program::replace::LockFiles;
+use std::env::{self, Env};
 use std::process::ExitCode;
+use std::rt::Files;
 
-/// The commands on blocks and on what they are made of.
-struct BlockCommands;
+/// All commands.
+struct AllCommands;
 
-/// Performs a command: asks one module after the other whether the command is one of its own.
-fn perform<H: BlockHash>(
-    alloc: Global,
-    room: &mut Room,
-    name: &str,
-    words: &[&str],
-) -> Result<Option<String>> {
-    if let Some(answer) = data_blocks::perform::<H>(alloc, room, name, words)? {
-        return Ok(Some(answer));
-    }
-    if let Some(answer) = index_blocks::perform(alloc, room, name, words)? {
-        return Ok(Some(answer));
-    }
-    if let Some(answer) = checks::perform::<H>(alloc, room, name, words)? {
-        return Ok(Some(answer));
-    }
-    values::perform::<H>(alloc, name, words)
-}
-
-impl<R: AllocGlobal> Commands<R> for BlockCommands {
+impl<R: LockFiles + AllocGlobal> Commands<R> for AllCommands {
     fn perform<H: BlockHash>(
         rt: &R,
         room: &mut Room,
@@ -57,12 +35,27 @@ impl<R: AllocGlobal> Commands<R> for BlockCommands {
         if let Some(answer) = payloads::perform(alloc, room, name, words)? {
             return Ok(Some(answer));
         }
-        perform::<H>(alloc, room, name, words)
+        if let Some(answer) = sst_block_cases::perform::<H>(alloc, room, name, words)? {
+            return Ok(Some(answer));
+        }
+        sst_run_cases::perform::<H, R>(rt, room, name, words)
     }
 }
 
+/// Runs the files that the words name, or an operation. Returns whether all cases hold.
+fn run<R: Env + Files + LockFiles + Print + AllocGlobal>(rt: &R) -> Result<bool> {
+    let words: Vec<String> = env::args(rt)?.skip(1).collect(rt.alloc())?;
+    if let [first, operation, times] = words.as_slice()
+        && first.as_str() == "repeat"
+    {
+        sst_refused::perform(rt, operation.as_str(), times.as_str())?;
+        return Ok(true);
+    }
+    run_files::<AllCommands, R>(rt, words.as_slice())
+}
+
 fn main(rt: HostRuntime) -> ExitCode {
-    match run_files::<BlockCommands, _>(&rt) {
+    match run(&rt) {
         Ok(true) => ExitCode::SUCCESS,
         Ok(false) => ExitCode::FAILURE,
         Err(fault) => {

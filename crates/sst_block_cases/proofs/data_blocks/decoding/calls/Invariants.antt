@@ -1,5 +1,5 @@
 use Rattle.std.proofs.Common.{◌≡◌}
-use Rattle.sst_cases.proofs.data_blocks.decoding.calls.Given as goal
+use Rattle.sst_block_cases.proofs.data_blocks.decoding.calls.Given as goal
 
 abbrev pub invariant-loop-word : goal.invariant-loop-word
 invariant-loop-word g l = record {

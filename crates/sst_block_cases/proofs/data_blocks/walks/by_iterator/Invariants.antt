@@ -1,5 +1,5 @@
 use Rattle.std.proofs.Common.{◌≡◌}
-use Rattle.sst_cases.proofs.data_blocks.walks.by_iterator.Given as goal
+use Rattle.sst_block_cases.proofs.data_blocks.walks.by_iterator.Given as goal
 
 abbrev pub invariant-loop-step : goal.invariant-loop-step
 invariant-loop-step g l = record {

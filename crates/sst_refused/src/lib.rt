@@ -13,9 +13,6 @@ mod stores;
 
 use sst_base::{Error, Result};
 use std::alloc::Global;
-use std::env;
-use std::process::ExitCode;
-use std::rt::Env;
 
 // Sets an operation on a block up, and performs it this many times.
 fn on_block(rt: &impl Print, alloc: Global, operation: &str, times: u32) -> Result<()> {
@@ -60,8 +57,8 @@ fn on_tables(rt: &impl Print, alloc: Global, operation: &str, times: u32) -> Res
     }
 }
 
-// Sets an operation up, and performs it this many times.
-fn perform(rt: &impl Print, alloc: Global, operation: &str, times: u32) -> Result<()> {
+// Sets an operation on runs, tables or blocks up, and performs it this many times.
+fn on_runs(rt: &impl Print, alloc: Global, operation: &str, times: u32) -> Result<()> {
     match operation {
         "write_run" => runs::write(rt, alloc, times),
         "run_writer" => runs::add_blocks(rt, alloc, times),
@@ -73,21 +70,14 @@ fn perform(rt: &impl Print, alloc: Global, operation: &str, times: u32) -> Resul
     }
 }
 
-// Reads the words, an operation and a number, and performs it.
-fn run<R: Print + Env + AllocGlobal>(rt: &R) -> Result<()> {
-    let mut words = env::args(rt)?.skip(1);
-    let operation = words.next().ok_or(Error::TooLong)?;
-    let times = words.next().ok_or(Error::TooLong)?;
-    let times = times.as_str().parse::<u32>().ok().ok_or(Error::TooLong)?;
-    perform(rt, rt.alloc(), operation.as_str(), times)
-}
-
-fn main(rt: HostRuntime) -> ExitCode {
-    match run(&rt) {
-        Ok(()) => ExitCode::SUCCESS,
-        Err(error) => {
-            let _ = eprintln!(rt; "{error:?}");
-            ExitCode::FAILURE
-        }
-    }
+/// Sets an operation up, and performs it as often as a word says, printing a line of what each
+/// returns.
+///
+/// # Errors
+///
+/// `Error::TooLong` if there is no such operation or the word is no number, and the error of what sets
+/// the operation up or prints.
+pub fn perform<R: Print + AllocGlobal>(rt: &R, operation: &str, times: &str) -> Result<()> {
+    let times = times.parse::<u32>().ok().ok_or(Error::TooLong)?;
+    on_runs(rt, rt.alloc(), operation, times)
 }
