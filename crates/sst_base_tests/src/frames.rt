@@ -203,7 +203,8 @@ fn move_by(alloc: Global, device: Device, fails_at: usize) -> (Result<Header>, u
 
 #[test]
 fn each_call_of_a_device_may_fail(rt: HostRuntime) {
-    for (device, calls) in DEVICES {
+    for (device, calls) in &DEVICES {
+        let (device, calls) = (*device, *calls);
         for fails_at in 0..calls {
             let moved = move_by(rt.alloc(), device, fails_at);
             assert!(rt;

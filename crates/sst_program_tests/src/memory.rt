@@ -53,8 +53,8 @@ fn is_whole_or_refused(run: &Run, printed: &[u8]) -> bool {
 
 #[test]
 fn refused_memory_changes_no_answer(rt: HostRuntime) {
-    for (words, input, printed, reads) in ROWS {
-        if reads && !fs::metadata(&rt, "memory").is_ok_and(|file| file.len() == 323) {
+    for (words, input, printed, reads) in &ROWS {
+        if *reads && !fs::metadata(&rt, "memory").is_ok_and(|file| file.len() == 323) {
             continue;
         }
         let is_well = match make_run(&rt, rt.alloc(), words, input) {

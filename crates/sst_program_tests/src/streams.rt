@@ -51,11 +51,11 @@ const ENDS: [(Option<ErrorKind>, u8, &[u8], &[u8]); 3] = [
 
 #[test]
 fn a_slow_reader_is_read_whole_and_may_fail(rt: HostRuntime) -> Result<(), Fail> {
-    for (failure, status, printed, told) in ENDS {
+    for (failure, status, printed, told) in &ENDS {
         let mut input = Slow {
             bytes: b"V 0 62 62\n",
             is_interrupted: true,
-            failure,
+            failure: *failure,
         };
         let mut output = Vec::new(rt.alloc());
         let mut faults = Vec::with_capacity(rt.alloc(), 256)?;
@@ -67,8 +67,8 @@ fn a_slow_reader_is_read_whole_and_may_fail(rt: HostRuntime) -> Result<(), Fail>
             &mut output,
             &mut faults,
         );
-        assert_eq!(rt; found, status);
-        assert!(rt; output.as_slice() == printed && faults.as_slice() == told);
+        assert_eq!(rt; found, *status);
+        assert!(rt; output.as_slice() == *printed && faults.as_slice() == *told);
     }
     Ok(())
 }
@@ -186,10 +186,10 @@ fn check_flushes<R: LockFiles + AllocGlobal + Abort>(
 
 #[test]
 fn a_writer_may_fail(rt: HostRuntime) -> Result<(), Fail> {
-    for (words, len) in PRINTS {
-        assert!(rt; 1 <= len);
-        check_rooms(&rt, words, len)?;
-        check_flushes(&rt, words, len)?;
+    for (words, len) in &PRINTS {
+        assert!(rt; 1 <= *len);
+        check_rooms(&rt, words, *len)?;
+        check_flushes(&rt, words, *len)?;
     }
     Ok(())
 }

@@ -166,7 +166,8 @@ fn move_by(alloc: Global, way: Way, fails_at: usize) -> Result<(Result<Option<u8
 
 #[test]
 fn each_call_may_fail(rt: HostRuntime) {
-    for (way, calls) in WAYS {
+    for (way, calls) in &WAYS {
+        let (way, calls) = (*way, *calls);
         for fails_at in 0..calls {
             let moved = move_by(rt.alloc(), way, fails_at);
             assert!(rt;
