@@ -1,55 +1,12 @@
 //! The program `sstool`: shows, checks, scans and merges table files, for people.
 #![tactic(auto)]
 
-pub mod check;
-pub mod fault;
-pub mod get;
-pub mod keys;
-pub mod lines;
-pub mod merge;
-pub mod open;
-pub mod place;
-pub mod progress;
-pub mod scan;
-pub mod show;
-pub mod source;
-pub mod stat;
-pub mod words;
-
-use clap::ArgMatches;
-use fault::Fault;
-use progress::Progress;
 use sst_program::pipe::{PipeOutput, QuietFaults};
-use std::alloc::Global;
+use sst_tool::{Progress, SCAN, command, run_command};
 use std::cell::Cell;
 use std::env;
 use std::io::{IsTerminal, Write};
 use std::process::ExitCode;
-use std::rt::{Clock, Files};
-use words::{CHECK, GET, MERGE, SCAN, STAT, command};
-
-// Runs a command, of which these are the words.
-fn run_command<R: Files + Clock + Eprint, O: Write>(
-    progress: &Progress<'_, R>,
-    alloc: Global,
-    name: &str,
-    words: &ArgMatches<'_>,
-    output: &mut O,
-) -> Result<(), Fault> {
-    if name == STAT {
-        stat::run(progress, alloc, words, output)
-    } else if name == GET {
-        get::run(progress, alloc, words, output)
-    } else if name == SCAN {
-        scan::run(progress, alloc, words, output)
-    } else if name == CHECK {
-        check::run(progress, alloc, words, output)
-    } else if name == MERGE {
-        merge::run(progress, alloc, words, output)
-    } else {
-        Ok(())
-    }
-}
 
 // Begins the progress of a command. It is shown where standard error is a terminal, and standard
 // output is not one that a scan prints its entries on.

@@ -1,6 +1,6 @@
 //! Why a run of the program fails.
 ghost use Rattle.std.specs.Prelude.{◌≡◌};
-ghost use Rattle.sstool.specs.declared.fault.Fault.TheVariants.{Memory, Output};
+ghost use Rattle.sst_tool.specs.declared.fault.Fault.TheVariants.{Memory, Output};
 
 use crate::place::TableBlock;
 use sstable_blocks::Error;

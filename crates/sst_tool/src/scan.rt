@@ -1,6 +1,6 @@
 //! `scan`: the entries of a table in a range of keys.
 ghost use Rattle.std.specs.Prelude.{◌≡◌, IfOk};
-ghost use Rattle.sstool.specs.Back.{is_same_key, newest_below};
+ghost use Rattle.sst_tool.specs.Back.{is_same_key, newest_below};
 
 use crate::fault::{Fault, Result};
 use crate::keys::key_in;

@@ -1,7 +1,7 @@
 //! Keys as words.
 ghost use Rattle.std.specs.Prelude.{◌≡◌, ◌≢◌, IfErr, IfOk, None};
-ghost use Rattle.sstool.specs.Keys.{key_of_word};
-ghost use Rattle.sstool.specs.declared.fault.Fault.TheVariants.{Memory};
+ghost use Rattle.sst_tool.specs.Keys.{key_of_word};
+ghost use Rattle.sst_tool.specs.declared.fault.Fault.TheVariants.{Memory};
 
 use crate::fault::{Fault, Result};
 use std::alloc::Global;
