@@ -1,7 +1,7 @@
 -- Blocks that are known to be one, and where the parts of an entry are.
 use Rattle.std.specs.Prelude.{◌≡◌, ℕ, ◌+◌, ◌≤◌, ◌<◌, ◌^◌, List, ◌++◌, length, take, drop, Option, Some, None}
 use Rattle.sst_base.specs.Entry.{Entry, IsEntry}
-use Rattle.sst_base.specs.Hashes.{poly31}
+use Rattle.xxh3.specs.Xxh3.{xxh3_64}
 use Rattle.sst_base.specs.ValueType.{value_type_byte}
 use Rattle.sst_block_core.specs.Entries.{entries}
 use Rattle.sst_block_core.specs.Payload.{IsBlock}
@@ -12,7 +12,7 @@ use Rattle.sst_c.specs.declared.data_block.SstPlace.{SstPlace}
 -- bytes are a data block: the encoding of some ordered, non-empty list of entries, shorter than 2^32
 pub record IsDataBlock (p : List ℕ) : Type 0 where
   pub fits : length p < 2 ^ 32
-  pub encoding : (items : List Entry) × (r : ℕ) × (b : ℕ) × IsBlock entries IsEntry (poly31 64) p items r b
+  pub encoding : (items : List Entry) × (r : ℕ) × (b : ℕ) × IsBlock entries IsEntry xxh3_64 p items r b
 
 -- so many bytes of a payload, from an offset on
 abbrev pub bytes_at : List ℕ → ℕ → ℕ → List ℕ

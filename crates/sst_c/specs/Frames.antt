@@ -3,7 +3,7 @@ use Rattle.std.specs.Prelude.{◌≡◌, ◌⊎◌, ℕ, ◌≤◌, ◌^◌, Lis
 use Rattle.sst_base.specs.Block.{BlockParts}
 use Rattle.sst_base.specs.BlockType.{block_type_byte, block_type_of}
 use Rattle.sst_base.specs.Frame.{frame, frame_in}
-use Rattle.sst_base.specs.Hashes.{poly31}
+use Rattle.xxh3.specs.Xxh3.{xxh3_128}
 use Rattle.sst_base.specs.declared.error.Error.{Error}
 use Rattle.sst_base.specs.declared.error.Error.TheVariants.{TooLong, Memory}
 use Rattle.sst_base.specs.declared.table.block.block_type.BlockType.{BlockType}
@@ -20,17 +20,17 @@ pub record IsFrameFailure (payload old new : List ℕ) (len_old len_new : ℕ) (
 abbrev pub IsFrameWrite : List ℕ → ℕ → List ℕ → List ℕ → ℕ → ℕ → Status → Type 0
 IsFrameWrite payload byte old new len_old len_new BadArgument = ((t : BlockType) → block_type_of byte ≡ Ok t → ⊥) × AreKept old new len_old len_new
 IsFrameWrite payload byte old new len_old len_new (Failed e) = IsFrameFailure payload old new len_old len_new e
-IsFrameWrite payload byte old new len_old len_new s = (t : BlockType) × (block_type_of byte ≡ Ok t) × IsWritten (frame (poly31 128) t payload) old new len_new s
+IsFrameWrite payload byte old new len_old len_new s = (t : BlockType) × (block_type_of byte ≡ Ok t) × IsWritten (frame xxh3_128 t payload) old new len_new s
 
 -- bytes are refused as a frame, by the first error, or an allocation failed; what a check tells is left
 pub record IsNoFrame (bytes : List ℕ) (type_old type_new len_old len_new : ℕ) (e : Error) : Type 0 where
-  pub cause : (e ≡ Memory) ⊎ (frame_in (poly31 128) bytes ≡ Err e)
+  pub cause : (e ≡ Memory) ⊎ (frame_in xxh3_128 bytes ≡ Err e)
   pub kept_type : type_new ≡ type_old
   pub kept_len : len_new ≡ len_old
 
 -- what a check of a frame says: the byte of its type and the length of its payload, or the error
 abbrev pub IsFrameCheck : List ℕ → ℕ → ℕ → ℕ → ℕ → Status → Type 0
 IsFrameCheck bytes type_old type_new len_old len_new Done =
-    (b : BlockParts) × (frame_in (poly31 128) bytes ≡ Ok b) × (type_new ≡ block_type_byte b.header.block_type) × (len_new ≡ length b.payload)
+    (b : BlockParts) × (frame_in xxh3_128 bytes ≡ Ok b) × (type_new ≡ block_type_byte b.header.block_type) × (len_new ≡ length b.payload)
 IsFrameCheck bytes type_old type_new len_old len_new (Failed e) = IsNoFrame bytes type_old type_new len_old len_new e
 IsFrameCheck bytes type_old type_new len_old len_new _ = ⊥

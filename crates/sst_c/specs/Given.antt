@@ -2,7 +2,7 @@
 use Rattle.std.specs.Prelude.{◌≡◌, ◌⊎◌, ℕ, ◌≤◌, ◌<◌, ◌^◌, List, ◌++◌, length, map, drop}
 use Rattle.std.specs.List.{AllByRecursion}
 use Rattle.sst_base.specs.Entry.{Entry, IsEntry}
-use Rattle.sst_base.specs.Hashes.{poly31}
+use Rattle.xxh3.specs.Xxh3.{xxh3_64}
 use Rattle.sst_base.specs.ValueType.{value_type_byte}
 use Rattle.sst_base.specs.declared.error.Error.{Error}
 use Rattle.sst_base.specs.declared.error.Error.TheVariants.{TooLong, Memory}
@@ -44,7 +44,7 @@ pub record CanEncode (given : List SstEntry) (interval den : ℕ) (items : List 
 
 -- the payload of a data block at an interval and a hash ratio of num to den
 abbrev pub block_payload : List Entry → ℕ → ℕ → ℕ → List ℕ
-block_payload items interval num den = data_payload (poly31 64) items interval (bucket_count num den (length items))
+block_payload items interval num den = data_payload xxh3_64 items interval (bucket_count num den (length items))
 
 -- a buffer and the length that a call writes are left as they were
 abbrev pub AreKept : List ℕ → List ℕ → ℕ → ℕ → Type 0

@@ -1,7 +1,7 @@
 -- Runs in a caller's buffers.
 use Rattle.std.specs.Prelude.{◌≡◌, ◌⊎◌, ℕ, ◌==◌, ◌≤◌, if◌then◌else◌, List, length, Some, None, Err}
 use Rattle.sst_base.specs.Entry.{Entry}
-use Rattle.sst_base.specs.Hashes.{poly31}
+use Rattle.xxh3.specs.Xxh3.{xxh3_64, xxh3_128}
 use Rattle.sst_base.specs.declared.error.Error.{Error}
 use Rattle.sst_base.specs.declared.error.Error.TheVariants.{TooLong, Memory}
 use Rattle.sst_block_core.specs.Entries.{entries}
@@ -23,7 +23,7 @@ use Rattle.sst_c.specs.declared.run.SstSummary.{SstSummary}
 
 -- the hashes of runs that C writes and reads
 abbrev pub run_hashes : Hashes
-run_hashes = hashes (poly31 64) (poly31 128)
+run_hashes = hashes xxh3_64 xxh3_128
 
 -- the handles that are given: there is no filter where its size is 0
 abbrev pub handles_given : SstRunHandles → RunHandles
@@ -69,7 +69,7 @@ pub record CanWrite (given : List SstEntry) (cuts : List ℕ) (config : RunConfi
 
 -- how C writes runs
 abbrev pub run_form : RunConfig → Form
-run_form config = form (poly31 64) (poly31 128) config
+run_form config = form xxh3_64 xxh3_128 config
 
 -- a write failed: something is too long, or an allocation failed; all is left as it was
 pub record IsRunFailure (given : List SstEntry) (cuts : List ℕ) (config : RunConfig) (old new : List ℕ) (len_old len_new : ℕ) (handles_old handles_new : SstRunHandles) (e : Error) : Type 0 where

@@ -1,7 +1,7 @@
 //! Data blocks.
 ghost use Rattle.std.specs.Prelude.{◌≡◌, ◌⊎◌, ◌+◌, ◌≤◌, ◌<◌, ◌^◌, List, length, IfOk, IfErr};
 ghost use Rattle.sst_base.specs.Entry.{Entry};
-ghost use Rattle.sst_base.specs.Hashes.{poly31};
+ghost use Rattle.xxh3.specs.Xxh3.{xxh3_64};
 ghost use Rattle.sst_block_core.specs.Entries.{entries};
 ghost use Rattle.sst_block_core.specs.Found.{IsOptionalRange, optional_range};
 ghost use Rattle.sst_block_core.specs.Stages.{items_in};
@@ -21,10 +21,11 @@ use crate::codes::Status;
 use crate::entries::{SstEntry, items_of};
 use crate::output::write_bytes;
 use sst_base::table::util::SliceIndexes;
-use sst_base::{HashRatio, Poly31, SeqNo, Steps};
+use sst_base::{HashRatio, SeqNo, Steps};
 use sst_block_kinds::table::data_block::{
     DataBlock, DataBlockParsedItem, DataBlockRef, EntryParts,
 };
+use sstable_blocks::Xxh3;
 use std::alloc::Global;
 
 /// Where the parts of an entry are in a payload: its user key is the prefix and then the key's own
@@ -87,7 +88,7 @@ fn find(payload: &[u8], key: &[u8], below: SeqNo) -> Option<SstPlace>
     ensures { IsAnswer payload.now result
         (first_match entries key.now below (items_in entries payload.now)) }
 {
-    let block = DataBlockRef::<Poly31>::new(payload);
+    let block = DataBlockRef::<Xxh3>::new(payload);
     match block.find(key, below, &mut Steps::new()) {
         Some(item) => Some(place_of(payload, &item)),
         None => None,
@@ -132,7 +133,7 @@ pub extern "C" fn sst_data_block_find(
 }
 
 // Writes where the entries of a block are, from the first place on.
-fn write_places(block: &DataBlockRef<'_, Poly31>, places: &mut [SstPlace])
+fn write_places(block: &DataBlockRef<'_, Xxh3>, places: &mut [SstPlace])
     requires { length block.now.items ≤ length places.old }
     ensures { AreListed block.now.payload block.now.items places.old places.new }
 {
@@ -152,7 +153,7 @@ fn list(payload: &[u8], places: &mut [SstPlace], count: &mut usize) -> Status
     ensures { IsListing payload.now (items_in entries payload.now) places.old places.new count.new
         result }
 {
-    let block = DataBlockRef::<Poly31>::new(payload);
+    let block = DataBlockRef::<Xxh3>::new(payload);
     *count = block.len();
     if places.len() < block.len() {
         return Status::NoRoom;
@@ -183,10 +184,10 @@ pub extern "C" fn sst_data_block_entries(
 
 // Checks any bytes, and notes the number of entries.
 fn check(alloc: Global, payload: &[u8], count: &mut usize) -> Status
-    ensures { IsCheck (IsDataBlock payload.now) payload.now (data_check (poly31 64) payload.now)
+    ensures { IsCheck (IsDataBlock payload.now) payload.now (data_check xxh3_64 payload.now)
         (length (items_in entries payload.now)) count.old count.new result }
 {
-    match DataBlockRef::<Poly31>::check(alloc, payload) {
+    match DataBlockRef::<Xxh3>::check(alloc, payload) {
         Ok(block) => {
             *count = block.len();
             Status::Done
@@ -204,7 +205,7 @@ fn check(alloc: Global, payload: &[u8], count: &mut usize) -> Status
 #[unsafe(no_mangle)]
 pub extern "C" fn sst_data_block_check(payload: &[u8], count: &mut usize, alloc: Global) -> u32
     ensures { (s : Status) × (result ≡ code_of s)
-        × IsCheck (IsDataBlock payload.now) payload.now (data_check (poly31 64) payload.now)
+        × IsCheck (IsDataBlock payload.now) payload.now (data_check xxh3_64 payload.now)
         (length (items_in entries payload.now)) count.old count.new s }
 {
     check(alloc, payload, count).code()
@@ -225,7 +226,7 @@ fn checked_items<'a>(
         return Err(Status::BadArgument);
     }
     let items = items_of(alloc, entries)?;
-    if !DataBlock::<Poly31>::are_parts_ordered(items.as_slice()) {
+    if !DataBlock::<Xxh3>::are_parts_ordered(items.as_slice()) {
         return Err(Status::BadArgument);
     }
     Ok(items)
@@ -247,7 +248,7 @@ fn encode(
         Ok(items) => items,
         Err(status) => return status,
     };
-    match DataBlock::<Poly31>::encode_parts_into_vec(alloc, items.as_slice(), interval, ratio) {
+    match DataBlock::<Xxh3>::encode_parts_into_vec(alloc, items.as_slice(), interval, ratio) {
         Ok(payload) => write_bytes(payload.as_slice(), out, out_len),
         Err(error) => Status::Failed(error),
     }

@@ -1,6 +1,6 @@
 //! Bloom filters.
 ghost use Rattle.std.specs.Prelude.{◌≡◌, [], length, map, IfOk, IsOkUnless};
-ghost use Rattle.sst_base.specs.Hashes.{poly31};
+ghost use Rattle.xxh3.specs.Xxh3.{xxh3_64};
 ghost use Rattle.sst_c.specs.Codes.{code_of};
 ghost use Rattle.sst_c.specs.Filters.{CanBuild, IsFilterAnswer, IsFilterBuild, IsFilterPayload};
 ghost use Rattle.sst_c.specs.declared.codes.Status.{Status};
@@ -8,18 +8,19 @@ ghost use Rattle.sstable_blocks.specs.Filter.{filter_at, IsFilterOf};
 
 use crate::codes::Status;
 use crate::output::write_bytes;
-use sst_base::{BlockHash, Error, Poly31, Result};
+use sst_base::{BlockHash, Error, Result};
+use sstable_blocks::Xxh3;
 use sstable_blocks::table::filter::policy::BloomConstructionPolicy;
 use sstable_blocks::table::filter::standard_bloom::{Builder, StandardBloomFilterReader};
 use std::alloc::Global;
 
 // What the filter in any bytes says of a key.
 fn ask(payload: &[u8], key: &[u8]) -> Status
-    ensures { IsFilterAnswer (filter_at payload.now) (poly31 64 key.now) result }
+    ensures { IsFilterAnswer (filter_at payload.now) (xxh3_64 key.now) result }
 {
     match StandardBloomFilterReader::new(payload) {
         Ok(filter) => {
-            if filter.contains_hash(Poly31::hash64(key)) {
+            if filter.contains_hash(Xxh3::hash64(key)) {
                 Status::Done
             } else {
                 Status::NotFound
@@ -37,7 +38,7 @@ fn ask(payload: &[u8], key: &[u8]) -> Status
 #[unsafe(no_mangle)]
 pub extern "C" fn sst_filter_may_contain(payload: &[u8], key: &[u8]) -> u32
     ensures { (s : Status) × (result ≡ code_of s)
-        × IsFilterAnswer (filter_at payload.now) (poly31 64 key.now) s }
+        × IsFilterAnswer (filter_at payload.now) (xxh3_64 key.now) s }
 {
     ask(payload, key).code()
 }
@@ -45,17 +46,17 @@ pub extern "C" fn sst_filter_may_contain(payload: &[u8], key: &[u8]) -> u32
 // Inserts the hash of each key.
 fn insert(builder: &mut Builder, keys: &[&[u8]])
     requires { IsFilterOf [] builder.old }
-    ensures { IsFilterOf (map (λ k. poly31 64 k.now) keys.now) builder.new }
+    ensures { IsFilterOf (map (λ k. xxh3_64 k.now) keys.now) builder.new }
 {
     for key in keys {
-        builder.set_with_hash(Poly31::hash64(key));
+        builder.set_with_hash(Xxh3::hash64(key));
     }
 }
 
 // The payload of a filter of keys.
 fn payload_of(alloc: Global, keys: &[&[u8]], bits: u32) -> Result<Vec<u8>>
     requires { CanBuild (length keys.now) bits }
-    ensures ok { IfOk result (λ v. IsFilterPayload (map (λ k. poly31 64 k.now) keys.now) v.items) }
+    ensures ok { IfOk result (λ v. IsFilterPayload (map (λ k. xxh3_64 k.now) keys.now) v.items) }
     ensures memory { IsOkUnless result Error.Memory }
 {
     let mut builder = Builder::with_bpk(alloc, keys.len(), bits)?;
@@ -66,7 +67,7 @@ fn payload_of(alloc: Global, keys: &[&[u8]], bits: u32) -> Result<Vec<u8>>
 
 // Builds a filter of keys into a buffer.
 fn build(alloc: Global, keys: &[&[u8]], bits: u32, out: &mut [u8], out_len: &mut usize) -> Status
-    ensures { IsFilterBuild (length keys.now) bits (map (λ k. poly31 64 k.now) keys.now) out.old
+    ensures { IsFilterBuild (length keys.now) bits (map (λ k. xxh3_64 k.now) keys.now) out.old
         out.new out_len.old out_len.new result }
 {
     let policy = BloomConstructionPolicy::BitsPerKey(bits);
@@ -95,7 +96,7 @@ pub extern "C" fn sst_filter_build(
     alloc: Global,
 ) -> u32
     ensures { (s : Status) × (result ≡ code_of s)
-        × IsFilterBuild (length keys.now) bits_per_key (map (λ k. poly31 64 k.now) keys.now)
+        × IsFilterBuild (length keys.now) bits_per_key (map (λ k. xxh3_64 k.now) keys.now)
         out.old out.new out_len.old out_len.new s }
 {
     build(alloc, keys, bits_per_key, out, out_len).code()

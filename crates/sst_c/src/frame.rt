@@ -1,7 +1,7 @@
 //! Frames: a header of 33 bytes with checksums, and a payload.
 ghost use Rattle.std.specs.Prelude.{◌≡◌, ◌⊎◌, ◌≤◌, ◌^◌, length, IfOk, IfErr};
 ghost use Rattle.sst_base.specs.Frame.{frame};
-ghost use Rattle.sst_base.specs.Hashes.{poly31};
+ghost use Rattle.xxh3.specs.Xxh3.{xxh3_128};
 ghost use Rattle.sst_base.specs.declared.error.Error.TheVariants.{Memory, TooLong};
 ghost use Rattle.sst_c.specs.Codes.{code_of};
 ghost use Rattle.sst_c.specs.Frames.{IsFrameCheck, IsFrameWrite};
@@ -9,17 +9,18 @@ ghost use Rattle.sst_c.specs.declared.codes.Status.{Status};
 
 use crate::codes::Status;
 use crate::output::write_bytes;
-use sst_base::{Block, BlockType, Error, Poly31, Result, Slice};
+use sst_base::{Block, BlockType, Error, Result, Slice};
+use sstable_blocks::Xxh3;
 use std::alloc::Global;
 
 // The frame of a payload.
 fn frame_of(alloc: Global, payload: &[u8], block_type: BlockType) -> Result<Vec<u8>>
-    ensures ok { IfOk result (λ v. v.items ≡ frame (poly31 128) block_type payload.now) }
+    ensures ok { IfOk result (λ v. v.items ≡ frame xxh3_128 block_type payload.now) }
     ensures cause { IfErr result
         (λ e. (e ≡ Memory) ⊎ ((e ≡ TooLong) × (2 ^ 32 ≤ length payload.now))) }
 {
     let mut bytes = Vec::new(alloc);
-    match Block::write_into::<Poly31, Vec<u8>>(&mut bytes, payload, block_type) {
+    match Block::write_into::<Xxh3, Vec<u8>>(&mut bytes, payload, block_type) {
         Ok(_) => Ok(bytes),
         Err(Error::TooLong) => Err(Error::TooLong),
         // A vector fails as a writer where its allocation does.
@@ -77,7 +78,7 @@ fn check(alloc: Global, bytes: &[u8], block_type: &mut u8, payload_len: &mut usi
         Ok(bytes) => bytes,
         Err(error) => return Status::Failed(error),
     };
-    match Block::from_frame::<Poly31>(bytes) {
+    match Block::from_frame::<Xxh3>(bytes) {
         Ok(block) => {
             *block_type = u8::from(block.header().block_type);
             *payload_len = block.data().len();

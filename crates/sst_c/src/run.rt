@@ -24,12 +24,12 @@ use crate::entries::{SstEntry, items_of};
 use crate::output::write_bytes;
 use sst_base::table::block::header::HEADER_LEN;
 use sst_base::table::block::{BlockHandle, BlockOffset};
-use sst_base::{Error, HashRatio, InternalValue, Poly31, SeqNo, Slice, Steps};
+use sst_base::{Error, HashRatio, InternalValue, SeqNo, Slice, Steps};
 use sst_block_kinds::DataBlock;
 use sst_block_kinds::table::data_block::{DataBlockParsedItem, EntryParts};
 use sstable_blocks::run::RunRef;
 use sstable_blocks::run::laws::sound_opens;
-use sstable_blocks::{RunConfig, RunHandles, cuts_fit, write_run};
+use sstable_blocks::{RunConfig, RunHandles, Xxh3, cuts_fit, write_run};
 use std::alloc::Global;
 
 /// Where the frames of a run's index and of its filter are.
@@ -96,7 +96,7 @@ fn run_handles(given: &SstRunHandles) -> RunHandles
 fn check(alloc: Global, bytes: &[u8], handles: &RunHandles, summary: &mut SstSummary) -> Status
     ensures { IsRunCheck bytes.now handles.now summary.old summary.new result }
 {
-    match RunRef::<Poly31>::check(alloc, bytes, handles) {
+    match RunRef::<Xxh3>::check(alloc, bytes, handles) {
         Ok((_, found)) => {
             *summary = SstSummary {
                 blocks: found.blocks,
@@ -184,7 +184,7 @@ fn find(bytes: &[u8], handles: &RunHandles, key: &[u8], below: SeqNo) -> Option<
     ensures { (blocks : List (List Entry)) → IsSound run_hashes blocks bytes.now handles.now
         → IsAnswer bytes.now result (first_match entries key.now below (joined blocks)) }
 {
-    let run = RunRef::<Poly31>::new(bytes, handles);
+    let run = RunRef::<Xxh3>::new(bytes, handles);
     match run.locate(key, below, &mut Steps::new()) {
         Some((handle, item)) => Some(place_in(bytes, &handle, &item)),
         None => None,
@@ -274,7 +274,7 @@ fn checked_items<'a>(
     if !cuts_fit(parts.len(), cuts) {
         return Err(Status::BadArgument);
     }
-    if !DataBlock::<Poly31>::are_parts_ordered(parts) {
+    if !DataBlock::<Xxh3>::are_parts_ordered(parts) {
         return Err(Status::BadArgument);
     }
     Ok(items)
@@ -324,7 +324,7 @@ fn run_of(
 {
     sound_opens();
     let mut bytes = Vec::new(alloc);
-    match write_run::<Poly31, Vec<u8>>(alloc, &mut bytes, items, cuts, config) {
+    match write_run::<Xxh3, Vec<u8>>(alloc, &mut bytes, items, cuts, config) {
         Ok(handles) => Ok((bytes, handles)),
         Err(Error::TooLong) => Err(Error::TooLong),
         // A vector fails as a writer where its allocation does.

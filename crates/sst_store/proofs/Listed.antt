@@ -14,7 +14,7 @@ use Rattle.sst_base.specs.BlockHandle.{HandleParts}
 use Rattle.sst_base.specs.Bytes.{IsBytes}
 use Rattle.sst_base.specs.Entry.{Entry, plain}
 use Rattle.sst_base.specs.FrameLaws.{length-frame}
-use Rattle.sst_base.specs.HashLaws.{poly31-below}
+use Rattle.xxh3.specs.Xxh3Laws.{xxh3_128-below}
 use Rattle.sst_base.specs.declared.error.Error.{Error}
 use Rattle.sst_base.specs.declared.error.Error.TheVariants.{BadHandle}
 use Rattle.sst_base.specs.declared.table.block.block_type.BlockType.{BlockType}
@@ -175,7 +175,7 @@ module _ (t : MemoryTable) (at : handles_at table_hashes t.source.inner t.handle
       let known = some_known (table_entries t) some in
       let run = listed_sound table_hashes t.source.inner t.handles t.index known.0
       (λ s are index filter e. (let k = accepts table_hashes t.source.inner t.handles s are index filter e in (k.0, k.1)))
-      (λ blocks sound. scanned table_hashes blocks t.source.inner t.handles all_keys t.index (poly31-below 128) sound at) known.1 in
+      (λ blocks sound. scanned table_hashes blocks t.source.inner t.handles all_keys t.index xxh3_128-below sound at) known.1 in
       record { blocks = run.blocks; sound = run.sound; is = known.1 ∙ ap Some run.is }
 
   -- a table that was opened over a sound run
@@ -184,7 +184,7 @@ module _ (t : MemoryTable) (at : handles_at table_hashes t.source.inner t.handle
       → IsBytes bytes → IsSound table_hashes blocks bytes h → t.source.inner ≡ bytes → t.handles ≡ h → table_entries t ≡ Some (map plain (joined blocks))
   unfolding table_entries
   table_opened bytes h blocks law are sound same_bytes same_handles =
-      law table_hashes blocks t.source.inner t.handles t.index (poly31-below 128) (subst IsBytes (sym same_bytes) are)
+      law table_hashes blocks t.source.inner t.handles t.index xxh3_128-below (subst IsBytes (sym same_bytes) are)
       (subst (λ bs. IsSound table_hashes blocks bs t.handles) (sym same_bytes) (subst (IsSound table_hashes blocks bytes) (sym same_handles) sound)) at
 
 module _ {X : Type 0} where

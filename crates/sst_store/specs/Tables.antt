@@ -2,7 +2,7 @@
 use Rattle.std.specs.Prelude.{◌≡◌, ℕ, List, [], map, Option, Some, None}
 use Rattle.std.specs.Option.{option_map}
 use Rattle.sst_base.specs.Entry.{Entry}
-use Rattle.sst_base.specs.Hashes.{poly31}
+use Rattle.xxh3.specs.Xxh3.{xxh3_64, xxh3_128}
 use Rattle.sst_merge.specs.Merge.{entry_cmp, merged}
 use Rattle.sst_merge.specs.Sources.{all_known}
 use Rattle.sst_merge.specs.Stored.{table_list}
@@ -16,7 +16,7 @@ MemoryTable = TableParts (SourceParts (List ℕ))
 
 -- the hashes of the tables
 abbrev pub table_hashes : Hashes
-table_hashes = hashes (poly31 64) (poly31 128)
+table_hashes = hashes xxh3_64 xxh3_128
 
 -- the entries of a table, where the check of a run accepts its bytes
 unfoldable pub table_entries : MemoryTable → Option (List Entry)

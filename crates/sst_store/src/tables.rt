@@ -7,17 +7,17 @@ ghost use Rattle.sstable_blocks.specs.Blocks.{joined};
 ghost use Rattle.sstable_blocks.specs.Sound.{IsSound};
 
 use crate::laws::sound_table_is_known;
-use sst_base::{Error, HashRatio, InternalValue, Poly31, Result, Slice};
+use sst_base::{Error, HashRatio, InternalValue, Result, Slice};
 use sst_merge::{Head, Merge, Sizes, Source, write_table};
 use sstable_blocks::run::laws::{accepted_run_is_sound, layout_is_sound, sound_is_scanned};
-use sstable_blocks::{MemorySource, RunConfig, RunHandles, Table, TrustedScan};
+use sstable_blocks::{MemorySource, RunConfig, RunHandles, Table, TrustedScan, Xxh3};
 use std::alloc::Global;
 
 /// A table in memory.
-pub type Stored = Table<Poly31, MemorySource>;
+pub type Stored = Table<Xxh3, MemorySource>;
 
 // Scans a table.
-fn scan_of<'a>(table: &'a Stored) -> TrustedScan<'a, 'a, Poly31>
+fn scan_of<'a>(table: &'a Stored) -> TrustedScan<'a, 'a, Xxh3>
     requires { IsSome (table_entries table.now) }
     ensures { table_entries table.now ≡ Some result.left }
 {
@@ -32,7 +32,7 @@ fn scan_of<'a>(table: &'a Stored) -> TrustedScan<'a, 'a, Poly31>
 pub(crate) fn merge_of<'a>(
     alloc: Global,
     tables: &'a [Stored],
-) -> Result<Merge<InternalValue, TrustedScan<'a, 'a, Poly31>>>
+) -> Result<Merge<InternalValue, TrustedScan<'a, 'a, Xxh3>>>
     requires { IsSome (merged_tables tables.now) }
     ensures { IfOk result (λ merge. merge.list ≡ merged_tables tables.now) }
 {
@@ -73,7 +73,7 @@ pub(crate) fn table_of<I: Source<InternalValue> + Drop>(
     };
     let mut head = Head::new(alloc, source)?;
     let writer = Vec::new(alloc);
-    let written = write_table::<Poly31, I, Vec<u8>>(alloc, &mut head, writer, config, sizes)?;
+    let written = write_table::<Xxh3, I, Vec<u8>>(alloc, &mut head, writer, config, sizes)?;
     let Some((handles, bytes)) = written else {
         return Ok(None);
     };

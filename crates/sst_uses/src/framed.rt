@@ -1,7 +1,7 @@
 //! A payload as a frame, and read again.
 ghost use Rattle.std.specs.Prelude.{◌≡◌, IfOk};
 
-use sstable_blocks::{Block, BlockType, Poly31, Result, Slice};
+use sstable_blocks::{Block, BlockType, Result, Slice, Xxh3};
 use std::alloc::Global;
 
 /// Writes a payload as a frame, and reads the frame.
@@ -14,6 +14,6 @@ pub fn framed(alloc: Global, payload: &Slice) -> Result<Block>
     ensures { IfOk result (λ block. block.payload ≡ payload.now) }
 {
     let mut frame = Vec::new(alloc);
-    Block::write_into::<Poly31, Vec<u8>>(&mut frame, payload.as_slice(), BlockType::Data)?;
-    Block::from_frame::<Poly31>(Slice::from_vec(frame)?)
+    Block::write_into::<Xxh3, Vec<u8>>(&mut frame, payload.as_slice(), BlockType::Data)?;
+    Block::from_frame::<Xxh3>(Slice::from_vec(frame)?)
 }

@@ -11,8 +11,7 @@ ghost use Rattle.sst_block_core.specs.Kind.{IsOrdered};
 ghost use Rattle.sst_block_core.specs.Window.{first_match};
 
 use sstable_blocks::{
-    Block, BlockType, DataBlock, Error, HashRatio, InternalValue, Poly31, Result, SeqNo, Slice,
-    Steps,
+    Block, BlockType, DataBlock, Error, HashRatio, InternalValue, Result, SeqNo, Slice, Steps, Xxh3,
 };
 use std::alloc::Global;
 
@@ -31,17 +30,17 @@ const NO_BUCKETS: HashRatio = HashRatio { num: 0, den: 1 };
 ///
 /// `Error::TooLong` if the block would have 2^32 bytes or more; `Error::Memory` if an allocation
 /// fails.
-pub fn open_block(alloc: Global, items: &[InternalValue]) -> Result<DataBlock<Poly31>>
+pub fn open_block(alloc: Global, items: &[InternalValue]) -> Result<DataBlock<Xxh3>>
     requires some { 1 ≤ length items.now }
     requires ordered { IsOrdered entries items.now }
     ensures { IfOk result (λ block. block.items ≡ map plain items.now) }
 {
-    let payload = DataBlock::<Poly31>::encode_into_vec(alloc, items, INTERVAL, NO_BUCKETS)?;
+    let payload = DataBlock::<Xxh3>::encode_into_vec(alloc, items, INTERVAL, NO_BUCKETS)?;
     Ok(DataBlock::new(Block::from_payload(BlockType::Data, Slice::from_vec(payload)?)))
 }
 
 /// Counts the entries of a block with a sequence number below another.
-pub fn count_below(block: &DataBlock<Poly31>, seqno: SeqNo) -> usize
+pub fn count_below(block: &DataBlock<Xxh3>, seqno: SeqNo) -> usize
     ensures { result ≡ count_by (λ entry. nat_lt entry.key.seqno seqno) block.now.items }
 {
     block
@@ -57,7 +56,7 @@ pub fn count_below(block: &DataBlock<Poly31>, seqno: SeqNo) -> usize
 /// `Error::Memory` if an allocation fails.
 pub fn append_entries(
     alloc: Global,
-    block: &DataBlock<Poly31>,
+    block: &DataBlock<Xxh3>,
     out: &mut Vec<InternalValue>,
 ) -> Result<()>
     ensures ok { IfOk result (λ _. out.new.items ≡ out.old.items ++ block.now.items) }
@@ -76,7 +75,7 @@ pub fn append_entries(
 /// `Error::Memory` if an allocation fails.
 pub fn read(
     alloc: Global,
-    block: &DataBlock<Poly31>,
+    block: &DataBlock<Xxh3>,
     key: &[u8],
     seqno: SeqNo,
 ) -> Result<Option<InternalValue>>

@@ -6,7 +6,7 @@ ghost use Rattle.sst_block_core.specs.Kind.{IsOrdered};
 ghost use Rattle.sst_block_core.specs.Window.{first_match};
 
 use sstable_blocks::{
-    Block, BlockType, DataBlock, HashRatio, InternalValue, Poly31, Result, SeqNo, Slice, Steps,
+    Block, BlockType, DataBlock, HashRatio, InternalValue, Result, SeqNo, Slice, Steps, Xxh3,
 };
 use std::alloc::Global;
 
@@ -28,7 +28,7 @@ pub fn newest_below(
     ensures { IfOk result (λ found. found ≡ first_match entries key.now seqno (map plain items.now)) }
 {
     let no_buckets = HashRatio { num: 0, den: 1 };
-    let payload = DataBlock::<Poly31>::encode_into_vec(alloc, items, 16, no_buckets)?;
+    let payload = DataBlock::<Xxh3>::encode_into_vec(alloc, items, 16, no_buckets)?;
     let block = Block::from_payload(BlockType::Data, Slice::from_vec(payload)?);
-    DataBlock::<Poly31>::new(block).point_read(alloc, key, seqno, &mut Steps::new())
+    DataBlock::<Xxh3>::new(block).point_read(alloc, key, seqno, &mut Steps::new())
 }

@@ -23,4 +23,5 @@ pub use sst_base::{
     value, value_type,
 };
 pub use sst_block_kinds::{DataBlock, IndexBlock, KeyedBlockHandle};
+pub use sst_xxh3::Xxh3;
 pub use table::filter::{self, FilterBlock};

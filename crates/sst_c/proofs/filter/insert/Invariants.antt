@@ -1,7 +1,7 @@
 use Rattle.std.proofs.Common.{take, map}
-use Rattle.sst_base.specs.Hashes.{poly31}
+use Rattle.xxh3.specs.Xxh3.{xxh3_64}
 use Rattle.sstable_blocks.specs.Filter.{IsFilterOf}
 use Rattle.sst_c.proofs.filter.insert.Given as goal
 
 abbrev pub invariant-loop-key : goal.invariant-loop-key
-invariant-loop-key l = IsFilterOf (map (λ k. poly31 64 k.now) (take l.key-index l.keys)) l.builder
+invariant-loop-key l = IsFilterOf (map (λ k. xxh3_64 k.now) (take l.key-index l.keys)) l.builder

@@ -1,4 +1,4 @@
-use Rattle.sst_base.specs.Hashes.{poly31}
+use Rattle.xxh3.specs.Xxh3.{xxh3_64, xxh3_128}
 use Rattle.sstable_blocks.specs.RunReading.{hashes}
 use Rattle.sst_c.proofs.Places.{some_frame}
 use Rattle.sst_c.proofs.run.run_of.Goals as goal
@@ -6,5 +6,5 @@ use Rattle.sst_c.proofs.run.run_of.Goals as goal
 pub returns-in-Ok-clause-filter : goal.returns-in-Ok-clause-filter
 returns-in-Ok-clause-filter c =
     let s = c.in-Ok.ensures.sound in
-    let o = c.sound_opens.ensures (hashes (poly31 64) (poly31 128)) _ s.0 c.in-Ok.handles s.1 in
+    let o = c.sound_opens.ensures (hashes xxh3_64 xxh3_128) _ s.0 c.in-Ok.handles s.1 in
     some_frame s.0 c.in-Ok.handles.filter o.filter_range

@@ -1,7 +1,7 @@
 use Rattle.std.proofs.Common.{Some, map, ◌∙◌, ap, sym, subst}
 use Rattle.std.specs.Option.{IfSome}
 use Rattle.sst_base.specs.Entry.{plain}
-use Rattle.sst_base.specs.Hashes.{poly31}
+use Rattle.xxh3.specs.Xxh3.{xxh3_64, xxh3_128}
 use Rattle.sst_merge.specs.TableLaws.{none_left}
 use Rattle.sst_merge.specs.Tables.{IsTableOf}
 use Rattle.sst_merge.specs.declared.writing.Sizes.{Sizes}
@@ -11,7 +11,7 @@ use Rattle.sstable_blocks.specs.Run.{form}
 
 pub returns : goal.returns
 returns g c = λ items known.
-    let f = form (poly31 64) (poly31 128) c.new-config.result in
+    let f = form xxh3_64 xxh3_128 c.new-config.result in
     let sizes : Sizes = record { block = 4096; table = 18446744073709551615 } in
     let old = c.in_ok-head.head.list in
     let new = c.write_table.new.source.list in
