@@ -9,8 +9,9 @@
      that the library wrote. What they do with other bytes is not stated.
    The rest is proved: each call ends, stays within the bytes that it is given, and does what is said
    here for all arguments. A call keeps nothing and starts nothing, so any number of threads may call at
-   once. Offsets and lengths are in bytes. Keys sort bytewise; a block holds entries by key rising, then
-   by sequence number falling. A read "below" a number takes versions with a number strictly below. */
+   once. Offsets and lengths are in bytes. Checksums, hash index and filter hash by XXH3 with seed 0, as
+   lsm-tree 3.1.10 does: data blocks, index blocks, filters and frames are its own. Keys sort bytewise; a
+   block holds entries by key rising, then by sequence number falling. A read "below" a number takes versions with a number strictly below. */
 #pragma once
 #include <stddef.h>
 #include <stdint.h>
@@ -20,7 +21,7 @@ extern "C" {
 
 /* The version of the calls that this header declares, which rises where a call or a struct changes its
    meaning; and that of the library that is linked. */
-#define SST_VERSION 1
+#define SST_VERSION 2 /* 1 hashed by a polynomial */
 uint32_t sst_version(void);
 
 /* What a call returns. 1 to 15 are the library's errors E1 to E15. */

@@ -2,12 +2,12 @@
 ghost use Rattle.std.specs.Prelude.{◌≡◌};
 
 // What `SST_VERSION` of the header says. It rises where a call or a struct changes its meaning.
-const VERSION: u32 = 1;
+const VERSION: u32 = 2;
 
 /// Returns the version of the calls, for a caller to compare with `SST_VERSION` of its header.
 #[unsafe(no_mangle)]
 pub extern "C" fn sst_version() -> u32
-    ensures { result ≡ 1 }
+    ensures { result ≡ 2 }
 {
     VERSION
 }
