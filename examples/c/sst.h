@@ -11,7 +11,8 @@
    here for all arguments. A call keeps nothing and starts nothing, so any number of threads may call at
    once. Offsets and lengths are in bytes. Checksums, hash index and filter hash by XXH3 with seed 0, as
    lsm-tree 3.1.10 does: data blocks, index blocks, filters and frames are its own. Keys sort bytewise; a
-   block holds entries by key rising, then by sequence number falling. A read "below" a number takes versions with a number strictly below. */
+   block holds entries by key rising, then by sequence number falling. A read "below" a number takes
+   versions with a number strictly below. */
 #pragma once
 #include <stddef.h>
 #include <stdint.h>

@@ -8,13 +8,16 @@ use crate::place::{TableBlock, footer_block_at};
 use crate::progress::Progress;
 use crate::words::FILE;
 use clap::ArgMatches;
-use sstable_blocks::{Error, Steps};
+use sstable_blocks::{BlockHash, Error, Steps};
 use std::alloc::Global;
 use std::io::Write;
 use std::rt::{Clock, Files};
 
 // The index of the data block at an offset, by the handles.
-fn data_block_at<R: Files + Clock + Eprint>(table: &FileTable<'_, R>, offset: u64) -> Option<usize>
+fn data_block_at<H: BlockHash, R: Files + Clock + Eprint>(
+    table: &FileTable<'_, H, R>,
+    offset: u64,
+) -> Option<usize>
     ensures { IfSome result (λ i. option_map (λ h. h.offset) (slice_get table.now.index i) ≡ Some offset) }
 {
     let mut index = 0usize;
@@ -29,8 +32,8 @@ fn data_block_at<R: Files + Clock + Eprint>(table: &FileTable<'_, R>, offset: u6
 }
 
 // The block at an offset, by the footer and the index.
-fn block_at<R: Files + Clock + Eprint>(
-    table: &FileTable<'_, R>,
+fn block_at<H: BlockHash, R: Files + Clock + Eprint>(
+    table: &FileTable<'_, H, R>,
     offset: u64,
 ) -> Option<TableBlock> {
     match footer_block_at(table.handles(), offset) {
@@ -40,10 +43,10 @@ fn block_at<R: Files + Clock + Eprint>(
 }
 
 // The fault of a table that the check refuses: it names the block that was read last.
-fn refused<R: Files + Clock + Eprint>(
+fn refused<H: BlockHash, R: Files + Clock + Eprint>(
     alloc: Global,
     file: &str,
-    table: &FileTable<'_, R>,
+    table: &FileTable<'_, H, R>,
     offset: Option<u64>,
     error: Error,
 ) -> Fault {
@@ -60,14 +63,14 @@ fn refused<R: Files + Clock + Eprint>(
 ///
 /// Those of the file and of the check, with the block that was read last and its offset, and
 /// `Fault::Output`.
-pub fn run<R: Files + Clock + Eprint, O: Write>(
+pub fn run<H: BlockHash, R: Files + Clock + Eprint, O: Write>(
     progress: &Progress<'_, R>,
     alloc: Global,
     words: &ArgMatches<'_>,
     output: &mut O,
 ) -> Result<()> {
     let file = words.get_str(FILE).unwrap_or("");
-    let mut table = open(progress, alloc, file)?;
+    let mut table = open::<H, R>(progress, alloc, file)?;
     let checked = table.verify(alloc);
     progress.clear();
     match checked {

@@ -2,6 +2,7 @@
 ghost use Rattle.std.specs.Prelude.{◌≡◌};
 ghost use Rattle.sst_tool.specs.declared.fault.Fault.TheVariants.{Memory, Output};
 
+use crate::hash::TableHash;
 use crate::place::TableBlock;
 use sstable_blocks::Error;
 use std::alloc::{AllocError, AllocFailed, Global};
@@ -54,6 +55,19 @@ impl Fault {
     pub fn of_present(alloc: Global, name: &str) -> Fault {
         Fault::with_text(format!(in alloc;
             "{name}: exists: another merge writes it, or was killed"
+        ))
+    }
+
+    /// Returns the fault of a table whose hash function is not that of the first one.
+    pub fn of_hash(
+        alloc: Global,
+        name: &str,
+        hash: TableHash,
+        first: &str,
+        wanted: TableHash,
+    ) -> Fault {
+        Fault::with_text(format!(in alloc;
+            "{name}: its hash is {hash}, that of {first} is {wanted}"
         ))
     }
 

@@ -6,7 +6,7 @@ use crate::progress::Progress;
 use crate::show::EntryText;
 use crate::words::{AT, FILE, KEY};
 use clap::ArgMatches;
-use sstable_blocks::Steps;
+use sstable_blocks::{BlockHash, Steps};
 use std::alloc::Global;
 use std::io::Write;
 use std::rt::{Clock, Files};
@@ -16,7 +16,7 @@ use std::rt::{Clock, Files};
 /// # Errors
 ///
 /// Those of the file and of its blocks, an error for a word that is not a key, `Fault::Output`.
-pub fn run<R: Files + Clock + Eprint, O: Write>(
+pub fn run<H: BlockHash, R: Files + Clock + Eprint, O: Write>(
     progress: &Progress<'_, R>,
     alloc: Global,
     words: &ArgMatches<'_>,
@@ -25,7 +25,7 @@ pub fn run<R: Files + Clock + Eprint, O: Write>(
     let file = words.get_str(FILE).unwrap_or("");
     let key = key_in(alloc, words.get_str(KEY).unwrap_or(""))?;
     let at = words.get_one::<u64>(AT).unwrap_or(u64::MAX);
-    let mut table = open(progress, alloc, file)?;
+    let mut table = open::<H, R>(progress, alloc, file)?;
     let found = match table.get(alloc, key.as_slice(), at, &mut Steps::new()) {
         Ok(found) => found,
         Err(error) => return Err(Fault::of_file(alloc, file, progress.offset(), error)),

@@ -5,6 +5,7 @@
 mod check;
 mod fault;
 mod get;
+mod hash;
 mod keys;
 mod lines;
 mod merge;
@@ -19,12 +20,33 @@ mod words;
 
 use clap::ArgMatches;
 pub use fault::Fault;
+use hash::{TableHash, hash_read};
 pub use progress::Progress;
+use sstable_blocks::{BlockHash, Poly31, Xxh3};
 use std::alloc::Global;
 use std::io::Write;
 use std::rt::{Clock, Files};
 pub use words::{SCAN, command};
 use words::{CHECK, GET, MERGE, STAT};
+
+// Runs a command on tables of this hash function.
+fn run_on<H: BlockHash, R: Files + Clock + Eprint, O: Write>(
+    progress: &Progress<'_, R>,
+    alloc: Global,
+    name: &str,
+    hash: TableHash,
+    words: &ArgMatches<'_>,
+    output: &mut O,
+) -> Result<(), Fault> {
+    match name {
+        STAT => stat::run::<H, R, O>(progress, alloc, hash, words, output),
+        GET => get::run::<H, R, O>(progress, alloc, words, output),
+        SCAN => scan::run::<H, R, O>(progress, alloc, words, output),
+        CHECK => check::run::<H, R, O>(progress, alloc, words, output),
+        MERGE => merge::run::<H, R, O>(progress, alloc, words, output),
+        _ => Ok(()),
+    }
+}
 
 /// Runs the command of this name, of which these are the words.
 ///
@@ -39,17 +61,9 @@ pub fn run_command<R: Files + Clock + Eprint, O: Write>(
     words: &ArgMatches<'_>,
     output: &mut O,
 ) -> Result<(), Fault> {
-    if name == STAT {
-        stat::run(progress, alloc, words, output)
-    } else if name == GET {
-        get::run(progress, alloc, words, output)
-    } else if name == SCAN {
-        scan::run(progress, alloc, words, output)
-    } else if name == CHECK {
-        check::run(progress, alloc, words, output)
-    } else if name == MERGE {
-        merge::run(progress, alloc, words, output)
-    } else {
-        Ok(())
+    let hash = hash_read(progress.rt(), alloc, name, words)?;
+    match hash {
+        TableHash::Poly31 => run_on::<Poly31, R, O>(progress, alloc, name, hash, words, output),
+        TableHash::Xxh3 => run_on::<Xxh3, R, O>(progress, alloc, name, hash, words, output),
     }
 }

@@ -1,5 +1,6 @@
 //! `merge`: several tables as one.
 use crate::fault::{Fault, Result};
+use crate::hash::{TableHash, hash_in};
 use crate::open::{CountedFile, open};
 use crate::progress::Progress;
 use crate::source::Scanned;
@@ -8,7 +9,8 @@ use clap::ArgMatches;
 use sst_merge::{Head, Merge, Outputs, Sizes, Source, compact_tables};
 use sst_program::sync::{BufferedFile, SyncWrite};
 use sstable_blocks::{
-    Error, FileSource, HashRatio, InternalValue, Poly31, RunConfig, RunHandles, encode_footer,
+    BlockHash, Error, FileSource, HashRatio, InternalValue, Poly31, RunConfig, RunHandles, Xxh3,
+    encode_footer,
 };
 use std::alloc::Global;
 use std::cell::Cell;
@@ -34,13 +36,14 @@ const SIZES: Sizes = Sizes {
 
 /// A table that is merged. It notes in `failed` that a read of it failed, by its index.
 #[derive(Drop)]
-struct Merged<'p, 'f, R: Files + Clock + Eprint> {
-    scan: Scanned<'static, FileSource<CountedFile<'p, R>>>,
+struct Merged<'p, 'f, H: BlockHash, R: Files + Clock + Eprint> {
+    scan: Scanned<'static, H, FileSource<CountedFile<'p, R>>>,
     index: usize,
     failed: &'f Cell<Option<usize>>,
 }
 
-impl<'p, 'f, R: Files + Clock + Eprint> Source<InternalValue> for Merged<'p, 'f, R> {
+impl<'p, 'f, H: BlockHash, R: Files + Clock + Eprint> Source<InternalValue>
+    for Merged<'p, 'f, H, R> {
     ghost use Rattle.std.specs.Prelude.{None};
     ghost use Rattle.sstable_blocks.specs.Scans.{most_left};
 
@@ -118,15 +121,15 @@ impl<F: Write + OpenFile + Drop> NewFile<F> {
 }
 
 // Opens tables, the newest first.
-fn heads_of<'p, 'f, R: Files + Clock + Eprint>(
+fn heads_of<'p, 'f, H: BlockHash, R: Files + Clock + Eprint>(
     progress: &'p Progress<'p, R>,
     alloc: Global,
     files: &[&str],
     failed: &'f Cell<Option<usize>>,
-) -> Result<Vec<Head<InternalValue, Merged<'p, 'f, R>>>> {
+) -> Result<Vec<Head<InternalValue, Merged<'p, 'f, H, R>>>> {
     let mut heads = Vec::new(alloc);
     for (index, file) in files.iter().enumerate() {
-        let table = open(progress, alloc, file)?;
+        let table = open::<H, R>(progress, alloc, file)?;
         let scan = Scanned::new(table.scan_range(Bound::Unbounded, Bound::Unbounded));
         let merged = Merged {
             scan,
@@ -168,7 +171,7 @@ fn new_file_at<R: Files>(rt: &R, alloc: Global, path: &str) -> Result<NewFile<R:
 
 // Writes what is left of tables into a new file, as one table, which then replaces the file of the
 // wanted name. Returns whether an entry was left.
-fn write_merged<R: Files, I: Source<InternalValue> + Drop>(
+fn write_merged<H: BlockHash, R: Files, I: Source<InternalValue> + Drop>(
     rt: &R,
     heads: Vec<Head<InternalValue, I>>,
     words: &ArgMatches<'_>,
@@ -176,7 +179,7 @@ fn write_merged<R: Files, I: Source<InternalValue> + Drop>(
     path: &str,
 ) -> sstable_blocks::Result<bool> {
     let alloc = *new_file.closed.allocator();
-    compact_tables::<Poly31, _, _>(
+    compact_tables::<H, _, _>(
         alloc,
         Merge::new(heads),
         words.get_one::<u64>(SNAPSHOT).unwrap_or(0),
@@ -219,15 +222,8 @@ fn fault_of<R>(
     }
 }
 
-/// Merges tables, the newest first, into one, which replaces the file of its name when it is whole.
-/// With `--snapshot` only versions stay that a read at that sequence number or above sees, with
-/// `--bottom` no tombstones below it.
-///
-/// # Errors
-///
-/// Those of the files, of a block that is reached, and of the table that is written;
-/// `Fault::NoEntries` if no entry is left.
-pub fn run<R: Files + Clock + Eprint, O: Write>(
+// Merges tables that hash by `H` into one that hashes by `N`.
+fn merge_into<H: BlockHash, N: BlockHash, R: Files + Clock + Eprint, O: Write>(
     progress: &Progress<'_, R>,
     alloc: Global,
     words: &ArgMatches<'_>,
@@ -236,10 +232,16 @@ pub fn run<R: Files + Clock + Eprint, O: Write>(
     let out = words.get_str(OUT).unwrap_or("");
     let files = words.get_strs(FILE).unwrap_or(&[]);
     let failed = Cell::new(None);
-    let heads = heads_of(progress, alloc, files, &failed)?;
+    let heads = heads_of::<H, R>(progress, alloc, files, &failed)?;
     let path = format!(in alloc; "{out}.sst-new")?;
     let mut new_file = new_file_at(progress.rt(), alloc, path.as_str())?;
-    let written = write_merged(progress.rt(), heads, words, &mut new_file, path.as_str());
+    let written = write_merged::<N, R, _>(
+        progress.rt(),
+        heads,
+        words,
+        &mut new_file,
+        path.as_str(),
+    );
     progress.clear();
     match written {
         Ok(true) => {
@@ -255,5 +257,26 @@ pub fn run<R: Files + Clock + Eprint, O: Write>(
             let _ = fs::remove_file(progress.rt(), path.as_str());
             Err(fault_of(progress, alloc, words, failed.get(), error))
         }
+    }
+}
+
+/// Merges tables, the newest first, into one, which replaces the file of its name when it is whole.
+/// With `--snapshot` only versions stay that a read at that sequence number or above sees, with
+/// `--bottom` no tombstones below it; with `--hash` the new table has this hash function.
+///
+/// # Errors
+///
+/// Those of the files, of a block that is reached, and of the table that is written;
+/// `Fault::NoEntries` if no entry is left.
+pub fn run<H: BlockHash, R: Files + Clock + Eprint, O: Write>(
+    progress: &Progress<'_, R>,
+    alloc: Global,
+    words: &ArgMatches<'_>,
+    output: &mut O,
+) -> Result<()> {
+    match hash_in(words) {
+        None => merge_into::<H, H, R, O>(progress, alloc, words, output),
+        Some(TableHash::Poly31) => merge_into::<H, Poly31, R, O>(progress, alloc, words, output),
+        Some(TableHash::Xxh3) => merge_into::<H, Xxh3, R, O>(progress, alloc, words, output),
     }
 }

@@ -4,7 +4,7 @@ use crate::place::{TableBlock, footer_block_at};
 use crate::progress::Progress;
 use sst_program::table::{TableFile, open_file};
 use sstable_blocks::run::footer::read_footer;
-use sstable_blocks::{FileSource, Input, OpenError, Poly31, SeekInput, SizedSource, Table};
+use sstable_blocks::{BlockHash, FileSource, Input, OpenError, SeekInput, SizedSource, Table};
 use std::alloc::Global;
 use std::io;
 use std::io::{Read, Seek, SeekFrom};
@@ -50,7 +50,7 @@ impl<'p, R: Files + Clock + Eprint> SeekInput for CountedFile<'p, R> {
 }
 
 /// A table in a file.
-pub type FileTable<'p, R> = Table<Poly31, FileSource<CountedFile<'p, R>>>;
+pub type FileTable<'p, H, R> = Table<H, FileSource<CountedFile<'p, R>>>;
 
 // The block at an offset of a file that is not opened, by its footer.
 fn block_at<S: SizedSource>(alloc: Global, source: &mut S, offset: u64) -> Option<TableBlock> {
@@ -82,18 +82,18 @@ fn refused<S: SizedSource + Drop>(
 /// # Errors
 ///
 /// Those of the library, with the file's name and the block that was read last.
-pub fn open<'p, R: Files + Clock + Eprint>(
+pub fn open<'p, H: BlockHash, R: Files + Clock + Eprint>(
     progress: &'p Progress<'p, R>,
     alloc: Global,
     name: &str,
-) -> Result<FileTable<'p, R>> {
+) -> Result<FileTable<'p, H, R>> {
     let file = match open_file(progress.rt(), name) {
         Ok(file) => file,
         Err(error) => return Err(Fault::of_file(alloc, name, None, error)),
     };
     progress.begin_file();
     let source = FileSource::new(CountedFile { file, progress });
-    match FileTable::<'p, R>::open_file(alloc, source) {
+    match FileTable::<'p, H, R>::open_file(alloc, source) {
         Ok(table) => Ok(table),
         Err(failed) => Err(refused(alloc, name, failed, progress.offset())),
     }

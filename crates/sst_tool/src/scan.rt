@@ -11,7 +11,7 @@ use crate::source::Scanned;
 use crate::words::{AT, FILE, FROM, REVERSE, TEXT, TO};
 use clap::ArgMatches;
 use sst_merge::{Snapshot, Source, Version};
-use sstable_blocks::{Error, FrameSource, InternalValue, SeqNo};
+use sstable_blocks::{BlockHash, Error, FrameSource, InternalValue, SeqNo};
 use std::alloc::Global;
 use std::io::Write;
 use std::ops::Bound;
@@ -100,10 +100,10 @@ fn print_seen_back<I: Source<InternalValue>, O: Write + Drop>(
 }
 
 // Prints what is left of a scan, as the words say.
-fn print_scanned<S: FrameSource + Drop, O: Write + Drop>(
+fn print_scanned<H: BlockHash, S: FrameSource + Drop, O: Write + Drop>(
     alloc: Global,
     words: &ArgMatches<'_>,
-    source: Scanned<'_, S>,
+    source: Scanned<'_, H, S>,
     lines: &mut Lines<O>,
 ) -> std::result::Result<(), Stop> {
     let mut source = source;
@@ -129,7 +129,7 @@ fn key_of(alloc: Global, words: &ArgMatches<'_>, id: &str) -> Result<Option<Vec<
 ///
 /// An error for a word that is not a key, those of the file and of the blocks that are reached, and
 /// `Fault::Output`. The entries before a block that is refused are printed.
-pub fn run<R: Files + Clock + Eprint, O: Write>(
+pub fn run<H: BlockHash, R: Files + Clock + Eprint, O: Write>(
     progress: &Progress<'_, R>,
     alloc: Global,
     words: &ArgMatches<'_>,
@@ -146,7 +146,7 @@ pub fn run<R: Files + Clock + Eprint, O: Write>(
         Some(key) => Bound::Excluded(key.as_slice()),
         None => Bound::Unbounded,
     };
-    let scan = open(progress, alloc, file)?.scan_range(from, to);
+    let scan = open::<H, R>(progress, alloc, file)?.scan_range(from, to);
     let source = Scanned::reversed(scan, words.get_flag(REVERSE));
     let mut lines = Lines::new(alloc, &mut *output, words.get_flag(TEXT))?;
     let printed = print_scanned(alloc, words, source, &mut lines);

@@ -1,5 +1,6 @@
 //! `stat`: what a table holds.
 use crate::fault::{Fault, Result};
+use crate::hash::TableHash;
 use crate::open::{FileTable, open};
 use crate::progress::Progress;
 use crate::show::{Hex, Shown};
@@ -8,7 +9,7 @@ use clap::ArgMatches;
 use sst_block_core::table::block::trailer::{TRAILER_SIZE, Trailer};
 use sstable_blocks::filter::standard_bloom::StandardBloomFilterReader;
 use sstable_blocks::run::footer::FOOTER_LEN;
-use sstable_blocks::{Block, BlockHandle, Error, FilterBlock, RunSummary};
+use sstable_blocks::{Block, BlockHandle, BlockHash, Error, FilterBlock, RunSummary};
 use std::alloc::Global;
 use std::io;
 use std::io::Write;
@@ -41,6 +42,7 @@ struct Bits {
 /// What a table has.
 #[derive(Drop)]
 struct Stat {
+    hash: TableHash,
     summary: RunSummary,
     blocks: Blocks,
     index_interval: u8,
@@ -73,9 +75,9 @@ fn interval_of(block: &Block) -> u8 {
 }
 
 // What the data blocks of a table have.
-fn blocks_of<R: Files + Clock + Eprint>(
+fn blocks_of<H: BlockHash, R: Files + Clock + Eprint>(
     alloc: Global,
-    table: &mut FileTable<'_, R>,
+    table: &mut FileTable<'_, H, R>,
 ) -> std::result::Result<Blocks, Error> {
     let mut blocks = Blocks {
         least_interval: u8::MAX,
@@ -98,9 +100,10 @@ fn blocks_of<R: Files + Clock + Eprint>(
 }
 
 // What a table has. It is checked whole.
-fn stat_of<R: Files + Clock + Eprint>(
+fn stat_of<H: BlockHash, R: Files + Clock + Eprint>(
     alloc: Global,
-    table: &mut FileTable<'_, R>,
+    hash: TableHash,
+    table: &mut FileTable<'_, H, R>,
 ) -> std::result::Result<Stat, Error> {
     let summary = table.verify(alloc)?;
     let blocks = blocks_of(alloc, table)?;
@@ -109,6 +112,7 @@ fn stat_of<R: Files + Clock + Eprint>(
         None => None,
     };
     Ok(Stat {
+        hash,
         summary,
         blocks,
         index_interval: interval_of(table.index().inner()),
@@ -138,6 +142,7 @@ impl Stat {
 
     // Prints lines, each of a name and a value.
     fn print<O: Write>(&self, output: &mut O) -> io::Result<()> {
+        writeln!(output, "hash       {}", self.hash)?;
         self.print_entries(output)?;
         let blocks = &self.blocks;
         writeln!(
@@ -219,7 +224,8 @@ impl Stat {
         let summary = &self.summary;
         write!(
             output,
-            "{{\"blocks\":{},\"entries\":{},\"first_key\":\"{}\",\"last_key\":\"{}\"",
+            "{{\"hash\":\"{}\",\"blocks\":{},\"entries\":{},\"first_key\":\"{}\",\"last_key\":\"{}\"",
+            self.hash,
             summary.blocks,
             summary.entries,
             Hex(summary.first_key.as_slice()),
@@ -238,15 +244,16 @@ impl Stat {
 /// # Errors
 ///
 /// The first error of the check, with the file's name, and `Fault::Output`.
-pub fn run<R: Files + Clock + Eprint, O: Write>(
+pub fn run<H: BlockHash, R: Files + Clock + Eprint, O: Write>(
     progress: &Progress<'_, R>,
     alloc: Global,
+    hash: TableHash,
     words: &ArgMatches<'_>,
     output: &mut O,
 ) -> Result<()> {
     let file = words.get_str(FILE).unwrap_or("");
-    let mut table = open(progress, alloc, file)?;
-    let stat = stat_of(alloc, &mut table);
+    let mut table = open::<H, R>(progress, alloc, file)?;
+    let stat = stat_of(alloc, hash, &mut table);
     progress.clear();
     let stat = match stat {
         Ok(stat) => stat,

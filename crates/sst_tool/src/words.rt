@@ -1,4 +1,5 @@
 //! The words of the program.
+use crate::hash::NAMES;
 use clap::{Arg, ArgAction, Command, value_parser};
 use std::alloc::{AllocError, Global};
 
@@ -38,6 +39,9 @@ pub const TO: &str = "to";
 /// The name of the option for the least sequence number that is read at after a merge.
 pub const SNAPSHOT: &str = "snapshot";
 
+/// The name of the option for a hash function.
+pub const HASH: &str = "hash";
+
 /// The name of the flag for output as JSON.
 pub const JSON: &str = "json";
 
@@ -49,6 +53,9 @@ pub const TEXT: &str = "text";
 
 /// The name of the flag for a merge with no older table below it.
 pub const BOTTOM: &str = "bottom";
+
+// What `--hash` is for where a table is read.
+const READ_HASH: &str = "The hash function of the table; else what its first header shows";
 
 // The file that a command reads.
 fn file<'a>(alloc: Global) -> Arg<'a> {
@@ -69,6 +76,15 @@ fn key_option<'a>(alloc: Global, name: &'a str, help: &'a str) -> Arg<'a> {
     Arg::new(alloc, name).long(name).value_name(KEY).help(help)
 }
 
+// The hash function of a table, with its help.
+fn hash<'a>(alloc: Global, help: &'a str) -> Arg<'a> {
+    Arg::new(alloc, HASH)
+        .long(HASH)
+        .value_name("HASH")
+        .value_parser(NAMES.as_slice())
+        .help(help)
+}
+
 // A flag with its help.
 fn flag<'a>(alloc: Global, name: &'a str, help: &'a str) -> Arg<'a> {
     Arg::new(alloc, name)
@@ -82,6 +98,7 @@ fn stat<'a>(alloc: Global) -> Result<Command<'a>, AllocError> {
     Command::new(alloc, STAT)
         .about("Prints what a table holds")
         .arg(file(alloc))?
+        .arg(hash(alloc, READ_HASH))?
         .arg(flag(alloc, JSON, "Print one line of JSON"))
 }
 
@@ -90,6 +107,7 @@ fn scan<'a>(alloc: Global) -> Result<Command<'a>, AllocError> {
     Command::new(alloc, SCAN)
         .about("Prints the entries of a table")
         .arg(file(alloc))?
+        .arg(hash(alloc, READ_HASH))?
         .arg(key_option(alloc, FROM, "The first key"))?
         .arg(key_option(alloc, TO, "The key at which to end, without it"))?
         .arg(at(alloc))?
@@ -110,6 +128,7 @@ fn get<'a>(alloc: Global) -> Result<Command<'a>, AllocError> {
         .about("Prints the newest version of a key")
         .arg(file(alloc))?
         .arg(key)?
+        .arg(hash(alloc, READ_HASH))?
         .arg(at(alloc))
 }
 
@@ -117,7 +136,8 @@ fn get<'a>(alloc: Global) -> Result<Command<'a>, AllocError> {
 fn check<'a>(alloc: Global) -> Result<Command<'a>, AllocError> {
     Command::new(alloc, CHECK)
         .about("Checks a table whole")
-        .arg(file(alloc))
+        .arg(file(alloc))?
+        .arg(hash(alloc, READ_HASH))
 }
 
 // The words of `merge`.
@@ -140,6 +160,10 @@ fn merge<'a>(alloc: Global) -> Result<Command<'a>, AllocError> {
         .arg(out)?
         .arg(files)?
         .arg(snapshot)?
+        .arg(hash(
+            alloc,
+            "The hash function of the new table; else that of the tables",
+        ))?
         .arg(flag(alloc, BOTTOM, "Drop tombstones: no older table is below"))
 }
 
