@@ -179,7 +179,11 @@ fn data_block(random: &mut Random, list: &[InternalValue]) -> usize {
     assert_eq!(count, list.len());
     let block = DataBlock::new(frame(&ours, BlockType::Data));
     let items: Vec<_> = block.iter().map(|item| item.materialize(block.as_slice())).collect();
-    assert!(items == list, "entries differ");
+    assert!(items.len() == list.len(), "entries differ");
+    for (item, entry) in items.iter().zip(list) {
+        assert!(item.key.cmp(&entry.key).is_eq() && item.key.value_type == entry.key.value_type
+            && *item.value == *entry.value, "entries differ");
+    }
     for _ in 0..20 {
         let entry = &list[random.below(list.len() as u64) as usize];
         read(&block, &ours, &entry.key.user_key, entry.key.seqno.saturating_add(1));
