@@ -8,7 +8,7 @@ use crate::place::{TableBlock, footer_block_at};
 use crate::progress::Progress;
 use crate::words::FILE;
 use clap::ArgMatches;
-use sstable_blocks::{BlockHash, Error, Steps};
+use sstable_blocks::{BlockHash, Error, RunSummary, Steps};
 use std::alloc::Global;
 use std::io::Write;
 use std::rt::{Clock, Files};
@@ -56,6 +56,21 @@ fn refused<H: BlockHash, R: Files + Clock + Eprint>(
     }
 }
 
+// Checks a table file whole.
+fn check<H: BlockHash, R: Files + Clock + Eprint>(
+    progress: &Progress<'_, R>,
+    alloc: Global,
+    file: &str,
+) -> Result<RunSummary> {
+    let mut table = open::<H, R>(progress, alloc, file)?;
+    let checked = table.verify(alloc);
+    progress.clear();
+    match checked {
+        Ok(summary) => Ok(summary),
+        Err(error) => Err(refused(alloc, file, &table, progress.offset(), error)),
+    }
+}
+
 /// Checks a table file whole: each block, the order across blocks, end keys, the filter. Prints the
 /// numbers of blocks and entries.
 ///
@@ -69,16 +84,8 @@ pub fn run<H: BlockHash, R: Files + Clock + Eprint, O: Write>(
     words: &ArgMatches<'_>,
     output: &mut O,
 ) -> Result<()> {
-    let file = words.get_str(FILE).unwrap_or("");
-    let mut table = open::<H, R>(progress, alloc, file)?;
-    let checked = table.verify(alloc);
-    progress.clear();
-    match checked {
-        Ok(summary) => {
-            let (blocks, entries) = (summary.blocks, summary.entries);
-            writeln!(output, "ok {blocks} blocks {entries} entries")?;
-            Ok(())
-        }
-        Err(error) => Err(refused(alloc, file, &table, progress.offset(), error)),
-    }
+    let summary = check::<H, R>(progress, alloc, words.get_str(FILE).unwrap_or(""))?;
+    let (blocks, entries) = (summary.blocks, summary.entries);
+    writeln!(output, "ok {blocks} blocks {entries} entries")?;
+    Ok(())
 }

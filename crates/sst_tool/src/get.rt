@@ -6,10 +6,34 @@ use crate::progress::Progress;
 use crate::show::EntryText;
 use crate::words::{AT, FILE, KEY};
 use clap::ArgMatches;
-use sstable_blocks::{BlockHash, Steps};
+use sstable_blocks::{BlockHash, InternalValue, SeqNo, Steps};
 use std::alloc::Global;
+use std::io;
 use std::io::Write;
 use std::rt::{Clock, Files};
+
+// Reads the newest version of a key below a sequence number from a table file.
+fn read<H: BlockHash, R: Files + Clock + Eprint>(
+    progress: &Progress<'_, R>,
+    alloc: Global,
+    file: &str,
+    key: &[u8],
+    at: SeqNo,
+) -> Result<Option<InternalValue>> {
+    let mut table = open::<H, R>(progress, alloc, file)?;
+    match table.get(alloc, key, at, &mut Steps::new()) {
+        Ok(found) => Ok(found),
+        Err(error) => Err(Fault::of_file(alloc, file, progress.offset(), error)),
+    }
+}
+
+// Prints a version, or `none`.
+fn print<O: Write>(output: &mut O, found: &Option<InternalValue>) -> io::Result<()> {
+    match found {
+        Some(entry) => writeln!(output, "{}", EntryText(entry)),
+        None => writeln!(output, "none"),
+    }
+}
 
 /// Prints the newest version of a key with a sequence number below that of `--at`, or `none`.
 ///
@@ -25,14 +49,6 @@ pub fn run<H: BlockHash, R: Files + Clock + Eprint, O: Write>(
     let file = words.get_str(FILE).unwrap_or("");
     let key = key_in(alloc, words.get_str(KEY).unwrap_or(""))?;
     let at = words.get_one::<u64>(AT).unwrap_or(u64::MAX);
-    let mut table = open::<H, R>(progress, alloc, file)?;
-    let found = match table.get(alloc, key.as_slice(), at, &mut Steps::new()) {
-        Ok(found) => found,
-        Err(error) => return Err(Fault::of_file(alloc, file, progress.offset(), error)),
-    };
-    match found {
-        Some(entry) => writeln!(output, "{}", EntryText(&entry))?,
-        None => writeln!(output, "none")?,
-    }
-    Ok(())
+    let found = read::<H, R>(progress, alloc, file, key.as_slice(), at)?;
+    Ok(print(output, &found)?)
 }

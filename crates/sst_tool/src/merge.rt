@@ -120,6 +120,26 @@ impl<F: Write + OpenFile + Drop> NewFile<F> {
     }
 }
 
+// Opens a table, of this index, and reads its first entry.
+fn head_of<'p, 'f, H: BlockHash, R: Files + Clock + Eprint>(
+    progress: &'p Progress<'p, R>,
+    alloc: Global,
+    file: &str,
+    index: usize,
+    failed: &'f Cell<Option<usize>>,
+) -> Result<Head<InternalValue, Merged<'p, 'f, H, R>>> {
+    let table = open::<H, R>(progress, alloc, file)?;
+    let merged = Merged {
+        scan: Scanned::new(table.scan_range(Bound::Unbounded, Bound::Unbounded)),
+        index,
+        failed,
+    };
+    match Head::new(alloc, merged) {
+        Ok(head) => Ok(head),
+        Err(error) => Err(Fault::of_file(alloc, file, progress.offset(), error)),
+    }
+}
+
 // Opens tables, the newest first.
 fn heads_of<'p, 'f, H: BlockHash, R: Files + Clock + Eprint>(
     progress: &'p Progress<'p, R>,
@@ -129,17 +149,7 @@ fn heads_of<'p, 'f, H: BlockHash, R: Files + Clock + Eprint>(
 ) -> Result<Vec<Head<InternalValue, Merged<'p, 'f, H, R>>>> {
     let mut heads = Vec::new(alloc);
     for (index, file) in files.iter().enumerate() {
-        let table = open::<H, R>(progress, alloc, file)?;
-        let scan = Scanned::new(table.scan_range(Bound::Unbounded, Bound::Unbounded));
-        let merged = Merged {
-            scan,
-            index,
-            failed,
-        };
-        match Head::new(alloc, merged) {
-            Ok(head) => heads.push(head)?,
-            Err(error) => return Err(Fault::of_file(alloc, file, progress.offset(), error)),
-        }
+        heads.push(head_of::<H, R>(progress, alloc, file, index, failed)?)?;
     }
     Ok(heads)
 }
@@ -222,42 +232,42 @@ fn fault_of<R>(
     }
 }
 
-// Merges tables that hash by `H` into one that hashes by `N`.
-fn merge_into<H: BlockHash, N: BlockHash, R: Files + Clock + Eprint, O: Write>(
+// Merges tables that hash by `H` into a new file, whose table hashes by `N`. Returns whether an entry
+// was left.
+fn merge_to<H: BlockHash, N: BlockHash, R: Files + Clock + Eprint>(
     progress: &Progress<'_, R>,
     alloc: Global,
     words: &ArgMatches<'_>,
-    output: &mut O,
+    path: &str,
+    failed: &Cell<Option<usize>>,
+) -> Result<sstable_blocks::Result<bool>> {
+    let files = words.get_strs(FILE).unwrap_or(&[]);
+    let heads = heads_of::<H, R>(progress, alloc, files, failed)?;
+    let mut new_file = new_file_at(progress.rt(), alloc, path)?;
+    Ok(write_merged::<N, R, _>(progress.rt(), heads, words, &mut new_file, path))
+}
+
+// Merges tables that hash by `H` into one that hashes by `N`.
+fn merge_into<H: BlockHash, N: BlockHash, R: Files + Clock + Eprint>(
+    progress: &Progress<'_, R>,
+    alloc: Global,
+    words: &ArgMatches<'_>,
 ) -> Result<()> {
     let out = words.get_str(OUT).unwrap_or("");
-    let files = words.get_strs(FILE).unwrap_or(&[]);
-    let failed = Cell::new(None);
-    let heads = heads_of::<H, R>(progress, alloc, files, &failed)?;
     let path = format!(in alloc; "{out}.sst-new")?;
-    let mut new_file = new_file_at(progress.rt(), alloc, path.as_str())?;
-    let written = write_merged::<N, R, _>(
-        progress.rt(),
-        heads,
-        words,
-        &mut new_file,
-        path.as_str(),
-    );
+    let failed = Cell::new(None);
+    let written = merge_to::<H, N, R>(progress, alloc, words, path.as_str(), &failed)?;
     progress.clear();
-    match written {
+    let fault = match written {
         Ok(true) => {
             sync_folder(progress.rt(), out);
-            writeln!(output, "merged {} tables into {out}", files.len())?;
-            Ok(())
+            return Ok(());
         }
-        Ok(false) => {
-            let _ = fs::remove_file(progress.rt(), path.as_str());
-            Err(Fault::NoEntries)
-        }
-        Err(error) => {
-            let _ = fs::remove_file(progress.rt(), path.as_str());
-            Err(fault_of(progress, alloc, words, failed.get(), error))
-        }
-    }
+        Ok(false) => Fault::NoEntries,
+        Err(error) => fault_of(progress, alloc, words, failed.get(), error),
+    };
+    let _ = fs::remove_file(progress.rt(), path.as_str());
+    Err(fault)
 }
 
 /// Merges tables, the newest first, into one, which replaces the file of its name when it is whole.
@@ -275,8 +285,15 @@ pub fn run<H: BlockHash, R: Files + Clock + Eprint, O: Write>(
     output: &mut O,
 ) -> Result<()> {
     match hash_in(words) {
-        None => merge_into::<H, H, R, O>(progress, alloc, words, output),
-        Some(TableHash::Poly31) => merge_into::<H, Poly31, R, O>(progress, alloc, words, output),
-        Some(TableHash::Xxh3) => merge_into::<H, Xxh3, R, O>(progress, alloc, words, output),
+        None => merge_into::<H, H, R>(progress, alloc, words)?,
+        Some(TableHash::Poly31) => merge_into::<H, Poly31, R>(progress, alloc, words)?,
+        Some(TableHash::Xxh3) => merge_into::<H, Xxh3, R>(progress, alloc, words)?,
     }
+    let count = words.get_strs(FILE).unwrap_or(&[]).len();
+    writeln!(
+        output,
+        "merged {count} tables into {}",
+        words.get_str(OUT).unwrap_or("")
+    )?;
+    Ok(())
 }

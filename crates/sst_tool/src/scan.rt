@@ -122,6 +122,57 @@ fn key_of(alloc: Global, words: &ArgMatches<'_>, id: &str) -> Result<Option<Vec<
     }
 }
 
+// The keys from which a scan begins and before which it ends.
+#[derive(Drop)]
+struct Range {
+    from: Option<Vec<u8>>,
+    to: Option<Vec<u8>>,
+}
+
+impl Range {
+    // The first key.
+    fn from(&self) -> Bound<&[u8]> {
+        match &self.from {
+            Some(key) => Bound::Included(key.as_slice()),
+            None => Bound::Unbounded,
+        }
+    }
+
+    // The key at which to end.
+    fn to(&self) -> Bound<&[u8]> {
+        match &self.to {
+            Some(key) => Bound::Excluded(key.as_slice()),
+            None => Bound::Unbounded,
+        }
+    }
+}
+
+// The fault of a scan that did not come to its end.
+fn fault_of<R>(progress: &Progress<'_, R>, alloc: Global, file: &str, stop: Stop) -> Fault {
+    match stop {
+        Stop::Print(fault) => fault,
+        Stop::Read(error) => Fault::of_file(alloc, file, progress.offset(), error),
+    }
+}
+
+// Prints the entries of a range of a table file.
+fn print_range<H: BlockHash, R: Files + Clock + Eprint, O: Write + Drop>(
+    progress: &Progress<'_, R>,
+    alloc: Global,
+    words: &ArgMatches<'_>,
+    range: &Range,
+    lines: &mut Lines<O>,
+) -> Result<()> {
+    let file = words.get_str(FILE).unwrap_or("");
+    let table = open::<H, R>(progress, alloc, file)?;
+    let scan = table.scan_range(range.from(), range.to());
+    let source = Scanned::reversed(scan, words.get_flag(REVERSE));
+    match print_scanned(alloc, words, source, lines) {
+        Ok(()) => Ok(()),
+        Err(stop) => Err(fault_of(progress, alloc, file, stop)),
+    }
+}
+
 /// Prints the entries of a table from the key of `--from` up to that of `--to`, without it; with
 /// `--at` only what a read at this sequence number sees.
 ///
@@ -135,25 +186,12 @@ pub fn run<H: BlockHash, R: Files + Clock + Eprint, O: Write>(
     words: &ArgMatches<'_>,
     output: &mut O,
 ) -> Result<()> {
-    let file = words.get_str(FILE).unwrap_or("");
-    let from = key_of(alloc, words, FROM)?;
-    let to = key_of(alloc, words, TO)?;
-    let from = match &from {
-        Some(key) => Bound::Included(key.as_slice()),
-        None => Bound::Unbounded,
+    let range = Range {
+        from: key_of(alloc, words, FROM)?,
+        to: key_of(alloc, words, TO)?,
     };
-    let to = match &to {
-        Some(key) => Bound::Excluded(key.as_slice()),
-        None => Bound::Unbounded,
-    };
-    let scan = open::<H, R>(progress, alloc, file)?.scan_range(from, to);
-    let source = Scanned::reversed(scan, words.get_flag(REVERSE));
     let mut lines = Lines::new(alloc, &mut *output, words.get_flag(TEXT))?;
-    let printed = print_scanned(alloc, words, source, &mut lines);
+    let printed = print_range::<H, R, _>(progress, alloc, words, &range, &mut lines);
     lines.flush()?;
-    match printed {
-        Ok(()) => Ok(()),
-        Err(Stop::Print(fault)) => Err(fault),
-        Err(Stop::Read(error)) => Err(Fault::of_file(alloc, file, progress.offset(), error)),
-    }
+    printed
 }

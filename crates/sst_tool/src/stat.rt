@@ -239,6 +239,22 @@ impl Stat {
     }
 }
 
+// Checks a table file whole: what it has.
+fn read<H: BlockHash, R: Files + Clock + Eprint>(
+    progress: &Progress<'_, R>,
+    alloc: Global,
+    hash: TableHash,
+    file: &str,
+) -> Result<Stat> {
+    let mut table = open::<H, R>(progress, alloc, file)?;
+    let stat = stat_of(alloc, hash, &mut table);
+    progress.clear();
+    match stat {
+        Ok(stat) => Ok(stat),
+        Err(error) => Err(Fault::of_file(alloc, file, progress.offset(), error)),
+    }
+}
+
 /// Checks a table whole, and prints what it holds, as lines or as JSON.
 ///
 /// # Errors
@@ -252,13 +268,7 @@ pub fn run<H: BlockHash, R: Files + Clock + Eprint, O: Write>(
     output: &mut O,
 ) -> Result<()> {
     let file = words.get_str(FILE).unwrap_or("");
-    let mut table = open::<H, R>(progress, alloc, file)?;
-    let stat = stat_of(alloc, hash, &mut table);
-    progress.clear();
-    let stat = match stat {
-        Ok(stat) => stat,
-        Err(error) => return Err(Fault::of_file(alloc, file, progress.offset(), error)),
-    };
+    let stat = read::<H, R>(progress, alloc, hash, file)?;
     if words.get_flag(JSON) {
         stat.print_json(output)?;
     } else {

@@ -93,30 +93,40 @@ fn flag<'a>(alloc: Global, name: &'a str, help: &'a str) -> Arg<'a> {
         .help(help)
 }
 
+// A command with its help and its words.
+fn command_of<'a, const N: usize>(
+    alloc: Global,
+    name: &'a str,
+    help: &'a str,
+    words: [Arg<'a>; N],
+) -> Result<Command<'a>, AllocError> {
+    let words = Vec::from_array(alloc, words)?;
+    Command::new(alloc, name).about(help).args(words)
+}
+
 // The words of `stat`.
 fn stat<'a>(alloc: Global) -> Result<Command<'a>, AllocError> {
-    Command::new(alloc, STAT)
-        .about("Prints what a table holds")
-        .arg(file(alloc))?
-        .arg(hash(alloc, READ_HASH))?
-        .arg(flag(alloc, JSON, "Print one line of JSON"))
+    let json = flag(alloc, JSON, "Print one line of JSON");
+    let words = [file(alloc), hash(alloc, READ_HASH), json];
+    command_of(alloc, STAT, "Prints what a table holds", words)
 }
 
 // The words of `scan`.
 fn scan<'a>(alloc: Global) -> Result<Command<'a>, AllocError> {
-    Command::new(alloc, SCAN)
-        .about("Prints the entries of a table")
-        .arg(file(alloc))?
-        .arg(hash(alloc, READ_HASH))?
-        .arg(key_option(alloc, FROM, "The first key"))?
-        .arg(key_option(alloc, TO, "The key at which to end, without it"))?
-        .arg(at(alloc))?
-        .arg(flag(alloc, REVERSE, "From the last entry to the first"))?
-        .arg(flag(
+    let words = [
+        file(alloc),
+        hash(alloc, READ_HASH),
+        key_option(alloc, FROM, "The first key"),
+        key_option(alloc, TO, "The key at which to end, without it"),
+        at(alloc),
+        flag(alloc, REVERSE, "From the last entry to the first"),
+        flag(
             alloc,
             TEXT,
             "Keys and values as text where they are printable",
-        ))
+        ),
+    ];
+    command_of(alloc, SCAN, "Prints the entries of a table", words)
 }
 
 // The words of `get`.
@@ -124,47 +134,62 @@ fn get<'a>(alloc: Global) -> Result<Command<'a>, AllocError> {
     let key = Arg::new(alloc, KEY)
         .required(true)
         .help("The user key, as text or as hex:DIGITS");
-    Command::new(alloc, GET)
-        .about("Prints the newest version of a key")
-        .arg(file(alloc))?
-        .arg(key)?
-        .arg(hash(alloc, READ_HASH))?
-        .arg(at(alloc))
+    let words = [file(alloc), key, hash(alloc, READ_HASH), at(alloc)];
+    command_of(alloc, GET, "Prints the newest version of a key", words)
 }
 
 // The words of `check`.
 fn check<'a>(alloc: Global) -> Result<Command<'a>, AllocError> {
-    Command::new(alloc, CHECK)
-        .about("Checks a table whole")
-        .arg(file(alloc))?
-        .arg(hash(alloc, READ_HASH))
+    let words = [file(alloc), hash(alloc, READ_HASH)];
+    command_of(alloc, CHECK, "Checks a table whole", words)
+}
+
+// The table file that a merge writes.
+fn out<'a>(alloc: Global) -> Arg<'a> {
+    Arg::new(alloc, OUT)
+        .required(true)
+        .help("The table file to write")
+}
+
+// The files that are merged.
+fn files<'a>(alloc: Global) -> Arg<'a> {
+    Arg::new(alloc, FILE)
+        .required(true)
+        .num_args(1..)
+        .action(ArgAction::Append)
+        .help("Table files, the newest first")
+}
+
+// The least sequence number that is read at after a merge.
+fn snapshot<'a>(alloc: Global) -> Arg<'a> {
+    Arg::new(alloc, SNAPSHOT)
+        .long(SNAPSHOT)
+        .value_name("SEQNO")
+        .value_parser(value_parser!(u64))
+        .help("Keep what reads at this sequence number and above see; else all versions")
 }
 
 // The words of `merge`.
 fn merge<'a>(alloc: Global) -> Result<Command<'a>, AllocError> {
-    let out = Arg::new(alloc, OUT)
-        .required(true)
-        .help("The table file to write");
-    let files = Arg::new(alloc, FILE)
-        .required(true)
-        .num_args(1..)
-        .action(ArgAction::Append)
-        .help("Table files, the newest first");
-    let snapshot = Arg::new(alloc, SNAPSHOT)
-        .long(SNAPSHOT)
-        .value_name("SEQNO")
-        .value_parser(value_parser!(u64))
-        .help("Keep what reads at this sequence number and above see; else all versions");
-    Command::new(alloc, MERGE)
-        .about("Merges tables into one")
-        .arg(out)?
-        .arg(files)?
-        .arg(snapshot)?
-        .arg(hash(
+    let words = [
+        out(alloc),
+        files(alloc),
+        snapshot(alloc),
+        hash(
             alloc,
             "The hash function of the new table; else that of the tables",
-        ))?
-        .arg(flag(alloc, BOTTOM, "Drop tombstones: no older table is below"))
+        ),
+        flag(alloc, BOTTOM, "Drop tombstones: no older table is below"),
+    ];
+    command_of(alloc, MERGE, "Merges tables into one", words)
+}
+
+// Adds a command.
+fn with<'a>(
+    command: Result<Command<'a>, AllocError>,
+    added: Result<Command<'a>, AllocError>,
+) -> Result<Command<'a>, AllocError> {
+    command?.subcommand(added?)
 }
 
 /// Makes the command that parses the program's words.
@@ -173,14 +198,12 @@ fn merge<'a>(alloc: Global) -> Result<Command<'a>, AllocError> {
 ///
 /// If an allocation fails.
 pub fn command<'a>(alloc: Global) -> Result<Command<'a>, AllocError> {
-    Command::new(alloc, "sstool")
+    let named = Command::new(alloc, "sstool")
         .version("0.1.0")
         .about("Shows, checks, scans and merges table files")
         .subcommand_required(true)
-        .arg_required_else_help(true)
-        .subcommand(stat(alloc)?)?
-        .subcommand(scan(alloc)?)?
-        .subcommand(get(alloc)?)?
-        .subcommand(check(alloc)?)?
-        .subcommand(merge(alloc)?)
+        .arg_required_else_help(true);
+    let reading = with(with(Ok(named), stat(alloc)), scan(alloc));
+    let checking = with(with(reading, get(alloc)), check(alloc));
+    with(checking, merge(alloc))
 }
