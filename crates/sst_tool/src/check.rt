@@ -3,56 +3,36 @@ ghost use Rattle.std.specs.Prelude.{◌≡◌, slice_get, IfSome, Some};
 ghost use Rattle.std.specs.Option.{option_map};
 
 use crate::fault::{Fault, Result};
-use crate::open::{FileTable, open};
+use crate::open::open;
 use crate::place::{TableBlock, footer_block_at};
 use crate::progress::Progress;
 use crate::words::FILE;
 use clap::ArgMatches;
-use sstable_blocks::{BlockHash, Error, RunSummary, Steps};
+use sstable_blocks::{BlockHash, IndexBlock, RunHandles, RunSummary, Steps};
 use std::alloc::Global;
 use std::io::Write;
 use std::rt::{Clock, Files};
 
-// The index of the data block at an offset, by the handles.
-fn data_block_at<H: BlockHash, R: Files + Clock + Eprint>(
-    table: &FileTable<'_, H, R>,
-    offset: u64,
-) -> Option<usize>
-    ensures { IfSome result (λ i. option_map (λ h. h.offset) (slice_get table.now.index i) ≡ Some offset) }
+// The number of the data block at an offset, by the handles.
+fn data_block_at(index: &IndexBlock, offset: u64) -> Option<usize>
+    ensures { IfSome result (λ i. option_map (λ h. h.offset) (slice_get index.now.items i) ≡ Some offset) }
 {
-    let mut index = 0usize;
-    while index < table.index().len() {
-        let handle = table.index().handle_at(index, &mut Steps::new());
+    let mut number = 0usize;
+    while number < index.len() {
+        let handle = index.handle_at(number, &mut Steps::new());
         if *handle.offset() == offset {
-            return Some(index);
+            return Some(number);
         }
-        index += 1;
+        number += 1;
     }
     None
 }
 
 // The block at an offset, by the footer and the index.
-fn block_at<H: BlockHash, R: Files + Clock + Eprint>(
-    table: &FileTable<'_, H, R>,
-    offset: u64,
-) -> Option<TableBlock> {
-    match footer_block_at(table.handles(), offset) {
+fn block_at(handles: &RunHandles, index: &IndexBlock, offset: u64) -> Option<TableBlock> {
+    match footer_block_at(handles, offset) {
         Some(block) => Some(block),
-        None => Some(TableBlock::Data(data_block_at(table, offset)?)),
-    }
-}
-
-// The fault of a table that the check refuses: it names the block that was read last.
-fn refused<H: BlockHash, R: Files + Clock + Eprint>(
-    alloc: Global,
-    file: &str,
-    table: &FileTable<'_, H, R>,
-    offset: Option<u64>,
-    error: Error,
-) -> Fault {
-    match offset {
-        Some(offset) => Fault::of_block(alloc, file, block_at(table, offset), offset, error),
-        None => Fault::of_file(alloc, file, None, error),
+        None => Some(TableBlock::Data(data_block_at(index, offset)?)),
     }
 }
 
@@ -65,9 +45,13 @@ fn check<H: BlockHash, R: Files + Clock + Eprint>(
     let mut table = open::<H, R>(progress, alloc, file)?;
     let checked = table.verify(alloc);
     progress.clear();
-    match checked {
-        Ok(summary) => Ok(summary),
-        Err(error) => Err(refused(alloc, file, &table, progress.offset(), error)),
+    match (checked, progress.offset()) {
+        (Ok(summary), _) => Ok(summary),
+        (Err(error), Some(offset)) => {
+            let block = block_at(table.handles(), table.index(), offset);
+            Err(Fault::of_block(alloc, file, block, offset, error))
+        }
+        (Err(error), None) => Err(Fault::of_file(alloc, file, None, error)),
     }
 }
 

@@ -77,6 +77,34 @@ fn refused<S: SizedSource + Drop>(
     }
 }
 
+// A table that is opened, or the fault of one that is not.
+fn opened_or_fault<H: BlockHash, S: SizedSource + Drop>(
+    alloc: Global,
+    name: &str,
+    opened: std::result::Result<Table<H, S>, OpenError<S>>,
+    offset: Option<u64>,
+) -> Result<Table<H, S>> {
+    match opened {
+        Ok(table) => Ok(table),
+        Err(failed) => Err(refused(alloc, name, failed, offset)),
+    }
+}
+
+// Opens a file.
+fn source_of<'p, R: Files>(
+    progress: &'p Progress<'p, R>,
+    alloc: Global,
+    name: &str,
+) -> Result<FileSource<CountedFile<'p, R>>> {
+    match open_file(progress.rt(), name) {
+        Ok(file) => {
+            progress.begin_file();
+            Ok(FileSource::new(CountedFile { file, progress }))
+        }
+        Err(error) => Err(Fault::of_file(alloc, name, None, error)),
+    }
+}
+
 /// Opens a table file: reads its footer, filter and index.
 ///
 /// # Errors
@@ -87,14 +115,7 @@ pub fn open<'p, H: BlockHash, R: Files + Clock + Eprint>(
     alloc: Global,
     name: &str,
 ) -> Result<FileTable<'p, H, R>> {
-    let file = match open_file(progress.rt(), name) {
-        Ok(file) => file,
-        Err(error) => return Err(Fault::of_file(alloc, name, None, error)),
-    };
-    progress.begin_file();
-    let source = FileSource::new(CountedFile { file, progress });
-    match FileTable::<'p, H, R>::open_file(alloc, source) {
-        Ok(table) => Ok(table),
-        Err(failed) => Err(refused(alloc, name, failed, progress.offset())),
-    }
+    let source = source_of(progress, alloc, name)?;
+    let opened = FileTable::<'p, H, R>::open_file(alloc, source);
+    opened_or_fault(alloc, name, opened, progress.offset())
 }

@@ -1,7 +1,7 @@
 //! `stat`: what a table holds.
 use crate::fault::{Fault, Result};
 use crate::hash::TableHash;
-use crate::open::{FileTable, open};
+use crate::open::open;
 use crate::progress::Progress;
 use crate::show::{Hex, Shown};
 use crate::words::{FILE, JSON};
@@ -9,7 +9,9 @@ use clap::ArgMatches;
 use sst_block_core::table::block::trailer::{TRAILER_SIZE, Trailer};
 use sstable_blocks::filter::standard_bloom::StandardBloomFilterReader;
 use sstable_blocks::run::footer::FOOTER_LEN;
-use sstable_blocks::{Block, BlockHandle, BlockHash, Error, FilterBlock, RunSummary};
+use sstable_blocks::{
+    Block, BlockHandle, BlockHash, Error, FilterBlock, FrameSource, RunSummary, Table,
+};
 use std::alloc::Global;
 use std::io;
 use std::io::Write;
@@ -75,9 +77,9 @@ fn interval_of(block: &Block) -> u8 {
 }
 
 // What the data blocks of a table have.
-fn blocks_of<H: BlockHash, R: Files + Clock + Eprint>(
+fn blocks_of<H: BlockHash, S: FrameSource>(
     alloc: Global,
-    table: &mut FileTable<'_, H, R>,
+    table: &mut Table<H, S>,
 ) -> std::result::Result<Blocks, Error> {
     let mut blocks = Blocks {
         least_interval: u8::MAX,
@@ -100,10 +102,10 @@ fn blocks_of<H: BlockHash, R: Files + Clock + Eprint>(
 }
 
 // What a table has. It is checked whole.
-fn stat_of<H: BlockHash, R: Files + Clock + Eprint>(
+fn stat_of<H: BlockHash, S: FrameSource>(
     alloc: Global,
     hash: TableHash,
-    table: &mut FileTable<'_, H, R>,
+    table: &mut Table<H, S>,
 ) -> std::result::Result<Stat, Error> {
     let summary = table.verify(alloc)?;
     let blocks = blocks_of(alloc, table)?;

@@ -1,5 +1,5 @@
 use Rattle.std.proofs.Common.{◌-◌, length}
 use Rattle.sst_tool.proofs.check.data_block_at.Given as goal
 
-abbrev pub decreases-loop-index : goal.decreases-loop-index
-decreases-loop-index g l = length l.table.index - l.index
+abbrev pub decreases-loop-number : goal.decreases-loop-number
+decreases-loop-number l = length l.index.items - l.number
