@@ -91,7 +91,7 @@ fn opened_or_fault<H: BlockHash, S: SizedSource + Drop>(
 }
 
 // Opens a file.
-fn source_of<'p, R: Files>(
+fn source_of<'p, R: Files + Clock + Eprint>(
     progress: &'p Progress<'p, R>,
     alloc: Global,
     name: &str,
