@@ -4,7 +4,7 @@ ghost use Rattle.std.specs.Prelude.{◌≤◌, length};
 use crate::Tested;
 use sst_uses::newest::newest_below;
 use sst_uses::{append_entries, count_below, open_block, read};
-use sstable_blocks::{DataBlock, InternalValue, Poly31, Result, Slice, ValueType};
+use sstable_blocks::{DataBlock, InternalValue, Result, Slice, ValueType, Xxh3};
 use std::alloc::Global;
 use std::process::Abort;
 
@@ -31,10 +31,10 @@ fn three_entries(alloc: Global) -> Result<Vec<InternalValue>> {
 }
 
 /// The block of these entries.
-fn block_of_three(rt: &impl Abort, alloc: Global) -> Result<DataBlock<Poly31>> {
+fn block_of_three(rt: &impl Abort, alloc: Global) -> Result<DataBlock<Xxh3>> {
     let list = three_entries(alloc)?;
     assert!(rt; !list.is_empty());
-    assert!(rt; DataBlock::<Poly31>::is_ordered(&list));
+    assert!(rt; DataBlock::<Xxh3>::is_ordered(&list));
     open_block(alloc, &list)
 }
 
@@ -69,7 +69,7 @@ fn an_older_version_is_read(rt: HostRuntime) -> Tested {
 fn an_older_version_is_read_from_a_list(rt: HostRuntime) -> Tested {
     let list = three_entries(rt.alloc())?;
     assert!(rt; !list.is_empty());
-    assert!(rt; DataBlock::<Poly31>::is_ordered(&list));
+    assert!(rt; DataBlock::<Xxh3>::is_ordered(&list));
     match newest_below(rt.alloc(), &list, b"apple", 7)? {
         Some(found) => assert!(rt; found.value().eq_bytes(b"green")),
         None => assert!(rt; false, "no apple"),
