@@ -8,7 +8,9 @@ use crate::place::{TableBlock, footer_block_at};
 use crate::progress::Progress;
 use crate::words::FILE;
 use clap::ArgMatches;
-use sstable_blocks::{BlockHash, IndexBlock, RunHandles, RunSummary, Steps};
+use sstable_blocks::{
+    BlockHash, Error, FrameSource, IndexBlock, RunHandles, RunSummary, Steps, Table,
+};
 use std::alloc::Global;
 use std::io::Write;
 use std::rt::{Clock, Files};
@@ -36,6 +38,42 @@ fn block_at(handles: &RunHandles, index: &IndexBlock, offset: u64) -> Option<Tab
     }
 }
 
+// The fault of a table that the check refuses: it names the block that was read last.
+fn fault_of(
+    alloc: Global,
+    file: &str,
+    handles: &RunHandles,
+    index: &IndexBlock,
+    offset: Option<u64>,
+    error: Error,
+) -> Fault {
+    match offset {
+        Some(offset) => {
+            let block = block_at(handles, index, offset);
+            Fault::of_block(alloc, file, block, offset, error)
+        }
+        None => Fault::of_file(alloc, file, None, error),
+    }
+}
+
+// Checks a table of a file whole.
+fn check_in<H: BlockHash, S: FrameSource, R: Clock + Eprint>(
+    progress: &Progress<'_, R>,
+    alloc: Global,
+    file: &str,
+    table: &mut Table<H, S>,
+) -> Result<RunSummary> {
+    let checked = table.verify(alloc);
+    progress.clear();
+    match checked {
+        Ok(summary) => Ok(summary),
+        Err(error) => {
+            let (handles, index) = (table.handles(), table.index());
+            Err(fault_of(alloc, file, handles, index, progress.offset(), error))
+        }
+    }
+}
+
 // Checks a table file whole.
 fn check<H: BlockHash, R: Files + Clock + Eprint>(
     progress: &Progress<'_, R>,
@@ -43,16 +81,7 @@ fn check<H: BlockHash, R: Files + Clock + Eprint>(
     file: &str,
 ) -> Result<RunSummary> {
     let mut table = open::<H, R>(progress, alloc, file)?;
-    let checked = table.verify(alloc);
-    progress.clear();
-    match (checked, progress.offset()) {
-        (Ok(summary), _) => Ok(summary),
-        (Err(error), Some(offset)) => {
-            let block = block_at(table.handles(), table.index(), offset);
-            Err(Fault::of_block(alloc, file, block, offset, error))
-        }
-        (Err(error), None) => Err(Fault::of_file(alloc, file, None, error)),
-    }
+    check_in(progress, alloc, file, &mut table)
 }
 
 /// Checks a table file whole: each block, the order across blocks, end keys, the filter. Prints the

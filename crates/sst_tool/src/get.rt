@@ -6,13 +6,28 @@ use crate::progress::Progress;
 use crate::show::EntryText;
 use crate::words::{AT, FILE, KEY};
 use clap::ArgMatches;
-use sstable_blocks::{BlockHash, InternalValue, SeqNo, Steps};
+use sstable_blocks::{BlockHash, FrameSource, InternalValue, SeqNo, Steps, Table};
 use std::alloc::Global;
 use std::io;
 use std::io::Write;
 use std::rt::{Clock, Files};
 
-// Reads the newest version of a key below a sequence number from a table file.
+// Reads the newest version of a key below a sequence number from a table of a file.
+fn read_in<H: BlockHash, S: FrameSource, R>(
+    progress: &Progress<'_, R>,
+    alloc: Global,
+    file: &str,
+    table: &mut Table<H, S>,
+    key: &[u8],
+    at: SeqNo,
+) -> Result<Option<InternalValue>> {
+    match table.get(alloc, key, at, &mut Steps::new()) {
+        Ok(found) => Ok(found),
+        Err(error) => Err(Fault::of_file(alloc, file, progress.offset(), error)),
+    }
+}
+
+// Reads the newest version of a key below a sequence number from a file.
 fn read<H: BlockHash, R: Files + Clock + Eprint>(
     progress: &Progress<'_, R>,
     alloc: Global,
@@ -21,10 +36,7 @@ fn read<H: BlockHash, R: Files + Clock + Eprint>(
     at: SeqNo,
 ) -> Result<Option<InternalValue>> {
     let mut table = open::<H, R>(progress, alloc, file)?;
-    match table.get(alloc, key, at, &mut Steps::new()) {
-        Ok(found) => Ok(found),
-        Err(error) => Err(Fault::of_file(alloc, file, progress.offset(), error)),
-    }
+    read_in(progress, alloc, file, &mut table, key, at)
 }
 
 // Prints a version, or `none`.

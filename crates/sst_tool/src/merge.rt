@@ -9,8 +9,8 @@ use clap::ArgMatches;
 use sst_merge::{Head, Merge, Outputs, Sizes, Source, compact_tables};
 use sst_program::sync::{BufferedFile, SyncWrite};
 use sstable_blocks::{
-    BlockHash, Error, FileSource, HashRatio, InternalValue, Poly31, RunConfig, RunHandles, Xxh3,
-    encode_footer,
+    BlockHash, Error, FileSource, FrameSource, HashRatio, InternalValue, Poly31, RunConfig,
+    RunHandles, Table, Xxh3, encode_footer,
 };
 use std::alloc::Global;
 use std::cell::Cell;
@@ -36,14 +36,13 @@ const SIZES: Sizes = Sizes {
 
 /// A table that is merged. It notes in `failed` that a read of it failed, by its index.
 #[derive(Drop)]
-struct Merged<'p, 'f, H: BlockHash, R: Files + Clock + Eprint> {
-    scan: Scanned<'static, H, FileSource<CountedFile<'p, R>>>,
+struct Merged<'f, H: BlockHash, S: FrameSource> {
+    scan: Scanned<'static, H, S>,
     index: usize,
     failed: &'f Cell<Option<usize>>,
 }
 
-impl<'p, 'f, H: BlockHash, R: Files + Clock + Eprint> Source<InternalValue>
-    for Merged<'p, 'f, H, R> {
+impl<'f, H: BlockHash, S: FrameSource> Source<InternalValue> for Merged<'f, H, S> {
     ghost use Rattle.std.specs.Prelude.{None};
     ghost use Rattle.sstable_blocks.specs.Scans.{most_left};
 
@@ -61,6 +60,9 @@ impl<'p, 'f, H: BlockHash, R: Files + Clock + Eprint> Source<InternalValue>
         entry
     }
 }
+
+/// A table of a file that is merged, with its first entry.
+type FileHead<'p, 'f, H, R> = Head<InternalValue, Merged<'f, H, FileSource<CountedFile<'p, R>>>>;
 
 /// A file that a table is written into. Clauses know nothing of its bytes.
 #[derive(Drop)]
@@ -120,17 +122,18 @@ impl<F: Write + OpenFile + Drop> NewFile<F> {
     }
 }
 
-// Opens a table, of this index, and reads its first entry.
-fn head_of<'p, 'f, H: BlockHash, R: Files + Clock + Eprint>(
-    progress: &'p Progress<'p, R>,
+// Reads the first entry of a table of a file, which has this index.
+fn head_in<'f, H: BlockHash, S: FrameSource + Drop, R>(
+    progress: &Progress<'_, R>,
     alloc: Global,
     file: &str,
+    table: Table<H, S>,
     index: usize,
     failed: &'f Cell<Option<usize>>,
-) -> Result<Head<InternalValue, Merged<'p, 'f, H, R>>> {
-    let table = open::<H, R>(progress, alloc, file)?;
+) -> Result<Head<InternalValue, Merged<'f, H, S>>> {
+    let scan = Scanned::new(table.scan_range(Bound::Unbounded, Bound::Unbounded));
     let merged = Merged {
-        scan: Scanned::new(table.scan_range(Bound::Unbounded, Bound::Unbounded)),
+        scan,
         index,
         failed,
     };
@@ -140,13 +143,25 @@ fn head_of<'p, 'f, H: BlockHash, R: Files + Clock + Eprint>(
     }
 }
 
+// Opens a table file, which has this index, and reads its first entry.
+fn head_of<'p, 'f, H: BlockHash, R: Files + Clock + Eprint>(
+    progress: &'p Progress<'p, R>,
+    alloc: Global,
+    file: &str,
+    index: usize,
+    failed: &'f Cell<Option<usize>>,
+) -> Result<FileHead<'p, 'f, H, R>> {
+    let table = open::<H, R>(progress, alloc, file)?;
+    head_in(progress, alloc, file, table, index, failed)
+}
+
 // Opens tables, the newest first.
 fn heads_of<'p, 'f, H: BlockHash, R: Files + Clock + Eprint>(
     progress: &'p Progress<'p, R>,
     alloc: Global,
     files: &[&str],
     failed: &'f Cell<Option<usize>>,
-) -> Result<Vec<Head<InternalValue, Merged<'p, 'f, H, R>>>> {
+) -> Result<Vec<FileHead<'p, 'f, H, R>>> {
     let mut heads = Vec::new(alloc);
     for (index, file) in files.iter().enumerate() {
         heads.push(head_of::<H, R>(progress, alloc, file, index, failed)?)?;

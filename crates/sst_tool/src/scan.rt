@@ -11,7 +11,7 @@ use crate::source::Scanned;
 use crate::words::{AT, FILE, FROM, REVERSE, TEXT, TO};
 use clap::ArgMatches;
 use sst_merge::{Snapshot, Source, Version};
-use sstable_blocks::{BlockHash, Error, FrameSource, InternalValue, SeqNo};
+use sstable_blocks::{BlockHash, Error, FrameSource, InternalValue, SeqNo, Table};
 use std::alloc::Global;
 use std::io::Write;
 use std::ops::Bound;
@@ -155,6 +155,23 @@ fn fault_of<R>(progress: &Progress<'_, R>, alloc: Global, file: &str, stop: Stop
     }
 }
 
+// Prints the entries of a range of a table of a file.
+fn print_range_in<H: BlockHash, S: FrameSource + Drop, R, O: Write + Drop>(
+    progress: &Progress<'_, R>,
+    alloc: Global,
+    words: &ArgMatches<'_>,
+    table: Table<H, S>,
+    range: &Range,
+    lines: &mut Lines<O>,
+) -> Result<()> {
+    let scan = table.scan_range(range.from(), range.to());
+    let source = Scanned::reversed(scan, words.get_flag(REVERSE));
+    match print_scanned(alloc, words, source, lines) {
+        Ok(()) => Ok(()),
+        Err(stop) => Err(fault_of(progress, alloc, words.get_str(FILE).unwrap_or(""), stop)),
+    }
+}
+
 // Prints the entries of a range of a table file.
 fn print_range<H: BlockHash, R: Files + Clock + Eprint, O: Write + Drop>(
     progress: &Progress<'_, R>,
@@ -163,14 +180,8 @@ fn print_range<H: BlockHash, R: Files + Clock + Eprint, O: Write + Drop>(
     range: &Range,
     lines: &mut Lines<O>,
 ) -> Result<()> {
-    let file = words.get_str(FILE).unwrap_or("");
-    let table = open::<H, R>(progress, alloc, file)?;
-    let scan = table.scan_range(range.from(), range.to());
-    let source = Scanned::reversed(scan, words.get_flag(REVERSE));
-    match print_scanned(alloc, words, source, lines) {
-        Ok(()) => Ok(()),
-        Err(stop) => Err(fault_of(progress, alloc, file, stop)),
-    }
+    let table = open::<H, R>(progress, alloc, words.get_str(FILE).unwrap_or(""))?;
+    print_range_in(progress, alloc, words, table, range, lines)
 }
 
 /// Prints the entries of a table from the key of `--from` up to that of `--to`, without it; with

@@ -241,6 +241,22 @@ impl Stat {
     }
 }
 
+// Checks a table of a file whole: what it has.
+fn read_in<H: BlockHash, S: FrameSource, R: Clock + Eprint>(
+    progress: &Progress<'_, R>,
+    alloc: Global,
+    hash: TableHash,
+    file: &str,
+    table: &mut Table<H, S>,
+) -> Result<Stat> {
+    let stat = stat_of(alloc, hash, table);
+    progress.clear();
+    match stat {
+        Ok(stat) => Ok(stat),
+        Err(error) => Err(Fault::of_file(alloc, file, progress.offset(), error)),
+    }
+}
+
 // Checks a table file whole: what it has.
 fn read<H: BlockHash, R: Files + Clock + Eprint>(
     progress: &Progress<'_, R>,
@@ -249,12 +265,7 @@ fn read<H: BlockHash, R: Files + Clock + Eprint>(
     file: &str,
 ) -> Result<Stat> {
     let mut table = open::<H, R>(progress, alloc, file)?;
-    let stat = stat_of(alloc, hash, &mut table);
-    progress.clear();
-    match stat {
-        Ok(stat) => Ok(stat),
-        Err(error) => Err(Fault::of_file(alloc, file, progress.offset(), error)),
-    }
+    read_in(progress, alloc, hash, file, &mut table)
 }
 
 /// Checks a table whole, and prints what it holds, as lines or as JSON.
