@@ -5,8 +5,8 @@ use crate::runs::run_of;
 use sst_base::{ByteSum, InternalValue, Result, Slice, Steps};
 use sst_block_kinds::table::data_block::EntryView;
 use sst_merge::{
-    Compact, Head, Merge, MergeBack, Sizes, Snapshot, Source, Tail, Version, read_tables,
-    write_table,
+    BackSource, Compact, Head, Merge, MergeBack, Sizes, Snapshot, Source, Tail, Version,
+    read_tables, write_table,
 };
 use sstable_blocks::run::{RunRef, RunScan, Trusted};
 use sstable_blocks::{MemorySource, RunConfig, RunHandles, Table};
@@ -53,6 +53,16 @@ pub fn compact(rt: &impl Print, alloc: Global, times: u32) -> Result<()> {
     Ok(())
 }
 
+// Adds a source to those that are merged.
+fn push_head<T: Version + Drop, I: Source<T> + Drop>(
+    alloc: Global,
+    heads: &mut Vec<Head<T, I>>,
+    source: I,
+) -> Result<()> {
+    heads.push(Head::new(alloc, source)?)?;
+    Ok(())
+}
+
 // The merge of two runs.
 fn merge_of<'a>(
     alloc: Global,
@@ -60,8 +70,8 @@ fn merge_of<'a>(
     second: &RunRef<'a, ByteSum>,
 ) -> Result<Merge<EntryView<'a>, Scan<'a>>> {
     let mut heads = Vec::new(alloc);
-    heads.push(Head::new(alloc, first.scan())?)?;
-    heads.push(Head::new(alloc, second.scan())?)?;
+    push_head(alloc, &mut heads, first.scan())?;
+    push_head(alloc, &mut heads, second.scan())?;
     Ok(Merge::new(heads))
 }
 
@@ -116,6 +126,16 @@ pub fn advance(rt: &impl Print, alloc: Global, times: u32) -> Result<()> {
     Ok(())
 }
 
+// Adds a source to those that are merged from the back.
+fn push_tail<T: Version + Drop, I: BackSource<T> + Drop>(
+    alloc: Global,
+    tails: &mut Vec<Tail<T, I>>,
+    source: I,
+) -> Result<()> {
+    tails.push(Tail::new(alloc, source)?)?;
+    Ok(())
+}
+
 // The merge of two runs from the back.
 fn merge_back_of<'a>(
     alloc: Global,
@@ -123,8 +143,8 @@ fn merge_back_of<'a>(
     second: &RunRef<'a, ByteSum>,
 ) -> Result<MergeBack<EntryView<'a>, Scan<'a>>> {
     let mut tails = Vec::new(alloc);
-    tails.push(Tail::new(alloc, first.scan())?)?;
-    tails.push(Tail::new(alloc, second.scan())?)?;
+    push_tail(alloc, &mut tails, first.scan())?;
+    push_tail(alloc, &mut tails, second.scan())?;
     Ok(MergeBack::new(tails))
 }
 

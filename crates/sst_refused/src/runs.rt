@@ -78,6 +78,13 @@ pub fn add_blocks(rt: &impl Print, alloc: Global, times: u32) -> Result<()> {
     Ok(())
 }
 
+// Reads a long key from a run.
+fn read_once(rt: &impl Print, alloc: Global, bytes: &Slice, handles: &RunHandles) -> Result<()> {
+    let found = read_entry::<ByteSum>(alloc, bytes, handles, LONG_KEY, 2, &mut Steps::new());
+    println!(rt; "{found:?}")?;
+    Ok(())
+}
+
 /// Reads a long key from a run of one block with buckets.
 pub fn read(rt: &impl Print, alloc: Global, times: u32) -> Result<()> {
     let (list, config) = (list_of(alloc, &LONG)?, RunConfig::new(2, ONE_EACH, 10));
@@ -88,8 +95,7 @@ pub fn read(rt: &impl Print, alloc: Global, times: u32) -> Result<()> {
     let handles = write_run::<ByteSum, Vec<u8>>(alloc, &mut bytes, &list, &[], config)?;
     let bytes = Slice::from_vec(bytes)?;
     for _ in 0..times {
-        let found = read_entry::<ByteSum>(alloc, &bytes, &handles, LONG_KEY, 2, &mut Steps::new());
-        println!(rt; "{found:?}")?;
+        read_once(rt, alloc, &bytes, &handles)?;
     }
     Ok(())
 }
@@ -105,14 +111,37 @@ pub fn run_of(alloc: Global, rows: &[Row]) -> Result<(Slice, RunHandles)> {
     Ok((Slice::from_vec(bytes)?, handles))
 }
 
+// Reads the key from a run in memory, with checks.
+fn read_memory_once(
+    rt: &impl Print,
+    alloc: Global,
+    source: &mut MemorySource,
+    handles: &RunHandles,
+) -> Result<()> {
+    let found = read_entry_checked::<ByteSum, _>(alloc, source, handles, LONG_KEY, 2);
+    println!(rt; "{found:?}")?;
+    Ok(())
+}
+
 /// Reads the key from the same run in memory, with checks.
 pub fn read_memory(rt: &impl Print, alloc: Global, times: u32) -> Result<()> {
     let (bytes, handles) = run_of(alloc, &LONG)?;
     let mut source = MemorySource::new(bytes);
     for _ in 0..times {
-        let found = read_entry_checked::<ByteSum, _>(alloc, &mut source, &handles, LONG_KEY, 2);
-        println!(rt; "{found:?}")?;
+        read_memory_once(rt, alloc, &mut source, &handles)?;
     }
+    Ok(())
+}
+
+// Reads the key from a run in a file, with checks.
+fn read_file_once(
+    rt: &impl Print,
+    alloc: Global,
+    source: &mut FileSource<Cursor<&[u8]>>,
+    handles: &RunHandles,
+) -> Result<()> {
+    let found = read_entry_checked::<ByteSum, _>(alloc, source, handles, LONG_KEY, 2);
+    println!(rt; "{found:?}")?;
     Ok(())
 }
 
@@ -121,8 +150,7 @@ pub fn read_file(rt: &impl Print, alloc: Global, times: u32) -> Result<()> {
     let (bytes, handles) = run_of(alloc, &LONG)?;
     let mut source = FileSource::new(Cursor::new(bytes.as_slice()));
     for _ in 0..times {
-        let found = read_entry_checked::<ByteSum, _>(alloc, &mut source, &handles, LONG_KEY, 2);
-        println!(rt; "{found:?}")?;
+        read_file_once(rt, alloc, &mut source, &handles)?;
     }
     Ok(())
 }

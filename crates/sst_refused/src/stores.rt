@@ -33,14 +33,28 @@ pub fn put(rt: &impl Print, alloc: Global, times: u32) -> Result<()> {
     Ok(())
 }
 
+// Reads a key.
+fn get_once(rt: &impl Print, store: &mut Store) -> Result<()> {
+    let found = store.get(LONG_KEY, 9);
+    println!(rt; "{found:?}")?;
+    Ok(())
+}
+
 /// Reads a key of a table.
 pub fn get(rt: &impl Print, alloc: Global, times: u32) -> Result<()> {
     let mut store = filled(alloc)?;
     store.flush()?;
     for _ in 0..times {
-        let found = store.get(LONG_KEY, 9);
-        println!(rt; "{found:?}")?;
+        get_once(rt, &mut store)?;
     }
+    Ok(())
+}
+
+// Moves versions into a table, and reads a key.
+fn flush_once(rt: &impl Print, store: &mut Store) -> Result<()> {
+    let flushed = store.flush();
+    let found = store.get(LONG_KEY, 9);
+    println!(rt; "{flushed:?} {found:?}")?;
     Ok(())
 }
 
@@ -48,14 +62,18 @@ pub fn get(rt: &impl Print, alloc: Global, times: u32) -> Result<()> {
 pub fn flush(rt: &impl Print, alloc: Global, times: u32) -> Result<()> {
     for _ in 0..times {
         match filled(alloc) {
-            Ok(mut store) => {
-                let flushed = store.flush();
-                let found = store.get(LONG_KEY, 9);
-                println!(rt; "{flushed:?} {found:?}")?;
-            }
+            Ok(mut store) => flush_once(rt, &mut store)?,
             Err(error) => println!(rt; "no store: {error:?}")?,
         }
     }
+    Ok(())
+}
+
+// Compacts the tables of a store, and reads a key.
+fn compact_once(rt: &impl Print, store: &mut Store) -> Result<()> {
+    let compacted = store.compact(9);
+    let found = store.get(LONG_KEY, 9);
+    println!(rt; "{compacted:?} {found:?}")?;
     Ok(())
 }
 
@@ -66,9 +84,7 @@ pub fn compact(rt: &impl Print, alloc: Global, times: u32) -> Result<()> {
     write(alloc, &mut store, LONG_KEY, b'w')?;
     store.flush()?;
     for _ in 0..times {
-        let compacted = store.compact(9);
-        let found = store.get(LONG_KEY, 9);
-        println!(rt; "{compacted:?} {found:?}")?;
+        compact_once(rt, &mut store)?;
     }
     Ok(())
 }

@@ -99,18 +99,28 @@ fn print_seen_back<I: Source<InternalValue>, O: Write + Drop>(
     Ok(lines.print_value(alloc, &newest)?)
 }
 
+// Prints what a read below a sequence number sees of a source.
+fn print_seen<I: Source<InternalValue> + Drop, O: Write + Drop>(
+    alloc: Global,
+    at: SeqNo,
+    source: I,
+    lines: &mut Lines<O>,
+) -> std::result::Result<(), Stop> {
+    print_all(alloc, &mut Snapshot::new(source, at), lines)
+}
+
 // Prints what is left of a scan, as the words say.
-fn print_scanned<H: BlockHash, S: FrameSource + Drop, O: Write + Drop>(
+fn print_scanned<I: Source<InternalValue> + Drop, O: Write + Drop>(
     alloc: Global,
     words: &ArgMatches<'_>,
-    source: Scanned<'_, H, S>,
+    source: I,
     lines: &mut Lines<O>,
 ) -> std::result::Result<(), Stop> {
     let mut source = source;
     match words.get_one::<u64>(AT) {
         None => print_all(alloc, &mut source, lines),
         Some(at) if words.get_flag(REVERSE) => print_seen_back(alloc, at, &mut source, lines),
-        Some(at) => print_all(alloc, &mut Snapshot::new(source, at), lines),
+        Some(at) => print_seen(alloc, at, source, lines),
     }
 }
 

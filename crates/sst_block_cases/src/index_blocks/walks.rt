@@ -6,7 +6,9 @@ use super::handles::word_of;
 use super::index_block;
 use sst_base::Slice;
 use sst_base::table::block::BlockHandle;
-use sst_block_kinds::table::index_block::{Answer, HandleRef, Handles, IndexOp, Iter, walk};
+use sst_block_kinds::table::index_block::{
+    Answer, HandleRef, HandleView, Handles, IndexOp, Iter, walk,
+};
 use sst_block_kinds::{IndexBlock, IndexBlockParsedItem, IndexBlockRef, KeyedBlockHandle};
 use sst_case_room::digest::Digest;
 use sst_case_room::fault::{Fault, Result};
@@ -210,11 +212,16 @@ fn digest_of(alloc: Global, words: &[String]) -> Result<String> {
     Ok(format!(in alloc; "{count} handles, {state:016x}")?)
 }
 
+/// The word of a handle of bytes that are lent.
+fn word_of_view(alloc: Global, view: &HandleView<'_>) -> Result<String> {
+    word_of(alloc, &view.to_handle(alloc)?)
+}
+
 /// The handles of bytes that are lent, with or without a table of their heads.
 fn by_views(alloc: Global, page: &IndexBlockRef<'_>) -> Result<String> {
     let mut words = Vec::new(alloc);
     for view in page.handles() {
-        words.push(word_of(alloc, &view.to_handle(alloc)?)?)?;
+        words.push(word_of_view(alloc, &view)?)?;
     }
     digest_of(alloc, words.as_slice())
 }

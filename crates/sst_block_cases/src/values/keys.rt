@@ -60,8 +60,8 @@ fn block(alloc: Global) -> Result<String> {
     Ok(format!(in alloc; "header {same}, abc {abc}, size {}", block.size())?)
 }
 
-/// The sizes of counters, of a history, and of a byte string; what is counted takes no memory.
-fn sizes(alloc: Global) -> Result<String> {
+/// Counts, and notes what was seen.
+fn count() {
     let mut steps = Steps::new();
     steps.count_head();
     steps.count_entry();
@@ -70,6 +70,11 @@ fn sizes(alloc: Global) -> Result<String> {
     let mut seen = History::new();
     seen.push(&7u8);
     seen.extend_from_slice(&[8, 9]);
+}
+
+/// The sizes of counters, of a history, and of a byte string; what is counted takes no memory.
+fn sizes(alloc: Global) -> Result<String> {
+    count();
     let (counters, history) = (size_of::<Steps>(), size_of::<History<u64>>());
     Ok(format!(in alloc; "{counters} {history} {}", size_of::<Slice>())?)
 }
