@@ -122,21 +122,44 @@ fn failing_merge(alloc: Global, steps: usize) -> Result<Merge<InternalValue, Fai
     Ok(Merge::new(heads))
 }
 
+/// What is counted of a merge of a source that fails after so many steps.
+fn counts_merged(alloc: Global, steps: usize) -> Result<(usize, bool)> {
+    let mut merged = failing_merge(alloc, steps)?;
+    Ok(counts(alloc, &mut merged, Error::Io))
+}
+
+/// What is counted of a snapshot of such a source.
+fn counts_seen(alloc: Global, steps: usize) -> Result<(usize, bool)> {
+    let mut snapshot = Snapshot::new(failing_after(alloc, steps)?, u64::MAX);
+    Ok(counts(alloc, &mut snapshot, Error::Io))
+}
+
+/// What is counted of a compaction of such a source.
+fn counts_compacted(alloc: Global, steps: usize) -> Result<(usize, bool)> {
+    let mut compact = Compact::new(failing_after(alloc, steps)?, 6, false);
+    Ok(counts(alloc, &mut compact, Error::Io))
+}
+
 // A merge holds the first version of each source, so it fails a step earlier.
 #[test]
 fn a_failed_step_ends_what_is_made_of_its_source(rt: HostRuntime) -> Tested {
     let alloc = rt.alloc();
     assert!(rt; Head::new(alloc, failing_after(alloc, 0)?).is_err());
     for steps in 1..5 {
-        let mut merged = failing_merge(alloc, steps)?;
-        assert_eq!(rt; counts(alloc, &mut merged, Error::Io), (steps - 1, true));
-        let mut snapshot = Snapshot::new(failing_after(alloc, steps)?, u64::MAX);
         let shown = [1, 1, 2, 3][steps - 1];
-        assert_eq!(rt; counts(alloc, &mut snapshot, Error::Io), (shown, true));
-        let mut compact = Compact::new(failing_after(alloc, steps)?, 6, false);
-        assert_eq!(rt; counts(alloc, &mut compact, Error::Io), (steps, true));
+        assert_eq!(rt; counts_merged(alloc, steps)?, (steps - 1, true));
+        assert_eq!(rt; counts_seen(alloc, steps)?, (shown, true));
+        assert_eq!(rt; counts_compacted(alloc, steps)?, (steps, true));
     }
     Ok(())
+}
+
+/// What is counted of a merge from the back of a source that fails after so many steps.
+fn counts_merged_back(alloc: Global, steps: usize) -> Result<(usize, bool)> {
+    let mut tails = Vec::new(alloc);
+    tails.push(Tail::new(alloc, failing_after(alloc, steps)?)?)?;
+    let mut merged = MergeBack::new(tails);
+    Ok(counts_back(alloc, &mut merged, Error::Io))
 }
 
 #[test]
@@ -144,13 +167,7 @@ fn a_failed_step_ends_a_merge_from_the_back(rt: HostRuntime) -> Tested {
     let alloc = rt.alloc();
     assert!(rt; Tail::new(alloc, failing_after(alloc, 0)?).is_err());
     for steps in 1..5 {
-        let mut tails = Vec::new(alloc);
-        tails.push(Tail::new(alloc, failing_after(alloc, steps)?)?)?;
-        let mut merged = MergeBack::new(tails);
-        assert_eq!(rt;
-            counts_back(alloc, &mut merged, Error::Io),
-            (steps - 1, true)
-        );
+        assert_eq!(rt; counts_merged_back(alloc, steps)?, (steps - 1, true));
     }
     Ok(())
 }
@@ -165,21 +182,38 @@ fn passes(alloc: Global, merged: &mut Merge<InternalValue, Failing>) -> usize {
     ROWS.len()
 }
 
+/// Whether a merge fails at three steps, and shows the version of this number after each.
+fn fails_and_shows(
+    alloc: Global,
+    merged: &mut Merge<InternalValue, Failing>,
+    seqno: SeqNo,
+) -> bool {
+    for _ in 0..3 {
+        let is_failed = merged.advance(alloc) == Err(Error::Io);
+        let shown = merged.peek().map(|version| version.key().seqno());
+        if !is_failed || shown != Some(seqno) {
+            return false;
+        }
+    }
+    true
+}
+
+/// Whether a merge of a source that fails after so many steps passes the versions before, and then
+/// fails, shows the version that it did not pass, and gives none.
+fn is_kept(alloc: Global, steps: usize, seqno: SeqNo) -> Result<bool> {
+    let mut merged = failing_merge(alloc, steps)?;
+    Ok(
+        passes(alloc, &mut merged) == steps.saturating_sub(1)
+            && fails_and_shows(alloc, &mut merged, seqno)
+            && counts(alloc, &mut merged, Error::Io) == (0, true),
+    )
+}
+
 // The version that the step was to pass is still shown.
 #[test]
 fn a_version_is_not_passed_by_a_failed_step(rt: HostRuntime) -> Tested {
-    let alloc = rt.alloc();
     for steps in 1..5 {
-        let mut merged = failing_merge(alloc, steps)?;
-        assert_eq!(rt; passes(alloc, &mut merged), steps - 1);
-        for _ in 0..3 {
-            assert_eq!(rt; merged.advance(alloc), Err(Error::Io));
-            assert_eq!(rt;
-                merged.peek().map(|version| version.key().seqno()),
-                Some(ROWS[steps - 1].1)
-            );
-        }
-        assert_eq!(rt; counts(alloc, &mut merged, Error::Io), (0, true));
+        assert!(rt; is_kept(rt.alloc(), steps, ROWS[steps - 1].1)?, "{steps}");
     }
     Ok(())
 }
@@ -234,15 +268,25 @@ fn refused_at(alloc: Global, number: u64) -> Result<vec::IntoIter<Refused, Globa
     Ok(versions.into_iter())
 }
 
+/// What is counted of a snapshot of versions of which the tombstone's key is refused.
+fn counts_seen_of_refused(alloc: Global) -> Result<(usize, bool)> {
+    let mut snapshot = Snapshot::new(refused_at(alloc, 9)?, 10);
+    Ok(counts(alloc, &mut snapshot, Error::Memory))
+}
+
+/// What is counted of a compaction of the same.
+fn counts_compacted_of_refused(alloc: Global, bottom: bool) -> Result<(usize, bool)> {
+    let mut compact = Compact::new(refused_at(alloc, 9)?, 10, bottom);
+    Ok(counts(alloc, &mut compact, Error::Memory))
+}
+
 // Where the key of a tombstone is refused, the version that it hides is not given.
 #[test]
 fn a_refused_key_ends_a_snapshot_and_a_compaction(rt: HostRuntime) -> Tested {
     let alloc = rt.alloc();
-    let mut snapshot = Snapshot::new(refused_at(alloc, 9)?, 10);
-    assert_eq!(rt; counts(alloc, &mut snapshot, Error::Memory), (0, true));
+    assert_eq!(rt; counts_seen_of_refused(alloc)?, (0, true));
     for bottom in [false, true] {
-        let mut compact = Compact::new(refused_at(alloc, 9)?, 10, bottom);
-        assert_eq!(rt; counts(alloc, &mut compact, Error::Memory), (1, true));
+        assert_eq!(rt; counts_compacted_of_refused(alloc, bottom)?, (1, true));
     }
     Ok(())
 }
@@ -285,25 +329,41 @@ fn has_ended<I: Source<InternalValue>>(
     taken == wanted && passed == wanted && table == wanted
 }
 
+/// Whether a table of a source is not written, for this error, and the source has ended with it.
+fn ends_by<I: Source<InternalValue>, W: Write + Drop>(
+    alloc: Global,
+    source: &mut Head<InternalValue, I>,
+    writer: W,
+    wanted: Error,
+) -> bool {
+    written(alloc, source, writer).err() == Some(wanted) && has_ended(alloc, source, wanted)
+}
+
+/// Whether an output that fails ends the source.
+fn ends_by_output(alloc: Global) -> Result<bool> {
+    let mut source = Head::new(alloc, list_of(alloc, ROWS, 0)?.into_iter())?;
+    Ok(ends_by(alloc, &mut source, Full, Error::Io))
+}
+
+/// Whether a source out of order ends.
+fn ends_by_order(alloc: Global) -> Result<bool> {
+    let rows = [Row(b'b', 1, V), Row(b'a', 1, V)];
+    let mut source = Head::new(alloc, list_of(alloc, &rows, 0)?.into_iter())?;
+    Ok(ends_by(alloc, &mut source, Vec::new(alloc), Error::OutOfOrder))
+}
+
+/// Whether a source that fails ends.
+fn ends_by_source(alloc: Global) -> Result<bool> {
+    let mut source = Head::new(alloc, failing_after(alloc, 2)?)?;
+    Ok(ends_by(alloc, &mut source, Vec::new(alloc), Error::Io))
+}
+
 // Entries are taken for a block before it is written, so none of them is given again.
 #[test]
 fn a_table_that_is_not_written_ends_its_source(rt: HostRuntime) -> Tested {
     let alloc = rt.alloc();
-    let mut source = Head::new(alloc, list_of(alloc, ROWS, 0)?.into_iter())?;
-    assert_eq!(rt; written(alloc, &mut source, Full).err(), Some(Error::Io));
-    assert!(rt; has_ended(alloc, &mut source, Error::Io));
-    let rows = [Row(b'b', 1, V), Row(b'a', 1, V)];
-    let mut source = Head::new(alloc, list_of(alloc, &rows, 0)?.into_iter())?;
-    assert_eq!(rt;
-        written(alloc, &mut source, Vec::new(alloc)).err(),
-        Some(Error::OutOfOrder)
-    );
-    assert!(rt; has_ended(alloc, &mut source, Error::OutOfOrder));
-    let mut source = Head::new(alloc, failing_after(alloc, 2)?)?;
-    assert_eq!(rt;
-        written(alloc, &mut source, Vec::new(alloc)).err(),
-        Some(Error::Io)
-    );
-    assert!(rt; has_ended(alloc, &mut source, Error::Io));
+    assert!(rt; ends_by_output(alloc)?);
+    assert!(rt; ends_by_order(alloc)?);
+    assert!(rt; ends_by_source(alloc)?);
     Ok(())
 }
