@@ -37,52 +37,85 @@ fn has_none(store: &mut Store, key: &[u8], seqno: u64) -> Result<bool> {
     Ok(store.get(key, seqno)?.is_none())
 }
 
+/// Sequence numbers below which a store is read.
+#[derive(Clone, Copy)]
+struct Numbers {
+    second: u64,
+    third: u64,
+    now: u64,
+}
+
+/// Writes two versions of an apple, deletes it, and writes a pear.
+fn fill(alloc: Global, store: &mut Store) -> Result<Numbers> {
+    put(alloc, store, b"apple", b"red")?;
+    let second = put(alloc, store, b"apple", b"green")?;
+    let third = delete(alloc, store, b"apple")?;
+    put(alloc, store, b"pear", b"yellow")?;
+    let now = store.next();
+    Ok(Numbers { second, third, now })
+}
+
+/// Whether each version is read below its numbers.
+fn has_all(store: &mut Store, at: Numbers) -> Result<bool> {
+    Ok(
+        has(store, b"apple", at.second, b"red")?
+            && has(store, b"apple", at.third, b"green")?
+            && has_none(store, b"apple", at.now)?
+            && has(store, b"pear", at.now, b"yellow")?,
+    )
+}
+
+/// Whether the first version is gone, and the others are read.
+fn has_newer(store: &mut Store, at: Numbers) -> Result<bool> {
+    Ok(
+        has_none(store, b"apple", at.second)?
+            && has(store, b"apple", at.third, b"green")?
+            && has_none(store, b"apple", at.now)?,
+    )
+}
+
 #[test]
 fn a_snapshot_is_read_through_flush_and_compaction(rt: HostRuntime) -> Tested {
-    let alloc = rt.alloc();
-    let mut store = Store::new(alloc);
-    put(alloc, &mut store, b"apple", b"red")?;
-    let second = put(alloc, &mut store, b"apple", b"green")?;
-    let third = delete(alloc, &mut store, b"apple")?;
-    put(alloc, &mut store, b"pear", b"yellow")?;
-    let now = store.next();
+    let mut store = Store::new(rt.alloc());
+    let at = fill(rt.alloc(), &mut store)?;
     for step in 0..4u8 {
-        assert!(rt; has(&mut store, b"apple", second, b"red")?, "{step}");
-        assert!(rt; has(&mut store, b"apple", third, b"green")?, "{step}");
-        assert!(rt; has_none(&mut store, b"apple", now)?, "{step}");
-        assert!(rt; has(&mut store, b"pear", now, b"yellow")?, "{step}");
-        match step {
-            0 => store.flush()?,
-            1 => store.flush()?,
-            _ => store.compact(second)?,
+        assert!(rt; has_all(&mut store, at)?, "{step}");
+        if step < 2 {
+            store.flush()?;
+        } else {
+            store.compact(at.second)?;
         }
     }
-    store.compact(third)?;
-    assert!(rt; has_none(&mut store, b"apple", second)?);
-    assert!(rt; has(&mut store, b"apple", third, b"green")?);
-    assert!(rt; has_none(&mut store, b"apple", now)?);
+    store.compact(at.third)?;
+    assert!(rt; has_newer(&mut store, at)?);
     Ok(())
+}
+
+/// Writes an apple and a pear into a table, a new apple into another, and deletes the pear.
+fn fill_tables(alloc: Global, store: &mut Store) -> Result<Numbers> {
+    put(alloc, store, b"apple", b"red")?;
+    put(alloc, store, b"pear", b"yellow")?;
+    store.flush()?;
+    let second = put(alloc, store, b"apple", b"green")?;
+    store.flush()?;
+    let third = delete(alloc, store, b"pear")?;
+    let now = store.next();
+    Ok(Numbers { second, third, now })
+}
+
+/// Whether the new apple is read, and no pear.
+fn has_newest(store: &mut Store, now: u64) -> Result<bool> {
+    Ok(has(store, b"apple", now, b"green")? && has_none(store, b"pear", now)?)
 }
 
 #[test]
 fn memory_is_newer_than_tables(rt: HostRuntime) -> Tested {
-    let alloc = rt.alloc();
-    let mut store = Store::new(alloc);
-    put(alloc, &mut store, b"apple", b"red")?;
-    put(alloc, &mut store, b"pear", b"yellow")?;
+    let mut store = Store::new(rt.alloc());
+    let at = fill_tables(rt.alloc(), &mut store)?;
+    store.compact(at.now)?;
+    assert!(rt; has_none(&mut store, b"apple", at.second)? && has_newest(&mut store, at.now)?);
     store.flush()?;
-    let second = put(alloc, &mut store, b"apple", b"green")?;
-    store.flush()?;
-    delete(alloc, &mut store, b"pear")?;
-    let now = store.next();
-    store.compact(now)?;
-    assert!(rt; has_none(&mut store, b"apple", second)?);
-    assert!(rt; has(&mut store, b"apple", now, b"green")?);
-    assert!(rt; has_none(&mut store, b"pear", now)?);
-    store.flush()?;
-    store.compact(now)?;
-    assert!(rt; has(&mut store, b"apple", now, b"green")?);
-    assert!(rt; has_none(&mut store, b"pear", now)?);
-    assert!(rt; has_none(&mut store, b"plum", now)?);
+    store.compact(at.now)?;
+    assert!(rt; has_newest(&mut store, at.now)? && has_none(&mut store, b"plum", at.now)?);
     Ok(())
 }

@@ -3,7 +3,7 @@ ghost use Rattle.std.specs.Prelude.{Some, [], map};
 
 use crate::Tested;
 use crate::failing::failing_after;
-use crate::lists::{Memory, Row, V, list_of};
+use crate::lists::{Row, V, list_of};
 use sst_base::{ByteSum, Error, HashRatio, InternalValue, Result, Slice};
 use sst_merge::{Head, Outputs, Sizes, Source, compact_tables, write_tables};
 use sstable_blocks::{MemorySource, RunConfig, RunHandles, Table};
@@ -99,27 +99,42 @@ fn entries_of_keys(alloc: Global, count: u8) -> Result<Vec<InternalValue>> {
     list_of(alloc, &rows, 0)
 }
 
+/// Whether all tables that are written before an output fails, so many, are whole.
+fn are_kept_by_outputs(alloc: Global, more: usize) -> Result<bool> {
+    let sizes = Sizes { block: 1, table: 1 };
+    let source = entries_of_keys(alloc, 12)?.into_iter();
+    let (tables, done) = compact(alloc, source, 0, false, sizes, more);
+    let counts = counts_of(alloc, &tables)?;
+    let are_whole = counts.iter().all(|count| *count == (1, 1));
+    Ok(done == Err(Error::Io) && counts.len() == more && are_whole)
+}
+
 // The tables that were closed before an output fails stay.
 #[test]
 fn closed_tables_stay_where_an_output_fails(rt: HostRuntime) -> Tested {
-    let alloc = rt.alloc();
-    let sizes = Sizes { block: 1, table: 1 };
     for more in 0..12usize {
-        let source = entries_of_keys(alloc, 12)?.into_iter();
-        let (tables, done) = compact(alloc, source, 0, false, sizes, more);
-        assert!(rt; done == Err(Error::Io));
-        let counts = counts_of(alloc, &tables)?;
-        assert!(rt; counts.len() == more && counts.iter().all(|count| *count == (1, 1)));
+        assert!(rt; are_kept_by_outputs(rt.alloc(), more)?, "{more}");
     }
     Ok(())
+}
+
+/// Whether tables of a source are not written, three are kept, and the source has ended.
+fn is_ended_by_outputs<I: Source<InternalValue>>(
+    alloc: Global,
+    source: &mut Head<InternalValue, I>,
+    kept: &mut Kept,
+) -> bool {
+    let config = RunConfig::new(2, HashRatio { num: 1, den: 1 }, 10);
+    let sizes = Sizes { block: 1, table: 1 };
+    let done = write_tables::<ByteSum, I, Kept>(alloc, source, kept, config, sizes);
+    let taken = source.take(alloc).err();
+    done == Err(Error::Io) && kept.tables.len() == 3 && taken == Some(Error::Io)
 }
 
 // An output that fails ends the source, whose entries are in no table.
 #[test]
 fn an_output_that_fails_ends_the_source(rt: HostRuntime) -> Tested {
     let alloc = rt.alloc();
-    let sizes = Sizes { block: 1, table: 1 };
-    let config = RunConfig::new(2, HashRatio { num: 1, den: 1 }, 10);
     let mut source = Head::new(alloc, entries_of_keys(alloc, 12)?.into_iter())?;
     let mut kept = Kept {
         alloc,
@@ -127,34 +142,30 @@ fn an_output_that_fails_ends_the_source(rt: HostRuntime) -> Tested {
         more: 3,
     };
     for _ in 0..3 {
-        let done = write_tables::<ByteSum, Memory, Kept>(
-            alloc,
-            &mut source,
-            &mut kept,
-            config,
-            sizes,
-        );
-        assert_eq!(rt; done, Err(Error::Io));
-        assert_eq!(rt; kept.tables.len(), 3);
-        assert_eq!(rt; source.take(alloc).err(), Some(Error::Io));
+        assert!(rt; is_ended_by_outputs(alloc, &mut source, &mut kept));
         kept.more = 100;
     }
     Ok(())
 }
 
+/// How many tables are written of a source that fails after so many steps, all whole, and whether
+/// it did not fail.
+fn written_before(alloc: Global, steps: usize) -> Result<(usize, bool)> {
+    let sizes = Sizes { block: 1, table: 1 };
+    let source = failing_after(alloc, steps)?;
+    let (tables, done) = compact(alloc, source, 0, false, sizes, 100);
+    Ok((counts_of(alloc, &tables)?.len(), done.is_ok()))
+}
+
 // So do those that were closed before a source fails.
 #[test]
 fn closed_tables_stay_where_a_source_fails(rt: HostRuntime) -> Tested {
-    let alloc = rt.alloc();
-    let sizes = Sizes { block: 1, table: 1 };
-    for (steps, wanted) in [(1, 0), (2, 0), (3, 1), (4, 2), (5, 3)] {
-        let source = failing_after(alloc, steps)?;
-        let (tables, done) = compact(alloc, source, 0, false, sizes, 100);
-        assert!(rt;
-            tables.len() == wanted && done.is_ok() == (steps == 5),
+    for (steps, wanted) in &[(1, 0), (2, 0), (3, 1), (4, 2), (5, 3)] {
+        assert_eq!(rt;
+            written_before(rt.alloc(), *steps)?,
+            (*wanted, *steps == 5),
             "{steps}"
         );
-        assert!(rt; counts_of(alloc, &tables)?.len() == wanted);
     }
     Ok(())
 }
