@@ -7,7 +7,7 @@ from blocks import Encoded, bucket_count
 from entries import Entry, entry_of, is_ordered
 from room import only
 from windows import Window, heads_of
-from words import Digest, Fault, bad_word, bytes_of, fnv, hex_of, number_of, truth
+from words import Digest, Fault, bad_word, bytes_of, digest_line, fnv, hex_of, number_of, truth
 
 
 def add(room, words):
@@ -194,10 +194,7 @@ def queries(room, words):
 def all_entries(room, words):
     """The number of the entries, and their digest."""
     only(words, 0)
-    items, total = block(room)[0], Digest()
-    for item in items:
-        total.add(item.word())
-    return f"{len(items)} entries, {total}"
+    return digest_line(block(room)[0], "entries")
 
 
 def take(room, words):

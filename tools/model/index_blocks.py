@@ -7,7 +7,7 @@ from blocks import Encoded
 from handles import Handle, handle_of
 from room import only
 from windows import Window
-from words import Digest, Fault, bad_word, bytes_of, number_of, truth
+from words import Fault, bad_word, bytes_of, digest_line, number_of, truth
 
 
 def add(room, words):
@@ -81,10 +81,7 @@ def between(room, words):
 def all_handles(room, words):
     """The number of the handles, and their digest."""
     only(words, 0)
-    items, total = block(room)[0], Digest()
-    for item in items:
-        total.add(item.word())
-    return f"{len(items)} handles, {total}"
+    return digest_line(block(room)[0], "handles")
 
 
 def take(room, words):

@@ -71,3 +71,11 @@ class Digest:
 
     def __str__(self):
         return f"{self.state:016x}"
+
+
+def digest_line(items, name):
+    """How many items there are, and the digest of their words."""
+    total = Digest()
+    for item in items:
+        total.add(item.word())
+    return f"{len(items)} {name}, {total}"
