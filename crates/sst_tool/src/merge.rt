@@ -10,7 +10,7 @@ use sst_merge::{Head, Merge, Outputs, Sizes, Source, compact_tables};
 use sst_program::sync::{BufferedFile, SyncWrite};
 use sstable_blocks::{
     BlockHash, Error, FileSource, FrameSource, HashRatio, InternalValue, Poly31, RunConfig,
-    RunHandles, Table, Xxh3, encode_footer,
+    RunHandles, Xxh3, encode_footer,
 };
 use std::alloc::Global;
 use std::cell::Cell;
@@ -122,15 +122,15 @@ impl<F: Write + OpenFile + Drop> NewFile<F> {
     }
 }
 
-// Reads the first entry of a table of a file, which has this index.
-fn head_in<'f, H: BlockHash, S: FrameSource + Drop, R>(
-    progress: &Progress<'_, R>,
+// Opens a table file, which has this index, and reads its first entry.
+fn head_of<'p, 'f, H: BlockHash, R: Files + Clock + Eprint>(
+    progress: &'p Progress<'p, R>,
     alloc: Global,
     file: &str,
-    table: Table<H, S>,
     index: usize,
     failed: &'f Cell<Option<usize>>,
-) -> Result<Head<InternalValue, Merged<'f, H, S>>> {
+) -> Result<FileHead<'p, 'f, H, R>> {
+    let table = open::<H, R>(progress, alloc, file)?;
     let scan = Scanned::new(table.scan_range(Bound::Unbounded, Bound::Unbounded));
     let merged = Merged {
         scan,
@@ -141,18 +141,6 @@ fn head_in<'f, H: BlockHash, S: FrameSource + Drop, R>(
         Ok(head) => Ok(head),
         Err(error) => Err(Fault::of_file(alloc, file, progress.offset(), error)),
     }
-}
-
-// Opens a table file, which has this index, and reads its first entry.
-fn head_of<'p, 'f, H: BlockHash, R: Files + Clock + Eprint>(
-    progress: &'p Progress<'p, R>,
-    alloc: Global,
-    file: &str,
-    index: usize,
-    failed: &'f Cell<Option<usize>>,
-) -> Result<FileHead<'p, 'f, H, R>> {
-    let table = open::<H, R>(progress, alloc, file)?;
-    head_in(progress, alloc, file, table, index, failed)
 }
 
 // Opens tables, the newest first.

@@ -93,40 +93,39 @@ fn flag<'a>(alloc: Global, name: &'a str, help: &'a str) -> Arg<'a> {
         .help(help)
 }
 
-// A command with its help and its words.
-fn command_of<'a, const N: usize>(
-    alloc: Global,
-    name: &'a str,
-    help: &'a str,
-    words: [Arg<'a>; N],
+// Adds a word to a command.
+fn with_word<'a>(
+    command: Result<Command<'a>, AllocError>,
+    word: Arg<'a>,
 ) -> Result<Command<'a>, AllocError> {
-    let words = Vec::from_array(alloc, words)?;
-    Command::new(alloc, name).about(help).args(words)
+    command?.arg(word)
+}
+
+// A command with its help that reads a table.
+fn reading<'a>(alloc: Global, name: &'a str, help: &'a str) -> Result<Command<'a>, AllocError> {
+    let named = Command::new(alloc, name).about(help);
+    with_word(with_word(Ok(named), file(alloc)), hash(alloc, READ_HASH))
 }
 
 // The words of `stat`.
 fn stat<'a>(alloc: Global) -> Result<Command<'a>, AllocError> {
-    let json = flag(alloc, JSON, "Print one line of JSON");
-    let words = [file(alloc), hash(alloc, READ_HASH), json];
-    command_of(alloc, STAT, "Prints what a table holds", words)
+    let command = reading(alloc, STAT, "Prints what a table holds");
+    with_word(command, flag(alloc, JSON, "Print one line of JSON"))
 }
 
 // The words of `scan`.
 fn scan<'a>(alloc: Global) -> Result<Command<'a>, AllocError> {
-    let words = [
-        file(alloc),
-        hash(alloc, READ_HASH),
-        key_option(alloc, FROM, "The first key"),
-        key_option(alloc, TO, "The key at which to end, without it"),
-        at(alloc),
-        flag(alloc, REVERSE, "From the last entry to the first"),
-        flag(
-            alloc,
-            TEXT,
-            "Keys and values as text where they are printable",
-        ),
-    ];
-    command_of(alloc, SCAN, "Prints the entries of a table", words)
+    let command = reading(alloc, SCAN, "Prints the entries of a table");
+    let command = with_word(command, key_option(alloc, FROM, "The first key"));
+    let to = key_option(alloc, TO, "The key at which to end, without it");
+    let command = with_word(with_word(command, to), at(alloc));
+    let reverse = flag(alloc, REVERSE, "From the last entry to the first");
+    let text = flag(
+        alloc,
+        TEXT,
+        "Keys and values as text where they are printable",
+    );
+    with_word(with_word(command, reverse), text)
 }
 
 // The words of `get`.
@@ -134,14 +133,13 @@ fn get<'a>(alloc: Global) -> Result<Command<'a>, AllocError> {
     let key = Arg::new(alloc, KEY)
         .required(true)
         .help("The user key, as text or as hex:DIGITS");
-    let words = [file(alloc), key, hash(alloc, READ_HASH), at(alloc)];
-    command_of(alloc, GET, "Prints the newest version of a key", words)
+    let command = reading(alloc, GET, "Prints the newest version of a key");
+    with_word(with_word(command, key), at(alloc))
 }
 
 // The words of `check`.
 fn check<'a>(alloc: Global) -> Result<Command<'a>, AllocError> {
-    let words = [file(alloc), hash(alloc, READ_HASH)];
-    command_of(alloc, CHECK, "Checks a table whole", words)
+    reading(alloc, CHECK, "Checks a table whole")
 }
 
 // The table file that a merge writes.
@@ -171,17 +169,15 @@ fn snapshot<'a>(alloc: Global) -> Arg<'a> {
 
 // The words of `merge`.
 fn merge<'a>(alloc: Global) -> Result<Command<'a>, AllocError> {
-    let words = [
-        out(alloc),
-        files(alloc),
-        snapshot(alloc),
-        hash(
-            alloc,
-            "The hash function of the new table; else that of the tables",
-        ),
-        flag(alloc, BOTTOM, "Drop tombstones: no older table is below"),
-    ];
-    command_of(alloc, MERGE, "Merges tables into one", words)
+    let named = Command::new(alloc, MERGE).about("Merges tables into one");
+    let command = with_word(with_word(Ok(named), out(alloc)), files(alloc));
+    let written = hash(
+        alloc,
+        "The hash function of the new table; else that of the tables",
+    );
+    let bottom = flag(alloc, BOTTOM, "Drop tombstones: no older table is below");
+    let command = with_word(with_word(command, snapshot(alloc)), written);
+    with_word(command, bottom)
 }
 
 // Adds a command.
