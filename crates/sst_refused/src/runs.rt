@@ -78,13 +78,6 @@ pub fn add_blocks(rt: &impl Print, alloc: Global, times: u32) -> Result<()> {
     Ok(())
 }
 
-// Reads a long key from a run.
-fn read_once(rt: &impl Print, alloc: Global, bytes: &Slice, handles: &RunHandles) -> Result<()> {
-    let found = read_entry::<ByteSum>(alloc, bytes, handles, LONG_KEY, 2, &mut Steps::new());
-    println!(rt; "{found:?}")?;
-    Ok(())
-}
-
 /// Reads a long key from a run of one block with buckets.
 pub fn read(rt: &impl Print, alloc: Global, times: u32) -> Result<()> {
     let (list, config) = (list_of(alloc, &LONG)?, RunConfig::new(2, ONE_EACH, 10));
@@ -95,7 +88,8 @@ pub fn read(rt: &impl Print, alloc: Global, times: u32) -> Result<()> {
     let handles = write_run::<ByteSum, Vec<u8>>(alloc, &mut bytes, &list, &[], config)?;
     let bytes = Slice::from_vec(bytes)?;
     for _ in 0..times {
-        read_once(rt, alloc, &bytes, &handles)?;
+        let found = read_entry::<ByteSum>(alloc, &bytes, &handles, LONG_KEY, 2, &mut Steps::new());
+        println!(rt; "{found:?}")?;
     }
     Ok(())
 }
