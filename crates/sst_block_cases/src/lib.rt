@@ -1,4 +1,4 @@
-//! The commands of cases on blocks, and on what they are made of.
+//! The commands of cases on data blocks, and on checks of any bytes.
 //!
 //! The commands stand in modules by what they are about. Each module has a function `perform`, which
 //! returns the result of a command, or `None` where the command is none of the module's.
@@ -6,16 +6,13 @@
 
 mod checks;
 mod data_blocks;
-mod index_blocks;
-mod values;
 
 use sst_base::BlockHash;
 use sst_case_room::fault::Result;
 use sst_case_room::room::Room;
 use std::alloc::Global;
 
-/// Performs a command, if it is one on blocks or on what they are made of: asks one module after the
-/// other.
+/// Performs a command, if it is one on data blocks or on checks.
 pub fn perform<H: BlockHash>(
     alloc: Global,
     room: &mut Room,
@@ -25,11 +22,5 @@ pub fn perform<H: BlockHash>(
     if let Some(answer) = data_blocks::perform::<H>(alloc, room, name, words)? {
         return Ok(Some(answer));
     }
-    if let Some(answer) = index_blocks::perform(alloc, room, name, words)? {
-        return Ok(Some(answer));
-    }
-    if let Some(answer) = checks::perform::<H>(alloc, room, name, words)? {
-        return Ok(Some(answer));
-    }
-    values::perform::<H>(alloc, name, words)
+    checks::perform::<H>(alloc, room, name, words)
 }

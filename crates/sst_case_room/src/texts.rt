@@ -3,6 +3,7 @@
 use crate::digest::hash_of;
 use crate::fault::{Fault, Result};
 use crate::words::hex_of;
+use sst_block_core::table::block::heads::HeadTable;
 use std::alloc::Global;
 
 /// How many bytes a result shows. Of more it has the number and a digest.
@@ -52,5 +53,13 @@ pub fn agreed(alloc: Global, found: &[Result<String>]) -> Result<String> {
     match first {
         Ok(text) => Ok(text.clone()?),
         Err(fault) => Err(*fault),
+    }
+}
+
+/// Returns the number of heads of a table, or `none`.
+pub fn word_of_table(alloc: Global, table: Option<&HeadTable>) -> Result<String> {
+    match table {
+        Some(table) => Ok(format!(in alloc; "{}", table.len())?),
+        None => Ok(String::from_str(alloc, "none")?),
     }
 }

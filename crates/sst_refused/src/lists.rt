@@ -1,13 +1,7 @@
-//! Example entries and handles, and their blocks and runs.
-ghost use Rattle.std.specs.Prelude.{◌↔◌, ◌≤◌, length, IsTrue};
-ghost use Rattle.sst_block_core.specs.Entries.{entries};
-ghost use Rattle.sst_block_core.specs.Kind.{IsOrdered};
-ghost use Rattle.sstable_blocks.specs.Blocks.{CutsFit};
-
+//! Example entries and handles, and their blocks.
 use sst_base::table::block::{Block, BlockHandle, BlockOffset, BlockType};
 use sst_base::{ByteSum, Error, HashRatio, InternalValue, Result, Slice, ValueType};
 use sst_block_kinds::{DataBlock, EntryParts, IndexBlock, KeyedBlockHandle};
-use sstable_blocks::run::{RunConfig, cuts_fit};
 use std::alloc::Global;
 
 /// An entry: the user key, the value, the sequence number and the value type.
@@ -124,20 +118,4 @@ pub fn index_block(alloc: Global, rows: &[Row]) -> Result<IndexBlock> {
     }
     let payload = IndexBlock::encode_into_vec_with(alloc, &list, 2)?;
     Ok(IndexBlock::new(Block::from_payload(BlockType::Index, Slice::from_vec(payload)?)))
-}
-
-/// Returns whether a run of these entries, cut like this, can be written.
-pub fn can_be_written(items: &[InternalValue], cuts: &[usize], config: &RunConfig) -> bool
-    ensures { IsTrue result
-        ↔ ((1 ≤ length items.now) × IsOrdered entries items.now
-        × CutsFit 0 (length items.now) cuts.now
-        × (1 ≤ config.now.restart_interval) × (1 ≤ config.now.index_interval)
-        × (1 ≤ config.now.ratio.den)) }
-{
-    items.len() >= 1
-        && DataBlock::<ByteSum>::is_ordered(items)
-        && cuts_fit(items.len(), cuts)
-        && config.restart_interval >= 1
-        && config.index_interval >= 1
-        && config.ratio.den >= 1
 }

@@ -1,4 +1,4 @@
-//! The commands of cases on frames, filters, runs and merges, and on the program `sst`.
+//! The commands of cases on frames, filters and runs.
 //!
 //! The commands stand in modules by what they are about. Each module has a function `perform`, which
 //! returns the result of a command, or `None` where the command is none of the module's.
@@ -7,29 +7,6 @@
 mod each;
 mod filters;
 mod frames;
-mod merges;
-mod program;
 mod runs;
 
-use sst_base::BlockHash;
-use sst_case_room::fault::Result;
-use sst_case_room::room::Room;
-use sst_program::replace::LockFiles;
-
-/// Performs a command, if it is one on frames, filters, runs, merges or the program: asks one module
-/// after the other.
-pub fn perform<H: BlockHash, R: LockFiles + AllocGlobal>(
-    rt: &R,
-    room: &mut Room,
-    name: &str,
-    words: &[&str],
-) -> Result<Option<String>> {
-    let alloc = rt.alloc();
-    if let Some(answer) = program::perform(rt, room, name, words)? {
-        return Ok(Some(answer));
-    }
-    if let Some(answer) = each::perform::<H>(alloc, room, name, words)? {
-        return Ok(Some(answer));
-    }
-    merges::perform::<H>(alloc, room, name, words)
-}
+pub use each::perform;

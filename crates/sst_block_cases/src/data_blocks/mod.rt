@@ -4,7 +4,7 @@ mod decoding;
 mod encoding;
 mod pairs;
 mod reads;
-pub mod tables;
+mod tables;
 mod walks;
 
 use sst_base::BlockHash;

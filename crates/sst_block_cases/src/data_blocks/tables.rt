@@ -2,10 +2,11 @@
 
 use super::data_block;
 use sst_base::{BlockHash, Error, Steps};
-use sst_block_core::table::block::heads::{HeadTable, front_of};
+use sst_block_core::table::block::heads::front_of;
 use sst_block_kinds::DataBlock;
 use sst_case_room::fault::{Fault, Result};
 use sst_case_room::room::Room;
+use sst_case_room::texts::word_of_table;
 use sst_case_room::words::{bytes_of, hex_of, number_of, push_word};
 use std::alloc::Global;
 
@@ -60,14 +61,6 @@ fn front(alloc: Global, words: &[&str]) -> Result<String> {
     };
     let front = front_of(bytes_of(alloc, bytes)?.as_slice()).to_be_bytes();
     hex_of(alloc, front.as_slice())
-}
-
-/// The number of heads of a table, or `none`.
-pub fn word_of_table(alloc: Global, table: Option<&HeadTable>) -> Result<String> {
-    match table {
-        Some(table) => Ok(format!(in alloc; "{}", table.len())?),
-        None => Ok(String::from_str(alloc, "none")?),
-    }
 }
 
 /// Which blocks have a table of their heads, and of how many: one that was checked, its clone, one that

@@ -1,4 +1,5 @@
-//! Commands on index blocks.
+//! The commands of cases on index blocks.
+#![tactic(auto)]
 
 mod handles;
 mod walks;

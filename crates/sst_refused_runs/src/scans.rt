@@ -1,9 +1,9 @@
 //! Scans and checks of tables of long keys. A step that fails is made again.
-use crate::lists::LONG;
 use crate::merges::table_of;
 use crate::output::{print_left, print_left_back};
 use crate::runs::run_of;
 use sst_base::{ByteSum, Result};
+use sst_refused::lists::LONG;
 use sstable_blocks::run::RunRef;
 use std::alloc::Global;
 

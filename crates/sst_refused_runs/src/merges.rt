@@ -1,5 +1,4 @@
 //! Merges, snapshots, compactions and reads of runs of long keys. A step that fails is made again.
-use crate::lists::{DELETED, LONG_KEY, NO_BUCKETS, WRITTEN};
 use crate::output::{print_left, print_left_back};
 use crate::runs::run_of;
 use sst_base::{ByteSum, InternalValue, Result, Slice, Steps};
@@ -8,6 +7,7 @@ use sst_merge::{
     BackSource, Compact, Head, Merge, MergeBack, Sizes, Snapshot, Source, Tail, Version,
     read_tables, write_table,
 };
+use sst_refused::lists::{DELETED, LONG_KEY, NO_BUCKETS, WRITTEN};
 use sstable_blocks::run::{RunRef, RunScan, Trusted};
 use sstable_blocks::{MemorySource, RunConfig, RunHandles, Table};
 use std::alloc::Global;

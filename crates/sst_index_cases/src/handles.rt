@@ -1,12 +1,12 @@
 //! Commands that make lists of handles, and encode them as an index block.
 
-use super::index_block;
-use crate::data_blocks::tables::word_of_table;
+use crate::index_block;
 use sst_base::table::block::{BlockHandle, BlockOffset};
 use sst_base::{Error, Slice};
 use sst_block_kinds::{IndexBlock, KeyedBlockHandle};
 use sst_case_room::fault::{Fault, Result};
 use sst_case_room::room::Room;
+use sst_case_room::texts::word_of_table;
 use sst_case_room::words::{alike, bytes_of, hex_of, number_of, small_of, truth};
 use std::alloc::Global;
 

@@ -2,8 +2,8 @@
 ghost use Rattle.std.specs.Prelude.{◌≡◌, IfSome};
 ghost use Rattle.sst_block_kinds.specs.ParsedHandle.{IsParsedHandle};
 
-use super::handles::word_of;
-use super::index_block;
+use crate::handles::word_of;
+use crate::index_block;
 use sst_base::Slice;
 use sst_base::table::block::BlockHandle;
 use sst_block_kinds::table::index_block::{

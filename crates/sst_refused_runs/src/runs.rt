@@ -1,13 +1,35 @@
 //! Runs: written, and read.
-use crate::lists::{LONG, LONG_KEY, NO_BUCKETS, ONE_EACH, Row, THREE, can_be_written, list_of};
-use crate::output::print_bytes;
+ghost use Rattle.std.specs.Prelude.{◌↔◌, ◌≤◌, length, IsTrue};
+ghost use Rattle.sst_block_core.specs.Entries.{entries};
+ghost use Rattle.sst_block_core.specs.Kind.{IsOrdered};
+ghost use Rattle.sstable_blocks.specs.Blocks.{CutsFit};
+
 use sst_base::{Block, ByteSum, Error, InternalValue, Result, Slice, Steps};
+use sst_block_kinds::DataBlock;
+use sst_refused::lists::{LONG, LONG_KEY, NO_BUCKETS, ONE_EACH, Row, THREE, list_of};
+use sst_refused::output::print_bytes;
 use sstable_blocks::run::{
-    FileSource, MemorySource, RunConfig, RunHandles, RunWriter, read_entry, read_entry_checked,
-    write_run,
+    FileSource, MemorySource, RunConfig, RunHandles, RunWriter, cuts_fit, read_entry,
+    read_entry_checked, write_run,
 };
 use std::alloc::Global;
 use std::io::Cursor;
+
+// Whether a run of these entries, cut like this, can be written.
+fn can_be_written(items: &[InternalValue], cuts: &[usize], config: &RunConfig) -> bool
+    ensures { IsTrue result
+        ↔ ((1 ≤ length items.now) × IsOrdered entries items.now
+        × CutsFit 0 (length items.now) cuts.now
+        × (1 ≤ config.now.restart_interval) × (1 ≤ config.now.index_interval)
+        × (1 ≤ config.now.ratio.den)) }
+{
+    items.len() >= 1
+        && DataBlock::<ByteSum>::is_ordered(items)
+        && cuts_fit(items.len(), cuts)
+        && config.restart_interval >= 1
+        && config.index_interval >= 1
+        && config.ratio.den >= 1
+}
 
 // Writes a run of entries, cut like this, with a filter: its handles.
 fn write_one(

@@ -1,4 +1,8 @@
-//! Commands on numbers, byte strings, keys and hashes.
+//! The commands of cases on numbers, byte strings, keys and hashes.
+//!
+//! Each module has a function `perform`, which returns the result of a command, or `None` where the
+//! command is none of the module's.
+#![tactic(auto)]
 
 mod hashes;
 mod indexes;
