@@ -5,6 +5,7 @@ use crate::table::filter::standard_bloom::{Builder, StandardBloomFilterReader};
 use crate::table::filter::BloomConstructionPolicy;
 use crate::table::{Block, BlockHandle, BlockOffset, DataBlock, IndexBlock, KeyedBlockHandle};
 use crate::{CompressionType, InternalValue, SeqNo, ValueType};
+use std::io::Write;
 
 /// As `examples/c/sst.h` declares them.
 #[repr(C)]
@@ -129,6 +130,10 @@ fn frame(payload: &[u8], block_type: BlockType) -> Block {
         sst_frame_write(payload.as_ptr(), payload.len(), number, out, cap, len)
     });
     assert!(ours == theirs, "frames differ");
+    if let Some(path) = std::env::var_os("FRAMES") {
+        let file = std::fs::OpenOptions::new().create(true).append(true).open(path);
+        file.and_then(|mut file| file.write_all(&theirs)).expect("keeps the frame");
+    }
     let (mut found, mut len) = (9, 0);
     assert_eq!(unsafe { sst_frame_check(theirs.as_ptr(), theirs.len(), &mut found, &mut len) }, OK);
     assert_eq!((found, len), (number, payload.len()));
