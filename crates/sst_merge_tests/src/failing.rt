@@ -336,7 +336,10 @@ fn ends_by<I: Source<InternalValue>, W: Write + Drop>(
     writer: W,
     wanted: Error,
 ) -> bool {
-    written(alloc, source, writer).err() == Some(wanted) && has_ended(alloc, source, wanted)
+    let found = written(alloc, source, writer).err();
+    let has_ended = has_ended(alloc, source, wanted);
+    let wanted = Some(wanted);
+    found == wanted && has_ended
 }
 
 /// Whether an output that fails ends the source.
