@@ -329,34 +329,33 @@ fn has_ended<I: Source<InternalValue>>(
     taken == wanted && passed == wanted && table == wanted
 }
 
-/// Whether a table of a source is not written, for this error, and the source has ended with it.
+/// The error of writing a table of a source, and whether the source has then ended with this one.
 fn ends_by<I: Source<InternalValue>, W: Write + Drop>(
     alloc: Global,
     source: &mut Head<InternalValue, I>,
     writer: W,
     wanted: Error,
-) -> bool {
+) -> (Option<Error>, bool) {
     let found = written(alloc, source, writer).err();
     let has_ended = has_ended(alloc, source, wanted);
-    let wanted = Some(wanted);
-    found == wanted && has_ended
+    (found, has_ended)
 }
 
-/// Whether an output that fails ends the source.
-fn ends_by_output(alloc: Global) -> Result<bool> {
+/// What ends a source whose table is written to an output that fails.
+fn ends_by_output(alloc: Global) -> Result<(Option<Error>, bool)> {
     let mut source = Head::new(alloc, list_of(alloc, ROWS, 0)?.into_iter())?;
     Ok(ends_by(alloc, &mut source, Full, Error::Io))
 }
 
-/// Whether a source out of order ends.
-fn ends_by_order(alloc: Global) -> Result<bool> {
+/// What ends a source that is out of order.
+fn ends_by_order(alloc: Global) -> Result<(Option<Error>, bool)> {
     let rows = [Row(b'b', 1, V), Row(b'a', 1, V)];
     let mut source = Head::new(alloc, list_of(alloc, &rows, 0)?.into_iter())?;
     Ok(ends_by(alloc, &mut source, Vec::new(alloc), Error::OutOfOrder))
 }
 
-/// Whether a source that fails ends.
-fn ends_by_source(alloc: Global) -> Result<bool> {
+/// What ends a source that fails.
+fn ends_by_source(alloc: Global) -> Result<(Option<Error>, bool)> {
     let mut source = Head::new(alloc, failing_after(alloc, 2)?)?;
     Ok(ends_by(alloc, &mut source, Vec::new(alloc), Error::Io))
 }
@@ -365,8 +364,8 @@ fn ends_by_source(alloc: Global) -> Result<bool> {
 #[test]
 fn a_table_that_is_not_written_ends_its_source(rt: HostRuntime) -> Tested {
     let alloc = rt.alloc();
-    assert!(rt; ends_by_output(alloc)?);
-    assert!(rt; ends_by_order(alloc)?);
-    assert!(rt; ends_by_source(alloc)?);
+    assert_eq!(rt; ends_by_output(alloc)?, (Some(Error::Io), true));
+    assert_eq!(rt; ends_by_order(alloc)?, (Some(Error::OutOfOrder), true));
+    assert_eq!(rt; ends_by_source(alloc)?, (Some(Error::Io), true));
     Ok(())
 }
