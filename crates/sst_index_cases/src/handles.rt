@@ -89,42 +89,67 @@ fn encode(alloc: Global, room: &mut Room, words: &[&str]) -> Result<String> {
     Ok(format!(in alloc; "{} bytes, {heads} heads", room.payload.len())?)
 }
 
+/// A clone of a handle, with an offset that is greater by a number.
+fn shifted(handle: &KeyedBlockHandle, by: u64) -> Result<KeyedBlockHandle> {
+    let mut shifted = handle.clone()?;
+    if *shifted.offset() > u64::MAX - by {
+        return Err(Fault::Word);
+    }
+    shifted.shift(BlockOffset(by));
+    Ok(shifted)
+}
+
+/// Whether a handle is a plain handle of its parts.
+fn is_plain(handle: KeyedBlockHandle) -> bool {
+    let parts = BlockHandle::new(handle.offset(), handle.size());
+    let is_plain = *handle.as_ref() == parts;
+    is_plain && handle.into_inner() == parts
+}
+
 /// A handle whose offset is greater by a number, whether it is the handle before, and whether it is a
 /// plain handle of its parts: HANDLE NUMBER.
 fn shift(alloc: Global, words: &[&str]) -> Result<String> {
     let [word, by] = words else {
         return Err(Fault::Word);
     };
-    let (mut handle, by) = (handle_of(alloc, word)?, number_of(by)?);
-    let before = handle.clone()?;
-    if *handle.offset() > u64::MAX - by {
-        return Err(Fault::Word);
-    }
-    handle.shift(BlockOffset(by));
-    let same = truth(alloc, handle == before)?;
-    let word = word_of(alloc, &handle)?;
-    let parts = BlockHandle::new(handle.offset(), handle.size());
-    let is_plain = *handle.as_ref() == parts;
-    let plain = truth(alloc, is_plain && handle.into_inner() == parts)?;
+    let handle = handle_of(alloc, word)?;
+    let shifted = shifted(&handle, number_of(by)?)?;
+    let same = shifted == handle;
+    let word = word_of(alloc, &shifted)?;
+    let plain = is_plain(shifted);
     Ok(format!(in alloc; "{word}, the same {same}, plain {plain}")?)
+}
+
+/// The number of heads in the table of a block's clone.
+fn heads_of_clone(alloc: Global, block: &IndexBlock) -> Result<String> {
+    let clone = block.clone()?;
+    word_of_table(alloc, clone.heads())
+}
+
+/// The number of heads in the table of a block, and in that of its clone.
+fn heads_of(alloc: Global, block: &IndexBlock) -> Result<String> {
+    let heads = word_of_table(alloc, block.heads())?;
+    let cloned = heads_of_clone(alloc, block)?;
+    Ok(format!(in alloc; "{heads}, clone {cloned}")?)
+}
+
+/// The number of heads in the table that is made of a block's.
+fn heads_made(alloc: Global, block: IndexBlock) -> Result<String> {
+    match block.with_heads(alloc) {
+        Ok(block) => word_of_table(alloc, block.heads()),
+        Err(_) => Err(Fault::Refused(Error::Memory)),
+    }
 }
 
 /// Which blocks have a table of their heads, and of how many: one that was checked, its clone, one that
 /// is new, its clone, and one of which the table was made.
 fn table(alloc: Global, room: &Room) -> Result<String> {
     let checked = index_block(alloc, room, true)?;
-    let first = word_of_table(alloc, checked.heads())?;
-    let second = word_of_table(alloc, checked.clone()?.heads())?;
+    let first = heads_of(alloc, &checked)?;
     let new = IndexBlock::new(checked.into_inner());
-    let third = word_of_table(alloc, new.heads())?;
-    let fourth = word_of_table(alloc, new.clone()?.heads())?;
-    let made = match new.with_heads(alloc) {
-        Ok(block) => word_of_table(alloc, block.heads())?,
-        Err(_) => return Err(Fault::Refused(Error::Memory)),
-    };
-    Ok(format!(in alloc;
-        "checked {first}, clone {second}, new {third}, clone {fourth}, made {made}"
-    )?)
+    let second = heads_of(alloc, &new)?;
+    let made = heads_made(alloc, new)?;
+    Ok(format!(in alloc; "checked {first}, new {second}, made {made}")?)
 }
 
 /// Performs a command, if it is one on handles.

@@ -95,17 +95,18 @@ fn by_iterator(alloc: Global, block: &IndexBlock, words: &[&str]) -> Result<Stri
     Ok(text)
 }
 
+/// Steps of an iterator over the payload, without the table of the heads or with it.
+fn stepped(alloc: Global, room: &Room, words: &[&str], tabled: bool) -> Result<String> {
+    let block = index_block(alloc, room, tabled)?;
+    by_iterator(alloc, &block, words)
+}
+
 /// Steps of an iterator, counts among them, without the table of the heads and with it.
 fn steps(alloc: Global, room: &Room, words: &[&str]) -> Result<String> {
     let words = repeated(alloc, words)?;
-    let bare = index_block(alloc, room, false)?;
-    let tabled = index_block(alloc, room, true)?;
-    alike(
-        alloc,
-        by_iterator(alloc, &bare, words.as_slice())?,
-        "by the table",
-        by_iterator(alloc, &tabled, words.as_slice())?,
-    )
+    let bare = stepped(alloc, room, words.as_slice(), false)?;
+    let tabled = stepped(alloc, room, words.as_slice(), true)?;
+    alike(alloc, bare, "by the table", tabled)
 }
 
 /// The text of what `walk` answers.
@@ -128,20 +129,27 @@ fn walked(alloc: Global, block: &IndexBlock, ops: &[IndexOp]) -> Result<String> 
     text_of(alloc, answers.as_slice())
 }
 
+/// A clone of the block of the payload, without the table of the heads or with it.
+fn cloned(alloc: Global, room: &Room, tabled: bool) -> Result<IndexBlock> {
+    let block = index_block(alloc, room, tabled)?;
+    Ok(block.clone()?)
+}
+
+/// What `walk` answers over a clone, without the table of the heads or with it.
+fn walked_over(alloc: Global, room: &Room, ops: &[IndexOp], tabled: bool) -> Result<String> {
+    let block = cloned(alloc, room, tabled)?;
+    walked(alloc, &block, ops)
+}
+
 /// Steps of an iterator, by one that borrows its block, and by `walk` over a clone, without the table
 /// of the heads and with it.
 fn walks(alloc: Global, room: &Room, words: &[&str]) -> Result<String> {
     let all = steps(alloc, room, words)?;
     let ops = ops_of(alloc, words)?;
-    let bare = index_block(alloc, room, false)?.clone()?;
-    let tabled = index_block(alloc, room, true)?.clone()?;
-    let all = alike(alloc, all, "by walk", walked(alloc, &bare, ops.as_slice())?)?;
-    alike(
-        alloc,
-        all,
-        "by walk with a table",
-        walked(alloc, &tabled, ops.as_slice())?,
-    )
+    let bare = walked_over(alloc, room, ops.as_slice(), false)?;
+    let tabled = walked_over(alloc, room, ops.as_slice(), true)?;
+    let all = alike(alloc, all, "by walk", bare)?;
+    alike(alloc, all, "by walk with a table", tabled)
 }
 
 /// The words of handles from the front.
@@ -173,9 +181,37 @@ fn joined(alloc: Global, words: &[String]) -> Result<String> {
 }
 
 /// A bound of a word: a key, `:` and a sequence number.
-fn bound_of(alloc: Global, word: &str) -> Result<(Vec<u8>, u64)> {
+fn bound_of(alloc: Global, word: &str) -> Result<Bound> {
     let (key, seqno) = word.split_once(':').ok_or(Fault::Word)?;
     Ok((bytes_of(alloc, key)?, number_of(seqno)?))
+}
+
+/// A key and a sequence number.
+type Bound = (Vec<u8>, u64);
+
+/// The handles between two bounds, the lower one sought first, from the front.
+fn between_front(alloc: Global, block: &IndexBlock, from: &Bound, upto: &Bound) -> Result<String> {
+    let mut iter = block.iter();
+    iter.seek(from.0.as_slice(), from.1);
+    iter.seek_upper(upto.0.as_slice(), upto.1);
+    let words = words_of(alloc, Handles::new(block, iter))?;
+    joined(alloc, words.as_slice())
+}
+
+/// The handles between two bounds, the upper one sought first, from the back.
+fn between_back(alloc: Global, block: &IndexBlock, from: &Bound, upto: &Bound) -> Result<String> {
+    let mut iter = block.iter();
+    iter.seek_upper(upto.0.as_slice(), upto.1);
+    iter.seek(from.0.as_slice(), from.1);
+    let words = words_back(alloc, Handles::new(block, iter))?;
+    joined(alloc, words.as_slice())
+}
+
+/// The handles of a block between two bounds, from the front and from the back.
+fn between_of(alloc: Global, block: &IndexBlock, from: &Bound, upto: &Bound) -> Result<String> {
+    let front = between_front(alloc, block, from, upto)?;
+    let back = between_back(alloc, block, from, upto)?;
+    alike(alloc, front, "from the back", back)
 }
 
 /// The handles between two bounds, the lower one sought first from the front, and the upper one first
@@ -186,20 +222,7 @@ fn between(alloc: Global, room: &Room, words: &[&str]) -> Result<String> {
     };
     let (from, upto) = (bound_of(alloc, from)?, bound_of(alloc, upto)?);
     let block = index_block(alloc, room, false)?;
-    let mut iter = block.iter();
-    iter.seek(from.0.as_slice(), from.1);
-    iter.seek_upper(upto.0.as_slice(), upto.1);
-    let front = words_of(alloc, Handles::new(&block, iter))?;
-    let mut iter = block.iter();
-    iter.seek_upper(upto.0.as_slice(), upto.1);
-    iter.seek(from.0.as_slice(), from.1);
-    let back = words_back(alloc, Handles::new(&block, iter))?;
-    alike(
-        alloc,
-        joined(alloc, front.as_slice())?,
-        "from the back",
-        joined(alloc, back.as_slice())?,
-    )
+    between_of(alloc, &block, &from, &upto)
 }
 
 /// The number and the digest of the words of handles.
@@ -226,21 +249,40 @@ fn by_views(alloc: Global, page: &IndexBlockRef<'_>) -> Result<String> {
     digest_of(alloc, words.as_slice())
 }
 
+/// The digest of the handles of a block from the front.
+fn digest_front(alloc: Global, block: &IndexBlock) -> Result<String> {
+    let words = words_of(alloc, block.handles())?;
+    digest_of(alloc, words.as_slice())
+}
+
+/// The digest of the handles of a block from the back.
+fn digest_back(alloc: Global, block: &IndexBlock) -> Result<String> {
+    let words = words_back(alloc, block.handles())?;
+    digest_of(alloc, words.as_slice())
+}
+
+/// The digest of the handles of the payload, from either end.
+fn digests(alloc: Global, room: &Room) -> Result<String> {
+    let block = index_block(alloc, room, false)?;
+    let front = digest_front(alloc, &block)?;
+    let back = digest_back(alloc, &block)?;
+    alike(alloc, front, "from the back", back)
+}
+
+/// The digest of the handles of bytes that are lent, with a table of their heads.
+fn by_tabled_views(alloc: Global, page: &IndexBlockRef<'_>) -> Result<String> {
+    let heads = page.make_heads(alloc)?;
+    by_views(alloc, &page.with_table(&heads))
+}
+
 /// The number of the handles, and their digest, by each way to go over them.
 fn handles(alloc: Global, room: &Room) -> Result<String> {
-    let block = index_block(alloc, room, false)?;
-    let front = digest_of(alloc, words_of(alloc, block.handles())?.as_slice())?;
-    let back = digest_of(alloc, words_back(alloc, block.handles())?.as_slice())?;
-    let all = alike(alloc, front, "from the back", back)?;
+    let all = digests(alloc, room)?;
     let page = IndexBlockRef::check(room.payload.as_slice())?;
-    let heads = page.make_heads(alloc)?;
-    let all = alike(alloc, all, "by views", by_views(alloc, &page)?)?;
-    alike(
-        alloc,
-        all,
-        "with a table",
-        by_views(alloc, &page.with_table(&heads))?,
-    )
+    let views = by_views(alloc, &page)?;
+    let all = alike(alloc, all, "by views", views)?;
+    let views = by_tabled_views(alloc, &page)?;
+    alike(alloc, all, "with a table", views)
 }
 
 /// Takes the handles of the payload as the list.

@@ -252,13 +252,26 @@ fn by_page<H: BlockHash>(alloc: Global, room: &Room) -> Result<String> {
     alike(alloc, all, "from the back", by_views_back(alloc, &page)?)
 }
 
+/// The number of the entries of a block, and their digest, by each way to go over it.
+fn by_block<H: BlockHash>(alloc: Global, block: &DataBlock<H>) -> Result<String> {
+    let items = by_items(alloc, block)?;
+    let entries = by_entries(alloc, block)?;
+    let all = alike(alloc, items, "by entries", entries)?;
+    let back = from_the_back(alloc, block)?;
+    alike(alloc, all, "from the back", back)
+}
+
+/// The same of the payload.
+fn by_owned<H: BlockHash>(alloc: Global, room: &Room) -> Result<String> {
+    let block = data_block::<H>(alloc, room, false)?;
+    by_block(alloc, &block)
+}
+
 /// The number of the entries, and their digest, by each way to go over them.
 fn entries<H: BlockHash>(alloc: Global, room: &Room) -> Result<String> {
-    let block = data_block::<H>(alloc, room, false)?;
-    let all = by_items(alloc, &block)?;
-    let all = alike(alloc, all, "by entries", by_entries(alloc, &block)?)?;
-    let all = alike(alloc, all, "from the back", from_the_back(alloc, &block)?)?;
-    alike(alloc, all, "by views", by_page::<H>(alloc, room)?)
+    let all = by_owned::<H>(alloc, room)?;
+    let views = by_page::<H>(alloc, room)?;
+    alike(alloc, all, "by views", views)
 }
 
 /// Performs a command, if it reads entries.

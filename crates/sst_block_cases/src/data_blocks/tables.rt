@@ -63,22 +63,36 @@ fn front(alloc: Global, words: &[&str]) -> Result<String> {
     hex_of(alloc, front.as_slice())
 }
 
+/// The number of heads in the table of a block's clone.
+fn heads_of_clone<H: BlockHash>(alloc: Global, block: &DataBlock<H>) -> Result<String> {
+    let clone = block.clone()?;
+    word_of_table(alloc, clone.heads())
+}
+
+/// The number of heads in the table of a block, and in that of its clone.
+fn heads_of<H: BlockHash>(alloc: Global, block: &DataBlock<H>) -> Result<String> {
+    let heads = word_of_table(alloc, block.heads())?;
+    let cloned = heads_of_clone::<H>(alloc, block)?;
+    Ok(format!(in alloc; "{heads}, clone {cloned}")?)
+}
+
+/// The number of heads in the table that is made of a block's.
+fn heads_made<H: BlockHash>(alloc: Global, block: DataBlock<H>) -> Result<String> {
+    match block.with_heads(alloc) {
+        Ok(block) => word_of_table(alloc, block.heads()),
+        Err(_) => Err(Fault::Refused(Error::Memory)),
+    }
+}
+
 /// Which blocks have a table of their heads, and of how many: one that was checked, its clone, one that
 /// is new, its clone, and one of which the table was made.
 fn table<H: BlockHash>(alloc: Global, room: &Room) -> Result<String> {
     let checked = data_block::<H>(alloc, room, true)?;
-    let first = word_of_table(alloc, checked.heads())?;
-    let second = word_of_table(alloc, checked.clone()?.heads())?;
+    let first = heads_of::<H>(alloc, &checked)?;
     let new = DataBlock::<H>::new(checked.into_inner());
-    let third = word_of_table(alloc, new.heads())?;
-    let fourth = word_of_table(alloc, new.clone()?.heads())?;
-    let made = match new.with_heads(alloc) {
-        Ok(block) => word_of_table(alloc, block.heads())?,
-        Err(_) => return Err(Fault::Refused(Error::Memory)),
-    };
-    Ok(format!(in alloc;
-        "checked {first}, clone {second}, new {third}, clone {fourth}, made {made}"
-    )?)
+    let second = heads_of::<H>(alloc, &new)?;
+    let made = heads_made::<H>(alloc, new)?;
+    Ok(format!(in alloc; "checked {first}, new {second}, made {made}")?)
 }
 
 /// Performs a command, if it is one on heads.

@@ -152,17 +152,23 @@ fn by_iterator<H: BlockHash>(
     Ok(text)
 }
 
+/// Steps of an iterator over the payload, without the table of the heads or with it.
+fn stepped<H: BlockHash>(
+    alloc: Global,
+    room: &Room,
+    steps: &[Step],
+    tabled: bool,
+) -> Result<String> {
+    let block = data_block::<H>(alloc, room, tabled)?;
+    by_iterator(alloc, &block, steps)
+}
+
 /// Steps of an iterator, of any kind, without the table of the heads and with it.
 fn steps<H: BlockHash>(alloc: Global, room: &Room, words: &[&str]) -> Result<String> {
     let steps = steps_of(alloc, words)?;
-    let bare = data_block::<H>(alloc, room, false)?;
-    let tabled = data_block::<H>(alloc, room, true)?;
-    alike(
-        alloc,
-        by_iterator(alloc, &bare, steps.as_slice())?,
-        "by the table",
-        by_iterator(alloc, &tabled, steps.as_slice())?,
-    )
+    let bare = stepped::<H>(alloc, room, steps.as_slice(), false)?;
+    let tabled = stepped::<H>(alloc, room, steps.as_slice(), true)?;
+    alike(alloc, bare, "by the table", tabled)
 }
 
 /// The text of what `walk` answers.
@@ -231,6 +237,17 @@ fn perform_all<H: BlockHash>(
     Ok(text)
 }
 
+/// Takes so many entries from an iterator that owns its block. Returns how many there were.
+fn take_rest<H: BlockHash>(alloc: Global, iter: &mut IntoEntries<H>, size: usize) -> Result<usize> {
+    let mut taken = 0usize;
+    for _ in 0..size {
+        if iter.next_entry(alloc)?.is_some() {
+            taken = taken.saturating_add(1);
+        }
+    }
+    Ok(taken)
+}
+
 /// Performs operations of an iterator that owns its block, and takes what is left, which are as many
 /// entries as it says; the iterator returns its block.
 fn by_owner<H: BlockHash>(
@@ -243,16 +260,30 @@ fn by_owner<H: BlockHash>(
     let mut iter = block.into_entries();
     let text = perform_all(alloc, &mut iter, ops, by_item)?;
     let left = iter.count_left();
-    let mut taken = 0usize;
-    for _ in 0..size {
-        if iter.next_entry(alloc)?.is_some() {
-            taken = taken.saturating_add(1);
-        }
-    }
-    if taken == left && iter.block().len() == size && iter.into_block().len() == size {
+    let taken = take_rest(alloc, &mut iter, size)?;
+    let is_whole = iter.block().len() == size && iter.into_block().len() == size;
+    if taken == left && is_whole {
         return Ok(text);
     }
     Ok(format!(in alloc; "{text}, {left} left, {taken} taken")?)
+}
+
+/// Performs operations of an iterator that owns the block of the payload.
+fn owned<H: BlockHash>(alloc: Global, room: &Room, ops: &[Op], by_item: bool) -> Result<String> {
+    let block = data_block::<H>(alloc, room, by_item)?;
+    by_owner(alloc, block, ops, by_item)
+}
+
+/// What `walk` answers over a block.
+fn walked<H: BlockHash>(alloc: Global, block: &DataBlock<H>, ops: &[Op]) -> Result<String> {
+    let answers = walk(alloc, block, ops)?;
+    text_of(alloc, answers.as_slice())
+}
+
+/// What `walk` answers over the block of the payload.
+fn walked_over<H: BlockHash>(alloc: Global, room: &Room, ops: &[Op]) -> Result<String> {
+    let block = data_block::<H>(alloc, room, true)?;
+    walked(alloc, &block, ops)
 }
 
 /// Steps of an iterator that every kind has: by one that borrows its block, by `walk`, and by one that
@@ -260,14 +291,11 @@ fn by_owner<H: BlockHash>(
 fn walks<H: BlockHash>(alloc: Global, room: &Room, words: &[&str]) -> Result<String> {
     let all = steps::<H>(alloc, room, words)?;
     let ops = ops_of(alloc, words)?;
-    let bare = data_block::<H>(alloc, room, false)?;
-    let tabled = data_block::<H>(alloc, room, true)?;
-    let walked = walk(alloc, &tabled, ops.as_slice())?;
-    let walked = text_of(alloc, walked.as_slice())?;
+    let walked = walked_over::<H>(alloc, room, ops.as_slice())?;
     let all = alike(alloc, all, "by walk", walked)?;
-    let owned = by_owner(alloc, bare, ops.as_slice(), false)?;
-    let all = alike(alloc, all, "by an owner", owned)?;
-    let by_item = by_owner(alloc, tabled, ops.as_slice(), true)?;
+    let whole = owned::<H>(alloc, room, ops.as_slice(), false)?;
+    let all = alike(alloc, all, "by an owner", whole)?;
+    let by_item = owned::<H>(alloc, room, ops.as_slice(), true)?;
     alike(alloc, all, "by its items", by_item)
 }
 
