@@ -269,8 +269,15 @@ fn digests(alloc: Global, room: &Room) -> Result<String> {
     alike(alloc, front, "from the back", back)
 }
 
-/// The digest of the handles of bytes that are lent, with a table of their heads.
-fn by_tabled_views(alloc: Global, page: &IndexBlockRef<'_>) -> Result<String> {
+/// The digest of the handles of the payload, which is lent.
+fn by_lent(alloc: Global, room: &Room) -> Result<String> {
+    let page = IndexBlockRef::check(room.payload.as_slice())?;
+    by_views(alloc, &page)
+}
+
+/// The digest of the handles of the payload, which is lent, with a table of their heads.
+fn by_lent_with_table(alloc: Global, room: &Room) -> Result<String> {
+    let page = IndexBlockRef::check(room.payload.as_slice())?;
     let heads = page.make_heads(alloc)?;
     by_views(alloc, &page.with_table(&heads))
 }
@@ -278,10 +285,9 @@ fn by_tabled_views(alloc: Global, page: &IndexBlockRef<'_>) -> Result<String> {
 /// The number of the handles, and their digest, by each way to go over them.
 fn handles(alloc: Global, room: &Room) -> Result<String> {
     let all = digests(alloc, room)?;
-    let page = IndexBlockRef::check(room.payload.as_slice())?;
-    let views = by_views(alloc, &page)?;
+    let views = by_lent(alloc, room)?;
     let all = alike(alloc, all, "by views", views)?;
-    let views = by_tabled_views(alloc, &page)?;
+    let views = by_lent_with_table(alloc, room)?;
     alike(alloc, all, "with a table", views)
 }
 
