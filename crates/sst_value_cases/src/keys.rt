@@ -9,15 +9,19 @@ use sst_case_room::words::{entry_of, truth, word_of};
 use std::alloc::Global;
 use std::mem::size_of;
 
+/// How two keys compare, and whether they are equal.
+fn compared(alloc: Global, left: &InternalKey, right: &InternalKey) -> Result<String> {
+    let (order, same) = (left.cmp(right), left == right);
+    Ok(format!(in alloc; "{order:?}, equal {same}")?)
+}
+
 /// How the keys of two entries compare, and whether they are equal: ENTRY ENTRY.
 fn keys(alloc: Global, words: &[&str]) -> Result<String> {
     let [left, right] = words else {
         return Err(Fault::Word);
     };
     let (left, right) = (entry_of(alloc, left)?, entry_of(alloc, right)?);
-    let (left, right) = (left.key(), right.key());
-    let (order, same) = (left.cmp(right), truth(alloc, left == right)?);
-    Ok(format!(in alloc; "{order:?}, equal {same}")?)
+    compared(alloc, left.key(), right.key())
 }
 
 /// An entry made by the constructor of its type.
@@ -33,17 +37,33 @@ fn made(alloc: Global, entry: &InternalValue) -> Result<InternalValue> {
     }
 }
 
+/// The entry of a word, made by the constructor of its type.
+fn made_of(alloc: Global, word: &str) -> Result<InternalValue> {
+    let entry = entry_of(alloc, word)?;
+    made(alloc, &entry)
+}
+
+/// How the clone of an entry prints.
+fn text_of_clone(alloc: Global, entry: &InternalValue) -> Result<String> {
+    let copy = entry.clone()?;
+    Ok(format!(in alloc; "{copy:?}")?)
+}
+
+/// How the clone of an entry prints, its word, and whether it is a tombstone.
+fn text_of(alloc: Global, entry: &InternalValue) -> Result<String> {
+    let (text, word) = (text_of_clone(alloc, entry)?, word_of(alloc, entry)?);
+    let dead = entry.is_tombstone();
+    Ok(format!(in alloc; "{text}, {word}, tombstone {dead}")?)
+}
+
 /// How an entry prints, made by the constructor of its type, and its clone, and whether it is a
 /// tombstone: ENTRY.
 fn print(alloc: Global, words: &[&str]) -> Result<String> {
     let [word] = words else {
         return Err(Fault::Word);
     };
-    let entry = made(alloc, &entry_of(alloc, word)?)?;
-    let copy = entry.clone()?;
-    let (text, word) = (format!(in alloc; "{copy:?}")?, word_of(alloc, &entry)?);
-    let dead = truth(alloc, entry.is_tombstone())?;
-    Ok(format!(in alloc; "{text}, {word}, tombstone {dead}")?)
+    let entry = made_of(alloc, word)?;
+    text_of(alloc, &entry)
 }
 
 /// The parts of a block of a header and the payload `abc`.
