@@ -1,5 +1,5 @@
 -- What a pass over a body has read so far, and what it found of it.
-use Rattle.std.specs.Prelude.{◌≡◌, ◌↔◌, ℕ, ◌+◌, ◌*◌, ◌%◌, ◌==◌, ◌<◌, ◌≤◌, if◌then◌else◌, Bool, true, IsTrue, List, [], ◌∷◌, length, drop, slice_index, Option, Some, None, ◌⊎◌}
+use Rattle.std.specs.Prelude.{◌≡◌, ◌↔◌, ℕ, ◌+◌, ◌*◌, ◌%◌, ◌==◌, ◌<◌, ◌≤◌, if◌then◌else◌, Bool, true, IsTrue, List, [], ◌∷◌, length, take, drop, slice_index, ◌-◌, IfSome, Option, Some, None, ◌⊎◌}
 use Rattle.std.specs.List.{AllByRecursion}
 use Rattle.sst_base.specs.declared.error.Error.{Error}
 use Rattle.sst_base.specs.declared.error.Error.TheVariants.{Truncated, BadTrailer, BadEntry, OutOfOrder, BadIndex, BadHashIndex, Memory}
@@ -14,6 +14,7 @@ use Rattle.sst_base.specs.declared.table.util.SliceIndexes.{SliceIndexes}
 use Rattle.sst_block_core.specs.Stages.{items_by, HasTrailer, HasParts, HasForms, HasOrder, HasPointers, HasBuckets}
 use Rattle.sst_block_core.specs.declared.table.block.check.pass.PassState.{PassState}
 use Rattle.sst_block_core.specs.declared.table.block.check.tally.HashedPrefix.{HashedPrefix}
+use Rattle.sst_block_core.specs.declared.table.block.check.tally.JoinedKeys.{JoinedKeys}
 use Rattle.sst_block_core.specs.declared.table.block.trailer.TrailerNumbers.{TrailerNumbers}
 
 -- the numbers of a trailer, as code has them
@@ -87,16 +88,21 @@ pub record IsFound {X : Type 0} (kind : Kind X) (fits : X → Type 0) (t : Trail
   pub indexed : IsTrue is_indexed ↔ HasPointers kind t p
 
 -- a tally: the bytes of its buckets, the number of heads modulo 2 ^ 8, whether all memory that it requested was
--- allocated, and the prefix of the last key
+-- allocated, the prefix of the last key, and the room for joined keys
 pub record TallyState : Type 0 where
   pub table : List ℕ
   pub heads : ℕ
   pub has_memory : Bool
   pub prefix : HashedPrefix
+  pub joined : JoinedKeys
 
--- a hashed prefix has the hash of its range of a body
+-- a hashed prefix has the hash of its range of a body, if it has one
 abbrev pub IsHashed : (List ℕ → ℕ) → List ℕ → HashedPrefix → Type 0
-IsHashed hash body prefix = hash (range_of body prefix.range) ≡ prefix.hash
+IsHashed hash body prefix = IfSome prefix.hash (λ h. hash (range_of body prefix.range) ≡ h)
+
+-- the room for joined keys begins with its range of a body
+abbrev pub IsBegun : List ℕ → JoinedKeys → Type 0
+IsBegun body joined = take (joined.front.1 - joined.front.0) joined.bytes.items ≡ range_of body joined.front
 
 -- the bytes of b buckets are the buckets of these items, which have this many heads
 pub record IsTallied {X : Type 0} (kind : Kind X) (hash : List ℕ → ℕ) (r b : ℕ) (table : List ℕ) (heads : ℕ) (items : List X) : Type 0 where
@@ -106,7 +112,7 @@ pub record IsTallied {X : Type 0} (kind : Kind X) (hash : List ℕ → ℕ) (r b
 
 -- a tally took the keys of these items of a body: where memory was there and they have at most 254 heads, it has their buckets
 abbrev pub HasTallied : {X : Type 0} → Kind X → (List ℕ → ℕ) → ℕ → ℕ → List ℕ → TallyState → List X → Type 0
-HasTallied kind hash r b body tally items = tally.has_memory ≡ true → IsHashed hash body tally.prefix
+HasTallied kind hash r b body tally items = tally.has_memory ≡ true → IsHashed hash body tally.prefix × IsBegun body tally.joined
     × (head_count r (length items) ≤ 254 → IsTallied kind hash r b tally.table tally.heads items)
 
 -- why the numbers of a trailer are refused: which of the first two stages fails first

@@ -72,6 +72,12 @@ with_stripes-more secret sums bytes i t n (suc k) =
     rw (place, at_byte, before) refl in
     step ∙ ap (with_stripes secret sums bytes i t) e
 
+-- the same of sums that were found one after the other, of m stripes in all
+pub stripes_joined : (secret start bytes : List ℕ) (i t n j u k m : ℕ) (sums result : List ℕ) → sums ≡ with_stripes secret start bytes i t n
+    → result ≡ with_stripes secret sums bytes j u k → j ≡ i + 64 * n → u ≡ (t + n) % 16 → m ≡ n + k → result ≡ with_stripes secret start bytes i t m
+stripes_joined secret start bytes i t n j u k m sums result e f at_byte place all =
+    f ∙ (λ z. with_stripes secret (e z) bytes (at_byte z) (place z) k) ∙ with_stripes-more secret start bytes i t n k ∙ sym (ap (with_stripes secret start bytes i t) all)
+
 -- the sums of a message with k stripes more, which stand in xs
 pub message-more : (secret message xs : List ℕ) (n k i place : ℕ) (sums result : List ℕ) → sums ≡ with_stripes secret first_sums message 0 0 n → place ≡ n % 16
     → IsSame xs i message (64 * n) (64 * k) → result ≡ with_stripes secret sums xs i place k → result ≡ with_stripes secret first_sums message 0 0 (n + k)

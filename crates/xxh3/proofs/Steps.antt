@@ -1,6 +1,7 @@
 -- One step more of each sum, as a loop counts.
-use Rattle.std.proofs.Common.{◌≡◌, ℕ, ◌+◌, ◌-◌, ◌*◌, ◌%◌, List, length, refl, ap, add-one}
+use Rattle.std.proofs.Common.{◌≡◌, ℕ, ◌+◌, ◌-◌, ◌*◌, ◌%◌, ◌<◌, List, length, false, refl, sym, ap, ◌∙◌, eqb, arith, add-one}
 use Rattle.std.specs.Prelude.{◌==◌, if◌then◌else◌}
+use Rattle.std.proofs.lemmas.Bool.{ne_eqb}
 use Rattle.xxh3.specs.declared.words.Halves.{Halves}
 use Rattle.xxh3.specs.Xxh3.{add, mixed, ends_sum, run_sum, run_sums, ends_sums, with_both, with_stripe, with_stripes, scrambled}
 
@@ -41,4 +42,25 @@ pub ruleset runs_steps = (run_sums-one)
 
 pub ruleset both_steps = (ends_sums-one)
 
-pub ruleset stripe_steps = (with_stripes-one)
+-- a stripe that is not the last of its block
+pub with_stripes-within : (secret sums bytes : List ℕ) (i t n : ℕ) → t + n < 15
+    → with_stripes secret sums bytes i t (n + 1) ≡ with_stripe secret (with_stripes secret sums bytes i t n) bytes (i + 64 * n) (8 * (t + n))
+with_stripes-within secret sums bytes i t n inside =
+    let place : (t + n) % 16 ≡ t + n = omega arith in
+    let open_still : eqb (t + n) 15 ≡ false = ne_eqb (t + n) 15 (λ e. absurd (omega (arith, e, inside))) in
+    rw (place, open_still) at (with_stripes-one secret sums bytes i t n)
+
+-- the last stripe of a block
+pub with_stripes-closing : (secret sums bytes : List ℕ) (i t n : ℕ) → t + n ≡ 15
+    → with_stripes secret sums bytes i t (n + 1) ≡ scrambled secret (with_stripe secret (with_stripes secret sums bytes i t n) bytes (i + 64 * n) 120)
+with_stripes-closing secret sums bytes i t n e = rw e at (with_stripes-one secret sums bytes i t n)
+
+pub block_closes : (secret start bytes : List ℕ) (i t : ℕ) → t < 16 → (sums last result : List ℕ) → sums ≡ with_stripes secret start bytes i t (15 - t)
+    → last ≡ with_stripe secret sums bytes (i + 64 * (15 - t)) 120 → result ≡ scrambled secret last → result ≡ with_stripes secret start bytes i t (16 - t)
+block_closes secret start bytes i t inside sums last result e f g =
+    let n = 15 - t in
+    let all : n + 1 ≡ 16 - t = omega arith in
+    g ∙ ap (scrambled secret) (f ∙ ap (λ (w : List ℕ). with_stripe secret w bytes (i + 64 * n) 120) e)
+    ∙ sym (with_stripes-closing secret start bytes i t n (omega arith)) ∙ ap (with_stripes secret start bytes i t) all
+
+pub ruleset stripe_steps = (with_stripes-within)

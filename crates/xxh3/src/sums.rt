@@ -1,15 +1,17 @@
 //! Messages of more than 240 bytes: eight sums over stripes of 64 bytes, in blocks of 16 stripes.
-ghost use Rattle.std.specs.Prelude.{◌≡◌, ◌+◌, ◌*◌, ◌≤◌, ◌<◌, length};
+ghost use Rattle.std.specs.Prelude.{◌≡◌, ◌+◌, ◌-◌, ◌*◌, ◌≤◌, ◌<◌, length};
 ghost use Rattle.xxh3.specs.Xxh3.{words, with_stripe, scrambled, with_stripes, message_sums, merged, first_sums};
 
 use crate::secret::SECRET_LEN;
 use crate::words::{self, avalanche, folded_product, word};
 use std::simd::prelude::*;
 
-// The length of a stripe in bytes, and of a block in stripes.
+// The length of a stripe in bytes, of a block in stripes and in bytes.
 pub(crate) const STRIPE_LEN: usize = 64;
 
 pub(crate) const BLOCK_STRIPES: usize = 16;
+
+const BLOCK_LEN: usize = 1024;
 
 // Where the eight sums begin.
 const FIRST_SUMS: [u64; 8] = [
@@ -83,9 +85,102 @@ fn scrambled(secret: &[u8; SECRET_LEN], sums: u64x8) -> u64x8
     (shifted ^ words(secret, 128)) * u64x8::splat(words::PRIME32_1)
 }
 
-// The sums with `count` stripes from `at` on, the first of which is the stripe `first` of its block.
+// The sums with `count` stripes from `at` on, the first of which is the stripe `first` of its block
+// and none of which is the last.
 #[inline(always)]
 #[tactic(auto, using(crate::proofs::Steps::stripe_steps), unfolding(crate::specs::Xxh3::with_stripes))]
+fn with_run(
+    secret: &[u8; SECRET_LEN],
+    start: u64x8,
+    bytes: &[u8],
+    at: usize,
+    first: usize,
+    count: usize,
+) -> u64x8
+    requires inside { at + 64 * count ≤ length bytes.now }
+    requires in_block { first + count < 16 }
+    requires eight { length start ≡ 8 }
+    ensures value { result ≡ with_stripes secret.now start bytes.now at first count }
+    ensures eight { length result ≡ 8 }
+{
+    let mut sums = start;
+    'run: for i in 0..count {
+        sums = with_stripe(secret, sums, bytes, at + STRIPE_LEN * i, 8 * (first + i));
+    }
+    sums
+}
+
+// The sums with the rest of a block, from its stripe `first` on.
+#[inline(always)]
+fn with_block(
+    secret: &[u8; SECRET_LEN],
+    start: u64x8,
+    bytes: &[u8],
+    at: usize,
+    first: usize,
+) -> u64x8
+    requires in_block { first < 16 }
+    requires inside { at + 64 * (16 - first) ≤ length bytes.now }
+    requires eight { length start ≡ 8 }
+    ensures value { result ≡ with_stripes secret.now start bytes.now at first (16 - first) }
+    ensures eight { length result ≡ 8 }
+{
+    let before = BLOCK_STRIPES - 1 - first;
+    let sums = with_run(secret, start, bytes, at, first, before);
+    let last = with_stripe(secret, sums, bytes, at + STRIPE_LEN * before, 120);
+    scrambled(secret, last)
+}
+
+// The sums with `count` blocks from `at` on.
+#[inline(always)]
+#[tactic(auto, unfolding(crate::specs::Xxh3::with_stripes))]
+fn with_blocks(
+    secret: &[u8; SECRET_LEN],
+    start: u64x8,
+    bytes: &[u8],
+    at: usize,
+    count: usize,
+) -> u64x8
+    requires inside { at + 1024 * count ≤ length bytes.now }
+    requires eight { length start ≡ 8 }
+    ensures value { result ≡ with_stripes secret.now start bytes.now at 0 (16 * count) }
+    ensures eight { length result ≡ 8 }
+{
+    let mut sums = start;
+    'each: for i in 0..count {
+        sums = with_block(secret, sums, bytes, at + BLOCK_LEN * i, 0);
+    }
+    sums
+}
+
+// The sums with `count` stripes from `at` on, the first of which begins a block.
+#[inline(always)]
+fn with_whole(
+    secret: &[u8; SECRET_LEN],
+    start: u64x8,
+    bytes: &[u8],
+    at: usize,
+    count: usize,
+) -> u64x8
+    requires inside { at + 64 * count ≤ length bytes.now }
+    requires eight { length start ≡ 8 }
+    ensures value { result ≡ with_stripes secret.now start bytes.now at 0 count }
+    ensures eight { length result ≡ 8 }
+{
+    let blocks = count / BLOCK_STRIPES;
+    let sums = with_blocks(secret, start, bytes, at, blocks);
+    with_run(
+        secret,
+        sums,
+        bytes,
+        at + BLOCK_LEN * blocks,
+        0,
+        count % BLOCK_STRIPES,
+    )
+}
+
+// The sums with `count` stripes from `at` on, the first of which is the stripe `first` of its block.
+#[inline(always)]
 pub(crate) fn with_stripes(
     secret: &[u8; SECRET_LEN],
     start: u64x8,
@@ -100,15 +195,12 @@ pub(crate) fn with_stripes(
     ensures value { result ≡ with_stripes secret.now start bytes.now at first count }
     ensures eight { length result ≡ 8 }
 {
-    let mut sums = start;
-    for i in 0..count {
-        let place = (first + i) % BLOCK_STRIPES;
-        sums = with_stripe(secret, sums, bytes, at + STRIPE_LEN * i, 8 * place);
-        if place == BLOCK_STRIPES - 1 {
-            sums = scrambled(secret, sums);
-        }
+    let rest = BLOCK_STRIPES - first;
+    if count < rest {
+        return with_run(secret, start, bytes, at, first, count);
     }
-    sums
+    let sums = with_block(secret, start, bytes, at, first);
+    with_whole(secret, sums, bytes, at + STRIPE_LEN * rest, count - rest)
 }
 
 // The sums of a message.
@@ -120,7 +212,7 @@ pub(crate) fn message_sums(secret: &[u8; SECRET_LEN], bytes: &[u8]) -> u64x8
 {
     let len = bytes.len();
     let stripes = (len - 1) / STRIPE_LEN;
-    let sums = with_stripes(secret, first_sums(), bytes, 0, 0, stripes);
+    let sums = with_whole(secret, first_sums(), bytes, 0, stripes);
     with_stripe(secret, sums, bytes, len - STRIPE_LEN, 121)
 }
 

@@ -9,7 +9,7 @@ use Rattle.sst_block_core.specs.Trailer.{Trailer}
 use Rattle.sst_block_core.specs.Pointers.{head_count}
 use Rattle.sst_block_core.specs.Buckets.{bucket, bucket_byte_with}
 use Rattle.sst_block_core.specs.Stages.{HasParts, HasForms, HasBuckets, body_in, buckets_in, items_by}
-use Rattle.sst_block_core.specs.Passes.{TallyState, IsHashed, IsTallied, HasTallied}
+use Rattle.sst_block_core.specs.Passes.{TallyState, IsHashed, IsBegun, IsTallied, HasTallied}
 use Rattle.sst_block_core.specs.BucketLaws.{bucket_push}
 use Rattle.sst_block_core.specs.OpeningLaws.{length-items_at}
 use Rattle.sst_block_core.specs.PointerLaws.{each_alike, each_whole, heads_behind, heads_before, heads_inside}
@@ -38,13 +38,15 @@ few_before r place pos few =
     ]
 
 module _ {X : Type 0} (kind : Kind X) (hash : List ℕ → ℕ) (r b : ℕ) (pos : 0 < r) where
-  pub tally_none : (body : List ℕ) (tally : TallyState) → tally ≡ record { table = replicate b 254; heads = 0; has_memory = true; prefix = record { range = record { 0 = 0; 1 = 0 }; hash = hash [] } } → HasTallied kind hash r b body tally []
-  tally_none body tally e = λ memory. (
-    subst (IsHashed hash body) (sym (ap (λ t. t.prefix) e)) refl,
+  pub tally_none : (body : List ℕ) (tally : TallyState) → tally.table ≡ replicate b 254 → tally.heads ≡ 0
+      → ((bytes : List ℕ) → IsHashed hash bytes tally.prefix × IsBegun bytes tally.joined) → HasTallied kind hash r b body tally []
+  tally_none body tally table heads keys = λ memory. (
+    (keys body).0,
+    (keys body).1,
     λ few. record {
-      count = ap (λ t. length t.table) e ∙ length-replicate b 254;
-      heads_is = ap (λ t. t.heads) e ∙ sym (div-eq_of_lt (omega arith));
-      buckets = λ q h. ap (λ t. get_or t.table q 0) e ∙ get_or-replicate b q 254 0 h;
+      count = ap length table ∙ length-replicate b 254;
+      heads_is = heads ∙ sym (div-eq_of_lt (omega arith));
+      buckets = λ q h. ap (λ t. get_or t q 0) table ∙ get_or-replicate b q 254 0 h;
     },
   )
 
@@ -86,16 +88,18 @@ module _ {X : Type 0} (kind : Kind X) (hash : List ℕ → ℕ) (r b : ℕ) (pos
     -- a key more, where its memory was allocated
     pub tally_push : (phase n h : ℕ) (key : List ℕ) → HasTallied kind hash r b body old xs → 0 < length old.table → phase ≡ length xs % r → (phase ≡ 0 → new.heads ≡ (old.heads + 1) % 256) → (0 < phase → new.heads ≡ old.heads)
         → (0 < new.heads → n + 1 ≡ new.heads) → kind.key x ≡ key → new.has_memory ≡ old.has_memory
-        → (IsHashed hash body new.prefix → h ≡ hash key) → (IsHashed hash body old.prefix → IsHashed hash body new.prefix)
+        → (IsHashed hash body new.prefix → IsBegun body old.joined → h ≡ hash key) → (IsHashed hash body old.prefix → IsHashed hash body new.prefix)
+        → (IsBegun body old.joined → IsBegun body new.joined)
         → new.table ≡ set old.table (h % length old.table) (bucket_byte_with (get_or old.table (h % length old.table) 0) n) → HasTallied kind hash r b body new (xs ++ x ∷ [])
-    tally_push phase n h key taken some in_row head rest number key_is memory_is hash_is prefix_is table_is = λ memory.
+    tally_push phase n h key taken some in_row head rest number key_is memory_is hash_is prefix_is joined_is table_is = λ memory.
         let before = taken (sym memory_is ∙ memory) in
         let hashed = prefix_is before.0 in (
           hashed,
+          joined_is before.1,
           λ many.
               let few : head_count r (length xs + 1) ≤ 254 = subst (λ k. head_count r k ≤ 254) (length_push xs x) many in
-              let same = hash_is hashed in
-              tally_more old.table old.heads xs (before.1 (few_before r (length xs) pos few)) x phase new.heads n key new.table some few in_row head rest number key_is
+              let same = hash_is hashed before.1 in
+              tally_more old.table old.heads xs (before.2 (few_before r (length xs) pos few)) x phase new.heads n key new.table some few in_row head rest number key_is
               (table_is ∙ (λ i. set old.table (same i % length old.table) (bucket_byte_with (get_or old.table (same i % length old.table) 0) n))),
         )
 
@@ -106,7 +110,7 @@ module _ {X : Type 0} (kind : Kind X) (hash : List ℕ → ℕ) (t : Trailer) (p
       let l = ap (head_count t.interval) (length-items_at kind t.interval 0 t.item_count [] (body_in t p) (items_by kind t p) [] forms) in
       let f = parts.few_heads some in
       let h = parts.heads in
-      (taken memory).1 (omega (arith, l, f, h))
+      (taken memory).2 (omega (arith, l, f, h))
 
   buckets_length : length (buckets_in t p) ≡ t.hash_len
   buckets_length = let e = parts.end in length-take-le t.hash_len (drop (t.index_offset + t.heads * t.width) p) (omega (arith, e, length-drop (t.index_offset + t.heads * t.width) p))

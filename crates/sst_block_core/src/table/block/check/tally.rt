@@ -2,9 +2,9 @@
 ghost use Rattle.std.specs.Prelude.{◌≡◌, ◌↔◌, ℕ, ◌+◌, ◌%◌, ◌<◌, ◌++◌};
 ghost use Rattle.std.specs.Prelude.{[], ◌∷◌, List, length};
 ghost use Rattle.std.specs.Prelude.{IsTrue, IfOk, IfSome, IsOkUnless, replicate, true};
-ghost use Rattle.sst_block_core.specs.Found.{IsRange};
+ghost use Rattle.sst_block_core.specs.Found.{IsRange, range_of};
 ghost use Rattle.sst_block_core.specs.KeyRanges.{key_by, IsKeyRanges};
-ghost use Rattle.sst_block_core.specs.Passes.{IsHashed, HasTallied};
+ghost use Rattle.sst_block_core.specs.Passes.{IsHashed, IsBegun, HasTallied};
 
 use crate::block_item::BlockItem;
 use crate::table::block::check::keys::KeyRanges;
@@ -46,22 +46,30 @@ impl<Item: BlockItem> KeySink<Item> for NoTally {
     }
 }
 
-/// The shared prefix of a key: its range of a body, and its hash.
+/// The shared prefix of a key: its range of a body, and its hash where that can be continued.
 #[derive(Clone, Copy)]
 pub(crate) struct HashedPrefix {
     range: SliceIndexes,
-    hash: u64,
+    hash: Option<u64>,
+}
+
+/// Room in which keys are joined. It begins with the bytes of a range of a body, so that of a key
+/// which begins with them only the rest is copied.
+#[derive(Drop)]
+pub(crate) struct JoinedKeys {
+    front: SliceIndexes,
+    bytes: Vec<u8>,
 }
 
 /// The buckets of the keys that it took. Clauses see their bytes, the number of heads modulo 2^8,
-/// whether all memory that it requested was allocated, and the prefix of the last key.
+/// whether all memory that it requested was allocated, the prefix of the last key, and the room
+/// for joined keys, which a hash function that cannot be continued needs.
 #[derive(Drop)]
 pub(crate) struct Tally<H: BlockHash> {
     buckets: Builder<H>,
     bucket_count: Divisor,
     prefix: HashedPrefix,
-    // Room for a joined key, where the hash function cannot be continued.
-    joined: Vec<u8>,
+    joined: JoinedKeys,
     heads: u8,
     has_memory: bool,
 }
@@ -73,9 +81,24 @@ impl<H: BlockHash> Model for Tally<H> {
     ghost Value = { TallyState };
 
     ghost view = { λ t.
-        record { table = t.buckets; heads = t.heads; has_memory = t.has_memory; prefix = t.prefix } };
+        record {
+          table = t.buckets;
+          heads = t.heads;
+          has_memory = t.has_memory;
+          prefix = t.prefix;
+          joined = t.joined;
+        } };
 
     ghost invariant = { λ t. (t.bucket_count ≡ length t.buckets) × (0 < length t.buckets) };
+}
+
+// The hash of a prefix, where it can be continued.
+#[inline(always)]
+fn prefix_hash<H: BlockHash>(prefix: &[u8]) -> Option<u64>
+    ensures { IfSome result (λ hash. H.hash64 prefix.now ≡ hash) }
+{
+    H::hash64_behind(0, &[])?;
+    Some(H::hash64(prefix))
 }
 
 // The shared prefix of a key with its hash, given that of the key before: mostly they are the same.
@@ -90,41 +113,82 @@ fn prefix_at<H: BlockHash>(last: &HashedPrefix, body: &[u8], range: &SliceIndexe
     }
     HashedPrefix {
         range: *range,
-        hash: H::hash64(bytes_of(body, range)),
+        hash: prefix_hash::<H>(bytes_of(body, range)),
     }
 }
 
-// The hash of a key that is joined first. Returns `None` if an allocation fails.
-#[cold]
-#[inline(never)]
-fn joined_hash<H: BlockHash>(joined: &mut Vec<u8>, body: &[u8], key: &KeyRanges) -> Option<u64>
-    requires { IsKeyRanges body.now key.now }
-    ensures { IfSome result (λ hash. hash ≡ H.hash64 (key_by body.now key.now)) }
-{
-    joined.clear();
-    joined.extend_from_slice(bytes_of(body, &key.prefix)).ok()?;
-    joined.extend_from_slice(bytes_of(body, &key.rest)).ok()?;
-    Some(H::hash64(joined.as_slice()))
+impl JoinedKeys {
+    // Makes room that begins with a range of no bytes.
+    fn new(alloc: Global) -> JoinedKeys
+        ensures { (body : List ℕ) → IsBegun body result }
+    {
+        JoinedKeys {
+            front: SliceIndexes(0, 0),
+            bytes: Vec::new(alloc),
+        }
+    }
+
+    // Keeps the bytes of this range alone. Returns `None` if an allocation fails.
+    #[inline(always)]
+    fn keep(&mut self, body: &[u8], range: &SliceIndexes) -> Option<()>
+        requires { IsRange body.now range.now }
+        ensures front { IfSome result (λ _. self.new.front ≡ range.now) }
+        ensures bytes { IfSome result
+            (λ _. IsBegun body.now self.old
+            → self.new.bytes.items ≡ range_of body.now range.now) }
+    {
+        if self.front.0 == range.0 && range.1 <= self.front.1 {
+            self.bytes.truncate(range.1 - range.0);
+        } else {
+            self.bytes.clear();
+            self.bytes.extend_from_slice(bytes_of(body, range)).ok()?;
+        }
+        self.front = *range;
+        Some(())
+    }
+
+    // The hash of a key, which is joined first. Returns `None` if an allocation fails.
+    #[inline(never)]
+    fn hash<H: BlockHash>(&mut self, body: &[u8], key: &KeyRanges) -> Option<u64>
+        requires { IsKeyRanges body.now key.now }
+        ensures hash { IfSome result
+            (λ hash. IsBegun body.now self.old → hash ≡ H.hash64 (key_by body.now key.now)) }
+        ensures begun { IfSome result
+            (λ _. IsBegun body.now self.old → IsBegun body.now self.new) }
+    {
+        self.keep(body, &key.prefix)?;
+        self.bytes
+            .extend_from_slice(bytes_of(body, &key.rest))
+            .ok()?;
+        Some(H::hash64(self.bytes.as_slice()))
+    }
 }
 
 // The hash of a key with this shared prefix. Returns `None` if an allocation fails.
 #[inline(always)]
 fn hash_of<H: BlockHash>(
-    joined: &mut Vec<u8>,
+    joined: &mut JoinedKeys,
     prefix: &HashedPrefix,
     body: &[u8],
     key: &KeyRanges,
 ) -> Option<u64>
     requires ranges { IsKeyRanges body.now key.now }
     requires prefix { prefix.now.range ≡ key.now.prefix }
-    ensures { IfSome result
-        (λ hash. IsHashed H.hash64 body.now prefix.now
+    ensures hash { IfSome result
+        (λ hash. IsHashed H.hash64 body.now prefix.now → IsBegun body.now joined.old
         → hash ≡ H.hash64 (key_by body.now key.now)) }
+    ensures begun { IfSome result
+        (λ _. IsBegun body.now joined.old → IsBegun body.now joined.new) }
 {
-    match H::hash64_behind(prefix.hash, bytes_of(body, &key.rest)) {
-        Some(hash) => Some(hash),
-        None => joined_hash::<H>(joined, body, key),
+    if let Some(so_far) = prefix.hash {
+        if let Some(hash) = H::hash64_behind(so_far, bytes_of(body, &key.rest)) {
+            return Some(hash);
+        }
     }
+    if key.rest.0 == key.rest.1 {
+        return Some(H::hash64(bytes_of(body, &key.prefix)));
+    }
+    joined.hash::<H>(body, key)
 }
 
 // The number of heads, modulo 2^8, with an item more.
@@ -164,14 +228,11 @@ impl<H: BlockHash> Tally<H> {
     /// `Error::Memory` if an allocation fails.
     pub(crate) fn new(alloc: Global, bucket_count: u32) -> Result<Tally<H>>
         requires { 0 < bucket_count }
-        ensures ok { IfOk result
-            (λ t. t
-            ≡ record {
-              table = replicate bucket_count 254;
-              heads = 0;
-              has_memory = true;
-              prefix = record { range = record { 0 = 0; 1 = 0 }; hash = H.hash64 [] };
-            }) }
+        ensures buckets { IfOk result (λ t. t.table ≡ replicate bucket_count 254) }
+        ensures heads { IfOk result (λ t. t.heads ≡ 0) }
+        ensures keys { IfOk result
+            (λ t. (body : List ℕ) → IsHashed H.hash64 body t.prefix × IsBegun body t.joined) }
+        ensures allocated { IfOk result (λ t. t.has_memory ≡ true) }
         ensures memory { IsOkUnless result Error.Memory }
     {
         Ok(Tally {
@@ -179,9 +240,9 @@ impl<H: BlockHash> Tally<H> {
             bucket_count: Divisor::new(u64::from(bucket_count)),
             prefix: HashedPrefix {
                 range: SliceIndexes(0, 0),
-                hash: H::hash64(&[]),
+                hash: None,
             },
-            joined: Vec::new(alloc),
+            joined: JoinedKeys::new(alloc),
             heads: 0,
             has_memory: true,
         })

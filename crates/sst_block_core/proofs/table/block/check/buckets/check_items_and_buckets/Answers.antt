@@ -13,7 +13,7 @@ returns-clause-buckets g c =
     let p = c.args.payload.now in
     let found = c.in_ok-check_items_with.ensures in
     let tally = c.check_items_with.new.sink in
-    let taken = found.taken t.hash_len (tally_none kind hash t.interval t.hash_len c.requires.interval (body_in t p) _ c.in_ok-tally.ensures.ok) in
+    let taken = found.taken t.hash_len (tally_none kind hash t.interval t.hash_len c.requires.interval (body_in t p) c.in_ok-tally.tally c.in_ok-tally.ensures.buckets c.in_ok-tally.ensures.heads c.in_ok-tally.ensures.keys) in
     let memory : tally.has_memory ≡ true = sym c.has_memory.ensures ∙ c.if-not-has_memory.false in
     let stored : c.split_at-2.result.0.now ≡ buckets_in t p = c.split_at-2.ensures.front ∙ ap (take t.hash_len) (c.split_at.ensures.back ∙ ap (λ o. drop o p) (c.requires.hash_offset (omega arith))) in
     buckets_from kind hash t p c.requires (omega arith) found.forms tally taken memory
@@ -27,7 +27,7 @@ returns-then-not-has_buckets-clause-refused g c =
     let p = c.args.payload.now in
     let found = c.in_ok-check_items_with.ensures in
     let tally = c.check_items_with.new.sink in
-    let taken = found.taken t.hash_len (tally_none kind hash t.interval t.hash_len c.requires.interval (body_in t p) _ c.in_ok-tally.ensures.ok) in
+    let taken = found.taken t.hash_len (tally_none kind hash t.interval t.hash_len c.requires.interval (body_in t p) c.in_ok-tally.tally c.in_ok-tally.ensures.buckets c.in_ok-tally.ensures.heads c.in_ok-tally.ensures.keys) in
     let memory : tally.has_memory ≡ true = sym c.has_memory.ensures ∙ c.if-not-has_memory.false in
     let stored : c.split_at-2.result.0.now ≡ buckets_in t p = c.split_at-2.ensures.front ∙ ap (take t.hash_len) (c.split_at.ensures.back ∙ ap (λ o. drop o p) (c.requires.hash_offset (omega arith))) in
     inr (inl (
