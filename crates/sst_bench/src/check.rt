@@ -1,7 +1,8 @@
 //! The check of data blocks and of index blocks of any bytes.
 
 use crate::REFUSED;
-use sst_base::{Block, BlockType, Poly31, Slice};
+use crate::hash::Hash;
+use sst_base::{Block, BlockType, Slice};
 use sst_block_kinds::{DataBlock, IndexBlock};
 use std::alloc::Global;
 
@@ -14,7 +15,7 @@ fn block_of(alloc: Global, payload: &[u8], block_type: BlockType) -> Option<Bloc
 // Checks a block, and adds the number of its entries.
 #[inline(never)]
 fn add_checked(so_far: u64, block: &Block, alloc: Global) -> Option<u64> {
-    let count = DataBlock::<Poly31>::check_ref(alloc, block).ok()?;
+    let count = DataBlock::<Hash>::check_ref(alloc, block).ok()?;
     Some(so_far.wrapping_add(count as u64))
 }
 

@@ -8,9 +8,10 @@ ghost use Rattle.sst_block_core.specs.Entries.{entries};
 
 use crate::REFUSED;
 use crate::entries::entries_in;
+use crate::hash::Hash;
 use crate::keys::keys_in;
 use crate::sums::{entry_sum, found_sum, item_sum, next_sum};
-use sst_base::{Block, BlockType, HashRatio, InternalValue, Poly31, SeqNo, Slice, Steps};
+use sst_base::{Block, BlockType, HashRatio, InternalValue, SeqNo, Slice, Steps};
 use sst_block_core::ParsedItem;
 use sst_block_kinds::DataBlock;
 use std::alloc::Global;
@@ -35,7 +36,7 @@ pub(crate) fn items_in(
         return None;
     }
     let items = entries_in(alloc, bytes, count)?;
-    if items.is_empty() || !DataBlock::<Poly31>::is_ordered(items.as_slice()) {
+    if items.is_empty() || !DataBlock::<Hash>::is_ordered(items.as_slice()) {
         return None;
     }
     Some(items)
@@ -47,14 +48,14 @@ pub(crate) fn block_of(
     items: &[InternalValue],
     interval: u8,
     ratio: HashRatio,
-) -> Option<DataBlock<Poly31>> {
+) -> Option<DataBlock<Hash>> {
     if interval == 0 || ratio.den == 0 || items.is_empty() {
         return None;
     }
-    if !DataBlock::<Poly31>::is_ordered(items) {
+    if !DataBlock::<Hash>::is_ordered(items) {
         return None;
     }
-    let payload = DataBlock::<Poly31>::encode_into_vec(alloc, items, interval, ratio).ok()?;
+    let payload = DataBlock::<Hash>::encode_into_vec(alloc, items, interval, ratio).ok()?;
     let payload = Slice::from_vec(payload).ok()?;
     Some(DataBlock::new(Block::from_payload(BlockType::Data, payload)))
 }
@@ -66,7 +67,7 @@ fn block_in(
     count: usize,
     interval: u8,
     ratio: HashRatio,
-) -> Option<DataBlock<Poly31>> {
+) -> Option<DataBlock<Hash>> {
     let items = entries_in(alloc, bytes, count)?;
     block_of(alloc, items.as_slice(), interval, ratio)
 }
@@ -92,7 +93,7 @@ fn encode(
 {
     for _ in 0..times {
         writer.clear();
-        DataBlock::<Poly31>::encode_into(writer, items, interval, ratio).ok()?;
+        DataBlock::<Hash>::encode_into(writer, items, interval, ratio).ok()?;
     }
     Some(())
 }
@@ -125,7 +126,7 @@ pub extern "C" fn sst_encode(
 
 // Adds each parsed item of a block.
 #[inline(never)]
-fn add_items(so_far: u64, block: &DataBlock<Poly31>) -> u64 {
+fn add_items(so_far: u64, block: &DataBlock<Hash>) -> u64 {
     let mut sum = so_far;
     for item in block.iter() {
         sum = sum.wrapping_add(item_sum(&item));
@@ -156,7 +157,7 @@ pub extern "C" fn sst_walk(
 
 // Adds each parsed item of a block, from the back.
 #[inline(never)]
-fn add_items_back(so_far: u64, block: &DataBlock<Poly31>) -> u64 {
+fn add_items_back(so_far: u64, block: &DataBlock<Hash>) -> u64 {
     let mut sum = so_far;
     let mut iter = block.iter();
     while let Some(item) = iter.next_back() {
@@ -188,7 +189,7 @@ pub extern "C" fn sst_walk_back(
 
 // Materializes each entry of a block, and adds it.
 #[inline(never)]
-pub(crate) fn add_entries(so_far: u64, block: &DataBlock<Poly31>, alloc: Global) -> Option<u64> {
+pub(crate) fn add_entries(so_far: u64, block: &DataBlock<Hash>, alloc: Global) -> Option<u64> {
     let payload = block.as_slice();
     let mut sum = so_far;
     let mut iter = block.iter();
@@ -228,7 +229,7 @@ pub extern "C" fn sst_materialize(
 
 // Adds the first parsed item of a block.
 #[inline(never)]
-fn add_first(so_far: u64, block: &DataBlock<Poly31>) -> u64 {
+fn add_first(so_far: u64, block: &DataBlock<Hash>) -> u64 {
     so_far.wrapping_add(next_sum(&block.iter().next()))
 }
 
@@ -257,7 +258,7 @@ pub extern "C" fn sst_iter(
 #[inline(never)]
 fn add_found(
     so_far: u64,
-    block: &DataBlock<Poly31>,
+    block: &DataBlock<Hash>,
     needles: &[&[u8]],
     alloc: Global,
 ) -> Option<u64> {
@@ -273,7 +274,7 @@ fn add_found(
 // Does a point read of each needle `times` times, from 0.
 fn reads_of(
     alloc: Global,
-    block: Option<DataBlock<Poly31>>,
+    block: Option<DataBlock<Hash>>,
     needles: &[u8],
     key_len: usize,
     times: u64,
@@ -315,7 +316,7 @@ fn tabled_in(
     count: usize,
     interval: u8,
     ratio: HashRatio,
-) -> Option<DataBlock<Poly31>> {
+) -> Option<DataBlock<Hash>> {
     block_in(alloc, bytes, count, interval, ratio)?
         .with_heads(alloc)
         .ok()
@@ -367,7 +368,7 @@ pub extern "C" fn sst_make_table(
 
 // Seeks each needle with a new iterator, adds 1 where the seek returns `true`, and the next item.
 #[inline(never)]
-fn add_next(so_far: u64, block: &DataBlock<Poly31>, needles: &[&[u8]]) -> u64 {
+fn add_next(so_far: u64, block: &DataBlock<Hash>, needles: &[&[u8]]) -> u64 {
     let mut sum = so_far;
     for needle in needles {
         let mut iter = block.iter();
@@ -380,7 +381,7 @@ fn add_next(so_far: u64, block: &DataBlock<Poly31>, needles: &[&[u8]]) -> u64 {
 // Seeks each needle `times` times, from 0.
 fn seeks_of(
     alloc: Global,
-    block: Option<DataBlock<Poly31>>,
+    block: Option<DataBlock<Hash>>,
     needles: &[u8],
     key_len: usize,
     times: u64,
@@ -433,7 +434,7 @@ pub extern "C" fn sst_seek_next_table(
 // Seeks each needle from the back with a new iterator, adds 1 where the seek returns `true`, and
 // the next item from the back.
 #[inline(never)]
-fn add_next_back(so_far: u64, block: &DataBlock<Poly31>, needles: &[&[u8]]) -> u64 {
+fn add_next_back(so_far: u64, block: &DataBlock<Hash>, needles: &[&[u8]]) -> u64 {
     let mut sum = so_far;
     for needle in needles {
         let mut iter = block.iter();
@@ -446,7 +447,7 @@ fn add_next_back(so_far: u64, block: &DataBlock<Poly31>, needles: &[&[u8]]) -> u
 // Seeks each needle from the back `times` times, from 0.
 fn seeks_back_of(
     alloc: Global,
-    block: Option<DataBlock<Poly31>>,
+    block: Option<DataBlock<Hash>>,
     needles: &[u8],
     key_len: usize,
     times: u64,

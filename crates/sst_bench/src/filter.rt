@@ -1,10 +1,11 @@
-//! Bloom filters of keys, hashed with `Poly31`: building and querying.
+//! Bloom filters of keys: building and querying.
 ghost use Rattle.std.specs.Prelude.{◌*◌, ◌≤◌, length};
 
 use crate::REFUSED;
 use crate::data_block::copy_front;
+use crate::hash::Hash;
 use crate::keys::keys_in;
-use sst_base::{Poly31, Result};
+use sst_base::Result;
 use sstable_blocks::filter::BloomConstructionPolicy;
 use sstable_blocks::filter::policy::MAX_BITS;
 use sstable_blocks::filter::standard_bloom::{Builder, StandardBloomFilterReader};
@@ -19,7 +20,7 @@ fn payload_of(alloc: Global, keys: &[&[u8]], bits: u32) -> Result<Vec<u8>>
 {
     let mut builder = Builder::with_bpk(alloc, keys.len(), bits)?;
     for key in keys {
-        builder.set_with_hash(Builder::get_hash::<Poly31>(key));
+        builder.set_with_hash(Builder::get_hash::<Hash>(key));
     }
     builder.build(alloc)
 }
@@ -69,7 +70,7 @@ pub extern "C" fn sst_filter_build(
 fn add_contained(so_far: u64, filter: &StandardBloomFilterReader<'_>, needles: &[&[u8]]) -> u64 {
     let mut sum = so_far;
     for needle in needles {
-        sum = sum.wrapping_add(u64::from(filter.contains::<Poly31>(needle)));
+        sum = sum.wrapping_add(u64::from(filter.contains::<Hash>(needle)));
     }
     sum
 }

@@ -2,15 +2,16 @@
 
 use crate::REFUSED;
 use crate::data_block::copy_front;
+use crate::hash::Hash;
 use crate::sums::last_byte;
-use sst_base::{Block, BlockType, Poly31};
+use sst_base::{Block, BlockType};
 use std::alloc::Global;
 
 // Writes the frame `times` times, each time into the same vector, emptied first.
 fn write(writer: &mut Vec<u8>, payload: &[u8], block_type: BlockType, times: u64) -> Option<()> {
     for _ in 0..times {
         writer.clear();
-        Block::write_into::<Poly31, Vec<u8>>(writer, payload, block_type).ok()?;
+        Block::write_into::<Hash, Vec<u8>>(writer, payload, block_type).ok()?;
     }
     Some(())
 }
@@ -52,7 +53,7 @@ fn block_sum(block: &Block) -> u64 {
 #[inline(never)]
 fn add_frame(so_far: u64, frame: &[u8], alloc: Global) -> Option<u64> {
     let mut rest = frame;
-    let block = Block::from_reader::<Poly31, &[u8]>(alloc, &mut rest).ok()?;
+    let block = Block::from_reader::<Hash, &[u8]>(alloc, &mut rest).ok()?;
     Some(so_far.wrapping_add(block_sum(&block)))
 }
 

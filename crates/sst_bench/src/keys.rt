@@ -1,7 +1,8 @@
 //! Comparisons and hashes of keys, and varints.
 
 use crate::REFUSED;
-use sst_base::{BlockHash, Poly31, compare_bytes, decode_varint, longest_shared_prefix_length};
+use crate::hash::Hash;
+use sst_base::{BlockHash, compare_bytes, decode_varint, longest_shared_prefix_length};
 use std::alloc::Global;
 
 /// Splits concatenated keys of one length. `None` if there is no key, the length is 0, the bytes
@@ -85,12 +86,12 @@ pub extern "C" fn sst_shared(bytes: &[u8], key_len: usize, times: u64, alloc: Gl
 fn add_hashes(so_far: u64, keys: &[&[u8]]) -> u64 {
     let mut sum = so_far;
     for key in keys {
-        sum = sum.wrapping_mul(3).wrapping_add(Poly31::hash64(key));
+        sum = sum.wrapping_mul(3).wrapping_add(Hash::hash64(key));
     }
     sum
 }
 
-/// Takes 3 times the sum plus the `Poly31` hash of each key in turn, from 0.
+/// Takes 3 times the sum plus the hash of each key in turn, from 0.
 #[unsafe(no_mangle)]
 pub extern "C" fn sst_hash(bytes: &[u8], key_len: usize, times: u64, alloc: Global) -> u64 {
     let Some(keys) = keys_in(alloc, bytes, key_len) else {
@@ -106,7 +107,7 @@ pub extern "C" fn sst_hash(bytes: &[u8], key_len: usize, times: u64, alloc: Glob
 // Adds low and high 64 bits of the hash of all bytes.
 #[inline(never)]
 fn add_hash128(so_far: u64, bytes: &[u8]) -> u64 {
-    let hash = Poly31::hash128(bytes);
+    let hash = Hash::hash128(bytes);
     so_far
         .wrapping_add((hash % (1 << 64)) as u64)
         .wrapping_add((hash >> 64) as u64)

@@ -13,6 +13,7 @@ pub mod entries;
 pub mod filter;
 pub mod frames;
 pub mod handles;
+mod hash;
 pub mod index_block;
 pub mod keys;
 pub mod merges;

@@ -6,19 +6,20 @@ ghost use Rattle.std.specs.Prelude.{◌≤◌};
 
 use crate::REFUSED;
 use crate::data_block::items_in;
+use crate::hash::Hash;
 use crate::run::run_of;
 use crate::sums::entry_sum;
-use sst_base::{HashRatio, InternalValue, Poly31, Slice};
+use sst_base::{HashRatio, InternalValue, Slice};
 use sst_merge::{Head, Merge, Source};
 use sstable_blocks::run::{Scan, Trusted, TrustedScan};
 use sstable_blocks::{MemorySource, RunConfig, RunHandles, Table};
 use std::alloc::Global;
 
 // A scan whose first entry is held.
-type Scanned<'k> = Head<InternalValue, Scan<'k, Poly31, MemorySource>>;
+type Scanned<'k> = Head<InternalValue, Scan<'k, Hash, MemorySource>>;
 
 // A scan without checks, whose first entry is held.
-type ScannedTrusted<'a, 'k> = Head<InternalValue, TrustedScan<'a, 'k, Poly31>>;
+type ScannedTrusted<'a, 'k> = Head<InternalValue, TrustedScan<'a, 'k, Hash>>;
 
 // A run in memory.
 #[derive(Drop)]
@@ -64,10 +65,7 @@ pub(crate) fn runs_of(
 }
 
 // Opens a table over each run.
-pub(crate) fn tables_of(
-    alloc: Global,
-    runs: &[Stored],
-) -> Option<Vec<Table<Poly31, MemorySource>>> {
+pub(crate) fn tables_of(alloc: Global, runs: &[Stored]) -> Option<Vec<Table<Hash, MemorySource>>> {
     let mut tables = Vec::new(alloc);
     for run in runs {
         let source = MemorySource::new(run.bytes.clone().ok()?);
@@ -81,7 +79,7 @@ pub(crate) fn tables_of(
 // Scans of tables.
 fn scans_of(
     alloc: Global,
-    tables: Vec<Table<Poly31, MemorySource>>,
+    tables: Vec<Table<Hash, MemorySource>>,
 ) -> Option<Vec<Scanned<'static>>> {
     let mut scans = Vec::new(alloc);
     for table in tables {
@@ -138,10 +136,7 @@ fn add_merged(so_far: u64, runs: &[Stored], count: usize, alloc: Global) -> Opti
 }
 
 // Checks a table whole, and trusts it.
-fn trusted_of(
-    alloc: Global,
-    table: &mut Table<Poly31, MemorySource>,
-) -> Option<Trusted<'_, Poly31>> {
+fn trusted_of(alloc: Global, table: &mut Table<Hash, MemorySource>) -> Option<Trusted<'_, Hash>> {
     match table.verify(alloc) {
         Ok(_) => Some(table.trusted()),
         Err(_) => None,
@@ -151,8 +146,8 @@ fn trusted_of(
 // Checks tables whole, and trusts them.
 pub(crate) fn all_trusted<'a>(
     alloc: Global,
-    tables: &'a mut [Table<Poly31, MemorySource>],
-) -> Option<Vec<Trusted<'a, Poly31>>> {
+    tables: &'a mut [Table<Hash, MemorySource>],
+) -> Option<Vec<Trusted<'a, Hash>>> {
     let mut all = Vec::new(alloc);
     for table in tables.iter_mut() {
         all.push(trusted_of(alloc, table)?).ok()?;
@@ -163,7 +158,7 @@ pub(crate) fn all_trusted<'a>(
 // Scans of trusted tables.
 fn trusted_scans_of<'a>(
     alloc: Global,
-    tables: &[Trusted<'a, Poly31>],
+    tables: &[Trusted<'a, Hash>],
 ) -> Option<Vec<ScannedTrusted<'a, 'static>>> {
     let mut scans = Vec::new(alloc);
     for table in tables {
@@ -176,7 +171,7 @@ fn trusted_scans_of<'a>(
 #[inline(never)]
 fn add_trusted_merged(
     so_far: u64,
-    tables: &[Trusted<'_, Poly31>],
+    tables: &[Trusted<'_, Hash>],
     count: usize,
     alloc: Global,
 ) -> Option<u64> {
@@ -188,7 +183,7 @@ fn add_trusted_merged(
 #[inline(never)]
 fn add_trusted_taken(
     so_far: u64,
-    tables: &[Trusted<'_, Poly31>],
+    tables: &[Trusted<'_, Hash>],
     count: usize,
     alloc: Global,
 ) -> Option<u64> {

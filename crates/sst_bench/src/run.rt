@@ -5,7 +5,7 @@
 //! index is a head. It refuses what data blocks refuse, and blocks of no entries.
 ghost use Rattle.std.specs.Prelude.{◌≤◌, List, length, IfSome};
 ghost use Rattle.sst_base.specs.Entry.{Entry};
-ghost use Rattle.sst_base.specs.Hashes.{poly31};
+ghost use Rattle.sst_bench.specs.Hash.{hash64, hash128};
 ghost use Rattle.sst_block_core.specs.Entries.{entries};
 ghost use Rattle.sst_block_core.specs.Kind.{IsOrdered};
 ghost use Rattle.sstable_blocks.specs.Blocks.{CutsFit, blocks_of};
@@ -15,9 +15,10 @@ ghost use Rattle.sstable_blocks.specs.Sound.{IsSound};
 use crate::REFUSED;
 use crate::data_block::{NEWEST, copy_front, items_in};
 use crate::entries::entries_in;
+use crate::hash::Hash;
 use crate::keys::keys_in;
 use crate::sums::found_sum;
-use sst_base::{HashRatio, InternalValue, Poly31, Slice, Steps};
+use sst_base::{HashRatio, InternalValue, Slice, Steps};
 use sst_block_kinds::DataBlock;
 use sstable_blocks::{RunConfig, RunHandles, cuts_fit, read_entry, write_run};
 use std::alloc::Global;
@@ -54,11 +55,11 @@ fn written(
     requires interval { 1 ≤ config.restart_interval }
     requires index_interval { 1 ≤ config.index_interval }
     requires den { 1 ≤ config.ratio.den }
-    ensures sound { IfSome result (λ r. IsSound (hashes (poly31 64) (poly31 128))
+    ensures sound { IfSome result (λ r. IsSound (hashes hash64 hash128)
         (blocks_of cuts.now items.now) r.0.items r.1) }
 {
     let mut bytes = Vec::new(alloc);
-    let handles = write_run::<Poly31, Vec<u8>>(alloc, &mut bytes, items, cuts, config).ok()?;
+    let handles = write_run::<Hash, Vec<u8>>(alloc, &mut bytes, items, cuts, config).ok()?;
     Some((bytes, handles))
 }
 
@@ -72,12 +73,12 @@ pub(crate) fn run_of(
 ) -> Option<(Vec<u8>, RunHandles)>
     requires { 1 ≤ config.index_interval }
     ensures { IfSome result (λ r. (blocks : List (List Entry))
-        × IsSound (hashes (poly31 64) (poly31 128)) blocks r.0.items r.1) }
+        × IsSound (hashes hash64 hash128) blocks r.0.items r.1) }
 {
     if config.restart_interval == 0 || config.ratio.den == 0 || items.is_empty() {
         return None;
     }
-    if !DataBlock::<Poly31>::is_ordered(items) {
+    if !DataBlock::<Hash>::is_ordered(items) {
         return None;
     }
     let cuts = cuts_of(alloc, items.len(), per_block)?;
@@ -94,7 +95,7 @@ pub(crate) fn run_in(
 ) -> Option<(Vec<u8>, RunHandles)>
     requires { 1 ≤ config.index_interval }
     ensures { IfSome result (λ r. (blocks : List (List Entry))
-        × IsSound (hashes (poly31 64) (poly31 128)) blocks r.0.items r.1) }
+        × IsSound (hashes hash64 hash128) blocks r.0.items r.1) }
 {
     let items = entries_in(alloc, bytes, count)?;
     run_of(alloc, items.as_slice(), per_block, config)
@@ -144,12 +145,12 @@ fn add_found(
     alloc: Global,
 ) -> Option<u64>
     requires { (blocks : List (List Entry))
-        × IsSound (hashes (poly31 64) (poly31 128)) blocks bytes.now handles.now }
+        × IsSound (hashes hash64 hash128) blocks bytes.now handles.now }
 {
     let mut sum = so_far;
     for needle in needles {
         let mut steps = Steps::new();
-        let found = read_entry::<Poly31>(alloc, bytes, handles, needle, NEWEST, &mut steps).ok()?;
+        let found = read_entry::<Hash>(alloc, bytes, handles, needle, NEWEST, &mut steps).ok()?;
         sum = sum.wrapping_add(found_sum(&found));
     }
     Some(sum)

@@ -3,16 +3,17 @@
 //! The arguments are those of the calls of `run`.
 ghost use Rattle.std.specs.Prelude.{List};
 ghost use Rattle.sst_base.specs.Entry.{Entry};
-ghost use Rattle.sst_base.specs.Hashes.{poly31};
+ghost use Rattle.sst_bench.specs.Hash.{hash64, hash128};
 ghost use Rattle.sstable_blocks.specs.RunReading.{hashes};
 ghost use Rattle.sstable_blocks.specs.Sound.{IsSound};
 
 use crate::REFUSED;
 use crate::data_block::NEWEST;
+use crate::hash::Hash;
 use crate::keys::keys_in;
 use crate::run::run_in;
 use crate::sums::{entry_sum, found_sum};
-use sst_base::{HashRatio, Poly31, Slice, Steps};
+use sst_base::{HashRatio, Slice, Steps};
 use sstable_blocks::run::{Trusted, check};
 use sstable_blocks::{MemorySource, RunConfig, RunHandles, Table};
 use std::alloc::Global;
@@ -21,7 +22,7 @@ use std::alloc::Global;
 #[inline(never)]
 fn add_found(
     so_far: u64,
-    table: &Trusted<'_, Poly31>,
+    table: &Trusted<'_, Hash>,
     needles: &[&[u8]],
     alloc: Global,
 ) -> Option<u64> {
@@ -43,10 +44,10 @@ fn found_in(
     times: u64,
 ) -> Option<u64>
     requires { (blocks : List (List Entry))
-        × IsSound (hashes (poly31 64) (poly31 128)) blocks run handles }
+        × IsSound (hashes hash64 hash128) blocks run handles }
 {
     let source = MemorySource::new(run);
-    let Ok(table) = Table::<Poly31, MemorySource>::open(alloc, source, handles) else {
+    let Ok(table) = Table::<Hash, MemorySource>::open(alloc, source, handles) else {
         return None;
     };
     let trusted = table.trusted();
@@ -93,7 +94,7 @@ fn add_scanned(
     alloc: Global,
 ) -> Option<u64> {
     let source = MemorySource::new(run.clone().ok()?);
-    let table = Table::<Poly31, MemorySource>::open(alloc, source, *handles).ok()?;
+    let table = Table::<Hash, MemorySource>::open(alloc, source, *handles).ok()?;
     let mut scan = table.scan();
     let mut sum = so_far;
     for _ in 0..count {
@@ -138,12 +139,7 @@ pub extern "C" fn sst_table_scan(
 
 // Scans a trusted table, and adds each of its entries.
 #[inline(never)]
-fn add_trusted(
-    so_far: u64,
-    table: &Trusted<'_, Poly31>,
-    count: usize,
-    alloc: Global,
-) -> Option<u64> {
+fn add_trusted(so_far: u64, table: &Trusted<'_, Hash>, count: usize, alloc: Global) -> Option<u64> {
     let mut scan = table.scan();
     let mut sum = so_far;
     for _ in 0..count {
@@ -165,10 +161,10 @@ fn scanned_in(
     times: u64,
 ) -> Option<u64>
     requires { (blocks : List (List Entry))
-        × IsSound (hashes (poly31 64) (poly31 128)) blocks run handles }
+        × IsSound (hashes hash64 hash128) blocks run handles }
 {
     let source = MemorySource::new(run);
-    let Ok(table) = Table::<Poly31, MemorySource>::open(alloc, source, handles) else {
+    let Ok(table) = Table::<Hash, MemorySource>::open(alloc, source, handles) else {
         return None;
     };
     let trusted = table.trusted();
@@ -206,7 +202,7 @@ pub extern "C" fn sst_trusted_scan(
 #[inline(never)]
 fn add_checked(so_far: u64, run: &Slice, handles: &RunHandles, alloc: Global) -> Option<u64> {
     let mut source = MemorySource::new(run.clone().ok()?);
-    let summary = check::<Poly31, MemorySource>(alloc, &mut source, handles).ok()?;
+    let summary = check::<Hash, MemorySource>(alloc, &mut source, handles).ok()?;
     Some(so_far.wrapping_add(summary.entries))
 }
 

@@ -4,17 +4,18 @@
 //! made as well.
 ghost use Rattle.std.specs.Prelude.{◌≤◌, List};
 ghost use Rattle.sst_base.specs.Entry.{Entry};
-ghost use Rattle.sst_base.specs.Hashes.{poly31};
+ghost use Rattle.sst_bench.specs.Hash.{hash64, hash128};
 ghost use Rattle.sstable_blocks.specs.RunReading.{hashes};
 ghost use Rattle.sstable_blocks.specs.Sound.{IsSound};
 
 use crate::REFUSED;
 use crate::data_block::{NEWEST, add_entries, block_of, items_in};
+use crate::hash::Hash;
 use crate::keys::keys_in;
 use crate::merges::{Stored, all_trusted, runs_of, tables_of};
 use crate::run::run_in;
 use crate::sums::{entry_sum, view_found_sum, view_sum};
-use sst_base::{BlockHash, HashRatio, InternalValue, Poly31, Slice, Steps};
+use sst_base::{BlockHash, HashRatio, InternalValue, Slice, Steps};
 use sst_block_kinds::DataBlock;
 use sst_block_kinds::table::data_block::{DataBlockRef, EntryView};
 use sst_merge::{Head, Merge};
@@ -23,11 +24,11 @@ use sstable_blocks::{MemorySource, RunConfig, RunHandles, Table};
 use std::alloc::Global;
 
 // A scan whose first entry is held.
-type Scanned<'a, 'k> = Head<EntryView<'a>, RunScan<'a, 'k, Poly31>>;
+type Scanned<'a, 'k> = Head<EntryView<'a>, RunScan<'a, 'k, Hash>>;
 
 // Adds each entry of a block.
 #[inline(never)]
-fn add_views(so_far: u64, block: &DataBlock<Poly31>) -> u64 {
+fn add_views(so_far: u64, block: &DataBlock<Hash>) -> u64 {
     let mut sum = so_far;
     for view in block.by_ref().entries() {
         sum = sum.wrapping_add(view_sum(&view));
@@ -36,7 +37,7 @@ fn add_views(so_far: u64, block: &DataBlock<Poly31>) -> u64 {
 }
 
 // Adds each entry of blocks.
-fn add_blocks(so_far: u64, blocks: &[DataBlock<Poly31>]) -> u64 {
+fn add_blocks(so_far: u64, blocks: &[DataBlock<Hash>]) -> u64 {
     let mut sum = so_far;
     for block in blocks {
         sum = add_views(sum, block);
@@ -45,7 +46,7 @@ fn add_blocks(so_far: u64, blocks: &[DataBlock<Poly31>]) -> u64 {
 }
 
 // Makes each entry of blocks, and adds it.
-fn add_blocks_made(so_far: u64, blocks: &[DataBlock<Poly31>], alloc: Global) -> Option<u64> {
+fn add_blocks_made(so_far: u64, blocks: &[DataBlock<Hash>], alloc: Global) -> Option<u64> {
     let mut sum = so_far;
     for block in blocks {
         sum = add_entries(sum, block, alloc)?;
@@ -60,7 +61,7 @@ fn blocks_of(
     per_block: usize,
     interval: u8,
     ratio: HashRatio,
-) -> Option<Vec<DataBlock<Poly31>>>
+) -> Option<Vec<DataBlock<Hash>>>
     requires { 1 ≤ per_block }
 {
     let mut blocks = Vec::new(alloc);
@@ -74,7 +75,7 @@ fn blocks_of(
 }
 
 // Walks over blocks, so many times.
-fn walked_in(alloc: Global, blocks: &[DataBlock<Poly31>], times: u64, made: bool) -> Option<u64> {
+fn walked_in(alloc: Global, blocks: &[DataBlock<Hash>], times: u64, made: bool) -> Option<u64> {
     let mut sum = 0;
     for _ in 0..times {
         sum = if made {
@@ -114,15 +115,15 @@ pub extern "C" fn sst_blocks_walk(
 
 // Hashes the payload of a block, as a frame's checksum does, and checks it.
 #[inline(never)]
-fn add_check(so_far: u64, block: &DataBlock<Poly31>, alloc: Global) -> Option<u64> {
+fn add_check(so_far: u64, block: &DataBlock<Hash>, alloc: Global) -> Option<u64> {
     let payload = block.as_slice().as_slice();
-    let hash = (Poly31::hash128(payload) % (1 << 64)) as u64;
-    let checked = DataBlockRef::<Poly31>::check(alloc, payload).ok()?;
+    let hash = (Hash::hash128(payload) % (1 << 64)) as u64;
+    let checked = DataBlockRef::<Hash>::check(alloc, payload).ok()?;
     Some(so_far.wrapping_add(hash).wrapping_add(checked.len() as u64))
 }
 
 // Hashes and checks blocks.
-fn add_checks(so_far: u64, blocks: &[DataBlock<Poly31>], alloc: Global) -> Option<u64> {
+fn add_checks(so_far: u64, blocks: &[DataBlock<Hash>], alloc: Global) -> Option<u64> {
     let mut sum = so_far;
     for block in blocks {
         sum = add_check(sum, block, alloc)?;
@@ -131,7 +132,7 @@ fn add_checks(so_far: u64, blocks: &[DataBlock<Poly31>], alloc: Global) -> Optio
 }
 
 // Hashes and checks blocks, so many times.
-fn checked_in(alloc: Global, blocks: &[DataBlock<Poly31>], times: u64) -> Option<u64> {
+fn checked_in(alloc: Global, blocks: &[DataBlock<Hash>], times: u64) -> Option<u64> {
     let mut sum = 0;
     for _ in 0..times {
         sum = add_checks(sum, blocks, alloc)?;
@@ -166,7 +167,7 @@ pub extern "C" fn sst_blocks_check(
 
 // Scans a run, and adds each entry.
 #[inline(never)]
-fn add_scanned(so_far: u64, run: &RunRef<'_, Poly31>) -> u64 {
+fn add_scanned(so_far: u64, run: &RunRef<'_, Hash>) -> u64 {
     let mut sum = so_far;
     for view in run.scan() {
         sum = sum.wrapping_add(view_sum(&view));
@@ -176,7 +177,7 @@ fn add_scanned(so_far: u64, run: &RunRef<'_, Poly31>) -> u64 {
 
 // Scans a run, makes each entry, and adds it.
 #[inline(never)]
-fn add_scanned_made(so_far: u64, run: &RunRef<'_, Poly31>, alloc: Global) -> Option<u64> {
+fn add_scanned_made(so_far: u64, run: &RunRef<'_, Hash>, alloc: Global) -> Option<u64> {
     let mut sum = so_far;
     for view in run.scan() {
         match view.to_entry(alloc) {
@@ -196,9 +197,9 @@ fn scanned_in(
     made: bool,
 ) -> Option<u64>
     requires { (blocks : List (List Entry))
-        × IsSound (hashes (poly31 64) (poly31 128)) blocks run.now handles.now }
+        × IsSound (hashes hash64 hash128) blocks run.now handles.now }
 {
-    let run = RunRef::<Poly31>::new(run, handles);
+    let run = RunRef::<Hash>::new(run, handles);
     let mut sum = 0;
     for _ in 0..times {
         sum = if made {
@@ -233,7 +234,7 @@ pub extern "C" fn sst_views_scan(
 
 // Reads each needle, and adds the entry that is found, or 1 for none.
 #[inline(never)]
-fn add_found(so_far: u64, run: &RunRef<'_, Poly31>, needles: &[&[u8]]) -> u64 {
+fn add_found(so_far: u64, run: &RunRef<'_, Hash>, needles: &[&[u8]]) -> u64 {
     let mut sum = so_far;
     for needle in needles {
         let found = run.find(needle, NEWEST, &mut Steps::new());
@@ -251,10 +252,10 @@ fn found_in(
     times: u64,
 ) -> Option<u64>
     requires { (blocks : List (List Entry))
-        × IsSound (hashes (poly31 64) (poly31 128)) blocks run handles }
+        × IsSound (hashes hash64 hash128) blocks run handles }
 {
     let source = MemorySource::new(run);
-    let Ok(table) = Table::<Poly31, MemorySource>::open(alloc, source, handles) else {
+    let Ok(table) = Table::<Hash, MemorySource>::open(alloc, source, handles) else {
         return None;
     };
     let run = table.trusted().by_ref();
@@ -292,10 +293,7 @@ pub extern "C" fn sst_views_find(
 }
 
 // Scans of runs.
-fn scans_of<'a>(
-    alloc: Global,
-    tables: &[Trusted<'a, Poly31>],
-) -> Option<Vec<Scanned<'a, 'static>>> {
+fn scans_of<'a>(alloc: Global, tables: &[Trusted<'a, Hash>]) -> Option<Vec<Scanned<'a, 'static>>> {
     let mut scans = Vec::new(alloc);
     for table in tables {
         scans
@@ -309,7 +307,7 @@ fn scans_of<'a>(
 #[inline(never)]
 fn add_merged(
     so_far: u64,
-    tables: &[Trusted<'_, Poly31>],
+    tables: &[Trusted<'_, Hash>],
     count: usize,
     alloc: Global,
 ) -> Option<u64> {
@@ -331,7 +329,7 @@ fn add_merged(
 #[inline(never)]
 fn add_merged_made(
     so_far: u64,
-    tables: &[Trusted<'_, Poly31>],
+    tables: &[Trusted<'_, Hash>],
     count: usize,
     alloc: Global,
 ) -> Option<u64> {

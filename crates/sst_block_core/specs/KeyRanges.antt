@@ -1,7 +1,8 @@
 -- Keys by their ranges of a payload.
-use Rattle.std.specs.Prelude.{◌≡◌, ℕ, List, ◌++◌, Option, Some, None}
+use Rattle.std.specs.Prelude.{◌≡◌, ℕ, ◌-◌, List, ◌++◌, take, Option, Some, None}
 use Rattle.std.specs.declared.cmp.Ordering.{Ordering}
 use Rattle.sst_base.specs.Order.{versions_cmp}
+use Rattle.sst_base.specs.declared.table.util.SliceIndexes.{SliceIndexes}
 use Rattle.sst_block_core.specs.Kind.{Kind}
 use Rattle.sst_block_core.specs.Found.{range_of, IsRange}
 use Rattle.sst_block_core.specs.declared.table.block.check.keys.KeyRanges.{KeyRanges}
@@ -15,6 +16,10 @@ key_by payload k = range_of payload k.prefix ++ range_of payload k.rest
 pub record IsKeyRanges (payload : List ℕ) (k : KeyRanges) : Type 0 where
   pub prefix : IsRange payload k.prefix
   pub rest : IsRange payload k.rest
+
+-- some bytes begin with those of a range of a payload
+abbrev pub HasFront : List ℕ → SliceIndexes → List ℕ → Type 0
+HasFront payload front bytes = take (front.1 - front.0) bytes ≡ range_of payload front
 
 -- the order of versions: by key rising, then by sequence number falling
 abbrev pub version_cmp : List ℕ → KeyVersion → KeyVersion → Ordering

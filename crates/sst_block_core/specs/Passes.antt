@@ -1,20 +1,20 @@
 -- What a pass over a body has read so far, and what it found of it.
-use Rattle.std.specs.Prelude.{◌≡◌, ◌↔◌, ℕ, ◌+◌, ◌*◌, ◌%◌, ◌==◌, ◌<◌, ◌≤◌, if◌then◌else◌, Bool, true, IsTrue, List, [], ◌∷◌, length, take, drop, slice_index, ◌-◌, IfSome, Option, Some, None, ◌⊎◌}
+use Rattle.std.specs.Prelude.{◌≡◌, ◌↔◌, ℕ, ◌+◌, ◌*◌, ◌%◌, ◌==◌, ◌<◌, ◌≤◌, if◌then◌else◌, Bool, true, IsTrue, List, [], ◌∷◌, length, take, drop, slice_index, slice_set, IfSome, Option, Some, None, ◌⊎◌}
 use Rattle.std.specs.List.{AllByRecursion}
 use Rattle.sst_base.specs.declared.error.Error.{Error}
 use Rattle.sst_base.specs.declared.error.Error.TheVariants.{Truncated, BadTrailer, BadEntry, OutOfOrder, BadIndex, BadHashIndex, Memory}
 use Rattle.sst_block_core.specs.Kind.{Kind, IsOrdered}
 use Rattle.sst_block_core.specs.Body.{items_at, place_offset}
 use Rattle.sst_block_core.specs.Trailer.{Trailer}
-use Rattle.sst_block_core.specs.Buckets.{bucket}
+use Rattle.sst_block_core.specs.Buckets.{bucket, bucket_byte_with}
 use Rattle.sst_block_core.specs.Pointers.{head_count}
 use Rattle.sst_block_core.specs.Found.{range_of}
-use Rattle.sst_block_core.specs.KeyRanges.{IsLast}
+use Rattle.sst_block_core.specs.KeyRanges.{IsLast, HasFront}
 use Rattle.sst_base.specs.declared.table.util.SliceIndexes.{SliceIndexes}
 use Rattle.sst_block_core.specs.Stages.{items_by, HasTrailer, HasParts, HasForms, HasOrder, HasPointers, HasBuckets}
 use Rattle.sst_block_core.specs.declared.table.block.check.pass.PassState.{PassState}
 use Rattle.sst_block_core.specs.declared.table.block.check.tally.HashedPrefix.{HashedPrefix}
-use Rattle.sst_block_core.specs.declared.table.block.check.tally.JoinedKeys.{JoinedKeys}
+use Rattle.sst_block_core.specs.declared.table.block.check.joined_key.JoinedKey.{JoinedKey}
 use Rattle.sst_block_core.specs.declared.table.block.trailer.TrailerNumbers.{TrailerNumbers}
 
 -- the numbers of a trailer, as code has them
@@ -88,21 +88,35 @@ pub record IsFound {X : Type 0} (kind : Kind X) (fits : X → Type 0) (t : Trail
   pub indexed : IsTrue is_indexed ↔ HasPointers kind t p
 
 -- a tally: the bytes of its buckets, the number of heads modulo 2 ^ 8, whether all memory that it requested was
--- allocated, the prefix of the last key, and the room for joined keys
+-- allocated, the prefix of the last key, the room for a joined key, and its restart interval until it is noted
 pub record TallyState : Type 0 where
   pub table : List ℕ
   pub heads : ℕ
   pub has_memory : Bool
   pub prefix : HashedPrefix
-  pub joined : JoinedKeys
+  pub joined : JoinedKey
+  pub waiting : Option ℕ
 
 -- a hashed prefix has the hash of its range of a body, if it has one
 abbrev pub IsHashed : (List ℕ → ℕ) → List ℕ → HashedPrefix → Type 0
 IsHashed hash body prefix = IfSome prefix.hash (λ h. hash (range_of body prefix.range) ≡ h)
 
--- the room for joined keys begins with its range of a body
-abbrev pub IsBegun : List ℕ → JoinedKeys → Type 0
-IsBegun body joined = take (joined.front.1 - joined.front.0) joined.bytes.items ≡ range_of body joined.front
+-- the key that is joined
+abbrev pub joined_key : JoinedKey → List ℕ
+joined_key joined = take joined.len joined.bytes.items
+
+-- the bytes of buckets, with that of a hash in this restart interval
+abbrev pub with_bucket : List ℕ → ℕ → ℕ → List ℕ
+with_bucket table hash n = let q = hash % length table in slice_set table q (bucket_byte_with (slice_index table q) n)
+
+-- the bytes of buckets, with that of a key that waits with its restart interval
+abbrev pub noted : (List ℕ → ℕ) → List ℕ → Option ℕ → List ℕ → List ℕ
+noted hash table None key = table
+noted hash table (Some n) key = with_bucket table (hash key) n
+
+-- the room for a joined key begins with its range of a body
+abbrev pub IsBegun : List ℕ → JoinedKey → Type 0
+IsBegun body joined = HasFront body joined.front joined.bytes.items
 
 -- the bytes of b buckets are the buckets of these items, which have this many heads
 pub record IsTallied {X : Type 0} (kind : Kind X) (hash : List ℕ → ℕ) (r b : ℕ) (table : List ℕ) (heads : ℕ) (items : List X) : Type 0 where

@@ -68,7 +68,7 @@ fn run<R: Env + Files + LockFiles + Print + AllocGlobal>(rt: &R) -> Result<bool>
     if let [first, operation, times] = words.as_slice()
         && first.as_str() == "repeat"
     {
-        sst_refused_runs::perform(rt, operation.as_str(), times.as_str())?;
+        sst_refused::perform(rt, operation.as_str(), times.as_str())?;
         return Ok(true);
     }
     run_files::<AllCommands, R>(rt, words.as_slice())

@@ -84,7 +84,10 @@ pub(crate) fn failing_after(alloc: Global, steps: usize) -> Result<Failing> {
 /// one at each of three later steps.
 fn counts<T: Drop, I: Source<T>>(alloc: Global, source: &mut I, wanted: Error) -> (usize, bool) {
     let mut before = 0usize;
-    while let Ok(Some(_)) = source.next_entry(alloc) {
+    for _ in 0..ROWS.len() + 1 {
+        let Ok(Some(_)) = source.next_entry(alloc) else {
+            break;
+        };
         before = before.saturating_add(1);
     }
     let wanted = Some(wanted);
@@ -103,7 +106,10 @@ fn counts_back<I: BackSource<InternalValue>>(
     wanted: Error,
 ) -> (usize, bool) {
     let mut before = 0usize;
-    while let Ok(Some(_)) = source.next_entry_back(alloc) {
+    for _ in 0..ROWS.len() + 1 {
+        let Ok(Some(_)) = source.next_entry_back(alloc) else {
+            break;
+        };
         before = before.saturating_add(1);
     }
     let wanted = Some(wanted);

@@ -63,7 +63,7 @@ pub fn walk_index(rt: &impl Print, alloc: Global, times: u32) -> Result<()> {
     Ok(())
 }
 
-// Reads a key that is there, and one that is not.
+// Reads a long key, which is joined of two parts, and a key that is not there.
 fn point_read_once(rt: &impl Print, alloc: Global, block: &DataBlock<ByteSum>) -> Result<()> {
     let found = block.point_read(alloc, LONG_KEY, 2, &mut Steps::new());
     let none = block.point_read(alloc, LONG_KEY, 1, &mut Steps::new());
@@ -71,32 +71,14 @@ fn point_read_once(rt: &impl Print, alloc: Global, block: &DataBlock<ByteSum>) -
     Ok(())
 }
 
-/// Reads a long key, which is joined of two parts, and a key that is not there.
-pub fn point_read(rt: &impl Print, alloc: Global, times: u32) -> Result<()> {
-    let block = data_block(alloc, &LONG, ONE_EACH)?;
-    for _ in 0..times {
-        point_read_once(rt, alloc, &block)?;
-    }
-    Ok(())
-}
-
-// Reads a key that is not there.
+// Reads a key whose bucket is free.
 fn free_bucket_once(rt: &impl Print, alloc: Global, block: &DataBlock<ByteSum>) -> Result<()> {
     let found = block.point_read(alloc, b"ad", 9, &mut Steps::new());
     println!(rt; "{found:?}")?;
     Ok(())
 }
 
-/// Reads a key whose bucket is free.
-pub fn free_bucket(rt: &impl Print, alloc: Global, times: u32) -> Result<()> {
-    let block = data_block(alloc, &SHORT, ONE_EACH)?;
-    for _ in 0..times {
-        free_bucket_once(rt, alloc, &block)?;
-    }
-    Ok(())
-}
-
-// Takes the entries of a data block from both ends.
+// Takes the entries of a data block from both ends, between two seeks: whether there is one.
 fn steps_data_once(rt: &impl Print, block: &DataBlock<ByteSum>) -> Result<()> {
     let mut iter = block.iter();
     let first = iter.next().is_some();
@@ -106,15 +88,6 @@ fn steps_data_once(rt: &impl Print, block: &DataBlock<ByteSum>) -> Result<()> {
     let back = iter.next_back().is_some();
     let end = iter.next().is_some();
     println!(rt; "{first} {last} {is_found} {again} {back} {end}")?;
-    Ok(())
-}
-
-/// Takes the entries of a data block from both ends, between two seeks: whether there is one.
-pub fn steps_data(rt: &impl Print, alloc: Global, times: u32) -> Result<()> {
-    let block = data_block(alloc, &LONG, NO_BUCKETS)?;
-    for _ in 0..times {
-        steps_data_once(rt, &block)?;
-    }
     Ok(())
 }
 
@@ -131,7 +104,7 @@ fn steps_index_once(rt: &impl Print, block: &IndexBlock) -> Result<()> {
     Ok(())
 }
 
-/// The same for the handles of an index block.
+/// Takes the handles of an index block from both ends, between two seeks: whether there is one.
 pub fn steps_index(rt: &impl Print, alloc: Global, times: u32) -> Result<()> {
     let block = index_block(alloc, &LONG)?;
     for _ in 0..times {
@@ -149,7 +122,7 @@ fn decoder_of(block: &DataBlock<ByteSum>) -> Decoder<'_, InternalValue, DataBloc
     Decoder::new(payload.as_slice())
 }
 
-// Takes an entry from each end of a data block.
+// Makes a decoder, and takes an entry from each end: whether there is one.
 fn decoder_once(rt: &impl Print, block: &DataBlock<ByteSum>) -> Result<()> {
     let mut decoder = decoder_of(block);
     let first = decoder.next().is_some();
@@ -158,11 +131,44 @@ fn decoder_once(rt: &impl Print, block: &DataBlock<ByteSum>) -> Result<()> {
     Ok(())
 }
 
-/// Makes a decoder, and takes an entry from each end: whether there is one.
-pub fn decoder(rt: &impl Print, alloc: Global, times: u32) -> Result<()> {
-    let block = data_block(alloc, &LONG, NO_BUCKETS)?;
+/// What is read of a data block.
+#[derive(Clone, Copy)]
+pub enum Reading {
+    Keys,
+    FreeBucket,
+    BothEnds,
+    Decoder,
+}
+
+// The block that is read.
+fn block_for(alloc: Global, reading: Reading) -> Result<DataBlock<ByteSum>> {
+    match reading {
+        Reading::Keys => data_block(alloc, &LONG, ONE_EACH),
+        Reading::FreeBucket => data_block(alloc, &SHORT, ONE_EACH),
+        Reading::BothEnds | Reading::Decoder => data_block(alloc, &LONG, NO_BUCKETS),
+    }
+}
+
+// Reads a block.
+fn read_once(
+    rt: &impl Print,
+    alloc: Global,
+    block: &DataBlock<ByteSum>,
+    reading: Reading,
+) -> Result<()> {
+    match reading {
+        Reading::Keys => point_read_once(rt, alloc, block),
+        Reading::FreeBucket => free_bucket_once(rt, alloc, block),
+        Reading::BothEnds => steps_data_once(rt, block),
+        Reading::Decoder => decoder_once(rt, block),
+    }
+}
+
+/// Reads a data block.
+pub fn read_data(rt: &impl Print, alloc: Global, times: u32, reading: Reading) -> Result<()> {
+    let block = block_for(alloc, reading)?;
     for _ in 0..times {
-        decoder_once(rt, &block)?;
+        read_once(rt, alloc, &block, reading)?;
     }
     Ok(())
 }

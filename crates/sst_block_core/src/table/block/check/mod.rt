@@ -6,6 +6,7 @@ ghost use Rattle.sst_block_core.specs.Found.{Finds, IsRange, range_of};
 ghost use Rattle.sst_block_core.specs.KeyRanges.{key_by, IsKeyRanges};
 
 pub mod buckets;
+mod joined_key;
 pub mod keys;
 pub mod parts;
 pub mod pass;

@@ -1,12 +1,14 @@
 //! What a pass does with the keys of its items: nothing, or the buckets of a hash index.
 ghost use Rattle.std.specs.Prelude.{◌≡◌, ◌↔◌, ℕ, ◌+◌, ◌%◌, ◌<◌, ◌++◌};
 ghost use Rattle.std.specs.Prelude.{[], ◌∷◌, List, length};
-ghost use Rattle.std.specs.Prelude.{IsTrue, IfOk, IfSome, IsOkUnless, replicate, true};
-ghost use Rattle.sst_block_core.specs.Found.{IsRange, range_of};
+ghost use Rattle.std.specs.Prelude.{◌≤◌, IsTrue, IfOk, IfSome, OnSome, IsOkUnless, replicate, true};
+ghost use Rattle.std.specs.Prelude.{None, take, drop};
+ghost use Rattle.sst_block_core.specs.Found.{IsRange};
 ghost use Rattle.sst_block_core.specs.KeyRanges.{key_by, IsKeyRanges};
-ghost use Rattle.sst_block_core.specs.Passes.{IsHashed, IsBegun, HasTallied};
+ghost use Rattle.sst_block_core.specs.Passes.{IsHashed, IsBegun, HasTallied, joined_key, with_bucket};
 
 use crate::block_item::BlockItem;
+use crate::table::block::check::joined_key::JoinedKey;
 use crate::table::block::check::keys::KeyRanges;
 use crate::table::block::hash_index::Builder;
 use crate::table::block::key_ranges::bytes_of;
@@ -53,40 +55,38 @@ pub(crate) struct HashedPrefix {
     hash: Option<u64>,
 }
 
-/// Room in which keys are joined. It begins with the bytes of a range of a body, so that of a key
-/// which begins with them only the rest is copied.
-#[derive(Drop)]
-pub(crate) struct JoinedKeys {
-    front: SliceIndexes,
-    bytes: Vec<u8>,
-}
-
 /// The buckets of the keys that it took. Clauses see their bytes, the number of heads modulo 2^8,
-/// whether all memory that it requested was allocated, the prefix of the last key, and the room
-/// for joined keys, which a hash function that cannot be continued needs.
+/// whether all memory that it requested was allocated, the prefix of the last key, and the key that
+/// is joined, which a hash function that cannot be continued needs.
+///
+/// The bucket of a joined key is noted when the next key comes: bytes that were just written in
+/// pieces are read as words only after a wait. Clauses see the buckets as if it were noted at once.
 #[derive(Drop)]
 pub(crate) struct Tally<H: BlockHash> {
     buckets: Builder<H>,
     bucket_count: Divisor,
     prefix: HashedPrefix,
-    joined: JoinedKeys,
+    joined: JoinedKey,
+    // The restart interval of the joined key, until its bucket is noted.
+    waiting: Option<u8>,
     heads: u8,
     has_memory: bool,
 }
 
 impl<H: BlockHash> Model for Tally<H> {
     ghost use Rattle.std.specs.Prelude.{◌≡◌, ◌<◌, length};
-    ghost use Rattle.sst_block_core.specs.Passes.{TallyState};
+    ghost use Rattle.sst_block_core.specs.Passes.{TallyState, joined_key, noted};
 
     ghost Value = { TallyState };
 
     ghost view = { λ t.
         record {
-          table = t.buckets;
+          table = noted H.hash64 t.buckets t.waiting (joined_key t.joined);
           heads = t.heads;
           has_memory = t.has_memory;
           prefix = t.prefix;
           joined = t.joined;
+          waiting = t.waiting;
         } };
 
     ghost invariant = { λ t. (t.bucket_count ≡ length t.buckets) × (0 < length t.buckets) };
@@ -117,68 +117,14 @@ fn prefix_at<H: BlockHash>(last: &HashedPrefix, body: &[u8], range: &SliceIndexe
     }
 }
 
-impl JoinedKeys {
-    // Makes room that begins with a range of no bytes.
-    fn new(alloc: Global) -> JoinedKeys
-        ensures { (body : List ℕ) → IsBegun body result }
-    {
-        JoinedKeys {
-            front: SliceIndexes(0, 0),
-            bytes: Vec::new(alloc),
-        }
-    }
-
-    // Keeps the bytes of this range alone. Returns `None` if an allocation fails.
-    #[inline(always)]
-    fn keep(&mut self, body: &[u8], range: &SliceIndexes) -> Option<()>
-        requires { IsRange body.now range.now }
-        ensures front { IfSome result (λ _. self.new.front ≡ range.now) }
-        ensures bytes { IfSome result
-            (λ _. IsBegun body.now self.old
-            → self.new.bytes.items ≡ range_of body.now range.now) }
-    {
-        if self.front.0 == range.0 && range.1 <= self.front.1 {
-            self.bytes.truncate(range.1 - range.0);
-        } else {
-            self.bytes.clear();
-            self.bytes.extend_from_slice(bytes_of(body, range)).ok()?;
-        }
-        self.front = *range;
-        Some(())
-    }
-
-    // The hash of a key, which is joined first. Returns `None` if an allocation fails.
-    #[inline(never)]
-    fn hash<H: BlockHash>(&mut self, body: &[u8], key: &KeyRanges) -> Option<u64>
-        requires { IsKeyRanges body.now key.now }
-        ensures hash { IfSome result
-            (λ hash. IsBegun body.now self.old → hash ≡ H.hash64 (key_by body.now key.now)) }
-        ensures begun { IfSome result
-            (λ _. IsBegun body.now self.old → IsBegun body.now self.new) }
-    {
-        self.keep(body, &key.prefix)?;
-        self.bytes
-            .extend_from_slice(bytes_of(body, &key.rest))
-            .ok()?;
-        Some(H::hash64(self.bytes.as_slice()))
-    }
-}
-
-// The hash of a key with this shared prefix. Returns `None` if an allocation fails.
+// The hash of a key with this shared prefix, where the key need not be joined.
 #[inline(always)]
-fn hash_of<H: BlockHash>(
-    joined: &mut JoinedKeys,
-    prefix: &HashedPrefix,
-    body: &[u8],
-    key: &KeyRanges,
-) -> Option<u64>
+fn hash_of<H: BlockHash>(prefix: &HashedPrefix, body: &[u8], key: &KeyRanges) -> Option<u64>
     requires ranges { IsKeyRanges body.now key.now }
     requires prefix { prefix.now.range ≡ key.now.prefix }
-    ensures hash { IfSome result
-        (λ hash. IsHashed H.hash64 body.now prefix.now → IsBegun body.now joined.old
+    ensures { IfSome result
+        (λ hash. IsHashed H.hash64 body.now prefix.now
         → hash ≡ H.hash64 (key_by body.now key.now)) }
-    ensures begun { IfSome result
-        (λ _. IsBegun body.now joined.old → IsBegun body.now joined.new) }
 {
     if let Some(so_far) = prefix.hash {
         if let Some(hash) = H::hash64_behind(so_far, bytes_of(body, &key.rest)) {
@@ -188,7 +134,7 @@ fn hash_of<H: BlockHash>(
     if key.rest.0 == key.rest.1 {
         return Some(H::hash64(bytes_of(body, &key.prefix)));
     }
-    joined.hash::<H>(body, key)
+    None
 }
 
 // The number of heads, modulo 2^8, with an item more.
@@ -242,10 +188,47 @@ impl<H: BlockHash> Tally<H> {
                 range: SliceIndexes(0, 0),
                 hash: None,
             },
-            joined: JoinedKeys::new(alloc),
+            joined: JoinedKey::new(alloc),
+            waiting: None,
             heads: 0,
             has_memory: true,
         })
+    }
+
+    // Notes that a key of this hash is in a restart interval.
+    #[inline(always)]
+    fn note(&mut self, hash: u64, interval_number: u8)
+        requires { self.old.waiting ≡ None }
+        ensures { self.new ≡ record {
+          table = with_bucket self.old.table hash interval_number;
+          heads = self.old.heads;
+          has_memory = self.old.has_memory;
+          prefix = self.old.prefix;
+          joined = self.old.joined;
+          waiting = None;
+        } }
+    {
+        let index = self.bucket_count.remainder(hash) as usize;
+        self.buckets.set_at(index, interval_number);
+    }
+
+    // Notes the joined key that waits.
+    #[inline(always)]
+    fn note_waiting(&mut self)
+        ensures { self.new ≡ record {
+          table = self.old.table;
+          heads = self.old.heads;
+          has_memory = self.old.has_memory;
+          prefix = self.old.prefix;
+          joined = self.old.joined;
+          waiting = None;
+        } }
+    {
+        if let Some(interval_number) = self.waiting {
+            self.waiting = None;
+            let hash = H::hash64(self.joined.as_slice());
+            self.note(hash, interval_number);
+        }
     }
 
     /// Returns whether all memory that it requested was allocated.
@@ -256,9 +239,10 @@ impl<H: BlockHash> Tally<H> {
     }
 
     /// Returns whether these are the bytes of its buckets.
-    pub(crate) fn has_buckets(&self, stored: &[u8]) -> bool
-        ensures { IsTrue result ↔ (self.now.table ≡ stored.now) }
+    pub(crate) fn has_buckets(&mut self, stored: &[u8]) -> bool
+        ensures { IsTrue result ↔ (self.old.table ≡ stored.now) }
     {
+        self.note_waiting();
         is_same(self.buckets.as_slice(), stored)
     }
 }
@@ -269,13 +253,19 @@ impl<Item: BlockItem, H: BlockHash> KeySink<Item> for Tally<H> {
 
     #[inline(always)]
     fn take(&mut self, body: &[u8], key: &KeyRanges, is_head: bool) {
-        self.heads = heads_with(self.heads, is_head);
-        self.prefix = prefix_at::<H>(&self.prefix, body, &key.prefix);
-        let Some(hash) = hash_of::<H>(&mut self.joined, &self.prefix, body, key) else {
-            self.has_memory = false;
+        self.note_waiting();
+        let heads = heads_with(self.heads, is_head);
+        let prefix = prefix_at::<H>(&self.prefix, body, &key.prefix);
+        let interval_number = last_number(heads);
+        self.heads = heads;
+        self.prefix = prefix;
+        if let Some(hash) = hash_of::<H>(&prefix, body, key) {
+            self.note(hash, interval_number);
             return;
-        };
-        let index = self.bucket_count.remainder(hash) as usize;
-        self.buckets.set_at(index, last_number(self.heads));
+        }
+        match self.joined.join(body, key) {
+            Some(()) => self.waiting = Some(interval_number),
+            None => self.has_memory = false,
+        }
     }
 }

@@ -1,8 +1,8 @@
 //! Stores of versions of long keys.
 ghost use Rattle.std.specs.Prelude.{◌≤◌, length};
 
+use crate::lists::{LONG_KEY, OTHER_KEY};
 use sst_base::{Result, SeqNo, Slice};
-use sst_refused::lists::{LONG_KEY, OTHER_KEY};
 use sst_store::Store;
 use std::alloc::Global;
 

@@ -4,12 +4,12 @@ ghost use Rattle.sst_block_core.specs.Entries.{entries};
 ghost use Rattle.sst_block_core.specs.Kind.{IsOrdered};
 ghost use Rattle.sstable_blocks.specs.Blocks.{CutsFit};
 
+use crate::lists::{LONG, LONG_KEY, NO_BUCKETS, ONE_EACH, Row, THREE, list_of};
+use crate::output::print_bytes;
 use sst_base::{Block, ByteSum, Error, InternalValue, Result, Slice, Steps};
 use sst_block_kinds::DataBlock;
-use sst_refused::lists::{LONG, LONG_KEY, NO_BUCKETS, ONE_EACH, Row, THREE, list_of};
-use sst_refused::output::print_bytes;
 use sstable_blocks::run::{
-    FileSource, MemorySource, RunConfig, RunHandles, RunWriter, cuts_fit, read_entry,
+    FileSource, FrameSource, MemorySource, RunConfig, RunHandles, RunWriter, cuts_fit, read_entry,
     read_entry_checked, write_run,
 };
 use std::alloc::Global;
@@ -100,22 +100,6 @@ pub fn add_blocks(rt: &impl Print, alloc: Global, times: u32) -> Result<()> {
     Ok(())
 }
 
-/// Reads a long key from a run of one block with buckets.
-pub fn read(rt: &impl Print, alloc: Global, times: u32) -> Result<()> {
-    let (list, config) = (list_of(alloc, &LONG)?, RunConfig::new(2, ONE_EACH, 10));
-    if !can_be_written(&list, &[], &config) {
-        return Err(Error::OutOfOrder);
-    }
-    let mut bytes = Vec::new(alloc);
-    let handles = write_run::<ByteSum, Vec<u8>>(alloc, &mut bytes, &list, &[], config)?;
-    let bytes = Slice::from_vec(bytes)?;
-    for _ in 0..times {
-        let found = read_entry::<ByteSum>(alloc, &bytes, &handles, LONG_KEY, 2, &mut Steps::new());
-        println!(rt; "{found:?}")?;
-    }
-    Ok(())
-}
-
 /// Makes the run of some rows, one block with buckets: its bytes and its handles.
 pub fn run_of(alloc: Global, rows: &[Row]) -> Result<(Slice, RunHandles)> {
     let (list, config) = (list_of(alloc, rows)?, RunConfig::new(2, ONE_EACH, 10));
@@ -127,11 +111,21 @@ pub fn run_of(alloc: Global, rows: &[Row]) -> Result<(Slice, RunHandles)> {
     Ok((Slice::from_vec(bytes)?, handles))
 }
 
-// Reads the key from a run in memory, with checks.
-fn read_memory_once(
+/// Reads a long key from a run of one block with buckets.
+pub fn read(rt: &impl Print, alloc: Global, times: u32) -> Result<()> {
+    let (bytes, handles) = run_of(alloc, &LONG)?;
+    for _ in 0..times {
+        let found = read_entry::<ByteSum>(alloc, &bytes, &handles, LONG_KEY, 2, &mut Steps::new());
+        println!(rt; "{found:?}")?;
+    }
+    Ok(())
+}
+
+// Reads the key from a run, with checks.
+fn read_once<S: FrameSource>(
     rt: &impl Print,
     alloc: Global,
-    source: &mut MemorySource,
+    source: &mut S,
     handles: &RunHandles,
 ) -> Result<()> {
     let found = read_entry_checked::<ByteSum, _>(alloc, source, handles, LONG_KEY, 2);
@@ -144,20 +138,8 @@ pub fn read_memory(rt: &impl Print, alloc: Global, times: u32) -> Result<()> {
     let (bytes, handles) = run_of(alloc, &LONG)?;
     let mut source = MemorySource::new(bytes);
     for _ in 0..times {
-        read_memory_once(rt, alloc, &mut source, &handles)?;
+        read_once(rt, alloc, &mut source, &handles)?;
     }
-    Ok(())
-}
-
-// Reads the key from a run in a file, with checks.
-fn read_file_once(
-    rt: &impl Print,
-    alloc: Global,
-    source: &mut FileSource<Cursor<&[u8]>>,
-    handles: &RunHandles,
-) -> Result<()> {
-    let found = read_entry_checked::<ByteSum, _>(alloc, source, handles, LONG_KEY, 2);
-    println!(rt; "{found:?}")?;
     Ok(())
 }
 
@@ -166,7 +148,7 @@ pub fn read_file(rt: &impl Print, alloc: Global, times: u32) -> Result<()> {
     let (bytes, handles) = run_of(alloc, &LONG)?;
     let mut source = FileSource::new(Cursor::new(bytes.as_slice()));
     for _ in 0..times {
-        read_file_once(rt, alloc, &mut source, &handles)?;
+        read_once(rt, alloc, &mut source, &handles)?;
     }
     Ok(())
 }

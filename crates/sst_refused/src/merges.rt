@@ -1,0 +1,247 @@
+//! Merges, snapshots, compactions and reads of runs of long keys. A step that fails is made again.
+use crate::lists::{DELETED, LONG_KEY, NO_BUCKETS, WRITTEN};
+use crate::output::{print_left, print_left_back};
+use crate::runs::run_of;
+use sst_base::{ByteSum, Error, InternalValue, Result, Slice, Steps};
+use sst_block_kinds::table::data_block::EntryView;
+use sst_merge::{
+    BackSource, Compact, Head, Merge, MergeBack, Sizes, Snapshot, Source, Tail, Version,
+    read_tables, write_table,
+};
+use sstable_blocks::run::RunRef;
+use sstable_blocks::{MemorySource, RunConfig, RunHandles, Table};
+use std::alloc::Global;
+
+// What is taken of one source.
+#[derive(Clone, Copy)]
+enum Taken {
+    // What a snapshot sees.
+    Seen,
+    // What a compaction leaves.
+    Compacted,
+}
+
+// Takes from a source.
+fn print_taken<T: Version + Drop, I: Source<T> + Drop>(
+    rt: &impl Print,
+    alloc: Global,
+    source: I,
+    taken: Taken,
+) -> Result<()> {
+    match taken {
+        Taken::Seen => print_left(rt, alloc, &mut Snapshot::new(source, 10)),
+        Taken::Compacted => print_left(rt, alloc, &mut Compact::new(source, 10, false)),
+    }
+}
+
+// Takes from a run, in which a version of a long key is deleted.
+fn take_from(rt: &impl Print, alloc: Global, times: u32, taken: Taken) -> Result<()> {
+    let (bytes, handles) = run_of(alloc, &DELETED)?;
+    let (run, _) = RunRef::<ByteSum>::check(alloc, bytes.as_slice(), &handles)?;
+    for _ in 0..times {
+        print_taken::<EntryView<'_>, _>(rt, alloc, run.scan(), taken)?;
+    }
+    Ok(())
+}
+
+/// Takes what a snapshot sees of a run.
+pub fn snapshot(rt: &impl Print, alloc: Global, times: u32) -> Result<()> {
+    take_from(rt, alloc, times, Taken::Seen)
+}
+
+/// Takes what a compaction leaves of a run.
+pub fn compact(rt: &impl Print, alloc: Global, times: u32) -> Result<()> {
+    take_from(rt, alloc, times, Taken::Compacted)
+}
+
+// How two sources are merged.
+#[derive(Clone, Copy)]
+enum Merged {
+    // Their versions are taken.
+    Taken,
+    // They are passed.
+    Passed,
+    // They are taken from the back.
+    Back,
+}
+
+// The merge of two sources.
+fn merge_of<T: Version + Drop, I: Source<T> + Drop>(
+    alloc: Global,
+    first: I,
+    second: I,
+) -> Result<Merge<T, I>> {
+    let mut heads = Vec::new(alloc);
+    heads.push(Head::new(alloc, first)?)?;
+    heads.push(Head::new(alloc, second)?)?;
+    Ok(Merge::new(heads))
+}
+
+// The merge of two sources from the back.
+fn merge_back_of<T: Version + Drop, I: BackSource<T> + Drop>(
+    alloc: Global,
+    first: I,
+    second: I,
+) -> Result<MergeBack<T, I>> {
+    let mut tails = Vec::new(alloc);
+    tails.push(Tail::new(alloc, first)?)?;
+    tails.push(Tail::new(alloc, second)?)?;
+    Ok(MergeBack::new(tails))
+}
+
+// Prints why there is no merge.
+fn print_none(rt: &impl Print, error: Error) -> Result<()> {
+    println!(rt; "no merge: {error:?}")?;
+    Ok(())
+}
+
+// Prints the sequence numbers of the versions that a merge shows and passes and `None`, or the error
+// of a step, what is then shown, and the error of the next step.
+fn print_passed<T: Version + Drop, I: Source<T> + Drop>(
+    rt: &impl Print,
+    alloc: Global,
+    merged: &mut Merge<T, I>,
+) -> Result<()> {
+    for _ in 0..10 {
+        let shown = merged.peek().map(|version| version.seqno());
+        match merged.advance(alloc) {
+            Ok(true) => print!(rt; "{shown:?} ")?,
+            Ok(false) => break,
+            Err(error) => {
+                let again = merged.advance(alloc).err();
+                println!(rt; "{error:?} {shown:?} {again:?}")?;
+                return Ok(());
+            }
+        }
+    }
+    println!(rt; "None")?;
+    Ok(())
+}
+
+// Takes or passes the versions of two sources.
+fn print_forth<T: Version + Drop, I: Source<T> + Drop>(
+    rt: &impl Print,
+    alloc: Global,
+    sources: (I, I),
+    passed: bool,
+) -> Result<()> {
+    match merge_of(alloc, sources.0, sources.1) {
+        Ok(mut merged) if passed => print_passed(rt, alloc, &mut merged),
+        Ok(mut merged) => print_left(rt, alloc, &mut merged),
+        Err(error) => print_none(rt, error),
+    }
+}
+
+// Takes the versions of two sources from the back.
+fn print_back<T: Version + Drop, I: BackSource<T> + Drop>(
+    rt: &impl Print,
+    alloc: Global,
+    sources: (I, I),
+) -> Result<()> {
+    match merge_back_of(alloc, sources.0, sources.1) {
+        Ok(mut merged) => print_left_back(rt, alloc, &mut merged),
+        Err(error) => print_none(rt, error),
+    }
+}
+
+// Merges two runs, of one of which a version is deleted.
+fn merge_runs(rt: &impl Print, alloc: Global, times: u32, merged: Merged) -> Result<()> {
+    let (first, second) = (run_of(alloc, &DELETED)?, run_of(alloc, &WRITTEN)?);
+    let (deleted, _) = RunRef::<ByteSum>::check(alloc, first.0.as_slice(), &first.1)?;
+    let (written, _) = RunRef::<ByteSum>::check(alloc, second.0.as_slice(), &second.1)?;
+    for _ in 0..times {
+        let scans = (deleted.scan(), written.scan());
+        match merged {
+            Merged::Taken => print_forth::<EntryView<'_>, _>(rt, alloc, scans, false)?,
+            Merged::Passed => print_forth::<EntryView<'_>, _>(rt, alloc, scans, true)?,
+            Merged::Back => print_back::<EntryView<'_>, _>(rt, alloc, scans)?,
+        }
+    }
+    Ok(())
+}
+
+/// Takes the versions of a merge of two runs.
+pub fn merge(rt: &impl Print, alloc: Global, times: u32) -> Result<()> {
+    merge_runs(rt, alloc, times, Merged::Taken)
+}
+
+/// Passes the versions of a merge of two runs.
+pub fn advance(rt: &impl Print, alloc: Global, times: u32) -> Result<()> {
+    merge_runs(rt, alloc, times, Merged::Passed)
+}
+
+/// Takes the versions of a merge of two runs from the back.
+pub fn merge_back(rt: &impl Print, alloc: Global, times: u32) -> Result<()> {
+    merge_runs(rt, alloc, times, Merged::Back)
+}
+
+/// A table in memory.
+pub type Stored = Table<ByteSum, MemorySource>;
+
+/// Opens the table of a run.
+pub fn table_of(alloc: Global, bytes: &Slice, handles: RunHandles) -> Result<Stored> {
+    Ok(Table::open(alloc, MemorySource::new(bytes.clone()?), handles)?)
+}
+
+// Writes what is left of a source as a table of blocks of one entry: the error of that.
+fn write_left<I: Source<InternalValue>>(
+    alloc: Global,
+    head: &mut Head<InternalValue, I>,
+) -> Option<Error> {
+    let config = RunConfig::new(2, NO_BUCKETS, 10);
+    let sizes = Sizes {
+        block: 1,
+        table: 1000,
+    };
+    write_table::<ByteSum, I, Vec<u8>>(alloc, head, Vec::new(alloc), config, sizes).err()
+}
+
+// Writes what is left of a source as a table: the errors of that, of writing it again and of a step.
+fn print_written<I: Source<InternalValue> + Drop>(
+    rt: &impl Print,
+    alloc: Global,
+    source: I,
+) -> Result<()> {
+    match Head::new(alloc, source) {
+        Ok(mut head) => {
+            let first = write_left(alloc, &mut head);
+            let second = write_left(alloc, &mut head);
+            let third = head.take(alloc).err();
+            println!(rt; "{first:?} {second:?} {third:?}")?;
+        }
+        Err(error) => println!(rt; "no head: {error:?}")?,
+    }
+    Ok(())
+}
+
+/// Writes a scan of a trusted table as a table of two blocks.
+pub fn written(rt: &impl Print, alloc: Global, times: u32) -> Result<()> {
+    let (bytes, handles) = run_of(alloc, &DELETED)?;
+    let mut table = table_of(alloc, &bytes, handles)?;
+    table.verify(alloc)?;
+    let run = table.trusted();
+    for _ in 0..times {
+        print_written(rt, alloc, run.scan())?;
+    }
+    Ok(())
+}
+
+/// Reads a long key from two tables.
+pub fn tables(rt: &impl Print, alloc: Global, times: u32) -> Result<()> {
+    let (first, second) = (run_of(alloc, &DELETED)?, run_of(alloc, &WRITTEN)?);
+    let mut readers = [
+        table_of(alloc, &first.0, first.1)?,
+        table_of(alloc, &second.0, second.1)?,
+    ];
+    for _ in 0..times {
+        let found: Result<Option<InternalValue>> = read_tables(
+            alloc,
+            &mut readers,
+            LONG_KEY,
+            9,
+            &mut Steps::new(),
+        );
+        println!(rt; "{found:?}")?;
+    }
+    Ok(())
+}
