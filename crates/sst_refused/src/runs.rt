@@ -113,7 +113,13 @@ pub fn run_of(alloc: Global, rows: &[Row]) -> Result<(Slice, RunHandles)> {
 
 /// Reads a long key from a run of one block with buckets.
 pub fn read(rt: &impl Print, alloc: Global, times: u32) -> Result<()> {
-    let (bytes, handles) = run_of(alloc, &LONG)?;
+    let (list, config) = (list_of(alloc, &LONG)?, RunConfig::new(2, ONE_EACH, 10));
+    if !can_be_written(&list, &[], &config) {
+        return Err(Error::OutOfOrder);
+    }
+    let mut bytes = Vec::new(alloc);
+    let handles = write_run::<ByteSum, Vec<u8>>(alloc, &mut bytes, &list, &[], config)?;
+    let bytes = Slice::from_vec(bytes)?;
     for _ in 0..times {
         let found = read_entry::<ByteSum>(alloc, &bytes, &handles, LONG_KEY, 2, &mut Steps::new());
         println!(rt; "{found:?}")?;
