@@ -28,52 +28,88 @@ fn kind_of(word: &str) -> Result<Kind> {
     }
 }
 
-/// The check of a data block that makes the table of its heads, and the one that makes none.
-fn data_checks<H: BlockHash>(alloc: Global, payload: &[u8]) -> Result<(Checked, Checked)> {
-    let once = DataBlock::<H>::check_once(alloc, block_with(alloc, BlockType::Data, payload)?);
-    let once = match once {
+/// What the checks of some bytes return: the one that makes no table of the heads, the one that makes
+/// it, the one that borrows the block, and the one of bytes that are lent.
+#[derive(Drop)]
+struct Checks {
+    once: Checked,
+    tabled: Checked,
+    by_ref: Checked,
+    lent: Checked,
+}
+
+/// The check of a data block that makes no table of its heads.
+fn data_once<H: BlockHash>(alloc: Global, block: Block) -> Checked {
+    match DataBlock::<H>::check_once(alloc, block) {
         Ok(block) => Ok(block.len()),
         Err(error) => Err(error),
-    };
-    let tabled = DataBlock::<H>::check(alloc, block_with(alloc, BlockType::Data, payload)?);
-    match tabled {
-        Ok(block) => Ok((once, Ok(block.len()))),
-        Err(error) => Ok((once, Err(error))),
     }
 }
 
-/// The check of a data block that borrows it, and the one of bytes that are lent.
-fn lent_data_checks<H: BlockHash>(alloc: Global, payload: &[u8]) -> Result<(Checked, Checked)> {
-    let block = block_with(alloc, BlockType::Data, payload)?;
-    let by_ref = DataBlock::<H>::check_ref(alloc, &block);
+/// The check of a data block that makes the table of its heads.
+fn data_tabled<H: BlockHash>(alloc: Global, block: Block) -> Checked {
+    match DataBlock::<H>::check(alloc, block) {
+        Ok(block) => Ok(block.len()),
+        Err(error) => Err(error),
+    }
+}
+
+/// The check of bytes that are lent as a data block.
+fn data_lent<H: BlockHash>(alloc: Global, payload: &[u8]) -> Checked {
     match DataBlockRef::<H>::check(alloc, payload) {
-        Ok(page) => Ok((by_ref, Ok(page.len()))),
-        Err(error) => Ok((by_ref, Err(error))),
+        Ok(page) => Ok(page.len()),
+        Err(error) => Err(error),
     }
 }
 
-/// The check of an index block that makes the table of its heads, and the one that makes none.
-fn index_checks(alloc: Global, payload: &[u8]) -> Result<(Checked, Checked)> {
-    let once = IndexBlock::check_once(block_with(alloc, BlockType::Index, payload)?);
-    let once = match once {
+/// The checks of bytes as a data block.
+fn data_checks<H: BlockHash>(alloc: Global, payload: &[u8]) -> Result<Checks> {
+    let once = data_once::<H>(alloc, block_with(alloc, BlockType::Data, payload)?);
+    let tabled = data_tabled::<H>(alloc, block_with(alloc, BlockType::Data, payload)?);
+    let block = block_with(alloc, BlockType::Data, payload)?;
+    Ok(Checks {
+        once,
+        tabled,
+        by_ref: DataBlock::<H>::check_ref(alloc, &block),
+        lent: data_lent::<H>(alloc, payload),
+    })
+}
+
+/// The check of an index block that makes no table of its heads.
+fn index_once(block: Block) -> Checked {
+    match IndexBlock::check_once(block) {
         Ok(block) => Ok(block.len()),
         Err(error) => Err(error),
-    };
-    let tabled = IndexBlock::check(alloc, block_with(alloc, BlockType::Index, payload)?);
-    match tabled {
-        Ok(block) => Ok((once, Ok(block.len()))),
-        Err(error) => Ok((once, Err(error))),
     }
 }
 
-/// The check of an index block that borrows it, and the one of bytes that are lent.
-fn lent_index_checks(alloc: Global, payload: &[u8]) -> Result<(Checked, Checked)> {
-    let block = block_with(alloc, BlockType::Index, payload)?;
-    let by_ref = IndexBlock::check_ref(&block);
-    match IndexBlockRef::check(payload) {
-        Ok(page) => Ok((by_ref, Ok(page.len()))),
-        Err(error) => Ok((by_ref, Err(error))),
+/// The check of an index block that makes the table of its heads.
+fn index_tabled(alloc: Global, block: Block) -> Checked {
+    match IndexBlock::check(alloc, block) {
+        Ok(block) => Ok(block.len()),
+        Err(error) => Err(error),
     }
+}
+
+/// The check of bytes that are lent as an index block.
+fn index_lent(payload: &[u8]) -> Checked {
+    match IndexBlockRef::check(payload) {
+        Ok(page) => Ok(page.len()),
+        Err(error) => Err(error),
+    }
+}
+
+/// The checks of bytes as an index block.
+fn index_checks(alloc: Global, payload: &[u8]) -> Result<Checks> {
+    let once = index_once(block_with(alloc, BlockType::Index, payload)?);
+    let tabled = index_tabled(alloc, block_with(alloc, BlockType::Index, payload)?);
+    let block = block_with(alloc, BlockType::Index, payload)?;
+    Ok(Checks {
+        once,
+        tabled,
+        by_ref: IndexBlock::check_ref(&block),
+        lent: index_lent(payload),
+    })
 }
 
 /// The text of a check.
@@ -84,26 +120,21 @@ fn text_of(alloc: Global, checked: &Checked) -> Result<String> {
     }
 }
 
-/// The result of the checks of bytes as a block of a kind: the number of items or the error, and each
-/// where they differ.
+/// The result of checks: the number of items or the error, and each where they differ.
+fn text_of_all(alloc: Global, checks: &Checks) -> Result<String> {
+    let text = text_of(alloc, &checks.once)?;
+    let text = alike(alloc, text, "with a table", text_of(alloc, &checks.tabled)?)?;
+    let text = alike(alloc, text, "borrowed", text_of(alloc, &checks.by_ref)?)?;
+    alike(alloc, text, "lent", text_of(alloc, &checks.lent)?)
+}
+
+/// The result of the checks of bytes as a block of a kind.
 fn check_as<H: BlockHash>(alloc: Global, payload: &[u8], kind: Kind) -> Result<String> {
-    let (owned, lent) = match kind {
-        Kind::Data => (
-            data_checks::<H>(alloc, payload)?,
-            lent_data_checks::<H>(alloc, payload)?,
-        ),
-        Kind::Index => (
-            index_checks(alloc, payload)?,
-            lent_index_checks(alloc, payload)?,
-        ),
+    let checks = match kind {
+        Kind::Data => data_checks::<H>(alloc, payload)?,
+        Kind::Index => index_checks(alloc, payload)?,
     };
-    let text = text_of(alloc, &owned.0)?;
-    if owned.0 == owned.1 && owned.0 == lent.0 && owned.0 == lent.1 {
-        return Ok(text);
-    }
-    let text = alike(alloc, text, "with a table", text_of(alloc, &owned.1)?)?;
-    let text = alike(alloc, text, "borrowed", text_of(alloc, &lent.0)?)?;
-    alike(alloc, text, "lent", text_of(alloc, &lent.1)?)
+    text_of_all(alloc, &checks)
 }
 
 /// The check of the payload with a byte changed: KIND AT BYTE.

@@ -3,13 +3,12 @@ ghost use Rattle.std.specs.Prelude.{◌≡◌, IfSome};
 ghost use Rattle.sst_block_core.specs.Window.{whole};
 ghost use Rattle.sst_block_kinds.specs.ParsedEntry.{IsParsedEntry};
 
-use super::data_block;
+use super::Opened;
 use sst_base::{BlockHash, InternalValue, Slice, compare_bytes};
 use sst_block_core::{Decoder, ParsedItem};
 use sst_block_kinds::laws::data_block_is_read;
 use sst_block_kinds::{DataBlock, DataBlockParsedItem};
 use sst_case_room::fault::{Fault, Result};
-use sst_case_room::room::Room;
 use sst_case_room::words::{
     bytes_of, number_of, push_word, repeated, truth, word_of, word_of_found,
 };
@@ -44,7 +43,9 @@ fn predicate_of(alloc: Global, word: &str) -> Result<Predicate> {
     if word == "all" {
         return Ok(Predicate::All);
     }
-    let (name, bound) = word.split_once(':').ok_or(Fault::Word)?;
+    let Some((name, bound)) = word.split_once(':') else {
+        return Err(Fault::Word);
+    };
     match name {
         "below" => Ok(Predicate::Below(bytes_of(alloc, bound)?)),
         "above" => Ok(Predicate::Above(number_of(bound)?)),
@@ -76,11 +77,12 @@ fn taken(alloc: Global, payload: &Slice, item: Option<DataBlockParsedItem>) -> R
 }
 
 /// Moves the front, or the back, to the head that a predicate picks.
-fn seek(decoder: &mut Entries<'_>, form: &str, predicate: &Predicate) -> Result<bool>
+fn seek(alloc: Global, decoder: &mut Entries<'_>, form: &str, predicate: &str) -> Result<bool>
     ensures payload { decoder.new.payload ≡ decoder.old.payload }
     ensures interval { decoder.new.interval ≡ decoder.old.interval }
     ensures list { decoder.new.window.list ≡ decoder.old.window.list }
 {
+    let predicate = predicate_of(alloc, predicate)?;
     let holds = |key: &[u8], seqno: u64| predicate.holds(key, seqno);
     match form {
         "last" => Ok(decoder.seek(&holds, false)),
@@ -104,9 +106,11 @@ fn move_to<H: BlockHash>(
     ensures interval { decoder.new.interval ≡ block.now.interval }
     ensures list { decoder.new.window.list ≡ block.now.items }
 {
-    let (name, rest) = word.split_once(':').ok_or(Fault::Word)?;
+    let Some((name, rest)) = word.split_once(':') else {
+        return Err(Fault::Word);
+    };
     if name != "move" {
-        return truth(alloc, seek(decoder, name, &predicate_of(alloc, rest)?)?);
+        return truth(alloc, seek(alloc, decoder, name, rest)?);
     }
     let head = number_of(rest)? as usize;
     if head >= block.binary_index_len() as usize {
@@ -150,24 +154,8 @@ fn calls<H: BlockHash>(alloc: Global, block: &DataBlock<H>, words: &[&str]) -> R
 
 /// Calls of a decoder: `next`, `back`, `left`, `move:` and a head, and a form of a seek, `:` and a
 /// predicate.
-fn decode<H: BlockHash>(alloc: Global, room: &Room, words: &[&str]) -> Result<String> {
+pub fn decode<H: BlockHash>(alloc: Global, opened: &Opened<H>, words: &[&str]) -> Result<String> {
     let words = repeated(alloc, words)?;
-    calls(
-        alloc,
-        &data_block::<H>(alloc, room, false)?,
-        words.as_slice(),
-    )
-}
-
-/// Performs a command, if it is one on decoders.
-pub fn perform<H: BlockHash>(
-    alloc: Global,
-    room: &Room,
-    name: &str,
-    words: &[&str],
-) -> Result<Option<String>> {
-    if name == "decode" {
-        return Ok(Some(decode::<H>(alloc, room, words)?));
-    }
-    Ok(None)
+    let block = opened.bare()?;
+    calls(alloc, block, words.as_slice())
 }

@@ -1,7 +1,7 @@
 //! Commands that encode a list of entries as a data block, and that show its bytes.
 ghost use Rattle.std.specs.Prelude.{◌≤◌};
 
-use super::data_block;
+use super::{Opened, data_block};
 use sst_base::table::block::{Block, BlockType};
 use sst_base::{BlockHash, HashRatio, InternalValue, Slice};
 use sst_block_core::table::block::encoder::Encoder;
@@ -10,13 +10,11 @@ use sst_block_kinds::DataBlock;
 use sst_case_room::digest::hash_of;
 use sst_case_room::fault::{Fault, Result};
 use sst_case_room::lists::parts_of;
-use sst_case_room::room::Room;
 use sst_case_room::words::{bytes_of, hex_of, number_of, small_of};
 use std::alloc::Global;
 
 /// The numbers of a block.
-fn numbers_of<H: BlockHash>(alloc: Global, room: &Room) -> Result<String> {
-    let block = data_block::<H>(alloc, room, false)?;
+fn numbers_of<H: BlockHash>(alloc: Global, block: &DataBlock<H>) -> Result<String> {
     let (buckets, conflicts) = match block.get_hash_index_reader() {
         Some(reader) => (reader.bucket_count(), reader.conflict_count()),
         None => (0, 0),
@@ -25,12 +23,19 @@ fn numbers_of<H: BlockHash>(alloc: Global, room: &Room) -> Result<String> {
     Ok(format!(in alloc; "{bytes} bytes, {heads} heads, {buckets} buckets, {conflicts} conflicts")?)
 }
 
-/// Returns the block of entries in order, at an interval, without buckets.
+/// The numbers of the block of a payload.
+fn numbers<H: BlockHash>(alloc: Global, payload: &[u8]) -> Result<String> {
+    let block = data_block::<H>(alloc, payload, false)?;
+    numbers_of(alloc, &block)
+}
+
+/// Returns the block of entries in order, at the interval of a word, without buckets.
 pub fn encoded<H: BlockHash>(
     alloc: Global,
     entries: &[InternalValue],
-    interval: u8,
+    interval: &str,
 ) -> Result<DataBlock<H>> {
+    let interval = small_of(interval)?;
     if entries.is_empty() || interval == 0 || !DataBlock::<H>::is_ordered(entries) {
         return Err(Fault::Word);
     }
@@ -57,8 +62,35 @@ fn by_parts<H: BlockHash>(
     Ok(DataBlock::<H>::encode_parts_into_vec(alloc, parts.as_slice(), interval, ratio)?)
 }
 
+/// Encodes entries as the payload, by themselves and by their parts.
+fn encode_list<H: BlockHash>(
+    alloc: Global,
+    entries: &[InternalValue],
+    payload: &mut Vec<u8>,
+    interval: u8,
+    ratio: HashRatio,
+) -> Result<String>
+    requires interval { 1 ≤ interval }
+    requires den { 1 ≤ ratio.den }
+{
+    if entries.is_empty() || !DataBlock::<H>::is_ordered(entries) {
+        return Err(Fault::Word);
+    }
+    let parts = by_parts::<H>(alloc, entries, interval, ratio)?;
+    *payload = DataBlock::<H>::encode_into_vec(alloc, entries, interval, ratio)?;
+    if parts.as_slice() != payload.as_slice() {
+        return Ok(format!(in alloc; "{} bytes by parts", parts.len())?);
+    }
+    numbers::<H>(alloc, payload.as_slice())
+}
+
 /// Encodes the list, by its entries and by their parts: INTERVAL NUM DEN.
-fn encode<H: BlockHash>(alloc: Global, room: &mut Room, words: &[&str]) -> Result<String> {
+pub fn encode<H: BlockHash>(
+    alloc: Global,
+    entries: &[InternalValue],
+    payload: &mut Vec<u8>,
+    words: &[&str],
+) -> Result<String> {
     let [interval, num, den] = words else {
         return Err(Fault::Word);
     };
@@ -67,19 +99,10 @@ fn encode<H: BlockHash>(alloc: Global, room: &mut Room, words: &[&str]) -> Resul
         num: u32::from(small_of(num)?),
         den: u32::from(small_of(den)?),
     };
-    let entries = room.entries.as_slice();
-    if entries.is_empty() || interval == 0 || ratio.den == 0 {
+    if interval == 0 || ratio.den == 0 {
         return Err(Fault::Word);
     }
-    if !DataBlock::<H>::is_ordered(entries) {
-        return Err(Fault::Word);
-    }
-    let parts = by_parts::<H>(alloc, entries, interval, ratio)?;
-    room.payload = DataBlock::<H>::encode_into_vec(alloc, entries, interval, ratio)?;
-    if parts.as_slice() != room.payload.as_slice() {
-        return Ok(format!(in alloc; "{} bytes by parts", parts.len())?);
-    }
-    numbers_of::<H>(alloc, room)
+    encode_list::<H>(alloc, entries, payload, interval, ratio)
 }
 
 /// What an encoder writes of two entries, in order or not, without buckets.
@@ -101,7 +124,12 @@ fn written<H: BlockHash>(alloc: Global, entries: &[InternalValue], interval: u8)
 }
 
 /// Writes a list of two entries, in order or not, without buckets: INTERVAL.
-fn write<H: BlockHash>(alloc: Global, room: &mut Room, words: &[&str]) -> Result<String> {
+pub fn write<H: BlockHash>(
+    alloc: Global,
+    entries: &[InternalValue],
+    payload: &mut Vec<u8>,
+    words: &[&str],
+) -> Result<String> {
     let [interval] = words else {
         return Err(Fault::Word);
     };
@@ -109,38 +137,29 @@ fn write<H: BlockHash>(alloc: Global, room: &mut Room, words: &[&str]) -> Result
     if interval == 0 {
         return Err(Fault::Word);
     }
-    room.payload = written::<H>(alloc, room.entries.as_slice(), interval)?;
-    Ok(format!(in alloc; "{} bytes", room.payload.len())?)
+    *payload = written::<H>(alloc, entries, interval)?;
+    Ok(format!(in alloc; "{} bytes", payload.len())?)
 }
 
-/// The byte of the bucket of a key, and what it says: KEY.
-fn bucket<H: BlockHash>(alloc: Global, room: &Room, words: &[&str]) -> Result<String> {
-    let [key] = words else {
-        return Err(Fault::Word);
-    };
-    let block = data_block::<H>(alloc, room, false)?;
-    let reader = block.get_hash_index_reader().ok_or(Fault::Word)?;
-    let key = bytes_of(alloc, key)?;
-    let byte = reader.get(key.as_slice());
-    match reader.lookup(key.as_slice()) {
+/// The text of a bucket's byte and of what it says.
+fn text_of_bucket(alloc: Global, byte: u8, said: Lookup) -> Result<String> {
+    match said {
         Lookup::Anywhere => Ok(format!(in alloc; "{byte} anywhere")?),
         Lookup::Nowhere => Ok(format!(in alloc; "{byte} nowhere")?),
         Lookup::Interval(at) => Ok(format!(in alloc; "{byte} interval {at}")?),
     }
 }
 
-/// Performs a command, if it encodes a block or shows its bytes.
-pub fn perform<H: BlockHash>(
-    alloc: Global,
-    room: &mut Room,
-    name: &str,
-    words: &[&str],
-) -> Result<Option<String>> {
-    let answer = match name {
-        "encode" => encode::<H>(alloc, room, words),
-        "write" => write::<H>(alloc, room, words),
-        "bucket" => bucket::<H>(alloc, room, words),
-        _ => return Ok(None),
+/// The byte of the bucket of a key, and what it says: KEY.
+pub fn bucket<H: BlockHash>(alloc: Global, opened: &Opened<H>, words: &[&str]) -> Result<String> {
+    let [key] = words else {
+        return Err(Fault::Word);
     };
-    Ok(Some(answer?))
+    let block = opened.bare()?;
+    let Some(reader) = block.get_hash_index_reader() else {
+        return Err(Fault::Word);
+    };
+    let key = bytes_of(alloc, key)?;
+    let byte = reader.get(key.as_slice());
+    text_of_bucket(alloc, byte, reader.lookup(key.as_slice()))
 }

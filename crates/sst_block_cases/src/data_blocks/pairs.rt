@@ -1,13 +1,13 @@
 //! Commands that compare entries of two blocks, and that show the parts of an entry.
 
 use super::encoding::encoded;
-use sst_base::BlockHash;
+use sst_base::{BlockHash, InternalValue};
 use sst_block_kinds::table::data_block::EntryRef;
 use sst_block_kinds::{DataBlock, EntryParts};
 use sst_case_room::digest::Digest;
 use sst_case_room::fault::{Fault, Result};
 use sst_case_room::room::Room;
-use sst_case_room::words::{bytes_of, number_of, small_of, truth, type_of};
+use sst_case_room::words::{bytes_of, number_of, truth, type_of};
 use std::alloc::Global;
 use std::cmp::Ordering;
 
@@ -79,15 +79,12 @@ fn compare_with<H: BlockHash>(
     Ok(())
 }
 
-/// Compares the entries of the list's block at an interval with those of its block at another, each
-/// with each: INTERVAL INTERVAL.
-fn compare<H: BlockHash>(alloc: Global, room: &Room, words: &[&str]) -> Result<String> {
-    let [first, second] = words else {
-        return Err(Fault::Word);
-    };
-    let entries = room.entries.as_slice();
-    let left = encoded::<H>(alloc, entries, small_of(first)?)?;
-    let right = encoded::<H>(alloc, entries, small_of(second)?)?;
+/// Compares the entries of a block with those of another, each with each.
+fn compare_all<H: BlockHash>(
+    alloc: Global,
+    left: &DataBlock<H>,
+    right: &DataBlock<H>,
+) -> Result<String> {
     let mut signs = Signs {
         less: 0,
         equal: 0,
@@ -95,26 +92,36 @@ fn compare<H: BlockHash>(alloc: Global, room: &Room, words: &[&str]) -> Result<S
         digest: Digest::new(),
     };
     for entry in left.entries() {
-        compare_with(alloc, &mut signs, &entry, &right)?;
+        compare_with(alloc, &mut signs, &entry, right)?;
     }
     let (less, equal, greater) = (signs.less, signs.equal, signs.greater);
     let state = signs.digest.state;
     Ok(format!(in alloc; "{less} less, {equal} equal, {greater} greater, {state:016x}")?)
 }
 
-/// The parts of an entry, whose key may be too long: ENTRY.
-fn parts(alloc: Global, words: &[&str]) -> Result<String> {
-    let [word] = words else {
+/// Compares the entries of a block with those of a list's block at an interval, each with each.
+fn compare_to<H: BlockHash>(
+    alloc: Global,
+    left: &DataBlock<H>,
+    entries: &[InternalValue],
+    interval: &str,
+) -> Result<String> {
+    let right = encoded::<H>(alloc, entries, interval)?;
+    compare_all(alloc, left, &right)
+}
+
+/// Compares the entries of the list's block at an interval with those of its block at another, each
+/// with each: INTERVAL INTERVAL.
+pub fn compare<H: BlockHash>(alloc: Global, room: &Room, words: &[&str]) -> Result<String> {
+    let [first, second] = words else {
         return Err(Fault::Word);
     };
-    let (letter, rest) = word.split_once('.').ok_or(Fault::Word)?;
-    let (seqno, rest) = rest.split_once('.').ok_or(Fault::Word)?;
-    let (key, value) = rest.split_once('.').ok_or(Fault::Word)?;
-    let (key, value) = (bytes_of(alloc, key)?, bytes_of(alloc, value)?);
-    let (seqno, value_type) = (number_of(seqno)?, type_of(letter)?);
-    let Some(parts) = EntryParts::new(key.as_slice(), value.as_slice(), seqno, value_type) else {
-        return Ok(String::from_str(alloc, "none")?);
-    };
+    let left = encoded::<H>(alloc, room.entries.as_slice(), first)?;
+    compare_to(alloc, &left, room.entries.as_slice(), second)
+}
+
+/// The text of the parts of an entry.
+fn text_of_parts(alloc: Global, parts: &EntryParts<'_>) -> Result<String> {
     let (key, value) = (parts.user_key().len(), parts.value().len());
     let (value_type, seqno) = (parts.value_type(), parts.seqno());
     let dead = truth(alloc, parts.is_tombstone())?;
@@ -123,17 +130,24 @@ fn parts(alloc: Global, words: &[&str]) -> Result<String> {
     )?)
 }
 
-/// Performs a command, if it is one on pairs of entries or on the parts of one.
-pub fn perform<H: BlockHash>(
-    alloc: Global,
-    room: &Room,
-    name: &str,
-    words: &[&str],
-) -> Result<Option<String>> {
-    let answer = match name {
-        "compare" => compare::<H>(alloc, room, words),
-        "parts" => parts(alloc, words),
-        _ => return Ok(None),
+/// The parts of an entry, whose key may be too long: ENTRY.
+pub fn parts(alloc: Global, words: &[&str]) -> Result<String> {
+    let [word] = words else {
+        return Err(Fault::Word);
     };
-    Ok(Some(answer?))
+    let Some((letter, rest)) = word.split_once('.') else {
+        return Err(Fault::Word);
+    };
+    let Some((seqno, rest)) = rest.split_once('.') else {
+        return Err(Fault::Word);
+    };
+    let Some((key, value)) = rest.split_once('.') else {
+        return Err(Fault::Word);
+    };
+    let (seqno, value_type) = (number_of(seqno)?, type_of(letter)?);
+    let (key, value) = (bytes_of(alloc, key)?, bytes_of(alloc, value)?);
+    match EntryParts::new(key.as_slice(), value.as_slice(), seqno, value_type) {
+        Some(parts) => text_of_parts(alloc, &parts),
+        None => Ok(String::from_str(alloc, "none")?),
+    }
 }

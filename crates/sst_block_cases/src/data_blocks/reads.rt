@@ -1,7 +1,7 @@
 //! Commands that read entries of a data block by their keys, or all of them.
 ghost use Rattle.sst_block_kinds.specs.ParsedEntry.{IsParsedEntry};
 
-use super::data_block;
+use super::{Blocks, Opened};
 use sst_base::{BlockHash, InternalValue, Slice, Steps};
 use sst_block_core::ParsedItem;
 use sst_block_kinds::table::data_block::{EntryRef, EntryView};
@@ -20,9 +20,20 @@ fn find<H: BlockHash>(
     seqno: u64,
 ) -> Result<String> {
     match page.find(key, seqno, &mut Steps::new()) {
-        Some(item) => word_of(alloc, &page.entry(item).to_entry(alloc)?),
+        Some(item) => word_of_view(alloc, &page.entry(item)),
         None => word_of_found(alloc, None),
     }
+}
+
+/// A point read of a block.
+fn found<H: BlockHash>(
+    alloc: Global,
+    block: &DataBlock<H>,
+    key: &[u8],
+    seqno: u64,
+) -> Result<String> {
+    let found = block.point_read(alloc, key, seqno, &mut Steps::new())?;
+    word_of_found(alloc, found.as_ref())
 }
 
 /// A point read of a block, and of its bytes as they are lent.
@@ -32,45 +43,56 @@ fn read_from<H: BlockHash>(
     key: &[u8],
     seqno: u64,
 ) -> Result<String> {
-    let found = block.point_read(alloc, key, seqno, &mut Steps::new())?;
-    alike(
-        alloc,
-        word_of_found(alloc, found.as_ref())?,
-        "by its bytes",
-        find(alloc, &block.by_ref(), key, seqno)?,
-    )
+    let owned = found(alloc, block, key, seqno)?;
+    let lent = find(alloc, &block.by_ref(), key, seqno)?;
+    alike(alloc, owned, "by its bytes", lent)
+}
+
+/// A point read of a block without the table of its heads and with it.
+fn read_from_both<H: BlockHash>(
+    alloc: Global,
+    blocks: Blocks<'_, H>,
+    key: &[u8],
+    seqno: u64,
+) -> Result<String> {
+    let bare = read_from(alloc, blocks.0, key, seqno)?;
+    let tabled = read_from(alloc, blocks.1, key, seqno)?;
+    alike(alloc, bare, "by the table", tabled)
 }
 
 /// A point read, without the table of the heads and with it: KEY SEQNO.
-fn read<H: BlockHash>(alloc: Global, room: &Room, words: &[&str]) -> Result<String> {
+pub fn read<H: BlockHash>(alloc: Global, opened: &Opened<H>, words: &[&str]) -> Result<String> {
     let [key, seqno] = words else {
         return Err(Fault::Word);
     };
-    let (key, seqno) = (bytes_of(alloc, key)?, number_of(seqno)?);
-    let bare = data_block::<H>(alloc, room, false)?;
-    let tabled = data_block::<H>(alloc, room, true)?;
-    alike(
-        alloc,
-        read_from(alloc, &bare, key.as_slice(), seqno)?,
-        "by the table",
-        read_from(alloc, &tabled, key.as_slice(), seqno)?,
-    )
+    let (seqno, key) = (number_of(seqno)?, bytes_of(alloc, key)?);
+    read_from_both(alloc, opened.both()?, key.as_slice(), seqno)
 }
 
-/// Where the value of an entry that a read finds is in the payload: KEY SEQNO.
-fn place<H: BlockHash>(alloc: Global, room: &Room, words: &[&str]) -> Result<String> {
-    let [key, seqno] = words else {
-        return Err(Fault::Word);
-    };
-    let (key, seqno) = (bytes_of(alloc, key)?, number_of(seqno)?);
-    let page = DataBlockRef::<H>::check(alloc, room.payload.as_slice())?;
-    match page.find(key.as_slice(), seqno, &mut Steps::new()) {
+/// Where the value of an entry that a read finds is in bytes that are lent.
+fn place_in<H: BlockHash>(
+    alloc: Global,
+    page: &DataBlockRef<'_, H>,
+    key: &[u8],
+    seqno: u64,
+) -> Result<String> {
+    match page.find(key, seqno, &mut Steps::new()) {
         Some(item) => {
             let (offset, length) = item.value_range();
             Ok(format!(in alloc; "{offset} {length}")?)
         }
         None => word_of_found(alloc, None),
     }
+}
+
+/// Where the value of an entry that a read finds is in the payload: KEY SEQNO.
+pub fn place<H: BlockHash>(alloc: Global, room: &Room, words: &[&str]) -> Result<String> {
+    let [key, seqno] = words else {
+        return Err(Fault::Word);
+    };
+    let (seqno, key) = (number_of(seqno)?, bytes_of(alloc, key)?);
+    let page = DataBlockRef::<H>::check(alloc, room.payload.as_slice())?;
+    place_in(alloc, &page, key.as_slice(), seqno)
 }
 
 /// What some reads found.
@@ -86,7 +108,7 @@ struct Reads {
 fn add_read<H: BlockHash>(
     alloc: Global,
     reads: &mut Reads,
-    blocks: (&DataBlock<H>, &DataBlock<H>),
+    blocks: Blocks<'_, H>,
     prefix: &[u8],
     last: Option<u8>,
     seqno: u64,
@@ -95,12 +117,7 @@ fn add_read<H: BlockHash>(
     if let Some(last) = last {
         key.push(last)?;
     }
-    let answer = alike(
-        alloc,
-        read_from(alloc, blocks.0, key.as_slice(), seqno)?,
-        "by the table",
-        read_from(alloc, blocks.1, key.as_slice(), seqno)?,
-    )?;
+    let answer = read_from_both(alloc, blocks, key.as_slice(), seqno)?;
     reads.count = reads.count.saturating_add(1);
     if answer.as_str() != "none" {
         reads.found = reads.found.saturating_add(1);
@@ -114,7 +131,7 @@ fn add_read<H: BlockHash>(
 fn add_reads<H: BlockHash>(
     alloc: Global,
     reads: &mut Reads,
-    blocks: (&DataBlock<H>, &DataBlock<H>),
+    blocks: Blocks<'_, H>,
     entry: &InternalValue,
 ) -> Result<()> {
     let (key, seqno) = (entry.key().user_key().as_slice(), entry.key().seqno());
@@ -137,31 +154,56 @@ fn add_reads<H: BlockHash>(
     Ok(())
 }
 
+/// Reads around an entry that borrows its block.
+fn add_around<H: BlockHash>(
+    alloc: Global,
+    reads: &mut Reads,
+    blocks: Blocks<'_, H>,
+    entry: &EntryRef<'_>,
+) -> Result<()> {
+    let entry = entry.materialize(alloc)?;
+    add_reads(alloc, reads, blocks, &entry)
+}
+
 /// Point reads around each entry, and their digest.
-fn queries<H: BlockHash>(alloc: Global, room: &Room) -> Result<String> {
-    let bare = data_block::<H>(alloc, room, false)?;
-    let tabled = data_block::<H>(alloc, room, true)?;
+pub fn queries<H: BlockHash>(alloc: Global, opened: &Opened<H>) -> Result<String> {
+    let blocks = opened.both()?;
     let mut reads = Reads {
         count: 0,
         found: 0,
         digest: Digest::new(),
     };
-    for entry in bare.entries() {
-        let entry = entry.materialize(alloc)?;
-        add_reads(alloc, &mut reads, (&bare, &tabled), &entry)?;
+    for entry in blocks.0.entries() {
+        add_around(alloc, &mut reads, blocks, &entry)?;
     }
     let (count, found, state) = (reads.count, reads.found, reads.digest.state);
     Ok(format!(in alloc; "{count} reads, {found} found, {state:016x}")?)
 }
 
+/// Appends an entry that borrows its block to a list.
+fn push_entry(alloc: Global, entries: &mut Vec<InternalValue>, entry: &EntryRef<'_>) -> Result<()> {
+    entries.push(entry.materialize(alloc)?)?;
+    Ok(())
+}
+
 /// Takes the entries of the payload as the list.
-fn take<H: BlockHash>(alloc: Global, room: &mut Room) -> Result<String> {
-    let block = data_block::<H>(alloc, room, false)?;
-    room.entries = Vec::new(alloc);
+pub fn take<H: BlockHash>(
+    alloc: Global,
+    entries: &mut Vec<InternalValue>,
+    opened: &Opened<H>,
+) -> Result<String> {
+    let block = opened.bare()?;
+    *entries = Vec::new(alloc);
     for entry in block.entries() {
-        room.entries.push(entry.materialize(alloc)?)?;
+        push_entry(alloc, entries, &entry)?;
     }
-    Ok(format!(in alloc; "{} entries", room.entries.len())?)
+    Ok(format!(in alloc; "{} entries", entries.len())?)
+}
+
+/// The number of entries, and the digest of their words.
+fn counted(alloc: Global, count: usize, digest: &Digest) -> Result<String> {
+    let state = digest.state;
+    Ok(format!(in alloc; "{count} entries, {state:016x}")?)
 }
 
 /// The number and the digest of the words of entries.
@@ -170,8 +212,7 @@ fn digest_of(alloc: Global, words: &[String]) -> Result<String> {
     for word in words {
         digest.add(word.as_str());
     }
-    let (count, state) = (words.len(), digest.state);
-    Ok(format!(in alloc; "{count} entries, {state:016x}")?)
+    counted(alloc, words.len(), &digest)
 }
 
 /// The word of an item of a payload.
@@ -183,11 +224,12 @@ fn word_of_item(alloc: Global, payload: &Slice, item: &DataBlockParsedItem) -> R
 
 /// The entries of a block by its items.
 fn by_items<H: BlockHash>(alloc: Global, block: &DataBlock<H>) -> Result<String> {
-    let mut words = Vec::new(alloc);
+    let (mut count, mut digest) = (0usize, Digest::new());
     for item in block.iter() {
-        words.push(word_of_item(alloc, block.as_slice(), &item)?)?;
+        digest.add(word_of_item(alloc, block.as_slice(), &item)?.as_str());
+        count = count.saturating_add(1);
     }
-    digest_of(alloc, words.as_slice())
+    counted(alloc, count, &digest)
 }
 
 /// The word of an entry that borrows its block.
@@ -197,11 +239,12 @@ fn word_of_ref(alloc: Global, entry: &EntryRef<'_>) -> Result<String> {
 
 /// The entries of a block, each of which borrows it, from the front.
 fn by_entries<H: BlockHash>(alloc: Global, block: &DataBlock<H>) -> Result<String> {
-    let mut words = Vec::new(alloc);
+    let (mut count, mut digest) = (0usize, Digest::new());
     for entry in block.entries() {
-        words.push(word_of_ref(alloc, &entry)?)?;
+        digest.add(word_of_ref(alloc, &entry)?.as_str());
+        count = count.saturating_add(1);
     }
-    digest_of(alloc, words.as_slice())
+    counted(alloc, count, &digest)
 }
 
 /// The entries of a block, each of which borrows it, from the back.
@@ -221,11 +264,12 @@ fn word_of_view(alloc: Global, view: &EntryView<'_>) -> Result<String> {
 
 /// The entries of bytes that are lent.
 fn by_views<H: BlockHash>(alloc: Global, page: &DataBlockRef<'_, H>) -> Result<String> {
-    let mut words = Vec::new(alloc);
+    let (mut count, mut digest) = (0usize, Digest::new());
     for view in page.entries() {
-        words.push(word_of_view(alloc, &view)?)?;
+        digest.add(word_of_view(alloc, &view)?.as_str());
+        count = count.saturating_add(1);
     }
-    digest_of(alloc, words.as_slice())
+    counted(alloc, count, &digest)
 }
 
 /// The entries of bytes that are lent, from the back.
@@ -238,18 +282,21 @@ fn by_views_back<H: BlockHash>(alloc: Global, page: &DataBlockRef<'_, H>) -> Res
     digest_of(alloc, words.as_slice())
 }
 
-/// The entries of bytes that are lent, with a table of their heads that is lent too.
-fn by_page<H: BlockHash>(alloc: Global, room: &Room) -> Result<String> {
-    let page = DataBlockRef::<H>::check(alloc, room.payload.as_slice())?;
+/// The entries of the payload, which is lent, with a table of their heads that is lent too.
+fn by_tabled_views<H: BlockHash>(alloc: Global, payload: &[u8]) -> Result<String> {
+    let page = DataBlockRef::<H>::check(alloc, payload)?;
     let heads = page.make_heads(alloc)?;
+    by_views(alloc, &page.with_table(&heads))
+}
+
+/// The entries of the payload, which is lent, by each way to go over it.
+fn by_lent<H: BlockHash>(alloc: Global, payload: &[u8]) -> Result<String> {
+    let page = DataBlockRef::<H>::check(alloc, payload)?;
     let all = by_views(alloc, &page)?;
-    let all = alike(
-        alloc,
-        all,
-        "with a table",
-        by_views(alloc, &page.with_table(&heads))?,
-    )?;
-    alike(alloc, all, "from the back", by_views_back(alloc, &page)?)
+    let tabled = by_tabled_views::<H>(alloc, payload)?;
+    let all = alike(alloc, all, "with a table", tabled)?;
+    let back = by_views_back(alloc, &page)?;
+    alike(alloc, all, "from the back", back)
 }
 
 /// The number of the entries of a block, and their digest, by each way to go over it.
@@ -261,33 +308,10 @@ fn by_block<H: BlockHash>(alloc: Global, block: &DataBlock<H>) -> Result<String>
     alike(alloc, all, "from the back", back)
 }
 
-/// The same of the payload.
-fn by_owned<H: BlockHash>(alloc: Global, room: &Room) -> Result<String> {
-    let block = data_block::<H>(alloc, room, false)?;
-    by_block(alloc, &block)
-}
-
 /// The number of the entries, and their digest, by each way to go over them.
-fn entries<H: BlockHash>(alloc: Global, room: &Room) -> Result<String> {
-    let all = by_owned::<H>(alloc, room)?;
-    let views = by_page::<H>(alloc, room)?;
+pub fn entries<H: BlockHash>(alloc: Global, payload: &[u8], opened: &Opened<H>) -> Result<String> {
+    let block = opened.bare()?;
+    let all = by_block(alloc, block)?;
+    let views = by_lent::<H>(alloc, payload)?;
     alike(alloc, all, "by views", views)
-}
-
-/// Performs a command, if it reads entries.
-pub fn perform<H: BlockHash>(
-    alloc: Global,
-    room: &mut Room,
-    name: &str,
-    words: &[&str],
-) -> Result<Option<String>> {
-    let answer = match name {
-        "read" => read::<H>(alloc, room, words),
-        "place" => place::<H>(alloc, room, words),
-        "queries" => queries::<H>(alloc, room),
-        "entries" => entries::<H>(alloc, room),
-        "take" => take::<H>(alloc, room),
-        _ => return Ok(None),
-    };
-    Ok(Some(answer?))
 }

@@ -2,13 +2,12 @@
 ghost use Rattle.std.specs.Prelude.{◌≡◌, IfSome};
 ghost use Rattle.sst_block_kinds.specs.ParsedEntry.{IsParsedEntry};
 
-use super::data_block;
+use super::{Blocks, Opened};
 use sst_base::{BlockHash, InternalValue, Slice};
 use sst_block_core::ParsedItem;
 use sst_block_kinds::table::data_block::{Answer, IntoEntries, Iter, Op, walk};
 use sst_block_kinds::{DataBlock, DataBlockParsedItem};
 use sst_case_room::fault::{Fault, Result};
-use sst_case_room::room::Room;
 use sst_case_room::words::{
     alike, bytes_of, number_of, push_word, repeated, truth, word_of, word_of_found,
 };
@@ -28,7 +27,9 @@ enum Step {
 
 /// The seek, or the move, of a word: its name, `:` and its key or its number.
 fn seek_of(alloc: Global, word: &str) -> Result<Step> {
-    let (name, key) = word.split_once(':').ok_or(Fault::Word)?;
+    let Some((name, key)) = word.split_once(':') else {
+        return Err(Fault::Word);
+    };
     if name == "move" {
         return Ok(Step::Move(number_of(key)? as usize));
     }
@@ -53,14 +54,29 @@ fn step_of(alloc: Global, word: &str) -> Result<Step> {
     }
 }
 
+/// Appends the step of a word.
+fn push_step(alloc: Global, steps: &mut Vec<Step>, word: &str) -> Result<()> {
+    steps.push(step_of(alloc, word)?)?;
+    Ok(())
+}
+
 /// The steps of some words.
 fn steps_of(alloc: Global, words: &[&str]) -> Result<Vec<Step>> {
     let words = repeated(alloc, words)?;
     let mut steps = Vec::new(alloc);
     for word in &words {
-        steps.push(step_of(alloc, word)?)?;
+        push_step(alloc, &mut steps, word)?;
     }
     Ok(steps)
+}
+
+/// Appends the operation of a word, if its step is one.
+fn push_op(alloc: Global, ops: &mut Vec<Op>, word: &str) -> Result<()> {
+    match step_of(alloc, word)? {
+        Step::Op(op) => ops.push(op)?,
+        _ => return Err(Fault::Word),
+    }
+    Ok(())
 }
 
 /// The operations of some words, which hold no other step.
@@ -68,10 +84,7 @@ fn ops_of(alloc: Global, words: &[&str]) -> Result<Vec<Op>> {
     let words = repeated(alloc, words)?;
     let mut ops = Vec::new(alloc);
     for word in &words {
-        match step_of(alloc, word)? {
-            Step::Op(op) => ops.push(op)?,
-            _ => return Err(Fault::Word),
-        }
+        push_op(alloc, &mut ops, word)?;
     }
     Ok(ops)
 }
@@ -152,23 +165,17 @@ fn by_iterator<H: BlockHash>(
     Ok(text)
 }
 
-/// Steps of an iterator over the payload, without the table of the heads or with it.
-fn stepped<H: BlockHash>(
-    alloc: Global,
-    room: &Room,
-    steps: &[Step],
-    tabled: bool,
-) -> Result<String> {
-    let block = data_block::<H>(alloc, room, tabled)?;
-    by_iterator(alloc, &block, steps)
+/// Steps of an iterator over a block, without the table of the heads and with it.
+fn stepped<H: BlockHash>(alloc: Global, blocks: Blocks<'_, H>, steps: &[Step]) -> Result<String> {
+    let bare = by_iterator(alloc, blocks.0, steps)?;
+    let tabled = by_iterator(alloc, blocks.1, steps)?;
+    alike(alloc, bare, "by the table", tabled)
 }
 
 /// Steps of an iterator, of any kind, without the table of the heads and with it.
-fn steps<H: BlockHash>(alloc: Global, room: &Room, words: &[&str]) -> Result<String> {
+pub fn steps<H: BlockHash>(alloc: Global, opened: &Opened<H>, words: &[&str]) -> Result<String> {
     let steps = steps_of(alloc, words)?;
-    let bare = stepped::<H>(alloc, room, steps.as_slice(), false)?;
-    let tabled = stepped::<H>(alloc, room, steps.as_slice(), true)?;
-    alike(alloc, bare, "by the table", tabled)
+    stepped(alloc, opened.both()?, steps.as_slice())
 }
 
 /// The text of what `walk` answers.
@@ -206,6 +213,17 @@ fn take_owned<H: BlockHash>(
     }
 }
 
+/// The word of an entry that is taken from an iterator that owns its block.
+fn taken_owned<H: BlockHash>(
+    alloc: Global,
+    iter: &mut IntoEntries<H>,
+    is_back: bool,
+    by_item: bool,
+) -> Result<String> {
+    let entry = take_owned(alloc, iter, is_back, by_item)?;
+    word_of_found(alloc, entry.as_ref())
+}
+
 /// Performs an operation of an iterator that owns its block.
 fn perform_owned<H: BlockHash>(
     alloc: Global,
@@ -214,8 +232,8 @@ fn perform_owned<H: BlockHash>(
     by_item: bool,
 ) -> Result<String> {
     match op {
-        Op::Next => word_of_found(alloc, take_owned(alloc, iter, false, by_item)?.as_ref()),
-        Op::NextBack => word_of_found(alloc, take_owned(alloc, iter, true, by_item)?.as_ref()),
+        Op::Next => taken_owned(alloc, iter, false, by_item),
+        Op::NextBack => taken_owned(alloc, iter, true, by_item),
         Op::Seek(key) => truth(alloc, iter.seek(key.as_slice())),
         Op::SeekUpper(key) => truth(alloc, iter.seek_upper(key.as_slice())),
         Op::SeekExclusive(key) => truth(alloc, iter.seek_exclusive(key.as_slice())),
@@ -248,30 +266,52 @@ fn take_rest<H: BlockHash>(alloc: Global, iter: &mut IntoEntries<H>, size: usize
     Ok(taken)
 }
 
-/// Performs operations of an iterator that owns its block, and takes what is left, which are as many
-/// entries as it says; the iterator returns its block.
-fn by_owner<H: BlockHash>(
+/// What an iterator that owns its block answers: the words of operations, the number of entries that
+/// it says are left, and how many there were.
+#[derive(Drop)]
+struct Owned {
+    text: String,
+    left: usize,
+    taken: usize,
+}
+
+/// Performs operations of an iterator that owns its block of so many entries, and takes what is left.
+fn to_the_end<H: BlockHash>(
     alloc: Global,
-    block: DataBlock<H>,
+    iter: &mut IntoEntries<H>,
     ops: &[Op],
     by_item: bool,
-) -> Result<String> {
-    let size = block.len();
-    let mut iter = block.into_entries();
-    let text = perform_all(alloc, &mut iter, ops, by_item)?;
+    size: usize,
+) -> Result<Owned> {
+    let text = perform_all(alloc, iter, ops, by_item)?;
     let left = iter.count_left();
-    let taken = take_rest(alloc, &mut iter, size)?;
-    let is_whole = iter.block().len() == size && iter.into_block().len() == size;
+    let taken = take_rest(alloc, iter, size)?;
+    Ok(Owned { text, left, taken })
+}
+
+/// The text of what an iterator that owns its block answers, which returned the whole block or not.
+fn text_of_owned(alloc: Global, owned: Owned, is_whole: bool) -> Result<String> {
+    let Owned { text, left, taken } = owned;
     if taken == left && is_whole {
         return Ok(text);
     }
     Ok(format!(in alloc; "{text}, {left} left, {taken} taken")?)
 }
 
-/// Performs operations of an iterator that owns the block of the payload.
-fn owned<H: BlockHash>(alloc: Global, room: &Room, ops: &[Op], by_item: bool) -> Result<String> {
-    let block = data_block::<H>(alloc, room, by_item)?;
-    by_owner(alloc, block, ops, by_item)
+/// Performs operations of an iterator that owns its block, and takes what is left, which are as many
+/// entries as it says; the iterator returns its block.
+fn by_owner<H: BlockHash>(
+    alloc: Global,
+    block: &DataBlock<H>,
+    ops: &[Op],
+    by_item: bool,
+) -> Result<String> {
+    let size = block.len();
+    let mut iter = block.clone()?.into_entries();
+    let owned = to_the_end(alloc, &mut iter, ops, by_item, size);
+    let is_kept = iter.block().len() == size;
+    let is_whole = iter.into_block().len() == size && is_kept;
+    text_of_owned(alloc, owned?, is_whole)
 }
 
 /// What `walk` answers over a block.
@@ -280,36 +320,26 @@ fn walked<H: BlockHash>(alloc: Global, block: &DataBlock<H>, ops: &[Op]) -> Resu
     text_of(alloc, answers.as_slice())
 }
 
-/// What `walk` answers over the block of the payload.
-fn walked_over<H: BlockHash>(alloc: Global, room: &Room, ops: &[Op]) -> Result<String> {
-    let block = data_block::<H>(alloc, room, true)?;
-    walked(alloc, &block, ops)
+/// What `walk` answers over a block, and iterators that own the block, after another answer.
+fn after<H: BlockHash>(
+    alloc: Global,
+    all: String,
+    blocks: Blocks<'_, H>,
+    ops: &[Op],
+) -> Result<String> {
+    let walked = walked(alloc, blocks.1, ops)?;
+    let all = alike(alloc, all, "by walk", walked)?;
+    let whole = by_owner(alloc, blocks.0, ops, false)?;
+    let all = alike(alloc, all, "by an owner", whole)?;
+    let by_item = by_owner(alloc, blocks.1, ops, true)?;
+    alike(alloc, all, "by its items", by_item)
 }
 
 /// Steps of an iterator that every kind has: by one that borrows its block, by `walk`, and by one that
 /// owns it.
-fn walks<H: BlockHash>(alloc: Global, room: &Room, words: &[&str]) -> Result<String> {
-    let all = steps::<H>(alloc, room, words)?;
+pub fn walks<H: BlockHash>(alloc: Global, opened: &Opened<H>, words: &[&str]) -> Result<String> {
+    let all = steps(alloc, opened, words)?;
+    let blocks = opened.both()?;
     let ops = ops_of(alloc, words)?;
-    let walked = walked_over::<H>(alloc, room, ops.as_slice())?;
-    let all = alike(alloc, all, "by walk", walked)?;
-    let whole = owned::<H>(alloc, room, ops.as_slice(), false)?;
-    let all = alike(alloc, all, "by an owner", whole)?;
-    let by_item = owned::<H>(alloc, room, ops.as_slice(), true)?;
-    alike(alloc, all, "by its items", by_item)
-}
-
-/// Performs a command, if it is one on iterators.
-pub fn perform<H: BlockHash>(
-    alloc: Global,
-    room: &Room,
-    name: &str,
-    words: &[&str],
-) -> Result<Option<String>> {
-    let answer = match name {
-        "steps" => steps::<H>(alloc, room, words),
-        "walk" => walks::<H>(alloc, room, words),
-        _ => return Ok(None),
-    };
-    Ok(Some(answer?))
+    after(alloc, all, blocks, ops.as_slice())
 }
