@@ -27,7 +27,7 @@ fn empty(alloc: Global, keys: usize, bits_per_key: u32, by_policy: bool) -> Resu
 }
 
 /// Inserts hashes in a filter, and makes its payload that of the room.
-fn insert(alloc: Global, room: &mut Room, mut filter: Builder, hashes: &[&str]) -> Result<String> {
+fn insert(alloc: Global, room: &mut Room, filter: &mut Builder, hashes: &[&str]) -> Result<String> {
     for hash in hashes {
         filter.set_with_hash(number_of(hash)?);
     }
@@ -41,8 +41,8 @@ fn build(alloc: Global, room: &mut Room, words: &[&str]) -> Result<String> {
         return Err(Fault::Word);
     };
     let keys = number_of(keys)? as usize;
-    let filter = empty(alloc, keys, size_of(bits)?, *by == "policy")?;
-    insert(alloc, room, filter, hashes)
+    let mut filter = empty(alloc, keys, size_of(bits)?, *by == "policy")?;
+    insert(alloc, room, &mut filter, hashes)
 }
 
 /// Returns the payload as the block of a filter.
@@ -59,26 +59,42 @@ fn truth_of(value: bool) -> &'static str {
     if value { "true" } else { "false" }
 }
 
+/// A filter, by its reader or by its block.
+#[derive(Clone, Copy)]
+enum Filter<'a> {
+    Reader(&'a StandardBloomFilterReader<'a>),
+    Block(&'a FilterBlock),
+}
+
+/// Appends whether a filter may contain a hash.
+fn push_hashed(text: &mut String, filter: Filter<'_>, hash: &str) -> Result<()> {
+    let hash = number_of(hash)?;
+    let found = match filter {
+        Filter::Reader(reader) => reader.contains_hash(hash),
+        Filter::Block(block) => block.maybe_contains_hash(hash)?,
+    };
+    push_word(text, truth_of(found))
+}
+
+/// Returns whether a filter may contain hashes.
+fn of_filter(alloc: Global, filter: Filter<'_>, hashes: &[&str]) -> Result<String> {
+    let mut text = String::new(alloc);
+    for hash in hashes {
+        push_hashed(&mut text, filter, hash)?;
+    }
+    Ok(text)
+}
+
 /// Returns whether the payload, read as a filter, may contain hashes.
 fn by_reader(alloc: Global, room: &Room, hashes: &[&str]) -> Result<String> {
     let reader = StandardBloomFilterReader::new(room.payload.as_slice())?;
-    let mut text = String::new(alloc);
-    for hash in hashes {
-        let found = reader.contains_hash(number_of(hash)?);
-        push_word(&mut text, truth_of(found))?;
-    }
-    Ok(text)
+    of_filter(alloc, Filter::Reader(&reader), hashes)
 }
 
 /// Returns the same as the block of a filter says.
 fn by_block(alloc: Global, room: &Room, hashes: &[&str]) -> Result<String> {
     let block = block_of(alloc, room)?;
-    let mut text = String::new(alloc);
-    for hash in hashes {
-        let found = block.maybe_contains_hash(number_of(hash)?)?;
-        push_word(&mut text, truth_of(found))?;
-    }
-    Ok(text)
+    of_filter(alloc, Filter::Block(&block), hashes)
 }
 
 /// Whether the payload may contain hashes, by the reader and by the block, which agree: HASH ..
@@ -90,18 +106,26 @@ fn hashed(alloc: Global, room: &Room, hashes: &[&str]) -> Result<String> {
     agreed(alloc, &found)
 }
 
+/// Appends whether a filter may contain a key, with a mark where it says otherwise of its hash.
+fn push_keyed<H: BlockHash>(
+    text: &mut String,
+    reader: &StandardBloomFilterReader<'_>,
+    key: &[u8],
+) -> Result<()> {
+    let found = reader.contains::<H>(key);
+    push_word(text, truth_of(found))?;
+    if found != reader.contains_hash(Builder::get_hash::<H>(key)) {
+        text.push('!')?;
+    }
+    Ok(())
+}
+
 /// Whether the payload may contain keys: KEY ..
 fn keyed<H: BlockHash>(alloc: Global, room: &Room, keys: &[&str]) -> Result<String> {
     let reader = StandardBloomFilterReader::new(room.payload.as_slice())?;
     let mut text = String::new(alloc);
     for key in keys {
-        let key = bytes_of(alloc, key)?;
-        let hash = Builder::get_hash::<H>(key.as_slice());
-        let found = reader.contains::<H>(key.as_slice());
-        push_word(&mut text, truth_of(found))?;
-        if found != reader.contains_hash(hash) {
-            text.push('!')?;
-        }
+        push_keyed::<H>(&mut text, &reader, bytes_of(alloc, key)?.as_slice())?;
     }
     Ok(text)
 }
@@ -126,23 +150,33 @@ fn insert_all<H: BlockHash>(filter: &mut Builder, count: usize) {
     }
 }
 
-/// How many of the numbers from a first to a last one a filter of the numbers below a count may
-/// contain: COUNT BITS FIRST LAST.
-fn sweep<H: BlockHash>(alloc: Global, words: &[&str]) -> Result<String> {
-    let [count, bits, first, last] = words else {
-        return Err(Fault::Word);
-    };
-    let (count, bits) = (number_of(count)? as usize, size_of(bits)?);
-    let mut filter = empty(alloc, count, bits, true)?;
+/// Returns the payload of a filter of the numbers below a count.
+fn filled<H: BlockHash>(alloc: Global, count: usize, bits_per_key: u32) -> Result<Vec<u8>> {
+    let mut filter = empty(alloc, count, bits_per_key, true)?;
     insert_all::<H>(&mut filter, count);
-    let payload = filter.build(alloc)?;
-    let reader = StandardBloomFilterReader::new(payload.as_slice())?;
+    Ok(filter.build(alloc)?)
+}
+
+/// How many of the numbers from a first to a last one a filter may contain.
+fn count_found<H: BlockHash>(payload: &[u8], first: &str, last: &str) -> Result<usize> {
+    let reader = StandardBloomFilterReader::new(payload)?;
     let mut found = 0usize;
     for number in number_of(first)?..number_of(last)? {
         if reader.contains_hash(hash_of::<H>(number)) {
             found = found.saturating_add(1);
         }
     }
+    Ok(found)
+}
+
+/// How many of the numbers from a first to a last one a filter of the numbers below a count may
+/// contain: COUNT BITS FIRST LAST.
+fn sweep<H: BlockHash>(alloc: Global, words: &[&str]) -> Result<String> {
+    let [count, bits, first, last] = words else {
+        return Err(Fault::Word);
+    };
+    let payload = filled::<H>(alloc, number_of(count)? as usize, size_of(bits)?)?;
+    let found = count_found::<H>(payload.as_slice(), first, last)?;
     Ok(format!(in alloc; "{} bytes, {found} found", payload.len())?)
 }
 

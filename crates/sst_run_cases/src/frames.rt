@@ -38,7 +38,7 @@ fn text_of(alloc: Global, header: &Header) -> Result<String> {
 }
 
 /// Makes the payload its frame: TYPE.
-fn frame<H: BlockHash>(alloc: Global, room: &mut Room, words: &[&str]) -> Result<Option<String>> {
+fn frame<H: BlockHash>(alloc: Global, room: &mut Room, words: &[&str]) -> Result<String> {
     let [kind] = words else {
         return Err(Fault::Word);
     };
@@ -46,7 +46,7 @@ fn frame<H: BlockHash>(alloc: Global, room: &mut Room, words: &[&str]) -> Result
     let kind = type_of(kind)?;
     let header = Block::write_into::<H, Vec<u8>>(&mut frame, room.payload.as_slice(), kind)?;
     room.payload = frame;
-    Ok(Some(text_of(alloc, &header)?))
+    text_of(alloc, &header)
 }
 
 /// Sets the checksum of a header to that of the bytes before it.
@@ -128,36 +128,30 @@ fn handle(alloc: Global, bytes: &[u8]) -> Result<String> {
 }
 
 /// Reads the frame that a handle names in a file of the payload: OFFSET SIZE.
-fn file<H: BlockHash>(alloc: Global, room: &Room, words: &[&str]) -> Result<Option<String>> {
+fn file<H: BlockHash>(alloc: Global, room: &Room, words: &[&str]) -> Result<String> {
     let [offset, size] = words else {
         return Err(Fault::Word);
     };
     let handle = BlockHandle::new(BlockOffset(number_of(offset)?), size_of(size)?);
     let mut file = Cursor::new(room.payload.as_slice());
     let block = Block::from_file::<H, Cursor<&[u8]>>(alloc, &mut file, handle)?;
-    Ok(Some(seen(alloc, &block, 0)?))
+    seen(alloc, &block, 0)
 }
 
 /// Reads the payload, with checksums that fit where the words say so, in a way.
-fn read<H: BlockHash>(
-    alloc: Global,
-    room: &Room,
-    words: &[&str],
-    way: Way,
-) -> Result<Option<String>> {
+fn read<H: BlockHash>(alloc: Global, room: &Room, words: &[&str], way: Way) -> Result<String> {
     let bytes = match words {
         [] => mended::<H>(alloc, room, "none")?,
         ["mended", which] => mended::<H>(alloc, room, which)?,
         _ => return Err(Fault::Word),
     };
     let bytes = bytes.as_slice();
-    let answer = match way {
+    match way {
         Way::Stream => stream::<H>(alloc, bytes),
         Way::Whole => whole::<H>(alloc, bytes),
         Way::Header => header::<H>(alloc, bytes),
         Way::Handle => handle(alloc, bytes),
-    };
-    Ok(Some(answer?))
+    }
 }
 
 /// Performs a command, if it is one on frames, headers or lone handles.
@@ -167,13 +161,14 @@ pub fn perform<H: BlockHash>(
     name: &str,
     words: &[&str],
 ) -> Result<Option<String>> {
-    match name {
+    let answer = match name {
         "stream" => read::<H>(alloc, room, words, Way::Stream),
         "whole" => read::<H>(alloc, room, words, Way::Whole),
         "header" => read::<H>(alloc, room, words, Way::Header),
         "handle" => read::<H>(alloc, room, words, Way::Handle),
         "frame" => frame::<H>(alloc, room, words),
         "file" => file::<H>(alloc, room, words),
-        _ => Ok(None),
-    }
+        _ => return Ok(None),
+    };
+    Ok(Some(answer?))
 }

@@ -1,7 +1,7 @@
 //! Checks of runs.
 
 use super::{File, file_of, run_of};
-use sst_base::BlockHash;
+use sst_base::{BlockHash, Error};
 use sst_case_room::fault::{Fault, Result};
 use sst_case_room::room::Room;
 use sst_case_room::texts::agreed;
@@ -12,16 +12,30 @@ use sstable_blocks::run::{
 };
 use std::alloc::Global;
 
-/// Returns the text of a summary.
-fn summary_of(alloc: Global, summary: &RunSummary) -> Result<String> {
-    let (blocks, entries) = (summary.blocks, summary.entries);
+/// What a check finds.
+type Checked = std::result::Result<RunSummary, Error>;
+
+/// Returns the text of the first and the last key of a run.
+fn keys_of(alloc: Global, summary: &RunSummary) -> Result<String> {
     let first = hex_of(alloc, summary.first_key.as_slice())?;
     let last = hex_of(alloc, summary.last_key.as_slice())?;
+    Ok(format!(in alloc; "keys {first} to {last}")?)
+}
+
+/// Returns the text of a summary.
+fn text_of(alloc: Global, summary: &RunSummary) -> Result<String> {
+    let (blocks, entries) = (summary.blocks, summary.entries);
+    let keys = keys_of(alloc, summary)?;
     let (least, greatest) = (summary.least_seqno, summary.greatest_seqno);
-    let keys = format!(in alloc; "keys {first} to {last}")?;
     Ok(format!(in alloc;
         "{blocks} blocks, {entries} entries, {keys}, seqnos {least} to {greatest}"
     )?)
+}
+
+/// Returns the text of what a check finds.
+fn summary_of(alloc: Global, checked: Checked) -> Result<String> {
+    let summary = checked?;
+    text_of(alloc, &summary)
 }
 
 /// The check of a run in a source.
@@ -30,7 +44,7 @@ fn checked<H: BlockHash, S: FrameSource + Drop>(
     mut source: S,
     handles: &RunHandles,
 ) -> Result<String> {
-    summary_of(alloc, &check::<H, S>(alloc, &mut source, handles)?)
+    summary_of(alloc, check::<H, S>(alloc, &mut source, handles))
 }
 
 /// The check of a run in a source by a table, which is opened first.
@@ -43,21 +57,27 @@ fn verified<H: BlockHash, S: FrameSource + Drop>(
         Ok(table) => table,
         Err(refused) => return Err(Fault::Refused(refused.error)),
     };
-    summary_of(alloc, &table.verify(alloc)?)
+    summary_of(alloc, table.verify(alloc))
 }
 
 /// The check of a run in borrowed bytes.
 fn by_ref<H: BlockHash>(alloc: Global, bytes: &[u8], handles: &RunHandles) -> Result<String> {
-    let (_, summary) = RunRef::<H>::check(alloc, bytes, handles)?;
-    summary_of(alloc, &summary)
+    let checked = RunRef::<H>::check(alloc, bytes, handles)?;
+    text_of(alloc, &checked.1)
+}
+
+/// The check of a copy of a run.
+fn check_copy<H: BlockHash>(alloc: Global, room: &Room) -> Result<String> {
+    let (run, handles) = run_of(alloc, room)?;
+    checked::<H, MemorySource>(alloc, MemorySource::new(run), &handles)
 }
 
 /// The check of a run in memory, by each of its calls.
 fn check_memory<H: BlockHash>(alloc: Global, room: &Room) -> Result<String> {
-    let (run, handles) = run_of(alloc, room)?;
+    let handles = room.places.ok_or(Fault::Word)?;
     let bytes = room.payload.as_slice();
     let found = [
-        checked::<H, MemorySource>(alloc, MemorySource::new(run), &handles),
+        check_copy::<H>(alloc, room),
         verified::<H, BorrowedSource<'_>>(alloc, BorrowedSource::new(bytes), handles),
         by_ref::<H>(alloc, bytes, &handles),
     ];
@@ -66,7 +86,7 @@ fn check_memory<H: BlockHash>(alloc: Global, room: &Room) -> Result<String> {
 
 /// The check of a run in a file, by each of its calls.
 fn check_file<H: BlockHash>(alloc: Global, room: &Room) -> Result<String> {
-    let (_, handles) = run_of(alloc, room)?;
+    let handles = room.places.ok_or(Fault::Word)?;
     let found = [
         checked::<H, File<'_>>(alloc, file_of(room), &handles),
         verified::<H, File<'_>>(alloc, file_of(room), handles),

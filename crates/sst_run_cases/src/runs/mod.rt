@@ -5,6 +5,7 @@ mod footers;
 mod ranges;
 mod reads;
 mod scans;
+mod sound;
 mod writing;
 
 use sst_base::{BlockHandle, BlockHash, Slice};

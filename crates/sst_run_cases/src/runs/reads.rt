@@ -4,6 +4,7 @@ ghost use Rattle.sst_base.specs.Entry.{Entry};
 ghost use Rattle.sstable_blocks.specs.RunReading.{hashes};
 ghost use Rattle.sstable_blocks.specs.Sound.{IsSound};
 
+use super::sound::{Asked, Query, by_trusted, of_sound};
 use super::{file_of, run_of};
 use sst_base::{BlockHash, Error, InternalValue, Slice, Steps};
 use sst_case_room::digest::Digest;
@@ -17,9 +18,6 @@ use sstable_blocks::run::{
     read_entry_checked,
 };
 use std::alloc::Global;
-
-/// A key, and a sequence number.
-type Query<'a> = (&'a [u8], u64);
 
 /// What is found, as a text.
 type Found = std::result::Result<Option<InternalValue>, Error>;
@@ -41,6 +39,12 @@ fn fetched<H: BlockHash, S: FrameSource + Drop>(
     text_of(alloc, found)
 }
 
+/// A checked read of the run in memory.
+fn fetched_in_memory<H: BlockHash>(alloc: Global, room: &Room, query: Query<'_>) -> Result<String> {
+    let (run, handles) = run_of(alloc, room)?;
+    fetched::<H, _>(alloc, MemorySource::new(run), &handles, query)
+}
+
 /// A read of a run in a source by a table.
 fn by_table<H: BlockHash, S: FrameSource + Drop>(
     alloc: Global,
@@ -53,6 +57,18 @@ fn by_table<H: BlockHash, S: FrameSource + Drop>(
         Err(refused) => return Err(Fault::Refused(refused.error)),
     };
     text_of(alloc, table.get(alloc, query.0, query.1, &mut Steps::new()))
+}
+
+/// A read of a run that was checked.
+fn by_checked<H: BlockHash>(
+    alloc: Global,
+    checked: &CheckedRun<H>,
+    query: Query<'_>,
+) -> Result<String> {
+    text_of(
+        alloc,
+        checked.get(alloc, query.0, query.1, &mut Steps::new()),
+    )
 }
 
 /// A read of a sound run without checks.
@@ -85,8 +101,22 @@ fn by_ref<H: BlockHash>(
 }
 
 /// The reads of a sound run in memory by a table without checks.
-fn by_trusted<H: BlockHash>(
+pub fn read_trusted<H: BlockHash>(
     alloc: Global,
+    trusted: &Trusted<'_, H>,
+    query: Query<'_>,
+) -> Result<String> {
+    let found = trusted.get(alloc, query.0, query.1, &mut Steps::new());
+    agreed(
+        alloc,
+        &[text_of(alloc, found), by_ref::<H>(alloc, trusted, query)],
+    )
+}
+
+/// The reads of a sound run in memory by all that take no source.
+fn unchecked<H: BlockHash>(
+    alloc: Global,
+    checked: &CheckedRun<H>,
     run: &Slice,
     handles: &RunHandles,
     query: Query<'_>,
@@ -94,44 +124,32 @@ fn by_trusted<H: BlockHash>(
     requires { (blocks : List (List Entry))
         × IsSound (hashes H.hash64 H.hash128) blocks run.now handles.now }
 {
-    let table = Table::<H, _>::open(alloc, MemorySource::new(run.clone()?), *handles);
-    let table = match table {
-        Ok(table) => table,
-        Err(refused) => return Err(Fault::Refused(refused.error)),
-    };
-    let trusted = table.trusted();
-    let found = trusted.get(alloc, query.0, query.1, &mut Steps::new());
-    agreed(
-        alloc,
-        &[text_of(alloc, found), by_ref::<H>(alloc, &trusted, query)],
-    )
-}
-
-/// The reads of a sound run in memory by all that take no source.
-fn unchecked<H: BlockHash>(alloc: Global, room: &Room, query: Query<'_>) -> Result<String> {
-    let (run, handles) = run_of(alloc, room)?;
-    let checked = CheckedRun::<H>::open(alloc, run.clone()?, handles)?;
-    checked.note_sound();
     let found = [
-        text_of(
-            alloc,
-            checked.get(alloc, query.0, query.1, &mut Steps::new()),
-        ),
-        by_bytes::<H>(alloc, &run, &handles, query),
-        by_trusted::<H>(alloc, &run, &handles, query),
+        by_checked::<H>(alloc, checked, query),
+        by_bytes::<H>(alloc, run, handles, query),
+        by_trusted::<H>(alloc, run, handles, Asked::Read(query)),
     ];
     agreed(alloc, &found)
 }
 
 /// The reads of a sound run, by each of its readers.
-fn found<H: BlockHash>(alloc: Global, room: &Room, query: Query<'_>) -> Result<String> {
-    let (run, handles) = run_of(alloc, room)?;
-    let unchecked = unchecked::<H>(alloc, room, query)?;
+pub fn read_sound<H: BlockHash>(
+    alloc: Global,
+    room: &Room,
+    checked: &CheckedRun<H>,
+    run: &Slice,
+    handles: &RunHandles,
+    query: Query<'_>,
+) -> Result<String>
+    requires { (blocks : List (List Entry))
+        × IsSound (hashes H.hash64 H.hash128) blocks run.now handles.now }
+{
+    let unchecked = unchecked::<H>(alloc, checked, run, handles, query)?;
     let found = [
         Ok(unchecked),
-        by_table::<H, _>(alloc, file_of(room), &handles, query),
-        fetched::<H, _>(alloc, MemorySource::new(run), &handles, query),
-        fetched::<H, _>(alloc, file_of(room), &handles, query),
+        by_table::<H, _>(alloc, file_of(room), handles, query),
+        fetched_in_memory::<H>(alloc, room, query),
+        fetched::<H, _>(alloc, file_of(room), handles, query),
     ];
     agreed(alloc, &found)
 }
@@ -142,7 +160,7 @@ fn get<H: BlockHash>(alloc: Global, room: &Room, words: &[&str]) -> Result<Strin
         return Err(Fault::Word);
     };
     let (key, seqno) = (bytes_of(alloc, key)?, number_of(seqno)?);
-    found::<H>(alloc, room, (key.as_slice(), seqno))
+    of_sound::<H>(alloc, room, Asked::Read((key.as_slice(), seqno)))
 }
 
 /// The query of a number: each key of the list below its sequence number and above it, and then a
@@ -157,19 +175,45 @@ fn query_at(list: &[InternalValue], number: usize) -> Query<'_> {
     }
 }
 
+/// Adds what a read answers to a digest. Returns whether it finds an entry.
+fn add<H: BlockHash>(
+    alloc: Global,
+    room: &Room,
+    query: Query<'_>,
+    results: &mut Digest,
+) -> Result<bool> {
+    let text = of_sound::<H>(alloc, room, Asked::Read(query))?;
+    results.add(text.as_str());
+    Ok(text.as_str() != "none")
+}
+
 /// Reads of each key of the list: how many find one, and a digest of all results.
 fn reads<H: BlockHash>(alloc: Global, room: &Room) -> Result<String> {
     let total = room.entries.len().saturating_mul(2).saturating_add(1);
     let (mut count, mut results) = (0usize, Digest::new());
     for number in 0..total {
-        let text = found::<H>(alloc, room, query_at(room.entries.as_slice(), number))?;
-        if text.as_str() != "none" {
+        let query = query_at(room.entries.as_slice(), number);
+        if add::<H>(alloc, room, query, &mut results)? {
             count = count.saturating_add(1);
         }
-        results.add(text.as_str());
     }
     let state = results.state;
     Ok(format!(in alloc; "{total} reads, {count} found, {state:016x}")?)
+}
+
+/// A checked read of borrowed bytes, and of a copy of them.
+fn fetched_twice<H: BlockHash>(
+    alloc: Global,
+    room: &Room,
+    handles: &RunHandles,
+    query: Query<'_>,
+) -> Result<String> {
+    let bytes = BorrowedSource::new(room.payload.as_slice());
+    let found = [
+        fetched_in_memory::<H>(alloc, room, query),
+        fetched::<H, _>(alloc, bytes, handles, query),
+    ];
+    agreed(alloc, &found)
 }
 
 /// A checked read, in memory or in a file: WHERE KEY SEQNO.
@@ -179,20 +223,12 @@ fn fetch<H: BlockHash>(alloc: Global, room: &Room, words: &[&str]) -> Result<Str
     };
     let (key, seqno) = (bytes_of(alloc, key)?, number_of(seqno)?);
     let query = (key.as_slice(), seqno);
-    let (run, handles) = run_of(alloc, room)?;
+    let handles = room.places.ok_or(Fault::Word)?;
     if *place == "file" {
-        return fetched::<H, _>(alloc, file_of(room), &handles, query);
+        fetched::<H, _>(alloc, file_of(room), &handles, query)
+    } else {
+        fetched_twice::<H>(alloc, room, &handles, query)
     }
-    let found = [
-        fetched::<H, _>(alloc, MemorySource::new(run), &handles, query),
-        fetched::<H, _>(
-            alloc,
-            BorrowedSource::new(room.payload.as_slice()),
-            &handles,
-            query,
-        ),
-    ];
-    agreed(alloc, &found)
 }
 
 /// Performs a command, if it is one that reads a key of a run.

@@ -5,6 +5,7 @@ ghost use Rattle.sstable_blocks.specs.RunReading.{hashes};
 ghost use Rattle.sstable_blocks.specs.Sound.{IsSound};
 
 use super::ranges::{End, bound_of, end_of, start_of};
+use super::sound::{Asked, by_trusted, of_sound};
 use super::{file_of, run_of};
 use sst_base::{BlockHash, Error, InternalValue, Slice};
 use sst_case_room::fault::{Fault, Result};
@@ -13,7 +14,7 @@ use sst_case_room::texts::agreed;
 use sst_case_room::words::{push_word, word_of_found};
 use sstable_blocks::Table;
 use sstable_blocks::run::{
-    BorrowedSource, CheckedRun, FrameSource, MemorySource, RunHandles, RunScan, Scan, TrustedScan,
+    BorrowedSource, FrameSource, MemorySource, RunHandles, RunScan, Scan, Trusted, TrustedScan,
 };
 use std::alloc::Global;
 
@@ -60,22 +61,27 @@ impl<H: BlockHash> BothEnds for RunScan<'_, '_, H> {
     }
 }
 
+/// The word of what a step takes.
+fn word_of_taken(alloc: Global, taken: Found) -> Result<String> {
+    match taken {
+        Ok(found) => word_of_found(alloc, found.as_ref()),
+        Err(error) => Ok(format!(in alloc; "{error:?}")?),
+    }
+}
+
 /// Takes steps of a scan: `n` takes the first entry left, and another letter the last.
 fn steps_of<S: BothEnds>(alloc: Global, scan: &mut S, steps: &str) -> Result<String> {
     let mut text = String::new(alloc);
     for letter in steps.as_bytes() {
-        let taken = match scan.step(alloc, *letter == b'n') {
-            Ok(found) => word_of_found(alloc, found.as_ref())?,
-            Err(error) => format!(in alloc; "{error:?}")?,
-        };
-        push_word(&mut text, taken.as_str())?;
+        let taken = scan.step(alloc, *letter == b'n');
+        push_word(&mut text, word_of_taken(alloc, taken)?.as_str())?;
     }
     Ok(text)
 }
 
 /// The start and the end of a range, and the steps of a scan of it.
 #[derive(Drop)]
-struct Path<'a> {
+pub struct Path<'a> {
     start: End,
     end: End,
     steps: &'a str,
@@ -96,9 +102,61 @@ fn scanned<H: BlockHash, S: FrameSource + Drop>(
     steps_of(alloc, &mut scan, path.steps)
 }
 
-/// Scans a sound run without checks.
-fn scan_trusted<H: BlockHash>(
+/// Scans a sound run by a table without checks.
+fn by_table<H: BlockHash>(
     alloc: Global,
+    trusted: &Trusted<'_, H>,
+    path: &Path<'_>,
+) -> Result<String> {
+    let mut scan = trusted.scan_range(bound_of(&path.start), bound_of(&path.end));
+    steps_of(alloc, &mut scan, path.steps)
+}
+
+/// Scans a sound run by views that borrow its bytes.
+fn by_ref<H: BlockHash>(
+    alloc: Global,
+    trusted: &Trusted<'_, H>,
+    path: &Path<'_>,
+) -> Result<String> {
+    let run = trusted.by_ref();
+    let mut scan = run.scan_range(bound_of(&path.start), bound_of(&path.end));
+    steps_of(alloc, &mut scan, path.steps)
+}
+
+/// Scans a sound run in memory without checks.
+pub fn scan_trusted<H: BlockHash>(
+    alloc: Global,
+    trusted: &Trusted<'_, H>,
+    path: &Path<'_>,
+) -> Result<String> {
+    let found = [
+        by_table::<H>(alloc, trusted, path),
+        by_ref::<H>(alloc, trusted, path),
+    ];
+    agreed(alloc, &found)
+}
+
+/// Scans a copy of a run with checks.
+fn scan_memory<H: BlockHash>(alloc: Global, room: &Room, path: &Path<'_>) -> Result<String> {
+    let (run, handles) = run_of(alloc, room)?;
+    scanned::<H, _>(alloc, MemorySource::new(run), &handles, path)
+}
+
+/// Scans a run in memory with checks.
+fn scan_checked<H: BlockHash>(alloc: Global, room: &Room, path: &Path<'_>) -> Result<String> {
+    let handles = room.places.ok_or(Fault::Word)?;
+    let bytes = BorrowedSource::new(room.payload.as_slice());
+    let found = [
+        scan_memory::<H>(alloc, room, path),
+        scanned::<H, _>(alloc, bytes, &handles, path),
+    ];
+    agreed(alloc, &found)
+}
+
+/// Scans a sound run in each way.
+pub fn scan_sound<H: BlockHash>(
+    alloc: Global,
+    room: &Room,
     run: &Slice,
     handles: &RunHandles,
     path: &Path<'_>,
@@ -106,48 +164,10 @@ fn scan_trusted<H: BlockHash>(
     requires { (blocks : List (List Entry))
         × IsSound (hashes H.hash64 H.hash128) blocks run.now handles.now }
 {
-    let table = Table::<H, _>::open(alloc, MemorySource::new(run.clone()?), *handles);
-    let table = match table {
-        Ok(table) => table,
-        Err(refused) => return Err(Fault::Refused(refused.error)),
-    };
-    let trusted = table.trusted();
-    let (start, end) = (bound_of(&path.start), bound_of(&path.end));
-    let found = [
-        steps_of(alloc, &mut trusted.scan_range(start, end), path.steps),
-        steps_of(
-            alloc,
-            &mut trusted.by_ref().scan_range(start, end),
-            path.steps,
-        ),
-    ];
-    agreed(alloc, &found)
-}
-
-/// Scans a run in memory with checks.
-fn scan_checked<H: BlockHash>(alloc: Global, room: &Room, path: &Path<'_>) -> Result<String> {
-    let (run, handles) = run_of(alloc, room)?;
-    let found = [
-        scanned::<H, _>(alloc, MemorySource::new(run), &handles, path),
-        scanned::<H, _>(
-            alloc,
-            BorrowedSource::new(room.payload.as_slice()),
-            &handles,
-            path,
-        ),
-    ];
-    agreed(alloc, &found)
-}
-
-/// Scans a sound run in each way.
-fn scan_sound<H: BlockHash>(alloc: Global, room: &Room, path: &Path<'_>) -> Result<String> {
-    let (run, handles) = run_of(alloc, room)?;
-    let checked = CheckedRun::<H>::open(alloc, run.clone()?, handles)?;
-    checked.note_sound();
     let found = [
         scan_checked::<H>(alloc, room, path),
-        scanned::<H, _>(alloc, file_of(room), &handles, path),
-        scan_trusted::<H>(alloc, &run, &handles, path),
+        scanned::<H, _>(alloc, file_of(room), handles, path),
+        by_trusted::<H>(alloc, run, handles, Asked::Scan(path)),
     ];
     agreed(alloc, &found)
 }
@@ -164,6 +184,18 @@ fn path_of<'a>(alloc: Global, words: &[&'a str]) -> Result<Path<'a>> {
     })
 }
 
+/// Scans a sound run: START END STEPS.
+fn scan<H: BlockHash>(alloc: Global, room: &Room, words: &[&str]) -> Result<String> {
+    let path = path_of(alloc, words)?;
+    of_sound::<H>(alloc, room, Asked::Scan(&path))
+}
+
+/// Scans a run that may be damaged: START END STEPS.
+fn scan_damaged<H: BlockHash>(alloc: Global, room: &Room, words: &[&str]) -> Result<String> {
+    let path = path_of(alloc, words)?;
+    scan_checked::<H>(alloc, room, &path)
+}
+
 /// Performs a command, if it is one that scans a run.
 pub fn perform<H: BlockHash>(
     alloc: Global,
@@ -172,8 +204,8 @@ pub fn perform<H: BlockHash>(
     words: &[&str],
 ) -> Result<Option<String>> {
     let answer = match name {
-        "scan" => scan_sound::<H>(alloc, room, &path_of(alloc, words)?),
-        "scan-damaged" => scan_checked::<H>(alloc, room, &path_of(alloc, words)?),
+        "scan" => scan::<H>(alloc, room, words),
+        "scan-damaged" => scan_damaged::<H>(alloc, room, words),
         _ => return Ok(None),
     };
     Ok(Some(answer?))

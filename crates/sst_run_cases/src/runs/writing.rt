@@ -54,6 +54,24 @@ fn can_be_written(items: &[InternalValue], cuts: &[usize], config: &RunConfig) -
         && config.ratio.den >= 1
 }
 
+/// The handles and the bytes of a run.
+type Written = (RunHandles, Vec<u8>);
+
+/// Returns the bytes and the handles of a run that is written at once.
+fn write_whole<H: BlockHash>(
+    alloc: Global,
+    items: &[InternalValue],
+    cuts: &[usize],
+    config: RunConfig,
+) -> Result<Written> {
+    if !can_be_written(items, cuts, &config) {
+        return Err(Fault::Word);
+    }
+    let mut bytes = Vec::new(alloc);
+    let handles = write_run::<H, Vec<u8>>(alloc, &mut bytes, items, cuts, config)?;
+    Ok((handles, bytes))
+}
+
 /// Adds entries to a writer, in the blocks into which they are cut.
 fn add_blocks<H: BlockHash>(
     writer: &mut RunWriter<H, Vec<u8>>,
@@ -85,16 +103,45 @@ fn write_blocks<H: BlockHash>(
     items: &[InternalValue],
     cuts: &[usize],
     config: RunConfig,
-) -> Result<(RunHandles, Vec<u8>)> {
+) -> Result<Written> {
     if config.restart_interval == 0 || config.index_interval == 0 || config.ratio.den == 0 {
         return Err(Fault::Word);
     }
     let mut writer: RunWriter<H, Vec<u8>> = RunWriter::new(alloc, Vec::new(alloc), config);
-    add_blocks::<H>(&mut writer, items, cuts)?;
-    if writer.block_count() == 0 {
-        return Err(Fault::Word);
+    match add_blocks::<H>(&mut writer, items, cuts) {
+        Ok(()) if writer.block_count() > 0 => Ok(writer.finish()?),
+        Ok(()) => Err(Fault::Word),
+        Err(fault) => Err(fault),
     }
-    Ok(writer.finish()?)
+}
+
+/// Returns whether a run that is written block by block is this one.
+fn is_same_by_blocks<H: BlockHash>(
+    alloc: Global,
+    items: &[InternalValue],
+    cuts: &[usize],
+    config: RunConfig,
+    whole: &Written,
+) -> Result<bool> {
+    let by_blocks = write_blocks::<H>(alloc, items, cuts, config)?;
+    Ok(by_blocks.0 == whole.0 && by_blocks.1 == whole.1)
+}
+
+/// Returns the text of a run.
+fn text_of_run(alloc: Global, run: &Written) -> Result<String> {
+    let (text, len) = (text_of(alloc, &run.0)?, run.1.len());
+    Ok(format!(in alloc; "{len} bytes, {text}")?)
+}
+
+/// Makes a run that of the room, if it is the same block by block.
+fn keep(alloc: Global, room: &mut Room, run: Written, is_same: bool) -> Result<String> {
+    let text = text_of_run(alloc, &run)?;
+    if !is_same {
+        return Ok(format!(in alloc; "{text}, otherwise block by block")?);
+    }
+    room.payload = run.1;
+    room.places = Some(run.0);
+    Ok(text)
 }
 
 /// Writes the list as a run, at once and block by block: INTERVAL NUM DEN BITS INDEX_INTERVAL CUT ..
@@ -102,20 +149,9 @@ fn write<H: BlockHash>(alloc: Global, room: &mut Room, words: &[&str]) -> Result
     let (form, cuts) = words.split_at_checked(5).ok_or(Fault::Word)?;
     let (config, cuts) = (config_of(form)?, numbers_of(alloc, cuts)?);
     let (items, cuts) = (room.entries.as_slice(), cuts.as_slice());
-    if !can_be_written(items, cuts, &config) {
-        return Err(Fault::Word);
-    }
-    let mut bytes = Vec::new(alloc);
-    let handles = write_run::<H, Vec<u8>>(alloc, &mut bytes, items, cuts, config)?;
-    let (again, by_blocks) = write_blocks::<H>(alloc, items, cuts, config)?;
-    let text = text_of(alloc, &handles)?;
-    let len = bytes.len();
-    if again != handles || by_blocks != bytes {
-        return Ok(format!(in alloc; "{len} bytes, {text}, otherwise block by block")?);
-    }
-    room.payload = bytes;
-    room.places = Some(handles);
-    Ok(format!(in alloc; "{len} bytes, {text}")?)
+    let whole = write_whole::<H>(alloc, items, cuts, config)?;
+    let is_same = is_same_by_blocks::<H>(alloc, items, cuts, config, &whole)?;
+    keep(alloc, room, whole, is_same)
 }
 
 /// Whether cuts fit a list of a length: LENGTH CUT ..
@@ -130,19 +166,44 @@ fn fits(alloc: Global, words: &[&str]) -> Result<String> {
     Ok(format!(in alloc; "{fits}")?)
 }
 
+/// Returns the entries of some words.
+fn entries_of(alloc: Global, words: &[&str]) -> Result<Vec<InternalValue>> {
+    let mut entries = Vec::new(alloc);
+    for word in words {
+        entries.push(entry_of(alloc, word)?)?;
+    }
+    Ok(entries)
+}
+
+/// Adds entries as the first block, if they can be that, and returns how many blocks there are, and
+/// whether other entries can be the next one.
+fn followed<H: BlockHash>(
+    writer: &mut RunWriter<H, Vec<u8>>,
+    items: &[InternalValue],
+    next: &[InternalValue],
+) -> Result<(usize, bool)> {
+    if writer.fits_after(items) {
+        writer.add_block(items)?;
+    }
+    Ok((writer.block_count(), writer.fits_after(next)))
+}
+
+/// The same, of a new writer.
+fn followed_in_new<H: BlockHash>(
+    alloc: Global,
+    items: &[InternalValue],
+    next: &[InternalValue],
+) -> Result<(usize, bool)> {
+    let config = RunConfig::new(1, HashRatio { num: 0, den: 1 }, 10);
+    let mut writer: RunWriter<H, Vec<u8>> = RunWriter::new(alloc, Vec::new(alloc), config);
+    followed::<H>(&mut writer, items, next)
+}
+
 /// Whether entries can be the block after that of the list, which is added first if it can be the
 /// first one: ENTRY ..
 fn follows<H: BlockHash>(alloc: Global, room: &Room, words: &[&str]) -> Result<String> {
-    let mut next = Vec::new(alloc);
-    for word in words {
-        next.push(entry_of(alloc, word)?)?;
-    }
-    let config = RunConfig::new(1, HashRatio { num: 0, den: 1 }, 10);
-    let mut writer: RunWriter<H, Vec<u8>> = RunWriter::new(alloc, Vec::new(alloc), config);
-    if writer.fits_after(room.entries.as_slice()) {
-        writer.add_block(room.entries.as_slice())?;
-    }
-    let (count, fits) = (writer.block_count(), writer.fits_after(next.as_slice()));
+    let next = entries_of(alloc, words)?;
+    let (count, fits) = followed_in_new::<H>(alloc, room.entries.as_slice(), next.as_slice())?;
     Ok(format!(in alloc; "{count} blocks, {fits}")?)
 }
 
