@@ -38,17 +38,9 @@ struct Checks {
     lent: Checked,
 }
 
-/// The check of a data block that makes no table of its heads.
-fn data_once<H: BlockHash>(alloc: Global, block: Block) -> Checked {
-    match DataBlock::<H>::check_once(alloc, block) {
-        Ok(block) => Ok(block.len()),
-        Err(error) => Err(error),
-    }
-}
-
-/// The check of a data block that makes the table of its heads.
-fn data_tabled<H: BlockHash>(alloc: Global, block: Block) -> Checked {
-    match DataBlock::<H>::check(alloc, block) {
+/// The number of items of a data block that a check returns, or its error.
+fn data_count<H: BlockHash>(checked: std::result::Result<DataBlock<H>, Error>) -> Checked {
+    match checked {
         Ok(block) => Ok(block.len()),
         Err(error) => Err(error),
     }
@@ -64,8 +56,10 @@ fn data_lent<H: BlockHash>(alloc: Global, payload: &[u8]) -> Checked {
 
 /// The checks of bytes as a data block.
 fn data_checks<H: BlockHash>(alloc: Global, payload: &[u8]) -> Result<Checks> {
-    let once = data_once::<H>(alloc, block_with(alloc, BlockType::Data, payload)?);
-    let tabled = data_tabled::<H>(alloc, block_with(alloc, BlockType::Data, payload)?);
+    let block = block_with(alloc, BlockType::Data, payload)?;
+    let once = data_count(DataBlock::<H>::check_once(alloc, block));
+    let block = block_with(alloc, BlockType::Data, payload)?;
+    let tabled = data_count(DataBlock::<H>::check(alloc, block));
     let block = block_with(alloc, BlockType::Data, payload)?;
     Ok(Checks {
         once,
@@ -75,17 +69,9 @@ fn data_checks<H: BlockHash>(alloc: Global, payload: &[u8]) -> Result<Checks> {
     })
 }
 
-/// The check of an index block that makes no table of its heads.
-fn index_once(block: Block) -> Checked {
-    match IndexBlock::check_once(block) {
-        Ok(block) => Ok(block.len()),
-        Err(error) => Err(error),
-    }
-}
-
-/// The check of an index block that makes the table of its heads.
-fn index_tabled(alloc: Global, block: Block) -> Checked {
-    match IndexBlock::check(alloc, block) {
+/// The number of items of an index block that a check returns, or its error.
+fn index_count(checked: std::result::Result<IndexBlock, Error>) -> Checked {
+    match checked {
         Ok(block) => Ok(block.len()),
         Err(error) => Err(error),
     }
@@ -101,8 +87,10 @@ fn index_lent(payload: &[u8]) -> Checked {
 
 /// The checks of bytes as an index block.
 fn index_checks(alloc: Global, payload: &[u8]) -> Result<Checks> {
-    let once = index_once(block_with(alloc, BlockType::Index, payload)?);
-    let tabled = index_tabled(alloc, block_with(alloc, BlockType::Index, payload)?);
+    let block = block_with(alloc, BlockType::Index, payload)?;
+    let once = index_count(IndexBlock::check_once(block));
+    let block = block_with(alloc, BlockType::Index, payload)?;
+    let tabled = index_count(IndexBlock::check(alloc, block));
     let block = block_with(alloc, BlockType::Index, payload)?;
     Ok(Checks {
         once,

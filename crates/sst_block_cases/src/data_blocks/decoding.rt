@@ -1,17 +1,15 @@
 //! Commands on decoders of data blocks: seeks by predicates over heads.
-ghost use Rattle.std.specs.Prelude.{◌≡◌, IfSome};
+ghost use Rattle.std.specs.Prelude.{◌≡◌};
 ghost use Rattle.sst_block_core.specs.Window.{whole};
-ghost use Rattle.sst_block_kinds.specs.ParsedEntry.{IsParsedEntry};
 
 use super::Opened;
-use sst_base::{BlockHash, InternalValue, Slice, compare_bytes};
-use sst_block_core::{Decoder, ParsedItem};
+use super::walks::taken;
+use sst_base::{BlockHash, InternalValue, compare_bytes};
+use sst_block_core::Decoder;
 use sst_block_kinds::laws::data_block_is_read;
 use sst_block_kinds::{DataBlock, DataBlockParsedItem};
 use sst_case_room::fault::{Fault, Result};
-use sst_case_room::words::{
-    bytes_of, number_of, push_word, repeated, truth, word_of, word_of_found,
-};
+use sst_case_room::words::{bytes_of, number_of, push_word, repeated, truth};
 use std::alloc::Global;
 
 /// A decoder of the entries of a data block.
@@ -64,16 +62,6 @@ fn decoder_of<H: BlockHash>(block: &DataBlock<H>) -> Entries<'_>
     let _plain = block.iter();
     data_block_is_read();
     Decoder::new(payload.as_slice())
-}
-
-/// The word of an item that a step takes.
-fn taken(alloc: Global, payload: &Slice, item: Option<DataBlockParsedItem>) -> Result<String>
-    requires { IfSome item (IsParsedEntry payload.now) }
-{
-    match item {
-        Some(item) => word_of(alloc, &item.materialize(alloc, payload)?),
-        None => word_of_found(alloc, None),
-    }
 }
 
 /// Moves the front, or the back, to the head that a predicate picks.

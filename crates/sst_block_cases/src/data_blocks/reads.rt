@@ -299,19 +299,14 @@ fn by_lent<H: BlockHash>(alloc: Global, payload: &[u8]) -> Result<String> {
     alike(alloc, all, "from the back", back)
 }
 
-/// The number of the entries of a block, and their digest, by each way to go over it.
-fn by_block<H: BlockHash>(alloc: Global, block: &DataBlock<H>) -> Result<String> {
-    let items = by_items(alloc, block)?;
-    let entries = by_entries(alloc, block)?;
-    let all = alike(alloc, items, "by entries", entries)?;
-    let back = from_the_back(alloc, block)?;
-    alike(alloc, all, "from the back", back)
-}
-
 /// The number of the entries, and their digest, by each way to go over them.
 pub fn entries<H: BlockHash>(alloc: Global, payload: &[u8], opened: &Opened<H>) -> Result<String> {
     let block = opened.bare()?;
-    let all = by_block(alloc, block)?;
+    let all = by_items(alloc, block)?;
+    let entries = by_entries(alloc, block)?;
+    let all = alike(alloc, all, "by entries", entries)?;
+    let back = from_the_back(alloc, block)?;
+    let all = alike(alloc, all, "from the back", back)?;
     let views = by_lent::<H>(alloc, payload)?;
     alike(alloc, all, "by views", views)
 }

@@ -90,7 +90,7 @@ fn ops_of(alloc: Global, words: &[&str]) -> Result<Vec<Op>> {
 }
 
 /// The word of an item that a step takes.
-fn taken(alloc: Global, payload: &Slice, item: Option<DataBlockParsedItem>) -> Result<String>
+pub fn taken(alloc: Global, payload: &Slice, item: Option<DataBlockParsedItem>) -> Result<String>
     requires { IfSome item (IsParsedEntry payload.now) }
 {
     match item {
@@ -266,40 +266,26 @@ fn take_rest<H: BlockHash>(alloc: Global, iter: &mut IntoEntries<H>, size: usize
     Ok(taken)
 }
 
-/// What an iterator that owns its block answers: the words of operations, the number of entries that
-/// it says are left, and how many there were.
-#[derive(Drop)]
-struct Owned {
-    text: String,
-    left: usize,
-    taken: usize,
-}
-
-/// Performs operations of an iterator that owns its block of so many entries, and takes what is left.
+/// Performs operations of an iterator that owns its block of so many entries, and takes what is left,
+/// which are as many entries as it says.
 fn to_the_end<H: BlockHash>(
     alloc: Global,
     iter: &mut IntoEntries<H>,
     ops: &[Op],
     by_item: bool,
     size: usize,
-) -> Result<Owned> {
+) -> Result<String> {
     let text = perform_all(alloc, iter, ops, by_item)?;
     let left = iter.count_left();
     let taken = take_rest(alloc, iter, size)?;
-    Ok(Owned { text, left, taken })
-}
-
-/// The text of what an iterator that owns its block answers, which returned the whole block or not.
-fn text_of_owned(alloc: Global, owned: Owned, is_whole: bool) -> Result<String> {
-    let Owned { text, left, taken } = owned;
-    if taken == left && is_whole {
+    if taken == left && iter.block().len() == size {
         return Ok(text);
     }
     Ok(format!(in alloc; "{text}, {left} left, {taken} taken")?)
 }
 
-/// Performs operations of an iterator that owns its block, and takes what is left, which are as many
-/// entries as it says; the iterator returns its block.
+/// Performs operations of an iterator that owns its block, and takes what is left; the iterator returns
+/// its block, which is whole.
 fn by_owner<H: BlockHash>(
     alloc: Global,
     block: &DataBlock<H>,
@@ -308,10 +294,11 @@ fn by_owner<H: BlockHash>(
 ) -> Result<String> {
     let size = block.len();
     let mut iter = block.clone()?.into_entries();
-    let owned = to_the_end(alloc, &mut iter, ops, by_item, size);
-    let is_kept = iter.block().len() == size;
-    let is_whole = iter.into_block().len() == size && is_kept;
-    text_of_owned(alloc, owned?, is_whole)
+    let text = to_the_end(alloc, &mut iter, ops, by_item, size);
+    if iter.into_block().len() != size {
+        return Err(Fault::Word);
+    }
+    text
 }
 
 /// What `walk` answers over a block.
