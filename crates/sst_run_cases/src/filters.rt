@@ -180,26 +180,35 @@ fn sweep<H: BlockHash>(alloc: Global, words: &[&str]) -> Result<String> {
     Ok(format!(in alloc; "{} bytes, {found} found", payload.len())?)
 }
 
+/// Returns whether a policy makes filters, and whether it is the default one.
+fn state_of(policy: BloomConstructionPolicy) -> &'static str {
+    let is_default = policy == BloomConstructionPolicy::default();
+    match (is_default, policy.is_active()) {
+        (true, true) => "default, active",
+        (true, false) => "default, inactive",
+        (false, true) => "active",
+        (false, false) => "inactive",
+    }
+}
+
+/// Returns what a policy says of so many keys.
+fn text_of(alloc: Global, policy: BloomConstructionPolicy, keys: usize) -> Result<String> {
+    let state = state_of(policy);
+    if policy.fits(keys) {
+        let size = policy.estimated_filter_size(keys);
+        Ok(format!(in alloc; "{state}, {size} bytes")?)
+    } else {
+        Ok(format!(in alloc; "{state}, too long")?)
+    }
+}
+
 /// What a policy says of so many keys: BITS KEYS.
 fn policy(alloc: Global, words: &[&str]) -> Result<String> {
     let [bits, keys] = words else {
         return Err(Fault::Word);
     };
     let policy = BloomConstructionPolicy::BitsPerKey(size_of(bits)?);
-    let keys = number_of(keys)? as usize;
-    let is_default = policy == BloomConstructionPolicy::default();
-    let kind = if is_default { "default, " } else { "" };
-    let state = if policy.is_active() {
-        "active"
-    } else {
-        "inactive"
-    };
-    if policy.fits(keys) {
-        let size = policy.estimated_filter_size(keys);
-        Ok(format!(in alloc; "{kind}{state}, {size} bytes")?)
-    } else {
-        Ok(format!(in alloc; "{kind}{state}, too long")?)
-    }
+    text_of(alloc, policy, number_of(keys)? as usize)
 }
 
 /// Sets a bit of the payload: INDEX.
@@ -255,16 +264,15 @@ fn perform_small(
     room: &mut Room,
     name: &str,
     words: &[&str],
-) -> Result<Option<String>> {
-    let answer = match name {
+) -> Option<Result<String>> {
+    Some(match name {
         "policy" => policy(alloc, words),
         "bit" => set_bit(alloc, room, words),
         "bits" => bits(alloc, room),
         "secondary" => secondary(alloc, words),
         "filter-type" => type_of(alloc, words),
-        _ => return Ok(None),
-    };
-    Ok(Some(answer?))
+        _ => return None,
+    })
 }
 
 /// Performs a command, if it is one on filters.
@@ -273,14 +281,13 @@ pub fn perform<H: BlockHash>(
     room: &mut Room,
     name: &str,
     words: &[&str],
-) -> Result<Option<String>> {
-    let answer = match name {
+) -> Option<Result<String>> {
+    Some(match name {
         "filter" => build(alloc, room, words),
         "numbers" => numbers(alloc, room),
         "hashed" => hashed(alloc, room, words),
         "keyed" => keyed::<H>(alloc, room, words),
         "sweep" => sweep::<H>(alloc, words),
         _ => return perform_small(alloc, room, name, words),
-    };
-    Ok(Some(answer?))
+    })
 }

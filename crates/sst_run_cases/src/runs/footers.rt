@@ -1,13 +1,16 @@
 //! Commands on where the index and the filter of a run are, and on footers.
 
-use super::{File, file_of, text_of};
+use super::text_of;
 use sst_base::{BlockHandle, BlockHash, BlockOffset, Slice};
 use sst_case_room::fault::{Fault, Result};
 use sst_case_room::room::Room;
 use sst_case_room::words::{number_of, size_of};
 use sstable_blocks::Table;
-use sstable_blocks::run::{MemorySource, RunHandles, SizedSource, decode_footer, encode_footer};
+use sstable_blocks::run::{
+    FileSource, MemorySource, RunHandles, SizedSource, decode_footer, encode_footer,
+};
 use std::alloc::Global;
+use std::io::Cursor;
 
 /// Returns the place of a word: offset and size, joined by a dot.
 fn handle_of(word: &str) -> Result<BlockHandle> {
@@ -66,10 +69,10 @@ fn opened<H: BlockHash, S: SizedSource + Drop>(alloc: Global, source: S) -> Resu
 /// Opens the payload as a table file, in memory or in a file, and takes its handles: WHERE.
 fn open<H: BlockHash>(alloc: Global, room: &mut Room, words: &[&str]) -> Result<String> {
     let handles = if words == ["file"].as_slice() {
-        opened::<H, File<'_>>(alloc, file_of(room))?
+        opened::<H, _>(alloc, FileSource::new(Cursor::new(room.payload.as_slice())))?
     } else {
         let memory = MemorySource::new(Slice::new(alloc, room.payload.as_slice())?);
-        opened::<H, MemorySource>(alloc, memory)?
+        opened::<H, _>(alloc, memory)?
     };
     room.places = Some(handles);
     text_of(alloc, &handles)
@@ -81,13 +84,12 @@ pub fn perform<H: BlockHash>(
     room: &mut Room,
     name: &str,
     words: &[&str],
-) -> Result<Option<String>> {
-    let answer = match name {
+) -> Option<Result<String>> {
+    Some(match name {
         "places" => set_places(alloc, room, words),
         "end" => end(alloc, room),
         "footer" => footer(alloc, room),
         "open" => open::<H>(alloc, room, words),
-        _ => return Ok(None),
-    };
-    Ok(Some(answer?))
+        _ => return None,
+    })
 }

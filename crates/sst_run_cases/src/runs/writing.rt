@@ -18,14 +18,19 @@ fn config_of(words: &[&str]) -> Result<RunConfig> {
     let [interval, num, den, bits, index_interval] = words else {
         return Err(Fault::Word);
     };
+    let intervals = (small_of(interval), small_of(index_interval));
+    let (Ok(restart_interval), Ok(index_interval)) = intervals else {
+        return Err(Fault::Word);
+    };
+    let sizes = (size_of(num), size_of(den), size_of(bits));
+    let (Ok(num), Ok(den), Ok(bits_per_key)) = sizes else {
+        return Err(Fault::Word);
+    };
     Ok(RunConfig {
-        restart_interval: small_of(interval)?,
-        ratio: HashRatio {
-            num: size_of(num)?,
-            den: size_of(den)?,
-        },
-        bits_per_key: size_of(bits)?,
-        index_interval: small_of(index_interval)?,
+        restart_interval,
+        ratio: HashRatio { num, den },
+        bits_per_key,
+        index_interval,
     })
 }
 
@@ -213,12 +218,11 @@ pub fn perform<H: BlockHash>(
     room: &mut Room,
     name: &str,
     words: &[&str],
-) -> Result<Option<String>> {
-    let answer = match name {
+) -> Option<Result<String>> {
+    Some(match name {
         "run" => write::<H>(alloc, room, words),
         "fits" => fits(alloc, words),
         "follows" => follows::<H>(alloc, room, words),
-        _ => return Ok(None),
-    };
-    Ok(Some(answer?))
+        _ => return None,
+    })
 }
