@@ -12,7 +12,7 @@ use sst_case_room::fault::{Fault, Result};
 use sst_case_room::room::Room;
 use sstable_blocks::Table;
 use sstable_blocks::run::{
-    BorrowedSource, CheckedRun, FileSource, FrameSource, MemorySource, RunHandles,
+    BorrowedSource, CheckedRun, FileSource, FrameSource, MemorySource, RunHandles, Trusted,
 };
 use std::alloc::Global;
 use std::io::Cursor;
@@ -119,6 +119,18 @@ pub enum Wanted<'a> {
     Scan(&'a Path<'a>),
 }
 
+/// What a table without checks answers.
+fn of_trusted<H: BlockHash>(
+    alloc: Global,
+    trusted: &Trusted<'_, H>,
+    wanted: Wanted<'_>,
+) -> Result<String> {
+    match wanted {
+        Wanted::Read(query) => read_trusted::<H>(alloc, trusted, query),
+        Wanted::Scan(path) => scan_trusted::<H>(alloc, trusted, path),
+    }
+}
+
 /// Opens a sound run in memory.
 fn table_of<H: BlockHash>(
     alloc: Global,
@@ -146,9 +158,24 @@ pub fn by_trusted<H: BlockHash>(
 {
     let table = table_of::<H>(alloc, run, handles)?;
     let trusted = table.trusted();
+    of_trusted::<H>(alloc, &trusted, wanted)
+}
+
+/// What a sound run answers, by all that read it.
+fn by_all<H: BlockHash>(
+    alloc: Global,
+    room: &Room,
+    checked: &CheckedRun<H>,
+    run: &Slice,
+    handles: &RunHandles,
+    wanted: Wanted<'_>,
+) -> Result<String>
+    requires { (blocks : List (List Entry))
+        × IsSound (hashes H.hash64 H.hash128) blocks run.now handles.now }
+{
     match wanted {
-        Wanted::Read(query) => read_trusted::<H>(alloc, &trusted, query),
-        Wanted::Scan(path) => scan_trusted::<H>(alloc, &trusted, path),
+        Wanted::Read(query) => read_sound::<H>(alloc, room, checked, run, handles, query),
+        Wanted::Scan(path) => scan_sound::<H>(alloc, room, run, handles, path),
     }
 }
 
@@ -169,8 +196,5 @@ pub fn of_sound<H: BlockHash>(alloc: Global, room: &Room, wanted: Wanted<'_>) ->
     let run = Slice::new(alloc, room.payload.as_slice())?;
     let checked = checked_of::<H>(alloc, &run, &handles)?;
     checked.note_sound();
-    match wanted {
-        Wanted::Read(query) => read_sound::<H>(alloc, room, &checked, &run, &handles, query),
-        Wanted::Scan(path) => scan_sound::<H>(alloc, room, &run, &handles, path),
-    }
+    by_all::<H>(alloc, room, &checked, &run, &handles, wanted)
 }

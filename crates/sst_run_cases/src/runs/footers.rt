@@ -66,14 +66,19 @@ fn opened<H: BlockHash, S: SizedSource + Drop>(alloc: Global, source: S) -> Resu
     }
 }
 
+/// Opens bytes as a table file, in memory or in a file.
+fn handles_in<H: BlockHash>(alloc: Global, bytes: &[u8], in_file: bool) -> Result<RunHandles> {
+    if in_file {
+        opened::<H, _>(alloc, FileSource::new(Cursor::new(bytes)))
+    } else {
+        opened::<H, _>(alloc, MemorySource::new(Slice::new(alloc, bytes)?))
+    }
+}
+
 /// Opens the payload as a table file, in memory or in a file, and takes its handles: WHERE.
 fn open<H: BlockHash>(alloc: Global, room: &mut Room, words: &[&str]) -> Result<String> {
-    let handles = if words == ["file"].as_slice() {
-        opened::<H, _>(alloc, FileSource::new(Cursor::new(room.payload.as_slice())))?
-    } else {
-        let memory = MemorySource::new(Slice::new(alloc, room.payload.as_slice())?);
-        opened::<H, _>(alloc, memory)?
-    };
+    let in_file = words == ["file"].as_slice();
+    let handles = handles_in::<H>(alloc, room.payload.as_slice(), in_file)?;
     room.places = Some(handles);
     text_of(alloc, &handles)
 }

@@ -140,7 +140,8 @@ fn get<H: BlockHash>(alloc: Global, room: &Room, words: &[&str]) -> Result<Strin
     let [key, seqno] = words else {
         return Err(Fault::Word);
     };
-    let (key, seqno) = (bytes_of(alloc, key)?, number_of(seqno)?);
+    let seqno = number_of(seqno)?;
+    let key = bytes_of(alloc, key)?;
     of_sound::<H>(alloc, room, Wanted::Read((key.as_slice(), seqno)))
 }
 
@@ -196,7 +197,8 @@ fn fetch<H: BlockHash>(alloc: Global, room: &Room, words: &[&str]) -> Result<Str
     let [place, key, seqno] = words else {
         return Err(Fault::Word);
     };
-    let (key, seqno) = (bytes_of(alloc, key)?, number_of(seqno)?);
+    let seqno = number_of(seqno)?;
+    let key = bytes_of(alloc, key)?;
     let query = (key.as_slice(), seqno);
     if *place == "file" {
         of_run::<H>(alloc, room, Place::File, Asked::Fetch(query))

@@ -178,16 +178,19 @@ fn path_of<'a>(alloc: Global, words: &[&'a str]) -> Result<Path<'a>> {
     })
 }
 
-/// Scans a sound run: START END STEPS.
-fn scan<H: BlockHash>(alloc: Global, room: &Room, words: &[&str]) -> Result<String> {
+/// Scans a run, which is sound or may be damaged: START END STEPS.
+fn scan<H: BlockHash>(
+    alloc: Global,
+    room: &Room,
+    words: &[&str],
+    is_sound: bool,
+) -> Result<String> {
     let path = path_of(alloc, words)?;
-    of_sound::<H>(alloc, room, Wanted::Scan(&path))
-}
-
-/// Scans a run that may be damaged: START END STEPS.
-fn scan_damaged<H: BlockHash>(alloc: Global, room: &Room, words: &[&str]) -> Result<String> {
-    let path = path_of(alloc, words)?;
-    scan_checked::<H>(alloc, room, &path)
+    if is_sound {
+        of_sound::<H>(alloc, room, Wanted::Scan(&path))
+    } else {
+        scan_checked::<H>(alloc, room, &path)
+    }
 }
 
 /// Performs a command, if it is one that scans a run.
@@ -198,8 +201,8 @@ pub fn perform<H: BlockHash>(
     words: &[&str],
 ) -> Option<Result<String>> {
     Some(match name {
-        "scan" => scan::<H>(alloc, room, words),
-        "scan-damaged" => scan_damaged::<H>(alloc, room, words),
+        "scan" => scan::<H>(alloc, room, words, true),
+        "scan-damaged" => scan::<H>(alloc, room, words, false),
         _ => return None,
     })
 }
