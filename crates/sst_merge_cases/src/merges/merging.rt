@@ -48,6 +48,12 @@ fn passed<I: Source<InternalValue> + Drop>(
     or_none(alloc, text)
 }
 
+/// Returns whether an entry that may be found has this word.
+fn has_word(alloc: Global, found: Option<&InternalValue>, word: &str) -> Result<bool> {
+    let found = word_of_found(alloc, found)?;
+    Ok(found.as_str() == word)
+}
+
 /// Takes the first version of a merge. Returns whether it has this word.
 fn takes<I: Source<InternalValue> + Drop>(
     alloc: Global,
@@ -55,7 +61,16 @@ fn takes<I: Source<InternalValue> + Drop>(
     word: &str,
 ) -> Result<bool> {
     let taken = merge.next_entry(alloc)?;
-    Ok(word_of_found(alloc, taken.as_ref())?.as_str() == word)
+    has_word(alloc, taken.as_ref(), word)
+}
+
+/// Takes the first version of a merge. Returns whether there is one.
+fn is_left<I: Source<InternalValue> + Drop>(
+    alloc: Global,
+    merge: &mut Merge<InternalValue, I>,
+) -> Result<bool> {
+    let taken = merge.next_entry(alloc)?;
+    Ok(taken.is_some())
 }
 
 /// Passes the first version of a merge at every third turn, and else takes it.
@@ -84,7 +99,7 @@ fn in_turn<I: Source<InternalValue> + Drop>(
     for turn in 0..total {
         turn_on(alloc, merge, turn, &mut text)?;
     }
-    if merge.next_entry(alloc)?.is_some() {
+    if is_left(alloc, merge)? {
         text.push_str(" and one more")?;
     }
     or_none(alloc, text)
@@ -99,11 +114,16 @@ fn reversed(alloc: Global, words: &[String]) -> Result<String> {
     or_none(alloc, text)
 }
 
+/// Adds the word of an entry.
+fn add_word(alloc: Global, words: &mut Vec<String>, entry: &InternalValue) -> Result<()> {
+    Ok(words.push(word_of(alloc, entry)?)?)
+}
+
 /// All that is left of a source from the back, as the words from the first to the last.
 pub fn drained_back<I: BackSource<InternalValue>>(alloc: Global, source: &mut I) -> Result<String> {
     let mut words = Vec::new(alloc);
     while let Some(entry) = source.next_entry_back(alloc)? {
-        words.push(word_of(alloc, &entry)?)?;
+        add_word(alloc, &mut words, &entry)?;
     }
     reversed(alloc, words.as_slice())
 }

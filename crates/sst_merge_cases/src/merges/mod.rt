@@ -70,23 +70,26 @@ fn entry_front(alloc: Global, key: &[u8]) -> Result<u128> {
     Ok(InternalValue::from_components(key, value, 1, ValueType::Value).front())
 }
 
+/// The front of a key in two parts, if the whole key and its entry have the same.
+fn same_front(alloc: Global, front: u128, key: &[u8]) -> Result<String> {
+    let whole = front_of_key(&[], key);
+    let of_entry = entry_front(alloc, key)?;
+    if front == whole && front == of_entry {
+        return hex_of(alloc, &front.to_be_bytes());
+    }
+    Ok(format!(in alloc; "{front}, whole {whole}, of an entry {of_entry}")?)
+}
+
 /// The front of a key, in two parts: BYTES BYTES.
 fn key_front(alloc: Global, words: &[&str]) -> Result<String> {
     let [left, right] = words else {
         return Err(Fault::Word);
     };
-    let (left, right) = (bytes_of(alloc, left)?, bytes_of(alloc, right)?);
-    let front = front_of_key(left.as_slice(), right.as_slice());
-    let mut key = left;
+    let mut key = bytes_of(alloc, left)?;
+    let right = bytes_of(alloc, right)?;
+    let front = front_of_key(key.as_slice(), right.as_slice());
     key.extend_from_slice(right.as_slice())?;
-    let (whole, of_entry) = (
-        front_of_key(&[], key.as_slice()),
-        entry_front(alloc, key.as_slice())?,
-    );
-    if front == whole && front == of_entry {
-        return hex_of(alloc, &front.to_be_bytes());
-    }
-    Ok(format!(in alloc; "{front}, whole {whole}, of an entry {of_entry}")?)
+    same_front(alloc, front, key.as_slice())
 }
 
 /// Performs a command, if it is one on sources.

@@ -11,7 +11,7 @@ use sst_case_room::texts::agreed;
 use sst_case_room::words::{bytes_of, number_of, push_word, word_of_found};
 use sst_merge::{Outputs, Ranged, Reader, Sizes, Source, compact_tables, read_tables};
 use sstable_blocks::Table;
-use sstable_blocks::run::{FrameSource, MemorySource, RunConfig, RunHandles, Scan};
+use sstable_blocks::run::{FrameSource, MemorySource, RunConfig, RunHandles, RunSummary, Scan};
 use std::alloc::Global;
 use std::ops::Bound;
 
@@ -51,11 +51,14 @@ struct Plan {
     sizes: Sizes,
 }
 
-/// Returns the sizes of two numbers.
-fn sizes_of(block: u64, table: u64) -> Sizes {
-    Sizes {
-        block: block as usize,
-        table: table as usize,
+/// Returns the sizes of two words.
+fn sizes_of(block: &str, table: &str) -> Result<Sizes> {
+    match (number_of(block), number_of(table)) {
+        (Ok(block), Ok(table)) => Ok(Sizes {
+            block: block as usize,
+            table: table as usize,
+        }),
+        _ => Err(Fault::Word),
     }
 }
 
@@ -103,20 +106,27 @@ fn table_of<H: BlockHash>(alloc: Global, written: &KeptTable) -> Result<OpenTabl
     }
 }
 
-/// The numbers of entries and of blocks of a table.
-fn counts_in<H: BlockHash, S: FrameSource>(
-    alloc: Global,
-    table: &mut Table<H, S>,
-) -> Result<String> {
-    let summary = table.verify(alloc)?;
+/// The numbers of entries and of blocks of a summary.
+fn text_of(alloc: Global, summary: &RunSummary) -> Result<String> {
     let (entries, blocks) = (summary.entries, summary.blocks);
     Ok(format!(in alloc; "{entries}/{blocks}")?)
 }
 
+/// The numbers of entries and of blocks of a table.
+fn counts_in<H: BlockHash, S: FrameSource + Drop>(
+    alloc: Global,
+    mut table: Table<H, S>,
+) -> Result<String> {
+    match table.verify(alloc) {
+        Ok(summary) => text_of(alloc, &summary),
+        Err(error) => Err(Fault::Refused(error)),
+    }
+}
+
 /// The numbers of entries and of blocks of a written table.
 fn counts_of<H: BlockHash>(alloc: Global, written: &KeptTable) -> Result<String> {
-    let mut table = table_of::<H>(alloc, written)?;
-    counts_in(alloc, &mut table)
+    let table = table_of::<H>(alloc, written)?;
+    counts_in(alloc, table)
 }
 
 /// The numbers of entries and of blocks of each table.
@@ -136,7 +146,7 @@ fn tables<H: BlockHash>(alloc: Global, room: &mut Room, words: &[&str]) -> Resul
     let plan = Plan {
         seqno: number_of(seqno)?,
         bottom: level_of(level)?,
-        sizes: sizes_of(number_of(block)?, number_of(table)?),
+        sizes: sizes_of(block, table)?,
     };
     room.tables = compacted::<H, _>(alloc, sources_of(alloc, room), plan)?;
     all_counts::<H>(alloc, room.tables.as_slice())
@@ -163,11 +173,17 @@ fn readers_of<H: BlockHash>(
     Ok(readers)
 }
 
+/// Returns the word of what is found.
+fn word_of_read(alloc: Global, found: sst_base::Result<Option<InternalValue>>) -> Result<String> {
+    let found = found?;
+    word_of_found(alloc, found.as_ref())
+}
+
 /// A read of a key over readers.
 fn read<R: Reader>(alloc: Global, readers: &mut [R], key: &str, seqno: u64) -> Result<String> {
     let key = bytes_of(alloc, key)?;
-    let found = read_tables(alloc, readers, key.as_slice(), seqno, &mut Steps::new())?;
-    word_of_found(alloc, found.as_ref())
+    let found = read_tables(alloc, readers, key.as_slice(), seqno, &mut Steps::new());
+    word_of_read(alloc, found)
 }
 
 /// Reads of keys over readers.
@@ -211,6 +227,16 @@ fn scans_of<H: BlockHash>(alloc: Global, tables: &[KeptTable]) -> Result<Vec<Sto
     Ok(scans)
 }
 
+/// The merge of scans of tables.
+fn by_scans<H: BlockHash>(alloc: Global, tables: &[KeptTable]) -> Result<String> {
+    merged(alloc, scans_of::<H>(alloc, tables))
+}
+
+/// The same from the back.
+fn by_scans_back<H: BlockHash>(alloc: Global, tables: &[KeptTable]) -> Result<String> {
+    merged_back(alloc, scans_of::<H>(alloc, tables))
+}
+
 /// Writes a list into tables, which are added.
 fn write_list<H: BlockHash>(
     alloc: Global,
@@ -241,11 +267,10 @@ fn stored<H: BlockHash>(alloc: Global, room: &Room, words: &[&str]) -> Result<St
     let [block, table] = words else {
         return Err(Fault::Word);
     };
-    let sizes = sizes_of(number_of(block)?, number_of(table)?);
-    let tables = written::<H>(alloc, room, sizes)?;
+    let tables = written::<H>(alloc, room, sizes_of(block, table)?)?;
     let found = [
-        merged(alloc, scans_of::<H>(alloc, tables.as_slice())),
-        merged_back(alloc, scans_of::<H>(alloc, tables.as_slice())),
+        by_scans::<H>(alloc, tables.as_slice()),
+        by_scans_back::<H>(alloc, tables.as_slice()),
     ];
     agreed(alloc, &found)
 }
