@@ -1,5 +1,5 @@
 //! A key of a body, joined of its prefix and the bytes after it.
-ghost use Rattle.std.specs.Prelude.{◌≡◌, ◌+◌, ◌-◌, ◌≤◌, ◌++◌, ℕ, List, length, take, drop, OnSome};
+ghost use Rattle.std.specs.Prelude.{◌≡◌, ◌+◌, ◌-◌, ◌≤◌, ◌++◌, ℕ, List, length, take, drop, OnSome, IsSome};
 ghost use Rattle.sst_block_core.specs.Found.{IsRange};
 ghost use Rattle.sst_block_core.specs.KeyRanges.{key_by, IsKeyRanges, HasFront};
 
@@ -63,6 +63,7 @@ impl JoinedKey {
             → HasFront body self.old.front self.old.bytes.items
             → HasFront body self.new.front self.new.bytes.items) }
         ensures room { OnSome result (len ≤ length self.new.bytes.items) }
+        ensures some { len ≤ length self.old.bytes.items → IsSome result }
     {
         if self.bytes.len() >= len {
             return Some(());
@@ -86,7 +87,8 @@ impl JoinedKey {
         self.front = *range;
     }
 
-    /// Joins a key. Returns `None` if an allocation fails.
+    /// Joins a key. Returns `None` if an allocation fails; where there is room for the key none is
+    /// made.
     #[inline(always)]
     pub(crate) fn join(&mut self, body: &[u8], key: &KeyRanges) -> Option<()>
         requires { IsKeyRanges body.now key.now }
@@ -94,6 +96,8 @@ impl JoinedKey {
             → take self.new.len self.new.bytes.items ≡ key_by body.now key.now) }
         ensures begun { OnSome result (HasFront body.now self.old.front self.old.bytes.items
             → HasFront body.now self.new.front self.new.bytes.items) }
+        ensures some { length (key_by body.now key.now) ≤ length self.old.bytes.items
+            → IsSome result }
     {
         let shared_len = key.prefix.1 - key.prefix.0;
         let len = shared_len + (key.rest.1 - key.rest.0);
