@@ -282,7 +282,9 @@ impl<R: Read, H: BlockHash> Read for ChecksummedReader<R, H> {
 }
 
 impl<R: Input, H: BlockHash> Input for ChecksummedReader<R, H> {
-    ghost use Rattle.std.specs.Prelude.{◌<◌, length, IfSome, IsOkUnless};
+    ghost use Rattle.std.specs.Prelude.{◌<◌, ◌+◌, ◌⊎◌, List, length, drop, IfSome, IfErr};
+    ghost use Rattle.std.specs.Prelude.{IsOkUnless};
+    ghost use Rattle.sst_base.specs.declared.error.Error.TheVariants.{Io, Memory};
 
     ghost is_memory = { λ r. R.is_memory r.inner };
 
@@ -301,6 +303,26 @@ impl<R: Input, H: BlockHash> Input for ChecksummedReader<R, H> {
     {
         self.inner.fill(buf)?;
         self.given.update(buf);
+        Ok(())
+    }
+
+    fn append(&mut self, buf: &mut Vec<u8>, len: usize) -> Result<()>
+        ensures ok { OnOk result ((bytes : List ℕ)
+            × Consumes (R.remaining self.old.inner) (R.remaining self.new.inner) bytes
+            × (buf.new.items ≡ buf.old.items ++ bytes)) }
+        ensures len { OnOk result (length buf.new.items ≡ length buf.old.items + len) }
+        ensures errors { IfErr result (λ e. (e ≡ Io) ⊎ (e ≡ Memory)) }
+        ensures end { IfErr result (λ e. e ≡ Io → R.is_memory self.old.inner
+            → IfSome (R.remaining self.old.inner) (λ bytes. length bytes < len)) }
+        ensures kept { R.is_memory self.old.inner → R.is_memory self.new.inner }
+        ensures whole { R.whole self.new.inner ≡ R.whole self.old.inner }
+        ensures given { OnOk result (self.new.passed
+            ≡ self.old.passed ++ drop (length buf.old.items) buf.new.items) }
+        ensures refused { OnErr result (self.new.passed ≡ self.old.passed) }
+    {
+        let start = buf.as_slice().len();
+        self.inner.append(buf, len)?;
+        self.given.update(&buf[start..]);
         Ok(())
     }
 }

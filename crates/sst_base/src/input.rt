@@ -1,7 +1,8 @@
 //! Readers whose end over memory is known exactly.
 ghost use Rattle.std.specs.Prelude.{◌≡◌, ◌<◌, ℕ, List, length, drop, Some, IfSome};
 ghost use Rattle.std.specs.Prelude.{None, OnOk, OnErr, IfOk, IsOk, Option};
-ghost use Rattle.std.specs.Prelude.{IsOkUnless};
+ghost use Rattle.std.specs.Prelude.{IsOkUnless, IfErr, ◌+◌, ◌≤◌, ◌++◌, ◌⊎◌, take};
+ghost use Rattle.sst_base.specs.declared.error.Error.TheVariants.{Io, Memory};
 ghost use Rattle.std.specs.Io.Cursor.{cursor_inner};
 ghost use Rattle.std.specs.Io.KnownBytes.{Consumes};
 ghost use Rattle.sst_base.specs.Bytes.{IsBytes};
@@ -36,6 +37,57 @@ pub trait Input: Read {
             → IfSome (Self.remaining self.old) (λ bytes. length bytes < length buf.old)) }
         ensures kept { is_memory self.old → is_memory self.new }
         ensures whole { whole self.new ≡ whole self.old };
+
+    /// Appends the next `len` bytes to a vector.
+    ///
+    /// # Errors
+    ///
+    /// `Error::Io` if the reader fails, or ends before `len` bytes. `Error::Memory` if an allocation
+    /// fails. What the vector holds is then unspecified.
+    fn append(&mut self, buf: &mut Vec<u8>, len: usize) -> Result<()>
+        ensures ok { OnOk result ((bytes : List ℕ)
+            × Consumes (Self.remaining self.old) (Self.remaining self.new) bytes
+            × (buf.new.items ≡ buf.old.items ++ bytes)) }
+        ensures len { OnOk result (length buf.new.items ≡ length buf.old.items + len) }
+        ensures errors { IfErr result (λ e. (e ≡ Io) ⊎ (e ≡ Memory)) }
+        ensures end { IfErr result (λ e. e ≡ Io → is_memory self.old
+            → IfSome (Self.remaining self.old) (λ bytes. length bytes < len)) }
+        ensures kept { is_memory self.old → is_memory self.new }
+        ensures whole { whole self.new ≡ whole self.old };
+}
+
+/// Appends the next `len` bytes of any reader to a vector, behind room of zeros that it fills: what
+/// [`Input::append`] is for a reader that lies in no memory.
+///
+/// # Errors
+///
+/// `Error::Io` if the reader fails, or ends before `len` bytes. `Error::Memory` if an allocation
+/// fails. What the vector holds is then unspecified.
+pub fn append_exact<R: Read>(reader: &mut R, buf: &mut Vec<u8>, len: usize) -> Result<()>
+    ensures ok { OnOk result ((bytes : List ℕ)
+        × Consumes (R.remaining reader.old) (R.remaining reader.new) bytes
+        × (buf.new.items ≡ buf.old.items ++ bytes)) }
+    ensures len { OnOk result (length buf.new.items ≡ length buf.old.items + len) }
+    ensures errors { IfErr result (λ e. (e ≡ Io) ⊎ (e ≡ Memory)) }
+{
+    let start = buf.as_slice().len();
+    let Some(end) = start.checked_add(len) else {
+        return Err(Error::Memory);
+    };
+    buf.resize(end, 0)?;
+    fill_behind(reader, buf, start)
+}
+
+// Fills what is behind an index.
+fn fill_behind<R: Read>(reader: &mut R, room: &mut [u8], start: usize) -> Result<()>
+    requires { start ≤ length room.old }
+    ensures ok { OnOk result
+        (Consumes (R.remaining reader.old) (R.remaining reader.new) (drop start room.new)) }
+    ensures front { take start room.new ≡ take start room.old }
+    ensures len { length room.new ≡ length room.old }
+    ensures io { IsOkUnless result Error.Io }
+{
+    Ok(reader.read_exact(&mut room[start..])?)
 }
 
 impl Input for &[u8] {
@@ -51,6 +103,17 @@ impl Input for &[u8] {
         *self = rest;
         Ok(())
     }
+
+    fn append(&mut self, buf: &mut Vec<u8>, len: usize) -> Result<()> {
+        let all: &[u8] = *self;
+        if all.len() < len {
+            return Err(Error::Io);
+        }
+        let (front, rest) = all.split_at(len);
+        buf.extend_from_slice(front)?;
+        *self = rest;
+        Ok(())
+    }
 }
 
 impl<R: Input> Input for &mut R {
@@ -61,11 +124,19 @@ impl<R: Input> Input for &mut R {
     fn fill(&mut self, buf: &mut [u8]) -> Result<()> {
         Input::fill(&mut **self, buf)
     }
+
+    fn append(&mut self, buf: &mut Vec<u8>, len: usize) -> Result<()> {
+        Input::append(&mut **self, buf, len)
+    }
 }
 
 impl Input for File {
     fn fill(&mut self, buf: &mut [u8]) -> Result<()> {
         Ok(self.read_exact(buf)?)
+    }
+
+    fn append(&mut self, buf: &mut Vec<u8>, len: usize) -> Result<()> {
+        append_exact(self, buf, len)
     }
 }
 
@@ -73,17 +144,29 @@ impl Input for Stdin {
     fn fill(&mut self, buf: &mut [u8]) -> Result<()> {
         Ok(self.read_exact(buf)?)
     }
+
+    fn append(&mut self, buf: &mut Vec<u8>, len: usize) -> Result<()> {
+        append_exact(self, buf, len)
+    }
 }
 
 impl Input for StdinLock<'_> {
     fn fill(&mut self, buf: &mut [u8]) -> Result<()> {
         Ok(self.read_exact(buf)?)
     }
+
+    fn append(&mut self, buf: &mut Vec<u8>, len: usize) -> Result<()> {
+        append_exact(self, buf, len)
+    }
 }
 
 impl<R: Read, A: Allocator> Input for BufReader<R, A> {
     fn fill(&mut self, buf: &mut [u8]) -> Result<()> {
         Ok(self.read_exact(buf)?)
+    }
+
+    fn append(&mut self, buf: &mut Vec<u8>, len: usize) -> Result<()> {
+        append_exact(self, buf, len)
     }
 }
 
@@ -101,6 +184,17 @@ impl<T: AsBytes> Input for Cursor<T> {
         let (front, _) = rest.split_at(buf.len());
         buf.copy_from_slice(front);
         self.set_position(self.position() + buf.len() as u64);
+        Ok(())
+    }
+
+    fn append(&mut self, buf: &mut Vec<u8>, len: usize) -> Result<()> {
+        let rest = bytes_from(self.get_ref().as_byte_slice(), self.position());
+        if rest.len() < len {
+            return Err(Error::Io);
+        }
+        let (front, _) = rest.split_at(len);
+        buf.extend_from_slice(front)?;
+        self.set_position(self.position() + len as u64);
         Ok(())
     }
 }

@@ -26,7 +26,7 @@ pub use divisor::Divisor;
 pub use error::{AllocResult, Error, HeaderName, Result, TagName};
 pub use ghost_state::{Contents, Count, History, Steps};
 pub use hash::{BlockHash, ByteSum, Poly31};
-pub use input::{Input, SeekInput};
+pub use input::{Input, SeekInput, append_exact};
 pub use key::{InternalKey, SeqNo, UserKey};
 pub use slice::Slice;
 pub use table::block::{Block, BlockHandle, BlockOffset, BlockType, Header};

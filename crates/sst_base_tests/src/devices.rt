@@ -3,7 +3,7 @@
 ghost use Rattle.std.specs.Prelude.{◌≤◌, length};
 
 use sst_base::error::Result;
-use sst_base::input::{Input, SeekInput};
+use sst_base::input::{Input, SeekInput, append_exact};
 use std::io;
 use std::io::{ErrorKind, Read, Seek, SeekFrom, Write};
 
@@ -64,6 +64,10 @@ impl Read for SlowReader<'_> {
 impl Input for SlowReader<'_> {
     fn fill(&mut self, buf: &mut [u8]) -> Result<()> {
         Ok(self.read_exact(buf)?)
+    }
+
+    fn append(&mut self, buf: &mut Vec<u8>, len: usize) -> Result<()> {
+        append_exact(self, buf, len)
     }
 }
 
@@ -195,6 +199,10 @@ impl Seek for SlowFile<'_> {
 impl Input for SlowFile<'_> {
     fn fill(&mut self, buf: &mut [u8]) -> Result<()> {
         Ok(self.read_exact(buf)?)
+    }
+
+    fn append(&mut self, buf: &mut Vec<u8>, len: usize) -> Result<()> {
+        append_exact(self, buf, len)
     }
 }
 

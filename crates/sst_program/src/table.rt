@@ -10,7 +10,7 @@ use sstable_blocks::run::checked::block_from;
 use sstable_blocks::run::footer::read_footer;
 use sstable_blocks::{
     BlockHandle, BlockType, DataBlock, Error, FileSource, FrameSource, IndexBlock, Input, Poly31,
-    Result, RunHandles, SeekInput,
+    Result, RunHandles, SeekInput, append_exact,
 };
 use std::alloc::Global;
 use std::io::{Read, Seek, SeekFrom};
@@ -40,6 +40,10 @@ impl<F: Seek> Seek for TableFile<F> {
 impl<F: Read> Input for TableFile<F> {
     fn fill(&mut self, buf: &mut [u8]) -> Result<()> {
         Ok(self.read_exact(buf)?)
+    }
+
+    fn append(&mut self, buf: &mut Vec<u8>, len: usize) -> Result<()> {
+        append_exact(self, buf, len)
     }
 }
 

@@ -33,6 +33,10 @@ impl<'p, R: Files> Input for CountedFile<'p, R> {
     fn fill(&mut self, buf: &mut [u8]) -> sstable_blocks::Result<()> {
         self.file.fill(buf)
     }
+
+    fn append(&mut self, buf: &mut Vec<u8>, len: usize) -> sstable_blocks::Result<()> {
+        self.file.append(buf, len)
+    }
 }
 
 impl<'p, R: Files + Clock + Eprint> SeekInput for CountedFile<'p, R> {

@@ -229,9 +229,8 @@ impl Slice {
     {
         let mut bytes = Vec::with_capacity(alloc, PIECE_LEN.min(len))?;
         while bytes.len() < len {
-            let start = bytes.len();
-            bytes.resize(start + PIECE_LEN.min(len - start), 0)?;
-            reader.fill(&mut bytes[start..])?;
+            let piece_len = PIECE_LEN.min(len - bytes.len());
+            reader.append(&mut bytes, piece_len)?;
         }
         Slice::from_vec(bytes)
     }
