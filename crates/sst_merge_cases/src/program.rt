@@ -1,5 +1,6 @@
 //! Runs of the program `sst`, by its library, on files of the folder in which the cases are run.
 
+use sst_base::InternalValue;
 use sst_case_room::digest::hash_of;
 use sst_case_room::fault::{Fault, Result};
 use sst_case_room::room::Room;
@@ -26,6 +27,30 @@ fn push_plain(bytes: &mut Vec<u8>, part: &str) -> Result<()> {
     Ok(())
 }
 
+/// Appends bytes that stand as a code.
+fn push_code(alloc: Global, bytes: &mut Vec<u8>, code: &str) -> Result<()> {
+    let code = bytes_of(alloc, code)?;
+    Ok(bytes.extend_from_slice(code.as_slice())?)
+}
+
+/// Appends the part of a text behind a `<`: bytes that stand as a code, `>`, and the rest.
+fn push_coded(alloc: Global, bytes: &mut Vec<u8>, part: &str) -> Result<()> {
+    let Some((code, plain)) = part.split_once('>') else {
+        return Err(Fault::Word);
+    };
+    push_code(alloc, bytes, code)?;
+    push_plain(bytes, plain)
+}
+
+/// Appends a part of a text of a number, as `<` divides it.
+fn push_part(alloc: Global, bytes: &mut Vec<u8>, number: usize, part: &str) -> Result<()> {
+    if number == 0 {
+        push_plain(bytes, part)
+    } else {
+        push_coded(alloc, bytes, part)
+    }
+}
+
 /// Returns the text of a word: `_` is a space and `~` an end of line, and between `<` and `>` stand
 /// bytes. The word `-` is no text.
 fn text_in(alloc: Global, word: &str) -> Result<Vec<u8>> {
@@ -34,27 +59,27 @@ fn text_in(alloc: Global, word: &str) -> Result<Vec<u8>> {
         return Ok(bytes);
     }
     for (number, part) in word.split('<').enumerate() {
-        if number == 0 {
-            push_plain(&mut bytes, part)?;
-        } else {
-            let (code, plain) = part.split_once('>').ok_or(Fault::Word)?;
-            bytes.extend_from_slice(bytes_of(alloc, code)?.as_slice())?;
-            push_plain(&mut bytes, plain)?;
-        }
+        push_part(alloc, &mut bytes, number, part)?;
     }
     Ok(bytes)
 }
 
+/// Appends a byte as a code.
+fn push_hex(alloc: Global, word: &mut String, byte: u8) -> Result<()> {
+    let code = format!(in alloc; "<{byte:02x}>")?;
+    Ok(word.push_str(code.as_str())?)
+}
+
 /// Appends a byte to the word of a text.
 fn push_byte(alloc: Global, word: &mut String, byte: u8) -> Result<()> {
-    match byte {
-        b' ' => word.push('_')?,
-        b'\n' => word.push('~')?,
-        b'_' | b'~' | b'<' | b'>' => word.push_str(format!(in alloc; "<{byte:02x}>")?.as_str())?,
-        b'!'..=b'}' => word.push(char::from(byte))?,
-        _ => word.push_str(format!(in alloc; "<{byte:02x}>")?.as_str())?,
-    }
-    Ok(())
+    let letter = match byte {
+        b' ' => '_',
+        b'\n' => '~',
+        b'_' | b'~' | b'<' | b'>' => return push_hex(alloc, word, byte),
+        b'!'..=b'}' => char::from(byte),
+        _ => return push_hex(alloc, word, byte),
+    };
+    Ok(word.push(letter)?)
 }
 
 /// Returns the word of a text, or its length and its digest if it is long.
@@ -70,6 +95,14 @@ fn word_of_text(alloc: Global, text: &[u8]) -> Result<String> {
     Ok(word)
 }
 
+/// Adds a part of a text as a word.
+fn add_word<'a>(words: &mut Vec<&'a [u8]>, part: Option<&'a [u8]>) -> Result<()> {
+    match part {
+        Some(word) => Ok(words.push(word)?),
+        None => Err(Fault::Word),
+    }
+}
+
 /// Cuts a text at its spaces. No text has no words.
 fn words_in(alloc: Global, text: &[u8]) -> Result<Vec<&[u8]>> {
     let mut words = Vec::new(alloc);
@@ -79,27 +112,35 @@ fn words_in(alloc: Global, text: &[u8]) -> Result<Vec<&[u8]>> {
     let mut start = 0;
     for (at, byte) in text.iter().enumerate() {
         if *byte == b' ' {
-            words.push(text.get(start..at).ok_or(Fault::Word)?)?;
+            add_word(&mut words, text.get(start..at))?;
             start = at.saturating_add(1);
         }
     }
-    words.push(text.get(start..).ok_or(Fault::Word)?)?;
+    add_word(&mut words, text.get(start..))?;
     Ok(words)
+}
+
+/// Returns what a run prints and the line of its fault, with a status if one is to be told.
+fn told_all(alloc: Global, status: Option<u8>, output: &[u8], faults: &[u8]) -> Result<String> {
+    let printed = word_of_text(alloc, output)?;
+    let line = word_of_text(alloc, faults)?;
+    match status {
+        Some(status) => Ok(format!(in alloc; "status {status} {printed} {line}")?),
+        None => Ok(format!(in alloc; "{printed} {line}")?),
+    }
 }
 
 /// Returns what a run prints, the line of its fault, and its status where it does not say whether
 /// there is one.
 fn told(alloc: Global, status: u8, output: &[u8], faults: &[u8]) -> Result<String> {
-    let (printed, line) = (word_of_text(alloc, output)?, word_of_text(alloc, faults)?);
     if status != u8::from(!faults.is_empty()) {
-        return Ok(format!(in alloc; "status {status} {printed} {line}")?);
-    }
-    if faults.is_empty() {
-        Ok(printed)
+        told_all(alloc, Some(status), output, faults)
+    } else if faults.is_empty() {
+        word_of_text(alloc, output)
     } else if output.is_empty() {
-        Ok(line)
+        word_of_text(alloc, faults)
     } else {
-        Ok(format!(in alloc; "{printed} {line}")?)
+        told_all(alloc, None, output, faults)
     }
 }
 
@@ -118,21 +159,20 @@ fn run<R: LockFiles>(rt: &R, alloc: Global, text: &[u8], mut input: &[u8]) -> Re
     told(alloc, status, output.as_slice(), faults.as_slice())
 }
 
+/// Runs the program by a word.
+fn run_word<R: LockFiles>(rt: &R, alloc: Global, word: &str, input: &[u8]) -> Result<String> {
+    let text = text_in(alloc, word)?;
+    run(rt, alloc, text.as_slice(), input)
+}
+
 /// Runs the program: WORDS, on the input that was set, or WORDS INPUT.
 fn sst<R: LockFiles>(rt: &R, alloc: Global, room: &Room, words: &[&str]) -> Result<String> {
     match words {
-        [text] => run(
-            rt,
-            alloc,
-            text_in(alloc, text)?.as_slice(),
-            room.input.as_slice(),
-        ),
-        [text, input] => run(
-            rt,
-            alloc,
-            text_in(alloc, text)?.as_slice(),
-            text_in(alloc, input)?.as_slice(),
-        ),
+        [text] => run_word(rt, alloc, text, room.input.as_slice()),
+        [text, input] => {
+            let input = text_in(alloc, input)?;
+            run_word(rt, alloc, text, input.as_slice())
+        }
         _ => Err(Fault::Word),
     }
 }
@@ -155,13 +195,25 @@ fn lines(alloc: Global, room: &mut Room) -> Result<String> {
     word_of_text(alloc, room.input.as_slice())
 }
 
+/// Returns the entry of a line, if it has one.
+fn entry_of(alloc: Global, word: &str) -> Result<Option<InternalValue>> {
+    let text = text_in(alloc, word)?;
+    Ok(entry_in(alloc, text.as_slice())?)
+}
+
+/// Returns the line of an entry, as a word.
+fn line_of(alloc: Global, entry: &InternalValue) -> Result<String> {
+    let line = entry_line(alloc, entry)?;
+    word_of_text(alloc, line.as_bytes())
+}
+
 /// Reads an entry line, and prints the line of the entry: LINE.
 fn line(alloc: Global, words: &[&str]) -> Result<String> {
     let [word] = words else {
         return Err(Fault::Word);
     };
-    match entry_in(alloc, text_in(alloc, word)?.as_slice())? {
-        Some(entry) => word_of_text(alloc, entry_line(alloc, &entry)?.as_bytes()),
+    match entry_of(alloc, word)? {
+        Some(entry) => line_of(alloc, &entry),
         None => Ok(String::from_str(alloc, "none")?),
     }
 }
@@ -184,14 +236,25 @@ fn load<R: Files + AllocGlobal>(rt: &R, room: &mut Room, words: &[&str]) -> Resu
     Ok(format!(in rt.alloc(); "{} bytes", room.payload.len())?)
 }
 
+/// Sets a byte: OFFSET BYTE.
+fn set_byte(bytes: &mut [u8], pair: &[&str]) -> Result<()> {
+    let [at, byte] = pair else {
+        return Err(Fault::Word);
+    };
+    let (at, byte) = (number_of(at)? as usize, small_of(byte)?);
+    match bytes.get_mut(at) {
+        Some(place) => {
+            *place = byte;
+            Ok(())
+        }
+        None => Err(Fault::Word),
+    }
+}
+
 /// Sets bytes of the payload: OFFSET BYTE ..
 fn set(alloc: Global, room: &mut Room, words: &[&str]) -> Result<String> {
     for pair in words.chunks(2) {
-        let [at, byte] = pair else {
-            return Err(Fault::Word);
-        };
-        let place = room.payload.get_mut(number_of(at)? as usize);
-        *place.ok_or(Fault::Word)? = small_of(byte)?;
+        set_byte(room.payload.as_mut_slice(), pair)?;
     }
     Ok(format!(in alloc; "{} bytes", room.payload.len())?)
 }
@@ -201,9 +264,11 @@ fn cut(alloc: Global, room: &mut Room, words: &[&str]) -> Result<String> {
     let [start, end] = words else {
         return Err(Fault::Word);
     };
-    let range = number_of(start)? as usize..number_of(end)? as usize;
-    let part = room.payload.get(range).ok_or(Fault::Word)?.to_vec(alloc)?;
-    room.payload = part;
+    let (start, end) = (number_of(start)? as usize, number_of(end)? as usize);
+    let Some(part) = room.payload.get(start..end) else {
+        return Err(Fault::Word);
+    };
+    room.payload = part.to_vec(alloc)?;
     Ok(format!(in alloc; "{} bytes", room.payload.len())?)
 }
 

@@ -14,12 +14,12 @@ fn perform_one<H: BlockHash>(
     room: &mut Room,
     name: &str,
     words: &[&str],
-) -> Result<Option<String>> {
-    if let Some(answer) = frames::perform::<H>(alloc, room, name, words)? {
-        return Ok(Some(answer));
+) -> Option<Result<String>> {
+    if let Some(answer) = frames::perform::<H>(alloc, room, name, words) {
+        return Some(answer);
     }
-    if let Some(answer) = filters::perform::<H>(alloc, room, name, words)? {
-        return Ok(Some(answer));
+    if let Some(answer) = filters::perform::<H>(alloc, room, name, words) {
+        return Some(answer);
     }
     runs::perform::<H>(alloc, room, name, words)
 }
@@ -33,12 +33,12 @@ fn add<H: BlockHash>(
     results: &mut Digest,
 ) -> Result<bool> {
     match perform_one::<H>(alloc, room, name, words) {
-        Ok(Some(text)) => {
+        Some(Ok(text)) => {
             results.add(text.as_str());
             Ok(true)
         }
-        Ok(None) => Err(Fault::Word),
-        Err(fault) => {
+        None => Err(Fault::Word),
+        Some(Err(fault)) => {
             results.add(format!(in alloc; "{fault:?}")?.as_str());
             Ok(false)
         }
@@ -60,6 +60,51 @@ fn flip_of(len: usize, number: usize) -> usize {
     at.saturating_mul(256).saturating_add(by)
 }
 
+/// Returns how many changes of so many bytes there are, of all or of those of single bits.
+fn count_of(len: usize, is_flip: bool) -> usize {
+    let per_byte = if is_flip { 9 } else { 256usize };
+    len.saturating_mul(per_byte).saturating_add(6)
+}
+
+/// Adds what a command answers with a change of a payload. Returns whether it is no error.
+fn add_changed<H: BlockHash>(
+    alloc: Global,
+    room: &mut Room,
+    words: &[&str],
+    payload: &[u8],
+    number: usize,
+    results: &mut Digest,
+) -> Result<bool> {
+    let Some((name, words)) = words.split_first() else {
+        return Err(Fault::Word);
+    };
+    room.payload = changed(alloc, payload, number)?;
+    add::<H>(alloc, room, name, words, results)
+}
+
+/// Performs a command with each change of a payload: how many answers are no errors, and a digest.
+fn each_of<H: BlockHash>(
+    alloc: Global,
+    room: &mut Room,
+    words: &[&str],
+    payload: &[u8],
+    is_flip: bool,
+) -> Result<(usize, Digest)> {
+    let len = payload.len();
+    let (mut accepted, mut results) = (0usize, Digest::new());
+    for number in 0..count_of(len, is_flip) {
+        let number = if is_flip {
+            flip_of(len, number)
+        } else {
+            number
+        };
+        if add_changed::<H>(alloc, room, words, payload, number, &mut results)? {
+            accepted = accepted.saturating_add(1);
+        }
+    }
+    Ok((accepted, results))
+}
+
 /// Performs a command with each change of the payload, or with each of a single bit: how many answers
 /// are no errors, and a digest of all: COMMAND WORD ..
 fn each<H: BlockHash>(
@@ -68,23 +113,8 @@ fn each<H: BlockHash>(
     words: &[&str],
     is_flip: bool,
 ) -> Result<String> {
-    let Some((name, words)) = words.split_first() else {
-        return Err(Fault::Word);
-    };
     let payload = room.payload.to_vec(alloc)?;
-    let (len, per_byte) = (payload.len(), if is_flip { 9 } else { 256usize });
-    let (mut accepted, mut results) = (0usize, Digest::new());
-    for number in 0..len.saturating_mul(per_byte).saturating_add(6) {
-        let number = if is_flip {
-            flip_of(len, number)
-        } else {
-            number
-        };
-        room.payload = changed(alloc, payload.as_slice(), number)?;
-        if add::<H>(alloc, room, name, words, &mut results)? {
-            accepted = accepted.saturating_add(1);
-        }
-    }
+    let (accepted, results) = each_of::<H>(alloc, room, words, payload.as_slice(), is_flip)?;
     room.payload = payload;
     let state = results.state;
     Ok(format!(in alloc; "{accepted} accepted, {state:016x}")?)
@@ -101,6 +131,6 @@ pub fn perform<H: BlockHash>(
     match name {
         "each" => Ok(Some(each::<H>(alloc, room, words, false)?)),
         "flips" => Ok(Some(each::<H>(alloc, room, words, true)?)),
-        _ => perform_one::<H>(alloc, room, name, words),
+        _ => perform_one::<H>(alloc, room, name, words).transpose(),
     }
 }

@@ -1,10 +1,10 @@
 //! Commands on Bloom filters.
 ghost use Rattle.std.specs.Prelude.{◌≡◌};
 
-use sst_base::{Block, BlockHash, BlockType, Slice};
+use sst_base::{BlockHash, BlockType};
 use sst_case_room::fault::{Fault, Result};
-use sst_case_room::room::Room;
-use sst_case_room::texts::{agreed, joined};
+use sst_case_room::room::{Room, block_with};
+use sst_case_room::texts::agreed;
 use sst_case_room::words::{bytes_of, hex_of, number_of, push_word, size_of, small_of};
 use sstable_blocks::table::filter::bit_array::{self, BitArrayReader};
 use sstable_blocks::table::filter::standard_bloom::{
@@ -47,11 +47,9 @@ fn build(alloc: Global, room: &mut Room, words: &[&str]) -> Result<String> {
 
 /// Returns the payload as the block of a filter.
 fn block_of(alloc: Global, room: &Room) -> Result<FilterBlock> {
-    if room.payload.len() > 1_000_000_000 {
-        return Err(Fault::Word);
-    }
-    let payload = Slice::new(alloc, room.payload.as_slice())?;
-    Ok(FilterBlock::new(Block::from_payload(BlockType::Filter, payload)).clone()?)
+    let block = block_with(alloc, BlockType::Filter, room.payload.as_slice())?;
+    let block = FilterBlock::new(block);
+    Ok(block.clone()?)
 }
 
 /// Returns the word of a truth value.
@@ -120,19 +118,36 @@ fn push_keyed<H: BlockHash>(
     Ok(())
 }
 
+/// Appends whether a filter may contain the key of a word.
+fn push_key<H: BlockHash>(
+    alloc: Global,
+    text: &mut String,
+    reader: &StandardBloomFilterReader<'_>,
+    word: &str,
+) -> Result<()> {
+    let key = bytes_of(alloc, word)?;
+    push_keyed::<H>(text, reader, key.as_slice())
+}
+
 /// Whether the payload may contain keys: KEY ..
 fn keyed<H: BlockHash>(alloc: Global, room: &Room, keys: &[&str]) -> Result<String> {
     let reader = StandardBloomFilterReader::new(room.payload.as_slice())?;
     let mut text = String::new(alloc);
     for key in keys {
-        push_keyed::<H>(&mut text, &reader, bytes_of(alloc, key)?.as_slice())?;
+        push_key::<H>(alloc, &mut text, &reader, key)?;
     }
     Ok(text)
 }
 
+/// Returns the length of the payload as the block of a filter.
+fn size_of_block(alloc: Global, room: &Room) -> Result<u32> {
+    let block = block_of(alloc, room)?;
+    Ok(block.size())
+}
+
 /// The numbers of the payload as a filter: its length with its front, its bits and its probes.
 fn numbers(alloc: Global, room: &Room) -> Result<String> {
-    let size = block_of(alloc, room)?.size();
+    let size = size_of_block(alloc, room)?;
     let reader = StandardBloomFilterReader::new(room.payload.as_slice())?;
     let (len, probes) = (reader.len(), reader.probe_count());
     Ok(format!(in alloc; "{size} bytes, {len} of bits, {probes} probes")?)
@@ -180,26 +195,35 @@ fn sweep<H: BlockHash>(alloc: Global, words: &[&str]) -> Result<String> {
     Ok(format!(in alloc; "{} bytes, {found} found", payload.len())?)
 }
 
+/// Returns whether a policy makes filters, and whether it is the default one.
+fn state_of(policy: BloomConstructionPolicy) -> &'static str {
+    let is_default = policy == BloomConstructionPolicy::default();
+    match (is_default, policy.is_active()) {
+        (true, true) => "default, active",
+        (true, false) => "default, inactive",
+        (false, true) => "active",
+        (false, false) => "inactive",
+    }
+}
+
+/// Returns what a policy says of so many keys.
+fn text_of(alloc: Global, policy: BloomConstructionPolicy, keys: usize) -> Result<String> {
+    let state = state_of(policy);
+    if policy.fits(keys) {
+        let size = policy.estimated_filter_size(keys);
+        Ok(format!(in alloc; "{state}, {size} bytes")?)
+    } else {
+        Ok(format!(in alloc; "{state}, too long")?)
+    }
+}
+
 /// What a policy says of so many keys: BITS KEYS.
 fn policy(alloc: Global, words: &[&str]) -> Result<String> {
     let [bits, keys] = words else {
         return Err(Fault::Word);
     };
     let policy = BloomConstructionPolicy::BitsPerKey(size_of(bits)?);
-    let keys = number_of(keys)? as usize;
-    let is_default = policy == BloomConstructionPolicy::default();
-    let kind = if is_default { "default, " } else { "" };
-    let state = if policy.is_active() {
-        "active"
-    } else {
-        "inactive"
-    };
-    if policy.fits(keys) {
-        let size = policy.estimated_filter_size(keys);
-        Ok(format!(in alloc; "{kind}{state}, {size} bytes")?)
-    } else {
-        Ok(format!(in alloc; "{kind}{state}, too long")?)
-    }
+    text_of(alloc, policy, number_of(keys)? as usize)
 }
 
 /// Sets a bit of the payload: INDEX.
@@ -217,16 +241,22 @@ fn set_bit(alloc: Global, room: &mut Room, words: &[&str]) -> Result<String> {
     hex_of(alloc, room.payload.as_slice())
 }
 
+/// Appends the index of a bit.
+fn push_index(alloc: Global, text: &mut String, index: usize) -> Result<()> {
+    let word = format!(in alloc; "{index}")?;
+    push_word(text, word.as_str())
+}
+
 /// The bits of the payload that are set.
 fn bits(alloc: Global, room: &Room) -> Result<String> {
     let bits = BitArrayReader::new(room.payload.as_slice());
-    let mut texts = Vec::new(alloc);
+    let mut text = String::new(alloc);
     for index in 0..room.payload.len().saturating_mul(8) {
         if index / 8 < bits.bytes().len() && bits.get(index) {
-            texts.push(format!(in alloc; "{index}")?)?;
+            push_index(alloc, &mut text, index)?;
         }
     }
-    joined(alloc, texts.as_slice(), " ")
+    Ok(text)
 }
 
 /// The number by which the probes of a hash are apart: HASH.
@@ -255,16 +285,15 @@ fn perform_small(
     room: &mut Room,
     name: &str,
     words: &[&str],
-) -> Result<Option<String>> {
-    let answer = match name {
+) -> Option<Result<String>> {
+    Some(match name {
         "policy" => policy(alloc, words),
         "bit" => set_bit(alloc, room, words),
         "bits" => bits(alloc, room),
         "secondary" => secondary(alloc, words),
         "filter-type" => type_of(alloc, words),
-        _ => return Ok(None),
-    };
-    Ok(Some(answer?))
+        _ => return None,
+    })
 }
 
 /// Performs a command, if it is one on filters.
@@ -273,14 +302,13 @@ pub fn perform<H: BlockHash>(
     room: &mut Room,
     name: &str,
     words: &[&str],
-) -> Result<Option<String>> {
-    let answer = match name {
+) -> Option<Result<String>> {
+    Some(match name {
         "filter" => build(alloc, room, words),
         "numbers" => numbers(alloc, room),
         "hashed" => hashed(alloc, room, words),
         "keyed" => keyed::<H>(alloc, room, words),
         "sweep" => sweep::<H>(alloc, words),
         _ => return perform_small(alloc, room, name, words),
-    };
-    Ok(Some(answer?))
+    })
 }

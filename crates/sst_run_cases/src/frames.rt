@@ -49,20 +49,23 @@ fn frame<H: BlockHash>(alloc: Global, room: &mut Room, words: &[&str]) -> Result
     text_of(alloc, &header)
 }
 
+/// Puts bytes in the place of those from an index on.
+fn put(bytes: &mut [u8], at: usize, sum: &[u8]) {
+    for (place, byte) in bytes.iter_mut().skip(at).zip(sum) {
+        *place = *byte;
+    }
+}
+
 /// Sets the checksum of a header to that of the bytes before it.
 fn mend_header<H: BlockHash>(bytes: &mut [u8]) {
     let sum = H::hash128(bytes.get(..29).unwrap_or(b"")).to_le_bytes();
-    for (place, byte) in bytes.iter_mut().skip(29).zip(sum.iter().take(4)) {
-        *place = *byte;
-    }
+    put(bytes, 29, sum.get(..4).unwrap_or(b""));
 }
 
 /// Sets the checksum of a payload to that of the bytes after the header.
 fn mend_payload<H: BlockHash>(bytes: &mut [u8]) {
     let sum = H::hash128(bytes.get(33..).unwrap_or(b"")).to_le_bytes();
-    for (place, byte) in bytes.iter_mut().skip(5).zip(sum.iter()) {
-        *place = *byte;
-    }
+    put(bytes, 5, &sum);
 }
 
 /// Returns the payload with checksums that fit: none, that of the header, or both.
@@ -100,31 +103,57 @@ fn whole<H: BlockHash>(alloc: Global, bytes: &[u8]) -> Result<String> {
     seen(alloc, &block, 0)
 }
 
+/// Returns the bytes of a header.
+fn bytes_of_header<H: BlockHash>(alloc: Global, header: &Header) -> Result<Vec<u8>> {
+    let mut bytes = Vec::new(alloc);
+    header.encode_into::<H, Vec<u8>>(&mut bytes)?;
+    Ok(bytes)
+}
+
+/// Returns what is seen of a header, and how many bytes are left behind it.
+fn seen_header(alloc: Global, header: &Header, left: usize) -> Result<String> {
+    let text = text_of(alloc, header)?;
+    Ok(format!(in alloc; "{text}, {left} left")?)
+}
+
 /// Reads the header at the start of bytes, and encodes it again.
 fn header<H: BlockHash>(alloc: Global, bytes: &[u8]) -> Result<String> {
     let mut rest = bytes;
     let header = Header::decode_from::<H, &[u8]>(&mut rest)?;
-    let mut again = Vec::new(alloc);
-    header.encode_into::<H, Vec<u8>>(&mut again)?;
-    if bytes.get(..33) != Some(again.as_slice()) {
-        return hex_of(alloc, again.as_slice());
+    let again = bytes_of_header::<H>(alloc, &header)?;
+    if bytes.get(..33) == Some(again.as_slice()) {
+        seen_header(alloc, &header, rest.len())
+    } else {
+        hex_of(alloc, again.as_slice())
     }
-    let (text, left) = (text_of(alloc, &header)?, rest.len());
-    Ok(format!(in alloc; "{text}, {left} left")?)
+}
+
+/// Returns the bytes of a lone handle, and whether each call gives these.
+fn bytes_of_handle(alloc: Global, handle: &BlockHandle) -> Result<(Vec<u8>, bool)> {
+    let mut bytes = Vec::new(alloc);
+    handle.encode_into(&mut bytes)?;
+    let again = handle.encode_into_vec(alloc)?;
+    let is_same = again == bytes;
+    Ok((bytes, is_same))
+}
+
+/// Returns what is seen of a lone handle, and how many bytes are left behind it.
+fn seen_handle(alloc: Global, handle: &BlockHandle, left: usize) -> Result<String> {
+    let (offset, size) = (*handle.offset(), handle.size());
+    Ok(format!(in alloc; "{offset} {size}, {left} left")?)
 }
 
 /// Reads the lone handle at the start of bytes, and encodes it again.
 fn handle(alloc: Global, bytes: &[u8]) -> Result<String> {
     let mut rest = bytes;
     let handle = BlockHandle::decode_from(&mut rest)?;
-    let mut again = Vec::new(alloc);
-    handle.encode_into(&mut again)?;
+    let (again, is_same) = bytes_of_handle(alloc, &handle)?;
     let read = bytes.get(..bytes.len().saturating_sub(rest.len()));
-    if again != handle.encode_into_vec(alloc)? || read != Some(again.as_slice()) {
-        return hex_of(alloc, again.as_slice());
+    if is_same && read == Some(again.as_slice()) {
+        seen_handle(alloc, &handle, rest.len())
+    } else {
+        hex_of(alloc, again.as_slice())
     }
-    let (offset, size, left) = (*handle.offset(), handle.size(), rest.len());
-    Ok(format!(in alloc; "{offset} {size}, {left} left")?)
 }
 
 /// Reads the frame that a handle names in a file of the payload: OFFSET SIZE.
@@ -160,15 +189,14 @@ pub fn perform<H: BlockHash>(
     room: &mut Room,
     name: &str,
     words: &[&str],
-) -> Result<Option<String>> {
-    let answer = match name {
+) -> Option<Result<String>> {
+    Some(match name {
         "stream" => read::<H>(alloc, room, words, Way::Stream),
         "whole" => read::<H>(alloc, room, words, Way::Whole),
         "header" => read::<H>(alloc, room, words, Way::Header),
         "handle" => read::<H>(alloc, room, words, Way::Handle),
         "frame" => frame::<H>(alloc, room, words),
         "file" => file::<H>(alloc, room, words),
-        _ => return Ok(None),
-    };
-    Ok(Some(answer?))
+        _ => return None,
+    })
 }

@@ -1,6 +1,7 @@
 //! Commands on merges of sources, on what a snapshot sees, and on compactions.
 
 mod merging;
+mod sources;
 mod tables;
 
 use sst_base::{BlockHash, InternalValue, Slice, ValueType};
@@ -9,36 +10,19 @@ use sst_case_room::fault::{Fault, Result};
 use sst_case_room::room::Room;
 use sst_case_room::words::{bytes_of, entry_of, hex_of, push_word, word_of};
 use sst_merge::front::front_of_key;
-use sst_merge::{Head, Merge, Source, Version};
+use sst_merge::{Source, Version};
 use std::alloc::Global;
-use std::vec;
 
-/// A source of entries in memory.
-type Memory = vec::IntoIter<InternalValue, Global>;
-
-/// A source of the entries of a list.
-fn memory_of(list: &[InternalValue], alloc: Global) -> Result<Memory> {
-    let mut copies = Vec::new(alloc);
-    for entry in list {
-        copies.push(entry.clone()?)?;
-    }
-    Ok(copies.into_iter())
-}
-
-/// The merge of the sources.
-fn merge_of(alloc: Global, room: &Room) -> Result<Merge<InternalValue, Memory>> {
-    let mut heads = Vec::new(alloc);
-    for list in &room.sources {
-        heads.push(Head::new(alloc, memory_of(list.as_slice(), alloc)?)?)?;
-    }
-    Ok(Merge::new(heads))
+/// Appends the word of an entry.
+fn push_entry(alloc: Global, text: &mut String, entry: &InternalValue) -> Result<()> {
+    push_word(text, word_of(alloc, entry)?.as_str())
 }
 
 /// The words of all that is left of a source, or `none`.
 fn drained<I: Source<InternalValue>>(alloc: Global, source: &mut I) -> Result<String> {
     let mut text = String::new(alloc);
     while let Some(entry) = source.next_entry(alloc)? {
-        push_word(&mut text, word_of(alloc, &entry)?.as_str())?;
+        push_entry(alloc, &mut text, &entry)?;
     }
     or_none(alloc, text)
 }
@@ -57,8 +41,8 @@ fn no_sources(alloc: Global, room: &mut Room) -> Result<String> {
     Ok(String::from_str(alloc, "0 sources")?)
 }
 
-/// Adds a source: ENTRY ..
-fn source<H: BlockHash>(alloc: Global, room: &mut Room, words: &[&str]) -> Result<String> {
+/// Returns the entries of some words, which are in order.
+fn list_of<H: BlockHash>(alloc: Global, words: &[&str]) -> Result<Vec<InternalValue>> {
     let mut list = Vec::new(alloc);
     for word in words {
         list.push(entry_of(alloc, word)?)?;
@@ -66,6 +50,12 @@ fn source<H: BlockHash>(alloc: Global, room: &mut Room, words: &[&str]) -> Resul
     if !DataBlock::<H>::is_ordered(list.as_slice()) {
         return Err(Fault::Word);
     }
+    Ok(list)
+}
+
+/// Adds a source: ENTRY ..
+fn source<H: BlockHash>(alloc: Global, room: &mut Room, words: &[&str]) -> Result<String> {
+    let list = list_of::<H>(alloc, words)?;
     let count = list.len();
     room.sources.push(list)?;
     Ok(format!(in alloc; "{} sources, {count} entries", room.sources.len())?)
@@ -80,23 +70,26 @@ fn entry_front(alloc: Global, key: &[u8]) -> Result<u128> {
     Ok(InternalValue::from_components(key, value, 1, ValueType::Value).front())
 }
 
+/// The front of a key in two parts, if the whole key and its entry have the same.
+fn same_front(alloc: Global, front: u128, key: &[u8]) -> Result<String> {
+    let whole = front_of_key(&[], key);
+    let of_entry = entry_front(alloc, key)?;
+    if front == whole && front == of_entry {
+        return hex_of(alloc, &front.to_be_bytes());
+    }
+    Ok(format!(in alloc; "{front}, whole {whole}, of an entry {of_entry}")?)
+}
+
 /// The front of a key, in two parts: BYTES BYTES.
 fn key_front(alloc: Global, words: &[&str]) -> Result<String> {
     let [left, right] = words else {
         return Err(Fault::Word);
     };
-    let (left, right) = (bytes_of(alloc, left)?, bytes_of(alloc, right)?);
-    let front = front_of_key(left.as_slice(), right.as_slice());
-    let mut key = left;
+    let mut key = bytes_of(alloc, left)?;
+    let right = bytes_of(alloc, right)?;
+    let front = front_of_key(key.as_slice(), right.as_slice());
     key.extend_from_slice(right.as_slice())?;
-    let (whole, of_entry) = (
-        front_of_key(&[], key.as_slice()),
-        entry_front(alloc, key.as_slice())?,
-    );
-    if front == whole && front == of_entry {
-        return hex_of(alloc, &front.to_be_bytes());
-    }
-    Ok(format!(in alloc; "{front}, whole {whole}, of an entry {of_entry}")?)
+    same_front(alloc, front, key.as_slice())
 }
 
 /// Performs a command, if it is one on sources.

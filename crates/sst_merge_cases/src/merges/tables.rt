@@ -1,18 +1,17 @@
 //! Tables into which sources are compacted, and how these are read.
 ghost use Rattle.std.specs.Prelude.{Some, [], map};
 
-use super::merging::{drained_back, level_of};
-use super::{drained, memory_of, merge_of, or_none};
+use super::merging::level_of;
+use super::or_none;
+use super::sources::{memory_of, merge_of, merged, merged_back, sources_of};
 use sst_base::{BlockHash, HashRatio, InternalValue, Slice, Steps};
 use sst_case_room::fault::{Fault, Result};
 use sst_case_room::room::{KeptTable, Room};
 use sst_case_room::texts::agreed;
 use sst_case_room::words::{bytes_of, number_of, push_word, word_of_found};
-use sst_merge::{
-    Head, Merge, MergeBack, Outputs, Ranged, Sizes, Source, Tail, compact_tables, read_tables,
-};
+use sst_merge::{Outputs, Ranged, Reader, Sizes, Source, compact_tables, read_tables};
 use sstable_blocks::Table;
-use sstable_blocks::run::{MemorySource, RunConfig, RunHandles, Scan};
+use sstable_blocks::run::{FrameSource, MemorySource, RunConfig, RunHandles, RunSummary, Scan};
 use std::alloc::Global;
 use std::ops::Bound;
 
@@ -52,27 +51,46 @@ struct Plan {
     sizes: Sizes,
 }
 
-/// Returns the sizes of two numbers.
-fn sizes_of(block: u64, table: u64) -> Sizes {
-    Sizes {
-        block: block as usize,
-        table: table as usize,
+/// Returns the sizes of two words.
+fn sizes_of(block: &str, table: &str) -> Result<Sizes> {
+    match (number_of(block), number_of(table)) {
+        (Ok(block), Ok(table)) => Ok(Sizes {
+            block: block as usize,
+            table: table as usize,
+        }),
+        _ => Err(Fault::Word),
     }
 }
 
-/// Compacts a source into tables in memory.
+/// Returns no tables.
+fn no_tables(alloc: Global) -> Kept {
+    Kept {
+        alloc,
+        tables: Vec::new(alloc),
+    }
+}
+
+/// Compacts a source into tables in memory, which are added.
 fn compact_into<H: BlockHash, I: Source<InternalValue> + Drop>(
     alloc: Global,
     source: I,
     plan: Plan,
-) -> Result<Vec<KeptTable>> {
-    let mut kept = Kept {
-        alloc,
-        tables: Vec::new(alloc),
-    };
+    kept: &mut Kept,
+) -> Result<()> {
     let config = RunConfig::new(2, HashRatio { num: 1, den: 1 }, 10);
     let (seqno, bottom, sizes) = (plan.seqno, plan.bottom, plan.sizes);
-    compact_tables::<H, I, Kept>(alloc, source, seqno, bottom, &mut kept, config, sizes)?;
+    Ok(compact_tables::<H, I, Kept>(alloc, source, seqno, bottom, kept, config, sizes)?)
+}
+
+/// The tables into which the merge of sources is compacted.
+fn compacted<H: BlockHash, I: Source<InternalValue> + Drop>(
+    alloc: Global,
+    sources: Result<Vec<I>>,
+    plan: Plan,
+) -> Result<Vec<KeptTable>> {
+    let merge = merge_of(alloc, sources)?;
+    let mut kept = no_tables(alloc);
+    compact_into::<H, _>(alloc, merge, plan, &mut kept)?;
     Ok(kept.tables)
 }
 
@@ -88,13 +106,34 @@ fn table_of<H: BlockHash>(alloc: Global, written: &KeptTable) -> Result<OpenTabl
     }
 }
 
+/// The numbers of entries and of blocks of a summary.
+fn text_of(alloc: Global, summary: &RunSummary) -> Result<String> {
+    let (entries, blocks) = (summary.entries, summary.blocks);
+    Ok(format!(in alloc; "{entries}/{blocks}")?)
+}
+
+/// The numbers of entries and of blocks of a table.
+fn counts_in<H: BlockHash, S: FrameSource + Drop>(
+    alloc: Global,
+    mut table: Table<H, S>,
+) -> Result<String> {
+    match table.verify(alloc) {
+        Ok(summary) => text_of(alloc, &summary),
+        Err(error) => Err(Fault::Refused(error)),
+    }
+}
+
+/// The numbers of entries and of blocks of a written table.
+fn counts_of<H: BlockHash>(alloc: Global, written: &KeptTable) -> Result<String> {
+    let table = table_of::<H>(alloc, written)?;
+    counts_in(alloc, table)
+}
+
 /// The numbers of entries and of blocks of each table.
-fn counts_of<H: BlockHash>(alloc: Global, tables: &[KeptTable]) -> Result<String> {
+fn all_counts<H: BlockHash>(alloc: Global, tables: &[KeptTable]) -> Result<String> {
     let mut text = String::new(alloc);
     for written in tables {
-        let summary = table_of::<H>(alloc, written)?.verify(alloc)?;
-        let (entries, blocks) = (summary.entries, summary.blocks);
-        push_word(&mut text, format!(in alloc; "{entries}/{blocks}")?.as_str())?;
+        push_word(&mut text, counts_of::<H>(alloc, written)?.as_str())?;
     }
     or_none(alloc, text)
 }
@@ -107,11 +146,19 @@ fn tables<H: BlockHash>(alloc: Global, room: &mut Room, words: &[&str]) -> Resul
     let plan = Plan {
         seqno: number_of(seqno)?,
         bottom: level_of(level)?,
-        sizes: sizes_of(number_of(block)?, number_of(table)?),
+        sizes: sizes_of(block, table)?,
     };
-    let merge = merge_of(alloc, room)?;
-    room.tables = compact_into::<H, _>(alloc, merge, plan)?;
-    counts_of::<H>(alloc, room.tables.as_slice())
+    room.tables = compacted::<H, _>(alloc, sources_of(alloc, room), plan)?;
+    all_counts::<H>(alloc, room.tables.as_slice())
+}
+
+/// A table as a reader, with the range of its keys.
+fn ranged<H: BlockHash, S: FrameSource + Drop>(
+    alloc: Global,
+    mut table: Table<H, S>,
+) -> Result<Ranged<Table<H, S>>> {
+    let summary = table.verify(alloc)?;
+    Ok(Ranged::new(table, summary.first_key, summary.last_key))
 }
 
 /// The tables as readers, each with the range of its keys.
@@ -121,11 +168,36 @@ fn readers_of<H: BlockHash>(
 ) -> Result<Vec<Ranged<OpenTable<H>>>> {
     let mut readers = Vec::new(alloc);
     for written in tables {
-        let mut table = table_of::<H>(alloc, written)?;
-        let summary = table.verify(alloc)?;
-        readers.push(Ranged::new(table, summary.first_key, summary.last_key))?;
+        readers.push(ranged(alloc, table_of::<H>(alloc, written)?)?)?;
     }
     Ok(readers)
+}
+
+/// Returns the word of what is found.
+fn word_of_read(alloc: Global, found: sst_base::Result<Option<InternalValue>>) -> Result<String> {
+    let found = found?;
+    word_of_found(alloc, found.as_ref())
+}
+
+/// A read of a key over readers.
+fn read<R: Reader>(alloc: Global, readers: &mut [R], key: &str, seqno: u64) -> Result<String> {
+    let key = bytes_of(alloc, key)?;
+    let found = read_tables(alloc, readers, key.as_slice(), seqno, &mut Steps::new());
+    word_of_read(alloc, found)
+}
+
+/// Reads of keys over readers.
+fn read_all<R: Reader>(
+    alloc: Global,
+    readers: &mut [R],
+    seqno: &str,
+    keys: &[&str],
+) -> Result<String> {
+    let (seqno, mut text) = (number_of(seqno)?, String::new(alloc));
+    for key in keys {
+        push_word(&mut text, read(alloc, readers, key, seqno)?.as_str())?;
+    }
+    Ok(text)
 }
 
 /// Reads over the tables: SEQNO KEY ..
@@ -134,64 +206,60 @@ fn look<H: BlockHash>(alloc: Global, room: &Room, words: &[&str]) -> Result<Stri
         return Err(Fault::Word);
     };
     let mut readers = readers_of::<H>(alloc, room.tables.as_slice())?;
-    let (seqno, mut text) = (number_of(seqno)?, String::new(alloc));
-    for key in keys {
-        let key = bytes_of(alloc, key)?;
-        let readers = readers.as_mut_slice();
-        let found = read_tables(alloc, readers, key.as_slice(), seqno, &mut Steps::new())?;
-        push_word(&mut text, word_of_found(alloc, found.as_ref())?.as_str())?;
-    }
-    Ok(text)
+    read_all(alloc, readers.as_mut_slice(), seqno, keys)
 }
 
 /// A scan of a stored table.
 type StoredScan<H> = Scan<'static, H, MemorySource>;
 
-/// Adds scans of tables.
-fn add_scans<H: BlockHash>(
-    alloc: Global,
-    scans: &mut Vec<StoredScan<H>>,
-    tables: &[KeptTable],
-) -> Result<()> {
-    for written in tables {
-        let table = table_of::<H>(alloc, written)?;
-        scans.push(table.scan_range(Bound::Unbounded, Bound::Unbounded))?;
-    }
-    Ok(())
+/// Opens a table and scans it.
+fn scan_of<H: BlockHash>(alloc: Global, written: &KeptTable) -> Result<StoredScan<H>> {
+    let table = table_of::<H>(alloc, written)?;
+    Ok(table.scan_range(Bound::Unbounded, Bound::Unbounded))
 }
 
-/// Scans of tables into which each source is written.
-fn scans_of<H: BlockHash>(alloc: Global, room: &Room, sizes: Sizes) -> Result<Vec<StoredScan<H>>> {
+/// Scans of tables.
+fn scans_of<H: BlockHash>(alloc: Global, tables: &[KeptTable]) -> Result<Vec<StoredScan<H>>> {
     let mut scans = Vec::new(alloc);
+    for written in tables {
+        scans.push(scan_of::<H>(alloc, written)?)?;
+    }
+    Ok(scans)
+}
+
+/// The merge of scans of tables.
+fn by_scans<H: BlockHash>(alloc: Global, tables: &[KeptTable]) -> Result<String> {
+    merged(alloc, scans_of::<H>(alloc, tables))
+}
+
+/// The same from the back.
+fn by_scans_back<H: BlockHash>(alloc: Global, tables: &[KeptTable]) -> Result<String> {
+    merged_back(alloc, scans_of::<H>(alloc, tables))
+}
+
+/// Writes a list into tables, which are added.
+fn write_list<H: BlockHash>(
+    alloc: Global,
+    list: &[InternalValue],
+    sizes: Sizes,
+    kept: &mut Kept,
+) -> Result<()> {
     let plan = Plan {
         seqno: 0,
         bottom: false,
         sizes,
     };
+    let source = memory_of(alloc, list)?;
+    compact_into::<H, _>(alloc, source, plan, kept)
+}
+
+/// The tables into which each source is written.
+fn written<H: BlockHash>(alloc: Global, room: &Room, sizes: Sizes) -> Result<Vec<KeptTable>> {
+    let mut kept = no_tables(alloc);
     for list in &room.sources {
-        let source = memory_of(list.as_slice(), alloc)?;
-        let tables = compact_into::<H, _>(alloc, source, plan)?;
-        add_scans::<H>(alloc, &mut scans, tables.as_slice())?;
+        write_list::<H>(alloc, list.as_slice(), sizes, &mut kept)?;
     }
-    Ok(scans)
-}
-
-/// The merge of scans, from the front.
-fn merged_scans<H: BlockHash>(alloc: Global, room: &Room, sizes: Sizes) -> Result<String> {
-    let mut heads = Vec::new(alloc);
-    for scan in scans_of::<H>(alloc, room, sizes)? {
-        heads.push(Head::new(alloc, scan)?)?;
-    }
-    drained(alloc, &mut Merge::new(heads))
-}
-
-/// The merge of scans, from the back.
-fn merged_scans_back<H: BlockHash>(alloc: Global, room: &Room, sizes: Sizes) -> Result<String> {
-    let mut tails = Vec::new(alloc);
-    for scan in scans_of::<H>(alloc, room, sizes)? {
-        tails.push(Tail::new(alloc, scan)?)?;
-    }
-    drained_back(alloc, &mut MergeBack::new(tails))
+    Ok(kept.tables)
 }
 
 /// The merge of scans of tables into which each source is written: BLOCK_SIZE TABLE_SIZE.
@@ -199,10 +267,10 @@ fn stored<H: BlockHash>(alloc: Global, room: &Room, words: &[&str]) -> Result<St
     let [block, table] = words else {
         return Err(Fault::Word);
     };
-    let sizes = sizes_of(number_of(block)?, number_of(table)?);
+    let tables = written::<H>(alloc, room, sizes_of(block, table)?)?;
     let found = [
-        merged_scans::<H>(alloc, room, sizes),
-        merged_scans_back::<H>(alloc, room, sizes),
+        by_scans::<H>(alloc, tables.as_slice()),
+        by_scans_back::<H>(alloc, tables.as_slice()),
     ];
     agreed(alloc, &found)
 }

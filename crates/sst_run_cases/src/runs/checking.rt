@@ -1,15 +1,12 @@
 //! Checks of runs.
 
-use super::{File, file_of, run_of};
+use super::asked::{Asked, Place, of_run};
 use sst_base::{BlockHash, Error};
 use sst_case_room::fault::{Fault, Result};
 use sst_case_room::room::Room;
 use sst_case_room::texts::agreed;
 use sst_case_room::words::hex_of;
-use sstable_blocks::Table;
-use sstable_blocks::run::{
-    BorrowedSource, FrameSource, MemorySource, RunHandles, RunRef, RunSummary, check,
-};
+use sstable_blocks::run::{FrameSource, RunHandles, RunRef, RunSummary, check};
 use std::alloc::Global;
 
 /// What a check finds.
@@ -33,13 +30,13 @@ fn text_of(alloc: Global, summary: &RunSummary) -> Result<String> {
 }
 
 /// Returns the text of what a check finds.
-fn summary_of(alloc: Global, checked: Checked) -> Result<String> {
+pub fn summary_of(alloc: Global, checked: Checked) -> Result<String> {
     let summary = checked?;
     text_of(alloc, &summary)
 }
 
 /// The check of a run in a source.
-fn checked<H: BlockHash, S: FrameSource + Drop>(
+pub fn checked<H: BlockHash, S: FrameSource + Drop>(
     alloc: Global,
     mut source: S,
     handles: &RunHandles,
@@ -47,49 +44,28 @@ fn checked<H: BlockHash, S: FrameSource + Drop>(
     summary_of(alloc, check::<H, S>(alloc, &mut source, handles))
 }
 
-/// The check of a run in a source by a table, which is opened first.
-fn verified<H: BlockHash, S: FrameSource + Drop>(
-    alloc: Global,
-    source: S,
-    handles: RunHandles,
-) -> Result<String> {
-    let mut table = match Table::<H, S>::open(alloc, source, handles) {
-        Ok(table) => table,
-        Err(refused) => return Err(Fault::Refused(refused.error)),
-    };
-    summary_of(alloc, table.verify(alloc))
-}
-
-/// The check of a run in borrowed bytes.
-fn by_ref<H: BlockHash>(alloc: Global, bytes: &[u8], handles: &RunHandles) -> Result<String> {
-    let checked = RunRef::<H>::check(alloc, bytes, handles)?;
+/// The check of the run in bytes that are lent, by what borrows them.
+fn by_ref<H: BlockHash>(alloc: Global, room: &Room) -> Result<String> {
+    let handles = room.places.ok_or(Fault::Word)?;
+    let checked = RunRef::<H>::check(alloc, room.payload.as_slice(), &handles)?;
     text_of(alloc, &checked.1)
 }
 
-/// The check of a copy of a run.
-fn check_copy<H: BlockHash>(alloc: Global, room: &Room) -> Result<String> {
-    let (run, handles) = run_of(alloc, room)?;
-    checked::<H, MemorySource>(alloc, MemorySource::new(run), &handles)
-}
-
-/// The check of a run in memory, by each of its calls.
+/// The check of the run in memory, by each of its calls.
 fn check_memory<H: BlockHash>(alloc: Global, room: &Room) -> Result<String> {
-    let handles = room.places.ok_or(Fault::Word)?;
-    let bytes = room.payload.as_slice();
     let found = [
-        check_copy::<H>(alloc, room),
-        verified::<H, BorrowedSource<'_>>(alloc, BorrowedSource::new(bytes), handles),
-        by_ref::<H>(alloc, bytes, &handles),
+        of_run::<H>(alloc, room, Place::Memory, Asked::Check),
+        of_run::<H>(alloc, room, Place::Lent, Asked::Verify),
+        by_ref::<H>(alloc, room),
     ];
     agreed(alloc, &found)
 }
 
-/// The check of a run in a file, by each of its calls.
+/// The check of the run in a file, by each of its calls.
 fn check_file<H: BlockHash>(alloc: Global, room: &Room) -> Result<String> {
-    let handles = room.places.ok_or(Fault::Word)?;
     let found = [
-        checked::<H, File<'_>>(alloc, file_of(room), &handles),
-        verified::<H, File<'_>>(alloc, file_of(room), handles),
+        of_run::<H>(alloc, room, Place::File, Asked::Check),
+        of_run::<H>(alloc, room, Place::File, Asked::Verify),
     ];
     agreed(alloc, &found)
 }
@@ -109,9 +85,9 @@ pub fn perform<H: BlockHash>(
     room: &Room,
     name: &str,
     words: &[&str],
-) -> Result<Option<String>> {
-    if name != "verify" {
-        return Ok(None);
+) -> Option<Result<String>> {
+    match name {
+        "verify" => Some(verify::<H>(alloc, room, words)),
+        _ => None,
     }
-    Ok(Some(verify::<H>(alloc, room, words)?))
 }

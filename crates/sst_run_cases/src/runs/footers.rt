@@ -1,13 +1,16 @@
 //! Commands on where the index and the filter of a run are, and on footers.
 
-use super::{File, file_of, text_of};
+use super::text_of;
 use sst_base::{BlockHandle, BlockHash, BlockOffset, Slice};
 use sst_case_room::fault::{Fault, Result};
 use sst_case_room::room::Room;
 use sst_case_room::words::{number_of, size_of};
 use sstable_blocks::Table;
-use sstable_blocks::run::{MemorySource, RunHandles, SizedSource, decode_footer, encode_footer};
+use sstable_blocks::run::{
+    FileSource, MemorySource, RunHandles, SizedSource, decode_footer, encode_footer,
+};
 use std::alloc::Global;
+use std::io::Cursor;
 
 /// Returns the place of a word: offset and size, joined by a dot.
 fn handle_of(word: &str) -> Result<BlockHandle> {
@@ -63,14 +66,19 @@ fn opened<H: BlockHash, S: SizedSource + Drop>(alloc: Global, source: S) -> Resu
     }
 }
 
+/// Opens bytes as a table file, in memory or in a file.
+fn handles_in<H: BlockHash>(alloc: Global, bytes: &[u8], in_file: bool) -> Result<RunHandles> {
+    if in_file {
+        opened::<H, _>(alloc, FileSource::new(Cursor::new(bytes)))
+    } else {
+        opened::<H, _>(alloc, MemorySource::new(Slice::new(alloc, bytes)?))
+    }
+}
+
 /// Opens the payload as a table file, in memory or in a file, and takes its handles: WHERE.
 fn open<H: BlockHash>(alloc: Global, room: &mut Room, words: &[&str]) -> Result<String> {
-    let handles = if words == ["file"].as_slice() {
-        opened::<H, File<'_>>(alloc, file_of(room))?
-    } else {
-        let memory = MemorySource::new(Slice::new(alloc, room.payload.as_slice())?);
-        opened::<H, MemorySource>(alloc, memory)?
-    };
+    let in_file = words == ["file"].as_slice();
+    let handles = handles_in::<H>(alloc, room.payload.as_slice(), in_file)?;
     room.places = Some(handles);
     text_of(alloc, &handles)
 }
@@ -81,13 +89,12 @@ pub fn perform<H: BlockHash>(
     room: &mut Room,
     name: &str,
     words: &[&str],
-) -> Result<Option<String>> {
-    let answer = match name {
+) -> Option<Result<String>> {
+    Some(match name {
         "places" => set_places(alloc, room, words),
         "end" => end(alloc, room),
         "footer" => footer(alloc, room),
         "open" => open::<H>(alloc, room, words),
-        _ => return Ok(None),
-    };
-    Ok(Some(answer?))
+        _ => return None,
+    })
 }

@@ -22,30 +22,27 @@ pub fn bound_of(end: &End) -> Bound<&[u8]> {
     }
 }
 
+/// Returns an end of a range that has a key, or has none and is `*`.
+fn end_with(
+    alloc: Global,
+    word: &str,
+    included: Option<&str>,
+    excluded: Option<&str>,
+) -> Result<End> {
+    match (included, excluded) {
+        (Some(key), _) => Ok(End::Included(bytes_of(alloc, key)?)),
+        (None, Some(key)) => Ok(End::Excluded(bytes_of(alloc, key)?)),
+        (None, None) if word == "*" => Ok(End::Open),
+        (None, None) => Err(Fault::Word),
+    }
+}
+
 /// Returns the start of a range: `*`, or a key behind `[` or `(`.
 pub fn start_of(alloc: Global, word: &str) -> Result<End> {
-    if word == "*" {
-        return Ok(End::Open);
-    }
-    if let Some(key) = word.strip_prefix('[') {
-        return Ok(End::Included(bytes_of(alloc, key)?));
-    }
-    match word.strip_prefix('(') {
-        Some(key) => Ok(End::Excluded(bytes_of(alloc, key)?)),
-        None => Err(Fault::Word),
-    }
+    end_with(alloc, word, word.strip_prefix('['), word.strip_prefix('('))
 }
 
 /// Returns the end of a range: `*`, or a key before `]` or `)`.
 pub fn end_of(alloc: Global, word: &str) -> Result<End> {
-    if word == "*" {
-        return Ok(End::Open);
-    }
-    if let Some(key) = word.strip_suffix(']') {
-        return Ok(End::Included(bytes_of(alloc, key)?));
-    }
-    match word.strip_suffix(')') {
-        Some(key) => Ok(End::Excluded(bytes_of(alloc, key)?)),
-        None => Err(Fault::Word),
-    }
+    end_with(alloc, word, word.strip_suffix(']'), word.strip_suffix(')'))
 }

@@ -4,32 +4,30 @@ ghost use Rattle.sst_base.specs.Entry.{Entry};
 ghost use Rattle.sstable_blocks.specs.RunReading.{hashes};
 ghost use Rattle.sstable_blocks.specs.Sound.{IsSound};
 
-use super::sound::{Asked, Query, by_trusted, of_sound};
-use super::{file_of, run_of};
+use super::asked::{Asked, Place, Query, Wanted, by_trusted, of_run, of_sound};
 use sst_base::{BlockHash, Error, InternalValue, Slice, Steps};
+use sst_block_kinds::table::data_block::EntryView;
 use sst_case_room::digest::Digest;
 use sst_case_room::fault::{Fault, Result};
 use sst_case_room::room::Room;
 use sst_case_room::texts::agreed;
-use sst_case_room::words::{bytes_of, number_of, word_of_found};
-use sstable_blocks::Table;
+use sst_case_room::words::{bytes_of, number_of, word_of, word_of_found};
 use sstable_blocks::run::{
-    BorrowedSource, CheckedRun, FrameSource, MemorySource, RunHandles, Trusted, read_entry,
-    read_entry_checked,
+    CheckedRun, FrameSource, RunHandles, Trusted, read_entry, read_entry_checked,
 };
 use std::alloc::Global;
 
-/// What is found, as a text.
+/// What is found.
 type Found = std::result::Result<Option<InternalValue>, Error>;
 
 /// Returns the text of what is found.
-fn text_of(alloc: Global, found: Found) -> Result<String> {
+pub fn text_of(alloc: Global, found: Found) -> Result<String> {
     let found = found?;
     word_of_found(alloc, found.as_ref())
 }
 
 /// A checked read of the run in a source.
-fn fetched<H: BlockHash, S: FrameSource + Drop>(
+pub fn fetched<H: BlockHash, S: FrameSource + Drop>(
     alloc: Global,
     mut source: S,
     handles: &RunHandles,
@@ -37,26 +35,6 @@ fn fetched<H: BlockHash, S: FrameSource + Drop>(
 ) -> Result<String> {
     let found = read_entry_checked::<H, S>(alloc, &mut source, handles, query.0, query.1);
     text_of(alloc, found)
-}
-
-/// A checked read of the run in memory.
-fn fetched_in_memory<H: BlockHash>(alloc: Global, room: &Room, query: Query<'_>) -> Result<String> {
-    let (run, handles) = run_of(alloc, room)?;
-    fetched::<H, _>(alloc, MemorySource::new(run), &handles, query)
-}
-
-/// A read of a run in a source by a table.
-fn by_table<H: BlockHash, S: FrameSource + Drop>(
-    alloc: Global,
-    source: S,
-    handles: &RunHandles,
-    query: Query<'_>,
-) -> Result<String> {
-    let mut table = match Table::<H, S>::open(alloc, source, *handles) {
-        Ok(table) => table,
-        Err(refused) => return Err(Fault::Refused(refused.error)),
-    };
-    text_of(alloc, table.get(alloc, query.0, query.1, &mut Steps::new()))
 }
 
 /// A read of a run that was checked.
@@ -85,19 +63,22 @@ fn by_bytes<H: BlockHash>(
     text_of(alloc, found)
 }
 
+/// Returns the text of what is found, which borrows its bytes.
+fn text_of_view(alloc: Global, found: Option<EntryView<'_>>) -> Result<String> {
+    match found {
+        Some(view) => word_of(alloc, &view.to_entry(alloc)?),
+        None => word_of_found(alloc, None),
+    }
+}
+
 /// A read that borrows what it finds.
 fn by_ref<H: BlockHash>(
     alloc: Global,
     trusted: &Trusted<'_, H>,
     query: Query<'_>,
 ) -> Result<String> {
-    match trusted.by_ref().find(query.0, query.1, &mut Steps::new()) {
-        Some(view) => {
-            let entry = view.to_entry(alloc)?;
-            word_of_found(alloc, Some(&entry))
-        }
-        None => word_of_found(alloc, None),
-    }
+    let run = trusted.by_ref();
+    text_of_view(alloc, run.find(query.0, query.1, &mut Steps::new()))
 }
 
 /// The reads of a sound run in memory by a table without checks.
@@ -127,7 +108,7 @@ fn unchecked<H: BlockHash>(
     let found = [
         by_checked::<H>(alloc, checked, query),
         by_bytes::<H>(alloc, run, handles, query),
-        by_trusted::<H>(alloc, run, handles, Asked::Read(query)),
+        by_trusted::<H>(alloc, run, handles, Wanted::Read(query)),
     ];
     agreed(alloc, &found)
 }
@@ -147,9 +128,9 @@ pub fn read_sound<H: BlockHash>(
     let unchecked = unchecked::<H>(alloc, checked, run, handles, query)?;
     let found = [
         Ok(unchecked),
-        by_table::<H, _>(alloc, file_of(room), handles, query),
-        fetched_in_memory::<H>(alloc, room, query),
-        fetched::<H, _>(alloc, file_of(room), handles, query),
+        of_run::<H>(alloc, room, Place::File, Asked::Read(query)),
+        of_run::<H>(alloc, room, Place::Memory, Asked::Fetch(query)),
+        of_run::<H>(alloc, room, Place::File, Asked::Fetch(query)),
     ];
     agreed(alloc, &found)
 }
@@ -159,8 +140,9 @@ fn get<H: BlockHash>(alloc: Global, room: &Room, words: &[&str]) -> Result<Strin
     let [key, seqno] = words else {
         return Err(Fault::Word);
     };
-    let (key, seqno) = (bytes_of(alloc, key)?, number_of(seqno)?);
-    of_sound::<H>(alloc, room, Asked::Read((key.as_slice(), seqno)))
+    let seqno = number_of(seqno)?;
+    let key = bytes_of(alloc, key)?;
+    of_sound::<H>(alloc, room, Wanted::Read((key.as_slice(), seqno)))
 }
 
 /// The query of a number: each key of the list below its sequence number and above it, and then a
@@ -182,7 +164,7 @@ fn add<H: BlockHash>(
     query: Query<'_>,
     results: &mut Digest,
 ) -> Result<bool> {
-    let text = of_sound::<H>(alloc, room, Asked::Read(query))?;
+    let text = of_sound::<H>(alloc, room, Wanted::Read(query))?;
     results.add(text.as_str());
     Ok(text.as_str() != "none")
 }
@@ -201,17 +183,11 @@ fn reads<H: BlockHash>(alloc: Global, room: &Room) -> Result<String> {
     Ok(format!(in alloc; "{total} reads, {count} found, {state:016x}")?)
 }
 
-/// A checked read of borrowed bytes, and of a copy of them.
-fn fetched_twice<H: BlockHash>(
-    alloc: Global,
-    room: &Room,
-    handles: &RunHandles,
-    query: Query<'_>,
-) -> Result<String> {
-    let bytes = BorrowedSource::new(room.payload.as_slice());
+/// A checked read in memory, and in bytes that are lent.
+fn fetch_memory<H: BlockHash>(alloc: Global, room: &Room, query: Query<'_>) -> Result<String> {
     let found = [
-        fetched_in_memory::<H>(alloc, room, query),
-        fetched::<H, _>(alloc, bytes, handles, query),
+        of_run::<H>(alloc, room, Place::Memory, Asked::Fetch(query)),
+        of_run::<H>(alloc, room, Place::Lent, Asked::Fetch(query)),
     ];
     agreed(alloc, &found)
 }
@@ -221,13 +197,13 @@ fn fetch<H: BlockHash>(alloc: Global, room: &Room, words: &[&str]) -> Result<Str
     let [place, key, seqno] = words else {
         return Err(Fault::Word);
     };
-    let (key, seqno) = (bytes_of(alloc, key)?, number_of(seqno)?);
+    let seqno = number_of(seqno)?;
+    let key = bytes_of(alloc, key)?;
     let query = (key.as_slice(), seqno);
-    let handles = room.places.ok_or(Fault::Word)?;
     if *place == "file" {
-        fetched::<H, _>(alloc, file_of(room), &handles, query)
+        of_run::<H>(alloc, room, Place::File, Asked::Fetch(query))
     } else {
-        fetched_twice::<H>(alloc, room, &handles, query)
+        fetch_memory::<H>(alloc, room, query)
     }
 }
 
@@ -237,12 +213,11 @@ pub fn perform<H: BlockHash>(
     room: &Room,
     name: &str,
     words: &[&str],
-) -> Result<Option<String>> {
-    let answer = match name {
+) -> Option<Result<String>> {
+    Some(match name {
         "get" => get::<H>(alloc, room, words),
         "reads" => reads::<H>(alloc, room),
         "fetch" => fetch::<H>(alloc, room, words),
-        _ => return Ok(None),
-    };
-    Ok(Some(answer?))
+        _ => return None,
+    })
 }

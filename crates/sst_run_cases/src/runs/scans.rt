@@ -4,18 +4,15 @@ ghost use Rattle.sst_base.specs.Entry.{Entry};
 ghost use Rattle.sstable_blocks.specs.RunReading.{hashes};
 ghost use Rattle.sstable_blocks.specs.Sound.{IsSound};
 
+use super::asked::{Asked, Place, Wanted, by_trusted, of_run, of_sound};
 use super::ranges::{End, bound_of, end_of, start_of};
-use super::sound::{Asked, by_trusted, of_sound};
-use super::{file_of, run_of};
 use sst_base::{BlockHash, Error, InternalValue, Slice};
 use sst_case_room::fault::{Fault, Result};
 use sst_case_room::room::Room;
 use sst_case_room::texts::agreed;
 use sst_case_room::words::{push_word, word_of_found};
 use sstable_blocks::Table;
-use sstable_blocks::run::{
-    BorrowedSource, FrameSource, MemorySource, RunHandles, RunScan, Scan, Trusted, TrustedScan,
-};
+use sstable_blocks::run::{FrameSource, RunHandles, RunScan, Scan, Trusted, TrustedScan};
 use std::alloc::Global;
 
 /// What is found.
@@ -69,12 +66,22 @@ fn word_of_taken(alloc: Global, taken: Found) -> Result<String> {
     }
 }
 
-/// Takes steps of a scan: `n` takes the first entry left, and another letter the last.
-fn steps_of<S: BothEnds>(alloc: Global, scan: &mut S, steps: &str) -> Result<String> {
+/// Appends what a step of a scan takes: `n` takes the first entry left, and another letter the last.
+fn push_step<S: BothEnds>(
+    alloc: Global,
+    scan: &mut S,
+    letter: u8,
+    text: &mut String,
+) -> Result<()> {
+    let taken = scan.step(alloc, letter == b'n');
+    push_word(text, word_of_taken(alloc, taken)?.as_str())
+}
+
+/// Takes steps of a scan.
+fn steps_of<S: BothEnds + Drop>(alloc: Global, mut scan: S, steps: &str) -> Result<String> {
     let mut text = String::new(alloc);
     for letter in steps.as_bytes() {
-        let taken = scan.step(alloc, *letter == b'n');
-        push_word(&mut text, word_of_taken(alloc, taken)?.as_str())?;
+        push_step(alloc, &mut scan, *letter, &mut text)?;
     }
     Ok(text)
 }
@@ -87,19 +94,14 @@ pub struct Path<'a> {
     steps: &'a str,
 }
 
-/// Scans a run in a source.
-fn scanned<H: BlockHash, S: FrameSource + Drop>(
+/// Scans a table.
+pub fn scan_table<H: BlockHash, S: FrameSource + Drop>(
     alloc: Global,
-    source: S,
-    handles: &RunHandles,
+    table: Table<H, S>,
     path: &Path<'_>,
 ) -> Result<String> {
-    let table = match Table::<H, S>::open(alloc, source, *handles) {
-        Ok(table) => table,
-        Err(refused) => return Err(Fault::Refused(refused.error)),
-    };
-    let mut scan = table.scan_range(bound_of(&path.start), bound_of(&path.end));
-    steps_of(alloc, &mut scan, path.steps)
+    let (start, end) = (bound_of(&path.start), bound_of(&path.end));
+    steps_of(alloc, table.scan_range(start, end), path.steps)
 }
 
 /// Scans a sound run by a table without checks.
@@ -108,8 +110,8 @@ fn by_table<H: BlockHash>(
     trusted: &Trusted<'_, H>,
     path: &Path<'_>,
 ) -> Result<String> {
-    let mut scan = trusted.scan_range(bound_of(&path.start), bound_of(&path.end));
-    steps_of(alloc, &mut scan, path.steps)
+    let (start, end) = (bound_of(&path.start), bound_of(&path.end));
+    steps_of(alloc, trusted.scan_range(start, end), path.steps)
 }
 
 /// Scans a sound run by views that borrow its bytes.
@@ -118,9 +120,9 @@ fn by_ref<H: BlockHash>(
     trusted: &Trusted<'_, H>,
     path: &Path<'_>,
 ) -> Result<String> {
+    let (start, end) = (bound_of(&path.start), bound_of(&path.end));
     let run = trusted.by_ref();
-    let mut scan = run.scan_range(bound_of(&path.start), bound_of(&path.end));
-    steps_of(alloc, &mut scan, path.steps)
+    steps_of(alloc, run.scan_range(start, end), path.steps)
 }
 
 /// Scans a sound run in memory without checks.
@@ -136,19 +138,11 @@ pub fn scan_trusted<H: BlockHash>(
     agreed(alloc, &found)
 }
 
-/// Scans a copy of a run with checks.
-fn scan_memory<H: BlockHash>(alloc: Global, room: &Room, path: &Path<'_>) -> Result<String> {
-    let (run, handles) = run_of(alloc, room)?;
-    scanned::<H, _>(alloc, MemorySource::new(run), &handles, path)
-}
-
 /// Scans a run in memory with checks.
 fn scan_checked<H: BlockHash>(alloc: Global, room: &Room, path: &Path<'_>) -> Result<String> {
-    let handles = room.places.ok_or(Fault::Word)?;
-    let bytes = BorrowedSource::new(room.payload.as_slice());
     let found = [
-        scan_memory::<H>(alloc, room, path),
-        scanned::<H, _>(alloc, bytes, &handles, path),
+        of_run::<H>(alloc, room, Place::Memory, Asked::Scan(path)),
+        of_run::<H>(alloc, room, Place::Lent, Asked::Scan(path)),
     ];
     agreed(alloc, &found)
 }
@@ -166,8 +160,8 @@ pub fn scan_sound<H: BlockHash>(
 {
     let found = [
         scan_checked::<H>(alloc, room, path),
-        scanned::<H, _>(alloc, file_of(room), handles, path),
-        by_trusted::<H>(alloc, run, handles, Asked::Scan(path)),
+        of_run::<H>(alloc, room, Place::File, Asked::Scan(path)),
+        by_trusted::<H>(alloc, run, handles, Wanted::Scan(path)),
     ];
     agreed(alloc, &found)
 }
@@ -184,16 +178,19 @@ fn path_of<'a>(alloc: Global, words: &[&'a str]) -> Result<Path<'a>> {
     })
 }
 
-/// Scans a sound run: START END STEPS.
-fn scan<H: BlockHash>(alloc: Global, room: &Room, words: &[&str]) -> Result<String> {
+/// Scans a run, which is sound or may be damaged: START END STEPS.
+fn scan<H: BlockHash>(
+    alloc: Global,
+    room: &Room,
+    words: &[&str],
+    is_sound: bool,
+) -> Result<String> {
     let path = path_of(alloc, words)?;
-    of_sound::<H>(alloc, room, Asked::Scan(&path))
-}
-
-/// Scans a run that may be damaged: START END STEPS.
-fn scan_damaged<H: BlockHash>(alloc: Global, room: &Room, words: &[&str]) -> Result<String> {
-    let path = path_of(alloc, words)?;
-    scan_checked::<H>(alloc, room, &path)
+    if is_sound {
+        of_sound::<H>(alloc, room, Wanted::Scan(&path))
+    } else {
+        scan_checked::<H>(alloc, room, &path)
+    }
 }
 
 /// Performs a command, if it is one that scans a run.
@@ -202,11 +199,10 @@ pub fn perform<H: BlockHash>(
     room: &Room,
     name: &str,
     words: &[&str],
-) -> Result<Option<String>> {
-    let answer = match name {
-        "scan" => scan::<H>(alloc, room, words),
-        "scan-damaged" => scan_damaged::<H>(alloc, room, words),
-        _ => return Ok(None),
-    };
-    Ok(Some(answer?))
+) -> Option<Result<String>> {
+    Some(match name {
+        "scan" => scan::<H>(alloc, room, words, true),
+        "scan-damaged" => scan::<H>(alloc, room, words, false),
+        _ => return None,
+    })
 }

@@ -18,14 +18,19 @@ fn config_of(words: &[&str]) -> Result<RunConfig> {
     let [interval, num, den, bits, index_interval] = words else {
         return Err(Fault::Word);
     };
+    let intervals = (small_of(interval), small_of(index_interval));
+    let (Ok(restart_interval), Ok(index_interval)) = intervals else {
+        return Err(Fault::Word);
+    };
+    let sizes = (size_of(num), size_of(den), size_of(bits));
+    let (Ok(num), Ok(den), Ok(bits_per_key)) = sizes else {
+        return Err(Fault::Word);
+    };
     Ok(RunConfig {
-        restart_interval: small_of(interval)?,
-        ratio: HashRatio {
-            num: size_of(num)?,
-            den: size_of(den)?,
-        },
-        bits_per_key: size_of(bits)?,
-        index_interval: small_of(index_interval)?,
+        restart_interval,
+        ratio: HashRatio { num, den },
+        bits_per_key,
+        index_interval,
     })
 }
 
@@ -80,21 +85,21 @@ fn add_blocks<H: BlockHash>(
 ) -> Result<()> {
     let mut start = 0;
     for cut in cuts {
-        add_block::<H>(writer, items.get(start..*cut).ok_or(Fault::Word)?)?;
+        add_block::<H>(writer, items.get(start..*cut))?;
         start = *cut;
     }
-    add_block::<H>(writer, items.get(start..).ok_or(Fault::Word)?)
+    add_block::<H>(writer, items.get(start..))
 }
 
 /// Adds a block to a writer.
 fn add_block<H: BlockHash>(
     writer: &mut RunWriter<H, Vec<u8>>,
-    items: &[InternalValue],
+    items: Option<&[InternalValue]>,
 ) -> Result<()> {
-    if !writer.fits_after(items) {
-        return Err(Fault::Word);
+    match items {
+        Some(items) if writer.fits_after(items) => Ok(writer.add_block(items)?),
+        _ => Err(Fault::Word),
     }
-    Ok(writer.add_block(items)?)
 }
 
 /// Returns the bytes and the handles of a run that is written block by block.
@@ -113,6 +118,18 @@ fn write_blocks<H: BlockHash>(
         Ok(()) => Err(Fault::Word),
         Err(fault) => Err(fault),
     }
+}
+
+/// Returns a run that is written at once, and whether it is the same block by block.
+fn written<H: BlockHash>(
+    alloc: Global,
+    items: &[InternalValue],
+    cuts: &[usize],
+    config: RunConfig,
+) -> Result<(Written, bool)> {
+    let whole = write_whole::<H>(alloc, items, cuts, config)?;
+    let is_same = is_same_by_blocks::<H>(alloc, items, cuts, config, &whole)?;
+    Ok((whole, is_same))
 }
 
 /// Returns whether a run that is written block by block is this one.
@@ -147,11 +164,10 @@ fn keep(alloc: Global, room: &mut Room, run: Written, is_same: bool) -> Result<S
 /// Writes the list as a run, at once and block by block: INTERVAL NUM DEN BITS INDEX_INTERVAL CUT ..
 fn write<H: BlockHash>(alloc: Global, room: &mut Room, words: &[&str]) -> Result<String> {
     let (form, cuts) = words.split_at_checked(5).ok_or(Fault::Word)?;
-    let (config, cuts) = (config_of(form)?, numbers_of(alloc, cuts)?);
-    let (items, cuts) = (room.entries.as_slice(), cuts.as_slice());
-    let whole = write_whole::<H>(alloc, items, cuts, config)?;
-    let is_same = is_same_by_blocks::<H>(alloc, items, cuts, config, &whole)?;
-    keep(alloc, room, whole, is_same)
+    let config = config_of(form)?;
+    let cuts = numbers_of(alloc, cuts)?;
+    let (run, is_same) = written::<H>(alloc, room.entries.as_slice(), cuts.as_slice(), config)?;
+    keep(alloc, room, run, is_same)
 }
 
 /// Whether cuts fit a list of a length: LENGTH CUT ..
@@ -213,12 +229,11 @@ pub fn perform<H: BlockHash>(
     room: &mut Room,
     name: &str,
     words: &[&str],
-) -> Result<Option<String>> {
-    let answer = match name {
+) -> Option<Result<String>> {
+    Some(match name {
         "run" => write::<H>(alloc, room, words),
         "fits" => fits(alloc, words),
         "follows" => follows::<H>(alloc, room, words),
-        _ => return Ok(None),
-    };
-    Ok(Some(answer?))
+        _ => return None,
+    })
 }

@@ -1,0 +1,200 @@
+//! What is asked of the run of the room, and of what that reads it.
+ghost use Rattle.std.specs.Prelude.{◌≡◌, IfOk, List};
+ghost use Rattle.sst_base.specs.Entry.{Entry};
+ghost use Rattle.sstable_blocks.specs.RunReading.{hashes};
+ghost use Rattle.sstable_blocks.specs.Sound.{IsSound};
+
+use super::checking::{checked, summary_of};
+use super::reads::{fetched, read_sound, read_trusted, text_of};
+use super::scans::{Path, scan_sound, scan_table, scan_trusted};
+use sst_base::{BlockHash, Slice, Steps};
+use sst_case_room::fault::{Fault, Result};
+use sst_case_room::room::Room;
+use sstable_blocks::Table;
+use sstable_blocks::run::{
+    BorrowedSource, CheckedRun, FileSource, FrameSource, MemorySource, RunHandles, Trusted,
+};
+use std::alloc::Global;
+use std::io::Cursor;
+
+/// A key, and a sequence number.
+pub type Query<'a> = (&'a [u8], u64);
+
+/// What is asked of a run.
+#[derive(Clone, Copy)]
+pub enum Asked<'a> {
+    /// A check of it all.
+    Check,
+    /// A read of a key.
+    Fetch(Query<'a>),
+    /// A check of it all, by a table.
+    Verify,
+    /// A read of a key, by a table.
+    Read(Query<'a>),
+    /// A scan, by a table.
+    Scan(&'a Path<'a>),
+}
+
+/// Where a run is.
+#[derive(Clone, Copy)]
+pub enum Place {
+    /// In memory.
+    Memory,
+    /// In bytes that are lent.
+    Lent,
+    /// In a file.
+    File,
+}
+
+/// What a table answers.
+fn of_table<H: BlockHash, S: FrameSource + Drop>(
+    alloc: Global,
+    mut table: Table<H, S>,
+    asked: Asked<'_>,
+) -> Result<String> {
+    match asked {
+        Asked::Check | Asked::Verify => summary_of(alloc, table.verify(alloc)),
+        Asked::Fetch((key, seqno)) | Asked::Read((key, seqno)) => {
+            text_of(alloc, table.get(alloc, key, seqno, &mut Steps::new()))
+        }
+        Asked::Scan(path) => scan_table(alloc, table, path),
+    }
+}
+
+/// What a run in a source answers by a table, which is opened first.
+fn by_table<H: BlockHash, S: FrameSource + Drop>(
+    alloc: Global,
+    source: S,
+    handles: &RunHandles,
+    asked: Asked<'_>,
+) -> Result<String> {
+    match Table::<H, S>::open(alloc, source, *handles) {
+        Ok(table) => of_table(alloc, table, asked),
+        Err(refused) => Err(Fault::Refused(refused.error)),
+    }
+}
+
+/// What a run in a source answers.
+fn of_source<H: BlockHash, S: FrameSource + Drop>(
+    alloc: Global,
+    source: S,
+    handles: &RunHandles,
+    asked: Asked<'_>,
+) -> Result<String> {
+    match asked {
+        Asked::Check => checked::<H, S>(alloc, source, handles),
+        Asked::Fetch(query) => fetched::<H, S>(alloc, source, handles, query),
+        _ => by_table::<H, S>(alloc, source, handles, asked),
+    }
+}
+
+/// What the run of the room answers in a place.
+pub fn of_run<H: BlockHash>(
+    alloc: Global,
+    room: &Room,
+    place: Place,
+    asked: Asked<'_>,
+) -> Result<String> {
+    let handles = room.places.ok_or(Fault::Word)?;
+    let bytes = room.payload.as_slice();
+    match place {
+        Place::Memory => {
+            let source = MemorySource::new(Slice::new(alloc, bytes)?);
+            of_source::<H, _>(alloc, source, &handles, asked)
+        }
+        Place::Lent => of_source::<H, _>(alloc, BorrowedSource::new(bytes), &handles, asked),
+        Place::File => {
+            let source = FileSource::new(Cursor::new(bytes));
+            of_source::<H, _>(alloc, source, &handles, asked)
+        }
+    }
+}
+
+/// What is asked of a sound run.
+#[derive(Clone, Copy)]
+pub enum Wanted<'a> {
+    /// A read of a key.
+    Read(Query<'a>),
+    /// A scan.
+    Scan(&'a Path<'a>),
+}
+
+/// What a table without checks answers.
+fn of_trusted<H: BlockHash>(
+    alloc: Global,
+    trusted: &Trusted<'_, H>,
+    wanted: Wanted<'_>,
+) -> Result<String> {
+    match wanted {
+        Wanted::Read(query) => read_trusted::<H>(alloc, trusted, query),
+        Wanted::Scan(path) => scan_trusted::<H>(alloc, trusted, path),
+    }
+}
+
+/// Opens a sound run in memory.
+fn table_of<H: BlockHash>(
+    alloc: Global,
+    run: &Slice,
+    handles: &RunHandles,
+) -> Result<Table<H, MemorySource>>
+    ensures { IfOk result
+        (λ t. (t.source.inner ≡ run.now) × (t.handles ≡ handles.now)) }
+{
+    match Table::<H, _>::open(alloc, MemorySource::new(run.clone()?), *handles) {
+        Ok(table) => Ok(table),
+        Err(refused) => Err(Fault::Refused(refused.error)),
+    }
+}
+
+/// What a sound run in memory answers by a table without checks.
+pub fn by_trusted<H: BlockHash>(
+    alloc: Global,
+    run: &Slice,
+    handles: &RunHandles,
+    wanted: Wanted<'_>,
+) -> Result<String>
+    requires { (blocks : List (List Entry))
+        × IsSound (hashes H.hash64 H.hash128) blocks run.now handles.now }
+{
+    let table = table_of::<H>(alloc, run, handles)?;
+    let trusted = table.trusted();
+    of_trusted::<H>(alloc, &trusted, wanted)
+}
+
+/// What a sound run answers, by all that read it.
+fn by_all<H: BlockHash>(
+    alloc: Global,
+    room: &Room,
+    checked: &CheckedRun<H>,
+    run: &Slice,
+    handles: &RunHandles,
+    wanted: Wanted<'_>,
+) -> Result<String>
+    requires { (blocks : List (List Entry))
+        × IsSound (hashes H.hash64 H.hash128) blocks run.now handles.now }
+{
+    match wanted {
+        Wanted::Read(query) => read_sound::<H>(alloc, room, checked, run, handles, query),
+        Wanted::Scan(path) => scan_sound::<H>(alloc, room, run, handles, path),
+    }
+}
+
+/// Checks a run in memory.
+fn checked_of<H: BlockHash>(
+    alloc: Global,
+    run: &Slice,
+    handles: &RunHandles,
+) -> Result<CheckedRun<H>>
+    ensures { IfOk result (λ r. r ≡ record { bytes = run.now; handles = handles.now }) }
+{
+    Ok(CheckedRun::<H>::open(alloc, run.clone()?, *handles)?)
+}
+
+/// What a sound run answers, by all that read it. The run is checked first.
+pub fn of_sound<H: BlockHash>(alloc: Global, room: &Room, wanted: Wanted<'_>) -> Result<String> {
+    let handles = room.places.ok_or(Fault::Word)?;
+    let run = Slice::new(alloc, room.payload.as_slice())?;
+    let checked = checked_of::<H>(alloc, &run, &handles)?;
+    checked.note_sound();
+    by_all::<H>(alloc, room, &checked, &run, &handles, wanted)
+}
