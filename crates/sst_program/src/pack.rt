@@ -12,8 +12,9 @@ ghost use Rattle.sstable_blocks.specs.Writing.{IsSameRun};
 
 use crate::fault::{self, Fault};
 use crate::input::ordered_entries;
+use crate::new_file::LockFiles;
 use crate::output::print_text;
-use crate::replace::{LockFiles, write_file};
+use crate::replace::write_file;
 use crate::sync::SyncWrite;
 use crate::words::PackWords;
 use sstable_blocks::run::footer::FOOTER_LEN;

@@ -60,6 +60,15 @@ impl<F: Read + Seek> SeekInput for TableFile<F> {
     }
 }
 
+impl<F> TableFile<F> {
+    /// Reads tables from a file.
+    pub fn new(file: F) -> TableFile<F>
+        ensures { result ≡ record { file = file } }
+    {
+        TableFile { file }
+    }
+}
+
 /// The frames of a table file, and where its index and its filter are.
 #[derive(Drop)]
 pub struct Table<F> {
@@ -77,9 +86,7 @@ pub struct Table<F> {
 pub fn open_file<R: Files>(rt: &R, name: &str) -> Result<TableFile<R::File>>
     ensures { IsOkUnless result Error.Io }
 {
-    Ok(TableFile {
-        file: fs::open(rt, name)?,
-    })
+    Ok(TableFile::new(fs::open(rt, name)?))
 }
 
 /// Reads the footer of a table file.

@@ -1,3 +1,4 @@
 pub mod Back
 pub mod Hashes
 pub mod Keys
+pub mod Statuses

@@ -2,10 +2,11 @@
 ghost use Rattle.std.specs.Prelude.{◌≡◌, slice_get, IfSome, Some};
 ghost use Rattle.std.specs.Option.{option_map};
 
-use crate::fault::{Fault, Result};
+use crate::fault::{Cause, Fault, Result};
 use crate::open::open;
 use crate::place::{TableBlock, footer_block_at};
 use crate::progress::Progress;
+use crate::tidy::Gaps;
 use crate::words::FILE;
 use clap::ArgMatches;
 use sstable_blocks::{
@@ -46,13 +47,21 @@ fn fault_of(
     index: &IndexBlock,
     offset: Option<u64>,
     error: Error,
+    cause: Cause,
 ) -> Fault {
     match offset {
         Some(offset) => {
             let block = block_at(handles, index, offset);
-            Fault::of_block(alloc, file, block, offset, error)
+            Fault::of_block(alloc, file, block, offset, error, cause)
         }
-        None => Fault::of_file(alloc, file, None, error),
+        None => Fault::of_file(alloc, file, None, error, cause),
+    }
+}
+
+// Warns of bytes that belong to no frame: the table is sound, and the file is not tidy.
+fn warn_of<R: Eprint>(progress: &Progress<'_, R>, file: &str, gaps: &Gaps) {
+    for gap in gaps.found().iter().flatten() {
+        let _ = eprintln!(progress.rt(); "sstool: warning: {file}: {gap}");
     }
 }
 
@@ -66,10 +75,15 @@ fn check_in<H: BlockHash, S: FrameSource, R: Clock + Eprint>(
     let checked = table.verify(alloc);
     progress.clear();
     match checked {
-        Ok(summary) => Ok(summary),
+        Ok(summary) => {
+            let gaps = Gaps::new(table.index(), table.handles(), progress.file_len());
+            warn_of(progress, file, &gaps);
+            Ok(summary)
+        }
         Err(error) => {
             let (handles, index) = (table.handles(), table.index());
-            Err(fault_of(alloc, file, handles, index, progress.offset(), error))
+            let (offset, cause) = (progress.offset(), progress.cause());
+            Err(fault_of(alloc, file, handles, index, offset, error, cause))
         }
     }
 }
@@ -85,7 +99,7 @@ fn check<H: BlockHash, R: Files + Clock + Eprint>(
 }
 
 /// Checks a table file whole: each block, the order across blocks, end keys, the filter. Prints the
-/// numbers of blocks and entries.
+/// numbers of blocks and entries. Warns of bytes of the file that belong to no frame.
 ///
 /// # Errors
 ///

@@ -1,9 +1,11 @@
 //! Why a run of the program fails.
 ghost use Rattle.std.specs.Prelude.{◌≡◌};
+ghost use Rattle.sst_tool.specs.Statuses.{status_of};
 ghost use Rattle.sst_tool.specs.declared.fault.Fault.TheVariants.{Memory, Output};
 
 use crate::hash::TableHash;
 use crate::place::TableBlock;
+use sst_program::new_file::NotMade;
 use sstable_blocks::Error;
 use std::alloc::{AllocError, AllocFailed, Global};
 use std::{fmt, io};
@@ -17,6 +19,9 @@ pub enum Fault {
     /// No entry is left of the tables that are merged.
     #[error("no entries are left")]
     NoEntries,
+    /// A file was written, and the output failed then.
+    #[error("{0}: written, but the output failed")]
+    Written(String),
     /// The output failed.
     #[error("the output failed")]
     Output,
@@ -28,19 +33,38 @@ pub enum Fault {
 /// A result whose error ends the run.
 pub type Result<T> = std::result::Result<T, Fault>;
 
-/// An error of the library, displayed with checksums in hex.
+/// Why a call on a file failed.
+#[derive(Clone, Copy)]
+pub enum Cause {
+    /// The system says so.
+    System(io::Error),
+    /// The file ends before the bytes that are read.
+    End,
+    /// It is not known.
+    Unknown,
+}
+
+/// An error of the library, displayed with checksums in hex, and with its cause where a call on a
+/// file failed.
 #[derive(Drop)]
-struct Shown(Error);
+struct Shown {
+    error: Error,
+    cause: Cause,
+}
 
 impl fmt::Display for Shown {
     fn fmt<W: fmt::Write>(&self, f: &mut fmt::Formatter<W>) -> fmt::Result {
-        match self.0 {
-            Error::ChecksumMismatch { got, expected } => {
+        match (self.error, self.cause) {
+            (Error::ChecksumMismatch { got, expected }, _) => {
                 let found = got.into_u128();
                 let expected = expected.into_u128();
                 write!(f, "checksum is {found:032x}, expected {expected:032x}")
             }
-            error => write!(f, "{error}"),
+            (Error::Io, Cause::System(cause)) => write!(f, "{cause}"),
+            (Error::Io, Cause::End) => {
+                f.write_str("beyond the end of the file: it is no table, or was cut")
+            }
+            (error, _) => write!(f, "{error}"),
         }
     }
 }
@@ -51,11 +75,35 @@ impl Fault {
         Fault::with_text(format!(in alloc; "{word}: no pairs of hex digits after `hex:`"))
     }
 
-    /// Returns the fault of a new file that exists already.
+    /// Returns the status of a run that fails so: 3 where no entry is left, and else 1.
+    pub fn status(&self) -> u8
+        ensures { result ≡ status_of self.now }
+    {
+        match self {
+            Fault::NoEntries => 3,
+            _ => 1,
+        }
+    }
+
+    /// Returns the fault of a file that is not replaced.
     pub fn of_present(alloc: Global, name: &str) -> Fault {
-        Fault::with_text(format!(in alloc;
-            "{name}: exists: another merge writes it, or was killed"
-        ))
+        Fault::with_text(format!(in alloc; "{name}: exists, and is replaced with --force alone"))
+    }
+
+    /// Returns the fault of a new file that is not made.
+    pub fn of_new_file(alloc: Global, name: &str, cause: NotMade) -> Fault {
+        match cause {
+            NotMade::Memory => Fault::Memory,
+            cause => Fault::with_text(format!(in alloc; "{name}: {cause}")),
+        }
+    }
+
+    /// Returns the fault of a file that was written before the output failed.
+    pub fn of_written(alloc: Global, name: &str) -> Fault {
+        match String::from_str(alloc, name) {
+            Ok(name) => Fault::Written(name),
+            Err(_) => Fault::Memory,
+        }
     }
 
     /// Returns the fault of a table whose hash function is not that of the first one.
@@ -71,9 +119,20 @@ impl Fault {
         ))
     }
 
+    /// Returns the fault of a file that is not opened.
+    pub fn of_open(alloc: Global, name: &str, cause: io::Error) -> Fault {
+        Fault::of_file(alloc, name, None, Error::Io, Cause::System(cause))
+    }
+
     /// Returns the fault of a file, whose block at an offset, if there is one, was read last.
-    pub fn of_file(alloc: Global, name: &str, offset: Option<u64>, error: Error) -> Fault {
-        let error = Shown(error);
+    pub fn of_file(
+        alloc: Global,
+        name: &str,
+        offset: Option<u64>,
+        error: Error,
+        cause: Cause,
+    ) -> Fault {
+        let error = Shown { error, cause };
         Fault::with_text(match offset {
             Some(offset) => format!(in alloc; "{name}: at offset {offset}: {error}"),
             None => format!(in alloc; "{name}: {error}"),
@@ -88,11 +147,12 @@ impl Fault {
         block: Option<TableBlock>,
         offset: u64,
         error: Error,
+        cause: Cause,
     ) -> Fault {
         let Some(block) = block else {
-            return Fault::of_file(alloc, name, Some(offset), error);
+            return Fault::of_file(alloc, name, Some(offset), error, cause);
         };
-        let error = Shown(error);
+        let error = Shown { error, cause };
         Fault::with_text(format!(in alloc; "{name}: {block} at offset {offset}: {error}"))
     }
 

@@ -1,5 +1,5 @@
 //! `get`: the newest version of a key.
-use crate::fault::{Fault, Result};
+use crate::fault::Result;
 use crate::keys::key_in;
 use crate::open::open;
 use crate::progress::Progress;
@@ -10,6 +10,7 @@ use sstable_blocks::{BlockHash, FrameSource, InternalValue, SeqNo, Steps, Table}
 use std::alloc::Global;
 use std::io;
 use std::io::Write;
+use std::ops::Bound;
 use std::rt::{Clock, Files};
 
 // Reads the newest version of a key below a sequence number from a table of a file.
@@ -23,20 +24,38 @@ fn read_in<H: BlockHash, S: FrameSource, R>(
 ) -> Result<Option<InternalValue>> {
     match table.get(alloc, key, at, &mut Steps::new()) {
         Ok(found) => Ok(found),
-        Err(error) => Err(Fault::of_file(alloc, file, progress.offset(), error)),
+        Err(error) => Err(progress.fault(alloc, file, error)),
     }
 }
 
-// Reads the newest version of a key below a sequence number from a file.
+// Reads the newest version of a key from a table of a file, whatever its sequence number.
+fn newest_in<H: BlockHash, S: FrameSource + Drop, R>(
+    progress: &Progress<'_, R>,
+    alloc: Global,
+    file: &str,
+    table: Table<H, S>,
+    key: &[u8],
+) -> Result<Option<InternalValue>> {
+    let mut versions = table.scan_range(Bound::Included(key), Bound::Included(key));
+    match versions.next_entry(alloc) {
+        Ok(found) => Ok(found),
+        Err(error) => Err(progress.fault(alloc, file, error)),
+    }
+}
+
+// Reads the newest version of a key from a file: below a sequence number, if there is one.
 fn read<H: BlockHash, R: Files + Clock + Eprint>(
     progress: &Progress<'_, R>,
     alloc: Global,
     file: &str,
     key: &[u8],
-    at: SeqNo,
+    at: Option<SeqNo>,
 ) -> Result<Option<InternalValue>> {
     let mut table = open::<H, R>(progress, alloc, file)?;
-    read_in(progress, alloc, file, &mut table, key, at)
+    match at {
+        Some(at) => read_in(progress, alloc, file, &mut table, key, at),
+        None => newest_in(progress, alloc, file, table, key),
+    }
 }
 
 // Prints a version, or `none`.
@@ -47,7 +66,8 @@ fn print<O: Write>(output: &mut O, found: &Option<InternalValue>) -> io::Result<
     }
 }
 
-/// Prints the newest version of a key with a sequence number below that of `--at`, or `none`.
+/// Prints the newest version of a key, or `none`: with `--at` the newest with a sequence number below
+/// that.
 ///
 /// # Errors
 ///
@@ -60,7 +80,6 @@ pub fn run<H: BlockHash, R: Files + Clock + Eprint, O: Write>(
 ) -> Result<()> {
     let file = words.get_str(FILE).unwrap_or("");
     let key = key_in(alloc, words.get_str(KEY).unwrap_or(""))?;
-    let at = words.get_one::<u64>(AT).unwrap_or(u64::MAX);
-    let found = read::<H, R>(progress, alloc, file, key.as_slice(), at)?;
+    let found = read::<H, R>(progress, alloc, file, key.as_slice(), words.get_one(AT))?;
     Ok(print(output, &found)?)
 }

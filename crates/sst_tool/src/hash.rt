@@ -7,11 +7,11 @@ use crate::fault::{Fault, Result};
 use crate::words::{FILE, HASH, MERGE};
 use clap::ArgMatches;
 use sst_base::table::block::header::HEADER_LEN;
-use sst_program::table::open_file;
-use sstable_blocks::{BlockHash, Header, Input, Poly31, Xxh3};
+use sstable_blocks::{BlockHash, Header, Poly31, Xxh3};
 use std::alloc::Global;
-use std::fmt;
+use std::io::Read;
 use std::rt::Files;
+use std::{fmt, fs};
 
 /// The hash function of a table's checksums, hash indexes and filter.
 #[derive(Clone, Copy, PartialEq, Eq)]
@@ -61,12 +61,12 @@ fn hash_at(bytes: &[u8]) -> Option<TableHash>
 ///
 /// An error if the file cannot be opened.
 pub fn hash_of_file<R: Files>(rt: &R, alloc: Global, name: &str) -> Result<TableHash> {
-    let mut file = match open_file(rt, name) {
+    let mut file = match fs::open(rt, name) {
         Ok(file) => file,
-        Err(error) => return Err(Fault::of_file(alloc, name, None, error)),
+        Err(cause) => return Err(Fault::of_open(alloc, name, cause)),
     };
     let mut header = [0u8; HEADER_LEN];
-    if file.fill(&mut header).is_err() {
+    if file.read_exact(&mut header).is_err() {
         return Ok(TableHash::Poly31);
     }
     Ok(hash_at(&header).unwrap_or(TableHash::Poly31))

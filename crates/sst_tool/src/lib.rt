@@ -9,6 +9,8 @@ mod hash;
 mod keys;
 mod lines;
 mod merge;
+mod merged;
+mod new_table;
 mod open;
 mod place;
 mod progress;
@@ -16,21 +18,23 @@ mod scan;
 mod show;
 mod source;
 mod stat;
+mod tidy;
 mod words;
 
 use clap::ArgMatches;
 pub use fault::Fault;
 use hash::{TableHash, hash_read};
 pub use progress::Progress;
+use sst_program::new_file::LockFiles;
 use sstable_blocks::{BlockHash, Poly31, Xxh3};
 use std::alloc::Global;
 use std::io::Write;
-use std::rt::{Clock, Files};
+use std::rt::Clock;
 pub use words::{SCAN, command};
 use words::{CHECK, GET, MERGE, STAT};
 
 // Runs a command on tables of this hash function.
-fn run_on<H: BlockHash, R: Files + Clock + Eprint, O: Write>(
+fn run_on<H: BlockHash, R: LockFiles + Clock + Eprint, O: Write>(
     progress: &Progress<'_, R>,
     alloc: Global,
     name: &str,
@@ -54,7 +58,7 @@ fn run_on<H: BlockHash, R: Files + Clock + Eprint, O: Write>(
 ///
 /// The fault of a word, of a file, of the output, or of an allocation. What was printed before it
 /// stays.
-pub fn run_command<R: Files + Clock + Eprint, O: Write>(
+pub fn run_command<R: LockFiles + Clock + Eprint, O: Write>(
     progress: &Progress<'_, R>,
     alloc: Global,
     name: &str,

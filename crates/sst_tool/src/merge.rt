@@ -1,25 +1,19 @@
 //! `merge`: several tables as one.
 use crate::fault::{Fault, Result};
 use crate::hash::{TableHash, hash_in};
-use crate::open::{CountedFile, open};
+use crate::merged::{Notes, Written, heads_of};
+use crate::new_table::NewTable;
 use crate::progress::Progress;
-use crate::source::Scanned;
-use crate::words::{BOTTOM, FILE, OUT, SNAPSHOT};
+use crate::words::{BOTTOM, FILE, FORCE, LATEST, OUT, SNAPSHOT};
 use clap::ArgMatches;
-use sst_merge::{Head, Merge, Outputs, Sizes, Source, compact_tables};
-use sst_program::sync::{BufferedFile, SyncWrite};
-use sstable_blocks::{
-    BlockHash, Error, FileSource, FrameSource, HashRatio, InternalValue, Poly31, RunConfig,
-    RunHandles, Xxh3, encode_footer,
-};
+use sst_merge::{Compact, Head, Merge, Sizes, Source, write_tables};
+use sst_program::new_file::{LockFiles, NewFile};
+use sst_program::sync::BufferedFile;
+use sstable_blocks::{BlockHash, Error, HashRatio, InternalValue, Poly31, RunConfig, SeqNo, Xxh3};
 use std::alloc::Global;
-use std::cell::Cell;
-use std::fs::{OpenFile, OpenOptions};
-use std::io::{ErrorKind, Write};
-use std::ops::Bound;
-use std::path::Path;
+use std::fs::OpenFile;
+use std::io::Write;
 use std::rt::{Clock, Files};
-use std::{fs, io};
 
 // How a merged table is written: restart intervals of 16, no hash index, 10 filter bits a key.
 const INTERVAL: u8 = 16;
@@ -34,269 +28,165 @@ const SIZES: Sizes = Sizes {
     table: usize::MAX,
 };
 
-/// A table that is merged. It notes in `failed` that a read of it failed, by its index.
-#[derive(Drop)]
-struct Merged<'f, H: BlockHash, S: FrameSource> {
-    scan: Scanned<'static, H, S>,
-    index: usize,
-    failed: &'f Cell<Option<usize>>,
-}
-
-impl<'f, H: BlockHash, S: FrameSource> Source<InternalValue> for Merged<'f, H, S> {
-    ghost use Rattle.std.specs.Prelude.{None};
-    ghost use Rattle.sstable_blocks.specs.Scans.{most_left};
-
-    ghost left = { λ s. record {
-      list = None;
-      most = most_left s.scan.scan;
-      ended = s.scan.scan.ended;
-    } };
-
-    fn next_entry(&mut self, alloc: Global) -> sstable_blocks::Result<Option<InternalValue>> {
-        let entry = self.scan.next_entry(alloc);
-        if entry.is_err() {
-            self.failed.set(Some(self.index));
-        }
-        entry
+// The least sequence number that is read at after the merge: all versions stay where it is 0.
+fn snapshot_in(words: &ArgMatches<'_>) -> SeqNo {
+    if words.get_flag(LATEST) {
+        SeqNo::MAX
+    } else {
+        words.get_one::<u64>(SNAPSHOT).unwrap_or(0)
     }
 }
 
-/// A table of a file that is merged, with its first entry.
-type FileHead<'p, 'f, H, R> = Head<InternalValue, Merged<'f, H, FileSource<CountedFile<'p, R>>>>;
-
-/// A file that a table is written into. Clauses know nothing of its bytes.
-#[derive(Drop)]
-struct TableWriter<F: Write + Drop> {
-    file: BufferedFile<F>,
-}
-
-impl<F: Write + Drop> Write for TableWriter<F> {
-    fn write(&mut self, buf: &[u8]) -> io::Result<usize> {
-        self.file.write(buf)
-    }
-
-    fn flush(&mut self) -> io::Result<()> {
-        self.file.flush()
-    }
-}
-
-/// Where the merged table is written: a new file.
-#[derive(Drop)]
-struct NewFile<F: Write + Drop> {
-    opened: Option<TableWriter<F>>,
-    closed: Vec<(RunHandles, TableWriter<F>)>,
-}
-
-impl<F: Write + Drop> Outputs for NewFile<F> {
-    ghost use Rattle.std.specs.Prelude.{map, None};
-
-    type Writer = TableWriter<F>;
-
-    ghost tables = { λ s. map (λ c. record { handles = c.0; bytes = None }) s.closed.items };
-
-    ghost start = { None };
-
-    // There is no second table, since none ends before all is written.
-    fn open(&mut self) -> sstable_blocks::Result<TableWriter<F>> {
-        match self.opened.take() {
-            Some(writer) => Ok(writer),
-            None => Err(Error::Io),
-        }
-    }
-
-    fn close(&mut self, handles: RunHandles, writer: TableWriter<F>) -> sstable_blocks::Result<()> {
-        self.closed.push((handles, writer))?;
-        Ok(())
-    }
-}
-
-impl<F: Write + OpenFile + Drop> NewFile<F> {
-    // Ends the table that was written with its footer, and syncs it. Returns whether there is one.
-    fn finish(&mut self) -> sstable_blocks::Result<bool> {
-        let Some((handles, mut writer)) = self.closed.pop() else {
-            return Ok(false);
-        };
-        writer.write_all(&encode_footer(&handles))?;
-        writer.file.sync()?;
-        Ok(true)
-    }
-}
-
-// Opens a table file, which has this index, and reads its first entry.
-fn head_of<'p, 'f, H: BlockHash, R: Files + Clock + Eprint>(
-    progress: &'p Progress<'p, R>,
+// Writes what is left of a source as one table. Returns whether there was any.
+fn write_source<H: BlockHash, F: Write + OpenFile + Drop, I: Source<InternalValue> + Drop>(
     alloc: Global,
-    file: &str,
-    index: usize,
-    failed: &'f Cell<Option<usize>>,
-) -> Result<FileHead<'p, 'f, H, R>> {
-    let table = open::<H, R>(progress, alloc, file)?;
-    let scan = Scanned::new(table.scan_range(Bound::Unbounded, Bound::Unbounded));
-    let merged = Merged {
-        scan,
-        index,
-        failed,
-    };
-    match Head::new(alloc, merged) {
-        Ok(head) => Ok(head),
-        Err(error) => Err(Fault::of_file(alloc, file, progress.offset(), error)),
-    }
+    source: I,
+    mut table: NewTable<'_, F>,
+) -> sstable_blocks::Result<bool> {
+    let mut head = Head::new(alloc, source)?;
+    let config = RunConfig::new(INTERVAL, NO_BUCKETS, FILTER_BITS);
+    write_tables::<H, I, _>(alloc, &mut head, &mut table, config, SIZES)?;
+    table.finish()
 }
 
-// Opens tables, the newest first.
-fn heads_of<'p, 'f, H: BlockHash, R: Files + Clock + Eprint>(
-    progress: &'p Progress<'p, R>,
+// Merges tables, and writes what stays of them into a file. Returns whether an entry stayed.
+fn write_merged<H: BlockHash, F: Write + OpenFile + Drop, I: Source<InternalValue> + Drop>(
     alloc: Global,
-    files: &[&str],
-    failed: &'f Cell<Option<usize>>,
-) -> Result<Vec<FileHead<'p, 'f, H, R>>> {
-    let mut heads = Vec::new(alloc);
-    for (index, file) in files.iter().enumerate() {
-        heads.push(head_of::<H, R>(progress, alloc, file, index, failed)?)?;
-    }
-    Ok(heads)
-}
-
-// Makes the new file of a table. A file of that name is another merge's, which may still write it.
-fn new_file_at<R: Files>(rt: &R, alloc: Global, path: &str) -> Result<NewFile<R::File>> {
-    let file = match OpenOptions::new()
-        .write(true)
-        .create_new(true)
-        .open(rt, path)
-    {
-        Ok(file) => file,
-        Err(error) if error.kind() == ErrorKind::AlreadyExists => {
-            return Err(Fault::of_present(alloc, path));
-        }
-        Err(_) => return Err(Fault::of_file(alloc, path, None, Error::Io)),
-    };
-    match BufferedFile::new(alloc, file) {
-        Ok(file) => Ok(NewFile {
-            opened: Some(TableWriter { file }),
-            closed: Vec::new(alloc),
-        }),
-        Err(_) => {
-            let _ = fs::remove_file(rt, path);
-            Err(Fault::Memory)
-        }
-    }
-}
-
-// Writes what is left of tables into a new file, as one table, which then replaces the file of the
-// wanted name. Returns whether an entry was left.
-fn write_merged<H: BlockHash, R: Files, I: Source<InternalValue> + Drop>(
-    rt: &R,
     heads: Vec<Head<InternalValue, I>>,
     words: &ArgMatches<'_>,
-    new_file: &mut NewFile<R::File>,
-    path: &str,
+    notes: &Notes,
+    file: BufferedFile<F>,
 ) -> sstable_blocks::Result<bool> {
-    let alloc = *new_file.closed.allocator();
-    compact_tables::<H, _, _>(
-        alloc,
+    let staying = Compact::new(
         Merge::new(heads),
-        words.get_one::<u64>(SNAPSHOT).unwrap_or(0),
+        snapshot_in(words),
         words.get_flag(BOTTOM),
-        new_file,
-        RunConfig::new(INTERVAL, NO_BUCKETS, FILTER_BITS),
-        SIZES,
-    )?;
-    let is_written = new_file.finish()?;
-    if is_written {
-        fs::rename(rt, path, words.get_str(OUT).unwrap_or(""))?;
-    }
-    Ok(is_written)
+    );
+    let table = NewTable::new(alloc, file, &notes.cause);
+    write_source::<H, F, _>(alloc, Written::new(staying, notes), table)
 }
 
-// Syncs the folder of a file, so that a rename in it lasts. The file is whole under either name, so
-// a failure is left.
-fn sync_folder<R: Files>(rt: &R, name: &str) {
-    let folder = match Path::new(name).parent() {
-        Some(folder) if !folder.as_str().is_empty() => folder,
-        _ => Path::new("."),
-    };
-    if let Ok(folder) = fs::open(rt, folder) {
-        let _ = folder.sync_all();
-    }
-}
-
-// The fault of a merge: that of the table whose read failed, or else of the new file.
+// The fault of a merge: that of the table of which a read failed, or else of the new file.
 fn fault_of<R>(
     progress: &Progress<'_, R>,
     alloc: Global,
     words: &ArgMatches<'_>,
-    failed: Option<usize>,
+    notes: &Notes,
     error: Error,
 ) -> Fault {
     let files = words.get_strs(FILE).unwrap_or(&[]);
-    match files.get(failed.unwrap_or(files.len())) {
-        Some(file) => Fault::of_file(alloc, file, progress.offset(), error),
-        None => Fault::of_file(alloc, words.get_str(OUT).unwrap_or(""), None, error),
+    match files.get(notes.failed.get().unwrap_or(files.len())) {
+        Some(file) => progress.fault(alloc, file, error),
+        None => {
+            let out = words.get_str(OUT).unwrap_or("");
+            Fault::of_file(alloc, out, None, error, notes.write_cause())
+        }
     }
 }
 
-// Merges tables that hash by `H` into a new file, whose table hashes by `N`. Returns whether an entry
-// was left.
-fn merge_to<H: BlockHash, N: BlockHash, R: Files + Clock + Eprint>(
+// Merges tables that hash by `H` into a new file, as a table that hashes by `N`.
+fn fill<H: BlockHash, N: BlockHash, R: LockFiles + Clock + Eprint>(
     progress: &Progress<'_, R>,
     alloc: Global,
     words: &ArgMatches<'_>,
-    path: &str,
-    failed: &Cell<Option<usize>>,
-) -> Result<sstable_blocks::Result<bool>> {
+    notes: &Notes,
+    new_file: &NewFile<'_, R>,
+) -> Result<()> {
     let files = words.get_strs(FILE).unwrap_or(&[]);
-    let heads = heads_of::<H, R>(progress, alloc, files, failed)?;
-    let mut new_file = new_file_at(progress.rt(), alloc, path)?;
-    Ok(write_merged::<N, R, _>(progress.rt(), heads, words, &mut new_file, path))
+    let heads = heads_of::<H, R>(progress, alloc, files, notes)?;
+    let written = match new_file.writer(alloc) {
+        Ok(file) => write_merged::<N, _, _>(alloc, heads, words, notes, file),
+        Err(error) => Err(error),
+    };
+    match written {
+        Ok(true) => Ok(()),
+        Ok(false) => Err(Fault::NoEntries),
+        Err(error) => Err(fault_of(progress, alloc, words, notes, error)),
+    }
+}
+
+// Makes the new file, where none has its name, or it may be replaced.
+fn new_file_of<'r, R: LockFiles>(
+    rt: &'r R,
+    alloc: Global,
+    words: &ArgMatches<'_>,
+) -> Result<NewFile<'r, R>> {
+    let out = words.get_str(OUT).unwrap_or("");
+    let new_file = match NewFile::create(rt, alloc, out) {
+        Ok(new_file) => new_file,
+        Err(cause) => return Err(Fault::of_new_file(alloc, out, cause)),
+    };
+    if new_file.is_replacement() && !words.get_flag(FORCE) {
+        new_file.discard();
+        return Err(Fault::of_present(alloc, out));
+    }
+    Ok(new_file)
 }
 
 // Merges tables that hash by `H` into one that hashes by `N`.
-fn merge_into<H: BlockHash, N: BlockHash, R: Files + Clock + Eprint>(
+fn merge_into<H: BlockHash, N: BlockHash, R: LockFiles + Clock + Eprint>(
     progress: &Progress<'_, R>,
     alloc: Global,
     words: &ArgMatches<'_>,
+    notes: &Notes,
 ) -> Result<()> {
-    let out = words.get_str(OUT).unwrap_or("");
-    let path = format!(in alloc; "{out}.sst-new")?;
-    let failed = Cell::new(None);
-    let written = merge_to::<H, N, R>(progress, alloc, words, path.as_str(), &failed)?;
+    let new_file = new_file_of(progress.rt(), alloc, words)?;
+    let filled = fill::<H, N, R>(progress, alloc, words, notes, &new_file);
     progress.clear();
-    let fault = match written {
-        Ok(true) => {
-            sync_folder(progress.rt(), out);
-            return Ok(());
+    if let Err(fault) = filled {
+        new_file.discard();
+        return Err(fault);
+    }
+    match new_file.put_in_place() {
+        Ok(()) => Ok(()),
+        Err(cause) => {
+            let out = words.get_str(OUT).unwrap_or("");
+            Err(Fault::of_open(alloc, out, cause))
         }
-        Ok(false) => Fault::NoEntries,
-        Err(error) => fault_of(progress, alloc, words, failed.get(), error),
-    };
-    let _ = fs::remove_file(progress.rt(), path.as_str());
-    Err(fault)
+    }
 }
 
-/// Merges tables, the newest first, into one, which replaces the file of its name when it is whole.
-/// With `--snapshot` only versions stay that a read at that sequence number or above sees, with
-/// `--bottom` no tombstones below it; with `--hash` the new table has this hash function.
+/// Merges tables, the newest first, into one, which is put under its name when it is whole. With
+/// `--snapshot` only versions stay that a read at that sequence number or above sees, with
+/// `--latest` of each key the newest; with `--bottom` no tombstones of these; with `--hash` the new
+/// table has this hash function.
 ///
 /// # Errors
 ///
-/// Those of the files, of a block that is reached, and of the table that is written;
-/// `Fault::NoEntries` if no entry is left.
-pub fn run<H: BlockHash, R: Files + Clock + Eprint, O: Write>(
+/// Those of the new file, of the files that are merged and of a block that is reached;
+/// `Fault::NoEntries` if no entry is left; `Fault::Written` if only the last line fails.
+pub fn run<H: BlockHash, R: LockFiles + Clock + Eprint, O: Write>(
     progress: &Progress<'_, R>,
     alloc: Global,
     words: &ArgMatches<'_>,
     output: &mut O,
 ) -> Result<()> {
+    let notes = Notes::new();
     match hash_in(words) {
-        None => merge_into::<H, H, R>(progress, alloc, words)?,
-        Some(TableHash::Poly31) => merge_into::<H, Poly31, R>(progress, alloc, words)?,
-        Some(TableHash::Xxh3) => merge_into::<H, Xxh3, R>(progress, alloc, words)?,
+        None => merge_into::<H, H, R>(progress, alloc, words, &notes)?,
+        Some(TableHash::Poly31) => merge_into::<H, Poly31, R>(progress, alloc, words, &notes)?,
+        Some(TableHash::Xxh3) => merge_into::<H, Xxh3, R>(progress, alloc, words, &notes)?,
     }
-    let count = words.get_strs(FILE).unwrap_or(&[]).len();
+    let out = words.get_str(OUT).unwrap_or("");
+    match print_counts(words, &notes, out, output) {
+        Ok(()) => Ok(()),
+        Err(_) => Err(Fault::of_written(alloc, out)),
+    }
+}
+
+// Prints what was merged.
+fn print_counts<O: Write>(
+    words: &ArgMatches<'_>,
+    notes: &Notes,
+    out: &str,
+    output: &mut O,
+) -> std::io::Result<()> {
+    let tables = words.get_strs(FILE).unwrap_or(&[]).len();
+    let (read, written) = (notes.read.get(), notes.written.get());
+    let dropped = read.saturating_sub(written);
     writeln!(
         output,
-        "merged {count} tables into {}",
-        words.get_str(OUT).unwrap_or("")
+        "merged {tables} tables into {out}: {read} entries read, {written} written, {dropped} dropped"
     )?;
-    Ok(())
+    output.flush()
 }

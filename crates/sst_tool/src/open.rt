@@ -1,14 +1,16 @@
 //! Opening table files.
-use crate::fault::{Fault, Result};
+use crate::fault::{Cause, Fault, Result};
 use crate::place::{TableBlock, footer_block_at};
 use crate::progress::Progress;
-use sst_program::table::{TableFile, open_file};
+use sst_program::table::TableFile;
 use sstable_blocks::run::footer::read_footer;
-use sstable_blocks::{BlockHash, FileSource, Input, OpenError, SeekInput, SizedSource, Table};
+use sstable_blocks::{
+    BlockHash, FileSource, Input, OpenError, SeekInput, SizedSource, Table, append_exact,
+};
 use std::alloc::Global;
-use std::io;
 use std::io::{Read, Seek, SeekFrom};
 use std::rt::{Clock, Files};
+use std::{fs, io};
 
 /// A table file, of which each block that is read is counted. Clauses know nothing of its bytes.
 #[derive(Drop)]
@@ -19,37 +21,39 @@ pub struct CountedFile<'p, R: Files> {
 
 impl<'p, R: Files> Read for CountedFile<'p, R> {
     fn read(&mut self, buf: &mut [u8]) -> io::Result<usize> {
-        self.file.read(buf)
+        self.progress.noted(self.file.read(buf))
     }
 }
 
 impl<'p, R: Files> Seek for CountedFile<'p, R> {
     fn seek(&mut self, to: SeekFrom) -> io::Result<u64> {
-        self.file.seek(to)
+        self.progress.noted(self.file.seek(to))
     }
 }
 
 impl<'p, R: Files> Input for CountedFile<'p, R> {
     fn fill(&mut self, buf: &mut [u8]) -> sstable_blocks::Result<()> {
-        self.file.fill(buf)
+        Ok(self.read_exact(buf)?)
     }
 
     fn append(&mut self, buf: &mut Vec<u8>, len: usize) -> sstable_blocks::Result<()> {
-        self.file.append(buf, len)
+        append_exact(self, buf, len)
     }
 }
 
 impl<'p, R: Files + Clock + Eprint> SeekInput for CountedFile<'p, R> {
     ghost whole_is_known = { λ s at bytes position. Prim.cc };
 
-    // A block is read from where it begins.
+    // A block is read from where it begins. An offset that no file has is beyond the end.
     fn move_to(&mut self, offset: u64) -> sstable_blocks::Result<()> {
         self.progress.count_block(offset);
         self.file.move_to(offset)
     }
 
     fn stream_len(&mut self) -> sstable_blocks::Result<u64> {
-        self.file.stream_len()
+        let len = self.seek(SeekFrom::End(0))?;
+        self.progress.set_file_len(len);
+        Ok(len)
     }
 }
 
@@ -69,15 +73,16 @@ fn refused<S: SizedSource + Drop>(
     name: &str,
     failed: OpenError<S>,
     offset: Option<u64>,
+    cause: Cause,
 ) -> Fault {
     let OpenError { error, source } = failed;
     let mut source = source;
     match offset {
         Some(offset) => {
             let block = block_at(alloc, &mut source, offset);
-            Fault::of_block(alloc, name, block, offset, error)
+            Fault::of_block(alloc, name, block, offset, error, cause)
         }
-        None => Fault::of_file(alloc, name, None, error),
+        None => Fault::of_file(alloc, name, None, error, cause),
     }
 }
 
@@ -87,10 +92,11 @@ fn opened_or_fault<H: BlockHash, S: SizedSource + Drop>(
     name: &str,
     opened: std::result::Result<Table<H, S>, OpenError<S>>,
     offset: Option<u64>,
+    cause: Cause,
 ) -> Result<Table<H, S>> {
     match opened {
         Ok(table) => Ok(table),
-        Err(failed) => Err(refused(alloc, name, failed, offset)),
+        Err(failed) => Err(refused(alloc, name, failed, offset, cause)),
     }
 }
 
@@ -100,12 +106,13 @@ fn source_of<'p, R: Files + Clock + Eprint>(
     alloc: Global,
     name: &str,
 ) -> Result<FileSource<CountedFile<'p, R>>> {
-    match open_file(progress.rt(), name) {
+    match fs::open(progress.rt(), name) {
         Ok(file) => {
             progress.begin_file();
+            let file = TableFile::new(file);
             Ok(FileSource::new(CountedFile { file, progress }))
         }
-        Err(error) => Err(Fault::of_file(alloc, name, None, error)),
+        Err(cause) => Err(Fault::of_open(alloc, name, cause)),
     }
 }
 
@@ -121,5 +128,5 @@ pub fn open<'p, H: BlockHash, R: Files + Clock + Eprint>(
 ) -> Result<FileTable<'p, H, R>> {
     let source = source_of(progress, alloc, name)?;
     let opened = FileTable::<'p, H, R>::open_file(alloc, source);
-    opened_or_fault(alloc, name, opened, progress.offset())
+    opened_or_fault(alloc, name, opened, progress.offset(), progress.cause())
 }

@@ -1,5 +1,9 @@
 //! The progress of a command.
+use crate::fault::{Cause, Fault};
+use sstable_blocks::Error;
+use std::alloc::Global;
 use std::cell::Cell;
+use std::io;
 use std::time::{Clock, Duration, Instant};
 
 // How long a command runs before its progress is shown, in milliseconds.
@@ -8,8 +12,8 @@ const FIRST_MILLIS: u64 = 1000;
 // How long the progress stays as it was shown, in milliseconds.
 const NEXT_MILLIS: u64 = 250;
 
-/// What a command has read: the number of blocks, and the offset of the last one. The number is
-/// shown on one line of standard error, for a command of more than a second.
+/// What a command has read: the number of blocks, the offset of the last one, and why it was not
+/// read. The number is shown on one line of standard error, for a command of more than a second.
 #[derive(Drop)]
 pub struct Progress<'r, R> {
     rt: &'r R,
@@ -18,6 +22,8 @@ pub struct Progress<'r, R> {
     is_shown: Cell<bool>,
     blocks: Cell<u64>,
     offset: Cell<Option<u64>>,
+    cause: Cell<Option<io::Error>>,
+    file_len: Cell<u64>,
 }
 
 impl<'r, R> Progress<'r, R> {
@@ -29,11 +35,49 @@ impl<'r, R> Progress<'r, R> {
     /// Begins a file, of which no block is read.
     pub fn begin_file(&self) {
         self.offset.set(None);
+        self.cause.set(None);
+    }
+
+    /// Notes why a call failed, if it did.
+    pub fn noted<T>(&self, done: io::Result<T>) -> io::Result<T> {
+        if let Err(error) = &done {
+            self.cause.set(Some(*error));
+        }
+        done
+    }
+
+    /// Notes the length of the file in bytes.
+    pub fn set_file_len(&self, len: u64) {
+        self.file_len.set(len);
+    }
+
+    /// Returns the length of the file in bytes, which a table is opened by.
+    pub fn file_len(&self) -> u64 {
+        self.file_len.get()
     }
 
     /// Returns the offset of the file's block that was read last, if one was.
     pub fn offset(&self) -> Option<u64> {
         self.offset.get()
+    }
+
+    /// Returns where that offset is kept.
+    pub fn place(&self) -> &Cell<Option<u64>> {
+        &self.offset
+    }
+
+    /// Returns why the block was not read, where it was not: a read that the system did not refuse
+    /// met the end of the file.
+    pub fn cause(&self) -> Cause {
+        match self.cause.get() {
+            Some(error) => Cause::System(error),
+            None => Cause::End,
+        }
+    }
+
+    /// Returns the fault of a file, of which the block was read last.
+    pub fn fault(&self, alloc: Global, file: &str, error: Error) -> Fault {
+        Fault::of_file(alloc, file, self.offset(), error, self.cause())
     }
 }
 
@@ -51,6 +95,8 @@ impl<'r, R: Clock + Eprint> Progress<'r, R> {
             is_shown: Cell::new(false),
             blocks: Cell::new(0),
             offset: Cell::new(None),
+            cause: Cell::new(None),
+            file_len: Cell::new(0),
         }
     }
 
@@ -59,6 +105,7 @@ impl<'r, R: Clock + Eprint> Progress<'r, R> {
         let blocks = self.blocks.get().saturating_add(1);
         self.blocks.set(blocks);
         self.offset.set(Some(offset));
+        self.cause.set(None);
         if self.is_due() {
             self.is_shown.set(true);
             let _ = eprint!(self.rt; "\r{blocks} blocks read");

@@ -161,7 +161,7 @@ impl Range {
 fn fault_of<R>(progress: &Progress<'_, R>, alloc: Global, file: &str, stop: Stop) -> Fault {
     match stop {
         Stop::Print(fault) => fault,
-        Stop::Read(error) => Fault::of_file(alloc, file, progress.offset(), error),
+        Stop::Read(error) => progress.fault(alloc, file, error),
     }
 }
 

@@ -4,6 +4,7 @@ use crate::hash::TableHash;
 use crate::open::open;
 use crate::progress::Progress;
 use crate::show::{Hex, Shown};
+use crate::tidy::Gaps;
 use crate::words::{FILE, JSON};
 use clap::ArgMatches;
 use sst_block_core::table::block::trailer::{TRAILER_SIZE, Trailer};
@@ -51,6 +52,8 @@ struct Stat {
     bits: Option<Bits>,
     index: BlockHandle,
     filter: Option<BlockHandle>,
+    file_len: u64,
+    gaps: Gaps,
 }
 
 // What a filter has.
@@ -106,6 +109,7 @@ fn stat_of<H: BlockHash, S: FrameSource>(
     alloc: Global,
     hash: TableHash,
     table: &mut Table<H, S>,
+    file_len: u64,
 ) -> std::result::Result<Stat, Error> {
     let summary = table.verify(alloc)?;
     let blocks = blocks_of(alloc, table)?;
@@ -121,6 +125,8 @@ fn stat_of<H: BlockHash, S: FrameSource>(
         bits,
         index: table.handles().index,
         filter: table.handles().filter,
+        file_len,
+        gaps: Gaps::new(table.index(), table.handles(), file_len),
     })
 }
 
@@ -133,13 +139,13 @@ impl Stat {
         }
     }
 
-    // The length of the file in bytes.
-    fn file_len(&self) -> u64 {
-        self.index
-            .offset()
-            .saturating_add(u64::from(self.index.size()))
-            .saturating_add(self.filter_len())
-            .saturating_add(FOOTER_LEN as u64)
+    // The length of the frames of the data blocks in bytes: of all that is nothing else.
+    fn blocks_len(&self) -> u64 {
+        self.file_len
+            .saturating_sub(u64::from(self.index.size()))
+            .saturating_sub(self.filter_len())
+            .saturating_sub(self.gaps.byte_len())
+            .saturating_sub(FOOTER_LEN as u64)
     }
 
     // Prints lines, each of a name and a value.
@@ -157,10 +163,15 @@ impl Stat {
         writeln!(
             output,
             "bytes      {}: {} of blocks, {} of index, {} of filter, {FOOTER_LEN} of footer",
-            self.file_len(),
-            self.index.offset().0,
+            self.file_len,
+            self.blocks_len(),
             self.index.size(),
             self.filter_len()
+        )?;
+        writeln!(
+            output,
+            "in none    {} bytes belong to no block",
+            self.gaps.byte_len()
         )?;
         writeln!(output, "longest    {} bytes of payload", blocks.longest)
     }
@@ -194,7 +205,7 @@ impl Stat {
         }
     }
 
-    // Prints a line of JSON. Keys are in hex; without a filter there is nothing of it.
+    // Prints a line of JSON. Keys are in hex; where there is no filter, what is of it is null.
     fn print_json<O: Write>(&self, output: &mut O) -> io::Result<()> {
         self.print_entries_json(output)?;
         let blocks = &self.blocks;
@@ -203,10 +214,7 @@ impl Stat {
             ",\"least_interval\":{},\"greatest_interval\":{},\"index_interval\":{}",
             blocks.least_interval, blocks.greatest_interval, self.index_interval
         )?;
-        if let Some(Bits { bits, set, probes }) = &self.bits {
-            write!(output, ",\"filter_bits\":{bits},\"filter_bits_set\":{set}")?;
-            write!(output, ",\"filter_probes\":{probes}")?;
-        }
+        self.print_bits_json(output)?;
         write!(
             output,
             ",\"buckets\":{},\"longest_payload\":{}",
@@ -214,11 +222,23 @@ impl Stat {
         )?;
         writeln!(
             output,
-            ",\"index_bytes\":{},\"filter_bytes\":{},\"bytes\":{}}}",
+            ",\"index_bytes\":{},\"filter_bytes\":{},\"unused_bytes\":{},\"bytes\":{}}}",
             self.index.size(),
             self.filter_len(),
-            self.file_len()
+            self.gaps.byte_len(),
+            self.file_len
         )
+    }
+
+    // Prints the members of the line of JSON that are of the filter's bits.
+    fn print_bits_json<O: Write>(&self, output: &mut O) -> io::Result<()> {
+        let Some(Bits { bits, set, probes }) = &self.bits else {
+            return output.write_all(
+                b",\"filter_bits\":null,\"filter_bits_set\":null,\"filter_probes\":null",
+            );
+        };
+        write!(output, ",\"filter_bits\":{bits},\"filter_bits_set\":{set}")?;
+        write!(output, ",\"filter_probes\":{probes}")
     }
 
     // Prints the first members of the line of JSON: those of the entries.
@@ -249,11 +269,11 @@ fn read_in<H: BlockHash, S: FrameSource, R: Clock + Eprint>(
     file: &str,
     table: &mut Table<H, S>,
 ) -> Result<Stat> {
-    let stat = stat_of(alloc, hash, table);
+    let stat = stat_of(alloc, hash, table, progress.file_len());
     progress.clear();
     match stat {
         Ok(stat) => Ok(stat),
-        Err(error) => Err(Fault::of_file(alloc, file, progress.offset(), error)),
+        Err(error) => Err(progress.fault(alloc, file, error)),
     }
 }
 

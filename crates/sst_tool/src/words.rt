@@ -21,8 +21,8 @@ pub const MERGE: &str = "merge";
 /// The name of the word for a table file.
 pub const FILE: &str = "FILE";
 
-/// The name of the word for the table file that is written.
-pub const OUT: &str = "OUT";
+/// The name of the option for the table file that is written.
+pub const OUT: &str = "output";
 
 /// The name of the word for a key.
 pub const KEY: &str = "KEY";
@@ -53,6 +53,15 @@ pub const TEXT: &str = "text";
 
 /// The name of the flag for a merge with no older table below it.
 pub const BOTTOM: &str = "bottom";
+
+/// The name of the flag for a merge after which only the newest versions are read.
+pub const LATEST: &str = "latest";
+
+/// The name of the flag for a file that may be replaced.
+pub const FORCE: &str = "force";
+
+// The group of the words that say which reads may come after a merge.
+const READS: &str = "reads";
 
 // What `--hash` is for where a table is read.
 const READ_HASH: &str = "The hash function of the table; else what its first header shows";
@@ -101,6 +110,14 @@ fn with_word<'a>(
     command?.arg(word)
 }
 
+// Adds a word to a command, if there was memory for it.
+fn with_made<'a>(
+    command: Result<Command<'a>, AllocError>,
+    word: Result<Arg<'a>, AllocError>,
+) -> Result<Command<'a>, AllocError> {
+    with_word(command, word?)
+}
+
 // A command with its help that reads a table.
 fn reading<'a>(alloc: Global, name: &'a str, help: &'a str) -> Result<Command<'a>, AllocError> {
     let named = Command::new(alloc, name).about(help);
@@ -145,6 +162,9 @@ fn check<'a>(alloc: Global) -> Result<Command<'a>, AllocError> {
 // The table file that a merge writes.
 fn out<'a>(alloc: Global) -> Arg<'a> {
     Arg::new(alloc, OUT)
+        .short('o')
+        .long(OUT)
+        .value_name("OUT")
         .required(true)
         .help("The table file to write")
 }
@@ -159,12 +179,24 @@ fn files<'a>(alloc: Global) -> Arg<'a> {
 }
 
 // The least sequence number that is read at after a merge.
-fn snapshot<'a>(alloc: Global) -> Arg<'a> {
+fn snapshot<'a>(alloc: Global) -> Result<Arg<'a>, AllocError> {
     Arg::new(alloc, SNAPSHOT)
         .long(SNAPSHOT)
         .value_name("SEQNO")
         .value_parser(value_parser!(u64))
         .help("Keep what reads at this sequence number and above see; else all versions")
+        .group(READS)
+}
+
+// That no read below the newest versions is wanted any more.
+fn latest<'a>(alloc: Global) -> Result<Arg<'a>, AllocError> {
+    flag(alloc, LATEST, "Keep the newest version of each key alone").group(READS)
+}
+
+// That no older table is below. Which tombstones are dropped depends on the reads that may come.
+fn bottom<'a>(alloc: Global) -> Result<Arg<'a>, AllocError> {
+    let help = "Drop the tombstones that no read sees past: no older table is below";
+    flag(alloc, BOTTOM, help).requires_arg(READS)
 }
 
 // The words of `merge`.
@@ -175,9 +207,12 @@ fn merge<'a>(alloc: Global) -> Result<Command<'a>, AllocError> {
         alloc,
         "The hash function of the new table; else that of the tables",
     );
-    let bottom = flag(alloc, BOTTOM, "Drop tombstones: no older table is below");
-    let command = with_word(with_word(command, snapshot(alloc)), written);
-    with_word(command, bottom)
+    let force = flag(alloc, FORCE, "Replace OUT where it is there");
+    let command = with_word(with_word(command, force), written);
+    let command = with_made(with_made(command, snapshot(alloc)), latest(alloc));
+    Ok(with_made(command, bottom(alloc))?.after_help(
+        "OUT is put in place whole, or stays as it was. The status is 3 where no entry is left.",
+    ))
 }
 
 // Adds a command.
@@ -197,6 +232,10 @@ pub fn command<'a>(alloc: Global) -> Result<Command<'a>, AllocError> {
     let named = Command::new(alloc, "sstool")
         .version("0.1.0")
         .about("Shows, checks, scans and merges table files")
+        .after_help(
+            "The status is 1 after a line on standard error, and, with none, where the reader of the \
+            output has gone; 2 after words that are refused.",
+        )
         .subcommand_required(true)
         .arg_required_else_help(true);
     let reading = with(with(Ok(named), stat(alloc)), scan(alloc));

@@ -19,8 +19,8 @@ pub use sst_base::{
     Block, BlockHandle, BlockHash, BlockOffset, BlockType, ByteSum, Checksum, ChecksumType,
     ChecksummedReader, ChecksummedWriter, Decode, Encode, Error, HashRatio, Header, HeaderName,
     Input, InternalKey, InternalValue, Poly31, Result, SeekInput, SeqNo, Slice, Steps, TagName,
-    UserKey, UserValue, ValueType, append_exact, checksum, coding, double_ended_peekable, hash, key,
-    slice, value, value_type,
+    UserKey, UserValue, ValueType, append_exact, checksum, coding, double_ended_peekable, hash,
+    key, slice, value, value_type,
 };
 pub use sst_block_kinds::{DataBlock, IndexBlock, KeyedBlockHandle};
 pub use sst_xxh3::Xxh3;

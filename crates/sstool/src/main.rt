@@ -15,8 +15,8 @@ fn progress_of<'r>(rt: &'r HostRuntime, name: &str) -> Progress<'r, HostRuntime>
     Progress::new(rt, is_visible)
 }
 
-// Parses the words, and runs their command. Returns the status: 0, 1 after a line on `faults`, 2
-// after words that are refused.
+// Parses the words, and runs their command. Returns the status: 0, that of the fault after a line on
+// `faults`, or 2 after words that are refused.
 fn run<O: Write, F: Write>(
     rt: &HostRuntime,
     words: &[String],
@@ -27,8 +27,12 @@ fn run<O: Write, F: Write>(
     let matches = match command(alloc)?.try_get_matches_from(words) {
         Ok(matches) => matches,
         Err(error) => {
-            error.print(rt)?;
-            return Ok(if error.use_stderr() { 2 } else { 0 });
+            let printed = error.print(rt);
+            if error.use_stderr() {
+                return Ok(2);
+            }
+            printed?;
+            return Ok(0);
         }
     };
     let Some((name, words)) = matches.subcommand() else {
@@ -40,8 +44,8 @@ fn run<O: Write, F: Write>(
     match outcome {
         Ok(()) => Ok(0),
         Err(fault) => {
-            writeln!(faults, "sstool: {fault}")?;
-            Ok(1)
+            let _ = writeln!(faults, "sstool: {fault}");
+            Ok(fault.status())
         }
     }
 }

@@ -1,0 +1,155 @@
+//! The tables that are merged, as sources of entries.
+use crate::fault::{Cause, Result};
+use crate::open::{CountedFile, open};
+use crate::progress::Progress;
+use crate::source::Scanned;
+use sst_merge::{Head, Source};
+use sstable_blocks::{BlockHash, FileSource, FrameSource, InternalValue};
+use std::alloc::Global;
+use std::cell::Cell;
+use std::io;
+use std::ops::Bound;
+use std::rt::{Clock, Files};
+
+/// What a merge notes as it goes: the numbers of the entries that were read and written, and why it
+/// failed.
+#[derive(Drop)]
+pub struct Notes {
+    /// The entries that were read of the tables.
+    pub read: Cell<u64>,
+    /// The entries that were given to the new table.
+    pub written: Cell<u64>,
+    /// The table of which a read failed, by its index.
+    pub failed: Cell<Option<usize>>,
+    /// Why a write of the new table failed, as the system says.
+    pub cause: Cell<Option<io::Error>>,
+}
+
+impl Notes {
+    /// Begins a merge.
+    pub fn new() -> Notes {
+        Notes {
+            read: Cell::new(0),
+            written: Cell::new(0),
+            failed: Cell::new(None),
+            cause: Cell::new(None),
+        }
+    }
+
+    /// Returns why a write of the new table failed.
+    pub fn write_cause(&self) -> Cause {
+        match self.cause.get() {
+            Some(error) => Cause::System(error),
+            None => Cause::Unknown,
+        }
+    }
+}
+
+// Counts an entry.
+fn count(counter: &Cell<u64>) {
+    counter.set(counter.get().saturating_add(1));
+}
+
+/// A table that is merged. It counts the entries that are read of it, and notes its index where a
+/// read fails.
+#[derive(Drop)]
+pub struct Merged<'n, H: BlockHash, S: FrameSource> {
+    scan: Scanned<'static, H, S>,
+    index: usize,
+    notes: &'n Notes,
+    // where the block is that was read last: of this table, if it was read in this step
+    place: &'n Cell<Option<u64>>,
+}
+
+impl<'n, H: BlockHash, S: FrameSource> Source<InternalValue> for Merged<'n, H, S> {
+    ghost use Rattle.std.specs.Prelude.{None};
+    ghost use Rattle.sstable_blocks.specs.Scans.{most_left};
+
+    ghost left = { λ s. record {
+      list = None;
+      most = most_left s.scan.scan;
+      ended = s.scan.scan.ended;
+    } };
+
+    fn next_entry(&mut self, alloc: Global) -> sstable_blocks::Result<Option<InternalValue>> {
+        self.place.set(None);
+        let entry = self.scan.next_entry(alloc);
+        match &entry {
+            Ok(Some(_)) => count(&self.notes.read),
+            Ok(None) => (),
+            Err(_) => self.notes.failed.set(Some(self.index)),
+        }
+        entry
+    }
+}
+
+/// What is written of a merge: it counts the entries that it gives.
+#[derive(Drop)]
+pub struct Written<'n, I> {
+    source: I,
+    notes: &'n Notes,
+}
+
+impl<'n, I> Written<'n, I> {
+    /// Counts the entries of a source as written.
+    pub fn new(source: I, notes: &'n Notes) -> Written<'n, I> {
+        Written { source, notes }
+    }
+}
+
+impl<'n, I: Source<InternalValue>> Source<InternalValue> for Written<'n, I> {
+    ghost left = { λ w. I.left w.source };
+
+    fn next_entry(&mut self, alloc: Global) -> sstable_blocks::Result<Option<InternalValue>> {
+        let entry = self.source.next_entry(alloc);
+        if let Ok(Some(_)) = &entry {
+            count(&self.notes.written);
+        }
+        entry
+    }
+}
+
+/// A table of a file that is merged, with its first entry.
+pub type FileHead<'p, 'n, H, R> = Head<
+    InternalValue,
+    Merged<'n, H, FileSource<CountedFile<'p, R>>>,
+>;
+
+// Opens a table file, which has this index, and reads its first entry.
+fn head_of<'p: 'n, 'n, H: BlockHash, R: Files + Clock + Eprint>(
+    progress: &'p Progress<'p, R>,
+    alloc: Global,
+    file: &str,
+    index: usize,
+    notes: &'n Notes,
+) -> Result<FileHead<'p, 'n, H, R>> {
+    let table = open::<H, R>(progress, alloc, file)?;
+    let merged = Merged {
+        scan: Scanned::new(table.scan_range(Bound::Unbounded, Bound::Unbounded)),
+        index,
+        notes,
+        place: progress.place(),
+    };
+    match Head::new(alloc, merged) {
+        Ok(head) => Ok(head),
+        Err(error) => Err(progress.fault(alloc, file, error)),
+    }
+}
+
+/// Opens tables, the newest first.
+///
+/// # Errors
+///
+/// Those of the files, and of their first blocks.
+pub fn heads_of<'p: 'n, 'n, H: BlockHash, R: Files + Clock + Eprint>(
+    progress: &'p Progress<'p, R>,
+    alloc: Global,
+    files: &[&str],
+    notes: &'n Notes,
+) -> Result<Vec<FileHead<'p, 'n, H, R>>> {
+    let mut heads = Vec::new(alloc);
+    for (index, file) in files.iter().enumerate() {
+        heads.push(head_of::<H, R>(progress, alloc, file, index, notes)?)?;
+    }
+    Ok(heads)
+}

@@ -1,0 +1,90 @@
+//! Bytes of a table file that belong to no frame.
+ghost use Rattle.std.specs.Prelude.{◌≡◌, ◌+◌, ◌<◌, IfSome};
+
+use sstable_blocks::run::footer::FOOTER_LEN;
+use sstable_blocks::{BlockHandle, IndexBlock, RunHandles, Steps};
+use std::fmt;
+
+/// A range of bytes that belong to no frame.
+#[derive(Clone, Copy)]
+pub struct Gap {
+    /// The offset of the first.
+    pub offset: u64,
+    /// How many they are, at least one.
+    pub len: u64,
+}
+
+impl fmt::Display for Gap {
+    fn fmt<W: fmt::Write>(&self, f: &mut fmt::Formatter<W>) -> fmt::Result {
+        write!(
+            f,
+            "{} bytes at offset {} belong to no block",
+            self.len, self.offset
+        )
+    }
+}
+
+/// The bytes of a table file that belong to no frame: behind the data blocks, behind the next frame,
+/// and behind the last one, before the footer.
+#[derive(Clone, Copy)]
+pub struct Gaps([Option<Gap>; 3]);
+
+// The bytes from an offset up to another, if there are some.
+fn between(from: u64, to: u64) -> Option<Gap>
+    ensures { IfSome result (λ gap. (gap.offset ≡ from) × (gap.offset + gap.len ≡ to) × (from < to)) }
+{
+    if from < to {
+        Some(Gap {
+            offset: from,
+            len: to - from,
+        })
+    } else {
+        None
+    }
+}
+
+// The offset after a frame.
+fn end_of(handle: &BlockHandle) -> u64 {
+    handle.offset().saturating_add(u64::from(handle.size()))
+}
+
+// The offset after the data blocks.
+fn data_end(index: &IndexBlock) -> u64 {
+    end_of(&index.handle_at(index.len() - 1, &mut Steps::new()))
+}
+
+// The frames of index and filter, by their offsets; the same one twice where there is no filter.
+fn frames_behind(handles: &RunHandles) -> (&BlockHandle, &BlockHandle) {
+    let index = &handles.index;
+    match &handles.filter {
+        Some(filter) if *filter.offset() < *index.offset() => (filter, index),
+        Some(filter) => (index, filter),
+        None => (index, index),
+    }
+}
+
+impl Gaps {
+    /// Finds the bytes in no frame of a table, which is sound, in a file of this length.
+    pub fn new(index: &IndexBlock, handles: &RunHandles, file_len: u64) -> Gaps {
+        let (first, last) = frames_behind(handles);
+        Gaps([
+            between(data_end(index), *first.offset()),
+            between(end_of(first), *last.offset()),
+            between(end_of(last), file_len.saturating_sub(FOOTER_LEN as u64)),
+        ])
+    }
+
+    /// Returns the ranges.
+    pub fn found(&self) -> &[Option<Gap>] {
+        &self.0
+    }
+
+    /// Returns how many bytes they are.
+    pub fn byte_len(&self) -> u64 {
+        let mut sum = 0u64;
+        for gap in &self.0 {
+            sum = sum.saturating_add(gap.map_or(0, |gap| gap.len));
+        }
+        sum
+    }
+}
