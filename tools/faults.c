@@ -9,6 +9,8 @@
  * fail-alloc: at an allocation, which is refused.
  * slow: every read takes 0.3 seconds, and standard error is a terminal.
  *
+ * STEPS, if the environment names a file, gets a word for each step, as it is made.
+ *
  * At the end of the program the file TOLD, if the environment names one, gets three numbers: those of
  * the allocations asked for and of those refused, and the most bytes that one asked for.
  */
@@ -38,11 +40,25 @@ static int is_slow(void) {
     return fault && strcmp(fault, "slow") == 0;
 }
 
-/* Counts a step. Returns the signal that ends or stops the program at it, -1 if the step fails, and
- * else 0. */
-static int next_step(void) {
+/* Adds the word of a step, with its line feed, to the file STEPS. */
+static void note(const char *word) {
+    const char *steps = getenv("STEPS");
+    int (*opened)(const char *, int, ...) = dlsym(RTLD_NEXT, "open");
+    ssize_t (*written)(int, const void *, size_t) = dlsym(RTLD_NEXT, "write");
+    int file = steps ? opened(steps, O_WRONLY | O_CREAT | O_APPEND, 0666) : -1;
+    if (file < 0)
+        return;
+    if (written(file, word, strlen(word)) < 0)
+        perror(steps);
+    close(file);
+}
+
+/* Counts a step, of this word. Returns the signal that ends or stops the program at it, -1 if the step
+ * fails, and else 0. */
+static int next_step(const char *word) {
     static long steps;
     steps++;
+    note(word);
     if (is_due("kill", steps)) {
         return SIGKILL;
     }
@@ -57,8 +73,8 @@ static int next_step(void) {
 }
 
 /* The same, with the signal raised. Returns -1 if the step fails, and else 0. */
-static int step(void) {
-    int next = next_step();
+static int step(const char *word) {
+    int next = next_step(word);
     if (next > 0) {
         raise(next);
         return 0;
@@ -88,7 +104,7 @@ ssize_t write(int file, const void *from, size_t len) {
         errno = EIO;
         return -1;
     }
-    int signal = file > STDERR_FILENO ? next_step() : 0;
+    int signal = file > STDERR_FILENO ? next_step("write\n") : 0;
     if (signal < 0) {
         return -1;
     }
@@ -159,37 +175,39 @@ int open(const char *path, int flags, ...) {
     va_start(rest, flags);
     mode_t mode = flags & O_CREAT ? va_arg(rest, mode_t) : 0;
     va_end(rest);
-    return step() < 0 ? -1 : next(path, flags, mode);
+    return step("open\n") < 0 ? -1 : next(path, flags, mode);
 }
 
 int flock(int file, int how) {
     int (*next)(int, int) = dlsym(RTLD_NEXT, "flock");
-    return step() < 0 ? -1 : next(file, how);
+    return step("lock\n") < 0 ? -1 : next(file, how);
 }
 
 int ftruncate(int file, off_t len) {
     int (*next)(int, off_t) = dlsym(RTLD_NEXT, "ftruncate");
-    return step() < 0 ? -1 : next(file, len);
+    return step("truncate\n") < 0 ? -1 : next(file, len);
 }
 
 int fchmod(int file, mode_t mode) {
     int (*next)(int, mode_t) = dlsym(RTLD_NEXT, "fchmod");
-    return step() < 0 ? -1 : next(file, mode);
+    return step("permit\n") < 0 ? -1 : next(file, mode);
 }
 
 int fsync(int file) {
     int (*next)(int) = dlsym(RTLD_NEXT, "fsync");
-    return step() < 0 ? -1 : next(file);
+    struct stat found;
+    int is_folder = fstat(file, &found) == 0 && S_ISDIR(found.st_mode);
+    return step(is_folder ? "sync folder\n" : "sync\n") < 0 ? -1 : next(file);
 }
 
 int rename(const char *from, const char *to) {
     int (*next)(const char *, const char *) = dlsym(RTLD_NEXT, "rename");
-    return step() < 0 ? -1 : next(from, to);
+    return step("rename\n") < 0 ? -1 : next(from, to);
 }
 
 int unlink(const char *path) {
     int (*next)(const char *) = dlsym(RTLD_NEXT, "unlink");
-    return step() < 0 ? -1 : next(path);
+    return step("remove\n") < 0 ? -1 : next(path);
 }
 
 __attribute__((destructor)) static void tell(void) {

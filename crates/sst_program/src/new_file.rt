@@ -1,6 +1,6 @@
 //! Files that take the place of others whole: the new one is written beside the old one, under its
 //! name and `.sst-new`, and then renamed over it.
-ghost use Rattle.std.specs.Prelude.{◌≡◌, IsOkUnless};
+ghost use Rattle.std.specs.Prelude.{◌≡◌, ◌⊎◌, IfErr, IsOkUnless};
 ghost use Rattle.sst_program.specs.declared.new_file.NotMade.TheVariants.{Memory};
 
 use crate::sync::BufferedFile;
@@ -266,7 +266,9 @@ impl<'r, R: LockFiles> NewFile<'r, R> {
     ///
     /// `Error::Io` if there is no further handle of the file, `Error::Memory` if an allocation
     /// fails.
-    pub fn writer(&self, alloc: Global) -> Result<BufferedFile<R::File>> {
+    pub fn writer(&self, alloc: Global) -> Result<BufferedFile<R::File>>
+        ensures { IfErr result (λ e. (e ≡ Error.Io) ⊎ (e ≡ Error.Memory)) }
+    {
         BufferedFile::new(alloc, self.file.try_clone()?)
     }
 

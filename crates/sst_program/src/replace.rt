@@ -30,6 +30,22 @@ fn write_to<W: SyncWrite + Drop>(
     Ok(packed)
 }
 
+// Writes a table to a new file.
+fn fill<R: LockFiles>(
+    alloc: Global,
+    file: &NewFile<'_, R>,
+    words: &PackWords<'_>,
+    items: &[InternalValue],
+) -> Result<Packed>
+    requires some { 1 ≤ length items.now }
+    requires ordered { IsOrdered entries items.now }
+    ensures table { IfOk result (IsPacked words.now.config words.now.per_block items.now) }
+    ensures cause { IfErr result IsWriteFault }
+{
+    let writer = file.writer(alloc)?;
+    write_to(alloc, writer, words, items)
+}
+
 // Writes a table to a new file, which then takes its place. On any failure it is removed.
 fn replace<R: LockFiles>(
     alloc: Global,
@@ -42,11 +58,7 @@ fn replace<R: LockFiles>(
     ensures table { IfOk result (IsPacked words.now.config words.now.per_block items.now) }
     ensures cause { IfErr result IsWriteFault }
 {
-    let written = match file.writer(alloc) {
-        Ok(writer) => write_to(alloc, writer, words, items),
-        Err(error) => Err(error),
-    };
-    match written {
+    match fill(alloc, &file, words, items) {
         Ok(packed) => {
             file.put_in_place()?;
             Ok(packed)

@@ -40,6 +40,7 @@ impl<O: Write + Drop> Lines<O> {
         ensures { OnOk result (self.old.is_text ≡ false
             → Appends (writer_contents O.contents self.old.output)
             (writer_contents O.contents self.new.output) (entry_line_of entry.now ++ 10 ∷ [])) }
+        ensures same { self.new.is_text ≡ self.old.is_text }
     {
         if self.is_text {
             writeln!(self.output, "{}", EntryText(entry))?;

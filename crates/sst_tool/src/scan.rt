@@ -1,5 +1,8 @@
 //! `scan`: the entries of a table in a range of keys.
-ghost use Rattle.std.specs.Prelude.{◌≡◌, IfOk};
+ghost use Rattle.std.specs.Prelude.{◌≡◌, false, IfOk, IfSome, OnOk};
+ghost use Rattle.std.specs.Io.KnownBytes.{Appends};
+ghost use Rattle.std.specs.Io.Buffered.{writer_contents};
+ghost use Rattle.sst_program.specs.Outcome.{lines_text_of};
 ghost use Rattle.sst_tool.specs.Back.{is_same_key, newest_below};
 
 use crate::fault::{Fault, Result};
@@ -38,12 +41,17 @@ impl From<Fault> for Stop {
     }
 }
 
-// Prints all entries of a source.
+// Prints all entries of a source, a line each.
 fn print_all<I: Source<InternalValue>, O: Write + Drop>(
     alloc: Global,
     source: &mut I,
     lines: &mut Lines<O>,
-) -> std::result::Result<(), Stop> {
+) -> std::result::Result<(), Stop>
+    ensures printed { OnOk result (lines.old.is_text ≡ false
+        → IfSome (I.left source.old).list (λ items.
+        Appends (writer_contents O.contents lines.old.output)
+        (writer_contents O.contents lines.new.output) (lines_text_of items))) }
+{
     while let Some(entry) = source.next_entry(alloc)? {
         lines.print(alloc, &entry)?;
     }
