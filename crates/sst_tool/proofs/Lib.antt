@@ -1,1 +1,2 @@
+mod Firsts
 mod Printed

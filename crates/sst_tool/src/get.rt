@@ -1,4 +1,12 @@
 //! `get`: the newest version of a key.
+ghost use Rattle.std.specs.Prelude.{◌≡◌, List, map, slice_get, IfOk, IfSome};
+ghost use Rattle.sst_base.specs.Entry.{Entry, plain};
+ghost use Rattle.sst_tool.specs.Keys.{only_key};
+ghost use Rattle.sstable_blocks.specs.Blocks.{joined};
+ghost use Rattle.sstable_blocks.specs.RunReading.{hashes};
+ghost use Rattle.sstable_blocks.specs.Scans.{within};
+ghost use Rattle.sstable_blocks.specs.Sound.{IsSound};
+
 use crate::fault::Result;
 use crate::keys::key_in;
 use crate::open::open;
@@ -13,33 +21,32 @@ use std::io::Write;
 use std::ops::Bound;
 use std::rt::{Clock, Files};
 
-// Reads the newest version of a key below a sequence number from a table of a file.
-fn read_in<H: BlockHash, S: FrameSource, R>(
-    progress: &Progress<'_, R>,
+// Reads the newest version of a key from a table, whatever its sequence number.
+fn newest_in<H: BlockHash, S: FrameSource + Drop>(
     alloc: Global,
-    file: &str,
-    table: &mut Table<H, S>,
-    key: &[u8],
-    at: SeqNo,
-) -> Result<Option<InternalValue>> {
-    match table.get(alloc, key, at, &mut Steps::new()) {
-        Ok(found) => Ok(found),
-        Err(error) => Err(progress.fault(alloc, file, error)),
-    }
-}
-
-// Reads the newest version of a key from a table of a file, whatever its sequence number.
-fn newest_in<H: BlockHash, S: FrameSource + Drop, R>(
-    progress: &Progress<'_, R>,
-    alloc: Global,
-    file: &str,
     table: Table<H, S>,
     key: &[u8],
-) -> Result<Option<InternalValue>> {
+) -> sstable_blocks::Result<Option<InternalValue>>
+    ensures newest { IfSome (S.bytes table.source) (λ all. (blocks : List (List Entry))
+        → IsSound (hashes H.hash64 H.hash128) blocks all table.handles
+        → IfOk result (λ found. found
+        ≡ slice_get (within (only_key key.now) (map plain (joined blocks))) 0)) }
+{
     let mut versions = table.scan_range(Bound::Included(key), Bound::Included(key));
-    match versions.next_entry(alloc) {
-        Ok(found) => Ok(found),
-        Err(error) => Err(progress.fault(alloc, file, error)),
+    versions.next_entry(alloc)
+}
+
+// Reads the newest version of a key from a table: below a sequence number, if there is one.
+fn read_in<H: BlockHash, S: FrameSource + Drop>(
+    alloc: Global,
+    table: Table<H, S>,
+    key: &[u8],
+    at: Option<SeqNo>,
+) -> sstable_blocks::Result<Option<InternalValue>> {
+    let mut table = table;
+    match at {
+        Some(at) => table.get(alloc, key, at, &mut Steps::new()),
+        None => newest_in(alloc, table, key),
     }
 }
 
@@ -51,10 +58,10 @@ fn read<H: BlockHash, R: Files + Clock + Eprint>(
     key: &[u8],
     at: Option<SeqNo>,
 ) -> Result<Option<InternalValue>> {
-    let mut table = open::<H, R>(progress, alloc, file)?;
-    match at {
-        Some(at) => read_in(progress, alloc, file, &mut table, key, at),
-        None => newest_in(progress, alloc, file, table, key),
+    let table = open::<H, R>(progress, alloc, file)?;
+    match read_in(alloc, table, key, at) {
+        Ok(found) => Ok(found),
+        Err(error) => Err(progress.fault(alloc, file, error)),
     }
 }
 

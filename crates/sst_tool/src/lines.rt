@@ -37,7 +37,7 @@ impl<O: Write + Drop> Lines<O> {
     ///
     /// `Fault::Output`, and `Fault::Memory` if an allocation fails.
     pub fn print(&mut self, alloc: Global, entry: &InternalValue) -> Result<()>
-        ensures { OnOk result (self.old.is_text ≡ false
+        ensures line { OnOk result (self.old.is_text ≡ false
             → Appends (writer_contents O.contents self.old.output)
             (writer_contents O.contents self.new.output) (entry_line_of entry.now ++ 10 ∷ [])) }
         ensures same { self.new.is_text ≡ self.old.is_text }
