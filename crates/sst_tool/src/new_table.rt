@@ -89,6 +89,8 @@ impl<'c, F: Write + OpenFile + Drop> NewTable<'c, F> {
             return Ok(false);
         };
         writer.write_all(&encode_footer(&handles))?;
+        // (what fails here is noted)
+        writer.flush()?;
         writer.file.sync()?;
         Ok(true)
     }
