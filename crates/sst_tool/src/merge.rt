@@ -85,11 +85,11 @@ fn fault_of<R>(
 }
 
 // Merges tables that hash by `H` into a new file, as a table that hashes by `N`.
-fn fill<H: BlockHash, N: BlockHash, R: LockFiles + Clock + Eprint>(
-    progress: &Progress<'_, R>,
+fn fill<'p, H: BlockHash, N: BlockHash, R: LockFiles + Clock + Eprint>(
+    progress: &'p Progress<'p, R>,
     alloc: Global,
     words: &ArgMatches<'_>,
-    notes: &Notes,
+    notes: &'p Notes,
     new_file: &NewFile<'_, R>,
 ) -> Result<()> {
     let files = words.get_strs(FILE).unwrap_or(&[]);
@@ -124,11 +124,11 @@ fn new_file_of<'r, R: LockFiles>(
 }
 
 // Merges tables that hash by `H` into one that hashes by `N`.
-fn merge_into<H: BlockHash, N: BlockHash, R: LockFiles + Clock + Eprint>(
-    progress: &Progress<'_, R>,
+fn merge_into<'p, H: BlockHash, N: BlockHash, R: LockFiles + Clock + Eprint>(
+    progress: &'p Progress<'p, R>,
     alloc: Global,
     words: &ArgMatches<'_>,
-    notes: &Notes,
+    notes: &'p Notes,
 ) -> Result<()> {
     let new_file = new_file_of(progress.rt(), alloc, words)?;
     let filled = fill::<H, N, R>(progress, alloc, words, notes, &new_file);

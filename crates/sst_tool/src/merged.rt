@@ -110,19 +110,16 @@ impl<'n, I: Source<InternalValue>> Source<InternalValue> for Written<'n, I> {
 }
 
 /// A table of a file that is merged, with its first entry.
-pub type FileHead<'p, 'n, H, R> = Head<
-    InternalValue,
-    Merged<'n, H, FileSource<CountedFile<'p, R>>>,
->;
+pub type FileHead<'p, H, R> = Head<InternalValue, Merged<'p, H, FileSource<CountedFile<'p, R>>>>;
 
 // Opens a table file, which has this index, and reads its first entry.
-fn head_of<'p: 'n, 'n, H: BlockHash, R: Files + Clock + Eprint>(
+fn head_of<'p, H: BlockHash, R: Files + Clock + Eprint>(
     progress: &'p Progress<'p, R>,
     alloc: Global,
     file: &str,
     index: usize,
-    notes: &'n Notes,
-) -> Result<FileHead<'p, 'n, H, R>> {
+    notes: &'p Notes,
+) -> Result<FileHead<'p, H, R>> {
     let table = open::<H, R>(progress, alloc, file)?;
     let merged = Merged {
         scan: Scanned::new(table.scan_range(Bound::Unbounded, Bound::Unbounded)),
@@ -141,12 +138,12 @@ fn head_of<'p: 'n, 'n, H: BlockHash, R: Files + Clock + Eprint>(
 /// # Errors
 ///
 /// Those of the files, and of their first blocks.
-pub fn heads_of<'p: 'n, 'n, H: BlockHash, R: Files + Clock + Eprint>(
+pub fn heads_of<'p, H: BlockHash, R: Files + Clock + Eprint>(
     progress: &'p Progress<'p, R>,
     alloc: Global,
     files: &[&str],
-    notes: &'n Notes,
-) -> Result<Vec<FileHead<'p, 'n, H, R>>> {
+    notes: &'p Notes,
+) -> Result<Vec<FileHead<'p, H, R>>> {
     let mut heads = Vec::new(alloc);
     for (index, file) in files.iter().enumerate() {
         heads.push(head_of::<H, R>(progress, alloc, file, index, notes)?)?;

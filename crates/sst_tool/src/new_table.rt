@@ -1,4 +1,6 @@
 //! The table file that a merge writes.
+ghost use Rattle.std.specs.Prelude.{◌≡◌};
+
 use sst_merge::Outputs;
 use sst_program::sync::{BufferedFile, SyncWrite};
 use sstable_blocks::{Error, Result, RunHandles, encode_footer};
@@ -17,7 +19,9 @@ pub struct NotedFile<'c, F: Write + Drop> {
 }
 
 // Notes why a call failed, if it did.
-fn noted<T>(cause: &Cell<Option<io::Error>>, done: io::Result<T>) -> io::Result<T> {
+fn noted<T>(cause: &Cell<Option<io::Error>>, done: io::Result<T>) -> io::Result<T>
+    ensures { result ≡ done }
+{
     if let Err(error) = &done {
         cause.set(Some(*error));
     }

@@ -1,4 +1,6 @@
 //! The progress of a command.
+ghost use Rattle.std.specs.Prelude.{◌≡◌};
+
 use crate::fault::{Cause, Fault};
 use sstable_blocks::Error;
 use std::alloc::Global;
@@ -39,7 +41,9 @@ impl<'r, R> Progress<'r, R> {
     }
 
     /// Notes why a call failed, if it did.
-    pub fn noted<T>(&self, done: io::Result<T>) -> io::Result<T> {
+    pub fn noted<T>(&self, done: io::Result<T>) -> io::Result<T>
+        ensures { result ≡ done }
+    {
         if let Err(error) = &done {
             self.cause.set(Some(*error));
         }
