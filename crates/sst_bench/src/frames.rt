@@ -53,8 +53,11 @@ fn block_sum(block: &Block) -> u64 {
 #[inline(never)]
 fn add_frame(so_far: u64, frame: &[u8], alloc: Global) -> Option<u64> {
     let mut rest = frame;
-    let block = Block::from_reader::<Hash, &[u8]>(alloc, &mut rest).ok()?;
-    Some(so_far.wrapping_add(block_sum(&block)))
+    // (a `?` would copy the block)
+    match &Block::from_reader::<Hash, &[u8]>(alloc, &mut rest) {
+        Ok(block) => Some(so_far.wrapping_add(block_sum(block))),
+        Err(_) => None,
+    }
 }
 
 /// Reads the frame, which verifies both checksums, and adds its block. Refuses what is no frame.
