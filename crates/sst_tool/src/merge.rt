@@ -66,6 +66,21 @@ fn write_merged<H: BlockHash, F: Write + OpenFile + Drop, I: Source<InternalValu
     write_source::<H, F, _>(alloc, Written::new(staying, notes), table)
 }
 
+// Merges tables that were opened, and writes what stays of them into a file that was made.
+fn write_opened<H: BlockHash, F: Write + OpenFile + Drop, I: Source<InternalValue> + Drop>(
+    alloc: Global,
+    heads: Result<Vec<Head<InternalValue, I>>>,
+    words: &ArgMatches<'_>,
+    notes: &Notes,
+    file: sstable_blocks::Result<BufferedFile<F>>,
+) -> Result<sstable_blocks::Result<bool>> {
+    let heads = heads?;
+    match file {
+        Ok(file) => Ok(write_merged::<H, F, I>(alloc, heads, words, notes, file)),
+        Err(error) => Ok(Err(error)),
+    }
+}
+
 // The fault of a merge: that of the table of which a read failed, or else of the new file.
 fn fault_of<R>(
     progress: &Progress<'_, R>,
@@ -93,12 +108,8 @@ fn fill<'p, H: BlockHash, N: BlockHash, R: LockFiles + Clock + Eprint>(
     new_file: &NewFile<'_, R>,
 ) -> Result<()> {
     let files = words.get_strs(FILE).unwrap_or(&[]);
-    let heads = heads_of::<H, R>(progress, alloc, files, notes)?;
-    let written = match new_file.writer(alloc) {
-        Ok(file) => write_merged::<N, _, _>(alloc, heads, words, notes, file),
-        Err(error) => Err(error),
-    };
-    match written {
+    let heads = heads_of::<H, R>(progress, alloc, files, notes);
+    match write_opened::<N, _, _>(alloc, heads, words, notes, new_file.writer(alloc))? {
         Ok(true) => Ok(()),
         Ok(false) => Err(Fault::NoEntries),
         Err(error) => Err(fault_of(progress, alloc, words, notes, error)),

@@ -133,6 +133,12 @@ fn head_of<'p, H: BlockHash, R: Files + Clock + Eprint>(
     }
 }
 
+// Adds what was made.
+fn push_made<T: Drop>(made: &mut Vec<T>, one: Result<T>) -> Result<()> {
+    made.push(one?)?;
+    Ok(())
+}
+
 /// Opens tables, the newest first.
 ///
 /// # Errors
@@ -146,7 +152,10 @@ pub fn heads_of<'p, H: BlockHash, R: Files + Clock + Eprint>(
 ) -> Result<Vec<FileHead<'p, H, R>>> {
     let mut heads = Vec::new(alloc);
     for (index, file) in files.iter().enumerate() {
-        heads.push(head_of::<H, R>(progress, alloc, file, index, notes)?)?;
+        push_made(
+            &mut heads,
+            head_of::<H, R>(progress, alloc, file, index, notes),
+        )?;
     }
     Ok(heads)
 }
