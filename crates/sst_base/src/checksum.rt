@@ -282,7 +282,8 @@ impl<R: Read, H: BlockHash> Read for ChecksummedReader<R, H> {
 }
 
 impl<R: Input, H: BlockHash> Input for ChecksummedReader<R, H> {
-    ghost use Rattle.std.specs.Prelude.{◌<◌, ◌+◌, ◌⊎◌, List, length, drop, IfSome, IfErr};
+    ghost use Rattle.std.specs.Prelude.{◌<◌, ◌≤◌, ◌+◌, ◌⊎◌, List, length, drop, IfSome, IfErr};
+    ghost use Rattle.std.specs.Vec.{vec_len, vec_capacity};
     ghost use Rattle.std.specs.Prelude.{IsOkUnless};
     ghost use Rattle.sst_base.specs.declared.error.Error.TheVariants.{Io, Memory};
 
@@ -312,6 +313,7 @@ impl<R: Input, H: BlockHash> Input for ChecksummedReader<R, H> {
             × (buf.new.items ≡ buf.old.items ++ bytes)) }
         ensures len { OnOk result (length buf.new.items ≡ length buf.old.items + len) }
         ensures errors { IfErr result (λ e. (e ≡ Io) ⊎ (e ≡ Memory)) }
+        ensures room { vec_len buf.old + len ≤ vec_capacity buf.old → IsOkUnless result Error.Io }
         ensures end { IfErr result (λ e. e ≡ Io → R.is_memory self.old.inner
             → IfSome (R.remaining self.old.inner) (λ bytes. length bytes < len)) }
         ensures kept { R.is_memory self.old.inner → R.is_memory self.new.inner }

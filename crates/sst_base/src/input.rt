@@ -3,6 +3,7 @@ ghost use Rattle.std.specs.Prelude.{◌≡◌, ◌<◌, ℕ, List, length, drop,
 ghost use Rattle.std.specs.Prelude.{None, OnOk, OnErr, IfOk, IsOk, Option};
 ghost use Rattle.std.specs.Prelude.{IsOkUnless, IfErr, ◌+◌, ◌≤◌, ◌++◌, ◌⊎◌, take};
 ghost use Rattle.sst_base.specs.declared.error.Error.TheVariants.{Io, Memory};
+ghost use Rattle.std.specs.Vec.{vec_len, vec_capacity};
 ghost use Rattle.std.specs.Io.Cursor.{cursor_inner};
 ghost use Rattle.std.specs.Io.KnownBytes.{Consumes};
 ghost use Rattle.sst_base.specs.Bytes.{IsBytes};
@@ -50,6 +51,7 @@ pub trait Input: Read {
             × (buf.new.items ≡ buf.old.items ++ bytes)) }
         ensures len { OnOk result (length buf.new.items ≡ length buf.old.items + len) }
         ensures errors { IfErr result (λ e. (e ≡ Io) ⊎ (e ≡ Memory)) }
+        ensures room { vec_len buf.old + len ≤ vec_capacity buf.old → IsOkUnless result Error.Io }
         ensures end { IfErr result (λ e. e ≡ Io → is_memory self.old
             → IfSome (Self.remaining self.old) (λ bytes. length bytes < len)) }
         ensures kept { is_memory self.old → is_memory self.new }
@@ -69,6 +71,7 @@ pub fn append_exact<R: Read>(reader: &mut R, buf: &mut Vec<u8>, len: usize) -> R
         × (buf.new.items ≡ buf.old.items ++ bytes)) }
     ensures len { OnOk result (length buf.new.items ≡ length buf.old.items + len) }
     ensures errors { IfErr result (λ e. (e ≡ Io) ⊎ (e ≡ Memory)) }
+    ensures room { vec_len buf.old + len ≤ vec_capacity buf.old → IsOkUnless result Error.Io }
 {
     let start = buf.as_slice().len();
     let Some(end) = start.checked_add(len) else {

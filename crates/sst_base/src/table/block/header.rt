@@ -209,13 +209,15 @@ fn header_with(block_type: BlockType, fields: &[u8]) -> Header
     }
 }
 
-// The header's own checksum, of the 29 bytes before it.
+// The header's own checksum, of the 29 bytes before it: one hash of an array, since a stream of so few
+// bytes costs more than their hash.
 fn front_sum<H: BlockHash>(block_type: BlockType, fields: &[u8]) -> u32
+    requires { length fields.now ≡ 24 }
     ensures { result ≡ H.hash128 (magic ++ (block_type_byte block_type ∷ fields.now)) % 2 ^ 32 }
 {
-    let mut stream = H::start();
-    stream.update(&MAGIC);
-    stream.update(&[u8::from(block_type)]);
-    stream.update(fields);
-    low_bits(stream.digest128())
+    let mut front = [0u8; FRONT_LEN];
+    front[..TYPE_AT].copy_from_slice(&MAGIC);
+    front[TYPE_AT] = u8::from(block_type);
+    front[CHECKSUM_AT..].copy_from_slice(fields);
+    low_bits(H::hash128(&front))
 }
