@@ -1,8 +1,13 @@
 """Merges of ordered lists of entries, what a snapshot sees, and compaction, by the plain words of
 docs/PROMISES.md."""
 
+import entries
+from blocks import Encoded
 from entries import order_of_entry
 from runs import first_match
+
+# The restart interval of the blocks of tables.
+INTERVAL = 2
 
 
 def merged(sources):
@@ -38,8 +43,8 @@ def compacted(items, seqno, is_bottom):
 
 
 def size_of(items):
-    """Returns the bytes of the keys and values of entries."""
-    return sum(len(item.key) + len(item.value) for item in items)
+    """Returns the bytes of the entries of a block as they are encoded."""
+    return len(Encoded(entries, items, INTERVAL).body)
 
 
 def next_block(items, size):

@@ -1,5 +1,5 @@
 -- Fronts decide which of two versions goes first.
-use Rattle.std.proofs.Common.{◌≡◌, ◌≢◌, ℕ, ◌<◌, ◌^◌, true, false, not, nat_lt, inl, inr, List, [], ◌∷◌, Option, Some, None, arith, sym, ◌∙◌, ap}
+use Rattle.std.proofs.Common.{◌≡◌, ◌≢◌, ℕ, ◌<◌, ◌^◌, not, nat_lt, inl, inr, List, [], ◌∷◌, Option, Some, None, arith, sym, ◌∙◌, ap}
 use Rattle.std.proofs.lemmas.Bool.{cases_lt, lt-ltb, le-ltb}
 use Rattle.std.specs.Option.{option_map}
 use Rattle.std.specs.Cmp.{nat_cmp_is}
@@ -47,7 +47,7 @@ module _ {X : Type 0} (entry : X → Entry) where
       ]
 
   -- of two sources whose numbers differ that of the lesser number wins
-  fronts_win : (h g : Option X) (ls ms : Option (List X)) (xs ys : List X) (a b : ℕ) → IsHeld h ls → IsHeld g ms
+  pub fronts_win : (h g : Option X) (ls ms : Option (List X)) (xs ys : List X) (a b : ℕ) → IsHeld h ls → IsHeld g ms
       → IsFrontOf entry h a → IsFrontOf entry g b → a ≢ b → option_map (before h) ls ≡ Some xs → option_map (before g) ms ≡ Some ys
       → nat_lt a b ≡ wins (order_by entry) xs ys
   fronts_win h g None ms xs ys a b p q e f n s t = absurd (cc)
@@ -67,13 +67,3 @@ module _ {X : Type 0} (entry : X → Entry) where
       let first : x ∷ l ≡ xs = cc in
       let second : y ∷ m ≡ ys = cc in
       by_key x y a b e.1 f.1 e.0 f.0 n ∙ (λ i. wins (order_by entry) (first i) (second i))
-
-  pub lesser_wins : (h g : Option X) (ls ms : Option (List X)) (xs ys : List X) (a b : ℕ) → IsHeld h ls → IsHeld g ms
-      → IsFrontOf entry h a → IsFrontOf entry g b → a < b → option_map (before h) ls ≡ Some xs → option_map (before g) ms ≡ Some ys
-      → true ≡ wins (order_by entry) xs ys
-  lesser_wins h g ls ms xs ys a b p q e f l s t = sym (lt-ltb a b l) ∙ fronts_win h g ls ms xs ys a b p q e f (λ (n : a ≡ b). omega (arith, l, n)) s t
-
-  pub greater_loses : (h g : Option X) (ls ms : Option (List X)) (xs ys : List X) (a b : ℕ) → IsHeld h ls → IsHeld g ms
-      → IsFrontOf entry h a → IsFrontOf entry g b → b < a → option_map (before h) ls ≡ Some xs → option_map (before g) ms ≡ Some ys
-      → false ≡ wins (order_by entry) xs ys
-  greater_loses h g ls ms xs ys a b p q e f l s t = sym (le-ltb a b (omega (arith, l))) ∙ fronts_win h g ls ms xs ys a b p q e f (λ (n : a ≡ b). omega (arith, l, n)) s t

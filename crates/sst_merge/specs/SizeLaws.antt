@@ -1,5 +1,5 @@
 -- Laws of the sizes of blocks and tables.
-use Rattle.std.proofs.Common.{◌≡◌, ℕ, ◌+◌, ◌-◌, ◌^◌, ◌<◌, ◌≤◌, ◌⊎◌, min, List, [], ◌∷◌, ◌++◌, length, take, drop, slice_get, Option, Some, None, refl, sym, ap, subst, ◌∙◌, inl, inr, arith, length-append}
+use Rattle.std.proofs.Common.{◌≡◌, ℕ, ◌+◌, ◌-◌, ◌^◌, ◌<◌, ◌≤◌, ◌⊎◌, min, List, [], ◌∷◌, ◌++◌, length, take, drop, slice_get, Option, Some, None, refl, sym, ap, subst, ◌∙◌, inl, inr, arith, length-append, append-nil}
 use Rattle.std.proofs.lemmas.Bool.{cases_lt}
 use Rattle.std.proofs.lemmas.List.{length_push, take-append-le, drop-append-le, take_all, drop_all}
 use Rattle.std.proofs.lemmas.List.Sums.{sum_by-append}
@@ -7,23 +7,55 @@ use Rattle.std.proofs.lemmas.Option.{slice_get-get_or}
 use Rattle.std.specs.List.{AllByRecursion}
 use Rattle.std.specs.Option.{option_map, IfSome}
 use Rattle.sst_base.specs.Entry.{Entry}
+use Rattle.sst_block_core.specs.Body.{body, form}
+use Rattle.sst_block_core.specs.Entries.{entries}
+use Rattle.sst_block_core.specs.OffsetLaws.{body-append}
 use Rattle.sstable_blocks.specs.Blocks.{joined}
 use Rattle.sst_merge.specs.Sources.{IsTaken}
 use Rattle.sst_merge.specs.TableLaws.{joined_push, last_of}
-use Rattle.sst_merge.specs.Tables.{IsApart, IsFilled, IsShortest, Reaches, capped, entries_len, entry_len}
+use Rattle.sst_merge.specs.Tables.{IsApart, IsFilled, IsShortest, Reaches, capped, block_len, blocks_len}
 
 pub reaches_size : (a n size : ℕ) → n ≡ capped a → size ≤ n → size ≤ a
 reaches_size a n size e h = omega arith
 
--- of one block more
-pub len_block : (blocks : List (List Entry)) (b : List Entry) (n k m : ℕ) → n ≡ capped (entries_len (joined blocks)) → k ≡ capped (entries_len b) → m ≡ min (n + k) (2 ^ 64 - 1) → m ≡ capped (entries_len (joined (blocks ++ b ∷ [])))
-len_block blocks b n k m e f g =
-    let both : entries_len (joined (blocks ++ b ∷ [])) ≡ entries_len (joined blocks) + entries_len b = ap entries_len (joined_push blocks b) ∙ sum_by-append entry_len (joined blocks) b in
-    let h : m ≡ capped (entries_len (joined blocks) + entries_len b) = omega arith in
-    h ∙ ap capped (sym both)
+-- of no entry
+pub len_none : (r : ℕ) → block_len r [] ≡ 0
+unfolding body
+len_none r = refl
 
-abbrev pub IsBelow : ℕ → List Entry → Type 0
-IsBelow size block = (n : ℕ) → 1 ≤ n → n < length block → entries_len (take n block) < size
+-- of one entry more
+pub len_entry : (r : ℕ) → 0 < r → (block : List Entry) (e : Entry) → block_len r (block ++ e ∷ []) ≡ block_len r block + length (form entries r (block ++ e ∷ []) (length block) e)
+len_entry r pos block e =
+    ap length (body-append entries r pos block (e ∷ []))
+    ∙ length-append (body entries r block) (form entries r (block ++ e ∷ []) (length block) e ++ [])
+    ∙ ap (λ bytes. block_len r block + length bytes) (append-nil (form entries r (block ++ e ∷ []) (length block) e))
+
+pub len_more : (r : ℕ) → 1 ≤ r → (block more : List Entry) (e : Entry) (n k m : ℕ) → more ≡ block ++ e ∷ [] → n ≡ capped (block_len r block) → k ≡ length (form entries r (block ++ e ∷ []) (length block) e) → m ≡ min (n + k) (2 ^ 64 - 1) → m ≡ capped (block_len r more)
+len_more r pos block more e n k m is h i j =
+    let l : block_len r more ≡ block_len r block + k = ap (block_len r) is ∙ len_entry r pos block e ∙ ap (λ n. block_len r block + n) (sym i) in
+    omega (arith, h, j, l)
+
+-- of one block more
+pub len_block : (r : ℕ) (blocks : List (List Entry)) (b : List Entry) (n k m : ℕ) → n ≡ capped (blocks_len r blocks) → k ≡ capped (block_len r b) → m ≡ min (n + k) (2 ^ 64 - 1) → m ≡ capped (blocks_len r (blocks ++ b ∷ []))
+len_block r blocks b n k m e f g =
+    let both : blocks_len r (blocks ++ b ∷ []) ≡ blocks_len r blocks + (0 + block_len r b) = sum_by-append (block_len r) blocks (b ∷ []) in
+    omega arith
+
+abbrev pub IsBelow : ℕ → ℕ → List Entry → Type 0
+IsBelow r size block = (n : ℕ) → 1 ≤ n → n < length block → block_len r (take n block) < size
+
+-- a block that had no entry, or was below its size, has one more
+pub below_more : (r size : ℕ) (block more : List Entry) (e : Entry) (n : ℕ) → size < 2 ^ 64 → more ≡ block ++ e ∷ [] → n ≡ capped (block_len r block) → IsBelow r size block → (length block ≡ 0) ⊎ (n < size) → IsBelow r size more
+below_more r size block more e n fits is h below on k one inside =
+    let l = ap length is ∙ length_push block e in
+    let front : take k more ≡ take k block = ap (take k) is ∙ take-append-le k block (e ∷ []) (omega (arith, l, inside)) in
+    subst (λ (xs : List Entry). block_len r xs < size) (sym front) (elim (cases_lt k (length block)) [
+      | inl less ↦ below k one less
+      | inr all ↦ subst (λ (xs : List Entry). block_len r xs < size) (sym (take_all k block all)) (elim on [
+          | inl none ↦ absurd (omega (arith, l, none, one, inside, all))
+          | inr less ↦ omega (arith, h, less, fits)
+        ])
+    ])
 
 -- where nothing was left, nothing is left later
 pub none_later : (s t : Option (List Entry)) (items : List Entry) → IfSome s (λ xs. xs ≡ []) → IsTaken s items t → IfSome t (λ xs. xs ≡ [])
@@ -36,23 +68,23 @@ none_later (Some xs) (Some ys) items h e = ends items ys (cc)
     ends [] ys e = e
     ends (z ∷ zs) ys e = absurd (cc)
 
-reaches_later : (size : ℕ) (es : List Entry) (s t : Option (List Entry)) (items : List Entry) → IsTaken s items t → Reaches size es s → Reaches size es t
-reaches_later size es s t items taken h = elim h [
+reaches_later : (size len : ℕ) (s t : Option (List Entry)) (items : List Entry) → IsTaken s items t → Reaches size len s → Reaches size len t
+reaches_later size len s t items taken h = elim h [
   | inl more ↦ inl more
   | inr none ↦ inr (none_later s t items none taken)
 ]
 
-filled_later : (size : ℕ) (s t : Option (List Entry)) (items : List Entry) → IsTaken s items t → (blocks : List (List Entry)) → AllByRecursion (IsFilled size s) blocks → AllByRecursion (IsFilled size t) blocks
-filled_later size s t items taken [] all = tt
-filled_later size s t items taken (b ∷ blocks) all = (record { reaches = reaches_later size b s t items taken all.0.reaches; below = all.0.below }, filled_later size s t items taken blocks all.1)
+filled_later : (r size : ℕ) (s t : Option (List Entry)) (items : List Entry) → IsTaken s items t → (blocks : List (List Entry)) → AllByRecursion (IsFilled r size s) blocks → AllByRecursion (IsFilled r size t) blocks
+filled_later r size s t items taken [] all = tt
+filled_later r size s t items taken (b ∷ blocks) all = (record { reaches = reaches_later size (block_len r b) s t items taken all.0.reaches; below = all.0.below }, filled_later r size s t items taken blocks all.1)
 
 all_push : {A : Type 0} (P : A → Type 0) (xs : List A) (x : A) → AllByRecursion P xs → P x → AllByRecursion P (xs ++ x ∷ [])
 all_push P [] x all h = (h, tt)
 all_push P (y ∷ ys) x all h = (all.0, all_push P ys x all.1 h)
 
 -- one block more
-pub filled_more : (size : ℕ) (s t : Option (List Entry)) (blocks : List (List Entry)) (b : List Entry) → AllByRecursion (IsFilled size s) blocks → IsTaken s b t → IsFilled size t b → AllByRecursion (IsFilled size t) (blocks ++ b ∷ [])
-filled_more size s t blocks b all taken h = all_push (IsFilled size t) blocks b (filled_later size s t b taken blocks all) h
+pub filled_more : (r size : ℕ) (s t : Option (List Entry)) (blocks : List (List Entry)) (b : List Entry) → AllByRecursion (IsFilled r size s) blocks → IsTaken s b t → IsFilled r size t b → AllByRecursion (IsFilled r size t) (blocks ++ b ∷ [])
+filled_more r size s t blocks b all taken h = all_push (IsFilled r size t) blocks b (filled_later r size s t b taken blocks all) h
 
 first_of_more : (xs ys : List Entry) (x : Entry) → slice_get xs 0 ≡ Some x → slice_get (xs ++ ys) 0 ≡ Some x
 first_of_more [] ys x e = absurd (cc)
@@ -77,15 +109,15 @@ pub apart_part : (xs ys rest : List Entry) → 1 ≤ length ys → IsApart ys re
 apart_part xs ys rest some h last next e f = h last next (sym (last_of xs ys some) ∙ e) f
 
 -- one block more, where the table went on
-pub shortest_more : (size : ℕ) (blocks front : List (List Entry)) (last b rest : List Entry) (t : List Entry) → IsShortest size blocks → blocks ≡ front ++ last ∷ [] → 1 ≤ length last → 1 ≤ length b → rest ≡ b ++ t
-    → (IsApart last rest → entries_len (joined blocks) < size) → IsShortest size (blocks ++ b ∷ [])
-shortest_more size blocks front last b rest t all ends some filled is on n one inside apart =
+pub shortest_more : (r size : ℕ) (blocks front : List (List Entry)) (last b rest : List Entry) (t : List Entry) → IsShortest r size blocks → blocks ≡ front ++ last ∷ [] → 1 ≤ length last → 1 ≤ length b → rest ≡ b ++ t
+    → (IsApart last rest → blocks_len r blocks < size) → IsShortest r size (blocks ++ b ∷ [])
+shortest_more r size blocks front last b rest t all ends some filled is on n one inside apart =
     let l = length_push blocks b in
     let a : take n (blocks ++ b ∷ []) ≡ take n blocks = take-append-le n blocks (b ∷ []) (omega (arith, l, inside)) in
     let d : drop n (blocks ++ b ∷ []) ≡ drop n blocks ++ b ∷ [] = drop-append-le n blocks (b ∷ []) (omega (arith, l, inside)) in
     let k : IsApart (joined (take n blocks)) (joined (drop n blocks) ++ b) =
     subst (λ ys. IsApart (joined (take n blocks)) ys) (ap joined d ∙ joined_push (drop n blocks) b) (subst (λ (xs : List (List Entry)). IsApart (joined xs) (joined (drop n (blocks ++ b ∷ [])))) a apart) in
-    subst (λ (xs : List (List Entry)). entries_len (joined xs) < size) (sym a) (elim (cases_lt n (length blocks)) [
+    subst (λ (xs : List (List Entry)). blocks_len r xs < size) (sym a) (elim (cases_lt n (length blocks)) [
       | inl less ↦ all n one less (apart_from_part (joined (take n blocks)) (joined (drop n blocks)) b k)
       | inr more ↦ (
           let whole : take n blocks ≡ blocks = take_all n blocks more in
@@ -93,20 +125,20 @@ shortest_more size blocks front last b rest t all ends some filled is on n one i
           let e : joined blocks ≡ joined front ++ last = ap joined ends ∙ joined_push front last in
           let p : IsApart (joined front ++ last) b = subst (λ xs. IsApart xs b) (ap joined whole ∙ e) (subst (λ (xs : List (List Entry)). IsApart (joined (take n blocks)) (joined xs ++ b)) none k) in
           let q : IsApart last rest = subst (λ xs. IsApart last xs) (sym is) (apart_from_all last b t filled (part_apart (joined front) last b some p)) in
-          subst (λ (xs : List (List Entry)). entries_len (joined xs) < size) (sym whole) (on q))
+          subst (λ (xs : List (List Entry)). blocks_len r xs < size) (sym whole) (on q))
     ])
 
 -- one block more, where the table went on and its list is known
-pub shortest_block : (size : ℕ) (blocks front : List (List Entry)) (last b : List Entry) (before s t : Option (List Entry)) → IsTaken before (joined blocks) s → IsTaken s b t → IfSome before (λ _. IsShortest size blocks) → blocks ≡ front ++ last ∷ [] → 1 ≤ length last → 1 ≤ length b
-    → IfSome s (λ rest. IsApart last rest → entries_len (joined blocks) < size) → IfSome before (λ _. IsShortest size (blocks ++ b ∷ []))
-shortest_block size blocks front last b None s t taken more all ends some filled on = tt
-shortest_block size blocks front last b (Some xs) None t taken more all ends some filled on = absurd (cc)
-shortest_block size blocks front last b (Some xs) (Some rest) None taken more all ends some filled on = absurd (cc)
-shortest_block size blocks front last b (Some xs) (Some rest) (Some ys) taken more all ends some filled on = shortest_more size blocks front last b rest ys all ends some filled (cc) on
+pub shortest_block : (r size : ℕ) (blocks front : List (List Entry)) (last b : List Entry) (before s t : Option (List Entry)) → IsTaken before (joined blocks) s → IsTaken s b t → IfSome before (λ _. IsShortest r size blocks) → blocks ≡ front ++ last ∷ [] → 1 ≤ length last → 1 ≤ length b
+    → IfSome s (λ rest. IsApart last rest → blocks_len r blocks < size) → IfSome before (λ _. IsShortest r size (blocks ++ b ∷ []))
+shortest_block r size blocks front last b None s t taken more all ends some filled on = tt
+shortest_block r size blocks front last b (Some xs) None t taken more all ends some filled on = absurd (cc)
+shortest_block r size blocks front last b (Some xs) (Some rest) None taken more all ends some filled on = absurd (cc)
+shortest_block r size blocks front last b (Some xs) (Some rest) (Some ys) taken more all ends some filled on = shortest_more r size blocks front last b rest ys all ends some filled (cc) on
 
-pub reaches_by : (s : Option (List Entry)) (blocks : List (List Entry)) (n size : ℕ) → n ≡ capped (entries_len (joined blocks)) → (size ≤ n) ⊎ IfSome s (λ xs. xs ≡ []) → Reaches size (joined blocks) s
-reaches_by s blocks n size e h = elim h [
-  | inl more ↦ inl (reaches_size (entries_len (joined blocks)) n size e more)
+pub reaches_by : (s : Option (List Entry)) (len n size : ℕ) → n ≡ capped len → (size ≤ n) ⊎ IfSome s (λ xs. xs ≡ []) → Reaches size len s
+reaches_by s len n size e h = elim h [
+  | inl more ↦ inl (reaches_size len n size e more)
   | inr none ↦ inr none
 ]
 

@@ -2,6 +2,7 @@
 //! snapshot sees, and compaction. It stands on the public contracts of the block layer alone.
 #![tactic(auto)]
 
+mod block_len;
 pub mod compact;
 pub mod compaction;
 pub mod front;

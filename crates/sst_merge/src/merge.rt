@@ -165,11 +165,8 @@ fn goes_first<T: Version, I: Source<T>>(first: &Head<T, I>, second: &Head<T, I>)
     ensures { (xs ys : List T) → first.now.list ≡ Some xs → second.now.list ≡ Some ys
         → result ≡ wins (order_by T.entry) xs ys }
 {
-    if first.front < second.front {
-        return true;
-    }
-    if second.front < first.front {
-        return false;
+    if first.front != second.front {
+        return first.front < second.front;
     }
     match (&first.held, &second.held) {
         (_, None) => true,

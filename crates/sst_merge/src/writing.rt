@@ -5,9 +5,9 @@ ghost use Rattle.sstable_blocks.specs.Run.{form, IsWritable};
 ghost use Rattle.sstable_blocks.specs.Scans.{EndsBy};
 ghost use Rattle.sstable_blocks.specs.Writing.{IsSameRun};
 ghost use Rattle.sst_merge.specs.Sources.{IsTaken};
-ghost use Rattle.sst_merge.specs.Tables.{IsApart, IsFilled, IsTableOf, capped, entries_len};
-ghost use Rattle.sst_merge.specs.Tables.{entry_len};
+ghost use Rattle.sst_merge.specs.Tables.{IsApart, IsFilled, IsTableOf, capped, block_len};
 
+use crate::block_len::form_len;
 use crate::merge::Head;
 use crate::source::Source;
 use sst_base::{BlockHash, Error, InternalValue, Result};
@@ -15,10 +15,11 @@ use sstable_blocks::{RunConfig, RunHandles, RunWriter};
 use std::alloc::Global;
 use std::io::Write;
 
-/// How large blocks and tables become, in bytes of keys and values. A block ends with the entry
-/// with which it reaches its size, and a table with the first block with which it reaches its size
-/// and after which another user key comes. Only the last table of a source and its last block may
-/// be smaller.
+/// How large blocks and tables become, in bytes of entries as they are encoded: of a key that is not
+/// the head of its restart interval only those count that the head's key has not, and pointers,
+/// buckets, frames, index and filter are not counted. A block ends with the entry with which it
+/// reaches its size, and a table with the first block with which it reaches its size and after which
+/// another user key comes. Only the last table of a source and its last block may be smaller.
 #[derive(Clone, Copy, Debug, PartialEq, Eq)]
 pub struct Sizes {
     /// The size of a block.
@@ -27,37 +28,29 @@ pub struct Sizes {
     pub table: usize,
 }
 
-// The bytes of an entry's key and value.
-fn entry_len(entry: &InternalValue) -> usize
-    ensures { result ≡ entry_len entry.now }
-{
-    entry
-        .key()
-        .user_key()
-        .len()
-        .saturating_add(entry.value().len())
-}
-
 // Takes entries until they reach a size, and at least one, if one is left. Returns their size.
+#[tactic(auto, using(crate::specs::SizeLaws::len_none))]
 fn fill_block<I: Source<InternalValue>>(
     alloc: Global,
     source: &mut Head<InternalValue, I>,
     block: &mut Vec<InternalValue>,
+    interval: u8,
     size: usize,
 ) -> Result<usize>
-    requires { block.old.items ≡ [] }
+    requires empty { block.old.items ≡ [] }
+    requires interval { 1 ≤ interval }
     ensures taken { OnOk result (IsTaken source.old.list block.new.items source.new.list) }
     ensures most { OnOk result (source.new.most + length block.new.items ≤ source.old.most) }
-    ensures filled { OnOk result (IsFilled size source.new.list block.new.items) }
+    ensures filled { OnOk result (IsFilled interval size source.new.list block.new.items) }
     ensures ended { OnOk result (source.new.ended ≡ source.old.ended) }
-    ensures len { IfOk result (λ len. len ≡ capped (entries_len block.new.items)) }
+    ensures len { IfOk result (λ len. len ≡ capped (block_len interval block.new.items)) }
 {
     let mut len = 0usize;
     while block.is_empty() || len < size {
         let Some(entry) = source.take(alloc)? else {
             return Ok(len);
         };
-        len = len.saturating_add(entry_len(&entry));
+        len = len.saturating_add(form_len(block, &entry, interval));
         block.push(entry)?;
     }
     Ok(len)
@@ -69,21 +62,23 @@ fn add_block<H: BlockHash, I: Source<InternalValue>, W: Write>(
     source: &mut Head<InternalValue, I>,
     run: &mut RunWriter<H, W>,
     block: &mut Vec<InternalValue>,
+    interval: u8,
     size: usize,
 ) -> Result<usize>
-    requires { run.old.refusal ≡ None }
+    requires accepting { run.old.refusal ≡ None }
+    requires interval { 1 ≤ interval }
     ensures run { IsSameRun run.old run.new }
     ensures accepting { OnOk result (run.new.refusal ≡ None) }
     ensures blocks { OnOk result (run.new.blocks ≡ run.old.blocks ++ block.new.items ∷ []) }
     ensures taken { OnOk result (IsTaken source.old.list block.new.items source.new.list) }
     ensures most { OnOk result (source.new.most < source.old.most) }
     ensures some { OnOk result (1 ≤ length block.new.items) }
-    ensures filled { OnOk result (IsFilled size source.new.list block.new.items) }
+    ensures filled { OnOk result (IsFilled interval size source.new.list block.new.items) }
     ensures ended { OnOk result (source.new.ended ≡ source.old.ended) }
-    ensures len { IfOk result (λ len. len ≡ capped (entries_len block.new.items)) }
+    ensures len { IfOk result (λ len. len ≡ capped (block_len interval block.new.items)) }
 {
     block.clear();
-    let len = fill_block(alloc, source, block, size)?;
+    let len = fill_block(alloc, source, block, interval, size)?;
     if !run.fits_after(block) {
         return Err(Error::OutOfOrder);
     }
@@ -140,9 +135,11 @@ fn next_table<H: BlockHash, I: Source<InternalValue>, W: Write + Drop>(
     }
     let mut run = RunWriter::<H, W>::new(alloc, writer, config);
     let mut block = Vec::new(alloc);
-    let mut len = add_block(alloc, source, &mut run, &mut block, sizes.block)?;
+    let interval = config.restart_interval;
+    let mut len = add_block(alloc, source, &mut run, &mut block, interval, sizes.block)?;
     while goes_on(source, &block, len, sizes.table) {
-        len = len.saturating_add(add_block(alloc, source, &mut run, &mut block, sizes.block)?);
+        let added = add_block(alloc, source, &mut run, &mut block, interval, sizes.block)?;
+        len = len.saturating_add(added);
     }
     Ok(Some(run.finish()?))
 }

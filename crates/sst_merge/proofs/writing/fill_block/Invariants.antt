@@ -1,15 +1,15 @@
 use Rattle.std.proofs.Common.{◌≡◌, ◌+◌, ◌≤◌, length}
 use Rattle.sst_merge.specs.SizeLaws.{IsBelow}
 use Rattle.sst_merge.specs.Sources.{IsTaken}
-use Rattle.sst_merge.specs.Tables.{capped, entries_len}
+use Rattle.sst_merge.specs.Tables.{capped, block_len}
 use Rattle.sst_merge.proofs.writing.fill_block.Given as goal
 
 abbrev pub invariant-loop-alloc : goal.invariant-loop-alloc
 invariant-loop-alloc g l = record {
   taken : IsTaken l.fn.source.list l.block.items l.source.list;
   most : l.source.most + length l.block.items ≤ l.fn.source.most;
-  len : l.len ≡ capped (entries_len l.block.items);
-  below : IsBelow l.size l.block.items;
+  len : l.len ≡ capped (block_len l.interval l.block.items);
+  below : IsBelow l.interval l.size l.block.items;
   ended : l.source.ended ≡ l.fn.source.ended;
 }
 

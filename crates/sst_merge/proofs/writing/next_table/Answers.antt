@@ -8,7 +8,7 @@ use Rattle.sstable_blocks.specs.Writing.{AppendsLayout}
 use Rattle.sst_merge.specs.SizeLaws.{filled_more, joined_some, len_block, reaches_by, shortest_block}
 use Rattle.sst_merge.specs.Sources.{IsTaken}
 use Rattle.sst_merge.specs.TableLaws.{apart_blocks, taken_block, some_push, none_left}
-use Rattle.sst_merge.specs.Tables.{IsApart, IsFilled, IsShortest, capped, entries_len}
+use Rattle.sst_merge.specs.Tables.{IsApart, IsFilled, IsShortest, blocks_len, capped}
 use Rattle.sst_merge.proofs.writing.next_table.Goals as goal
 
 pub returns-then-is_none-clause-done : goal.returns-then-is_none-clause-done
@@ -16,24 +16,26 @@ returns-then-is_none-clause-done g c = none_left (λ r. r.now) c.args.source.now
 
 pub loop-alloc-preserved : goal.loop-alloc-preserved
 loop-alloc-preserved g c =
-    let added = c.in_ok-add_block.ensures in
+    let added = c.in_ok-added.ensures in
     let before = c.loop-alloc.invariant in
     let block = c.add_block-in-loop-alloc.new.block.items in
     let left = c.add_block-in-loop-alloc.new.source.list in
+    let r = c.args.config.restart_interval in
     record {
       config = added.run.config ∙ before.config;
+      interval = before.interval;
       start = added.run.start ∙ before.start;
       accepting = added.accepting;
       some = subst (λ (bs : List (List Entry)). 1 ≤ length bs) (sym added.blocks) (some_push c.loop-alloc.run.blocks block);
       last = (c.loop-alloc.run.blocks, added.blocks);
       entries = added.some;
-      len = subst (λ (bs : List (List Entry)). c.saturating_add-len.result ≡ capped (entries_len (joined bs))) (sym added.blocks)
-          (len_block c.loop-alloc.run.blocks block c.loop-alloc.len c.in_ok-add_block.field-0 c.saturating_add-len.result before.len added.len c.saturating_add-len.ensures);
-      filled = subst (AllByRecursion (IsFilled c.args.sizes.block left)) (sym added.blocks) (filled_more c.args.sizes.block c.loop-alloc.source.list left c.loop-alloc.run.blocks block before.filled added.taken added.filled);
-      shortest = subst (λ (bs : List (List Entry)). IfSome c.args.source.now.list (λ _. IsShortest c.args.sizes.table bs)) (sym added.blocks)
-          (shortest_block c.args.sizes.table c.loop-alloc.run.blocks before.last.0 c.loop-alloc.block.items block c.args.source.now.list c.loop-alloc.source.list left before.taken added.taken before.shortest before.last.1 before.entries added.some
-          (subst (λ last. IfSome c.loop-alloc.source.list (λ rest. IsApart last rest → entries_len (joined c.loop-alloc.run.blocks) < c.args.sizes.table)) c.deref.ensures.value
-          (c.goes_on.ensures.goes_on (entries_len (joined c.loop-alloc.run.blocks)) before.len c.loop-alloc-test.true)));
+      len = subst (λ (bs : List (List Entry)). c.saturating_add-len.result ≡ capped (blocks_len r bs)) (sym added.blocks)
+          (len_block r c.loop-alloc.run.blocks block c.loop-alloc.len c.in_ok-added.added c.saturating_add-len.result before.len added.len c.saturating_add-len.ensures);
+      filled = subst (AllByRecursion (IsFilled r c.args.sizes.block left)) (sym added.blocks) (filled_more r c.args.sizes.block c.loop-alloc.source.list left c.loop-alloc.run.blocks block before.filled added.taken added.filled);
+      shortest = subst (λ (bs : List (List Entry)). IfSome c.args.source.now.list (λ _. IsShortest r c.args.sizes.table bs)) (sym added.blocks)
+          (shortest_block r c.args.sizes.table c.loop-alloc.run.blocks before.last.0 c.loop-alloc.block.items block c.args.source.now.list c.loop-alloc.source.list left before.taken added.taken before.shortest before.last.1 before.entries added.some
+          (subst (λ last. IfSome c.loop-alloc.source.list (λ rest. IsApart last rest → blocks_len r c.loop-alloc.run.blocks < c.args.sizes.table)) c.deref.ensures.value
+          (c.goes_on.ensures.goes_on (blocks_len r c.loop-alloc.run.blocks) before.len c.loop-alloc-test.true)));
       taken = subst (λ (bs : List (List Entry)). IsTaken c.args.source.now.list (joined bs) left) (sym added.blocks)
           (taken_block c.args.source.now.list c.loop-alloc.source.list left c.loop-alloc.run.blocks block before.taken added.taken);
       most = (let less = added.most in let e = before.most in omega (arith, less, e));
@@ -55,6 +57,6 @@ returns-clause-table g c =
       taken = inv.taken;
       apart = apart_blocks blocks inv.last.0 c.loop-alloc.block.items left inv.last.1 inv.entries (subst (λ last. IfSome left (IsApart last)) c.deref.ensures.value (c.goes_on.ensures.apart c.loop-alloc-test.false));
       filled = inv.filled;
-      reaches = reaches_by left blocks c.loop-alloc.len c.args.sizes.table inv.len (c.goes_on.ensures.reaches c.loop-alloc-test.false);
+      reaches = reaches_by left (blocks_len c.args.config.restart_interval blocks) c.loop-alloc.len c.args.sizes.table inv.len (c.goes_on.ensures.reaches c.loop-alloc-test.false);
       shortest = inv.shortest;
     }

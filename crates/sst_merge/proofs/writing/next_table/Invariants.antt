@@ -4,20 +4,21 @@ use Rattle.std.specs.Option.{IfSome}
 use Rattle.sst_base.specs.Entry.{Entry}
 use Rattle.sstable_blocks.specs.Blocks.{joined}
 use Rattle.sst_merge.specs.Sources.{IsTaken}
-use Rattle.sst_merge.specs.Tables.{IsFilled, IsShortest, capped, entries_len}
+use Rattle.sst_merge.specs.Tables.{IsFilled, IsShortest, blocks_len, capped}
 use Rattle.sst_merge.proofs.writing.next_table.Given as goal
 
 abbrev pub invariant-loop-alloc : goal.invariant-loop-alloc
 invariant-loop-alloc g l = record {
   config : l.run.config ≡ l.fn.config;
+  interval : l.interval ≡ l.fn.config.restart_interval;
   start : l.run.start ≡ g.W.Write.contents l.fn.writer;
   accepting : l.run.refusal ≡ None;
   some : 1 ≤ length l.run.blocks;
   last : (front : List (List Entry)) × (l.run.blocks ≡ front ++ l.block.items ∷ []);
   entries : 1 ≤ length l.block.items;
-  len : l.len ≡ capped (entries_len (joined l.run.blocks));
-  filled : AllByRecursion (IsFilled l.sizes.block l.source.list) l.run.blocks;
-  shortest : IfSome l.fn.source.list (λ _. IsShortest l.sizes.table l.run.blocks);
+  len : l.len ≡ capped (blocks_len l.interval l.run.blocks);
+  filled : AllByRecursion (IsFilled l.interval l.sizes.block l.source.list) l.run.blocks;
+  shortest : IfSome l.fn.source.list (λ _. IsShortest l.interval l.sizes.table l.run.blocks);
   taken : IsTaken l.fn.source.list (joined l.run.blocks) l.source.list;
   most : l.source.most < l.fn.source.most;
   ended : l.source.ended ≡ l.fn.source.ended;
