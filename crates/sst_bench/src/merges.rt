@@ -10,7 +10,7 @@ use crate::hash::Hash;
 use crate::run::run_of;
 use crate::sums::entry_sum;
 use sst_base::{HashRatio, InternalValue, Slice};
-use sst_merge::{Head, Merge, Source};
+use sst_merge::{Head, Merge, Source, Version};
 use sstable_blocks::run::{Scan, Trusted, TrustedScan};
 use sstable_blocks::{MemorySource, RunConfig, RunHandles, Table};
 use std::alloc::Global;
@@ -90,6 +90,15 @@ pub(crate) fn tables_of(alloc: Global, runs: &[Stored]) -> Option<Vec<Table<Hash
     Some(tables)
 }
 
+/// Adds a source to those of a merge.
+pub(crate) fn push_head<T: Version + Drop, I: Source<T> + Drop>(
+    alloc: Global,
+    heads: &mut Vec<Head<T, I>>,
+    source: I,
+) -> Option<()> {
+    heads.push(Head::new(alloc, source).ok()?).ok()
+}
+
 // Scans of tables.
 fn scans_of(
     alloc: Global,
@@ -97,7 +106,7 @@ fn scans_of(
 ) -> Option<Vec<Scanned<'static>>> {
     let mut scans = Vec::new(alloc);
     for table in tables {
-        scans.push(Head::new(alloc, table.scan()).ok()?).ok()?;
+        push_head(alloc, &mut scans, table.scan())?;
     }
     Some(scans)
 }
@@ -185,7 +194,7 @@ fn trusted_scans_of<'a>(
 ) -> Option<Vec<ScannedTrusted<'a, 'static>>> {
     let mut scans = Vec::new(alloc);
     for table in tables {
-        scans.push(Head::new(alloc, table.scan()).ok()?).ok()?;
+        push_head(alloc, &mut scans, table.scan())?;
     }
     Some(scans)
 }

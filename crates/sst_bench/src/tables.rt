@@ -209,8 +209,10 @@ fn add_scanned(
     alloc: Global,
 ) -> Option<u64> {
     let source = MemorySource::new(run.clone().ok()?);
-    let table = Table::<Hash, MemorySource>::open(alloc, source, *handles).ok()?;
-    add_taken(so_far, &mut table.scan(), count, alloc)
+    match Table::<Hash, MemorySource>::open(alloc, source, *handles) {
+        Ok(table) => add_taken(so_far, &mut table.scan(), count, alloc),
+        Err(_) => None,
+    }
 }
 
 // Checks a run, and adds the number of its entries.

@@ -12,7 +12,7 @@ use crate::REFUSED;
 use crate::data_block::{NEWEST, add_entries, block_of, items_in};
 use crate::hash::Hash;
 use crate::keys::keys_in;
-use crate::merges::{Stored, all_trusted, runs_in, tables_of};
+use crate::merges::{Stored, all_trusted, push_head, runs_in, tables_of};
 use crate::run::run_in;
 use crate::sums::{entry_sum, view_found_sum, view_sum};
 use crate::tables::{Asked, opened_in};
@@ -290,9 +290,7 @@ pub extern "C" fn sst_views_find(
 fn scans_of<'a>(alloc: Global, tables: &[Trusted<'a, Hash>]) -> Option<Vec<Scanned<'a, 'static>>> {
     let mut scans = Vec::new(alloc);
     for table in tables {
-        scans
-            .push(Head::new(alloc, table.by_ref().scan()).ok()?)
-            .ok()?;
+        push_head(alloc, &mut scans, table.by_ref().scan())?;
     }
     Some(scans)
 }
