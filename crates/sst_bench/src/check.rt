@@ -26,36 +26,35 @@ fn add_checked_index(so_far: u64, block: &Block) -> Option<u64> {
     Some(so_far.wrapping_add(count as u64))
 }
 
+// Checks a block `times` times, from 0, as a data block or as an index block.
+fn checked(alloc: Global, block: &Block, is_index: bool, times: u64) -> Option<u64> {
+    let mut sum = 0;
+    for _ in 0..times {
+        sum = if is_index {
+            add_checked_index(sum, block)?
+        } else {
+            add_checked(sum, block, alloc)?
+        };
+    }
+    Some(sum)
+}
+
 /// Checks the payload of a data block as bytes from outside, and adds the number of its entries.
 /// Refuses what the check refuses.
 #[unsafe(no_mangle)]
 pub extern "C" fn sst_check(payload: &[u8], times: u64, alloc: Global) -> u64 {
-    let Some(block) = block_of(alloc, payload, BlockType::Data) else {
-        return REFUSED;
-    };
-    let mut sum = 0;
-    for _ in 0..times {
-        match add_checked(sum, &block, alloc) {
-            Some(more) => sum = more,
-            None => return REFUSED,
-        }
+    match block_of(alloc, payload, BlockType::Data) {
+        Some(block) => checked(alloc, &block, false, times).unwrap_or(REFUSED),
+        None => REFUSED,
     }
-    sum
 }
 
 /// Checks the payload of an index block as bytes from outside, and adds the number of its handles.
 /// Refuses what the check refuses.
 #[unsafe(no_mangle)]
 pub extern "C" fn sst_index_check(payload: &[u8], times: u64, alloc: Global) -> u64 {
-    let Some(block) = block_of(alloc, payload, BlockType::Index) else {
-        return REFUSED;
-    };
-    let mut sum = 0;
-    for _ in 0..times {
-        match add_checked_index(sum, &block) {
-            Some(more) => sum = more,
-            None => return REFUSED,
-        }
+    match block_of(alloc, payload, BlockType::Index) {
+        Some(block) => checked(alloc, &block, true, times).unwrap_or(REFUSED),
+        None => REFUSED,
     }
-    sum
 }

@@ -78,24 +78,28 @@ pub(crate) fn copy_front(out: &mut [u8], bytes: &[u8]) {
     out[..len].copy_from_slice(&bytes[..len]);
 }
 
-// Encodes the block `times` times, each time into the same vector, emptied first.
+// Encodes the block `times` times, each time into the same vector, emptied first, and copies as much of
+// it into `out` as fits.
 fn encode(
-    writer: &mut Vec<u8>,
+    alloc: Global,
     items: &[InternalValue],
     interval: u8,
     ratio: HashRatio,
     times: u64,
-) -> Option<()>
+    out: &mut [u8],
+) -> Option<u64>
     requires some { 1 ≤ length items.now }
     requires ordered { IsOrdered entries items.now }
     requires interval { 1 ≤ interval }
     requires den { 1 ≤ ratio.den }
 {
+    let mut writer = Vec::new(alloc);
     for _ in 0..times {
         writer.clear();
-        DataBlock::<Hash>::encode_into(writer, items, interval, ratio).ok()?;
+        DataBlock::<Hash>::encode_into(&mut writer, items, interval, ratio).ok()?;
     }
-    Some(())
+    copy_front(out, writer.as_slice());
+    Some(writer.len() as u64)
 }
 
 /// Encodes the block of the entries, and copies as much of it into `out` as fits.
@@ -111,15 +115,8 @@ pub extern "C" fn sst_encode(
     alloc: Global,
 ) -> u64 {
     let ratio = HashRatio { num, den };
-    let Some(items) = items_in(alloc, bytes, count, interval, ratio) else {
-        return REFUSED;
-    };
-    let mut writer = Vec::new(alloc);
-    match encode(&mut writer, items.as_slice(), interval, ratio, times) {
-        Some(()) => {
-            copy_front(out, writer.as_slice());
-            writer.len() as u64
-        }
+    match items_in(alloc, bytes, count, interval, ratio) {
+        Some(items) => encode(alloc, &items, interval, ratio, times, out).unwrap_or(REFUSED),
         None => REFUSED,
     }
 }
@@ -134,27 +131,6 @@ fn add_items(so_far: u64, block: &DataBlock<Hash>) -> u64 {
     sum
 }
 
-/// Iterates over the block from the front, and adds each parsed item.
-#[unsafe(no_mangle)]
-pub extern "C" fn sst_walk(
-    bytes: &[u8],
-    count: usize,
-    interval: u8,
-    num: u32,
-    den: u32,
-    times: u64,
-    alloc: Global,
-) -> u64 {
-    let Some(block) = block_in(alloc, bytes, count, interval, HashRatio { num, den }) else {
-        return REFUSED;
-    };
-    let mut sum = 0;
-    for _ in 0..times {
-        sum = add_items(sum, &block);
-    }
-    sum
-}
-
 // Adds each parsed item of a block, from the back.
 #[inline(never)]
 fn add_items_back(so_far: u64, block: &DataBlock<Hash>) -> u64 {
@@ -162,27 +138,6 @@ fn add_items_back(so_far: u64, block: &DataBlock<Hash>) -> u64 {
     let mut iter = block.iter();
     while let Some(item) = iter.next_back() {
         sum = sum.wrapping_add(item_sum(&item));
-    }
-    sum
-}
-
-/// Iterates over the block from the back, and adds each parsed item.
-#[unsafe(no_mangle)]
-pub extern "C" fn sst_walk_back(
-    bytes: &[u8],
-    count: usize,
-    interval: u8,
-    num: u32,
-    den: u32,
-    times: u64,
-    alloc: Global,
-) -> u64 {
-    let Some(block) = block_in(alloc, bytes, count, interval, HashRatio { num, den }) else {
-        return REFUSED;
-    };
-    let mut sum = 0;
-    for _ in 0..times {
-        sum = add_items_back(sum, &block);
     }
     sum
 }
@@ -203,6 +158,77 @@ pub(crate) fn add_entries(so_far: u64, block: &DataBlock<Hash>, alloc: Global) -
     Some(sum)
 }
 
+// Adds the first parsed item of a block.
+#[inline(never)]
+fn add_first(so_far: u64, block: &DataBlock<Hash>) -> u64 {
+    so_far.wrapping_add(next_sum(&block.iter().next()))
+}
+
+// How a block is walked over.
+#[derive(Clone, Copy)]
+enum Walk {
+    // Each parsed item is added.
+    Items,
+    // The same from the back.
+    ItemsBack,
+    // Each entry is made, and added.
+    Entries,
+    // The first parsed item is added.
+    First,
+}
+
+// Walks over a block `times` times, from 0.
+fn walked(alloc: Global, block: &DataBlock<Hash>, walk: Walk, times: u64) -> Option<u64> {
+    let mut sum = 0;
+    for _ in 0..times {
+        sum = match walk {
+            Walk::Items => add_items(sum, block),
+            Walk::ItemsBack => add_items_back(sum, block),
+            Walk::Entries => add_entries(sum, block, alloc)?,
+            Walk::First => add_first(sum, block),
+        };
+    }
+    Some(sum)
+}
+
+// The same, of a block that may be none.
+fn walks_of(alloc: Global, block: Option<DataBlock<Hash>>, walk: Walk, times: u64) -> u64 {
+    match block {
+        Some(block) => walked(alloc, &block, walk, times).unwrap_or(REFUSED),
+        None => REFUSED,
+    }
+}
+
+/// Iterates over the block from the front, and adds each parsed item.
+#[unsafe(no_mangle)]
+pub extern "C" fn sst_walk(
+    bytes: &[u8],
+    count: usize,
+    interval: u8,
+    num: u32,
+    den: u32,
+    times: u64,
+    alloc: Global,
+) -> u64 {
+    let block = block_in(alloc, bytes, count, interval, HashRatio { num, den });
+    walks_of(alloc, block, Walk::Items, times)
+}
+
+/// Iterates over the block from the back, and adds each parsed item.
+#[unsafe(no_mangle)]
+pub extern "C" fn sst_walk_back(
+    bytes: &[u8],
+    count: usize,
+    interval: u8,
+    num: u32,
+    den: u32,
+    times: u64,
+    alloc: Global,
+) -> u64 {
+    let block = block_in(alloc, bytes, count, interval, HashRatio { num, den });
+    walks_of(alloc, block, Walk::ItemsBack, times)
+}
+
 /// Iterates over the block from the front, materializes each entry, and adds it.
 #[unsafe(no_mangle)]
 pub extern "C" fn sst_materialize(
@@ -214,23 +240,8 @@ pub extern "C" fn sst_materialize(
     times: u64,
     alloc: Global,
 ) -> u64 {
-    let Some(block) = block_in(alloc, bytes, count, interval, HashRatio { num, den }) else {
-        return REFUSED;
-    };
-    let mut sum = 0;
-    for _ in 0..times {
-        match add_entries(sum, &block, alloc) {
-            Some(more) => sum = more,
-            None => return REFUSED,
-        }
-    }
-    sum
-}
-
-// Adds the first parsed item of a block.
-#[inline(never)]
-fn add_first(so_far: u64, block: &DataBlock<Hash>) -> u64 {
-    so_far.wrapping_add(next_sum(&block.iter().next()))
+    let block = block_in(alloc, bytes, count, interval, HashRatio { num, den });
+    walks_of(alloc, block, Walk::Entries, times)
 }
 
 /// Makes an iterator over the block, takes one item, and adds it.
@@ -244,14 +255,8 @@ pub extern "C" fn sst_iter(
     times: u64,
     alloc: Global,
 ) -> u64 {
-    let Some(block) = block_in(alloc, bytes, count, interval, HashRatio { num, den }) else {
-        return REFUSED;
-    };
-    let mut sum = 0;
-    for _ in 0..times {
-        sum = add_first(sum, &block);
-    }
-    sum
+    let block = block_in(alloc, bytes, count, interval, HashRatio { num, den });
+    walks_of(alloc, block, Walk::First, times)
 }
 
 // Does a point read of each needle, and adds the entry that is found, or 1 for none.
@@ -271,25 +276,100 @@ fn add_found(
     Some(sum)
 }
 
-// Does a point read of each needle `times` times, from 0.
+// Seeks each needle with a new iterator, adds 1 where the seek returns `true`, and the next item.
+#[inline(never)]
+fn add_next(so_far: u64, block: &DataBlock<Hash>, needles: &[&[u8]]) -> u64 {
+    let mut sum = so_far;
+    for needle in needles {
+        let mut iter = block.iter();
+        sum = sum.wrapping_add(u64::from(iter.seek(needle)));
+        sum = sum.wrapping_add(next_sum(&iter.next()));
+    }
+    sum
+}
+
+// Seeks each needle from the back with a new iterator, adds 1 where the seek returns `true`, and
+// the next item from the back.
+#[inline(never)]
+fn add_next_back(so_far: u64, block: &DataBlock<Hash>, needles: &[&[u8]]) -> u64 {
+    let mut sum = so_far;
+    for needle in needles {
+        let mut iter = block.iter();
+        sum = sum.wrapping_add(u64::from(iter.seek_upper(needle)));
+        sum = sum.wrapping_add(next_sum(&iter.next_back()));
+    }
+    sum
+}
+
+// What is done with each needle.
+#[derive(Clone, Copy)]
+enum Read {
+    // A point read.
+    Entry,
+    // A seek, after which the next item is taken.
+    Next,
+    // A seek from the back, after which the next item from the back is taken.
+    NextBack,
+}
+
+// Reads each needle `times` times, from 0.
+fn needles_read(
+    alloc: Global,
+    block: &DataBlock<Hash>,
+    read: Read,
+    needles: &[&[u8]],
+    times: u64,
+) -> Option<u64> {
+    let mut sum = 0;
+    for _ in 0..times {
+        sum = match read {
+            Read::Entry => add_found(sum, block, needles, alloc)?,
+            Read::Next => add_next(sum, block, needles),
+            Read::NextBack => add_next_back(sum, block, needles),
+        };
+    }
+    Some(sum)
+}
+
+// The same, of needles as bytes.
+fn read_in(
+    alloc: Global,
+    block: &DataBlock<Hash>,
+    read: Read,
+    needles: &[u8],
+    key_len: usize,
+    times: u64,
+) -> Option<u64> {
+    let needles = keys_in(alloc, needles, key_len)?;
+    needles_read(alloc, block, read, needles.as_slice(), times)
+}
+
+// The same, in a block that may be none.
 fn reads_of(
     alloc: Global,
     block: Option<DataBlock<Hash>>,
+    read: Read,
     needles: &[u8],
     key_len: usize,
     times: u64,
 ) -> u64 {
-    let (Some(block), Some(needles)) = (block, keys_in(alloc, needles, key_len)) else {
-        return REFUSED;
-    };
-    let mut sum = 0;
-    for _ in 0..times {
-        match add_found(sum, &block, needles.as_slice(), alloc) {
-            Some(more) => sum = more,
-            None => return REFUSED,
-        }
+    match block {
+        Some(block) => read_in(alloc, &block, read, needles, key_len, times).unwrap_or(REFUSED),
+        None => REFUSED,
     }
-    sum
+}
+
+// The block of the entries with the table of its heads, if it can be encoded and memory suffices.
+fn tabled_in(
+    alloc: Global,
+    bytes: &[u8],
+    count: usize,
+    interval: u8,
+    ratio: HashRatio,
+) -> Option<DataBlock<Hash>> {
+    block_in(alloc, bytes, count, interval, ratio)?
+        .with_heads(alloc)
+        .ok()
 }
 
 /// Does a point read of each needle, and adds the entry that is found, or 1 for none.
@@ -306,20 +386,7 @@ pub extern "C" fn sst_get(
     alloc: Global,
 ) -> u64 {
     let block = block_in(alloc, bytes, count, interval, HashRatio { num, den });
-    reads_of(alloc, block, needles, key_len, times)
-}
-
-// The block of the entries with the table of its heads, if it can be encoded and memory suffices.
-fn tabled_in(
-    alloc: Global,
-    bytes: &[u8],
-    count: usize,
-    interval: u8,
-    ratio: HashRatio,
-) -> Option<DataBlock<Hash>> {
-    block_in(alloc, bytes, count, interval, ratio)?
-        .with_heads(alloc)
-        .ok()
+    reads_of(alloc, block, Read::Entry, needles, key_len, times)
 }
 
 /// Does the point reads of [`sst_get`] in a block with the table of its heads.
@@ -336,7 +403,28 @@ pub extern "C" fn sst_get_table(
     alloc: Global,
 ) -> u64 {
     let block = tabled_in(alloc, bytes, count, interval, HashRatio { num, den });
-    reads_of(alloc, block, needles, key_len, times)
+    reads_of(alloc, block, Read::Entry, needles, key_len, times)
+}
+
+// Makes the table of a block's heads `times` times, each in place of the one before.
+fn tabled_often(
+    alloc: Global,
+    block: Option<DataBlock<Hash>>,
+    times: u64,
+) -> Option<DataBlock<Hash>> {
+    let mut block = block?;
+    for _ in 0..times {
+        block = block.with_heads(alloc).ok()?;
+    }
+    Some(block)
+}
+
+// The number of heads in the table of a block.
+fn head_count(block: &DataBlock<Hash>) -> u64 {
+    match block.heads() {
+        Some(table) => table.len() as u64,
+        None => 0,
+    }
 }
 
 /// Makes the table of the block's heads `times` times, each in place of the one before, and returns
@@ -351,49 +439,11 @@ pub extern "C" fn sst_make_table(
     times: u64,
     alloc: Global,
 ) -> u64 {
-    let Some(mut block) = block_in(alloc, bytes, count, interval, HashRatio { num, den }) else {
-        return REFUSED;
-    };
-    for _ in 0..times {
-        match block.with_heads(alloc) {
-            Ok(tabled) => block = tabled,
-            Err(_) => return REFUSED,
-        }
+    let block = block_in(alloc, bytes, count, interval, HashRatio { num, den });
+    match tabled_often(alloc, block, times) {
+        Some(block) => head_count(&block),
+        None => REFUSED,
     }
-    match block.heads() {
-        Some(table) => table.len() as u64,
-        None => 0,
-    }
-}
-
-// Seeks each needle with a new iterator, adds 1 where the seek returns `true`, and the next item.
-#[inline(never)]
-fn add_next(so_far: u64, block: &DataBlock<Hash>, needles: &[&[u8]]) -> u64 {
-    let mut sum = so_far;
-    for needle in needles {
-        let mut iter = block.iter();
-        sum = sum.wrapping_add(u64::from(iter.seek(needle)));
-        sum = sum.wrapping_add(next_sum(&iter.next()));
-    }
-    sum
-}
-
-// Seeks each needle `times` times, from 0.
-fn seeks_of(
-    alloc: Global,
-    block: Option<DataBlock<Hash>>,
-    needles: &[u8],
-    key_len: usize,
-    times: u64,
-) -> u64 {
-    let (Some(block), Some(needles)) = (block, keys_in(alloc, needles, key_len)) else {
-        return REFUSED;
-    };
-    let mut sum = 0;
-    for _ in 0..times {
-        sum = add_next(sum, &block, needles.as_slice());
-    }
-    sum
 }
 
 /// Seeks each needle with a new iterator, adds 1 where the seek returns `true`, and adds the next
@@ -411,7 +461,7 @@ pub extern "C" fn sst_seek_next(
     alloc: Global,
 ) -> u64 {
     let block = block_in(alloc, bytes, count, interval, HashRatio { num, den });
-    seeks_of(alloc, block, needles, key_len, times)
+    reads_of(alloc, block, Read::Next, needles, key_len, times)
 }
 
 /// Makes the seeks of [`sst_seek_next`] in a block with the table of its heads.
@@ -428,38 +478,7 @@ pub extern "C" fn sst_seek_next_table(
     alloc: Global,
 ) -> u64 {
     let block = tabled_in(alloc, bytes, count, interval, HashRatio { num, den });
-    seeks_of(alloc, block, needles, key_len, times)
-}
-
-// Seeks each needle from the back with a new iterator, adds 1 where the seek returns `true`, and
-// the next item from the back.
-#[inline(never)]
-fn add_next_back(so_far: u64, block: &DataBlock<Hash>, needles: &[&[u8]]) -> u64 {
-    let mut sum = so_far;
-    for needle in needles {
-        let mut iter = block.iter();
-        sum = sum.wrapping_add(u64::from(iter.seek_upper(needle)));
-        sum = sum.wrapping_add(next_sum(&iter.next_back()));
-    }
-    sum
-}
-
-// Seeks each needle from the back `times` times, from 0.
-fn seeks_back_of(
-    alloc: Global,
-    block: Option<DataBlock<Hash>>,
-    needles: &[u8],
-    key_len: usize,
-    times: u64,
-) -> u64 {
-    let (Some(block), Some(needles)) = (block, keys_in(alloc, needles, key_len)) else {
-        return REFUSED;
-    };
-    let mut sum = 0;
-    for _ in 0..times {
-        sum = add_next_back(sum, &block, needles.as_slice());
-    }
-    sum
+    reads_of(alloc, block, Read::Next, needles, key_len, times)
 }
 
 /// Seeks each needle from the back with a new iterator, adds 1 where the seek returns `true`, and
@@ -477,7 +496,7 @@ pub extern "C" fn sst_seek_upper_back(
     alloc: Global,
 ) -> u64 {
     let block = block_in(alloc, bytes, count, interval, HashRatio { num, den });
-    seeks_back_of(alloc, block, needles, key_len, times)
+    reads_of(alloc, block, Read::NextBack, needles, key_len, times)
 }
 
 /// Makes the seeks of [`sst_seek_upper_back`] in a block with the table of its heads.
@@ -494,5 +513,5 @@ pub extern "C" fn sst_seek_upper_back_table(
     alloc: Global,
 ) -> u64 {
     let block = tabled_in(alloc, bytes, count, interval, HashRatio { num, den });
-    seeks_back_of(alloc, block, needles, key_len, times)
+    reads_of(alloc, block, Read::NextBack, needles, key_len, times)
 }

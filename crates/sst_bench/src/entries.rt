@@ -10,16 +10,19 @@
 //! | value | value length |
 //!
 //! Numbers are little-endian. Entries are concatenated.
-ghost use Rattle.std.specs.Prelude.{◌≡◌, length, IfSome};
+ghost use Rattle.std.specs.Prelude.{◌≡◌, ◌^◌, ◌<◌, ◌≤◌, length, IfSome};
 
 use byteorder::{ByteOrder, LittleEndian};
-use sst_base::{InternalValue, Slice, ValueType};
+use sst_base::{InternalValue, SeqNo, Slice, ValueType};
 use std::alloc::Global;
 
 // The value type at the start, and the bytes after it.
 fn type_in(bytes: &[u8]) -> Option<(ValueType, &[u8])> {
     let (byte, rest) = bytes.split_first()?;
-    Some((ValueType::try_from(*byte).ok()?, rest))
+    match ValueType::try_from(*byte) {
+        Ok(value_type) => Some((value_type, rest)),
+        Err(_) => None,
+    }
 }
 
 // The number of two bytes at the start, and the bytes after it.
@@ -59,6 +62,23 @@ pub(crate) fn bytes_in(bytes: &[u8], len: usize) -> Option<(&[u8], &[u8])>
     Some(bytes.split_at(len))
 }
 
+// The entry of its parts.
+fn entry_of(
+    alloc: Global,
+    key: &[u8],
+    value: &[u8],
+    seqno: SeqNo,
+    value_type: ValueType,
+) -> Option<InternalValue>
+    requires some { 1 ≤ length key.now }
+    requires key { length key.now < 2 ^ 16 }
+    requires value { length value.now < 2 ^ 32 }
+{
+    let key = Slice::new(alloc, key).ok()?;
+    let value = Slice::new(alloc, value).ok()?;
+    Some(InternalValue::from_components(key, value, seqno, value_type))
+}
+
 // The entry at the start of bytes, and the bytes after it.
 fn entry_in(alloc: Global, bytes: &[u8]) -> Option<(InternalValue, &[u8])> {
     let (value_type, rest) = type_in(bytes)?;
@@ -70,10 +90,7 @@ fn entry_in(alloc: Global, bytes: &[u8]) -> Option<(InternalValue, &[u8])> {
     if key.is_empty() {
         return None;
     }
-    let key = Slice::new(alloc, key).ok()?;
-    let value = Slice::new(alloc, value).ok()?;
-    let entry = InternalValue::from_components(key, value, seqno, value_type);
-    Some((entry, rest))
+    Some((entry_of(alloc, key, value, seqno, value_type)?, rest))
 }
 
 /// Reads `count` entries. `None` if the bytes are not that many entries and nothing else, or an

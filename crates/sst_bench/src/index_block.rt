@@ -49,18 +49,27 @@ fn block_in(alloc: Global, bytes: &[u8], count: usize, interval: u8) -> Option<I
     Some(IndexBlock::new(Block::from_payload(BlockType::Index, payload)))
 }
 
-// Encodes the block `times` times, each time into the same vector, emptied first.
-fn encode(writer: &mut Vec<u8>, items: &[KeyedBlockHandle], interval: u8, times: u64) -> Option<()>
+// Encodes the block `times` times, each time into the same vector, emptied first, and copies as much of
+// it into `out` as fits.
+fn encode(
+    alloc: Global,
+    items: &[KeyedBlockHandle],
+    interval: u8,
+    times: u64,
+    out: &mut [u8],
+) -> Option<u64>
     requires some { 1 ≤ length items.now }
     requires ordered { IsOrdered handles items.now }
     requires ends { AllByRecursion EndFits items.now }
     requires interval { 1 ≤ interval }
 {
+    let mut writer = Vec::new(alloc);
     for _ in 0..times {
         writer.clear();
-        IndexBlock::encode_into_with(writer, items, interval).ok()?;
+        IndexBlock::encode_into_with(&mut writer, items, interval).ok()?;
     }
-    Some(())
+    copy_front(out, writer.as_slice());
+    Some(writer.len() as u64)
 }
 
 /// Encodes the block of the handles, and copies as much of it into `out` as fits.
@@ -73,15 +82,8 @@ pub extern "C" fn sst_index_encode(
     out: &mut [u8],
     alloc: Global,
 ) -> u64 {
-    let Some(items) = items_in(alloc, bytes, count, interval) else {
-        return REFUSED;
-    };
-    let mut writer = Vec::new(alloc);
-    match encode(&mut writer, items.as_slice(), interval, times) {
-        Some(()) => {
-            copy_front(out, writer.as_slice());
-            writer.len() as u64
-        }
+    match items_in(alloc, bytes, count, interval) {
+        Some(items) => encode(alloc, &items, interval, times, out).unwrap_or(REFUSED),
         None => REFUSED,
     }
 }
@@ -92,25 +94,6 @@ fn add_handles(so_far: u64, block: &IndexBlock) -> u64 {
     let mut sum = so_far;
     for item in block.iter() {
         sum = sum.wrapping_add(handle_sum(&item));
-    }
-    sum
-}
-
-/// Iterates over the block from the front, and adds each parsed handle.
-#[unsafe(no_mangle)]
-pub extern "C" fn sst_index_walk(
-    bytes: &[u8],
-    count: usize,
-    interval: u8,
-    times: u64,
-    alloc: Global,
-) -> u64 {
-    let Some(block) = block_in(alloc, bytes, count, interval) else {
-        return REFUSED;
-    };
-    let mut sum = 0;
-    for _ in 0..times {
-        sum = add_handles(sum, &block);
     }
     sum
 }
@@ -126,6 +109,34 @@ fn add_handles_back(so_far: u64, block: &IndexBlock) -> u64 {
     sum
 }
 
+// Walks over a block `times` times, from 0.
+fn walked(block: &IndexBlock, is_back: bool, times: u64) -> u64 {
+    let mut sum = 0;
+    for _ in 0..times {
+        sum = if is_back {
+            add_handles_back(sum, block)
+        } else {
+            add_handles(sum, block)
+        };
+    }
+    sum
+}
+
+/// Iterates over the block from the front, and adds each parsed handle.
+#[unsafe(no_mangle)]
+pub extern "C" fn sst_index_walk(
+    bytes: &[u8],
+    count: usize,
+    interval: u8,
+    times: u64,
+    alloc: Global,
+) -> u64 {
+    match block_in(alloc, bytes, count, interval) {
+        Some(block) => walked(&block, false, times),
+        None => REFUSED,
+    }
+}
+
 /// Iterates over the block from the back, and adds each parsed handle.
 #[unsafe(no_mangle)]
 pub extern "C" fn sst_index_walk_back(
@@ -135,14 +146,10 @@ pub extern "C" fn sst_index_walk_back(
     times: u64,
     alloc: Global,
 ) -> u64 {
-    let Some(block) = block_in(alloc, bytes, count, interval) else {
-        return REFUSED;
-    };
-    let mut sum = 0;
-    for _ in 0..times {
-        sum = add_handles_back(sum, &block);
+    match block_in(alloc, bytes, count, interval) {
+        Some(block) => walked(&block, true, times),
+        None => REFUSED,
     }
-    sum
 }
 
 // Seeks each needle with a new iterator, adds 1 where the seek returns `true`, and the next handle.
@@ -158,12 +165,40 @@ fn add_next(so_far: u64, block: &IndexBlock, needles: &[&[u8]]) -> u64 {
 }
 
 // Seeks all needles `times` times, from 0.
-fn add_next_often(block: &IndexBlock, needles: &[&[u8]], times: u64) -> u64 {
+fn add_next_often(
+    alloc: Global,
+    block: &IndexBlock,
+    needles: &[u8],
+    key_len: usize,
+    times: u64,
+) -> Option<u64> {
+    let needles = keys_in(alloc, needles, key_len)?;
     let mut sum = 0;
     for _ in 0..times {
-        sum = add_next(sum, block, needles);
+        sum = add_next(sum, block, needles.as_slice());
     }
-    sum
+    Some(sum)
+}
+
+// The same, in a block that may be none.
+fn seeks_of(
+    alloc: Global,
+    block: Option<IndexBlock>,
+    needles: &[u8],
+    key_len: usize,
+    times: u64,
+) -> u64 {
+    match block {
+        Some(block) => add_next_often(alloc, &block, needles, key_len, times).unwrap_or(REFUSED),
+        None => REFUSED,
+    }
+}
+
+// The block of the handles with the table of its heads, if it can be encoded and memory suffices.
+fn tabled_in(alloc: Global, bytes: &[u8], count: usize, interval: u8) -> Option<IndexBlock> {
+    block_in(alloc, bytes, count, interval)?
+        .with_heads(alloc)
+        .ok()
 }
 
 /// Seeks each needle with a new iterator, adds 1 where the seek returns `true`, and adds the next
@@ -178,13 +213,8 @@ pub extern "C" fn sst_index_seek_next(
     key_len: usize,
     alloc: Global,
 ) -> u64 {
-    let Some(block) = block_in(alloc, bytes, count, interval) else {
-        return REFUSED;
-    };
-    let Some(needles) = keys_in(alloc, needles, key_len) else {
-        return REFUSED;
-    };
-    add_next_often(&block, needles.as_slice(), times)
+    let block = block_in(alloc, bytes, count, interval);
+    seeks_of(alloc, block, needles, key_len, times)
 }
 
 /// Makes the seeks of [`sst_index_seek_next`] in a block with the table of its heads.
@@ -198,14 +228,6 @@ pub extern "C" fn sst_index_seek_next_table(
     key_len: usize,
     alloc: Global,
 ) -> u64 {
-    let Some(block) = block_in(alloc, bytes, count, interval) else {
-        return REFUSED;
-    };
-    let Ok(block) = block.with_heads(alloc) else {
-        return REFUSED;
-    };
-    let Some(needles) = keys_in(alloc, needles, key_len) else {
-        return REFUSED;
-    };
-    add_next_often(&block, needles.as_slice(), times)
+    let block = tabled_in(alloc, bytes, count, interval);
+    seeks_of(alloc, block, needles, key_len, times)
 }

@@ -41,19 +41,6 @@ fn add_rising(so_far: u64, keys: &[&[u8]]) -> u64 {
     sum
 }
 
-/// Counts the keys that sort before the next one.
-#[unsafe(no_mangle)]
-pub extern "C" fn sst_compare(bytes: &[u8], key_len: usize, times: u64, alloc: Global) -> u64 {
-    let Some(keys) = keys_in(alloc, bytes, key_len) else {
-        return REFUSED;
-    };
-    let mut sum = 0;
-    for _ in 0..times {
-        sum = add_rising(sum, keys.as_slice());
-    }
-    sum
-}
-
 // Adds the longest shared prefix length of each key and the next one.
 #[inline(never)]
 fn add_shared(so_far: u64, keys: &[&[u8]]) -> u64 {
@@ -68,19 +55,6 @@ fn add_shared(so_far: u64, keys: &[&[u8]]) -> u64 {
     sum
 }
 
-/// Adds the longest shared prefix length of each key and the next one.
-#[unsafe(no_mangle)]
-pub extern "C" fn sst_shared(bytes: &[u8], key_len: usize, times: u64, alloc: Global) -> u64 {
-    let Some(keys) = keys_in(alloc, bytes, key_len) else {
-        return REFUSED;
-    };
-    let mut sum = 0;
-    for _ in 0..times {
-        sum = add_shared(sum, keys.as_slice());
-    }
-    sum
-}
-
 // Takes 3 times the sum plus the hash of each key in turn.
 #[inline(never)]
 fn add_hashes(so_far: u64, keys: &[&[u8]]) -> u64 {
@@ -91,17 +65,54 @@ fn add_hashes(so_far: u64, keys: &[&[u8]]) -> u64 {
     sum
 }
 
+// What is added of each key.
+#[derive(Clone, Copy)]
+enum Added {
+    // 1 if it sorts before the next one.
+    Rising,
+    // The length of the prefix that it shares with the next one.
+    Shared,
+    // Its hash.
+    Hash,
+}
+
+// Goes over keys `times` times, from 0.
+fn summed(keys: &[&[u8]], added: Added, times: u64) -> u64 {
+    let mut sum = 0;
+    for _ in 0..times {
+        sum = match added {
+            Added::Rising => add_rising(sum, keys),
+            Added::Shared => add_shared(sum, keys),
+            Added::Hash => add_hashes(sum, keys),
+        };
+    }
+    sum
+}
+
+// The same, of keys as bytes.
+fn sum_of(alloc: Global, bytes: &[u8], key_len: usize, added: Added, times: u64) -> u64 {
+    match keys_in(alloc, bytes, key_len) {
+        Some(keys) => summed(&keys, added, times),
+        None => REFUSED,
+    }
+}
+
+/// Counts the keys that sort before the next one.
+#[unsafe(no_mangle)]
+pub extern "C" fn sst_compare(bytes: &[u8], key_len: usize, times: u64, alloc: Global) -> u64 {
+    sum_of(alloc, bytes, key_len, Added::Rising, times)
+}
+
+/// Adds the longest shared prefix length of each key and the next one.
+#[unsafe(no_mangle)]
+pub extern "C" fn sst_shared(bytes: &[u8], key_len: usize, times: u64, alloc: Global) -> u64 {
+    sum_of(alloc, bytes, key_len, Added::Shared, times)
+}
+
 /// Takes 3 times the sum plus the hash of each key in turn, from 0.
 #[unsafe(no_mangle)]
 pub extern "C" fn sst_hash(bytes: &[u8], key_len: usize, times: u64, alloc: Global) -> u64 {
-    let Some(keys) = keys_in(alloc, bytes, key_len) else {
-        return REFUSED;
-    };
-    let mut sum = 0;
-    for _ in 0..times {
-        sum = add_hashes(sum, keys.as_slice());
-    }
-    sum
+    sum_of(alloc, bytes, key_len, Added::Hash, times)
 }
 
 // Adds low and high 64 bits of the hash of all bytes.

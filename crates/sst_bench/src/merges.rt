@@ -10,7 +10,7 @@ use crate::hash::Hash;
 use crate::run::run_of;
 use crate::sums::entry_sum;
 use sst_base::{HashRatio, InternalValue, Slice};
-use sst_merge::{Head, Merge, Source};
+use sst_merge::{Head, Merge, Source, Version};
 use sstable_blocks::run::{Scan, Trusted, TrustedScan};
 use sstable_blocks::{MemorySource, RunConfig, RunHandles, Table};
 use std::alloc::Global;
@@ -45,7 +45,7 @@ fn every(
 }
 
 // The runs of the parts of a list.
-pub(crate) fn runs_of(
+fn runs_of(
     alloc: Global,
     items: &[InternalValue],
     per_block: usize,
@@ -58,10 +58,24 @@ pub(crate) fn runs_of(
     for first in 0..tables {
         let part = every(alloc, items, first, tables)?;
         let (bytes, handles) = run_of(alloc, part.as_slice(), per_block, config)?;
-        let bytes = Slice::from_vec(bytes).ok()?;
         runs.push(Stored { bytes, handles }).ok()?;
     }
     Some(runs)
+}
+
+/// The runs of the parts of a list of entries as bytes.
+pub(crate) fn runs_in(
+    alloc: Global,
+    bytes: &[u8],
+    count: usize,
+    per_block: usize,
+    config: RunConfig,
+    tables: usize,
+) -> Option<Vec<Stored>>
+    requires { 1 ≤ config.index_interval }
+{
+    let items = items_in(alloc, bytes, count, config.restart_interval, config.ratio)?;
+    runs_of(alloc, items.as_slice(), per_block, config, tables)
 }
 
 // Opens a table over each run.
@@ -76,6 +90,15 @@ pub(crate) fn tables_of(alloc: Global, runs: &[Stored]) -> Option<Vec<Table<Hash
     Some(tables)
 }
 
+/// Adds a source to those of a merge.
+pub(crate) fn push_head<T: Version + Drop, I: Source<T> + Drop>(
+    alloc: Global,
+    heads: &mut Vec<Head<T, I>>,
+    source: I,
+) -> Option<()> {
+    heads.push(Head::new(alloc, source).ok()?).ok()
+}
+
 // Scans of tables.
 fn scans_of(
     alloc: Global,
@@ -83,7 +106,7 @@ fn scans_of(
 ) -> Option<Vec<Scanned<'static>>> {
     let mut scans = Vec::new(alloc);
     for table in tables {
-        scans.push(Head::new(alloc, table.scan()).ok()?).ok()?;
+        push_head(alloc, &mut scans, table.scan())?;
     }
     Some(scans)
 }
@@ -135,6 +158,15 @@ fn add_merged(so_far: u64, runs: &[Stored], count: usize, alloc: Global) -> Opti
     add_passed(so_far, &mut merged, count, alloc)
 }
 
+// Opens the tables and merges their scans, so many times.
+fn merged_in(alloc: Global, runs: &[Stored], count: usize, times: u64) -> Option<u64> {
+    let mut sum = 0;
+    for _ in 0..times {
+        sum = add_merged(sum, runs, count, alloc)?;
+    }
+    Some(sum)
+}
+
 // Checks a table whole, and trusts it.
 fn trusted_of(alloc: Global, table: &mut Table<Hash, MemorySource>) -> Option<Trusted<'_, Hash>> {
     match table.verify(alloc) {
@@ -162,7 +194,7 @@ fn trusted_scans_of<'a>(
 ) -> Option<Vec<ScannedTrusted<'a, 'static>>> {
     let mut scans = Vec::new(alloc);
     for table in tables {
-        scans.push(Head::new(alloc, table.scan()).ok()?).ok()?;
+        push_head(alloc, &mut scans, table.scan())?;
     }
     Some(scans)
 }
@@ -191,6 +223,25 @@ fn add_trusted_taken(
     add_taken(so_far, &mut merged, count, alloc)
 }
 
+// Merges scans of trusted tables, so many times.
+fn trusted_merges(
+    alloc: Global,
+    tables: &[Trusted<'_, Hash>],
+    count: usize,
+    times: u64,
+    taken: bool,
+) -> Option<u64> {
+    let mut sum = 0;
+    for _ in 0..times {
+        sum = if taken {
+            add_trusted_taken(sum, tables, count, alloc)?
+        } else {
+            add_trusted_merged(sum, tables, count, alloc)?
+        };
+    }
+    Some(sum)
+}
+
 // Opens and checks the tables, and merges their scans without checks, so many times.
 fn trusted_merged_in(
     alloc: Global,
@@ -201,15 +252,7 @@ fn trusted_merged_in(
 ) -> Option<u64> {
     let mut tables = tables_of(alloc, runs)?;
     let trusted = all_trusted(alloc, tables.as_mut_slice())?;
-    let mut sum = 0;
-    for _ in 0..times {
-        sum = if taken {
-            add_trusted_taken(sum, &trusted, count, alloc)?
-        } else {
-            add_trusted_merged(sum, &trusted, count, alloc)?
-        };
-    }
-    Some(sum)
+    trusted_merges(alloc, trusted.as_slice(), count, times, taken)
 }
 
 /// Opens tables over the runs of the entries' parts, merges their scans, each block verified and
@@ -228,20 +271,10 @@ pub extern "C" fn sst_table_merge(
     alloc: Global,
 ) -> u64 {
     let config = RunConfig::new(interval, HashRatio { num, den }, bits);
-    let Some(items) = items_in(alloc, bytes, count, interval, config.ratio) else {
-        return REFUSED;
-    };
-    let Some(runs) = runs_of(alloc, items.as_slice(), per_block, config, tables) else {
-        return REFUSED;
-    };
-    let mut sum = 0;
-    for _ in 0..times {
-        match add_merged(sum, &runs, count, alloc) {
-            Some(more) => sum = more,
-            None => return REFUSED,
-        }
+    match runs_in(alloc, bytes, count, per_block, config, tables) {
+        Some(runs) => merged_in(alloc, &runs, count, times).unwrap_or(REFUSED),
+        None => REFUSED,
     }
-    sum
 }
 
 /// Opens tables over the runs of the entries' parts once, merges their scans without checks, and
@@ -261,11 +294,8 @@ pub extern "C" fn sst_trusted_merge(
     alloc: Global,
 ) -> u64 {
     let config = RunConfig::new(interval, HashRatio { num, den }, bits);
-    let Some(items) = items_in(alloc, bytes, count, interval, config.ratio) else {
-        return REFUSED;
-    };
-    let Some(runs) = runs_of(alloc, items.as_slice(), per_block, config, tables) else {
-        return REFUSED;
-    };
-    trusted_merged_in(alloc, &runs, count, times, taken != 0).unwrap_or(REFUSED)
+    match runs_in(alloc, bytes, count, per_block, config, tables) {
+        Some(runs) => trusted_merged_in(alloc, &runs, count, times, taken != 0).unwrap_or(REFUSED),
+        None => REFUSED,
+    }
 }

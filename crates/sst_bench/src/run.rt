@@ -70,10 +70,10 @@ pub(crate) fn run_of(
     items: &[InternalValue],
     per_block: usize,
     config: RunConfig,
-) -> Option<(Vec<u8>, RunHandles)>
+) -> Option<(Slice, RunHandles)>
     requires { 1 ≤ config.index_interval }
     ensures { IfSome result (λ r. (blocks : List (List Entry))
-        × IsSound (hashes hash64 hash128) blocks r.0.items r.1) }
+        × IsSound (hashes hash64 hash128) blocks r.0 r.1) }
 {
     if config.restart_interval == 0 || config.ratio.den == 0 || items.is_empty() {
         return None;
@@ -82,7 +82,8 @@ pub(crate) fn run_of(
         return None;
     }
     let cuts = cuts_of(alloc, items.len(), per_block)?;
-    written(alloc, items, cuts.as_slice(), config)
+    let (bytes, handles) = written(alloc, items, cuts.as_slice(), config)?;
+    Some((Slice::from_vec(bytes).ok()?, handles))
 }
 
 /// The run of entries as bytes.
@@ -92,13 +93,38 @@ pub(crate) fn run_in(
     count: usize,
     per_block: usize,
     config: RunConfig,
-) -> Option<(Vec<u8>, RunHandles)>
+) -> Option<(Slice, RunHandles)>
     requires { 1 ≤ config.index_interval }
     ensures { IfSome result (λ r. (blocks : List (List Entry))
-        × IsSound (hashes hash64 hash128) blocks r.0.items r.1) }
+        × IsSound (hashes hash64 hash128) blocks r.0 r.1) }
 {
     let items = entries_in(alloc, bytes, count)?;
     run_of(alloc, items.as_slice(), per_block, config)
+}
+
+// Writes the run `times` times, and copies as much of it into `out` as fits.
+fn write(
+    alloc: Global,
+    items: &[InternalValue],
+    per_block: usize,
+    config: RunConfig,
+    times: u64,
+    out: &mut [u8],
+) -> Option<u64>
+    requires some { 1 ≤ length items.now }
+    requires ordered { IsOrdered entries items.now }
+    requires interval { 1 ≤ config.restart_interval }
+    requires index_interval { 1 ≤ config.index_interval }
+    requires den { 1 ≤ config.ratio.den }
+{
+    let cuts = cuts_of(alloc, items.len(), per_block)?;
+    let mut len = 0;
+    for _ in 0..times {
+        let (run, _) = written(alloc, items, cuts.as_slice(), config)?;
+        copy_front(out, run.as_slice());
+        len = run.len() as u64;
+    }
+    Some(len)
 }
 
 /// Writes the run, and copies as much of it into `out` as fits.
@@ -116,23 +142,10 @@ pub extern "C" fn sst_run_write(
     alloc: Global,
 ) -> u64 {
     let config = RunConfig::new(interval, HashRatio { num, den }, bits);
-    let Some(items) = items_in(alloc, bytes, count, interval, config.ratio) else {
-        return REFUSED;
-    };
-    let Some(cuts) = cuts_of(alloc, items.len(), per_block) else {
-        return REFUSED;
-    };
-    let mut len = 0;
-    for _ in 0..times {
-        match written(alloc, items.as_slice(), cuts.as_slice(), config) {
-            Some((run, _)) => {
-                copy_front(out, run.as_slice());
-                len = run.len() as u64;
-            }
-            None => return REFUSED,
-        }
+    match items_in(alloc, bytes, count, interval, config.ratio) {
+        Some(items) => write(alloc, &items, per_block, config, times, out).unwrap_or(REFUSED),
+        None => REFUSED,
     }
-    len
 }
 
 // Reads each needle, and adds the entry that is found, or 1 for none.
@@ -156,6 +169,26 @@ fn add_found(
     Some(sum)
 }
 
+// Reads each needle `times` times, from 0.
+fn read(
+    alloc: Global,
+    run: &Slice,
+    handles: &RunHandles,
+    needles: &[u8],
+    key_len: usize,
+    times: u64,
+) -> Option<u64>
+    requires { (blocks : List (List Entry))
+        × IsSound (hashes hash64 hash128) blocks run.now handles.now }
+{
+    let needles = keys_in(alloc, needles, key_len)?;
+    let mut sum = 0;
+    for _ in 0..times {
+        sum = add_found(sum, run, handles, needles.as_slice(), alloc)?;
+    }
+    Some(sum)
+}
+
 /// Reads each needle from the run, and adds the entry that is found, or 1 for none.
 #[unsafe(no_mangle)]
 pub extern "C" fn sst_run_get(
@@ -172,18 +205,10 @@ pub extern "C" fn sst_run_get(
     alloc: Global,
 ) -> u64 {
     let config = RunConfig::new(interval, HashRatio { num, den }, bits);
-    let Some((run, handles)) = run_in(alloc, bytes, count, per_block, config) else {
-        return REFUSED;
-    };
-    let (Ok(run), Some(needles)) = (Slice::from_vec(run), keys_in(alloc, needles, key_len)) else {
-        return REFUSED;
-    };
-    let mut sum = 0;
-    for _ in 0..times {
-        match add_found(sum, &run, &handles, needles.as_slice(), alloc) {
-            Some(more) => sum = more,
-            None => return REFUSED,
+    match run_in(alloc, bytes, count, per_block, config) {
+        Some((run, handles)) => {
+            read(alloc, &run, &handles, needles, key_len, times).unwrap_or(REFUSED)
         }
+        None => REFUSED,
     }
-    sum
 }

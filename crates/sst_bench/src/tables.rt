@@ -1,7 +1,7 @@
 //! Tables over runs in memory: reads without checks, scans, and the check of a whole run.
 //!
 //! The arguments are those of the calls of `run`.
-ghost use Rattle.std.specs.Prelude.{List};
+ghost use Rattle.std.specs.Prelude.{◌≤◌, List};
 ghost use Rattle.sst_base.specs.Entry.{Entry};
 ghost use Rattle.sst_bench.specs.Hash.{hash64, hash128};
 ghost use Rattle.sstable_blocks.specs.RunReading.{hashes};
@@ -13,8 +13,9 @@ use crate::hash::Hash;
 use crate::keys::keys_in;
 use crate::run::run_in;
 use crate::sums::{entry_sum, found_sum};
+use crate::views::add_views_found;
 use sst_base::{HashRatio, Slice, Steps};
-use sstable_blocks::run::{Trusted, check};
+use sstable_blocks::run::{Scan, Trusted, TrustedScan, check};
 use sstable_blocks::{MemorySource, RunConfig, RunHandles, Table};
 use std::alloc::Global;
 
@@ -35,27 +36,118 @@ fn add_found(
     Some(sum)
 }
 
-// Opens a table over a run, and reads each needle without checks, so many times.
-fn found_in(
+// Takes so many entries of a scan, and adds each.
+#[inline(always)]
+fn add_taken(
+    so_far: u64,
+    scan: &mut Scan<'_, Hash, MemorySource>,
+    count: usize,
+    alloc: Global,
+) -> Option<u64> {
+    let mut sum = so_far;
+    for _ in 0..count {
+        let step = scan.next_entry(alloc);
+        match &step {
+            Ok(Some(entry)) => sum = sum.wrapping_add(entry_sum(entry)),
+            _ => return None,
+        }
+    }
+    Some(sum)
+}
+
+// The same of a scan without checks.
+#[inline(always)]
+fn add_taken_trusted(
+    so_far: u64,
+    scan: &mut TrustedScan<'_, '_, Hash>,
+    count: usize,
+    alloc: Global,
+) -> Option<u64> {
+    let mut sum = so_far;
+    for _ in 0..count {
+        let step = scan.next_entry(alloc);
+        match &step {
+            Ok(Some(entry)) => sum = sum.wrapping_add(entry_sum(entry)),
+            _ => return None,
+        }
+    }
+    Some(sum)
+}
+
+// Scans a trusted table, and adds each of its entries.
+#[inline(never)]
+fn add_trusted(so_far: u64, table: &Trusted<'_, Hash>, count: usize, alloc: Global) -> Option<u64> {
+    add_taken_trusted(so_far, &mut table.scan(), count, alloc)
+}
+
+// What is done with a table.
+#[derive(Clone, Copy)]
+pub(crate) enum Asked<'a> {
+    // Each needle is read.
+    Get(&'a [&'a [u8]]),
+    // Each needle is found where it is.
+    Find(&'a [&'a [u8]]),
+    // So many entries are taken of a scan.
+    Scan(usize),
+}
+
+// Reads a table without checks, so many times.
+fn asked_of(alloc: Global, table: &Trusted<'_, Hash>, asked: Asked<'_>, times: u64) -> Option<u64> {
+    let mut sum = 0;
+    match asked {
+        Asked::Get(needles) => {
+            for _ in 0..times {
+                sum = add_found(sum, table, needles, alloc)?;
+            }
+        }
+        Asked::Find(needles) => {
+            let run = table.by_ref();
+            for _ in 0..times {
+                sum = add_views_found(sum, &run, needles);
+            }
+        }
+        Asked::Scan(count) => {
+            for _ in 0..times {
+                sum = add_trusted(sum, table, count, alloc)?;
+            }
+        }
+    }
+    Some(sum)
+}
+
+// Opens a table over a run, and reads it without checks, so many times.
+fn opened(
     alloc: Global,
     run: Slice,
     handles: RunHandles,
-    needles: &[&[u8]],
+    asked: Asked<'_>,
     times: u64,
 ) -> Option<u64>
     requires { (blocks : List (List Entry))
         × IsSound (hashes hash64 hash128) blocks run handles }
 {
-    let source = MemorySource::new(run);
-    let Ok(table) = Table::<Hash, MemorySource>::open(alloc, source, handles) else {
-        return None;
-    };
-    let trusted = table.trusted();
-    let mut sum = 0;
-    for _ in 0..times {
-        sum = add_found(sum, &trusted, needles, alloc)?;
+    match Table::<Hash, MemorySource>::open(alloc, MemorySource::new(run), handles) {
+        Ok(table) => asked_of(alloc, &table.trusted(), asked, times),
+        Err(_) => None,
     }
-    Some(sum)
+}
+
+/// Opens a table over the run of entries as bytes, and reads it without checks, so many times.
+pub(crate) fn opened_in(
+    alloc: Global,
+    bytes: &[u8],
+    count: usize,
+    per_block: usize,
+    config: RunConfig,
+    asked: Asked<'_>,
+    times: u64,
+) -> u64
+    requires { 1 ≤ config.index_interval }
+{
+    match run_in(alloc, bytes, count, per_block, config) {
+        Some((run, handles)) => opened(alloc, run, handles, asked, times).unwrap_or(REFUSED),
+        None => REFUSED,
+    }
 }
 
 /// Reads each needle from a table that is opened once and trusted, and adds the entry that is
@@ -75,104 +167,11 @@ pub extern "C" fn sst_table_get(
     alloc: Global,
 ) -> u64 {
     let config = RunConfig::new(interval, HashRatio { num, den }, bits);
-    let Some((run, handles)) = run_in(alloc, bytes, count, per_block, config) else {
+    let Some(needles) = keys_in(alloc, needles, key_len) else {
         return REFUSED;
     };
-    let (Ok(run), Some(needles)) = (Slice::from_vec(run), keys_in(alloc, needles, key_len)) else {
-        return REFUSED;
-    };
-    found_in(alloc, run, handles, needles.as_slice(), times).unwrap_or(REFUSED)
-}
-
-// Opens a table over a run, scans it, and adds each of its entries.
-#[inline(never)]
-fn add_scanned(
-    so_far: u64,
-    run: &Slice,
-    handles: &RunHandles,
-    count: usize,
-    alloc: Global,
-) -> Option<u64> {
-    let source = MemorySource::new(run.clone().ok()?);
-    let table = Table::<Hash, MemorySource>::open(alloc, source, *handles).ok()?;
-    let mut scan = table.scan();
-    let mut sum = so_far;
-    for _ in 0..count {
-        let step = scan.next_entry(alloc);
-        match &step {
-            Ok(Some(entry)) => sum = sum.wrapping_add(entry_sum(entry)),
-            _ => return None,
-        }
-    }
-    Some(sum)
-}
-
-/// Opens a table over the run, scans it, each block verified and checked, and adds each entry.
-#[unsafe(no_mangle)]
-pub extern "C" fn sst_table_scan(
-    bytes: &[u8],
-    count: usize,
-    per_block: usize,
-    interval: u8,
-    num: u32,
-    den: u32,
-    bits: u32,
-    times: u64,
-    alloc: Global,
-) -> u64 {
-    let config = RunConfig::new(interval, HashRatio { num, den }, bits);
-    let Some((run, handles)) = run_in(alloc, bytes, count, per_block, config) else {
-        return REFUSED;
-    };
-    let Ok(run) = Slice::from_vec(run) else {
-        return REFUSED;
-    };
-    let mut sum = 0;
-    for _ in 0..times {
-        match add_scanned(sum, &run, &handles, count, alloc) {
-            Some(more) => sum = more,
-            None => return REFUSED,
-        }
-    }
-    sum
-}
-
-// Scans a trusted table, and adds each of its entries.
-#[inline(never)]
-fn add_trusted(so_far: u64, table: &Trusted<'_, Hash>, count: usize, alloc: Global) -> Option<u64> {
-    let mut scan = table.scan();
-    let mut sum = so_far;
-    for _ in 0..count {
-        let step = scan.next_entry(alloc);
-        match &step {
-            Ok(Some(entry)) => sum = sum.wrapping_add(entry_sum(entry)),
-            _ => return None,
-        }
-    }
-    Some(sum)
-}
-
-// Opens a table over a run, and scans it without checks, so many times.
-fn scanned_in(
-    alloc: Global,
-    run: Slice,
-    handles: RunHandles,
-    count: usize,
-    times: u64,
-) -> Option<u64>
-    requires { (blocks : List (List Entry))
-        × IsSound (hashes hash64 hash128) blocks run handles }
-{
-    let source = MemorySource::new(run);
-    let Ok(table) = Table::<Hash, MemorySource>::open(alloc, source, handles) else {
-        return None;
-    };
-    let trusted = table.trusted();
-    let mut sum = 0;
-    for _ in 0..times {
-        sum = add_trusted(sum, &trusted, count, alloc)?;
-    }
-    Some(sum)
+    let asked = Asked::Get(needles.as_slice());
+    opened_in(alloc, bytes, count, per_block, config, asked, times)
 }
 
 /// Opens a table over the run once, scans it without checks, and adds each entry.
@@ -189,13 +188,31 @@ pub extern "C" fn sst_trusted_scan(
     alloc: Global,
 ) -> u64 {
     let config = RunConfig::new(interval, HashRatio { num, den }, bits);
-    let Some((run, handles)) = run_in(alloc, bytes, count, per_block, config) else {
-        return REFUSED;
-    };
-    let Ok(run) = Slice::from_vec(run) else {
-        return REFUSED;
-    };
-    scanned_in(alloc, run, handles, count, times).unwrap_or(REFUSED)
+    opened_in(
+        alloc,
+        bytes,
+        count,
+        per_block,
+        config,
+        Asked::Scan(count),
+        times,
+    )
+}
+
+// Opens a table over a run, scans it, and adds each of its entries.
+#[inline(never)]
+fn add_scanned(
+    so_far: u64,
+    run: &Slice,
+    handles: &RunHandles,
+    count: usize,
+    alloc: Global,
+) -> Option<u64> {
+    let source = MemorySource::new(run.clone().ok()?);
+    match Table::<Hash, MemorySource>::open(alloc, source, *handles) {
+        Ok(table) => add_taken(so_far, &mut table.scan(), count, alloc),
+        Err(_) => None,
+    }
 }
 
 // Checks a run, and adds the number of its entries.
@@ -204,6 +221,71 @@ fn add_checked(so_far: u64, run: &Slice, handles: &RunHandles, alloc: Global) ->
     let mut source = MemorySource::new(run.clone().ok()?);
     let summary = check::<Hash, MemorySource>(alloc, &mut source, handles).ok()?;
     Some(so_far.wrapping_add(summary.entries))
+}
+
+// What is done with a run whose bytes may be any.
+#[derive(Clone, Copy)]
+enum Checked {
+    // A table over it is scanned.
+    Scan,
+    // It is checked.
+    Check,
+}
+
+// Scans or checks a run of so many entries, so many times.
+fn checked_of(
+    alloc: Global,
+    run: &Slice,
+    handles: &RunHandles,
+    count: usize,
+    checked: Checked,
+    times: u64,
+) -> Option<u64> {
+    let mut sum = 0;
+    for _ in 0..times {
+        sum = match checked {
+            Checked::Scan => add_scanned(sum, run, handles, count, alloc)?,
+            Checked::Check => add_checked(sum, run, handles, alloc)?,
+        };
+    }
+    Some(sum)
+}
+
+// The same of the run of entries as bytes.
+fn checked_in(
+    alloc: Global,
+    bytes: &[u8],
+    count: usize,
+    per_block: usize,
+    config: RunConfig,
+    checked: Checked,
+    times: u64,
+) -> u64
+    requires { 1 ≤ config.index_interval }
+{
+    match run_in(alloc, bytes, count, per_block, config) {
+        Some((run, handles)) => {
+            checked_of(alloc, &run, &handles, count, checked, times).unwrap_or(REFUSED)
+        }
+        None => REFUSED,
+    }
+}
+
+/// Opens a table over the run, scans it, each block verified and checked, and adds each entry.
+#[unsafe(no_mangle)]
+pub extern "C" fn sst_table_scan(
+    bytes: &[u8],
+    count: usize,
+    per_block: usize,
+    interval: u8,
+    num: u32,
+    den: u32,
+    bits: u32,
+    times: u64,
+    alloc: Global,
+) -> u64 {
+    let config = RunConfig::new(interval, HashRatio { num, den }, bits);
+    checked_in(alloc, bytes, count, per_block, config, Checked::Scan, times)
 }
 
 /// Checks the run as bytes from outside, and adds the number of its entries.
@@ -220,18 +302,13 @@ pub extern "C" fn sst_run_check(
     alloc: Global,
 ) -> u64 {
     let config = RunConfig::new(interval, HashRatio { num, den }, bits);
-    let Some((run, handles)) = run_in(alloc, bytes, count, per_block, config) else {
-        return REFUSED;
-    };
-    let Ok(run) = Slice::from_vec(run) else {
-        return REFUSED;
-    };
-    let mut sum = 0;
-    for _ in 0..times {
-        match add_checked(sum, &run, &handles, alloc) {
-            Some(more) => sum = more,
-            None => return REFUSED,
-        }
-    }
-    sum
+    checked_in(
+        alloc,
+        bytes,
+        count,
+        per_block,
+        config,
+        Checked::Check,
+        times,
+    )
 }

@@ -12,15 +12,16 @@ use crate::REFUSED;
 use crate::data_block::{NEWEST, add_entries, block_of, items_in};
 use crate::hash::Hash;
 use crate::keys::keys_in;
-use crate::merges::{Stored, all_trusted, runs_of, tables_of};
+use crate::merges::{Stored, all_trusted, push_head, runs_in, tables_of};
 use crate::run::run_in;
 use crate::sums::{entry_sum, view_found_sum, view_sum};
-use sst_base::{BlockHash, HashRatio, InternalValue, Slice, Steps};
+use crate::tables::{Asked, opened_in};
+use sst_base::{BlockHash, HashRatio, InternalValue, Steps};
 use sst_block_kinds::DataBlock;
 use sst_block_kinds::table::data_block::{DataBlockRef, EntryView};
-use sst_merge::{Head, Merge};
+use sst_merge::{Head, Merge, Source};
 use sstable_blocks::run::{RunRef, RunScan, Trusted};
-use sstable_blocks::{MemorySource, RunConfig, RunHandles, Table};
+use sstable_blocks::{RunConfig, RunHandles};
 use std::alloc::Global;
 
 // A scan whose first entry is held.
@@ -74,6 +75,22 @@ fn blocks_of(
     Some(blocks)
 }
 
+// The same of entries as bytes.
+fn blocks_in(
+    alloc: Global,
+    bytes: &[u8],
+    count: usize,
+    per_block: usize,
+    interval: u8,
+    ratio: HashRatio,
+) -> Option<Vec<DataBlock<Hash>>> {
+    if per_block == 0 {
+        return None;
+    }
+    let items = items_in(alloc, bytes, count, interval, ratio)?;
+    blocks_of(alloc, items.as_slice(), per_block, interval, ratio)
+}
+
 // Walks over blocks, so many times.
 fn walked_in(alloc: Global, blocks: &[DataBlock<Hash>], times: u64, made: bool) -> Option<u64> {
     let mut sum = 0;
@@ -100,17 +117,17 @@ pub extern "C" fn sst_blocks_walk(
     times: u64,
     alloc: Global,
 ) -> u64 {
-    let ratio = HashRatio { num, den };
-    let Some(items) = items_in(alloc, bytes, count, interval, ratio) else {
-        return REFUSED;
-    };
-    if per_block == 0 {
-        return REFUSED;
+    match blocks_in(
+        alloc,
+        bytes,
+        count,
+        per_block,
+        interval,
+        HashRatio { num, den },
+    ) {
+        Some(blocks) => walked_in(alloc, &blocks, times, made != 0).unwrap_or(REFUSED),
+        None => REFUSED,
     }
-    let Some(blocks) = blocks_of(alloc, items.as_slice(), per_block, interval, ratio) else {
-        return REFUSED;
-    };
-    walked_in(alloc, blocks.as_slice(), times, made != 0).unwrap_or(REFUSED)
 }
 
 // Hashes the payload of a block, as a frame's checksum does, and checks it.
@@ -152,17 +169,17 @@ pub extern "C" fn sst_blocks_check(
     times: u64,
     alloc: Global,
 ) -> u64 {
-    let ratio = HashRatio { num, den };
-    let Some(items) = items_in(alloc, bytes, count, interval, ratio) else {
-        return REFUSED;
-    };
-    if per_block == 0 {
-        return REFUSED;
+    match blocks_in(
+        alloc,
+        bytes,
+        count,
+        per_block,
+        interval,
+        HashRatio { num, den },
+    ) {
+        Some(blocks) => checked_in(alloc, &blocks, times).unwrap_or(REFUSED),
+        None => REFUSED,
     }
-    let Some(blocks) = blocks_of(alloc, items.as_slice(), per_block, interval, ratio) else {
-        return REFUSED;
-    };
-    checked_in(alloc, blocks.as_slice(), times).unwrap_or(REFUSED)
 }
 
 // Scans a run, and adds each entry.
@@ -226,44 +243,23 @@ pub extern "C" fn sst_views_scan(
     alloc: Global,
 ) -> u64 {
     let config = RunConfig::new(interval, HashRatio { num, den }, bits);
-    let Some((run, handles)) = run_in(alloc, bytes, count, per_block, config) else {
-        return REFUSED;
-    };
-    scanned_in(alloc, run.as_slice(), &handles, times, made != 0).unwrap_or(REFUSED)
+    match run_in(alloc, bytes, count, per_block, config) {
+        Some((run, handles)) => {
+            scanned_in(alloc, run.as_slice(), &handles, times, made != 0).unwrap_or(REFUSED)
+        }
+        None => REFUSED,
+    }
 }
 
 // Reads each needle, and adds the entry that is found, or 1 for none.
 #[inline(never)]
-fn add_found(so_far: u64, run: &RunRef<'_, Hash>, needles: &[&[u8]]) -> u64 {
+pub(crate) fn add_views_found(so_far: u64, run: &RunRef<'_, Hash>, needles: &[&[u8]]) -> u64 {
     let mut sum = so_far;
     for needle in needles {
         let found = run.find(needle, NEWEST, &mut Steps::new());
         sum = sum.wrapping_add(view_found_sum(&found));
     }
     sum
-}
-
-// Reads each needle from a table that is opened once and trusted, so many times.
-fn found_in(
-    alloc: Global,
-    run: Slice,
-    handles: RunHandles,
-    needles: &[&[u8]],
-    times: u64,
-) -> Option<u64>
-    requires { (blocks : List (List Entry))
-        × IsSound (hashes hash64 hash128) blocks run handles }
-{
-    let source = MemorySource::new(run);
-    let Ok(table) = Table::<Hash, MemorySource>::open(alloc, source, handles) else {
-        return None;
-    };
-    let run = table.trusted().by_ref();
-    let mut sum = 0;
-    for _ in 0..times {
-        sum = add_found(sum, &run, needles);
-    }
-    Some(sum)
 }
 
 /// Finds each needle in a table that is opened once and trusted, and adds the entry that is found,
@@ -283,35 +279,30 @@ pub extern "C" fn sst_views_find(
     alloc: Global,
 ) -> u64 {
     let config = RunConfig::new(interval, HashRatio { num, den }, bits);
-    let Some((run, handles)) = run_in(alloc, bytes, count, per_block, config) else {
+    let Some(needles) = keys_in(alloc, needles, key_len) else {
         return REFUSED;
     };
-    let (Ok(run), Some(needles)) = (Slice::from_vec(run), keys_in(alloc, needles, key_len)) else {
-        return REFUSED;
-    };
-    found_in(alloc, run, handles, needles.as_slice(), times).unwrap_or(REFUSED)
+    let asked = Asked::Find(needles.as_slice());
+    opened_in(alloc, bytes, count, per_block, config, asked, times)
 }
 
 // Scans of runs.
 fn scans_of<'a>(alloc: Global, tables: &[Trusted<'a, Hash>]) -> Option<Vec<Scanned<'a, 'static>>> {
     let mut scans = Vec::new(alloc);
     for table in tables {
-        scans
-            .push(Head::new(alloc, table.by_ref().scan()).ok()?)
-            .ok()?;
+        push_head(alloc, &mut scans, table.by_ref().scan())?;
     }
     Some(scans)
 }
 
-// Merges scans of runs, and adds each entry where its source holds it.
-#[inline(never)]
-fn add_merged(
+// Adds each of so many entries where its source holds it, and passes it.
+#[inline(always)]
+fn add_passed<'a, I: Source<EntryView<'a>> + Drop>(
     so_far: u64,
-    tables: &[Trusted<'_, Hash>],
+    merged: &mut Merge<EntryView<'a>, I>,
     count: usize,
     alloc: Global,
 ) -> Option<u64> {
-    let mut merged = Merge::new(scans_of(alloc, tables)?);
     let mut sum = so_far;
     for _ in 0..count {
         match merged.peek() {
@@ -325,15 +316,14 @@ fn add_merged(
     Some(sum)
 }
 
-// Merges scans of runs, makes each entry, and adds it.
-#[inline(never)]
-fn add_merged_made(
+// Makes each of so many entries, adds it, and passes it.
+#[inline(always)]
+fn add_passed_made<'a, I: Source<EntryView<'a>> + Drop>(
     so_far: u64,
-    tables: &[Trusted<'_, Hash>],
+    merged: &mut Merge<EntryView<'a>, I>,
     count: usize,
     alloc: Global,
 ) -> Option<u64> {
-    let mut merged = Merge::new(scans_of(alloc, tables)?);
     let mut sum = so_far;
     for _ in 0..count {
         let Some(view) = merged.peek() else {
@@ -350,19 +340,54 @@ fn add_merged_made(
     Some(sum)
 }
 
+// Merges scans of runs, and adds each entry where its source holds it.
+#[inline(never)]
+fn add_merged(
+    so_far: u64,
+    tables: &[Trusted<'_, Hash>],
+    count: usize,
+    alloc: Global,
+) -> Option<u64> {
+    let mut merged = Merge::new(scans_of(alloc, tables)?);
+    add_passed(so_far, &mut merged, count, alloc)
+}
+
+// Merges scans of runs, makes each entry, and adds it.
+#[inline(never)]
+fn add_merged_made(
+    so_far: u64,
+    tables: &[Trusted<'_, Hash>],
+    count: usize,
+    alloc: Global,
+) -> Option<u64> {
+    let mut merged = Merge::new(scans_of(alloc, tables)?);
+    add_passed_made(so_far, &mut merged, count, alloc)
+}
+
+// Merges scans of runs, so many times.
+fn merges_of(
+    alloc: Global,
+    tables: &[Trusted<'_, Hash>],
+    count: usize,
+    times: u64,
+    made: bool,
+) -> Option<u64> {
+    let mut sum = 0;
+    for _ in 0..times {
+        sum = if made {
+            add_merged_made(sum, tables, count, alloc)?
+        } else {
+            add_merged(sum, tables, count, alloc)?
+        };
+    }
+    Some(sum)
+}
+
 // Opens and checks the tables, and merges their scans, so many times.
 fn merged_in(alloc: Global, runs: &[Stored], count: usize, times: u64, made: bool) -> Option<u64> {
     let mut tables = tables_of(alloc, runs)?;
     let trusted = all_trusted(alloc, tables.as_mut_slice())?;
-    let mut sum = 0;
-    for _ in 0..times {
-        sum = if made {
-            add_merged_made(sum, &trusted, count, alloc)?
-        } else {
-            add_merged(sum, &trusted, count, alloc)?
-        };
-    }
-    Some(sum)
+    merges_of(alloc, trusted.as_slice(), count, times, made)
 }
 
 /// Opens tables over the runs of the entries' parts once, merges their scans without checks, and
@@ -382,11 +407,8 @@ pub extern "C" fn sst_views_merge(
     alloc: Global,
 ) -> u64 {
     let config = RunConfig::new(interval, HashRatio { num, den }, bits);
-    let Some(items) = items_in(alloc, bytes, count, interval, config.ratio) else {
-        return REFUSED;
-    };
-    let Some(runs) = runs_of(alloc, items.as_slice(), per_block, config, tables) else {
-        return REFUSED;
-    };
-    merged_in(alloc, &runs, count, times, made != 0).unwrap_or(REFUSED)
+    match runs_in(alloc, bytes, count, per_block, config, tables) {
+        Some(runs) => merged_in(alloc, &runs, count, times, made != 0).unwrap_or(REFUSED),
+        None => REFUSED,
+    }
 }

@@ -1,6 +1,6 @@
 //! Merges, snapshots, compactions and reads of runs of long keys. A step that fails is made again.
-use crate::lists::{DELETED, LONG_KEY, NO_BUCKETS, WRITTEN};
-use crate::output::{print_left, print_left_back};
+use crate::lists::{DELETED, LONG_KEY, NO_BUCKETS, Row, WRITTEN};
+use crate::output::{print_front, print_left, print_left_back, print_none, print_one, print_two};
 use crate::runs::run_of;
 use sst_base::{ByteSum, Error, InternalValue, Result, Slice, Steps};
 use sst_block_kinds::table::data_block::EntryView;
@@ -34,14 +34,35 @@ fn print_taken<T: Version + Drop, I: Source<T> + Drop>(
     }
 }
 
-// Takes from a run, in which a version of a long key is deleted.
-fn take_from(rt: &impl Print, alloc: Global, times: u32, taken: Taken) -> Result<()> {
-    let (bytes, handles) = run_of(alloc, &DELETED)?;
-    let (run, _) = RunRef::<ByteSum>::check(alloc, bytes.as_slice(), &handles)?;
+// A run over borrowed bytes.
+fn checked<'a>(
+    alloc: Global,
+    bytes: &'a Slice,
+    handles: &'a RunHandles,
+) -> Result<RunRef<'a, ByteSum>> {
+    let (run, _) = RunRef::<ByteSum>::check(alloc, bytes.as_slice(), handles)?;
+    Ok(run)
+}
+
+// Takes from a run, so many times.
+fn take_often(
+    rt: &impl Print,
+    alloc: Global,
+    run: &RunRef<'_, ByteSum>,
+    times: u32,
+    taken: Taken,
+) -> Result<()> {
     for _ in 0..times {
         print_taken::<EntryView<'_>, _>(rt, alloc, run.scan(), taken)?;
     }
     Ok(())
+}
+
+// Takes from a run, in which a version of a long key is deleted.
+fn take_from(rt: &impl Print, alloc: Global, times: u32, taken: Taken) -> Result<()> {
+    let (bytes, handles) = run_of(alloc, &DELETED)?;
+    let run = checked(alloc, &bytes, &handles)?;
+    take_often(rt, alloc, &run, times, taken)
 }
 
 /// Takes what a snapshot sees of a run.
@@ -89,12 +110,6 @@ fn merge_back_of<T: Version + Drop, I: BackSource<T> + Drop>(
     Ok(MergeBack::new(tails))
 }
 
-// Prints why there is no merge.
-fn print_none(rt: &impl Print, error: Error) -> Result<()> {
-    println!(rt; "no merge: {error:?}")?;
-    Ok(())
-}
-
 // Prints the sequence numbers of the versions that a merge shows and passes and `None`, or the error
 // of a step, what is then shown, and the error of the next step.
 fn print_passed<T: Version + Drop, I: Source<T> + Drop>(
@@ -108,9 +123,8 @@ fn print_passed<T: Version + Drop, I: Source<T> + Drop>(
             Ok(true) => print!(rt; "{shown:?} ")?,
             Ok(false) => break,
             Err(error) => {
-                let again = merged.advance(alloc).err();
-                println!(rt; "{error:?} {shown:?} {again:?}")?;
-                return Ok(());
+                print_front(rt, error)?;
+                return print_two(rt, shown, merged.advance(alloc).err());
             }
         }
     }
@@ -128,7 +142,7 @@ fn print_forth<T: Version + Drop, I: Source<T> + Drop>(
     match merge_of(alloc, sources.0, sources.1) {
         Ok(mut merged) if passed => print_passed(rt, alloc, &mut merged),
         Ok(mut merged) => print_left(rt, alloc, &mut merged),
-        Err(error) => print_none(rt, error),
+        Err(error) => print_none(rt, "merge", error),
     }
 }
 
@@ -140,24 +154,49 @@ fn print_back<T: Version + Drop, I: BackSource<T> + Drop>(
 ) -> Result<()> {
     match merge_back_of(alloc, sources.0, sources.1) {
         Ok(mut merged) => print_left_back(rt, alloc, &mut merged),
-        Err(error) => print_none(rt, error),
+        Err(error) => print_none(rt, "merge", error),
     }
+}
+
+// Merges two runs.
+fn merge_once(
+    rt: &impl Print,
+    alloc: Global,
+    deleted: &RunRef<'_, ByteSum>,
+    written: &RunRef<'_, ByteSum>,
+    merged: Merged,
+) -> Result<()> {
+    let scans = (deleted.scan(), written.scan());
+    match merged {
+        Merged::Taken => print_forth::<EntryView<'_>, _>(rt, alloc, scans, false),
+        Merged::Passed => print_forth::<EntryView<'_>, _>(rt, alloc, scans, true),
+        Merged::Back => print_back::<EntryView<'_>, _>(rt, alloc, scans),
+    }
+}
+
+// A run in memory.
+type Written = (Slice, RunHandles);
+
+// Merges two runs over borrowed bytes, so many times.
+fn merge_often(
+    rt: &impl Print,
+    alloc: Global,
+    runs: (&Written, &Written),
+    times: u32,
+    merged: Merged,
+) -> Result<()> {
+    let deleted = checked(alloc, &runs.0.0, &runs.0.1)?;
+    let written = checked(alloc, &runs.1.0, &runs.1.1)?;
+    for _ in 0..times {
+        merge_once(rt, alloc, &deleted, &written, merged)?;
+    }
+    Ok(())
 }
 
 // Merges two runs, of one of which a version is deleted.
 fn merge_runs(rt: &impl Print, alloc: Global, times: u32, merged: Merged) -> Result<()> {
     let (first, second) = (run_of(alloc, &DELETED)?, run_of(alloc, &WRITTEN)?);
-    let (deleted, _) = RunRef::<ByteSum>::check(alloc, first.0.as_slice(), &first.1)?;
-    let (written, _) = RunRef::<ByteSum>::check(alloc, second.0.as_slice(), &second.1)?;
-    for _ in 0..times {
-        let scans = (deleted.scan(), written.scan());
-        match merged {
-            Merged::Taken => print_forth::<EntryView<'_>, _>(rt, alloc, scans, false)?,
-            Merged::Passed => print_forth::<EntryView<'_>, _>(rt, alloc, scans, true)?,
-            Merged::Back => print_back::<EntryView<'_>, _>(rt, alloc, scans)?,
-        }
-    }
-    Ok(())
+    merge_often(rt, alloc, (&first, &second), times, merged)
 }
 
 /// Takes the versions of a merge of two runs.
@@ -178,9 +217,10 @@ pub fn merge_back(rt: &impl Print, alloc: Global, times: u32) -> Result<()> {
 /// A table in memory.
 pub type Stored = Table<ByteSum, MemorySource>;
 
-/// Opens the table of a run.
-pub fn table_of(alloc: Global, bytes: &Slice, handles: RunHandles) -> Result<Stored> {
-    Ok(Table::open(alloc, MemorySource::new(bytes.clone()?), handles)?)
+/// The table of the run of some rows.
+pub fn table_of(alloc: Global, rows: &[Row]) -> Result<Stored> {
+    let (bytes, handles) = run_of(alloc, rows)?;
+    Ok(Table::open(alloc, MemorySource::new(bytes), handles)?)
 }
 
 // Writes what is left of a source as a table of blocks of one entry: the error of that.
@@ -206,18 +246,15 @@ fn print_written<I: Source<InternalValue> + Drop>(
         Ok(mut head) => {
             let first = write_left(alloc, &mut head);
             let second = write_left(alloc, &mut head);
-            let third = head.take(alloc).err();
-            println!(rt; "{first:?} {second:?} {third:?}")?;
+            print_front(rt, first)?;
+            print_two(rt, second, head.take(alloc).err())
         }
-        Err(error) => println!(rt; "no head: {error:?}")?,
+        Err(error) => print_none(rt, "head", error),
     }
-    Ok(())
 }
 
-/// Writes a scan of a trusted table as a table of two blocks.
-pub fn written(rt: &impl Print, alloc: Global, times: u32) -> Result<()> {
-    let (bytes, handles) = run_of(alloc, &DELETED)?;
-    let mut table = table_of(alloc, &bytes, handles)?;
+// Checks a table, and writes a scan of it without checks as a table, so many times.
+fn write_often(rt: &impl Print, alloc: Global, table: &mut Stored, times: u32) -> Result<()> {
     table.verify(alloc)?;
     let run = table.trusted();
     for _ in 0..times {
@@ -226,22 +263,25 @@ pub fn written(rt: &impl Print, alloc: Global, times: u32) -> Result<()> {
     Ok(())
 }
 
-/// Reads a long key from two tables.
-pub fn tables(rt: &impl Print, alloc: Global, times: u32) -> Result<()> {
-    let (first, second) = (run_of(alloc, &DELETED)?, run_of(alloc, &WRITTEN)?);
-    let mut readers = [
-        table_of(alloc, &first.0, first.1)?,
-        table_of(alloc, &second.0, second.1)?,
-    ];
+/// Writes a scan of a trusted table as a table of two blocks.
+pub fn written(rt: &impl Print, alloc: Global, times: u32) -> Result<()> {
+    let mut table = table_of(alloc, &DELETED)?;
+    write_often(rt, alloc, &mut table, times)
+}
+
+// Reads a long key from tables, so many times.
+fn read_often(rt: &impl Print, alloc: Global, readers: &mut [Stored], times: u32) -> Result<()> {
     for _ in 0..times {
-        let found: Result<Option<InternalValue>> = read_tables(
-            alloc,
-            &mut readers,
-            LONG_KEY,
-            9,
-            &mut Steps::new(),
-        );
-        println!(rt; "{found:?}")?;
+        print_one(
+            rt,
+            read_tables(alloc, readers, LONG_KEY, 9, &mut Steps::new()),
+        )?;
     }
     Ok(())
+}
+
+/// Reads a long key from two tables.
+pub fn tables(rt: &impl Print, alloc: Global, times: u32) -> Result<()> {
+    let mut readers = [table_of(alloc, &DELETED)?, table_of(alloc, &WRITTEN)?];
+    read_often(rt, alloc, &mut readers, times)
 }

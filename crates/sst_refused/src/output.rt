@@ -1,7 +1,8 @@
 //! Lines of results.
-use sst_base::Result;
+use sst_base::{Error, Result};
 use sst_merge::{BackSource, Source, Version};
 use std::alloc::Global;
+use std::fmt::Debug;
 
 /// Prints bytes in hex, or `-` for none, and ends the line.
 pub fn print_bytes(rt: &impl Print, bytes: &[u8]) -> Result<()> {
@@ -12,6 +13,40 @@ pub fn print_bytes(rt: &impl Print, bytes: &[u8]) -> Result<()> {
         print!(rt; "{byte:02x}")?;
     }
     println!(rt; "")?;
+    Ok(())
+}
+
+/// Prints what a call returned, and ends the line.
+pub fn print_one<T: Debug + Drop>(rt: &impl Print, returned: T) -> Result<()> {
+    println!(rt; "{returned:?}")?;
+    Ok(())
+}
+
+/// Prints what two calls returned, and ends the line.
+pub fn print_two<T: Debug + Drop, U: Debug + Drop>(
+    rt: &impl Print,
+    first: T,
+    second: U,
+) -> Result<()> {
+    print_front(rt, first)?;
+    print_one(rt, second)
+}
+
+/// Prints what a call returned, at the front of a line.
+pub fn print_front<T: Debug + Drop>(rt: &impl Print, returned: T) -> Result<()> {
+    print!(rt; "{returned:?} ")?;
+    Ok(())
+}
+
+/// Prints what a call returned and bytes, and ends the line.
+pub fn print_with_bytes<T: Debug + Drop>(rt: &impl Print, returned: T, bytes: &[u8]) -> Result<()> {
+    print_front(rt, returned)?;
+    print_bytes(rt, bytes)
+}
+
+/// Prints why what an operation works on could not be made, and ends the line.
+pub fn print_none(rt: &impl Print, made: &str, error: Error) -> Result<()> {
+    println!(rt; "no {made}: {error:?}")?;
     Ok(())
 }
 
@@ -26,11 +61,7 @@ pub fn print_left<T: Version + Drop, I: Source<T>>(
         match source.next_entry(alloc) {
             Ok(Some(version)) => print!(rt; "{} ", version.seqno())?,
             Ok(None) => break,
-            Err(error) => {
-                let again = source.next_entry(alloc).err();
-                println!(rt; "{error:?} {again:?}")?;
-                return Ok(());
-            }
+            Err(error) => return print_two(rt, error, source.next_entry(alloc).err()),
         }
     }
     println!(rt; "None")?;
@@ -47,11 +78,7 @@ pub fn print_left_back<T: Version + Drop, I: BackSource<T>>(
         match source.next_entry_back(alloc) {
             Ok(Some(version)) => print!(rt; "{} ", version.seqno())?,
             Ok(None) => break,
-            Err(error) => {
-                let again = source.next_entry_back(alloc).err();
-                println!(rt; "{error:?} {again:?}")?;
-                return Ok(());
-            }
+            Err(error) => return print_two(rt, error, source.next_entry_back(alloc).err()),
         }
     }
     println!(rt; "None")?;

@@ -1,7 +1,8 @@
 //! Walks, steps and reads of blocks.
 
 use crate::lists::{LONG, LONG_KEY, NO_BUCKETS, ONE_EACH, SHORT, data_block, index_block};
-use sst_base::{ByteSum, InternalValue, Result, Slice, Steps};
+use crate::output::{print_one, print_two};
+use sst_base::{ByteSum, InternalValue, Result, SeqNo, Slice, Steps};
 use sst_block_core::Decoder;
 use sst_block_kinds::laws::data_block_is_read;
 use sst_block_kinds::table::data_block::{self, Op};
@@ -9,107 +10,98 @@ use sst_block_kinds::table::index_block::{self, IndexOp};
 use sst_block_kinds::{DataBlock, DataBlockParsedItem, IndexBlock};
 use std::alloc::Global;
 
-// Iterates over a data block.
-fn walk_data_once(
+// Iterates over a data block, so many times.
+fn walk_entries_by(
     rt: &impl Print,
     alloc: Global,
     block: &DataBlock<ByteSum>,
     ops: &[Op],
+    times: u32,
 ) -> Result<()> {
-    let answers = data_block::walk(alloc, block, ops);
-    println!(rt; "{answers:?}")?;
-    Ok(())
-}
-
-/// Iterates over a data block: the results.
-pub fn walk_data(rt: &impl Print, alloc: Global, times: u32) -> Result<()> {
-    let block = data_block(alloc, &LONG, NO_BUCKETS)?;
-    let ops = [
-        Op::Next,
-        Op::Next,
-        Op::Seek(Slice::new(alloc, LONG_KEY)?),
-        Op::NextBack,
-    ];
     for _ in 0..times {
-        walk_data_once(rt, alloc, &block, &ops)?;
+        print_one(rt, data_block::walk(alloc, block, ops))?;
     }
     Ok(())
 }
 
-// Iterates over an index block.
-fn walk_index_once(
+// Iterates over a data block: the results.
+fn walk_entries(
+    rt: &impl Print,
+    alloc: Global,
+    block: &DataBlock<ByteSum>,
+    times: u32,
+) -> Result<()> {
+    let key = Slice::new(alloc, LONG_KEY)?;
+    let ops = [Op::Next, Op::Next, Op::Seek(key), Op::NextBack];
+    walk_entries_by(rt, alloc, block, &ops, times)
+}
+
+// Iterates over an index block, so many times.
+fn walk_handles_by(
     rt: &impl Print,
     alloc: Global,
     block: &IndexBlock,
     ops: &[IndexOp],
+    times: u32,
 ) -> Result<()> {
-    let answers = index_block::walk(alloc, block, ops);
-    println!(rt; "{answers:?}")?;
+    for _ in 0..times {
+        print_one(rt, index_block::walk(alloc, block, ops))?;
+    }
     Ok(())
 }
 
-/// Iterates over an index block: the results.
-pub fn walk_index(rt: &impl Print, alloc: Global, times: u32) -> Result<()> {
-    let block = index_block(alloc, &LONG)?;
+// Iterates over an index block: the results.
+fn walk_handles(rt: &impl Print, alloc: Global, block: &IndexBlock, times: u32) -> Result<()> {
+    let key = Slice::new(alloc, LONG_KEY)?;
     let ops = [
         IndexOp::Next,
         IndexOp::Next,
-        IndexOp::Seek(Slice::new(alloc, LONG_KEY)?, 2),
+        IndexOp::Seek(key, 2),
         IndexOp::NextBack,
     ];
-    for _ in 0..times {
-        walk_index_once(rt, alloc, &block, &ops)?;
-    }
-    Ok(())
+    walk_handles_by(rt, alloc, block, &ops, times)
 }
 
-// Reads a long key, which is joined of two parts, and a key that is not there.
-fn point_read_once(rt: &impl Print, alloc: Global, block: &DataBlock<ByteSum>) -> Result<()> {
-    let found = block.point_read(alloc, LONG_KEY, 2, &mut Steps::new());
-    let none = block.point_read(alloc, LONG_KEY, 1, &mut Steps::new());
-    println!(rt; "{found:?} {none:?}")?;
-    Ok(())
-}
-
-// Reads a key whose bucket is free.
-fn free_bucket_once(rt: &impl Print, alloc: Global, block: &DataBlock<ByteSum>) -> Result<()> {
-    let found = block.point_read(alloc, b"ad", 9, &mut Steps::new());
-    println!(rt; "{found:?}")?;
-    Ok(())
+// Reads a key.
+fn found_in(
+    alloc: Global,
+    block: &DataBlock<ByteSum>,
+    key: &[u8],
+    seqno: SeqNo,
+) -> Result<Option<InternalValue>> {
+    block.point_read(alloc, key, seqno, &mut Steps::new())
 }
 
 // Takes the entries of a data block from both ends, between two seeks: whether there is one.
-fn steps_data_once(rt: &impl Print, block: &DataBlock<ByteSum>) -> Result<()> {
+fn entry_steps(block: &DataBlock<ByteSum>) -> [bool; 6] {
     let mut iter = block.iter();
-    let first = iter.next().is_some();
-    let last = iter.next_back().is_some();
-    let is_found = iter.seek(LONG_KEY);
-    let again = iter.next().is_some();
-    let back = iter.next_back().is_some();
-    let end = iter.next().is_some();
-    println!(rt; "{first} {last} {is_found} {again} {back} {end}")?;
-    Ok(())
+    [
+        iter.next().is_some(),
+        iter.next_back().is_some(),
+        iter.seek(LONG_KEY),
+        iter.next().is_some(),
+        iter.next_back().is_some(),
+        iter.next().is_some(),
+    ]
 }
 
-// Takes the handles of an index block from both ends.
-fn steps_index_once(rt: &impl Print, block: &IndexBlock) -> Result<()> {
+// Takes the handles of an index block from both ends, between two seeks: whether there is one.
+fn handle_steps(block: &IndexBlock) -> [bool; 6] {
     let mut iter = block.iter();
-    let first = iter.next().is_some();
-    let last = iter.next_back().is_some();
-    let is_found = iter.seek(LONG_KEY, 9);
-    let again = iter.next().is_some();
-    let back = iter.next_back().is_some();
-    let end = iter.next().is_some();
-    println!(rt; "{first} {last} {is_found} {again} {back} {end}")?;
-    Ok(())
+    [
+        iter.next().is_some(),
+        iter.next_back().is_some(),
+        iter.seek(LONG_KEY, 9),
+        iter.next().is_some(),
+        iter.next_back().is_some(),
+        iter.next().is_some(),
+    ]
 }
 
-/// Takes the handles of an index block from both ends, between two seeks: whether there is one.
-pub fn steps_index(rt: &impl Print, alloc: Global, times: u32) -> Result<()> {
-    let block = index_block(alloc, &LONG)?;
-    for _ in 0..times {
-        steps_index_once(rt, &block)?;
-    }
+// Prints what steps found.
+fn print_steps(rt: &impl Print, found: [bool; 6]) -> Result<()> {
+    let [first, last, is_found, again, back, end] = found;
+    println!(rt; "{first} {last} {is_found} {again} {back} {end}")?;
     Ok(())
 }
 
@@ -123,18 +115,17 @@ fn decoder_of(block: &DataBlock<ByteSum>) -> Decoder<'_, InternalValue, DataBloc
 }
 
 // Makes a decoder, and takes an entry from each end: whether there is one.
-fn decoder_once(rt: &impl Print, block: &DataBlock<ByteSum>) -> Result<()> {
+fn decoded(block: &DataBlock<ByteSum>) -> (bool, bool) {
     let mut decoder = decoder_of(block);
-    let first = decoder.next().is_some();
-    let last = decoder.next_back().is_some();
-    println!(rt; "{first} {last}")?;
-    Ok(())
+    (decoder.next().is_some(), decoder.next_back().is_some())
 }
 
 /// What is read of a data block.
 #[derive(Clone, Copy)]
 pub enum Reading {
+    // A long key, which is joined of two parts, and a key that is not there.
     Keys,
+    // A key whose bucket is free.
     FreeBucket,
     BothEnds,
     Decoder,
@@ -157,10 +148,17 @@ fn read_once(
     reading: Reading,
 ) -> Result<()> {
     match reading {
-        Reading::Keys => point_read_once(rt, alloc, block),
-        Reading::FreeBucket => free_bucket_once(rt, alloc, block),
-        Reading::BothEnds => steps_data_once(rt, block),
-        Reading::Decoder => decoder_once(rt, block),
+        Reading::Keys => print_two(
+            rt,
+            found_in(alloc, block, LONG_KEY, 2),
+            found_in(alloc, block, LONG_KEY, 1),
+        ),
+        Reading::FreeBucket => print_one(rt, found_in(alloc, block, b"ad", 9)),
+        Reading::BothEnds => print_steps(rt, entry_steps(block)),
+        Reading::Decoder => {
+            let (first, last) = decoded(block);
+            print_two(rt, first, last)
+        }
     }
 }
 
@@ -169,6 +167,27 @@ pub fn read_data(rt: &impl Print, alloc: Global, times: u32, reading: Reading) -
     let block = block_for(alloc, reading)?;
     for _ in 0..times {
         read_once(rt, alloc, &block, reading)?;
+    }
+    Ok(())
+}
+
+/// Iterates over a data block: the results.
+pub fn walk_data(rt: &impl Print, alloc: Global, times: u32) -> Result<()> {
+    let block = data_block(alloc, &LONG, NO_BUCKETS)?;
+    walk_entries(rt, alloc, &block, times)
+}
+
+/// Iterates over an index block: the results.
+pub fn walk_index(rt: &impl Print, alloc: Global, times: u32) -> Result<()> {
+    let block = index_block(alloc, &LONG)?;
+    walk_handles(rt, alloc, &block, times)
+}
+
+/// Takes the handles of an index block from both ends.
+pub fn steps_index(rt: &impl Print, alloc: Global, times: u32) -> Result<()> {
+    let block = index_block(alloc, &LONG)?;
+    for _ in 0..times {
+        print_steps(rt, handle_steps(&block))?;
     }
     Ok(())
 }

@@ -1,11 +1,15 @@
 //! Runs: written, and read.
-ghost use Rattle.std.specs.Prelude.{◌↔◌, ◌≤◌, length, IsTrue};
+ghost use Rattle.std.specs.Prelude.{◌↔◌, ◌≤◌, List, length, IfOk, IsTrue};
+ghost use Rattle.sst_base.specs.Entry.{Entry};
+ghost use Rattle.sst_base.specs.Hashes.{byte_sum};
 ghost use Rattle.sst_block_core.specs.Entries.{entries};
 ghost use Rattle.sst_block_core.specs.Kind.{IsOrdered};
-ghost use Rattle.sstable_blocks.specs.Blocks.{CutsFit};
+ghost use Rattle.sstable_blocks.specs.Blocks.{CutsFit, blocks_of};
+ghost use Rattle.sstable_blocks.specs.RunReading.{hashes};
+ghost use Rattle.sstable_blocks.specs.Sound.{IsSound};
 
 use crate::lists::{LONG, LONG_KEY, NO_BUCKETS, ONE_EACH, Row, THREE, list_of};
-use crate::output::print_bytes;
+use crate::output::{print_front, print_one, print_two, print_with_bytes};
 use sst_base::{Block, ByteSum, Error, InternalValue, Result, Slice, Steps};
 use sst_block_kinds::DataBlock;
 use sstable_blocks::run::{
@@ -31,100 +35,115 @@ fn can_be_written(items: &[InternalValue], cuts: &[usize], config: &RunConfig) -
         && config.ratio.den >= 1
 }
 
-// Writes a run of entries, cut like this, with a filter: its handles.
-fn write_one(
+// Writes a run of entries, cut like this: its bytes and its handles.
+fn written(
     alloc: Global,
-    bytes: &mut Vec<u8>,
     list: &[InternalValue],
     cuts: &[usize],
-) -> Result<RunHandles> {
-    let config = RunConfig::new(1, NO_BUCKETS, 10);
+    config: RunConfig,
+) -> Result<(Vec<u8>, RunHandles)>
+    ensures sound { IfOk result (λ r. IsSound (hashes (byte_sum 64) (byte_sum 128))
+        (blocks_of cuts.now list.now) r.0.items r.1) }
+{
     if !can_be_written(list, cuts, &config) {
         return Err(Error::OutOfOrder);
     }
-    write_run::<ByteSum, Vec<u8>>(alloc, bytes, list, cuts, config)
+    let mut bytes = Vec::new(alloc);
+    let handles = write_run::<ByteSum, Vec<u8>>(alloc, &mut bytes, list, cuts, config)?;
+    Ok((bytes, handles))
+}
+
+// Writes the run of three entries, with a filter, into a vector.
+fn write_once(rt: &impl Print, alloc: Global, list: &[InternalValue]) -> Result<()> {
+    match written(alloc, list, &[1, 2], RunConfig::new(1, NO_BUCKETS, 10)) {
+        Ok((bytes, handles)) => print_with_bytes::<Result<RunHandles>>(rt, Ok(handles), &bytes),
+        Err(error) => print_with_bytes::<Result<RunHandles>>(rt, Err(error), b""),
+    }
 }
 
 /// Writes the run of three entries into a vector: what is returned, and the bytes of a whole run.
 pub fn write(rt: &impl Print, alloc: Global, times: u32) -> Result<()> {
     let list = list_of(alloc, &THREE)?;
     for _ in 0..times {
-        let mut bytes = Vec::new(alloc);
-        let handles = write_one(alloc, &mut bytes, &list, &[1, 2]);
-        print!(rt; "{handles:?} ")?;
-        if handles.is_err() {
-            bytes.clear();
-        }
-        print_bytes(rt, &bytes)?;
+        write_once(rt, alloc, &list)?;
     }
     Ok(())
 }
 
-// Adds each entry as a block: what each returns, and the end, or `None` where no block was added.
-fn add_each(
-    alloc: Global,
-    list: &[InternalValue],
-) -> ([Result<()>; 3], Option<Result<(RunHandles, Vec<u8>)>>) {
-    let mut writer: RunWriter<ByteSum, _> = RunWriter::new(
-        alloc,
-        Vec::new(alloc),
-        RunConfig::new(1, NO_BUCKETS, 10),
-    );
+// Adds each entry as a block: what each returns.
+fn add_each(writer: &mut RunWriter<ByteSum, Vec<u8>>, list: &[InternalValue]) -> [Result<()>; 3] {
     let mut results = [Ok(()); 3];
     for (block, place) in list.chunks(1).zip(results.iter_mut()) {
         if writer.fits_after(block) {
             *place = writer.add_block(block);
         }
     }
+    results
+}
+
+// Prints what ends a run returns, or `None` where no block was added.
+fn print_end(rt: &impl Print, writer: RunWriter<ByteSum, Vec<u8>>) -> Result<()> {
     if writer.block_count() == 0 {
-        return (results, None);
+        return print_one::<Option<Error>>(rt, None);
     }
-    (results, Some(writer.finish()))
+    match writer.finish() {
+        Ok((handles, bytes)) => print_with_bytes(rt, handles, &bytes),
+        Err(error) => print_one(rt, error),
+    }
+}
+
+// Writes the same run block by block.
+fn add_once(rt: &impl Print, alloc: Global, list: &[InternalValue]) -> Result<()> {
+    let config = RunConfig::new(1, NO_BUCKETS, 10);
+    let mut writer = RunWriter::new(alloc, Vec::new(alloc), config);
+    print_front(rt, add_each(&mut writer, list))?;
+    print_end(rt, writer)
 }
 
 /// Writes the same run block by block: what each call returns, and the bytes of a whole run.
 pub fn add_blocks(rt: &impl Print, alloc: Global, times: u32) -> Result<()> {
     let list = list_of(alloc, &THREE)?;
     for _ in 0..times {
-        let (results, end) = add_each(alloc, &list);
-        print!(rt; "{results:?} ")?;
-        match end {
-            None => println!(rt; "None")?,
-            Some(Err(error)) => println!(rt; "{error:?}")?,
-            Some(Ok((handles, bytes))) => {
-                print!(rt; "{handles:?} ")?;
-                print_bytes(rt, &bytes)?;
-            }
-        }
+        add_once(rt, alloc, &list)?;
     }
     Ok(())
 }
 
 /// Makes the run of some rows, one block with buckets: its bytes and its handles.
-pub fn run_of(alloc: Global, rows: &[Row]) -> Result<(Slice, RunHandles)> {
-    let (list, config) = (list_of(alloc, rows)?, RunConfig::new(2, ONE_EACH, 10));
-    if !can_be_written(&list, &[], &config) {
-        return Err(Error::OutOfOrder);
-    }
-    let mut bytes = Vec::new(alloc);
-    let handles = write_run::<ByteSum, Vec<u8>>(alloc, &mut bytes, &list, &[], config)?;
+pub fn run_of(alloc: Global, rows: &[Row]) -> Result<(Slice, RunHandles)>
+    ensures { IfOk result (λ r. (blocks : List (List Entry))
+        × IsSound (hashes (byte_sum 64) (byte_sum 128)) blocks r.0 r.1) }
+{
+    let list = list_of(alloc, rows)?;
+    let (bytes, handles) = written(alloc, &list, &[], RunConfig::new(2, ONE_EACH, 10))?;
     Ok((Slice::from_vec(bytes)?, handles))
+}
+
+// Reads the key from a run, so many times.
+fn read_often(
+    rt: &impl Print,
+    alloc: Global,
+    bytes: &Slice,
+    handles: &RunHandles,
+    times: u32,
+) -> Result<()>
+    requires { (blocks : List (List Entry))
+        × IsSound (hashes (byte_sum 64) (byte_sum 128)) blocks bytes.now handles.now }
+{
+    for _ in 0..times {
+        let mut steps = Steps::new();
+        print_one(
+            rt,
+            read_entry::<ByteSum>(alloc, bytes, handles, LONG_KEY, 2, &mut steps),
+        )?;
+    }
+    Ok(())
 }
 
 /// Reads a long key from a run of one block with buckets.
 pub fn read(rt: &impl Print, alloc: Global, times: u32) -> Result<()> {
-    let (list, config) = (list_of(alloc, &LONG)?, RunConfig::new(2, ONE_EACH, 10));
-    if !can_be_written(&list, &[], &config) {
-        return Err(Error::OutOfOrder);
-    }
-    let mut bytes = Vec::new(alloc);
-    let handles = write_run::<ByteSum, Vec<u8>>(alloc, &mut bytes, &list, &[], config)?;
-    let bytes = Slice::from_vec(bytes)?;
-    for _ in 0..times {
-        let found = read_entry::<ByteSum>(alloc, &bytes, &handles, LONG_KEY, 2, &mut Steps::new());
-        println!(rt; "{found:?}")?;
-    }
-    Ok(())
+    let (bytes, handles) = run_of(alloc, &LONG)?;
+    read_often(rt, alloc, &bytes, &handles, times)
 }
 
 // Reads the key from a run, with checks.
@@ -134,9 +153,10 @@ fn read_once<S: FrameSource>(
     source: &mut S,
     handles: &RunHandles,
 ) -> Result<()> {
-    let found = read_entry_checked::<ByteSum, _>(alloc, source, handles, LONG_KEY, 2);
-    println!(rt; "{found:?}")?;
-    Ok(())
+    print_one(
+        rt,
+        read_entry_checked::<ByteSum, S>(alloc, source, handles, LONG_KEY, 2),
+    )
 }
 
 /// Reads the key from the same run in memory, with checks.
@@ -171,7 +191,7 @@ pub fn false_length(rt: &impl Print, alloc: Global, times: u32) -> Result<()> {
         let mut reader = FALSE_LENGTH.as_slice();
         let read = Block::from_reader::<ByteSum, &[u8]>(alloc, &mut reader).err();
         let whole = Block::from_frame::<ByteSum>(Slice::new(alloc, &FALSE_LENGTH)?).err();
-        println!(rt; "{read:?} {whole:?}")?;
+        print_two(rt, read, whole)?;
     }
     Ok(())
 }

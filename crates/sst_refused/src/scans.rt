@@ -1,11 +1,11 @@
 //! Scans and checks of tables of long keys. A step that fails is made again.
 use crate::lists::LONG;
-use crate::merges::table_of;
-use crate::output::{print_left, print_left_back};
+use crate::merges::{Stored, table_of};
+use crate::output::{print_left, print_left_back, print_one};
 use crate::runs::run_of;
 use sst_base::{ByteSum, InternalValue, Result};
 use sst_merge::{BackSource, Source};
-use sstable_blocks::run::RunRef;
+use sstable_blocks::run::{RunHandles, RunRef};
 use std::alloc::Global;
 
 /// The end from which a scan goes.
@@ -28,22 +28,30 @@ fn print_scan<I: Source<InternalValue> + BackSource<InternalValue>>(
     }
 }
 
+// Scans a table: the table.
+fn scan_once(rt: &impl Print, alloc: Global, table: Stored, end: End) -> Result<Stored> {
+    let mut scan = table.scan();
+    print_scan(rt, alloc, &mut scan, end)?;
+    Ok(scan.into_table())
+}
+
 /// Scans a table.
 pub fn table(rt: &impl Print, alloc: Global, times: u32, end: End) -> Result<()> {
-    let (bytes, handles) = run_of(alloc, &LONG)?;
-    let mut table = table_of(alloc, &bytes, handles)?;
+    let mut table = table_of(alloc, &LONG)?;
     for _ in 0..times {
-        let mut scan = table.scan();
-        print_scan(rt, alloc, &mut scan, end)?;
-        table = scan.into_table();
+        table = scan_once(rt, alloc, table, end)?;
     }
     Ok(())
 }
 
-/// Scans a trusted table.
-pub fn trusted(rt: &impl Print, alloc: Global, times: u32, end: End) -> Result<()> {
-    let (bytes, handles) = run_of(alloc, &LONG)?;
-    let mut table = table_of(alloc, &bytes, handles)?;
+// Checks a table, and scans it without checks, so many times.
+fn scan_trusted(
+    rt: &impl Print,
+    alloc: Global,
+    table: &mut Stored,
+    times: u32,
+    end: End,
+) -> Result<()> {
     table.verify(alloc)?;
     let run = table.trusted();
     for _ in 0..times {
@@ -52,14 +60,31 @@ pub fn trusted(rt: &impl Print, alloc: Global, times: u32, end: End) -> Result<(
     Ok(())
 }
 
+/// Scans a trusted table.
+pub fn trusted(rt: &impl Print, alloc: Global, times: u32, end: End) -> Result<()> {
+    let mut table = table_of(alloc, &LONG)?;
+    scan_trusted(rt, alloc, &mut table, times, end)
+}
+
+// How many entries a check finds in a run over borrowed bytes.
+fn checked(alloc: Global, bytes: &[u8], handles: &RunHandles) -> Result<u64> {
+    let (_, summary) = RunRef::<ByteSum>::check(alloc, bytes, handles)?;
+    Ok(summary.entries)
+}
+
+// Checks a run over borrowed bytes: how many entries it has.
+fn check_once(rt: &impl Print, alloc: Global, bytes: &[u8], handles: &RunHandles) -> Result<()> {
+    match checked(alloc, bytes, handles) {
+        Ok(entries) => print_one(rt, entries),
+        Err(error) => print_one(rt, error),
+    }
+}
+
 /// Checks a run over borrowed bytes: how many entries it has.
 pub fn check(rt: &impl Print, alloc: Global, times: u32) -> Result<()> {
     let (bytes, handles) = run_of(alloc, &LONG)?;
     for _ in 0..times {
-        match RunRef::<ByteSum>::check(alloc, bytes.as_slice(), &handles) {
-            Ok((_, summary)) => println!(rt; "{}", summary.entries)?,
-            Err(error) => println!(rt; "{error:?}")?,
-        }
+        check_once(rt, alloc, bytes.as_slice(), &handles)?;
     }
     Ok(())
 }

@@ -2,6 +2,7 @@
 ghost use Rattle.std.specs.Prelude.{◌≤◌, length};
 
 use crate::lists::{LONG_KEY, OTHER_KEY};
+use crate::output::{print_none, print_one, print_two};
 use sst_base::{Result, SeqNo, Slice};
 use sst_store::Store;
 use std::alloc::Global;
@@ -15,76 +16,84 @@ fn write(alloc: Global, store: &mut Store, key: &'static [u8], value: u8) -> Res
     store.put(key, Slice::from_array(alloc, [value])?)
 }
 
-// A store in which two versions of a key, and one of another, are in memory.
-fn filled(alloc: Global) -> Result<Store> {
+// Writes two versions of a key, and one of another: the next sequence number.
+fn fill(alloc: Global, store: &mut Store) -> Result<SeqNo> {
+    write(alloc, store, LONG_KEY, b'x')?;
+    write(alloc, store, LONG_KEY, b'y')?;
+    write(alloc, store, OTHER_KEY, b'z')?;
+    Ok(store.next())
+}
+
+// Writes three versions into a new store: the next sequence number.
+fn put_once(alloc: Global) -> Result<SeqNo> {
     let mut store = Store::new(alloc);
-    write(alloc, &mut store, LONG_KEY, b'x')?;
-    write(alloc, &mut store, LONG_KEY, b'y')?;
-    write(alloc, &mut store, OTHER_KEY, b'z')?;
-    Ok(store)
+    fill(alloc, &mut store)
 }
 
 /// Writes three versions: the next sequence number, or the error.
 pub fn put(rt: &impl Print, alloc: Global, times: u32) -> Result<()> {
     for _ in 0..times {
-        let next = filled(alloc).map(|store| store.next());
-        println!(rt; "{next:?}")?;
+        print_one(rt, put_once(alloc))?;
     }
     Ok(())
 }
 
-// Reads a key.
-fn get_once(rt: &impl Print, store: &mut Store) -> Result<()> {
-    let found = store.get(LONG_KEY, 9);
-    println!(rt; "{found:?}")?;
+// Reads a key of a table of the three versions, so many times.
+fn get_often(rt: &impl Print, alloc: Global, store: &mut Store, times: u32) -> Result<()> {
+    fill(alloc, store)?;
+    store.flush()?;
+    for _ in 0..times {
+        print_one(rt, store.get(LONG_KEY, 9))?;
+    }
     Ok(())
 }
 
 /// Reads a key of a table.
 pub fn get(rt: &impl Print, alloc: Global, times: u32) -> Result<()> {
-    let mut store = filled(alloc)?;
-    store.flush()?;
-    for _ in 0..times {
-        get_once(rt, &mut store)?;
-    }
-    Ok(())
+    let mut store = Store::new(alloc);
+    get_often(rt, alloc, &mut store, times)
 }
 
-// Moves versions into a table, and reads a key.
-fn flush_once(rt: &impl Print, store: &mut Store) -> Result<()> {
-    let flushed = store.flush();
-    let found = store.get(LONG_KEY, 9);
-    println!(rt; "{flushed:?} {found:?}")?;
-    Ok(())
+// Moves three versions into a table, and reads a key.
+fn flush_once(rt: &impl Print, alloc: Global, store: &mut Store) -> Result<()> {
+    match fill(alloc, store) {
+        Ok(_) => {
+            let flushed = store.flush();
+            print_two(rt, flushed, store.get(LONG_KEY, 9))
+        }
+        Err(error) => print_none(rt, "store", error),
+    }
 }
 
 /// Moves versions into a table, and reads a key.
 pub fn flush(rt: &impl Print, alloc: Global, times: u32) -> Result<()> {
     for _ in 0..times {
-        match filled(alloc) {
-            Ok(mut store) => flush_once(rt, &mut store)?,
-            Err(error) => println!(rt; "no store: {error:?}")?,
-        }
+        let mut store = Store::new(alloc);
+        flush_once(rt, alloc, &mut store)?;
     }
     Ok(())
 }
 
-// Compacts the tables of a store, and reads a key.
-fn compact_once(rt: &impl Print, store: &mut Store) -> Result<()> {
-    let compacted = store.compact(9);
-    let found = store.get(LONG_KEY, 9);
-    println!(rt; "{compacted:?} {found:?}")?;
+// Moves the three versions and one more into a table each.
+fn fill_tables(alloc: Global, store: &mut Store) -> Result<()> {
+    fill(alloc, store)?;
+    store.flush()?;
+    write(alloc, store, LONG_KEY, b'w')?;
+    store.flush()
+}
+
+// Compacts the tables of a store, and reads a key, so many times.
+fn compact_often(rt: &impl Print, alloc: Global, store: &mut Store, times: u32) -> Result<()> {
+    fill_tables(alloc, store)?;
+    for _ in 0..times {
+        let compacted = store.compact(9);
+        print_two(rt, compacted, store.get(LONG_KEY, 9))?;
+    }
     Ok(())
 }
 
 /// Compacts the tables of a store, and reads a key.
 pub fn compact(rt: &impl Print, alloc: Global, times: u32) -> Result<()> {
-    let mut store = filled(alloc)?;
-    store.flush()?;
-    write(alloc, &mut store, LONG_KEY, b'w')?;
-    store.flush()?;
-    for _ in 0..times {
-        compact_once(rt, &mut store)?;
-    }
-    Ok(())
+    let mut store = Store::new(alloc);
+    compact_often(rt, alloc, &mut store, times)
 }
