@@ -318,7 +318,7 @@ fn written<I: Source<InternalValue>, W: Write + Drop>(
     writer: W,
 ) -> Result<Option<(RunHandles, W)>> {
     let config = RunConfig::new(2, HashRatio { num: 1, den: 1 }, 10);
-    let sizes = Sizes { block: 4, table: 4 };
+    let sizes = Sizes { block: 7, table: 7 };
     write_table::<ByteSum, I, W>(alloc, source, writer, config, sizes)
 }
 
