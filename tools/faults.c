@@ -11,8 +11,9 @@
  *
  * STEPS, if the environment names a file, gets a word for each step, as it is made.
  *
- * At the end of the program the file TOLD, if the environment names one, gets three numbers: those of
- * the allocations asked for and of those refused, and the most bytes that one asked for.
+ * At the end of the program the file TOLD, if the environment names one, gets four numbers: those of
+ * the allocations asked for and of those refused, the most bytes that one asked for, and the bytes
+ * that were read.
  */
 #define _GNU_SOURCE
 #include <dlfcn.h>
@@ -33,6 +34,9 @@ static int is_due(const char *kind, long call) {
     const char *fault = getenv("FAULT"), *at = getenv("AT");
     return fault && at && strcmp(fault, kind) == 0 && atol(at) == call;
 }
+
+/* How many bytes were read. */
+static long bytes_read;
 
 /* Whether reads are slow. */
 static int is_slow(void) {
@@ -93,7 +97,9 @@ ssize_t read(int file, void *to, size_t len) {
         nanosleep(&(struct timespec){.tv_nsec = 300000000}, NULL);
     }
     ssize_t (*next)(int, void *, size_t) = dlsym(RTLD_NEXT, "read");
-    return next(file, to, is_due("short-read", calls) && len > 1 ? 1 : len);
+    ssize_t done = next(file, to, is_due("short-read", calls) && len > 1 ? 1 : len);
+    bytes_read += done > 0 ? done : 0;
+    return done;
 }
 
 ssize_t write(int file, const void *from, size_t len) {
@@ -219,7 +225,7 @@ __attribute__((destructor)) static void tell(void) {
     int file = told ? opened(told, O_WRONLY | O_CREAT | O_TRUNC, 0666) : -1;
     if (file < 0)
         return;
-    int len = snprintf(line, sizeof line, "%ld %ld %zu\n", asked, refused, most);
+    int len = snprintf(line, sizeof line, "%ld %ld %zu %ld\n", asked, refused, most, bytes_read);
     if (written(file, line, len) != len)
         removed(told);
     close(file);

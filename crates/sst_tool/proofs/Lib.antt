@@ -1,2 +1,5 @@
 mod Firsts
+pub mod Follows
+pub mod Limits
+pub mod Prefixes
 mod Printed

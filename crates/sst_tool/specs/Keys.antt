@@ -1,5 +1,5 @@
 -- Keys as words.
-use Rattle.std.specs.Prelude.{ℕ, List, drop, take, nat_eq, codes, if◌then◌else◌, Option, Some}
+use Rattle.std.specs.Prelude.{ℕ, ◌+◌, List, [], ◌∷◌, drop, take, nat_eq, nat_lt, codes, if◌then◌else◌, Option, Some, None}
 use Rattle.std.specs.Cmp.Lexicographic.{pointwise}
 use Rattle.std.specs.Result.{result_ok}
 use Rattle.std.specs.declared.ops.Bound.TheVariants.{Included}
@@ -14,3 +14,13 @@ key_of_word word = if pointwise nat_eq (take 4 word) (codes "hex:") then result_
 -- the range of one key
 abbrev pub only_key : List ℕ → KeyRange
 only_key key = record { from = Included key; to = Included key }
+
+abbrev pub first_or : ℕ → Option (List ℕ) → Option (List ℕ)
+first_or x (Some xs) = Some (x ∷ xs)
+first_or x None = if nat_lt x 255 then Some ((x + 1) ∷ []) else None
+
+-- the least key above all that begin with a prefix: where some byte after the first is not 255, that of the rest after
+-- the first; else the first byte greater by 1, if it is not 255
+abbrev pub prefix_end : List ℕ → Option (List ℕ)
+prefix_end [] = None
+prefix_end (x ∷ xs) = first_or x (prefix_end xs)

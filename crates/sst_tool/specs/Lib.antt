@@ -1,4 +1,8 @@
 pub mod Back
 pub mod Hashes
+pub mod Frames
 pub mod Keys
+pub mod Limits
+pub mod Orders
+pub mod Probes
 pub mod Statuses

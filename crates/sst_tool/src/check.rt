@@ -1,62 +1,16 @@
-//! `check`: whether a file is a sound table.
-ghost use Rattle.std.specs.Prelude.{◌≡◌, slice_get, IfSome, Some};
-ghost use Rattle.std.specs.Option.{option_map};
-
-use crate::fault::{Cause, Fault, Result};
-use crate::open::open;
-use crate::place::{TableBlock, footer_block_at};
+//! `check`: whether files are sound tables.
+use crate::fault::{Fault, Result};
+use crate::hash::{TableHash, hash_in, hash_of_file};
+use crate::open::source_of;
 use crate::progress::Progress;
 use crate::tidy::Gaps;
+use crate::whole::{check_whole, handles_of};
 use crate::words::FILE;
 use clap::ArgMatches;
-use sstable_blocks::{
-    BlockHash, Error, FrameSource, IndexBlock, RunHandles, RunSummary, Steps, Table,
-};
+use sstable_blocks::{BlockHash, Poly31, RunSummary, SizedSource, Xxh3};
 use std::alloc::Global;
 use std::io::Write;
 use std::rt::{Clock, Files};
-
-// The number of the data block at an offset, by the handles.
-fn data_block_at(index: &IndexBlock, offset: u64) -> Option<usize>
-    ensures { IfSome result (λ i. option_map (λ h. h.offset) (slice_get index.now.items i) ≡ Some offset) }
-{
-    let mut number = 0usize;
-    while number < index.len() {
-        let handle = index.handle_at(number, &mut Steps::new());
-        if *handle.offset() == offset {
-            return Some(number);
-        }
-        number += 1;
-    }
-    None
-}
-
-// The block at an offset, by the footer and the index.
-fn block_at(handles: &RunHandles, index: &IndexBlock, offset: u64) -> Option<TableBlock> {
-    match footer_block_at(handles, offset) {
-        Some(block) => Some(block),
-        None => Some(TableBlock::Data(data_block_at(index, offset)?)),
-    }
-}
-
-// The fault of a table that the check refuses: it names the block that was read last.
-fn fault_of(
-    alloc: Global,
-    file: &str,
-    handles: &RunHandles,
-    index: &IndexBlock,
-    offset: Option<u64>,
-    error: Error,
-    cause: Cause,
-) -> Fault {
-    match offset {
-        Some(offset) => {
-            let block = block_at(handles, index, offset);
-            Fault::of_block(alloc, file, block, offset, error, cause)
-        }
-        None => Fault::of_file(alloc, file, None, error, cause),
-    }
-}
 
 // Warns of bytes that belong to no frame: the table is sound, and the file is not tidy.
 fn warn_of<R: Eprint>(progress: &Progress<'_, R>, file: &str, gaps: &Gaps) {
@@ -66,52 +20,110 @@ fn warn_of<R: Eprint>(progress: &Progress<'_, R>, file: &str, gaps: &Gaps) {
 }
 
 // Checks a table of a file whole.
-fn check_in<H: BlockHash, S: FrameSource, R: Clock + Eprint>(
+fn check_in<H: BlockHash, S: SizedSource, R: Clock + Eprint>(
     progress: &Progress<'_, R>,
     alloc: Global,
     file: &str,
-    table: &mut Table<H, S>,
+    source: &mut S,
 ) -> Result<RunSummary> {
-    let checked = table.verify(alloc);
+    let handles = handles_of(progress, alloc, file, source)?;
+    let checked = check_whole::<H, S, R>(progress, alloc, file, source, &handles);
     progress.clear();
+    if checked.is_ok() {
+        let gaps = Gaps::new(progress.block_end(), &handles, progress.file_len());
+        warn_of(progress, file, &gaps);
+    }
+    checked
+}
+
+// Checks a table file whole.
+fn check_as<H: BlockHash, R: Files + Clock + Eprint>(
+    progress: &Progress<'_, R>,
+    alloc: Global,
+    file: &str,
+) -> Result<RunSummary> {
+    let mut source = source_of(progress, alloc, file)?;
+    check_in::<H, _, R>(progress, alloc, file, &mut source)
+}
+
+// Checks a table file whole, of this hash function, or else of that which it shows.
+fn check_file<R: Files + Clock + Eprint>(
+    progress: &Progress<'_, R>,
+    alloc: Global,
+    file: &str,
+    hash: Option<TableHash>,
+) -> Result<RunSummary> {
+    let hash = match hash {
+        Some(hash) => hash,
+        None => hash_of_file(progress.rt(), alloc, file)?,
+    };
+    match hash {
+        TableHash::Poly31 => check_as::<Poly31, R>(progress, alloc, file),
+        TableHash::Xxh3 => check_as::<Xxh3, R>(progress, alloc, file),
+    }
+}
+
+// Prints what a check of one of several files came to. Returns whether it is sound.
+fn print<R: Eprint, O: Write>(
+    progress: &Progress<'_, R>,
+    file: &str,
+    checked: &Result<RunSummary>,
+    output: &mut O,
+) -> Result<bool> {
     match checked {
         Ok(summary) => {
-            let gaps = Gaps::new(table.index(), table.handles(), progress.file_len());
-            warn_of(progress, file, &gaps);
-            Ok(summary)
+            let (blocks, entries) = (summary.blocks, summary.entries);
+            writeln!(output, "{file}: ok {blocks} blocks {entries} entries")?;
+            Ok(true)
         }
-        Err(error) => {
-            let (handles, index) = (table.handles(), table.index());
-            let (offset, cause) = (progress.offset(), progress.cause());
-            Err(fault_of(alloc, file, handles, index, offset, error, cause))
+        Err(fault) => {
+            let _ = eprintln!(progress.rt(); "sstool: {fault}");
+            Ok(false)
         }
     }
 }
 
-// Checks a table file whole.
-fn check<H: BlockHash, R: Files + Clock + Eprint>(
+// Checks table files whole, each whatever the others are.
+fn check_all<R: Files + Clock + Eprint, O: Write>(
     progress: &Progress<'_, R>,
     alloc: Global,
-    file: &str,
-) -> Result<RunSummary> {
-    let mut table = open::<H, R>(progress, alloc, file)?;
-    check_in(progress, alloc, file, &mut table)
+    files: &[&str],
+    hash: Option<TableHash>,
+    output: &mut O,
+) -> Result<()> {
+    let mut failed = 0usize;
+    for file in files {
+        let checked = check_file(progress, alloc, file, hash);
+        if !print(progress, file, &checked, output)? {
+            failed = failed.saturating_add(1);
+        }
+    }
+    if failed == 0 {
+        return Ok(());
+    }
+    Err(Fault::of_failed(alloc, failed, files.len()))
 }
 
-/// Checks a table file whole: each block, the order across blocks, end keys, the filter. Prints the
-/// numbers of blocks and entries. Warns of bytes of the file that belong to no frame.
+/// Checks table files whole: each block, the order across blocks, end keys, the filter. Prints the
+/// numbers of blocks and entries; of several files a line each, also after one that fails. Warns of
+/// bytes of a file that belong to no frame.
 ///
 /// # Errors
 ///
-/// Those of the file and of the check, with the block that was read last and its offset, and
-/// `Fault::Output`.
-pub fn run<H: BlockHash, R: Files + Clock + Eprint, O: Write>(
+/// Those of the one file and of its check, with the block that was read last and its offset; of
+/// several files how many failed. `Fault::Output`.
+pub fn run<R: Files + Clock + Eprint, O: Write>(
     progress: &Progress<'_, R>,
     alloc: Global,
     words: &ArgMatches<'_>,
     output: &mut O,
 ) -> Result<()> {
-    let summary = check::<H, R>(progress, alloc, words.get_str(FILE).unwrap_or(""))?;
+    let hash = hash_in(words);
+    let files = words.get_strs(FILE).unwrap_or(&[]);
+    let &[file] = files else {
+        return check_all(progress, alloc, files, hash, output);
+    };
+    let summary = check_file(progress, alloc, file, hash)?;
     let (blocks, entries) = (summary.blocks, summary.entries);
     writeln!(output, "ok {blocks} blocks {entries} entries")?;
     Ok(())

@@ -5,6 +5,7 @@ ghost use Rattle.sst_tool.specs.declared.fault.Fault.TheVariants.{Memory, Output
 
 use crate::hash::TableHash;
 use crate::place::TableBlock;
+use crate::probes::Claim;
 use sst_program::new_file::NotMade;
 use sstable_blocks::Error;
 use std::alloc::{AllocError, AllocFailed, Global};
@@ -47,9 +48,16 @@ pub enum Cause {
 /// An error of the library, displayed with checksums in hex, and with its cause where a call on a
 /// file failed.
 #[derive(Drop)]
-struct Shown {
+pub struct Shown {
     error: Error,
     cause: Cause,
+}
+
+impl Shown {
+    /// Displays an error with its cause.
+    pub fn new(error: Error, cause: Cause) -> Shown {
+        Shown { error, cause }
+    }
 }
 
 impl fmt::Display for Shown {
@@ -70,7 +78,8 @@ impl fmt::Display for Shown {
 }
 
 impl Fault {
-    /// Returns the fault of a word that is not a key: what follows `hex:` is not pairs of hex digits.
+    /// Returns the fault of a word that is not a key: what follows `hex:` is not pairs of hex
+    /// digits.
     pub fn of_key(alloc: Global, word: &str) -> Fault {
         Fault::with_text(format!(in alloc; "{word}: no pairs of hex digits after `hex:`"))
     }
@@ -154,6 +163,24 @@ impl Fault {
         };
         let error = Shown { error, cause };
         Fault::with_text(format!(in alloc; "{name}: {block} at offset {offset}: {error}"))
+    }
+
+    /// Returns the fault of several files of which some failed.
+    pub fn of_failed(alloc: Global, failed: usize, files: usize) -> Fault {
+        Fault::with_text(format!(in alloc; "{failed} of {files} files failed"))
+    }
+
+    /// Returns the fault of a table of which some blocks failed.
+    pub fn of_blocks(alloc: Global, name: &str, failed: usize, blocks: usize) -> Fault {
+        Fault::with_text(format!(in alloc; "{name}: {failed} of {blocks} blocks failed"))
+    }
+
+    /// Returns the fault of a filter at an offset that claims too many probes for so many entries.
+    pub fn of_filter(alloc: Global, name: &str, at: u64, claim: Claim, count: u64) -> Fault {
+        let Claim { probes, bits } = claim;
+        Fault::with_text(format!(in alloc;
+            "{name}: filter at offset {at}: {probes} probes a key, with {bits} bits for {count} entries"
+        ))
     }
 
     // The fault with a text, if there was memory for it.

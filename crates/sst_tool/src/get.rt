@@ -11,7 +11,7 @@ use crate::fault::Result;
 use crate::keys::key_in;
 use crate::open::open;
 use crate::progress::Progress;
-use crate::show::EntryText;
+use crate::show::{EntryForm, Formed, Style};
 use crate::words::{AT, FILE, KEY};
 use clap::ArgMatches;
 use sstable_blocks::{BlockHash, FrameSource, InternalValue, SeqNo, Steps, Table};
@@ -68,13 +68,19 @@ fn read<H: BlockHash, R: Files + Clock + Eprint>(
 // Prints a version, or `none`.
 fn print<O: Write>(output: &mut O, found: &Option<InternalValue>) -> io::Result<()> {
     match found {
-        Some(entry) => writeln!(output, "{}", EntryText(entry)),
+        Some(entry) => {
+            let form = EntryForm {
+                style: Style::Text,
+                has_value: true,
+            };
+            writeln!(output, "{}", Formed { entry, form })
+        }
         None => writeln!(output, "none"),
     }
 }
 
-/// Prints the newest version of a key, or `none`: with `--at` the newest with a sequence number below
-/// that.
+/// Prints the newest version of a key, or `none`: with `--at` the newest with a sequence number
+/// below that.
 ///
 /// # Errors
 ///

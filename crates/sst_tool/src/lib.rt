@@ -1,24 +1,31 @@
-//! The program `sstool` as a library: its words, and its commands, which show, check, scan and merge
-//! table files.
+//! The program `sstool` as a library: its words, and its commands, which show, check, scan and
+//! merge table files.
 #![tactic(auto)]
 
+mod blocks;
 mod check;
 mod fault;
 mod get;
 mod hash;
 mod keys;
+mod limited;
 mod lines;
 mod merge;
 mod merged;
 mod new_table;
+mod observed;
 mod open;
+mod ordered;
 mod place;
+mod probes;
 mod progress;
 mod scan;
+mod seen_back;
 mod show;
 mod source;
 mod stat;
 mod tidy;
+mod whole;
 mod words;
 
 use clap::ArgMatches;
@@ -30,8 +37,8 @@ use sstable_blocks::{BlockHash, Poly31, Xxh3};
 use std::alloc::Global;
 use std::io::Write;
 use std::rt::Clock;
-pub use words::{SCAN, command};
-use words::{CHECK, GET, MERGE, STAT};
+pub use words::{command, is_list};
+use words::{BLOCKS, CHECK, GET, INDEX, MERGE, SCAN, STAT};
 
 // Runs a command on tables of this hash function.
 fn run_on<H: BlockHash, R: LockFiles + Clock + Eprint, O: Write>(
@@ -46,7 +53,8 @@ fn run_on<H: BlockHash, R: LockFiles + Clock + Eprint, O: Write>(
         STAT => stat::run::<H, R, O>(progress, alloc, hash, words, output),
         GET => get::run::<H, R, O>(progress, alloc, words, output),
         SCAN => scan::run::<H, R, O>(progress, alloc, words, output),
-        CHECK => check::run::<H, R, O>(progress, alloc, words, output),
+        BLOCKS => blocks::run::<H, R, O>(progress, alloc, words, output),
+        INDEX => blocks::run_index::<H, R, O>(progress, alloc, words, output),
         MERGE => merge::run::<H, R, O>(progress, alloc, words, output),
         _ => Ok(()),
     }
@@ -65,6 +73,9 @@ pub fn run_command<R: LockFiles + Clock + Eprint, O: Write>(
     words: &ArgMatches<'_>,
     output: &mut O,
 ) -> Result<(), Fault> {
+    if name == CHECK {
+        return check::run::<R, O>(progress, alloc, words, output);
+    }
     let hash = hash_read(progress.rt(), alloc, name, words)?;
     match hash {
         TableHash::Poly31 => run_on::<Poly31, R, O>(progress, alloc, name, hash, words, output),

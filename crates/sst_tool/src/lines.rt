@@ -1,21 +1,21 @@
 //! Lines of entries.
-ghost use Rattle.std.specs.Prelude.{◌≡◌, ◌++◌, ◌∷◌, [], false, OnOk};
+ghost use Rattle.std.specs.Prelude.{◌≡◌, ◌++◌, ◌∷◌, [], None, OnOk};
 ghost use Rattle.std.specs.Io.KnownBytes.{Appends};
 ghost use Rattle.std.specs.Io.Buffered.{writer_contents};
 ghost use Rattle.sst_program.specs.Line.{entry_line_of};
 
 use crate::fault::{Fault, Result};
-use crate::show::EntryText;
+use crate::show::{EntryForm, Formed};
 use sst_program::entry_line;
 use sstable_blocks::InternalValue;
 use std::alloc::Global;
 use std::io::{BufWriter, Write};
 
-/// Where entries are printed, a line each: as text, or as the program `sst` reads them.
+/// Where entries are printed, a line each: in a form, or as the program `sst` reads them.
 #[derive(Drop)]
 pub struct Lines<O: Write + Drop> {
     output: BufWriter<O>,
-    is_text: bool,
+    form: Option<EntryForm>,
 }
 
 impl<O: Write + Drop> Lines<O> {
@@ -24,9 +24,9 @@ impl<O: Write + Drop> Lines<O> {
     /// # Errors
     ///
     /// `Fault::Memory` if an allocation fails.
-    pub fn new(alloc: Global, output: O, is_text: bool) -> Result<Lines<O>> {
+    pub fn new(alloc: Global, output: O, form: Option<EntryForm>) -> Result<Lines<O>> {
         match BufWriter::new(alloc, output) {
-            Ok(output) => Ok(Lines { output, is_text }),
+            Ok(output) => Ok(Lines { output, form }),
             Err(_) => Err(Fault::Memory),
         }
     }
@@ -37,13 +37,13 @@ impl<O: Write + Drop> Lines<O> {
     ///
     /// `Fault::Output`, and `Fault::Memory` if an allocation fails.
     pub fn print(&mut self, alloc: Global, entry: &InternalValue) -> Result<()>
-        ensures line { OnOk result (self.old.is_text ≡ false
+        ensures line { OnOk result (self.old.form ≡ None
             → Appends (writer_contents O.contents self.old.output)
             (writer_contents O.contents self.new.output) (entry_line_of entry.now ++ 10 ∷ [])) }
-        ensures same { self.new.is_text ≡ self.old.is_text }
+        ensures same { self.new.form ≡ self.old.form }
     {
-        if self.is_text {
-            writeln!(self.output, "{}", EntryText(entry))?;
+        if let Some(form) = self.form {
+            writeln!(self.output, "{}", Formed { entry, form })?;
             return Ok(());
         }
         let mut line = match entry_line(alloc, entry) {
@@ -53,18 +53,6 @@ impl<O: Write + Drop> Lines<O> {
         line.push_str("\n")?;
         self.output.write_all(line.as_bytes())?;
         Ok(())
-    }
-
-    /// Prints an entry, if there is one that is not a tombstone.
-    ///
-    /// # Errors
-    ///
-    /// Those of [`Lines::print`].
-    pub fn print_value(&mut self, alloc: Global, entry: &Option<InternalValue>) -> Result<()> {
-        match entry {
-            Some(entry) if !entry.is_tombstone() => self.print(alloc, entry),
-            _ => Ok(()),
-        }
     }
 
     /// Passes on all that was printed.

@@ -1,10 +1,12 @@
 //! `merge`: several tables as one.
+ghost use Rattle.sstable_blocks.specs.Run.{IsWritable};
+
 use crate::fault::{Fault, Result};
 use crate::hash::{TableHash, hash_in};
 use crate::merged::{Notes, Written, heads_of};
 use crate::new_table::NewTable;
 use crate::progress::Progress;
-use crate::words::{BOTTOM, FILE, FORCE, LATEST, OUT, SNAPSHOT};
+use crate::words::{BITS, BLOCK, BOTTOM, FILE, FORCE, INTERVAL, LATEST, OUT, SNAPSHOT};
 use clap::ArgMatches;
 use sst_merge::{Compact, Head, Merge, Sizes, Source, write_tables};
 use sst_program::new_file::{LockFiles, NewFile};
@@ -15,18 +17,41 @@ use std::fs::OpenFile;
 use std::io::Write;
 use std::rt::{Clock, Files};
 
-// How a merged table is written: restart intervals of 16, no hash index, 10 filter bits a key.
-const INTERVAL: u8 = 16;
+// How a merged table is written unless words say otherwise: restart intervals of 16, 10 filter bits
+// a key, and blocks that end at 4 KiB of keys and values.
+const DEFAULT_INTERVAL: u8 = 16;
 
+const DEFAULT_BITS: u32 = 10;
+
+const DEFAULT_BLOCK: u64 = 4096;
+
+// There is no hash index.
 const NO_BUCKETS: HashRatio = HashRatio { num: 0, den: 1 };
 
-const FILTER_BITS: u32 = 10;
+// How a table is written.
+#[derive(Clone, Copy)]
+struct TableForm {
+    config: RunConfig,
+    sizes: Sizes,
+}
 
-// The length of keys and values at which a block ends. A table never ends before all is written.
-const SIZES: Sizes = Sizes {
-    block: 4096,
-    table: usize::MAX,
-};
+impl TableForm {
+    // The form that the words name. A table never ends before all is written.
+    fn of_words(words: &ArgMatches<'_>) -> TableForm
+        ensures { IsWritable result.config }
+    {
+        let interval = words.get_one::<u8>(INTERVAL).unwrap_or(DEFAULT_INTERVAL);
+        let bits = words.get_one::<u32>(BITS).unwrap_or(DEFAULT_BITS);
+        let block = words.get_one::<u64>(BLOCK).unwrap_or(DEFAULT_BLOCK);
+        TableForm {
+            config: RunConfig::new(interval.max(1), NO_BUCKETS, bits),
+            sizes: Sizes {
+                block: block as usize,
+                table: usize::MAX,
+            },
+        }
+    }
+}
 
 // The least sequence number that is read at after the merge: all versions stay where it is 0.
 fn snapshot_in(words: &ArgMatches<'_>) -> SeqNo {
@@ -42,10 +67,12 @@ fn write_source<H: BlockHash, F: Write + OpenFile + Drop, I: Source<InternalValu
     alloc: Global,
     source: I,
     mut table: NewTable<'_, F>,
-) -> sstable_blocks::Result<bool> {
+    form: TableForm,
+) -> sstable_blocks::Result<bool>
+    requires { IsWritable form.config }
+{
     let mut head = Head::new(alloc, source)?;
-    let config = RunConfig::new(INTERVAL, NO_BUCKETS, FILTER_BITS);
-    write_tables::<H, I, _>(alloc, &mut head, &mut table, config, SIZES)?;
+    write_tables::<H, I, _>(alloc, &mut head, &mut table, form.config, form.sizes)?;
     table.finish()
 }
 
@@ -63,7 +90,8 @@ fn write_merged<H: BlockHash, F: Write + OpenFile + Drop, I: Source<InternalValu
         words.get_flag(BOTTOM),
     );
     let table = NewTable::new(alloc, file, &notes.cause);
-    write_source::<H, F, _>(alloc, Written::new(staying, notes), table)
+    let form = TableForm::of_words(words);
+    write_source::<H, F, _>(alloc, Written::new(staying, notes), table, form)
 }
 
 // Merges tables that were opened, and writes what stays of them into a file that was made.
@@ -160,7 +188,8 @@ fn merge_into<'p, H: BlockHash, N: BlockHash, R: LockFiles + Clock + Eprint>(
 /// Merges tables, the newest first, into one, which is put under its name when it is whole. With
 /// `--snapshot` only versions stay that a read at that sequence number or above sees, with
 /// `--latest` of each key the newest; with `--bottom` no tombstones of these; with `--hash` the new
-/// table has this hash function.
+/// table has this hash function; `--block`, `--interval` and `--bits` say how it is cut and
+/// encoded.
 ///
 /// # Errors
 ///

@@ -1,10 +1,11 @@
 //! The tables that are merged, as sources of entries.
 use crate::fault::{Cause, Result};
-use crate::open::{CountedFile, open};
+use crate::open::{CountedFile, open, test_frames};
+use crate::ordered::{Direction, Ordered};
 use crate::progress::Progress;
 use crate::source::Scanned;
 use sst_merge::{Head, Source};
-use sstable_blocks::{BlockHash, FileSource, FrameSource, InternalValue};
+use sstable_blocks::{BlockHash, FileSource, FrameSource, InternalValue, Table};
 use std::alloc::Global;
 use std::cell::Cell;
 use std::io;
@@ -50,30 +51,23 @@ fn count(counter: &Cell<u64>) {
     counter.set(counter.get().saturating_add(1));
 }
 
-/// A table that is merged. It counts the entries that are read of it, and notes its index where a
-/// read fails.
+/// The entries of a table that is merged. It counts those that are read, and notes its index where
+/// a read fails.
 #[derive(Drop)]
-pub struct Merged<'n, H: BlockHash, S: FrameSource> {
-    scan: Scanned<'static, H, S>,
+pub struct Merged<'n, I> {
+    source: I,
     index: usize,
     notes: &'n Notes,
     // where the block is that was read last: of this table, if it was read in this step
     place: &'n Cell<Option<u64>>,
 }
 
-impl<'n, H: BlockHash, S: FrameSource> Source<InternalValue> for Merged<'n, H, S> {
-    ghost use Rattle.std.specs.Prelude.{None};
-    ghost use Rattle.sstable_blocks.specs.Scans.{most_left};
-
-    ghost left = { λ s. record {
-      list = None;
-      most = most_left s.scan.scan;
-      ended = s.scan.scan.ended;
-    } };
+impl<'n, I: Source<InternalValue>> Source<InternalValue> for Merged<'n, I> {
+    ghost left = { λ s. I.left s.source };
 
     fn next_entry(&mut self, alloc: Global) -> sstable_blocks::Result<Option<InternalValue>> {
         self.place.set(None);
-        let entry = self.scan.next_entry(alloc);
+        let entry = self.source.next_entry(alloc);
         match &entry {
             Ok(Some(_)) => count(&self.notes.read),
             Ok(None) => (),
@@ -109,20 +103,35 @@ impl<'n, I: Source<InternalValue>> Source<InternalValue> for Written<'n, I> {
     }
 }
 
-/// A table of a file that is merged, with its first entry.
-pub type FileHead<'p, H, R> = Head<InternalValue, Merged<'p, H, FileSource<CountedFile<'p, R>>>>;
+/// The entries of a table, in order.
+type InOrder<'k, H, S> = Ordered<Scanned<'k, H, S>>;
 
-// Opens a table file, which has this index, and reads its first entry.
-fn head_of<'p, H: BlockHash, R: Files + Clock + Eprint>(
+/// A table of a file that is merged, with its first entry.
+pub type FileHead<'p, H, R> = Head<
+    InternalValue,
+    Merged<'p, InOrder<'static, H, FileSource<CountedFile<'p, R>>>>,
+>;
+
+// The entries of a table from the first on.
+fn entries_of<'k, H: BlockHash, S: FrameSource>(table: Table<H, S>) -> InOrder<'k, H, S> {
+    let scan = table.scan_range(Bound::Unbounded, Bound::Unbounded);
+    Ordered::new(Scanned::new(scan, Direction::Forward), Direction::Forward)
+}
+
+// Reads the first entry of a table, which has this index.
+fn head_of<'p, 'k, H: BlockHash, S: FrameSource + Drop, R>(
     progress: &'p Progress<'p, R>,
     alloc: Global,
     file: &str,
     index: usize,
+    table: Result<Table<H, S>>,
     notes: &'p Notes,
-) -> Result<FileHead<'p, H, R>> {
-    let table = open::<H, R>(progress, alloc, file)?;
+) -> Result<Head<InternalValue, Merged<'p, InOrder<'k, H, S>>>> {
+    let table = table?;
+    test_frames(alloc, file, table.index())?;
+    progress.expect_blocks(table.index().len() as u64);
     let merged = Merged {
-        scan: Scanned::new(table.scan_range(Bound::Unbounded, Bound::Unbounded)),
+        source: entries_of(table),
         index,
         notes,
         place: progress.place(),
@@ -152,9 +161,10 @@ pub fn heads_of<'p, H: BlockHash, R: Files + Clock + Eprint>(
 ) -> Result<Vec<FileHead<'p, H, R>>> {
     let mut heads = Vec::new(alloc);
     for (index, file) in files.iter().enumerate() {
+        let table = open::<H, R>(progress, alloc, file);
         push_made(
             &mut heads,
-            head_of::<H, R>(progress, alloc, file, index, notes),
+            head_of(progress, alloc, file, index, table, notes),
         )?;
     }
     Ok(heads)

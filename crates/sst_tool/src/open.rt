@@ -2,10 +2,12 @@
 use crate::fault::{Cause, Fault, Result};
 use crate::place::{TableBlock, footer_block_at};
 use crate::progress::Progress;
+use crate::tidy::first_astray;
 use sst_program::table::TableFile;
 use sstable_blocks::run::footer::read_footer;
 use sstable_blocks::{
-    BlockHash, FileSource, Input, OpenError, SeekInput, SizedSource, Table, append_exact,
+    BlockHash, Error, FileSource, IndexBlock, Input, OpenError, SeekInput, SizedSource, Steps,
+    Table, append_exact,
 };
 use std::alloc::Global;
 use std::io::{Read, Seek, SeekFrom};
@@ -21,7 +23,11 @@ pub struct CountedFile<'p, R: Files> {
 
 impl<'p, R: Files> Read for CountedFile<'p, R> {
     fn read(&mut self, buf: &mut [u8]) -> io::Result<usize> {
-        self.progress.noted(self.file.read(buf))
+        let read = self.progress.noted(self.file.read(buf));
+        if let Ok(len) = read {
+            self.progress.count_bytes(len);
+        }
+        read
     }
 }
 
@@ -100,8 +106,12 @@ fn opened_or_fault<H: BlockHash, S: SizedSource + Drop>(
     }
 }
 
-// Opens a file.
-fn source_of<'p, R: Files + Clock + Eprint>(
+/// Opens a file, to read the blocks of its table.
+///
+/// # Errors
+///
+/// The cause that the system gives, with the file's name.
+pub fn source_of<'p, R: Files + Clock + Eprint>(
     progress: &'p Progress<'p, R>,
     alloc: Global,
     name: &str,
@@ -129,4 +139,19 @@ pub fn open<'p, H: BlockHash, R: Files + Clock + Eprint>(
     let source = source_of(progress, alloc, name)?;
     let opened = FileTable::<'p, H, R>::open_file(alloc, source);
     opened_or_fault(alloc, name, opened, progress.offset(), progress.cause())
+}
+
+/// Tests by the index of a table that the frames of its blocks follow each other, as those do that
+/// are read in order.
+///
+/// # Errors
+///
+/// An error with the file's name and the block that does not begin where the one before it ends.
+pub fn test_frames(alloc: Global, name: &str, index: &IndexBlock) -> Result<()> {
+    let Some(number) = first_astray(index) else {
+        return Ok(());
+    };
+    let offset = *index.handle_at(number, &mut Steps::new()).offset();
+    let block = Some(TableBlock::Data(number));
+    Err(Fault::of_block(alloc, name, block, offset, Error::BadHandle, Cause::Unknown))
 }

@@ -14,8 +14,9 @@ const FIRST_MILLIS: u64 = 1000;
 // How long the progress stays as it was shown, in milliseconds.
 const NEXT_MILLIS: u64 = 250;
 
-/// What a command has read: the number of blocks, the offset of the last one, and why it was not
-/// read. The number is shown on one line of standard error, for a command of more than a second.
+/// What a command has read: the number of blocks, of how many, the offset of the last one, and why
+/// it was not read. The numbers are shown on one line of standard error, for a command of more than
+/// a second.
 #[derive(Drop)]
 pub struct Progress<'r, R> {
     rt: &'r R,
@@ -23,9 +24,15 @@ pub struct Progress<'r, R> {
     since: Cell<Option<Instant>>,
     is_shown: Cell<bool>,
     blocks: Cell<u64>,
+    // how many blocks there are to read, of the files whose number of blocks is known
+    total: Cell<u64>,
+    // whether that of this file is known
+    is_counted: Cell<bool>,
     offset: Cell<Option<u64>>,
     cause: Cell<Option<io::Error>>,
     file_len: Cell<u64>,
+    // how many bytes of the last block were read
+    read_len: Cell<u64>,
 }
 
 impl<'r, R> Progress<'r, R> {
@@ -38,6 +45,13 @@ impl<'r, R> Progress<'r, R> {
     pub fn begin_file(&self) {
         self.offset.set(None);
         self.cause.set(None);
+        self.is_counted.set(false);
+    }
+
+    /// Notes how many blocks of this file are to be read from now on.
+    pub fn expect_blocks(&self, count: u64) {
+        self.total.set(self.total.get().saturating_add(count));
+        self.is_counted.set(true);
     }
 
     /// Notes why a call failed, if it did.
@@ -63,6 +77,20 @@ impl<'r, R> Progress<'r, R> {
     /// Returns the offset of the file's block that was read last, if one was.
     pub fn offset(&self) -> Option<u64> {
         self.offset.get()
+    }
+
+    /// Counts bytes of the block that is read.
+    pub fn count_bytes(&self, len: usize) {
+        self.read_len
+            .set(self.read_len.get().saturating_add(len as u64));
+    }
+
+    /// Returns the offset after the block that was read last.
+    pub fn block_end(&self) -> u64 {
+        self.offset
+            .get()
+            .unwrap_or(0)
+            .saturating_add(self.read_len.get())
     }
 
     /// Returns where that offset is kept.
@@ -98,21 +126,32 @@ impl<'r, R: Clock + Eprint> Progress<'r, R> {
             since: Cell::new(since),
             is_shown: Cell::new(false),
             blocks: Cell::new(0),
+            total: Cell::new(0),
+            is_counted: Cell::new(false),
             offset: Cell::new(None),
             cause: Cell::new(None),
             file_len: Cell::new(0),
+            read_len: Cell::new(0),
         }
     }
 
     /// Counts a block at this offset, and shows the number if it is time to.
     pub fn count_block(&self, offset: u64) {
-        let blocks = self.blocks.get().saturating_add(1);
-        self.blocks.set(blocks);
         self.offset.set(Some(offset));
         self.cause.set(None);
+        self.read_len.set(0);
+        if self.is_counted.get() {
+            self.blocks.set(self.blocks.get().saturating_add(1));
+            self.show();
+        }
+    }
+
+    // Shows the numbers if it is time to.
+    fn show(&self) {
         if self.is_due() {
             self.is_shown.set(true);
-            let _ = eprint!(self.rt; "\r{blocks} blocks read");
+            let (blocks, total) = (self.blocks.get(), self.total.get());
+            let _ = eprint!(self.rt; "\r{blocks} of {total} blocks read");
         }
     }
 

@@ -1,20 +1,23 @@
 //! `scan`: the entries of a table in a range of keys.
-ghost use Rattle.std.specs.Prelude.{◌≡◌, false, IfOk, IfSome, OnOk};
+ghost use Rattle.std.specs.Prelude.{◌≡◌, None, IfSome, OnOk};
 ghost use Rattle.std.specs.Io.KnownBytes.{Appends};
 ghost use Rattle.std.specs.Io.Buffered.{writer_contents};
 ghost use Rattle.sst_program.specs.Outcome.{lines_text_of};
-ghost use Rattle.sst_tool.specs.Back.{is_same_key, newest_below};
 
 use crate::fault::{Fault, Result};
-use crate::keys::key_in;
+use crate::keys::{key_in, prefix_end};
+use crate::limited::Limited;
 use crate::lines::Lines;
-use crate::open::open;
+use crate::open::{open, test_frames};
+use crate::ordered::{Direction, Ordered};
 use crate::progress::Progress;
+use crate::seen_back::SeenBack;
+use crate::show::{EntryForm, Style};
 use crate::source::Scanned;
-use crate::words::{AT, FILE, FROM, REVERSE, TEXT, TO};
+use crate::words::{AT, FILE, FROM, JSON, KEYS_ONLY, LIMIT, PREFIX, REVERSE, TEXT, TO};
 use clap::ArgMatches;
-use sst_merge::{Snapshot, Source, Version};
-use sstable_blocks::{BlockHash, Error, FrameSource, InternalValue, SeqNo, Table};
+use sst_merge::{Snapshot, Source};
+use sstable_blocks::{BlockHash, Error, FrameSource, InternalValue, Table};
 use std::alloc::Global;
 use std::io::Write;
 use std::ops::Bound;
@@ -47,7 +50,7 @@ fn print_all<I: Source<InternalValue>, O: Write + Drop>(
     source: &mut I,
     lines: &mut Lines<O>,
 ) -> std::result::Result<(), Stop>
-    ensures printed { OnOk result (lines.old.is_text ≡ false
+    ensures printed { OnOk result (lines.old.form ≡ None
         → IfSome (I.left source.old).list (λ items.
         Appends (writer_contents O.contents lines.old.output)
         (writer_contents O.contents lines.new.output) (lines_text_of items))) }
@@ -58,63 +61,15 @@ fn print_all<I: Source<InternalValue>, O: Write + Drop>(
     Ok(())
 }
 
-// Whether an entry is a version of the key of the one kept, if one is.
-fn is_same_key(kept: &Option<InternalValue>, entry: &InternalValue) -> bool
-    ensures { result ≡ is_same_key kept.now entry.now }
-{
-    match kept {
-        Some(kept) => entry.has_user_key(kept.key().user_key().as_slice()),
-        None => true,
-    }
-}
-
-// Passes an entry of a scan from the back: returns the newest version so far of its key below a
-// sequence number. Prints that of the key before, if this is another key.
-fn pass_back<O: Write + Drop>(
+// Prints the entries of a source, as many as the words say at most.
+fn print_limited<I: Source<InternalValue> + Drop, O: Write + Drop>(
     alloc: Global,
-    at: SeqNo,
-    newest: Option<InternalValue>,
-    entry: InternalValue,
-    lines: &mut Lines<O>,
-) -> Result<Option<InternalValue>>
-    ensures { IfOk result (λ r. r ≡ newest_below at newest entry) }
-{
-    let is_same_key = is_same_key(&newest, &entry);
-    if !is_same_key {
-        lines.print_value(alloc, &newest)?;
-    }
-    if entry.key().seqno() < at {
-        Ok(Some(entry))
-    } else if is_same_key {
-        Ok(newest)
-    } else {
-        Ok(None)
-    }
-}
-
-// Prints what a read below a sequence number sees of a source from the back, where the versions of
-// a key come from the oldest to the newest.
-fn print_seen_back<I: Source<InternalValue>, O: Write + Drop>(
-    alloc: Global,
-    at: SeqNo,
-    source: &mut I,
-    lines: &mut Lines<O>,
-) -> std::result::Result<(), Stop> {
-    let mut newest: Option<InternalValue> = None;
-    while let Some(entry) = source.next_entry(alloc)? {
-        newest = pass_back(alloc, at, newest, entry, lines)?;
-    }
-    Ok(lines.print_value(alloc, &newest)?)
-}
-
-// Prints what a read below a sequence number sees of a source.
-fn print_seen<I: Source<InternalValue> + Drop, O: Write + Drop>(
-    alloc: Global,
-    at: SeqNo,
+    words: &ArgMatches<'_>,
     source: I,
     lines: &mut Lines<O>,
 ) -> std::result::Result<(), Stop> {
-    print_all(alloc, &mut Snapshot::new(source, at), lines)
+    let count = words.get_one::<u64>(LIMIT).unwrap_or(u64::MAX);
+    print_all(alloc, &mut Limited::new(source, count), lines)
 }
 
 // Prints what is left of a scan, as the words say.
@@ -124,11 +79,12 @@ fn print_scanned<I: Source<InternalValue> + Drop, O: Write + Drop>(
     source: I,
     lines: &mut Lines<O>,
 ) -> std::result::Result<(), Stop> {
-    let mut source = source;
     match words.get_one::<u64>(AT) {
-        None => print_all(alloc, &mut source, lines),
-        Some(at) if words.get_flag(REVERSE) => print_seen_back(alloc, at, &mut source, lines),
-        Some(at) => print_seen(alloc, at, source, lines),
+        None => print_limited(alloc, words, source, lines),
+        Some(at) if words.get_flag(REVERSE) => {
+            print_limited(alloc, words, SeenBack::new(source, at), lines)
+        }
+        Some(at) => print_limited(alloc, words, Snapshot::new(source, at), lines),
     }
 }
 
@@ -148,6 +104,20 @@ struct Range {
 }
 
 impl Range {
+    // The range that the words name.
+    fn of_words(alloc: Global, words: &ArgMatches<'_>) -> Result<Range> {
+        match key_of(alloc, words, PREFIX)? {
+            Some(prefix) => Ok(Range {
+                to: prefix_end(alloc, prefix.as_slice())?,
+                from: Some(prefix),
+            }),
+            None => Ok(Range {
+                from: key_of(alloc, words, FROM)?,
+                to: key_of(alloc, words, TO)?,
+            }),
+        }
+    }
+
     // The first key.
     fn from(&self) -> Bound<&[u8]> {
         match &self.from {
@@ -165,11 +135,36 @@ impl Range {
     }
 }
 
+// How entries are printed.
+fn form_of(words: &ArgMatches<'_>) -> Option<EntryForm> {
+    let style = if words.get_flag(JSON) {
+        Style::Json
+    } else if words.get_flag(TEXT) {
+        Style::Text
+    } else {
+        Style::Hex
+    };
+    let has_value = !words.get_flag(KEYS_ONLY);
+    if style == Style::Hex && has_value {
+        return None;
+    }
+    Some(EntryForm { style, has_value })
+}
+
 // The fault of a scan that did not come to its end.
 fn fault_of<R>(progress: &Progress<'_, R>, alloc: Global, file: &str, stop: Stop) -> Fault {
     match stop {
         Stop::Print(fault) => fault,
         Stop::Read(error) => progress.fault(alloc, file, error),
+    }
+}
+
+// The order in which entries are printed.
+fn direction_of(words: &ArgMatches<'_>) -> Direction {
+    if words.get_flag(REVERSE) {
+        Direction::Backward
+    } else {
+        Direction::Forward
     }
 }
 
@@ -182,11 +177,15 @@ fn print_range_in<H: BlockHash, S: FrameSource + Drop, R, O: Write + Drop>(
     range: &Range,
     lines: &mut Lines<O>,
 ) -> Result<()> {
+    let file = words.get_str(FILE).unwrap_or("");
+    test_frames(alloc, file, table.index())?;
+    progress.expect_blocks(table.index().len() as u64);
+    let direction = direction_of(words);
     let scan = table.scan_range(range.from(), range.to());
-    let source = Scanned::reversed(scan, words.get_flag(REVERSE));
+    let source = Ordered::new(Scanned::new(scan, direction), direction);
     match print_scanned(alloc, words, source, lines) {
         Ok(()) => Ok(()),
-        Err(stop) => Err(fault_of(progress, alloc, words.get_str(FILE).unwrap_or(""), stop)),
+        Err(stop) => Err(fault_of(progress, alloc, file, stop)),
     }
 }
 
@@ -202,24 +201,23 @@ fn print_range<H: BlockHash, R: Files + Clock + Eprint, O: Write + Drop>(
     print_range_in(progress, alloc, words, table, range, lines)
 }
 
-/// Prints the entries of a table from the key of `--from` up to that of `--to`, without it; with
-/// `--at` only what a read at this sequence number sees.
+/// Prints the entries of a table from the key of `--from` up to that of `--to`, without it, or of
+/// the keys that begin with `--prefix`; with `--at` only what a read at this sequence number sees;
+/// with `--limit` no more than so many.
 ///
 /// # Errors
 ///
 /// An error for a word that is not a key, those of the file and of the blocks that are reached, and
-/// `Fault::Output`. The entries before a block that is refused are printed.
+/// `Fault::Output`, and one for an entry that does not follow the one before it. The entries before
+/// a block that is refused are printed.
 pub fn run<H: BlockHash, R: Files + Clock + Eprint, O: Write>(
     progress: &Progress<'_, R>,
     alloc: Global,
     words: &ArgMatches<'_>,
     output: &mut O,
 ) -> Result<()> {
-    let range = Range {
-        from: key_of(alloc, words, FROM)?,
-        to: key_of(alloc, words, TO)?,
-    };
-    let mut lines = Lines::new(alloc, &mut *output, words.get_flag(TEXT))?;
+    let range = Range::of_words(alloc, words)?;
+    let mut lines = Lines::new(alloc, &mut *output, form_of(words))?;
     let printed = print_range::<H, R, _>(progress, alloc, words, &range, &mut lines);
     lines.flush()?;
     printed

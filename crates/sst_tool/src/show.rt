@@ -12,9 +12,34 @@ pub struct Shown<'a>(pub &'a [u8]);
 #[derive(Drop)]
 pub struct Hex<'a>(pub &'a [u8]);
 
-/// An entry as people read it: the letter of its type, the sequence number, key and value.
+/// How the byte strings of an entry are written.
+#[derive(Clone, Copy, PartialEq, Eq)]
+pub enum Style {
+    /// In hex.
+    Hex,
+    /// As people read them.
+    Text,
+    /// In hex, as members of a line of JSON.
+    Json,
+}
+
+/// How an entry is written.
+#[derive(Clone, Copy, PartialEq, Eq)]
+pub struct EntryForm {
+    /// How its byte strings are.
+    pub style: Style,
+    /// Whether its value is.
+    pub has_value: bool,
+}
+
+/// An entry in a form: the letter of its type, the sequence number, key and value.
 #[derive(Drop)]
-pub struct EntryText<'a>(pub &'a InternalValue);
+pub struct Formed<'a> {
+    /// The entry.
+    pub entry: &'a InternalValue,
+    /// The form.
+    pub form: EntryForm,
+}
 
 // Whether bytes can be shown as they are.
 fn is_plain(bytes: &[u8]) -> bool {
@@ -51,13 +76,45 @@ impl<'a> fmt::Display for Hex<'a> {
     }
 }
 
-impl<'a> fmt::Display for EntryText<'a> {
+// Writes a byte string of an entry, after a space.
+fn write_part<W: fmt::Write>(f: &mut fmt::Formatter<W>, style: Style, bytes: &[u8]) -> fmt::Result {
+    match style {
+        Style::Text => write!(f, " {}", Shown(bytes)),
+        _ => write!(f, " {}", Hex(bytes)),
+    }
+}
+
+// Writes an entry as a line of JSON.
+fn write_json<W: fmt::Write>(
+    f: &mut fmt::Formatter<W>,
+    entry: &InternalValue,
+    has_value: bool,
+) -> fmt::Result {
+    let key = entry.key();
+    let (letter, seqno) = (letter_of(key.value_type()), key.seqno());
+    let user_key = Hex(key.user_key().as_slice());
+    write!(
+        f,
+        "{{\"type\":\"{letter}\",\"seqno\":{seqno},\"key\":\"{user_key}\""
+    )?;
+    if has_value {
+        write!(f, ",\"value\":\"{}\"", Hex(entry.value().as_slice()))?;
+    }
+    f.write_str("}")
+}
+
+impl<'a> fmt::Display for Formed<'a> {
     fn fmt<W: fmt::Write>(&self, f: &mut fmt::Formatter<W>) -> fmt::Result {
-        let key = self.0.key();
-        let letter = letter_of(key.value_type());
-        let seqno = key.seqno();
-        let user_key = Shown(key.user_key().as_slice());
-        let value = Shown(self.0.value().as_slice());
-        write!(f, "{letter} {seqno} {user_key} {value}")
+        let EntryForm { style, has_value } = self.form;
+        if style == Style::Json {
+            return write_json(f, self.entry, has_value);
+        }
+        let key = self.entry.key();
+        write!(f, "{} {}", letter_of(key.value_type()), key.seqno())?;
+        write_part(f, style, key.user_key().as_slice())?;
+        if has_value {
+            write_part(f, style, self.entry.value().as_slice())?;
+        }
+        Ok(())
     }
 }

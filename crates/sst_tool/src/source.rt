@@ -2,6 +2,7 @@
 ghost use Rattle.std.specs.Prelude.{None};
 ghost use Rattle.sstable_blocks.specs.Scans.{most_left};
 
+use crate::ordered::Direction;
 use sst_merge::Source;
 use sstable_blocks::{BlockHash, FrameSource, InternalValue, Result, Scan};
 use std::alloc::Global;
@@ -9,22 +10,14 @@ use std::alloc::Global;
 /// What is left of a scan, from one of its ends.
 #[derive(Drop)]
 pub struct Scanned<'k, H: BlockHash, S: FrameSource> {
-    pub(crate) scan: Scan<'k, H, S>,
-    is_reverse: bool,
+    scan: Scan<'k, H, S>,
+    direction: Direction,
 }
 
 impl<'k, H: BlockHash, S: FrameSource> Scanned<'k, H, S> {
-    /// Takes the entries from the first on.
-    pub fn new(scan: Scan<'k, H, S>) -> Scanned<'k, H, S> {
-        Scanned {
-            scan,
-            is_reverse: false,
-        }
-    }
-
-    /// Takes the entries from the last on, if this is true.
-    pub fn reversed(scan: Scan<'k, H, S>, is_reverse: bool) -> Scanned<'k, H, S> {
-        Scanned { scan, is_reverse }
+    /// Takes the entries in this direction.
+    pub fn new(scan: Scan<'k, H, S>, direction: Direction) -> Scanned<'k, H, S> {
+        Scanned { scan, direction }
     }
 }
 
@@ -32,10 +25,9 @@ impl<'k, H: BlockHash, S: FrameSource> Source<InternalValue> for Scanned<'k, H, 
     ghost left = { λ s. record { list = None; most = most_left s.scan; ended = s.scan.ended } };
 
     fn next_entry(&mut self, alloc: Global) -> Result<Option<InternalValue>> {
-        if self.is_reverse {
-            self.scan.next_entry_back(alloc)
-        } else {
-            self.scan.next_entry(alloc)
+        match self.direction {
+            Direction::Forward => self.scan.next_entry(alloc),
+            Direction::Backward => self.scan.next_entry_back(alloc),
         }
     }
 }

@@ -1,139 +1,36 @@
 //! `stat`: what a table holds.
 use crate::fault::{Fault, Result};
 use crate::hash::TableHash;
-use crate::open::open;
+use crate::observed::{Bits, Observed, Seen};
+use crate::open::source_of;
 use crate::progress::Progress;
 use crate::show::{Hex, Shown};
 use crate::tidy::Gaps;
+use crate::whole::{check_whole, handles_of};
 use crate::words::{FILE, JSON};
 use clap::ArgMatches;
-use sst_block_core::table::block::trailer::{TRAILER_SIZE, Trailer};
-use sstable_blocks::filter::standard_bloom::StandardBloomFilterReader;
 use sstable_blocks::run::footer::FOOTER_LEN;
-use sstable_blocks::{
-    Block, BlockHandle, BlockHash, Error, FilterBlock, FrameSource, RunSummary, Table,
-};
+use sstable_blocks::{BlockHash, FrameSource, RunHandles, RunSummary, SizedSource};
 use std::alloc::Global;
 use std::io;
 use std::io::Write;
 use std::rt::{Clock, Files};
-
-/// What the payloads of the data blocks have.
-#[derive(Clone, Copy)]
-struct Blocks {
-    /// The least restart interval.
-    least_interval: u8,
-    /// The greatest.
-    greatest_interval: u8,
-    /// The number of buckets of all hash indexes.
-    buckets: u64,
-    /// The length of the longest payload, in bytes.
-    longest: u32,
-}
-
-/// What a filter has.
-#[derive(Clone, Copy)]
-struct Bits {
-    /// The number of bits.
-    bits: u64,
-    /// How many of them are set.
-    set: u64,
-    /// The number of probes of a key.
-    probes: u64,
-}
 
 /// What a table has.
 #[derive(Drop)]
 struct Stat {
     hash: TableHash,
     summary: RunSummary,
-    blocks: Blocks,
-    index_interval: u8,
-    bits: Option<Bits>,
-    index: BlockHandle,
-    filter: Option<BlockHandle>,
+    seen: Seen,
+    handles: RunHandles,
     file_len: u64,
     gaps: Gaps,
-}
-
-// What a filter has.
-fn bits_of(filter: &FilterBlock) -> std::result::Result<Bits, Error> {
-    let reader = StandardBloomFilterReader::new(filter.as_slice().as_slice())?;
-    let mut set = 0u64;
-    for byte in reader.bits().iter() {
-        set = set.saturating_add(u64::from(byte.count_ones()));
-    }
-    Ok(Bits {
-        bits: (reader.len() as u64).saturating_mul(8),
-        set,
-        probes: reader.probe_count(),
-    })
-}
-
-// The restart interval of a block, by its trailer, which each block that was checked has.
-fn interval_of(block: &Block) -> u8 {
-    let payload = block.data().as_slice();
-    if payload.len() < TRAILER_SIZE {
-        return 0;
-    }
-    Trailer::new(payload).interval()
-}
-
-// What the data blocks of a table have.
-fn blocks_of<H: BlockHash, S: FrameSource>(
-    alloc: Global,
-    table: &mut Table<H, S>,
-) -> std::result::Result<Blocks, Error> {
-    let mut blocks = Blocks {
-        least_interval: u8::MAX,
-        greatest_interval: 0,
-        buckets: 0,
-        longest: 0,
-    };
-    let mut index = 0usize;
-    while index < table.index().len() {
-        let block = table.block_at(alloc, index)?;
-        let interval = interval_of(block.inner());
-        let buckets = block.hash_bucket_count().unwrap_or(0) as u64;
-        blocks.least_interval = blocks.least_interval.min(interval);
-        blocks.greatest_interval = blocks.greatest_interval.max(interval);
-        blocks.buckets = blocks.buckets.saturating_add(buckets);
-        blocks.longest = blocks.longest.max(block.inner().size());
-        index += 1;
-    }
-    Ok(blocks)
-}
-
-// What a table has. It is checked whole.
-fn stat_of<H: BlockHash, S: FrameSource>(
-    alloc: Global,
-    hash: TableHash,
-    table: &mut Table<H, S>,
-    file_len: u64,
-) -> std::result::Result<Stat, Error> {
-    let summary = table.verify(alloc)?;
-    let blocks = blocks_of(alloc, table)?;
-    let bits = match table.filter() {
-        Some(filter) => Some(bits_of(filter)?),
-        None => None,
-    };
-    Ok(Stat {
-        hash,
-        summary,
-        blocks,
-        index_interval: interval_of(table.index().inner()),
-        bits,
-        index: table.handles().index,
-        filter: table.handles().filter,
-        file_len,
-        gaps: Gaps::new(table.index(), table.handles(), file_len),
-    })
 }
 
 impl Stat {
     // The length of the filter's frame in bytes.
     fn filter_len(&self) -> u64 {
-        match &self.filter {
+        match &self.handles.filter {
             Some(handle) => u64::from(handle.size()),
             None => 0,
         }
@@ -142,7 +39,7 @@ impl Stat {
     // The length of the frames of the data blocks in bytes: of all that is nothing else.
     fn blocks_len(&self) -> u64 {
         self.file_len
-            .saturating_sub(u64::from(self.index.size()))
+            .saturating_sub(u64::from(self.handles.index.size()))
             .saturating_sub(self.filter_len())
             .saturating_sub(self.gaps.byte_len())
             .saturating_sub(FOOTER_LEN as u64)
@@ -152,11 +49,11 @@ impl Stat {
     fn print<O: Write>(&self, output: &mut O) -> io::Result<()> {
         writeln!(output, "hash       {}", self.hash)?;
         self.print_entries(output)?;
-        let blocks = &self.blocks;
+        let blocks = &self.seen.blocks;
         writeln!(
             output,
             "intervals  {} to {} in blocks, {} in the index",
-            blocks.least_interval, blocks.greatest_interval, self.index_interval
+            blocks.least_interval, blocks.greatest_interval, self.seen.index_interval
         )?;
         writeln!(output, "buckets    {}", blocks.buckets)?;
         self.print_bits(output)?;
@@ -165,7 +62,7 @@ impl Stat {
             "bytes      {}: {} of blocks, {} of index, {} of filter, {FOOTER_LEN} of footer",
             self.file_len,
             self.blocks_len(),
-            self.index.size(),
+            self.handles.index.size(),
             self.filter_len()
         )?;
         writeln!(
@@ -183,17 +80,20 @@ impl Stat {
         let last = Shown(summary.last_key.as_slice());
         writeln!(output, "blocks     {}", summary.blocks)?;
         writeln!(output, "entries    {}", summary.entries)?;
+        writeln!(output, "tombstones {}", self.seen.blocks.tombstones)?;
         writeln!(output, "keys       {first} to {last}")?;
         writeln!(
             output,
             "seqnos     {} to {}",
             summary.least_seqno, summary.greatest_seqno
-        )
+        )?;
+        writeln!(output, "key size   {}", self.seen.blocks.keys)?;
+        writeln!(output, "value size {}", self.seen.blocks.values)
     }
 
     // Prints the line of the filter.
     fn print_bits<O: Write>(&self, output: &mut O) -> io::Result<()> {
-        match &self.bits {
+        match &self.seen.bits {
             Some(Bits { bits, set, probes }) => {
                 let percent = set.saturating_mul(100).checked_div(*bits).unwrap_or(0);
                 writeln!(
@@ -208,11 +108,12 @@ impl Stat {
     // Prints a line of JSON. Keys are in hex; where there is no filter, what is of it is null.
     fn print_json<O: Write>(&self, output: &mut O) -> io::Result<()> {
         self.print_entries_json(output)?;
-        let blocks = &self.blocks;
+        self.print_lengths_json(output)?;
+        let blocks = &self.seen.blocks;
         write!(
             output,
             ",\"least_interval\":{},\"greatest_interval\":{},\"index_interval\":{}",
-            blocks.least_interval, blocks.greatest_interval, self.index_interval
+            blocks.least_interval, blocks.greatest_interval, self.seen.index_interval
         )?;
         self.print_bits_json(output)?;
         write!(
@@ -223,16 +124,33 @@ impl Stat {
         writeln!(
             output,
             ",\"index_bytes\":{},\"filter_bytes\":{},\"unused_bytes\":{},\"bytes\":{}}}",
-            self.index.size(),
+            self.handles.index.size(),
             self.filter_len(),
             self.gaps.byte_len(),
             self.file_len
         )
     }
 
+    // Prints the members of the line of JSON that are of the lengths of keys and values.
+    fn print_lengths_json<O: Write>(&self, output: &mut O) -> io::Result<()> {
+        let blocks = &self.seen.blocks;
+        let (keys, values) = (&blocks.keys, &blocks.values);
+        write!(output, ",\"tombstones\":{}", blocks.tombstones)?;
+        write!(
+            output,
+            ",\"key_bytes\":{},\"least_key_bytes\":{},\"greatest_key_bytes\":{}",
+            keys.sum, keys.least, keys.greatest
+        )?;
+        write!(
+            output,
+            ",\"value_bytes\":{},\"least_value_bytes\":{},\"greatest_value_bytes\":{}",
+            values.sum, values.least, values.greatest
+        )
+    }
+
     // Prints the members of the line of JSON that are of the filter's bits.
     fn print_bits_json<O: Write>(&self, output: &mut O) -> io::Result<()> {
-        let Some(Bits { bits, set, probes }) = &self.bits else {
+        let Some(Bits { bits, set, probes }) = &self.seen.bits else {
             return output.write_all(
                 b",\"filter_bits\":null,\"filter_bits_set\":null,\"filter_probes\":null",
             );
@@ -262,19 +180,43 @@ impl Stat {
 }
 
 // Checks a table of a file whole: what it has.
-fn read_in<H: BlockHash, S: FrameSource, R: Clock + Eprint>(
+fn stat_in<H: BlockHash, S: FrameSource + Drop, R: Clock + Eprint>(
     progress: &Progress<'_, R>,
     alloc: Global,
     hash: TableHash,
     file: &str,
-    table: &mut Table<H, S>,
+    source: S,
+    handles: RunHandles,
 ) -> Result<Stat> {
-    let stat = stat_of(alloc, hash, table, progress.file_len());
+    let mut source = Observed::<H, S>::new(source, handles);
+    let checked = check_whole::<H, _, R>(progress, alloc, file, &mut source, &handles);
     progress.clear();
-    match stat {
-        Ok(stat) => Ok(stat),
-        Err(error) => Err(progress.fault(alloc, file, error)),
+    let summary = checked?;
+    if source.seen().is_partial {
+        return Err(Fault::Memory);
     }
+    let file_len = progress.file_len();
+    Ok(Stat {
+        hash,
+        summary,
+        seen: *source.seen(),
+        handles,
+        file_len,
+        gaps: Gaps::new(progress.block_end(), &handles, file_len),
+    })
+}
+
+// Checks a table of a file whole, from its footer on: what it has.
+fn read_in<H: BlockHash, S: SizedSource + Drop, R: Clock + Eprint>(
+    progress: &Progress<'_, R>,
+    alloc: Global,
+    hash: TableHash,
+    file: &str,
+    source: S,
+) -> Result<Stat> {
+    let mut source = source;
+    let handles = handles_of(progress, alloc, file, &mut source)?;
+    stat_in::<H, S, R>(progress, alloc, hash, file, source, handles)
 }
 
 // Checks a table file whole: what it has.
@@ -284,8 +226,8 @@ fn read<H: BlockHash, R: Files + Clock + Eprint>(
     hash: TableHash,
     file: &str,
 ) -> Result<Stat> {
-    let mut table = open::<H, R>(progress, alloc, file)?;
-    read_in(progress, alloc, hash, file, &mut table)
+    let source = source_of(progress, alloc, file)?;
+    read_in::<H, _, R>(progress, alloc, hash, file, source)
 }
 
 /// Checks a table whole, and prints what it holds, as lines or as JSON.

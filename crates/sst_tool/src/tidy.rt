@@ -1,5 +1,6 @@
 //! Bytes of a table file that belong to no frame.
-ghost use Rattle.std.specs.Prelude.{◌≡◌, ◌+◌, ◌<◌, IfSome};
+ghost use Rattle.std.specs.Prelude.{◌≡◌, ◌+◌, ◌<◌, length, not, is_some, IfSome};
+ghost use Rattle.sst_tool.specs.Frames.{end_of, follow_from};
 
 use sstable_blocks::run::footer::FOOTER_LEN;
 use sstable_blocks::{BlockHandle, IndexBlock, RunHandles, Steps};
@@ -24,8 +25,8 @@ impl fmt::Display for Gap {
     }
 }
 
-/// The bytes of a table file that belong to no frame: behind the data blocks, behind the next frame,
-/// and behind the last one, before the footer.
+/// The bytes of a table file that belong to no frame: behind the data blocks, behind the next
+/// frame, and behind the last one, before the footer.
 #[derive(Clone, Copy)]
 pub struct Gaps([Option<Gap>; 3]);
 
@@ -44,13 +45,29 @@ fn between(from: u64, to: u64) -> Option<Gap>
 }
 
 // The offset after a frame.
-fn end_of(handle: &BlockHandle) -> u64 {
+fn end_of(handle: &BlockHandle) -> u64
+    ensures { result ≡ end_of handle.now }
+{
     handle.offset().saturating_add(u64::from(handle.size()))
 }
 
-// The offset after the data blocks.
-fn data_end(index: &IndexBlock) -> u64 {
-    end_of(&index.handle_at(index.len() - 1, &mut Steps::new()))
+/// Returns the first data block of which the frame does not begin where the one before it ends, by
+/// its number.
+pub fn first_astray(index: &IndexBlock) -> Option<usize>
+    ensures inside { IfSome result (λ number. number < length index.now.items) }
+    ensures follow { is_some result ≡ not (follow_from 0 index.now.items) }
+{
+    let mut end = 0u64;
+    let mut number = 0usize;
+    while number < index.len() {
+        let handle = index.handle_at(number, &mut Steps::new());
+        if *handle.offset() != end {
+            return Some(number);
+        }
+        end = end_of(&handle);
+        number += 1;
+    }
+    None
 }
 
 // The frames of index and filter, by their offsets; the same one twice where there is no filter.
@@ -64,11 +81,12 @@ fn frames_behind(handles: &RunHandles) -> (&BlockHandle, &BlockHandle) {
 }
 
 impl Gaps {
-    /// Finds the bytes in no frame of a table, which is sound, in a file of this length.
-    pub fn new(index: &IndexBlock, handles: &RunHandles, file_len: u64) -> Gaps {
+    /// Finds the bytes in no frame of a sound table, of which the data blocks end at an offset, in
+    /// a file of this length.
+    pub fn new(data_end: u64, handles: &RunHandles, file_len: u64) -> Gaps {
         let (first, last) = frames_behind(handles);
         Gaps([
-            between(data_end(index), *first.offset()),
+            between(data_end, *first.offset()),
             between(end_of(first), *last.offset()),
             between(end_of(last), file_len.saturating_sub(FOOTER_LEN as u64)),
         ])

@@ -15,6 +15,12 @@ pub const GET: &str = "get";
 /// The name of the command that checks a table.
 pub const CHECK: &str = "check";
 
+/// The name of the command that prints a line for each block.
+pub const BLOCKS: &str = "blocks";
+
+/// The name of the command that prints a line for each handle of the index.
+pub const INDEX: &str = "index";
+
 /// The name of the command that merges tables.
 pub const MERGE: &str = "merge";
 
@@ -35,6 +41,24 @@ pub const FROM: &str = "from";
 
 /// The name of the option for the key at which a range ends.
 pub const TO: &str = "to";
+
+/// The name of the option for the bytes that all keys of a range begin with.
+pub const PREFIX: &str = "prefix";
+
+/// The name of the option for how many entries are printed at most.
+pub const LIMIT: &str = "limit";
+
+/// The name of the flag for keys without values.
+pub const KEYS_ONLY: &str = "keys-only";
+
+/// The name of the option for the size at which a block ends.
+pub const BLOCK: &str = "block";
+
+/// The name of the option for the restart interval.
+pub const INTERVAL: &str = "interval";
+
+/// The name of the option for the filter's bits for a key.
+pub const BITS: &str = "bits";
 
 /// The name of the option for the least sequence number that is read at after a merge.
 pub const SNAPSHOT: &str = "snapshot";
@@ -60,167 +84,234 @@ pub const LATEST: &str = "latest";
 /// The name of the flag for a file that may be replaced.
 pub const FORCE: &str = "force";
 
+/// Returns whether a command prints lines as it reads.
+pub fn is_list(name: &str) -> bool {
+    matches!(name, SCAN | BLOCKS | INDEX)
+}
+
 // The group of the words that say which reads may come after a merge.
 const READS: &str = "reads";
 
-// What `--hash` is for where a table is read.
-const READ_HASH: &str = "The hash function of the table; else what its first header shows";
-
-// The file that a command reads.
-fn file<'a>(alloc: Global) -> Arg<'a> {
-    Arg::new(alloc, FILE).required(true).help("A table file")
+// What a word is.
+#[derive(Clone, Copy)]
+enum Kind {
+    // A word without a name, which has to be there.
+    Plain,
+    // Several of these.
+    Several,
+    // The option for the file that is written, which has to be there.
+    Out,
+    // An option without a value.
+    Flag,
+    // An option with a text, of this name.
+    Text(&'static str),
+    // An option with a number below 2^64, of this name.
+    Number(&'static str),
+    // An option with a number below 2^32, of this name.
+    Short(&'static str),
+    // An option with a number from 1 to 255, of this name.
+    Byte(&'static str),
+    // An option with a hash function.
+    Hash,
 }
 
-// The sequence number of a read.
-fn at<'a>(alloc: Global) -> Arg<'a> {
-    Arg::new(alloc, AT)
-        .long(AT)
-        .value_name("SEQNO")
-        .value_parser(value_parser!(u64))
-        .help("Read at this sequence number: versions below it")
-}
+// A word of a command: its name, what it is, and its help.
+type Word = (&'static str, Kind, &'static str);
 
-// An option whose value is a key, with its help.
-fn key_option<'a>(alloc: Global, name: &'a str, help: &'a str) -> Arg<'a> {
-    Arg::new(alloc, name).long(name).value_name(KEY).help(help)
-}
+// A command: its name, its help, its words, and what is said after them.
+type Rules = (&'static str, &'static str, &'static [Word], &'static str);
 
-// The hash function of a table, with its help.
-fn hash<'a>(alloc: Global, help: &'a str) -> Arg<'a> {
-    Arg::new(alloc, HASH)
-        .long(HASH)
-        .value_name("HASH")
-        .value_parser(NAMES.as_slice())
-        .help(help)
-}
+const TABLE: Word = (FILE, Kind::Plain, "A table file");
 
-// A flag with its help.
-fn flag<'a>(alloc: Global, name: &'a str, help: &'a str) -> Arg<'a> {
-    Arg::new(alloc, name)
-        .long(name)
-        .action(ArgAction::SetTrue)
-        .help(help)
-}
+const TABLE_HASH: Word = (
+    HASH,
+    Kind::Hash,
+    "The hash function of the table; else what its first header shows",
+);
 
-// Adds a word to a command.
-fn with_word<'a>(
-    command: Result<Command<'a>, AllocError>,
-    word: Arg<'a>,
-) -> Result<Command<'a>, AllocError> {
-    command?.arg(word)
-}
+const READ_AT: Word = (
+    AT,
+    Kind::Number("SEQNO"),
+    "Read at this sequence number: versions below it",
+);
 
-// Adds a word to a command, if there was memory for it.
-fn with_made<'a>(
-    command: Result<Command<'a>, AllocError>,
-    word: Result<Arg<'a>, AllocError>,
-) -> Result<Command<'a>, AllocError> {
-    with_word(command, word?)
-}
+const TABLE_WORDS: [Word; 2] = [TABLE, TABLE_HASH];
 
-// A command with its help that reads a table.
-fn reading<'a>(alloc: Global, name: &'a str, help: &'a str) -> Result<Command<'a>, AllocError> {
-    let named = Command::new(alloc, name).about(help);
-    with_word(with_word(Ok(named), file(alloc)), hash(alloc, READ_HASH))
-}
+const STAT_WORDS: [Word; 3] = [
+    TABLE,
+    TABLE_HASH,
+    (JSON, Kind::Flag, "Print one line of JSON"),
+];
 
-// The words of `stat`.
-fn stat<'a>(alloc: Global) -> Result<Command<'a>, AllocError> {
-    let command = reading(alloc, STAT, "Prints what a table holds");
-    with_word(command, flag(alloc, JSON, "Print one line of JSON"))
-}
-
-// The words of `scan`.
-fn scan<'a>(alloc: Global) -> Result<Command<'a>, AllocError> {
-    let command = reading(alloc, SCAN, "Prints the entries of a table");
-    let command = with_word(command, key_option(alloc, FROM, "The first key"));
-    let to = key_option(alloc, TO, "The key at which to end, without it");
-    let command = with_word(with_word(command, to), at(alloc));
-    let reverse = flag(alloc, REVERSE, "From the last entry to the first");
-    let text = flag(
-        alloc,
+const SCAN_WORDS: [Word; 11] = [
+    TABLE,
+    TABLE_HASH,
+    (FROM, Kind::Text(KEY), "The first key"),
+    (TO, Kind::Text(KEY), "The key at which to end, without it"),
+    (
+        PREFIX,
+        Kind::Text(KEY),
+        "The bytes that the keys begin with",
+    ),
+    READ_AT,
+    (LIMIT, Kind::Number("N"), "At most this many entries"),
+    (REVERSE, Kind::Flag, "From the last entry to the first"),
+    (KEYS_ONLY, Kind::Flag, "Entries without their values"),
+    (
         TEXT,
+        Kind::Flag,
         "Keys and values as text where they are printable",
-    );
-    with_word(with_word(command, reverse), text)
-}
+    ),
+    (JSON, Kind::Flag, "A line of JSON for each entry"),
+];
 
-// The words of `get`.
-fn get<'a>(alloc: Global) -> Result<Command<'a>, AllocError> {
-    let key = Arg::new(alloc, KEY)
-        .required(true)
-        .help("The user key, as text or as hex:DIGITS");
-    let command = reading(alloc, GET, "Prints the newest version of a key");
-    with_word(with_word(command, key), at(alloc))
-}
+const GET_WORDS: [Word; 4] = [
+    TABLE,
+    TABLE_HASH,
+    (KEY, Kind::Plain, "The user key, as text or as hex:DIGITS"),
+    READ_AT,
+];
 
-// The words of `check`.
-fn check<'a>(alloc: Global) -> Result<Command<'a>, AllocError> {
-    reading(alloc, CHECK, "Checks a table whole")
-}
+const CHECK_WORDS: [Word; 2] = [(FILE, Kind::Several, "Table files"), TABLE_HASH];
 
-// The table file that a merge writes.
-fn out<'a>(alloc: Global) -> Arg<'a> {
-    Arg::new(alloc, OUT)
-        .short('o')
-        .long(OUT)
-        .value_name("OUT")
-        .required(true)
-        .help("The table file to write")
-}
-
-// The files that are merged.
-fn files<'a>(alloc: Global) -> Arg<'a> {
-    Arg::new(alloc, FILE)
-        .required(true)
-        .num_args(1..)
-        .action(ArgAction::Append)
-        .help("Table files, the newest first")
-}
-
-// The least sequence number that is read at after a merge.
-fn snapshot<'a>(alloc: Global) -> Result<Arg<'a>, AllocError> {
-    Arg::new(alloc, SNAPSHOT)
-        .long(SNAPSHOT)
-        .value_name("SEQNO")
-        .value_parser(value_parser!(u64))
-        .help("Keep what reads at this sequence number and above see; else all versions")
-        .group(READS)
-}
-
-// That no read below the newest versions is wanted any more.
-fn latest<'a>(alloc: Global) -> Result<Arg<'a>, AllocError> {
-    flag(alloc, LATEST, "Keep the newest version of each key alone").group(READS)
-}
-
-// That no older table is below. Which tombstones are dropped depends on the reads that may come.
-fn bottom<'a>(alloc: Global) -> Result<Arg<'a>, AllocError> {
-    let help = "Drop the tombstones that no read sees past: no older table is below";
-    flag(alloc, BOTTOM, help).requires_arg(READS)
-}
-
-// The words of `merge`.
-fn merge<'a>(alloc: Global) -> Result<Command<'a>, AllocError> {
-    let named = Command::new(alloc, MERGE).about("Merges tables into one");
-    let command = with_word(with_word(Ok(named), out(alloc)), files(alloc));
-    let written = hash(
-        alloc,
+const MERGE_WORDS: [Word; 10] = [
+    (OUT, Kind::Out, "The table file to write"),
+    (FILE, Kind::Several, "Table files, the newest first"),
+    (FORCE, Kind::Flag, "Replace OUT where it is there"),
+    (
+        HASH,
+        Kind::Hash,
         "The hash function of the new table; else that of the tables",
-    );
-    let force = flag(alloc, FORCE, "Replace OUT where it is there");
-    let command = with_word(with_word(command, force), written);
-    let command = with_made(with_made(command, snapshot(alloc)), latest(alloc));
-    Ok(with_made(command, bottom(alloc))?.after_help(
+    ),
+    (
+        SNAPSHOT,
+        Kind::Number("SEQNO"),
+        "Keep what reads at this sequence number and above see; else all versions",
+    ),
+    (
+        LATEST,
+        Kind::Flag,
+        "Keep the newest version of each key alone",
+    ),
+    (
+        BOTTOM,
+        Kind::Flag,
+        "Drop the tombstones that no read sees past: no older table is below",
+    ),
+    (
+        BLOCK,
+        Kind::Number("SIZE"),
+        "The bytes of keys and values at which a block ends; else 4096",
+    ),
+    (
+        INTERVAL,
+        Kind::Byte("N"),
+        "The entries of a restart interval, 1 to 255; else 16",
+    ),
+    (
+        BITS,
+        Kind::Short("N"),
+        "The filter's bits for a key, 0 for no filter; else 10",
+    ),
+];
+
+const COMMANDS: [Rules; 7] = [
+    (STAT, "Prints what a table holds", &STAT_WORDS, ""),
+    (SCAN, "Prints the entries of a table", &SCAN_WORDS, ""),
+    (GET, "Prints the newest version of a key", &GET_WORDS, ""),
+    (
+        CHECK,
+        "Checks tables whole",
+        &CHECK_WORDS,
+        "Each table is checked, also after one that fails. A filter is refused that has more than \
+        1000 probes a key, and more probes for all entries than bits.",
+    ),
+    (
+        BLOCKS,
+        "Prints a line for each data block, also after one that is damaged",
+        &TABLE_WORDS,
+        "",
+    ),
+    (
+        INDEX,
+        "Prints a line for each data block that the index names, and reads none",
+        &TABLE_WORDS,
+        "",
+    ),
+    (
+        MERGE,
+        "Merges tables into one",
+        &MERGE_WORDS,
         "OUT is put in place whole, or stays as it was. The status is 3 where no entry is left.",
-    ))
+    ),
+];
+
+// Makes a word.
+fn arg_of<'a>(alloc: Global, word: &Word) -> Arg<'a> {
+    let (name, kind, help) = *word;
+    let arg = Arg::new(alloc, name).help(help);
+    match kind {
+        Kind::Plain => arg.required(true),
+        Kind::Several => arg.required(true).num_args(1..).action(ArgAction::Append),
+        Kind::Out => arg.short('o').long(name).value_name("OUT").required(true),
+        Kind::Flag => arg.long(name).action(ArgAction::SetTrue),
+        Kind::Text(value) => arg.long(name).value_name(value),
+        Kind::Number(value) => arg
+            .long(name)
+            .value_name(value)
+            .value_parser(value_parser!(u64)),
+        Kind::Short(value) => arg
+            .long(name)
+            .value_name(value)
+            .value_parser(value_parser!(u32)),
+        Kind::Byte(value) => arg
+            .long(name)
+            .value_name(value)
+            .value_parser(value_parser!(u8).range(1..)),
+        Kind::Hash => arg
+            .long(name)
+            .value_name("HASH")
+            .value_parser(NAMES.as_slice()),
+    }
 }
 
-// Adds a command.
-fn with<'a>(
-    command: Result<Command<'a>, AllocError>,
-    added: Result<Command<'a>, AllocError>,
+// Says what a word has to do with others: which of two there can be, and which needs another.
+fn related<'a>(arg: Arg<'a>, name: &str) -> Result<Arg<'a>, AllocError> {
+    match name {
+        PREFIX => arg.conflicts_with_all(&[FROM, TO]),
+        TEXT => arg.conflicts_with(JSON),
+        SNAPSHOT | LATEST => arg.group(READS),
+        // (which tombstones are dropped depends on the reads that may come)
+        BOTTOM => arg.requires_arg(READS),
+        _ => Ok(arg),
+    }
+}
+
+// Adds words to a command.
+fn with_words<'a>(
+    alloc: Global,
+    command: Command<'a>,
+    words: &[Word],
 ) -> Result<Command<'a>, AllocError> {
-    command?.subcommand(added?)
+    let mut command = command;
+    for word in words {
+        command = command.arg(related(arg_of(alloc, word), word.0)?)?;
+    }
+    Ok(command)
+}
+
+// Adds the commands.
+fn with_commands<'a>(
+    alloc: Global,
+    command: Command<'a>,
+    commands: &[Rules],
+) -> Result<Command<'a>, AllocError> {
+    let mut command = command;
+    for (name, help, words, after) in commands {
+        let named = Command::new(alloc, name).about(help).after_help(after);
+        command = command.subcommand(with_words(alloc, named, words)?)?;
+    }
+    Ok(command)
 }
 
 /// Makes the command that parses the program's words.
@@ -238,7 +329,5 @@ pub fn command<'a>(alloc: Global) -> Result<Command<'a>, AllocError> {
         )
         .subcommand_required(true)
         .arg_required_else_help(true);
-    let reading = with(with(Ok(named), stat(alloc)), scan(alloc));
-    let checking = with(with(reading, get(alloc)), check(alloc));
-    with(checking, merge(alloc))
+    with_commands(alloc, named, &COMMANDS)
 }

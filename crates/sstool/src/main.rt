@@ -2,16 +2,16 @@
 #![tactic(auto)]
 
 use sst_program::pipe::{PipeOutput, QuietFaults};
-use sst_tool::{Progress, SCAN, command, run_command};
+use sst_tool::{Progress, command, is_list, run_command};
 use std::cell::Cell;
 use std::env;
 use std::io::{IsTerminal, Write};
 use std::process::ExitCode;
 
 // Begins the progress of a command. It is shown where standard error is a terminal, and standard
-// output is not one that a scan prints its entries on.
+// output is not one that the command prints lines on as it reads.
 fn progress_of<'r>(rt: &'r HostRuntime, name: &str) -> Progress<'r, HostRuntime> {
-    let is_visible = rt.stderr().is_terminal() && (name != SCAN || !rt.stdout().is_terminal());
+    let is_visible = rt.stderr().is_terminal() && (!is_list(name) || !rt.stdout().is_terminal());
     Progress::new(rt, is_visible)
 }
 

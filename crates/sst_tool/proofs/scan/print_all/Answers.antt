@@ -10,14 +10,14 @@ first-taken s r t e takes is = (subst (λ o. TakesFirst s o t) is takes).0
 
 pub loop-entry-preserved-in_ok-print : goal.loop-entry-preserved-in_ok-print
 loop-entry-preserved-in_ok-print g c = record {
-  text = c.in_ok-print.ensures.same ∙ c.loop-entry.invariant.text;
+  form = c.in_ok-print.ensures.same ∙ c.loop-entry.invariant.form;
   printed = λ plain. printed_next _ _ _ c.in-Some.entry _ _ _ (c.loop-entry.invariant.printed plain) (first-taken (g.I.Source.left c.loop-entry.source) _ (g.I.Source.left c.next_entry.new.self) c.in-Some.entry c.in_ok-entry.ensures.first c.in-Some.is)
-      (c.in_ok-print.ensures.line (c.loop-entry.invariant.text ∙ plain));
+      (c.in_ok-print.ensures.line (c.loop-entry.invariant.form ∙ plain));
 }
 
 pub loop-entry-preserved : goal.loop-entry-preserved
 loop-entry-preserved g c = record {
-  text = c.in_ok-print.ensures.same ∙ c.loop-entry.invariant.text;
+  form = c.in_ok-print.ensures.same ∙ c.loop-entry.invariant.form;
   printed = λ plain. printed_next _ _ _ c.in-Some.entry _ _ _ (c.loop-entry.invariant.printed plain) (first-taken (g.I.Source.left c.loop-entry.source) _ (g.I.Source.left c.next_entry.new.self) c.in-Some.entry c.in_ok-entry.ensures.first c.in-Some.is)
-      (c.in_ok-print.ensures.line (c.loop-entry.invariant.text ∙ plain));
+      (c.in_ok-print.ensures.line (c.loop-entry.invariant.form ∙ plain));
 }

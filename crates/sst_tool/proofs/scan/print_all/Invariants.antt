@@ -1,4 +1,4 @@
-use Rattle.std.proofs.Common.{◌≡◌, false}
+use Rattle.std.proofs.Common.{◌≡◌, None}
 use Rattle.std.specs.Io.Buffered.{writer_contents}
 use Rattle.sst_tool.proofs.Printed.{HasPrinted}
 use Rattle.sst_tool.proofs.scan.print_all.Given as goal
@@ -8,6 +8,6 @@ decreases-loop-entry g l = (g.I.Source.left l.source).most
 
 abbrev pub invariant-loop-entry : goal.invariant-loop-entry
 invariant-loop-entry g l = record {
-  text : l.lines.is_text ≡ l.initial.lines.is_text;
-  printed : l.initial.lines.is_text ≡ false → HasPrinted (g.I.Source.left l.initial.source).list (g.I.Source.left l.source).list (writer_contents g.O.Write.contents l.initial.lines.output) (writer_contents g.O.Write.contents l.lines.output);
+  form : l.lines.form ≡ l.initial.lines.form;
+  printed : l.initial.lines.form ≡ None → HasPrinted (g.I.Source.left l.initial.source).list (g.I.Source.left l.source).list (writer_contents g.O.Write.contents l.initial.lines.output) (writer_contents g.O.Write.contents l.lines.output);
 }

@@ -1,0 +1,14 @@
+-- Frames that follow each other.
+use Rattle.std.specs.Prelude.{ℕ, ◌+◌, ◌-◌, ◌^◌, ◌&&◌, min, nat_eq, Bool, true, List, [], ◌∷◌}
+use Rattle.sst_base.specs.BlockHandle.{HandleParts}
+use Rattle.sst_block_kinds.specs.Handles.{Handle}
+use Rattle.sstable_blocks.specs.Opened.{range_of}
+
+-- the offset after a frame; none is greater than a file's
+abbrev pub end_of : HandleParts → ℕ
+end_of h = min (h.offset + h.size) (2 ^ 64 - 1)
+
+-- the frames of data blocks follow each other from an offset on
+abbrev pub follow_from : ℕ → List Handle → Bool
+follow_from at [] = true
+follow_from at (h ∷ hs) = nat_eq h.offset at && follow_from (end_of (range_of h)) hs

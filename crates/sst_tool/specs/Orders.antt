@@ -1,0 +1,19 @@
+-- The order of what a source gives.
+use Rattle.std.specs.Prelude.{◌≡◌, List, Bool, true, Option, Some, None}
+use Rattle.std.specs.Ordering.{is_le}
+use Rattle.sst_base.specs.Entry.{Entry}
+use Rattle.sst_base.specs.Key.{Key}
+use Rattle.sst_base.specs.Order.{key_cmp}
+use Rattle.sst_tool.specs.declared.ordered.Direction.{Direction}
+use Rattle.sst_tool.specs.declared.ordered.Direction.TheVariants.{Forward, Backward}
+
+-- may an entry with a key follow one with the last key, if there is one?
+abbrev pub may_follow : Direction → Option Key → Key → Bool
+may_follow d None k = true
+may_follow Forward (Some last) k = is_le (key_cmp last k)
+may_follow Backward (Some last) k = is_le (key_cmp k last)
+
+-- what is given, if something is, follows the last key, and its key is then the last
+abbrev pub GivesInOrder : Direction → Option Key → Option Key → Option Entry → Type 0
+GivesInOrder d last next None = next ≡ last
+GivesInOrder d last next (Some e) = (may_follow d last e.key ≡ true) × (next ≡ Some e.key)

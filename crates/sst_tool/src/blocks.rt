@@ -1,0 +1,176 @@
+//! `blocks` and `index`: a line for each data block.
+ghost use Rattle.std.specs.Prelude.{◌≡◌, ◌<◌, length};
+
+use crate::fault::{Cause, Fault, Result, Shown as ShownError};
+use crate::open::open;
+use crate::progress::Progress;
+use crate::show::Shown;
+use crate::words::FILE;
+use clap::ArgMatches;
+use sstable_blocks::{
+    BlockHandle, BlockHash, DataBlock, Error, FrameSource, IndexBlock, InternalValue, Steps, Table,
+};
+use std::alloc::Global;
+use std::io;
+use std::io::Write;
+use std::rt::{Clock, Files};
+
+// What a data block holds.
+#[derive(Drop)]
+struct Held {
+    entries: usize,
+    first: InternalValue,
+    // none where the first is the last
+    last: Option<InternalValue>,
+}
+
+// What a data block holds.
+fn held_in<H: BlockHash>(alloc: Global, block: &DataBlock<H>) -> sstable_blocks::Result<Held> {
+    let mut views = block.by_ref().entries();
+    let Some(first) = views.next() else {
+        return Err(Error::BadEntry);
+    };
+    let last = match views.next_back() {
+        Some(last) => Some(last.to_entry(alloc)?),
+        None => None,
+    };
+    Ok(Held {
+        entries: block.len(),
+        first: first.to_entry(alloc)?,
+        last,
+    })
+}
+
+// What a data block of a table holds, which is read.
+fn held_at<H: BlockHash, S: FrameSource>(
+    alloc: Global,
+    table: &mut Table<H, S>,
+    number: usize,
+) -> sstable_blocks::Result<Held>
+    requires { number < length table.old.index }
+    ensures { table.new.index ≡ table.old.index }
+{
+    match table.block_at(alloc, number) {
+        Ok(block) => held_in(alloc, &block),
+        Err(error) => Err(error),
+    }
+}
+
+// Prints what a block holds, or why it is not sound.
+fn print_held<O: Write>(
+    output: &mut O,
+    number: usize,
+    handle: &BlockHandle,
+    held: &sstable_blocks::Result<Held>,
+    cause: Cause,
+) -> io::Result<()> {
+    write!(
+        output,
+        "block {number} at offset {}: {} bytes, ",
+        *handle.offset(),
+        handle.size()
+    )?;
+    match held {
+        Ok(held) => {
+            let last = held.last.as_ref().unwrap_or(&held.first);
+            writeln!(
+                output,
+                "ok, {} entries, {} to {}",
+                held.entries,
+                Shown(held.first.key().user_key().as_slice()),
+                Shown(last.key().user_key().as_slice())
+            )
+        }
+        Err(error) => writeln!(output, "{}", ShownError::new(*error, cause)),
+    }
+}
+
+// Prints a line for each data block of a table. Returns how many are not sound.
+fn print_blocks<H: BlockHash, S: FrameSource, R, O: Write>(
+    progress: &Progress<'_, R>,
+    alloc: Global,
+    table: &mut Table<H, S>,
+    output: &mut O,
+) -> Result<usize> {
+    let (mut number, mut failed) = (0usize, 0usize);
+    while number < table.index().len() {
+        let handle = table.index().handle_at(number, &mut Steps::new());
+        let held = held_at(alloc, table, number);
+        print_held(output, number, &handle, &held, progress.cause())?;
+        if held.is_err() {
+            failed = failed.saturating_add(1);
+        }
+        number += 1;
+    }
+    Ok(failed)
+}
+
+// Prints a line for each data block of a table of a file.
+fn blocks_in<H: BlockHash, S: FrameSource + Drop, R, O: Write>(
+    progress: &Progress<'_, R>,
+    alloc: Global,
+    file: &str,
+    table: Table<H, S>,
+    output: &mut O,
+) -> Result<()> {
+    let mut table = table;
+    let blocks = table.index().len();
+    progress.expect_blocks(blocks as u64);
+    match print_blocks(progress, alloc, &mut table, output)? {
+        0 => Ok(()),
+        failed => Err(Fault::of_blocks(alloc, file, failed, blocks)),
+    }
+}
+
+/// Prints a line for each data block: its number, offset and size, and the number of its entries
+/// with the first and the last key, or why it is not sound. Goes on after that.
+///
+/// # Errors
+///
+/// Those of the file, of its filter and its index, how many blocks are not sound, `Fault::Output`.
+pub fn run<H: BlockHash, R: Files + Clock + Eprint, O: Write>(
+    progress: &Progress<'_, R>,
+    alloc: Global,
+    words: &ArgMatches<'_>,
+    output: &mut O,
+) -> Result<()> {
+    let file = words.get_str(FILE).unwrap_or("");
+    let table = open::<H, R>(progress, alloc, file)?;
+    blocks_in(progress, alloc, file, table, output)
+}
+
+// Prints a line for each handle.
+fn print_handles<O: Write>(alloc: Global, index: &IndexBlock, output: &mut O) -> Result<()> {
+    let mut number = 0usize;
+    for view in index.by_ref().handles() {
+        let Ok(handle) = view.to_handle(alloc) else {
+            return Err(Fault::Memory);
+        };
+        writeln!(
+            output,
+            "block {number} at offset {}: {} bytes, up to {} at {}",
+            handle.offset().0,
+            handle.size(),
+            Shown(handle.end_key().as_slice()),
+            handle.seqno()
+        )?;
+        number = number.saturating_add(1);
+    }
+    Ok(())
+}
+
+/// Prints a line for each data block that the index names, and reads none: its number, offset and
+/// size, its last key and the sequence number there.
+///
+/// # Errors
+///
+/// Those of the file, of its filter and its index, and `Fault::Output`.
+pub fn run_index<H: BlockHash, R: Files + Clock + Eprint, O: Write>(
+    progress: &Progress<'_, R>,
+    alloc: Global,
+    words: &ArgMatches<'_>,
+    output: &mut O,
+) -> Result<()> {
+    let table = open::<H, R>(progress, alloc, words.get_str(FILE).unwrap_or(""))?;
+    print_handles(alloc, table.index(), output)
+}

@@ -1,0 +1,100 @@
+//! Sources of which the order is tested.
+ghost use Rattle.std.specs.Prelude.{◌≡◌, None, IfOk};
+ghost use Rattle.sst_merge.specs.Sources.{TakesFirst};
+ghost use Rattle.sst_tool.specs.Orders.{may_follow, GivesInOrder};
+ghost use Rattle.sstable_blocks.specs.Scans.{EndsBy};
+
+use sst_merge::Source;
+use sstable_blocks::{Error, InternalKey, InternalValue, Result};
+use std::alloc::Global;
+
+/// The order in which entries are taken.
+#[derive(Clone, Copy, PartialEq, Eq)]
+pub enum Direction {
+    /// From the first to the last.
+    Forward,
+    /// From the last to the first.
+    Backward,
+}
+
+/// The entries of a source, each of which has to follow the one before it. One that does not ends
+/// the source with `Error::OutOfOrder`.
+#[derive(Drop)]
+pub struct Ordered<I> {
+    source: I,
+    direction: Direction,
+    // the key of the entry that was given last
+    last: Option<InternalKey>,
+    ended: Option<Error>,
+}
+
+// Whether an entry with a key may follow one with the last key, if there is one.
+fn may_follow(direction: Direction, last: &Option<InternalKey>, key: &InternalKey) -> bool
+    ensures { result ≡ may_follow direction last.now key.now }
+{
+    match (last, direction) {
+        (None, _) => true,
+        (Some(last), Direction::Forward) => last.cmp(key).is_le(),
+        (Some(last), Direction::Backward) => key.cmp(last).is_le(),
+    }
+}
+
+impl<I> Ordered<I> {
+    /// Tests the order of a source, of which no entry was taken.
+    pub fn new(source: I, direction: Direction) -> Ordered<I>
+        ensures { result
+            ≡ record { source = source; direction = direction; last = None; ended = None } }
+    {
+        Ordered {
+            source,
+            direction,
+            last: None,
+            ended: None,
+        }
+    }
+}
+
+// Takes the next entry of a source, which has to follow one with the last key, and notes its key.
+fn next_following<I: Source<InternalValue>>(
+    alloc: Global,
+    source: &mut I,
+    direction: Direction,
+    last: &mut Option<InternalKey>,
+) -> Result<Option<InternalValue>>
+    ensures first { IfOk result (λ r. TakesFirst (I.left source.old) r (I.left source.new)) }
+    ensures order { IfOk result (GivesInOrder direction last.old last.new) }
+{
+    let next = source.next_entry(alloc)?;
+    if let Some(entry) = &next {
+        if !may_follow(direction, last, entry.key()) {
+            return Err(Error::OutOfOrder);
+        }
+        *last = Some(entry.key().clone()?);
+    }
+    Ok(next)
+}
+
+/// Takes the next entry, if it follows the one before.
+impl<I: Source<InternalValue>> Source<InternalValue> for Ordered<I> {
+    ghost left = { λ o. record {
+      list = (I.left o.source).list;
+      most = (I.left o.source).most;
+      ended = o.ended;
+    } };
+
+    fn next_entry(&mut self, alloc: Global) -> Result<Option<InternalValue>>
+        ensures first { IfOk result (λ r.
+            TakesFirst (I.left self.old.source) r (I.left self.new.source)) }
+        ensures ended { EndsBy self.old.ended self.new.ended result }
+        ensures order { IfOk result (GivesInOrder self.old.direction self.old.last self.new.last) }
+    {
+        if let Some(error) = self.ended {
+            return Err(error);
+        }
+        let next = next_following(alloc, &mut self.source, self.direction, &mut self.last);
+        if let Err(error) = &next {
+            self.ended = Some(*error);
+        }
+        next
+    }
+}

@@ -1,0 +1,69 @@
+//! How many probes a filter may claim.
+ghost use Rattle.std.specs.Prelude.{◌≡◌, ◌≤◌, drop, length};
+ghost use Rattle.byteorder.specs.Endian.{little_number};
+ghost use Rattle.sst_tool.specs.Probes.{may_ask};
+
+use byteorder::{ByteOrder, LittleEndian};
+use sst_base::table::block::header::HEADER_LEN;
+use sstable_blocks::{BlockHandle, BlockOffset, FrameSource};
+use std::alloc::Global;
+
+/// The number of probes of a key that any filter may have.
+pub const FREE_PROBES: u64 = 1000;
+
+// Where the number of probes is in the frame of a filter.
+const PROBES_AT: usize = HEADER_LEN + 14;
+
+// Where the bits begin.
+const BITS_AT: usize = HEADER_LEN + 22;
+
+/// What a filter claims, before it was read.
+#[derive(Clone, Copy)]
+pub struct Claim {
+    /// The number of probes of a key.
+    pub probes: u64,
+    /// The number of bits.
+    pub bits: u64,
+}
+
+// The number of probes in the first bytes of a filter's frame.
+fn probes_in(head: &[u8]) -> u64
+    requires { 55 ≤ length head.now }
+    ensures { result ≡ little_number 8 (drop 47 head.now) }
+{
+    let (_, rest) = head.split_at(PROBES_AT);
+    LittleEndian::read_u64(rest)
+}
+
+/// Reads what a filter claims from its first bytes, which are not verified. There is none where
+/// they cannot be read.
+pub fn claim_at<S: FrameSource>(
+    alloc: Global,
+    source: &mut S,
+    filter: &BlockHandle,
+) -> Option<Claim> {
+    let bits = (filter.size() as usize).checked_sub(BITS_AT)?;
+    let head = BlockHandle::new(BlockOffset(*filter.offset()), BITS_AT as u32);
+    let frame = source.read_frame(alloc, &head).ok()?;
+    if frame.as_slice().len() < BITS_AT {
+        return None;
+    }
+    Some(Claim {
+        probes: probes_in(frame.as_slice()),
+        bits: bits as u64 * 8,
+    })
+}
+
+/// Returns whether a filter may be asked for each of so many entries: its probes of a key are not
+/// many, or those of all are no more than its bits.
+pub fn may_ask(claim: Claim, entries: u64) -> bool
+    ensures { result ≡ may_ask claim.probes claim.bits entries }
+{
+    if claim.probes <= FREE_PROBES {
+        return true;
+    }
+    match claim.probes.checked_mul(entries) {
+        Some(probes) => probes <= claim.bits,
+        None => false,
+    }
+}

@@ -1,0 +1,114 @@
+//! What a read sees, from the last key to the first.
+ghost use Rattle.std.specs.Prelude.{◌≡◌, ◌+◌, ◌≤◌, if◌then◌else◌, None, IfOk};
+ghost use Rattle.sst_merge.specs.Sources.{held_count};
+ghost use Rattle.sst_tool.specs.Back.{is_same_key, newest_below};
+
+use sst_merge::{Source, Version};
+use sstable_blocks::{Error, InternalValue, Result, SeqNo};
+use std::alloc::Global;
+
+/// What a read below a sequence number sees of a source from the back, where the versions of a key
+/// come from the oldest to the newest.
+#[derive(Drop)]
+pub struct SeenBack<I> {
+    source: I,
+    at: SeqNo,
+    // the newest version so far, below the sequence number, of the key that is passed
+    newest: Option<InternalValue>,
+    ended: Option<Error>,
+}
+
+// Whether an entry is a version of the key of the one kept, if one is.
+fn is_same_key(kept: &Option<InternalValue>, entry: &InternalValue) -> bool
+    ensures { result ≡ is_same_key kept.now entry.now }
+{
+    match kept {
+        Some(kept) => entry.has_user_key(kept.key().user_key().as_slice()),
+        None => true,
+    }
+}
+
+// Passes an entry: notes the newest version so far of its key below a sequence number. Returns that
+// of the key before, if this is another key.
+fn pass_back(
+    at: SeqNo,
+    newest: &mut Option<InternalValue>,
+    entry: InternalValue,
+) -> Option<InternalValue>
+    ensures newest { newest.new ≡ newest_below at newest.old entry }
+    ensures passed { result ≡ (if is_same_key newest.old entry then None else newest.old) }
+{
+    let is_seen = entry.key().seqno() < at;
+    if is_same_key(newest, &entry) {
+        if is_seen {
+            *newest = Some(entry);
+        }
+        return None;
+    }
+    let passed = newest.take();
+    if is_seen {
+        *newest = Some(entry);
+    }
+    passed
+}
+
+// A version that a read sees, if it is not a tombstone.
+fn value_of(newest: Option<InternalValue>) -> Option<InternalValue>
+    ensures { held_count result ≤ held_count newest }
+{
+    match newest {
+        Some(entry) if entry.is_tombstone() => None,
+        newest => newest,
+    }
+}
+
+// Takes entries of a source up to one of a key after one of which a read sees a value.
+fn next_seen<I: Source<InternalValue>>(
+    alloc: Global,
+    source: &mut I,
+    at: SeqNo,
+    newest: &mut Option<InternalValue>,
+) -> Result<Option<InternalValue>>
+    ensures less { IfOk result (λ r. held_count newest.new + (I.left source.new).most
+        + held_count r ≤ held_count newest.old + (I.left source.old).most) }
+{
+    while let Some(entry) = source.next_entry(alloc)? {
+        let passed = value_of(pass_back(at, newest, entry));
+        if passed.is_some() {
+            return Ok(passed);
+        }
+    }
+    Ok(value_of(newest.take()))
+}
+
+impl<I> SeenBack<I> {
+    /// Reads below a sequence number.
+    pub fn new(source: I, at: SeqNo) -> SeenBack<I> {
+        SeenBack {
+            source,
+            at,
+            newest: None,
+            ended: None,
+        }
+    }
+}
+
+/// Takes the next value that the read sees.
+impl<I: Source<InternalValue>> Source<InternalValue> for SeenBack<I> {
+    ghost left = { λ s. record {
+      list = None;
+      most = held_count s.newest + (I.left s.source).most;
+      ended = s.ended;
+    } };
+
+    fn next_entry(&mut self, alloc: Global) -> Result<Option<InternalValue>> {
+        if let Some(error) = self.ended {
+            return Err(error);
+        }
+        let next = next_seen(alloc, &mut self.source, self.at, &mut self.newest);
+        if let Err(error) = &next {
+            self.ended = Some(*error);
+        }
+        next
+    }
+}
