@@ -52,9 +52,9 @@ below_more r size block more e n fits is h below on k one inside =
     subst (λ (xs : List Entry). block_len r xs < size) (sym front) (elim (cases_lt k (length block)) [
       | inl less ↦ below k one less
       | inr all ↦ subst (λ (xs : List Entry). block_len r xs < size) (sym (take_all k block all)) (elim on [
-          | inl none ↦ absurd (omega (arith, l, none, one, inside, all))
-          | inr less ↦ omega (arith, h, less, fits)
-        ])
+        | inl none ↦ absurd (omega (arith, l, none, one, inside, all))
+        | inr less ↦ omega (arith, h, less, fits)
+      ])
     ])
 
 -- where nothing was left, nothing is left later

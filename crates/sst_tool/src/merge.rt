@@ -18,7 +18,7 @@ use std::io::Write;
 use std::rt::{Clock, Files};
 
 // How a merged table is written unless words say otherwise: restart intervals of 16, 10 filter bits
-// a key, and blocks that end at 4 KiB of keys and values.
+// a key, and blocks that end at 4 KiB of encoded entries.
 const DEFAULT_INTERVAL: u8 = 16;
 
 const DEFAULT_BITS: u32 = 10;

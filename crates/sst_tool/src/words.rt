@@ -201,7 +201,7 @@ const MERGE_WORDS: [Word; 10] = [
     (
         BLOCK,
         Kind::Number("SIZE"),
-        "The bytes of keys and values at which a block ends; else 4096",
+        "The bytes of encoded entries at which a block ends; else 4096",
     ),
     (
         INTERVAL,
