@@ -2,8 +2,8 @@
 ghost use Rattle.std.specs.Prelude.{None, length};
 ghost use Rattle.std.specs.Vec.Iter.{into_iter_items};
 
+use super::lists::{Memory, Row, T, V, entry_of, list_of};
 use crate::Tested;
-use crate::lists::{Memory, Row, T, V, entry_of, list_of};
 use sst_base::{ByteSum, Error, HashRatio, InternalValue, Result, SeqNo, UserKey};
 use sst_merge::{
     BackSource, Compact, Head, Merge, MergeBack, Sizes, Snapshot, Source, Tail, Version,
@@ -121,11 +121,19 @@ fn counts_back<I: BackSource<InternalValue>>(
     (before, again.iter().all(|error| *error == wanted))
 }
 
+/// The merge of a source.
+fn merge_of<I: Source<InternalValue> + Drop>(
+    alloc: Global,
+    source: I,
+) -> Result<Merge<InternalValue, I>> {
+    let mut heads = Vec::new(alloc);
+    heads.push(Head::new(alloc, source)?)?;
+    Ok(Merge::new(heads))
+}
+
 /// The merge of a source that fails after so many steps.
 fn failing_merge(alloc: Global, steps: usize) -> Result<Merge<InternalValue, Failing>> {
-    let mut heads = Vec::new(alloc);
-    heads.push(Head::new(alloc, failing_after(alloc, steps)?)?)?;
-    Ok(Merge::new(heads))
+    merge_of(alloc, failing_after(alloc, steps)?)
 }
 
 /// What is counted of a merge of a source that fails after so many steps.
@@ -160,11 +168,19 @@ fn a_failed_step_ends_what_is_made_of_its_source(rt: HostRuntime) -> Tested {
     Ok(())
 }
 
+/// The merge of a source from the back.
+fn merge_back_of<I: BackSource<InternalValue> + Drop>(
+    alloc: Global,
+    source: I,
+) -> Result<MergeBack<InternalValue, I>> {
+    let mut tails = Vec::new(alloc);
+    tails.push(Tail::new(alloc, source)?)?;
+    Ok(MergeBack::new(tails))
+}
+
 /// What is counted of a merge from the back of a source that fails after so many steps.
 fn counts_merged_back(alloc: Global, steps: usize) -> Result<(usize, bool)> {
-    let mut tails = Vec::new(alloc);
-    tails.push(Tail::new(alloc, failing_after(alloc, steps)?)?)?;
-    let mut merged = MergeBack::new(tails);
+    let mut merged = merge_back_of(alloc, failing_after(alloc, steps)?)?;
     Ok(counts_back(alloc, &mut merged, Error::Io))
 }
 

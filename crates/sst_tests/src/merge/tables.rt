@@ -1,9 +1,9 @@
 // Tables that compactions write: what stays after an output or a source fails.
 ghost use Rattle.std.specs.Prelude.{Some, [], map};
 
+use super::failing::failing_after;
+use super::lists::{Row, V, list_of};
 use crate::Tested;
-use crate::failing::failing_after;
-use crate::lists::{Row, V, list_of};
 use sst_base::{ByteSum, Error, HashRatio, InternalValue, Result, Slice};
 use sst_merge::{Head, Outputs, Sizes, Source, compact_tables, write_tables};
 use sstable_blocks::{MemorySource, RunConfig, RunHandles, Table};
@@ -80,12 +80,18 @@ fn table_of(alloc: Global, written: &Written) -> Result<Stored> {
     Ok(Table::<ByteSum, MemorySource>::open(alloc, source, written.handles)?)
 }
 
+/// The numbers of entries and of blocks of a table.
+fn count_of(alloc: Global, written: &Written) -> Result<(u64, usize)> {
+    let mut table = table_of(alloc, written)?;
+    let summary = table.verify(alloc)?;
+    Ok((summary.entries, summary.blocks))
+}
+
 /// The numbers of entries and of blocks of each table.
 fn counts_of(alloc: Global, tables: &[Written]) -> Result<Vec<(u64, usize)>> {
     let mut counts = Vec::new(alloc);
     for written in tables {
-        let summary = table_of(alloc, written)?.verify(alloc)?;
-        counts.push((summary.entries, summary.blocks))?;
+        counts.push(count_of(alloc, written)?)?;
     }
     Ok(counts)
 }

@@ -1,5 +1,5 @@
 // The worked run: its bytes, its entries and its handles.
-use crate::lists::push;
+use super::lists::push;
 use sst_base::{BlockHandle, BlockOffset, InternalValue, Result, ValueType};
 use sstable_blocks::run::RunHandles;
 use std::alloc::Global;

@@ -2,10 +2,10 @@
 // nothing read; writers and sources that fail.
 ghost use Rattle.std.specs.Prelude.{None};
 
-use crate::lists::{NO_BUCKETS, can_be_written};
-use crate::runs::{THREE, THREE_BLOCKS, list_of, value_of, worked_handles};
+use super::lists::{NO_BUCKETS, can_be_written};
+use super::runs::{THREE, THREE_BLOCKS, list_of, value_of, worked_handles};
+use crate::base::devices::{Failure, SlowFile, SlowWriter};
 use sst_base::{BlockHandle, ByteSum, Count, Error, InternalValue, Result, Slice};
-use sst_base_tests::devices::{Failure, SlowFile, SlowWriter};
 use sstable_blocks::Table;
 use sstable_blocks::run::{
     FileSource, FrameSource, MemorySource, RunConfig, RunHandles, RunWriter, Scan,
@@ -25,14 +25,11 @@ fn write_once(to: &mut SlowWriter, list: &[InternalValue]) -> Result<RunHandles>
     write_run::<ByteSum, SlowWriter>(alloc, to, list, &[1, 2], config)
 }
 
-/// Writes the worked run block by block. After a block is refused, each further one is.
-fn write_blocks(to: &mut SlowWriter, list: &[InternalValue]) -> Result<RunHandles> {
-    let alloc = *to.taken.allocator();
-    let mut writer: RunWriter<ByteSum, &mut SlowWriter> = RunWriter::new(
-        alloc,
-        to,
-        RunConfig::new(1, NO_BUCKETS, 10),
-    );
+/// Adds each entry to a writer as a block. After a block is refused, each further one is.
+fn add_blocks(
+    writer: &mut RunWriter<ByteSum, &mut SlowWriter>,
+    list: &[InternalValue],
+) -> Result<()> {
     let mut refused = Ok(());
     for block in list.chunks(1) {
         if !writer.fits_after(block) {
@@ -44,11 +41,22 @@ fn write_blocks(to: &mut SlowWriter, list: &[InternalValue]) -> Result<RunHandle
         }
         refused = added;
     }
-    refused?;
-    if writer.block_count() == 0 {
-        return Err(Error::TooLong);
+    refused
+}
+
+/// Writes the worked run block by block.
+fn write_blocks(to: &mut SlowWriter, list: &[InternalValue]) -> Result<RunHandles> {
+    let alloc = *to.taken.allocator();
+    let mut writer: RunWriter<ByteSum, &mut SlowWriter> = RunWriter::new(
+        alloc,
+        to,
+        RunConfig::new(1, NO_BUCKETS, 10),
+    );
+    match add_blocks(&mut writer, list) {
+        Ok(()) if writer.block_count() > 0 => Ok(writer.finish()?.0),
+        Ok(()) => Err(Error::TooLong),
+        Err(error) => Err(error),
     }
-    Ok(writer.finish()?.0)
 }
 
 /// How a run is moved over a device.
@@ -210,18 +218,23 @@ impl Write for Room {
 /// is returned at the end.
 type Added = ([Result<()>; 3], usize, Option<Error>);
 
+/// Adds each entry to a writer as a block: what is returned of each.
+fn add_each(writer: &mut RunWriter<ByteSum, &mut Room>, list: &[InternalValue]) -> [Result<()>; 3] {
+    let mut answers = [Err(Error::OutOfOrder); 3];
+    for (block, answer) in list.chunks(1).zip(answers.iter_mut()) {
+        if writer.fits_after(block) {
+            *answer = writer.add_block(block);
+        }
+    }
+    answers
+}
+
 /// Adds the entries of the worked run as blocks to a writer that takes so many bytes.
 fn add_to(alloc: Global, to: &mut Room) -> Result<Added> {
     let list = list_of(alloc, THREE)?;
     let config = RunConfig::new(1, NO_BUCKETS, 10);
     let mut writer: RunWriter<ByteSum, &mut Room> = RunWriter::new(alloc, to, config);
-    let mut answers = [Ok(()); 3];
-    for (block, answer) in list.chunks(1).zip(answers.iter_mut()) {
-        if !writer.fits_after(block) {
-            return Err(Error::OutOfOrder);
-        }
-        *answer = writer.add_block(block);
-    }
+    let answers = add_each(&mut writer, &list);
     let count = writer.block_count();
     if count == 0 {
         return Err(Error::TooLong);

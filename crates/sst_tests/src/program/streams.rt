@@ -1,7 +1,7 @@
 //! Streams that are slow, interrupted or fail.
 ghost use Rattle.std.specs.Prelude.{◌≤◌};
 
-use crate::scripts::words_of;
+use super::scripts::words_of;
 use sst_program::new_file::LockFiles;
 use sst_program::sst_main;
 use std::io;

@@ -5,6 +5,7 @@ use crate::Tested;
 use sst_base::{Result, Slice};
 use sst_store::Store;
 use std::alloc::Global;
+use std::process::Abort;
 
 /// Writes a value of a key.
 fn put(alloc: Global, store: &mut Store, key: &[u8], value: &[u8]) -> Result<u64>
@@ -74,12 +75,11 @@ fn has_newer(store: &mut Store, at: Numbers) -> Result<bool> {
     )
 }
 
-#[test]
-fn a_snapshot_is_read_through_flush_and_compaction(rt: HostRuntime) -> Tested {
-    let mut store = Store::new(rt.alloc());
-    let at = fill(rt.alloc(), &mut store)?;
+/// Fills a store, and reads each version after each flush and each compaction.
+fn read_through(rt: &impl Abort, alloc: Global, store: &mut Store) -> Tested {
+    let at = fill(alloc, store)?;
     for step in 0..4u8 {
-        assert!(rt; has_all(&mut store, at)?, "{step}");
+        assert!(rt; has_all(store, at)?, "{step}");
         if step < 2 {
             store.flush()?;
         } else {
@@ -87,8 +87,14 @@ fn a_snapshot_is_read_through_flush_and_compaction(rt: HostRuntime) -> Tested {
         }
     }
     store.compact(at.third)?;
-    assert!(rt; has_newer(&mut store, at)?);
+    assert!(rt; has_newer(store, at)?);
     Ok(())
+}
+
+#[test]
+fn a_snapshot_is_read_through_flush_and_compaction(rt: HostRuntime) -> Tested {
+    let mut store = Store::new(rt.alloc());
+    read_through(&rt, rt.alloc(), &mut store)
 }
 
 /// Writes an apple and a pear into a table, a new apple into another, and deletes the pear.
@@ -108,14 +114,19 @@ fn has_newest(store: &mut Store, now: u64) -> Result<bool> {
     Ok(has(store, b"apple", now, b"green")? && has_none(store, b"pear", now)?)
 }
 
+/// Fills a store's tables and its memory, and reads the newest versions.
+fn read_newest(rt: &impl Abort, alloc: Global, store: &mut Store) -> Tested {
+    let at = fill_tables(alloc, store)?;
+    store.compact(at.now)?;
+    assert!(rt; has_none(store, b"apple", at.second)? && has_newest(store, at.now)?);
+    store.flush()?;
+    store.compact(at.now)?;
+    assert!(rt; has_newest(store, at.now)? && has_none(store, b"plum", at.now)?);
+    Ok(())
+}
+
 #[test]
 fn memory_is_newer_than_tables(rt: HostRuntime) -> Tested {
     let mut store = Store::new(rt.alloc());
-    let at = fill_tables(rt.alloc(), &mut store)?;
-    store.compact(at.now)?;
-    assert!(rt; has_none(&mut store, b"apple", at.second)? && has_newest(&mut store, at.now)?);
-    store.flush()?;
-    store.compact(at.now)?;
-    assert!(rt; has_newest(&mut store, at.now)? && has_none(&mut store, b"plum", at.now)?);
-    Ok(())
+    read_newest(&rt, rt.alloc(), &mut store)
 }

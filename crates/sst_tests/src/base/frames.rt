@@ -1,6 +1,6 @@
 // Frames, headers and streams over slow and failing devices, and where one allocation fails.
+use super::devices::{Failure, SlowFile, SlowReader, SlowWriter};
 use crate::Tested;
-use crate::devices::{Failure, SlowFile, SlowReader, SlowWriter};
 use sst_base::checksum::{ChecksummedReader, ChecksummedWriter};
 use sst_base::hash::ByteSum;
 use sst_base::table::block::{Block, BlockHandle, BlockOffset, BlockType, Header};

@@ -1,7 +1,7 @@
 //! A refused allocation: the run ends whole, or with `E15` or `E1` and nothing or a beginning of
 //! what it should print. These are the tests to run with each allocation failing in turn; the
 //! others may fail there.
-use crate::scripts::{Run, make_run};
+use super::scripts::{Run, make_run};
 use sst_base::Error;
 use sst_program::fault::Fault;
 use std::fs;
