@@ -48,7 +48,7 @@ impl SyncWrite for Sink {
 #[derive(Drop)]
 pub struct BufferedFile<F: Write + Drop> {
     buffered: BufWriter<F>,
-    // whether no byte was written since the last sync
+    // whether the system has synced the file, and no byte was written since then
     is_synced: bool,
 }
 
@@ -89,10 +89,19 @@ impl<F: Write + Drop> Write for BufferedFile<F> {
     }
 }
 
-impl<F: Write + OpenFile + Drop> SyncWrite for BufferedFile<F> {
-    ghost is_synced = { λ w. IsTrue w.is_synced × (writer_buffer w.buffered ≡ []) };
-
-    fn sync(&mut self) -> Result<()> {
+impl<F: Write + OpenFile + Drop> BufferedFile<F> {
+    /// Passes on all that was written, and waits until the file is where it stays, as
+    /// [`SyncWrite::sync`] does.
+    ///
+    /// # Errors
+    ///
+    /// That of the system.
+    pub fn sync_all(&mut self) -> io::Result<()>
+        ensures synced { OnOk result
+            (IsTrue self.new.is_synced × (writer_buffer self.new.buffered ≡ [])) }
+        ensures kept { Keeps (writer_contents F.contents self.old.buffered)
+            (writer_contents F.contents self.new.buffered) }
+    {
         self.buffered.flush()?;
         sync_file(self.buffered.get_ref())?;
         self.is_synced = true;
@@ -100,14 +109,20 @@ impl<F: Write + OpenFile + Drop> SyncWrite for BufferedFile<F> {
     }
 }
 
+impl<F: Write + OpenFile + Drop> SyncWrite for BufferedFile<F> {
+    ghost is_synced = { λ w. IsTrue w.is_synced × (writer_buffer w.buffered ≡ []) };
+
+    fn sync(&mut self) -> Result<()> {
+        self.sync_all()?;
+        Ok(())
+    }
+}
+
 // Waits until a file is where it stays. A pipe and most devices hold nothing that could be synced,
 // which the system reports as an invalid argument.
-fn sync_file<F: OpenFile>(file: &F) -> Result<()>
-    ensures { IsOkUnless result Error.Io }
-{
+fn sync_file<F: OpenFile>(file: &F) -> io::Result<()> {
     match file.sync_all() {
-        Ok(()) => Ok(()),
         Err(error) if error.kind() == ErrorKind::InvalidInput => Ok(()),
-        Err(_) => Err(Error::Io),
+        synced => synced,
     }
 }

@@ -15,17 +15,23 @@ use std::io;
 use std::io::Write;
 use std::rt::{Clock, Files};
 
-// What a data block holds.
+/// What a data block holds.
 #[derive(Drop)]
-struct Held {
-    entries: usize,
-    first: InternalValue,
-    // none where the first is the last
-    last: Option<InternalValue>,
+pub struct Held {
+    /// The number of entries.
+    pub entries: usize,
+    /// The first entry.
+    pub first: InternalValue,
+    /// The last one; none where the first is the last.
+    pub last: Option<InternalValue>,
 }
 
-// What a data block holds.
-fn held_in<H: BlockHash>(alloc: Global, block: &DataBlock<H>) -> sstable_blocks::Result<Held> {
+/// Returns what a data block holds.
+///
+/// # Errors
+///
+/// `Error::Memory` if an allocation fails.
+pub fn held_in<H: BlockHash>(alloc: Global, block: &DataBlock<H>) -> sstable_blocks::Result<Held> {
     let mut views = block.by_ref().entries();
     let Some(first) = views.next() else {
         return Err(Error::BadEntry);

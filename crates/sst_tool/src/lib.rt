@@ -5,6 +5,7 @@
 mod blocks;
 mod check;
 mod fault;
+mod frames;
 mod get;
 mod hash;
 mod keys;
@@ -12,13 +13,14 @@ mod limited;
 mod lines;
 mod merge;
 mod merged;
-mod new_table;
+mod new_tables;
 mod observed;
 mod open;
 mod ordered;
 mod place;
 mod probes;
 mod progress;
+mod salvage;
 mod scan;
 mod seen_back;
 mod show;
@@ -38,7 +40,7 @@ use std::alloc::Global;
 use std::io::Write;
 use std::rt::Clock;
 pub use words::{command, is_list};
-use words::{BLOCKS, CHECK, GET, INDEX, MERGE, SCAN, STAT};
+use words::{BLOCKS, CHECK, GET, INDEX, MERGE, SALVAGE, SCAN, STAT};
 
 // Runs a command on tables of this hash function.
 fn run_on<H: BlockHash, R: LockFiles + Clock + Eprint, O: Write>(
@@ -56,6 +58,7 @@ fn run_on<H: BlockHash, R: LockFiles + Clock + Eprint, O: Write>(
         BLOCKS => blocks::run::<H, R, O>(progress, alloc, words, output),
         INDEX => blocks::run_index::<H, R, O>(progress, alloc, words, output),
         MERGE => merge::run::<H, R, O>(progress, alloc, words, output),
+        SALVAGE => salvage::run::<H, R, O>(progress, alloc, words, output),
         _ => Ok(()),
     }
 }

@@ -1,5 +1,5 @@
 //! The tables that are merged, as sources of entries.
-use crate::fault::{Cause, Result};
+use crate::fault::Result;
 use crate::open::{CountedFile, open, test_frames};
 use crate::ordered::{Direction, Ordered};
 use crate::progress::Progress;
@@ -34,14 +34,6 @@ impl Notes {
             written: Cell::new(0),
             failed: Cell::new(None),
             cause: Cell::new(None),
-        }
-    }
-
-    /// Returns why a write of the new table failed.
-    pub fn write_cause(&self) -> Cause {
-        match self.cause.get() {
-            Some(error) => Cause::System(error),
-            None => Cause::Unknown,
         }
     }
 }

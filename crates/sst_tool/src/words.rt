@@ -24,6 +24,9 @@ pub const INDEX: &str = "index";
 /// The name of the command that merges tables.
 pub const MERGE: &str = "merge";
 
+/// The name of the command that writes what a damaged table still holds.
+pub const SALVAGE: &str = "salvage";
+
 /// The name of the word for a table file.
 pub const FILE: &str = "FILE";
 
@@ -53,6 +56,9 @@ pub const KEYS_ONLY: &str = "keys-only";
 
 /// The name of the option for the size at which a block ends.
 pub const BLOCK: &str = "block";
+
+/// The name of the option for the size at which a table ends.
+pub const TABLE_SIZE: &str = "table-size";
 
 /// The name of the option for the restart interval.
 pub const INTERVAL: &str = "interval";
@@ -174,10 +180,32 @@ const GET_WORDS: [Word; 4] = [
 
 const CHECK_WORDS: [Word; 2] = [(FILE, Kind::Several, "Table files"), TABLE_HASH];
 
-const MERGE_WORDS: [Word; 10] = [
-    (OUT, Kind::Out, "The table file to write"),
+const NEW_TABLE: Word = (OUT, Kind::Out, "The table file to write");
+
+const REPLACED: Word = (FORCE, Kind::Flag, "Replace OUT where it is there");
+
+const BLOCK_SIZE: Word = (
+    BLOCK,
+    Kind::Number("SIZE"),
+    "The bytes of encoded entries at which a block ends; else 4096",
+);
+
+const RESTARTS: Word = (
+    INTERVAL,
+    Kind::Byte("N"),
+    "The entries of a restart interval, 1 to 255; else 16",
+);
+
+const FILTER_BITS: Word = (
+    BITS,
+    Kind::Short("N"),
+    "The filter's bits for a key, 0 for no filter; else 10",
+);
+
+const MERGE_WORDS: [Word; 11] = [
+    NEW_TABLE,
     (FILE, Kind::Several, "Table files, the newest first"),
-    (FORCE, Kind::Flag, "Replace OUT where it is there"),
+    REPLACED,
     (
         HASH,
         Kind::Hash,
@@ -199,23 +227,27 @@ const MERGE_WORDS: [Word; 10] = [
         "Drop the tombstones that no read sees past: no older table is below",
     ),
     (
-        BLOCK,
+        TABLE_SIZE,
         Kind::Number("SIZE"),
-        "The bytes of encoded entries at which a block ends; else 4096",
+        "Write several tables, each of which ends at this many bytes of encoded entries; their \
+        numbers, from 1 on, are in OUT in the place of {}, or behind a dot at its end",
     ),
-    (
-        INTERVAL,
-        Kind::Byte("N"),
-        "The entries of a restart interval, 1 to 255; else 16",
-    ),
-    (
-        BITS,
-        Kind::Short("N"),
-        "The filter's bits for a key, 0 for no filter; else 10",
-    ),
+    BLOCK_SIZE,
+    RESTARTS,
+    FILTER_BITS,
 ];
 
-const COMMANDS: [Rules; 7] = [
+const SALVAGE_WORDS: [Word; 7] = [
+    NEW_TABLE,
+    TABLE,
+    REPLACED,
+    TABLE_HASH,
+    BLOCK_SIZE,
+    RESTARTS,
+    FILTER_BITS,
+];
+
+const COMMANDS: [Rules; 8] = [
     (STAT, "Prints what a table holds", &STAT_WORDS, ""),
     (SCAN, "Prints the entries of a table", &SCAN_WORDS, ""),
     (GET, "Prints the newest version of a key", &GET_WORDS, ""),
@@ -243,6 +275,12 @@ const COMMANDS: [Rules; 7] = [
         "Merges tables into one",
         &MERGE_WORDS,
         "OUT is put in place whole, or stays as it was. The status is 3 where no entry is left.",
+    ),
+    (
+        SALVAGE,
+        "Writes what the whole blocks of a damaged table hold as a new one",
+        &SALVAGE_WORDS,
+        "Each block that is lost is named, and the status is 0 all the same; it is 3 where no block is whole.",
     ),
 ];
 

@@ -5,7 +5,7 @@ use sst_program::pipe::{PipeOutput, QuietFaults};
 use sst_tool::{Progress, command, is_list, run_command};
 use std::cell::Cell;
 use std::env;
-use std::io::{IsTerminal, Write};
+use std::io::{ErrorKind, IsTerminal, Write};
 use std::process::ExitCode;
 
 // Begins the progress of a command. It is shown where standard error is a terminal, and standard
@@ -54,7 +54,14 @@ fn main(rt: HostRuntime) -> anyhow::Result<ExitCode> {
     let is_closed = Cell::new(false);
     let mut output = PipeOutput::new(rt.stdout(), &is_closed);
     let mut faults = QuietFaults::new(rt.stderr(), &is_closed);
-    let words: Vec<String> = env::args(&rt)?.collect(rt.alloc())?;
+    let words: Vec<String> = match env::args(&rt) {
+        Ok(words) => words.collect(rt.alloc())?,
+        Err(error) if error.kind() == ErrorKind::InvalidData => {
+            let _ = writeln!(faults, "sstool: a word is not UTF-8");
+            return Ok(ExitCode::from(2));
+        }
+        Err(error) => return Err(error.into()),
+    };
     let status = run(&rt, words.as_slice(), &mut output, &mut faults)?;
     Ok(ExitCode::from(status))
 }

@@ -1,0 +1,318 @@
+//! `salvage`: what the whole blocks of a damaged table hold, as a new table.
+ghost use Rattle.std.specs.Prelude.{None, IfOk};
+ghost use Rattle.sst_merge.specs.Sources.{TakesFirst};
+
+use crate::blocks::held_in;
+use crate::fault::{Fault, Result, Shown};
+use crate::frames::data_frames;
+use crate::merge::{end_tables, write_source};
+use crate::new_tables::NewTables;
+use crate::open::source_of;
+use crate::progress::Progress;
+use crate::words::{FILE, OUT};
+use clap::ArgMatches;
+use sst_block_kinds::table::data_block::IntoEntries;
+use sst_merge::Source;
+use sst_program::new_file::LockFiles;
+use sstable_blocks::run::checked::{data_block_from, index_block_from};
+use sstable_blocks::run::footer::read_footer;
+use sstable_blocks::{
+    BlockHandle, BlockHash, DataBlock, Error, FrameSource, InternalValue, SizedSource, Steps,
+};
+use std::alloc::Global;
+use std::cell::Cell;
+use std::io;
+use std::io::Write;
+use std::rt::Clock;
+
+// What a salvage notes as it goes.
+#[derive(Drop)]
+struct Notes {
+    entries: Cell<u64>,
+    blocks: Cell<u64>,
+    lost: Cell<u64>,
+    // why a write of the new table failed, as the system says
+    cause: Cell<Option<io::Error>>,
+}
+
+impl Notes {
+    // Begins a salvage.
+    fn new() -> Notes {
+        Notes {
+            entries: Cell::new(0),
+            blocks: Cell::new(0),
+            lost: Cell::new(0),
+            cause: Cell::new(None),
+        }
+    }
+}
+
+// Counts one.
+fn count(counter: &Cell<u64>) {
+    counter.set(counter.get().saturating_add(1));
+}
+
+// The blocks of a table that are whole and follow each other.
+#[derive(Drop)]
+struct WholeBlocks<'p, H: BlockHash, S, R> {
+    source: S,
+    // the blocks that were not read, from the last to the first
+    handles: Vec<BlockHandle>,
+    // the block of which entries are left
+    block: Option<IntoEntries<H>>,
+    // the last entry of the blocks that were kept
+    last: Option<InternalValue>,
+    file: &'p str,
+    notes: &'p Notes,
+    progress: &'p Progress<'p, R>,
+}
+
+// The entries of a block that was read, if it is whole and does not sort before the last entry.
+fn kept_entries<H: BlockHash>(
+    alloc: Global,
+    read: sstable_blocks::Result<DataBlock<H>>,
+    last: &mut Option<InternalValue>,
+) -> sstable_blocks::Result<IntoEntries<H>> {
+    let block = read?;
+    let held = held_in(alloc, &block)?;
+    let follows = match &*last {
+        Some(last) => last.key().cmp(held.first.key()).is_le(),
+        None => true,
+    };
+    if !follows {
+        return Err(Error::OutOfOrder);
+    }
+    *last = Some(held.last.unwrap_or(held.first));
+    Ok(block.into_entries())
+}
+
+impl<'p, H: BlockHash, S: FrameSource, R: Clock + Eprint> WholeBlocks<'p, H, S, R> {
+    // Says that a block is lost, and why.
+    fn lose(&self, handle: &BlockHandle, error: Error) {
+        count(&self.notes.lost);
+        let (file, at) = (self.file, *handle.offset());
+        let cause = Shown::new(error, self.progress.cause());
+        self.progress.clear();
+        let _ = eprintln!(self.progress.rt();
+            "sstool: {file}: lost: block at offset {at}: {cause}"
+        );
+    }
+
+    // Opens the next block that is whole and follows the one before. Returns whether there is one.
+    fn next_block(&mut self, alloc: Global) -> sstable_blocks::Result<bool> {
+        while let Some(handle) = self.handles.pop() {
+            let read = data_block_from::<H, S>(alloc, &mut self.source, &handle);
+            match kept_entries(alloc, read, &mut self.last) {
+                Ok(entries) => {
+                    count(&self.notes.blocks);
+                    self.block = Some(entries);
+                    return Ok(true);
+                }
+                Err(Error::Memory) => return Err(Error::Memory),
+                Err(error) => self.lose(&handle, error),
+            }
+        }
+        Ok(false)
+    }
+
+    // Takes the next entry of the block that is open.
+    fn next_in_block(&mut self, alloc: Global) -> sstable_blocks::Result<Option<InternalValue>> {
+        match &mut self.block {
+            Some(entries) => entries.next_entry(alloc),
+            None => Ok(None),
+        }
+    }
+
+    // Takes the next entry.
+    fn next_entry(&mut self, alloc: Global) -> sstable_blocks::Result<Option<InternalValue>> {
+        if let Some(entry) = self.next_in_block(alloc)? {
+            return Ok(Some(entry));
+        }
+        if self.next_block(alloc)? {
+            return self.next_in_block(alloc);
+        }
+        Ok(None)
+    }
+}
+
+// The entries of the blocks of a table that are whole, fewer than 2^64.
+#[derive(Drop)]
+struct Salvaged<'p, H: BlockHash, S, R> {
+    blocks: WholeBlocks<'p, H, S, R>,
+    most: u64,
+    ended: Option<Error>,
+}
+
+impl<'p, H: BlockHash, S: FrameSource, R: Clock + Eprint> Salvaged<'p, H, S, R> {
+    // Takes the next entry, and counts it.
+    fn next_counted(&mut self, alloc: Global) -> sstable_blocks::Result<Option<InternalValue>>
+        ensures first { IfOk result (λ r. TakesFirst
+            (record { list = None; most = self.old.most; ended = None }) r
+            (record { list = None; most = self.new.most; ended = None })) }
+    {
+        if self.most == 0 {
+            return Ok(None);
+        }
+        let next = self.blocks.next_entry(alloc)?;
+        if next.is_some() {
+            self.most -= 1;
+            count(&self.blocks.notes.entries);
+        }
+        Ok(next)
+    }
+}
+
+impl<'p, H: BlockHash, S: FrameSource, R: Clock + Eprint> Source<InternalValue>
+    for Salvaged<'p, H, S, R> {
+    ghost left = { λ s. record { list = None; most = s.most; ended = s.ended } };
+
+    fn next_entry(&mut self, alloc: Global) -> sstable_blocks::Result<Option<InternalValue>> {
+        if let Some(error) = self.ended {
+            return Err(error);
+        }
+        let next = self.next_counted(alloc);
+        if let Err(error) = &next {
+            self.ended = Some(*error);
+        }
+        next
+    }
+}
+
+// The frames of the data blocks of a table, by its index.
+fn frames_by_index<H: BlockHash, S: SizedSource>(
+    alloc: Global,
+    source: &mut S,
+) -> sstable_blocks::Result<Vec<BlockHandle>> {
+    let len = source.byte_len()?;
+    let handles = read_footer(alloc, source, len)?;
+    let index = index_block_from::<H, S>(alloc, source, &handles.index)?;
+    let mut found = Vec::new(alloc);
+    let mut number = 0usize;
+    while number < index.len() {
+        found.push(index.handle_at(number, &mut Steps::new()))?;
+        number += 1;
+    }
+    Ok(found)
+}
+
+// The frames of the data blocks of a file by their headers, which are found for this reason.
+fn frames_by_headers<H: BlockHash, S: SizedSource, R: Clock + Eprint>(
+    progress: &Progress<'_, R>,
+    alloc: Global,
+    file: &str,
+    source: &mut S,
+    error: Error,
+) -> sstable_blocks::Result<Vec<BlockHandle>> {
+    let fault = progress.fault(alloc, file, error);
+    let _ = eprintln!(progress.rt(); "sstool: {fault}; blocks are found by their headers");
+    let (found, passed) = data_frames::<H, S>(alloc, source)?;
+    if passed > 0 {
+        let _ = eprintln!(progress.rt(); "sstool: {file}: {passed} bytes are in no block");
+    }
+    Ok(found)
+}
+
+// The frames of the data blocks of a file, from the last to the first: by the index, or, where that
+// cannot be read, by their headers.
+fn frames_of<H: BlockHash, S: SizedSource, R: Clock + Eprint>(
+    progress: &Progress<'_, R>,
+    alloc: Global,
+    file: &str,
+    source: &mut S,
+) -> Result<Vec<BlockHandle>> {
+    let found = match frames_by_index::<H, S>(alloc, source) {
+        Err(error) if error != Error::Memory => {
+            frames_by_headers::<H, S, R>(progress, alloc, file, source, error)
+        }
+        found => found,
+    };
+    match found {
+        Ok(mut found) => {
+            found.reverse();
+            Ok(found)
+        }
+        Err(error) => Err(progress.fault(alloc, file, error)),
+    }
+}
+
+// Writes what the whole blocks of a file hold.
+fn fill<'p, H: BlockHash, R: LockFiles + Clock + Eprint>(
+    progress: &'p Progress<'p, R>,
+    alloc: Global,
+    words: &ArgMatches<'p>,
+    notes: &'p Notes,
+    tables: &mut NewTables<'_, '_, R>,
+) -> Result<()> {
+    let file = words.get_str(FILE).unwrap_or("");
+    let mut source = source_of(progress, alloc, file)?;
+    let handles = frames_of::<H, _, R>(progress, alloc, file, &mut source)?;
+    progress.expect_blocks(handles.len() as u64);
+    let blocks = WholeBlocks::<'p, H, _, R> {
+        source,
+        handles,
+        block: None,
+        last: None,
+        file,
+        notes,
+        progress,
+    };
+    let salvaged = Salvaged {
+        blocks,
+        most: u64::MAX,
+        ended: None,
+    };
+    match write_source::<H, R, _>(alloc, salvaged, words, tables) {
+        Ok(()) if tables.count() == 0 => Err(Fault::NoEntries),
+        Ok(()) => Ok(()),
+        Err(error) => Err(tables.fault(error)),
+    }
+}
+
+// Writes what the whole blocks of a file hold as a new table.
+fn salvage<'p, H: BlockHash, R: LockFiles + Clock + Eprint>(
+    progress: &'p Progress<'p, R>,
+    alloc: Global,
+    words: &ArgMatches<'p>,
+    notes: &'p Notes,
+) -> Result<()> {
+    let mut tables = NewTables::new(progress.rt(), alloc, words, &notes.cause)?;
+    let filled = fill::<H, R>(progress, alloc, words, notes, &mut tables);
+    progress.clear();
+    end_tables(tables, filled)?;
+    Ok(())
+}
+
+/// Writes the entries of those data blocks of a table that are whole, and that do not sort before
+/// those in front of them, as a new table. Says of each other block that it is lost, and why. The
+/// blocks are those that the index names, or, where it cannot be read, those whose headers are
+/// found in the file.
+///
+/// # Errors
+///
+/// Those of the file that is read, of the new file, and `Fault::NoEntries` if no block is whole;
+/// `Fault::Written` if only the last line fails.
+pub fn run<H: BlockHash, R: LockFiles + Clock + Eprint, O: Write>(
+    progress: &Progress<'_, R>,
+    alloc: Global,
+    words: &ArgMatches<'_>,
+    output: &mut O,
+) -> Result<()> {
+    let notes = Notes::new();
+    salvage::<H, R>(progress, alloc, words, &notes)?;
+    let out = words.get_str(OUT).unwrap_or("");
+    match print_counts(&notes, out, output) {
+        Ok(()) => Ok(()),
+        Err(_) => Err(Fault::of_written(alloc, out)),
+    }
+}
+
+// Prints what was salvaged.
+fn print_counts<O: Write>(notes: &Notes, out: &str, output: &mut O) -> io::Result<()> {
+    let (entries, blocks) = (notes.entries.get(), notes.blocks.get());
+    let lost = notes.lost.get();
+    writeln!(
+        output,
+        "salvaged {entries} entries of {blocks} blocks into {out}: {lost} blocks lost"
+    )?;
+    output.flush()
+}
