@@ -3,6 +3,8 @@ pub mod Hashes
 pub mod Frames
 pub mod Keys
 pub mod Limits
+pub mod Merged
 pub mod Orders
 pub mod Probes
 pub mod Statuses
+pub mod Wanted

@@ -1,5 +1,9 @@
 //! `merge`: several tables as one.
-ghost use Rattle.sstable_blocks.specs.Run.{IsWritable};
+ghost use Rattle.std.specs.Prelude.{◌≡◌, [], Some, OnOk};
+ghost use Rattle.std.specs.Option.{option_map};
+ghost use Rattle.sst_merge.specs.Outputs.{AreWritten};
+ghost use Rattle.sst_tool.specs.Merged.{staying};
+ghost use Rattle.sstable_blocks.specs.Run.{form, IsWritable};
 
 use crate::fault::{Fault, Result};
 use crate::hash::{TableHash, hash_in};
@@ -8,7 +12,7 @@ use crate::new_tables::{Names, NewTables};
 use crate::progress::Progress;
 use crate::words::{BITS, BLOCK, BOTTOM, FILE, INTERVAL, LATEST, SNAPSHOT, TABLE_SIZE};
 use clap::ArgMatches;
-use sst_merge::{Compact, Head, Merge, Sizes, Source, write_tables};
+use sst_merge::{Compact, Head, Merge, Outputs, Sizes, Source, write_tables};
 use sst_program::new_file::LockFiles;
 use sstable_blocks::{BlockHash, Error, HashRatio, InternalValue, Poly31, RunConfig, SeqNo, Xxh3};
 use std::alloc::Global;
@@ -27,16 +31,18 @@ const DEFAULT_BLOCK: u64 = 4096;
 // There is no hash index.
 const NO_BUCKETS: HashRatio = HashRatio { num: 0, den: 1 };
 
-// How a table is written.
+/// How tables are written.
 #[derive(Clone, Copy)]
-struct TableForm {
-    config: RunConfig,
-    sizes: Sizes,
+pub struct TableForm {
+    /// How a run is encoded.
+    pub config: RunConfig,
+    /// Where a block and a table end.
+    pub sizes: Sizes,
 }
 
 impl TableForm {
-    // The form that the words name. With no size of a table it ends when all is written.
-    fn of_words(words: &ArgMatches<'_>) -> TableForm
+    /// Takes the form from the words. With no size of a table it ends when all is written.
+    pub fn of_words(words: &ArgMatches<'_>) -> TableForm
         ensures { IsWritable result.config }
     {
         let interval = words.get_one::<u8>(INTERVAL).unwrap_or(DEFAULT_INTERVAL);
@@ -53,45 +59,67 @@ impl TableForm {
     }
 }
 
-// The least sequence number that is read at after the merge: all versions stay where it is 0.
-fn snapshot_in(words: &ArgMatches<'_>) -> SeqNo {
-    if words.get_flag(LATEST) {
-        SeqNo::MAX
-    } else {
-        words.get_one::<u64>(SNAPSHOT).unwrap_or(0)
+// Which reads may come after a merge.
+#[derive(Clone, Copy)]
+struct Reads {
+    // the least sequence number that is read at: all versions stay where it is 0
+    snapshot: SeqNo,
+    // whether no older table is below
+    is_bottom: bool,
+}
+
+impl Reads {
+    // The reads that the words name.
+    fn of_words(words: &ArgMatches<'_>) -> Reads {
+        Reads {
+            snapshot: if words.get_flag(LATEST) {
+                SeqNo::MAX
+            } else {
+                words.get_one::<u64>(SNAPSHOT).unwrap_or(0)
+            },
+            is_bottom: words.get_flag(BOTTOM),
+        }
     }
 }
 
-/// Writes what is left of a source as tables, as the words say.
+/// Writes what is left of a source as tables of a form.
 ///
 /// # Errors
 ///
 /// Those of the source and of the tables.
-pub fn write_source<H: BlockHash, R: LockFiles, I: Source<InternalValue> + Drop>(
+pub fn write_source<H: BlockHash, I: Source<InternalValue> + Drop, O: Outputs>(
     alloc: Global,
     source: I,
-    words: &ArgMatches<'_>,
-    tables: &mut NewTables<'_, '_, R>,
-) -> sstable_blocks::Result<()> {
-    let form = TableForm::of_words(words);
+    how: TableForm,
+    tables: &mut O,
+) -> sstable_blocks::Result<()>
+    requires writable { IsWritable how.config }
+    ensures written { OnOk result (AreWritten (form H.hash64 H.hash128 how.config) O.start
+        (I.left source).list (option_map (λ _. []) (I.left source).list) (O.tables tables.old)
+        (O.tables tables.new)) }
+{
     let mut head = Head::new(alloc, source)?;
-    write_tables::<H, I, _>(alloc, &mut head, tables, form.config, form.sizes)
+    write_tables::<H, I, O>(alloc, &mut head, tables, how.config, how.sizes)
 }
 
-// Merges tables, and writes what stays of them.
-fn write_merged<H: BlockHash, R: LockFiles, I: Source<InternalValue> + Drop>(
+// Merges tables, and writes what stays of them for the reads that may come.
+fn write_merged<H: BlockHash, I: Source<InternalValue> + Drop, O: Outputs>(
     alloc: Global,
     heads: Vec<Head<InternalValue, I>>,
-    words: &ArgMatches<'_>,
+    reads: Reads,
     notes: &Notes,
-    tables: &mut NewTables<'_, '_, R>,
-) -> sstable_blocks::Result<()> {
-    let staying = Compact::new(
-        Merge::new(heads),
-        snapshot_in(words),
-        words.get_flag(BOTTOM),
-    );
-    write_source::<H, R, _>(alloc, Written::new(staying, notes), words, tables)
+    how: TableForm,
+    tables: &mut O,
+) -> sstable_blocks::Result<()>
+    requires writable { IsWritable how.config }
+    ensures written { OnOk result (AreWritten (form H.hash64 H.hash128 how.config) O.start
+        (staying reads.snapshot reads.is_bottom heads.items)
+        (option_map (λ _. []) (staying reads.snapshot reads.is_bottom heads.items))
+        (O.tables tables.old) (O.tables tables.new)) }
+{
+    let merged = Merge::new(heads);
+    let staying = Compact::new(merged, reads.snapshot, reads.is_bottom);
+    write_source::<H, _, O>(alloc, Written::new(staying, notes), how, tables)
 }
 
 // Merges tables that were opened, and writes what stays of them.
@@ -102,7 +130,9 @@ fn write_opened<H: BlockHash, R: LockFiles, I: Source<InternalValue> + Drop>(
     notes: &Notes,
     tables: &mut NewTables<'_, '_, R>,
 ) -> Result<sstable_blocks::Result<()>> {
-    Ok(write_merged::<H, R, I>(alloc, heads?, words, notes, tables))
+    let heads = heads?;
+    let (reads, how) = (Reads::of_words(words), TableForm::of_words(words));
+    Ok(write_merged::<H, I, _>(alloc, heads, reads, notes, how, tables))
 }
 
 // The fault of a merge: that of the table of which a read failed, or else of the new tables.

@@ -1,4 +1,6 @@
 //! The tables that are merged, as sources of entries.
+ghost use Rattle.std.specs.Prelude.{◌≡◌, ◌+◌, length, OnOk, IfOk};
+
 use crate::fault::Result;
 use crate::open::{CountedFile, open, test_frames};
 use crate::ordered::{Direction, Ordered};
@@ -135,7 +137,9 @@ fn head_of<'p, 'k, H: BlockHash, S: FrameSource + Drop, R>(
 }
 
 // Adds what was made.
-fn push_made<T: Drop>(made: &mut Vec<T>, one: Result<T>) -> Result<()> {
+fn push_made<T: Drop>(made: &mut Vec<T>, one: Result<T>) -> Result<()>
+    ensures { OnOk result (length made.new.items ≡ length made.old.items + 1) }
+{
     made.push(one?)?;
     Ok(())
 }
@@ -150,7 +154,9 @@ pub fn heads_of<'p, H: BlockHash, R: Files + Clock + Eprint>(
     alloc: Global,
     files: &[&str],
     notes: &'p Notes,
-) -> Result<Vec<FileHead<'p, H, R>>> {
+) -> Result<Vec<FileHead<'p, H, R>>>
+    ensures all { IfOk result (λ heads. length heads.items ≡ length files.now) }
+{
     let mut heads = Vec::new(alloc);
     for (index, file) in files.iter().enumerate() {
         let table = open::<H, R>(progress, alloc, file);

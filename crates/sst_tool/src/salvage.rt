@@ -5,7 +5,7 @@ ghost use Rattle.sst_merge.specs.Sources.{TakesFirst};
 use crate::blocks::held_in;
 use crate::fault::{Fault, Result, Shown};
 use crate::frames::data_frames;
-use crate::merge::{end_tables, write_source};
+use crate::merge::{TableForm, end_tables, write_source};
 use crate::new_tables::NewTables;
 use crate::open::source_of;
 use crate::progress::Progress;
@@ -261,7 +261,7 @@ fn fill<'p, H: BlockHash, R: LockFiles + Clock + Eprint>(
         most: u64::MAX,
         ended: None,
     };
-    match write_source::<H, R, _>(alloc, salvaged, words, tables) {
+    match write_source::<H, _, _>(alloc, salvaged, TableForm::of_words(words), tables) {
         Ok(()) if tables.count() == 0 => Err(Fault::NoEntries),
         Ok(()) => Ok(()),
         Err(error) => Err(tables.fault(error)),

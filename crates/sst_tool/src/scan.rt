@@ -3,6 +3,8 @@ ghost use Rattle.std.specs.Prelude.{◌≡◌, None, IfSome, OnOk};
 ghost use Rattle.std.specs.Io.KnownBytes.{Appends};
 ghost use Rattle.std.specs.Io.Buffered.{writer_contents};
 ghost use Rattle.sst_program.specs.Outcome.{lines_text_of};
+ghost use Rattle.sst_tool.specs.Limits.{limited};
+ghost use Rattle.sst_tool.specs.Wanted.{wanted_of};
 
 use crate::fault::{Fault, Result};
 use crate::keys::{key_in, prefix_end};
@@ -17,7 +19,7 @@ use crate::source::Scanned;
 use crate::words::{AT, FILE, FROM, JSON, KEYS_ONLY, LIMIT, PREFIX, REVERSE, TEXT, TO};
 use clap::ArgMatches;
 use sst_merge::{Snapshot, Source};
-use sstable_blocks::{BlockHash, Error, FrameSource, InternalValue, Table};
+use sstable_blocks::{BlockHash, Error, FrameSource, InternalValue, SeqNo, Table};
 use std::alloc::Global;
 use std::io::Write;
 use std::ops::Bound;
@@ -61,30 +63,67 @@ fn print_all<I: Source<InternalValue>, O: Write + Drop>(
     Ok(())
 }
 
-// Prints the entries of a source, as many as the words say at most.
-fn print_limited<I: Source<InternalValue> + Drop, O: Write + Drop>(
-    alloc: Global,
-    words: &ArgMatches<'_>,
-    source: I,
-    lines: &mut Lines<O>,
-) -> std::result::Result<(), Stop> {
-    let count = words.get_one::<u64>(LIMIT).unwrap_or(u64::MAX);
-    print_all(alloc, &mut Limited::new(source, count), lines)
+/// Which entries are printed.
+#[derive(Clone, Copy)]
+pub struct Wanted {
+    /// What a read at this sequence number sees; else all.
+    pub at: Option<SeqNo>,
+    /// In which order.
+    pub direction: Direction,
+    /// At most how many.
+    pub limit: u64,
 }
 
-// Prints what is left of a scan, as the words say.
-fn print_scanned<I: Source<InternalValue> + Drop, O: Write + Drop>(
+impl Wanted {
+    // Those that the words name.
+    fn of_words(words: &ArgMatches<'_>) -> Wanted {
+        Wanted {
+            at: words.get_one::<u64>(AT),
+            direction: if words.get_flag(REVERSE) {
+                Direction::Backward
+            } else {
+                Direction::Forward
+            },
+            limit: words.get_one::<u64>(LIMIT).unwrap_or(u64::MAX),
+        }
+    }
+}
+
+// Prints the entries of a source, no more than so many.
+fn print_limited<I: Source<InternalValue> + Drop, O: Write + Drop>(
     alloc: Global,
-    words: &ArgMatches<'_>,
+    limit: u64,
     source: I,
     lines: &mut Lines<O>,
-) -> std::result::Result<(), Stop> {
-    match words.get_one::<u64>(AT) {
-        None => print_limited(alloc, words, source, lines),
-        Some(at) if words.get_flag(REVERSE) => {
-            print_limited(alloc, words, SeenBack::new(source, at), lines)
+) -> std::result::Result<(), Stop>
+    ensures printed { OnOk result (lines.old.form ≡ None
+        → IfSome (limited limit (I.left source)).list (λ items.
+        Appends (writer_contents O.contents lines.old.output)
+        (writer_contents O.contents lines.new.output) (lines_text_of items))) }
+{
+    print_all(alloc, &mut Limited::new(source, limit), lines)
+}
+
+// Prints the wanted entries of what is left of a scan in their order.
+fn print_scanned<I: Source<InternalValue> + Drop, O: Write + Drop>(
+    alloc: Global,
+    wanted: Wanted,
+    source: I,
+    lines: &mut Lines<O>,
+) -> std::result::Result<(), Stop>
+    ensures printed { OnOk result (lines.old.form ≡ None
+        → IfSome (wanted_of wanted (I.left source)).list (λ items.
+        Appends (writer_contents O.contents lines.old.output)
+        (writer_contents O.contents lines.new.output) (lines_text_of items))) }
+{
+    match (wanted.at, wanted.direction) {
+        (None, _) => print_limited(alloc, wanted.limit, source, lines),
+        (Some(at), Direction::Backward) => {
+            print_limited(alloc, wanted.limit, SeenBack::new(source, at), lines)
         }
-        Some(at) => print_limited(alloc, words, Snapshot::new(source, at), lines),
+        (Some(at), Direction::Forward) => {
+            print_limited(alloc, wanted.limit, Snapshot::new(source, at), lines)
+        }
     }
 }
 
@@ -159,15 +198,6 @@ fn fault_of<R>(progress: &Progress<'_, R>, alloc: Global, file: &str, stop: Stop
     }
 }
 
-// The order in which entries are printed.
-fn direction_of(words: &ArgMatches<'_>) -> Direction {
-    if words.get_flag(REVERSE) {
-        Direction::Backward
-    } else {
-        Direction::Forward
-    }
-}
-
 // Prints the entries of a range of a table of a file.
 fn print_range_in<H: BlockHash, S: FrameSource + Drop, R, O: Write + Drop>(
     progress: &Progress<'_, R>,
@@ -180,10 +210,10 @@ fn print_range_in<H: BlockHash, S: FrameSource + Drop, R, O: Write + Drop>(
     let file = words.get_str(FILE).unwrap_or("");
     test_frames(alloc, file, table.index())?;
     progress.expect_blocks(table.index().len() as u64);
-    let direction = direction_of(words);
+    let wanted = Wanted::of_words(words);
     let scan = table.scan_range(range.from(), range.to());
-    let source = Ordered::new(Scanned::new(scan, direction), direction);
-    match print_scanned(alloc, words, source, lines) {
+    let source = Ordered::new(Scanned::new(scan, wanted.direction), wanted.direction);
+    match print_scanned(alloc, wanted, source, lines) {
         Ok(()) => Ok(()),
         Err(stop) => Err(fault_of(progress, alloc, file, stop)),
     }
