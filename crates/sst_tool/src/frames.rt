@@ -1,4 +1,6 @@
 //! Data blocks of a file, found without its index: by their headers.
+ghost use Rattle.std.specs.Prelude.{◌≤◌};
+
 use sst_base::table::block::header::HEADER_LEN;
 use sstable_blocks::{
     BlockHandle, BlockHash, BlockOffset, BlockType, Error, FrameSource, Header, Result, SizedSource,
@@ -42,17 +44,17 @@ fn frame_in<H: BlockHash>(bytes: &[u8]) -> Option<Frame> {
 }
 
 // The number of bytes before the first that may begin a header, behind the first byte.
-fn bytes_before_magic(bytes: &[u8]) -> usize {
-    let mut at = 1usize;
-    while at < bytes.len() {
+fn bytes_before_magic(bytes: &[u8]) -> usize
+    ensures { 1 ≤ result }
+{
+    for at in 1..bytes.len() {
         let (_, rest) = bytes.split_at(at);
         let begins = rest.len().min(MAGIC.len());
         if rest[..begins] == MAGIC[..begins] {
             return at;
         }
-        at += 1;
     }
-    at
+    bytes.len().max(1)
 }
 
 /// Finds the frames of the data blocks of a file by their headers, from its front on. Returns their

@@ -119,7 +119,8 @@ fn write_merged<H: BlockHash, I: Source<InternalValue> + Drop, O: Outputs>(
 {
     let merged = Merge::new(heads);
     let staying = Compact::new(merged, reads.snapshot, reads.is_bottom);
-    write_source::<H, _, O>(alloc, Written::new(staying, notes), how, tables)
+    let written = Written::new(staying, notes);
+    write_source::<H, _, O>(alloc, written, how, tables)
 }
 
 // Merges tables that were opened, and writes what stays of them.
@@ -128,7 +129,7 @@ fn write_opened<H: BlockHash, R: LockFiles, I: Source<InternalValue> + Drop>(
     heads: Result<Vec<Head<InternalValue, I>>>,
     words: &ArgMatches<'_>,
     notes: &Notes,
-    tables: &mut NewTables<'_, '_, R>,
+    tables: &mut NewTables<'_, '_, '_, R>,
 ) -> Result<sstable_blocks::Result<()>> {
     let heads = heads?;
     let (reads, how) = (Reads::of_words(words), TableForm::of_words(words));
@@ -141,7 +142,7 @@ fn fault_of<R: LockFiles, P>(
     alloc: Global,
     words: &ArgMatches<'_>,
     notes: &Notes,
-    tables: &mut NewTables<'_, '_, R>,
+    tables: &mut NewTables<'_, '_, '_, R>,
     error: Error,
 ) -> Fault {
     let files = words.get_strs(FILE).unwrap_or(&[]);
@@ -157,7 +158,7 @@ fn fill<'p, H: BlockHash, N: BlockHash, R: LockFiles + Clock + Eprint>(
     alloc: Global,
     words: &ArgMatches<'_>,
     notes: &'p Notes,
-    tables: &mut NewTables<'_, '_, R>,
+    tables: &mut NewTables<'_, '_, '_, R>,
 ) -> Result<()> {
     let files = words.get_strs(FILE).unwrap_or(&[]);
     let heads = heads_of::<H, R>(progress, alloc, files, notes);
@@ -173,7 +174,10 @@ fn fill<'p, H: BlockHash, N: BlockHash, R: LockFiles + Clock + Eprint>(
 /// # Errors
 ///
 /// That of the writing, or of the first file that is not put in place.
-pub fn end_tables<R: LockFiles>(tables: NewTables<'_, '_, R>, filled: Result<()>) -> Result<usize> {
+pub fn end_tables<R: LockFiles>(
+    tables: NewTables<'_, '_, '_, R>,
+    filled: Result<()>,
+) -> Result<usize> {
     if let Err(fault) = filled {
         tables.discard();
         return Err(fault);
@@ -187,7 +191,7 @@ pub fn end_tables<R: LockFiles>(tables: NewTables<'_, '_, R>, filled: Result<()>
 fn merge_into<'p, H: BlockHash, N: BlockHash, R: LockFiles + Clock + Eprint>(
     progress: &'p Progress<'p, R>,
     alloc: Global,
-    words: &ArgMatches<'p>,
+    words: &ArgMatches<'_>,
     notes: &'p Notes,
 ) -> Result<usize> {
     let mut tables = NewTables::new(progress.rt(), alloc, words, &notes.cause)?;

@@ -80,7 +80,9 @@ pub struct Written<'n, I> {
 
 impl<'n, I> Written<'n, I> {
     /// Counts the entries of a source as written.
-    pub fn new(source: I, notes: &'n Notes) -> Written<'n, I> {
+    pub fn new(source: I, notes: &'n Notes) -> Written<'n, I>
+        ensures { result.source ≡ source }
+    {
         Written { source, notes }
     }
 }

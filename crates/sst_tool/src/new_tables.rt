@@ -92,10 +92,10 @@ impl<'w> Names<'w> {
 /// The tables that a command writes, each into a new file, which are put in place when all are
 /// whole.
 #[derive(Drop)]
-pub struct NewTables<'r, 'c, R: LockFiles> {
+pub struct NewTables<'r, 'w, 'c, R: LockFiles> {
     rt: &'r R,
     alloc: Global,
-    names: Names<'r>,
+    names: Names<'w>,
     is_forced: bool,
     // the file of the next table, where it is made
     next: Option<NewFile<'r, R>>,
@@ -132,7 +132,7 @@ fn discard<R: LockFiles>(file: Option<NewFile<'_, R>>) {
     }
 }
 
-impl<'r, 'c, R: LockFiles> NewTables<'r, 'c, R> {
+impl<'r, 'w, 'c, R: LockFiles> NewTables<'r, 'w, 'c, R> {
     /// Makes the file of the first table. Why a write fails is noted in `cause`.
     ///
     /// # Errors
@@ -141,9 +141,9 @@ impl<'r, 'c, R: LockFiles> NewTables<'r, 'c, R> {
     pub fn new(
         rt: &'r R,
         alloc: Global,
-        words: &ArgMatches<'r>,
+        words: &ArgMatches<'w>,
         cause: &'c Cell<Option<io::Error>>,
-    ) -> Result<NewTables<'r, 'c, R>> {
+    ) -> Result<NewTables<'r, 'w, 'c, R>> {
         let names = Names::of_words(words);
         let is_forced = words.get_flag(FORCE);
         let first = names.name(alloc, 1)?;
@@ -242,7 +242,7 @@ fn put_in_place<R: LockFiles>(
     Err(Fault::of_open(alloc, name.as_str(), cause))
 }
 
-impl<'r, 'c, R: LockFiles> Outputs for NewTables<'r, 'c, R> {
+impl<'r, 'w, 'c, R: LockFiles> Outputs for NewTables<'r, 'w, 'c, R> {
     ghost use Rattle.std.specs.Prelude.{map, None};
 
     type Writer = NotedFile<'c, R::File>;

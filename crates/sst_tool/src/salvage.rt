@@ -17,7 +17,7 @@ use sst_program::new_file::LockFiles;
 use sstable_blocks::run::checked::{data_block_from, index_block_from};
 use sstable_blocks::run::footer::read_footer;
 use sstable_blocks::{
-    BlockHandle, BlockHash, DataBlock, Error, FrameSource, InternalValue, SizedSource, Steps,
+    BlockHandle, BlockHash, DataBlock, Error, FrameSource, InternalValue, SizedSource,
 };
 use std::alloc::Global;
 use std::cell::Cell;
@@ -54,7 +54,7 @@ fn count(counter: &Cell<u64>) {
 
 // The blocks of a table that are whole and follow each other.
 #[derive(Drop)]
-struct WholeBlocks<'p, H: BlockHash, S, R> {
+struct WholeBlocks<'p, 'w, H: BlockHash, S, R> {
     source: S,
     // the blocks that were not read, from the last to the first
     handles: Vec<BlockHandle>,
@@ -62,7 +62,7 @@ struct WholeBlocks<'p, H: BlockHash, S, R> {
     block: Option<IntoEntries<H>>,
     // the last entry of the blocks that were kept
     last: Option<InternalValue>,
-    file: &'p str,
+    file: &'w str,
     notes: &'p Notes,
     progress: &'p Progress<'p, R>,
 }
@@ -86,7 +86,7 @@ fn kept_entries<H: BlockHash>(
     Ok(block.into_entries())
 }
 
-impl<'p, H: BlockHash, S: FrameSource, R: Clock + Eprint> WholeBlocks<'p, H, S, R> {
+impl<'p, 'w, H: BlockHash, S: FrameSource, R: Clock + Eprint> WholeBlocks<'p, 'w, H, S, R> {
     // Says that a block is lost, and why.
     fn lose(&self, handle: &BlockHandle, error: Error) {
         count(&self.notes.lost);
@@ -135,42 +135,44 @@ impl<'p, H: BlockHash, S: FrameSource, R: Clock + Eprint> WholeBlocks<'p, H, S, 
     }
 }
 
+// Takes the next entry of whole blocks, and counts it.
+fn next_counted<H: BlockHash, S: FrameSource, R: Clock + Eprint>(
+    alloc: Global,
+    blocks: &mut WholeBlocks<'_, '_, H, S, R>,
+    most: &mut u64,
+) -> sstable_blocks::Result<Option<InternalValue>>
+    ensures first { IfOk result (λ r. TakesFirst
+        (record { list = None; most = most.old; ended = None }) r
+        (record { list = None; most = most.new; ended = None })) }
+{
+    if *most == 0 {
+        return Ok(None);
+    }
+    let next = blocks.next_entry(alloc)?;
+    if next.is_some() {
+        *most -= 1;
+        count(&blocks.notes.entries);
+    }
+    Ok(next)
+}
+
 // The entries of the blocks of a table that are whole, fewer than 2^64.
 #[derive(Drop)]
-struct Salvaged<'p, H: BlockHash, S, R> {
-    blocks: WholeBlocks<'p, H, S, R>,
+struct Salvaged<'p, 'w, H: BlockHash, S, R> {
+    blocks: WholeBlocks<'p, 'w, H, S, R>,
     most: u64,
     ended: Option<Error>,
 }
 
-impl<'p, H: BlockHash, S: FrameSource, R: Clock + Eprint> Salvaged<'p, H, S, R> {
-    // Takes the next entry, and counts it.
-    fn next_counted(&mut self, alloc: Global) -> sstable_blocks::Result<Option<InternalValue>>
-        ensures first { IfOk result (λ r. TakesFirst
-            (record { list = None; most = self.old.most; ended = None }) r
-            (record { list = None; most = self.new.most; ended = None })) }
-    {
-        if self.most == 0 {
-            return Ok(None);
-        }
-        let next = self.blocks.next_entry(alloc)?;
-        if next.is_some() {
-            self.most -= 1;
-            count(&self.blocks.notes.entries);
-        }
-        Ok(next)
-    }
-}
-
-impl<'p, H: BlockHash, S: FrameSource, R: Clock + Eprint> Source<InternalValue>
-    for Salvaged<'p, H, S, R> {
+impl<'p, 'w, H: BlockHash, S: FrameSource, R: Clock + Eprint> Source<InternalValue>
+    for Salvaged<'p, 'w, H, S, R> {
     ghost left = { λ s. record { list = None; most = s.most; ended = s.ended } };
 
     fn next_entry(&mut self, alloc: Global) -> sstable_blocks::Result<Option<InternalValue>> {
         if let Some(error) = self.ended {
             return Err(error);
         }
-        let next = self.next_counted(alloc);
+        let next = next_counted(alloc, &mut self.blocks, &mut self.most);
         if let Err(error) = &next {
             self.ended = Some(*error);
         }
@@ -187,10 +189,8 @@ fn frames_by_index<H: BlockHash, S: SizedSource>(
     let handles = read_footer(alloc, source, len)?;
     let index = index_block_from::<H, S>(alloc, source, &handles.index)?;
     let mut found = Vec::new(alloc);
-    let mut number = 0usize;
-    while number < index.len() {
-        found.push(index.handle_at(number, &mut Steps::new()))?;
-        number += 1;
+    for view in index.by_ref().handles() {
+        found.push(view.handle())?;
     }
     Ok(found)
 }
@@ -212,42 +212,42 @@ fn frames_by_headers<H: BlockHash, S: SizedSource, R: Clock + Eprint>(
     Ok(found)
 }
 
-// The frames of the data blocks of a file, from the last to the first: by the index, or, where that
-// cannot be read, by their headers.
+// Why the index is not read, if it is not; a failed allocation says nothing of it.
+fn refusal_of<T>(read: &sstable_blocks::Result<T>) -> Option<Error> {
+    match read {
+        Err(error) if *error != Error::Memory => Some(*error),
+        _ => None,
+    }
+}
+
+// The frames of the data blocks of a file: by the index, or, where that cannot be read, by their
+// headers.
 fn frames_of<H: BlockHash, S: SizedSource, R: Clock + Eprint>(
     progress: &Progress<'_, R>,
     alloc: Global,
     file: &str,
     source: &mut S,
-) -> Result<Vec<BlockHandle>> {
-    let found = match frames_by_index::<H, S>(alloc, source) {
-        Err(error) if error != Error::Memory => {
-            frames_by_headers::<H, S, R>(progress, alloc, file, source, error)
-        }
-        found => found,
-    };
-    match found {
-        Ok(mut found) => {
-            found.reverse();
-            Ok(found)
-        }
-        Err(error) => Err(progress.fault(alloc, file, error)),
+) -> sstable_blocks::Result<Vec<BlockHandle>> {
+    let found = frames_by_index::<H, S>(alloc, source);
+    match refusal_of(&found) {
+        Some(error) => frames_by_headers::<H, S, R>(progress, alloc, file, source, error),
+        None => found,
     }
 }
 
-// Writes what the whole blocks of a file hold.
-fn fill<'p, H: BlockHash, R: LockFiles + Clock + Eprint>(
+// The whole blocks of a file, of which none was read.
+fn blocks_of<'p, 'w, H: BlockHash, S: SizedSource + Drop, R: Clock + Eprint>(
     progress: &'p Progress<'p, R>,
     alloc: Global,
-    words: &ArgMatches<'p>,
+    file: &'w str,
+    source: S,
     notes: &'p Notes,
-    tables: &mut NewTables<'_, '_, R>,
-) -> Result<()> {
-    let file = words.get_str(FILE).unwrap_or("");
-    let mut source = source_of(progress, alloc, file)?;
-    let handles = frames_of::<H, _, R>(progress, alloc, file, &mut source)?;
+) -> sstable_blocks::Result<WholeBlocks<'p, 'w, H, S, R>> {
+    let mut source = source;
+    let mut handles = frames_of::<H, S, R>(progress, alloc, file, &mut source)?;
+    handles.reverse();
     progress.expect_blocks(handles.len() as u64);
-    let blocks = WholeBlocks::<'p, H, _, R> {
+    Ok(WholeBlocks {
         source,
         handles,
         block: None,
@@ -255,7 +255,16 @@ fn fill<'p, H: BlockHash, R: LockFiles + Clock + Eprint>(
         file,
         notes,
         progress,
-    };
+    })
+}
+
+// Writes the entries of whole blocks.
+fn write_blocks<H: BlockHash, S: FrameSource + Drop, R: LockFiles + Clock + Eprint>(
+    alloc: Global,
+    blocks: WholeBlocks<'_, '_, H, S, R>,
+    words: &ArgMatches<'_>,
+    tables: &mut NewTables<'_, '_, '_, R>,
+) -> Result<()> {
     let salvaged = Salvaged {
         blocks,
         most: u64::MAX,
@@ -268,11 +277,27 @@ fn fill<'p, H: BlockHash, R: LockFiles + Clock + Eprint>(
     }
 }
 
+// Writes what the whole blocks of a file hold.
+fn fill<'p, H: BlockHash, R: LockFiles + Clock + Eprint>(
+    progress: &'p Progress<'p, R>,
+    alloc: Global,
+    words: &ArgMatches<'_>,
+    notes: &'p Notes,
+    tables: &mut NewTables<'_, '_, '_, R>,
+) -> Result<()> {
+    let file = words.get_str(FILE).unwrap_or("");
+    let source = source_of(progress, alloc, file)?;
+    match blocks_of::<H, _, R>(progress, alloc, file, source, notes) {
+        Ok(blocks) => write_blocks(alloc, blocks, words, tables),
+        Err(error) => Err(progress.fault(alloc, file, error)),
+    }
+}
+
 // Writes what the whole blocks of a file hold as a new table.
 fn salvage<'p, H: BlockHash, R: LockFiles + Clock + Eprint>(
     progress: &'p Progress<'p, R>,
     alloc: Global,
-    words: &ArgMatches<'p>,
+    words: &ArgMatches<'_>,
     notes: &'p Notes,
 ) -> Result<()> {
     let mut tables = NewTables::new(progress.rt(), alloc, words, &notes.cause)?;

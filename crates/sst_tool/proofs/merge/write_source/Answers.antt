@@ -9,5 +9,5 @@ use Rattle.sst_tool.proofs.merge.write_source.Goals as goal
 pub returns : goal.returns
 returns g c =
     let f = form g.H.BlockHash.hash64 g.H.BlockHash.hash128 c.args.how.config in
-    let P = λ (left : Option (List Entry)). OnOk c.write_tables.result (AreWritten f g.O.Outputs.start left (option_map (λ _. []) left) (g.O.Outputs.tables c.args.tables.now) (g.O.Outputs.tables c.write_tables.new.tables)) in
+    let P = λ (left : Option (List Entry)). OnOk c.write_tables.result (AreWritten f g.O.Outputs.start left (option_map (λ _. []) left) (g.O.Outputs.tables c.args.tables.now) (g.O.Outputs.tables c.write_tables.new.outputs)) in
     record { written = subst P c.in_ok-head.ensures.list c.write_tables.ensures.written }
