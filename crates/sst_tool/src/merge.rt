@@ -10,7 +10,7 @@ use crate::hash::{TableHash, hash_in};
 use crate::merged::{Notes, Written, heads_of};
 use crate::new_tables::{Names, NewTables};
 use crate::progress::Progress;
-use crate::words::{BITS, BLOCK, BOTTOM, FILE, INTERVAL, LATEST, SNAPSHOT, TABLE_SIZE};
+use crate::words::{BITS, BLOCK, BOTTOM, FILE, INTERVAL, LATEST, OUT, SNAPSHOT, TABLE_SIZE};
 use clap::ArgMatches;
 use sst_merge::{Compact, Head, Merge, Outputs, Sizes, Source, write_tables};
 use sst_program::new_file::LockFiles;
@@ -222,34 +222,26 @@ pub fn run<H: BlockHash, R: LockFiles + Clock + Eprint, O: Write>(
         Some(TableHash::Poly31) => merge_into::<H, Poly31, R>(progress, alloc, words, &notes)?,
         Some(TableHash::Xxh3) => merge_into::<H, Xxh3, R>(progress, alloc, words, &notes)?,
     };
-    let names = Names::of_words(words);
-    let (first, last) = (names.name(alloc, 1)?, names.name(alloc, count)?);
-    match print_counts(
-        words,
-        &notes,
-        count,
-        &[first.as_str(), last.as_str()],
-        output,
-    ) {
+    match print_counts(words, &notes, count, output) {
         Ok(()) => Ok(()),
-        Err(_) => Err(Fault::of_written(alloc, first.as_str())),
+        Err(_) => Err(Fault::of_written(alloc, words.get_str(OUT).unwrap_or(""))),
     }
 }
 
-// Prints what was merged: into so many tables, of which the first and the last have these names.
+// Prints what was merged, into so many tables. It takes no memory: they are in place.
 fn print_counts<O: Write>(
     words: &ArgMatches<'_>,
     notes: &Notes,
     count: usize,
-    names: &[&str; 2],
     output: &mut O,
 ) -> io::Result<()> {
     let tables = words.get_strs(FILE).unwrap_or(&[]).len();
     let (read, written) = (notes.read.get(), notes.written.get());
     let dropped = read.saturating_sub(written);
-    let [first, last] = names;
+    let names = Names::of_words(words);
+    let (first, last) = (names.numbered(1), names.numbered(count));
     write!(output, "merged {tables} tables into ")?;
-    if Names::of_words(words).is_numbered() {
+    if names.is_numbered() {
         write!(output, "{count}, {first} to {last}")?;
     } else {
         write!(output, "{first}")?;

@@ -11,8 +11,8 @@ use sstable_blocks::{Error, RunHandles, encode_footer};
 use std::alloc::{AllocError, Global};
 use std::cell::Cell;
 use std::fs::OpenFile;
-use std::io;
 use std::io::Write;
+use std::{fmt, io};
 
 /// A file that a table is written into. It notes why a call failed. Clauses know nothing of its
 /// bytes.
@@ -72,19 +72,42 @@ impl<'w> Names<'w> {
         self.is_numbered
     }
 
-    /// Returns the name of the file of this number, which begins at 1: in the place of `{}`, or
-    /// behind a dot at the end.
+    /// Returns the name of the file of this number, which begins at 1, to be displayed.
+    pub fn numbered(&self, number: usize) -> Name<'w> {
+        Name {
+            names: *self,
+            number,
+        }
+    }
+
+    /// Returns the name of the file of this number.
     ///
     /// # Errors
     ///
     /// If an allocation fails.
     pub fn name(&self, alloc: Global, number: usize) -> std::result::Result<String, AllocError> {
-        if !self.is_numbered {
-            return String::from_str(alloc, self.out);
+        let name = self.numbered(number);
+        format!(in alloc; "{name}")
+    }
+}
+
+/// The name of one of the files: its number is in the place of `{}`, or behind a dot at the end.
+/// It is displayed without memory.
+#[derive(Clone, Copy)]
+pub struct Name<'w> {
+    names: Names<'w>,
+    number: usize,
+}
+
+impl fmt::Display for Name<'_> {
+    fn fmt<W: fmt::Write>(&self, f: &mut fmt::Formatter<W>) -> fmt::Result {
+        let (out, number) = (self.names.out, self.number);
+        if !self.names.is_numbered {
+            return f.write_str(out);
         }
-        match self.out.split_once("{}") {
-            Some((front, end)) => format!(in alloc; "{front}{number}{end}"),
-            None => format!(in alloc; "{}.{number}", self.out),
+        match out.split_once("{}") {
+            Some((front, end)) => write!(f, "{front}{number}{end}"),
+            None => write!(f, "{out}.{number}"),
         }
     }
 }
