@@ -303,7 +303,11 @@ impl<'r, 'w, 'c, R: LockFiles> Outputs for NewTables<'r, 'w, 'c, R> {
         let Some(file) = self.opened.take() else {
             return Err(Error::Io);
         };
-        self.closed.push((handles, file))?;
+        if let Err(failed) = self.closed.push((handles, file)) {
+            let (_, file) = failed.value;
+            self.opened = Some(file);
+            return Err(Error::Memory);
+        }
         Ok(())
     }
 }
