@@ -13,7 +13,7 @@ use sst_case_room::fault::Result;
 use sst_case_room::room::Room;
 use sst_case_room::runner::{Commands, run_files};
 use sst_case_room::{lists, payloads};
-use sst_program::new_file::LockFiles;
+use sst_program::LockFiles;
 use std::alloc::Global;
 use std::env::{self, Env};
 use std::process::ExitCode;

@@ -10,7 +10,7 @@ mod program;
 use sst_base::BlockHash;
 use sst_case_room::fault::Result;
 use sst_case_room::room::Room;
-use sst_program::new_file::LockFiles;
+use sst_program::LockFiles;
 
 /// Performs a command, if it is one on merges or on the program.
 pub fn perform<H: BlockHash, R: LockFiles + AllocGlobal>(

@@ -6,7 +6,7 @@ use sst_case_room::fault::{Fault, Result};
 use sst_case_room::room::Room;
 use sst_case_room::words::{bytes_of, number_of, small_of, word_of};
 use sst_program::lines::{entry_in, entry_line};
-use sst_program::new_file::LockFiles;
+use sst_program::LockFiles;
 use sst_program::sst_main;
 use std::alloc::Global;
 use std::fs;

@@ -1,19 +1,15 @@
 -- Blocks of a size, and the length of a table.
-use Rattle.std.proofs.Common.{◌≡◌, ℕ, ◌+◌, ◌≤◌, List, [], ◌∷◌, ◌++◌, length, arith, refl, sym, ◌∙◌, ap, append_assoc, append-nil}
+use Rattle.std.proofs.Common.{◌≡◌, ℕ, ◌+◌, ◌≤◌, List, [], ◌∷◌, ◌++◌, length, arith, sym, ◌∙◌, ap, append_assoc, append-nil}
 use Rattle.sstable_blocks.specs.Blocks.{joined}
 use Rattle.sst_base.specs.Entry.{Entry}
 use Rattle.sst_block_core.specs.Entries.{entries}
 use Rattle.sst_block_core.specs.Kind.{IsOrdered}
-use Rattle.std.proofs.Common.{Bool, true, false, cond, length-append, subst}
-use Rattle.std.proofs.KnownBytes.{Appends-trans, Appends-kept}
-use Rattle.std.specs.Io.KnownBytes.{Appends, Keeps}
-use Rattle.std.specs.Prelude.{Option, Some, None}
-use Rattle.sstable_blocks.specs.Run.{Form, IsLayout, run_text, run_handles}
-use Rattle.sstable_blocks.specs.Writing.{AppendsLayout}
+use Rattle.std.proofs.Common.{subst, Option}
+use Rattle.std.specs.Io.KnownBytes.{Appends}
+use Rattle.sstable_blocks.specs.Writing.{IsTable as IsTableOf, AppendsTable as IsAppended}
 use Rattle.sstable_blocks.specs.declared.run.RunConfig.{RunConfig}
 use Rattle.sstable_blocks.specs.declared.run.RunHandles.{RunHandles}
-use Rattle.sstable_blocks.specs.Footer.{footer}
-use Rattle.sst_program.specs.Table.{HaveSize, IsCutBy, AppendsTable, sst_form, end_by, run_end}
+use Rattle.sst_program.specs.Table.{HaveSize, IsCutBy, AppendsTable, sst_form}
 
 -- all blocks have n items
 abbrev pub AreFull : {X : Type 0} → ℕ → List (List X) → Type 0
@@ -50,30 +46,16 @@ pub ordered-next : (blocks : List (List Entry)) (block behind rest items : List 
 ordered-next blocks block behind rest items all cut h =
     ordered-front (joined (blocks ++ block ∷ [])) behind (rw (all-next blocks block behind rest items all cut) h)
 
-pub footer-length : (h : RunHandles) → length (footer h) ≡ 24
-unfolding footer
-footer-length h = refl
-
--- the end of a layout, where there is no filter or where there is one
-end-cases : (none : Bool) (a i p : List ℕ) → length (a ++ (i ++ cond none [] p))
-    ≡ end_by (record { offset = length a; size = length i }) (cond none None (Some (record { offset = length a + length i; size = length (cond none [] p) })))
-end-cases true a i p = omega (arith, length-append a (i ++ []), length-append i [])
-end-cases false a i p = omega (arith, length-append a (i ++ p), length-append i p)
-
-layout-end : (f : Form) (blocks : List (List Entry)) (bytes : List ℕ) (h : RunHandles) → IsLayout f blocks bytes h → length bytes ≡ run_end h
-unfolding run_text run_handles
-layout-end f blocks bytes h l = rw (l.text, l.handles) (end-cases _ _ _ _)
-
--- a run and its footer are a table
-pub table-of : (config config' : RunConfig) (n : ℕ) (items : List Entry) (blocks : List (List Entry)) (h : RunHandles) (old start now after flushed : Option (List ℕ)) (foot : List ℕ) (count len : ℕ)
-    → IsCutBy n items blocks → config' ≡ config → start ≡ old → AppendsLayout (sst_form config') blocks start now h → foot ≡ footer h → Appends now after foot → Keeps after flushed
-    → count ≡ length blocks → len ≡ run_end h + 24 → AppendsTable config n items old flushed (record { blocks = count; len = len })
-table-of config config' n items blocks h old start now after flushed foot count len cut same begin l is-foot behind kept is-count is-len = record {
+-- blocks of a size, written as a table
+pub table-of : (config config' : RunConfig) (n : ℕ) (items : List Entry) (blocks : List (List Entry)) (h : RunHandles) (old start after : Option (List ℕ)) (count len : ℕ)
+    → IsCutBy n items blocks → config' ≡ config → start ≡ old → IsAppended (sst_form config') blocks start after h len → count ≡ length blocks
+    → AppendsTable config n items old after (record { blocks = count; len = len })
+table-of config config' n items blocks h old start after count len cut same begin t is-count = record {
   blocks = blocks;
-  bytes = l.0 ++ footer h;
+  bytes = t.bytes;
   cut = cut;
-  table = record { run = l.0; handles = h; layout = subst (λ k. IsLayout (sst_form k) blocks l.0 h) same l.1; text = refl };
-  appended = Appends-kept old after flushed (l.0 ++ footer h) (Appends-trans old now after l.0 (footer h) (subst (λ a. Appends a now l.0) begin l.2) (subst (Appends now after) is-foot behind)) kept;
+  table = (h, subst (λ k. IsTableOf (sst_form k) blocks h t.bytes) same t.table);
+  appended = subst (λ a. Appends a after t.bytes) begin t.appended;
   block_count = is-count;
-  len = omega (arith, is-len, length-append l.0 (footer h), footer-length h, layout-end (sst_form config') blocks l.0 h l.1);
+  len = t.len_is;
 }

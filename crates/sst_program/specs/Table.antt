@@ -1,14 +1,13 @@
 -- Table files: the blocks that `pack` cuts, and the bytes that it writes.
-use Rattle.std.specs.Prelude.{◌≡◌, ◌⊎◌, ℕ, ◌+◌, ◌≤◌, List, [], ◌∷◌, ◌++◌, length, Option, Some, None}
+use Rattle.std.specs.Prelude.{◌≡◌, ◌⊎◌, ℕ, ◌≤◌, List, [], ◌∷◌, length, Option}
 use Rattle.std.specs.Io.KnownBytes.{Appends}
-use Rattle.sst_base.specs.BlockHandle.{HandleParts}
 use Rattle.sst_base.specs.Entry.{Entry}
 use Rattle.sst_base.specs.declared.error.Error.{Error}
 use Rattle.sst_base.specs.declared.error.Error.TheVariants.{Io, TooLong, Memory}
 use Rattle.sst_base.specs.Hashes.{poly31}
 use Rattle.sstable_blocks.specs.Blocks.{joined}
-use Rattle.sstable_blocks.specs.Footer.{footer}
-use Rattle.sstable_blocks.specs.Run.{Form, form, IsLayout}
+use Rattle.sstable_blocks.specs.Run.{Form, form}
+use Rattle.sstable_blocks.specs.Writing.{IsTable as IsTableOf}
 use Rattle.sstable_blocks.specs.declared.run.RunConfig.{RunConfig}
 use Rattle.sstable_blocks.specs.declared.run.RunHandles.{RunHandles}
 use Rattle.sst_program.specs.declared.pack.Packed.{Packed}
@@ -28,28 +27,13 @@ pub record IsCutBy {X : Type 0} (n : ℕ) (items : List X) (blocks : List (List 
 abbrev pub sst_form : RunConfig → Form
 sst_form config = form (poly31 64) (poly31 128) config
 
--- the offset after a frame
-abbrev pub end_of : HandleParts → ℕ
-end_of h = h.offset + h.size
-
--- the offset after a run: after its filter, or after its index
-abbrev pub end_by : HandleParts → Option HandleParts → ℕ
-end_by index None = end_of index
-end_by index (Some filter) = end_of filter
-
-abbrev pub run_end : RunHandles → ℕ
-run_end h = end_by h.index h.filter
-
 -- why a table is not written: the writer failed, it does not fit, or an allocation failed
 abbrev pub IsWriteFault : Error → Type 0
 IsWriteFault e = (e ≡ Io) ⊎ (e ≡ TooLong) ⊎ (e ≡ Memory)
 
--- the bytes of a table: the layout of a run, and its footer
-pub record IsTable (config : RunConfig) (blocks : List (List Entry)) (bytes : List ℕ) : Type 0 where
-  pub run : List ℕ
-  pub handles : RunHandles
-  pub layout : IsLayout (sst_form config) blocks run handles
-  pub text : bytes ≡ run ++ footer handles
+-- the bytes of a table file that `sst` writes
+abbrev pub IsTable : RunConfig → List (List Entry) → List ℕ → Type 0
+IsTable config blocks bytes = (h : RunHandles) × IsTableOf (sst_form config) blocks h bytes
 
 -- a writer's known bytes grew by the table of entries in blocks of n, and this is how much it is
 pub record AppendsTable (config : RunConfig) (n : ℕ) (items : List Entry) (old new : Option (List ℕ)) (p : Packed) : Type 0 where

@@ -6,21 +6,16 @@ ghost use Rattle.sst_block_core.specs.Entries.{entries};
 ghost use Rattle.sst_block_core.specs.Kind.{IsOrdered};
 ghost use Rattle.sst_program.specs.Outcome.{packed_text_of, PrintsPacked, PrintsNothing, IsPackFault};
 ghost use Rattle.sst_program.specs.Table.{IsCutBy, AppendsTable, IsWriteFault};
-ghost use Rattle.sst_program.specs.Table.{end_of, run_end};
 ghost use Rattle.sstable_blocks.specs.Run.{IsWritable};
 ghost use Rattle.sstable_blocks.specs.Writing.{IsSameRun};
 
 use crate::fault::{self, Fault};
 use crate::input::ordered_entries;
-use crate::new_file::LockFiles;
 use crate::output::print_text;
 use crate::replace::write_file;
-use crate::sync::SyncWrite;
 use crate::words::PackWords;
-use sstable_blocks::run::footer::FOOTER_LEN;
 use sstable_blocks::{
-    BlockHandle, Error, InternalValue, Poly31, Result, RunConfig, RunHandles, RunWriter,
-    encode_footer,
+    Error, InternalValue, LockFiles, Poly31, Result, RunConfig, RunWriter, SyncWrite,
 };
 use std::alloc::Global;
 use std::io::{Read, Write};
@@ -58,32 +53,12 @@ fn add_blocks<W: Write>(
     Ok(())
 }
 
-// The offset after a frame.
-fn end_of(handle: &BlockHandle) -> Option<u64>
-    ensures { IfSome result (λ end. end ≡ end_of handle.now) }
-{
-    handle.offset().checked_add(u64::from(handle.size()))
-}
-
-// The length of the table of a run with these handles.
-fn table_len(handles: &RunHandles) -> Result<u64>
-    ensures len { IfOk result (λ len. len ≡ run_end handles.now + 24) }
-    ensures too_long { IsOkUnless result Error.TooLong }
-{
-    let last = handles.filter.as_ref().unwrap_or(&handles.index);
-    match end_of(last).and_then(|end| end.checked_add(FOOTER_LEN as u64)) {
-        Some(len) => Ok(len),
-        None => Err(Error::TooLong),
-    }
-}
-
 /// Writes a table: the run of ordered entries, in blocks of `per_block` entries, the last perhaps
 /// of fewer, and its footer. Returns what was written, and the writer, which is synced.
 ///
 /// # Errors
 ///
-/// Those of `RunWriter::add_block` and `RunWriter::finish`; `Error::TooLong` too where the table
-/// has 2^64 bytes or more.
+/// Those of `RunWriter::add_block` and `RunWriter::finish_table`.
 pub fn write_table<W: SyncWrite + Drop>(
     alloc: Global,
     writer: W,
@@ -103,10 +78,7 @@ pub fn write_table<W: SyncWrite + Drop>(
     let mut run = RunWriter::<Poly31, W>::new(alloc, writer, config);
     add_blocks(&mut run, items, per_block)?;
     let blocks = run.block_count();
-    let (handles, mut writer) = run.finish()?;
-    let len = table_len(&handles)?;
-    writer.write_all(&encode_footer(&handles))?;
-    writer.sync()?;
+    let (_, len, writer) = run.finish_table()?;
     Ok((Packed { blocks, len }, writer))
 }
 

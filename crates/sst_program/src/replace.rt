@@ -5,11 +5,11 @@ ghost use Rattle.sst_block_core.specs.Entries.{entries};
 ghost use Rattle.sst_block_core.specs.Kind.{IsOrdered};
 ghost use Rattle.sst_program.specs.Table.{IsPacked, IsWriteFault};
 
-use crate::new_file::{LockFiles, NewFile, NotMade};
 use crate::pack::{Packed, write_table};
-use crate::sync::{BufferedFile, SyncWrite};
 use crate::words::PackWords;
-use sstable_blocks::{Error, InternalValue, Result};
+use sstable_blocks::{
+    BufferedFile, Error, InternalValue, LockFiles, NewFile, NotMade, Result, SyncWrite,
+};
 use std::alloc::Global;
 use std::fs::{OpenFile, OpenOptions};
 use std::io;

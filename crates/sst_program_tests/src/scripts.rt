@@ -1,5 +1,5 @@
 //! Runs of the program.
-use sst_program::new_file::LockFiles;
+use sst_program::LockFiles;
 use sst_program::sst_main;
 use std::alloc::{AllocError, Global};
 

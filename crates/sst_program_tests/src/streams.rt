@@ -2,7 +2,7 @@
 ghost use Rattle.std.specs.Prelude.{◌≤◌};
 
 use crate::scripts::words_of;
-use sst_program::new_file::LockFiles;
+use sst_program::LockFiles;
 use sst_program::sst_main;
 use std::io;
 use std::io::{ErrorKind, Read, Write};

@@ -6,8 +6,7 @@ ghost use Rattle.sst_tool.specs.declared.fault.Fault.TheVariants.{Memory, Output
 use crate::hash::TableHash;
 use crate::place::TableBlock;
 use crate::probes::Claim;
-use sst_program::new_file::NotMade;
-use sstable_blocks::Error;
+use sstable_blocks::{Error, NotMade};
 use std::alloc::{AllocError, AllocFailed, Global};
 use std::{fmt, io};
 

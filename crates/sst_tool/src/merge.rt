@@ -7,14 +7,15 @@ ghost use Rattle.sstable_blocks.specs.Run.{form, IsWritable};
 
 use crate::fault::{Fault, Result};
 use crate::hash::{TableHash, hash_in};
-use crate::merged::{Notes, Written, heads_of};
+use crate::merged::{Files, Notes, Tables, Written, heads_of};
 use crate::new_tables::{Names, NewTables};
 use crate::progress::Progress;
 use crate::words::{BITS, BLOCK, BOTTOM, FILE, INTERVAL, LATEST, OUT, SNAPSHOT, TABLE_SIZE};
 use clap::ArgMatches;
 use sst_merge::{Compact, Head, Merge, Outputs, Sizes, Source, write_tables};
-use sst_program::new_file::LockFiles;
-use sstable_blocks::{BlockHash, Error, HashRatio, InternalValue, Poly31, RunConfig, SeqNo, Xxh3};
+use sstable_blocks::{
+    BlockHash, Error, HashRatio, InternalValue, LockFiles, Poly31, RunConfig, SeqNo, Xxh3,
+};
 use std::alloc::Global;
 use std::io;
 use std::io::Write;
@@ -123,49 +124,47 @@ fn write_merged<H: BlockHash, I: Source<InternalValue> + Drop, O: Outputs>(
     write_source::<H, _, O>(alloc, written, how, tables)
 }
 
-// Merges tables that were opened, and writes what stays of them.
-fn write_opened<H: BlockHash, R: LockFiles, I: Source<InternalValue> + Drop>(
+// Merges tables, and writes what stays of them.
+fn write_staying<T: Tables, N: BlockHash, R: LockFiles>(
+    tables: &T,
     alloc: Global,
-    heads: Result<Vec<Head<InternalValue, I>>>,
     words: &ArgMatches<'_>,
     notes: &Notes,
-    tables: &mut NewTables<'_, '_, '_, R>,
+    written: &mut NewTables<'_, '_, '_, R>,
 ) -> Result<sstable_blocks::Result<()>> {
-    let heads = heads?;
+    let heads = heads_of(tables, alloc, words.get_strs(FILE).unwrap_or(&[]))?;
     let (reads, how) = (Reads::of_words(words), TableForm::of_words(words));
-    Ok(write_merged::<H, I, _>(alloc, heads, reads, notes, how, tables))
+    Ok(write_merged::<N, T::Entries, _>(alloc, heads, reads, notes, how, written))
 }
 
 // The fault of a merge: that of the table of which a read failed, or else of the new tables.
-fn fault_of<R: LockFiles, P>(
-    progress: &Progress<'_, P>,
+fn fault_of<T: Tables, R: LockFiles>(
+    tables: &T,
     alloc: Global,
     words: &ArgMatches<'_>,
     notes: &Notes,
-    tables: &mut NewTables<'_, '_, '_, R>,
+    written: &mut NewTables<'_, '_, '_, R>,
     error: Error,
 ) -> Fault {
     let files = words.get_strs(FILE).unwrap_or(&[]);
     match files.get(notes.failed.get().unwrap_or(files.len())) {
-        Some(file) => progress.fault(alloc, file, error),
-        None => tables.fault(error),
+        Some(file) => tables.fault(alloc, file, error),
+        None => written.fault(error),
     }
 }
 
-// Merges tables that hash by `H` into new ones that hash by `N`.
-fn fill<'p, H: BlockHash, N: BlockHash, R: LockFiles + Clock + Eprint>(
-    progress: &'p Progress<'p, R>,
+// Merges tables into new ones that hash by `N`.
+fn fill<T: Tables, N: BlockHash, R: LockFiles>(
+    tables: &T,
     alloc: Global,
     words: &ArgMatches<'_>,
-    notes: &'p Notes,
-    tables: &mut NewTables<'_, '_, '_, R>,
+    notes: &Notes,
+    written: &mut NewTables<'_, '_, '_, R>,
 ) -> Result<()> {
-    let files = words.get_strs(FILE).unwrap_or(&[]);
-    let heads = heads_of::<H, R>(progress, alloc, files, notes);
-    match write_opened::<N, R, _>(alloc, heads, words, notes, tables)? {
-        Ok(()) if tables.count() == 0 => Err(Fault::NoEntries),
+    match write_staying::<T, N, R>(tables, alloc, words, notes, written)? {
+        Ok(()) if written.count() == 0 => Err(Fault::NoEntries),
         Ok(()) => Ok(()),
-        Err(error) => Err(fault_of(progress, alloc, words, notes, tables, error)),
+        Err(error) => Err(fault_of(tables, alloc, words, notes, written, error)),
     }
 }
 
@@ -194,10 +193,11 @@ fn merge_into<'p, H: BlockHash, N: BlockHash, R: LockFiles + Clock + Eprint>(
     words: &ArgMatches<'_>,
     notes: &'p Notes,
 ) -> Result<usize> {
-    let mut tables = NewTables::new(progress.rt(), alloc, words, &notes.cause)?;
-    let filled = fill::<H, N, R>(progress, alloc, words, notes, &mut tables);
+    let mut written = NewTables::new(progress.rt(), alloc, words, &notes.cause)?;
+    let tables = Files::<H, R>::new(progress, notes);
+    let filled = fill::<_, N, R>(&tables, alloc, words, notes, &mut written);
     progress.clear();
-    end_tables(tables, filled)
+    end_tables(written, filled)
 }
 
 /// Merges tables, the newest first, into one, or with `--table-size` into several of this size,

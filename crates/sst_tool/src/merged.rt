@@ -1,18 +1,19 @@
 //! The tables that are merged, as sources of entries.
 ghost use Rattle.std.specs.Prelude.{◌≡◌, ◌+◌, length, OnOk, IfOk};
 
-use crate::fault::Result;
+use crate::fault::{Fault, Result};
 use crate::open::{CountedFile, open, test_frames};
 use crate::ordered::{Direction, Ordered};
 use crate::progress::Progress;
 use crate::source::Scanned;
 use sst_merge::{Head, Source};
-use sstable_blocks::{BlockHash, FileSource, FrameSource, InternalValue, Table};
+use sstable_blocks::{BlockHash, Error, FileSource, FrameSource, InternalValue, Table};
 use std::alloc::Global;
 use std::cell::Cell;
-use std::io;
+use std::marker::PhantomData;
 use std::ops::Bound;
-use std::rt::{Clock, Files};
+use std::rt::Clock;
+use std::{io, rt};
 
 /// What a merge notes as it goes: the numbers of the entries that were read and written, and why it
 /// failed.
@@ -99,42 +100,89 @@ impl<'n, I: Source<InternalValue>> Source<InternalValue> for Written<'n, I> {
     }
 }
 
-/// The entries of a table, in order.
-type InOrder<'k, H, S> = Ordered<Scanned<'k, H, S>>;
+/// Opens the tables that are merged. (So the functions of a merge are generic over what it reads.)
+pub trait Tables {
+    /// The entries of a table.
+    type Entries: Source<InternalValue> + Drop;
 
-/// A table of a file that is merged, with its first entry.
-pub type FileHead<'p, H, R> = Head<
-    InternalValue,
-    Merged<'p, InOrder<'static, H, FileSource<CountedFile<'p, R>>>>,
->;
+    /// Opens a table, which has this index among those that are merged.
+    ///
+    /// # Errors
+    ///
+    /// Those of the file.
+    fn entries(&self, alloc: Global, file: &str, index: usize) -> Result<Self::Entries>;
 
-// The entries of a table from the first on.
-fn entries_of<'k, H: BlockHash, S: FrameSource>(table: Table<H, S>) -> InOrder<'k, H, S> {
-    let scan = table.scan_range(Bound::Unbounded, Bound::Unbounded);
-    Ordered::new(Scanned::new(scan, Direction::Forward), Direction::Forward)
+    /// Returns the fault of a table of which a block is not read.
+    fn fault(&self, alloc: Global, file: &str, error: Error) -> Fault;
 }
 
-// Reads the first entry of a table, which has this index.
-fn head_of<'p, 'k, H: BlockHash, S: FrameSource + Drop, R>(
+/// The tables of files.
+#[derive(Drop)]
+pub struct Files<'p, H: BlockHash, R> {
     progress: &'p Progress<'p, R>,
+    notes: &'p Notes,
+    hash: PhantomData<H>,
+}
+
+impl<'p, H: BlockHash, R> Files<'p, H, R> {
+    /// Reads tables that hash by `H`.
+    pub fn new(progress: &'p Progress<'p, R>, notes: &'p Notes) -> Files<'p, H, R> {
+        Files {
+            progress,
+            notes,
+            hash: PhantomData,
+        }
+    }
+
+    // The entries of a table from the first on.
+    fn entries_of<S: FrameSource + Drop>(
+        &self,
+        alloc: Global,
+        file: &str,
+        index: usize,
+        table: Result<Table<H, S>>,
+    ) -> Result<InOrder<'p, H, S>> {
+        let table = table?;
+        test_frames(alloc, file, table.index())?;
+        self.progress.expect_blocks(table.index().len() as u64);
+        let place = self.progress.place();
+        let scanned = Scanned::new(table.scan(), Bound::Unbounded, Direction::Forward, place);
+        Ok(Merged {
+            source: Ordered::new(scanned, Direction::Forward),
+            index,
+            notes: self.notes,
+            place,
+        })
+    }
+}
+
+// The entries of a table, in order.
+type InOrder<'p, H, S> = Merged<'p, Ordered<Scanned<'p, 'static, H, S>>>;
+
+impl<'p, H: BlockHash, R: rt::Files + Clock + Eprint> Tables for Files<'p, H, R> {
+    type Entries = InOrder<'p, H, FileSource<CountedFile<'p, R>>>;
+
+    fn entries(&self, alloc: Global, file: &str, index: usize) -> Result<Self::Entries> {
+        let table = open::<H, R>(self.progress, alloc, file);
+        self.entries_of(alloc, file, index, table)
+    }
+
+    fn fault(&self, alloc: Global, file: &str, error: Error) -> Fault {
+        self.progress.fault(alloc, file, error)
+    }
+}
+
+// Opens a table, and reads its first entry.
+fn head_of<T: Tables>(
+    tables: &T,
     alloc: Global,
     file: &str,
     index: usize,
-    table: Result<Table<H, S>>,
-    notes: &'p Notes,
-) -> Result<Head<InternalValue, Merged<'p, InOrder<'k, H, S>>>> {
-    let table = table?;
-    test_frames(alloc, file, table.index())?;
-    progress.expect_blocks(table.index().len() as u64);
-    let merged = Merged {
-        source: entries_of(table),
-        index,
-        notes,
-        place: progress.place(),
-    };
-    match Head::new(alloc, merged) {
+) -> Result<Head<InternalValue, T::Entries>> {
+    let entries = tables.entries(alloc, file, index)?;
+    match Head::new(alloc, entries) {
         Ok(head) => Ok(head),
-        Err(error) => Err(progress.fault(alloc, file, error)),
+        Err(error) => Err(tables.fault(alloc, file, error)),
     }
 }
 
@@ -146,26 +194,21 @@ fn push_made<T: Drop>(made: &mut Vec<T>, one: Result<T>) -> Result<()>
     Ok(())
 }
 
-/// Opens tables, the newest first.
+/// Opens tables, the newest first, and reads the first entry of each.
 ///
 /// # Errors
 ///
 /// Those of the files, and of their first blocks.
-pub fn heads_of<'p, H: BlockHash, R: Files + Clock + Eprint>(
-    progress: &'p Progress<'p, R>,
+pub fn heads_of<T: Tables>(
+    tables: &T,
     alloc: Global,
     files: &[&str],
-    notes: &'p Notes,
-) -> Result<Vec<FileHead<'p, H, R>>>
+) -> Result<Vec<Head<InternalValue, T::Entries>>>
     ensures all { IfOk result (λ heads. length heads.items ≡ length files.now) }
 {
     let mut heads = Vec::new(alloc);
     for (index, file) in files.iter().enumerate() {
-        let table = open::<H, R>(progress, alloc, file);
-        push_made(
-            &mut heads,
-            head_of(progress, alloc, file, index, table, notes),
-        )?;
+        push_made(&mut heads, head_of(tables, alloc, file, index))?;
     }
     Ok(heads)
 }

@@ -5,20 +5,17 @@ use crate::fault::{Cause, Fault, Result};
 use crate::words::{FORCE, OUT, TABLE_SIZE};
 use clap::ArgMatches;
 use sst_merge::Outputs;
-use sst_program::new_file::{LockFiles, NewFile};
-use sst_program::sync::BufferedFile;
-use sstable_blocks::{Error, RunHandles, encode_footer};
+use sstable_blocks::{BufferedFile, Error, LockFiles, NewFile, RunHandles, SyncWrite, end_table};
 use std::alloc::{AllocError, Global};
 use std::cell::Cell;
-use std::fs::OpenFile;
 use std::io::Write;
 use std::{fmt, io};
 
 /// A file that a table is written into. It notes why a call failed. Clauses know nothing of its
 /// bytes.
 #[derive(Drop)]
-pub struct NotedFile<'c, F: Write + Drop> {
-    file: BufferedFile<F>,
+pub struct NotedFile<'c, W: SyncWrite + Drop> {
+    file: W,
     cause: &'c Cell<Option<io::Error>>,
 }
 
@@ -32,7 +29,7 @@ fn noted<T>(cause: &Cell<Option<io::Error>>, done: io::Result<T>) -> io::Result<
     done
 }
 
-impl<'c, F: Write + Drop> Write for NotedFile<'c, F> {
+impl<'c, W: SyncWrite + Drop> Write for NotedFile<'c, W> {
     fn write(&mut self, buf: &[u8]) -> io::Result<usize> {
         noted(self.cause, self.file.write(buf))
     }
@@ -42,11 +39,11 @@ impl<'c, F: Write + Drop> Write for NotedFile<'c, F> {
     }
 }
 
-impl<'c, F: Write + OpenFile + Drop> NotedFile<'c, F> {
-    // Ends a table with its footer, and waits until the file is where it stays.
-    fn end(&mut self, handles: &RunHandles) -> io::Result<()> {
-        self.write_all(&encode_footer(handles))?;
-        noted(self.cause, self.file.sync_all())
+impl<'c, W: SyncWrite + Drop> SyncWrite for NotedFile<'c, W> {
+    ghost is_synced = { λ n. W.is_synced n.file };
+
+    fn sync(&mut self) -> io::Result<()> {
+        noted(self.cause, self.file.sync())
     }
 }
 
@@ -268,13 +265,13 @@ fn put_in_place<R: LockFiles>(
 impl<'r, 'w, 'c, R: LockFiles> Outputs for NewTables<'r, 'w, 'c, R> {
     ghost use Rattle.std.specs.Prelude.{map, None};
 
-    type Writer = NotedFile<'c, R::File>;
+    type Writer = NotedFile<'c, BufferedFile<R::File>>;
 
     ghost tables = { λ s. map (λ c. record { handles = c.0; bytes = None }) s.closed.items };
 
     ghost start = { None };
 
-    fn open(&mut self) -> sstable_blocks::Result<NotedFile<'c, R::File>> {
+    fn open(&mut self) -> sstable_blocks::Result<NotedFile<'c, BufferedFile<R::File>>> {
         let file = match self.next.take() {
             Some(file) => file,
             None => match self.make_next() {
@@ -296,10 +293,10 @@ impl<'r, 'w, 'c, R: LockFiles> Outputs for NewTables<'r, 'w, 'c, R> {
     fn close(
         &mut self,
         handles: RunHandles,
-        writer: NotedFile<'c, R::File>,
+        writer: NotedFile<'c, BufferedFile<R::File>>,
     ) -> sstable_blocks::Result<()> {
         let mut writer = writer;
-        writer.end(&handles)?;
+        end_table(&mut writer, &handles)?;
         let Some(file) = self.opened.take() else {
             return Err(Error::Io);
         };

@@ -17,8 +17,17 @@ pub enum Direction {
     Backward,
 }
 
+/// A source of entries that lie in blocks, each of which ends with an entry that an index names.
+pub trait InBlocks: Source<InternalValue> {
+    /// Returns whether the block that the last step left, or from the back the one that it came to,
+    /// ends with the entry that the index names. The step gave `next`, the one before it a `last`
+    /// key.
+    fn ends_fit(&self, last: &Option<InternalKey>, next: &Option<InternalValue>) -> bool;
+}
+
 /// The entries of a source, each of which has to follow the one before it. One that does not ends
-/// the source with `Error::OutOfOrder`.
+/// the source with `Error::OutOfOrder`, and a block that ends with another entry than the index
+/// names with `Error::BadHandle`.
 #[derive(Drop)]
 pub struct Ordered<I> {
     source: I,
@@ -55,7 +64,7 @@ impl<I> Ordered<I> {
 }
 
 // Takes the next entry of a source, which has to follow one with the last key, and notes its key.
-fn next_following<I: Source<InternalValue>>(
+fn next_following<I: InBlocks>(
     alloc: Global,
     source: &mut I,
     direction: Direction,
@@ -65,17 +74,22 @@ fn next_following<I: Source<InternalValue>>(
     ensures order { IfOk result (GivesInOrder direction last.old last.new) }
 {
     let next = source.next_entry(alloc)?;
+    if let Some(entry) = &next
+        && !may_follow(direction, last, entry.key())
+    {
+        return Err(Error::OutOfOrder);
+    }
+    if !source.ends_fit(last, &next) {
+        return Err(Error::BadHandle);
+    }
     if let Some(entry) = &next {
-        if !may_follow(direction, last, entry.key()) {
-            return Err(Error::OutOfOrder);
-        }
         *last = Some(entry.key().clone()?);
     }
     Ok(next)
 }
 
 /// Takes the next entry, if it follows the one before.
-impl<I: Source<InternalValue>> Source<InternalValue> for Ordered<I> {
+impl<I: InBlocks> Source<InternalValue> for Ordered<I> {
     ghost left = { λ o. record {
       list = (I.left o.source).list;
       most = (I.left o.source).most;

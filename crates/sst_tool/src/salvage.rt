@@ -13,11 +13,10 @@ use crate::words::{FILE, OUT};
 use clap::ArgMatches;
 use sst_block_kinds::table::data_block::IntoEntries;
 use sst_merge::Source;
-use sst_program::new_file::LockFiles;
 use sstable_blocks::run::checked::{data_block_from, index_block_from};
 use sstable_blocks::run::footer::read_footer;
 use sstable_blocks::{
-    BlockHandle, BlockHash, DataBlock, Error, FrameSource, InternalValue, SizedSource,
+    BlockHandle, BlockHash, DataBlock, Error, FrameSource, InternalValue, LockFiles, SizedSource,
 };
 use std::alloc::Global;
 use std::cell::Cell;

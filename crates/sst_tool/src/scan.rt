@@ -212,7 +212,8 @@ fn print_range_in<H: BlockHash, S: FrameSource + Drop, R, O: Write + Drop>(
     progress.expect_blocks(table.index().len() as u64);
     let wanted = Wanted::of_words(words);
     let scan = table.scan_range(range.from(), range.to());
-    let source = Ordered::new(Scanned::new(scan, wanted.direction), wanted.direction);
+    let scanned = Scanned::new(scan, range.to(), wanted.direction, progress.place());
+    let source = Ordered::new(scanned, wanted.direction);
     match print_scanned(alloc, wanted, source, lines) {
         Ok(()) => Ok(()),
         Err(stop) => Err(fault_of(progress, alloc, file, stop)),

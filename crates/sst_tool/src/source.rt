@@ -2,29 +2,102 @@
 ghost use Rattle.std.specs.Prelude.{None};
 ghost use Rattle.sstable_blocks.specs.Scans.{most_left};
 
-use crate::ordered::Direction;
+use crate::ordered::{Direction, InBlocks};
+use sst_block_core::table::block::bound::Bound as SeekBound;
 use sst_merge::Source;
-use sstable_blocks::{BlockHash, FrameSource, InternalValue, Result, Scan};
+use sstable_blocks::{
+    BlockHash, FrameSource, IndexBlock, InternalKey, InternalValue, Result, Scan, Steps,
+};
 use std::alloc::Global;
+use std::cell::Cell;
+use std::ops::Bound;
 
 /// What is left of a scan, from one of its ends.
 #[derive(Drop)]
-pub struct Scanned<'k, H: BlockHash, S: FrameSource> {
+pub struct Scanned<'p, 'k, H: BlockHash, S: FrameSource> {
     scan: Scan<'k, H, S>,
     direction: Direction,
+    // where the block is that a fault names
+    place: &'p Cell<Option<u64>>,
+    // the blocks that were not read before the step that was taken last
+    unread: (usize, usize),
+    // the block of which the range may leave the last entries out
+    cut: Option<usize>,
 }
 
-impl<'k, H: BlockHash, S: FrameSource> Scanned<'k, H, S> {
-    /// Takes the entries in this direction.
-    pub fn new(scan: Scan<'k, H, S>, direction: Direction) -> Scanned<'k, H, S> {
-        Scanned { scan, direction }
+// The block before an index, if the range ends in it.
+fn cut_block(to: &Bound<&[u8]>, end: usize) -> Option<usize> {
+    match to {
+        Bound::Unbounded => None,
+        _ => end.checked_sub(1),
     }
 }
 
-impl<'k, H: BlockHash, S: FrameSource> Source<InternalValue> for Scanned<'k, H, S> {
+impl<'p, 'k, H: BlockHash, S: FrameSource> Scanned<'p, 'k, H, S> {
+    /// Takes the entries of a scan up to a bound in this direction. None was taken. Where a block
+    /// that does not end as the index names is, is noted in `place`.
+    pub fn new(
+        scan: Scan<'k, H, S>,
+        to: Bound<&'k [u8]>,
+        direction: Direction,
+        place: &'p Cell<Option<u64>>,
+    ) -> Scanned<'p, 'k, H, S> {
+        let unread = scan.unread();
+        Scanned {
+            scan,
+            direction,
+            place,
+            unread,
+            cut: cut_block(&to, unread.1),
+        }
+    }
+
+    // Whether a block ends with an entry of this key, by the index. A block that the range cuts may
+    // end with another.
+    fn is_end(&self, block: usize, key: &InternalKey) -> bool {
+        let index = self.scan.table().index();
+        if self.cut == Some(block) || is_end_in(index, block, key) {
+            return true;
+        }
+        if block < index.len() {
+            let handle = index.handle_at(block, &mut Steps::new());
+            self.place.set(Some(*handle.offset()));
+        }
+        false
+    }
+}
+
+// Whether the handle at an index has an end key and a sequence number.
+fn is_end_in(index: &IndexBlock, at: usize, key: &InternalKey) -> bool {
+    let needle = key.user_key().as_slice();
+    let (before, with) = (key.seqno().checked_add(1), Some(key.seqno()));
+    let mut steps = Steps::new();
+    let first = index.position(&SeekBound { needle, from: before }, &mut steps);
+    let behind = index.position(&SeekBound { needle, from: with }, &mut steps);
+    first <= at && at < behind
+}
+
+impl<'p, 'k, H: BlockHash, S: FrameSource> InBlocks for Scanned<'p, 'k, H, S> {
+    fn ends_fit(&self, last: &Option<InternalKey>, next: &Option<InternalValue>) -> bool {
+        let (before, after) = (self.unread, self.scan.unread());
+        match (self.direction, last, next) {
+            (Direction::Backward, _, Some(entry)) => {
+                before.1 == after.1 || self.is_end(after.1, entry.key())
+            }
+            (Direction::Forward, Some(last), next) => {
+                let is_left = before.0 != after.0 || next.is_none();
+                !is_left || before.0 == 0 || self.is_end(before.0 - 1, last)
+            }
+            _ => true,
+        }
+    }
+}
+
+impl<'p, 'k, H: BlockHash, S: FrameSource> Source<InternalValue> for Scanned<'p, 'k, H, S> {
     ghost left = { λ s. record { list = None; most = most_left s.scan; ended = s.scan.ended } };
 
     fn next_entry(&mut self, alloc: Global) -> Result<Option<InternalValue>> {
+        self.unread = self.scan.unread();
         match self.direction {
             Direction::Forward => self.scan.next_entry(alloc),
             Direction::Backward => self.scan.next_entry_back(alloc),

@@ -26,6 +26,7 @@ pub mod RunCheckLaws
 pub mod RunCheckSteps
 pub mod Footers
 pub mod TableCounts
+pub mod TableEnds
 pub mod ScanWindows
 pub mod SoundScans
 pub mod ScanCounts

@@ -1,5 +1,5 @@
 -- The footer of a table file: its last 24 bytes, which say where index and filter are.
-use Rattle.std.specs.Prelude.{ℕ, ◌-◌, ◌==◌, min, List, ◌++◌, length, drop, nat_lt, if◌then◌else◌, Option, Some, None, Result, Ok, Err}
+use Rattle.std.specs.Prelude.{ℕ, ◌+◌, ◌-◌, ◌==◌, min, List, ◌++◌, length, drop, nat_lt, if◌then◌else◌, Option, Some, None, Result, Ok, Err}
 use Rattle.byteorder.specs.Endian.{little_bytes, little_number}
 use Rattle.sst_base.specs.BlockHandle.{HandleParts}
 use Rattle.sst_base.specs.declared.error.Error.{Error}
@@ -32,6 +32,14 @@ unfoldable pub footer_handles : List ℕ → Result RunHandles Error
 footer_handles bytes =
     if nat_lt (length bytes) 24 then Err Truncated
     else Ok (record { index = parts_at bytes; filter = filter_of (parts_at (drop 12 bytes)) })
+
+-- the offset after a run, where its table has the footer: after the filter, or else after the index
+abbrev pub run_end_by : HandleParts → Option HandleParts → ℕ
+run_end_by index None = index.offset + index.size
+run_end_by index (Some filter) = filter.offset + filter.size
+
+abbrev pub run_end : RunHandles → ℕ
+run_end h = run_end_by h.index h.filter
 
 -- where the footer of a table of this length is: its last 24 bytes
 abbrev pub footer_place : ℕ → HandleParts

@@ -15,7 +15,8 @@ use Rattle.sst_block_core.specs.Entries.{entries}
 use Rattle.sst_block_kinds.specs.Handles.{Handle}
 use Rattle.sst_block_core.specs.Kind.{IsOrdered, item_cmp}
 use Rattle.sstable_blocks.specs.Blocks.{joined, IsNotEmpty}
-use Rattle.sstable_blocks.specs.Run.{Form, block_payload, block_frame, block_frames, handles_from, key_hashes, IsFramed, IsFilterText, IsLayout}
+use Rattle.sstable_blocks.specs.Run.{Form, block_payload, block_frame, block_frames, handles_from, key_hashes, IsFramed, IsFilterText, IsLayout, RunFits}
+use Rattle.sstable_blocks.specs.Footer.{footer}
 use Rattle.sstable_blocks.specs.RunReading.{Hashes}
 use Rattle.sstable_blocks.specs.Sound.{IsSound}
 use Rattle.sstable_blocks.specs.declared.run.RunConfig.{RunConfig}
@@ -74,6 +75,24 @@ IsWriteRefusal long e = (e ≡ Io) ⊎ ((e ≡ TooLong) × long) ⊎ (e ≡ Memo
 -- a writer's known bytes grew by the layout of a run, whose handles these are
 abbrev pub AppendsLayout : Form → List (List Entry) → Option (List ℕ) → Option (List ℕ) → RunHandles → Type 0
 AppendsLayout f blocks old new h = (text : List ℕ) × IsLayout f blocks text h × Appends old new text
+
+-- the bytes of a table file: the layout of a run, and its footer behind it
+pub record IsTable (f : Form) (blocks : List (List Entry)) (h : RunHandles) (bytes : List ℕ) : Type 0 where
+  pub run : List ℕ
+  pub layout : IsLayout f blocks run h
+  pub text : bytes ≡ run ++ footer h
+
+-- a writer's known bytes grew by a table of this length, whose handles these are
+pub record AppendsTable (f : Form) (blocks : List (List Entry)) (old new : Option (List ℕ)) (h : RunHandles) (len : ℕ) : Type 0 where
+  pub bytes : List ℕ
+  pub table : IsTable f blocks h bytes
+  pub appended : Appends old new bytes
+  pub len_is : len ≡ length bytes
+
+-- a run and the footer behind it fit 64 bits
+pub record TableFits (f : Form) (blocks : List (List Entry)) : Type 0 where
+  pub run : RunFits f blocks
+  pub end : (bytes : List ℕ) (h : RunHandles) → IsLayout f blocks bytes h → length bytes + 24 < 2 ^ 64
 
 -- they grew by a sound run of these blocks, whose handles these are
 abbrev pub AppendsSound : Hashes → List (List Entry) → Option (List ℕ) → Option (List ℕ) → RunHandles → Type 0

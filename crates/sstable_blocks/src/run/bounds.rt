@@ -5,10 +5,10 @@ ghost use Rattle.sst_block_core.specs.Window.{items_left, whole};
 ghost use Rattle.sstable_blocks.specs.Scans.{AllWithin, blocks_up_to, end_block, end_entry};
 ghost use Rattle.sstable_blocks.specs.Scans.{first_block, first_entry, index_cost, within};
 
+use super::search::IndexSearch;
 use sst_base::{BlockHash, Steps};
 use sst_block_core::table::block::bound::Bound as SeekBound;
 use sst_block_kinds::table::data_block::{IntoEntries, Iter};
-use sst_block_kinds::table::index_block::IndexBlockRef;
 use std::marker::Model;
 use std::ops::Bound;
 
@@ -34,7 +34,7 @@ impl<'k> Model for Bounds<'k> {
 impl<'k> Bounds<'k> {
     /// Returns the index of the first block that can have a key in the range. What is examined is
     /// added to `steps`.
-    pub(crate) fn first_block(&self, index: &IndexBlockRef<'_>, steps: &mut Steps) -> usize
+    pub(crate) fn first_block(&self, index: &IndexSearch<'_>, steps: &mut Steps) -> usize
         ensures value { result ≡ first_block self.now index.now.items }
         ensures counts { CountsBetween steps.old steps.new (0, 0)
             (index_cost index.now.interval (length index.now.items)) }
@@ -47,7 +47,7 @@ impl<'k> Bounds<'k> {
     }
 
     // How many blocks end up to the end of the range.
-    fn blocks_up_to(&self, index: &IndexBlockRef<'_>, steps: &mut Steps) -> usize
+    fn blocks_up_to(&self, index: &IndexSearch<'_>, steps: &mut Steps) -> usize
         ensures value { result ≡ blocks_up_to self.now index.now.items }
         ensures counts { CountsBetween steps.old steps.new (0, 0)
             (index_cost index.now.interval (length index.now.items)) }
@@ -61,7 +61,7 @@ impl<'k> Bounds<'k> {
 
     /// Returns the index after the last block that can have a key in the range. What is examined
     /// is added to `steps`.
-    pub(crate) fn end_block(&self, index: &IndexBlockRef<'_>, steps: &mut Steps) -> usize
+    pub(crate) fn end_block(&self, index: &IndexSearch<'_>, steps: &mut Steps) -> usize
         ensures value { result ≡ end_block self.now index.now.items }
         ensures inside { result ≤ length index.now.items }
         ensures counts { CountsBetween steps.old steps.new (0, 0)

@@ -21,7 +21,7 @@ ghost use Rattle.sstable_blocks.specs.Sources.{GivesOr, KeepsSource, filter_fram
 
 use super::RunHandles;
 use super::laws::{checked_answer_means, sound_is_read};
-use super::read::find_handle;
+use super::search::{DataSearch, IndexSearch};
 use super::source::FrameSource;
 use crate::table::filter::FilterBlock;
 use sst_base::{
@@ -169,7 +169,7 @@ pub(crate) fn read_in_block<H: BlockHash, S: FrameSource>(
         None => Ok(None),
         Some(handle) => {
             let block = block_from::<H, S>(alloc, source, handle, BlockType::Data)?;
-            let block = DataBlock::<H>::check_once(alloc, block)?;
+            let block = DataSearch::<H>::check(alloc, block)?;
             block.point_read(alloc, needle, seqno, steps)
         }
     }
@@ -196,7 +196,7 @@ fn read_by_index<H: BlockHash, S: FrameSource>(
     let block = block_from::<H, S>(alloc, source, index, BlockType::Index)?;
     let index = IndexBlock::check_once(block)?;
     let mut steps = Steps::new();
-    let handle = find_handle(&index, needle, seqno, &mut steps);
+    let handle = IndexSearch::new(index.by_ref()).find(needle, seqno, &mut steps);
     read_in_block::<H, S>(alloc, source, &handle, needle, seqno, &mut steps)
 }
 

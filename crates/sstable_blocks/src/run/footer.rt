@@ -1,5 +1,6 @@
 //! The footer of a table file.
-ghost use Rattle.std.specs.Prelude.{◌≡◌, ◌⊎◌, ◌+◌, ◌≤◌, ◌<◌, length, IfErr, IfSome};
+ghost use Rattle.std.specs.Prelude.{◌≡◌, ◌⊎◌, ◌+◌, ◌≤◌, ◌<◌, length, OnOk, IfErr, IfSome};
+ghost use Rattle.std.specs.Io.KnownBytes.{Appends};
 ghost use Rattle.sst_base.specs.declared.error.Error.TheVariants.{Io, Truncated, BadHandle, Memory};
 ghost use Rattle.sstable_blocks.specs.Footer.{footer, footer_handles, parts_of, parts_at};
 ghost use Rattle.sstable_blocks.specs.Footer.{footer_place, table_handles};
@@ -7,9 +8,11 @@ ghost use Rattle.sstable_blocks.specs.Sources.{GivesOr, KeepsSource};
 
 use super::RunHandles;
 use super::source::FrameSource;
+use super::sync::SyncWrite;
 use byteorder::{ByteOrder, LittleEndian};
 use sst_base::{BlockHandle, BlockOffset, Error, Result};
 use std::alloc::Global;
+use std::io;
 
 /// The length of a footer in bytes.
 pub const FOOTER_LEN: usize = 24;
@@ -110,4 +113,19 @@ pub fn read_footer<S: FrameSource>(alloc: Global, source: &mut S, len: u64) -> R
     let footer = BlockHandle::new(BlockOffset(len - size), size as u32);
     let footer = source.read_frame(alloc, &footer)?;
     decode_footer(footer.as_slice())
+}
+
+/// Ends a table file behind the run of these handles: writes the footer, and waits until all is
+/// where it stays.
+///
+/// # Errors
+///
+/// That of the writer.
+pub fn end_table<W: SyncWrite>(writer: &mut W, handles: &RunHandles) -> io::Result<()>
+    ensures bytes { OnOk result
+        (Appends (W.contents writer.old) (W.contents writer.new) (footer handles.now)) }
+    ensures synced { OnOk result (W.is_synced writer.new) }
+{
+    writer.write_all(&encode_footer(handles))?;
+    writer.sync()
 }

@@ -2,12 +2,12 @@
 ghost use Rattle.std.specs.Prelude.{◌≡◌, ◌↔◌, ℕ, ◌+◌, ◌<◌};
 ghost use Rattle.std.specs.Prelude.{List, length};
 ghost use Rattle.std.specs.Prelude.{false, OnOk, IfOk, IfSome, IsOkUnless};
-ghost use Rattle.std.specs.Option.{option_map};
 ghost use Rattle.sst_base.specs.Counted.{CountsExactly, CountsBetween};
 ghost use Rattle.sst_base.specs.Entry.{Entry, IsEntry};
 ghost use Rattle.sst_block_core.specs.Entries.{entries};
 ghost use Rattle.sst_block_kinds.specs.DataBlock.{data_ref_of};
-ghost use Rattle.sst_block_kinds.specs.Handles.{Handle, handles, IsIndexBlock};
+ghost use Rattle.sst_block_kinds.specs.Handles.{Handle, IsIndexBlock};
+ghost use Rattle.sst_block_kinds.specs.IndexBlock.{index_ref_of};
 ghost use Rattle.sst_block_core.specs.Intervals.{digits};
 ghost use Rattle.sst_block_core.specs.Payload.{IsBlock};
 ghost use Rattle.sst_block_core.specs.Pointers.{head_count};
@@ -15,23 +15,24 @@ ghost use Rattle.sst_block_core.specs.Stages.{items_in};
 ghost use Rattle.sst_block_core.specs.Trailer.{trailer_in};
 ghost use Rattle.sst_block_core.specs.Window.{first_match};
 ghost use Rattle.sstable_blocks.specs.Blocks.{joined};
-ghost use Rattle.sstable_blocks.specs.Lookup.{handle_for};
-ghost use Rattle.sstable_blocks.specs.Opened.{range_of, index_in, payload_in};
+ghost use Rattle.sstable_blocks.specs.Opened.{payload_in};
 ghost use Rattle.sstable_blocks.specs.Opened.{IsDenied, IsFoundIn, IsFrameRange, found_entry};
-ghost use Rattle.sstable_blocks.specs.ReadCosts.{handles_most, heads_most_in, entries_most_in};
+ghost use Rattle.sstable_blocks.specs.ReadCosts.{heads_most_in, entries_most_in};
 ghost use Rattle.sstable_blocks.specs.RunReading.{hashes};
 ghost use Rattle.sstable_blocks.specs.Sound.{IsSound};
+ghost use Rattle.sstable_blocks.specs.Tables.{IsIndexIn};
 
 use crate::run::RunHandles;
 use crate::run::laws::sound_opens;
 use crate::run::open_filter::OpenFilter;
+use crate::run::search::{DataSearch, DataSearchRef, IndexSearch};
 use sst_base::table::block::header::HEADER_LEN;
 use sst_base::{
     Block, BlockHandle, BlockHash, BlockType, Error, InternalValue, Result, SeqNo, Slice, Steps,
 };
+use sst_block_kinds::DataBlock;
 use sst_block_kinds::table::data_block::{DataBlockParsedItem, DataBlockRef};
 use sst_block_kinds::table::index_block::IndexBlockRef;
-use sst_block_kinds::{DataBlock, IndexBlock};
 use std::alloc::Global;
 
 // The block of a frame, by the frame's range alone.
@@ -68,73 +69,17 @@ fn is_allowed(bytes: &[u8], filter: &Option<BlockHandle>, hash: u64) -> bool
     OpenFilter::new(bytes, filter).allows(hash)
 }
 
-// The first handle of an index that can lead to a key below a sequence number.
-#[tactic(auto, using(crate::proofs::IndexSteps::found_range, crate::proofs::IndexSteps::handles_by_scan))]
-pub(crate) fn find_handle_in(
-    index: &IndexBlockRef<'_>,
-    needle: &[u8],
-    seqno: SeqNo,
-    steps: &mut Steps,
-) -> Option<BlockHandle>
-    ensures found { result
-        ≡ option_map range_of (handle_for handles needle.now seqno index.now.items) }
-    ensures counts { CountsBetween steps.old steps.new (1, 0) (
-      digits (head_count index.now.interval (length index.now.items)),
-      handles_most index.now.interval,
-    ) }
-{
-    let mut iter = index.iter();
-    iter.seek(needle, seqno);
-    let found = iter.next();
-    steps.add(iter.steps());
-    match found {
-        Some(item) => Some(BlockHandle::new(item.offset, item.size)),
-        None => None,
-    }
-}
-
-// The same for an index that owns its payload.
-pub(crate) fn find_handle(
-    index: &IndexBlock,
-    needle: &[u8],
-    seqno: SeqNo,
-    steps: &mut Steps,
-) -> Option<BlockHandle>
-    ensures found { result
-        ≡ option_map range_of (handle_for handles needle.now seqno index.now.items) }
-    ensures counts { CountsBetween steps.old steps.new (1, 0) (
-      digits (head_count index.now.interval (length index.now.items)),
-      handles_most index.now.interval,
-    ) }
-{
-    find_handle_in(&index.by_ref(), needle, seqno, steps)
-}
-
-// The handle of the block that can hold a key below a sequence number, by the index in a frame.
-fn handle_in_index(
-    bytes: &Slice,
-    handle: &BlockHandle,
-    needle: &[u8],
-    seqno: SeqNo,
-    steps: &mut Steps,
-) -> Result<Option<BlockHandle>>
+// The index in a frame, over the same bytes.
+#[tactic(auto, using(crate::proofs::Points::payload_fits))]
+pub(crate) fn index_over<'a>(bytes: &'a [u8], handle: &BlockHandle) -> IndexSearch<'a>
     requires range { IsFrameRange bytes.now handle.now }
     requires index { (items : List Handle) × (r : ℕ)
         × IsIndexBlock (payload_in bytes.now handle.now) items r }
-    ensures found { IfOk result
-        (λ found. found
-        ≡ option_map range_of
-        (handle_for handles needle.now seqno (index_in bytes.now handle.now))) }
-    ensures memory { IsOkUnless result Error.Memory }
-    ensures counts { let p = payload_in bytes.now handle.now in
-        CountsBetween steps.old steps.new (0, 0) (
-          digits (head_count (trailer_in p).interval (length (index_in bytes.now handle.now))),
-          handles_most (trailer_in p).interval,
-        ) }
-    ensures looked { OnOk result (steps.old.heads < steps.new.heads) }
+    ensures { result ≡ index_ref_of (payload_in bytes.now handle.now) false }
 {
-    let index = IndexBlock::new(block_at(bytes, handle, BlockType::Index)?);
-    Ok(find_handle(&index, needle, seqno, steps))
+    // The proof needs the bound on the size.
+    let _fits = handle.size();
+    IndexSearch::new(IndexBlockRef::new(payload_at(bytes, handle)))
 }
 
 // The data block in a frame.
@@ -148,6 +93,19 @@ pub(crate) fn block_in<H: BlockHash>(bytes: &Slice, handle: &BlockHandle) -> Res
     ensures memory { IsOkUnless result Error.Memory }
 {
     Ok(DataBlock::new(block_at(bytes, handle, BlockType::Data)?))
+}
+
+// The same, to be searched.
+fn search_in<H: BlockHash>(bytes: &Slice, handle: &BlockHandle) -> Result<DataSearch<H>>
+    requires range { IsFrameRange bytes.now handle.now }
+    requires block { (items : List Entry) × (r : ℕ) × (b : ℕ)
+        × IsBlock entries IsEntry H.hash64 (payload_in bytes.now handle.now) items r b }
+    ensures payload { IfOk result (λ b. b.payload ≡ payload_in bytes.now handle.now) }
+    ensures items { IfOk result
+        (λ b. b.items ≡ items_in entries (payload_in bytes.now handle.now)) }
+    ensures memory { IsOkUnless result Error.Memory }
+{
+    Ok(DataSearch::new(block_in::<H>(bytes, handle)?))
 }
 
 // The first match in the block in a frame.
@@ -174,8 +132,7 @@ pub(crate) fn match_in<H: BlockHash>(
           (trailer_in p).interval + 1,
         ) }
 {
-    let block = DataBlock::<H>::new(block_at(bytes, handle, BlockType::Data)?);
-    block.point_read(alloc, needle, seqno, steps)
+    search_in::<H>(bytes, handle)?.point_read(alloc, needle, seqno, steps)
 }
 
 // The data block in a frame, over the same bytes.
@@ -192,6 +149,16 @@ pub(crate) fn block_over<'a, H: BlockHash>(
     // The proof needs the bound on the size.
     let _fits = handle.size();
     DataBlockRef::new(payload_at(bytes, handle))
+}
+
+// The same, to be searched.
+fn search_over<'a, H: BlockHash>(bytes: &'a [u8], handle: &BlockHandle) -> DataSearchRef<'a, H>
+    requires range { IsFrameRange bytes.now handle.now }
+    requires block { (items : List Entry) × (r : ℕ) × (b : ℕ)
+        × IsBlock entries IsEntry H.hash64 (payload_in bytes.now handle.now) items r b }
+    ensures { result ≡ data_ref_of (payload_in bytes.now handle.now) false }
+{
+    DataSearchRef::new(block_over::<H>(bytes, handle))
 }
 
 // Where the first match in the block in a frame is.
@@ -216,9 +183,39 @@ pub(crate) fn item_in<H: BlockHash>(
           (trailer_in p).interval + 1,
         ) }
 {
-    match block_over::<H>(bytes, &handle).find(needle, seqno, steps) {
+    match search_over::<H>(bytes, &handle).find(needle, seqno, steps) {
         Some(item) => Some((handle, item)),
         None => None,
+    }
+}
+
+// The first match of a sound run by its index.
+pub(crate) fn read_by_index<H: BlockHash>(
+    alloc: Global,
+    bytes: &Slice,
+    handles: &RunHandles,
+    index: &IndexSearch<'_>,
+    needle: &[u8],
+    seqno: SeqNo,
+    steps: &mut Steps,
+) -> Result<Option<InternalValue>>
+    requires sound { (blocks : List (List Entry))
+        × IsSound (hashes H.hash64 H.hash128) blocks bytes.now handles.now }
+    requires index { IsIndexIn bytes.now handles.now.index index.now.items index.now.interval }
+    ensures found { (blocks : List (List Entry))
+        → IsSound (hashes H.hash64 H.hash128) blocks bytes.now handles.now
+        → IfOk result (λ item. item ≡ first_match entries needle.now seqno (joined blocks)) }
+    ensures memory { IsOkUnless result Error.Memory }
+    ensures counts { CountsBetween steps.old steps.new (0, 0) (
+      heads_most_in bytes.now handles.now needle.now seqno,
+      entries_most_in bytes.now handles.now needle.now seqno,
+    ) }
+    ensures looked { OnOk result (steps.old.heads < steps.new.heads) }
+{
+    sound_opens();
+    match index.find(needle, seqno, steps) {
+        None => Ok(None),
+        Some(handle) => match_in::<H>(alloc, bytes, &handle, needle, seqno, steps),
     }
 }
 
@@ -266,8 +263,6 @@ pub fn read_entry<H: BlockHash>(
     if !is_allowed(bytes.as_slice(), &handles.filter, H::hash64(needle)) {
         return Ok(None);
     }
-    match handle_in_index(bytes, &handles.index, needle, seqno, steps)? {
-        None => Ok(None),
-        Some(handle) => match_in::<H>(alloc, bytes, &handle, needle, seqno, steps),
-    }
+    let index = index_over(bytes.as_slice(), &handles.index);
+    read_by_index::<H>(alloc, bytes, handles, &index, needle, seqno, steps)
 }

@@ -21,11 +21,11 @@ use super::RunHandles;
 use super::checking::{RunSummary, check};
 use super::laws::{sound_opens, sound_run_is_read};
 use super::open_filter::OpenFilter;
-use super::read::{block_over, find_handle_in, item_in, payload_at};
+use super::read::{block_over, index_over, item_in, payload_at};
+use super::search::IndexSearch;
 use super::source::BorrowedSource;
 use sst_base::{BlockHandle, BlockHash, Error, Result, SeqNo, Steps};
 use sst_block_kinds::table::data_block::{DataBlockParsedItem, DataBlockRef, EntryView};
-use sst_block_kinds::table::index_block::IndexBlockRef;
 use std::alloc::Global;
 use std::marker::{Model, PhantomData};
 
@@ -39,7 +39,7 @@ pub struct RunRef<'a, H: BlockHash> {
     bytes: &'a [u8],
     handles: &'a RunHandles,
     filter: OpenFilter<'a>,
-    index: IndexBlockRef<'a>,
+    index: IndexSearch<'a>,
     hash: PhantomData<H>,
 }
 
@@ -63,17 +63,13 @@ impl<'a, H: BlockHash> Model for RunRef<'a, H> {
 impl<'a, H: BlockHash> RunRef<'a, H> {
     /// Reads bytes and handles that are a sound run, as `write_run` writes one of any configuration
     /// and [`super::check`] accepts it. Nothing of it is tested, and no checksum is computed.
-    #[tactic(auto, using(crate::proofs::Points::payload_fits))]
     pub fn new(bytes: &'a [u8], handles: &'a RunHandles) -> RunRef<'a, H>
         requires { (blocks : List (List Entry))
             × IsSound (hashes H.hash64 H.hash128) blocks bytes.now handles.now }
         ensures { result ≡ record { bytes = bytes.now; handles = handles.now } }
     {
         sound_opens();
-        // The proof needs the bound on the size of the index.
-        let _fits = handles.index.size();
-        let index = IndexBlockRef::new(payload_at(bytes, &handles.index));
-        RunRef::with_index(bytes, handles, index)
+        RunRef::with_index(bytes, handles, index_over(bytes, &handles.index))
     }
 
     /// Checks a whole run of any bytes, as [`super::check`] does, and returns it with its summary.
@@ -114,7 +110,7 @@ impl<'a, H: BlockHash> RunRef<'a, H> {
     pub(crate) fn with_index(
         bytes: &'a [u8],
         handles: &'a RunHandles,
-        index: IndexBlockRef<'a>,
+        index: IndexSearch<'a>,
     ) -> RunRef<'a, H>
         requires sound { (blocks : List (List Entry))
             × IsSound (hashes H.hash64 H.hash128) blocks bytes.now handles.now }
@@ -187,26 +183,15 @@ impl<'a, H: BlockHash> RunRef<'a, H> {
         }
     }
 
-    // The index, with the table of its heads, if it has one.
-    fn index_again(&self) -> IndexBlockRef<'a>
-        ensures { IsIndexIn self.now.bytes self.now.handles.index result.items result.interval }
-    {
-        let index = IndexBlockRef::new(self.index.as_slice());
-        match self.index.heads() {
-            Some(heads) => index.with_table(heads),
-            None => index,
-        }
-    }
-
     // The same run.
     pub(crate) fn again(&self) -> RunRef<'a, H>
         ensures { result ≡ self.now }
     {
-        RunRef::with_index(self.bytes, self.handles, self.index_again())
+        RunRef::with_index(self.bytes, self.handles, self.index.again())
     }
 
     // The index.
-    pub(crate) fn index(&self) -> &IndexBlockRef<'a>
+    pub(crate) fn index(&self) -> &IndexSearch<'a>
         ensures { result.now.items ≡ index_in self.now.bytes self.now.handles.index }
     {
         &self.index
@@ -257,7 +242,7 @@ fn summary_in<H: BlockHash>(alloc: Global, bytes: &[u8], handles: &RunHandles) -
 fn item_by_index<H: BlockHash>(
     bytes: &[u8],
     handles: &RunHandles,
-    index: &IndexBlockRef<'_>,
+    index: &IndexSearch<'_>,
     needle: &[u8],
     seqno: SeqNo,
     steps: &mut Steps,
@@ -276,7 +261,7 @@ fn item_by_index<H: BlockHash>(
     ensures looked { steps.old.heads < steps.new.heads }
 {
     sound_opens();
-    match find_handle_in(index, needle, seqno, steps) {
+    match index.find(needle, seqno, steps) {
         None => None,
         Some(handle) => item_in::<H>(bytes, handle, needle, seqno, steps),
     }

@@ -8,7 +8,7 @@ ghost use Rattle.sst_base.specs.declared.error.Error.TheVariants.{Io};
 ghost use Rattle.sstable_blocks.specs.Blocks.{joined};
 ghost use Rattle.sstable_blocks.specs.RunReading.{hashes};
 ghost use Rattle.sstable_blocks.specs.Scans.{EndsBy, GivesFirst, GivesLast, IsFewer, IsSameScan};
-ghost use Rattle.sstable_blocks.specs.Scans.{handles_within, in_range, most_left};
+ghost use Rattle.sstable_blocks.specs.Scans.{between, handles_within, in_range, most_left};
 ghost use Rattle.sstable_blocks.specs.Scans.{reads_left, within};
 ghost use Rattle.sstable_blocks.specs.Sound.{IsSound};
 ghost use Rattle.sstable_blocks.specs.Sources.{KeepsSource};
@@ -16,6 +16,7 @@ ghost use Rattle.sstable_blocks.specs.Sources.{KeepsSource};
 use super::bounds::Bounds;
 use super::laws::sound_is_scanned;
 use super::scan_steps::{Blocks, step_back, step_front};
+use super::search::IndexSearch;
 use super::source::FrameSource;
 use super::table::Table;
 use sst_base::{BlockHash, Error, InternalValue, Result};
@@ -80,13 +81,28 @@ impl<'k, H: BlockHash, S: FrameSource> Scan<'k, H, S> {
         sound_is_scanned();
         let bounds = Bounds { from, to };
         let index = table.index();
-        let blocks = Blocks::within(&bounds, index);
+        let blocks = Blocks::within(&bounds, &IndexSearch::new(index.by_ref()));
         Scan {
             table,
             bounds,
             blocks,
             ended: None,
         }
+    }
+
+    /// Returns the table, which the scan keeps.
+    pub fn table(&self) -> &Table<H, S>
+        ensures { result.now ≡ self.now.table }
+    {
+        &self.table
+    }
+
+    /// Returns which blocks were not read, by the indexes of their handles in the index: from the
+    /// first up to the second, without it.
+    pub fn unread(&self) -> (usize, usize)
+        ensures { between self.now.table.index result.0 result.1 ≡ self.now.handles }
+    {
+        (self.blocks.lo, self.blocks.hi)
     }
 
     /// Returns the table.

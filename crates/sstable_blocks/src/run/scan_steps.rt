@@ -15,8 +15,8 @@ ghost use Rattle.sstable_blocks.specs.Sources.{GivesOr, KeepsSource};
 
 use super::bounds::Bounds;
 use super::opener::BlockOpener;
+use super::search::IndexSearch;
 use sst_base::{BlockHash, Error, InternalValue, Result, Steps};
-use sst_block_kinds::IndexBlock;
 use sst_block_kinds::table::data_block::IntoEntries;
 use std::alloc::Global;
 use std::mem;
@@ -33,18 +33,17 @@ pub(crate) struct Blocks<H: BlockHash> {
 
 impl<H: BlockHash> Blocks<H> {
     /// Opens no block: those are left that can have a key in a range, by the index.
-    pub(crate) fn within(bounds: &Bounds<'_>, index: &IndexBlock) -> Blocks<H>
+    pub(crate) fn within(bounds: &Bounds<'_>, index: &IndexSearch<'_>) -> Blocks<H>
         ensures none { (result.front ≡ None) × (result.back ≡ None) }
         ensures lo { result.lo ≡ first_block bounds.now index.now.items }
         ensures hi { result.hi ≡ end_block bounds.now index.now.items }
         ensures inside { result.hi ≤ length index.now.items }
     {
-        let index = index.by_ref();
         let mut steps = Steps::new();
         Blocks {
             front: None,
-            lo: bounds.first_block(&index, &mut steps),
-            hi: bounds.end_block(&index, &mut steps),
+            lo: bounds.first_block(index, &mut steps),
+            hi: bounds.end_block(index, &mut steps),
             back: None,
         }
     }

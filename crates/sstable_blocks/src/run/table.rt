@@ -26,8 +26,8 @@ use super::checked::{block_from, data_block_from, read_in_block};
 use super::checking::{RunSummary, check};
 use super::footer::read_footer;
 use super::laws::sound_is_read;
-use super::read::find_handle;
 use super::run_ref::RunRef;
+use super::search::IndexSearch;
 use super::source::{BorrowedSource, FrameSource, MemorySource, SizedSource};
 use super::trusted::Trusted;
 use crate::table::filter::FilterBlock;
@@ -202,7 +202,7 @@ fn read_by_kept<H: BlockHash, S: FrameSource>(
     alloc: Global,
     source: &mut S,
     filter: &Option<FilterBlock>,
-    index: &IndexBlock,
+    index: &IndexSearch<'_>,
     needle: &[u8],
     seqno: SeqNo,
     steps: &mut Steps,
@@ -228,7 +228,7 @@ fn read_by_kept<H: BlockHash, S: FrameSource>(
     if !kept_allows::<H>(filter, needle)? {
         return Ok(None);
     }
-    let handle = find_handle(index, needle, seqno, steps);
+    let handle = index.find(needle, seqno, steps);
     read_in_block::<H, S>(alloc, source, &handle, needle, seqno, steps)
 }
 
@@ -283,7 +283,7 @@ impl<H: BlockHash, S: FrameSource> Table<H, S> {
             alloc,
             &mut self.source,
             &self.filter,
-            &self.index,
+            &IndexSearch::new(self.index.by_ref()),
             needle,
             seqno,
             steps,
@@ -455,7 +455,8 @@ impl<H: BlockHash> Table<H, MemorySource> {
         ensures { result
             ≡ record { bytes = self.now.source.inner; handles = self.now.handles } }
     {
-        Trusted::new(self.source.bytes(), &self.handles, &self.index)
+        let index = IndexSearch::new(self.index.by_ref());
+        Trusted::new(self.source.bytes(), &self.handles, index)
     }
 }
 
@@ -468,6 +469,7 @@ impl<'a, H: BlockHash> Table<H, BorrowedSource<'a>> {
         ensures { result
             ≡ record { bytes = self.now.source.inner; handles = self.now.handles } }
     {
-        RunRef::with_index(self.source.bytes(), &self.handles, self.index.by_ref())
+        let index = IndexSearch::new(self.index.by_ref());
+        RunRef::with_index(self.source.bytes(), &self.handles, index)
     }
 }

@@ -18,10 +18,11 @@ ghost use Rattle.sstable_blocks.specs.Tables.{IsIndexIn};
 use super::RunHandles;
 use super::laws::{sound_opens, sound_run_is_read};
 use super::open_filter::OpenFilter;
-use super::read::{block_in, find_handle, match_in};
+use super::read::{block_in, read_by_index};
 use super::run_ref::RunRef;
+use super::search::IndexSearch;
 use sst_base::{BlockHash, Error, InternalValue, Result, SeqNo, Slice, Steps};
-use sst_block_kinds::{DataBlock, IndexBlock};
+use sst_block_kinds::DataBlock;
 use std::alloc::Global;
 use std::marker::{Model, PhantomData};
 
@@ -34,7 +35,7 @@ pub struct Trusted<'a, H: BlockHash> {
     bytes: &'a Slice,
     handles: &'a RunHandles,
     filter: OpenFilter<'a>,
-    index: &'a IndexBlock,
+    index: IndexSearch<'a>,
     hash: PhantomData<H>,
 }
 
@@ -51,7 +52,7 @@ impl<'a, H: BlockHash> Model for Trusted<'a, H> {
 
     ghost invariant = { λ t. ((blocks : List (List Entry))
         × IsSound (hashes H.hash64 H.hash128) blocks t.bytes.now t.handles.now)
-        × IsIndexIn t.bytes.now t.handles.now.index t.index.now.items t.index.now.interval
+        × IsIndexIn t.bytes.now t.handles.now.index t.index.items t.index.interval
         × (t.filter ≡ record { bytes = t.bytes.now; handle = t.handles.now.filter }) };
 }
 
@@ -60,11 +61,11 @@ impl<'a, H: BlockHash> Trusted<'a, H> {
     pub(crate) fn new(
         bytes: &'a Slice,
         handles: &'a RunHandles,
-        index: &'a IndexBlock,
+        index: IndexSearch<'a>,
     ) -> Trusted<'a, H>
         requires sound { (blocks : List (List Entry))
             × IsSound (hashes H.hash64 H.hash128) blocks bytes.now handles.now }
-        requires index { IsIndexIn bytes.now handles.now.index index.now.items index.now.interval }
+        requires index { IsIndexIn bytes.now handles.now.index index.items index.interval }
         ensures { result ≡ record { bytes = bytes.now; handles = handles.now } }
     {
         sound_opens();
@@ -82,7 +83,7 @@ impl<'a, H: BlockHash> Trusted<'a, H> {
     pub fn by_ref(&self) -> RunRef<'a, H>
         ensures { result ≡ self.now }
     {
-        RunRef::with_index(self.bytes.as_slice(), self.handles, self.index.by_ref())
+        RunRef::with_index(self.bytes.as_slice(), self.handles, self.index.again())
     }
 
     /// Returns the first entry with this key whose sequence number is strictly below `seqno`, as
@@ -120,7 +121,7 @@ impl<'a, H: BlockHash> Trusted<'a, H> {
             alloc,
             self.bytes,
             self.handles,
-            self.index,
+            &self.index,
             needle,
             seqno,
             steps,
@@ -130,17 +131,17 @@ impl<'a, H: BlockHash> Trusted<'a, H> {
 
 impl<'a, H: BlockHash> Trusted<'a, H> {
     // The index.
-    pub(crate) fn index(&self) -> &'a IndexBlock
+    pub(crate) fn index(&self) -> &IndexSearch<'a>
         ensures { result.now.items ≡ index_in self.now.bytes self.now.handles.index }
     {
-        self.index
+        &self.index
     }
 
     // The same run.
     pub(crate) fn again(&self) -> Trusted<'a, H>
         ensures { result ≡ self.now }
     {
-        Trusted::new(self.bytes, self.handles, self.index)
+        Trusted::new(self.bytes, self.handles, self.index.again())
     }
 
     // States in a proof that the index is read, and the block of each of its handles.
@@ -164,35 +165,5 @@ impl<'a, H: BlockHash> Trusted<'a, H> {
         sound_opens();
         let handle = self.index.handle_at(index, &mut Steps::new());
         block_in::<H>(self.bytes, &handle)
-    }
-}
-
-// The first match of a sound run by its index.
-fn read_by_index<H: BlockHash>(
-    alloc: Global,
-    bytes: &Slice,
-    handles: &RunHandles,
-    index: &IndexBlock,
-    needle: &[u8],
-    seqno: SeqNo,
-    steps: &mut Steps,
-) -> Result<Option<InternalValue>>
-    requires sound { (blocks : List (List Entry))
-        × IsSound (hashes H.hash64 H.hash128) blocks bytes.now handles.now }
-    requires index { IsIndexIn bytes.now handles.now.index index.now.items index.now.interval }
-    ensures found { (blocks : List (List Entry))
-        → IsSound (hashes H.hash64 H.hash128) blocks bytes.now handles.now
-        → IfOk result (λ item. item ≡ first_match entries needle.now seqno (joined blocks)) }
-    ensures memory { IsOkUnless result Error.Memory }
-    ensures counts { CountsBetween steps.old steps.new (0, 0) (
-      heads_most_in bytes.now handles.now needle.now seqno,
-      entries_most_in bytes.now handles.now needle.now seqno,
-    ) }
-    ensures looked { OnOk result (steps.old.heads < steps.new.heads) }
-{
-    sound_opens();
-    match find_handle(index, needle, seqno, steps) {
-        None => Ok(None),
-        Some(handle) => match_in::<H>(alloc, bytes, &handle, needle, seqno, steps),
     }
 }

@@ -1,16 +1,19 @@
 //! Writing a run block by block.
-ghost use Rattle.std.specs.Prelude.{◌≡◌, ◌≢◌, ◌↔◌, ◌≤◌, []};
+ghost use Rattle.std.specs.Prelude.{◌≡◌, ◌≢◌, ◌↔◌, ◌+◌, ◌^◌, ◌≤◌, []};
 ghost use Rattle.std.specs.Prelude.{◌∷◌, ◌++◌, length, IsTrue, None, Some};
 ghost use Rattle.std.specs.Prelude.{OnOk, IfOk, IfErr, IfSome, MatchResult, Err};
 ghost use Rattle.std.specs.Io.KnownBytes.{Appends};
-ghost use Rattle.sst_base.specs.declared.error.Error.TheVariants.{Io};
+ghost use Rattle.sst_base.specs.declared.error.Error.TheVariants.{Io, TooLong};
+ghost use Rattle.sstable_blocks.specs.Footer.{run_end};
 ghost use Rattle.sstable_blocks.specs.Run.{form, block_frame, block_frames, IsWritable, RunFits};
 ghost use Rattle.sstable_blocks.specs.RunReading.{hashes};
 ghost use Rattle.sstable_blocks.specs.Writing.{Follows, FrameFits, IsWriteRefusal, AppendsLayout};
-ghost use Rattle.sstable_blocks.specs.Writing.{AppendsSound};
+ghost use Rattle.sstable_blocks.specs.Writing.{AppendsSound, AppendsTable, TableFits};
 ghost use Rattle.sstable_blocks.specs.Writing.{IsSameRun, RepeatsError};
 
+use super::footer::{FOOTER_LEN, end_table};
 use super::run_core::RunCore;
+use super::sync::SyncWrite;
 use super::{RunConfig, RunHandles};
 use sst_base::{BlockHash, Contents, Error, InternalValue, Result};
 use std::alloc::Global;
@@ -155,5 +158,46 @@ impl<H: BlockHash, W: Write + Drop> RunWriter<H, W> {
         }
         let handles = core.finish(&mut writer)?;
         Ok((handles, writer))
+    }
+}
+
+// The length of the table of a run with these handles.
+fn table_len(handles: &RunHandles) -> Result<u64>
+    ensures len { IfOk result (λ len. len ≡ run_end handles.now + 24) }
+    ensures too_long { IfErr result
+        (λ e. (e ≡ TooLong) × (2 ^ 64 ≤ run_end handles.now + 24)) }
+{
+    let last = handles.filter.as_ref().unwrap_or(&handles.index);
+    let behind = u64::from(last.size()) + FOOTER_LEN as u64;
+    match last.offset().checked_add(behind) {
+        Some(len) => Ok(len),
+        None => Err(Error::TooLong),
+    }
+}
+
+impl<H: BlockHash, W: SyncWrite + Drop> RunWriter<H, W> {
+    /// Ends a table file: writes the index, the filter and the footer, and waits until all is where
+    /// it stays. Returns the handles, the length of the table in bytes, and the writer. A block was
+    /// accepted, or one was refused.
+    ///
+    /// A file of its own for a table is a [`super::NewFile`], whose writer this one is made of, and
+    /// which is put in place when the table is ended.
+    ///
+    /// # Errors
+    ///
+    /// Those of [`RunWriter::finish`], `Error::TooLong` too where the table has 2^64 bytes or more.
+    pub fn finish_table(self) -> Result<(RunHandles, u64, W)>
+        requires { self.refusal ≡ None → 1 ≤ length self.blocks }
+        ensures table { IfOk result (λ r. AppendsTable (form H.hash64 H.hash128 self.config)
+            self.blocks self.start (W.contents r.2) r.0 r.1) }
+        ensures synced { IfOk result (λ r. W.is_synced r.2) }
+        ensures repeated { IfSome self.refusal (λ e. result ≡ Err e) }
+        ensures cause { self.refusal ≡ None → IfErr result
+            (IsWriteRefusal (TableFits (form H.hash64 H.hash128 self.config) self.blocks → ⊥)) }
+    {
+        let (handles, mut writer) = self.finish()?;
+        let len = table_len(&handles)?;
+        end_table(&mut writer, &handles)?;
+        Ok((handles, len, writer))
     }
 }

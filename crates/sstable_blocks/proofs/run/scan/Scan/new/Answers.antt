@@ -1,3 +1,4 @@
+use Rattle.sst_block_kinds.specs.IndexBlock.{IndexRefParts}
 use Rattle.std.proofs.Common.{ap, ◌∙◌}
 use Rattle.std.specs.Range.Bound.{bound_map}
 use Rattle.sst_block_kinds.specs.Handles.{Handle}
@@ -11,7 +12,7 @@ pub returns-clause-sound : goal.returns-clause-sound
 returns-clause-sound g c =
     let h = hashes g.H.BlockHash.hash64 g.H.BlockHash.hash128 in
     let r : KeyRange = record { from = bound_map (λ k. k.now) c.args.from; to = bound_map (λ k. k.now) c.args.to } in
-    let same = c.index-index.ensures.items in
+    let same = ap (λ (b : IndexRefParts). b.items) (c.new.ensures ∙ c.by_ref.ensures) ∙ c.index-index.ensures.items in
     fresh_reads h r c.args.table.index c.args.table.handles _ (left_in c.within-blocks.result.front) (left_in c.within-blocks.result.back) _ _
     (ap left_in c.within-blocks.ensures.none.0) (ap left_in c.within-blocks.ensures.none.1)
     (c.within-blocks.ensures.lo ∙ ap (λ (hs : List Handle). first_block r hs) same)

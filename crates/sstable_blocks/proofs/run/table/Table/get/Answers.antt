@@ -1,4 +1,4 @@
-use Rattle.std.proofs.Common.{◌<◌, subst, IfSome}
+use Rattle.std.proofs.Common.{◌<◌, ◌∙◌, subst, IfSome}
 use Rattle.sst_base.specs.Counted.{CountsBetween}
 use Rattle.sstable_blocks.specs.ReadCosts.{heads_most_in, entries_most_in}
 use Rattle.sstable_blocks.specs.RunReading.{hashes, read_checked}
@@ -13,7 +13,7 @@ returns-clause-exact g c =
     let h = hashes g.H.BlockHash.hash64 g.H.BlockHash.hash128 in
     subst (λ w. IfSome (g.S.FrameSource.bytes w.source) (λ all. GivesOr (g.S.FrameSource.failures w.source < g.S.FrameSource.failures c.read_by_kept.new.source) (g.S.FrameSource.is_reliable w.source) (λ x. x) c.read_by_kept.result (read_checked h all w.handles c.args.needle.now c.args.seqno)))
     c.self.view_is
-    (checked_on h _ c.self.inside.handles _ _ _ c.args.needle.now c.args.seqno _ _ _ c.self.invariant.0 c.read_by_kept.ensures.exact)
+    (checked_on h _ c.self.inside.handles _ _ _ c.args.needle.now c.args.seqno _ _ _ c.self.invariant.0 (rw (c.new.ensures ∙ c.by_ref.ensures) at c.read_by_kept.ensures.exact))
 
 pub returns-clause-sound : goal.returns-clause-sound
 returns-clause-sound g c = sound_on (hashes g.H.BlockHash.hash64 g.H.BlockHash.hash128) _ _ _ _ c.args.self.now.handles _ _
@@ -25,4 +25,4 @@ returns-clause-counts g c =
     let h = hashes g.H.BlockHash.hash64 g.H.BlockHash.hash128 in
     subst (λ w. IfSome (g.S.FrameSource.bytes w.source) (λ all. CountsBetween c.args.steps.now c.read_by_kept.new.steps (0, 0) (heads_most_in all w.handles c.args.needle.now c.args.seqno, entries_most_in all w.handles c.args.needle.now c.args.seqno)))
     c.self.view_is
-    (kept_counts h _ c.self.inside.handles _ _ _ c.args.needle.now c.args.seqno _ _ c.self.invariant.0 c.read_by_kept.ensures.counts)
+    (kept_counts h _ c.self.inside.handles _ _ _ c.args.needle.now c.args.seqno _ _ c.self.invariant.0 (rw (c.new.ensures ∙ c.by_ref.ensures) at c.read_by_kept.ensures.counts))

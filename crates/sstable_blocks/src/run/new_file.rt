@@ -1,10 +1,10 @@
 //! Files that take the place of others whole: the new one is written beside the old one, under its
 //! name and `.sst-new`, and then renamed over it.
 ghost use Rattle.std.specs.Prelude.{◌≡◌, ◌⊎◌, IfErr, IsOkUnless};
-ghost use Rattle.sst_program.specs.declared.new_file.NotMade.TheVariants.{Memory};
+ghost use Rattle.sstable_blocks.specs.declared.run.new_file.NotMade.TheVariants.{Memory};
 
-use crate::sync::BufferedFile;
-use sstable_blocks::{Error, Result};
+use super::sync::BufferedFile;
+use sst_base::{Error, Result};
 use std::alloc::{AllocError, Global};
 use std::fs::{File, Metadata, OpenFile, OpenOptions};
 use std::io::ErrorKind;

@@ -4,7 +4,7 @@ ghost use Rattle.std.specs.Io.KnownBytes.{Keeps};
 ghost use Rattle.std.specs.Io.Buffered.{writer_contents, writer_buffer, writer_inner};
 ghost use Rattle.sst_base.specs.declared.error.Error.TheVariants.{Memory};
 
-use sstable_blocks::{Error, Result};
+use sst_base::{Error, Result};
 use std::alloc::{Allocator, Global};
 use std::fs::OpenFile;
 use std::io;
@@ -19,18 +19,17 @@ pub trait SyncWrite: Write {
     ///
     /// # Errors
     ///
-    /// `Error::Io` if the writer fails.
-    fn sync(&mut self) -> Result<()>
+    /// That of the system.
+    fn sync(&mut self) -> io::Result<()>
         ensures synced { OnOk result (is_synced self.new) }
-        ensures kept { Keeps (Self.contents self.old) (Self.contents self.new) }
-        ensures io { IsOkUnless result Error.Io };
+        ensures kept { Keeps (Self.contents self.old) (Self.contents self.new) };
 }
 
 // What is written to memory is there.
 impl<A: Allocator> SyncWrite for Vec<u8, A> {
     ghost is_synced = { λ _. Unit {0} };
 
-    fn sync(&mut self) -> Result<()> {
+    fn sync(&mut self) -> io::Result<()> {
         Ok(())
     }
 }
@@ -39,7 +38,7 @@ impl<A: Allocator> SyncWrite for Vec<u8, A> {
 impl SyncWrite for Sink {
     ghost is_synced = { λ _. Unit {0} };
 
-    fn sync(&mut self) -> Result<()> {
+    fn sync(&mut self) -> io::Result<()> {
         Ok(())
     }
 }
@@ -89,31 +88,13 @@ impl<F: Write + Drop> Write for BufferedFile<F> {
     }
 }
 
-impl<F: Write + OpenFile + Drop> BufferedFile<F> {
-    /// Passes on all that was written, and waits until the file is where it stays, as
-    /// [`SyncWrite::sync`] does.
-    ///
-    /// # Errors
-    ///
-    /// That of the system.
-    pub fn sync_all(&mut self) -> io::Result<()>
-        ensures synced { OnOk result
-            (IsTrue self.new.is_synced × (writer_buffer self.new.buffered ≡ [])) }
-        ensures kept { Keeps (writer_contents F.contents self.old.buffered)
-            (writer_contents F.contents self.new.buffered) }
-    {
-        self.buffered.flush()?;
-        sync_file(self.buffered.get_ref())?;
-        self.is_synced = true;
-        Ok(())
-    }
-}
-
 impl<F: Write + OpenFile + Drop> SyncWrite for BufferedFile<F> {
     ghost is_synced = { λ w. IsTrue w.is_synced × (writer_buffer w.buffered ≡ []) };
 
-    fn sync(&mut self) -> Result<()> {
-        self.sync_all()?;
+    fn sync(&mut self) -> io::Result<()> {
+        self.buffered.flush()?;
+        sync_file(self.buffered.get_ref())?;
+        self.is_synced = true;
         Ok(())
     }
 }

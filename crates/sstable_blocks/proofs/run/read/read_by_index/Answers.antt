@@ -6,31 +6,31 @@ use Rattle.sstable_blocks.specs.Opened.{range_of}
 use Rattle.sstable_blocks.specs.ReadCosts.{handle_in}
 use Rattle.sstable_blocks.specs.RunReading.{hashes}
 use Rattle.sstable_blocks.proofs.Points.{chosen, found_none, found_some}
-use Rattle.sstable_blocks.proofs.run.trusted.read_by_index.Goals as goal
+use Rattle.sstable_blocks.proofs.run.read.read_by_index.Goals as goal
 
 pub match_in-requires-clause-range : goal.match_in-requires-clause-range
 match_in-requires-clause-range g c =
     let s = c.requires.sound in
     let o = c.sound_opens.ensures (hashes g.H.BlockHash.hash64 g.H.BlockHash.hash128) s.0 _ _ s.1 in
-    let at : c.find_handle.result ≡ option_map range_of (handle_in c.args.bytes.now c.args.handles.now c.args.needle.now c.args.seqno) = c.find_handle.ensures.found ∙ ap (λ (hs : List Handle). option_map range_of (handle_for handles c.args.needle.now c.args.seqno hs)) c.requires.index.index_is in
+    let at : c.find.result ≡ option_map range_of (handle_in c.args.bytes.now c.args.handles.now c.args.needle.now c.args.seqno) = c.find.ensures.found ∙ ap (λ (hs : List Handle). option_map range_of (handle_for handles c.args.needle.now c.args.seqno hs)) c.requires.index.index_is in
     (chosen _ _ _ _ c.args.needle.now c.args.seqno o _ _ at c.in-Some.is).2.range
 
 pub match_in-requires-clause-block : goal.match_in-requires-clause-block
 match_in-requires-clause-block g c =
     let s = c.requires.sound in
     let o = c.sound_opens.ensures (hashes g.H.BlockHash.hash64 g.H.BlockHash.hash128) s.0 _ _ s.1 in
-    let at : c.find_handle.result ≡ option_map range_of (handle_in c.args.bytes.now c.args.handles.now c.args.needle.now c.args.seqno) = c.find_handle.ensures.found ∙ ap (λ (hs : List Handle). option_map range_of (handle_for handles c.args.needle.now c.args.seqno hs)) c.requires.index.index_is in
+    let at : c.find.result ≡ option_map range_of (handle_in c.args.bytes.now c.args.handles.now c.args.needle.now c.args.seqno) = c.find.ensures.found ∙ ap (λ (hs : List Handle). option_map range_of (handle_for handles c.args.needle.now c.args.seqno hs)) c.requires.index.index_is in
     let b = chosen _ _ _ _ c.args.needle.now c.args.seqno o _ _ at c.in-Some.is in
     (b.0, b.2.interval, b.2.buckets, b.2.is_block)
 
 pub returns-in-None-clause-found : goal.returns-in-None-clause-found
 returns-in-None-clause-found g c = λ blocks sound.
     let o = c.sound_opens.ensures (hashes g.H.BlockHash.hash64 g.H.BlockHash.hash128) blocks _ _ sound in
-    let at : c.find_handle.result ≡ option_map range_of (handle_in c.args.bytes.now c.args.handles.now c.args.needle.now c.args.seqno) = c.find_handle.ensures.found ∙ ap (λ (hs : List Handle). option_map range_of (handle_for handles c.args.needle.now c.args.seqno hs)) c.requires.index.index_is in
+    let at : c.find.result ≡ option_map range_of (handle_in c.args.bytes.now c.args.handles.now c.args.needle.now c.args.seqno) = c.find.ensures.found ∙ ap (λ (hs : List Handle). option_map range_of (handle_for handles c.args.needle.now c.args.seqno hs)) c.requires.index.index_is in
     found_none _ _ _ _ c.args.needle.now c.args.seqno o _ at c.in-None.is
 
 pub returns-in-Some-clause-found : goal.returns-in-Some-clause-found
 returns-in-Some-clause-found g c = λ blocks sound.
     let o = c.sound_opens.ensures (hashes g.H.BlockHash.hash64 g.H.BlockHash.hash128) blocks _ _ sound in
-    let at : c.find_handle.result ≡ option_map range_of (handle_in c.args.bytes.now c.args.handles.now c.args.needle.now c.args.seqno) = c.find_handle.ensures.found ∙ ap (λ (hs : List Handle). option_map range_of (handle_for handles c.args.needle.now c.args.seqno hs)) c.requires.index.index_is in
+    let at : c.find.result ≡ option_map range_of (handle_in c.args.bytes.now c.args.handles.now c.args.needle.now c.args.seqno) = c.find.ensures.found ∙ ap (λ (hs : List Handle). option_map range_of (handle_for handles c.args.needle.now c.args.seqno hs)) c.requires.index.index_is in
     rw (found_some _ _ _ _ c.args.needle.now c.args.seqno o _ _ at c.in-Some.is) at c.match_in.ensures.found
