@@ -1,6 +1,5 @@
 //! Runs of the program.
-use sst_program::LockFiles;
-use sst_program::sst_main;
+use sst_program::{LockFiles, sst_main};
 use std::alloc::{AllocError, Global};
 
 /// The status of a run, and what it writes.

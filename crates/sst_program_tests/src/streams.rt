@@ -2,8 +2,7 @@
 ghost use Rattle.std.specs.Prelude.{◌≤◌};
 
 use crate::scripts::words_of;
-use sst_program::LockFiles;
-use sst_program::sst_main;
+use sst_program::{LockFiles, sst_main};
 use std::io;
 use std::io::{ErrorKind, Read, Write};
 use std::process::Abort;

@@ -72,7 +72,13 @@ fn is_end_in(index: &IndexBlock, at: usize, key: &InternalKey) -> bool {
     let needle = key.user_key().as_slice();
     let (before, with) = (key.seqno().checked_add(1), Some(key.seqno()));
     let mut steps = Steps::new();
-    let first = index.position(&SeekBound { needle, from: before }, &mut steps);
+    let first = index.position(
+        &SeekBound {
+            needle,
+            from: before,
+        },
+        &mut steps,
+    );
     let behind = index.position(&SeekBound { needle, from: with }, &mut steps);
     first <= at && at < behind
 }

@@ -11,9 +11,9 @@ pub mod table;
 
 pub use run::{
     BorrowedSource, BufferedFile, CheckedRun, FileSource, FrameSource, LockFiles, MemorySource,
-    NewFile, NotMade, OpenError, RunConfig, RunHandles, RunRef, RunScan, RunSummary, RunWriter, Scan,
-    SizedSource, SyncWrite, Table, Trusted, TrustedScan, cuts_fit, decode_footer, encode_footer,
-    end_table, read_entry, read_entry_checked, write_and_read, write_run,
+    NewFile, NotMade, OpenError, RunConfig, RunHandles, RunRef, RunScan, RunSummary, RunWriter,
+    Scan, SizedSource, SyncWrite, Table, Trusted, TrustedScan, cuts_fit, decode_footer,
+    encode_footer, end_table, read_entry, read_entry_checked, write_and_read, write_run,
 };
 pub use sst_base::{
     Block, BlockHandle, BlockHash, BlockOffset, BlockType, ByteSum, Checksum, ChecksumType,

@@ -75,12 +75,7 @@ impl<'a> IndexSearch<'a> {
 
     /// Returns the first handle that can lead to a key below a sequence number.
     #[tactic(auto, using(crate::proofs::IndexSteps::found_range, crate::proofs::IndexSteps::handles_by_scan))]
-    pub(crate) fn find(
-        &self,
-        needle: &[u8],
-        seqno: SeqNo,
-        steps: &mut Steps,
-    ) -> Option<BlockHandle>
+    pub(crate) fn find(&self, needle: &[u8], seqno: SeqNo, steps: &mut Steps) -> Option<BlockHandle>
         ensures found { result
             ≡ option_map range_of (handle_for handles needle.now seqno self.now.items) }
         ensures counts { CountsBetween steps.old steps.new (1, 0) (
