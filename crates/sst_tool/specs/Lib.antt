@@ -1,5 +1,6 @@
 pub mod Back
 pub mod Hashes
+pub mod Ends
 pub mod Frames
 pub mod Keys
 pub mod Limits

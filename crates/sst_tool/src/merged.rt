@@ -41,8 +41,8 @@ impl Notes {
     }
 }
 
-// Counts an entry.
-fn count(counter: &Cell<u64>) {
+/// Counts one.
+pub fn count(counter: &Cell<u64>) {
     counter.set(counter.get().saturating_add(1));
 }
 

@@ -92,17 +92,19 @@ fn refused<S: SizedSource + Drop>(
     }
 }
 
-// A table that is opened, or the fault of one that is not.
-fn opened_or_fault<H: BlockHash, S: SizedSource + Drop>(
+// Opens the table in a source, if there is one.
+fn table_in<H: BlockHash, S: SizedSource + Drop, R>(
+    progress: &Progress<'_, R>,
     alloc: Global,
     name: &str,
-    opened: std::result::Result<Table<H, S>, OpenError<S>>,
-    offset: Option<u64>,
-    cause: Cause,
+    source: Result<S>,
 ) -> Result<Table<H, S>> {
-    match opened {
+    match Table::open_file(alloc, source?) {
         Ok(table) => Ok(table),
-        Err(failed) => Err(refused(alloc, name, failed, offset, cause)),
+        Err(failed) => {
+            let (offset, cause) = (progress.offset(), progress.cause());
+            Err(refused(alloc, name, failed, offset, cause))
+        }
     }
 }
 
@@ -136,9 +138,8 @@ pub fn open<'p, H: BlockHash, R: Files + Clock + Eprint>(
     alloc: Global,
     name: &str,
 ) -> Result<FileTable<'p, H, R>> {
-    let source = source_of(progress, alloc, name)?;
-    let opened = FileTable::<'p, H, R>::open_file(alloc, source);
-    opened_or_fault(alloc, name, opened, progress.offset(), progress.cause())
+    let source = source_of(progress, alloc, name);
+    table_in(progress, alloc, name, source)
 }
 
 /// Tests by the index of a table that the frames of its blocks follow each other, as those do that

@@ -6,6 +6,7 @@ use crate::blocks::held_in;
 use crate::fault::{Fault, Result, Shown};
 use crate::frames::data_frames;
 use crate::merge::{TableForm, end_tables, write_source};
+use crate::merged::count;
 use crate::new_tables::NewTables;
 use crate::open::source_of;
 use crate::progress::Progress;
@@ -44,11 +45,6 @@ impl Notes {
             cause: Cell::new(None),
         }
     }
-}
-
-// Counts one.
-fn count(counter: &Cell<u64>) {
-    counter.set(counter.get().saturating_add(1));
 }
 
 // The blocks of a table that are whole and follow each other.

@@ -1,12 +1,13 @@
 //! Scans of tables as sources of entries.
-ghost use Rattle.std.specs.Prelude.{None};
+ghost use Rattle.std.specs.Prelude.{◌≡◌, None};
 ghost use Rattle.sstable_blocks.specs.Scans.{most_left};
+ghost use Rattle.sst_tool.specs.Ends.{above, is_end_at};
 
 use crate::ordered::{Direction, InBlocks};
 use sst_block_core::table::block::bound::Bound as SeekBound;
 use sst_merge::Source;
 use sstable_blocks::{
-    BlockHash, FrameSource, IndexBlock, InternalKey, InternalValue, Result, Scan, Steps,
+    BlockHash, FrameSource, IndexBlock, InternalKey, InternalValue, Result, Scan, SeqNo, Steps,
 };
 use std::alloc::Global;
 use std::cell::Cell;
@@ -68,19 +69,27 @@ impl<'p, 'k, H: BlockHash, S: FrameSource> Scanned<'p, 'k, H, S> {
 }
 
 // Whether the handle at an index has an end key and a sequence number.
-fn is_end_in(index: &IndexBlock, at: usize, key: &InternalKey) -> bool {
+fn is_end_in(index: &IndexBlock, at: usize, key: &InternalKey) -> bool
+    ensures { result ≡ is_end_at index.now.items at key.now }
+{
     let needle = key.user_key().as_slice();
-    let (before, with) = (key.seqno().checked_add(1), Some(key.seqno()));
     let mut steps = Steps::new();
-    let first = index.position(
-        &SeekBound {
-            needle,
-            from: before,
-        },
-        &mut steps,
-    );
-    let behind = index.position(&SeekBound { needle, from: with }, &mut steps);
+    let from = above(key.seqno());
+    let first = index.position(&SeekBound { needle, from }, &mut steps);
+    let from = Some(key.seqno());
+    let behind = index.position(&SeekBound { needle, from }, &mut steps);
     first <= at && at < behind
+}
+
+// The next greater number, if there is one.
+fn above(number: SeqNo) -> Option<SeqNo>
+    ensures { result ≡ above number }
+{
+    if number < SeqNo::MAX {
+        Some(number + 1)
+    } else {
+        None
+    }
 }
 
 impl<'p, 'k, H: BlockHash, S: FrameSource> InBlocks for Scanned<'p, 'k, H, S> {
