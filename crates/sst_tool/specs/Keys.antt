@@ -1,10 +1,13 @@
 -- Keys as words.
-use Rattle.std.specs.Prelude.{ℕ, ◌+◌, List, [], ◌∷◌, drop, take, nat_eq, nat_lt, codes, if◌then◌else◌, Option, Some, None}
+use Rattle.std.specs.Prelude.{ℕ, ◌+◌, List, [], ◌∷◌, drop, take, map, nat_eq, nat_lt, slice_get, codes, if◌then◌else◌, Option, Some, None}
 use Rattle.std.specs.Cmp.Lexicographic.{pointwise}
 use Rattle.std.specs.Result.{result_ok}
 use Rattle.std.specs.declared.ops.Bound.TheVariants.{Included}
 use Rattle.hex.specs.Hex.{decode_of}
-use Rattle.sstable_blocks.specs.Scans.{KeyRange}
+use Rattle.sst_base.specs.Entry.{Entry, plain}
+use Rattle.sst_block_core.specs.Entries.{entries}
+use Rattle.sst_block_core.specs.Window.{first_match}
+use Rattle.sstable_blocks.specs.Scans.{KeyRange, within}
 
 -- the key that a word names: the bytes that the hex digits after `hex:` encode, if they are pairs of such, or else the
 -- bytes of the word
@@ -14,6 +17,11 @@ key_of_word word = if pointwise nat_eq (take 4 word) (codes "hex:") then result_
 -- the range of one key
 abbrev pub only_key : List ℕ → KeyRange
 only_key key = record { from = Included key; to = Included key }
+
+-- what is read of entries in order: the newest version of a key, or the newest below a sequence number
+abbrev pub read_of : Option ℕ → List ℕ → List Entry → Option Entry
+read_of None key items = slice_get (within (only_key key) (map plain items)) 0
+read_of (Some at) key items = first_match entries key at items
 
 abbrev pub first_or : ℕ → Option (List ℕ) → Option (List ℕ)
 first_or x (Some xs) = Some (x ∷ xs)

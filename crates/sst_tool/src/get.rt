@@ -1,7 +1,7 @@
 //! `get`: the newest version of a key.
 ghost use Rattle.std.specs.Prelude.{◌≡◌, List, map, slice_get, IfOk, IfSome};
 ghost use Rattle.sst_base.specs.Entry.{Entry, plain};
-ghost use Rattle.sst_tool.specs.Keys.{only_key};
+ghost use Rattle.sst_tool.specs.Keys.{only_key, read_of};
 ghost use Rattle.sstable_blocks.specs.Blocks.{joined};
 ghost use Rattle.sstable_blocks.specs.RunReading.{hashes};
 ghost use Rattle.sstable_blocks.specs.Scans.{within};
@@ -42,7 +42,11 @@ fn read_in<H: BlockHash, S: FrameSource + Drop>(
     table: Table<H, S>,
     key: &[u8],
     at: Option<SeqNo>,
-) -> sstable_blocks::Result<Option<InternalValue>> {
+) -> sstable_blocks::Result<Option<InternalValue>>
+    ensures read { IfSome (S.bytes table.source) (λ all. (blocks : List (List Entry))
+        → IsSound (hashes H.hash64 H.hash128) blocks all table.handles
+        → IfOk result (λ found. found ≡ read_of at key.now (joined blocks))) }
+{
     let mut table = table;
     match at {
         Some(at) => table.get(alloc, key, at, &mut Steps::new()),

@@ -157,7 +157,7 @@ impl<'p, H: BlockHash, R> Files<'p, H, R> {
 }
 
 // The entries of a table, in order.
-type InOrder<'p, H, S> = Merged<'p, Ordered<Scanned<'p, 'static, H, S>>>;
+type InOrder<'p, H, S> = Merged<'p, Ordered<Scanned<'p, 'p, H, S>>>;
 
 impl<'p, H: BlockHash, R: rt::Files + Clock + Eprint> Tables for Files<'p, H, R> {
     type Entries = InOrder<'p, H, FileSource<CountedFile<'p, R>>>;
