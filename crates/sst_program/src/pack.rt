@@ -1,5 +1,5 @@
 //! `pack`: a table file of all entries.
-ghost use Rattle.std.specs.Prelude.{◌≡◌, ◌+◌, ◌≤◌, OnOk, IfOk, IfErr, IfSome};
+ghost use Rattle.std.specs.Prelude.{◌≡◌, ◌≤◌, OnOk, IfOk, IfErr};
 ghost use Rattle.std.specs.Prelude.{IsOkUnless, length};
 ghost use Rattle.std.specs.Prelude.{[], None, string_bytes};
 ghost use Rattle.sst_block_core.specs.Entries.{entries};

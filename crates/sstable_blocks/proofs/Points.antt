@@ -21,7 +21,7 @@ use Rattle.sstable_blocks.specs.Blocks.{joined}
 use Rattle.sstable_blocks.specs.Filter.{Filter, MayContain}
 use Rattle.sstable_blocks.specs.Lookup.{first_in, place_for}
 use Rattle.sstable_blocks.specs.Opened.{range_of, payload_in, index_in, IsDenied, IsFilterIn, IsOpen, Opened, RulesOut}
-use Rattle.sstable_blocks.specs.ReadCosts.{handle_in, heads_at, entries_at, interval_in}
+use Rattle.sstable_blocks.specs.ReadCosts.{handle_in}
 use Rattle.sstable_blocks.specs.declared.run.RunHandles.{RunHandles}
 
 -- the range of a payload
@@ -114,16 +114,3 @@ cut_at hash64 blocks bytes h o hs same n k is =
     let g = some_range (slice_get hs n) k (sym is) in
     let b = o.block_open n g.0 (ap (λ xs. slice_get xs n) (sym same) ∙ g.1) in
     (b.0, subst (λ x. IsOpen hash64 bytes x b.0) g.2 b.2)
-
--- the heads and the entries of the block that the search in an index leads to
-pub block_digits : (bytes : List ℕ) (h : RunHandles) (needle : List ℕ) (s : ℕ) (r : Option HandleParts) (k : HandleParts) → r ≡ option_map range_of (handle_in bytes h needle s) → r ≡ Some k
-    → digits (head_count (interval_in bytes k) (length (items_in entries (payload_in bytes k)))) ≡ digits (heads_at bytes (handle_in bytes h needle s))
-block_digits bytes h needle s r k e is =
-    let g = some_range (handle_in bytes h needle s) k (sym e ∙ is) in
-    ap (λ x. digits (head_count (interval_in bytes x) (length (items_in entries (payload_in bytes x))))) (sym g.2) ∙ ap (λ o. digits (heads_at bytes o)) (sym g.1)
-
-pub block_interval : (bytes : List ℕ) (h : RunHandles) (needle : List ℕ) (s : ℕ) (r : Option HandleParts) (k : HandleParts) → r ≡ option_map range_of (handle_in bytes h needle s) → r ≡ Some k
-    → interval_in bytes k + 1 ≡ entries_at bytes (handle_in bytes h needle s)
-block_interval bytes h needle s r k e is =
-    let g = some_range (handle_in bytes h needle s) k (sym e ∙ is) in
-    ap (λ x. interval_in bytes x + 1) (sym g.2) ∙ ap (entries_at bytes) (sym g.1)
