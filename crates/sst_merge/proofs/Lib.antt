@@ -1,4 +1,4 @@
-pub mod MadePicks
+pub mod Tournaments
 pub mod FrontNumbers
 pub mod FrontOrder
 pub mod Peeks

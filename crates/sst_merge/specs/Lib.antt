@@ -1,10 +1,10 @@
-pub mod Backs
-pub mod BackLaws
 pub mod Compact
 pub mod CompactLaws
 pub mod Counts
 pub mod CountLaws
+pub mod Flips
 pub mod Fronts
+pub mod FrontLaws
 pub mod Merge
 pub mod MergeLaws
 pub mod MergeReads
@@ -24,7 +24,9 @@ pub mod StoredLaws
 pub mod TableLaws
 pub mod TableReads
 pub mod Tables
+pub mod Reversals
 pub mod SizeLaws
 pub mod Outputs
 pub mod OutputLaws
 pub mod PartLaws
+pub mod Tournament

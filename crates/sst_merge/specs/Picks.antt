@@ -3,7 +3,6 @@ use Rattle.std.proofs.Common.{◌≡◌, ℕ, zero, suc, ◌+◌, ◌<◌, ◌�
 use Rattle.std.proofs.lemmas.Bool.{cases_Bool}
 use Rattle.std.proofs.Math.ListN.{set}
 use Rattle.std.proofs.lemmas.List.{drop_more}
-use Rattle.std.specs.List.{last_or}
 use Rattle.std.specs.Ordering.{is_lt}
 use Rattle.std.specs.declared.cmp.Ordering.{Ordering}
 use Rattle.sst_merge.specs.Merge.{merge, merged}
@@ -22,38 +21,20 @@ wins cmp xs [] = true
 wins cmp [] (y ∷ ys) = false
 wins cmp (x ∷ xs) (y ∷ ys) = not (is_lt (cmp y x))
 
--- the place of the first list that wins against the one that is picked of those after it
-abbrev pub pick : {X : Type 0} → (List X → List X → Bool) → List (List X) → ℕ
-pick wins [] = 0
-pick wins (xs ∷ xss) = cond (wins xs (list_at xss (pick wins xss))) 0 (suc (pick wins xss))
-
--- the place of the list that gives the first item of the merge
+-- the place of the list that gives the first item of the merge: of equal items the earlier list's goes first
 abbrev pub least : {X : Type 0} → (X → X → Ordering) → List (List X) → ℕ
-least cmp = pick (wins cmp)
+least cmp [] = 0
+least cmp (xs ∷ xss) = cond (wins cmp xs (list_at xss (least cmp xss))) 0 (suc (least cmp xss))
 
--- does the first of two last items, either of which may be wanting, come after the second?
-abbrev pub beats_by : {X : Type 0} → (X → X → Ordering) → Option X → Option X → Bool
-beats_by cmp a None = true
-beats_by cmp None (Some y) = false
-beats_by cmp (Some x) (Some y) = is_lt (cmp y x)
-
--- does the first list give its last item after the second?
-abbrev pub beats : {X : Type 0} → (X → X → Ordering) → List X → List X → Bool
-beats cmp xs ys = beats_by cmp (last_or None xs) (last_or None ys)
-
--- the place of the list that gives the last item of the merge of ordered lists
-abbrev pub greatest : {X : Type 0} → (X → X → Ordering) → List (List X) → ℕ
-greatest cmp = pick (beats cmp)
-
--- the place of a source: the one that is picked of those from an index on, where their lists are known
-pub record IsPick {X : Type 0} (wins : List X → List X → Bool) (lefts : List (Left X)) (i place : ℕ) : Type 0 where
+-- the place of a source: the one whose list gives the first item of the merge, where the lists of all are known
+pub record IsPick {X : Type 0} (cmp : X → X → Ordering) (lefts : List (Left X)) (place : ℕ) : Type 0 where
   pub inside : place < length lefts
-  pub is : (xss : List (List X)) → lists_left (drop i lefts) ≡ Some xss → place ≡ i + pick wins xss
+  pub is : (xss : List (List X)) → lists_left lefts ≡ Some xss → place ≡ least cmp xss
 
--- at each index from `made` on there is the pick of the sources from there on
-pub record ArePicks {X : Type 0} (wins : List X → List X → Bool) (lefts : List (Left X)) (places : List ℕ) (made : ℕ) : Type 0 where
-  pub inside : made ≤ length lefts
-  pub each : (i : ℕ) → made ≤ i → i < length lefts → IsPick wins lefts i (slice_index places i)
+-- does the first list give its item before the second: of equal items too, unless its source is the later one
+abbrev pub goes : {X : Type 0} → (X → X → Ordering) → Bool → List X → List X → Bool
+goes cmp false xs ys = wins cmp xs ys
+goes cmp true xs ys = not (wins cmp ys xs)
 
 module _ {X : Type 0} (cmp : X → X → Ordering) where
   first_wins : (xs : List X) (xss : List (List X)) → wins cmp xs (list_at xss (least cmp xss)) ≡ true → least cmp (xs ∷ xss) ≡ 0
@@ -136,10 +117,7 @@ pub from_here : {X : Type 0} (xss : List (List X)) (j i : ℕ) → j < length xs
 from_here xss j i inside next = drop_more xss j [] inside ∙ ap (λ ys. ys ∷ drop (j + 1) xss) (list_at_or xss j [] inside) ∙ ap (λ n. list_at xss j ∷ drop n xss) next
 
 module _ {X : Type 0} (cmp : X → X → Ordering) where
-  -- an empty list never gives its item first, nor last
+  -- an empty list never gives its item first
   pub wins_nil : (xs : List X) → wins cmp xs [] ≡ true
   wins_nil [] = refl
   wins_nil (x ∷ xs) = refl
-
-  pub beats_nil : (xs : List X) → beats cmp xs [] ≡ true
-  beats_nil xs = refl

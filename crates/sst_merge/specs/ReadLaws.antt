@@ -9,14 +9,11 @@ use Rattle.sst_base.specs.KeyOrderLaws.{versions_cmp_total}
 use Rattle.sst_block_core.specs.Entries.{entries}
 use Rattle.sst_block_core.specs.Kind.{IsOrdered}
 use Rattle.sst_block_core.specs.Window.{first_match, is_version}
-use Rattle.std.proofs.Math.ListN.{set}
-use Rattle.sst_merge.specs.Backs.{greatest_some}
 use Rattle.sst_merge.specs.Compact.{compacted, staying}
 use Rattle.sst_merge.specs.CompactLaws.{compact-first_match, compact-ordered}
 use Rattle.sst_merge.specs.Merge.{merge, merged, lesser, least_match, entry_cmp}
 use Rattle.sst_merge.specs.MergeLaws.{merge-ordered}
 use Rattle.sst_merge.specs.MergeReads.{merge-first_match}
-use Rattle.sst_merge.specs.Picks.{greatest, list_at}
 use Rattle.sst_merge.specs.PlainLaws.{compacted-staying, snapshot-shown}
 use Rattle.sst_merge.specs.Snapshot.{deletes, seen, shown, snapshot}
 use Rattle.sst_merge.specs.SnapshotReads.{unless_hidden, snapshot-first_match}
@@ -105,8 +102,3 @@ compact_plain snapshot bottom items up = compacted-staying (λ (e : Entry). e) s
 -- a snapshot of an ordered list has the versions that pass a test
 pub snapshot_plain : (s : ℕ) (items : List Entry) → IsOrdered entries items → snapshot (λ (e : Entry). e) s items ≡ shown (λ (e : Entry). e) s items
 snapshot_plain s items up = snapshot-shown (λ (e : Entry). e) s items up
-
--- the last of a merge of ordered lists is the greatest of their last ones
-pub merged_back : (lists : List (List Entry)) (front : List Entry) (last : Entry) → AllByRecursion (IsOrdered entries) lists → list_at lists (greatest entry_cmp lists) ≡ front ++ last ∷ []
-    → merged entry_cmp lists ≡ merged entry_cmp (set lists (greatest entry_cmp lists) front) ++ last ∷ []
-merged_back lists front last all e = greatest_some entry_cmp (versions_cmp_total entries.key entries.seqno) lists front last all e

@@ -10,7 +10,7 @@ use Rattle.std.specs.declared.cmp.Ordering.{Ordering}
 use Rattle.sst_base.specs.declared.error.Error.{Error}
 use Rattle.sstable_blocks.specs.Scans.{EndsBy}
 use Rattle.sst_merge.specs.Merge.{merged}
-use Rattle.sst_merge.specs.Picks.{IsPick, list_at, least, least_none, least_some, wins}
+use Rattle.sst_merge.specs.Picks.{IsPick, list_at, least, least_none, least_some}
 use Rattle.sst_merge.specs.Sources.{Left, TakesFirst, PassesFirst, before, held_count, left_held, IsHeld, all_known, lists_left, all_left}
 
 same_list : {X : Type 0} (o : Option (List X)) → option_map (before None) o ≡ o
@@ -179,14 +179,14 @@ module _ {X : Type 0} (cmp : X → X → Ordering) where
   taken_from a b ls i old new r place inside is step = taken_both a b ls i old new r inside is step (taken_list ls i old new r place inside is step)
 
   -- the same, where the source is the pick of all and what is left is known by another name
-  pub taken_merge : (a b : Option Error) (ls : List (Left X)) (i : ℕ) (old new all : Left X) (r : Option X) → all_left (merged cmp) a ls ≡ all → IsPick (wins cmp) ls 0 i → old ≡ get_or ls i old
+  pub taken_merge : (a b : Option Error) (ls : List (Left X)) (i : ℕ) (old new all : Left X) (r : Option X) → all_left (merged cmp) a ls ≡ all → IsPick cmp ls i → old ≡ get_or ls i old
       → TakesFirst old r new → TakesFirst all r (all_left (merged cmp) b (set ls i new))
   taken_merge a b ls i old new all r whole p is step =
       subst (λ o. TakesFirst o r (all_left (merged cmp) b (set ls i new))) whole
-      (taken_from a b ls i old new r (λ xss known. (let e = p.is xss known in omega (arith, e))) p.inside is step)
+      (taken_from a b ls i old new r p.is p.inside is step)
 
   -- the same of a step that passes it
-  pub passed_merge : (a b : Option Error) (ls : List (Left X)) (i : ℕ) (old new all : Left X) (passed : Bool) → all_left (merged cmp) a ls ≡ all → IsPick (wins cmp) ls 0 i → old ≡ get_or ls i old
+  pub passed_merge : (a b : Option Error) (ls : List (Left X)) (i : ℕ) (old new all : Left X) (passed : Bool) → all_left (merged cmp) a ls ≡ all → IsPick cmp ls i → old ≡ get_or ls i old
       → PassesFirst old passed new → PassesFirst all passed (all_left (merged cmp) b (set ls i new))
   passed_merge a b ls i old new all true whole p is step = (step.0, taken_merge a b ls i old new all (Some step.0) whole p is step.1)
   passed_merge a b ls i old new all false whole p is step = taken_merge a b ls i old new all None whole p is step

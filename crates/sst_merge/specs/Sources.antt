@@ -2,8 +2,6 @@
 use Rattle.std.specs.Prelude.{◌≡◌, ℕ, ◌+◌, ◌<◌, ◌≤◌, List, [], ◌∷◌, ◌++◌, map, Option, Some, None, IfSome, Bool, true, false}
 use Rattle.std.specs.Option.{option_map}
 use Rattle.std.specs.List.{sum_by}
-use Rattle.std.specs.declared.cmp.Ordering.{Ordering}
-use Rattle.sst_base.specs.Order.{IsInOrder}
 use Rattle.sst_base.specs.declared.error.Error.{Error}
 
 -- What is left of a source: the list of its items, where the bytes are known that they are read from, and else nothing
@@ -61,17 +59,3 @@ lists_left {X = X} lefts = all_known (map (λ (s : Left X). s.list) lefts)
 -- what is left of sources together, put into one list, where this error ended it, if one did
 abbrev pub all_left : {X : Type 0} → (List (List X) → List X) → Option Error → List (Left X) → Left X
 all_left {X = X} together ended lefts = record { list = option_map together (lists_left lefts); most = sum_by (λ (s : Left X). s.most) lefts; ended = ended }
-
--- a step takes the last item of what is left, where that is in order; or there is none
-abbrev pub TakesLast : {X : Type 0} → (X → X → Ordering) → Left X → Option X → Left X → Type 0
-TakesLast cmp s None t = (t.list ≡ s.list) × IfSome s.list (λ xs. xs ≡ []) × (t.most ≤ s.most)
-TakesLast cmp s (Some x) t = IfSome s.list (λ xs. IsInOrder cmp xs → Some xs ≡ option_map (λ front. front ++ x ∷ []) t.list) × (t.most < s.most)
-
--- an item, if there is one, after others
-abbrev pub after : {X : Type 0} → Option X → List X → List X
-after None xs = xs
-after (Some x) xs = xs ++ x ∷ []
-
--- what is left where an item is held after it, and this error ended it, if one did
-abbrev pub left_held_back : {X : Type 0} → Option X → Option Error → Left X → Left X
-left_held_back held ended s = record { list = option_map (after held) s.list; most = held_count held + s.most; ended = ended }

@@ -1,29 +1,21 @@
 -- Laws of scans as sources.
-use Rattle.std.proofs.Common.{◌≡◌, ℕ, List, [], ◌∷◌, ◌++◌, map, Option, Some, None, Result, Ok, Err, refl, sym, ap, subst, ◌∙◌, arith}
+use Rattle.std.proofs.Common.{◌≡◌, ℕ, List, [], ◌∷◌, ◌++◌, map, reverse, Option, Some, None, Result, Ok, Err, refl, sym, ap, subst, ◌∙◌, arith}
+use Rattle.std.proofs.lemmas.List.{reverse-append}
 use Rattle.std.specs.Option.{option_map, IfSome}
 use Rattle.std.specs.Result.{IfOk}
 use Rattle.sst_base.specs.Entry.{Entry}
-use Rattle.sst_base.specs.Order.{IsInOrder}
 use Rattle.sst_base.specs.declared.error.Error.{Error}
-use Rattle.std.specs.declared.cmp.Ordering.{Ordering}
 use Rattle.sstable_blocks.specs.Scans.{Read, GivesFirst, GivesLast, IsFewer, EndsBy}
-use Rattle.sst_merge.specs.Sources.{TakesFirst, TakesLast}
+use Rattle.sst_merge.specs.Sources.{TakesFirst}
 use Rattle.sst_merge.specs.Stored.{known_reads, scan_list}
-
-back_by : (x y : Entry) (o p : Option (List Entry)) → o ≡ option_map (λ front. front ++ y ∷ []) p → option_map (λ xs. x ∷ xs) o ≡ option_map (λ front. front ++ y ∷ []) (option_map (λ xs. x ∷ xs) p)
-back_by x y o None e = ap (option_map (λ xs. x ∷ xs)) e
-back_by x y o (Some xs) e = ap (option_map (λ xs. x ∷ xs)) e
-
--- with an entry more at the end
-known_back : (reads : List Read) (y : Entry) → known_reads (reads ++ Ok y ∷ []) ≡ option_map (λ front. front ++ y ∷ []) (known_reads reads)
-known_back [] y = refl
-known_back (Ok x ∷ reads) y = back_by x y (known_reads (reads ++ Ok y ∷ [])) (known_reads reads) (known_back reads y)
-known_back (Err e ∷ reads) y = refl
 
 -- entries that are all read
 pub known_all : (xs : List Entry) → known_reads (map Ok xs) ≡ Some xs
 known_all [] = refl
 known_all (x ∷ xs) = ap (option_map (λ ys. x ∷ ys)) (known_all xs)
+
+same_bytes : (new old : Option Error) (b c : Option (List ℕ)) (r : List ℕ → List Read) → c ≡ b → scan_list new c r ≡ scan_list new b r
+same_bytes new old b c r e = ap (λ o. scan_list new o r) e
 
 first_some : (b : Option (List ℕ)) (r s : List ℕ → List Read) (x : Entry) → IfSome b (λ all. r all ≡ Ok x ∷ s all) → scan_list None b r ≡ option_map (λ xs. x ∷ xs) (scan_list None b s)
 first_some None r s x h = refl
@@ -32,14 +24,6 @@ first_some (Some all) r s x h = ap known_reads h
 first_none : (b : Option (List ℕ)) (r s : List ℕ → List Read) → IfSome b (λ all. (r all ≡ []) × (s all ≡ [])) → (scan_list None b s ≡ scan_list None b r) × IfSome (scan_list None b r) (λ xs. xs ≡ [])
 first_none None r s h = (refl, tt)
 first_none (Some all) r s h = (ap known_reads (h.1 ∙ sym h.0), subst (λ reads. IfSome (known_reads reads) (λ xs. xs ≡ [])) (sym h.0) refl)
-
-last_some : (b : Option (List ℕ)) (r s : List ℕ → List Read) (x : Entry) → IfSome b (λ all. r all ≡ s all ++ Ok x ∷ []) → IfSome (scan_list None b r) (λ xs. Some xs ≡ option_map (λ front. front ++ x ∷ []) (scan_list None b s))
-last_some None r s x h = tt
-last_some (Some all) r s x h = same_some (known_reads (r all)) (option_map (λ front. front ++ x ∷ []) (known_reads (s all))) (ap known_reads h ∙ known_back (s all) x)
-  where
-    same_some : {A : Type 0} (o p : Option A) → o ≡ p → IfSome o (λ a. Some a ≡ p)
-    same_some None p e = tt
-    same_some (Some a) p e = e
 
 -- a step without an error was one of a scan that had not ended
 not_ended : {X : Type 0} (old new : Option Error) (x : X) → EndsBy old new (Ok x) → old ≡ None
@@ -58,18 +42,6 @@ module _ (F R : Type 0) (b c : Option (List ℕ)) (r s : List ℕ → List Read)
       (ap (λ o. scan_list None o s) same ∙ k.0, k.1, omega (arith, fewer))
   step_by (Some x) ends same gives fewer = (first_some b r s x gives ∙ ap (λ o. option_map (λ xs. x ∷ xs) (scan_list None o s)) (sym same), fewer)
 
-  back_step_by : (cmp : Entry → Entry → Ordering) (x : Option Entry) → EndsBy {X = Option Entry} None new (Ok x) → c ≡ b → IfSome b (λ all. GivesLast F R (r all) (s all) (Ok x)) → IsFewer m n x
-      → TakesLast cmp (record { list = scan_list None b r; most = m; ended = None }) x (record { list = scan_list None c s; most = n; ended = None })
-  back_step_by cmp None ends same gives fewer =
-      let k = first_none b r s gives in
-      (ap (λ o. scan_list None o s) same ∙ k.0, k.1, omega (arith, fewer))
-  back_step_by cmp (Some x) ends same gives fewer =
-      (subst (λ o. IfSome (scan_list None b r) (λ xs. IsInOrder cmp xs → Some xs ≡ option_map (λ front. front ++ x ∷ []) (scan_list None o s))) (sym same) (in_any (scan_list None b r) (scan_list None b s) x (last_some b r s x gives)), fewer)
-    where
-      in_any : (o p : Option (List Entry)) (x : Entry) → IfSome o (λ xs. Some xs ≡ option_map (λ front. front ++ x ∷ []) p) → IfSome o (λ xs. IsInOrder cmp xs → Some xs ≡ option_map (λ front. front ++ x ∷ []) p)
-      in_any None p x h = tt
-      in_any (Some xs) p x h = λ up. h
-
   -- a step from the front takes the first entry left
   pub scan_step : (result : Result (Option Entry) Error) → EndsBy old new result → c ≡ b → IfSome b (λ all. old ≡ None → GivesFirst F R (r all) (s all) result) → IfOk result (IsFewer m n)
       → IfOk result (λ x. TakesFirst (record { list = scan_list old b r; most = m; ended = old }) x (record { list = scan_list new c s; most = n; ended = new }))
@@ -81,13 +53,19 @@ module _ (F R : Type 0) (b c : Option (List ℕ)) (r s : List ℕ → List Read)
       (subst (λ o. TakesFirst (record { list = scan_list None b r; most = m; ended = None }) x (record { list = scan_list o c s; most = n; ended = o })) (sym there)
       (step_by x (subst (λ o. EndsBy o new (Ok x)) here ends) same (given F R b old (λ all. GivesFirst F R (r all) (s all) (Ok x)) here gives) fewer))
 
-  -- and one from the back the last
-  pub scan_step_back : (cmp : Entry → Entry → Ordering) (result : Result (Option Entry) Error) → EndsBy old new result → c ≡ b → IfSome b (λ all. old ≡ None → GivesLast F R (r all) (s all) result) → IfOk result (IsFewer m n)
-      → IfOk result (λ x. TakesLast cmp (record { list = scan_list old b r; most = m; ended = old }) x (record { list = scan_list new c s; most = n; ended = new }))
-  scan_step_back cmp (Err e) ends same gives fewer = tt
-  scan_step_back cmp (Ok x) ends same gives fewer =
-      let here : old ≡ None = not_ended old new x ends in
-      let there : new ≡ None = ends.ended in
-      subst (λ o. TakesLast cmp (record { list = scan_list o b r; most = m; ended = o }) x (record { list = scan_list new c s; most = n; ended = new })) (sym here)
-      (subst (λ o. TakesLast cmp (record { list = scan_list None b r; most = m; ended = None }) x (record { list = scan_list o c s; most = n; ended = o })) (sym there)
-      (back_step_by cmp x (subst (λ o. EndsBy o new (Ok x)) here ends) same (given F R b old (λ all. GivesLast F R (r all) (s all) (Ok x)) here gives) fewer))
+-- what a step from the back gives, seen from there
+from_back : (F R : Type 0) (r s : List Read) (x : Option Entry) → GivesLast F R r s (Ok x) → GivesFirst F R (reverse r) (reverse s) (Ok x)
+from_back F R r s None h = (ap reverse h.0, ap reverse h.1)
+from_back F R r s (Some x) h = ap reverse h ∙ reverse-append s (Ok x ∷ [])
+
+all_from_back : (F R : Type 0) (b : Option (List ℕ)) (r s : List ℕ → List Read) (old : Option Error) (x : Option Entry) → IfSome b (λ all. old ≡ None → GivesLast F R (r all) (s all) (Ok x))
+    → IfSome b (λ all. old ≡ None → GivesFirst F R (reverse (r all)) (reverse (s all)) (Ok x))
+all_from_back F R None r s old x h = tt
+all_from_back F R (Some all) r s old x h = λ e. from_back F R (r all) (s all) x (h e)
+
+pub scan_step_back : (F R : Type 0) (b c : Option (List ℕ)) (r s : List ℕ → List Read) (old new : Option Error) (m n : ℕ) (result : Result (Option Entry) Error) → EndsBy old new result → c ≡ b
+    → IfSome b (λ all. old ≡ None → GivesLast F R (r all) (s all) result) → IfOk result (IsFewer m n)
+    → IfOk result (λ x. TakesFirst (record { list = scan_list old b (λ all. reverse (r all)); most = m; ended = old }) x (record { list = scan_list new c (λ all. reverse (s all)); most = n; ended = new }))
+scan_step_back F R b c r s old new m n (Err e) ends same gives fewer = tt
+scan_step_back F R b c r s old new m n (Ok x) ends same gives fewer =
+    scan_step F R b c (λ all. reverse (r all)) (λ all. reverse (s all)) old new m n (Ok x) ends same (all_from_back F R b r s old x gives) fewer

@@ -1,11 +1,10 @@
 //! Laws of merges, snapshots and compaction, for callers' proofs. Each function states one law, and
 //! does nothing.
-ghost use Rattle.std.specs.Prelude.{◌≡◌, ℕ, ◌≤◌, Bool, List, [], ◌∷◌, ◌++◌, filter, map, slice_get};
+ghost use Rattle.std.specs.Prelude.{◌≡◌, ℕ, ◌≤◌, Bool, List, filter, map, reverse, slice_get};
 ghost use Rattle.std.specs.Prelude.{Some, Ok};
-ghost use Rattle.std.proofs.Math.ListN.{set};
 ghost use Rattle.std.specs.List.{AllByRecursion};
 ghost use Rattle.std.specs.Option.{option_map};
-ghost use Rattle.std.specs.Ordering.{nat_cmp, is_eq};
+ghost use Rattle.std.specs.Ordering.{flip_args, nat_cmp, is_eq};
 ghost use Rattle.std.specs.Cmp.Lexicographic.{slice_cmp};
 ghost use Rattle.sst_base.specs.Entry.{Entry, plain};
 ghost use Rattle.sst_block_core.specs.Entries.{entries};
@@ -14,7 +13,6 @@ ghost use Rattle.sst_block_core.specs.Window.{first_match};
 ghost use Rattle.sstable_blocks.specs.Blocks.{joined};
 ghost use Rattle.sst_merge.specs.Compact.{compacted, staying};
 ghost use Rattle.sst_merge.specs.Merge.{merged, least_match, entry_cmp};
-ghost use Rattle.sst_merge.specs.Picks.{greatest, list_at};
 ghost use Rattle.sst_merge.specs.Snapshot.{seen, shown, snapshot};
 ghost use Rattle.sst_merge.specs.Stored.{known_reads};
 
@@ -76,14 +74,12 @@ pub fn compaction_leaves()
         → compacted (λ e. e) snapshot bottom items ≡ staying (λ e. e) snapshot bottom items }
 {}
 
-/// The last version of a merge of ordered lists is the greatest of their last ones, of equal ones
-/// that of the latest list; and the merge without it is the merge of the lists without it.
-pub fn merge_ends()
-    ensures { (lists : List (List Entry)) (front : List Entry) (last : Entry)
-        → AllByRecursion (IsOrdered entries) lists
-        → list_at lists (greatest entry_cmp lists) ≡ front ++ last ∷ []
-        → merged entry_cmp lists
-        ≡ merged entry_cmp (set lists (greatest entry_cmp lists) front) ++ last ∷ [] }
+/// A merge of ordered lists from the last item to the first is the merge of the lists from the back,
+/// the last list first, in the opposite order.
+pub fn merge_is_reversed()
+    ensures { (lists : List (List Entry)) → AllByRecursion (IsOrdered entries) lists
+        → merged (flip_args entry_cmp) (reverse (map reverse lists))
+        ≡ reverse (merged entry_cmp lists) }
 {}
 
 /// Where what is left of a scan is read, as it is of a sound run (`Scan::new`), its entries are

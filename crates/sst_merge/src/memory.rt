@@ -1,9 +1,9 @@
 //! Versions in memory, as a source.
-ghost use Rattle.std.specs.Prelude.{None, Some, length};
+ghost use Rattle.std.specs.Prelude.{None, Some, length, reverse};
 ghost use Rattle.std.specs.Vec.Iter.{into_iter_items};
 
-use crate::source::{BackSource, Source};
-use crate::version::Version;
+use crate::rev::{Rev, Reversed, in_reverse};
+use crate::source::Source;
 use sst_base::Result;
 use std::alloc::Global;
 use std::vec;
@@ -22,14 +22,14 @@ impl<T: Drop> Source<T> for vec::IntoIter<T, Global> {
 }
 
 /// The same versions, from the last to the first. Never fails.
-impl<T: Version + Drop> BackSource<T> for vec::IntoIter<T, Global> {
-    ghost left_back = { λ s. record {
-      list = Some (into_iter_items s);
-      most = length (into_iter_items s);
+impl<T: Drop> Source<Reversed<T>> for Rev<vec::IntoIter<T, Global>> {
+    ghost left = { λ s. record {
+      list = Some (reverse (into_iter_items s.source));
+      most = length (into_iter_items s.source);
       ended = None;
     } };
 
-    fn next_entry_back(&mut self, _alloc: Global) -> Result<Option<T>> {
-        Ok(self.next_back())
+    fn next_entry(&mut self, _alloc: Global) -> Result<Option<Reversed<T>>> {
+        Ok(in_reverse(self.source.next_back()))
     }
 }

@@ -1,15 +1,16 @@
 //! Ordered merges of any number of sources.
-ghost use Rattle.std.specs.Prelude.{◌≡◌, ◌+◌, ◌<◌, ◌≤◌, List, length, slice_get, IfOk, IfSome};
-ghost use Rattle.std.specs.Prelude.{None, OnErr, OnOk, Some};
+ghost use Rattle.std.specs.Prelude.{◌≡◌, ◌+◌, ◌*◌, ◌<◌, ◌≤◌, List, length, slice_get, slice_index};
+ghost use Rattle.std.specs.Prelude.{IfOk, IfSome, None, OnOk, Some};
 ghost use Rattle.std.specs.Option.{option_map};
 ghost use Rattle.sst_merge.specs.Fronts.{IsFrontOf};
-ghost use Rattle.sst_merge.specs.Merge.{order_by, merged};
-ghost use Rattle.sst_merge.specs.Picks.{ArePicks, IsPick, wins};
+ghost use Rattle.sst_merge.specs.Merge.{merged};
+ghost use Rattle.sst_merge.specs.Picks.{IsPick, goes};
 ghost use Rattle.sst_merge.specs.Sources.{TakesFirst, PassesFirst, all_left};
+ghost use Rattle.sst_merge.specs.Tournament.{ArePlaces, AreSeats, IsFirstOf, IsTournament, MayBeTournament};
 ghost use Rattle.sstable_blocks.specs.Scans.{EndsBy};
 
+use crate::ranked::Ranked;
 use crate::source::{Source, keep_error, note_error};
-use crate::version::Version;
 use sst_base::{Error, Result};
 use std::alloc::Global;
 use std::cmp::Ordering;
@@ -20,7 +21,7 @@ use std::mem;
 ///
 /// Clauses see the versions left, that one included, and the error that ended it, if one did.
 #[derive(Drop)]
-pub struct Head<T: Version, I: Source<T>> {
+pub struct Head<T: Ranked, I: Source<T>> {
     held: Option<T>,
     // The front of the version that is held, the greatest number where none is.
     front: u128,
@@ -28,7 +29,7 @@ pub struct Head<T: Version, I: Source<T>> {
     ended: Option<Error>,
 }
 
-impl<T: Version, I: Source<T>> Model for Head<T, I> {
+impl<T: Ranked, I: Source<T>> Model for Head<T, I> {
     ghost use Rattle.sst_merge.specs.Fronts.{IsFrontOf};
     ghost use Rattle.sst_merge.specs.Sources.{Left, left_held, IsHeld};
 
@@ -37,13 +38,13 @@ impl<T: Version, I: Source<T>> Model for Head<T, I> {
     ghost view = { λ h. left_held h.held h.ended (I.left h.source) };
 
     ghost invariant = { λ h. IsHeld h.held (I.left h.source).list
-        × IsFrontOf T.entry h.held h.front };
+        × IsFrontOf T.number T.IsNumbered h.held h.front };
 }
 
 // The front of a version that may be held.
 #[inline(always)]
-fn front_of_held<T: Version>(held: &Option<T>) -> u128
-    ensures { IsFrontOf T.entry held.now result }
+fn front_of_held<T: Ranked>(held: &Option<T>) -> u128
+    ensures { IsFrontOf T.number T.IsNumbered held.now result }
 {
     match held {
         Some(version) => version.front(),
@@ -51,7 +52,7 @@ fn front_of_held<T: Version>(held: &Option<T>) -> u128
     }
 }
 
-impl<T: Version + Drop, I: Source<T> + Drop> Head<T, I> {
+impl<T: Ranked + Drop, I: Source<T> + Drop> Head<T, I> {
     /// Takes the first version of a source, and holds it.
     ///
     /// # Errors
@@ -74,7 +75,7 @@ impl<T: Version + Drop, I: Source<T> + Drop> Head<T, I> {
     }
 }
 
-impl<T: Version, I: Source<T>> Head<T, I> {
+impl<T: Ranked, I: Source<T>> Head<T, I> {
     /// Returns the version that is held: the first one left, if there is one. An error that ends the
     /// source leaves it, so it is still shown, though no later step gives it.
     #[inline(always)]
@@ -103,7 +104,7 @@ impl<T: Version, I: Source<T>> Head<T, I> {
     }
 }
 
-impl<T: Version + Drop, I: Source<T>> Head<T, I> {
+impl<T: Ranked + Drop, I: Source<T>> Head<T, I> {
     /// Takes the first version left, if there is one.
     ///
     /// # Errors
@@ -158,200 +159,239 @@ impl<T: Version + Drop, I: Source<T>> Head<T, I> {
     }
 }
 
-// Whether the version that is held of one source comes before that of a later source. Where their
-// fronts differ, nothing else is compared.
+// Whether what one source holds comes before what another holds; of equal versions that of the
+// earlier source does. Where their fronts differ, nothing else is compared.
 #[inline(always)]
-fn goes_first<T: Version, I: Source<T>>(first: &Head<T, I>, second: &Head<T, I>) -> bool
+fn goes_first<T: Ranked, I: Source<T>>(
+    first: &Head<T, I>,
+    second: &Head<T, I>,
+    is_later: bool,
+) -> bool
     ensures { (xs ys : List T) → first.now.list ≡ Some xs → second.now.list ≡ Some ys
-        → result ≡ wins (order_by T.entry) xs ys }
+        → result ≡ goes T.cmp is_later xs ys }
 {
     if first.front != second.front {
         return first.front < second.front;
     }
+    // (out of line, so that the rest of a tournament has no branches)
+    goes_first_held(first, second, is_later)
+}
+
+// The same, by what is held.
+#[inline(never)]
+fn goes_first_held<T: Ranked, I: Source<T>>(
+    first: &Head<T, I>,
+    second: &Head<T, I>,
+    is_later: bool,
+) -> bool
+    ensures { (xs ys : List T) → first.now.list ≡ Some xs → second.now.list ≡ Some ys
+        → result ≡ goes T.cmp is_later xs ys }
+{
     match (&first.held, &second.held) {
-        (_, None) => true,
+        (Some(_), None) => true,
         (None, Some(_)) => false,
+        (None, None) => !is_later,
+        (Some(x), Some(y)) if is_later => x.compare(y) == Ordering::Less,
         (Some(x), Some(y)) => y.compare(x) != Ordering::Less,
     }
 }
 
-// The pick at an index, by the pick behind it: of the two the one whose version comes first.
+// Of two sources the one whose version comes first.
 #[inline(always)]
-fn better<T: Version, I: Source<T>>(heads: &[Head<T, I>], i: usize, behind: usize) -> usize
-    requires here { i < length heads.now }
-    requires is_pick { IsPick (wins (order_by T.entry)) heads.now (i + 1) behind }
-    ensures { IsPick (wins (order_by T.entry)) heads.now i result }
+fn better<T: Ranked, I: Source<T>>(heads: &[Head<T, I>], i: usize, j: usize) -> usize
+    requires first { i < length heads.now }
+    requires second { j < length heads.now }
+    ensures { IsFirstOf T.cmp heads.now i j result }
 {
-    if goes_first(&heads[i], &heads[behind]) {
+    if goes_first(&heads[i], &heads[j], j < i) {
         i
     } else {
-        behind
+        j
     }
 }
 
-// The pick at an index, where those behind it are made.
+// Of the two sources behind a place of a tournament the one whose version comes first.
 #[inline(always)]
-fn pick_at<T: Version, I: Source<T>>(heads: &[Head<T, I>], picks: &[usize], i: usize) -> usize
-    requires here { i < length heads.now }
-    requires len { length picks.now ≡ length heads.now }
-    requires behind { ArePicks (wins (order_by T.entry)) heads.now picks.now (i + 1) }
-    ensures { IsPick (wins (order_by T.entry)) heads.now i result }
+fn play<T: Ranked, I: Source<T>>(heads: &[Head<T, I>], places: &[usize], k: usize) -> usize
+    requires here { k < length heads.now }
+    requires size { length places.now ≡ length heads.now + length heads.now }
+    requires first { slice_index places.now (2 * k) < length heads.now }
+    requires second { slice_index places.now (2 * k + 1) < length heads.now }
+    ensures { IsFirstOf T.cmp heads.now (slice_index places.now (2 * k))
+        (slice_index places.now (2 * k + 1)) result }
 {
-    if i == heads.len() - 1 {
-        return i;
-    }
-    better(heads, i, picks[i + 1])
+    better(heads, places[2 * k], places[2 * k + 1])
 }
 
-// Makes the picks before an index, from the last to the first, and returns the pick of all.
+// Makes a stale place of a tournament and those above it, and returns the source whose version comes
+// first.
 #[inline(always)]
-fn pick_of_all<T: Version, I: Source<T>>(
+fn play_up<T: Ranked, I: Source<T>>(
     heads: &[Head<T, I>],
-    picks: &mut [usize],
-    made: usize,
+    places: &mut [usize],
+    stale: usize,
 ) -> usize
+    requires { IsTournament T.cmp heads.now places.old stale }
+    ensures kept { IsTournament T.cmp heads.now places.new 0 }
+    ensures first { IsPick T.cmp heads.now result }
+{
+    let mut k = stale;
+    while k > 0 {
+        places[k] = play(heads, places, k);
+        k /= 2;
+    }
+    places[1]
+}
+
+// Makes all places of a tournament, from the last to the first.
+fn play_all<T: Ranked, I: Source<T>>(heads: &[Head<T, I>], places: &mut [usize])
     requires some { 0 < length heads.now }
-    requires len { length picks.old ≡ length heads.now }
-    requires behind { ArePicks (wins (order_by T.entry)) heads.now picks.old made }
-    ensures picks { ArePicks (wins (order_by T.entry)) heads.now picks.new 0 }
-    ensures pick { IsPick (wins (order_by T.entry)) heads.now 0 result }
+    requires places { ArePlaces T.cmp heads.now places.old (λ k. k < length heads.now) }
+    ensures { IsTournament T.cmp heads.now places.new 0 }
 {
-    let mut i = made;
-    while i > 0 {
-        i -= 1;
-        picks[i] = pick_at(heads, picks, i);
+    let mut k = heads.len();
+    while k > 1 {
+        k -= 1;
+        places[k] = play(heads, places, k);
     }
-    picks[0]
 }
 
-// Gives each source a pick, and returns from which index on they are made: none is yet.
-#[inline(never)]
-fn place_picks<T: Version, I: Source<T>>(
-    alloc: Global,
-    heads: &[Head<T, I>],
-    picks: &mut Vec<usize>,
-) -> Result<usize>
-    ensures len { OnOk result (length picks.new.items ≡ length heads.now) }
-    ensures made { IfOk result
-        (λ made. ArePicks (wins (order_by T.entry)) heads.now picks.new.items made) }
-    ensures kept { OnErr result (picks.new.items ≡ picks.old.items) }
+// Gives each of some sources its last place in a tournament. The places before are not made.
+fn seats(alloc: Global, count: usize) -> Result<Vec<usize>>
+    ensures { IfOk result (λ places. AreSeats count places.items) }
 {
-    let count = heads.len();
-    *picks = vec![in alloc; 0; count]?;
-    Ok(count)
+    let mut places = vec![in alloc; 0; count]?;
+    let mut source = 0;
+    while source < count {
+        places.push(source)?;
+        source += 1;
+    }
+    Ok(places)
 }
 
-// Gives each source a pick, if they have none yet.
+// Makes the tournament of sources, if there is none yet.
 #[inline(always)]
-fn ready_picks<T: Version, I: Source<T>>(
+fn ready_places<T: Ranked, I: Source<T>>(
     alloc: Global,
     heads: &[Head<T, I>],
-    picks: &mut Vec<usize>,
-    made: &mut usize,
+    places: &mut Vec<usize>,
+    stale: &mut usize,
 ) -> Result<()>
-    requires { ArePicks (wins (order_by T.entry)) heads.now picks.old.items made.old }
-    ensures kept { ArePicks (wins (order_by T.entry)) heads.now picks.new.items made.new }
-    ensures len { OnOk result (length picks.new.items ≡ length heads.now) }
+    requires some { 0 < length heads.now }
+    requires places { MayBeTournament T.cmp heads.now places.old.items stale.old }
+    ensures kept { MayBeTournament T.cmp heads.now places.new.items stale.new }
+    ensures made { OnOk result (IsTournament T.cmp heads.now places.new.items stale.new) }
 {
-    if picks.len() != heads.len() {
-        *made = place_picks(alloc, heads, picks)?;
+    if !places.is_empty() {
+        return Ok(());
     }
+    *places = first_places(alloc, heads)?;
+    *stale = 0;
     Ok(())
 }
 
-// Makes the picks that are still to be made, and returns the pick of all sources.
-#[inline(always)]
-fn pick_first<T: Version, I: Source<T>>(
-    heads: &[Head<T, I>],
-    picks: &mut Vec<usize>,
-    made: &mut usize,
-) -> usize
-    requires some { 0 < length heads.now }
-    requires len { length picks.old.items ≡ length heads.now }
-    requires picks { ArePicks (wins (order_by T.entry)) heads.now picks.old.items made.old }
-    ensures len { length picks.new.items ≡ length heads.now }
-    ensures kept { ArePicks (wins (order_by T.entry)) heads.now picks.new.items 0 }
-    ensures all { made.new ≡ 0 }
-    ensures first { IsPick (wins (order_by T.entry)) heads.now 0 result }
+// Makes the tournament of sources.
+#[inline(never)]
+fn first_places<T: Ranked, I: Source<T>>(alloc: Global, heads: &[Head<T, I>]) -> Result<Vec<usize>>
+    requires { 0 < length heads.now }
+    ensures { IfOk result (λ places. IsTournament T.cmp heads.now places.items 0) }
 {
-    let first = pick_of_all(heads, picks.as_mut_slice(), *made);
-    *made = 0;
+    let mut places = seats(alloc, heads.len())?;
+    play_all(heads, places.as_mut_slice());
+    Ok(places)
+}
+
+// Makes the places that are stale, and returns the source whose version comes first.
+#[inline(always)]
+fn first_of<T: Ranked, I: Source<T>>(
+    heads: &[Head<T, I>],
+    places: &mut Vec<usize>,
+    stale: &mut usize,
+) -> usize
+    requires { IsTournament T.cmp heads.now places.old.items stale.old }
+    ensures kept { IsTournament T.cmp heads.now places.new.items stale.new }
+    ensures fresh { stale.new ≡ 0 }
+    ensures first { IsPick T.cmp heads.now result }
+{
+    let first = play_up(heads, places.as_mut_slice(), *stale);
+    *stale = 0;
     first
 }
 
-// The pick of all sources, where no picks are made.
-fn pick_anew<T: Version, I: Source<T>>(heads: &[Head<T, I>]) -> usize
+// The source whose version comes first, where the places of a tournament are stale.
+fn first_anew<T: Ranked, I: Source<T>>(heads: &[Head<T, I>]) -> usize
     requires { 0 < length heads.now }
-    ensures { IsPick (wins (order_by T.entry)) heads.now 0 result }
+    ensures { IsPick T.cmp heads.now result }
 {
-    let mut i = heads.len() - 1;
-    let mut pick = i;
-    while i > 0 {
-        i -= 1;
-        pick = better(heads, i, pick);
+    let mut first = 0;
+    let mut i = 1;
+    while i < heads.len() {
+        first = better(heads, first, i);
+        i += 1;
     }
-    pick
+    first
 }
 
-// The pick of all sources, from those that are made or anew.
+// The source whose version comes first.
 #[inline(always)]
-fn pick_now<T: Version, I: Source<T>>(heads: &[Head<T, I>], picks: &[usize], made: usize) -> usize
+fn first_now<T: Ranked, I: Source<T>>(heads: &[Head<T, I>], places: &[usize], stale: usize) -> usize
     requires some { 0 < length heads.now }
-    requires picks { ArePicks (wins (order_by T.entry)) heads.now picks.now made }
-    ensures { IsPick (wins (order_by T.entry)) heads.now 0 result }
+    requires places { MayBeTournament T.cmp heads.now places.now stale }
+    ensures { IsPick T.cmp heads.now result }
 {
-    match picks.first() {
-        Some(first) if made == 0 => *first,
-        _ => pick_anew(heads),
+    if stale > 0 || places.len() < 2 {
+        return first_anew(heads);
     }
+    places[1]
 }
 
 /// The ordered merge of any number of sources: of equal versions, those of the earlier source come
 /// first. An error ends the merge: each later step returns it again. Clauses see the versions left,
 /// where those of all sources are known, and the error that ended the merge, if one did.
 ///
-/// A step compares anew the source that the last step took from and those before it; the first step
+/// The sources play a tournament, so a step compares some log2 n of n of them; the first step
 /// compares all, and allocates.
 #[derive(Drop)]
-pub struct Merge<T: Version, I: Source<T>> {
+pub struct Merge<T: Ranked, I: Source<T>> {
     heads: Vec<Head<T, I>>,
-    // At each index which of the sources from there on has the first version. Those before `made`
-    // are still to be made; before the first step there are none.
-    picks: Vec<usize>,
-    made: usize,
+    // Of n sources, source i stands at place n + i, and at place k before that the one of the
+    // sources at places 2 k and 2 k + 1 whose version comes first; before the first step there are
+    // no places. What stands at a stale place and at those above it (half of it, and so on) is still
+    // to be made; 0 is no place.
+    places: Vec<usize>,
+    stale: usize,
     ended: Option<Error>,
 }
 
-impl<T: Version, I: Source<T>> Model for Merge<T, I> {
-    ghost use Rattle.sst_merge.specs.Merge.{order_by, merged};
-    ghost use Rattle.sst_merge.specs.Picks.{ArePicks, wins};
+impl<T: Ranked, I: Source<T>> Model for Merge<T, I> {
+    ghost use Rattle.sst_merge.specs.Merge.{merged};
     ghost use Rattle.sst_merge.specs.Sources.{Left, all_left};
+    ghost use Rattle.sst_merge.specs.Tournament.{MayBeTournament};
 
     ghost Value = { Left T };
 
-    ghost view = { λ m. all_left (merged (order_by T.entry)) m.ended m.heads.items };
+    ghost view = { λ m. all_left (merged T.cmp) m.ended m.heads.items };
 
     ghost invariant = { λ m.
-        ArePicks (wins (order_by T.entry)) m.heads.items m.picks.items m.made };
+        MayBeTournament T.cmp m.heads.items m.places.items m.stale };
 }
 
-impl<T: Version, I: Source<T>> Merge<T, I> {
+impl<T: Ranked, I: Source<T>> Merge<T, I> {
     /// Merges sources, of which the first versions are held.
     pub fn new(heads: Vec<Head<T, I>>) -> Merge<T, I>
-        ensures { result ≡ all_left (merged (order_by T.entry)) None heads.items }
+        ensures { result ≡ all_left (merged T.cmp) None heads.items }
     {
-        let picks = Vec::new(*heads.allocator());
-        let made = heads.len();
+        let places = Vec::new(*heads.allocator());
         Merge {
             heads,
-            picks,
-            made,
+            places,
+            stale: 0,
             ended: None,
         }
     }
 }
 
-impl<T: Version, I: Source<T>> Merge<T, I> {
+impl<T: Ranked, I: Source<T>> Merge<T, I> {
     /// Returns the first version left, if there is one, where its source holds it: it is not moved,
     /// as [`Merge::advance`] passes it and [`Source::next_entry`] takes it.
     ///
@@ -365,11 +405,11 @@ impl<T: Version, I: Source<T>> Merge<T, I> {
         if self.heads.is_empty() {
             return None;
         }
-        self.heads[pick_now(&self.heads, &self.picks, self.made)].peek()
+        self.heads[first_now(&self.heads, &self.places, self.stale)].peek()
     }
 }
 
-impl<T: Version + Drop, I: Source<T> + Drop> Merge<T, I> {
+impl<T: Ranked + Drop, I: Source<T> + Drop> Merge<T, I> {
     /// Passes the first version left, if there is one. Returns whether there was one.
     ///
     /// # Errors
@@ -386,14 +426,14 @@ impl<T: Version + Drop, I: Source<T> + Drop> Merge<T, I> {
         if self.heads.is_empty() {
             return Ok(false);
         }
-        let ready = ready_picks(alloc, &self.heads, &mut self.picks, &mut self.made);
+        let ready = ready_places(alloc, &self.heads, &mut self.places, &mut self.stale);
         keep_error(&mut self.ended, &ready);
         ready?;
-        let first = pick_first(&self.heads, &mut self.picks, &mut self.made);
-        self.made = first + 1;
+        let first = first_of(&self.heads, &mut self.places, &mut self.stale);
+        self.stale = (self.heads.len() + first) / 2;
         match self.heads[first].advance(alloc) {
             Ok(passed) => {
-                pick_first(&self.heads, &mut self.picks, &mut self.made);
+                first_of(&self.heads, &mut self.places, &mut self.stale);
                 Ok(passed)
             }
             Err(error) => Err(note_error(&mut self.ended, &error)),
@@ -402,7 +442,7 @@ impl<T: Version + Drop, I: Source<T> + Drop> Merge<T, I> {
 }
 
 /// Takes the first version of the merge.
-impl<T: Version + Drop, I: Source<T> + Drop> Source<T> for Merge<T, I> {
+impl<T: Ranked + Drop, I: Source<T> + Drop> Source<T> for Merge<T, I> {
     ghost left = { λ m. m };
 
     fn next_entry(&mut self, alloc: Global) -> Result<Option<T>> {
@@ -412,11 +452,11 @@ impl<T: Version + Drop, I: Source<T> + Drop> Source<T> for Merge<T, I> {
         if self.heads.is_empty() {
             return Ok(None);
         }
-        let ready = ready_picks(alloc, &self.heads, &mut self.picks, &mut self.made);
+        let ready = ready_places(alloc, &self.heads, &mut self.places, &mut self.stale);
         keep_error(&mut self.ended, &ready);
         ready?;
-        let first = pick_first(&self.heads, &mut self.picks, &mut self.made);
-        self.made = first + 1;
+        let first = first_of(&self.heads, &mut self.places, &mut self.stale);
+        self.stale = (self.heads.len() + first) / 2;
         // (what a `?` or a variable passes on is copied)
         match self.heads[first].take(alloc) {
             Ok(taken) => Ok(taken),

@@ -1,15 +1,13 @@
 //! Sources of versions.
 ghost use Rattle.std.specs.Prelude.{◌≡◌, IfOk, None, Some};
-ghost use Rattle.sst_merge.specs.Merge.{order_by};
-ghost use Rattle.sst_merge.specs.Sources.{Left, TakesFirst, TakesLast};
+ghost use Rattle.sst_merge.specs.Sources.{Left, TakesFirst};
 ghost use Rattle.sstable_blocks.specs.Scans.{EndsBy, error_of};
 
-use crate::version::Version;
 use sst_base::{Error, Result};
 use std::alloc::Global;
 
 /// An ordered list of versions, which are taken one after the other: a scan of a table, what an
-/// engine holds in memory, or a merge of others.
+/// engine holds in memory, or a merge of others; or the same from the back ([`Rev`](crate::Rev)).
 ///
 /// An error ends the source: each later step returns it again.
 pub trait Source<T> {
@@ -26,27 +24,6 @@ pub trait Source<T> {
     fn next_entry(&mut self, alloc: Global) -> Result<Option<T>>
         ensures first { IfOk result (λ r. TakesFirst (left self.old) r (left self.new)) }
         ensures ended { EndsBy (left self.old).ended (left self.new).ended result };
-}
-
-/// Versions in order, which are taken from the last to the first.
-///
-/// An error ends the source: each later step returns it again.
-pub trait BackSource<T: Version> {
-    // The versions left, where they are known, at most how many they are, and the error that ended
-    // the source, if one did.
-    ghost left_back: { Self → Left T };
-
-    /// Takes the last version left, or returns `None` where none is left. Which one is taken is
-    /// said where those left are in order.
-    ///
-    /// # Errors
-    ///
-    /// Those of what the versions are read from, and `Error::Memory` if an allocation fails. An
-    /// error ends the source: each later step returns it again.
-    fn next_entry_back(&mut self, alloc: Global) -> Result<Option<T>>
-        ensures last { IfOk result (λ r. TakesLast (order_by T.entry) (left_back self.old) r
-            (left_back self.new)) }
-        ensures ended { EndsBy (left_back self.old).ended (left_back self.new).ended result };
 }
 
 // Keeps the error of a step, if it is one. No step before it failed.

@@ -2,13 +2,14 @@
 ghost use Rattle.sstable_blocks.specs.RunReading.{hashes};
 ghost use Rattle.sstable_blocks.specs.Scans.{most_left, reads_left};
 ghost use Rattle.std.specs.Option.{option_map};
-ghost use Rattle.std.specs.Prelude.{None, Some, length};
+ghost use Rattle.std.specs.Prelude.{None, Some, length, reverse};
 ghost use Rattle.sstable_blocks.specs.ReadCosts.{heads_most_in, entries_most_in};
 ghost use Rattle.sst_merge.specs.Stored.{scan_list, table_list};
 ghost use Rattle.sst_merge.specs.TableReads.{table_ordered};
 
 use crate::reader::Reader;
-use crate::source::{BackSource, Source};
+use crate::rev::{Rev, Reversed, in_reverse};
+use crate::source::Source;
 use sst_base::{BlockHash, InternalValue, Result, SeqNo, Steps};
 use sst_block_kinds::laws::first_match_of_plain;
 use sst_block_kinds::table::data_block::EntryView;
@@ -33,17 +34,20 @@ impl<'k, H: BlockHash, S: FrameSource> Source<InternalValue> for Scan<'k, H, S> 
 }
 
 /// The same scan, from the back.
-impl<'k, H: BlockHash, S: FrameSource> BackSource<InternalValue> for Scan<'k, H, S> {
-    ghost left_back = { λ s. record {
-      list = scan_list s.ended (S.bytes s.table.source)
-          (λ all. reads_left (hashes H.hash64 H.hash128) all s);
-      most = most_left s;
-      ended = s.ended;
+impl<'k, H: BlockHash, S: FrameSource> Source<Reversed<InternalValue>> for Rev<Scan<'k, H, S>> {
+    ghost left = { λ s. record {
+      list = scan_list s.source.ended (S.bytes s.source.table.source)
+          (λ all. reverse (reads_left (hashes H.hash64 H.hash128) all s.source));
+      most = most_left s.source;
+      ended = s.source.ended;
     } };
 
     #[inline(always)]
-    fn next_entry_back(&mut self, alloc: Global) -> Result<Option<InternalValue>> {
-        self.next_entry_back(alloc)
+    fn next_entry(&mut self, alloc: Global) -> Result<Option<Reversed<InternalValue>>> {
+        match self.source.next_entry_back(alloc) {
+            Ok(entry) => Ok(in_reverse(entry)),
+            Err(error) => Err(error),
+        }
     }
 }
 
@@ -58,16 +62,19 @@ impl<'a, 'k, H: BlockHash> Source<InternalValue> for TrustedScan<'a, 'k, H> {
 }
 
 /// The same scan, from the back.
-impl<'a, 'k, H: BlockHash> BackSource<InternalValue> for TrustedScan<'a, 'k, H> {
-    ghost left_back = { λ s. record {
-      list = Some s.left;
-      most = length s.left;
-      ended = s.ended;
+impl<'a, 'k, H: BlockHash> Source<Reversed<InternalValue>> for Rev<TrustedScan<'a, 'k, H>> {
+    ghost left = { λ s. record {
+      list = Some (reverse s.source.left);
+      most = length s.source.left;
+      ended = s.source.ended;
     } };
 
     #[inline(always)]
-    fn next_entry_back(&mut self, alloc: Global) -> Result<Option<InternalValue>> {
-        TrustedScan::next_entry_back(self, alloc)
+    fn next_entry(&mut self, alloc: Global) -> Result<Option<Reversed<InternalValue>>> {
+        match self.source.next_entry_back(alloc) {
+            Ok(entry) => Ok(in_reverse(entry)),
+            Err(error) => Err(error),
+        }
     }
 }
 
@@ -83,16 +90,16 @@ impl<'a, 'k, H: BlockHash> Source<EntryView<'a>> for RunScan<'a, 'k, H> {
 }
 
 /// The same scan, from the back.
-impl<'a, 'k, H: BlockHash> BackSource<EntryView<'a>> for RunScan<'a, 'k, H> {
-    ghost left_back = { λ s. record {
-      list = Some s.left;
-      most = length s.left;
+impl<'a, 'k, H: BlockHash> Source<Reversed<EntryView<'a>>> for Rev<RunScan<'a, 'k, H>> {
+    ghost left = { λ s. record {
+      list = Some (reverse s.source.left);
+      most = length s.source.left;
       ended = None;
     } };
 
     #[inline(always)]
-    fn next_entry_back(&mut self, _alloc: Global) -> Result<Option<EntryView<'a>>> {
-        Ok(self.next_back())
+    fn next_entry(&mut self, _alloc: Global) -> Result<Option<Reversed<EntryView<'a>>>> {
+        Ok(in_reverse(self.source.next_back()))
     }
 }
 

@@ -2,34 +2,17 @@
 ghost use Rattle.std.specs.Prelude.{◌≡◌, IfOk};
 ghost use Rattle.std.specs.Ordering.{nat_cmp, is_eq};
 ghost use Rattle.std.specs.Cmp.Lexicographic.{slice_cmp};
-ghost use Rattle.sst_base.specs.Bytes.{IsBytes};
 ghost use Rattle.sst_base.specs.Entry.{Entry};
-ghost use Rattle.sst_merge.specs.Fronts.{HasOrderOf, key_front};
-ghost use Rattle.sst_merge.specs.Merge.{entry_cmp};
 ghost use Rattle.sst_merge.specs.Snapshot.{deletes};
 
-use crate::front::front_of_key;
 use sst_base::{InternalValue, SeqNo, Slice, UserKey, ValueType};
 use sst_block_kinds::table::data_block::EntryView;
 use std::alloc::{AllocError, Global};
-use std::cmp::Ordering;
 
-/// A version of a key: an entry, or what stands for one. Versions compare by user key rising, then
-/// by sequence number falling.
+/// A version of a key: an entry, or what stands for one.
 pub trait Version: Sized {
     // The entry.
     ghost entry: { Self → Entry };
-
-    /// Compares with another version.
-    fn compare(&self, other: &Self) -> Ordering
-        ensures { result ≡ entry_cmp (entry self.now) (entry other.now) };
-
-    /// Returns the first 16 bytes of its user key as a big-endian number; fewer are filled with 00.
-    /// Where the numbers of two versions differ, their user keys have the order of the numbers.
-    fn front(&self) -> u128
-        ensures value { result ≡ key_front (entry self.now).key.user_key }
-        ensures order { HasOrderOf (entry self.now).key.user_key result }
-        ensures bytes { IsBytes (entry self.now).key.user_key };
 
     /// Returns its sequence number.
     fn seqno(&self) -> SeqNo
@@ -55,15 +38,6 @@ pub trait Version: Sized {
 impl Version for InternalValue {
     ghost entry = { λ e. e };
 
-    fn compare(&self, other: &InternalValue) -> Ordering {
-        self.key().cmp(other.key())
-    }
-
-    #[inline(always)]
-    fn front(&self) -> u128 {
-        front_of_key(self.key().user_key().as_slice(), &[])
-    }
-
     fn seqno(&self) -> SeqNo {
         self.key().seqno()
     }
@@ -87,17 +61,6 @@ impl Version for InternalValue {
 /// An entry that borrows the bytes of its block: it is compared and passed on without being made.
 impl<'a> Version for EntryView<'a> {
     ghost entry = { λ e. e };
-
-    #[inline(always)]
-    fn compare(&self, other: &EntryView<'a>) -> Ordering {
-        EntryView::compare(self, other)
-    }
-
-    #[inline(always)]
-    fn front(&self) -> u128 {
-        let (prefix, rest) = self.key_parts();
-        front_of_key(prefix, rest)
-    }
 
     fn seqno(&self) -> SeqNo {
         EntryView::seqno(self)
