@@ -10,7 +10,7 @@ use crate::hash::Hash;
 use crate::run::run_of;
 use crate::sums::entry_sum;
 use sst_base::{HashRatio, InternalValue, Slice};
-use sst_merge::{Head, Merge, Source, Version};
+use sst_merge::{Head, Merge, Ranked, Source, Version};
 use sstable_blocks::run::{Scan, Trusted, TrustedScan};
 use sstable_blocks::{MemorySource, RunConfig, RunHandles, Table};
 use std::alloc::Global;
@@ -91,7 +91,7 @@ pub(crate) fn tables_of(alloc: Global, runs: &[Stored]) -> Option<Vec<Table<Hash
 }
 
 /// Adds a source to those of a merge.
-pub(crate) fn push_head<T: Version + Drop, I: Source<T> + Drop>(
+pub(crate) fn push_head<T: Ranked + Drop, I: Source<T> + Drop>(
     alloc: Global,
     heads: &mut Vec<Head<T, I>>,
     source: I,

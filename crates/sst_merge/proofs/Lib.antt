@@ -1,4 +1,3 @@
 pub mod Tournaments
 pub mod FrontNumbers
-pub mod FrontOrder
 pub mod Peeks

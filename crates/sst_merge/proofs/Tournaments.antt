@@ -293,9 +293,9 @@ module _ {X : Type 0} (cmp : X → X → Ordering) (order : IsTotalOrder cmp) wh
     root_is_pick some =
         let inside = place_inside lefts places (λ k. IsAbove k 0) all 1 (omega (arith, some)) in
         pick_by lefts (slice_index places 1) inside (λ xss known j m. (
-            let e = all.last j m in
-            subst (λ c. goes cmp (nat_lt c (slice_index places 1)) (list_at xss (slice_index places 1)) (list_at xss c) ≡ true) e
-            (root_leads xss known (length lefts + j) (length lefts + j) (omega arith) (omega (arith, some)) (omega (arith, m)))))
+        let e = all.last j m in
+        subst (λ c. goes cmp (nat_lt c (slice_index places 1)) (list_at xss (slice_index places 1)) (list_at xss c) ≡ true) e
+        (root_leads xss known (length lefts + j) (length lefts + j) (omega arith) (omega (arith, some)) (omega (arith, m)))))
 
     -- where its source went on, the places above that are stale
     unmoved : (i j : ℕ) (l : Left X) → j ≢ i → known_list (set lefts i l) j ≡ known_list lefts j
@@ -312,9 +312,9 @@ module _ {X : Type 0} (cmp : X → X → Ordering) (order : IsTotalOrder cmp) wh
         let from = length lefts + i in
         let a = came_from (length lefts + length lefts) m i p q (omega arith) e in
         let above : IsAbove k from = elim way [
-            | inl same ↦ subst (λ c. IsAbove c from) same a
-            | inr half ↦ subst (λ c. IsAbove c from) half (half_above m from a)
-          ] in
+          | inl same ↦ subst (λ c. IsAbove c from) same a
+          | inr half ↦ subst (λ c. IsAbove c from) half (half_above m from a)
+        ] in
         elim (above_or k from above) [
           | inl same ↦ omega (arith, same, inner)
           | inr up ↦ fresh_k up
@@ -382,6 +382,7 @@ module _ {X : Type 0} (cmp : X → X → Ordering) (order : IsTotalOrder cmp) wh
             | inr same ↦ inl (omega (arith, more, same))
           ]
         ]
+
         transported : {a b c d e f : ℕ} → a ≡ d → b ≡ e → c ≡ f → IsFirstOf cmp lefts a b c → IsFirstOf cmp lefts d e f
         transported {b = b} {c = c} {d = d} {e = e} p q r h = subst (λ z. IsFirstOf cmp lefts d e z) r (subst (λ y. IsFirstOf cmp lefts d y c) q (subst (λ x. IsFirstOf cmp lefts x b c) p h))
 
@@ -396,7 +397,8 @@ module _ {X : Type 0} (cmp : X → X → Ordering) (order : IsTotalOrder cmp) wh
           | inr up ↦ fresh up
         ]),
         (λ e. fresh (record { steps = zero; is = omega (arith, e) })),
-        (λ e. fresh (record { steps = zero; is = omega (arith, e) }))))
+        (λ e. fresh (record { steps = zero; is = omega (arith, e) })),
+      ))
 
   -- and from the last to the first
   pub place_before : (lefts : List (Left X)) (places : List ℕ) (k w : ℕ) → ArePlaces cmp lefts places (λ j. j < k + 1) → 1 ≤ k → k < length lefts → IsFirstOf cmp lefts (slice_index places (2 * k)) (slice_index places (2 * k + 1)) w
@@ -404,14 +406,14 @@ module _ {X : Type 0} (cmp : X → X → Ordering) (order : IsTotalOrder cmp) wh
   place_before lefts places k w all some inner won =
       place_made lefts places k w (λ j. j < k + 1) (λ j. j < k) all some inner won
       (λ j one differ fresh. (
-        let up : k < j = elim (cases_lt k j) [
-            | inl more ↦ more
-            | inr less ↦ absurd (elim (cases_lt j k) [
-              | inl below ↦ fresh below
-              | inr same ↦ differ (omega (arith, same, less))
-            ])
-          ] in
-        ((λ a. omega (arith, a, up)), (λ e. omega (arith, e, up)), (λ e. omega (arith, e, up)))))
+      let up : k < j = elim (cases_lt k j) [
+        | inl more ↦ more
+        | inr less ↦ absurd (elim (cases_lt j k) [
+          | inl below ↦ fresh below
+          | inr same ↦ differ (omega (arith, same, less))
+        ])
+      ] in
+      ((λ a. omega (arith, a, up)), (λ e. omega (arith, e, up)), (λ e. omega (arith, e, up)))))
 
   -- a tournament none of whose places is stale
   pub all_fresh : (lefts : List (Left X)) (places : List ℕ) (k : ℕ) → k ≤ 1 → ArePlaces cmp lefts places (λ j. j < k) → ArePlaces cmp lefts places (λ j. IsAbove j 0)

@@ -7,13 +7,17 @@ use Rattle.std.specs.declared.cmp.Ordering.TheVariants.{Less, Greater}
 use Rattle.sst_base.specs.Bytes.{IsBytes}
 use Rattle.sst_base.specs.Entry.{Entry}
 use Rattle.sst_base.specs.NumberLaws.{numbers_decide}
-use Rattle.sst_merge.specs.Fronts.{key_front}
+use Rattle.sst_merge.specs.Fronts.{HasOrderOf, key_front}
 use Rattle.sst_merge.specs.Merge.{entry_cmp}
 
 -- keys whose fronts differ have the order of their fronts
 pub fronts_decide : (x y : List ℕ) → IsBytes x → IsBytes y → (key_front x ≡ key_front y → ⊥) → nat_cmp (key_front x) (key_front y) ≡ slice_cmp nat_cmp x y
 unfolding key_front
 fronts_decide x y b c n = numbers_decide 16 x y b c n
+
+-- so has a key beside all others, by its number
+pub number_decides : (key : List ℕ) (number : ℕ) → IsBytes key → number ≡ key_front key → HasOrderOf key number
+number_decides key number b e = λ other c n. ap (λ k. nat_cmp k (key_front other)) e ∙ fronts_decide key other b c (λ same. n (e ∙ same))
 
 -- of two entries whose fronts differ that of the lesser front goes first
 pub entry_tells : (x y : Entry) → IsBytes x.key.user_key → IsBytes y.key.user_key → key_front x.key.user_key < key_front y.key.user_key

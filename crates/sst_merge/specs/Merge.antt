@@ -10,10 +10,6 @@ use Rattle.sst_block_core.specs.Entries.{entries}
 abbrev pub entry_cmp : Entry → Entry → Ordering
 entry_cmp = item_cmp entries
 
--- the order of what stands for entries
-abbrev pub order_by : {X : Type 0} → (X → Entry) → X → X → Ordering
-order_by entry x y = entry_cmp (entry x) (entry y)
-
 -- the merge of x and the items after it with a list, where `after` merges those after it
 abbrev pub merge_after : {X : Type 0} → (X → X → Ordering) → X → List X → (List X → List X) → List X → List X
 merge_after cmp x xs after [] = x ∷ xs

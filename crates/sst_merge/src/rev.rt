@@ -85,4 +85,11 @@ impl<I> Rev<I> {
     {
         Rev { source }
     }
+
+    /// Returns the source.
+    pub fn into_inner(self) -> I
+        ensures { result ≡ self.source }
+    {
+        self.source
+    }
 }

@@ -71,7 +71,7 @@ impl<'a, 'k, H: BlockHash> Source<Reversed<InternalValue>> for Rev<TrustedScan<'
 
     #[inline(always)]
     fn next_entry(&mut self, alloc: Global) -> Result<Option<Reversed<InternalValue>>> {
-        match self.source.next_entry_back(alloc) {
+        match TrustedScan::next_entry_back(&mut self.source, alloc) {
             Ok(entry) => Ok(in_reverse(entry)),
             Err(error) => Err(error),
         }

@@ -1,36 +1,33 @@
 // Sources that fail: an error ends them, and all that is made of them.
-ghost use Rattle.std.specs.Prelude.{None, length};
-ghost use Rattle.std.specs.Vec.Iter.{into_iter_items};
+ghost use Rattle.std.specs.Prelude.{None};
 
 use crate::Tested;
 use crate::lists::{Memory, Row, T, V, entry_of, list_of};
 use sst_base::{ByteSum, Error, HashRatio, InternalValue, Result, SeqNo, UserKey};
 use sst_merge::{
-    BackSource, Compact, Head, Merge, MergeBack, Sizes, Snapshot, Source, Tail, Version,
-    write_table,
+    Compact, Head, Merge, Rev, Reversed, Sizes, Snapshot, Source, Version, write_table,
 };
 use sstable_blocks::{RunConfig, RunHandles};
 use std::alloc::{AllocError, Global};
-use std::cmp::Ordering;
 use std::io::Write;
 use std::{io, vec};
 
 /// A source that fails after so many steps.
 #[derive(Drop)]
-pub(crate) struct Failing {
-    source: Memory,
+pub(crate) struct Failing<I> {
+    source: I,
     steps: usize,
     ended: Option<Error>,
 }
 
-impl Source<InternalValue> for Failing {
+impl<T, I: Source<T>> Source<T> for Failing<I> {
     ghost left = { λ s. record {
       list = None;
-      most = length (into_iter_items s.source);
+      most = (I.left s.source).most;
       ended = s.ended;
     } };
 
-    fn next_entry(&mut self, _alloc: Global) -> Result<Option<InternalValue>> {
+    fn next_entry(&mut self, alloc: Global) -> Result<Option<T>> {
         if let Some(error) = self.ended {
             return Err(error);
         }
@@ -39,27 +36,11 @@ impl Source<InternalValue> for Failing {
             return Err(Error::Io);
         }
         self.steps -= 1;
-        Ok(self.source.next())
-    }
-}
-
-impl BackSource<InternalValue> for Failing {
-    ghost left_back = { λ s. record {
-      list = None;
-      most = length (into_iter_items s.source);
-      ended = s.ended;
-    } };
-
-    fn next_entry_back(&mut self, _alloc: Global) -> Result<Option<InternalValue>> {
-        if let Some(error) = self.ended {
-            return Err(error);
+        let step = self.source.next_entry(alloc);
+        if let Err(error) = &step {
+            self.ended = Some(*error);
         }
-        if self.steps == 0 {
-            self.ended = Some(Error::Io);
-            return Err(Error::Io);
-        }
-        self.steps -= 1;
-        Ok(self.source.next_back())
+        step
     }
 }
 
@@ -72,9 +53,18 @@ const ROWS: &[Row] = &[
 ];
 
 /// A source that fails after so many steps.
-pub(crate) fn failing_after(alloc: Global, steps: usize) -> Result<Failing> {
+pub(crate) fn failing_after(alloc: Global, steps: usize) -> Result<Failing<Memory>> {
     Ok(Failing {
         source: list_of(alloc, ROWS, 0)?.into_iter(),
+        steps,
+        ended: None,
+    })
+}
+
+/// The same from the back.
+fn failing_back_after(alloc: Global, steps: usize) -> Result<Failing<Rev<Memory>>> {
+    Ok(Failing {
+        source: Rev::new(list_of(alloc, ROWS, 0)?.into_iter()),
         steps,
         ended: None,
     })
@@ -99,30 +89,8 @@ fn counts<T: Drop, I: Source<T>>(alloc: Global, source: &mut I, wanted: Error) -
     (before, again.iter().all(|error| *error == wanted))
 }
 
-/// The same from the back.
-fn counts_back<I: BackSource<InternalValue>>(
-    alloc: Global,
-    source: &mut I,
-    wanted: Error,
-) -> (usize, bool) {
-    let mut before = 0usize;
-    for _ in 0..ROWS.len() + 1 {
-        let Ok(Some(_)) = source.next_entry_back(alloc) else {
-            break;
-        };
-        before = before.saturating_add(1);
-    }
-    let wanted = Some(wanted);
-    let again = [
-        source.next_entry_back(alloc).err(),
-        source.next_entry_back(alloc).err(),
-        source.next_entry_back(alloc).err(),
-    ];
-    (before, again.iter().all(|error| *error == wanted))
-}
-
 /// The merge of a source that fails after so many steps.
-fn failing_merge(alloc: Global, steps: usize) -> Result<Merge<InternalValue, Failing>> {
+fn failing_merge(alloc: Global, steps: usize) -> Result<Merge<InternalValue, Failing<Memory>>> {
     let mut heads = Vec::new(alloc);
     heads.push(Head::new(alloc, failing_after(alloc, steps)?)?)?;
     Ok(Merge::new(heads))
@@ -162,16 +130,18 @@ fn a_failed_step_ends_what_is_made_of_its_source(rt: HostRuntime) -> Tested {
 
 /// What is counted of a merge from the back of a source that fails after so many steps.
 fn counts_merged_back(alloc: Global, steps: usize) -> Result<(usize, bool)> {
-    let mut tails = Vec::new(alloc);
-    tails.push(Tail::new(alloc, failing_after(alloc, steps)?)?)?;
-    let mut merged = MergeBack::new(tails);
-    Ok(counts_back(alloc, &mut merged, Error::Io))
+    let mut heads = Vec::new(alloc);
+    heads.push(Head::new(alloc, failing_back_after(alloc, steps)?)?)?;
+    let mut merged: Merge<Reversed<InternalValue>, _> = Merge::new(heads);
+    Ok(counts(alloc, &mut merged, Error::Io))
 }
 
 #[test]
 fn a_failed_step_ends_a_merge_from_the_back(rt: HostRuntime) -> Tested {
     let alloc = rt.alloc();
-    assert!(rt; Tail::new(alloc, failing_after(alloc, 0)?).is_err());
+    assert!(rt;
+        Head::<Reversed<InternalValue>, _>::new(alloc, failing_back_after(alloc, 0)?).is_err()
+    );
     for steps in 1..5 {
         assert_eq!(rt; counts_merged_back(alloc, steps)?, (steps - 1, true));
     }
@@ -179,7 +149,7 @@ fn a_failed_step_ends_a_merge_from_the_back(rt: HostRuntime) -> Tested {
 }
 
 /// How many versions a merge passes before it fails.
-fn passes(alloc: Global, merged: &mut Merge<InternalValue, Failing>) -> usize {
+fn passes(alloc: Global, merged: &mut Merge<InternalValue, Failing<Memory>>) -> usize {
     for passed in 0..ROWS.len() {
         let Ok(true) = merged.advance(alloc) else {
             return passed;
@@ -191,7 +161,7 @@ fn passes(alloc: Global, merged: &mut Merge<InternalValue, Failing>) -> usize {
 /// Whether a merge fails at three steps, and shows the version of this number after each.
 fn fails_and_shows(
     alloc: Global,
-    merged: &mut Merge<InternalValue, Failing>,
+    merged: &mut Merge<InternalValue, Failing<Memory>>,
     seqno: SeqNo,
 ) -> bool {
     for _ in 0..3 {
@@ -233,14 +203,6 @@ struct Refused {
 
 impl Version for Refused {
     ghost entry = { λ v. v.entry };
-
-    fn compare(&self, other: &Refused) -> Ordering {
-        self.entry.compare(&other.entry)
-    }
-
-    fn front(&self) -> u128 {
-        self.entry.front()
-    }
 
     fn seqno(&self) -> SeqNo {
         Version::seqno(&self.entry)

@@ -5,8 +5,8 @@ use crate::runs::run_of;
 use sst_base::{ByteSum, Error, InternalValue, Result, Slice, Steps};
 use sst_block_kinds::table::data_block::EntryView;
 use sst_merge::{
-    BackSource, Compact, Head, Merge, MergeBack, Sizes, Snapshot, Source, Tail, Version,
-    read_tables, write_table,
+    Compact, Head, Merge, Ranked, Rev, Reversed, Sizes, Snapshot, Source, Version, read_tables,
+    write_table,
 };
 use sstable_blocks::run::RunRef;
 use sstable_blocks::{MemorySource, RunConfig, RunHandles, Table};
@@ -87,7 +87,7 @@ enum Merged {
 }
 
 // The merge of two sources.
-fn merge_of<T: Version + Drop, I: Source<T> + Drop>(
+fn merge_of<T: Ranked + Drop, I: Source<T> + Drop>(
     alloc: Global,
     first: I,
     second: I,
@@ -98,21 +98,9 @@ fn merge_of<T: Version + Drop, I: Source<T> + Drop>(
     Ok(Merge::new(heads))
 }
 
-// The merge of two sources from the back.
-fn merge_back_of<T: Version + Drop, I: BackSource<T> + Drop>(
-    alloc: Global,
-    first: I,
-    second: I,
-) -> Result<MergeBack<T, I>> {
-    let mut tails = Vec::new(alloc);
-    tails.push(Tail::new(alloc, first)?)?;
-    tails.push(Tail::new(alloc, second)?)?;
-    Ok(MergeBack::new(tails))
-}
-
 // Prints the sequence numbers of the versions that a merge shows and passes and `None`, or the error
 // of a step, what is then shown, and the error of the next step.
-fn print_passed<T: Version + Drop, I: Source<T> + Drop>(
+fn print_passed<T: Version + Ranked + Drop, I: Source<T> + Drop>(
     rt: &impl Print,
     alloc: Global,
     merged: &mut Merge<T, I>,
@@ -133,7 +121,7 @@ fn print_passed<T: Version + Drop, I: Source<T> + Drop>(
 }
 
 // Takes or passes the versions of two sources.
-fn print_forth<T: Version + Drop, I: Source<T> + Drop>(
+fn print_forth<T: Version + Ranked + Drop, I: Source<T> + Drop>(
     rt: &impl Print,
     alloc: Global,
     sources: (I, I),
@@ -146,13 +134,13 @@ fn print_forth<T: Version + Drop, I: Source<T> + Drop>(
     }
 }
 
-// Takes the versions of two sources from the back.
-fn print_back<T: Version + Drop, I: BackSource<T> + Drop>(
+// Takes the versions of two sources from the back, which are in reverse.
+fn print_back<T: Version + Ranked + Drop, I: Source<Reversed<T>> + Drop>(
     rt: &impl Print,
     alloc: Global,
     sources: (I, I),
 ) -> Result<()> {
-    match merge_back_of(alloc, sources.0, sources.1) {
+    match merge_of(alloc, sources.0, sources.1) {
         Ok(mut merged) => print_left_back(rt, alloc, &mut merged),
         Err(error) => print_none(rt, "merge", error),
     }
@@ -170,7 +158,10 @@ fn merge_once(
     match merged {
         Merged::Taken => print_forth::<EntryView<'_>, _>(rt, alloc, scans, false),
         Merged::Passed => print_forth::<EntryView<'_>, _>(rt, alloc, scans, true),
-        Merged::Back => print_back::<EntryView<'_>, _>(rt, alloc, scans),
+        Merged::Back => {
+            let scans = (Rev::new(scans.1), Rev::new(scans.0));
+            print_back::<EntryView<'_>, _>(rt, alloc, scans)
+        }
     }
 }
 

@@ -1,6 +1,6 @@
 //! Lines of results.
 use sst_base::{Error, Result};
-use sst_merge::{BackSource, Source, Version};
+use sst_merge::{Reversed, Source, Version};
 use std::alloc::Global;
 use std::fmt::Debug;
 
@@ -69,16 +69,16 @@ pub fn print_left<T: Version + Drop, I: Source<T>>(
 }
 
 /// The same from the back.
-pub fn print_left_back<T: Version + Drop, I: BackSource<T>>(
+pub fn print_left_back<T: Version + Drop, I: Source<Reversed<T>>>(
     rt: &impl Print,
     alloc: Global,
     source: &mut I,
 ) -> Result<()> {
     'steps: loop {
-        match source.next_entry_back(alloc) {
-            Ok(Some(version)) => print!(rt; "{} ", version.seqno())?,
+        match source.next_entry(alloc) {
+            Ok(Some(version)) => print!(rt; "{} ", version.into_inner().seqno())?,
             Ok(None) => break,
-            Err(error) => return print_two(rt, error, source.next_entry_back(alloc).err()),
+            Err(error) => return print_two(rt, error, source.next_entry(alloc).err()),
         }
     }
     println!(rt; "None")?;

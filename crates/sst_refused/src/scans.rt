@@ -4,7 +4,7 @@ use crate::merges::{Stored, table_of};
 use crate::output::{print_left, print_left_back, print_one};
 use crate::runs::run_of;
 use sst_base::{ByteSum, InternalValue, Result};
-use sst_merge::{BackSource, Source};
+use sst_merge::Rev;
 use sstable_blocks::run::{RunHandles, RunRef};
 use std::alloc::Global;
 
@@ -15,31 +15,28 @@ pub enum End {
     Back,
 }
 
-// Takes what is left of a scan.
-fn print_scan<I: Source<InternalValue> + BackSource<InternalValue>>(
-    rt: &impl Print,
-    alloc: Global,
-    scan: &mut I,
-    end: End,
-) -> Result<()> {
-    match end {
-        End::Front => print_left(rt, alloc, scan),
-        End::Back => print_left_back(rt, alloc, scan),
-    }
+// Scans a table: the table.
+fn scan_forth(rt: &impl Print, alloc: Global, table: Stored) -> Result<Stored> {
+    let mut scan = table.scan();
+    print_left(rt, alloc, &mut scan)?;
+    Ok(scan.into_table())
 }
 
-// Scans a table: the table.
-fn scan_once(rt: &impl Print, alloc: Global, table: Stored, end: End) -> Result<Stored> {
-    let mut scan = table.scan();
-    print_scan(rt, alloc, &mut scan, end)?;
-    Ok(scan.into_table())
+// Scans a table from the back: the table.
+fn scan_back(rt: &impl Print, alloc: Global, table: Stored) -> Result<Stored> {
+    let mut scan = Rev::new(table.scan());
+    print_left_back(rt, alloc, &mut scan)?;
+    Ok(scan.into_inner().into_table())
 }
 
 /// Scans a table.
 pub fn table(rt: &impl Print, alloc: Global, times: u32, end: End) -> Result<()> {
     let mut table = table_of(alloc, &LONG)?;
     for _ in 0..times {
-        table = scan_once(rt, alloc, table, end)?;
+        table = match end {
+            End::Front => scan_forth(rt, alloc, table)?,
+            End::Back => scan_back(rt, alloc, table)?,
+        };
     }
     Ok(())
 }
@@ -55,7 +52,10 @@ fn scan_trusted(
     table.verify(alloc)?;
     let run = table.trusted();
     for _ in 0..times {
-        print_scan(rt, alloc, &mut run.scan(), end)?;
+        match end {
+            End::Front => print_left(rt, alloc, &mut run.scan())?,
+            End::Back => print_left_back(rt, alloc, &mut Rev::new(run.scan()))?,
+        }
     }
     Ok(())
 }

@@ -2,10 +2,10 @@
 use Rattle.std.specs.Prelude.{ℕ, Bool, List, Option, None}
 use Rattle.sst_base.specs.Entry.{Entry}
 use Rattle.sst_merge.specs.Compact.{compacted}
-use Rattle.sst_merge.specs.Merge.{order_by, merged}
+use Rattle.sst_merge.specs.Merge.{entry_cmp, merged}
 use Rattle.sst_merge.specs.Sources.{Left, all_left, left_as}
 
 -- the entries that stay of sources, the newest first: of their ordered merge those that a read at a sequence number or
 -- above can see, without the tombstones of these where nothing is below; known where all of the sources are
 abbrev pub staying : ℕ → Bool → List (Left Entry) → Option (List Entry)
-staying snapshot bottom sources = (left_as (compacted (λ e. e) snapshot bottom) None (all_left (merged (order_by (λ e. e))) None sources)).list
+staying snapshot bottom sources = (left_as (compacted (λ e. e) snapshot bottom) None (all_left (merged entry_cmp) None sources)).list

@@ -1,13 +1,13 @@
 //! Merges, snapshots and compactions of sources in memory.
 
-use super::sources::{merge_of, merged, merged_back, sources_of};
+use super::sources::{backs_of, merge_of, merged, merged_back, sources_of};
 use super::{drained, or_none};
 use sst_base::InternalValue;
 use sst_case_room::fault::{Fault, Result};
 use sst_case_room::room::Room;
 use sst_case_room::texts::agreed;
 use sst_case_room::words::{number_of, push_word, word_of, word_of_found};
-use sst_merge::{BackSource, Compact, Merge, Snapshot, Source};
+use sst_merge::{Compact, Merge, Reversed, Snapshot, Source};
 use std::alloc::Global;
 
 /// The number of the entries of all sources.
@@ -120,10 +120,13 @@ fn add_word(alloc: Global, words: &mut Vec<String>, entry: &InternalValue) -> Re
 }
 
 /// All that is left of a source from the back, as the words from the first to the last.
-pub fn drained_back<I: BackSource<InternalValue>>(alloc: Global, source: &mut I) -> Result<String> {
+pub fn drained_back<I: Source<Reversed<InternalValue>>>(
+    alloc: Global,
+    source: &mut I,
+) -> Result<String> {
     let mut words = Vec::new(alloc);
-    while let Some(entry) = source.next_entry_back(alloc)? {
-        add_word(alloc, &mut words, &entry)?;
+    while let Some(entry) = source.next_entry(alloc)? {
+        add_word(alloc, &mut words, &entry.into_inner())?;
     }
     reversed(alloc, words.as_slice())
 }
@@ -150,7 +153,7 @@ pub fn merge(alloc: Global, room: &Room) -> Result<String> {
         merged(alloc, sources_of(alloc, room)),
         by_turns(alloc, sources_of(alloc, room), total, true),
         by_turns(alloc, sources_of(alloc, room), total, false),
-        merged_back(alloc, sources_of(alloc, room)),
+        merged_back(alloc, backs_of(alloc, sources_of(alloc, room))),
     ];
     agreed(alloc, &found)
 }

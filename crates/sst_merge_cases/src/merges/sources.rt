@@ -5,7 +5,7 @@ use super::merging::drained_back;
 use sst_base::InternalValue;
 use sst_case_room::fault::Result;
 use sst_case_room::room::Room;
-use sst_merge::{BackSource, Head, Merge, MergeBack, Source, Tail};
+use sst_merge::{Head, Merge, Ranked, Rev, Reversed, Source};
 use std::alloc::Global;
 use std::vec;
 
@@ -31,10 +31,10 @@ pub fn sources_of(alloc: Global, room: &Room) -> Result<Vec<Memory>> {
 }
 
 /// The merge of sources, if they could be made.
-pub fn merge_of<I: Source<InternalValue> + Drop>(
+pub fn merge_of<T: Ranked + Drop, I: Source<T> + Drop>(
     alloc: Global,
     sources: Result<Vec<I>>,
-) -> Result<Merge<InternalValue, I>> {
+) -> Result<Merge<T, I>> {
     let mut heads = Vec::new(alloc);
     for source in sources? {
         heads.push(Head::new(alloc, source)?)?;
@@ -42,16 +42,13 @@ pub fn merge_of<I: Source<InternalValue> + Drop>(
     Ok(Merge::new(heads))
 }
 
-/// The merge of sources from the back, if they could be made.
-fn merge_back_of<I: BackSource<InternalValue> + Drop>(
-    alloc: Global,
-    sources: Result<Vec<I>>,
-) -> Result<MergeBack<InternalValue, I>> {
-    let mut tails = Vec::new(alloc);
-    for source in sources? {
-        tails.push(Tail::new(alloc, source)?)?;
+/// The backs of sources, if they could be made, the last source first.
+pub fn backs_of<I: Drop>(alloc: Global, sources: Result<Vec<I>>) -> Result<Vec<Rev<I>>> {
+    let mut backs = Vec::new(alloc);
+    for source in sources?.into_iter().rev() {
+        backs.push(Rev::new(source))?;
     }
-    Ok(MergeBack::new(tails))
+    Ok(backs)
 }
 
 /// The words of the merge of sources.
@@ -63,11 +60,11 @@ pub fn merged<I: Source<InternalValue> + Drop>(
     drained(alloc, &mut merge)
 }
 
-/// The same from the back.
-pub fn merged_back<I: BackSource<InternalValue> + Drop>(
+/// The same from the back, of which the sources are.
+pub fn merged_back<I: Source<Reversed<InternalValue>> + Drop>(
     alloc: Global,
     sources: Result<Vec<I>>,
 ) -> Result<String> {
-    let mut merge = merge_back_of(alloc, sources)?;
+    let mut merge = merge_of(alloc, sources)?;
     drained_back(alloc, &mut merge)
 }

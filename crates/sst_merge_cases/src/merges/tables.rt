@@ -3,7 +3,7 @@ ghost use Rattle.std.specs.Prelude.{Some, [], map};
 
 use super::merging::level_of;
 use super::or_none;
-use super::sources::{memory_of, merge_of, merged, merged_back, sources_of};
+use super::sources::{backs_of, memory_of, merge_of, merged, merged_back, sources_of};
 use sst_base::{BlockHash, HashRatio, InternalValue, Slice, Steps};
 use sst_case_room::fault::{Fault, Result};
 use sst_case_room::room::{KeptTable, Room};
@@ -234,7 +234,7 @@ fn by_scans<H: BlockHash>(alloc: Global, tables: &[KeptTable]) -> Result<String>
 
 /// The same from the back.
 fn by_scans_back<H: BlockHash>(alloc: Global, tables: &[KeptTable]) -> Result<String> {
-    merged_back(alloc, scans_of::<H>(alloc, tables))
+    merged_back(alloc, backs_of(alloc, scans_of::<H>(alloc, tables)))
 }
 
 /// Writes a list into tables, which are added.

@@ -1,6 +1,6 @@
 use Rattle.std.proofs.Common.{arith, ◌++◌, ◌∙◌}
 use Rattle.sst_merge.proofs.FrontNumbers.{key_front_is, bytes_joined}
-use Rattle.sst_merge.proofs.FrontOrder.{number_decides}
+use Rattle.sst_merge.specs.FrontLaws.{number_decides}
 use Rattle.sst_merge.proofs.front.front_of_key.Goals as goal
 
 pub returns-clause-value : goal.returns-clause-value
