@@ -11,6 +11,7 @@ mod hash;
 mod keys;
 mod limited;
 mod lines;
+mod long_keys;
 mod merge;
 mod merged;
 mod new_tables;

@@ -7,6 +7,7 @@ ghost use Rattle.sstable_blocks.specs.Run.{form, IsWritable};
 
 use crate::fault::{Fault, Result};
 use crate::hash::{TableHash, hash_in};
+use crate::long_keys::LongestKey;
 use crate::merged::{Files, Notes, Tables, Written, heads_of};
 use crate::new_tables::{Names, NewTables};
 use crate::progress::Progress;
@@ -21,13 +22,10 @@ use std::io;
 use std::io::Write;
 use std::rt::Clock;
 
-// How a table is written unless words say otherwise: restart intervals of 16, 10 filter bits a key,
-// and blocks that end at 4 KiB of encoded entries.
+// How a table is written unless words say otherwise: restart intervals of 16, 10 filter bits a key.
 const DEFAULT_INTERVAL: u8 = 16;
 
 const DEFAULT_BITS: u32 = 10;
-
-const DEFAULT_BLOCK: u64 = 4096;
 
 // There is no hash index.
 const NO_BUCKETS: HashRatio = HashRatio { num: 0, den: 1 };
@@ -42,13 +40,14 @@ pub struct TableForm {
 }
 
 impl TableForm {
-    /// Takes the form from the words. With no size of a table it ends when all is written.
-    pub fn of_words(words: &ArgMatches<'_>) -> TableForm
+    /// Takes the form from the words. With no size of a table it ends when all is written; with none
+    /// of a block that is fit for the longest key.
+    pub fn of_words(words: &ArgMatches<'_>, longest: &LongestKey) -> TableForm
         ensures { IsWritable result.config }
     {
         let interval = words.get_one::<u8>(INTERVAL).unwrap_or(DEFAULT_INTERVAL);
         let bits = words.get_one::<u32>(BITS).unwrap_or(DEFAULT_BITS);
-        let block = words.get_one::<u64>(BLOCK).unwrap_or(DEFAULT_BLOCK);
+        let block = words.get_one::<u64>(BLOCK).unwrap_or(longest.block_size());
         let table = words.get_one::<u64>(TABLE_SIZE).unwrap_or(u64::MAX);
         TableForm {
             config: RunConfig::new(interval.max(1), NO_BUCKETS, bits),
@@ -133,7 +132,8 @@ fn write_staying<T: Tables, N: BlockHash, R: LockFiles>(
     written: &mut NewTables<'_, '_, '_, R>,
 ) -> Result<sstable_blocks::Result<()>> {
     let heads = heads_of(tables, alloc, words.get_strs(FILE).unwrap_or(&[]))?;
-    let (reads, how) = (Reads::of_words(words), TableForm::of_words(words));
+    let reads = Reads::of_words(words);
+    let how = TableForm::of_words(words, &notes.longest);
     Ok(write_merged::<N, T::Entries, _>(alloc, heads, reads, notes, how, written))
 }
 

@@ -2,6 +2,7 @@
 ghost use Rattle.std.specs.Prelude.{◌≡◌, ◌+◌, length, OnOk, IfOk};
 
 use crate::fault::{Fault, Result};
+use crate::long_keys::LongestKey;
 use crate::open::{CountedFile, open, test_frames};
 use crate::ordered::{Direction, Ordered};
 use crate::progress::Progress;
@@ -25,6 +26,8 @@ pub struct Notes {
     pub written: Cell<u64>,
     /// The table of which a read failed, by its index.
     pub failed: Cell<Option<usize>>,
+    /// The longest key that a block of the tables ends with.
+    pub longest: LongestKey,
     /// Why a write of the new table failed, as the system says.
     pub cause: Cell<Option<io::Error>>,
 }
@@ -36,6 +39,7 @@ impl Notes {
             read: Cell::new(0),
             written: Cell::new(0),
             failed: Cell::new(None),
+            longest: LongestKey::new(),
             cause: Cell::new(None),
         }
     }
@@ -145,6 +149,7 @@ impl<'p, H: BlockHash, R> Files<'p, H, R> {
         let table = table?;
         test_frames(alloc, file, table.index())?;
         self.progress.expect_blocks(table.index().len() as u64);
+        self.notes.longest.see(table.index());
         let place = self.progress.place();
         let scanned = Scanned::new(table.scan(), Bound::Unbounded, Direction::Forward, place);
         Ok(Merged {

@@ -5,6 +5,7 @@ ghost use Rattle.sst_merge.specs.Sources.{TakesFirst};
 use crate::blocks::held_in;
 use crate::fault::{Fault, Result, Shown};
 use crate::frames::data_frames;
+use crate::long_keys::LongestKey;
 use crate::merge::{TableForm, end_tables, write_source};
 use crate::merged::count;
 use crate::new_tables::NewTables;
@@ -31,6 +32,8 @@ struct Notes {
     entries: Cell<u64>,
     blocks: Cell<u64>,
     lost: Cell<u64>,
+    // the longest key that a block ends with, where the index is read
+    longest: LongestKey,
     // why a write of the new table failed, as the system says
     cause: Cell<Option<io::Error>>,
 }
@@ -42,6 +45,7 @@ impl Notes {
             entries: Cell::new(0),
             blocks: Cell::new(0),
             lost: Cell::new(0),
+            longest: LongestKey::new(),
             cause: Cell::new(None),
         }
     }
@@ -179,10 +183,12 @@ impl<'p, 'w, H: BlockHash, S: FrameSource, R: Clock + Eprint> Source<InternalVal
 fn frames_by_index<H: BlockHash, S: SizedSource>(
     alloc: Global,
     source: &mut S,
+    longest: &LongestKey,
 ) -> sstable_blocks::Result<Vec<BlockHandle>> {
     let len = source.byte_len()?;
     let handles = read_footer(alloc, source, len)?;
     let index = index_block_from::<H, S>(alloc, source, &handles.index)?;
+    longest.see(&index);
     let mut found = Vec::new(alloc);
     for view in index.by_ref().handles() {
         found.push(view.handle())?;
@@ -222,8 +228,9 @@ fn frames_of<H: BlockHash, S: SizedSource, R: Clock + Eprint>(
     alloc: Global,
     file: &str,
     source: &mut S,
+    longest: &LongestKey,
 ) -> sstable_blocks::Result<Vec<BlockHandle>> {
-    let found = frames_by_index::<H, S>(alloc, source);
+    let found = frames_by_index::<H, S>(alloc, source, longest);
     match refusal_of(&found) {
         Some(error) => frames_by_headers::<H, S, R>(progress, alloc, file, source, error),
         None => found,
@@ -239,7 +246,7 @@ fn blocks_of<'p, 'w, H: BlockHash, S: SizedSource + Drop, R: Clock + Eprint>(
     notes: &'p Notes,
 ) -> sstable_blocks::Result<WholeBlocks<'p, 'w, H, S, R>> {
     let mut source = source;
-    let mut handles = frames_of::<H, S, R>(progress, alloc, file, &mut source)?;
+    let mut handles = frames_of::<H, S, R>(progress, alloc, file, &mut source, &notes.longest)?;
     handles.reverse();
     progress.expect_blocks(handles.len() as u64);
     Ok(WholeBlocks {
@@ -260,12 +267,13 @@ fn write_blocks<H: BlockHash, S: FrameSource + Drop, R: LockFiles + Clock + Epri
     words: &ArgMatches<'_>,
     tables: &mut NewTables<'_, '_, '_, R>,
 ) -> Result<()> {
+    let how = TableForm::of_words(words, &blocks.notes.longest);
     let salvaged = Salvaged {
         blocks,
         most: u64::MAX,
         ended: None,
     };
-    match write_source::<H, _, _>(alloc, salvaged, TableForm::of_words(words), tables) {
+    match write_source::<H, _, _>(alloc, salvaged, how, tables) {
         Ok(()) if tables.count() == 0 => Err(Fault::NoEntries),
         Ok(()) => Ok(()),
         Err(error) => Err(tables.fault(error)),

@@ -187,7 +187,7 @@ const REPLACED: Word = (FORCE, Kind::Flag, "Replace OUT where it is there");
 const BLOCK_SIZE: Word = (
     BLOCK,
     Kind::Number("SIZE"),
-    "The bytes of encoded entries at which a block ends; else 4096",
+    "The encoded bytes at which a block ends; else 4096, or twice the longest end key",
 );
 
 const RESTARTS: Word = (
