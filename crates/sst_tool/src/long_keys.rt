@@ -1,4 +1,4 @@
-//! The size of blocks where keys are long.
+//! How blocks are cut and encoded where keys are long.
 ghost use Rattle.std.specs.Prelude.{◌≤◌};
 
 use sstable_blocks::IndexBlock;
@@ -7,9 +7,13 @@ use std::cell::Cell;
 // At how many bytes of encoded entries a block ends, unless keys are longer.
 const BLOCK: u64 = 4096;
 
+// How many entries a restart interval has, unless keys are longer than a block.
+const INTERVAL: u8 = 16;
+
 /// The length of the longest key that a block ends with, of the tables whose index was seen. A block
-/// holds its first key whole, and the index its last one: where they are longer than a block, each
-/// entry has a block of its own, and is twice in the table, whatever it shares with the others.
+/// holds the first key of each restart interval whole, and the index its last one: where they are
+/// longer than a block, each entry would have a block of its own, and be twice in the table,
+/// whatever it shares with the others.
 #[derive(Drop)]
 pub struct LongestKey {
     len: Cell<u64>,
@@ -49,5 +53,17 @@ impl LongestKey {
         ensures { 4096 ≤ result }
     {
         size_for(self.len.get())
+    }
+
+    /// How many entries a restart interval of a new table has: 16, or 255 where a key is longer than
+    /// a block.
+    pub fn interval(&self) -> u8
+        ensures { 1 ≤ result }
+    {
+        if self.len.get() > BLOCK {
+            u8::MAX
+        } else {
+            INTERVAL
+        }
     }
 }

@@ -22,9 +22,7 @@ use std::io;
 use std::io::Write;
 use std::rt::Clock;
 
-// How a table is written unless words say otherwise: restart intervals of 16, 10 filter bits a key.
-const DEFAULT_INTERVAL: u8 = 16;
-
+// The filter bits a key, unless words say otherwise.
 const DEFAULT_BITS: u32 = 10;
 
 // There is no hash index.
@@ -41,11 +39,11 @@ pub struct TableForm {
 
 impl TableForm {
     /// Takes the form from the words. With no size of a table it ends when all is written; with none
-    /// of a block that is fit for the longest key.
+    /// of a block and no interval they are those that are fit for the longest key.
     pub fn of_words(words: &ArgMatches<'_>, longest: &LongestKey) -> TableForm
         ensures { IsWritable result.config }
     {
-        let interval = words.get_one::<u8>(INTERVAL).unwrap_or(DEFAULT_INTERVAL);
+        let interval = words.get_one::<u8>(INTERVAL).unwrap_or(longest.interval());
         let bits = words.get_one::<u32>(BITS).unwrap_or(DEFAULT_BITS);
         let block = words.get_one::<u64>(BLOCK).unwrap_or(longest.block_size());
         let table = words.get_one::<u64>(TABLE_SIZE).unwrap_or(u64::MAX);

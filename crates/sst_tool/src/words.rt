@@ -193,7 +193,7 @@ const BLOCK_SIZE: Word = (
 const RESTARTS: Word = (
     INTERVAL,
     Kind::Byte("N"),
-    "The entries of a restart interval, 1 to 255; else 16",
+    "The entries of a restart interval, 1 to 255; else 16, or 255 for keys above 4096",
 );
 
 const FILTER_BITS: Word = (
