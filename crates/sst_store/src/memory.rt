@@ -9,7 +9,7 @@ ghost use Rattle.sst_merge.specs.Snapshot.{seen};
 ghost use Rattle.sst_store.specs.Levels.{ArePlain};
 
 use sst_base::{InternalValue, SeqNo};
-use sst_merge::Version;
+use sst_merge::{Ranked, Version};
 
 // The index at which a version goes into an ordered list: before the first one that does not sort
 // before it.

@@ -10,7 +10,7 @@ use sst_case_room::fault::{Fault, Result};
 use sst_case_room::room::Room;
 use sst_case_room::words::{bytes_of, entry_of, hex_of, push_word, word_of};
 use sst_merge::front::front_of_key;
-use sst_merge::{Source, Version};
+use sst_merge::{Ranked, Source};
 use std::alloc::Global;
 
 /// Appends the word of an entry.
