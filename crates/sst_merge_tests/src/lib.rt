@@ -8,6 +8,8 @@ mod failing;
 #[cfg(test)]
 mod lists;
 #[cfg(test)]
+mod many;
+#[cfg(test)]
 mod stores;
 #[cfg(test)]
 mod tables;
