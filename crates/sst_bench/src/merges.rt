@@ -28,16 +28,17 @@ pub(crate) struct Stored {
     handles: RunHandles,
 }
 
-// Each entry of a list that is so many after the last, from an index on.
-fn every(
+// The entries of a list of which this part is, by their sequence numbers: these are random, so no
+// processor learns from which part of all the next entry comes.
+fn part_of(
     alloc: Global,
     items: &[InternalValue],
-    first: usize,
-    step: usize,
+    number: usize,
+    parts: usize,
 ) -> Option<Vec<InternalValue>> {
     let mut part = Vec::new(alloc);
-    for (i, entry) in items.iter().enumerate() {
-        if i % step.max(1) == first {
+    for entry in items {
+        if entry.key().seqno() as usize % parts.max(1) == number {
             part.push(entry.clone().ok()?).ok()?;
         }
     }
@@ -55,8 +56,8 @@ fn runs_of(
     requires { 1 ≤ config.index_interval }
 {
     let mut runs = Vec::new(alloc);
-    for first in 0..tables {
-        let part = every(alloc, items, first, tables)?;
+    for number in 0..tables {
+        let part = part_of(alloc, items, number, tables)?;
         let (bytes, handles) = run_of(alloc, part.as_slice(), per_block, config)?;
         runs.push(Stored { bytes, handles }).ok()?;
     }
