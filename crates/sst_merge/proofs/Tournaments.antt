@@ -1,6 +1,6 @@
 -- Tournaments: who stands at place 1 goes first of all, and what a step of its source leaves.
 use Rattle.std.proofs.Common.{◌≡◌, ◌≢◌, ℕ, zero, suc, ◌+◌, ◌-◌, ◌*◌, ◌/◌, ◌<◌, ◌≤◌, ◌⊎◌, inl, inr, Bool, true, false, not, cond, nat_lt, List, [], ◌∷◌, length, map, get_or, slice_index, Option, Some, None, refl, sym, ap, subst, ◌∙◌, arith}
-use Rattle.std.proofs.lemmas.Bool.{cases_Bool, cases_lt, lt-ltb, le-ltb, ltb-true, ltb-false}
+use Rattle.std.proofs.lemmas.Bool.{cases_Bool, cases_lt, lt-ltb, le-ltb, ltb-false}
 use Rattle.std.proofs.lemmas.List.{get_or-map, get_or-set_other, get_or-set_same, length-map, length-set, map-set}
 use Rattle.std.proofs.Math.ListN.{set}
 use Rattle.std.specs.Cmp.{IsTotalOrder}
@@ -9,13 +9,26 @@ use Rattle.std.specs.declared.cmp.Ordering.{Ordering}
 use Rattle.std.specs.declared.cmp.Ordering.TheVariants.{Less, Equal, Greater}
 use Rattle.sst_merge.specs.MergeReads.{ge_trans, is_not_lt, not_lt}
 use Rattle.sst_merge.specs.Picks.{IsPick, goes, least, list_at, wins, wins_nil}
-use Rattle.sst_merge.specs.Sources.{Left, all_known, lists_left}
+use Rattle.sst_merge.specs.Sources.{Left, lists_left}
 use Rattle.sst_merge.specs.SourceLaws.{known_at, lists_length}
 use Rattle.sst_merge.specs.Tournament.{ArePlaces, AreSeats, IsAbove, IsFirstOf, IsTournament, Leads, halved, known_list}
 
-no_both : (b : Bool) → b ≡ true → b ≡ false → ⊥
-no_both true p q = absurd (cc)
-no_both false p q = absurd (cc)
+not_true : (b : Bool) → not b ≡ true → b ≡ false
+not_true true h = absurd (cc)
+not_true false h = refl
+
+not_false : (b : Bool) → not b ≡ false → b ≡ true
+not_false true h = refl
+not_false false h = absurd (cc)
+
+same_or : (m n : ℕ) → (m ≡ n) ⊎ (m ≢ n)
+same_or m n = elim (cases_lt m n) [
+  | inl less ↦ inr (λ e. omega (arith, less, e))
+  | inr more ↦ elim (cases_lt n m) [
+    | inl less ↦ inr (λ e. omega (arith, less, e))
+    | inr same ↦ inl (omega (arith, more, same))
+  ]
+]
 
 module _ {X : Type 0} (cmp : X → X → Ordering) (order : IsTotalOrder cmp) where
   turned : (x y : X) (o : Ordering) → cmp x y ≡ o → is_lt o ≡ true → not (is_lt (cmp y x)) ≡ true
@@ -29,20 +42,12 @@ module _ {X : Type 0} (cmp : X → X → Ordering) (order : IsTotalOrder cmp) wh
   wins_trans xs [] (z ∷ zs) p q = absurd (cc)
   wins_trans [] (y ∷ ys) (z ∷ zs) p q = absurd (cc)
   wins_trans (x ∷ xs) (y ∷ ys) (z ∷ zs) p q =
-      ap not (is_not_lt (cmp z x) (ge_trans cmp order z y x (not_lt (cmp z y) (flipped (is_lt (cmp z y)) q)) (not_lt (cmp y x) (flipped (is_lt (cmp y x)) p))))
-    where
-      flipped : (b : Bool) → not b ≡ true → b ≡ false
-      flipped true h = absurd (cc)
-      flipped false h = refl
+      ap not (is_not_lt (cmp z x) (ge_trans cmp order z y x (not_lt (cmp z y) (not_true (is_lt (cmp z y)) q)) (not_lt (cmp y x) (not_true (is_lt (cmp y x)) p))))
 
   wins_total : (xs ys : List X) → not (wins cmp ys xs) ≡ true → wins cmp xs ys ≡ true
   wins_total xs [] h = wins_nil cmp xs
   wins_total [] (y ∷ ys) h = absurd (cc)
-  wins_total (x ∷ xs) (y ∷ ys) h = turned x y (cmp x y) refl (twice (is_lt (cmp x y)) h)
-    where
-      twice : (b : Bool) → not (not b) ≡ true → b ≡ true
-      twice true e = refl
-      twice false e = absurd (cc)
+  wins_total (x ∷ xs) (y ∷ ys) h = turned x y (cmp x y) refl (not_false (is_lt (cmp x y)) (not_true (not (is_lt (cmp x y))) h))
 
   wins_itself : (xs : List X) → wins cmp xs xs ≡ true
   wins_itself xs = elim (cases_Bool (wins cmp xs xs)) [
@@ -89,12 +94,8 @@ module _ {X : Type 0} (cmp : X → X → Ordering) (order : IsTotalOrder cmp) wh
     | inr more ↦
         (let less = lt-ltb j i (omega (arith, more, n)) in
         let lost : not (wins cmp ys xs) ≡ false = ap (λ later. goes cmp later xs ys) (sym less) ∙ sym e ∙ f in
-        ap (λ later. goes cmp later ys xs) (le-ltb i j more) ∙ kept (wins cmp ys xs) lost)
+        ap (λ later. goes cmp later ys xs) (le-ltb i j more) ∙ not_false (wins cmp ys xs) lost)
   ]
-    where
-      kept : (b : Bool) → not b ≡ false → b ≡ true
-      kept true h = refl
-      kept false h = absurd (cc)
 
   known_of : (lefts : List (Left X)) (i : ℕ) (l : Left X) (xs : List X) → i < length lefts → l ≡ get_or lefts i l → known_list lefts i ≡ Some xs → l.list ≡ Some xs
   known_of lefts i l xs inside is known =
@@ -113,21 +114,12 @@ module _ {X : Type 0} (cmp : X → X → Ordering) (order : IsTotalOrder cmp) wh
   better_is lefts i j a b false p q e f told = record {
     inside = q;
     one = inr refl;
-    before_i = λ ys xs y x. elim (cases_same i j) [
+    before_i = λ ys xs y x. elim (same_or i j) [
       | inl same ↦ subst (λ m. goes cmp (nat_lt m j) ys xs ≡ true) (sym same) (itself lefts j ys xs y (ap (known_list lefts) (sym same) ∙ x))
       | inr differ ↦ other_way i j xs ys false (told xs ys (known_of lefts i a xs p e x) (known_of lefts j b ys q f y)) refl differ
     ];
     before_j = itself lefts j;
   }
-    where
-      cases_same : (m n : ℕ) → (m ≡ n) ⊎ (m ≢ n)
-      cases_same m n = elim (cases_lt m n) [
-        | inl less ↦ inr (λ e. omega (arith, less, e))
-        | inr more ↦ elim (cases_lt n m) [
-          | inl less ↦ inr (λ e. omega (arith, less, e))
-          | inr same ↦ inl (omega (arith, more, same))
-        ]
-      ]
 
   lt_suc : (a b : ℕ) → nat_lt (suc a) (suc b) ≡ nat_lt a b
   lt_suc a b = elim (cases_lt a b) [
@@ -152,12 +144,8 @@ module _ {X : Type 0} (cmp : X → X → Ordering) (order : IsTotalOrder cmp) wh
       ]
   least_by (xs ∷ xss) (suc q) inside all =
       let place : q ≡ least cmp xss = least_by xss q (omega arith) (λ j n. ap (λ later. goes cmp later (list_at xss q) (list_at xss j)) (sym (lt_suc j q)) ∙ all (suc j) (omega (arith, n))) in
-      let lost : wins cmp xs (list_at xss q) ≡ false = kept (wins cmp xs (list_at xss q)) (ap (λ later. goes cmp later (list_at xss q) xs) (sym (lt-ltb 0 (suc q) (omega arith))) ∙ all zero (omega arith)) in
+      let lost : wins cmp xs (list_at xss q) ≡ false = not_true (wins cmp xs (list_at xss q)) (ap (λ later. goes cmp later (list_at xss q) xs) (sym (lt-ltb 0 (suc q) (omega arith))) ∙ all zero (omega arith)) in
       ap suc place ∙ sym (ap {B = ℕ} (λ b. cond b 0 (suc (least cmp xss))) (ap (λ m. wins cmp xs (list_at xss m)) (sym place) ∙ lost))
-    where
-      kept : (b : Bool) → not b ≡ true → b ≡ false
-      kept true h = absurd (cc)
-      kept false h = refl
 
   -- this source goes before those at the first indexes, where the lists of all are known
   abbrev pub GoesFirst : List (Left X) → ℕ → ℕ → Type 0
@@ -374,15 +362,6 @@ module _ {X : Type 0} (cmp : X → X → Ordering) (order : IsTotalOrder cmp) wh
           ];
         }
       where
-        same_or : (m n : ℕ) → (m ≡ n) ⊎ (m ≢ n)
-        same_or m n = elim (cases_lt m n) [
-          | inl less ↦ inr (λ e. omega (arith, less, e))
-          | inr more ↦ elim (cases_lt n m) [
-            | inl less ↦ inr (λ e. omega (arith, less, e))
-            | inr same ↦ inl (omega (arith, more, same))
-          ]
-        ]
-
         transported : {a b c d e f : ℕ} → a ≡ d → b ≡ e → c ≡ f → IsFirstOf cmp lefts a b c → IsFirstOf cmp lefts d e f
         transported {b = b} {c = c} {d = d} {e = e} p q r h = subst (λ z. IsFirstOf cmp lefts d e z) r (subst (λ y. IsFirstOf cmp lefts d y c) q (subst (λ x. IsFirstOf cmp lefts x b c) p h))
 

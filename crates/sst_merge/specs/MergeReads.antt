@@ -9,7 +9,7 @@ use Rattle.std.specs.declared.cmp.Ordering.TheVariants.{Less, Equal, Greater}
 use Rattle.sst_base.specs.Order.{IsInOrder}
 use Rattle.sst_merge.specs.Merge.{merge, merge_after, lesser}
 
-lt_is : (o : Ordering) → is_lt o ≡ true → o ≡ Less
+pub lt_is : (o : Ordering) → is_lt o ≡ true → o ≡ Less
 lt_is Less h = refl
 lt_is Equal h = absurd (cc)
 lt_is Greater h = absurd (cc)
@@ -34,7 +34,7 @@ module _ {X : Type 0} (cmp : X → X → Ordering) (order : IsTotalOrder cmp) wh
   pub ge_trans : (z y x : X) → cmp z y ≢ Less → cmp y x ≢ Less → cmp z x ≢ Less
   ge_trans z y x a b = ge_by z y x (cmp y x) refl a b
 
-  order_tail : (x : X) (xs : List X) → IsInOrder cmp (x ∷ xs) → IsInOrder cmp xs
+  pub order_tail : (x : X) (xs : List X) → IsInOrder cmp (x ∷ xs) → IsInOrder cmp xs
   order_tail x [] h = tt
   order_tail x (y ∷ ys) h = h.1
 

@@ -4,23 +4,13 @@ use Rattle.std.proofs.lemmas.Bool.{cases_Bool}
 use Rattle.std.proofs.lemmas.List.{reverse-append}
 use Rattle.std.specs.Cmp.{IsTotalOrder, back_total}
 use Rattle.std.specs.List.{AllByRecursion}
-use Rattle.std.specs.Ordering.{flip_args, is_lt, ordering_reverse}
+use Rattle.std.specs.Ordering.{flip_args, is_lt}
 use Rattle.std.specs.declared.cmp.Ordering.{Ordering}
-use Rattle.std.specs.declared.cmp.Ordering.TheVariants.{Less, Equal, Greater}
+use Rattle.std.specs.declared.cmp.Ordering.TheVariants.{Less}
 use Rattle.sst_merge.specs.Merge.{merge, merged}
-use Rattle.sst_merge.specs.MergeReads.{ge_trans, is_not_lt}
+use Rattle.sst_merge.specs.MergeReads.{ge_trans, is_not_lt, lt_is, not_lt, order_tail}
 use Rattle.sst_merge.specs.MergeLaws.{merge-nil, merge-first, merge-second, merge-ordered}
 use Rattle.sst_base.specs.Order.{IsInOrder}
-
-not_lt : (o : Ordering) → is_lt o ≡ false → o ≢ Less
-not_lt Less h e = absurd (cc)
-not_lt Equal h e = absurd (cc)
-not_lt Greater h e = absurd (cc)
-
-lt_is : (o : Ordering) → is_lt o ≡ true → o ≡ Less
-lt_is Less h = refl
-lt_is Equal h = absurd (cc)
-lt_is Greater h = absurd (cc)
 
 push_reverse : {X : Type 0} (x : X) (xs : List X) → reverse (x ∷ xs) ≡ reverse xs ++ x ∷ []
 push_reverse x xs = reverse-append (x ∷ []) xs
@@ -54,10 +44,6 @@ module _ {X : Type 0} (cmp : X → X → Ordering) where
   ]
 
   module _ (order : IsTotalOrder cmp) where
-    tail_of : (x : X) (xs : List X) → IsInOrder cmp (x ∷ xs) → IsInOrder cmp xs
-    tail_of x [] h = tt
-    tail_of x (y ∷ ys) h = h.1
-
     lt_step : (y x z : X) → is_lt (cmp y x) ≡ true → cmp z x ≢ Less → is_lt (cmp y z) ≡ true
     lt_step y x z h up = elim (cases_Bool (is_lt (cmp y z))) [
       | inl less ↦ less
@@ -122,12 +108,12 @@ module _ {X : Type 0} (cmp : X → X → Ordering) (order : IsTotalOrder cmp) wh
   reverse_merge (x ∷ xs) (y ∷ ys) a b = elim (cases_Bool (is_lt (cmp y x))) [
     | inl second ↦
         ap reverse (merge-second cmp x y xs ys second) ∙ push_reverse y (merge cmp (x ∷ xs) ys)
-        ∙ ap (λ zs. zs ++ y ∷ []) (reverse_merge (x ∷ xs) ys a (tail_of cmp order y ys b))
+        ∙ ap (λ zs. zs ++ y ∷ []) (reverse_merge (x ∷ xs) ys a (order_tail cmp order y ys b))
         ∙ sym (last_first (flip_args cmp) (reverse ys) y (reverse (x ∷ xs)) (all_reverse (λ z. is_lt (cmp y z) ≡ true) (x ∷ xs) (before_all cmp order y x xs second a)))
         ∙ ap (λ zs. merge (flip_args cmp) zs (reverse (x ∷ xs))) (sym (push_reverse y ys))
     | inr first ↦
         ap reverse (merge-first cmp x y xs ys first) ∙ push_reverse x (merge cmp xs (y ∷ ys))
-        ∙ ap (λ zs. zs ++ x ∷ []) (reverse_merge xs (y ∷ ys) (tail_of cmp order x xs a) b)
+        ∙ ap (λ zs. zs ++ x ∷ []) (reverse_merge xs (y ∷ ys) (order_tail cmp order x xs a) b)
         ∙ sym (last_second (flip_args cmp) (reverse (y ∷ ys)) (reverse xs) x (all_reverse (λ z. is_lt (cmp z x) ≡ false) (y ∷ ys) (none_before cmp order x y ys (not_lt (cmp y x) first) b)))
         ∙ ap (merge (flip_args cmp) (reverse (y ∷ ys))) (sym (push_reverse x xs))
   ]

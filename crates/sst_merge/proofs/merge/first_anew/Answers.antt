@@ -1,4 +1,4 @@
-use Rattle.std.proofs.Common.{◌+◌, ◌≡◌, arith, length, subst}
+use Rattle.std.proofs.Common.{◌≡◌, arith, length, subst}
 use Rattle.sst_merge.proofs.Tournaments.{GoesFirst, first_alone, first_more, pick_by}
 use Rattle.sst_merge.proofs.merge.first_anew.Goals as goal
 
