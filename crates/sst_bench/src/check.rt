@@ -3,7 +3,7 @@
 use crate::REFUSED;
 use crate::hash::Hash;
 use sst_base::{Block, BlockType, Slice};
-use sst_block_kinds::{DataBlock, IndexBlock};
+use sst_block_core::{DataBlock, IndexBlock};
 use std::alloc::Global;
 
 // The block of a payload, which is copied.

@@ -12,8 +12,7 @@ use crate::hash::Hash;
 use crate::keys::keys_in;
 use crate::sums::{entry_sum, found_sum, item_sum, next_sum};
 use sst_base::{Block, BlockType, HashRatio, InternalValue, SeqNo, Slice, Steps};
-use sst_block_core::ParsedItem;
-use sst_block_kinds::DataBlock;
+use sst_block_core::{DataBlock, ParsedItem};
 use std::alloc::Global;
 
 // Above the sequence number of each entry that is read here, so that every version is visible.

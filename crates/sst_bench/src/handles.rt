@@ -12,7 +12,7 @@
 
 use crate::entries::{bytes_in, u16_in, u32_in, u64_in};
 use sst_base::{BlockHandle, BlockOffset, Slice};
-use sst_block_kinds::KeyedBlockHandle;
+use sst_block_core::KeyedBlockHandle;
 use std::alloc::Global;
 
 // The handle at the start of bytes, and the bytes after it.

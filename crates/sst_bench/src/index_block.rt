@@ -5,7 +5,7 @@
 ghost use Rattle.std.specs.Prelude.{◌≤◌, length, OnSome, IfSome};
 ghost use Rattle.std.specs.List.{AllByRecursion};
 ghost use Rattle.sst_block_core.specs.Kind.{IsOrdered};
-ghost use Rattle.sst_block_kinds.specs.Handles.{EndFits, handles};
+ghost use Rattle.sst_block_core.specs.Handles.{EndFits, handles};
 
 use crate::REFUSED;
 use crate::data_block::copy_front;
@@ -13,7 +13,7 @@ use crate::handles::handles_in;
 use crate::keys::keys_in;
 use crate::sums::{handle_sum, next_handle_sum};
 use sst_base::{Block, BlockType, SeqNo, Slice};
-use sst_block_kinds::{IndexBlock, KeyedBlockHandle};
+use sst_block_core::{IndexBlock, KeyedBlockHandle};
 use std::alloc::Global;
 
 // The handles, if a block can be encoded from them.

@@ -19,7 +19,7 @@ use crate::hash::Hash;
 use crate::keys::keys_in;
 use crate::sums::found_sum;
 use sst_base::{HashRatio, InternalValue, Slice, Steps};
-use sst_block_kinds::DataBlock;
+use sst_block_core::DataBlock;
 use sstable_blocks::{RunConfig, RunHandles, cuts_fit, read_entry, write_run};
 use std::alloc::Global;
 

@@ -1,8 +1,8 @@
 //! Sums of the parts of items and entries, modulo 2^64: what calls that read return.
 use sst_base::InternalValue;
 use sst_base::table::util::SliceIndexes;
-use sst_block_kinds::table::data_block::EntryView;
-use sst_block_kinds::{DataBlockParsedItem, IndexBlockParsedItem};
+use sst_block_core::table::data_block::EntryView;
+use sst_block_core::{DataBlockParsedItem, IndexBlockParsedItem};
 
 // Start and end of a range, each times a factor.
 #[inline(always)]

@@ -2,7 +2,7 @@
 
 use sst_base::table::block::{Block, BlockType};
 use sst_base::{BlockHash, Error};
-use sst_block_kinds::{DataBlock, DataBlockRef, IndexBlock, IndexBlockRef};
+use sst_block_core::{DataBlock, DataBlockRef, IndexBlock, IndexBlockRef};
 use sst_case_room::changes::changed;
 use sst_case_room::digest::Digest;
 use sst_case_room::fault::{Fault, Result};

@@ -3,3 +3,4 @@ mod Heads
 mod Search
 mod Places
 mod Writing
+mod Items

@@ -4,7 +4,7 @@ use Rattle.std.specs.Ordering.{nat_cmp, is_lt}
 use Rattle.std.specs.Cmp.Lexicographic.{slice_cmp}
 use Rattle.sst_base.specs.declared.value_type.ValueType.TheVariants.{Value, Tombstone}
 use Rattle.sst_base.specs.Entry.{Entry}
-use Rattle.sst_block_kinds.specs.Handles.{Handle}
+use Rattle.sst_block_core.specs.Handles.{Handle}
 use Rattle.sst_block_core.specs.Window.{Answer, item}
 
 abbrev pub put : List ℕ → List ℕ → ℕ → Entry

@@ -4,8 +4,8 @@ ghost use Rattle.std.specs.Prelude.{◌≡◌, ◌+◌, ◌≤◌, length, IsTru
 ghost use Rattle.sst_block_core.specs.Candidates.{scan_cost};
 
 use sst_base::Poly31;
-use sst_block_kinds::table::data_block::{IntoEntries, Iter};
-use sst_block_kinds::table::index_block;
+use sst_block_core::table::data_block::{IntoEntries, Iter};
+use sst_block_core::table::index_block;
 
 /// Takes the first entry left: an entry is counted where there is one, and no head.
 pub fn next_counts_one(iter: &mut Iter<'_>) -> bool

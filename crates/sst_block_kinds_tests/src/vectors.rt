@@ -8,7 +8,7 @@ ghost use Rattle.sst_base.specs.declared.error.Error.TheVariants.{Truncated, Bad
 ghost use Rattle.sst_base.specs.declared.error.Error.TheVariants.{OutOfOrder, BadIndex};
 ghost use Rattle.sst_base.specs.declared.error.Error.TheVariants.{BadHashIndex};
 ghost use Rattle.sst_base.specs.declared.error.Error.TheVariants.{BadHandle};
-ghost use Rattle.sst_block_kinds.specs.Checks.{data_check, index_check};
+ghost use Rattle.sst_block_core.specs.Checks.{data_check, index_check};
 ghost use Rattle.sst_block_kinds_tests.specs.Vectors.{ac, far_handle_block, short_prefix_block};
 ghost use Rattle.sst_block_core.specs.Body.{body};
 ghost use Rattle.sst_block_core.specs.Trailer.{trailer_in};
@@ -16,7 +16,7 @@ ghost use Rattle.sst_block_core.specs.Buckets.{bucket_byte, bucket_count};
 ghost use Rattle.sst_block_core.specs.Stages.{HasTrailer, HasParts, HasForms, HasOrder};
 ghost use Rattle.sst_block_core.specs.Stages.{HasPointers, HasBuckets};
 ghost use Rattle.sst_block_core.specs.Entries.{entries, data_payload};
-ghost use Rattle.sst_block_kinds.specs.Handles.{handles, index_payload};
+ghost use Rattle.sst_block_core.specs.Handles.{handles, index_payload};
 ghost use Rattle.sst_block_core.specs.Window.{found, whole, answers, next, next_back, seek};
 ghost use Rattle.sst_block_core.specs.Window.{seek_exclusive, seek_upper, seek_upper_exclusive};
 ghost use Rattle.sst_block_core.specs.Window.{seek_to_offset, seek_index, seek_upper_index};

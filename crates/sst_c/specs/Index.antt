@@ -6,7 +6,7 @@ use Rattle.sst_base.specs.declared.error.Error.{Error}
 use Rattle.sst_base.specs.declared.error.Error.TheVariants.{TooLong, Memory}
 use Rattle.sst_block_core.specs.Kind.{IsOrdered}
 use Rattle.sst_block_core.specs.Window.{count_passed}
-use Rattle.sst_block_kinds.specs.Handles.{Handle, handles, index_payload, EndFits, IsIndexBlock}
+use Rattle.sst_block_core.specs.Handles.{Handle, handles, index_payload, EndFits, IsIndexBlock}
 use Rattle.sst_c.specs.Given.{AreKept, IsWritten}
 use Rattle.sst_c.specs.declared.codes.Status.{Status}
 use Rattle.sst_c.specs.declared.codes.Status.TheVariants.{Done, Failed, NotFound, BadArgument}

@@ -6,8 +6,8 @@ ghost use Rattle.sst_block_core.specs.Entries.{entries};
 ghost use Rattle.sst_block_core.specs.Found.{IsOptionalRange, optional_range};
 ghost use Rattle.sst_block_core.specs.Stages.{items_in};
 ghost use Rattle.sst_block_core.specs.Window.{first_match};
-ghost use Rattle.sst_block_kinds.specs.Checks.{data_check};
-ghost use Rattle.sst_block_kinds.specs.ParsedEntry.{entry_of, IsParsedEntry};
+ghost use Rattle.sst_block_core.specs.Checks.{data_check};
+ghost use Rattle.sst_block_core.specs.ParsedEntry.{entry_of, IsParsedEntry};
 ghost use Rattle.sst_c.specs.Blocks.{bytes_at, IsAnswer, IsDataBlock, IsFind, IsPlaceOf};
 ghost use Rattle.sst_c.specs.Checks.{IsCheck};
 ghost use Rattle.sst_c.specs.Codes.{code_of};
@@ -22,7 +22,7 @@ use crate::entries::{SstEntry, items_of};
 use crate::output::write_bytes;
 use sst_base::table::util::SliceIndexes;
 use sst_base::{HashRatio, SeqNo, Steps};
-use sst_block_kinds::table::data_block::{
+use sst_block_core::table::data_block::{
     DataBlock, DataBlockParsedItem, DataBlockRef, EntryParts,
 };
 use sstable_blocks::Xxh3;

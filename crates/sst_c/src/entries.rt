@@ -7,7 +7,7 @@ ghost use Rattle.sst_c.specs.declared.codes.Status.TheVariants.{Failed, BadArgum
 
 use crate::codes::Status;
 use sst_base::{Error, ValueType};
-use sst_block_kinds::table::data_block::EntryParts;
+use sst_block_core::table::data_block::EntryParts;
 use std::alloc::Global;
 
 /// An entry: its key of 1 to 65535 bytes, its value of at most 2^32 - 1 bytes, its sequence number,

@@ -9,7 +9,7 @@ use crate::codes::Status;
 use sst_base::key::MAX_KEY_LEN;
 use sst_base::table::block::{BlockHandle, BlockOffset};
 use sst_base::{Error, Slice};
-use sst_block_kinds::KeyedBlockHandle;
+use sst_block_core::KeyedBlockHandle;
 use std::alloc::Global;
 
 /// A handle of a data block: the key and the sequence number of its last entry, and where its frame

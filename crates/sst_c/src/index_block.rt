@@ -1,8 +1,8 @@
 //! Index blocks.
 ghost use Rattle.std.specs.Prelude.{◌≡◌, ◌⊎◌, ◌^◌, length, map, IfOk, IfErr};
 ghost use Rattle.sst_block_core.specs.Stages.{items_in};
-ghost use Rattle.sst_block_kinds.specs.Checks.{index_check};
-ghost use Rattle.sst_block_kinds.specs.Handles.{handles};
+ghost use Rattle.sst_block_core.specs.Checks.{index_check};
+ghost use Rattle.sst_block_core.specs.Handles.{handles};
 ghost use Rattle.sst_c.specs.Checks.{IsCheck};
 ghost use Rattle.sst_c.specs.Codes.{code_of};
 ghost use Rattle.sst_base.specs.declared.error.Error.TheVariants.{Memory};
@@ -17,8 +17,8 @@ use crate::output::write_bytes;
 use sst_base::table::block::BlockHandle;
 use sst_base::{SeqNo, Steps};
 use sst_block_core::table::block::bound::Bound;
-use sst_block_kinds::table::index_block::IndexBlockRef;
-use sst_block_kinds::{IndexBlock, KeyedBlockHandle};
+use sst_block_core::table::index_block::IndexBlockRef;
+use sst_block_core::{IndexBlock, KeyedBlockHandle};
 use std::alloc::Global;
 
 /// Where the frame of a block is.

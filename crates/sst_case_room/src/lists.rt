@@ -4,7 +4,7 @@ use crate::fault::{Fault, Result};
 use crate::room::Room;
 use crate::words::{alike, entry_of, entry_with, small_of, truth, wide_of};
 use sst_base::{BlockHash, InternalValue, ValueType};
-use sst_block_kinds::{DataBlock, EntryParts};
+use sst_block_core::{DataBlock, EntryParts};
 use std::alloc::Global;
 
 /// The number of entries of the list.

@@ -3,7 +3,7 @@
 use crate::fault::{Fault, Result};
 use sst_base::table::block::{Block, BlockType};
 use sst_base::{InternalValue, Slice};
-use sst_block_kinds::KeyedBlockHandle;
+use sst_block_core::KeyedBlockHandle;
 use sstable_blocks::RunHandles;
 use std::alloc::Global;
 

@@ -3,7 +3,7 @@
 use crate::index_block;
 use sst_base::table::block::{BlockHandle, BlockOffset};
 use sst_base::{Error, Slice};
-use sst_block_kinds::{IndexBlock, KeyedBlockHandle};
+use sst_block_core::{IndexBlock, KeyedBlockHandle};
 use sst_case_room::fault::{Fault, Result};
 use sst_case_room::room::Room;
 use sst_case_room::texts::word_of_table;

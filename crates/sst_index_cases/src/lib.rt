@@ -5,7 +5,7 @@ mod handles;
 mod walks;
 
 use sst_base::table::block::BlockType;
-use sst_block_kinds::IndexBlock;
+use sst_block_core::IndexBlock;
 use sst_case_room::fault::Result;
 use sst_case_room::room::{Room, block_with};
 use std::alloc::Global;

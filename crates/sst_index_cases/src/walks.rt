@@ -1,15 +1,15 @@
 //! Commands on iterators over index blocks: seeks and steps, by each kind of iterator.
 ghost use Rattle.std.specs.Prelude.{◌≡◌, IfSome};
-ghost use Rattle.sst_block_kinds.specs.ParsedHandle.{IsParsedHandle};
+ghost use Rattle.sst_block_core.specs.ParsedHandle.{IsParsedHandle};
 
 use crate::handles::word_of;
 use crate::index_block;
 use sst_base::Slice;
 use sst_base::table::block::BlockHandle;
-use sst_block_kinds::table::index_block::{
+use sst_block_core::table::index_block::{
     Answer, HandleRef, HandleView, Handles, IndexOp, Iter, walk,
 };
-use sst_block_kinds::{IndexBlock, IndexBlockParsedItem, IndexBlockRef, KeyedBlockHandle};
+use sst_block_core::{IndexBlock, IndexBlockParsedItem, IndexBlockRef, KeyedBlockHandle};
 use sst_case_room::digest::Digest;
 use sst_case_room::fault::{Fault, Result};
 use sst_case_room::room::Room;

@@ -8,7 +8,7 @@ use Rattle.sst_base.specs.declared.error.Error.{Error}
 use Rattle.sst_merge.specs.Merge.{entry_cmp}
 use Rattle.sst_base.specs.declared.error.Error.TheVariants.{BadHandle}
 use Rattle.sst_base.specs.BlockHandle.{HandleParts}
-use Rattle.sst_block_kinds.specs.Handles.{Handle}
+use Rattle.sst_block_core.specs.Handles.{Handle}
 use Rattle.sstable_blocks.specs.RunChecks.{check_run}
 use Rattle.sstable_blocks.specs.RunReading.{Hashes}
 use Rattle.sstable_blocks.specs.Scans.{Read, KeyRange, blocks_read, handles_within}

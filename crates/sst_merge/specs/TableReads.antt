@@ -13,7 +13,7 @@ use Rattle.sst_block_core.specs.Entries.{entries}
 use Rattle.sst_block_core.specs.Kind.{IsOrdered}
 use Rattle.sst_block_core.specs.Window.{first_match}
 use Rattle.sst_base.specs.BlockHandle.{HandleParts}
-use Rattle.sst_block_kinds.specs.Handles.{Handle}
+use Rattle.sst_block_core.specs.Handles.{Handle}
 use Rattle.sstable_blocks.specs.Blocks.{joined}
 use Rattle.sstable_blocks.specs.RunChecks.{check_run}
 use Rattle.sstable_blocks.specs.RunReading.{Hashes, handles_at}

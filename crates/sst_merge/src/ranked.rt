@@ -12,7 +12,7 @@ ghost use Rattle.sst_merge.specs.Merge.{entry_cmp};
 
 use crate::front::front_of_key;
 use sst_base::InternalValue;
-use sst_block_kinds::table::data_block::EntryView;
+use sst_block_core::table::data_block::EntryView;
 use std::cmp::Ordering;
 
 /// An item of a merge. Of two items whose fronts differ, that of the lesser front goes first.

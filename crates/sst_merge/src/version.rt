@@ -6,7 +6,7 @@ ghost use Rattle.sst_base.specs.Entry.{Entry};
 ghost use Rattle.sst_merge.specs.Snapshot.{deletes};
 
 use sst_base::{InternalValue, SeqNo, Slice, UserKey, ValueType};
-use sst_block_kinds::table::data_block::EntryView;
+use sst_block_core::table::data_block::EntryView;
 use std::alloc::{AllocError, Global};
 
 /// A version of a key: an entry, or what stands for one.

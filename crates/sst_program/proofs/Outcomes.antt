@@ -13,7 +13,7 @@ use Rattle.sst_program.specs.declared.fault.Fault.TheVariants.{NoEntries, Order,
 use Rattle.sst_program.specs.Query.{Query}
 use Rattle.sst_program.specs.Lines.{entries_of_input}
 use Rattle.sst_program.specs.Point.{point_payload, point_text_of}
-use Rattle.sst_block_kinds.specs.Disorder.{disorder_from}
+use Rattle.sst_block_core.specs.Disorder.{disorder_from}
 use Rattle.sst_program.specs.Outcome.{fault_of_disorder, fault_of_items, run_of_input, outcome_of_items, outcome_of_query, IsOutcomeOf, IsFaultOf, lines_text_of, PrintsLines}
 
 pub fault-no_entries : (items : List Entry) → length items ≡ 0 → fault_of_items items ≡ Some NoEntries

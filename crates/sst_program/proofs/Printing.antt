@@ -8,8 +8,8 @@ use Rattle.sst_base.specs.Entry.{Entry}
 use Rattle.sst_block_core.specs.Scan.{Scan, GivesNext}
 use Rattle.sst_block_core.specs.Window.{Window, items_left, whole}
 use Rattle.sst_block_core.specs.WindowLaws.{next_some, next_none, items_left-whole}
-use Rattle.sst_block_kinds.specs.ParsedEntry.{entry_of, IsParsedEntry}
-use Rattle.sst_block_kinds.specs.declared.table.data_block.parsed_item.DataBlockParsedItem.{DataBlockParsedItem}
+use Rattle.sst_block_core.specs.ParsedEntry.{entry_of, IsParsedEntry}
+use Rattle.sst_block_core.specs.declared.table.data_block.parsed_item.DataBlockParsedItem.{DataBlockParsedItem}
 use Rattle.sst_program.specs.Line.{entry_line_of, letter_of, byte_text_of}
 use Rattle.sst_program.specs.Outcome.{Puts, lines_text_of}
 use Rattle.sst_program.proofs.Outcomes.{none-from_test}

@@ -13,9 +13,9 @@ use Rattle.sst_block_core.specs.Candidates.{GivesNextHeld}
 use Rattle.sst_block_core.specs.Scan.{Scan}
 use Rattle.sst_block_core.specs.Window.{Window, items_left, whole}
 use Rattle.sst_block_core.specs.WindowLaws.{next_some, next_none, items_left-whole}
-use Rattle.sst_block_kinds.specs.Handles.{Handle}
-use Rattle.sst_block_kinds.specs.ParsedHandle.{handle_of, IsParsedHandle}
-use Rattle.sst_block_kinds.specs.declared.table.index_block.parsed_item.IndexBlockParsedItem.{IndexBlockParsedItem}
+use Rattle.sst_block_core.specs.Handles.{Handle}
+use Rattle.sst_block_core.specs.ParsedHandle.{handle_of, IsParsedHandle}
+use Rattle.sst_block_core.specs.declared.table.index_block.parsed_item.IndexBlockParsedItem.{IndexBlockParsedItem}
 use Rattle.sstable_blocks.specs.Blocks.{joined}
 use Rattle.sstable_blocks.specs.SourceLaws.{source_fails}
 use Rattle.sstable_blocks.specs.Sources.{FailsAs}

@@ -5,7 +5,7 @@ use Rattle.std.specs.Io.KnownBytes.{Keeps, Appends, append_known}
 use Rattle.sst_base.specs.declared.error.Error.{Error}
 use Rattle.sst_base.specs.declared.error.Error.TheVariants.{Memory, Io, TooLong}
 use Rattle.sst_base.specs.Entry.{Entry}
-use Rattle.sst_block_kinds.specs.Disorder.{disorder_from}
+use Rattle.sst_block_core.specs.Disorder.{disorder_from}
 use Rattle.sst_program.specs.declared.fault.Fault.{Fault}
 use Rattle.sst_program.specs.declared.fault.Fault.TheVariants.{Usage, NoEntries, Order, Refused}
 use Rattle.sst_program.specs.declared.words.Command.{Command}

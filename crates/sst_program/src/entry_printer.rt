@@ -6,7 +6,7 @@ ghost use Rattle.std.specs.Fmt.{decimal};
 ghost use Rattle.hex.specs.Hex.{encode_lower};
 ghost use Rattle.sst_base.specs.declared.error.Error.TheVariants.{Io, Memory};
 ghost use Rattle.sst_block_core.specs.Found.{optional_range, IsOptionalRange};
-ghost use Rattle.sst_block_kinds.specs.ParsedEntry.{entry_of, IsParsedEntry};
+ghost use Rattle.sst_block_core.specs.ParsedEntry.{entry_of, IsParsedEntry};
 ghost use Rattle.sst_program.specs.Line.{letter_of, byte_text_of, entry_line_of};
 ghost use Rattle.sst_program.specs.Outcome.{Puts, lines_text_of};
 
@@ -15,7 +15,7 @@ use crate::output::print_text;
 use itoa::Buffer;
 use sst_base::table::util::SliceIndexes;
 use sst_block_core::table::block::key_ranges::bytes_of;
-use sst_block_kinds::DataBlockParsedItem;
+use sst_block_core::DataBlockParsedItem;
 use sstable_blocks::{DataBlock, Error, Poly31, Result, SeqNo, ValueType};
 use std::alloc::Global;
 use std::io::Write;

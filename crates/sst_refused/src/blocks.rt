@@ -7,7 +7,7 @@ use crate::lists::{LONG, NO_BUCKETS, ONE_EACH, SHORT, data_block, index_block, l
 use crate::output::{print_bytes, print_two, print_with_bytes};
 use sst_base::{Block, ByteSum, Error, InternalValue, Result, Slice};
 use sst_block_core::table::block::encoder::Encoder;
-use sst_block_kinds::{DataBlock, EntryParts, IndexBlock};
+use sst_block_core::{DataBlock, EntryParts, IndexBlock};
 use std::alloc::Global;
 
 // What three writes and the end return, of three entries with buckets: from an error on, that.

@@ -1,7 +1,7 @@
 //! Example entries and handles, and their blocks.
 use sst_base::table::block::{Block, BlockHandle, BlockOffset, BlockType};
 use sst_base::{ByteSum, Error, HashRatio, InternalValue, Result, Slice, ValueType};
-use sst_block_kinds::{DataBlock, EntryParts, IndexBlock, KeyedBlockHandle};
+use sst_block_core::{DataBlock, EntryParts, IndexBlock, KeyedBlockHandle};
 use std::alloc::Global;
 
 /// An entry: the user key, the value, the sequence number and the value type.

@@ -3,7 +3,7 @@ use crate::lists::{DELETED, LONG_KEY, NO_BUCKETS, Row, WRITTEN};
 use crate::output::{print_front, print_left, print_left_back, print_none, print_one, print_two};
 use crate::runs::run_of;
 use sst_base::{ByteSum, Error, InternalValue, Result, Slice, Steps};
-use sst_block_kinds::table::data_block::EntryView;
+use sst_block_core::table::data_block::EntryView;
 use sst_merge::{
     Compact, Head, Merge, Ranked, Rev, Reversed, Sizes, Snapshot, Source, Version, read_tables,
     write_table,

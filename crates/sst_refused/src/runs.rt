@@ -11,7 +11,7 @@ ghost use Rattle.sstable_blocks.specs.Sound.{IsSound};
 use crate::lists::{LONG, LONG_KEY, NO_BUCKETS, ONE_EACH, Row, THREE, list_of};
 use crate::output::{print_front, print_one, print_two, print_with_bytes};
 use sst_base::{Block, ByteSum, Error, InternalValue, Result, Slice, Steps};
-use sst_block_kinds::DataBlock;
+use sst_block_core::DataBlock;
 use sstable_blocks::run::{
     FileSource, FrameSource, MemorySource, RunConfig, RunHandles, RunWriter, cuts_fit, read_entry,
     read_entry_checked, write_run,

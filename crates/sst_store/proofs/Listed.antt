@@ -21,7 +21,7 @@ use Rattle.sst_base.specs.declared.table.block.block_type.BlockType.{BlockType}
 use Rattle.sst_base.specs.declared.table.block.block_type.BlockType.TheVariants as types
 use Rattle.sst_block_core.specs.Entries.{entries}
 use Rattle.sst_block_core.specs.Kind.{IsOrdered}
-use Rattle.sst_block_kinds.specs.Handles.{Handle}
+use Rattle.sst_block_core.specs.Handles.{Handle}
 use Rattle.sst_merge.specs.Merge.{entry_cmp, merged}
 use Rattle.sst_merge.specs.RangeLaws.{filter_all}
 use Rattle.sst_merge.specs.ReadLaws.{plain_ordered}

@@ -2,7 +2,7 @@
 ghost use Rattle.std.specs.Prelude.{◌≡◌, ◌<◌, ◌^◌, ℕ, List, Some, Ok, map};
 ghost use Rattle.sst_base.specs.Bytes.{IsBytes};
 ghost use Rattle.sst_base.specs.Entry.{Entry, plain};
-ghost use Rattle.sst_block_kinds.specs.Handles.{Handle};
+ghost use Rattle.sst_block_core.specs.Handles.{Handle};
 ghost use Rattle.sst_merge.specs.Stored.{table_list};
 ghost use Rattle.sstable_blocks.specs.Blocks.{joined};
 ghost use Rattle.sstable_blocks.specs.RunReading.{Hashes, handles_at};

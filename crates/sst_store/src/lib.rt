@@ -19,7 +19,7 @@ mod tables;
 use crate::memory::{newest, place_of, shown};
 use crate::tables::{Stored, add_table, merge_of, table_of};
 use sst_base::{Error, InternalValue, Result, SeqNo, Slice, Steps, UserKey, UserValue, ValueType};
-use sst_block_kinds::laws::first_match_of_plain;
+use sst_block_core::laws::first_match_of_plain;
 use sst_merge::laws::compaction_keeps_reads;
 use sst_merge::{Compact, read_tables};
 use std::alloc::Global;

@@ -4,8 +4,8 @@ use Rattle.std.specs.Option.{option_map}
 use Rattle.std.specs.List.{slice_get}
 use Rattle.std.proofs.lemmas.Option.{slice_get_within, get_or_from_slice_get}
 use Rattle.sst_base.specs.BlockHandle.{HandleParts}
-use Rattle.sst_block_kinds.specs.Handles.{Handle}
-use Rattle.sst_block_kinds.specs.HandleRanges.{handle_range}
+use Rattle.sst_block_core.specs.Handles.{Handle}
+use Rattle.sst_block_core.specs.HandleRanges.{handle_range}
 use Rattle.sst_tool.specs.Frames.{end_of, follow_from}
 
 tail-at : (items : List Handle) (i : ℕ) (h : Handle) → slice_get items i ≡ Some h → drop i items ≡ h ∷ drop (i + 1) items

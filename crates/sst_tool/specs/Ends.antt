@@ -2,7 +2,7 @@
 use Rattle.std.specs.Prelude.{ℕ, ◌+◌, ◌-◌, ◌^◌, ◌&&◌, List, Bool, nat_le, nat_lt, if◌then◌else◌, Option, Some, None}
 use Rattle.sst_base.specs.Key.{Key}
 use Rattle.sst_block_core.specs.Window.{count_passed}
-use Rattle.sst_block_kinds.specs.Handles.{Handle, handles}
+use Rattle.sst_block_core.specs.Handles.{Handle, handles}
 
 -- the next greater number, if there is one
 abbrev pub above : ℕ → Option ℕ

@@ -4,7 +4,7 @@ ghost use Rattle.std.specs.Prelude.{◌≡◌, ◌+◌, min, max};
 use crate::place::{TableBlock, footer_block_at};
 use sst_base::table::block::header::HEADER_LEN;
 use sst_block_core::table::block::trailer::{TRAILER_SIZE, Trailer};
-use sst_block_kinds::table::data_block::{DataBlockRef, EntryView};
+use sst_block_core::table::data_block::{DataBlockRef, EntryView};
 use sstable_blocks::filter::standard_bloom::StandardBloomFilterReader;
 use sstable_blocks::{BlockHandle, BlockHash, FrameSource, Result, RunHandles, Slice};
 use std::alloc::Global;

@@ -13,7 +13,7 @@ use crate::open::source_of;
 use crate::progress::Progress;
 use crate::words::{FILE, OUT};
 use clap::ArgMatches;
-use sst_block_kinds::table::data_block::IntoEntries;
+use sst_block_core::table::data_block::IntoEntries;
 use sst_merge::Source;
 use sstable_blocks::run::checked::{data_block_from, index_block_from};
 use sstable_blocks::run::footer::read_footer;

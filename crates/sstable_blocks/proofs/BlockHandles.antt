@@ -7,7 +7,7 @@ use Rattle.sst_base.specs.FrameLaws.{length-frame}
 use Rattle.sst_base.specs.declared.table.block.block_type.BlockType.TheVariants.{Data}
 use Rattle.sst_block_core.specs.Kind.{IsOrdered}
 use Rattle.sst_block_core.specs.Entries.{entries}
-use Rattle.sst_block_kinds.specs.Handles.{IsHandle, handles, EndFits}
+use Rattle.sst_block_core.specs.Handles.{IsHandle, handles, EndFits}
 use Rattle.sstable_blocks.specs.Blocks.{joined, IsNotEmpty}
 use Rattle.sstable_blocks.specs.Lookup.{IsEnd}
 use Rattle.sstable_blocks.specs.Run.{Form, block_payload, block_frame, block_frames, end_of, handles_from, IsFramed, IsRun}

@@ -7,7 +7,7 @@ use Rattle.sst_base.specs.declared.error.Error.TheVariants.{Io}
 use Rattle.std.specs.Option.{option_map}
 use Rattle.sst_base.specs.BlockHandle.{HandleParts}
 use Rattle.sst_base.specs.declared.table.block.block_type.BlockType.TheVariants as types
-use Rattle.sst_block_kinds.specs.Handles.{handles}
+use Rattle.sst_block_core.specs.Handles.{handles}
 use Rattle.sstable_blocks.specs.Lookup.{handle_for}
 use Rattle.sstable_blocks.specs.Opened.{range_of}
 use Rattle.sstable_blocks.specs.RunReading.{Hashes, payload_at, filter_says, read_block, read_blocks, read_checked}
@@ -15,8 +15,8 @@ use Rattle.sstable_blocks.specs.declared.run.RunHandles.{RunHandles}
 use Rattle.sstable_blocks.specs.SourceLaws.{source_fails}
 use Rattle.sstable_blocks.specs.Sources.{GivesOr}
 use Rattle.sst_base.specs.Entry.{Entry}
-use Rattle.sst_block_kinds.specs.Checks.{all_below, index_check}
-use Rattle.sst_block_kinds.specs.Handles.{Handle}
+use Rattle.sst_block_core.specs.Checks.{all_below, index_check}
+use Rattle.sst_block_core.specs.Handles.{Handle}
 use Rattle.sstable_blocks.specs.Bits.{has_bit}
 use Rattle.sstable_blocks.specs.Probes.{probe}
 use Rattle.sst_base.specs.Header.{◌>>=◌}

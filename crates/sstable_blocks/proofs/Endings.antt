@@ -12,7 +12,7 @@ use Rattle.sst_base.specs.declared.error.Error.{Error}
 use Rattle.sst_base.specs.declared.error.Error.TheVariants.{TooLong, Io}
 use Rattle.sst_base.specs.declared.table.block.block_type.BlockType.TheVariants.{Index, Filter}
 use Rattle.sst_block_core.specs.Encoders.{IsRefusal}
-use Rattle.sst_block_kinds.specs.Handles.{Handle, index_payload}
+use Rattle.sst_block_core.specs.Handles.{Handle, index_payload}
 use Rattle.sstable_blocks.specs.Blocks.{joined}
 use Rattle.sstable_blocks.specs.Filter.{bit_count}
 use Rattle.sstable_blocks.specs.FilterLaws.{length-filter_payload}

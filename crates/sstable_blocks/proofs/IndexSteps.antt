@@ -6,13 +6,13 @@ use Rattle.std.proofs.lemmas.Bool.{cases_Bool, ltb-false}
 use Rattle.std.proofs.lemmas.Option.{slice_get_past}
 use Rattle.sst_base.specs.BlockHandle.{HandleParts}
 use Rattle.sst_block_core.specs.Backs.{GivesStep}
-use Rattle.sst_block_kinds.specs.Handles.{Handle, handles}
+use Rattle.sst_block_core.specs.Handles.{Handle, handles}
 use Rattle.sst_block_core.specs.Candidates.{GivesNextHeld, scan_cost}
-use Rattle.sst_block_kinds.specs.ParsedHandle.{handle_of, IsParsedHandle}
+use Rattle.sst_block_core.specs.ParsedHandle.{handle_of, IsParsedHandle}
 use Rattle.sst_block_core.specs.Scan.{Scan}
 use Rattle.sst_block_core.specs.WindowLaws.{item_same}
 use Rattle.sst_block_core.specs.Window.{Window, Answer, found, whole, next, first_left, seek_index}
-use Rattle.sst_block_kinds.specs.declared.table.index_block.parsed_item.IndexBlockParsedItem.{IndexBlockParsedItem}
+use Rattle.sst_block_core.specs.declared.table.index_block.parsed_item.IndexBlockParsedItem.{IndexBlockParsedItem}
 use Rattle.sstable_blocks.specs.Lookup.{handle_for, place_for}
 use Rattle.sstable_blocks.specs.Opened.{range_of}
 use Rattle.sstable_blocks.specs.ReadCosts.{handles_most}

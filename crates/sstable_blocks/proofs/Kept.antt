@@ -4,7 +4,7 @@ use Rattle.std.proofs.lemmas.List.{append-nil, map-append}
 use Rattle.std.specs.List.{AllByRecursion}
 use Rattle.sst_base.specs.Entry.{Entry, IsEntry}
 use Rattle.sst_block_core.specs.Entries.{entries}
-use Rattle.sst_block_kinds.specs.Handles.{Handle}
+use Rattle.sst_block_core.specs.Handles.{Handle}
 use Rattle.sst_block_core.specs.Kind.{IsOrdered, item_cmp}
 use Rattle.std.specs.declared.cmp.Ordering.{Ordering}
 use Rattle.std.specs.declared.cmp.Ordering.TheVariants.{Less, Equal, Greater}

@@ -11,7 +11,7 @@ use Rattle.sst_block_core.specs.Payload.{IsBlock}
 use Rattle.sst_block_core.specs.Pointers.{head_count}
 use Rattle.sst_block_core.specs.Stages.{items_in}
 use Rattle.sst_block_core.specs.Trailer.{trailer_in}
-use Rattle.sst_block_kinds.specs.Handles.{Handle, handles, IsIndexBlock}
+use Rattle.sst_block_core.specs.Handles.{Handle, handles, IsIndexBlock}
 use Rattle.sstable_blocks.specs.Lookup.{handle_for, place_for}
 use Rattle.sstable_blocks.specs.Opened.{range_of, payload_in, index_in}
 use Rattle.sstable_blocks.specs.ReadCosts.{interval_in, heads_at, entries_at, heads_most_in, entries_most_in, heads_most, handles_most, entries_most, heads_of}

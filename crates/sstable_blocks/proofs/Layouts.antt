@@ -8,8 +8,8 @@ use Rattle.sst_block_core.specs.Kind.{IsOrdered, item_cmp}
 use Rattle.sst_block_core.specs.Body.{IsInterval}
 use Rattle.sst_block_core.specs.Buckets.{bucket_count}
 use Rattle.sst_block_core.specs.Entries.{entries}
-use Rattle.sst_block_kinds.specs.Handles.{Handle, IsIndexBlock}
-use Rattle.sst_block_kinds.specs.Handles as index
+use Rattle.sst_block_core.specs.Handles.{Handle, IsIndexBlock}
+use Rattle.sst_block_core.specs.Handles as index
 use Rattle.sst_block_core.specs.Payload.{IsBlock}
 use Rattle.sstable_blocks.specs.Blocks.{joined, IsNotEmpty}
 use Rattle.sstable_blocks.specs.Run.{Form, block_payload, block_frame, block_frames, handles_from, index_text, index_frame, filter_frame, filter_frame_length, run_text, IsRun, RunFits}

@@ -13,7 +13,7 @@ use Rattle.sst_block_core.specs.Payload.{IsBlock}
 use Rattle.sst_block_core.specs.Entries.{entries}
 use Rattle.sst_block_core.specs.Stages.{items_in}
 use Rattle.sst_block_core.specs.Window.{first_match}
-use Rattle.sst_block_kinds.specs.Handles.{Handle, handles, IsHandle, IsIndexBlock}
+use Rattle.sst_block_core.specs.Handles.{Handle, handles, IsHandle, IsIndexBlock}
 use Rattle.sstable_blocks.specs.Blocks.{joined}
 use Rattle.sstable_blocks.specs.Filter.{Filter, filter_at}
 use Rattle.sstable_blocks.specs.Lookup.{IsEnd, first_in, place_for}

@@ -6,11 +6,11 @@ use Rattle.std.specs.List.{slice_get}
 use Rattle.std.specs.Option.{option_map}
 use Rattle.sst_base.specs.BlockHandle.{HandleParts}
 use Rattle.sst_base.specs.declared.error.Error.{Error}
-use Rattle.sst_block_kinds.specs.DataBlock.{DataBlockParts, DataRefParts}
+use Rattle.sst_block_core.specs.DataBlock.{DataBlockParts, DataRefParts}
 use Rattle.sst_block_core.specs.Entries.{entries}
-use Rattle.sst_block_kinds.specs.Handles.{Handle, handles}
+use Rattle.sst_block_core.specs.Handles.{Handle, handles}
 use Rattle.sst_block_core.specs.Intervals.{digits}
-use Rattle.sst_block_kinds.specs.PointReads.{lookup, ref_lookup, heads_most, entries_most, read_heads, read_entries, ref_read_most}
+use Rattle.sst_block_core.specs.PointReads.{lookup, ref_lookup, heads_most, entries_most, read_heads, read_entries, ref_read_most}
 use Rattle.sst_block_core.specs.Pointers.{head_count}
 use Rattle.sst_block_core.specs.Stages.{items_in}
 use Rattle.sst_block_core.specs.Window.{first_match}

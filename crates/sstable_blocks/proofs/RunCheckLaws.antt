@@ -26,8 +26,8 @@ use Rattle.sst_block_core.specs.Kind.{IsOrdered, item_cmp}
 use Rattle.sst_block_core.specs.Payload.{IsBlock}
 use Rattle.sst_block_core.specs.Stages.{Passes, items_in}
 use Rattle.sst_block_core.specs.Trailer.{trailer_in}
-use Rattle.sst_block_kinds.specs.Checks.{data_check, index_check, DataVerdict, IndexVerdict}
-use Rattle.sst_block_kinds.specs.Handles.{Handle, handles, IsHandle, IsIndexBlock, IndexPasses, IndexPassesBy}
+use Rattle.sst_block_core.specs.Checks.{data_check, index_check, DataVerdict, IndexVerdict}
+use Rattle.sst_block_core.specs.Handles.{Handle, handles, IsHandle, IsIndexBlock, IndexPasses, IndexPassesBy}
 use Rattle.sstable_blocks.specs.Blocks.{joined}
 use Rattle.sstable_blocks.specs.Filter.{Filter, filter_at, MayContain}
 use Rattle.sstable_blocks.specs.Lookup.{IsEnd}

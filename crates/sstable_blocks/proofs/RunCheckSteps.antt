@@ -12,9 +12,9 @@ use Rattle.sst_block_core.specs.Candidates.{GivesNextHeld}
 use Rattle.sst_block_core.specs.Scan.{Scan}
 use Rattle.sst_block_core.specs.Window.{items_left}
 use Rattle.sst_block_core.specs.WindowLaws.{next_some, next_none}
-use Rattle.sst_block_kinds.specs.Handles.{Handle}
-use Rattle.sst_block_kinds.specs.ParsedHandle.{handle_of, IsParsedHandle}
-use Rattle.sst_block_kinds.specs.declared.table.index_block.parsed_item.IndexBlockParsedItem.{IndexBlockParsedItem}
+use Rattle.sst_block_core.specs.Handles.{Handle}
+use Rattle.sst_block_core.specs.ParsedHandle.{handle_of, IsParsedHandle}
+use Rattle.sst_block_core.specs.declared.table.index_block.parsed_item.IndexBlockParsedItem.{IndexBlockParsedItem}
 use Rattle.sstable_blocks.specs.Filter.{Filter, filter_at}
 use Rattle.sstable_blocks.specs.Opened.{range_of}
 use Rattle.sstable_blocks.specs.RunChecks.{check_entries, check_items, check_block, check_from, none_passed, summary_by, filter_in_run, check_by_index, check_run, summary_of}

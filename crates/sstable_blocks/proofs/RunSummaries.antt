@@ -3,7 +3,7 @@ use Rattle.std.proofs.Common.{◌≡◌, ℕ, suc, ◌+◌, ◌-◌, ◌≤◌, 
 use Rattle.std.specs.List.{AllZip}
 use Rattle.sst_base.specs.Entry.{Entry}
 use Rattle.sst_block_core.specs.Entries.{entries}
-use Rattle.sst_block_kinds.specs.Handles.{Handle, handles}
+use Rattle.sst_block_core.specs.Handles.{Handle, handles}
 use Rattle.sstable_blocks.specs.Blocks.{joined}
 use Rattle.sstable_blocks.specs.Lookup.{IsEnd}
 use Rattle.sstable_blocks.specs.Run.{end_of}

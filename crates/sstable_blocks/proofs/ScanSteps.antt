@@ -11,7 +11,7 @@ use Rattle.sst_base.specs.declared.error.Error.{Error}
 use Rattle.sst_base.specs.declared.error.Error.TheVariants.{Memory, BadHandle}
 use Rattle.sst_block_core.specs.Window.{Window, Answer, item, items_left, first_left, last_left, next, next_back}
 use Rattle.sst_block_core.specs.WindowLaws.{next_some, next_none, back_some, back_none}
-use Rattle.sst_block_kinds.specs.Handles.{Handle}
+use Rattle.sst_block_core.specs.Handles.{Handle}
 use Rattle.sstable_blocks.specs.RunReading.{Hashes, handles_at}
 use Rattle.sstable_blocks.specs.Scans.{KeyRange, Read, in_range, within, block_within, reads_of, blocks_read, reads_among, StartsWith, EndsWith, FailsFirst, FailsLast, GivesFirst, GivesLast, AllWithin, between, first_block, end_block, handles_within}
 use Rattle.sstable_blocks.specs.Blocks.{joined}

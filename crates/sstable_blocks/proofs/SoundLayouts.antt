@@ -10,7 +10,7 @@ use Rattle.sst_base.specs.declared.table.block.block_type.BlockType.{BlockType}
 use Rattle.sst_base.specs.declared.table.block.block_type.BlockType.TheVariants as types
 use Rattle.sst_block_core.specs.Buckets.{bucket_count}
 use Rattle.sst_block_core.specs.Entries.{entries}
-use Rattle.sst_block_kinds.specs.Handles.{handles}
+use Rattle.sst_block_core.specs.Handles.{handles}
 use Rattle.sstable_blocks.specs.Blocks.{joined}
 use Rattle.sstable_blocks.specs.Filter.{MayContain}
 use Rattle.sstable_blocks.specs.FilterLaws.{inserted_may_be_contained}

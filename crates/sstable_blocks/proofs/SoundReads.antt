@@ -13,9 +13,9 @@ use Rattle.sst_base.specs.declared.error.Error.TheVariants.{Io, Memory, InvalidH
 use Rattle.sst_base.specs.declared.error.TagName.TheVariants as tags
 use Rattle.sst_base.specs.declared.table.block.block_type.BlockType.{BlockType}
 use Rattle.sst_base.specs.declared.table.block.block_type.BlockType.TheVariants as types
-use Rattle.sst_block_kinds.specs.Checks.{data_check, index_check, DataVerdict, IndexVerdict}
+use Rattle.sst_block_core.specs.Checks.{data_check, index_check, DataVerdict, IndexVerdict}
 use Rattle.sst_block_core.specs.Entries.{entries}
-use Rattle.sst_block_kinds.specs.Handles.{Handle, handles, IsHandle, IsIndexBlock, IndexPasses, IndexPassesBy}
+use Rattle.sst_block_core.specs.Handles.{Handle, handles, IsHandle, IsIndexBlock, IndexPasses, IndexPassesBy}
 use Rattle.sst_block_core.specs.Payload.{IsBlock}
 use Rattle.sst_block_core.specs.Stages.{Passes, PassesBy, items_by, items_in}
 use Rattle.sst_block_core.specs.Trailer.{Trailer, trailer_in}

@@ -8,14 +8,14 @@ use Rattle.sst_base.specs.Entry.{Entry, IsEntry, plain}
 use Rattle.sst_base.specs.Header.{◌>>=◌}
 use Rattle.sst_base.specs.declared.error.Error.{Error}
 use Rattle.sst_base.specs.declared.table.block.block_type.BlockType.TheVariants as types
-use Rattle.sst_block_kinds.specs.Checks.{data_check, index_check, DataVerdict, IndexVerdict}
+use Rattle.sst_block_core.specs.Checks.{data_check, index_check, DataVerdict, IndexVerdict}
 use Rattle.sst_block_core.specs.Entries.{entries}
 use Rattle.sst_block_core.specs.Kind.{IsOrdered}
 use Rattle.sst_block_core.specs.Payload.{IsBlock}
 use Rattle.sst_block_core.specs.Stages.{Passes, items_in}
 use Rattle.sst_block_core.specs.Trailer.{trailer_in}
 use Rattle.sst_block_core.specs.Window.{items_left, first_match}
-use Rattle.sst_block_kinds.specs.Handles.{Handle, handles, IsHandle, IsIndexBlock, IndexPasses}
+use Rattle.sst_block_core.specs.Handles.{Handle, handles, IsHandle, IsIndexBlock, IndexPasses}
 use Rattle.sstable_blocks.specs.Blocks.{joined}
 use Rattle.sstable_blocks.specs.Opened.{range_of, index_in}
 use Rattle.sstable_blocks.specs.RunReading.{Hashes, payload_at, items_at, handles_at}

@@ -14,11 +14,11 @@ use Rattle.sst_block_core.specs.Intervals.{digits}
 use Rattle.sst_block_core.specs.Pointers.{head_count}
 use Rattle.sst_block_core.specs.Stages.{items_in}
 use Rattle.sst_block_core.specs.Trailer.{trailer_in}
-use Rattle.sst_block_kinds.specs.Checks.{index_check, IndexVerdict}
-use Rattle.sst_block_kinds.specs.DataBlock.{DataBlockParts, data_block_of}
-use Rattle.sst_block_kinds.specs.Handles.{Handle, handles}
-use Rattle.sst_block_kinds.specs.IndexBlock.{IndexBlockParts, index_block_of}
-use Rattle.sst_block_kinds.specs.PointReads.{read_most}
+use Rattle.sst_block_core.specs.Checks.{index_check, IndexVerdict}
+use Rattle.sst_block_core.specs.DataBlock.{DataBlockParts, data_block_of}
+use Rattle.sst_block_core.specs.Handles.{Handle, handles}
+use Rattle.sst_block_core.specs.IndexBlock.{IndexBlockParts, index_block_of}
+use Rattle.sst_block_core.specs.PointReads.{read_most}
 use Rattle.sstable_blocks.specs.Opened.{range_of, payload_in, index_in}
 use Rattle.sstable_blocks.specs.ReadCosts.{heads_at, entries_at, heads_most_by, entries_most_by, heads_most_in, entries_most_in}
 use Rattle.sstable_blocks.specs.RunReading.{Hashes, payload_at}

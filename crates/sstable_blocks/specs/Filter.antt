@@ -8,7 +8,7 @@ use Rattle.sst_base.specs.declared.error.Error.{Error}
 use Rattle.sst_base.specs.declared.error.Error.TheVariants.{Truncated, InvalidHeader, InvalidTag, BadFilter}
 use Rattle.sst_base.specs.declared.error.HeaderName.TheVariants as names
 use Rattle.sst_base.specs.declared.error.TagName.TheVariants as tags
-use Rattle.sst_block_kinds.specs.Checks.{all_below}
+use Rattle.sst_block_core.specs.Checks.{all_below}
 use Rattle.sstable_blocks.specs.Bits.{HasBit, has_bit}
 use Rattle.sstable_blocks.specs.Probes.{probe, IsProbe}
 

@@ -8,7 +8,7 @@ use Rattle.sst_block_core.specs.Intervals.{digits}
 use Rattle.sst_block_core.specs.Pointers.{head_count}
 use Rattle.sst_block_core.specs.Stages.{items_in}
 use Rattle.sst_block_core.specs.Trailer.{trailer_in}
-use Rattle.sst_block_kinds.specs.Handles.{Handle, handles}
+use Rattle.sst_block_core.specs.Handles.{Handle, handles}
 use Rattle.sstable_blocks.specs.Lookup.{handle_for, place_for}
 use Rattle.sstable_blocks.specs.Opened.{range_of, payload_in, index_in}
 use Rattle.sstable_blocks.specs.Run.{Form, handles_from}

@@ -10,7 +10,7 @@ use Rattle.sst_block_core.specs.Kind.{IsOrdered}
 use Rattle.sst_block_core.specs.Body.{IsInterval}
 use Rattle.sst_block_core.specs.Buckets.{bucket_count}
 use Rattle.sst_block_core.specs.Entries.{entries, data_payload}
-use Rattle.sst_block_kinds.specs.Handles.{Handle, index_payload}
+use Rattle.sst_block_core.specs.Handles.{Handle, index_payload}
 use Rattle.sstable_blocks.specs.Blocks.{joined, IsNotEmpty}
 use Rattle.sstable_blocks.specs.Filter as filters
 use Rattle.sstable_blocks.specs.declared.run.RunConfig.{RunConfig}

@@ -8,9 +8,9 @@ use Rattle.sst_base.specs.declared.error.Error.{Error}
 use Rattle.sst_base.specs.declared.error.Error.TheVariants.{BadHandle}
 use Rattle.sst_base.specs.declared.table.block.block_type.BlockType.{BlockType}
 use Rattle.sst_base.specs.declared.table.block.block_type.BlockType.TheVariants as types
-use Rattle.sst_block_kinds.specs.Checks.{data_check, index_check}
+use Rattle.sst_block_core.specs.Checks.{data_check, index_check}
 use Rattle.sst_block_core.specs.Entries.{entries}
-use Rattle.sst_block_kinds.specs.Handles.{Handle, handles, IndexPasses}
+use Rattle.sst_block_core.specs.Handles.{Handle, handles, IndexPasses}
 use Rattle.sst_block_core.specs.Stages.{Passes, items_in}
 use Rattle.sst_block_core.specs.Trailer.{trailer_in}
 use Rattle.sst_block_core.specs.Window.{first_match}

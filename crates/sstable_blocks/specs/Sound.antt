@@ -7,7 +7,7 @@ use Rattle.sst_base.specs.declared.table.block.block_type.BlockType.TheVariants 
 use Rattle.sst_block_core.specs.Entries.{entries}
 use Rattle.sst_block_core.specs.Kind.{IsOrdered}
 use Rattle.sst_block_core.specs.Payload.{IsBlock}
-use Rattle.sst_block_kinds.specs.Handles.{Handle, handles, IsIndexBlock}
+use Rattle.sst_block_core.specs.Handles.{Handle, handles, IsIndexBlock}
 use Rattle.sstable_blocks.specs.Blocks.{joined}
 use Rattle.sstable_blocks.specs.Filter.{Filter, filter_at, MayContain}
 use Rattle.sstable_blocks.specs.Lookup.{IsEnd}

@@ -6,7 +6,7 @@ use Rattle.sst_base.specs.Entry.{Entry}
 use Rattle.sst_base.specs.Header.{◌>>=◌}
 use Rattle.sst_base.specs.declared.error.Error.{Error}
 use Rattle.sst_base.specs.declared.table.block.block_type.BlockType.TheVariants as types
-use Rattle.sst_block_kinds.specs.Handles.{Handle, handles}
+use Rattle.sst_block_core.specs.Handles.{Handle, handles}
 use Rattle.sstable_blocks.specs.Filter.{filter_at}
 use Rattle.sstable_blocks.specs.Footer.{table_handles}
 use Rattle.sstable_blocks.specs.Lookup.{handle_for}

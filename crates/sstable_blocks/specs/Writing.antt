@@ -12,7 +12,7 @@ use Rattle.sst_base.specs.declared.table.block.block_type.BlockType.{BlockType}
 use Rattle.sst_base.specs.declared.table.block.block_type.BlockType.TheVariants.{Filter}
 use Rattle.sst_block_core.specs.Body.{IsInterval}
 use Rattle.sst_block_core.specs.Entries.{entries}
-use Rattle.sst_block_kinds.specs.Handles.{Handle}
+use Rattle.sst_block_core.specs.Handles.{Handle}
 use Rattle.sst_block_core.specs.Kind.{IsOrdered, item_cmp}
 use Rattle.sstable_blocks.specs.Blocks.{joined, IsNotEmpty}
 use Rattle.sstable_blocks.specs.Run.{Form, block_payload, block_frame, block_frames, handles_from, key_hashes, IsFramed, IsFilterText, IsLayout, RunFits}

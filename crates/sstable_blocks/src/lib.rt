@@ -22,6 +22,6 @@ pub use sst_base::{
     UserKey, UserValue, ValueType, append_exact, checksum, coding, double_ended_peekable, hash,
     key, slice, value, value_type,
 };
-pub use sst_block_kinds::{DataBlock, IndexBlock, KeyedBlockHandle};
+pub use sst_block_core::{DataBlock, IndexBlock, KeyedBlockHandle};
 pub use sst_xxh3::Xxh3;
 pub use table::filter::{self, FilterBlock};

@@ -5,7 +5,7 @@ ghost use Rattle.sst_block_core.specs.Kind.{IsOrdered};
 ghost use Rattle.sstable_blocks.specs.Blocks.{CutsFit};
 
 use sst_base::{ByteSum, HashRatio, InternalValue, Result, Slice, ValueType};
-use sst_block_kinds::DataBlock;
+use sst_block_core::DataBlock;
 use sstable_blocks::run::{RunConfig, cuts_fit};
 
 /// No hash index.

@@ -6,7 +6,7 @@ use sst_base::table::block::{Block, BlockType};
 use sst_base::{BlockHash, HashRatio, InternalValue, Slice};
 use sst_block_core::table::block::encoder::Encoder;
 use sst_block_core::table::block::hash_index::Lookup;
-use sst_block_kinds::DataBlock;
+use sst_block_core::DataBlock;
 use sst_case_room::digest::hash_of;
 use sst_case_room::fault::{Fault, Result};
 use sst_case_room::lists::parts_of;

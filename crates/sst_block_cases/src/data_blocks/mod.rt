@@ -9,7 +9,7 @@ mod walks;
 
 use sst_base::BlockHash;
 use sst_base::table::block::BlockType;
-use sst_block_kinds::DataBlock;
+use sst_block_core::DataBlock;
 use sst_case_room::fault::Result;
 use sst_case_room::room::{Room, block_with};
 use std::alloc::Global;

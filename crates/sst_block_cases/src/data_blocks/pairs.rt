@@ -2,8 +2,8 @@
 
 use super::encoding::encoded;
 use sst_base::{BlockHash, InternalValue};
-use sst_block_kinds::table::data_block::EntryRef;
-use sst_block_kinds::{DataBlock, EntryParts};
+use sst_block_core::table::data_block::EntryRef;
+use sst_block_core::{DataBlock, EntryParts};
 use sst_case_room::digest::Digest;
 use sst_case_room::fault::{Fault, Result};
 use sst_case_room::room::Room;

@@ -1,11 +1,10 @@
 //! Commands that read entries of a data block by their keys, or all of them.
-ghost use Rattle.sst_block_kinds.specs.ParsedEntry.{IsParsedEntry};
+ghost use Rattle.sst_block_core.specs.ParsedEntry.{IsParsedEntry};
 
 use super::{Blocks, Opened};
 use sst_base::{BlockHash, InternalValue, Slice, Steps};
-use sst_block_core::ParsedItem;
-use sst_block_kinds::table::data_block::{EntryRef, EntryView};
-use sst_block_kinds::{DataBlock, DataBlockParsedItem, DataBlockRef};
+use sst_block_core::{DataBlock, DataBlockParsedItem, DataBlockRef, ParsedItem};
+use sst_block_core::table::data_block::{EntryRef, EntryView};
 use sst_case_room::digest::Digest;
 use sst_case_room::fault::{Fault, Result};
 use sst_case_room::room::Room;

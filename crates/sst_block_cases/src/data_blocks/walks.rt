@@ -1,12 +1,11 @@
 //! Commands on iterators over data blocks: seeks, steps and moves, by each kind of iterator.
 ghost use Rattle.std.specs.Prelude.{◌≡◌, IfSome};
-ghost use Rattle.sst_block_kinds.specs.ParsedEntry.{IsParsedEntry};
+ghost use Rattle.sst_block_core.specs.ParsedEntry.{IsParsedEntry};
 
 use super::{Blocks, Opened};
 use sst_base::{BlockHash, InternalValue, Slice};
-use sst_block_core::ParsedItem;
-use sst_block_kinds::table::data_block::{Answer, IntoEntries, Iter, Op, walk};
-use sst_block_kinds::{DataBlock, DataBlockParsedItem};
+use sst_block_core::{DataBlock, DataBlockParsedItem, ParsedItem};
+use sst_block_core::table::data_block::{Answer, IntoEntries, Iter, Op, walk};
 use sst_case_room::fault::{Fault, Result};
 use sst_case_room::words::{
     alike, bytes_of, number_of, push_word, repeated, truth, word_of, word_of_found,

@@ -5,7 +5,7 @@ mod sources;
 mod tables;
 
 use sst_base::{BlockHash, InternalValue, Slice, ValueType};
-use sst_block_kinds::DataBlock;
+use sst_block_core::DataBlock;
 use sst_case_room::fault::{Fault, Result};
 use sst_case_room::room::Room;
 use sst_case_room::words::{bytes_of, entry_of, hex_of, push_word, word_of};

@@ -6,7 +6,7 @@ ghost use Rattle.sstable_blocks.specs.Sound.{IsSound};
 
 use super::asked::{Asked, Place, Query, Wanted, by_trusted, of_run, of_sound};
 use sst_base::{BlockHash, Error, InternalValue, Slice, Steps};
-use sst_block_kinds::table::data_block::EntryView;
+use sst_block_core::table::data_block::EntryView;
 use sst_case_room::digest::Digest;
 use sst_case_room::fault::{Fault, Result};
 use sst_case_room::room::Room;

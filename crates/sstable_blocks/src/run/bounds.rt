@@ -8,7 +8,7 @@ ghost use Rattle.sstable_blocks.specs.Scans.{first_block, first_entry, index_cos
 use super::search::IndexSearch;
 use sst_base::{BlockHash, Steps};
 use sst_block_core::table::block::bound::Bound as SeekBound;
-use sst_block_kinds::table::data_block::{IntoEntries, Iter};
+use sst_block_core::table::data_block::{IntoEntries, Iter};
 use std::marker::Model;
 use std::ops::Bound;
 

@@ -8,7 +8,7 @@ ghost use Rattle.sst_base.specs.Entry.{Entry};
 ghost use Rattle.sst_base.specs.declared.error.Error.TheVariants.{Io};
 ghost use Rattle.sst_block_core.specs.Entries.{entries};
 ghost use Rattle.sst_block_core.specs.Intervals.{digits};
-ghost use Rattle.sst_block_kinds.specs.Handles.{Handle};
+ghost use Rattle.sst_block_core.specs.Handles.{Handle};
 ghost use Rattle.sst_block_core.specs.Window.{first_match};
 ghost use Rattle.sstable_blocks.specs.Blocks.{joined};
 ghost use Rattle.sstable_blocks.specs.Opened.{range_of};
@@ -27,7 +27,7 @@ use crate::table::filter::FilterBlock;
 use sst_base::{
     Block, BlockHandle, BlockHash, BlockType, Error, InternalValue, Result, SeqNo, Steps, TagName,
 };
-use sst_block_kinds::{DataBlock, IndexBlock};
+use sst_block_core::{DataBlock, IndexBlock};
 use std::alloc::Global;
 
 /// Reads the frame that a handle names, of a block of this type.

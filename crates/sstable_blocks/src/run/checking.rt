@@ -21,8 +21,8 @@ use super::source::FrameSource;
 use crate::table::filter::standard_bloom::StandardBloomFilterReader;
 use sst_base::{BlockHandle, BlockHash, BlockType, Error, Result, SeqNo, Slice, UserKey};
 use sst_block_core::table::block::ParsedItem;
-use sst_block_kinds::table::data_block::EntryView;
-use sst_block_kinds::{DataBlock, IndexBlock, KeyedBlockHandle};
+use sst_block_core::table::data_block::EntryView;
+use sst_block_core::{DataBlock, IndexBlock, KeyedBlockHandle};
 use std::alloc::Global;
 
 /// What a check of a run counted.

@@ -7,7 +7,7 @@ ghost use Rattle.sst_base.specs.Bytes.{IsBytes};
 ghost use Rattle.std.specs.Prelude.{Option, IfSome};
 ghost use Rattle.std.specs.List.{AllByRecursion, AllZip};
 ghost use Rattle.sst_base.specs.Entry.{Entry, plain};
-ghost use Rattle.sst_block_kinds.specs.Handles.{Handle, handles, IsHandle, EndFits};
+ghost use Rattle.sst_block_core.specs.Handles.{Handle, handles, IsHandle, EndFits};
 ghost use Rattle.sst_block_core.specs.Kind.{IsOrdered};
 ghost use Rattle.sst_block_core.specs.Window.{first_match};
 ghost use Rattle.sstable_blocks.specs.Blocks.{joined, blocks_of, CutsFit, IsNotEmpty};
@@ -27,7 +27,7 @@ ghost use Rattle.sstable_blocks.specs.declared.run.checking.RunSummary.{RunSumma
 use sst_base::InternalValue;
 use sst_block_core::BlockItem;
 use sst_block_core::laws::passing_is_block;
-use sst_block_kinds::laws::{
+use sst_block_core::laws::{
     data_block_is_read, data_check_is_by_stages, first_match_of_plain, index_block_is_read,
     index_check_accepts_encodings, index_check_is_by_stages,
 };

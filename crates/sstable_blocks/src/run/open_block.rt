@@ -3,14 +3,14 @@ ghost use Rattle.std.specs.Prelude.{◌≡◌, ◌<◌, length, nat_lt, slice_ge
 ghost use Rattle.std.specs.Iterator.{YieldsFirst, YieldsLast};
 ghost use Rattle.sst_block_core.specs.Entries.{entries};
 ghost use Rattle.sst_block_core.specs.Stages.{items_in};
-ghost use Rattle.sst_block_kinds.specs.Handles.{Handle};
+ghost use Rattle.sst_block_core.specs.Handles.{Handle};
 ghost use Rattle.sstable_blocks.specs.Opened.{index_in, payload_in, range_of};
 ghost use Rattle.sstable_blocks.specs.Scans.{views_left, within};
 
 use super::bounds::Bounds;
 use super::run_ref::RunRef;
 use sst_base::BlockHash;
-use sst_block_kinds::table::data_block::{DataBlockRef, EntryView, Iter};
+use sst_block_core::table::data_block::{DataBlockRef, EntryView, Iter};
 use std::marker::Model;
 
 /// A block that a scan has opened. Clauses see the entries left of it.

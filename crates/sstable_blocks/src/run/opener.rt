@@ -2,7 +2,7 @@
 ghost use Rattle.std.specs.Prelude.{◌≡◌, ℕ, ◌+◌, ◌<◌, List, Option, Some, length, slice_get};
 ghost use Rattle.std.specs.Prelude.{IfErr, IfSome};
 ghost use Rattle.sst_base.specs.declared.error.Error.TheVariants.{Io};
-ghost use Rattle.sst_block_kinds.specs.Handles.{Handle};
+ghost use Rattle.sst_block_core.specs.Handles.{Handle};
 ghost use Rattle.sstable_blocks.specs.Opened.{range_of};
 ghost use Rattle.sstable_blocks.specs.RunReading.{hashes, items_at};
 ghost use Rattle.sstable_blocks.specs.Sources.{GivesOr, KeepsSource};
@@ -11,7 +11,7 @@ ghost use Rattle.sstable_blocks.specs.Tables.{KeptParts, kept_parts};
 use super::source::FrameSource;
 use super::table::Table;
 use sst_base::{BlockHash, Result};
-use sst_block_kinds::DataBlock;
+use sst_block_core::DataBlock;
 use std::alloc::Global;
 
 /// What opens the data blocks of a run, whose index it keeps.

@@ -5,9 +5,9 @@ ghost use Rattle.std.specs.Prelude.{false, OnOk, IfOk, IfSome, IsOkUnless};
 ghost use Rattle.sst_base.specs.Counted.{CountsExactly, CountsBetween};
 ghost use Rattle.sst_base.specs.Entry.{Entry, IsEntry};
 ghost use Rattle.sst_block_core.specs.Entries.{entries};
-ghost use Rattle.sst_block_kinds.specs.DataBlock.{data_ref_of};
-ghost use Rattle.sst_block_kinds.specs.Handles.{Handle, IsIndexBlock};
-ghost use Rattle.sst_block_kinds.specs.IndexBlock.{index_ref_of};
+ghost use Rattle.sst_block_core.specs.DataBlock.{data_ref_of};
+ghost use Rattle.sst_block_core.specs.Handles.{Handle, IsIndexBlock};
+ghost use Rattle.sst_block_core.specs.IndexBlock.{index_ref_of};
 ghost use Rattle.sst_block_core.specs.Intervals.{digits};
 ghost use Rattle.sst_block_core.specs.Payload.{IsBlock};
 ghost use Rattle.sst_block_core.specs.Pointers.{head_count};
@@ -30,9 +30,9 @@ use sst_base::table::block::header::HEADER_LEN;
 use sst_base::{
     Block, BlockHandle, BlockHash, BlockType, Error, InternalValue, Result, SeqNo, Slice, Steps,
 };
-use sst_block_kinds::DataBlock;
-use sst_block_kinds::table::data_block::{DataBlockParsedItem, DataBlockRef};
-use sst_block_kinds::table::index_block::IndexBlockRef;
+use sst_block_core::DataBlock;
+use sst_block_core::table::data_block::{DataBlockParsedItem, DataBlockRef};
+use sst_block_core::table::index_block::IndexBlockRef;
 use std::alloc::Global;
 
 // The block of a frame, by the frame's range alone.

@@ -29,7 +29,7 @@ use sst_base::table::block::header::HEADER_LEN;
 use sst_base::{
     Block, BlockHandle, BlockHash, BlockOffset, BlockType, Error, History, InternalValue, Result,
 };
-use sst_block_kinds::{DataBlock, IndexBlock, KeyedBlockHandle};
+use sst_block_core::{DataBlock, IndexBlock, KeyedBlockHandle};
 use std::alloc::Global;
 use std::collections::LinkedList;
 use std::io::Write;

@@ -16,7 +16,7 @@ use super::open_block::{OpenBlock, has_entry, open_at, take_first, take_last};
 use super::run_ref::RunRef;
 use sst_base::double_ended_peekable::ListIterator;
 use sst_base::{BlockHash, InternalValue, Steps};
-use sst_block_kinds::table::data_block::EntryView;
+use sst_block_core::table::data_block::EntryView;
 use std::marker::Model;
 use std::mem;
 use std::ops::Bound;

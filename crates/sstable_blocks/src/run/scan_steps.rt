@@ -5,7 +5,7 @@ ghost use Rattle.std.specs.Prelude.{OnOk, IfOk, IfErr, IfSome, IsOkUnless, Match
 ghost use Rattle.std.specs.Iterator.{YieldsFirst, YieldsLast};
 ghost use Rattle.sst_base.specs.declared.error.Error.TheVariants.{Io};
 ghost use Rattle.sst_block_core.specs.Window.{items_left};
-ghost use Rattle.sst_block_kinds.specs.Handles.{Handle};
+ghost use Rattle.sst_block_core.specs.Handles.{Handle};
 ghost use Rattle.sstable_blocks.specs.RunReading.{hashes};
 ghost use Rattle.sstable_blocks.specs.Scans.{AllWithin, AreScanEnds, between, block_within, error_of};
 ghost use Rattle.sstable_blocks.specs.Scans.{end_block, first_block, in_range};
@@ -17,7 +17,7 @@ use super::bounds::Bounds;
 use super::opener::BlockOpener;
 use super::search::IndexSearch;
 use sst_base::{BlockHash, Error, InternalValue, Result, Steps};
-use sst_block_kinds::table::data_block::IntoEntries;
+use sst_block_core::table::data_block::IntoEntries;
 use std::alloc::Global;
 use std::mem;
 

@@ -12,22 +12,22 @@ ghost use Rattle.sst_block_core.specs.Entries.{entries};
 ghost use Rattle.sst_block_core.specs.Intervals.{digits};
 ghost use Rattle.sst_block_core.specs.Pointers.{head_count};
 ghost use Rattle.sst_block_core.specs.Window.{count_passed, first_match};
-ghost use Rattle.sst_block_kinds.specs.Checks.{data_check};
-ghost use Rattle.sst_block_kinds.specs.DataBlock.{data_block_of};
-ghost use Rattle.sst_block_kinds.specs.HandleRanges.{handle_range};
-ghost use Rattle.sst_block_kinds.specs.Handles.{handles};
-ghost use Rattle.sst_block_kinds.specs.ParsedEntry.{IsParsedEntry, entry_of};
-ghost use Rattle.sst_block_kinds.specs.PointReads.{read_least, read_most};
-ghost use Rattle.sst_block_kinds.specs.PointReads.{ref_read_least, ref_read_most};
+ghost use Rattle.sst_block_core.specs.Checks.{data_check};
+ghost use Rattle.sst_block_core.specs.DataBlock.{data_block_of};
+ghost use Rattle.sst_block_core.specs.HandleRanges.{handle_range};
+ghost use Rattle.sst_block_core.specs.Handles.{handles};
+ghost use Rattle.sst_block_core.specs.ParsedEntry.{IsParsedEntry, entry_of};
+ghost use Rattle.sst_block_core.specs.PointReads.{read_least, read_most};
+ghost use Rattle.sst_block_core.specs.PointReads.{ref_read_least, ref_read_most};
 ghost use Rattle.sstable_blocks.specs.Lookup.{handle_for};
 ghost use Rattle.sstable_blocks.specs.Opened.{range_of};
 ghost use Rattle.sstable_blocks.specs.ReadCosts.{handles_most};
 
 use sst_base::{Block, BlockHandle, BlockHash, Error, InternalValue, Result, SeqNo, Steps};
 use sst_block_core::table::block::bound::Bound;
-use sst_block_kinds::DataBlock;
-use sst_block_kinds::table::data_block::{DataBlockParsedItem, DataBlockRef};
-use sst_block_kinds::table::index_block::IndexBlockRef;
+use sst_block_core::DataBlock;
+use sst_block_core::table::data_block::{DataBlockParsedItem, DataBlockRef};
+use sst_block_core::table::index_block::IndexBlockRef;
 use std::alloc::Global;
 use std::marker::Model;
 
@@ -38,7 +38,7 @@ pub(crate) struct IndexSearch<'a> {
 }
 
 impl<'a> Model for IndexSearch<'a> {
-    ghost use Rattle.sst_block_kinds.specs.IndexBlock.{IndexRefParts};
+    ghost use Rattle.sst_block_core.specs.IndexBlock.{IndexRefParts};
 
     ghost Value = { IndexRefParts };
 
@@ -124,7 +124,7 @@ pub(crate) struct DataSearch<H: BlockHash> {
 }
 
 impl<H: BlockHash> Model for DataSearch<H> {
-    ghost use Rattle.sst_block_kinds.specs.DataBlock.{DataBlockParts};
+    ghost use Rattle.sst_block_core.specs.DataBlock.{DataBlockParts};
 
     ghost Value = { DataBlockParts };
 
@@ -177,7 +177,7 @@ pub(crate) struct DataSearchRef<'a, H: BlockHash> {
 }
 
 impl<'a, H: BlockHash> Model for DataSearchRef<'a, H> {
-    ghost use Rattle.sst_block_kinds.specs.DataBlock.{DataRefParts};
+    ghost use Rattle.sst_block_core.specs.DataBlock.{DataRefParts};
 
     ghost Value = { DataRefParts };
 

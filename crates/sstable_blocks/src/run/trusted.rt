@@ -6,7 +6,7 @@ ghost use Rattle.sst_base.specs.Entry.{Entry};
 ghost use Rattle.sst_block_core.specs.Entries.{entries};
 ghost use Rattle.sst_block_core.specs.Stages.{items_in};
 ghost use Rattle.sst_block_core.specs.Window.{first_match};
-ghost use Rattle.sst_block_kinds.specs.Handles.{Handle};
+ghost use Rattle.sst_block_core.specs.Handles.{Handle};
 ghost use Rattle.sstable_blocks.specs.Blocks.{joined};
 ghost use Rattle.sstable_blocks.specs.Opened.{IsDenied, index_in, payload_in, range_of};
 ghost use Rattle.sstable_blocks.specs.ReadCosts.{heads_most_in, entries_most_in};
@@ -22,7 +22,7 @@ use super::read::{block_in, read_by_index};
 use super::run_ref::RunRef;
 use super::search::IndexSearch;
 use sst_base::{BlockHash, Error, InternalValue, Result, SeqNo, Slice, Steps};
-use sst_block_kinds::DataBlock;
+use sst_block_core::DataBlock;
 use std::alloc::Global;
 use std::marker::{Model, PhantomData};
 

@@ -15,7 +15,7 @@ use super::opener::BlockOpener;
 use super::scan_steps::{Blocks, step_back, step_front};
 use super::trusted::Trusted;
 use sst_base::{BlockHash, Count, Error, InternalValue, Result};
-use sst_block_kinds::DataBlock;
+use sst_block_core::DataBlock;
 use std::alloc::Global;
 use std::marker::Model;
 use std::ops::Bound;

@@ -4,8 +4,8 @@ use Rattle.sst_base.specs.Reading.{number_at, length_prefixed_at}
 use Rattle.sst_block_core.specs.Body.{body, items_at}
 use Rattle.sst_block_core.specs.Trailer.{trailer_from}
 use Rattle.sst_block_core.specs.Stages.{items_by}
-use Rattle.sst_block_kinds.specs.Handles.{fields, fields_at, full, full_at, truncated, truncated_at}
-use Rattle.sst_block_kinds.specs.Checks.{index_check}
+use Rattle.sst_block_core.specs.Handles.{fields, fields_at, full, full_at, truncated, truncated_at}
+use Rattle.sst_block_core.specs.Checks.{index_check}
 use Rattle.sst_block_kinds_tests.proofs.vectors.hostile_handles.Goals as goal
 
 pub returns : goal.returns

@@ -8,7 +8,7 @@ use Rattle.sst_block_core.specs.Buckets.{buckets}
 use Rattle.sst_block_core.specs.Payload.{trailer_of}
 use Rattle.sst_block_core.specs.Stages.{items_by}
 use Rattle.sst_block_core.specs.Entries.{full, full_at, truncated, truncated_form_at, truncated_at}
-use Rattle.sst_block_kinds.specs.Checks.{data_check}
+use Rattle.sst_block_core.specs.Checks.{data_check}
 use Rattle.sst_block_kinds_tests.proofs.vectors.hostile_trailers.Goals as goal
 
 pub returns : goal.returns

@@ -5,7 +5,7 @@ use Rattle.sst_block_core.specs.Pointers.{index_bytes}
 use Rattle.sst_block_core.specs.Buckets.{buckets}
 use Rattle.sst_block_core.specs.Payload.{trailer_of}
 use Rattle.sst_block_core.specs.Trailer.{trailer}
-use Rattle.sst_block_kinds.specs.Handles.{full, truncated, fields}
+use Rattle.sst_block_core.specs.Handles.{full, truncated, fields}
 use Rattle.sst_block_kinds_tests.proofs.vectors.three_handles.Goals as goal
 
 pub returns : goal.returns

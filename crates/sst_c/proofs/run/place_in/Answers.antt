@@ -1,5 +1,5 @@
 use Rattle.std.proofs.Common.{List, ℕ, subst, sym}
-use Rattle.sst_block_kinds.specs.ParsedEntry.{entry_of}
+use Rattle.sst_block_core.specs.ParsedEntry.{entry_of}
 use Rattle.sstable_blocks.specs.Opened.{payload_in}
 use Rattle.sst_c.specs.Blocks.{IsPlaceOf}
 use Rattle.sst_c.specs.declared.data_block.SstPlace.{SstPlace}

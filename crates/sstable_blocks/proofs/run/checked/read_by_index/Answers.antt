@@ -1,7 +1,7 @@
 use Rattle.std.proofs.Common.{List, ap, ◌∙◌}
 use Rattle.std.specs.Option.{option_map}
-use Rattle.sst_block_kinds.specs.Handles.{Handle, handles}
-use Rattle.sst_block_kinds.specs.IndexBlock.{IndexRefParts}
+use Rattle.sst_block_core.specs.Handles.{Handle, handles}
+use Rattle.sst_block_core.specs.IndexBlock.{IndexRefParts}
 use Rattle.sstable_blocks.specs.Lookup.{handle_for}
 use Rattle.sstable_blocks.specs.Opened.{range_of}
 use Rattle.sstable_blocks.specs.RunReading.{hashes}

@@ -1,7 +1,7 @@
 use Rattle.std.proofs.Common.{◌≡◌, ◌+◌, length}
 use Rattle.std.specs.List.{AllByRecursion}
 use Rattle.sst_block_core.specs.Window.{items_left}
-use Rattle.sst_block_kinds.specs.Handles.{EndFits}
+use Rattle.sst_block_core.specs.Handles.{EndFits}
 use Rattle.sstable_blocks.specs.RunReading.{hashes}
 use Rattle.sstable_blocks.specs.Sources.{KeepsSource}
 use Rattle.sstable_blocks.proofs.RunCheckSteps.{BlocksLeft}

@@ -1,5 +1,5 @@
 use Rattle.std.proofs.Common.{ℕ, List, sym, subst, IfSome}
-use Rattle.sst_block_kinds.specs.Handles.{IsIndexBlock}
+use Rattle.sst_block_core.specs.Handles.{IsIndexBlock}
 use Rattle.sstable_blocks.specs.Opened.{IsFrameRange, IsDenied, index_in, payload_in}
 use Rattle.sstable_blocks.specs.RunReading.{hashes}
 use Rattle.sstable_blocks.proofs.Points.{found_denied}

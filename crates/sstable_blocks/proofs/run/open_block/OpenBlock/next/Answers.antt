@@ -1,5 +1,5 @@
 use Rattle.std.proofs.Common.{◌∙◌, sym}
-use Rattle.sst_block_kinds.specs.ParsedEntry.{entry_of, IsParsedEntry}
+use Rattle.sst_block_core.specs.ParsedEntry.{entry_of, IsParsedEntry}
 use Rattle.sst_block_core.specs.ListSteps.{took_some}
 use Rattle.sstable_blocks.proofs.run.open_block.OpenBlock.next.Goals as goal
 

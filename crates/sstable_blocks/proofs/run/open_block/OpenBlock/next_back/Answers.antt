@@ -1,5 +1,5 @@
 use Rattle.std.proofs.Common.{◌∙◌, sym}
-use Rattle.sst_block_kinds.specs.ParsedEntry.{entry_of, IsParsedEntry}
+use Rattle.sst_block_core.specs.ParsedEntry.{entry_of, IsParsedEntry}
 use Rattle.sst_block_core.specs.ListSteps.{took_last}
 use Rattle.sstable_blocks.proofs.run.open_block.OpenBlock.next_back.Goals as goal
 

@@ -1,7 +1,7 @@
 use Rattle.std.proofs.Common.{◌≡◌, refl, ap, ◌∙◌, subst, ◌+◌, ℕ, List, length, IfOk}
 use Rattle.std.proofs.lemmas.Result.{err_from_is_err_and}
 use Rattle.sst_base.specs.declared.table.block.block_type.BlockType.TheVariants.{Index}
-use Rattle.sst_block_kinds.specs.Handles.{index_payload}
+use Rattle.sst_block_core.specs.Handles.{index_payload}
 use Rattle.sstable_blocks.specs.Run.{form, block_frames}
 use Rattle.sstable_blocks.specs.Writing.{Written, IsKept, IsFrameAppended}
 use Rattle.sstable_blocks.proofs.Endings.{index_text_is, index_refused, index_fits, part_refused, if_err_map, on_any, run}

@@ -1,6 +1,6 @@
 use Rattle.std.proofs.Common.{List, [], None, refl, ap, ◌∙◌}
 use Rattle.std.specs.Range.Bound.{bound_map}
-use Rattle.sst_block_kinds.specs.Handles.{Handle}
+use Rattle.sst_block_core.specs.Handles.{Handle}
 use Rattle.sstable_blocks.specs.Opened.{index_in}
 use Rattle.sstable_blocks.specs.RunReading.{hashes}
 use Rattle.sstable_blocks.specs.Scans.{KeyRange, end_block, first_block, left_by}

@@ -1,7 +1,7 @@
-use Rattle.sst_block_kinds.specs.IndexBlock.{IndexRefParts}
+use Rattle.sst_block_core.specs.IndexBlock.{IndexRefParts}
 use Rattle.std.proofs.Common.{ap, ◌∙◌}
 use Rattle.std.specs.Range.Bound.{bound_map}
-use Rattle.sst_block_kinds.specs.Handles.{Handle}
+use Rattle.sst_block_core.specs.Handles.{Handle}
 use Rattle.std.proofs.Common.{List}
 use Rattle.sstable_blocks.specs.RunReading.{hashes}
 use Rattle.sstable_blocks.specs.Scans.{KeyRange, first_block, end_block, left_in}

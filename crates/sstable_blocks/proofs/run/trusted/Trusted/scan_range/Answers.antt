@@ -1,7 +1,7 @@
 use Rattle.std.proofs.Common.{List, Some, ap, ◌∙◌, map}
 use Rattle.std.specs.Range.Bound.{bound_map}
 use Rattle.sst_base.specs.Entry.{plain}
-use Rattle.sst_block_kinds.specs.Handles.{Handle}
+use Rattle.sst_block_core.specs.Handles.{Handle}
 use Rattle.sstable_blocks.specs.Blocks.{joined}
 use Rattle.sstable_blocks.specs.Opened.{index_in}
 use Rattle.sstable_blocks.specs.RunReading.{hashes}

@@ -1,7 +1,7 @@
 use Rattle.std.proofs.Common.{◌≡◌, ◌<◌, Some, subst}
 use Rattle.std.specs.List.{slice_get}
-use Rattle.sst_block_kinds.specs.DataBlock.{DataBlockParts}
-use Rattle.sst_block_kinds.specs.Handles.{Handle}
+use Rattle.sst_block_core.specs.DataBlock.{DataBlockParts}
+use Rattle.sst_block_core.specs.Handles.{Handle}
 use Rattle.sstable_blocks.specs.Opened.{index_in, range_of}
 use Rattle.sstable_blocks.specs.RunReading.{hashes, items_at}
 use Rattle.sstable_blocks.specs.Scans.{CutterParts}

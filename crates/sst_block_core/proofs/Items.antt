@@ -1,0 +1,23 @@
+-- Data blocks and index blocks: how their items are read, checked and told apart.
+pub mod IndexBlocks
+pub mod EncodedForms
+pub mod BothEnds
+pub mod BackCosts
+pub mod OwnKeys
+pub mod OwnPrefixes
+pub mod EntryReads
+pub mod HandleReads
+pub mod OrderedSteps
+pub mod PlainEntries
+pub mod LookupReads
+pub mod CheckTests
+pub mod Verdicts
+pub mod CheckAnswers
+pub mod Accepted
+pub mod Truncations
+pub mod ExactEntries
+pub mod ExactHandles
+pub mod CheckRefusals
+pub mod Disorder
+pub mod MadeEntries
+pub mod TwoEnds

@@ -1,0 +1,309 @@
+//! Entries that borrow the bytes of their block, and the iterator over them.
+ghost use Rattle.std.specs.Prelude.{◌≡◌, ◌↔◌, ◌++◌, IfOk, IsOkUnless, IsTrue, length, refl};
+ghost use Rattle.std.specs.Ordering.{nat_cmp};
+ghost use Rattle.std.specs.Cmp.Lexicographic.{slice_cmp};
+ghost use Rattle.std.specs.Iterator.{YieldsFirst, YieldsLast, item_count};
+ghost use Rattle.sst_base.specs.ValueType.{IsTombstone};
+ghost use Rattle.sst_block_core.specs.Entries.{entries};
+ghost use Rattle.sst_block_core.specs.Found.{IsOptionalRange, optional_range};
+ghost use Rattle.sst_block_core.specs.Kind.{item_cmp};
+ghost use Rattle.sst_block_core.specs.Window.{items_left};
+ghost use Rattle.sst_block_core.specs.ParsedEntry.{entry_of, IsParsedEntry};
+ghost use Rattle.sst_block_core.specs.Tombstones.{is_tombstone};
+
+use crate::table::block::key_ranges::{bytes_of, compare_parts};
+use crate::table::data_block::block_ref::DataBlockRef;
+use crate::table::data_block::iter::Iter;
+use crate::table::data_block::parsed_item::DataBlockParsedItem;
+use sst_base::double_ended_peekable::ListIterator;
+use sst_base::table::util::{SliceIndexes, compare_prefixed_slice};
+use sst_base::{
+    AllocResult, BlockHash, Error, InternalValue, Result, SeqNo, Slice, TypeWord, ValueType,
+};
+use std::alloc::Global;
+use std::cmp::Ordering;
+use std::marker::Model;
+
+/// An entry of a block, whose parts borrow the bytes of the block's payload. Clauses see the entry.
+#[derive(Drop)]
+pub struct EntryView<'a> {
+    // The bytes that the key shares with the head of its restart interval, none in a full form.
+    prefix: &'a [u8],
+    // The key's own bytes.
+    rest: &'a [u8],
+    // The value, empty for a tombstone.
+    value: &'a [u8],
+    seqno: SeqNo,
+    value_type: TypeWord,
+}
+
+impl<'a> Model for EntryView<'a> {
+    ghost use Rattle.std.specs.Prelude.{◌++◌};
+    ghost use Rattle.sst_base.specs.Entry.{Entry, IsEntry};
+
+    ghost Value = { Entry };
+
+    ghost view = { λ e. record {
+      key = record {
+        user_key = e.prefix.now ++ e.rest.now;
+        seqno = e.seqno;
+        value_type = e.value_type;
+      };
+      value = e.value.now;
+    } };
+
+    ghost invariant = { λ e. IsEntry (record {
+      key = record {
+        user_key = e.prefix.now ++ e.rest.now;
+        seqno = e.seqno;
+        value_type = e.value_type;
+      };
+      value = e.value.now;
+    }) };
+}
+
+// The bytes of a range, none where there is no range.
+#[inline(always)]
+fn optional_bytes<'a>(payload: &'a [u8], range: &Option<SliceIndexes>) -> &'a [u8]
+    requires { IsOptionalRange payload.now range.now }
+    ensures { result.now ≡ optional_range payload.now range.now }
+{
+    match range {
+        Some(range) => bytes_of(payload, range),
+        None => &[],
+    }
+}
+
+impl<'a> EntryView<'a> {
+    /// Views the entry of a parsed item of a payload.
+    #[inline(always)]
+    pub fn new(payload: &'a [u8], item: DataBlockParsedItem) -> EntryView<'a>
+        requires { IsParsedEntry payload.now item }
+        ensures { result ≡ entry_of payload.now item }
+    {
+        EntryView {
+            prefix: optional_bytes(payload, &item.prefix),
+            rest: bytes_of(payload, &item.key),
+            value: optional_bytes(payload, &item.value),
+            seqno: item.seqno,
+            value_type: TypeWord::new(item.value_type),
+        }
+    }
+
+    /// Returns its sequence number.
+    #[inline(always)]
+    pub fn seqno(&self) -> SeqNo
+        ensures { result ≡ self.now.key.seqno }
+    {
+        self.seqno
+    }
+
+    /// Returns its value type.
+    #[inline(always)]
+    pub fn value_type(&self) -> ValueType
+        ensures { result ≡ self.now.key.value_type }
+    {
+        self.value_type.get()
+    }
+
+    /// Returns whether it is a tombstone of either kind.
+    pub fn is_tombstone(&self) -> bool
+        ensures value { result ≡ is_tombstone self.now.key.value_type }
+        ensures tombstone { IsTrue result ↔ IsTombstone self.now.key.value_type }
+    {
+        self.value_type.get().is_tombstone()
+    }
+
+    /// Returns the two parts of its user key: the bytes that it shares with the head of its
+    /// restart interval, none in a full form, and the key's own bytes. Joined they are the user
+    /// key.
+    #[inline(always)]
+    pub fn key_parts(&self) -> (&'a [u8], &'a [u8])
+        ensures { result.0.now ++ result.1.now ≡ self.now.key.user_key }
+    {
+        (self.prefix, self.rest)
+    }
+
+    /// Returns its value, which is empty for a tombstone.
+    #[inline(always)]
+    pub fn value(&self) -> &'a [u8]
+        ensures { result.now ≡ self.now.value }
+    {
+        self.value
+    }
+
+    /// Compares its user key with a needle, without joining prefix and rest.
+    pub fn compare_key(&self, needle: &[u8]) -> Ordering
+        ensures { result ≡ slice_cmp nat_cmp self.now.key.user_key needle.now }
+    {
+        compare_prefixed_slice(self.prefix, self.rest, needle)
+    }
+
+    /// Compares its user key with that of another entry, which may be of another block. Nothing is
+    /// joined.
+    pub fn compare_user_key(&self, other: &EntryView<'_>) -> Ordering
+        ensures { result ≡ slice_cmp nat_cmp self.now.key.user_key other.now.key.user_key }
+    {
+        compare_parts(self.prefix, self.rest, other.prefix, other.rest)
+    }
+
+    /// Compares it with another entry, which may be of another block: by user key rising, then by
+    /// sequence number falling. The value type plays no part.
+    pub fn compare(&self, other: &EntryView<'_>) -> Ordering
+        ensures { result ≡ item_cmp entries self.now other.now }
+    {
+        self.compare_user_key(other)
+            .then(other.seqno.cmp(&self.seqno))
+    }
+
+    /// Returns the 64-bit hash of its user key. A key is joined only where it is prefix-truncated
+    /// and the hash function cannot be continued.
+    ///
+    /// # Errors
+    ///
+    /// `Error::Memory` if an allocation fails.
+    pub fn hash_key<H: BlockHash>(&self, alloc: Global) -> Result<u64>
+        ensures ok { IfOk result (λ hash. hash ≡ H.hash64 self.now.key.user_key) }
+        ensures memory { IsOkUnless result Error.Memory }
+    {
+        if self.prefix.is_empty() {
+            return Ok(H::hash64(self.rest));
+        }
+        if let Some(hash) = H::hash64_behind(H::hash64(self.prefix), self.rest) {
+            return Ok(hash);
+        }
+        let key = Slice::fused(alloc, self.prefix, self.rest)?;
+        Ok(H::hash64(key.as_slice()))
+    }
+
+    /// Makes the entry: copies its user key and its value.
+    ///
+    /// # Errors
+    ///
+    /// `Error::Memory` if an allocation fails.
+    #[inline(always)]
+    pub fn to_entry(&self, alloc: Global) -> Result<InternalValue>
+        ensures ok { IfOk result (λ entry. entry ≡ self.now) }
+        ensures memory { IsOkUnless result Error.Memory }
+    {
+        // (a `?` would copy what it passes on)
+        let user_key = match Slice::fused(alloc, self.prefix, self.rest) {
+            Ok(user_key) => user_key,
+            Err(error) => return Err(error),
+        };
+        let value = match Slice::new(alloc, self.value) {
+            Ok(value) => value,
+            Err(error) => return Err(error),
+        };
+        let value_type = self.value_type.get();
+        Ok(InternalValue::from_components(user_key, value, self.seqno, value_type))
+    }
+}
+
+/// A copy borrows the same bytes. No memory is taken.
+impl<'a> Clone for EntryView<'a> {
+    ghost is_clone = { λ entry copy. copy ≡ entry };
+
+    fn clone(&self) -> AllocResult<EntryView<'a>> {
+        Ok(EntryView {
+            prefix: self.prefix,
+            rest: self.rest,
+            value: self.value,
+            seqno: self.seqno,
+            value_type: self.value_type.again(),
+        })
+    }
+}
+
+/// An iterator over the entries of a data block whose payload is borrowed. Clauses see the list of
+/// the entries left. No step takes memory.
+#[derive(Drop)]
+pub struct EntryViews<'a> {
+    iter: Iter<'a>,
+    payload: &'a [u8],
+}
+
+impl<'a> Model for EntryViews<'a> {
+    ghost use Rattle.std.specs.Prelude.{◌≡◌, List};
+    ghost use Rattle.sst_base.specs.Entry.{Entry};
+    ghost use Rattle.sst_block_core.specs.Window.{items_left};
+
+    ghost Value = { List Entry };
+
+    ghost view = { λ e. items_left e.iter.window };
+
+    ghost invariant = { λ e. e.payload.now ≡ e.iter.payload };
+}
+
+impl<'a> EntryViews<'a> {
+    /// Returns an iterator over the entries that an iterator over the same block has left, where
+    /// its seeks have left it. Takes no memory.
+    pub fn new<H: BlockHash>(block: &DataBlockRef<'a, H>, iter: Iter<'a>) -> EntryViews<'a>
+        requires { iter.payload ≡ block.now.payload }
+        ensures { result ≡ items_left iter.entry.window }
+    {
+        EntryViews {
+            iter,
+            payload: block.as_slice(),
+        }
+    }
+
+    /// Returns the number of entries left.
+    #[inline(always)]
+    pub fn count_left(&self) -> usize
+        ensures { result ≡ length self.now }
+    {
+        self.iter.count_left()
+    }
+}
+
+/// Returns the first entry left, if there is one.
+impl<'a> Iterator for EntryViews<'a> {
+    type Item = EntryView<'a>;
+
+    ghost next_gives = { YieldsFirst (λ s. s) };
+
+    ghost remaining = { item_count (λ s. s) };
+
+    #[inline(always)]
+    fn next(&mut self) -> Option<EntryView<'a>> {
+        let Some(item) = self.iter.next() else {
+            return None;
+        };
+        Some(EntryView::new(self.payload, item))
+    }
+}
+
+/// Returns the last entry left, if there is one.
+impl<'a> DoubleEndedIterator for EntryViews<'a> {
+    ghost next_back_gives = { YieldsLast (λ s. s) };
+
+    #[inline(always)]
+    fn next_back(&mut self) -> Option<EntryView<'a>> {
+        let Some(item) = self.iter.next_back() else {
+            return None;
+        };
+        Some(EntryView::new(self.payload, item))
+    }
+}
+
+/// The entries left, so that the iterator may be peeked at.
+impl<'a> ListIterator for EntryViews<'a> {
+    type Value = InternalValue;
+
+    ghost value_of = { λ _ entry. entry };
+
+    ghost items = { λ entries. entries };
+
+    ghost may_next = { λ _. tt };
+
+    ghost may_next_back = { λ _. tt };
+
+    ghost gives_first = { λ s r t step. step };
+
+    ghost gives_last = { λ s r t step. step };
+
+    ghost keeps_values = { λ s r t step. refl };
+
+    ghost keeps_values_back = { λ s r t step. refl };
+}

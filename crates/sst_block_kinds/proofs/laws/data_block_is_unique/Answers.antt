@@ -1,8 +1,0 @@
-use Rattle.sst_base.specs.Entry.{IsEntry}
-use Rattle.sst_block_core.specs.Entries.{entries}
-use Rattle.sst_block_core.specs.EntryLaws.{IsKind-entries}
-use Rattle.sst_block_core.specs.CanonicalLaws.{unique_from}
-use Rattle.sst_block_kinds.proofs.laws.data_block_is_unique.Goals as goal
-
-pub returns : goal.returns
-returns c = unique_from entries IsEntry IsKind-entries

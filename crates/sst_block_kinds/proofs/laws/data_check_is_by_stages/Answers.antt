@@ -1,5 +1,0 @@
-use Rattle.sst_block_kinds.proofs.Verdicts.{data_verdict}
-use Rattle.sst_block_kinds.proofs.laws.data_check_is_by_stages.Goals as goal
-
-pub returns : goal.returns
-returns c = data_verdict

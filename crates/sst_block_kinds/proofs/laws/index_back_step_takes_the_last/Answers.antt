@@ -1,6 +1,0 @@
-use Rattle.sst_block_core.specs.ListSteps.{scan_gives_last}
-use Rattle.sst_block_kinds.specs.ParsedHandle.{handle_of, IsParsedHandle}
-use Rattle.sst_block_kinds.proofs.laws.index_back_step_takes_the_last.Goals as goal
-
-pub returns : goal.returns
-returns c = scan_gives_last handle_of IsParsedHandle

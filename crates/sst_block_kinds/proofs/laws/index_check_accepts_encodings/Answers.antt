@@ -1,5 +1,0 @@
-use Rattle.sst_block_kinds.proofs.CheckAnswers.{index_accepts}
-use Rattle.sst_block_kinds.proofs.laws.index_check_accepts_encodings.Goals as goal
-
-pub returns : goal.returns
-returns c = index_accepts

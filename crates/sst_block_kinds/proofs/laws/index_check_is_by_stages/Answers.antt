@@ -1,5 +1,0 @@
-use Rattle.sst_block_kinds.proofs.Verdicts.{index_verdict}
-use Rattle.sst_block_kinds.proofs.laws.index_check_is_by_stages.Goals as goal
-
-pub returns : goal.returns
-returns c = index_verdict

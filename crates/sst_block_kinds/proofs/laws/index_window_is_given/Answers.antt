@@ -1,5 +1,0 @@
-use Rattle.sst_block_kinds.proofs.BothEnds.{handles_given}
-use Rattle.sst_block_kinds.proofs.laws.index_window_is_given.Goals as goal
-
-pub returns : goal.returns
-returns c = handles_given

@@ -1,7 +1,0 @@
-use Rattle.sst_block_kinds.proofs.IndexBlocks.{index_passes}
-use Rattle.sst_block_kinds.proofs.table.index_block.IndexBlock.new.Goals as goal
-
-pub returns-clause-read : goal.returns-clause-read
-returns-clause-read c = λ items r block.
-    let a = index_passes r c.args.block.payload items c.size-fits.ensures.fits block in
-    (a.1, a.0.parts.interval)
