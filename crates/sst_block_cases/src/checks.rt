@@ -3,11 +3,11 @@
 use sst_base::table::block::{Block, BlockType};
 use sst_base::{BlockHash, Error};
 use sst_block_core::{DataBlock, DataBlockRef, IndexBlock, IndexBlockRef};
-use sst_case_room::changes::changed;
-use sst_case_room::digest::Digest;
-use sst_case_room::fault::{Fault, Result};
-use sst_case_room::room::{Room, block_with};
-use sst_case_room::words::{alike, number_of, small_of};
+use crate::changes::changed;
+use crate::digest::Digest;
+use crate::fault::{Fault, Result};
+use crate::room::{Room, block_with};
+use crate::words::{alike, number_of, small_of};
 use std::alloc::Global;
 
 type Checked = std::result::Result<usize, Error>;

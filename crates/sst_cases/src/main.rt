@@ -9,34 +9,13 @@
 #![tactic(auto)]
 
 use sst_base::BlockHash;
-use sst_case_room::fault::Result;
-use sst_case_room::room::Room;
-use sst_case_room::runner::{Commands, run_files};
-use sst_case_room::{lists, payloads};
+use sst_block_cases::fault::Result;
+use sst_block_cases::room::Room;
+use sst_block_cases::runner::{Commands, run_files};
 use sst_program::LockFiles;
-use std::alloc::Global;
 use std::env::{self, Env};
 use std::process::ExitCode;
 use std::rt::Files;
-
-/// Performs a command, if it is one on blocks, on what they are made of, or on runs.
-fn perform<H: BlockHash>(
-    alloc: Global,
-    room: &mut Room,
-    name: &str,
-    words: &[&str],
-) -> Result<Option<String>> {
-    if let Some(answer) = sst_block_cases::perform::<H>(alloc, room, name, words)? {
-        return Ok(Some(answer));
-    }
-    if let Some(answer) = sst_index_cases::perform(alloc, room, name, words)? {
-        return Ok(Some(answer));
-    }
-    if let Some(answer) = sst_value_cases::perform::<H>(alloc, name, words)? {
-        return Ok(Some(answer));
-    }
-    sst_run_cases::perform::<H>(alloc, room, name, words)
-}
 
 /// All commands.
 struct AllCommands;
@@ -48,17 +27,10 @@ impl<R: LockFiles + AllocGlobal> Commands<R> for AllCommands {
         name: &str,
         words: &[&str],
     ) -> Result<Option<String>> {
-        let alloc = rt.alloc();
-        if let Some(answer) = lists::perform::<H>(alloc, room, name, words)? {
+        if let Some(answer) = sst_block_cases::perform::<H>(rt.alloc(), room, name, words)? {
             return Ok(Some(answer));
         }
-        if let Some(answer) = payloads::perform(alloc, room, name, words)? {
-            return Ok(Some(answer));
-        }
-        if let Some(answer) = perform::<H>(alloc, room, name, words)? {
-            return Ok(Some(answer));
-        }
-        sst_merge_cases::perform::<H, R>(rt, room, name, words)
+        sst_run_cases::perform::<H, R>(rt, room, name, words)
     }
 }
 
@@ -68,7 +40,7 @@ fn run<R: Env + Files + LockFiles + Print + AllocGlobal>(rt: &R) -> Result<bool>
     if let [first, operation, times] = words.as_slice()
         && first.as_str() == "repeat"
     {
-        sst_refused::perform(rt, operation.as_str(), times.as_str())?;
+        sst_run_cases::refused::perform(rt, operation.as_str(), times.as_str())?;
         return Ok(true);
     }
     run_files::<AllCommands, R>(rt, words.as_slice())

@@ -2,10 +2,10 @@
 
 use crate::{filters, frames, runs};
 use sst_base::BlockHash;
-use sst_case_room::changes::changed;
-use sst_case_room::digest::Digest;
-use sst_case_room::fault::{Fault, Result};
-use sst_case_room::room::Room;
+use sst_block_cases::changes::changed;
+use sst_block_cases::digest::Digest;
+use sst_block_cases::fault::{Fault, Result};
+use sst_block_cases::room::Room;
 use std::alloc::Global;
 
 /// Performs a command, if it is one on frames, filters or runs.

@@ -2,10 +2,10 @@
 ghost use Rattle.std.specs.Prelude.{◌≡◌};
 
 use sst_base::{BlockHash, BlockType};
-use sst_case_room::fault::{Fault, Result};
-use sst_case_room::room::{Room, block_with};
-use sst_case_room::texts::agreed;
-use sst_case_room::words::{bytes_of, hex_of, number_of, push_word, size_of, small_of};
+use sst_block_cases::fault::{Fault, Result};
+use sst_block_cases::room::{Room, block_with};
+use sst_block_cases::texts::agreed;
+use sst_block_cases::words::{bytes_of, hex_of, number_of, push_word, size_of, small_of};
 use sstable_blocks::table::filter::bit_array::{self, BitArrayReader};
 use sstable_blocks::table::filter::standard_bloom::{
     Builder, StandardBloomFilterReader, secondary_hash,

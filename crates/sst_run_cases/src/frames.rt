@@ -3,10 +3,10 @@
 use sst_base::coding::{Decode, Encode};
 use sst_base::table::block::{Block, BlockHandle, BlockOffset, BlockType, Header};
 use sst_base::{BlockHash, Slice};
-use sst_case_room::fault::{Fault, Result};
-use sst_case_room::room::Room;
-use sst_case_room::texts::shown;
-use sst_case_room::words::{hex_of, number_of, size_of};
+use sst_block_cases::fault::{Fault, Result};
+use sst_block_cases::room::Room;
+use sst_block_cases::texts::shown;
+use sst_block_cases::words::{hex_of, number_of, size_of};
 use std::alloc::Global;
 use std::io::Cursor;
 

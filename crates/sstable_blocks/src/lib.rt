@@ -8,6 +8,7 @@
 pub mod laws;
 pub mod run;
 pub mod table;
+pub mod xxh3_hash;
 
 pub use run::{
     BorrowedSource, BufferedFile, CheckedRun, FileSource, FrameSource, LockFiles, MemorySource,
@@ -23,5 +24,5 @@ pub use sst_base::{
     key, slice, value, value_type,
 };
 pub use sst_block_core::{DataBlock, IndexBlock, KeyedBlockHandle};
-pub use sst_xxh3::Xxh3;
+pub use xxh3_hash::Xxh3;
 pub use table::filter::{self, FilterBlock};

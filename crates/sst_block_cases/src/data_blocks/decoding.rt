@@ -7,8 +7,8 @@ use super::walks::taken;
 use sst_base::{BlockHash, InternalValue, compare_bytes};
 use sst_block_core::{DataBlock, DataBlockParsedItem, Decoder};
 use sst_block_core::laws::data_block_is_read;
-use sst_case_room::fault::{Fault, Result};
-use sst_case_room::words::{bytes_of, number_of, push_word, repeated, truth};
+use crate::fault::{Fault, Result};
+use crate::words::{bytes_of, number_of, push_word, repeated, truth};
 use std::alloc::Global;
 
 /// A decoder of the entries of a data block.

@@ -7,10 +7,10 @@ use sst_base::{BlockHash, HashRatio, InternalValue, Slice};
 use sst_block_core::table::block::encoder::Encoder;
 use sst_block_core::table::block::hash_index::Lookup;
 use sst_block_core::DataBlock;
-use sst_case_room::digest::hash_of;
-use sst_case_room::fault::{Fault, Result};
-use sst_case_room::lists::parts_of;
-use sst_case_room::words::{bytes_of, hex_of, number_of, small_of};
+use crate::digest::hash_of;
+use crate::fault::{Fault, Result};
+use crate::lists::parts_of;
+use crate::words::{bytes_of, hex_of, number_of, small_of};
 use std::alloc::Global;
 
 /// The numbers of a block.

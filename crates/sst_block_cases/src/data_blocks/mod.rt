@@ -10,8 +10,8 @@ mod walks;
 use sst_base::BlockHash;
 use sst_base::table::block::BlockType;
 use sst_block_core::DataBlock;
-use sst_case_room::fault::Result;
-use sst_case_room::room::{Room, block_with};
+use crate::fault::Result;
+use crate::room::{Room, block_with};
 use std::alloc::Global;
 
 /// A block without the table of its heads and with it.

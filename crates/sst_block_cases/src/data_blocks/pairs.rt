@@ -4,10 +4,10 @@ use super::encoding::encoded;
 use sst_base::{BlockHash, InternalValue};
 use sst_block_core::table::data_block::EntryRef;
 use sst_block_core::{DataBlock, EntryParts};
-use sst_case_room::digest::Digest;
-use sst_case_room::fault::{Fault, Result};
-use sst_case_room::room::Room;
-use sst_case_room::words::{bytes_of, number_of, truth, type_of};
+use crate::digest::Digest;
+use crate::fault::{Fault, Result};
+use crate::room::Room;
+use crate::words::{bytes_of, number_of, truth, type_of};
 use std::alloc::Global;
 use std::cmp::Ordering;
 

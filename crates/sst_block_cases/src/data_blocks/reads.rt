@@ -5,10 +5,10 @@ use super::{Blocks, Opened};
 use sst_base::{BlockHash, InternalValue, Slice, Steps};
 use sst_block_core::{DataBlock, DataBlockParsedItem, DataBlockRef, ParsedItem};
 use sst_block_core::table::data_block::{EntryRef, EntryView};
-use sst_case_room::digest::Digest;
-use sst_case_room::fault::{Fault, Result};
-use sst_case_room::room::Room;
-use sst_case_room::words::{alike, bytes_of, number_of, word_of, word_of_found};
+use crate::digest::Digest;
+use crate::fault::{Fault, Result};
+use crate::room::Room;
+use crate::words::{alike, bytes_of, number_of, word_of, word_of_found};
 use std::alloc::Global;
 
 /// A point read of bytes that are lent.

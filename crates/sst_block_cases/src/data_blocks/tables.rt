@@ -4,9 +4,9 @@ use super::Opened;
 use sst_base::{BlockHash, Error, Steps};
 use sst_block_core::table::block::heads::front_of;
 use sst_block_core::DataBlock;
-use sst_case_room::fault::{Fault, Result};
-use sst_case_room::texts::word_of_table;
-use sst_case_room::words::{bytes_of, hex_of, number_of, push_word};
+use crate::fault::{Fault, Result};
+use crate::texts::word_of_table;
+use crate::words::{bytes_of, hex_of, number_of, push_word};
 use std::alloc::Global;
 
 /// The offsets of the heads, by the binary index.

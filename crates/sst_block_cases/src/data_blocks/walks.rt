@@ -6,8 +6,8 @@ use super::{Blocks, Opened};
 use sst_base::{BlockHash, InternalValue, Slice};
 use sst_block_core::{DataBlock, DataBlockParsedItem, ParsedItem};
 use sst_block_core::table::data_block::{Answer, IntoEntries, Iter, Op, walk};
-use sst_case_room::fault::{Fault, Result};
-use sst_case_room::words::{
+use crate::fault::{Fault, Result};
+use crate::words::{
     alike, bytes_of, number_of, push_word, repeated, truth, word_of, word_of_found,
 };
 use std::alloc::Global;

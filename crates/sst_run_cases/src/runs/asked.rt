@@ -8,8 +8,8 @@ use super::checking::{checked, summary_of};
 use super::reads::{fetched, read_sound, read_trusted, text_of};
 use super::scans::{Path, scan_sound, scan_table, scan_trusted};
 use sst_base::{BlockHash, Slice, Steps};
-use sst_case_room::fault::{Fault, Result};
-use sst_case_room::room::Room;
+use sst_block_cases::fault::{Fault, Result};
+use sst_block_cases::room::Room;
 use sstable_blocks::Table;
 use sstable_blocks::run::{
     BorrowedSource, CheckedRun, FileSource, FrameSource, MemorySource, RunHandles, Trusted,

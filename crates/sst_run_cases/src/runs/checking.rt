@@ -2,10 +2,10 @@
 
 use super::asked::{Asked, Place, of_run};
 use sst_base::{BlockHash, Error};
-use sst_case_room::fault::{Fault, Result};
-use sst_case_room::room::Room;
-use sst_case_room::texts::agreed;
-use sst_case_room::words::hex_of;
+use sst_block_cases::fault::{Fault, Result};
+use sst_block_cases::room::Room;
+use sst_block_cases::texts::agreed;
+use sst_block_cases::words::hex_of;
 use sstable_blocks::run::{FrameSource, RunHandles, RunRef, RunSummary, check};
 use std::alloc::Global;
 

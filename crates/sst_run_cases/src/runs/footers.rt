@@ -2,9 +2,9 @@
 
 use super::text_of;
 use sst_base::{BlockHandle, BlockHash, BlockOffset, Slice};
-use sst_case_room::fault::{Fault, Result};
-use sst_case_room::room::Room;
-use sst_case_room::words::{number_of, size_of};
+use sst_block_cases::fault::{Fault, Result};
+use sst_block_cases::room::Room;
+use sst_block_cases::words::{number_of, size_of};
 use sstable_blocks::Table;
 use sstable_blocks::run::{
     FileSource, MemorySource, RunHandles, SizedSource, decode_footer, encode_footer,

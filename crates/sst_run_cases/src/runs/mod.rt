@@ -9,8 +9,8 @@ mod scans;
 mod writing;
 
 use sst_base::BlockHash;
-use sst_case_room::fault::Result;
-use sst_case_room::room::Room;
+use sst_block_cases::fault::Result;
+use sst_block_cases::room::Room;
 use sstable_blocks::run::RunHandles;
 use std::alloc::Global;
 

@@ -1,7 +1,7 @@
 //! Ranges of keys, as words.
 
-use sst_case_room::fault::{Fault, Result};
-use sst_case_room::words::bytes_of;
+use sst_block_cases::fault::{Fault, Result};
+use sst_block_cases::words::bytes_of;
 use std::alloc::Global;
 use std::ops::Bound;
 

@@ -7,11 +7,11 @@ ghost use Rattle.sstable_blocks.specs.Sound.{IsSound};
 use super::asked::{Asked, Place, Query, Wanted, by_trusted, of_run, of_sound};
 use sst_base::{BlockHash, Error, InternalValue, Slice, Steps};
 use sst_block_core::table::data_block::EntryView;
-use sst_case_room::digest::Digest;
-use sst_case_room::fault::{Fault, Result};
-use sst_case_room::room::Room;
-use sst_case_room::texts::agreed;
-use sst_case_room::words::{bytes_of, number_of, word_of, word_of_found};
+use sst_block_cases::digest::Digest;
+use sst_block_cases::fault::{Fault, Result};
+use sst_block_cases::room::Room;
+use sst_block_cases::texts::agreed;
+use sst_block_cases::words::{bytes_of, number_of, word_of, word_of_found};
 use sstable_blocks::run::{
     CheckedRun, FrameSource, RunHandles, Trusted, read_entry, read_entry_checked,
 };

@@ -1,0 +1,32 @@
+//! The commands of cases on index blocks.
+mod handles;
+mod walks;
+
+use sst_base::table::block::BlockType;
+use sst_block_core::IndexBlock;
+use crate::fault::Result;
+use crate::room::{Room, block_with};
+use std::alloc::Global;
+
+/// Returns the payload as an index block, with the table of its heads or without.
+fn index_block(alloc: Global, room: &Room, tabled: bool) -> Result<IndexBlock> {
+    let block = block_with(alloc, BlockType::Index, room.payload.as_slice())?;
+    if tabled {
+        Ok(IndexBlock::check(alloc, block)?)
+    } else {
+        Ok(IndexBlock::check_once(block)?)
+    }
+}
+
+/// Performs a command, if it is one on index blocks.
+pub fn perform(
+    alloc: Global,
+    room: &mut Room,
+    name: &str,
+    words: &[&str],
+) -> Result<Option<String>> {
+    if let Some(answer) = handles::perform(alloc, room, name, words)? {
+        return Ok(Some(answer));
+    }
+    walks::perform(alloc, room, name, words)
+}

@@ -1,0 +1,320 @@
+//! Commands on iterators over index blocks: seeks and steps, by each kind of iterator.
+ghost use Rattle.std.specs.Prelude.{◌≡◌, IfSome};
+ghost use Rattle.sst_block_core.specs.ParsedHandle.{IsParsedHandle};
+
+use crate::indexes::handles::word_of;
+use crate::indexes::index_block;
+use sst_base::Slice;
+use sst_base::table::block::BlockHandle;
+use sst_block_core::table::index_block::{
+    Answer, HandleRef, HandleView, Handles, IndexOp, Iter, walk,
+};
+use sst_block_core::{IndexBlock, IndexBlockParsedItem, IndexBlockRef, KeyedBlockHandle};
+use crate::digest::Digest;
+use crate::fault::{Fault, Result};
+use crate::room::Room;
+use crate::words::{alike, bytes_of, number_of, push_word, repeated, truth};
+use std::alloc::Global;
+
+/// The operation of a word: a step, or a seek with its name, its key and its sequence number, joined
+/// by `:`.
+fn op_of(alloc: Global, word: &str) -> Result<IndexOp> {
+    if word == "next" {
+        return Ok(IndexOp::Next);
+    }
+    if word == "back" {
+        return Ok(IndexOp::NextBack);
+    }
+    let (name, rest) = word.split_once(':').ok_or(Fault::Word)?;
+    let (key, seqno) = rest.split_once(':').ok_or(Fault::Word)?;
+    let key = Slice::from_vec(bytes_of(alloc, key)?)?;
+    match name {
+        "seek" => Ok(IndexOp::Seek(key, number_of(seqno)?)),
+        "upper" => Ok(IndexOp::SeekUpper(key, number_of(seqno)?)),
+        _ => Err(Fault::Word),
+    }
+}
+
+/// The operations of some words.
+fn ops_of(alloc: Global, words: &[&str]) -> Result<Vec<IndexOp>> {
+    let words = repeated(alloc, words)?;
+    let mut ops = Vec::new(alloc);
+    for word in &words {
+        ops.push(op_of(alloc, word)?)?;
+    }
+    Ok(ops)
+}
+
+/// Returns the word of a handle that borrows its block, and says if its parts are not those of the
+/// handle that it is made as.
+fn word_of_ref(alloc: Global, handle: &HandleRef<'_>) -> Result<String> {
+    let made = handle.clone()?.materialize(alloc)?;
+    let word = word_of(alloc, &made)?;
+    let is_number = handle.seqno() == made.seqno();
+    let is_place = handle.offset() == made.offset() && handle.size() == made.size();
+    let is_plain = handle.handle() == BlockHandle::new(made.offset(), made.size());
+    if is_number && is_place && is_plain && handle.compare_key(made.end_key().as_slice()).is_eq() {
+        return Ok(word);
+    }
+    Ok(format!(in alloc; "{word} of other parts")?)
+}
+
+/// The word of an item that a step takes.
+fn taken(alloc: Global, block: &IndexBlock, item: Option<IndexBlockParsedItem>) -> Result<String>
+    requires { IfSome item (IsParsedHandle block.now.payload) }
+{
+    match item {
+        Some(item) => word_of_ref(alloc, &block.handle(item)),
+        None => Ok(String::from_str(alloc, "none")?),
+    }
+}
+
+/// Makes a call of an iterator that borrows its block.
+fn call(alloc: Global, block: &IndexBlock, iter: &mut Iter<'_>, word: &str) -> Result<String>
+    requires { iter.old.payload ≡ block.now.payload }
+    ensures { iter.new.payload ≡ block.now.payload }
+{
+    if word == "left" {
+        return Ok(format!(in alloc; "{}", iter.count_left())?);
+    }
+    match op_of(alloc, word)? {
+        IndexOp::Next => taken(alloc, block, iter.next()),
+        IndexOp::NextBack => taken(alloc, block, iter.next_back()),
+        IndexOp::Seek(key, seqno) => truth(alloc, iter.seek(key.as_slice(), seqno)),
+        IndexOp::SeekUpper(key, seqno) => truth(alloc, iter.seek_upper(key.as_slice(), seqno)),
+    }
+}
+
+/// Makes calls of an iterator that borrows its block.
+fn by_iterator(alloc: Global, block: &IndexBlock, words: &[&str]) -> Result<String> {
+    let mut iter = block.iter();
+    let mut text = String::new(alloc);
+    for word in words {
+        push_word(&mut text, call(alloc, block, &mut iter, word)?.as_str())?;
+    }
+    Ok(text)
+}
+
+/// Steps of an iterator over the payload, without the table of the heads or with it.
+fn stepped(alloc: Global, room: &Room, words: &[&str], tabled: bool) -> Result<String> {
+    let block = index_block(alloc, room, tabled)?;
+    by_iterator(alloc, &block, words)
+}
+
+/// Steps of an iterator, counts among them, without the table of the heads and with it.
+fn steps(alloc: Global, room: &Room, words: &[&str]) -> Result<String> {
+    let words = repeated(alloc, words)?;
+    let bare = stepped(alloc, room, words.as_slice(), false)?;
+    let tabled = stepped(alloc, room, words.as_slice(), true)?;
+    alike(alloc, bare, "by the table", tabled)
+}
+
+/// The text of what `walk` answers.
+fn text_of(alloc: Global, answers: &[Answer<KeyedBlockHandle>]) -> Result<String> {
+    let mut text = String::new(alloc);
+    for answer in answers {
+        let word = match answer {
+            Answer::Found(found) => truth(alloc, *found)?,
+            Answer::Item(Some(handle)) => word_of(alloc, handle)?,
+            Answer::Item(None) => String::from_str(alloc, "none")?,
+        };
+        push_word(&mut text, word.as_str())?;
+    }
+    Ok(text)
+}
+
+/// What `walk` answers over a block.
+fn walked(alloc: Global, block: &IndexBlock, ops: &[IndexOp]) -> Result<String> {
+    let answers = walk(alloc, block, ops)?;
+    text_of(alloc, answers.as_slice())
+}
+
+/// A clone of the block of the payload, without the table of the heads or with it.
+fn cloned(alloc: Global, room: &Room, tabled: bool) -> Result<IndexBlock> {
+    let block = index_block(alloc, room, tabled)?;
+    Ok(block.clone()?)
+}
+
+/// What `walk` answers over a clone, without the table of the heads or with it.
+fn walked_over(alloc: Global, room: &Room, ops: &[IndexOp], tabled: bool) -> Result<String> {
+    let block = cloned(alloc, room, tabled)?;
+    walked(alloc, &block, ops)
+}
+
+/// Steps of an iterator, by one that borrows its block, and by `walk` over a clone, without the table
+/// of the heads and with it.
+fn walks(alloc: Global, room: &Room, words: &[&str]) -> Result<String> {
+    let all = steps(alloc, room, words)?;
+    let ops = ops_of(alloc, words)?;
+    let bare = walked_over(alloc, room, ops.as_slice(), false)?;
+    let tabled = walked_over(alloc, room, ops.as_slice(), true)?;
+    let all = alike(alloc, all, "by walk", bare)?;
+    alike(alloc, all, "by walk with a table", tabled)
+}
+
+/// The words of handles from the front.
+fn words_of(alloc: Global, handles: Handles<'_>) -> Result<Vec<String>> {
+    let mut words = Vec::new(alloc);
+    for handle in handles {
+        words.push(word_of_ref(alloc, &handle)?)?;
+    }
+    Ok(words)
+}
+
+/// The words of handles from the back, the first of which stands first again.
+fn words_back(alloc: Global, handles: Handles<'_>) -> Result<Vec<String>> {
+    let mut words = Vec::new(alloc);
+    for handle in handles.rev() {
+        words.push(word_of_ref(alloc, &handle)?)?;
+    }
+    words.reverse();
+    Ok(words)
+}
+
+/// The text of the words of handles: their number, and each of them.
+fn joined(alloc: Global, words: &[String]) -> Result<String> {
+    let mut text = format!(in alloc; "{} left", words.len())?;
+    for word in words {
+        push_word(&mut text, word.as_str())?;
+    }
+    Ok(text)
+}
+
+/// A bound of a word: a key, `:` and a sequence number.
+fn bound_of(alloc: Global, word: &str) -> Result<Bound> {
+    let (key, seqno) = word.split_once(':').ok_or(Fault::Word)?;
+    Ok((bytes_of(alloc, key)?, number_of(seqno)?))
+}
+
+/// A key and a sequence number.
+type Bound = (Vec<u8>, u64);
+
+/// The handles between two bounds, the lower one sought first, from the front.
+fn between_front(alloc: Global, block: &IndexBlock, from: &Bound, upto: &Bound) -> Result<String> {
+    let mut iter = block.iter();
+    iter.seek(from.0.as_slice(), from.1);
+    iter.seek_upper(upto.0.as_slice(), upto.1);
+    let words = words_of(alloc, Handles::new(block, iter))?;
+    joined(alloc, words.as_slice())
+}
+
+/// The handles between two bounds, the upper one sought first, from the back.
+fn between_back(alloc: Global, block: &IndexBlock, from: &Bound, upto: &Bound) -> Result<String> {
+    let mut iter = block.iter();
+    iter.seek_upper(upto.0.as_slice(), upto.1);
+    iter.seek(from.0.as_slice(), from.1);
+    let words = words_back(alloc, Handles::new(block, iter))?;
+    joined(alloc, words.as_slice())
+}
+
+/// The handles of a block between two bounds, from the front and from the back.
+fn between_of(alloc: Global, block: &IndexBlock, from: &Bound, upto: &Bound) -> Result<String> {
+    let front = between_front(alloc, block, from, upto)?;
+    let back = between_back(alloc, block, from, upto)?;
+    alike(alloc, front, "from the back", back)
+}
+
+/// The handles between two bounds, the lower one sought first from the front, and the upper one first
+/// from the back: BOUND BOUND.
+fn between(alloc: Global, room: &Room, words: &[&str]) -> Result<String> {
+    let [from, upto] = words else {
+        return Err(Fault::Word);
+    };
+    let (from, upto) = (bound_of(alloc, from)?, bound_of(alloc, upto)?);
+    let block = index_block(alloc, room, false)?;
+    between_of(alloc, &block, &from, &upto)
+}
+
+/// The number and the digest of the words of handles.
+fn digest_of(alloc: Global, words: &[String]) -> Result<String> {
+    let mut digest = Digest::new();
+    for word in words {
+        digest.add(word.as_str());
+    }
+    let (count, state) = (words.len(), digest.state);
+    Ok(format!(in alloc; "{count} handles, {state:016x}")?)
+}
+
+/// The word of a handle of bytes that are lent.
+fn word_of_view(alloc: Global, view: &HandleView<'_>) -> Result<String> {
+    word_of(alloc, &view.to_handle(alloc)?)
+}
+
+/// The handles of bytes that are lent, with or without a table of their heads.
+fn by_views(alloc: Global, page: &IndexBlockRef<'_>) -> Result<String> {
+    let mut words = Vec::new(alloc);
+    for view in page.handles() {
+        words.push(word_of_view(alloc, &view)?)?;
+    }
+    digest_of(alloc, words.as_slice())
+}
+
+/// The digest of the handles of a block from the front.
+fn digest_front(alloc: Global, block: &IndexBlock) -> Result<String> {
+    let words = words_of(alloc, block.handles())?;
+    digest_of(alloc, words.as_slice())
+}
+
+/// The digest of the handles of a block from the back.
+fn digest_back(alloc: Global, block: &IndexBlock) -> Result<String> {
+    let words = words_back(alloc, block.handles())?;
+    digest_of(alloc, words.as_slice())
+}
+
+/// The digest of the handles of the payload, from either end.
+fn digests(alloc: Global, room: &Room) -> Result<String> {
+    let block = index_block(alloc, room, false)?;
+    let front = digest_front(alloc, &block)?;
+    let back = digest_back(alloc, &block)?;
+    alike(alloc, front, "from the back", back)
+}
+
+/// The digest of the handles of the payload, which is lent.
+fn by_lent(alloc: Global, room: &Room) -> Result<String> {
+    let page = IndexBlockRef::check(room.payload.as_slice())?;
+    by_views(alloc, &page)
+}
+
+/// The digest of the handles of the payload, which is lent, with a table of their heads.
+fn by_lent_with_table(alloc: Global, room: &Room) -> Result<String> {
+    let page = IndexBlockRef::check(room.payload.as_slice())?;
+    let heads = page.make_heads(alloc)?;
+    by_views(alloc, &page.with_table(&heads))
+}
+
+/// The number of the handles, and their digest, by each way to go over them.
+fn handles(alloc: Global, room: &Room) -> Result<String> {
+    let all = digests(alloc, room)?;
+    let views = by_lent(alloc, room)?;
+    let all = alike(alloc, all, "by views", views)?;
+    let views = by_lent_with_table(alloc, room)?;
+    alike(alloc, all, "with a table", views)
+}
+
+/// Takes the handles of the payload as the list.
+fn take(alloc: Global, room: &mut Room) -> Result<String> {
+    let block = index_block(alloc, room, false)?;
+    room.handles = Vec::new(alloc);
+    for handle in block.handles() {
+        room.handles.push(handle.materialize(alloc)?)?;
+    }
+    Ok(format!(in alloc; "{} handles", room.handles.len())?)
+}
+
+/// Performs a command, if it is one on iterators over index blocks.
+pub fn perform(
+    alloc: Global,
+    room: &mut Room,
+    name: &str,
+    words: &[&str],
+) -> Result<Option<String>> {
+    let answer = match name {
+        "walk_index" => walks(alloc, room, words),
+        "steps_index" => steps(alloc, room, words),
+        "between" => between(alloc, room, words),
+        "handles_of" => handles(alloc, room),
+        "take_handles" => take(alloc, room),
+        _ => return Ok(None),
+    };
+    Ok(Some(answer?))
+}

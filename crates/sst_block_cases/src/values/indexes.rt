@@ -1,0 +1,85 @@
+//! Commands on the indexes of a block: buckets and pointers.
+
+use sst_base::{BlockHash, HashRatio};
+use sst_block_core::table::block::{binary_index, hash_index};
+use crate::fault::{Fault, Result};
+use crate::words::{bytes_of, number_of, push_word, small_of, truth};
+use std::alloc::Global;
+
+/// Returns the number below 2^32 that a word encodes.
+fn count_of(word: &str) -> Result<u32> {
+    match word.parse::<u32>() {
+        Ok(number) => Ok(number),
+        Err(_) => Err(Fault::Word),
+    }
+}
+
+/// The number of buckets of as many items at a ratio: ITEMS NUM DEN.
+fn ratio<H: BlockHash>(alloc: Global, words: &[&str]) -> Result<String> {
+    let [items, num, den] = words else {
+        return Err(Fault::Word);
+    };
+    let (items, num, den) = (number_of(items)? as usize, count_of(num)?, count_of(den)?);
+    if den == 0 {
+        return Err(Fault::Word);
+    }
+    let ratio = HashRatio { num, den };
+    let builder = hash_index::Builder::<H>::with_hash_ratio(alloc, items, ratio)?;
+    Ok(format!(in alloc; "{}", builder.bucket_count())?)
+}
+
+/// Two interval numbers that are set in one bucket: whether each is kept, the bucket's byte, and how
+/// many conflicts there are: NUMBER NUMBER.
+fn set_two<H: BlockHash>(alloc: Global, words: &[&str]) -> Result<String> {
+    let [first, second] = words else {
+        return Err(Fault::Word);
+    };
+    let (first, second) = (small_of(first)?, small_of(second)?);
+    if first > 253 || second > 253 {
+        return Err(Fault::Word);
+    }
+    let mut builder = hash_index::Builder::<H>::with_bucket_count(alloc, 1)?;
+    let one = truth(alloc, builder.set(b"a", first))?;
+    let other = truth(alloc, builder.set(b"b", second))?;
+    let mut bytes = Vec::new(alloc);
+    builder.write(&mut bytes)?;
+    if bytes.len() != 1 {
+        return Err(Fault::Word);
+    }
+    let reader = hash_index::Reader::<H>::new(bytes.as_slice(), 0, 1);
+    let (byte, conflicts) = (reader.get(b"c"), reader.conflict_count());
+    Ok(format!(in alloc; "{one} {other} {byte}, {conflicts} conflicts")?)
+}
+
+/// The pointers in bytes: BYTES OFFSET COUNT WIDTH.
+fn pointers(alloc: Global, words: &[&str]) -> Result<String> {
+    let [bytes, offset, count, width] = words else {
+        return Err(Fault::Word);
+    };
+    let bytes = bytes_of(alloc, bytes)?;
+    let (offset, count, width) = (small_of(offset)?, small_of(count)?, small_of(width)?);
+    if width != 2 && width != 4 {
+        return Err(Fault::Word);
+    }
+    if usize::from(offset) + usize::from(count) * usize::from(width) > bytes.len() {
+        return Err(Fault::Word);
+    }
+    let (offset, count) = (u32::from(offset), u32::from(count));
+    let reader = binary_index::Reader::new(bytes.as_slice(), offset, count, width);
+    let mut text = format!(in alloc; "{}", reader.len())?;
+    for at in 0..reader.len() {
+        push_word(&mut text, format!(in alloc; "{}", reader.get(at))?.as_str())?;
+    }
+    Ok(text)
+}
+
+/// Performs a command, if it is one on indexes.
+pub fn perform<H: BlockHash>(alloc: Global, name: &str, words: &[&str]) -> Result<Option<String>> {
+    let answer = match name {
+        "ratio" => ratio::<H>(alloc, words),
+        "set_two" => set_two::<H>(alloc, words),
+        "pointers" => pointers(alloc, words),
+        _ => return Ok(None),
+    };
+    Ok(Some(answer?))
+}

@@ -1,0 +1,112 @@
+//! Commands on keys and entries: how they compare, and how they print.
+
+use sst_base::table::block::BlockType;
+use sst_base::{
+    Block, Checksum, Header, History, InternalKey, InternalValue, Slice, Steps, ValueType,
+};
+use crate::fault::{Fault, Result};
+use crate::words::{entry_of, truth, word_of};
+use std::alloc::Global;
+use std::mem::size_of;
+
+/// How two keys compare, and whether they are equal.
+fn compared(alloc: Global, left: &InternalKey, right: &InternalKey) -> Result<String> {
+    let (order, same) = (left.cmp(right), left == right);
+    Ok(format!(in alloc; "{order:?}, equal {same}")?)
+}
+
+/// How the keys of two entries compare, and whether they are equal: ENTRY ENTRY.
+fn keys(alloc: Global, words: &[&str]) -> Result<String> {
+    let [left, right] = words else {
+        return Err(Fault::Word);
+    };
+    let (left, right) = (entry_of(alloc, left)?, entry_of(alloc, right)?);
+    compared(alloc, left.key(), right.key())
+}
+
+/// An entry made by the constructor of its type.
+fn made(alloc: Global, entry: &InternalValue) -> Result<InternalValue> {
+    let (key, seqno) = (entry.key().user_key().clone()?, entry.key().seqno());
+    match entry.key().value_type() {
+        ValueType::Tombstone => Ok(InternalValue::new_tombstone(alloc, key, seqno)),
+        ValueType::WeakTombstone => Ok(InternalValue::new_weak_tombstone(alloc, key, seqno)),
+        value_type => {
+            let key = InternalKey::new(key, seqno, value_type);
+            Ok(InternalValue::new(key, entry.value().clone()?))
+        }
+    }
+}
+
+/// The entry of a word, made by the constructor of its type.
+fn made_of(alloc: Global, word: &str) -> Result<InternalValue> {
+    let entry = entry_of(alloc, word)?;
+    made(alloc, &entry)
+}
+
+/// How the clone of an entry prints.
+fn text_of_clone(alloc: Global, entry: &InternalValue) -> Result<String> {
+    let copy = entry.clone()?;
+    Ok(format!(in alloc; "{copy:?}")?)
+}
+
+/// How the clone of an entry prints, its word, and whether it is a tombstone.
+fn text_of(alloc: Global, entry: &InternalValue) -> Result<String> {
+    let (text, word) = (text_of_clone(alloc, entry)?, word_of(alloc, entry)?);
+    let dead = entry.is_tombstone();
+    Ok(format!(in alloc; "{text}, {word}, tombstone {dead}")?)
+}
+
+/// How an entry prints, made by the constructor of its type, and its clone, and whether it is a
+/// tombstone: ENTRY.
+fn print(alloc: Global, words: &[&str]) -> Result<String> {
+    let [word] = words else {
+        return Err(Fault::Word);
+    };
+    let entry = made_of(alloc, word)?;
+    text_of(alloc, &entry)
+}
+
+/// The parts of a block of a header and the payload `abc`.
+fn block(alloc: Global) -> Result<String> {
+    let header = Header {
+        block_type: BlockType::Data,
+        checksum: Checksum::from_raw(294),
+        data_length: 3,
+        uncompressed_length: 3,
+    };
+    let block = Block::from_parts(header, Slice::new(alloc, b"abc")?);
+    let same = truth(alloc, *block.header() == header)?;
+    let abc = truth(alloc, block.data().eq_bytes(b"abc"))?;
+    Ok(format!(in alloc; "header {same}, abc {abc}, size {}", block.size())?)
+}
+
+/// Counts, and notes what was seen.
+fn count() {
+    let mut steps = Steps::new();
+    steps.count_head();
+    steps.count_entry();
+    let mut both = Steps::new();
+    both.add(&steps);
+    let mut seen = History::new();
+    seen.push(&7u8);
+    seen.extend_from_slice(&[8, 9]);
+}
+
+/// The sizes of counters, of a history, and of a byte string; what is counted takes no memory.
+fn sizes(alloc: Global) -> Result<String> {
+    count();
+    let (counters, history) = (size_of::<Steps>(), size_of::<History<u64>>());
+    Ok(format!(in alloc; "{counters} {history} {}", size_of::<Slice>())?)
+}
+
+/// Performs a command, if it is one on keys and entries.
+pub fn perform(alloc: Global, name: &str, words: &[&str]) -> Result<Option<String>> {
+    let answer = match name {
+        "keys" => keys(alloc, words),
+        "print" => print(alloc, words),
+        "block" => block(alloc),
+        "sizes" => sizes(alloc),
+        _ => return Ok(None),
+    };
+    Ok(Some(answer?))
+}

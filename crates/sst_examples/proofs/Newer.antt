@@ -1,0 +1,137 @@
+-- Reads of newer and older versions.
+use Rattle.std.proofs.Common.{◌≡◌, ℕ, ◌<◌, Bool, true, false, cond, List, [], ◌∷◌, map, filter, slice_get, Option, Some, None, refl, sym, ap, subst, ◌∙◌, inl, inr}
+use Rattle.std.proofs.lemmas.Bool.{cases_Bool}
+use Rattle.std.specs.Cmp.{nat_cmp_is}
+use Rattle.std.specs.Cmp.Lexicographic.{slice_cmp}
+use Rattle.std.specs.List.{AllByRecursion}
+use Rattle.std.specs.Option.{option_map, IfSome}
+use Rattle.std.specs.Ordering.{nat_cmp, is_eq, is_lt, ordering_then}
+use Rattle.std.specs.Prelude.{nat_lt, ◌&&◌}
+use Rattle.std.specs.declared.cmp.Ordering.{Ordering}
+use Rattle.std.specs.declared.cmp.Ordering.TheVariants.{Less, Equal, Greater}
+use Rattle.sst_base.specs.Entry.{Entry, plain}
+use Rattle.sst_base.specs.KeyOrderLaws.{slice_cmp-equal}
+use Rattle.sst_block_core.specs.Entries.{entries}
+use Rattle.sst_block_core.specs.Kind.{IsOrdered}
+use Rattle.sst_block_core.specs.Window.{first_match, is_version}
+use Rattle.sst_merge.specs.Compact.{compact_from, unless_dropped}
+use Rattle.sst_merge.specs.Merge.{entry_cmp, lesser, merge, merge_after}
+use Rattle.sst_merge.specs.ReadLaws.{merge_match}
+use Rattle.sst_merge.specs.Snapshot.{deletes, has_last_key}
+use Rattle.sst_examples.specs.Levels.{AreBelow, AreNewer}
+
+-- what holds of all members of two lists holds of all of their merge
+module _ {X : Type 0} (cmp : X → X → Ordering) (P : X → Type 0) where
+  all_after : (x : X) (xs : List X) (after : List X → List X) → P x → AllByRecursion P xs → ((ys : List X) → AllByRecursion P ys → AllByRecursion P (after ys)) → (ys : List X) → AllByRecursion P ys → AllByRecursion P (merge_after cmp x xs after ys)
+  all_after x xs after here rest go [] all = (here, rest)
+  all_after x xs after here rest go (y ∷ ys) all = elim (is_lt (cmp y x)) as (λ b. AllByRecursion P (cond b (y ∷ merge_after cmp x xs after ys) (x ∷ after (y ∷ ys)))) [
+    | true ↦ (all.0, all_after x xs after here rest go ys all.1)
+    | false ↦ (here, go (y ∷ ys) all)
+  ]
+
+  pub all_merge : (xs ys : List X) → AllByRecursion P xs → AllByRecursion P ys → AllByRecursion P (merge cmp xs ys)
+  all_merge [] ys left right = right
+  all_merge (x ∷ xs) ys left right = all_after x xs (merge cmp xs) left.0 left.1 (λ zs h. all_merge xs zs left.1 h) ys right
+
+module _ (P : Entry → Type 0) where
+  -- of all that a compaction leaves
+  pub all_compact : (s : ℕ) (bottom : Bool) (last : Option (List ℕ)) (xs : List Entry) → AllByRecursion P xs → AllByRecursion P (compact_from (λ (e : Entry). e) s bottom last xs)
+  all_compact s bottom last [] all = tt
+  all_compact s bottom last (x ∷ xs) all =
+      let same = all_compact s bottom last xs all.1 in
+      let next = all_compact s bottom (Some x.key.user_key) xs all.1 in
+      let go = compact_from (λ (e : Entry). e) s bottom in
+      let fresh = unless_dropped (λ (e : Entry). e) bottom x (go (Some x.key.user_key) xs) in
+      elim (nat_lt x.key.seqno s) as (λ b. AllByRecursion P (cond b (cond (has_last_key (λ (e : Entry). e) last x) (go last xs) fresh) (x ∷ go last xs))) [
+        | false ↦ (all.0, same)
+        | true ↦ elim (has_last_key (λ (e : Entry). e) last x) as (λ b. AllByRecursion P (cond b (go last xs) fresh)) [
+          | true ↦ same
+          | false ↦ elim (bottom && deletes x.key.value_type) as (λ b. AllByRecursion P (cond b (go (Some x.key.user_key) xs) (x ∷ go (Some x.key.user_key) xs))) [
+            | true ↦ next
+            | false ↦ (all.0, next)
+          ]
+        ]
+      ]
+
+  -- and of all of a list, as decoded
+  pub all_plain : ((x : Entry) → P x → P (plain x)) → (xs : List Entry) → AllByRecursion P xs → AllByRecursion P (map plain xs)
+  all_plain keeps [] all = tt
+  all_plain keeps (x ∷ xs) all = (keeps x all.0, all_plain keeps xs all.1)
+
+-- what holds of all holds of all for which it implies more
+pub all_weaker : {X : Type 0} (P Q : X → Type 0) (xs : List X) → ((x : X) → P x → Q x) → AllByRecursion P xs → AllByRecursion Q xs
+all_weaker P Q [] weaker all = tt
+all_weaker P Q (x ∷ xs) weaker all = (weaker x all.0, all_weaker P Q xs weaker all.1)
+
+-- a test of two that is passed passes both
+pub both : (a b : Bool) → (a && b) ≡ true → (a ≡ true) × (b ≡ true)
+both true b h = (refl, h)
+both false b h = absurd (cc)
+
+is_equal : (o : Ordering) → is_eq o ≡ true → o ≡ Equal
+is_equal Less h = absurd (cc)
+is_equal Equal h = refl
+is_equal Greater h = absurd (cc)
+
+-- a version of a key has the key
+pub version_key : (needle : List ℕ) (s : ℕ) (x : Entry) → is_version entries needle s x ≡ true → x.key.user_key ≡ needle
+version_key needle s x h =
+    let k = both (nat_lt x.key.seqno s) (is_eq (slice_cmp nat_cmp x.key.user_key needle)) h in
+    (slice_cmp-equal x.key.user_key needle).0 (is_equal (slice_cmp nat_cmp x.key.user_key needle) k.1)
+
+-- the earlier of two first matches, if there is one
+abbrev pub or_older : Option Entry → Option Entry → Option Entry
+or_older None b = b
+or_older (Some a) b = Some a
+
+pub or_older_both : (a b c : Option Entry) → or_older (or_older a b) c ≡ or_older a (or_older b c)
+or_older_both None b c = refl
+or_older_both (Some a) b c = refl
+
+module _ (needle : List ℕ) (s : ℕ) where
+  -- a first match is a member as decoded, of which P holds, and a version of the needle below the number
+  pub record IsFound (P : Entry → Type 0) (e : Entry) : Type 0 where
+    pub member : Entry
+    pub holds : P member
+    pub is : plain member ≡ e
+    pub passes : is_version entries needle s member ≡ true
+
+  found_by : (P : Entry → Type 0) (xs : List Entry) → AllByRecursion P xs → IfSome (option_map plain (slice_get (filter (is_version entries needle s) xs) 0)) (IsFound P)
+  found_by P [] all = tt
+  found_by P (x ∷ xs) all =
+      let rest = filter (is_version entries needle s) xs in
+      let Goal : Bool → Type 0 = λ b. IfSome (option_map plain (slice_get (cond b (x ∷ rest) rest) 0)) (IsFound P) in
+      elim (cases_Bool (is_version entries needle s x)) [
+        | inl hit ↦ subst Goal (sym hit) (record { member = x; holds = all.0; is = refl; passes = hit })
+        | inr miss ↦ subst Goal (sym miss) (found_by P xs all.1)
+      ]
+
+  found : (P : Entry → Type 0) (xs : List Entry) → AllByRecursion P xs → IfSome (first_match entries needle s xs) (IsFound P)
+  unfolding first_match
+  found P xs all = found_by P xs all
+
+  -- an older version of the same key sorts after a newer one
+  sorts_after : (a b : Entry) → is_version entries needle s a ≡ true → is_version entries needle s b ≡ true → b.key.seqno < a.key.seqno → is_lt (entry_cmp b a) ≡ false
+  sorts_after a b here there less =
+      let same : slice_cmp nat_cmp b.key.user_key a.key.user_key ≡ Equal = (slice_cmp-equal b.key.user_key a.key.user_key).1 (version_key needle s b there ∙ sym (version_key needle s a here)) in
+      ap (λ o. is_lt (ordering_then o (nat_cmp a.key.seqno b.key.seqno))) same ∙ ap is_lt (sym (nat_cmp_is a.key.seqno b.key.seqno Greater less))
+
+  pick : (older : List Entry) (a b : Option Entry) → IfSome a (IsFound (λ x. AreBelow x.key.seqno older)) → ((n : ℕ) → AreBelow n older → IfSome b (IsFound (λ y. y.key.seqno < n))) → lesser entry_cmp a b ≡ or_older a b
+  pick older None b h k = refl
+  pick older (Some a) None h k = refl
+  pick older (Some a) (Some b) h k =
+      let g = k h.member.key.seqno h.holds in
+      let after : is_lt (entry_cmp b a) ≡ false =
+      ap (λ y. is_lt (entry_cmp y a)) (sym g.is) ∙ ap (λ x. is_lt (entry_cmp (plain g.member) x)) (sym h.is) ∙ sorts_after h.member g.member h.passes g.passes g.holds in
+      ap (λ t. cond t (Some b) (Some a)) after
+
+  -- a read of newer and older versions finds the first newer one, if there is one
+  pub newer_read : (newer older : List Entry) → IsOrdered entries newer → IsOrdered entries older → AreNewer newer older → first_match entries needle s (merge entry_cmp newer older) ≡ or_older (first_match entries needle s newer) (first_match entries needle s older)
+  newer_read newer older up down all =
+      merge_match needle s newer older up down
+      ∙ pick older (first_match entries needle s newer) (first_match entries needle s older) (found (λ x. AreBelow x.key.seqno older) newer all) (λ n h. found (λ y. y.key.seqno < n) older h)
+
+  -- a read of one version
+  pub one_read : (e : Entry) → first_match entries needle s (e ∷ []) ≡ cond (is_version entries needle s e) (Some (plain e)) None
+  unfolding first_match
+  one_read e = elim (is_version entries needle s e) as (λ t. option_map plain (slice_get (cond t (e ∷ []) []) 0) ≡ cond t (Some (plain e)) None) [ true ↦ refl | false ↦ refl ]

@@ -1,0 +1,98 @@
+-- Merges of tables, and the one table that a source is written as.
+use Rattle.std.proofs.Common.{◌≡◌, ℕ, suc, ◌<◌, ◌≤◌, List, [], ◌∷◌, ◌++◌, length, map, take, drop, get_or, append-nil, arith, Option, Some, None, refl, sym, ap, subst, ◌∙◌}
+use Rattle.std.proofs.Math.Seq.{take-suc}
+use Rattle.std.proofs.lemmas.List.{drop_all, map-append, take_all}
+use Rattle.std.specs.List.{AllZip}
+use Rattle.std.specs.Option.{option_map, IfSome}
+use Rattle.sst_base.specs.Entry.{Entry}
+use Rattle.sst_merge.specs.Merge.{entry_cmp, merged}
+use Rattle.sst_merge.specs.Sources.{Left, all_known}
+use Rattle.sst_merge.specs.Stored.{table_list}
+use Rattle.sst_merge.specs.Tables.{IsTableOf as IsWrittenTable}
+use Rattle.sst_merge.specs.declared.writing.Sizes.{Sizes}
+use Rattle.sst_examples.specs.Tables.{MemoryTable, merged_tables, table_entries, table_hashes}
+use Rattle.sstable_blocks.specs.Blocks.{joined}
+use Rattle.sstable_blocks.specs.Run.{Form, IsLayout}
+use Rattle.sstable_blocks.specs.declared.run.RunHandles.{RunHandles}
+
+-- the lists of sources that have a table's entries each
+abbrev pub lists : List (Left Entry) → List (Option (List Entry))
+lists heads = map (λ (s : Left Entry). s.list) heads
+
+-- one source more, of the next table
+pub lists_more : (heads new : List (Left Entry)) (head : Left Entry) (tables : List MemoryTable) (i j : ℕ) (t : MemoryTable) → lists heads ≡ map table_entries (take i tables) → new ≡ heads ++ head ∷ [] → i < length tables → t ≡ get_or tables i t → head.list ≡ table_entries t → j ≡ suc i
+    → lists new ≡ map table_entries (take j tables)
+lists_more heads new head tables i j t so_far grown inside is same next =
+    ap lists grown
+    ∙ map-append (λ (s : Left Entry). s.list) heads (head ∷ [])
+    ∙ ap (λ os. os ++ head.list ∷ []) so_far
+    ∙ ap (λ o. map table_entries (take i tables) ++ o ∷ []) (same ∙ ap table_entries is)
+    ∙ sym (map-append table_entries (take i tables) (get_or tables i t ∷ []))
+    ∙ ap (map table_entries) (sym (take-suc tables i t inside))
+    ∙ ap (λ k. map table_entries (take k tables)) (sym next)
+
+-- sources of all tables
+pub lists_all : (heads : List (Left Entry)) (tables : List MemoryTable) (i : ℕ) → lists heads ≡ map table_entries (take i tables) → length tables ≤ i → option_map (merged entry_cmp) (all_known (lists heads)) ≡ merged_tables tables
+lists_all heads tables i so_far end = ap (λ os. option_map (merged entry_cmp) (all_known os)) (so_far ∙ ap (map table_entries) (take_all i tables end))
+
+-- lists that are known, of tables whose merge is known
+pub record AreKnown (os : List (Option (List Entry))) (older : List Entry) : Type 0 where
+  pub all : List (List Entry)
+  pub known : all_known os ≡ Some all
+  pub is : merged entry_cmp all ≡ older
+
+some_items : (xs ys : List Entry) → ◌≡◌ {A = Option (List Entry)} (Some xs) (Some ys) → xs ≡ ys
+some_items xs ys e = cc
+
+known_by : (os : List (Option (List Entry))) (o : Option (List (List Entry))) (older : List Entry) → all_known os ≡ o → option_map (merged entry_cmp) o ≡ Some older → AreKnown os older
+known_by os None older e h = absurd (cc)
+known_by os (Some all) older e h = record { all = all; known = e; is = some_items (merged entry_cmp all) older h }
+
+pub lists_known : (tables : List MemoryTable) (older : List Entry) → merged_tables tables ≡ Some older → AreKnown (map table_entries tables) older
+lists_known tables older h = known_by (map table_entries tables) (all_known (map table_entries tables)) older refl h
+
+-- the layout of a run of these entries
+pub record IsRunOf (f : Form) (bytes : List ℕ) (h : RunHandles) (items : List Entry) : Type 0 where
+  pub blocks : List (List Entry)
+  pub layout : IsLayout f blocks bytes h
+  pub is : joined blocks ≡ items
+
+all_taken : (items all : List Entry) (after : Option (List Entry)) → Some items ≡ option_map (λ rest. all ++ rest) after → IfSome after (λ xs. xs ≡ []) → all ≡ items
+all_taken items all None taken none = absurd (cc)
+all_taken items all (Some rest) taken none = sym (some_items items (all ++ rest) taken ∙ ap (λ xs. all ++ xs) none ∙ append-nil all)
+
+-- a table after which nothing is left has all entries
+pub all_written : (f : Form) (sizes : Sizes) (start bytes : List ℕ) (h : RunHandles) (items : List Entry) (before after : Option (List Entry)) → IsWrittenTable f sizes (Some start) (Some bytes) h before after → start ≡ [] → before ≡ Some items → IfSome after (λ xs. xs ≡ []) → IsRunOf f bytes h items
+all_written f sizes start bytes h items before after t empty known none = record {
+  blocks = t.blocks;
+  layout = subst (λ text. IsLayout f t.blocks text h) (sym (t.layout.2 ∙ ap (λ xs. xs ++ t.layout.0) empty)) t.layout.1;
+  is = all_taken items (joined t.blocks) after (sym known ∙ t.taken) none;
+}
+
+-- clones are the same
+pub zip_same : (xs ys : List Entry) → AllZip (λ e copy. copy ≡ e) xs ys → ys ≡ xs
+zip_same [] [] h = refl
+zip_same [] (y ∷ ys) h = absurd h
+zip_same (x ∷ xs) [] h = absurd h
+zip_same (x ∷ xs) (y ∷ ys) h = ap (λ z. z ∷ ys) h.0 ∙ ap (λ zs. x ∷ zs) (zip_same xs ys h.1)
+
+-- the entries of a table, as a reader knows them
+abbrev raw : MemoryTable → Option (List Entry)
+raw t = table_list table_hashes (Some t.source.inner) t.handles t.index
+
+-- lists that are known are those that a reader knows
+pub reader_lists : (tables lent : List MemoryTable) (all : List (List Entry)) → lent ≡ tables → all_known (map table_entries tables) ≡ Some all → all_known (map raw lent) ≡ Some all
+unfolding table_entries
+reader_lists tables lent all same known = ap (λ ts. all_known (map raw ts)) same ∙ known
+
+same_entries : (new lent : List MemoryTable) → map raw new ≡ map raw lent → map table_entries new ≡ map table_entries lent
+unfolding table_entries
+same_entries new lent e = e
+
+-- a read leaves the entries of all tables
+pub tables_kept : (old lent new : List MemoryTable) (n : ℕ) → lent ≡ old → n ≡ length old → length new ≡ length lent → map raw new ≡ map raw lent → merged_tables (take n (new ++ drop (length new) old)) ≡ merged_tables old
+tables_kept old lent new n same len kept entries =
+    let m : length new ≡ length old = kept ∙ ap length same in
+    let none : drop (length new) old ≡ [] = drop_all (length new) old (omega (arith, m)) in
+    let whole : take n (new ++ drop (length new) old) ≡ new = ap (λ ts. take n (new ++ ts)) none ∙ ap (take n) (append-nil new) ∙ take_all n new (omega (arith, m, len)) in
+    ap merged_tables whole ∙ ap (λ os. option_map (merged entry_cmp) (all_known os)) (same_entries new lent entries ∙ ap (map table_entries) same)

@@ -1,0 +1,61 @@
+//! The versions in memory, an ordered list.
+ghost use Rattle.std.specs.Prelude.{◌≡◌, ◌≤◌, ◌∷◌, [], length};
+ghost use Rattle.std.specs.List.{insert};
+ghost use Rattle.std.specs.Option.{option_map};
+ghost use Rattle.sst_block_core.specs.Entries.{entries};
+ghost use Rattle.sst_block_core.specs.Window.{first_match, is_version};
+ghost use Rattle.sst_merge.specs.Merge.{entry_cmp, merge};
+ghost use Rattle.sst_merge.specs.Snapshot.{seen};
+ghost use Rattle.sst_examples.specs.Levels.{ArePlain};
+
+use sst_base::{InternalValue, SeqNo};
+use sst_merge::{Ranked, Version};
+
+// The index at which a version goes into an ordered list: before the first one that does not sort
+// before it.
+pub(crate) fn place_of(memory: &[InternalValue], entry: &InternalValue) -> usize
+    ensures inside { result ≤ length memory.now }
+    ensures place { insert memory.now result entry.now
+        ≡ merge entry_cmp (entry.now ∷ []) memory.now }
+{
+    for (at, held) in memory.iter().enumerate() {
+        if !held.compare(entry).is_lt() {
+            return at;
+        }
+    }
+    memory.len()
+}
+
+// Whether an entry is a version of a key below a sequence number.
+fn is_version(entry: &InternalValue, key: &[u8], seqno: SeqNo) -> bool
+    ensures { result ≡ is_version entries key.now seqno entry.now }
+{
+    entry.seqno() < seqno && entry.has_user_key(key)
+}
+
+// The first version of a key below a sequence number.
+pub(crate) fn newest<'a>(
+    memory: &'a [InternalValue],
+    key: &[u8],
+    seqno: SeqNo,
+) -> Option<&'a InternalValue>
+    requires { ArePlain memory.now }
+    ensures { option_map (λ r. r.now) result ≡ first_match entries key.now seqno memory.now }
+{
+    for entry in memory {
+        if is_version(entry, key, seqno) {
+            return Some(entry);
+        }
+    }
+    None
+}
+
+// What a read sees of the first match: none of a tombstone.
+pub(crate) fn shown(found: Option<InternalValue>) -> Option<InternalValue>
+    ensures { result ≡ seen found }
+{
+    match found {
+        Some(entry) if !Version::is_tombstone(&entry) => Some(entry),
+        _ => None,
+    }
+}

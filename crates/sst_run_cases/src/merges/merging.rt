@@ -1,0 +1,227 @@
+//! Merges, snapshots and compactions of sources in memory.
+
+use super::sources::{backs_of, merge_of, merged, merged_back, sources_of};
+use super::{drained, or_none};
+use sst_base::InternalValue;
+use sst_block_cases::fault::{Fault, Result};
+use sst_block_cases::room::Room;
+use sst_block_cases::texts::agreed;
+use sst_block_cases::words::{number_of, push_word, word_of, word_of_found};
+use sst_merge::{Compact, Merge, Reversed, Snapshot, Source};
+use std::alloc::Global;
+
+/// The number of the entries of all sources.
+fn total_of(room: &Room) -> usize {
+    let mut total = 0usize;
+    for list in &room.sources {
+        total = total.saturating_add(list.len());
+    }
+    total
+}
+
+/// Passes the first version of a merge, as it is shown.
+fn pass<I: Source<InternalValue> + Drop>(
+    alloc: Global,
+    merge: &mut Merge<InternalValue, I>,
+    text: &mut String,
+) -> Result<()> {
+    push_word(text, word_of_found(alloc, merge.peek())?.as_str())?;
+    if !merge.advance(alloc)? {
+        text.push_str(" not passed")?;
+    }
+    Ok(())
+}
+
+/// The merge of this many versions, each passed as it is shown.
+fn passed<I: Source<InternalValue> + Drop>(
+    alloc: Global,
+    merge: &mut Merge<InternalValue, I>,
+    total: usize,
+) -> Result<String> {
+    let mut text = String::new(alloc);
+    for _ in 0..total {
+        pass(alloc, merge, &mut text)?;
+    }
+    if merge.peek().is_some() || merge.advance(alloc)? {
+        text.push_str(" and one more")?;
+    }
+    or_none(alloc, text)
+}
+
+/// Returns whether an entry that may be found has this word.
+fn has_word(alloc: Global, found: Option<&InternalValue>, word: &str) -> Result<bool> {
+    let found = word_of_found(alloc, found)?;
+    Ok(found.as_str() == word)
+}
+
+/// Takes the first version of a merge. Returns whether it has this word.
+fn takes<I: Source<InternalValue> + Drop>(
+    alloc: Global,
+    merge: &mut Merge<InternalValue, I>,
+    word: &str,
+) -> Result<bool> {
+    let taken = merge.next_entry(alloc)?;
+    has_word(alloc, taken.as_ref(), word)
+}
+
+/// Takes the first version of a merge. Returns whether there is one.
+fn is_left<I: Source<InternalValue> + Drop>(
+    alloc: Global,
+    merge: &mut Merge<InternalValue, I>,
+) -> Result<bool> {
+    let taken = merge.next_entry(alloc)?;
+    Ok(taken.is_some())
+}
+
+/// Passes the first version of a merge at every third turn, and else takes it.
+fn turn_on<I: Source<InternalValue> + Drop>(
+    alloc: Global,
+    merge: &mut Merge<InternalValue, I>,
+    turn: usize,
+    text: &mut String,
+) -> Result<()> {
+    let word = word_of_found(alloc, merge.peek())?;
+    if turn % 3 == 1 {
+        merge.advance(alloc)?;
+    } else if !takes(alloc, merge, word.as_str())? {
+        text.push_str(" not taken")?;
+    }
+    push_word(text, word.as_str())
+}
+
+/// The merge of this many versions, every third one passed and the others taken.
+fn in_turn<I: Source<InternalValue> + Drop>(
+    alloc: Global,
+    merge: &mut Merge<InternalValue, I>,
+    total: usize,
+) -> Result<String> {
+    let mut text = String::new(alloc);
+    for turn in 0..total {
+        turn_on(alloc, merge, turn, &mut text)?;
+    }
+    if is_left(alloc, merge)? {
+        text.push_str(" and one more")?;
+    }
+    or_none(alloc, text)
+}
+
+/// Words from the last to the first.
+fn reversed(alloc: Global, words: &[String]) -> Result<String> {
+    let mut text = String::new(alloc);
+    for word in words.iter().rev() {
+        push_word(&mut text, word.as_str())?;
+    }
+    or_none(alloc, text)
+}
+
+/// Adds the word of an entry.
+fn add_word(alloc: Global, words: &mut Vec<String>, entry: &InternalValue) -> Result<()> {
+    Ok(words.push(word_of(alloc, entry)?)?)
+}
+
+/// All that is left of a source from the back, as the words from the first to the last.
+pub fn drained_back<I: Source<Reversed<InternalValue>>>(
+    alloc: Global,
+    source: &mut I,
+) -> Result<String> {
+    let mut words = Vec::new(alloc);
+    while let Some(entry) = source.next_entry(alloc)? {
+        add_word(alloc, &mut words, &entry.into_inner())?;
+    }
+    reversed(alloc, words.as_slice())
+}
+
+/// The merge of sources of this many versions, passed or in turn.
+fn by_turns<I: Source<InternalValue> + Drop>(
+    alloc: Global,
+    sources: Result<Vec<I>>,
+    total: usize,
+    by_passing: bool,
+) -> Result<String> {
+    let mut merge = merge_of(alloc, sources)?;
+    if by_passing {
+        passed(alloc, &mut merge, total)
+    } else {
+        in_turn(alloc, &mut merge, total)
+    }
+}
+
+/// The merge of the sources, in each way.
+pub fn merge(alloc: Global, room: &Room) -> Result<String> {
+    let total = total_of(room);
+    let found = [
+        merged(alloc, sources_of(alloc, room)),
+        by_turns(alloc, sources_of(alloc, room), total, true),
+        by_turns(alloc, sources_of(alloc, room), total, false),
+        merged_back(alloc, backs_of(alloc, sources_of(alloc, room))),
+    ];
+    agreed(alloc, &found)
+}
+
+/// Returns whether a word names the bottom level.
+pub fn level_of(word: &str) -> Result<bool> {
+    match word {
+        "above" => Ok(false),
+        "bottom" => Ok(true),
+        _ => Err(Fault::Word),
+    }
+}
+
+/// What is left of a compaction of sources.
+fn compacted<I: Source<InternalValue> + Drop>(
+    alloc: Global,
+    sources: Result<Vec<I>>,
+    snapshot: u64,
+    bottom: bool,
+) -> Result<String> {
+    let merge = merge_of(alloc, sources)?;
+    drained(alloc, &mut Compact::new(merge, snapshot, bottom))
+}
+
+/// What a snapshot sees of sources.
+fn seen<I: Source<InternalValue> + Drop>(
+    alloc: Global,
+    sources: Result<Vec<I>>,
+    seqno: u64,
+) -> Result<String> {
+    let merge = merge_of(alloc, sources)?;
+    drained(alloc, &mut Snapshot::new(merge, seqno))
+}
+
+/// What a snapshot sees of a compaction of sources.
+fn seen_compacted<I: Source<InternalValue> + Drop>(
+    alloc: Global,
+    sources: Result<Vec<I>>,
+    snapshot: u64,
+    bottom: bool,
+    seqno: u64,
+) -> Result<String> {
+    let merge = merge_of(alloc, sources)?;
+    let compact = Compact::new(merge, snapshot, bottom);
+    drained(alloc, &mut Snapshot::new(compact, seqno))
+}
+
+/// A compaction of the sources: SNAPSHOT LEVEL.
+pub fn compact(alloc: Global, room: &Room, words: &[&str]) -> Result<String> {
+    let [snapshot, level] = words else {
+        return Err(Fault::Word);
+    };
+    let (snapshot, bottom) = (number_of(snapshot)?, level_of(level)?);
+    compacted(alloc, sources_of(alloc, room), snapshot, bottom)
+}
+
+/// What a snapshot sees of the sources, or of a compaction of them: SEQNO, or SEQNO SNAPSHOT LEVEL.
+pub fn snapshot(alloc: Global, room: &Room, words: &[&str]) -> Result<String> {
+    match words {
+        [seqno] => {
+            let seqno = number_of(seqno)?;
+            seen(alloc, sources_of(alloc, room), seqno)
+        }
+        [seqno, snapshot, level] => {
+            let (snapshot, bottom) = (number_of(snapshot)?, level_of(level)?);
+            let seqno = number_of(seqno)?;
+            seen_compacted(alloc, sources_of(alloc, room), snapshot, bottom, seqno)
+        }
+        _ => Err(Fault::Word),
+    }
+}

@@ -1,8 +1,0 @@
-use Rattle.std.proofs.Common.{◌≡◌, drop}
-use Rattle.sst_block_core.specs.Entries.{entries}
-use Rattle.sst_block_core.specs.Window.{first_match}
-use Rattle.sst_store.proofs.memory.newest.Given as goal
-
--- the first match is not before the index
-abbrev pub invariant-loop-entry : goal.invariant-loop-entry
-invariant-loop-entry l = first_match entries l.key l.seqno l.memory ≡ first_match entries l.key l.seqno (drop l.entry-index l.memory)

@@ -1,0 +1,47 @@
+use Rattle.std.proofs.Common.{refl, arith, inl}
+use Rattle.sst_base.specs.Varint.{varint_up_to, varint_at}
+use Rattle.sst_base.specs.Reading.{number_at, length_prefixed_at}
+use Rattle.sst_block_core.specs.Body.{items_at}
+use Rattle.sst_block_core.specs.Trailer.{trailer_from}
+use Rattle.sst_block_core.specs.Stages.{items_by}
+use Rattle.sst_block_core.specs.Entries.{full_at, truncated_form_at, truncated_at}
+use Rattle.sst_tests.proofs.blocks.vectors.damaged_entry.Goals as goal
+
+pub returns : goal.returns
+unfolding trailer_from items_by items_at full_at truncated_at truncated_form_at number_at length_prefixed_at varint_at varint_up_to
+returns c = record {
+  type_before = (
+    omega arith,
+    record {
+      interval = omega arith;
+      width = inl refl;
+      some = omega arith;
+      heads = refl;
+      reserved_bytes = refl;
+      offset = omega arith;
+      marker = refl;
+      end = refl;
+      no_hash = λ _. refl;
+      few_heads = λ h. absurd (omega (arith, h));
+      hash_offset = λ h. absurd (omega (arith, h));
+    },
+  );
+  type_fails = λ e. cc;
+  loose_before = (
+    omega arith,
+    record {
+      interval = omega arith;
+      width = inl refl;
+      some = omega arith;
+      heads = refl;
+      reserved_bytes = refl;
+      offset = omega arith;
+      marker = refl;
+      end = refl;
+      no_hash = λ _. refl;
+      few_heads = λ h. absurd (omega (arith, h));
+      hash_offset = λ h. absurd (omega (arith, h));
+    },
+  );
+  loose_fails = λ e. cc;
+}

@@ -1,0 +1,3 @@
+//! Worked values of the definitions of blocks, and how much calls of iterators count at most.
+mod counts;
+mod vectors;

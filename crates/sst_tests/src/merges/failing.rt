@@ -1,0 +1,339 @@
+// Sources that fail: an error ends them, and all that is made of them.
+ghost use Rattle.std.specs.Prelude.{None};
+
+use crate::Tested;
+use crate::merges::lists::{Memory, Row, T, V, entry_of, list_of};
+use sst_base::{ByteSum, Error, HashRatio, InternalValue, Result, SeqNo, UserKey};
+use sst_merge::{
+    Compact, Head, Merge, Rev, Reversed, Sizes, Snapshot, Source, Version, write_table,
+};
+use sstable_blocks::{RunConfig, RunHandles};
+use std::alloc::{AllocError, Global};
+use std::io::Write;
+use std::{io, vec};
+
+/// A source that fails after so many steps.
+#[derive(Drop)]
+pub(crate) struct Failing<I> {
+    source: I,
+    steps: usize,
+    ended: Option<Error>,
+}
+
+impl<T, I: Source<T>> Source<T> for Failing<I> {
+    ghost left = { λ s. record {
+      list = None;
+      most = (I.left s.source).most;
+      ended = s.ended;
+    } };
+
+    fn next_entry(&mut self, alloc: Global) -> Result<Option<T>> {
+        if let Some(error) = self.ended {
+            return Err(error);
+        }
+        if self.steps == 0 {
+            self.ended = Some(Error::Io);
+            return Err(Error::Io);
+        }
+        self.steps -= 1;
+        let step = self.source.next_entry(alloc);
+        if let Err(error) = &step {
+            self.ended = Some(*error);
+        }
+        step
+    }
+}
+
+/// The versions of a key.
+const ROWS: &[Row] = &[
+    Row(b'a', 9, V),
+    Row(b'a', 5, V),
+    Row(b'b', 6, V),
+    Row(b'c', 7, V),
+];
+
+/// A source that fails after so many steps.
+pub(crate) fn failing_after(alloc: Global, steps: usize) -> Result<Failing<Memory>> {
+    Ok(Failing {
+        source: list_of(alloc, ROWS, 0)?.into_iter(),
+        steps,
+        ended: None,
+    })
+}
+
+/// The same from the back.
+fn failing_back_after(alloc: Global, steps: usize) -> Result<Failing<Rev<Memory>>> {
+    Ok(Failing {
+        source: Rev::new(list_of(alloc, ROWS, 0)?.into_iter()),
+        steps,
+        ended: None,
+    })
+}
+
+/// How many versions a source gives before a step gives none, and whether that step's error is this
+/// one at each of three later steps.
+fn counts<T: Drop, I: Source<T>>(alloc: Global, source: &mut I, wanted: Error) -> (usize, bool) {
+    let mut before = 0usize;
+    for _ in 0..ROWS.len() + 1 {
+        let Ok(Some(_)) = source.next_entry(alloc) else {
+            break;
+        };
+        before = before.saturating_add(1);
+    }
+    let wanted = Some(wanted);
+    let again = [
+        source.next_entry(alloc).err(),
+        source.next_entry(alloc).err(),
+        source.next_entry(alloc).err(),
+    ];
+    (before, again.iter().all(|error| *error == wanted))
+}
+
+/// The merge of a source that fails after so many steps.
+fn failing_merge(alloc: Global, steps: usize) -> Result<Merge<InternalValue, Failing<Memory>>> {
+    let mut heads = Vec::new(alloc);
+    heads.push(Head::new(alloc, failing_after(alloc, steps)?)?)?;
+    Ok(Merge::new(heads))
+}
+
+/// What is counted of a merge of a source that fails after so many steps.
+fn counts_merged(alloc: Global, steps: usize) -> Result<(usize, bool)> {
+    let mut merged = failing_merge(alloc, steps)?;
+    Ok(counts(alloc, &mut merged, Error::Io))
+}
+
+/// What is counted of a snapshot of such a source.
+fn counts_seen(alloc: Global, steps: usize) -> Result<(usize, bool)> {
+    let mut snapshot = Snapshot::new(failing_after(alloc, steps)?, u64::MAX);
+    Ok(counts(alloc, &mut snapshot, Error::Io))
+}
+
+/// What is counted of a compaction of such a source.
+fn counts_compacted(alloc: Global, steps: usize) -> Result<(usize, bool)> {
+    let mut compact = Compact::new(failing_after(alloc, steps)?, 6, false);
+    Ok(counts(alloc, &mut compact, Error::Io))
+}
+
+// A merge holds the first version of each source, so it fails a step earlier.
+#[test]
+fn a_failed_step_ends_what_is_made_of_its_source(rt: HostRuntime) -> Tested {
+    let alloc = rt.alloc();
+    assert!(rt; Head::new(alloc, failing_after(alloc, 0)?).is_err());
+    for steps in 1..5 {
+        let shown = [1, 1, 2, 3][steps - 1];
+        assert_eq!(rt; counts_merged(alloc, steps)?, (steps - 1, true));
+        assert_eq!(rt; counts_seen(alloc, steps)?, (shown, true));
+        assert_eq!(rt; counts_compacted(alloc, steps)?, (steps, true));
+    }
+    Ok(())
+}
+
+/// What is counted of a merge from the back of a source that fails after so many steps.
+fn counts_merged_back(alloc: Global, steps: usize) -> Result<(usize, bool)> {
+    let mut heads = Vec::new(alloc);
+    heads.push(Head::new(alloc, failing_back_after(alloc, steps)?)?)?;
+    let mut merged: Merge<Reversed<InternalValue>, _> = Merge::new(heads);
+    Ok(counts(alloc, &mut merged, Error::Io))
+}
+
+#[test]
+fn a_failed_step_ends_a_merge_from_the_back(rt: HostRuntime) -> Tested {
+    let alloc = rt.alloc();
+    assert!(rt;
+        Head::<Reversed<InternalValue>, _>::new(alloc, failing_back_after(alloc, 0)?).is_err()
+    );
+    for steps in 1..5 {
+        assert_eq!(rt; counts_merged_back(alloc, steps)?, (steps - 1, true));
+    }
+    Ok(())
+}
+
+/// How many versions a merge passes before it fails.
+fn passes(alloc: Global, merged: &mut Merge<InternalValue, Failing<Memory>>) -> usize {
+    for passed in 0..ROWS.len() {
+        let Ok(true) = merged.advance(alloc) else {
+            return passed;
+        };
+    }
+    ROWS.len()
+}
+
+/// Whether a merge fails at three steps, and shows the version of this number after each.
+fn fails_and_shows(
+    alloc: Global,
+    merged: &mut Merge<InternalValue, Failing<Memory>>,
+    seqno: SeqNo,
+) -> bool {
+    for _ in 0..3 {
+        let is_failed = merged.advance(alloc) == Err(Error::Io);
+        let shown = merged.peek().map(|version| version.key().seqno());
+        if !is_failed || shown != Some(seqno) {
+            return false;
+        }
+    }
+    true
+}
+
+/// Whether a merge of a source that fails after so many steps passes the versions before, and then
+/// fails, shows the version that it did not pass, and gives none.
+fn is_kept(alloc: Global, steps: usize, seqno: SeqNo) -> Result<bool> {
+    let mut merged = failing_merge(alloc, steps)?;
+    Ok(
+        passes(alloc, &mut merged) == steps.saturating_sub(1)
+            && fails_and_shows(alloc, &mut merged, seqno)
+            && counts(alloc, &mut merged, Error::Io) == (0, true),
+    )
+}
+
+// The version that the step was to pass is still shown.
+#[test]
+fn a_version_is_not_passed_by_a_failed_step(rt: HostRuntime) -> Tested {
+    for steps in 1..5 {
+        assert!(rt; is_kept(rt.alloc(), steps, ROWS[steps - 1].1)?, "{steps}");
+    }
+    Ok(())
+}
+
+/// An entry whose user key may be refused.
+#[derive(Drop)]
+struct Refused {
+    entry: InternalValue,
+    is_refused: bool,
+}
+
+impl Version for Refused {
+    ghost entry = { λ v. v.entry };
+
+    fn seqno(&self) -> SeqNo {
+        Version::seqno(&self.entry)
+    }
+
+    fn has_user_key(&self, user_key: &[u8]) -> bool {
+        self.entry.has_user_key(user_key)
+    }
+
+    fn user_key(&self, alloc: Global) -> std::result::Result<UserKey, AllocError> {
+        if self.is_refused {
+            return Err(AllocError);
+        }
+        self.entry.user_key(alloc)
+    }
+
+    fn is_tombstone(&self) -> bool {
+        Version::is_tombstone(&self.entry)
+    }
+}
+
+/// Versions of a key, of which the user key of one number is refused.
+fn refused_at(alloc: Global, number: u64) -> Result<vec::IntoIter<Refused, Global>> {
+    let mut versions = Vec::new(alloc);
+    for row in &[Row(b'k', 12, V), Row(b'k', 9, T), Row(b'k', 5, V)] {
+        versions.push(Refused {
+            entry: entry_of(alloc, row, 0)?,
+            is_refused: row.1 == number,
+        })?;
+    }
+    Ok(versions.into_iter())
+}
+
+/// What is counted of a snapshot of versions of which the tombstone's key is refused.
+fn counts_seen_of_refused(alloc: Global) -> Result<(usize, bool)> {
+    let mut snapshot = Snapshot::new(refused_at(alloc, 9)?, 10);
+    Ok(counts(alloc, &mut snapshot, Error::Memory))
+}
+
+/// What is counted of a compaction of the same.
+fn counts_compacted_of_refused(alloc: Global, bottom: bool) -> Result<(usize, bool)> {
+    let mut compact = Compact::new(refused_at(alloc, 9)?, 10, bottom);
+    Ok(counts(alloc, &mut compact, Error::Memory))
+}
+
+// Where the key of a tombstone is refused, the version that it hides is not given.
+#[test]
+fn a_refused_key_ends_a_snapshot_and_a_compaction(rt: HostRuntime) -> Tested {
+    let alloc = rt.alloc();
+    assert_eq!(rt; counts_seen_of_refused(alloc)?, (0, true));
+    for bottom in [false, true] {
+        assert_eq!(rt; counts_compacted_of_refused(alloc, bottom)?, (1, true));
+    }
+    Ok(())
+}
+
+/// A writer that fails.
+#[derive(Drop)]
+struct Full;
+
+impl Write for Full {
+    fn write(&mut self, _buf: &[u8]) -> io::Result<usize> {
+        Ok(0)
+    }
+
+    fn flush(&mut self) -> io::Result<()> {
+        Ok(())
+    }
+}
+
+/// Writes the next table of a source.
+fn written<I: Source<InternalValue>, W: Write + Drop>(
+    alloc: Global,
+    source: &mut Head<InternalValue, I>,
+    writer: W,
+) -> Result<Option<(RunHandles, W)>> {
+    let config = RunConfig::new(2, HashRatio { num: 1, den: 1 }, 10);
+    let sizes = Sizes { block: 7, table: 7 };
+    write_table::<ByteSum, I, W>(alloc, source, writer, config, sizes)
+}
+
+/// Whether a source fails with an error at each step, also one that would write a table.
+fn has_ended<I: Source<InternalValue>>(
+    alloc: Global,
+    source: &mut Head<InternalValue, I>,
+    wanted: Error,
+) -> bool {
+    let wanted = Some(wanted);
+    let taken = source.take(alloc).err();
+    let passed = source.advance(alloc).err();
+    let table = written(alloc, source, Vec::new(alloc)).err();
+    taken == wanted && passed == wanted && table == wanted
+}
+
+/// The error of writing a table of a source, and whether the source has then ended with this one.
+fn ends_by<I: Source<InternalValue>, W: Write + Drop>(
+    alloc: Global,
+    source: &mut Head<InternalValue, I>,
+    writer: W,
+    wanted: Error,
+) -> (Option<Error>, bool) {
+    let found = written(alloc, source, writer).err();
+    let has_ended = has_ended(alloc, source, wanted);
+    (found, has_ended)
+}
+
+/// What ends a source whose table is written to an output that fails.
+fn ends_by_output(alloc: Global) -> Result<(Option<Error>, bool)> {
+    let mut source = Head::new(alloc, list_of(alloc, ROWS, 0)?.into_iter())?;
+    Ok(ends_by(alloc, &mut source, Full, Error::Io))
+}
+
+/// What ends a source that is out of order.
+fn ends_by_order(alloc: Global) -> Result<(Option<Error>, bool)> {
+    let rows = [Row(b'b', 1, V), Row(b'a', 1, V)];
+    let mut source = Head::new(alloc, list_of(alloc, &rows, 0)?.into_iter())?;
+    Ok(ends_by(alloc, &mut source, Vec::new(alloc), Error::OutOfOrder))
+}
+
+/// What ends a source that fails.
+fn ends_by_source(alloc: Global) -> Result<(Option<Error>, bool)> {
+    let mut source = Head::new(alloc, failing_after(alloc, 2)?)?;
+    Ok(ends_by(alloc, &mut source, Vec::new(alloc), Error::Io))
+}
+
+// Entries are taken for a block before it is written, so none of them is given again.
+#[test]
+fn a_table_that_is_not_written_ends_its_source(rt: HostRuntime) -> Tested {
+    let alloc = rt.alloc();
+    assert_eq!(rt; ends_by_output(alloc)?, (Some(Error::Io), true));
+    assert_eq!(rt; ends_by_order(alloc)?, (Some(Error::OutOfOrder), true));
+    assert_eq!(rt; ends_by_source(alloc)?, (Some(Error::Io), true));
+    Ok(())
+}

@@ -1,0 +1,171 @@
+// Tables that compactions write: what stays after an output or a source fails.
+ghost use Rattle.std.specs.Prelude.{Some, [], map};
+
+use crate::Tested;
+use crate::merges::failing::failing_after;
+use crate::merges::lists::{Row, V, list_of};
+use sst_base::{ByteSum, Error, HashRatio, InternalValue, Result, Slice};
+use sst_merge::{Head, Outputs, Sizes, Source, compact_tables, write_tables};
+use sstable_blocks::{MemorySource, RunConfig, RunHandles, Table};
+use std::alloc::Global;
+
+/// A table in memory.
+#[derive(Drop)]
+struct Written {
+    handles: RunHandles,
+    bytes: Vec<u8>,
+}
+
+/// Tables in memory, of which so many more are closed before one fails.
+#[derive(Drop)]
+struct Kept {
+    alloc: Global,
+    tables: Vec<Written>,
+    more: usize,
+}
+
+impl Outputs for Kept {
+    type Writer = Vec<u8>;
+
+    ghost tables = { λ k. map (λ t. record { handles = t.handles; bytes = Some t.bytes.items })
+        k.tables.items };
+
+    ghost start = { Some [] };
+
+    fn open(&mut self) -> Result<Vec<u8>> {
+        Ok(Vec::new(self.alloc))
+    }
+
+    fn close(&mut self, handles: RunHandles, writer: Vec<u8>) -> Result<()> {
+        if self.more == 0 {
+            return Err(Error::Io);
+        }
+        self.more -= 1;
+        self.tables.push(Written {
+            handles,
+            bytes: writer,
+        })?;
+        Ok(())
+    }
+}
+
+/// Compacts a source into tables in memory, of which at most so many are closed.
+fn compact<I: Source<InternalValue> + Drop>(
+    alloc: Global,
+    source: I,
+    snapshot: u64,
+    bottom: bool,
+    sizes: Sizes,
+    more: usize,
+) -> (Vec<Written>, Result<()>) {
+    let mut kept = Kept {
+        alloc,
+        tables: Vec::new(alloc),
+        more,
+    };
+    let config = RunConfig::new(2, HashRatio { num: 1, den: 1 }, 10);
+    let done = compact_tables::<ByteSum, I, Kept>(
+        alloc, source, snapshot, bottom, &mut kept, config, sizes,
+    );
+    (kept.tables, done)
+}
+
+/// A stored table.
+type Stored = Table<ByteSum, MemorySource>;
+
+/// Opens a table.
+fn table_of(alloc: Global, written: &Written) -> Result<Stored> {
+    let bytes = Slice::from_vec(written.bytes.clone()?)?;
+    let source = MemorySource::new(bytes);
+    Ok(Table::<ByteSum, MemorySource>::open(alloc, source, written.handles)?)
+}
+
+/// The numbers of entries and of blocks of each table.
+fn counts_of(alloc: Global, tables: &[Written]) -> Result<Vec<(u64, usize)>> {
+    let mut counts = Vec::new(alloc);
+    for written in tables {
+        let summary = table_of(alloc, written)?.verify(alloc)?;
+        counts.push((summary.entries, summary.blocks))?;
+    }
+    Ok(counts)
+}
+
+/// Entries of two bytes each, of so many keys.
+fn entries_of_keys(alloc: Global, count: u8) -> Result<Vec<InternalValue>> {
+    let mut rows = Vec::new(alloc);
+    for key in 0..count {
+        rows.push(Row(key, 1, V))?;
+    }
+    list_of(alloc, &rows, 0)
+}
+
+/// Whether all tables that are written before an output fails, so many, are whole.
+fn are_kept_by_outputs(alloc: Global, more: usize) -> Result<bool> {
+    let sizes = Sizes { block: 1, table: 1 };
+    let source = entries_of_keys(alloc, 12)?.into_iter();
+    let (tables, done) = compact(alloc, source, 0, false, sizes, more);
+    let counts = counts_of(alloc, &tables)?;
+    let are_whole = counts.iter().all(|count| *count == (1, 1));
+    Ok(done == Err(Error::Io) && counts.len() == more && are_whole)
+}
+
+// The tables that were closed before an output fails stay.
+#[test]
+fn closed_tables_stay_where_an_output_fails(rt: HostRuntime) -> Tested {
+    for more in 0..12usize {
+        assert!(rt; are_kept_by_outputs(rt.alloc(), more)?, "{more}");
+    }
+    Ok(())
+}
+
+/// Whether tables of a source are not written, three are kept, and the source has ended.
+fn is_ended_by_outputs<I: Source<InternalValue>>(
+    alloc: Global,
+    source: &mut Head<InternalValue, I>,
+    kept: &mut Kept,
+) -> bool {
+    let config = RunConfig::new(2, HashRatio { num: 1, den: 1 }, 10);
+    let sizes = Sizes { block: 1, table: 1 };
+    let done = write_tables::<ByteSum, I, Kept>(alloc, source, kept, config, sizes);
+    let taken = source.take(alloc).err();
+    done == Err(Error::Io) && kept.tables.len() == 3 && taken == Some(Error::Io)
+}
+
+// An output that fails ends the source, whose entries are in no table.
+#[test]
+fn an_output_that_fails_ends_the_source(rt: HostRuntime) -> Tested {
+    let alloc = rt.alloc();
+    let mut source = Head::new(alloc, entries_of_keys(alloc, 12)?.into_iter())?;
+    let mut kept = Kept {
+        alloc,
+        tables: Vec::new(alloc),
+        more: 3,
+    };
+    for _ in 0..3 {
+        assert!(rt; is_ended_by_outputs(alloc, &mut source, &mut kept));
+        kept.more = 100;
+    }
+    Ok(())
+}
+
+/// How many tables are written of a source that fails after so many steps, all whole, and whether
+/// it did not fail.
+fn written_before(alloc: Global, steps: usize) -> Result<(usize, bool)> {
+    let sizes = Sizes { block: 1, table: 1 };
+    let source = failing_after(alloc, steps)?;
+    let (tables, done) = compact(alloc, source, 0, false, sizes, 100);
+    Ok((counts_of(alloc, &tables)?.len(), done.is_ok()))
+}
+
+// So do those that were closed before a source fails.
+#[test]
+fn closed_tables_stay_where_a_source_fails(rt: HostRuntime) -> Tested {
+    for (steps, wanted) in &[(1, 0), (2, 0), (3, 1), (4, 2), (5, 3)] {
+        assert_eq!(rt;
+            written_before(rt.alloc(), *steps)?,
+            (*wanted, *steps == 5),
+            "{steps}"
+        );
+    }
+    Ok(())
+}

@@ -1,0 +1,85 @@
+// The functions that use the library, each with ample memory: it has to succeed.
+ghost use Rattle.std.specs.Prelude.{◌≤◌, length};
+
+use crate::Tested;
+use sst_examples::newest::newest_below;
+use sst_examples::uses::{append_entries, count_below, open_block, read};
+use sstable_blocks::{DataBlock, InternalValue, Result, Slice, ValueType, Xxh3};
+use std::alloc::Global;
+use std::process::Abort;
+
+/// Appends an entry to a list.
+fn push(list: &mut Vec<InternalValue>, key: &[u8], value: &[u8], seqno: u64) -> Result<()>
+    requires some { 1 ≤ length key.now }
+    requires key { length key.now ≤ 100 }
+    requires value { length value.now ≤ 100 }
+{
+    let alloc = *list.allocator();
+    let key = Slice::new(alloc, key)?;
+    let value = Slice::new(alloc, value)?;
+    list.push(InternalValue::from_components(key, value, seqno, ValueType::Value))?;
+    Ok(())
+}
+
+/// Two versions of a key, and another key.
+fn three_entries(alloc: Global) -> Result<Vec<InternalValue>> {
+    let mut list = Vec::new(alloc);
+    push(&mut list, b"apple", b"red", 7)?;
+    push(&mut list, b"apple", b"green", 3)?;
+    push(&mut list, b"pear", b"yellow", 5)?;
+    Ok(list)
+}
+
+/// The block of these entries.
+fn block_of_three(rt: &impl Abort, alloc: Global) -> Result<DataBlock<Xxh3>> {
+    let list = three_entries(alloc)?;
+    assert!(rt; !list.is_empty());
+    assert!(rt; DataBlock::<Xxh3>::is_ordered(&list));
+    open_block(alloc, &list)
+}
+
+#[test]
+fn entries_below_a_number_are_counted(rt: HostRuntime) -> Tested {
+    let block = block_of_three(&rt, rt.alloc())?;
+    assert_eq!(rt; count_below(&block, 6), 2);
+    Ok(())
+}
+
+#[test]
+fn all_entries_are_appended(rt: HostRuntime) -> Tested {
+    let alloc = rt.alloc();
+    let block = block_of_three(&rt, alloc)?;
+    let mut all = Vec::new(alloc);
+    append_entries(alloc, &block, &mut all)?;
+    assert_eq!(rt; all.len(), 3);
+    Ok(())
+}
+
+#[test]
+fn an_older_version_is_read(rt: HostRuntime) -> Tested {
+    let block = block_of_three(&rt, rt.alloc())?;
+    match read(rt.alloc(), &block, b"apple", 7)? {
+        Some(found) => assert!(rt; found.value().eq_bytes(b"green")),
+        None => assert!(rt; false, "no apple"),
+    }
+    Ok(())
+}
+
+#[test]
+fn an_older_version_is_read_from_a_list(rt: HostRuntime) -> Tested {
+    let list = three_entries(rt.alloc())?;
+    assert!(rt; !list.is_empty());
+    assert!(rt; DataBlock::<Xxh3>::is_ordered(&list));
+    match newest_below(rt.alloc(), &list, b"apple", 7)? {
+        Some(found) => assert!(rt; found.value().eq_bytes(b"green")),
+        None => assert!(rt; false, "no apple"),
+    }
+    Ok(())
+}
+
+#[test]
+fn an_absent_key_is_not_read(rt: HostRuntime) -> Tested {
+    let block = block_of_three(&rt, rt.alloc())?;
+    assert!(rt; read(rt.alloc(), &block, b"plum", 9)?.is_none());
+    Ok(())
+}

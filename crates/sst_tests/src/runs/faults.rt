@@ -1,0 +1,278 @@
+// Devices and sources that move a byte a call or fail at a call: the whole run, or `Error::Io` and
+// nothing read; writers and sources that fail.
+ghost use Rattle.std.specs.Prelude.{None};
+
+use crate::runs::lists::{NO_BUCKETS, can_be_written};
+use crate::runs::written::{THREE, THREE_BLOCKS, list_of, value_of, worked_handles};
+use sst_base::{BlockHandle, ByteSum, Count, Error, InternalValue, Result, Slice};
+use crate::base::devices::{Failure, SlowFile, SlowWriter};
+use sstable_blocks::Table;
+use sstable_blocks::run::{
+    FileSource, FrameSource, MemorySource, RunConfig, RunHandles, RunWriter, Scan,
+    read_entry_checked, write_run,
+};
+use std::alloc::Global;
+use std::io;
+use std::io::{ErrorKind, Write};
+
+/// Writes the worked run at once.
+fn write_once(to: &mut SlowWriter, list: &[InternalValue]) -> Result<RunHandles> {
+    let alloc = *to.taken.allocator();
+    let config = RunConfig::new(1, NO_BUCKETS, 10);
+    if !can_be_written(list, &[1, 2], &config) {
+        return Err(Error::OutOfOrder);
+    }
+    write_run::<ByteSum, SlowWriter>(alloc, to, list, &[1, 2], config)
+}
+
+/// Writes the worked run block by block. After a block is refused, each further one is.
+fn write_blocks(to: &mut SlowWriter, list: &[InternalValue]) -> Result<RunHandles> {
+    let alloc = *to.taken.allocator();
+    let mut writer: RunWriter<ByteSum, &mut SlowWriter> = RunWriter::new(
+        alloc,
+        to,
+        RunConfig::new(1, NO_BUCKETS, 10),
+    );
+    let mut refused = Ok(());
+    for block in list.chunks(1) {
+        if !writer.fits_after(block) {
+            return Err(Error::OutOfOrder);
+        }
+        let added = writer.add_block(block);
+        if refused.is_err() && added != refused {
+            return Err(Error::TooLong);
+        }
+        refused = added;
+    }
+    refused?;
+    if writer.block_count() == 0 {
+        return Err(Error::TooLong);
+    }
+    Ok(writer.finish()?.0)
+}
+
+/// How a run is moved over a device.
+#[derive(Clone, Copy, Debug)]
+enum Way {
+    /// Written at once.
+    Once(Failure),
+    /// Written block by block.
+    Blocks(Failure),
+    /// Read from a file.
+    File,
+    /// Read from a source of frames.
+    Source,
+}
+
+/// Each way, and the calls of a whole run: a byte each, or a move, or a frame.
+const WAYS: [(Way, usize); 6] = [
+    (Way::Once(Failure::Error), 368),
+    (Way::Once(Failure::NoByte), 368),
+    (Way::Blocks(Failure::Error), 368),
+    (Way::Blocks(Failure::NoByte), 368),
+    (Way::File, 225),
+    (Way::Source, 3),
+];
+
+/// A source of frames in memory that counts the frames requested, and fails at one.
+#[derive(Drop)]
+struct FailingSource {
+    inner: MemorySource,
+    calls: usize,
+    fails_at: usize,
+    failures: Count,
+    reads: Count,
+}
+
+impl FailingSource {
+    /// Wraps the bytes of a run. The call of this number fails.
+    fn new(bytes: Slice, fails_at: usize) -> FailingSource {
+        FailingSource {
+            inner: MemorySource::new(bytes),
+            calls: 0,
+            fails_at,
+            failures: Count::new(),
+            reads: Count::new(),
+        }
+    }
+}
+
+impl FrameSource for FailingSource {
+    ghost bytes = { λ _. None };
+
+    ghost failures = { λ s. s.failures };
+
+    ghost reads = { λ s. s.reads };
+
+    fn read_frame(&mut self, alloc: Global, handle: &BlockHandle) -> Result<Slice> {
+        self.reads.add_one();
+        if self.calls == self.fails_at {
+            self.failures.add_one();
+            return Err(Error::Io);
+        }
+        self.calls = self.calls.wrapping_add(1);
+        let read = self.inner.read_frame(alloc, handle);
+        if let Err(Error::Io) = &read {
+            self.failures.add_one();
+        }
+        read
+    }
+}
+
+/// The value of (a, 3) in a source.
+fn read_from<S: FrameSource>(alloc: Global, source: &mut S) -> Result<Option<u8>> {
+    let found = read_entry_checked::<ByteSum, S>(alloc, source, &worked_handles(), b"a", 3)?;
+    Ok(value_of(&found))
+}
+
+/// What was written, or read: the value of (a, 3), if the writer took these bytes and the handles
+/// are those of the worked run.
+fn see_written(written: Result<RunHandles>, to: &SlowWriter) -> (Result<Option<u8>>, usize) {
+    let is_run = to.taken.as_slice() == THREE_BLOCKS.as_slice();
+    let seen = match written {
+        Ok(handles) if is_run && handles == worked_handles() => Ok(Some(b'y')),
+        Ok(_) => Err(Error::TooLong),
+        Err(error) => Err(error),
+    };
+    (seen, to.calls)
+}
+
+/// Moves the worked run in a way, the call of this number failing: what is seen, and how many
+/// calls did not fail.
+fn move_by(alloc: Global, way: Way, fails_at: usize) -> Result<(Result<Option<u8>>, usize)> {
+    match way {
+        Way::Once(failure) => {
+            let mut to = SlowWriter::failing(Vec::new(alloc), fails_at, failure);
+            let written = write_once(&mut to, &list_of(alloc, THREE)?);
+            Ok(see_written(written, &to))
+        }
+        Way::Blocks(failure) => {
+            let mut to = SlowWriter::failing(Vec::new(alloc), fails_at, failure);
+            let written = write_blocks(&mut to, &list_of(alloc, THREE)?);
+            Ok(see_written(written, &to))
+        }
+        Way::File => {
+            let mut file = SlowFile::new(&THREE_BLOCKS, fails_at);
+            let read = read_from(alloc, &mut FileSource::new(&mut file));
+            Ok((read, file.calls))
+        }
+        Way::Source => {
+            let mut source = FailingSource::new(Slice::new(alloc, &THREE_BLOCKS)?, fails_at);
+            let read = read_from(alloc, &mut source);
+            Ok((read, source.calls))
+        }
+    }
+}
+
+#[test]
+fn each_call_may_fail(rt: HostRuntime) {
+    for (way, calls) in &WAYS {
+        let (way, calls) = (*way, *calls);
+        for fails_at in 0..calls {
+            let moved = move_by(rt.alloc(), way, fails_at);
+            assert!(rt;
+                moved == Ok((Err(Error::Io), fails_at)),
+                "{way:?} {fails_at}"
+            );
+        }
+        let moved = move_by(rt.alloc(), way, usize::MAX);
+        assert!(rt; moved == Ok((Ok(Some(b'y')), calls)), "{way:?}: {moved:?}");
+    }
+}
+
+/// Takes bytes up to its capacity, and then fails.
+#[derive(Drop)]
+struct Room {
+    taken: Vec<u8>,
+    left: usize,
+}
+
+impl Write for Room {
+    fn write(&mut self, buf: &[u8]) -> io::Result<usize> {
+        if self.left == 0 {
+            return Err(io::Error::from(ErrorKind::Other));
+        }
+        let n = self.left.min(buf.len());
+        let (front, _) = buf.split_at(n);
+        if self.taken.extend_from_slice(front).is_err() {
+            return Err(io::Error::from(ErrorKind::OutOfMemory));
+        }
+        self.left -= n;
+        Ok(n)
+    }
+
+    fn flush(&mut self) -> io::Result<()> {
+        Ok(())
+    }
+}
+
+/// What is returned as each of three blocks is added to a writer, the number of blocks then, and what
+/// is returned at the end.
+type Added = ([Result<()>; 3], usize, Option<Error>);
+
+/// Adds the entries of the worked run as blocks to a writer that takes so many bytes.
+fn add_to(alloc: Global, to: &mut Room) -> Result<Added> {
+    let list = list_of(alloc, THREE)?;
+    let config = RunConfig::new(1, NO_BUCKETS, 10);
+    let mut writer: RunWriter<ByteSum, &mut Room> = RunWriter::new(alloc, to, config);
+    let mut answers = [Ok(()); 3];
+    for (block, answer) in list.chunks(1).zip(answers.iter_mut()) {
+        if !writer.fits_after(block) {
+            return Err(Error::OutOfOrder);
+        }
+        *answer = writer.add_block(block);
+    }
+    let count = writer.block_count();
+    if count == 0 {
+        return Err(Error::TooLong);
+    }
+    Ok((answers, count, writer.finish().err()))
+}
+
+// A writer that is full inside the second block is not touched again.
+#[test]
+fn a_writer_that_is_full_ends_a_run(rt: HostRuntime) {
+    let mut to = Room {
+        taken: Vec::new(rt.alloc()),
+        left: 100,
+    };
+    let added = add_to(rt.alloc(), &mut to);
+    let answers = [Ok(()), Err(Error::Io), Err(Error::Io)];
+    assert!(rt; added == Ok((answers, 1, Some(Error::Io))));
+    assert!(rt; THREE_BLOCKS.get(..100) == Some(to.taken.as_slice()));
+}
+
+/// Takes all that a scan gives before it ends.
+fn drain<S: FrameSource>(alloc: Global, scan: &mut Scan<'_, ByteSum, S>) {
+    for _ in 0..10u8 {
+        let _ = scan.next_entry(alloc);
+    }
+}
+
+/// The errors of two steps over a source that fails at a call.
+fn errors_at(alloc: Global, fails_at: usize) -> Result<(Option<Error>, Option<Error>)> {
+    let source = FailingSource::new(Slice::new(alloc, &THREE_BLOCKS)?, fails_at);
+    let table = Table::<ByteSum, _>::open(alloc, source, worked_handles())?;
+    let mut scan = table.scan();
+    drain(alloc, &mut scan);
+    let first = scan.next_entry(alloc).err();
+    let last = scan.next_entry_back(alloc).err();
+    Ok((first, last))
+}
+
+#[test]
+fn scan_over_a_source_that_fails(rt: HostRuntime) {
+    for fails_at in 0..2 {
+        let opened = errors_at(rt.alloc(), fails_at);
+        assert!(rt; opened == Err(Error::Io), "open {fails_at}");
+    }
+    for fails_at in 2..5 {
+        let errors = errors_at(rt.alloc(), fails_at);
+        assert!(rt;
+            errors == Ok((Some(Error::Io), Some(Error::Io))),
+            "scan {fails_at}"
+        );
+    }
+    let errors = errors_at(rt.alloc(), 5);
+    assert!(rt; errors == Ok((None, None)), "none");
+}

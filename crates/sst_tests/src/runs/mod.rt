@@ -1,0 +1,5 @@
+//! Runs over devices, writers and sources that fail, and worked values of the definitions.
+mod faults;
+mod lists;
+mod vectors;
+mod written;
