@@ -1,13 +1,13 @@
 //! Commands that check bytes as blocks, and all changes of them.
 
-use sst_base::table::block::{Block, BlockType};
-use sst_base::{BlockHash, Error};
-use sst_block_core::{DataBlock, DataBlockRef, IndexBlock, IndexBlockRef};
 use crate::changes::changed;
 use crate::digest::Digest;
 use crate::fault::{Fault, Result};
 use crate::room::{Room, block_with};
 use crate::words::{alike, number_of, small_of};
+use sst_base::table::block::{Block, BlockType};
+use sst_base::{BlockHash, Error};
+use sst_block_core::{DataBlock, DataBlockRef, IndexBlock, IndexBlockRef};
 use std::alloc::Global;
 
 type Checked = std::result::Result<usize, Error>;

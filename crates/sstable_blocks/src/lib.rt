@@ -24,5 +24,5 @@ pub use sst_base::{
     key, slice, value, value_type,
 };
 pub use sst_block_core::{DataBlock, IndexBlock, KeyedBlockHandle};
-pub use xxh3_hash::Xxh3;
 pub use table::filter::{self, FilterBlock};
+pub use xxh3_hash::Xxh3;

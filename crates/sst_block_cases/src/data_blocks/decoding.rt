@@ -4,11 +4,11 @@ ghost use Rattle.sst_block_core.specs.Window.{whole};
 
 use super::Opened;
 use super::walks::taken;
-use sst_base::{BlockHash, InternalValue, compare_bytes};
-use sst_block_core::{DataBlock, DataBlockParsedItem, Decoder};
-use sst_block_core::laws::data_block_is_read;
 use crate::fault::{Fault, Result};
 use crate::words::{bytes_of, number_of, push_word, repeated, truth};
+use sst_base::{BlockHash, InternalValue, compare_bytes};
+use sst_block_core::laws::data_block_is_read;
+use sst_block_core::{DataBlock, DataBlockParsedItem, Decoder};
 use std::alloc::Global;
 
 /// A decoder of the entries of a data block.

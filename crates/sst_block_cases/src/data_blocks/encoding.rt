@@ -2,15 +2,15 @@
 ghost use Rattle.std.specs.Prelude.{◌≤◌};
 
 use super::{Opened, data_block};
-use sst_base::table::block::{Block, BlockType};
-use sst_base::{BlockHash, HashRatio, InternalValue, Slice};
-use sst_block_core::table::block::encoder::Encoder;
-use sst_block_core::table::block::hash_index::Lookup;
-use sst_block_core::DataBlock;
 use crate::digest::hash_of;
 use crate::fault::{Fault, Result};
 use crate::lists::parts_of;
 use crate::words::{bytes_of, hex_of, number_of, small_of};
+use sst_base::table::block::{Block, BlockType};
+use sst_base::{BlockHash, HashRatio, InternalValue, Slice};
+use sst_block_core::DataBlock;
+use sst_block_core::table::block::encoder::Encoder;
+use sst_block_core::table::block::hash_index::Lookup;
 use std::alloc::Global;
 
 /// The numbers of a block.

@@ -7,11 +7,11 @@ mod reads;
 mod tables;
 mod walks;
 
+use crate::fault::Result;
+use crate::room::{Room, block_with};
 use sst_base::BlockHash;
 use sst_base::table::block::BlockType;
 use sst_block_core::DataBlock;
-use crate::fault::Result;
-use crate::room::{Room, block_with};
 use std::alloc::Global;
 
 /// A block without the table of its heads and with it.

@@ -1,13 +1,13 @@
 //! Commands that compare entries of two blocks, and that show the parts of an entry.
 
 use super::encoding::encoded;
-use sst_base::{BlockHash, InternalValue};
-use sst_block_core::table::data_block::EntryRef;
-use sst_block_core::{DataBlock, EntryParts};
 use crate::digest::Digest;
 use crate::fault::{Fault, Result};
 use crate::room::Room;
 use crate::words::{bytes_of, number_of, truth, type_of};
+use sst_base::{BlockHash, InternalValue};
+use sst_block_core::table::data_block::EntryRef;
+use sst_block_core::{DataBlock, EntryParts};
 use std::alloc::Global;
 use std::cmp::Ordering;
 

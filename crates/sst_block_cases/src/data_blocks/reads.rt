@@ -2,13 +2,13 @@
 ghost use Rattle.sst_block_core.specs.ParsedEntry.{IsParsedEntry};
 
 use super::{Blocks, Opened};
-use sst_base::{BlockHash, InternalValue, Slice, Steps};
-use sst_block_core::{DataBlock, DataBlockParsedItem, DataBlockRef, ParsedItem};
-use sst_block_core::table::data_block::{EntryRef, EntryView};
 use crate::digest::Digest;
 use crate::fault::{Fault, Result};
 use crate::room::Room;
 use crate::words::{alike, bytes_of, number_of, word_of, word_of_found};
+use sst_base::{BlockHash, InternalValue, Slice, Steps};
+use sst_block_core::table::data_block::{EntryRef, EntryView};
+use sst_block_core::{DataBlock, DataBlockParsedItem, DataBlockRef, ParsedItem};
 use std::alloc::Global;
 
 /// A point read of bytes that are lent.

@@ -1,12 +1,12 @@
 //! Commands on the heads of a data block, and on the table of them.
 
 use super::Opened;
-use sst_base::{BlockHash, Error, Steps};
-use sst_block_core::table::block::heads::front_of;
-use sst_block_core::DataBlock;
 use crate::fault::{Fault, Result};
 use crate::texts::word_of_table;
 use crate::words::{bytes_of, hex_of, number_of, push_word};
+use sst_base::{BlockHash, Error, Steps};
+use sst_block_core::DataBlock;
+use sst_block_core::table::block::heads::front_of;
 use std::alloc::Global;
 
 /// The offsets of the heads, by the binary index.

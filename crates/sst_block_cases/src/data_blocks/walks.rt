@@ -3,13 +3,13 @@ ghost use Rattle.std.specs.Prelude.{◌≡◌, IfSome};
 ghost use Rattle.sst_block_core.specs.ParsedEntry.{IsParsedEntry};
 
 use super::{Blocks, Opened};
-use sst_base::{BlockHash, InternalValue, Slice};
-use sst_block_core::{DataBlock, DataBlockParsedItem, ParsedItem};
-use sst_block_core::table::data_block::{Answer, IntoEntries, Iter, Op, walk};
 use crate::fault::{Fault, Result};
 use crate::words::{
     alike, bytes_of, number_of, push_word, repeated, truth, word_of, word_of_found,
 };
+use sst_base::{BlockHash, InternalValue, Slice};
+use sst_block_core::table::data_block::{Answer, IntoEntries, Iter, Op, walk};
+use sst_block_core::{DataBlock, DataBlockParsedItem, ParsedItem};
 use std::alloc::Global;
 
 /// A call of an iterator.

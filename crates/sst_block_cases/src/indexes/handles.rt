@@ -1,13 +1,13 @@
 //! Commands that make lists of handles, and encode them as an index block.
 
-use crate::indexes::index_block;
-use sst_base::table::block::{BlockHandle, BlockOffset};
-use sst_base::{Error, Slice};
-use sst_block_core::{IndexBlock, KeyedBlockHandle};
 use crate::fault::{Fault, Result};
+use crate::indexes::index_block;
 use crate::room::Room;
 use crate::texts::word_of_table;
 use crate::words::{alike, bytes_of, hex_of, number_of, small_of, truth};
+use sst_base::table::block::{BlockHandle, BlockOffset};
+use sst_base::{Error, Slice};
+use sst_block_core::{IndexBlock, KeyedBlockHandle};
 use std::alloc::Global;
 
 /// The longest end key.

@@ -2,10 +2,10 @@
 mod handles;
 mod walks;
 
-use sst_base::table::block::BlockType;
-use sst_block_core::IndexBlock;
 use crate::fault::Result;
 use crate::room::{Room, block_with};
+use sst_base::table::block::BlockType;
+use sst_block_core::IndexBlock;
 use std::alloc::Global;
 
 /// Returns the payload as an index block, with the table of its heads or without.

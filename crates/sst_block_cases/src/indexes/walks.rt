@@ -2,18 +2,18 @@
 ghost use Rattle.std.specs.Prelude.{◌≡◌, IfSome};
 ghost use Rattle.sst_block_core.specs.ParsedHandle.{IsParsedHandle};
 
+use crate::digest::Digest;
+use crate::fault::{Fault, Result};
 use crate::indexes::handles::word_of;
 use crate::indexes::index_block;
+use crate::room::Room;
+use crate::words::{alike, bytes_of, number_of, push_word, repeated, truth};
 use sst_base::Slice;
 use sst_base::table::block::BlockHandle;
 use sst_block_core::table::index_block::{
     Answer, HandleRef, HandleView, Handles, IndexOp, Iter, walk,
 };
 use sst_block_core::{IndexBlock, IndexBlockParsedItem, IndexBlockRef, KeyedBlockHandle};
-use crate::digest::Digest;
-use crate::fault::{Fault, Result};
-use crate::room::Room;
-use crate::words::{alike, bytes_of, number_of, push_word, repeated, truth};
 use std::alloc::Global;
 
 /// The operation of a word: a step, or a seek with its name, its key and its sequence number, joined

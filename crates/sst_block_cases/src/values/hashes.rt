@@ -1,8 +1,8 @@
 //! Commands on hash functions and checksums.
 
-use sst_base::{BlockHash, Checksum};
 use crate::fault::{Fault, Result};
 use crate::words::{bytes_of, number_of};
+use sst_base::{BlockHash, Checksum};
 use std::alloc::Global;
 
 /// The hash of a stream that bytes come to in pieces.

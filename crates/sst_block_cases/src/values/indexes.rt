@@ -1,9 +1,9 @@
 //! Commands on the indexes of a block: buckets and pointers.
 
-use sst_base::{BlockHash, HashRatio};
-use sst_block_core::table::block::{binary_index, hash_index};
 use crate::fault::{Fault, Result};
 use crate::words::{bytes_of, number_of, push_word, small_of, truth};
+use sst_base::{BlockHash, HashRatio};
+use sst_block_core::table::block::{binary_index, hash_index};
 use std::alloc::Global;
 
 /// Returns the number below 2^32 that a word encodes.

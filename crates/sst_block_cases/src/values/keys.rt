@@ -1,11 +1,11 @@
 //! Commands on keys and entries: how they compare, and how they print.
 
+use crate::fault::{Fault, Result};
+use crate::words::{entry_of, truth, word_of};
 use sst_base::table::block::BlockType;
 use sst_base::{
     Block, Checksum, Header, History, InternalKey, InternalValue, Slice, Steps, ValueType,
 };
-use crate::fault::{Fault, Result};
-use crate::words::{entry_of, truth, word_of};
 use std::alloc::Global;
 use std::mem::size_of;
 

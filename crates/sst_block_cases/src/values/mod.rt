@@ -9,8 +9,8 @@ mod numbers;
 mod peekable;
 mod slices;
 
-use sst_base::BlockHash;
 use crate::fault::Result;
+use sst_base::BlockHash;
 use std::alloc::Global;
 
 /// Performs a command, if it is one on numbers, byte strings or keys.

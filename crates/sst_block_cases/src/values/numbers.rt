@@ -1,11 +1,11 @@
 //! Commands on varints, and on how byte strings compare.
 
+use crate::fault::{Fault, Result};
+use crate::words::{bytes_of, hex_of, number_of, small_of};
 use sst_base::{
     compare_bytes, compare_prefixed_slice, decode_varint, encode_varint,
     longest_shared_prefix_length,
 };
-use crate::fault::{Fault, Result};
-use crate::words::{bytes_of, hex_of, number_of, small_of};
 use std::alloc::Global;
 
 /// The varints of numbers, one after the other: NUMBER ..

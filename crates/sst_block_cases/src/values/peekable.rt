@@ -2,9 +2,9 @@
 ghost use Rattle.std.specs.Prelude.{refl};
 ghost use Rattle.std.specs.Iterator.{YieldsFirst, YieldsLast, item_count};
 
-use sst_base::double_ended_peekable::{DoubleEndedPeekable, DoubleEndedPeekableExt, ListIterator};
 use crate::fault::{Fault, Result};
 use crate::words::{alike, bytes_of, push_word, small_of};
+use sst_base::double_ended_peekable::{DoubleEndedPeekable, DoubleEndedPeekableExt, ListIterator};
 use std::alloc::Global;
 
 /// An iterator that items can be added to, also after it has ended.

@@ -1,9 +1,9 @@
 //! Commands on byte strings: each call that makes one.
 
-use bytes::Bytes;
-use sst_base::Slice;
 use crate::fault::{Fault, Result};
 use crate::words::{alike, bytes_of, hex_of, number_of, truth};
+use bytes::Bytes;
+use sst_base::Slice;
 use std::alloc::Global;
 
 /// The text of a slice: its bytes, its length, and whether it is empty. A slice of the same bytes that

@@ -5,10 +5,10 @@ mod sources;
 mod tables;
 
 use sst_base::{BlockHash, InternalValue, Slice, ValueType};
-use sst_block_core::DataBlock;
 use sst_block_cases::fault::{Fault, Result};
 use sst_block_cases::room::Room;
 use sst_block_cases::words::{bytes_of, entry_of, hex_of, push_word, word_of};
+use sst_block_core::DataBlock;
 use sst_merge::front::front_of_key;
 use sst_merge::{Ranked, Source};
 use std::alloc::Global;

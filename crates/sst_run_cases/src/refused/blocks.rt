@@ -3,7 +3,9 @@ ghost use Rattle.std.specs.Prelude.{◌≡◌, ◌≤◌, [], length};
 ghost use Rattle.sst_block_core.specs.Entries.{entries};
 ghost use Rattle.sst_block_core.specs.Kind.{IsOrdered};
 
-use crate::refused::lists::{LONG, NO_BUCKETS, ONE_EACH, SHORT, data_block, index_block, list_of, parts_of};
+use crate::refused::lists::{
+    LONG, NO_BUCKETS, ONE_EACH, SHORT, data_block, index_block, list_of, parts_of,
+};
 use crate::refused::output::{print_bytes, print_two, print_with_bytes};
 use sst_base::{Block, ByteSum, Error, InternalValue, Result, Slice};
 use sst_block_core::table::block::encoder::Encoder;

@@ -1,7 +1,9 @@
 //! Merges, snapshots, compactions and reads of runs of long keys. A step that fails is made again.
 use crate::refused::lists::{DELETED, LONG_KEY, NO_BUCKETS, Row, WRITTEN};
-use crate::refused::output::{print_front, print_left, print_left_back, print_none, print_one, print_two};
-use crate::runs::run_of;
+use crate::refused::output::{
+    print_front, print_left, print_left_back, print_none, print_one, print_two,
+};
+use crate::refused::runs::run_of;
 use sst_base::{ByteSum, Error, InternalValue, Result, Slice, Steps};
 use sst_block_core::table::data_block::EntryView;
 use sst_merge::{

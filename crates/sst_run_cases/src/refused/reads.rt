@@ -3,10 +3,10 @@
 use crate::refused::lists::{LONG, LONG_KEY, NO_BUCKETS, ONE_EACH, SHORT, data_block, index_block};
 use crate::refused::output::{print_one, print_two};
 use sst_base::{ByteSum, InternalValue, Result, SeqNo, Slice, Steps};
-use sst_block_core::{DataBlock, DataBlockParsedItem, Decoder, IndexBlock};
 use sst_block_core::laws::data_block_is_read;
 use sst_block_core::table::data_block::{self, Op};
 use sst_block_core::table::index_block::{self, IndexOp};
+use sst_block_core::{DataBlock, DataBlockParsedItem, Decoder, IndexBlock};
 use std::alloc::Global;
 
 // Iterates over a data block, so many times.

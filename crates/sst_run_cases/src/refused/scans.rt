@@ -1,8 +1,8 @@
 //! Scans and checks of tables of long keys. A step that fails is made again.
 use crate::refused::lists::LONG;
-use crate::merges::{Stored, table_of};
+use crate::refused::merges::{Stored, table_of};
 use crate::refused::output::{print_left, print_left_back, print_one};
-use crate::runs::run_of;
+use crate::refused::runs::run_of;
 use sst_base::{ByteSum, InternalValue, Result};
 use sst_merge::Rev;
 use sstable_blocks::run::{RunHandles, RunRef};

@@ -6,12 +6,12 @@ ghost use Rattle.sstable_blocks.specs.Sound.{IsSound};
 
 use super::asked::{Asked, Place, Query, Wanted, by_trusted, of_run, of_sound};
 use sst_base::{BlockHash, Error, InternalValue, Slice, Steps};
-use sst_block_core::table::data_block::EntryView;
 use sst_block_cases::digest::Digest;
 use sst_block_cases::fault::{Fault, Result};
 use sst_block_cases::room::Room;
 use sst_block_cases::texts::agreed;
 use sst_block_cases::words::{bytes_of, number_of, word_of, word_of_found};
+use sst_block_core::table::data_block::EntryView;
 use sstable_blocks::run::{
     CheckedRun, FrameSource, RunHandles, Trusted, read_entry, read_entry_checked,
 };

@@ -6,10 +6,10 @@ ghost use Rattle.sstable_blocks.specs.Blocks.{CutsFit};
 
 use super::text_of;
 use sst_base::{BlockHash, ByteSum, HashRatio, InternalValue};
-use sst_block_core::DataBlock;
 use sst_block_cases::fault::{Fault, Result};
 use sst_block_cases::room::Room;
 use sst_block_cases::words::{entry_of, number_of, size_of, small_of};
+use sst_block_core::DataBlock;
 use sstable_blocks::run::{RunConfig, RunHandles, RunWriter, cuts_fit, write_run};
 use std::alloc::Global;
 

@@ -2,10 +2,10 @@
 // nothing read; writers and sources that fail.
 ghost use Rattle.std.specs.Prelude.{None};
 
+use crate::base::devices::{Failure, SlowFile, SlowWriter};
 use crate::runs::lists::{NO_BUCKETS, can_be_written};
 use crate::runs::written::{THREE, THREE_BLOCKS, list_of, value_of, worked_handles};
 use sst_base::{BlockHandle, ByteSum, Count, Error, InternalValue, Result, Slice};
-use crate::base::devices::{Failure, SlowFile, SlowWriter};
 use sstable_blocks::Table;
 use sstable_blocks::run::{
     FileSource, FrameSource, MemorySource, RunConfig, RunHandles, RunWriter, Scan,

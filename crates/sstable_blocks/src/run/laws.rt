@@ -26,10 +26,9 @@ ghost use Rattle.sstable_blocks.specs.declared.run.checking.RunSummary.{RunSumma
 
 use sst_base::InternalValue;
 use sst_block_core::BlockItem;
-use sst_block_core::laws::passing_is_block;
 use sst_block_core::laws::{
     data_block_is_read, data_check_is_by_stages, first_match_of_plain, index_block_is_read,
-    index_check_accepts_encodings, index_check_is_by_stages,
+    index_check_accepts_encodings, index_check_is_by_stages, passing_is_block,
 };
 
 /// The blocks of a list, joined, are the list, and none is empty.

@@ -24,8 +24,8 @@ ghost use Rattle.sstable_blocks.specs.Opened.{range_of};
 ghost use Rattle.sstable_blocks.specs.ReadCosts.{handles_most};
 
 use sst_base::{Block, BlockHandle, BlockHash, Error, InternalValue, Result, SeqNo, Steps};
-use sst_block_core::table::block::bound::Bound;
 use sst_block_core::DataBlock;
+use sst_block_core::table::block::bound::Bound;
 use sst_block_core::table::data_block::{DataBlockParsedItem, DataBlockRef};
 use sst_block_core::table::index_block::IndexBlockRef;
 use std::alloc::Global;
