@@ -32,6 +32,7 @@ pub mod SoundScans
 pub mod ScanCounts
 pub mod ScanSteps
 pub mod ScanCuts
-pub mod TrustedScans
 pub mod RunScans
 pub mod KeptReads
+pub mod EndSteps
+pub mod EndReads

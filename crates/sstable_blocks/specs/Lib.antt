@@ -17,4 +17,8 @@ pub mod Sound
 pub mod RunChecks
 pub mod Footer
 pub mod Tables
+pub mod BlockReading
 pub mod Scans
+pub mod Ends
+pub mod Readings
+pub mod ReadingLaws

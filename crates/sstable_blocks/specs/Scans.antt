@@ -1,11 +1,10 @@
 -- Scans of a table: its entries within a range of keys, from both ends, a block at a time.
-use Rattle.std.specs.Prelude.{◌≡◌, ◌≢◌, ◌⊎◌, ◌≤◌, ◌<◌, ℕ, ◌+◌, ◌*◌, ◌^◌, ◌&&◌, min, not, Bool, true, false, List, [], ◌∷◌, ◌++◌, length, map, filter, count_by, Option, Some, None, IfSome, Result, Ok, Err}
+use Rattle.std.specs.Prelude.{◌≡◌, ◌≢◌, ◌⊎◌, ◌<◌, ℕ, ◌+◌, ◌*◌, ◌^◌, ◌&&◌, min, not, Bool, true, false, List, [], ◌∷◌, ◌++◌, length, map, filter, count_by, Option, Some, None, IfSome, Result, Ok, Err}
 use Rattle.std.specs.Cmp.Lexicographic.{slice_cmp}
 use Rattle.std.specs.Ordering.{nat_cmp, is_le, is_lt}
 use Rattle.std.specs.declared.ops.Bound.{Bound}
 use Rattle.std.specs.declared.ops.Bound.TheVariants.{Included, Excluded, Unbounded}
 use Rattle.sst_base.specs.Entry.{Entry}
-use Rattle.sst_base.specs.Header.{◌>>=◌}
 use Rattle.sst_base.specs.declared.error.Error.{Error}
 use Rattle.sst_base.specs.declared.error.Error.TheVariants.{Memory, BadHandle}
 use Rattle.std.specs.Iterator.{YieldsFirst, YieldsLast}
@@ -18,13 +17,14 @@ use Rattle.sst_block_core.specs.Scan.{Scan}
 use Rattle.sst_block_core.specs.Stages.{items_in}
 use Rattle.sst_block_core.specs.Window.{items_left}
 use Rattle.sst_block_core.specs.Handles.{Handle}
+use Rattle.sstable_blocks.specs.BlockReading.{items_of}
 use Rattle.sstable_blocks.specs.Opened.{range_of, index_in, payload_in}
-use Rattle.sstable_blocks.specs.ReadCosts.{interval_in}
 use Rattle.sstable_blocks.specs.RunReading.{Hashes, items_at, handles_at}
 use Rattle.sstable_blocks.specs.Sound.{RunParts}
 use Rattle.sstable_blocks.specs.Sources.{IsSourceFailure}
-use Rattle.sstable_blocks.specs.Tables.{TableParts, KeptParts}
+use Rattle.sstable_blocks.specs.Tables.{TableParts}
 use Rattle.sstable_blocks.specs.declared.run.RunHandles.{RunHandles}
+use Rattle.sst_base.specs.Header.{◌>>=◌}
 
 -- a range of user keys, by its two bounds
 pub record KeyRange : Type 0 where
@@ -82,7 +82,7 @@ block_within c bytes r h = do
   Ok (within r items)
 
 -- what is read of a block: each of its entries, or its error
-abbrev pub reads_of : Result (List Entry) Error → List Read
+abbrev pub reads_of : {X : Type 0} → Result (List X) Error → List (Result X Error)
 reads_of (Ok items) = map Ok items
 reads_of (Err e) = Err e ∷ []
 
@@ -173,18 +173,11 @@ AllWithin r xs = AllByRecursion (λ x. in_range r x.key.user_key ≡ true) xs
 
 -- the entries left of a block that was opened, if one was
 abbrev pub left_in : Option (Scan Entry) → List Entry
-left_in None = []
-left_in (Some s) = items_left s.window
+left_in = items_of (λ (s : Scan Entry). items_left s.window)
 
 -- the handles between two indexes
 abbrev pub between : List Handle → ℕ → ℕ → List Handle
 between hs lo hi = items_left (record { list = hs; lo = lo; hi = hi })
-
--- the ends of a scan: handles are left of the index's, and entries of opened blocks are in the range
-pub record AreScanEnds (index : List Handle) (r : KeyRange) (front : List Entry) (hi : ℕ) (back : List Entry) : Type 0 where
-  pub inside : hi ≤ length index
-  pub front_within : AllWithin r front
-  pub back_within : AllWithin r back
 
 -- a scan of the same table, but for its source, and of the same range
 pub record IsSameScan {S : Type 0} (old new : ScanParts S) : Type 0 where
@@ -209,24 +202,10 @@ pub record IsReadRun (c : Hashes) (bytes : List ℕ) (h : RunHandles) : Type 0 w
   pub index : handles_at c bytes h.index ≡ Ok (index_in bytes h.index)
   pub blocks : AllByRecursion (IsRead c bytes) (index_in bytes h.index)
 
--- the entries left of a run: those of the blocks of handles between two indexes, and those before and after them
-abbrev pub left_of_run : Hashes → RunParts → KeyRange → List Entry → ℕ → ℕ → List Entry → List Entry
-left_of_run c run r front lo hi back =
-    entries_read (reads_among c run.bytes r front (between (index_in run.bytes run.handles.index) lo hi) back)
-
--- what is kept of a run that is read without checks
-abbrev pub kept_in : RunParts → KeptParts
-kept_in run = record {
-  handles = run.handles;
-  filter = None;
-  index = index_in run.bytes run.handles.index;
-  interval = interval_in run.bytes run.handles.index;
-}
-
--- what contracts see of a run whose blocks are cut: the run, and how many blocks were cut
-pub record CutterParts : Type 0 where
-  pub run : RunParts
-  pub cut : ℕ
+-- what contracts see of what opens the blocks of a run, each cut by a range
+pub record CutParts (R : Type 0) : Type 0 where
+  pub run : R
+  pub range : KeyRange
 
 -- what contracts see of a scan without checks: the bytes and the handles, the range, the entries left, and the error
 -- that ended it, if one did
@@ -247,14 +226,15 @@ entries_among bytes r front hs back = front ++ (entries_within bytes r hs ++ bac
 
 -- the entries left of a block that was opened over borrowed bytes, if one was
 abbrev pub views_left : Option (List Entry) → List Entry
-views_left None = []
-views_left (Some xs) = xs
+views_left = items_of (λ (xs : List Entry). xs)
 
 -- the entries left of a run by the ends of a scan: those of the blocks opened from the front and from the back, and those
 -- of the blocks of handles between two indexes
+abbrev pub left_of_run : RunParts → KeyRange → List Entry → ℕ → ℕ → List Entry → List Entry
+left_of_run run r front lo hi back = entries_among run.bytes r front (between (index_in run.bytes run.handles.index) lo hi) back
+
 abbrev pub left_by : RunParts → KeyRange → Option (List Entry) → ℕ → ℕ → Option (List Entry) → List Entry
-left_by run r front lo hi back =
-    entries_among run.bytes r (views_left front) (between (index_in run.bytes run.handles.index) lo hi) (views_left back)
+left_by run r front lo hi back = left_of_run run r (views_left front) lo hi (views_left back)
 
 -- what contracts see of a scan over borrowed bytes: the bytes and the handles, the range, and the entries left
 pub record RunScanParts : Type 0 where

@@ -1,23 +1,24 @@
 //! Runs: an ordered list of entries in blocks, written as frames with an index and a filter.
 ghost use Rattle.std.specs.Prelude.{◌≡◌};
 
+pub mod blocks;
 mod bounds;
 pub mod checked;
 pub mod checked_run;
 pub mod checking;
+mod cut;
+pub mod ends;
 pub mod footer;
 pub mod laws;
 pub mod new_file;
 mod open_block;
 mod open_filter;
-mod opener;
 pub mod read;
 pub mod round_trip;
 mod run_core;
 pub mod run_ref;
 pub mod run_scan;
 pub mod scan;
-mod scan_steps;
 mod search;
 pub mod source;
 pub mod sync;

@@ -58,7 +58,7 @@ impl<'a> OpenBlock<'a> {
 
     // Returns the number of entries left.
     #[inline(always)]
-    fn count_left(&self) -> usize
+    pub(super) fn count_left(&self) -> usize
         ensures { result ≡ length self.now }
     {
         self.iter.count_left()
@@ -66,7 +66,7 @@ impl<'a> OpenBlock<'a> {
 
     // Takes the first entry left.
     #[inline(always)]
-    fn next(&mut self) -> Option<EntryView<'a>>
+    pub(super) fn next(&mut self) -> Option<EntryView<'a>>
         ensures { YieldsFirst (λ xs. xs) self.old result self.new }
     {
         let Some(item) = self.iter.next() else {
@@ -77,7 +77,7 @@ impl<'a> OpenBlock<'a> {
 
     // Takes the last entry left.
     #[inline(always)]
-    fn next_back(&mut self) -> Option<EntryView<'a>>
+    pub(super) fn next_back(&mut self) -> Option<EntryView<'a>>
         ensures { YieldsLast (λ xs. xs) self.old result self.new }
     {
         let Some(item) = self.iter.next_back() else {
@@ -109,35 +109,13 @@ pub(super) fn open_at<'a, H: BlockHash>(
     *opened = Some(OpenBlock::new(&block, bounds));
 }
 
-/// Returns whether an opened block has an entry left.
+/// Returns how many entries are left of an opened block.
 #[inline(always)]
-pub(super) fn has_entry(opened: &Option<OpenBlock<'_>>) -> bool
-    ensures { result ≡ nat_lt 0 (length (views_left opened.now)) }
+pub(super) fn count_of(opened: &Option<OpenBlock<'_>>) -> usize
+    ensures { result ≡ length (views_left opened.now) }
 {
     match opened {
-        Some(opened) => opened.count_left() > 0,
-        None => false,
-    }
-}
-
-/// Takes the first entry left of an opened block.
-#[inline(always)]
-pub(super) fn take_first<'a>(opened: &mut Option<OpenBlock<'a>>) -> Option<EntryView<'a>>
-    ensures { YieldsFirst (λ xs. xs) (views_left opened.old) result (views_left opened.new) }
-{
-    match opened {
-        Some(opened) => opened.next(),
-        None => None,
-    }
-}
-
-/// Takes the last entry left of an opened block.
-#[inline(always)]
-pub(super) fn take_last<'a>(opened: &mut Option<OpenBlock<'a>>) -> Option<EntryView<'a>>
-    ensures { YieldsLast (λ xs. xs) (views_left opened.old) result (views_left opened.new) }
-{
-    match opened {
-        Some(opened) => opened.next_back(),
-        None => None,
+        Some(opened) => opened.count_left(),
+        None => 0,
     }
 }

@@ -1,6 +1,8 @@
 //! Scans of sound runs over borrowed bytes: without checks, and without memory.
-ghost use Rattle.std.specs.Prelude.{◌≡◌, ◌≤◌, List, [], length, map, refl};
+ghost use Rattle.std.specs.Prelude.{◌≡◌, ◌≤◌, List, [], length, Ok, IsOk, map, refl};
 ghost use Rattle.std.specs.Iterator.{YieldsFirst, YieldsLast, item_count};
+ghost use Rattle.sstable_blocks.specs.Ends.{AreEnds, ends};
+ghost use Rattle.sstable_blocks.specs.Readings.{run_reading};
 ghost use Rattle.std.specs.Range.Bound.{bound_map};
 ghost use Rattle.std.specs.declared.ops.Bound.TheVariants.{Unbounded};
 ghost use Rattle.sst_base.specs.Entry.{Entry, plain};
@@ -11,176 +13,16 @@ ghost use Rattle.sstable_blocks.specs.Scans.{ScansFirst, ScansLast, left_by, vie
 ghost use Rattle.sstable_blocks.specs.Sound.{IsSound};
 
 use super::bounds::Bounds;
+use super::cut::Cut;
+use super::ends::{Between, step};
 use super::laws::sound_is_scanned;
-use super::open_block::{OpenBlock, has_entry, open_at, take_first, take_last};
+use super::open_block::OpenBlock;
 use super::run_ref::RunRef;
 use sst_base::double_ended_peekable::ListIterator;
-use sst_base::{BlockHash, InternalValue, Steps};
+use sst_base::{BlockHash, InternalValue, Result, Steps};
 use sst_block_core::table::data_block::EntryView;
 use std::marker::Model;
-use std::mem;
 use std::ops::Bound;
-
-// The blocks of a scan: those opened from the front and from the back, and the indexes of the
-// handles between them.
-#[derive(Drop)]
-struct Opened<'a> {
-    front: Option<OpenBlock<'a>>,
-    lo: usize,
-    hi: usize,
-    back: Option<OpenBlock<'a>>,
-}
-
-// Opens blocks from the front until one has an entry in the range, or none is left.
-fn fill_front<'a, H: BlockHash>(run: &RunRef<'a, H>, bounds: &Bounds<'_>, opened: &mut Opened<'a>)
-    requires { opened.old.hi ≤ length (index_in run.now.bytes run.now.handles.index) }
-    ensures hi { opened.new.hi ≡ opened.old.hi }
-    ensures back { opened.new.back ≡ opened.old.back }
-    ensures left { left_by run.now bounds.now opened.new.front opened.new.lo opened.new.hi
-        opened.new.back
-        ≡ left_by run.now bounds.now opened.old.front opened.old.lo opened.old.hi
-        opened.old.back }
-    ensures done { views_left opened.new.front ≡ [] → opened.new.hi ≤ opened.new.lo }
-{
-    // The proof needs that the number of handles fits its type.
-    let _count = run.index().len();
-    'open: while opened.lo < opened.hi && !has_entry(&opened.front) {
-        let index = opened.lo;
-        opened.lo = index + 1;
-        open_at::<H>(run, bounds, index, &mut opened.front);
-    }
-}
-
-// Opens blocks from the back until one has an entry in the range, or none is left.
-fn fill_back<'a, H: BlockHash>(run: &RunRef<'a, H>, bounds: &Bounds<'_>, opened: &mut Opened<'a>)
-    requires { opened.old.hi ≤ length (index_in run.now.bytes run.now.handles.index) }
-    ensures inside { opened.new.hi ≤ length (index_in run.now.bytes run.now.handles.index) }
-    ensures front { opened.new.front ≡ opened.old.front }
-    ensures left { left_by run.now bounds.now opened.new.front opened.new.lo opened.new.hi
-        opened.new.back
-        ≡ left_by run.now bounds.now opened.old.front opened.old.lo opened.old.hi
-        opened.old.back }
-    ensures done { views_left opened.new.back ≡ [] → opened.new.hi ≤ opened.new.lo }
-{
-    'open: while opened.lo < opened.hi && !has_entry(&opened.back) {
-        let index = opened.hi - 1;
-        opened.hi = index;
-        open_at::<H>(run, bounds, index, &mut opened.back);
-    }
-}
-
-// Leaves a block with an entry in the range at the front, if there is one: opens blocks, and where
-// none is left between the ends, these change their blocks.
-#[inline(never)]
-fn turn_front<'a, H: BlockHash>(run: &RunRef<'a, H>, bounds: &Bounds<'_>, opened: &mut Opened<'a>)
-    requires { opened.old.hi ≤ length (index_in run.now.bytes run.now.handles.index) }
-    ensures inside { opened.new.hi ≤ length (index_in run.now.bytes run.now.handles.index) }
-    ensures left { left_by run.now bounds.now opened.new.front opened.new.lo opened.new.hi
-        opened.new.back
-        ≡ left_by run.now bounds.now opened.old.front opened.old.lo opened.old.hi
-        opened.old.back }
-    ensures done { views_left opened.new.front ≡ []
-        → (opened.new.hi ≤ opened.new.lo) × (views_left opened.new.back ≡ []) }
-{
-    fill_front::<H>(run, bounds, opened);
-    if has_entry(&opened.front) {
-        return;
-    }
-    mem::swap(&mut opened.front, &mut opened.back);
-}
-
-// Leaves a block with an entry in the range at the back, if there is one.
-#[inline(never)]
-fn turn_back<'a, H: BlockHash>(run: &RunRef<'a, H>, bounds: &Bounds<'_>, opened: &mut Opened<'a>)
-    requires { opened.old.hi ≤ length (index_in run.now.bytes run.now.handles.index) }
-    ensures inside { opened.new.hi ≤ length (index_in run.now.bytes run.now.handles.index) }
-    ensures left { left_by run.now bounds.now opened.new.front opened.new.lo opened.new.hi
-        opened.new.back
-        ≡ left_by run.now bounds.now opened.old.front opened.old.lo opened.old.hi
-        opened.old.back }
-    ensures done { views_left opened.new.back ≡ []
-        → (opened.new.hi ≤ opened.new.lo) × (views_left opened.new.front ≡ []) }
-{
-    fill_back::<H>(run, bounds, opened);
-    if has_entry(&opened.back) {
-        return;
-    }
-    mem::swap(&mut opened.front, &mut opened.back);
-}
-
-// Leaves a block with an entry in the range at the front, if there is one.
-#[inline(always)]
-fn ready_front<'a, H: BlockHash>(run: &RunRef<'a, H>, bounds: &Bounds<'_>, opened: &mut Opened<'a>)
-    requires { opened.old.hi ≤ length (index_in run.now.bytes run.now.handles.index) }
-    ensures inside { opened.new.hi ≤ length (index_in run.now.bytes run.now.handles.index) }
-    ensures left { left_by run.now bounds.now opened.new.front opened.new.lo opened.new.hi
-        opened.new.back
-        ≡ left_by run.now bounds.now opened.old.front opened.old.lo opened.old.hi
-        opened.old.back }
-    ensures done { views_left opened.new.front ≡ []
-        → (opened.new.hi ≤ opened.new.lo) × (views_left opened.new.back ≡ []) }
-{
-    if has_entry(&opened.front) {
-        return;
-    }
-    turn_front::<H>(run, bounds, opened);
-}
-
-// Leaves a block with an entry in the range at the back, if there is one.
-#[inline(always)]
-fn ready_back<'a, H: BlockHash>(run: &RunRef<'a, H>, bounds: &Bounds<'_>, opened: &mut Opened<'a>)
-    requires { opened.old.hi ≤ length (index_in run.now.bytes run.now.handles.index) }
-    ensures inside { opened.new.hi ≤ length (index_in run.now.bytes run.now.handles.index) }
-    ensures left { left_by run.now bounds.now opened.new.front opened.new.lo opened.new.hi
-        opened.new.back
-        ≡ left_by run.now bounds.now opened.old.front opened.old.lo opened.old.hi
-        opened.old.back }
-    ensures done { views_left opened.new.back ≡ []
-        → (opened.new.hi ≤ opened.new.lo) × (views_left opened.new.front ≡ []) }
-{
-    if has_entry(&opened.back) {
-        return;
-    }
-    turn_back::<H>(run, bounds, opened);
-}
-
-// Takes the first entry left of a scan.
-#[inline(always)]
-fn step_front<'a, H: BlockHash>(
-    run: &RunRef<'a, H>,
-    bounds: &Bounds<'_>,
-    opened: &mut Opened<'a>,
-) -> Option<EntryView<'a>>
-    requires { opened.old.hi ≤ length (index_in run.now.bytes run.now.handles.index) }
-    ensures inside { opened.new.hi ≤ length (index_in run.now.bytes run.now.handles.index) }
-    ensures first { YieldsFirst (λ xs. xs)
-        (left_by run.now bounds.now opened.old.front opened.old.lo opened.old.hi
-        opened.old.back) result
-        (left_by run.now bounds.now opened.new.front opened.new.lo opened.new.hi
-        opened.new.back) }
-{
-    ready_front::<H>(run, bounds, opened);
-    take_first(&mut opened.front)
-}
-
-// Takes the last entry left of a scan.
-#[inline(always)]
-fn step_back<'a, H: BlockHash>(
-    run: &RunRef<'a, H>,
-    bounds: &Bounds<'_>,
-    opened: &mut Opened<'a>,
-) -> Option<EntryView<'a>>
-    requires { opened.old.hi ≤ length (index_in run.now.bytes run.now.handles.index) }
-    ensures inside { opened.new.hi ≤ length (index_in run.now.bytes run.now.handles.index) }
-    ensures last { YieldsLast (λ xs. xs)
-        (left_by run.now bounds.now opened.old.front opened.old.lo opened.old.hi
-        opened.old.back) result
-        (left_by run.now bounds.now opened.new.front opened.new.lo opened.new.hi
-        opened.new.back) }
-{
-    ready_back::<H>(run, bounds, opened);
-    take_last(&mut opened.back)
-}
 
 /// A scan of a sound run over borrowed bytes: gives its entries within a range of user keys, in
 /// order, from both ends in any mixture. Each borrows the bytes; no step takes memory, and none
@@ -192,25 +34,83 @@ fn step_back<'a, H: BlockHash>(
 /// Clauses see the bytes and the handles, the range, and the entries left.
 #[derive(Drop)]
 pub struct RunScan<'a, 'k, H: BlockHash> {
-    run: RunRef<'a, H>,
-    bounds: Bounds<'k>,
-    opened: Opened<'a>,
+    cut: Cut<'k, RunRef<'a, H>>,
+    front: Option<OpenBlock<'a>>,
+    middle: Between,
+    back: Option<OpenBlock<'a>>,
 }
 
 impl<'a, 'k, H: BlockHash> Model for RunScan<'a, 'k, H> {
-    ghost use Rattle.std.specs.Prelude.{◌≤◌, length};
-    ghost use Rattle.sstable_blocks.specs.Opened.{index_in};
+    ghost use Rattle.sst_base.specs.Entry.{Entry};
+    ghost use Rattle.sstable_blocks.specs.Ends.{AreEnds, ends};
+    ghost use Rattle.sstable_blocks.specs.Readings.{run_reading};
     ghost use Rattle.sstable_blocks.specs.Scans.{RunScanParts, left_by};
+    ghost use Rattle.std.specs.Prelude.{List};
 
     ghost Value = { RunScanParts };
 
     ghost view = { λ s. record {
-      run = s.run;
-      range = s.bounds;
-      left = left_by s.run s.bounds s.opened.front s.opened.lo s.opened.hi s.opened.back;
+      run = s.cut.run;
+      range = s.cut.range;
+      left = left_by s.cut.run s.cut.range s.front s.middle.lo s.middle.hi s.back;
     } };
 
-    ghost invariant = { λ s. s.opened.hi ≤ length (index_in s.run.bytes s.run.handles.index) };
+    ghost invariant = { λ s. AreEnds run_reading s.cut
+        (ends (λ (xs : List Entry). xs) s.front s.middle s.back) };
+}
+
+// What a step that can't fail gave.
+#[inline(always)]
+fn without_error<T>(found: Result<Option<T>>) -> Option<T>
+    requires { IsOk found }
+    ensures { found ≡ Ok result }
+{
+    match found {
+        Ok(item) => item,
+        Err(_) => None,
+    }
+}
+
+// Takes the first entry left of a scan.
+#[inline(always)]
+fn step_front<'a, 'k, H: BlockHash>(
+    cut: &mut Cut<'k, RunRef<'a, H>>,
+    front: &mut Option<OpenBlock<'a>>,
+    middle: &mut Between,
+    back: &mut Option<OpenBlock<'a>>,
+) -> Option<EntryView<'a>>
+    requires { AreEnds run_reading cut.old (ends (λ xs. xs) front.old middle.old back.old) }
+    ensures same { cut.new ≡ cut.old }
+    ensures ends { AreEnds run_reading cut.new (ends (λ xs. xs) front.new middle.new back.new) }
+    ensures first { YieldsFirst (λ xs. xs)
+        (left_by cut.old.run cut.old.range front.old middle.old.lo middle.old.hi back.old) result
+        (left_by cut.old.run cut.old.range front.new middle.new.lo middle.new.hi back.new) }
+{
+    without_error(step::<OpenBlock<'a>, Cut<'k, RunRef<'a, H>>, false>(
+        (),
+        cut,
+        front,
+        middle,
+        back,
+    ))
+}
+
+// Takes the last entry left of a scan.
+#[inline(always)]
+fn step_back<'a, 'k, H: BlockHash>(
+    cut: &mut Cut<'k, RunRef<'a, H>>,
+    front: &mut Option<OpenBlock<'a>>,
+    middle: &mut Between,
+    back: &mut Option<OpenBlock<'a>>,
+) -> Option<EntryView<'a>>
+    requires { AreEnds run_reading cut.old (ends (λ xs. xs) front.old middle.old back.old) }
+    ensures same { cut.new ≡ cut.old }
+    ensures ends { AreEnds run_reading cut.new (ends (λ xs. xs) front.new middle.new back.new) }
+    ensures last { YieldsLast (λ xs. xs)
+        (left_by cut.old.run cut.old.range front.old middle.old.lo middle.old.hi back.old) result
+        (left_by cut.old.run cut.old.range front.new middle.new.lo middle.new.hi back.new) }
+{
+    without_error(step::<OpenBlock<'a>, Cut<'k, RunRef<'a, H>>, true>((), cut, back, middle, front))
 }
 
 /// Takes the first entry left, if there is one.
@@ -223,7 +123,12 @@ impl<'a, 'k, H: BlockHash> Iterator for RunScan<'a, 'k, H> {
 
     #[inline(always)]
     fn next(&mut self) -> Option<EntryView<'a>> {
-        step_front::<H>(&self.run, &self.bounds, &mut self.opened)
+        step_front::<H>(
+            &mut self.cut,
+            &mut self.front,
+            &mut self.middle,
+            &mut self.back,
+        )
     }
 }
 
@@ -233,7 +138,12 @@ impl<'a, 'k, H: BlockHash> DoubleEndedIterator for RunScan<'a, 'k, H> {
 
     #[inline(always)]
     fn next_back(&mut self) -> Option<EntryView<'a>> {
-        step_back::<H>(&self.run, &self.bounds, &mut self.opened)
+        step_back::<H>(
+            &mut self.cut,
+            &mut self.front,
+            &mut self.middle,
+            &mut self.back,
+        )
     }
 }
 
@@ -287,16 +197,18 @@ impl<'a, H: BlockHash> RunRef<'a, H> {
         let bounds = Bounds { from, to };
         let index = self.index();
         let mut steps = Steps::new();
-        let opened = Opened {
-            front: None,
+        let middle = Between {
             lo: bounds.first_block(index, &mut steps),
             hi: bounds.end_block(index, &mut steps),
-            back: None,
         };
         RunScan {
-            run: self.again(),
-            bounds,
-            opened,
+            cut: Cut {
+                run: self.again(),
+                bounds,
+            },
+            front: None,
+            middle,
+            back: None,
         }
     }
 }

@@ -14,12 +14,14 @@ ghost use Rattle.sstable_blocks.specs.Sound.{IsSound};
 ghost use Rattle.sstable_blocks.specs.Sources.{KeepsSource};
 
 use super::bounds::Bounds;
+use super::cut::Cut;
+use super::ends::{Between, keep_error, step};
 use super::laws::sound_is_scanned;
-use super::scan_steps::{Blocks, step_back, step_front};
 use super::search::IndexSearch;
 use super::source::FrameSource;
 use super::table::Table;
-use sst_base::{BlockHash, Error, InternalValue, Result};
+use sst_base::{BlockHash, Error, InternalValue, Result, Steps};
+use sst_block_core::table::data_block::IntoEntries;
 use std::alloc::Global;
 use std::marker::Model;
 use std::ops::Bound;
@@ -36,28 +38,34 @@ use std::ops::Bound;
 /// and the error that ended the scan, if one did.
 #[derive(Drop)]
 pub struct Scan<'k, H: BlockHash, S: FrameSource> {
-    table: Table<H, S>,
-    bounds: Bounds<'k>,
-    blocks: Blocks<H>,
+    cut: Cut<'k, Table<H, S>>,
+    front: Option<IntoEntries<H>>,
+    middle: Between,
+    back: Option<IntoEntries<H>>,
     ended: Option<Error>,
 }
 
 impl<'k, H: BlockHash, S: FrameSource> Model for Scan<'k, H, S> {
-    ghost use Rattle.sstable_blocks.specs.Scans.{ScanParts, AreScanEnds, between, left_in};
+    ghost use Rattle.sst_block_core.specs.Window.{items_left};
+    ghost use Rattle.sstable_blocks.specs.Ends.{AreEnds, ends};
+    ghost use Rattle.sstable_blocks.specs.Readings.{table_reading};
+    ghost use Rattle.sstable_blocks.specs.RunReading.{hashes};
+    ghost use Rattle.sstable_blocks.specs.Scans.{ScanParts, between, left_in};
 
     ghost Value = { ScanParts S };
 
     ghost view = { λ s. record {
-      table = s.table;
-      range = s.bounds;
-      front = left_in s.blocks.front;
-      handles = between s.table.index s.blocks.lo s.blocks.hi;
-      back = left_in s.blocks.back;
+      table = s.cut.run;
+      range = s.cut.range;
+      front = left_in s.front;
+      handles = between s.cut.run.index s.middle.lo s.middle.hi;
+      back = left_in s.back;
       ended = s.ended;
     } };
 
-    ghost invariant = { λ s. AreScanEnds s.table.index s.bounds (left_in s.blocks.front)
-        s.blocks.hi (left_in s.blocks.back) };
+    ghost invariant = { λ s. AreEnds
+        (table_reading (hashes H.hash64 H.hash128) S.bytes S.failures S.reads S.is_reliable) s.cut
+        (ends (λ e. items_left e.window) s.front s.middle s.back) };
 }
 
 impl<'k, H: BlockHash, S: FrameSource> Scan<'k, H, S> {
@@ -81,11 +89,17 @@ impl<'k, H: BlockHash, S: FrameSource> Scan<'k, H, S> {
         sound_is_scanned();
         let bounds = Bounds { from, to };
         let index = table.index();
-        let blocks = Blocks::within(&bounds, &IndexSearch::new(index.by_ref()));
+        let index = IndexSearch::new(index.by_ref());
+        let mut steps = Steps::new();
+        let middle = Between {
+            lo: bounds.first_block(&index, &mut steps),
+            hi: bounds.end_block(&index, &mut steps),
+        };
         Scan {
-            table,
-            bounds,
-            blocks,
+            cut: Cut { run: table, bounds },
+            front: None,
+            middle,
+            back: None,
             ended: None,
         }
     }
@@ -94,7 +108,7 @@ impl<'k, H: BlockHash, S: FrameSource> Scan<'k, H, S> {
     pub fn table(&self) -> &Table<H, S>
         ensures { result.now ≡ self.now.table }
     {
-        &self.table
+        &self.cut.run
     }
 
     /// Returns which blocks were not read, by the indexes of their handles in the index: from the
@@ -102,14 +116,14 @@ impl<'k, H: BlockHash, S: FrameSource> Scan<'k, H, S> {
     pub fn unread(&self) -> (usize, usize)
         ensures { between self.now.table.index result.0 result.1 ≡ self.now.handles }
     {
-        (self.blocks.lo, self.blocks.hi)
+        (self.middle.lo, self.middle.hi)
     }
 
     /// Returns the table.
     pub fn into_table(self) -> Table<H, S>
         ensures { result ≡ self.entry.table }
     {
-        self.table
+        self.cut.run
     }
 
     /// Takes the first entry left, or returns `None` if none is left.
@@ -140,13 +154,15 @@ impl<'k, H: BlockHash, S: FrameSource> Scan<'k, H, S> {
         if let Some(error) = self.ended {
             return Err(error);
         }
-        step_front::<H, Table<H, S>>(
+        let found = step::<IntoEntries<H>, Cut<'k, Table<H, S>>, false>(
             alloc,
-            &mut self.table,
-            &self.bounds,
-            &mut self.blocks,
-            &mut self.ended,
-        )
+            &mut self.cut,
+            &mut self.front,
+            &mut self.middle,
+            &mut self.back,
+        );
+        keep_error(&mut self.ended, &found);
+        found
     }
 
     /// Takes the last entry left, or returns `None` if none is left.
@@ -177,13 +193,15 @@ impl<'k, H: BlockHash, S: FrameSource> Scan<'k, H, S> {
         if let Some(error) = self.ended {
             return Err(error);
         }
-        step_back::<H, Table<H, S>>(
+        let found = step::<IntoEntries<H>, Cut<'k, Table<H, S>>, true>(
             alloc,
-            &mut self.table,
-            &self.bounds,
-            &mut self.blocks,
-            &mut self.ended,
-        )
+            &mut self.cut,
+            &mut self.back,
+            &mut self.middle,
+            &mut self.front,
+        );
+        keep_error(&mut self.ended, &found);
+        found
     }
 }
 

@@ -10,53 +10,15 @@ ghost use Rattle.sstable_blocks.specs.Scans.{EndsBy, within};
 ghost use Rattle.sstable_blocks.specs.Sound.{IsSound};
 
 use super::bounds::Bounds;
+use super::cut::Cut;
+use super::ends::{Between, keep_error, step};
 use super::laws::sound_is_scanned;
-use super::opener::BlockOpener;
-use super::scan_steps::{Blocks, step_back, step_front};
 use super::trusted::Trusted;
-use sst_base::{BlockHash, Count, Error, InternalValue, Result};
-use sst_block_core::DataBlock;
+use sst_base::{BlockHash, Error, InternalValue, Result, Steps};
+use sst_block_core::table::data_block::IntoEntries;
 use std::alloc::Global;
 use std::marker::Model;
 use std::ops::Bound;
-
-// Cuts the blocks of a sound run from its bytes. Clauses see the run, and how many blocks were cut.
-#[derive(Drop)]
-struct Cutter<'a, H: BlockHash> {
-    run: Trusted<'a, H>,
-    cut: Count,
-}
-
-impl<'a, H: BlockHash> Model for Cutter<'a, H> {
-    ghost use Rattle.sstable_blocks.specs.Scans.{CutterParts};
-
-    ghost Value = { CutterParts };
-
-    ghost view = { λ c. record { run = c.run; cut = c.cut } };
-}
-
-/// Nothing is tested.
-impl<'a, H: BlockHash> BlockOpener<H> for Cutter<'a, H> {
-    ghost use Rattle.std.specs.Prelude.{Some};
-    ghost use Rattle.sstable_blocks.specs.Scans.{kept_in};
-
-    ghost bytes = { λ c. Some c.run.bytes };
-
-    ghost failures = { λ c. 0 };
-
-    ghost reads = { λ c. c.cut };
-
-    ghost is_reliable = { λ c. Unit {0} };
-
-    ghost kept = { λ c. kept_in c.run };
-
-    fn open_block(&mut self, alloc: Global, index: usize) -> Result<DataBlock<H>> {
-        let _ = alloc;
-        self.run.note_read();
-        self.cut.add_one();
-        self.run.block_at(index)
-    }
-}
 
 /// A scan of a trusted table: gives its entries within a range of user keys, in order, from both
 /// ends in any mixture.
@@ -69,32 +31,33 @@ impl<'a, H: BlockHash> BlockOpener<H> for Cutter<'a, H> {
 /// scan, if one did.
 #[derive(Drop)]
 pub struct TrustedScan<'a, 'k, H: BlockHash> {
-    cutter: Cutter<'a, H>,
-    bounds: Bounds<'k>,
-    blocks: Blocks<H>,
+    cut: Cut<'k, Trusted<'a, H>>,
+    front: Option<IntoEntries<H>>,
+    middle: Between,
+    back: Option<IntoEntries<H>>,
     ended: Option<Error>,
 }
 
 impl<'a, 'k, H: BlockHash> Model for TrustedScan<'a, 'k, H> {
     ghost use Rattle.std.specs.Prelude.{◌≡◌, IfSome};
     ghost use Rattle.sst_base.specs.declared.error.Error.TheVariants.{Memory};
-    ghost use Rattle.sstable_blocks.specs.Opened.{index_in};
-    ghost use Rattle.sstable_blocks.specs.RunReading.{hashes};
-    ghost use Rattle.sstable_blocks.specs.Scans.{TrustedScanParts, AreScanEnds, left_in};
-    ghost use Rattle.sstable_blocks.specs.Scans.{left_of_run};
+    ghost use Rattle.sst_block_core.specs.Window.{items_left};
+    ghost use Rattle.sstable_blocks.specs.Ends.{AreEnds, ends};
+    ghost use Rattle.sstable_blocks.specs.Readings.{made_reading};
+    ghost use Rattle.sstable_blocks.specs.Scans.{TrustedScanParts, left_in, left_of_run};
 
     ghost Value = { TrustedScanParts };
 
     ghost view = { λ s. record {
-      run = s.cutter.run;
-      range = s.bounds;
-      left = left_of_run (hashes H.hash64 H.hash128) s.cutter.run s.bounds
-          (left_in s.blocks.front) s.blocks.lo s.blocks.hi (left_in s.blocks.back);
+      run = s.cut.run;
+      range = s.cut.range;
+      left = left_of_run s.cut.run s.cut.range (left_in s.front) s.middle.lo s.middle.hi
+          (left_in s.back);
       ended = s.ended;
     } };
 
-    ghost invariant = { λ s. AreScanEnds (index_in s.cutter.run.bytes s.cutter.run.handles.index)
-        s.bounds (left_in s.blocks.front) s.blocks.hi (left_in s.blocks.back)
+    ghost invariant = { λ s. AreEnds made_reading s.cut
+        (ends (λ e. items_left e.window) s.front s.middle s.back)
         × IfSome s.ended (λ e. e ≡ Memory) };
 }
 
@@ -115,14 +78,15 @@ impl<'a, 'k, H: BlockHash> TrustedScan<'a, 'k, H> {
         if let Some(error) = self.ended {
             return Err(error);
         }
-        self.cutter.run.note_read();
-        step_front::<H, Cutter<'a, H>>(
+        let found = step::<IntoEntries<H>, Cut<'k, Trusted<'a, H>>, false>(
             alloc,
-            &mut self.cutter,
-            &self.bounds,
-            &mut self.blocks,
-            &mut self.ended,
-        )
+            &mut self.cut,
+            &mut self.front,
+            &mut self.middle,
+            &mut self.back,
+        );
+        keep_error(&mut self.ended, &found);
+        found
     }
 
     /// Takes the last entry left, or returns `None` if none is left.
@@ -140,14 +104,15 @@ impl<'a, 'k, H: BlockHash> TrustedScan<'a, 'k, H> {
         if let Some(error) = self.ended {
             return Err(error);
         }
-        self.cutter.run.note_read();
-        step_back::<H, Cutter<'a, H>>(
+        let found = step::<IntoEntries<H>, Cut<'k, Trusted<'a, H>>, true>(
             alloc,
-            &mut self.cutter,
-            &self.bounds,
-            &mut self.blocks,
-            &mut self.ended,
-        )
+            &mut self.cut,
+            &mut self.back,
+            &mut self.middle,
+            &mut self.front,
+        );
+        keep_error(&mut self.ended, &found);
+        found
     }
 }
 
@@ -184,14 +149,20 @@ impl<'a, H: BlockHash> Trusted<'a, H> {
         sound_is_scanned();
         self.note_read();
         let bounds = Bounds { from, to };
-        let blocks = Blocks::within(&bounds, self.index());
+        let index = self.index();
+        let mut steps = Steps::new();
+        let middle = Between {
+            lo: bounds.first_block(index, &mut steps),
+            hi: bounds.end_block(index, &mut steps),
+        };
         TrustedScan {
-            cutter: Cutter {
+            cut: Cut {
                 run: self.again(),
-                cut: Count::new(),
+                bounds,
             },
-            bounds,
-            blocks,
+            front: None,
+            middle,
+            back: None,
             ended: None,
         }
     }

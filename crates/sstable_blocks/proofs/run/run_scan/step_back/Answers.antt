@@ -1,9 +1,16 @@
+use Rattle.std.proofs.Common.{subst, sym, ◌≤◌}
 use Rattle.sstable_blocks.specs.Opened.{index_in}
-use Rattle.sstable_blocks.proofs.RunScans.{last_ready}
+use Rattle.sstable_blocks.specs.Readings.{run_reading}
+use Rattle.sstable_blocks.specs.Scans.{views_left}
+use Rattle.sstable_blocks.proofs.EndReads.{gave_last, run_back}
 use Rattle.sstable_blocks.proofs.run.run_scan.step_back.Goals as goal
 
 pub returns-clause-last : goal.returns-clause-last
 returns-clause-last g c =
-    let run = c.args.run.now in
-    last_ready run.bytes c.args.bounds.now (index_in run.bytes run.handles.index) _ _ _ _ _ _ c.take_last.result
-    c.ready_back.ensures.done c.ready_back.ensures.left c.take_last.ensures
+    let cut = c.args.cut.now in
+    let hs = index_in cut.run.bytes cut.run.handles.index in
+    let n = c.step.new in
+    let inside = subst (λ s. n.between.hi ≤ run_reading.len s) c.step.ensures.goes c.step.ensures.ends.inside in
+    gave_last _ _ c.without_error.result
+    (rw (sym (run_back cut.run.bytes cut.range hs (views_left c.args.front.now) (views_left c.args.back.now) c.args.middle.now.lo c.args.middle.now.hi c.requires.inside), sym (run_back cut.run.bytes cut.range hs (views_left n.far) (views_left n.near) n.between.lo n.between.hi inside))
+    (rw c.without_error.ensures at c.step.ensures.exact))

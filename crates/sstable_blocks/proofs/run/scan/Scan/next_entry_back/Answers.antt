@@ -1,21 +1,24 @@
-use Rattle.std.proofs.Common.{◌≡◌, ◌<◌, subst, ap, IfSome, None, List, ℕ}
+use Rattle.std.proofs.Common.{◌≡◌, ◌<◌, ◌≤◌, subst, ap, length, IfSome, None}
 use Rattle.sstable_blocks.specs.RunReading.{hashes}
-use Rattle.sstable_blocks.specs.Scans.{Read, GivesLast, between, left_in, reads_among, reads_left}
-use Rattle.sstable_blocks.proofs.ScanSteps.{seen_after}
+use Rattle.sstable_blocks.specs.Scans.{GivesLast, between, left_in, reads_among, reads_left}
 use Rattle.sstable_blocks.specs.Tables.{KeptParts}
+use Rattle.sstable_blocks.proofs.EndReads.{gives_back, if_fresh}
 use Rattle.sstable_blocks.proofs.run.scan.Scan.next_entry_back.Goals as goal
 
 pub returns-clause-last : goal.returns-clause-last
 returns-clause-last g c =
     let h = hashes g.H.BlockHash.hash64 g.H.BlockHash.hash128 in
-    let n = c.step_back.new in
+    let f = g.S.FrameSource in
     let s = c.self.inside in
-    subst (λ v. IfSome (g.S.FrameSource.bytes v.table.source) (λ all. v.ended ≡ None
-    → GivesLast (g.S.FrameSource.failures v.table.source < g.S.FrameSource.failures n.opener.source) (g.S.FrameSource.is_reliable v.table.source) (reads_left h all v)
-    (reads_among h all s.bounds (left_in n.blocks.front) (between n.opener.index n.blocks.lo n.blocks.hi) (left_in n.blocks.back)) c.step_back.result))
+    let cut = s.cut in
+    let n = c.step-found.new in
+    let t = n.blocks in
+    let goes = c.step-found.ensures.goes in
+    let index = ap (λ (k : KeptParts). k.index) goes.kept in
+    let inside = subst (λ hs. n.between.hi ≤ length hs) index c.step-found.ensures.ends.inside in
+    subst (λ v. IfSome (f.bytes v.table.source) (λ all. v.ended ≡ None
+    → GivesLast (f.failures v.table.source < f.failures t.run.source) (f.is_reliable v.table.source) (reads_left h all v)
+    (reads_among h all t.range (left_in n.far) (between t.run.index n.between.lo n.between.hi) (left_in n.near)) c.step-found.result))
     c.self.view_is
-    (seen_after h s.bounds s.table.index (g.S.FrameSource.bytes s.table.source) n.opener.index
-    (λ (all : List ℕ) (reads : List Read). GivesLast (g.S.FrameSource.failures s.table.source < g.S.FrameSource.failures n.opener.source) (g.S.FrameSource.is_reliable s.table.source)
-    (reads_among h all s.bounds (left_in s.blocks.front) (between s.table.index s.blocks.lo s.blocks.hi) (left_in s.blocks.back)) reads c.step_back.result)
-    (left_in n.blocks.front) (left_in n.blocks.back) n.blocks.lo n.blocks.hi s.ended
-    (ap (λ (k : KeptParts). k.index) c.step_back.ensures.kept) c.step_back.ensures.exact)
+    (if_fresh _ _ (f.bytes cut.run.source) (gives_back h (f.failures cut.run.source < f.failures t.run.source) (f.is_reliable cut.run.source) cut.range t.range cut.run.index t.run.index goes.range index
+    (left_in s.front) (left_in s.back) (left_in n.far) (left_in n.near) s.middle.lo s.middle.hi n.between.lo n.between.hi c.self.invariant.inside inside c.step-found.result (f.bytes cut.run.source) c.step-found.ensures.exact))

@@ -1,0 +1,13 @@
+use Rattle.std.proofs.Common.{ap, ◌∙◌}
+use Rattle.std.proofs.lemmas.Result.{IfOk-weaker}
+use Rattle.sst_block_core.specs.Window.{items_left}
+use Rattle.sstable_blocks.proofs.ScanSteps.{back_rest}
+use Rattle.sstable_blocks.proofs.EndReads.{seen_last, seen_rest}
+use Rattle.sstable_blocks.proofs.run.cut.IntoEntriesEnded.next_back.Goals as goal
+
+pub returns : goal.returns
+returns g c = record {
+  first = IfOk-weaker c.next_entry_back.result _ _ (λ x last. seen_last (items_left c.args.self.now.window) (items_left c.next_entry_back.new.self.window) x last) c.next_entry_back.ensures.last;
+  rest = seen_rest (items_left c.args.self.now.window) (items_left c.next_entry_back.new.self.window) (ap items_left c.next_entry_back.ensures.window ∙ back_rest c.args.self.now.window c.count_left-count.ensures.within);
+  lacks = c.next_entry_back.ensures.memory;
+}

@@ -1,0 +1,180 @@
+//! What opens the blocks of a scan, each cut by the bounds.
+ghost use Rattle.std.specs.Prelude.{◌≡◌, ◌<◌, ◌+◌, ◌^◌, Some, length, slice_get};
+ghost use Rattle.std.specs.Prelude.{IfErr, IfOk, IfSome};
+ghost use Rattle.sst_base.specs.declared.error.Error.TheVariants.{Io, Memory};
+ghost use Rattle.sst_block_core.specs.Window.{items_left};
+ghost use Rattle.sst_block_core.specs.Handles.{Handle};
+ghost use Rattle.sstable_blocks.specs.ReadingLaws.{sound_laws, table_laws};
+ghost use Rattle.sstable_blocks.specs.Readings.{made_reading, run_reading, table_reading};
+ghost use Rattle.sstable_blocks.specs.RunReading.{hashes};
+ghost use Rattle.sstable_blocks.specs.Scans.{AllWithin, block_within};
+ghost use Rattle.sstable_blocks.specs.Sources.{GivesOr, KeepsSource};
+ghost use Rattle.sstable_blocks.specs.Tables.{kept_parts};
+
+use super::blocks::{Blocks, Ended};
+use super::bounds::Bounds;
+use super::open_block::{OpenBlock, count_of, open_at};
+use super::run_ref::RunRef;
+use super::source::FrameSource;
+use super::table::Table;
+use super::trusted::Trusted;
+use sst_base::{BlockHash, InternalValue, Result};
+use sst_block_core::table::data_block::{EntryView, IntoEntries};
+use std::alloc::Global;
+use std::marker::Model;
+
+/// A run whose blocks are opened and cut by bounds. Clauses see the run, and the range of keys.
+#[derive(Drop)]
+pub(crate) struct Cut<'k, R> {
+    pub(crate) run: R,
+    pub(crate) bounds: Bounds<'k>,
+}
+
+impl<'k, R> Model for Cut<'k, R> {
+    ghost use Rattle.sstable_blocks.specs.Scans.{CutParts};
+
+    ghost Value = { CutParts R };
+
+    ghost view = { λ c. record { run = c.run; range = c.bounds } };
+}
+
+/// The entries of a block are made when they are taken.
+impl<H: BlockHash> Ended for IntoEntries<H> {
+    type Item = InternalValue;
+
+    type Room = Global;
+
+    ghost items = { λ e. items_left e.window };
+
+    ghost Lacks = { λ e. e ≡ Memory };
+
+    #[inline(always)]
+    fn count_left(&self) -> usize {
+        IntoEntries::count_left(self)
+    }
+
+    #[inline(always)]
+    fn next(&mut self, alloc: Global) -> Result<Option<InternalValue>> {
+        self.next_entry(alloc)
+    }
+
+    #[inline(always)]
+    fn next_back(&mut self, alloc: Global) -> Result<Option<InternalValue>> {
+        // The proof needs that the end lies within the block.
+        let _count = IntoEntries::count_left(self);
+        self.next_entry_back(alloc)
+    }
+}
+
+/// An entry borrows its block. None is ever wanting.
+impl<'a> Ended for OpenBlock<'a> {
+    type Item = EntryView<'a>;
+
+    type Room = ();
+
+    ghost items = { λ b. b };
+
+    ghost Lacks = { λ e. ⊥ };
+
+    #[inline(always)]
+    fn count_left(&self) -> usize {
+        OpenBlock::count_left(self)
+    }
+
+    #[inline(always)]
+    fn next(&mut self, _room: ()) -> Result<Option<EntryView<'a>>> {
+        Ok(OpenBlock::next(self))
+    }
+
+    #[inline(always)]
+    fn next_back(&mut self, _room: ()) -> Result<Option<EntryView<'a>>> {
+        Ok(OpenBlock::next_back(self))
+    }
+}
+
+// Opens the block of a handle, and cuts it by the bounds.
+#[tactic(auto, using(crate::proofs::ScanCounts::few_within))]
+fn cut_block<H: BlockHash, S: FrameSource>(
+    alloc: Global,
+    table: &mut Table<H, S>,
+    bounds: &Bounds<'_>,
+    index: usize,
+) -> Result<IntoEntries<H>>
+    requires { index < length table.old.index }
+    ensures kept { kept_parts table.new ≡ kept_parts table.old }
+    ensures source { KeepsSource S.bytes S.failures S.is_reliable table.old.source
+        table.new.source }
+    ensures reads { S.reads table.new.source ≡ S.reads table.old.source + 1 }
+    ensures io { IfErr result
+        (λ e. e ≡ Io → S.failures table.old.source < S.failures table.new.source) }
+    ensures all { IfOk result (λ e. AllWithin bounds.now (items_left e.window)) }
+    ensures few { IfOk result (λ e. length (items_left e.window) < 2 ^ 32) }
+    ensures exact { IfSome (S.bytes table.old.source)
+        (λ all. (h : Handle) → slice_get table.old.index index ≡ Some h
+        → GivesOr (S.failures table.old.source < S.failures table.new.source)
+        (S.is_reliable table.old.source) (λ e. items_left e.window) result
+        (block_within (hashes H.hash64 H.hash128) all bounds.now h)) }
+{
+    let block = table.block_at(alloc, index)?;
+    // The proof needs that the payload is an encoding, and the bound on its length.
+    let payload = block.as_slice();
+    let _len = payload.len();
+    let mut entries = block.into_entries();
+    bounds.cut(&mut entries);
+    Ok(entries)
+}
+
+/// Verifies and checks each block.
+impl<'k, H: BlockHash, S: FrameSource> Blocks<IntoEntries<H>> for Cut<'k, Table<H, S>> {
+    ghost reading = { table_reading (hashes H.hash64 H.hash128) S.bytes S.failures S.reads
+        S.is_reliable };
+
+    fn open(
+        &mut self,
+        alloc: Global,
+        index: usize,
+        block: &mut Option<IntoEntries<H>>,
+    ) -> Result<()> {
+        let entries = cut_block::<H, S>(alloc, &mut self.run, &self.bounds, index)?;
+        *block = Some(entries);
+        Ok(())
+    }
+
+    ghost laws = { table_laws (hashes H.hash64 H.hash128) S.bytes S.failures S.reads
+        S.is_reliable };
+}
+
+/// Nothing is tested.
+impl<'a, 'k, H: BlockHash> Blocks<OpenBlock<'a>> for Cut<'k, RunRef<'a, H>> {
+    ghost reading = { run_reading };
+
+    fn open(&mut self, _room: (), index: usize, block: &mut Option<OpenBlock<'a>>) -> Result<()> {
+        open_at::<H>(&self.run, &self.bounds, index, block);
+        // The proof needs the bound on their number.
+        let _count = count_of(block);
+        Ok(())
+    }
+
+    ghost laws = { sound_laws (λ e. ⊥) };
+}
+
+/// Nothing is tested, and blocks share the bytes.
+impl<'a, 'k, H: BlockHash> Blocks<IntoEntries<H>> for Cut<'k, Trusted<'a, H>> {
+    ghost reading = { made_reading };
+
+    fn open(
+        &mut self,
+        _alloc: Global,
+        index: usize,
+        block: &mut Option<IntoEntries<H>>,
+    ) -> Result<()> {
+        let mut entries = self.run.block_at(index)?.into_entries();
+        self.bounds.cut(&mut entries);
+        // The proof needs the bound on their number.
+        let _count = IntoEntries::count_left(&entries);
+        *block = Some(entries);
+        Ok(())
+    }
+
+    ghost laws = { sound_laws (λ e. e ≡ Memory) };
+}

@@ -1,0 +1,143 @@
+//! The steps of a scan, from either end: which blocks are opened, and which items are taken.
+ghost use Rattle.std.specs.Prelude.{◌≡◌, ◌<◌, None, length, nat_lt};
+ghost use Rattle.sstable_blocks.specs.BlockReading.{TakesEnd, items_of};
+ghost use Rattle.sstable_blocks.specs.Ends.{AreEnds, IsReady, TakesNear, ends, hi_at, index_at, lo_at};
+ghost use Rattle.sstable_blocks.specs.Scans.{error_of};
+
+use super::blocks::{Blocks, Ended};
+use sst_base::{Error, Result};
+use std::mem;
+
+/// The indexes of the blocks that were not opened: from the first up to the second, without it.
+#[derive(Drop)]
+pub struct Between {
+    /// The index of the first of them.
+    pub lo: usize,
+    /// The index after the last of them.
+    pub hi: usize,
+}
+
+// Takes the index at an end.
+#[inline(always)]
+fn take_index<const BACK: bool>(between: &mut Between) -> usize
+    requires { between.old.lo < between.old.hi }
+    ensures index { result ≡ index_at BACK between.old.lo between.old.hi }
+    ensures rest { (between.new.lo ≡ lo_at BACK between.old.lo)
+        × (between.new.hi ≡ hi_at BACK between.old.hi) }
+{
+    if BACK {
+        between.hi -= 1;
+        between.hi
+    } else {
+        between.lo += 1;
+        between.lo - 1
+    }
+}
+
+// Whether an opened block has an item left.
+#[inline(always)]
+fn has_item<B: Ended>(block: &Option<B>) -> bool
+    ensures { result ≡ nat_lt 0 (length (items_of B.items block.now)) }
+{
+    match block {
+        Some(block) => block.count_left() > 0,
+        None => false,
+    }
+}
+
+// Takes the item at an end of an opened block.
+#[inline(always)]
+fn take_item<B: Ended, const BACK: bool>(
+    room: B::Room,
+    block: &mut Option<B>,
+) -> Result<Option<B::Item>>
+    ensures { TakesEnd BACK B.Lacks (items_of B.items block.old) result
+        (items_of B.items block.new) }
+{
+    let Some(block) = block else {
+        return Ok(None);
+    };
+    if BACK {
+        block.next_back(room)
+    } else {
+        block.next(room)
+    }
+}
+
+// Opens blocks from an end on until one has an item. Where none is left between the ends, the ends
+// change their blocks.
+#[inline(never)]
+fn turn<B: Ended, S: Blocks<B>, const BACK: bool>(
+    room: B::Room,
+    blocks: &mut S,
+    near: &mut Option<B>,
+    between: &mut Between,
+    far: &mut Option<B>,
+) -> Result<()>
+    requires { AreEnds S.reading blocks.old (ends B.items near.old between.old far.old) }
+    ensures { IsReady S.reading BACK blocks.old (ends B.items near.old between.old far.old) result
+        blocks.new (ends B.items near.new between.new far.new) }
+{
+    'open: while between.lo < between.hi && !has_item::<B>(near) {
+        let index = take_index::<BACK>(between);
+        blocks.open(room, index, near)?;
+    }
+    if has_item::<B>(near) {
+        return Ok(());
+    }
+    mem::swap(near, far);
+    Ok(())
+}
+
+// Leaves a block with an item at an end, if there is one.
+#[inline(always)]
+fn ready<B: Ended, S: Blocks<B>, const BACK: bool>(
+    room: B::Room,
+    blocks: &mut S,
+    near: &mut Option<B>,
+    between: &mut Between,
+    far: &mut Option<B>,
+) -> Result<()>
+    requires { AreEnds S.reading blocks.old (ends B.items near.old between.old far.old) }
+    ensures { IsReady S.reading BACK blocks.old (ends B.items near.old between.old far.old) result
+        blocks.new (ends B.items near.new between.new far.new) }
+{
+    if has_item::<B>(near) {
+        return Ok(());
+    }
+    turn::<B, S, BACK>(room, blocks, near, between, far)
+}
+
+/// Takes the first item left, seen from an end: from the front with the block that was opened there
+/// as `near` and `BACK` false, from the back with the ends exchanged and `BACK` true.
+///
+/// # Errors
+///
+/// That of [`Blocks::open`] where a block is refused, and that of [`Ended`] where the item is not made.
+#[inline(always)]
+pub fn step<B: Ended, S: Blocks<B>, const BACK: bool>(
+    room: B::Room,
+    blocks: &mut S,
+    near: &mut Option<B>,
+    between: &mut Between,
+    far: &mut Option<B>,
+) -> Result<Option<B::Item>>
+    requires { AreEnds S.reading blocks.old (ends B.items near.old between.old far.old) }
+    ensures { TakesNear S.reading B.Lacks BACK blocks.old
+        (ends B.items near.old between.old far.old) result blocks.new
+        (ends B.items near.new between.new far.new) }
+{
+    ready::<B, S, BACK>(room, blocks, near, between, far)?;
+    take_item::<B, BACK>(room, near)
+}
+
+/// Keeps the error of a step, if it is one. No step before it failed.
+#[inline(always)]
+pub(crate) fn keep_error<T>(ended: &mut Option<Error>, found: &Result<T>)
+    requires { ended.old ≡ None }
+    ensures { ended.new ≡ error_of found.now }
+{
+    if let Err(error) = found {
+        *ended = Some(*error);
+    }
+}
