@@ -45,23 +45,39 @@ fn has_item<B: Ended>(block: &Option<B>) -> bool
     }
 }
 
-// Takes the item at an end of an opened block.
+// Keeps the error of a step, if it is one. No step before it failed.
+#[inline(always)]
+fn keep_error<T>(ended: &mut Option<Error>, found: &Result<T>)
+    requires { ended.old ≡ None }
+    ensures { ended.new ≡ error_of found.now }
+{
+    if let Err(error) = found {
+        *ended = Some(*error);
+    }
+}
+
+// Takes the item at an end of an opened block, and keeps the error.
 #[inline(always)]
 fn take_item<B: Ended, const BACK: bool>(
     room: B::Room,
     block: &mut Option<B>,
+    ended: &mut Option<Error>,
 ) -> Result<Option<B::Item>>
-    ensures { TakesEnd BACK B.Lacks (items_of B.items block.old) result
+    requires { ended.old ≡ None }
+    ensures taken { TakesEnd BACK B.Lacks (items_of B.items block.old) result
         (items_of B.items block.new) }
+    ensures ended { ended.new ≡ error_of result }
 {
     let Some(block) = block else {
         return Ok(None);
     };
-    if BACK {
+    let item = if BACK {
         block.next_back(room)
     } else {
         block.next(room)
-    }
+    };
+    keep_error(ended, &item);
+    item
 }
 
 // Opens blocks from an end on until one has an item. Where none is left between the ends, the ends
@@ -109,7 +125,8 @@ fn ready<B: Ended, S: Blocks<B>, const BACK: bool>(
 }
 
 /// Takes the first item left, seen from an end: from the front with the block that was opened there
-/// as `near` and `BACK` false, from the back with the ends exchanged and `BACK` true.
+/// as `near` and `BACK` false, from the back with the ends exchanged and `BACK` true. The error of a
+/// step that fails is kept; no step before it failed.
 ///
 /// # Errors
 ///
@@ -121,23 +138,17 @@ pub fn step<B: Ended, S: Blocks<B>, const BACK: bool>(
     near: &mut Option<B>,
     between: &mut Between,
     far: &mut Option<B>,
+    ended: &mut Option<Error>,
 ) -> Result<Option<B::Item>>
-    requires { AreEnds S.reading blocks.old (ends B.items near.old between.old far.old) }
-    ensures { TakesNear S.reading B.Lacks BACK blocks.old
+    requires ends { AreEnds S.reading blocks.old (ends B.items near.old between.old far.old) }
+    requires going { ended.old ≡ None }
+    ensures taken { TakesNear S.reading B.Lacks BACK blocks.old
         (ends B.items near.old between.old far.old) result blocks.new
         (ends B.items near.new between.new far.new) }
+    ensures ended { ended.new ≡ error_of result }
 {
-    ready::<B, S, BACK>(room, blocks, near, between, far)?;
-    take_item::<B, BACK>(room, near)
-}
-
-/// Keeps the error of a step, if it is one. No step before it failed.
-#[inline(always)]
-pub(crate) fn keep_error<T>(ended: &mut Option<Error>, found: &Result<T>)
-    requires { ended.old ≡ None }
-    ensures { ended.new ≡ error_of found.now }
-{
-    if let Err(error) = found {
-        *ended = Some(*error);
-    }
+    let ready = ready::<B, S, BACK>(room, blocks, near, between, far);
+    keep_error(ended, &ready);
+    ready?;
+    take_item::<B, BACK>(room, near, ended)
 }

@@ -86,12 +86,14 @@ fn step_front<'a, 'k, H: BlockHash>(
         (left_by cut.old.run cut.old.range front.old middle.old.lo middle.old.hi back.old) result
         (left_by cut.old.run cut.old.range front.new middle.new.lo middle.new.hi back.new) }
 {
+    let mut ended = None;
     without_error(step::<OpenBlock<'a>, Cut<'k, RunRef<'a, H>>, false>(
         (),
         cut,
         front,
         middle,
         back,
+        &mut ended,
     ))
 }
 
@@ -110,7 +112,15 @@ fn step_back<'a, 'k, H: BlockHash>(
         (left_by cut.old.run cut.old.range front.old middle.old.lo middle.old.hi back.old) result
         (left_by cut.old.run cut.old.range front.new middle.new.lo middle.new.hi back.new) }
 {
-    without_error(step::<OpenBlock<'a>, Cut<'k, RunRef<'a, H>>, true>((), cut, back, middle, front))
+    let mut ended = None;
+    without_error(step::<OpenBlock<'a>, Cut<'k, RunRef<'a, H>>, true>(
+        (),
+        cut,
+        back,
+        middle,
+        front,
+        &mut ended,
+    ))
 }
 
 /// Takes the first entry left, if there is one.

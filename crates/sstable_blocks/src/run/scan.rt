@@ -15,7 +15,7 @@ ghost use Rattle.sstable_blocks.specs.Sources.{KeepsSource};
 
 use super::bounds::Bounds;
 use super::cut::Cut;
-use super::ends::{Between, keep_error, step};
+use super::ends::{Between, step};
 use super::laws::sound_is_scanned;
 use super::search::IndexSearch;
 use super::source::FrameSource;
@@ -154,15 +154,14 @@ impl<'k, H: BlockHash, S: FrameSource> Scan<'k, H, S> {
         if let Some(error) = self.ended {
             return Err(error);
         }
-        let found = step::<IntoEntries<H>, Cut<'k, Table<H, S>>, false>(
+        step::<IntoEntries<H>, Cut<'k, Table<H, S>>, false>(
             alloc,
             &mut self.cut,
             &mut self.front,
             &mut self.middle,
             &mut self.back,
-        );
-        keep_error(&mut self.ended, &found);
-        found
+            &mut self.ended,
+        )
     }
 
     /// Takes the last entry left, or returns `None` if none is left.
@@ -193,15 +192,14 @@ impl<'k, H: BlockHash, S: FrameSource> Scan<'k, H, S> {
         if let Some(error) = self.ended {
             return Err(error);
         }
-        let found = step::<IntoEntries<H>, Cut<'k, Table<H, S>>, true>(
+        step::<IntoEntries<H>, Cut<'k, Table<H, S>>, true>(
             alloc,
             &mut self.cut,
             &mut self.back,
             &mut self.middle,
             &mut self.front,
-        );
-        keep_error(&mut self.ended, &found);
-        found
+            &mut self.ended,
+        )
     }
 }
 

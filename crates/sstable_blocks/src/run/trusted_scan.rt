@@ -11,7 +11,7 @@ ghost use Rattle.sstable_blocks.specs.Sound.{IsSound};
 
 use super::bounds::Bounds;
 use super::cut::Cut;
-use super::ends::{Between, keep_error, step};
+use super::ends::{Between, step};
 use super::laws::sound_is_scanned;
 use super::trusted::Trusted;
 use sst_base::{BlockHash, Error, InternalValue, Result, Steps};
@@ -78,15 +78,14 @@ impl<'a, 'k, H: BlockHash> TrustedScan<'a, 'k, H> {
         if let Some(error) = self.ended {
             return Err(error);
         }
-        let found = step::<IntoEntries<H>, Cut<'k, Trusted<'a, H>>, false>(
+        step::<IntoEntries<H>, Cut<'k, Trusted<'a, H>>, false>(
             alloc,
             &mut self.cut,
             &mut self.front,
             &mut self.middle,
             &mut self.back,
-        );
-        keep_error(&mut self.ended, &found);
-        found
+            &mut self.ended,
+        )
     }
 
     /// Takes the last entry left, or returns `None` if none is left.
@@ -104,15 +103,14 @@ impl<'a, 'k, H: BlockHash> TrustedScan<'a, 'k, H> {
         if let Some(error) = self.ended {
             return Err(error);
         }
-        let found = step::<IntoEntries<H>, Cut<'k, Trusted<'a, H>>, true>(
+        step::<IntoEntries<H>, Cut<'k, Trusted<'a, H>>, true>(
             alloc,
             &mut self.cut,
             &mut self.back,
             &mut self.middle,
             &mut self.front,
-        );
-        keep_error(&mut self.ended, &found);
-        found
+            &mut self.ended,
+        )
     }
 }
 
