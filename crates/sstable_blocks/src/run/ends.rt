@@ -1,5 +1,8 @@
 //! The steps of a scan, from either end: which blocks are opened, and which items are taken.
-ghost use Rattle.std.specs.Prelude.{◌≡◌, ◌<◌, None, length, nat_lt};
+//!
+//! What opens blocks is one function for both ends, to which they are passed as near and far. What takes
+//! an item is a function for each end: inlined into its callers, one of both would be too long.
+ghost use Rattle.std.specs.Prelude.{◌≡◌, ◌<◌, None, false, length, nat_lt, true};
 ghost use Rattle.sstable_blocks.specs.BlockReading.{TakesEnd, items_of};
 ghost use Rattle.sstable_blocks.specs.Ends.{AreEnds, IsReady, TakesNear, ends, hi_at, index_at, lo_at};
 ghost use Rattle.sstable_blocks.specs.Scans.{error_of};
@@ -56,26 +59,42 @@ fn keep_error<T>(ended: &mut Option<Error>, found: &Result<T>)
     }
 }
 
-// Takes the item at an end of an opened block, and keeps the error.
+// Takes the first item left of an opened block, and keeps the error.
 #[inline(always)]
-fn take_item<B: Ended, const BACK: bool>(
+fn take_first<B: Ended>(
     room: B::Room,
     block: &mut Option<B>,
     ended: &mut Option<Error>,
 ) -> Result<Option<B::Item>>
     requires { ended.old ≡ None }
-    ensures taken { TakesEnd BACK B.Lacks (items_of B.items block.old) result
+    ensures taken { TakesEnd false B.Lacks (items_of B.items block.old) result
         (items_of B.items block.new) }
     ensures ended { ended.new ≡ error_of result }
 {
     let Some(block) = block else {
         return Ok(None);
     };
-    let item = if BACK {
-        block.next_back(room)
-    } else {
-        block.next(room)
+    let item = block.next(room);
+    keep_error(ended, &item);
+    item
+}
+
+// Takes the last item left of an opened block, and keeps the error.
+#[inline(always)]
+fn take_last<B: Ended>(
+    room: B::Room,
+    block: &mut Option<B>,
+    ended: &mut Option<Error>,
+) -> Result<Option<B::Item>>
+    requires { ended.old ≡ None }
+    ensures taken { TakesEnd true B.Lacks (items_of B.items block.old) result
+        (items_of B.items block.new) }
+    ensures ended { ended.new ≡ error_of result }
+{
+    let Some(block) = block else {
+        return Ok(None);
     };
+    let item = block.next_back(room);
     keep_error(ended, &item);
     item
 }
@@ -124,15 +143,14 @@ fn ready<B: Ended, S: Blocks<B>, const BACK: bool>(
     turn::<B, S, BACK>(room, blocks, near, between, far)
 }
 
-/// Takes the first item left, seen from an end: from the front with the block that was opened there
-/// as `near` and `BACK` false, from the back with the ends exchanged and `BACK` true. The error of a
-/// step that fails is kept; no step before it failed.
+/// Takes the first item left: `near` is the block that was opened from the front, `far` that from the back. The error of a step that fails is kept; no step before it
+/// failed.
 ///
 /// # Errors
 ///
 /// That of [`Blocks::open`] where a block is refused, and that of [`Ended`] where the item is not made.
 #[inline(always)]
-pub fn step<B: Ended, S: Blocks<B>, const BACK: bool>(
+pub fn step_front<B: Ended, S: Blocks<B>>(
     room: B::Room,
     blocks: &mut S,
     near: &mut Option<B>,
@@ -142,13 +160,41 @@ pub fn step<B: Ended, S: Blocks<B>, const BACK: bool>(
 ) -> Result<Option<B::Item>>
     requires ends { AreEnds S.reading blocks.old (ends B.items near.old between.old far.old) }
     requires going { ended.old ≡ None }
-    ensures taken { TakesNear S.reading B.Lacks BACK blocks.old
+    ensures taken { TakesNear S.reading B.Lacks false blocks.old
         (ends B.items near.old between.old far.old) result blocks.new
         (ends B.items near.new between.new far.new) }
     ensures ended { ended.new ≡ error_of result }
 {
-    let ready = ready::<B, S, BACK>(room, blocks, near, between, far);
+    let ready = ready::<B, S, false>(room, blocks, near, between, far);
     keep_error(ended, &ready);
     ready?;
-    take_item::<B, BACK>(room, near, ended)
+    take_first::<B>(room, near, ended)
+}
+
+/// Takes the last item left: `near` is the block that was opened from the back, `far` that from the front. The error of a step that fails is kept; no step before it
+/// failed.
+///
+/// # Errors
+///
+/// That of [`Blocks::open`] where a block is refused, and that of [`Ended`] where the item is not made.
+#[inline(always)]
+pub fn step_back<B: Ended, S: Blocks<B>>(
+    room: B::Room,
+    blocks: &mut S,
+    near: &mut Option<B>,
+    between: &mut Between,
+    far: &mut Option<B>,
+    ended: &mut Option<Error>,
+) -> Result<Option<B::Item>>
+    requires ends { AreEnds S.reading blocks.old (ends B.items near.old between.old far.old) }
+    requires going { ended.old ≡ None }
+    ensures taken { TakesNear S.reading B.Lacks true blocks.old
+        (ends B.items near.old between.old far.old) result blocks.new
+        (ends B.items near.new between.new far.new) }
+    ensures ended { ended.new ≡ error_of result }
+{
+    let ready = ready::<B, S, true>(room, blocks, near, between, far);
+    keep_error(ended, &ready);
+    ready?;
+    take_last::<B>(room, near, ended)
 }

@@ -14,7 +14,7 @@ ghost use Rattle.sstable_blocks.specs.Sound.{IsSound};
 
 use super::bounds::Bounds;
 use super::cut::Cut;
-use super::ends::{Between, step};
+use super::ends::{self, Between};
 use super::laws::sound_is_scanned;
 use super::open_block::OpenBlock;
 use super::run_ref::RunRef;
@@ -87,7 +87,7 @@ fn step_front<'a, 'k, H: BlockHash>(
         (left_by cut.old.run cut.old.range front.new middle.new.lo middle.new.hi back.new) }
 {
     let mut ended = None;
-    without_error(step::<OpenBlock<'a>, Cut<'k, RunRef<'a, H>>, false>(
+    without_error(ends::step_front::<OpenBlock<'a>, Cut<'k, RunRef<'a, H>>>(
         (),
         cut,
         front,
@@ -113,7 +113,7 @@ fn step_back<'a, 'k, H: BlockHash>(
         (left_by cut.old.run cut.old.range front.new middle.new.lo middle.new.hi back.new) }
 {
     let mut ended = None;
-    without_error(step::<OpenBlock<'a>, Cut<'k, RunRef<'a, H>>, true>(
+    without_error(ends::step_back::<OpenBlock<'a>, Cut<'k, RunRef<'a, H>>>(
         (),
         cut,
         back,

@@ -15,7 +15,7 @@ ghost use Rattle.sstable_blocks.specs.Sources.{KeepsSource};
 
 use super::bounds::Bounds;
 use super::cut::Cut;
-use super::ends::{Between, step};
+use super::ends::{Between, step_back, step_front};
 use super::laws::sound_is_scanned;
 use super::search::IndexSearch;
 use super::source::FrameSource;
@@ -154,7 +154,7 @@ impl<'k, H: BlockHash, S: FrameSource> Scan<'k, H, S> {
         if let Some(error) = self.ended {
             return Err(error);
         }
-        step::<IntoEntries<H>, Cut<'k, Table<H, S>>, false>(
+        step_front::<IntoEntries<H>, Cut<'k, Table<H, S>>>(
             alloc,
             &mut self.cut,
             &mut self.front,
@@ -192,7 +192,7 @@ impl<'k, H: BlockHash, S: FrameSource> Scan<'k, H, S> {
         if let Some(error) = self.ended {
             return Err(error);
         }
-        step::<IntoEntries<H>, Cut<'k, Table<H, S>>, true>(
+        step_back::<IntoEntries<H>, Cut<'k, Table<H, S>>>(
             alloc,
             &mut self.cut,
             &mut self.back,

@@ -11,7 +11,7 @@ ghost use Rattle.sstable_blocks.specs.Sound.{IsSound};
 
 use super::bounds::Bounds;
 use super::cut::Cut;
-use super::ends::{Between, step};
+use super::ends::{Between, step_back, step_front};
 use super::laws::sound_is_scanned;
 use super::trusted::Trusted;
 use sst_base::{BlockHash, Error, InternalValue, Result, Steps};
@@ -78,7 +78,7 @@ impl<'a, 'k, H: BlockHash> TrustedScan<'a, 'k, H> {
         if let Some(error) = self.ended {
             return Err(error);
         }
-        step::<IntoEntries<H>, Cut<'k, Trusted<'a, H>>, false>(
+        step_front::<IntoEntries<H>, Cut<'k, Trusted<'a, H>>>(
             alloc,
             &mut self.cut,
             &mut self.front,
@@ -103,7 +103,7 @@ impl<'a, 'k, H: BlockHash> TrustedScan<'a, 'k, H> {
         if let Some(error) = self.ended {
             return Err(error);
         }
-        step::<IntoEntries<H>, Cut<'k, Trusted<'a, H>>, true>(
+        step_back::<IntoEntries<H>, Cut<'k, Trusted<'a, H>>>(
             alloc,
             &mut self.cut,
             &mut self.back,

@@ -11,14 +11,14 @@ returns-clause-first g c =
     let f = g.S.FrameSource in
     let s = c.self.inside in
     let cut = s.cut in
-    let n = c.step.new in
+    let n = c.step_front.new in
     let t = n.blocks in
-    let goes = c.step.ensures.taken.goes in
+    let goes = c.step_front.ensures.taken.goes in
     let index = ap (λ (k : KeptParts). k.index) goes.kept in
-    let inside = subst (λ hs. n.between.hi ≤ length hs) index c.step.ensures.taken.ends.inside in
+    let inside = subst (λ hs. n.between.hi ≤ length hs) index c.step_front.ensures.taken.ends.inside in
     subst (λ v. IfSome (f.bytes v.table.source) (λ all. v.ended ≡ None
     → GivesFirst (f.failures v.table.source < f.failures t.run.source) (f.is_reliable v.table.source) (reads_left h all v)
-    (reads_among h all t.range (left_in n.near) (between t.run.index n.between.lo n.between.hi) (left_in n.far)) c.step.result))
+    (reads_among h all t.range (left_in n.near) (between t.run.index n.between.lo n.between.hi) (left_in n.far)) c.step_front.result))
     c.self.view_is
     (if_fresh _ _ (f.bytes cut.run.source) (gives_front h (f.failures cut.run.source < f.failures t.run.source) (f.is_reliable cut.run.source) cut.range t.range cut.run.index t.run.index goes.range index
-    (left_in s.front) (left_in s.back) (left_in n.near) (left_in n.far) s.middle.lo s.middle.hi n.between.lo n.between.hi c.self.invariant.inside inside c.step.result (f.bytes cut.run.source) c.step.ensures.taken.exact))
+    (left_in s.front) (left_in s.back) (left_in n.near) (left_in n.far) s.middle.lo s.middle.hi n.between.lo n.between.hi c.self.invariant.inside inside c.step_front.result (f.bytes cut.run.source) c.step_front.ensures.taken.exact))

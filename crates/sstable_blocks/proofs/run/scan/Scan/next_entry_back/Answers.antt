@@ -11,14 +11,14 @@ returns-clause-last g c =
     let f = g.S.FrameSource in
     let s = c.self.inside in
     let cut = s.cut in
-    let n = c.step.new in
+    let n = c.step_back.new in
     let t = n.blocks in
-    let goes = c.step.ensures.taken.goes in
+    let goes = c.step_back.ensures.taken.goes in
     let index = ap (λ (k : KeptParts). k.index) goes.kept in
-    let inside = subst (λ hs. n.between.hi ≤ length hs) index c.step.ensures.taken.ends.inside in
+    let inside = subst (λ hs. n.between.hi ≤ length hs) index c.step_back.ensures.taken.ends.inside in
     subst (λ v. IfSome (f.bytes v.table.source) (λ all. v.ended ≡ None
     → GivesLast (f.failures v.table.source < f.failures t.run.source) (f.is_reliable v.table.source) (reads_left h all v)
-    (reads_among h all t.range (left_in n.far) (between t.run.index n.between.lo n.between.hi) (left_in n.near)) c.step.result))
+    (reads_among h all t.range (left_in n.far) (between t.run.index n.between.lo n.between.hi) (left_in n.near)) c.step_back.result))
     c.self.view_is
     (if_fresh _ _ (f.bytes cut.run.source) (gives_back h (f.failures cut.run.source < f.failures t.run.source) (f.is_reliable cut.run.source) cut.range t.range cut.run.index t.run.index goes.range index
-    (left_in s.front) (left_in s.back) (left_in n.far) (left_in n.near) s.middle.lo s.middle.hi n.between.lo n.between.hi c.self.invariant.inside inside c.step.result (f.bytes cut.run.source) c.step.ensures.taken.exact))
+    (left_in s.front) (left_in s.back) (left_in n.far) (left_in n.near) s.middle.lo s.middle.hi n.between.lo n.between.hi c.self.invariant.inside inside c.step_back.result (f.bytes cut.run.source) c.step_back.ensures.taken.exact))

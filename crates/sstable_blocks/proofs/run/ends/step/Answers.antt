@@ -1,9 +1,0 @@
-use Rattle.std.proofs.Common.{not, eqb}
-use Rattle.sstable_blocks.specs.Ends.{ends}
-use Rattle.sstable_blocks.proofs.EndSteps.{taken}
-use Rattle.sstable_blocks.proofs.run.ends.step.Goals as goal
-
-pub returns-clause-taken : goal.returns-clause-taken
-returns-clause-taken g c =
-    let n = c.ready-ready.new in
-    taken g.S.Blocks.reading g.met.S.Blocks.laws (not (eqb g.row.BACK 0)) g.B.Ended.Lacks _ _ _ (ends g.B.Ended.items n.near n.between n.far) _ _ _ (rw c.in_ok-ready.was at c.ready-ready.ensures) c.take_item.ensures.taken
