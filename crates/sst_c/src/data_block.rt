@@ -22,9 +22,7 @@ use crate::entries::{SstEntry, items_of};
 use crate::output::write_bytes;
 use sst_base::table::util::SliceIndexes;
 use sst_base::{HashRatio, SeqNo, Steps};
-use sst_block_core::table::data_block::{
-    DataBlock, DataBlockParsedItem, DataBlockRef, EntryParts,
-};
+use sst_block_core::table::data_block::{DataBlock, DataBlockParsedItem, DataBlockRef, EntryParts};
 use sstable_blocks::Xxh3;
 use std::alloc::Global;
 
