@@ -1,12 +1,12 @@
 -- A step of a scan, seen from an end.
-use Rattle.std.proofs.Common.{◌≡◌, ◌⊎◌, inl, inr, ℕ, zero, suc, ◌+◌, ◌-◌, ◌*◌, ◌<◌, ◌≤◌, Bool, true, false, nat_lt, List, [], ◌∷◌, ◌++◌, length, map, reverse, drop, Option, Some, None, Ok, Err, refl, sym, ap, subst, ◌∙◌, arith}
+use Rattle.std.proofs.Common.{◌≡◌, inl, inr, ℕ, zero, suc, ◌+◌, ◌-◌, ◌*◌, ◌<◌, ◌≤◌, Bool, true, false, nat_lt, List, [], ◌∷◌, ◌++◌, length, map, reverse, drop, Option, Some, None, Ok, Err, refl, sym, ap, subst, ◌∙◌, arith}
 use Rattle.std.proofs.lemmas.List.{reverse-append, append_assoc, append-nil, length-reverse, map-append, reverse-reverse}
 use Rattle.std.proofs.lemmas.Bool.{ltb-false}
 use Rattle.std.specs.Iterator.{YieldsFirst}
 use Rattle.std.specs.List.{AllByRecursion}
-use Rattle.std.specs.Prelude.{IfSome, Result, MatchResult, IfOk, IfErr}
+use Rattle.std.specs.Prelude.{IfSome, Result}
 use Rattle.sstable_blocks.specs.BlockReading.{Reading, AreBlocks, AllAdmitted, Opens, seen, TakesEnd}
-use Rattle.sstable_blocks.specs.Ends.{AreEnds, Ends, FailsNext, GivesNext, IsFewer, IsReady, TakesNear, hi_at, index_at, lo_at, most_left, reads_between, reads_from, reads_left}
+use Rattle.sstable_blocks.specs.Ends.{AreEnds, Ends, GivesNext, IsFewer, IsReady, TakesNear, hi_at, index_at, lo_at, most_left, reads_between, reads_from, reads_left}
 use Rattle.sstable_blocks.specs.Scans.{reads_of}
 use Rattle.sst_base.specs.declared.error.Error.{Error}
 
@@ -50,18 +50,6 @@ all_drop P (x ∷ xs) a = a.1
 -- what is left is such as all were
 all_rest : {X : Type 0} (b : Bool) (P : X → Type 0) (xs ys : List X) → seen b ys ≡ drop 1 (seen b xs) → AllByRecursion P xs → AllByRecursion P ys
 all_rest b P xs ys e a = subst (AllByRecursion P) (seen_twice b ys) (all_seen b P (seen b ys) (subst (AllByRecursion P) (sym e) (all_drop P (seen b xs) (all_seen b P xs a))))
-
-drop_length : {X : Type 0} (xs : List X) → length (drop 1 xs) ≤ length xs
-drop_length [] = omega arith
-drop_length (x ∷ xs) = omega arith
-
-rest_length : {X : Type 0} (b : Bool) (xs ys : List X) → seen b ys ≡ drop 1 (seen b xs) → length ys ≤ length xs
-rest_length b xs ys e =
-    let m = seen_length b xs in
-    let n = seen_length b ys in
-    let k = ap length e in
-    let d = drop_length (seen b xs) in
-    omega (arith, m, n, k, d)
 
 pub seen_nil : {X : Type 0} (b : Bool) → seen {X = X} b [] ≡ []
 seen_nil true = refl
@@ -144,14 +132,6 @@ module _ {X : Type 0} (b : Bool) (f : ℕ → Result (List X) Error) where
       ap (λ x. seen b (reads_of x) ++ (seen b (reads_between f (lo_at b c.lo) (hi_at b c.hi)) ++ seen b (map Ok c.far))) (sym read)
       ∙ sym (left_split c none more)
 
-  -- where nothing is left of one end, the other end's block is left
-  left_turned : (near far : List X) (lo hi : ℕ) → near ≡ [] → hi ≤ lo
-      → reads_left b f (record { near = far; lo = lo; hi = hi; far = near }) ≡ reads_left b f (record { near = near; lo = lo; hi = hi; far = far })
-  left_turned near far lo hi none over =
-      let z : seen b (map Ok near) ≡ [] = ap (λ xs. seen b (map Ok xs)) none ∙ seen_nil b in
-      let m : seen b (reads_between f lo hi) ≡ [] = ap (seen b) (none_left f lo hi over) ∙ seen_nil b in
-      (λ i. seen b (map Ok far) ++ (m i ++ z i)) ∙ append-nil (seen b (map Ok far)) ∙ sym (λ i. z i ++ (m i ++ seen b (map Ok far)))
-
 module _ {S X : Type 0} (r : Reading S X) (laws : AreBlocks r) (b : Bool) where
   -- blocks were opened, and what is left is the same
   pub record IsReached (s : S) (old : Ends X) (t : S) (new : Ends X) : Type 0 where
@@ -163,18 +143,6 @@ module _ {S X : Type 0} (r : Reading S X) (laws : AreBlocks r) (b : Bool) where
 
   all_at : (s t : S) (n : ℕ) (xs : List X) → r.Goes s n t → AllAdmitted r s xs → AllAdmitted r t xs
   all_at s t n xs g a = subst (λ f. AllByRecursion (λ x. f x ≡ true) xs) (sym (laws.same_admits s t n g)) a
-
-  -- before the first
-  pub reached_first : (s : S) (e : Ends X) → AreEnds r s e → IsReached s e s e
-  reached_first s e a =
-      let z : 0 ≡ (e.hi - e.lo) - (e.hi - e.lo) = omega arith in
-      record {
-        goes = subst (λ n. r.Goes s n s) z (laws.stays s);
-        opened = omega arith;
-        ends = a;
-        most = omega arith;
-        exact = always (r.read s) (λ read. refl);
-      }
 
   more_most : (m k n : ℕ) → k + 1 ≡ n → m * n ≡ m * k + m
   more_most m k n e = ap (λ i. m * i) (sym e) ∙ omega arith
@@ -252,32 +220,6 @@ module _ {S X : Type 0} (r : Reading S X) (laws : AreBlocks r) (b : Bool) where
       subst (λ h. IsReady {T = T} r b s old (Err err) u (at items lo h c.far)) (sym g)
       (subst (λ l. IsReady {T = T} r b s old (Err err) u (at items l (hi_at b c.hi) c.far)) (sym f)
       (next_refused s old t c u items err w none more (subst (λ j. Opens {T = T} r t j (Err err) u items) e step)))
-
-  -- a block has an item
-  pub reached_ready : {T : Type 0} (s : S) (old : Ends X) (t : S) (c : Ends X) (o : T) → IsReached s old t c → nat_lt 0 (length c.near) ≡ true → IsReady {T = T} r b s old (Ok o) t c
-  reached_ready s old t c o w some = record {
-    goes = w.goes;
-    opened = w.opened;
-    ends = w.ends;
-    errs = tt;
-    most = w.most;
-    done = λ none. absurd (some_items c.near some none);
-    exact = w.exact;
-  }
-
-  -- none is left, and the ends change their blocks
-  pub reached_turned : {T : Type 0} (s : S) (old : Ends X) (t : S) (c : Ends X) (o : T) (near far : List X) → near ≡ c.far → far ≡ c.near → IsReached s old t c → c.near ≡ [] → c.hi ≤ c.lo → IsReady {T = T} r b s old (Ok o) t (at near c.lo c.hi far)
-  reached_turned {T = T} s old t c o near far e f w none over =
-      subst (λ xs. IsReady {T = T} r b s old (Ok o) t (at xs c.lo c.hi far)) (sym e)
-      (subst (λ ys. IsReady {T = T} r b s old (Ok o) t (at c.far c.lo c.hi ys)) (sym f) (record {
-        goes = w.goes;
-        opened = w.opened;
-        ends = record { inside = w.ends.inside; near = w.ends.far; far = w.ends.near };
-        errs = tt;
-        most = let m = w.most in omega (arith, m);
-        done = λ _. (over, none);
-        exact = some_as (r.read s) (λ read left. left_turned b read c.near c.far c.lo c.hi none over ∙ left) w.exact;
-      }))
 
   -- ---- an item is taken
   taken_left : (read : ℕ → Result (List X) Error) (c : Ends X) (x : X) (rest : List X) → seen b c.near ≡ x ∷ seen b rest → reads_left b read c ≡ Ok x ∷ reads_left b read (at rest c.lo c.hi c.far)
