@@ -143,6 +143,14 @@ def read(room, words):
     return first_match(block(room)[0], bytes_of(key), number_of(seqno))
 
 
+def misses(room, words):
+    """How many of so many reads of a key find none: KEY TIMES."""
+    key, times = only(words, 2)
+    found = first_match(block(room)[0], bytes_of(key), 2**64 - 1)
+    times = number_of(times, 1 << 32)
+    return f"{times if found == 'none' else 0} of {times}"
+
+
 def place(room, words):
     """Where the value of an entry that a read finds is in the payload: KEY SEQNO. A tombstone has
     none, at 0."""
@@ -290,6 +298,7 @@ COMMANDS = {
     "bucket": bucket,
     "read": read,
     "place": place,
+    "misses": misses,
     "queries": queries,
     "entries": all_entries,
     "take": take,

@@ -91,6 +91,53 @@ def stored(room, words):
     return words_of(merges.merged(sources_of(room)))
 
 
+class Store:
+    """A store: the versions in memory, those of its tables, and the next sequence number."""
+
+    def __init__(self):
+        self.memory, self.stored, self.next = [], [], 0
+
+    def write(self, words):
+        """Writes KEY:VALUE, or a tombstone of KEY."""
+        key, colon, value = words.partition(":")
+        letter, value = ("V", value) if colon else ("T", "-")
+        item = entry_of(f"{letter}.{self.next}.{key}.{value}")
+        self.memory = merges.merged([self.memory, [item]])
+        self.next += 1
+        return str(item.seqno)
+
+    def flush(self):
+        """Moves the versions in memory to the tables."""
+        self.memory, self.stored = [], merges.merged([self.memory, self.stored])
+        return "done"
+
+    def compact(self, words):
+        """Compacts the tables for SNAPSHOT."""
+        self.stored = merges.compacted(self.stored, number_of(words), True)
+        return "done"
+
+    def read(self, words):
+        """Reads KEY:SEQNO."""
+        key, _, seqno = words.partition(":")
+        item = first_match(merges.merged([self.memory, self.stored]), bytes_of(key), number_of(seqno))
+        return word_of_found(None if item is None or item.is_tombstone() else item)
+
+    def step(self, word):
+        """Takes a step of a story."""
+        name, colon, rest = word.partition(":")
+        if name == "flush" and not colon:
+            return self.flush()
+        if name not in ("write", "compact", "read") or not colon:
+            raise bad_word()
+        return getattr(self, name)(rest)
+
+
+def store(room, words):
+    """A story of a new store: STEP .."""
+    made = Store()
+    return " ".join(made.step(word) for word in words)
+
+
 def key_front(room, words):
     """The front of a key, in two parts: BYTES BYTES."""
     left, right = only(words, 2)
@@ -106,5 +153,6 @@ COMMANDS = {
     "tables": tables,
     "look": look,
     "stored": stored,
+    "store": store,
     "key-front": key_front,
 }

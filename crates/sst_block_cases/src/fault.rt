@@ -12,8 +12,18 @@ pub enum Fault {
     Word,
     /// The library refused.
     Refused(Error),
+    /// An error that is kept was not returned by the next call.
+    Forgotten,
     /// A file cannot be read, or the output failed.
     Io,
+}
+
+/// The fault of a call that returned an error and was made again, since the error is kept.
+pub fn kept(error: Error, again: Option<Error>) -> Fault {
+    match again {
+        Some(second) if second == error => Fault::Refused(error),
+        _ => Fault::Forgotten,
+    }
 }
 
 pub type Result<T> = std::result::Result<T, Fault>;

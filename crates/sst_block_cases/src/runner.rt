@@ -1,4 +1,7 @@
 //! Files of cases: a line `COMMAND => RESULT` is a case, all others are comments.
+//!
+//! A case is performed once. Where allocations may be refused, one that tells of that instead of its
+//! result is performed again, and then has to give its result.
 
 use crate::fault::{Fault, Result};
 use crate::room::Room;
@@ -31,32 +34,76 @@ fn words_of(alloc: Global, line: &str) -> Result<Vec<&str>> {
     Ok(words)
 }
 
+/// Performs the command of a line. Returns its answer, or `None` if it is no command.
+fn perform<H: BlockHash, C: Commands<R>, R: AllocGlobal>(
+    rt: &R,
+    room: &mut Room,
+    command: &str,
+) -> Result<Option<String>> {
+    let words = words_of(rt.alloc(), command)?;
+    match words.as_slice().split_first() {
+        Some((name, words)) => C::perform::<H>(rt, room, name, words),
+        None => Ok(None),
+    }
+}
+
 /// Performs the command of a line. Returns its answer, or why there is none.
 fn answer<H: BlockHash, C: Commands<R>, R: AllocGlobal>(
     rt: &R,
     room: &mut Room,
     command: &str,
 ) -> Result<String> {
-    let alloc = rt.alloc();
-    let words = words_of(alloc, command)?;
-    let Some((name, words)) = words.as_slice().split_first() else {
-        return Err(Fault::Word);
-    };
-    match C::perform::<H>(rt, room, name, words) {
+    match perform::<H, C, R>(rt, room, command) {
         Ok(Some(text)) => Ok(text),
-        Ok(None) => Ok(format!(in alloc; "{:?}", Fault::Word)?),
-        Err(fault) => Ok(format!(in alloc; "{fault:?}")?),
+        Ok(None) => Ok(format!(in rt.alloc(); "{:?}", Fault::Word)?),
+        Err(fault) => Ok(format!(in rt.alloc(); "{fault:?}")?),
     }
 }
 
-/// A file of cases: its name, the number of the line that was read last, how many cases were read,
-/// and how many of them hold.
+/// Whether each word of an answer is the one that is wanted, or tells of a refused allocation.
+fn are_refused(found: &str, wanted: &str) -> bool {
+    let mut rest = wanted.split(' ');
+    for word in found.split(' ') {
+        let is_same = rest.next() == Some(word);
+        if !is_same && word != "Memory" && word != "Io" {
+            return false;
+        }
+    }
+    rest.next().is_none()
+}
+
+/// Whether an answer tells of a refused allocation, and of nothing else that is not wanted. A writer in
+/// memory that is refused room says `Io`.
+fn is_refused(found: &str, wanted: &str) -> bool {
+    found == "Refused(Memory)" || found == "Refused(Io)" || are_refused(found, wanted)
+}
+
+/// A file of cases: its name, whether allocations may be refused, the number of the line that was read
+/// last, how many cases were read, how many of them hold, and how many were performed again.
 #[derive(Drop)]
 struct File<'a> {
     name: &'a str,
+    refuses: bool,
     line: usize,
     cases: usize,
     held: usize,
+    again: usize,
+}
+
+/// Performs the command of a line, again where it was refused memory.
+fn answer_in<H: BlockHash, C: Commands<R>, R: AllocGlobal>(
+    rt: &R,
+    room: &mut Room,
+    file: &mut File<'_>,
+    command: &str,
+    wanted: &str,
+) -> Result<String> {
+    let found = answer::<H, C, R>(rt, room, command)?;
+    if file.refuses && found.as_str() != wanted && is_refused(found.as_str(), wanted) {
+        file.again = file.again.saturating_add(1);
+        return answer::<H, C, R>(rt, room, command);
+    }
+    Ok(found)
 }
 
 /// Runs the case of a line, if it has one. Prints a case that does not hold.
@@ -70,7 +117,8 @@ fn run_line<H: BlockHash, C: Commands<R>, R: Print + AllocGlobal>(
     let Some((command, wanted)) = line.split_once(" =>") else {
         return Ok(());
     };
-    let (found, wanted) = (answer::<H, C, R>(rt, room, command)?, wanted.trim());
+    let wanted = wanted.trim();
+    let found = answer_in::<H, C, R>(rt, room, file, command, wanted)?;
     file.cases = file.cases.saturating_add(1);
     if found.as_str() == wanted {
         file.held = file.held.saturating_add(1);
@@ -81,42 +129,59 @@ fn run_line<H: BlockHash, C: Commands<R>, R: Print + AllocGlobal>(
     Ok(())
 }
 
+/// Prints how many cases of a file hold. Returns whether all do.
+fn print_counts<R: Print>(rt: &R, file: &File<'_>) -> Result<bool> {
+    let (name, held, cases, again) = (file.name, file.held, file.cases, file.again);
+    if file.refuses {
+        println!(rt; "{name}: {held} of {cases} cases hold, {again} performed again")?;
+    } else {
+        println!(rt; "{name}: {held} of {cases} cases hold")?;
+    }
+    Ok(held == cases)
+}
+
 /// Runs the cases of a file. Prints those that do not hold, and how many hold. Returns whether all do.
 fn run<H: BlockHash, C: Commands<R>, R: Print + AllocGlobal>(
     rt: &R,
     name: &str,
     text: &str,
+    refuses: bool,
 ) -> Result<bool> {
     let mut room = Room::new(rt.alloc());
     let mut file = File {
         name,
+        refuses,
         line: 0,
         cases: 0,
         held: 0,
+        again: 0,
     };
     for line in text.lines() {
         run_line::<H, C, R>(rt, &mut room, &mut file, line)?;
     }
-    let (held, cases) = (file.held, file.cases);
-    println!(rt; "{name}: {held} of {cases} cases hold")?;
-    Ok(held == cases)
+    print_counts(rt, &file)
 }
 
 /// Runs the cases of a file of this name. Returns whether all hold.
-fn run_file<C: Commands<R>, R: Files + Print + AllocGlobal>(rt: &R, name: &str) -> Result<bool> {
+fn run_file<C: Commands<R>, R: Files + Print + AllocGlobal>(
+    rt: &R,
+    name: &str,
+    refuses: bool,
+) -> Result<bool> {
     let text = fs::read_to_string(rt, name)?;
     if name.ends_with(".poly") {
-        run::<Poly31, C, R>(rt, name, text.as_str())
+        run::<Poly31, C, R>(rt, name, text.as_str(), refuses)
     } else if name.ends_with(".xxh3") {
-        run::<Xxh3, C, R>(rt, name, text.as_str())
+        run::<Xxh3, C, R>(rt, name, text.as_str(), refuses)
     } else if name.ends_with(".zero") {
-        run::<ZeroHash, C, R>(rt, name, text.as_str())
+        run::<ZeroHash, C, R>(rt, name, text.as_str(), refuses)
     } else {
-        run::<ByteSum, C, R>(rt, name, text.as_str())
+        run::<ByteSum, C, R>(rt, name, text.as_str(), refuses)
     }
 }
 
-/// Runs the cases of the files of these names. Returns whether all hold.
+/// Runs the cases of the files of these names, where allocations may be refused or not. Returns whether
+/// all hold.
 ///
 /// # Errors
 ///
@@ -124,10 +189,11 @@ fn run_file<C: Commands<R>, R: Files + Print + AllocGlobal>(rt: &R, name: &str) 
 pub fn run_files<C: Commands<R>, R: Files + Print + AllocGlobal>(
     rt: &R,
     names: &[String],
+    refuses: bool,
 ) -> Result<bool> {
     let mut holds = true;
     for name in names {
-        if !run_file::<C, R>(rt, name.as_str())? {
+        if !run_file::<C, R>(rt, name.as_str(), refuses)? {
             holds = false;
         }
     }

@@ -3,6 +3,7 @@
 use crate::digest::hash_of;
 use crate::fault::{Fault, Result};
 use crate::words::hex_of;
+use sst_base::Error;
 use sst_block_core::table::block::heads::HeadTable;
 use std::alloc::Global;
 
@@ -42,8 +43,20 @@ fn all_of(alloc: Global, found: &[Result<String>]) -> Result<String> {
     joined(alloc, texts.as_slice(), " / ")
 }
 
+/// Whether a way was refused memory.
+fn is_refused(found: &[Result<String>]) -> bool {
+    found.iter().any(|answer| matches!(answer, Err(Fault::Refused(Error::Memory))))
+}
+
 /// Returns what several ways answer: one answer where they agree, and else all of them.
+///
+/// # Errors
+///
+/// The fault that they agree on, and `Memory` if it is that of one of them.
 pub fn agreed(alloc: Global, found: &[Result<String>]) -> Result<String> {
+    if is_refused(found) {
+        return Err(Fault::Refused(Error::Memory));
+    }
     let first = found.first().ok_or(Fault::Word)?;
     for answer in found {
         if answer != first {

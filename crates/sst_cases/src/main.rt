@@ -4,8 +4,8 @@
 //! Prints a line for each case that does not hold, with the file and the number of the line, and then
 //! how many cases of the file hold; the status is 1 if one does not.
 //!
-//! With the words `repeat OPERATION TIMES` it performs an operation of the library as often and prints
-//! what each returns, for runs in which an allocation fails.
+//! Behind the word `refused` it runs cases while allocations are refused: one that tells of that is
+//! performed again, and then has to give its result; how many were is printed too.
 #![tactic(auto)]
 
 use sst_base::BlockHash;
@@ -34,16 +34,15 @@ impl<R: LockFiles + AllocGlobal> Commands<R> for AllCommands {
     }
 }
 
-/// Runs the files that the words name, or an operation. Returns whether all cases hold.
+/// Runs the files that the words name. Returns whether all cases hold.
 fn run<R: Env + Files + LockFiles + Print + AllocGlobal>(rt: &R) -> Result<bool> {
     let words: Vec<String> = env::args(rt)?.skip(1).collect(rt.alloc())?;
-    if let [first, operation, times] = words.as_slice()
-        && first.as_str() == "repeat"
-    {
-        sst_run_cases::refused::perform(rt, operation.as_str(), times.as_str())?;
-        return Ok(true);
+    match words.as_slice() {
+        [first, names @ ..] if first.as_str() == "refused" => {
+            run_files::<AllCommands, R>(rt, names, true)
+        }
+        names => run_files::<AllCommands, R>(rt, names, false),
     }
-    run_files::<AllCommands, R>(rt, words.as_slice())
 }
 
 fn main(rt: HostRuntime) -> ExitCode {

@@ -1,5 +1,4 @@
-//! The commands of cases on frames, filters, runs and merges, and on the program `sst`; and the
-//! operations that are repeated while allocations are refused.
+//! The commands of cases on frames, filters, runs and merges, on a store, and on the program `sst`.
 //!
 //! The commands stand in modules by what they are about. Each has a function `perform`, which returns
 //! the result of a command, or `None` where the command is none of the module's.
@@ -10,7 +9,6 @@ mod filters;
 mod frames;
 mod merges;
 mod program;
-pub mod refused;
 mod runs;
 
 use sst_base::BlockHash;

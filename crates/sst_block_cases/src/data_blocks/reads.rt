@@ -5,7 +5,7 @@ use super::{Blocks, Opened};
 use crate::digest::Digest;
 use crate::fault::{Fault, Result};
 use crate::room::Room;
-use crate::words::{alike, bytes_of, number_of, word_of, word_of_found};
+use crate::words::{alike, bytes_of, number_of, size_of, word_of, word_of_found};
 use sst_base::{BlockHash, InternalValue, Slice, Steps};
 use sst_block_core::table::data_block::{EntryRef, EntryView};
 use sst_block_core::{DataBlock, DataBlockParsedItem, DataBlockRef, ParsedItem};
@@ -66,6 +66,35 @@ pub fn read<H: BlockHash>(alloc: Global, opened: &Opened<H>, words: &[&str]) -> 
     };
     let (seqno, key) = (number_of(seqno)?, bytes_of(alloc, key)?);
     read_from_both(alloc, opened.both()?, key.as_slice(), seqno)
+}
+
+/// How many of so many reads of a key find none.
+fn count_misses<H: BlockHash>(
+    alloc: Global,
+    block: &DataBlock<H>,
+    key: &[u8],
+    times: u32,
+) -> Result<u32> {
+    let mut count = 0u32;
+    for _ in 0..times {
+        if block
+            .point_read(alloc, key, u64::MAX, &mut Steps::new())?
+            .is_none()
+        {
+            count = count.saturating_add(1);
+        }
+    }
+    Ok(count)
+}
+
+/// Reads of a key: how many find none: KEY TIMES. (Such a read asks for no memory.)
+pub fn misses<H: BlockHash>(alloc: Global, opened: &Opened<H>, words: &[&str]) -> Result<String> {
+    let [key, times] = words else {
+        return Err(Fault::Word);
+    };
+    let (times, key) = (size_of(times)?, bytes_of(alloc, key)?);
+    let count = count_misses(alloc, opened.bare()?, key.as_slice(), times)?;
+    Ok(format!(in alloc; "{count} of {times}")?)
 }
 
 /// Where the value of an entry that a read finds is in bytes that are lent.

@@ -1,9 +1,9 @@
 //! Merges, snapshots and compactions of sources in memory.
 
 use super::sources::{backs_of, merge_of, merged, merged_back, sources_of};
-use super::{drained, or_none};
+use super::{drained, or_none, taken};
 use sst_base::InternalValue;
-use sst_block_cases::fault::{Fault, Result};
+use sst_block_cases::fault::{Fault, Result, kept};
 use sst_block_cases::room::Room;
 use sst_block_cases::texts::agreed;
 use sst_block_cases::words::{number_of, push_word, word_of, word_of_found};
@@ -26,10 +26,11 @@ fn pass<I: Source<InternalValue> + Drop>(
     text: &mut String,
 ) -> Result<()> {
     push_word(text, word_of_found(alloc, merge.peek())?.as_str())?;
-    if !merge.advance(alloc)? {
-        text.push_str(" not passed")?;
+    match merge.advance(alloc) {
+        Ok(true) => Ok(()),
+        Ok(false) => Ok(text.push_str(" not passed")?),
+        Err(error) => Err(kept(error, merge.advance(alloc).err())),
     }
-    Ok(())
 }
 
 /// The merge of this many versions, each passed as it is shown.
@@ -60,8 +61,8 @@ fn takes<I: Source<InternalValue> + Drop>(
     merge: &mut Merge<InternalValue, I>,
     word: &str,
 ) -> Result<bool> {
-    let taken = merge.next_entry(alloc)?;
-    has_word(alloc, taken.as_ref(), word)
+    let version = taken(alloc, merge)?;
+    has_word(alloc, version.as_ref(), word)
 }
 
 /// Takes the first version of a merge. Returns whether there is one.
@@ -69,8 +70,7 @@ fn is_left<I: Source<InternalValue> + Drop>(
     alloc: Global,
     merge: &mut Merge<InternalValue, I>,
 ) -> Result<bool> {
-    let taken = merge.next_entry(alloc)?;
-    Ok(taken.is_some())
+    Ok(taken(alloc, merge)?.is_some())
 }
 
 /// Passes the first version of a merge at every third turn, and else takes it.
@@ -125,7 +125,7 @@ pub fn drained_back<I: Source<Reversed<InternalValue>>>(
     source: &mut I,
 ) -> Result<String> {
     let mut words = Vec::new(alloc);
-    while let Some(entry) = source.next_entry(alloc)? {
+    while let Some(entry) = taken(alloc, source)? {
         add_word(alloc, &mut words, &entry.into_inner())?;
     }
     reversed(alloc, words.as_slice())

@@ -1,11 +1,14 @@
-//! Commands on merges of sources, on what a snapshot sees, and on compactions.
+//! Commands on merges of sources, on what a snapshot sees, on compactions, and on a store.
 
 mod merging;
 mod sources;
+mod stores;
 mod tables;
+ghost use Rattle.std.specs.Prelude.{IfOk};
+ghost use Rattle.sst_merge.specs.Sources.{TakesFirst};
 
 use sst_base::{BlockHash, InternalValue, Slice, ValueType};
-use sst_block_cases::fault::{Fault, Result};
+use sst_block_cases::fault::{Fault, Result, kept};
 use sst_block_cases::room::Room;
 use sst_block_cases::words::{bytes_of, entry_of, hex_of, push_word, word_of};
 use sst_block_core::DataBlock;
@@ -18,10 +21,20 @@ fn push_entry(alloc: Global, text: &mut String, entry: &InternalValue) -> Result
     push_word(text, word_of(alloc, entry)?.as_str())
 }
 
+/// Takes the first version of a source. An error has to come again.
+fn taken<T: Drop, I: Source<T>>(alloc: Global, source: &mut I) -> Result<Option<T>>
+    ensures { IfOk result (λ r. TakesFirst (I.left source.old) r (I.left source.new)) }
+{
+    match source.next_entry(alloc) {
+        Ok(version) => Ok(version),
+        Err(error) => Err(kept(error, source.next_entry(alloc).err())),
+    }
+}
+
 /// The words of all that is left of a source, or `none`.
 fn drained<I: Source<InternalValue>>(alloc: Global, source: &mut I) -> Result<String> {
     let mut text = String::new(alloc);
-    while let Some(entry) = source.next_entry(alloc)? {
+    while let Some(entry) = taken(alloc, source)? {
         push_entry(alloc, &mut text, &entry)?;
     }
     or_none(alloc, text)
@@ -106,6 +119,7 @@ pub fn perform<H: BlockHash>(
         "merge" => merging::merge(alloc, room),
         "compact" => merging::compact(alloc, room, words),
         "snapshot" => merging::snapshot(alloc, room, words),
+        "store" => stores::story(alloc, words),
         _ => return tables::perform::<H>(alloc, room, name, words),
     };
     Ok(Some(answer?))

@@ -7,7 +7,7 @@ ghost use Rattle.sstable_blocks.specs.Sound.{IsSound};
 use super::asked::{Asked, Place, Wanted, by_trusted, of_run, of_sound};
 use super::ranges::{End, bound_of, end_of, start_of};
 use sst_base::{BlockHash, Error, InternalValue, Slice};
-use sst_block_cases::fault::{Fault, Result};
+use sst_block_cases::fault::{Fault, Result, kept};
 use sst_block_cases::room::Room;
 use sst_block_cases::texts::agreed;
 use sst_block_cases::words::{push_word, word_of_found};
@@ -58,11 +58,15 @@ impl<H: BlockHash> BothEnds for RunScan<'_, '_, H> {
     }
 }
 
-/// The word of what a step takes.
-fn word_of_taken(alloc: Global, taken: Found) -> Result<String> {
-    match taken {
-        Ok(found) => word_of_found(alloc, found.as_ref()),
-        Err(error) => Ok(format!(in alloc; "{error:?}")?),
+/// The word of what a step takes, or of its error, which the next step has to return again.
+fn word_of_step<S: BothEnds>(alloc: Global, scan: &mut S, is_first: bool) -> Result<String> {
+    let error = match scan.step(alloc, is_first) {
+        Ok(found) => return word_of_found(alloc, found.as_ref()),
+        Err(error) => error,
+    };
+    match kept(error, scan.step(alloc, is_first).err()) {
+        Fault::Refused(error) if error != Error::Memory => Ok(format!(in alloc; "{error:?}")?),
+        fault => Err(fault),
     }
 }
 
@@ -73,8 +77,7 @@ fn push_step<S: BothEnds>(
     letter: u8,
     text: &mut String,
 ) -> Result<()> {
-    let taken = scan.step(alloc, letter == b'n');
-    push_word(text, word_of_taken(alloc, taken)?.as_str())
+    push_word(text, word_of_step(alloc, scan, letter == b'n')?.as_str())
 }
 
 /// Takes steps of a scan.

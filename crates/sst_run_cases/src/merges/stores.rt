@@ -1,0 +1,76 @@
+//! Stories of a store: writes, flushes, compactions and reads, one after the other.
+
+use sst_base::{SeqNo, Slice};
+use sst_block_cases::fault::{Fault, Result};
+use sst_block_cases::words::{bytes_of, number_of, push_word, word_of_found};
+use sst_examples::store::Store;
+use std::alloc::Global;
+
+/// The longest key, and the most bytes of a value.
+const MAX_LEN: usize = 65535;
+
+/// The bytes of a word, of which there are not too many.
+fn slice_of(alloc: Global, word: &str) -> Result<Slice> {
+    Ok(Slice::from_vec(bytes_of(alloc, word)?)?)
+}
+
+/// Writes a value of a key, or deletes it: its sequence number.
+fn write(store: &mut Store, key: Slice, value: Option<Slice>) -> Result<SeqNo> {
+    if key.is_empty() || key.len() > MAX_LEN {
+        return Err(Fault::Word);
+    }
+    match value {
+        Some(value) if value.len() <= MAX_LEN => Ok(store.put(key, value)?),
+        Some(_) => Err(Fault::Word),
+        None => Ok(store.delete(key)?),
+    }
+}
+
+/// Writes what a word says: KEY:VALUE, or KEY to delete it.
+fn write_word(alloc: Global, store: &mut Store, word: &str) -> Result<String> {
+    let seqno = match word.split_once(':') {
+        Some((key, value)) => write(store, slice_of(alloc, key)?, Some(slice_of(alloc, value)?))?,
+        None => write(store, slice_of(alloc, word)?, None)?,
+    };
+    Ok(format!(in alloc; "{seqno}")?)
+}
+
+/// Reads what a word says: KEY:SEQNO.
+fn read(alloc: Global, store: &mut Store, word: &str) -> Result<String> {
+    let (key, seqno) = word.split_once(':').ok_or(Fault::Word)?;
+    let key = bytes_of(alloc, key)?;
+    let found = store.get(key.as_slice(), number_of(seqno)?)?;
+    word_of_found(alloc, found.as_ref())
+}
+
+/// The word of a flush or a compaction, after which the story goes on also where it fails.
+fn word_of_done(alloc: Global, done: sst_base::Result<()>) -> Result<String> {
+    match done {
+        Ok(()) => Ok(String::from_str(alloc, "done")?),
+        Err(error) => Ok(format!(in alloc; "{error:?}")?),
+    }
+}
+
+/// Takes a step of a story.
+fn step(alloc: Global, store: &mut Store, word: &str) -> Result<String> {
+    match word.split_once(':') {
+        Some(("write", rest)) => write_word(alloc, store, rest),
+        Some(("read", rest)) => read(alloc, store, rest),
+        Some(("compact", snapshot)) => {
+            let snapshot = number_of(snapshot)?;
+            word_of_done(alloc, store.compact(snapshot))
+        }
+        None if word == "flush" => word_of_done(alloc, store.flush()),
+        _ => Err(Fault::Word),
+    }
+}
+
+/// A story of a new store: STEP .., each `write:KEY:VALUE`, `write:KEY`, which deletes, `flush`,
+/// `compact:SNAPSHOT` or `read:KEY:SEQNO`.
+pub fn story(alloc: Global, words: &[&str]) -> Result<String> {
+    let (mut store, mut text) = (Store::new(alloc), String::new(alloc));
+    for word in words {
+        push_word(&mut text, step(alloc, &mut store, word)?.as_str())?;
+    }
+    Ok(text)
+}
