@@ -41,34 +41,54 @@ def merge(room, words):
 
 
 def level_of(word):
-    """Returns whether a word names the bottom level."""
+    """Returns the test of a key for a word that names a level: all keys are at the bottom, or none."""
     if word not in ("above", "bottom"):
         raise bad_word()
-    return word == "bottom"
+    return lambda key: word == "bottom"
+
+
+def older_of(word):
+    """Returns the test of a key that is in none of the ranges of the older tables: FIRST:LAST,.."""
+    ranges = []
+    for part in word.split(","):
+        first, colon, last = part.partition(":")
+        if not colon:
+            raise bad_word()
+        ranges.append((bytes_of(first), bytes_of(last)))
+    return lambda key: not any(first <= key <= last for first, last in ranges)
+
+
+def snapshots_of(word):
+    """Returns the snapshots of a word: numbers joined by commas, or `-` for none."""
+    return [] if word == "-" else [number_of(part) for part in word.split(",")]
 
 
 def compact(room, words):
-    """A compaction of the sources: SNAPSHOT LEVEL."""
-    seqno, level = only(words, 2)
+    """A compaction of the sources: SNAPSHOTS LEVEL, or SNAPSHOTS over RANGES of the older tables."""
+    if len(words) == 3 and words[1] == "over":
+        is_bottom = older_of(words[2])
+    else:
+        is_bottom = level_of(only(words, 2)[1])
     items = merges.merged(sources_of(room))
-    return words_of(merges.compacted(items, number_of(seqno), level_of(level)))
+    return words_of(merges.compacted(items, snapshots_of(words[0]), is_bottom))
 
 
 def snapshot(room, words):
-    """What a snapshot sees of the sources, or of a compaction of them: SEQNO, or SEQNO SNAPSHOT
+    """What a snapshot sees of the sources, or of a compaction of them: SEQNO, or SEQNO SNAPSHOTS
     LEVEL."""
     items = merges.merged(sources_of(room))
     if len(words) == 3:
-        items = merges.compacted(items, number_of(words[1]), level_of(words[2]))
+        items = merges.compacted(items, snapshots_of(words[1]), level_of(words[2]))
         words = words[:1]
     return words_of(merges.snapshot(items, number_of(only(words, 1)[0])))
 
 
 def tables(room, words):
-    """Compacts the sources into tables: SNAPSHOT LEVEL BLOCK_SIZE TABLE_SIZE. Of each table the
+    """Compacts the sources into tables: SNAPSHOTS LEVEL BLOCK_SIZE TABLE_SIZE. Of each table the
     numbers of its entries and of its blocks."""
-    seqno, level, block, table = only(words, 4)
-    items = merges.compacted(merges.merged(sources_of(room)), number_of(seqno), level_of(level))
+    snapshots, level, block, table = only(words, 4)
+    items = merges.merged(sources_of(room))
+    items = merges.compacted(items, snapshots_of(snapshots), level_of(level))
     room.tables = merges.tables_of(items, number_of(block), number_of(table))
     counts = [f"{sum(map(len, blocks))}/{len(blocks)}" for blocks in room.tables]
     return " ".join(counts) or "none"
@@ -112,8 +132,8 @@ class Store:
         return "done"
 
     def compact(self, words):
-        """Compacts the tables for SNAPSHOT."""
-        self.stored = merges.compacted(self.stored, number_of(words), True)
+        """Compacts the tables for SNAPSHOTS."""
+        self.stored = merges.compacted(self.stored, snapshots_of(words), lambda key: True)
         return "done"
 
     def read(self, words):

@@ -31,13 +31,17 @@ def snapshot(items, seqno):
     return [item for item in newest if not item.is_tombstone()]
 
 
-def compacted(items, seqno, is_bottom):
-    """Returns the entries without those below a snapshot but the newest of each key; and at the
-    bottom level without that one too, if it is a tombstone."""
+def compacted(items, snapshots, is_bottom):
+    """Returns the entries that a compaction for snapshots leaves, each of which sees what is strictly
+    below it: those that no snapshot sees, and those that one sees which sees no newer one of the key;
+    without the tombstones that every snapshot sees, of keys at the bottom."""
     kept = []
     for at, item in enumerate(items):
-        is_newest = newest_below(items, at, seqno)
-        if item.seqno >= seqno or is_newest and not (is_bottom and item.is_tombstone()):
+        newer = [other for other in items[:at] if other.key == item.key]
+        seeing = [seqno for seqno in snapshots if item.seqno < seqno]
+        alone = [seqno for seqno in seeing if all(other.seqno >= seqno for other in newer)]
+        goes = item.is_tombstone() and seeing == snapshots and is_bottom(item.key)
+        if not seeing or alone and not goes:
             kept.append(item)
     return kept
 

@@ -12,7 +12,7 @@ use Rattle.sst_base.specs.declared.value_type.ValueType.{ValueType}
 use Rattle.sst_block_core.specs.Entries.{entries}
 use Rattle.sst_block_core.specs.Kind.{IsOrdered}
 use Rattle.sst_block_core.specs.Window.{first_match, is_version}
-use Rattle.sst_merge.specs.Compact.{compacted}
+use Rattle.sst_merge.specs.Compact.{IsKeptRead, compacted}
 use Rattle.sst_merge.specs.Merge.{entry_cmp, merge, merged}
 use Rattle.sst_merge.specs.MergeLaws.{merge-nil}
 use Rattle.sst_merge.specs.ReadLaws.{merge_order, plain_ordered}
@@ -163,24 +163,24 @@ module _ (memory : List Entry) (tables : List MemoryTable) (next : ℕ) (are : A
   pub flushed_same : or_none (merged_tables (before table tables)) ≡ all_versions memory (merged_tables tables)
   flushed_same = ap or_none flushed ∙ sym (ap (all_versions memory) are.known)
 
-module _ (memory : List Entry) (tables : List MemoryTable) (next snapshot : ℕ) (are : AreLevels memory (merged_tables tables) next) (table : Option MemoryTable)
-    (is : (older : List Entry) → merged_tables tables ≡ Some older → IsTableOf table (map plain (compacted (λ (e : Entry). e) snapshot true older)))
+module _ (memory : List Entry) (tables : List MemoryTable) (next : ℕ) (snapshots : List ℕ) (are : AreLevels memory (merged_tables tables) next) (table : Option MemoryTable)
+    (is : (older : List Entry) → merged_tables tables ≡ Some older → IsTableOf table (map plain (compacted (λ (e : Entry). e) snapshots (λ _. true) older)))
     (plains : (needle : List ℕ) (s : ℕ) (items : List Entry) → first_match entries needle s (map plain items) ≡ first_match entries needle s items)
-    (keeps : (snapshot s : ℕ) (bottom : Bool) (needle : List ℕ) (items : List Entry) → snapshot ≤ s → IsOrdered entries items → seen (first_match entries needle s (compacted (λ (e : Entry). e) snapshot bottom items)) ≡ seen (first_match entries needle s items))
-    (orders : (snapshot : ℕ) (bottom : Bool) (items : List Entry) → IsOrdered entries items → IsOrdered entries (compacted (λ (e : Entry). e) snapshot bottom items))
+    (keeps : (snapshots : List ℕ) (bottom : List ℕ → Bool) (needle : List ℕ) (s : ℕ) (items : List Entry) → IsKeptRead snapshots s → IsOrdered entries items → seen (first_match entries needle s (compacted (λ (e : Entry). e) snapshots bottom items)) ≡ seen (first_match entries needle s items))
+    (orders : (snapshots : List ℕ) (bottom : List ℕ → Bool) (items : List Entry) → IsOrdered entries items → IsOrdered entries (compacted (λ (e : Entry). e) snapshots bottom items))
   where
     abbrev left : List Entry
-    left = compacted (λ (e : Entry). e) snapshot true are.older
+    left = compacted (λ (e : Entry). e) snapshots (λ _. true) are.older
 
     compacts : merged_tables (before table []) ≡ Some (map plain left)
     compacts = table_added table [] (map plain left) [] (is are.older are.known) refl ∙ ap Some (merge-nil entry_cmp (map plain left))
 
     still_newer : (x : Entry) → AreBelow x.key.seqno are.older → AreBelow x.key.seqno (map plain left)
-    still_newer x below = all_plain (λ (y : Entry). y.key.seqno < x.key.seqno) (λ y h. h) left (all_compact (λ (y : Entry). y.key.seqno < x.key.seqno) snapshot true None are.older below)
+    still_newer x below = all_plain (λ (y : Entry). y.key.seqno < x.key.seqno) (λ y h. h) left (all_compact (λ (y : Entry). y.key.seqno < x.key.seqno) snapshots (λ _. true) None are.older below)
 
     -- what is left of the tables
-    pub compacted_left : or_none (merged_tables (before table [])) ≡ map plain (compacted (λ (e : Entry). e) snapshot true (or_none (merged_tables tables)))
-    compacted_left = ap or_none compacts ∙ sym (ap (λ o. map plain (compacted (λ (e : Entry). e) snapshot true (or_none o))) are.known)
+    pub compacted_left : or_none (merged_tables (before table [])) ≡ map plain (compacted (λ (e : Entry). e) snapshots (λ _. true) (or_none (merged_tables tables)))
+    compacted_left = ap or_none compacts ∙ sym (ap (λ o. map plain (compacted (λ (e : Entry). e) snapshots (λ _. true) (or_none o))) are.known)
 
     -- the tables become one
     pub level_compacted : AreLevels memory (merged_tables (before table [])) next
@@ -190,8 +190,8 @@ module _ (memory : List Entry) (tables : List MemoryTable) (next snapshot : ℕ)
       memory_below = are.memory_below;
       older = map plain left;
       known = compacts;
-      older_ordered = plain_ordered left (orders snapshot true are.older are.older_ordered);
-      older_below = all_plain (λ (y : Entry). y.key.seqno < next) (λ y h. h) left (all_compact (λ (y : Entry). y.key.seqno < next) snapshot true None are.older are.older_below);
+      older_ordered = plain_ordered left (orders snapshots (λ _. true) are.older are.older_ordered);
+      older_below = all_plain (λ (y : Entry). y.key.seqno < next) (λ y h. h) left (all_compact (λ (y : Entry). y.key.seqno < next) snapshots (λ _. true) None are.older are.older_below);
       newer = all_weaker (λ (x : Entry). AreBelow x.key.seqno are.older) (λ (x : Entry). AreBelow x.key.seqno (map plain left)) memory still_newer are.newer;
     }
 
@@ -199,11 +199,11 @@ module _ (memory : List Entry) (tables : List MemoryTable) (next snapshot : ℕ)
     seen_older None b c e = e
     seen_older (Some a) b c e = refl
 
-    pub compacted_same : (needle : List ℕ) (s : ℕ) → snapshot ≤ s → seen (first_match entries needle s (all_versions memory (merged_tables (before table [])))) ≡ seen (first_match entries needle s (all_versions memory (merged_tables tables)))
+    pub compacted_same : (needle : List ℕ) (s : ℕ) → IsKeptRead snapshots s → seen (first_match entries needle s (all_versions memory (merged_tables (before table [])))) ≡ seen (first_match entries needle s (all_versions memory (merged_tables tables)))
     compacted_same needle s at =
         let inner = first_match entries needle s memory in
         ap seen (level_read memory (merged_tables (before table [])) next level_compacted needle s ∙ ap (λ o. or_older inner (first_match entries needle s (or_none o))) compacts ∙ ap (or_older inner) (plains needle s left))
-        ∙ seen_older inner (first_match entries needle s left) (first_match entries needle s are.older) (keeps snapshot s true needle are.older at are.older_ordered)
+        ∙ seen_older inner (first_match entries needle s left) (first_match entries needle s are.older) (keeps snapshots (λ _. true) needle s are.older at are.older_ordered)
         ∙ sym (ap seen (level_read memory (merged_tables tables) next are needle s ∙ ap (λ o. or_older inner (first_match entries needle s (or_none o))) are.known))
 
 -- what the levels are after a flush

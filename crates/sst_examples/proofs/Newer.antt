@@ -14,10 +14,9 @@ use Rattle.sst_base.specs.KeyOrderLaws.{slice_cmp-equal}
 use Rattle.sst_block_core.specs.Entries.{entries}
 use Rattle.sst_block_core.specs.Kind.{IsOrdered}
 use Rattle.sst_block_core.specs.Window.{first_match, is_version}
-use Rattle.sst_merge.specs.Compact.{compact_from, unless_dropped}
+use Rattle.sst_merge.specs.Compact.{compact_from, is_seen, is_hidden, is_dropped, unless_bottom}
 use Rattle.sst_merge.specs.Merge.{entry_cmp, lesser, merge, merge_after}
 use Rattle.sst_merge.specs.ReadLaws.{merge_match}
-use Rattle.sst_merge.specs.Snapshot.{deletes, has_last_key}
 use Rattle.sst_examples.specs.Levels.{AreBelow, AreNewer}
 
 -- what holds of all members of two lists holds of all of their merge
@@ -35,18 +34,19 @@ module _ {X : Type 0} (cmp : X → X → Ordering) (P : X → Type 0) where
 
 module _ (P : Entry → Type 0) where
   -- of all that a compaction leaves
-  pub all_compact : (s : ℕ) (bottom : Bool) (last : Option (List ℕ)) (xs : List Entry) → AllByRecursion P xs → AllByRecursion P (compact_from (λ (e : Entry). e) s bottom last xs)
-  all_compact s bottom last [] all = tt
-  all_compact s bottom last (x ∷ xs) all =
-      let same = all_compact s bottom last xs all.1 in
-      let next = all_compact s bottom (Some x.key.user_key) xs all.1 in
-      let go = compact_from (λ (e : Entry). e) s bottom in
-      let fresh = unless_dropped (λ (e : Entry). e) bottom x (go (Some x.key.user_key) xs) in
-      elim (nat_lt x.key.seqno s) as (λ b. AllByRecursion P (cond b (cond (has_last_key (λ (e : Entry). e) last x) (go last xs) fresh) (x ∷ go last xs))) [
+  pub all_compact : (ss : List ℕ) (bottom : List ℕ → Bool) (last : Option (List ℕ × ℕ)) (xs : List Entry) → AllByRecursion P xs → AllByRecursion P (compact_from (λ (e : Entry). e) ss bottom last xs)
+  all_compact ss bottom last [] all = tt
+  all_compact ss bottom last (x ∷ xs) all =
+      let at : Option (List ℕ × ℕ) = Some (x.key.user_key, x.key.seqno) in
+      let same = all_compact ss bottom last xs all.1 in
+      let next = all_compact ss bottom at xs all.1 in
+      let go = compact_from (λ (e : Entry). e) ss bottom in
+      let fresh = unless_bottom (λ (e : Entry). e) ss bottom x (go at xs) in
+      elim (is_seen ss x.key.seqno) as (λ b. AllByRecursion P (cond b (cond (is_hidden (λ (e : Entry). e) ss last x) (go last xs) fresh) (x ∷ go last xs))) [
         | false ↦ (all.0, same)
-        | true ↦ elim (has_last_key (λ (e : Entry). e) last x) as (λ b. AllByRecursion P (cond b (go last xs) fresh)) [
+        | true ↦ elim (is_hidden (λ (e : Entry). e) ss last x) as (λ b. AllByRecursion P (cond b (go last xs) fresh)) [
           | true ↦ same
-          | false ↦ elim (bottom && deletes x.key.value_type) as (λ b. AllByRecursion P (cond b (go (Some x.key.user_key) xs) (x ∷ go (Some x.key.user_key) xs))) [
+          | false ↦ elim (is_dropped (λ (e : Entry). e) ss bottom x) as (λ b. AllByRecursion P (cond b (go at xs) (x ∷ go at xs))) [
             | true ↦ next
             | false ↦ (all.0, next)
           ]

@@ -1,157 +1,245 @@
--- A compaction changes no read at its snapshot or above.
-use Rattle.std.proofs.Common.{◌≡◌, ◌≢◌, ℕ, ◌<◌, ◌≤◌, Bool, true, false, cond, List, [], ◌∷◌, Option, Some, None, refl, sym, ap, ◌∙◌, inl, inr, arith}
-use Rattle.std.proofs.lemmas.Bool.{cases_Bool, cases_lt, ltb-true}
+-- A compaction for several snapshots changes no read at one of them, or at or above all.
+use Rattle.std.proofs.Common.{◌≡◌, ◌≢◌, ℕ, ◌<◌, ◌≤◌, Bool, true, false, not, cond, List, [], ◌∷◌, Option, Some, None, refl, sym, ap, ◌∙◌, inl, inr, ◌⊎◌, arith}
+use Rattle.std.proofs.lemmas.Bool.{cases_Bool, cases_lt}
 use Rattle.std.proofs.lemmas.Bool.Decides.{nat_tests}
-use Rattle.std.specs.Prelude.{nat_lt, ◌&&◌}
+use Rattle.std.specs.Prelude.{nat_lt, nat_le, nat_eq, ◌&&◌}
 use Rattle.std.specs.Cmp.{nat_cmp_is}
 use Rattle.std.specs.Cmp.Lexicographic.{slice_cmp}
+use Rattle.std.specs.List.{list_any, list_all}
 use Rattle.std.specs.Ordering.{nat_cmp, is_eq, ordering_then}
 use Rattle.std.specs.declared.cmp.Ordering.{Ordering}
-use Rattle.std.specs.declared.cmp.Ordering.TheVariants.{Less, Equal}
+use Rattle.std.specs.declared.cmp.Ordering.TheVariants.{Less, Equal, Greater}
 use Rattle.sst_base.specs.Entry.{Entry}
 use Rattle.sst_base.specs.KeyOrderLaws.{slice_cmp-equal}
 use Rattle.sst_base.specs.Order.{IsInOrder}
+use Rattle.sst_merge.specs.Compact.{is_seen, is_parted, is_below_all, IsKeptRead, is_hidden, is_dropped, unless_bottom, compact_from, compacted}
 use Rattle.sst_merge.specs.Snapshot.{deletes, has_last_key}
-use Rattle.sst_merge.specs.Compact.{compact_from, compacted, unless_dropped}
-use Rattle.sst_merge.specs.SnapshotReads.{first, first_hit, first_miss, both_false, both_true, key, number, has, is_match, unless_hidden, has_key, NoneHas, order, after_by, none_behind, skip, IsOther, fresh, order_tail}
+use Rattle.sst_merge.specs.SnapshotReads.{first, first_hit, first_miss, both_false, key, number, has, is_match, has_key, NoneHas, order, after_by, none_behind, skip, order_tail}
 
 lt_test : (a b : ℕ) → a < b → nat_lt a b ≡ true
 lt_test a b h = grind (arith, nat_tests)
 
-module _ {X : Type 0} (entry : X → Entry) (s : ℕ) (bottom : Bool) where
-  abbrev go : Option (List ℕ) → List X → List X
-  go = compact_from entry s bottom
+ge_test : (a b : ℕ) → b ≤ a → nat_lt a b ≡ false
+ge_test a b h = grind (arith, nat_tests)
+
+-- where no snapshot parts two numbers, a kept read that sees the one sees the other
+at_one : (ss : List ℕ) (q p r : ℕ) → list_any (λ s. nat_eq s r) ss ≡ true → is_parted ss q p ≡ false → nat_lt q r ≡ true → r ≤ p → true ≡ false
+at_one [] q p r a h low up = grind (arith, nat_tests)
+at_one (s ∷ ss) q p r a h low up = elim (cases_Bool (nat_eq s r)) [
+  | inl here ↦ grind (arith, nat_tests)
+  | inr not_here ↦ at_one ss q p r (grind (arith, nat_tests)) (grind (arith, nat_tests)) low up
+]
+
+at_all : (ss : List ℕ) (q p r : ℕ) → list_all (λ s. nat_le s r) ss ≡ true → is_seen ss q ≡ true → is_parted ss q p ≡ false → r ≤ p → true ≡ false
+at_all [] q p r a seen h up = grind (arith, nat_tests)
+at_all (s ∷ ss) q p r a seen h up = elim (cases_Bool (nat_lt q s)) [
+  | inl here ↦ grind (arith, nat_tests)
+  | inr not_here ↦ at_all ss q p r (grind (arith, nat_tests)) (grind (arith, nat_tests)) (grind (arith, nat_tests)) up
+]
+
+read_by : (ss : List ℕ) (q p r : ℕ) → IsKeptRead ss r → is_seen ss q ≡ true → is_parted ss q p ≡ false → nat_lt q r ≡ true → r ≤ p → true ≡ false
+read_by ss q p r (inl at) seen h low up = at_one ss q p r at h low up
+read_by ss q p r (inr all) seen h low up = at_all ss q p r all seen h up
+
+-- below all snapshots none parts, and none is seen less
+pub not_parted : (ss : List ℕ) (q p : ℕ) → is_below_all ss p ≡ true → is_parted ss q p ≡ false
+not_parted [] q p h = refl
+not_parted (s ∷ ss) q p h = let k = not_parted ss q p (grind (arith, nat_tests)) in grind (arith, nat_tests)
+
+seen_lower : (ss : List ℕ) (q p : ℕ) → is_seen ss p ≡ true → q ≤ p → is_seen ss q ≡ true
+seen_lower [] q p h up = h
+seen_lower (s ∷ ss) q p h up = elim (cases_Bool (nat_lt p s)) [
+  | inl here ↦ grind (arith, nat_tests)
+  | inr other ↦ let k = seen_lower ss q p (grind (arith, nat_tests)) up in grind (arith, nat_tests)
+]
+
+module _ {X : Type 0} (entry : X → Entry) (ss : List ℕ) (bottom : List ℕ → Bool) where
+  abbrev pub go : Option (List ℕ × ℕ) → List X → List X
+  go = compact_from entry ss bottom
+
+  -- the last version that some snapshot sees
+  abbrev pub at : X → Option (List ℕ × ℕ)
+  at x = Some ((entry x).key.user_key, (entry x).key.seqno)
 
   -- the four ways of a version
-  kept : (last : Option (List ℕ)) (x : X) (xs : List X) → nat_lt (entry x).key.seqno s ≡ false → go last (x ∷ xs) ≡ x ∷ go last xs
+  pub kept : (last : Option (List ℕ × ℕ)) (x : X) (xs : List X) → is_seen ss (entry x).key.seqno ≡ false → go last (x ∷ xs) ≡ x ∷ go last xs
   kept last x xs h = rw h refl
 
-  repeated : (last : Option (List ℕ)) (x : X) (xs : List X) → nat_lt (entry x).key.seqno s ≡ true → has_last_key entry last x ≡ true → go last (x ∷ xs) ≡ go last xs
+  pub repeated : (last : Option (List ℕ × ℕ)) (x : X) (xs : List X) → is_seen ss (entry x).key.seqno ≡ true → is_hidden entry ss last x ≡ true → go last (x ∷ xs) ≡ go last xs
   repeated last x xs h k = rw (h, k) refl
 
-  newest : (last : Option (List ℕ)) (x : X) (xs : List X) → nat_lt (entry x).key.seqno s ≡ true → has_last_key entry last x ≡ false → go last (x ∷ xs) ≡ unless_dropped entry bottom x (go (Some (entry x).key.user_key) xs)
+  pub newest : (last : Option (List ℕ × ℕ)) (x : X) (xs : List X) → is_seen ss (entry x).key.seqno ≡ true → is_hidden entry ss last x ≡ false → go last (x ∷ xs) ≡ unless_bottom entry ss bottom x (go (at x) xs)
   newest last x xs h k = rw (h, k) refl
 
-  dropped : (x : X) (es : List X) → (bottom && deletes (entry x).key.value_type) ≡ true → unless_dropped entry bottom x es ≡ es
+  dropped : (x : X) (es : List X) → is_dropped entry ss bottom x ≡ true → unless_bottom entry ss bottom x es ≡ es
   dropped x es h = ap (λ b. cond b es (x ∷ es)) h
 
-  stays : (x : X) (es : List X) → (bottom && deletes (entry x).key.value_type) ≡ false → unless_dropped entry bottom x es ≡ x ∷ es
+  stays : (x : X) (es : List X) → is_dropped entry ss bottom x ≡ false → unless_bottom entry ss bottom x es ≡ x ∷ es
   stays x es h = ap (λ b. cond b es (x ∷ es)) h
 
-  deletes_if : (b d : Bool) → (b && d) ≡ true → d ≡ true
-  deletes_if true d h = h
-  deletes_if false d h = absurd (cc)
+  three : (a b c : Bool) → (a && (b && c)) ≡ true → (a ≡ true) × (b ≡ true) × (c ≡ true)
+  three true true c h = (refl, refl, h)
+  three true false c h = absurd (cc)
+  three false b c h = absurd (cc)
+
+  two : (a b : Bool) → (a && not b) ≡ true → (a ≡ true) × (b ≡ false)
+  two true true h = absurd (cc)
+  two true false h = (refl, refl)
+  two false b h = absurd (cc)
+
+  and_two : (a b : Bool) → a ≡ true → b ≡ false → (a && not b) ≡ true
+  and_two a b h k = rw (h, k) refl
+
+  and_split : (a b : Bool) → (a && b) ≡ true → (a ≡ true) × (b ≡ true)
+  and_split true b h = (refl, h)
+  and_split false b h = absurd (cc)
 
   module _ (k : List ℕ) (r : ℕ) where
+    abbrev m : X → Bool
+    m = is_match entry k r
+
     -- a list without the key has none of it then
-    c1 : (last : Option (List ℕ)) (xs : List X) → NoneHas entry k r xs → first (is_match entry k r) (go last xs) ≡ None
+    c1 : (last : Option (List ℕ × ℕ)) (xs : List X) → NoneHas entry k r xs → first m (go last xs) ≡ None
     c1 last [] h = refl
     c1 last (x ∷ xs) h =
-        let miss : is_match entry k r x ≡ false = both_false (nat_lt (number entry k r x) r) (has entry k r x) h.0 in
-        elim (cases_Bool (nat_lt (entry x).key.seqno s)) [
-          | inr above ↦ ap (first (is_match entry k r)) (kept last x xs above) ∙ first_miss (is_match entry k r) x (go last xs) miss ∙ c1 last xs h.1
-          | inl below ↦ elim (cases_Bool (has_last_key entry last x)) [
-            | inl again ↦ ap (first (is_match entry k r)) (repeated last x xs below again) ∙ c1 last xs h.1
-            | inr fresh ↦ ap (first (is_match entry k r)) (newest last x xs below fresh) ∙ elim (cases_Bool (bottom && deletes (entry x).key.value_type)) [
-              | inl gone ↦ ap (first (is_match entry k r)) (dropped x (go (Some (entry x).key.user_key) xs) gone) ∙ c1 (Some (entry x).key.user_key) xs h.1
-              | inr here ↦ ap (first (is_match entry k r)) (stays x (go (Some (entry x).key.user_key) xs) here) ∙ first_miss (is_match entry k r) x (go (Some (entry x).key.user_key) xs) miss ∙ c1 (Some (entry x).key.user_key) xs h.1
+        let miss : m x ≡ false = both_false (nat_lt (number entry k r x) r) (has entry k r x) h.0 in
+        elim (cases_Bool (is_seen ss (entry x).key.seqno)) [
+          | inr above ↦ ap (first m) (kept last x xs above) ∙ first_miss m x (go last xs) miss ∙ c1 last xs h.1
+          | inl below ↦ elim (cases_Bool (is_hidden entry ss last x)) [
+            | inl again ↦ ap (first m) (repeated last x xs below again) ∙ c1 last xs h.1
+            | inr fresh ↦ ap (first m) (newest last x xs below fresh) ∙ elim (cases_Bool (is_dropped entry ss bottom x)) [
+              | inl gone ↦ ap (first m) (dropped x (go (at x) xs) gone) ∙ c1 (at x) xs h.1
+              | inr here ↦ ap (first m) (stays x (go (at x) xs) here) ∙ first_miss m x (go (at x) xs) miss ∙ c1 (at x) xs h.1
             ]
           ]
         ]
 
     -- of equal keys, the later number is not the greater
-    older_by : (m n : ℕ) → nat_cmp m n ≢ Less → n ≤ m
-    older_by m n h = elim (cases_lt m n) [
-      | inl less ↦ absurd (h (sym (nat_cmp_is m n Less less)))
+    older_by : (a b : ℕ) → nat_cmp a b ≢ Less → b ≤ a
+    older_by a b h = elim (cases_lt a b) [
+      | inl less ↦ absurd (h (sym (nat_cmp_is a b Less less)))
       | inr ge ↦ ge
     ]
 
-    older : (l x : X) → key entry k r x ≡ key entry k r l → order entry k r x l ≢ Less → number entry k r x ≤ number entry k r l
+    pub older : (l x : X) → key entry k r x ≡ key entry k r l → order entry k r x l ≢ Less → number entry k r x ≤ number entry k r l
     older l x same up =
         let e : slice_cmp nat_cmp (key entry k r x) (key entry k r l) ≡ Equal = (slice_cmp-equal (key entry k r x) (key entry k r l)).1 same in
         older_by (number entry k r l) (number entry k r x) (λ w. up (ap (λ o. ordering_then o (nat_cmp (number entry k r l) (number entry k r x))) e ∙ w))
 
-    -- after a version of the key below the snapshot, no more of it is kept
-    c2 : (l : X) (xs : List X) → has entry k r l ≡ true → number entry k r l < s → IsInOrder (order entry k r) (l ∷ xs) → first (is_match entry k r) (go (Some (entry l).key.user_key) xs) ≡ None
-    c2 l [] mine low up = refl
-    c2 l (x ∷ xs) mine low up = elim (cases_Bool (has entry k r x)) [
+    -- after a version of the key that every snapshot sees, no more of it is kept
+    c2 : (l : X) (xs : List X) → has entry k r l ≡ true → is_seen ss (number entry k r l) ≡ true → is_below_all ss (number entry k r l) ≡ true → IsInOrder (order entry k r) (l ∷ xs) → first m (go (at l) xs) ≡ None
+    c2 l [] mine seen low up = refl
+    c2 l (x ∷ xs) mine seen low up = elim (cases_Bool (has entry k r x)) [
       | inl same ↦ (
-          let again : has_last_key entry (Some (entry l).key.user_key) x ≡ true = ap (λ b. is_eq (slice_cmp nat_cmp (key entry k r x) b)) (has_key entry k r l mine) ∙ same in
+          let has_last : has_last_key entry (Some (entry l).key.user_key) x ≡ true = ap (λ b. is_eq (slice_cmp nat_cmp (key entry k r x) b)) (has_key entry k r l mine) ∙ same in
           let keys : key entry k r x ≡ key entry k r l = has_key entry k r x same ∙ sym (has_key entry k r l mine) in
-          let less = older l x keys up.0 in
-          let below : nat_lt (entry x).key.seqno s ≡ true = lt_test (number entry k r x) s (omega (arith, less, low)) in
-          ap (first (is_match entry k r)) (repeated (Some (entry l).key.user_key) x xs below again) ∙ c2 l xs mine low (skip entry k r l x xs up))
-      | inr other ↦ c1 (Some (entry l).key.user_key) (x ∷ xs) (other, none_behind entry k r x xs up.1 (after_by entry k r x l (slice_cmp nat_cmp (key entry k r x) k) refl (has_key entry k r l mine) other up.0))
+          let below : is_seen ss (entry x).key.seqno ≡ true = seen_lower ss (number entry k r x) (number entry k r l) seen (older l x keys up.0) in
+          let again : is_hidden entry ss (at l) x ≡ true = and_two (has_last_key entry (Some (entry l).key.user_key) x) (is_parted ss (number entry k r x) (number entry k r l)) has_last (not_parted ss (number entry k r x) (number entry k r l) low) in
+          ap (first m) (repeated (at l) x xs below again) ∙ c2 l xs mine seen low (skip entry k r l x xs up))
+      | inr other ↦ c1 (at l) (x ∷ xs) (other, none_behind entry k r x xs up.1 (after_by entry k r x l (slice_cmp nat_cmp (key entry k r x) k) refl (has_key entry k r l mine) other up.0))
     ]
 
-    c3 : s ≤ r → (last : Option (List ℕ)) (xs : List X) → IsOther entry k r last → IsInOrder (order entry k r) xs → unless_hidden entry k r (first (is_match entry k r) (go last xs)) ≡ unless_hidden entry k r (first (is_match entry k r) xs)
-    c3 at last [] o up = refl
-    c3 at last (x ∷ xs) o up = elim (cases_Bool (nat_lt (entry x).key.seqno s)) [
-      | inr above ↦ ap (λ ys. unless_hidden entry k r (first (is_match entry k r) ys)) (kept last x xs above) ∙ elim (cases_Bool (is_match entry k r x)) [
-        | inl hit ↦ ap (unless_hidden entry k r) (first_hit (is_match entry k r) x (go last xs) hit ∙ sym (first_hit (is_match entry k r) x xs hit))
-        | inr miss ↦ ap (unless_hidden entry k r) (first_miss (is_match entry k r) x (go last xs) miss) ∙ c3 at last xs o (order_tail entry k r x xs up) ∙ ap (unless_hidden entry k r) (sym (first_miss (is_match entry k r) x xs miss))
-      ]
-      | inl below ↦ (
-          let low : number entry k r x < s = ltb-true (number entry k r x) s below in
-          let seen : nat_lt (number entry k r x) r ≡ true = lt_test (number entry k r x) r (omega (arith, low, at)) in
-          elim (cases_Bool (has entry k r x)) [
-            | inl mine ↦ (
-                let hit : is_match entry k r x ≡ true = both_true (nat_lt (number entry k r x) r) (has entry k r x) seen ∙ mine in
-                ap (λ ys. unless_hidden entry k r (first (is_match entry k r) ys)) (newest last x xs below (fresh entry k r last x o mine))
-                ∙ elim (cases_Bool (bottom && deletes (entry x).key.value_type)) [
-                  | inl gone ↦ ap (λ ys. unless_hidden entry k r (first (is_match entry k r) ys)) (dropped x (go (Some (entry x).key.user_key) xs) gone) ∙ ap (unless_hidden entry k r) (c2 x xs mine low up)
-                      ∙ ap (λ b. cond b None (Some x)) (sym (deletes_if bottom (deletes (entry x).key.value_type) gone))
-                  | inr here ↦ ap (λ ys. unless_hidden entry k r (first (is_match entry k r) ys)) (stays x (go (Some (entry x).key.user_key) xs) here) ∙ ap (unless_hidden entry k r) (first_hit (is_match entry k r) x (go (Some (entry x).key.user_key) xs) hit)
-                ]
-                ∙ ap (unless_hidden entry k r) (sym (first_hit (is_match entry k r) x xs hit)))
-            | inr other ↦ (
-                let miss : is_match entry k r x ≡ false = both_false (nat_lt (number entry k r x) r) (has entry k r x) other in
-                let tail = order_tail entry k r x xs up in
-                elim (cases_Bool (has_last_key entry last x)) [
-                  | inl again ↦ ap (λ ys. unless_hidden entry k r (first (is_match entry k r) ys)) (repeated last x xs below again) ∙ c3 at last xs o tail
-                  | inr first_of ↦ ap (λ ys. unless_hidden entry k r (first (is_match entry k r) ys)) (newest last x xs below first_of) ∙ elim (cases_Bool (bottom && deletes (entry x).key.value_type)) [
-                    | inl gone ↦ ap (λ ys. unless_hidden entry k r (first (is_match entry k r) ys)) (dropped x (go (Some (entry x).key.user_key) xs) gone) ∙ c3 at (Some (entry x).key.user_key) xs other tail
-                    | inr here ↦ ap (λ ys. unless_hidden entry k r (first (is_match entry k r) ys)) (stays x (go (Some (entry x).key.user_key) xs) here) ∙ ap (unless_hidden entry k r) (first_miss (is_match entry k r) x (go (Some (entry x).key.user_key) xs) miss) ∙ c3 at (Some (entry x).key.user_key) xs other tail
-                  ]
-                ]
-                ∙ ap (unless_hidden entry k r) (sym (first_miss (is_match entry k r) x xs miss)))
-          ])
-    ]
+    -- if the last version has the key, the read does not see it
+    abbrev IsPassed : Option (List ℕ × ℕ) → Type 0
+    IsPassed None = Unit {0}
+    IsPassed (Some l) = is_eq (slice_cmp nat_cmp l.0 k) ≡ true → r ≤ l.1
 
-    -- every read at the snapshot or above sees what it saw
-    pub compact-first_match : s ≤ r → (xs : List X) → IsInOrder (order entry k r) xs → unless_hidden entry k r (first (is_match entry k r) (compacted entry s bottom xs)) ≡ unless_hidden entry k r (first (is_match entry k r) xs)
-    compact-first_match at xs up = c3 at None xs tt up
+    passed_by : (q : ℕ) (t : Bool) → (nat_lt q r && t) ≡ false → t ≡ true → r ≤ q
+    passed_by q true h e = grind (arith, nat_tests)
+    passed_by q false h e = absurd (cc)
+
+    passed_at : (x : X) → m x ≡ false → IsPassed (at x)
+    passed_at x miss = λ e. passed_by (number entry k r x) (has entry k r x) miss e
+
+    eq_is : (o : Ordering) → is_eq o ≡ true → o ≡ Equal
+    eq_is Less h = absurd (cc)
+    eq_is Equal h = refl
+    eq_is Greater h = absurd (cc)
+
+    -- no match is hidden
+    not_hidden : IsKeptRead ss r → (last : Option (List ℕ × ℕ)) (x : X) → IsPassed last → is_seen ss (entry x).key.seqno ≡ true → m x ≡ true → is_hidden entry ss last x ≡ true → true ≡ false
+    not_hidden read None x o seen hit h = sym h
+    not_hidden read (Some l) x o seen hit h =
+        let t = two (has_last_key entry (Some l.0) x) (is_parted ss (entry x).key.seqno l.1) h in
+        let p = and_split (nat_lt (number entry k r x) r) (has entry k r x) hit in
+        let same : key entry k r x ≡ l.0 = (slice_cmp-equal (key entry k r x) l.0).0 (eq_is (slice_cmp nat_cmp (key entry k r x) l.0) t.0) in
+        let mine : is_eq (slice_cmp nat_cmp l.0 k) ≡ true = ap (λ b. is_eq (slice_cmp nat_cmp b k)) (sym same) ∙ p.1 in
+        read_by ss (entry x).key.seqno l.1 r read seen t.1 p.0 (o mine)
+
+    -- the first match stays, or it was a tombstone at the bottom of its key, and none is left
+    abbrev pub IsSameOrGone : Option X → Option X → Type 0
+    IsSameOrGone a b = (a ≡ b) ⊎ ((a ≡ None) × ((x : X) × (b ≡ Some x) × (deletes (entry x).key.value_type ≡ true) × (bottom k ≡ true)))
+
+    alike : (a b c d : Option X) → a ≡ c → b ≡ d → IsSameOrGone c d → IsSameOrGone a b
+    alike a b c d e f (inl same) = inl (e ∙ same ∙ sym f)
+    alike a b c d e f (inr gone) = inr (e ∙ gone.0, (gone.1.0, f ∙ gone.1.1, gone.1.2, gone.1.3))
+
+    c3 : IsKeptRead ss r → (last : Option (List ℕ × ℕ)) (xs : List X) → IsPassed last → IsInOrder (order entry k r) xs → IsSameOrGone (first m (go last xs)) (first m xs)
+    c3 read last [] o up = inl refl
+    c3 read last (x ∷ xs) o up =
+        let tail = order_tail entry k r x xs up in
+        elim (cases_Bool (is_seen ss (entry x).key.seqno)) [
+          | inr above ↦ elim (cases_Bool (m x)) [
+            | inl hit ↦ inl (ap (first m) (kept last x xs above) ∙ first_hit m x (go last xs) hit ∙ sym (first_hit m x xs hit))
+            | inr miss ↦ alike _ _ _ _ (ap (first m) (kept last x xs above) ∙ first_miss m x (go last xs) miss) (first_miss m x xs miss) (c3 read last xs o tail)
+          ]
+          | inl below ↦ elim (cases_Bool (m x)) [
+            | inl hit ↦ elim (cases_Bool (is_hidden entry ss last x)) [
+              | inl again ↦ absurd (let f : true ≡ false = not_hidden read last x o below hit again in cc)
+              | inr fresh ↦ elim (cases_Bool (is_dropped entry ss bottom x)) [
+                | inl gone ↦ (
+                    let t = three (deletes (entry x).key.value_type) (is_below_all ss (entry x).key.seqno) (bottom (entry x).key.user_key) gone in
+                    let mine = (and_split (nat_lt (number entry k r x) r) (has entry k r x) hit).1 in
+                    inr (
+                      ap (first m) (newest last x xs below fresh ∙ dropped x (go (at x) xs) gone) ∙ c2 x xs mine below t.1 up,
+                      (x, first_hit m x xs hit, t.0, ap bottom (sym (has_key entry k r x mine)) ∙ t.2),
+                    ))
+                | inr here ↦ inl (ap (first m) (newest last x xs below fresh ∙ stays x (go (at x) xs) here) ∙ first_hit m x (go (at x) xs) hit ∙ sym (first_hit m x xs hit))
+              ]
+            ]
+            | inr miss ↦ elim (cases_Bool (is_hidden entry ss last x)) [
+              | inl again ↦ alike _ _ _ _ (ap (first m) (repeated last x xs below again)) (first_miss m x xs miss) (c3 read last xs o tail)
+              | inr fresh ↦ elim (cases_Bool (is_dropped entry ss bottom x)) [
+                | inl gone ↦ alike _ _ _ _ (ap (first m) (newest last x xs below fresh ∙ dropped x (go (at x) xs) gone)) (first_miss m x xs miss) (c3 read (at x) xs (passed_at x miss) tail)
+                | inr here ↦ alike _ _ _ _ (ap (first m) (newest last x xs below fresh ∙ stays x (go (at x) xs) here) ∙ first_miss m x (go (at x) xs) miss) (first_miss m x xs miss) (c3 read (at x) xs (passed_at x miss) tail)
+              ]
+            ]
+          ]
+        ]
+
+    pub compact-first_match : IsKeptRead ss r → (xs : List X) → IsInOrder (order entry k r) xs → IsSameOrGone (first m (compacted entry ss bottom xs)) (first m xs)
+    compact-first_match read xs up = c3 read None xs tt up
 
   -- the order does not depend on the needle
   abbrev cmp : X → X → Ordering
   cmp = order entry [] 0
 
-  behind_one : (l : X) (last : Option (List ℕ)) (xs : List X) → IsInOrder cmp (l ∷ xs) → IsInOrder cmp (l ∷ go last xs)
+  behind_one : (l : X) (last : Option (List ℕ × ℕ)) (xs : List X) → IsInOrder cmp (l ∷ xs) → IsInOrder cmp (l ∷ go last xs)
   behind_one l last [] up = tt
-  behind_one l last (x ∷ xs) up = elim (cases_Bool (nat_lt (entry x).key.seqno s)) [
+  behind_one l last (x ∷ xs) up = elim (cases_Bool (is_seen ss (entry x).key.seqno)) [
     | inr above ↦ rw (kept last x xs above) (up.0, behind_one x last xs up.1)
-    | inl below ↦ elim (cases_Bool (has_last_key entry last x)) [
+    | inl below ↦ elim (cases_Bool (is_hidden entry ss last x)) [
       | inl again ↦ rw (repeated last x xs below again) (behind_one l last xs (skip entry [] 0 l x xs up))
-      | inr first_of ↦ rw (newest last x xs below first_of) (elim (cases_Bool (bottom && deletes (entry x).key.value_type)) [
-        | inl gone ↦ rw gone (behind_one l (Some (entry x).key.user_key) xs (skip entry [] 0 l x xs up))
-        | inr here ↦ rw here (up.0, behind_one x (Some (entry x).key.user_key) xs up.1)
+      | inr first_of ↦ rw (newest last x xs below first_of) (elim (cases_Bool (is_dropped entry ss bottom x)) [
+        | inl gone ↦ rw gone (behind_one l (at x) xs (skip entry [] 0 l x xs up))
+        | inr here ↦ rw here (up.0, behind_one x (at x) xs up.1)
       ])
     ]
   ]
 
-  in_order : (last : Option (List ℕ)) (xs : List X) → IsInOrder cmp xs → IsInOrder cmp (go last xs)
+  in_order : (last : Option (List ℕ × ℕ)) (xs : List X) → IsInOrder cmp xs → IsInOrder cmp (go last xs)
   in_order last [] up = tt
-  in_order last (x ∷ xs) up = elim (cases_Bool (nat_lt (entry x).key.seqno s)) [
+  in_order last (x ∷ xs) up = elim (cases_Bool (is_seen ss (entry x).key.seqno)) [
     | inr above ↦ rw (kept last x xs above) (behind_one x last xs up)
-    | inl below ↦ elim (cases_Bool (has_last_key entry last x)) [
+    | inl below ↦ elim (cases_Bool (is_hidden entry ss last x)) [
       | inl again ↦ rw (repeated last x xs below again) (in_order last xs (order_tail entry [] 0 x xs up))
-      | inr first_of ↦ rw (newest last x xs below first_of) (elim (cases_Bool (bottom && deletes (entry x).key.value_type)) [
-        | inl gone ↦ rw gone (in_order (Some (entry x).key.user_key) xs (order_tail entry [] 0 x xs up))
-        | inr here ↦ rw here (behind_one x (Some (entry x).key.user_key) xs up)
+      | inr first_of ↦ rw (newest last x xs below first_of) (elim (cases_Bool (is_dropped entry ss bottom x)) [
+        | inl gone ↦ rw gone (in_order (at x) xs (order_tail entry [] 0 x xs up))
+        | inr here ↦ rw here (behind_one x (at x) xs up)
       ])
     ]
   ]
 
   -- a compaction of an ordered list is ordered
-  pub compact-ordered : (xs : List X) → IsInOrder cmp xs → IsInOrder cmp (compacted entry s bottom xs)
+  pub compact-ordered : (xs : List X) → IsInOrder cmp xs → IsInOrder cmp (compacted entry ss bottom xs)
   compact-ordered xs up = in_order None xs up

@@ -5,6 +5,9 @@ pub mod CountLaws
 pub mod Flips
 pub mod Fronts
 pub mod FrontLaws
+pub mod Levels
+pub mod LevelLaws
+pub mod ManyLaws
 pub mod Merge
 pub mod MergeLaws
 pub mod MergeReads
@@ -26,6 +29,7 @@ pub mod TableReads
 pub mod Tables
 pub mod Reversals
 pub mod SizeLaws
+pub mod StayLaws
 pub mod Outputs
 pub mod OutputLaws
 pub mod PartLaws

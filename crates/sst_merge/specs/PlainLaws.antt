@@ -1,5 +1,4 @@
--- What a snapshot of an ordered list shows and what a compaction leaves of it: the versions that pass a test of a version
--- and of those before it.
+-- What a snapshot of an ordered list shows: the versions that pass a test of a version and of those before it.
 use Rattle.std.proofs.Common.{◌≡◌, ◌≢◌, ℕ, Bool, true, false, not, cond, List, [], ◌∷◌, Option, Some, None, refl, sym, ap, ◌∙◌, inl, inr}
 use Rattle.std.proofs.lemmas.Bool.{cases_Bool}
 use Rattle.std.proofs.lemmas.Cmp.{nat_list_cmp_total}
@@ -12,7 +11,6 @@ use Rattle.std.specs.declared.cmp.Ordering.TheVariants.{Less, Equal, Greater}
 use Rattle.sst_base.specs.Entry.{Entry}
 use Rattle.sst_base.specs.Order.{IsInOrder}
 use Rattle.sst_block_core.specs.VersionLaws.{keys_equal}
-use Rattle.sst_merge.specs.Compact.{compact_from, compacted, unless_dropped, stays, staying}
 use Rattle.sst_merge.specs.Snapshot.{visible_from, snapshot, unless_deleted, deletes, has_last_key, has_version, is_shown, shown, kept_after}
 use Rattle.sst_merge.specs.SnapshotReads.{order, order_tail, skip}
 
@@ -20,7 +18,7 @@ or_same : (b : Bool) → (b || b) ≡ b
 or_same true = refl
 or_same false = refl
 
-or_false : (b : Bool) → (b || false) ≡ b
+pub or_false : (b : Bool) → (b || false) ≡ b
 or_false true = refl
 or_false false = refl
 
@@ -39,24 +37,24 @@ module _ {X : Type 0} (entry : X → Entry) (s : ℕ) where
   Agree last before rest = AllByRecursion (λ e. has_last_key entry last e ≡ has_version entry s before e) rest
 
   -- no version that is left sorts before the last key
-  abbrev Behind : Option (List ℕ) → List X → Type 0
+  abbrev pub Behind : Option (List ℕ) → List X → Type 0
   Behind None rest = Unit {0}
   Behind (Some k) rest = AllByRecursion (λ e. slice_cmp nat_cmp (key_of e) k ≢ Less) rest
 
   -- a version that does not sort before another has no lesser key
-  key_after : (e x : X) → cmp e x ≢ Less → slice_cmp nat_cmp (key_of e) (key_of x) ≢ Less
+  pub key_after : (e x : X) → cmp e x ≢ Less → slice_cmp nat_cmp (key_of e) (key_of x) ≢ Less
   key_after e x up less = up (ap (λ o. ordering_then o (nat_cmp (entry x).key.seqno (entry e).key.seqno)) less)
 
-  behind_first : (x : X) (xs : List X) → IsInOrder cmp (x ∷ xs) → Behind (Some (key_of x)) xs
+  pub behind_first : (x : X) (xs : List X) → IsInOrder cmp (x ∷ xs) → Behind (Some (key_of x)) xs
   behind_first x [] up = tt
   behind_first x (y ∷ ys) up = (key_after y x up.0, behind_first x ys (skip entry [] 0 x y ys up))
 
-  behind_rest : (last : Option (List ℕ)) (x : X) (xs : List X) → Behind last (x ∷ xs) → Behind last xs
+  pub behind_rest : (last : Option (List ℕ)) (x : X) (xs : List X) → Behind last (x ∷ xs) → Behind last xs
   behind_rest None x xs h = tt
   behind_rest (Some k) x xs h = h.1
 
   -- the key of a version
-  last_is : (k : List ℕ) (x : X) → has_last_key entry (Some k) x ≡ true → key_of x ≡ k
+  pub last_is : (k : List ℕ) (x : X) → has_last_key entry (Some k) x ≡ true → key_of x ≡ k
   last_is k x h = keys_equal (key_of x) k h
 
   other_by : (k : List ℕ) (x e : X) (o : Ordering) → slice_cmp nat_cmp (key_of x) k ≡ o → o ≢ Less → is_eq o ≡ false → slice_cmp nat_cmp (key_of e) (key_of x) ≢ Less → has_last_key entry (Some k) e ≡ false
@@ -68,7 +66,7 @@ module _ {X : Type 0} (entry : X → Entry) (s : ℕ) where
   ]
 
   -- after a version of another key no later one has the last key
-  other : (last : Option (List ℕ)) (x e : X) (xs : List X) → Behind last (x ∷ xs) → has_last_key entry last x ≡ false → slice_cmp nat_cmp (key_of e) (key_of x) ≢ Less → has_last_key entry last e ≡ false
+  pub other : (last : Option (List ℕ)) (x e : X) (xs : List X) → Behind last (x ∷ xs) → has_last_key entry last x ≡ false → slice_cmp nat_cmp (key_of e) (key_of x) ≢ Less → has_last_key entry last e ≡ false
   other None x e xs h f up = refl
   other (Some k) x e xs h f up = other_by k x e (slice_cmp nat_cmp (key_of x) k) refl h.0 f up
 
@@ -100,47 +98,9 @@ module _ {X : Type 0} (entry : X → Entry) (s : ℕ) where
     agree_fresh last x before rest xs below fresh h k.1 all.1,
   )
 
-  module _ (bottom : Bool) where
-    abbrev go : Option (List ℕ) → List X → List X
-    go = compact_from entry s bottom
-
-    abbrev to : List X → List X → List X
-    to = kept_after (stays entry s bottom)
-
-    dropped_by : (t : Bool) (x : X) (xs ys : List X) → xs ≡ ys → cond t xs (x ∷ xs) ≡ cond (not t) (x ∷ ys) ys
-    dropped_by true x xs ys e = e
-    dropped_by false x xs ys e = ap (λ zs. x ∷ zs) e
-
-    c_same : (last : Option (List ℕ)) (before xs : List X) → IsInOrder cmp xs → Behind last xs → Agree last before xs → go last xs ≡ to before xs
-    c_same last before [] up h all = refl
-    c_same last before (x ∷ xs) up h all =
-        let tail = order_tail entry [] 0 x xs up in
-        let rest = λ (b t v : Bool). cond (not b || (not v && not t)) (x ∷ to (x ∷ before) xs) (to (x ∷ before) xs) in
-        let gone = bottom && deletes (entry x).key.value_type in
-        elim (cases_Bool (is_below x)) [
-          | inr above ↦ ap (λ b. cond b (cond (has_last_key entry last x) (go last xs) (unless_dropped entry bottom x (go (Some (key_of x)) xs))) (x ∷ go last xs)) above
-              ∙ ap (λ zs. x ∷ zs) (c_same last (x ∷ before) xs tail (behind_rest last x xs h) (agree_above last x before xs above all.1))
-              ∙ sym (ap (λ b. rest b gone (has_version entry s before x)) above)
-          | inl below ↦ ap (λ b. cond b (cond (has_last_key entry last x) (go last xs) (unless_dropped entry bottom x (go (Some (key_of x)) xs))) (x ∷ go last xs)) below
-              ∙ elim (cases_Bool (has_last_key entry last x)) [
-                | inl again ↦ ap (λ b. cond b (go last xs) (unless_dropped entry bottom x (go (Some (key_of x)) xs))) again
-                    ∙ c_same last (x ∷ before) xs tail (behind_rest last x xs h) (agree_again last x before xs below again all.1)
-                    ∙ sym (ap (rest true gone) (sym all.0 ∙ again))
-                | inr fresh ↦ ap (λ b. cond b (go last xs) (unless_dropped entry bottom x (go (Some (key_of x)) xs))) fresh
-                    ∙ dropped_by gone x (go (Some (key_of x)) xs) (to (x ∷ before) xs)
-                    (c_same (Some (key_of x)) (x ∷ before) xs tail (behind_first x xs up) (agree_fresh last x before xs xs below fresh h (behind_first x xs up) all.1))
-                    ∙ sym (ap (rest true gone) (sym all.0 ∙ fresh))
-              ]
-              ∙ sym (ap (λ b. rest b gone (has_version entry s before x)) below)
-        ]
-
   none_yet : (xs : List X) → Agree None [] xs
   none_yet [] = tt
   none_yet (x ∷ xs) = (refl, none_yet xs)
-
-  -- a compaction of an ordered list leaves the versions that pass the test
-  pub compacted-staying : (bottom : Bool) (xs : List X) → IsInOrder cmp xs → compacted entry s bottom xs ≡ staying entry s bottom xs
-  compacted-staying bottom xs up = c_same bottom None [] xs up tt (none_yet xs)
 
   deleted_by : (t : Bool) (x : X) (xs ys : List X) → xs ≡ ys → cond t xs (x ∷ xs) ≡ cond (not t) (x ∷ ys) ys
   deleted_by true x xs ys e = e

@@ -1,5 +1,5 @@
 -- Laws of reads over several runs.
-use Rattle.std.proofs.Common.{◌≡◌, ℕ, ◌≤◌, Bool, true, false, cond, List, [], ◌∷◌, map, filter, slice_get, Option, Some, None, refl, sym, ap, ◌∙◌}
+use Rattle.std.proofs.Common.{◌≡◌, ℕ, Bool, true, false, cond, List, [], ◌∷◌, map, filter, slice_get, Option, Some, None, refl, sym, ap, ◌∙◌}
 use Rattle.std.specs.Option.{option_map}
 use Rattle.std.specs.Ordering.{is_lt, is_eq, nat_cmp}
 use Rattle.std.specs.Cmp.Lexicographic.{slice_cmp}
@@ -9,12 +9,10 @@ use Rattle.sst_base.specs.KeyOrderLaws.{versions_cmp_total}
 use Rattle.sst_block_core.specs.Entries.{entries}
 use Rattle.sst_block_core.specs.Kind.{IsOrdered}
 use Rattle.sst_block_core.specs.Window.{first_match, is_version}
-use Rattle.sst_merge.specs.Compact.{compacted, staying}
-use Rattle.sst_merge.specs.CompactLaws.{compact-first_match, compact-ordered}
 use Rattle.sst_merge.specs.Merge.{merge, merged, lesser, least_match, entry_cmp}
 use Rattle.sst_merge.specs.MergeLaws.{merge-ordered}
 use Rattle.sst_merge.specs.MergeReads.{merge-first_match}
-use Rattle.sst_merge.specs.PlainLaws.{compacted-staying, snapshot-shown}
+use Rattle.sst_merge.specs.PlainLaws.{snapshot-shown}
 use Rattle.sst_merge.specs.Snapshot.{deletes, seen, shown, snapshot}
 use Rattle.sst_merge.specs.SnapshotReads.{unless_hidden, snapshot-first_match}
 
@@ -74,19 +72,6 @@ seen_plain : (o : Option Entry) → seen (option_map plain o) ≡ option_map pla
 seen_plain None = refl
 seen_plain (Some e) = seen_by e (deletes e.key.value_type)
 
--- a compaction changes no read at its snapshot or above
-pub compact_match : (snapshot r : ℕ) (bottom : Bool) (needle : List ℕ) (items : List Entry) → snapshot ≤ r → IsOrdered entries items
-    → seen (first_match entries needle r (compacted (λ (e : Entry). e) snapshot bottom items)) ≡ seen (first_match entries needle r items)
-unfolding first_match
-compact_match snapshot r bottom needle items at up =
-    let test = is_version entries needle r in
-    let a = slice_get (filter test (compacted (λ (e : Entry). e) snapshot bottom items)) 0 in
-    let b = slice_get (filter test items) 0 in
-    seen_plain a ∙ ap (option_map plain) (sym (hidden_is needle r a) ∙ compact-first_match (λ (e : Entry). e) snapshot bottom needle r at items up ∙ hidden_is needle r b) ∙ sym (seen_plain b)
-
-pub compact_order : (snapshot : ℕ) (bottom : Bool) (items : List Entry) → IsOrdered entries items → IsOrdered entries (compacted (λ (e : Entry). e) snapshot bottom items)
-compact_order snapshot bottom items up = compact-ordered (λ (e : Entry). e) snapshot bottom items up
-
 -- a snapshot has of a key what a read of the list sees
 pub snapshot_match : (needle : List ℕ) (s : ℕ) (items : List Entry) → IsOrdered entries items
     → option_map plain (slice_get (filter (λ (e : Entry). is_eq (slice_cmp nat_cmp e.key.user_key needle)) (snapshot (λ (e : Entry). e) s items)) 0) ≡ seen (first_match entries needle s items)
@@ -94,10 +79,6 @@ unfolding first_match
 snapshot_match needle s items up =
     let b = slice_get (filter (is_version entries needle s) items) 0 in
     ap (option_map plain) (snapshot-first_match (λ (e : Entry). e) needle s items up ∙ hidden_is needle s b) ∙ sym (seen_plain b)
-
--- a compaction of an ordered list leaves the versions that pass a test
-pub compact_plain : (snapshot : ℕ) (bottom : Bool) (items : List Entry) → IsOrdered entries items → compacted (λ (e : Entry). e) snapshot bottom items ≡ staying (λ (e : Entry). e) snapshot bottom items
-compact_plain snapshot bottom items up = compacted-staying (λ (e : Entry). e) snapshot bottom items up
 
 -- a snapshot of an ordered list has the versions that pass a test
 pub snapshot_plain : (s : ℕ) (items : List Entry) → IsOrdered entries items → snapshot (λ (e : Entry). e) s items ≡ shown (λ (e : Entry). e) s items

@@ -1,49 +1,56 @@
 //! Compaction of ordered versions.
 ghost use Rattle.std.specs.Prelude.{◌≡◌, IfOk, None};
 ghost use Rattle.sst_merge.specs.Compact.{compact_from, compacted};
+ghost use Rattle.sst_merge.specs.Compact.{is_below_all, is_hidden, is_parted, is_seen};
 ghost use Rattle.sst_merge.specs.Sources.{TakesFirst, left_as};
 
-use crate::snapshot::has_last_key;
+use crate::bottom::Bottom;
 use crate::source::{Source, keep_error};
 use crate::version::Version;
 use sst_base::{Error, Result, SeqNo, UserKey};
 use std::alloc::Global;
 use std::marker::{Model, PhantomData};
 
-/// Ordered versions without those that no read at a snapshot or above can see: of the versions of a
-/// key with a sequence number strictly below the snapshot only the newest stays, and at the bottom
-/// level, under which there are no older versions, not even that one if it is a tombstone. An error
-/// ends the compaction: each later step returns it again. Clauses see the versions left, where those
-/// of the source are known, and the error that ended the compaction, if one did.
+/// Ordered versions without those that no read at one of some snapshots, or at or above all of them,
+/// can see. A snapshot sees the versions strictly below its number. Of the versions that some snapshot
+/// sees one stays only if a snapshot sees it that sees no newer one of its key; so of each key one for
+/// each gap between two neighbouring snapshots. Of a key at the bottom, of which no older version is
+/// elsewhere, a tombstone goes too that every snapshot sees. An error ends the compaction: each later
+/// step returns it again. Clauses see the versions left, where those of the source are known, and the
+/// error that ended the compaction, if one did.
 #[derive(Drop)]
-pub struct Compact<T: Version, I: Source<T>> {
+pub struct Compact<T: Version, I: Source<T>, B: Bottom> {
     source: I,
-    snapshot: SeqNo,
-    bottom: bool,
-    last: Option<UserKey>,
+    snapshots: Vec<SeqNo>,
+    bottom: B,
+    // The user key and the number of the last version that some snapshot sees and none newer hides.
+    last: Option<(UserKey, SeqNo)>,
     ended: Option<Error>,
     versions: PhantomData<T>,
 }
 
-impl<T: Version, I: Source<T>> Model for Compact<T, I> {
+impl<T: Version, I: Source<T>, B: Bottom> Model for Compact<T, I, B> {
     ghost use Rattle.sst_merge.specs.Compact.{compact_from};
     ghost use Rattle.sst_merge.specs.Sources.{Left, left_as};
 
     ghost Value = { Left T };
 
-    ghost view = { λ c. left_as (compact_from T.entry c.snapshot c.bottom c.last) c.ended
+    ghost view = { λ c. left_as
+        (compact_from T.entry c.snapshots.items (B.at_bottom c.bottom) c.last) c.ended
         (I.left c.source) };
 }
 
-impl<T: Version, I: Source<T>> Compact<T, I> {
-    /// Compacts ordered versions for the reads at a snapshot and above. No read below the snapshot
-    /// may be wanted any more. `bottom` says that no older version of these keys is elsewhere.
-    pub fn new(source: I, snapshot: SeqNo, bottom: bool) -> Compact<T, I>
-        ensures { result ≡ left_as (compacted T.entry snapshot bottom) None (I.left source) }
+impl<T: Version, I: Source<T>, B: Bottom> Compact<T, I, B> {
+    /// Compacts ordered versions for the reads at these snapshots, in any order, and at or above all
+    /// of them; no other read may be wanted any more. `bottom` says of which keys no older version is
+    /// elsewhere.
+    pub fn new(source: I, snapshots: Vec<SeqNo>, bottom: B) -> Compact<T, I, B>
+        ensures { result ≡ left_as
+            (compacted T.entry snapshots.items (B.at_bottom bottom)) None (I.left source) }
     {
         Compact {
             source,
-            snapshot,
+            snapshots,
             bottom,
             last: None,
             ended: None,
@@ -52,29 +59,70 @@ impl<T: Version, I: Source<T>> Compact<T, I> {
     }
 }
 
-// Takes versions from a source up to the first that stays, and notes the key of the newest one below
-// the snapshot.
+// Whether a snapshot sees a version with this number.
+fn is_seen(snapshots: &[SeqNo], seqno: SeqNo) -> bool
+    ensures { result ≡ is_seen snapshots.now seqno }
+{
+    snapshots.iter().any(|snapshot| seqno < *snapshot)
+}
+
+// Whether a snapshot sees a version with the first number, and not one with the second.
+fn is_parted(snapshots: &[SeqNo], seqno: SeqNo, newer: SeqNo) -> bool
+    ensures { result ≡ is_parted snapshots.now seqno newer }
+{
+    snapshots
+        .iter()
+        .any(|snapshot| seqno < *snapshot && *snapshot <= newer)
+}
+
+// Whether every snapshot sees a version with this number.
+fn is_below_all(snapshots: &[SeqNo], seqno: SeqNo) -> bool
+    ensures { result ≡ is_below_all snapshots.now seqno }
+{
+    snapshots.iter().all(|snapshot| seqno < *snapshot)
+}
+
+// Whether every snapshot that sees a version sees the last one, which is newer and has its key.
+fn is_hidden<T: Version>(snapshots: &[SeqNo], last: &Option<(UserKey, SeqNo)>, item: &T) -> bool
+    ensures { result ≡ is_hidden T.entry snapshots.now last.now item.now }
+{
+    match last {
+        Some((user_key, newer)) => {
+            item.has_user_key(user_key.as_slice()) && !is_parted(snapshots, item.seqno(), *newer)
+        }
+        None => false,
+    }
+}
+
+// Takes versions from a source up to the first that stays, and notes the last one that is not hidden.
 #[inline(always)]
-fn next_staying<T: Version + Drop, I: Source<T>>(
+fn next_staying<T: Version + Drop, I: Source<T>, B: Bottom>(
     alloc: Global,
     source: &mut I,
-    snapshot: SeqNo,
-    bottom: bool,
-    last: &mut Option<UserKey>,
+    snapshots: &[SeqNo],
+    bottom: &B,
+    last: &mut Option<(UserKey, SeqNo)>,
 ) -> Result<Option<T>>
-    ensures { IfOk result (λ r.
-        TakesFirst (left_as (compact_from T.entry snapshot bottom last.old) None (I.left source.old))
-        r (left_as (compact_from T.entry snapshot bottom last.new) None (I.left source.new))) }
+    ensures { IfOk result (λ r. TakesFirst
+        (left_as (compact_from T.entry snapshots.now (B.at_bottom bottom.now) last.old) None
+        (I.left source.old)) r
+        (left_as (compact_from T.entry snapshots.now (B.at_bottom bottom.now) last.new) None
+        (I.left source.new))) }
 {
     while let Some(item) = source.next_entry(alloc)? {
-        if item.seqno() >= snapshot {
+        let seqno = item.seqno();
+        if !is_seen(snapshots, seqno) {
             return Ok(Some(item));
         }
-        if has_last_key(last, &item) {
+        if is_hidden(snapshots, last, &item) {
             continue;
         }
-        *last = Some(item.user_key(alloc)?);
-        if !(bottom && item.is_tombstone()) {
+        let user_key = item.user_key(alloc)?;
+        let goes = item.is_tombstone()
+            && is_below_all(snapshots, seqno)
+            && bottom.is_bottom(user_key.as_slice());
+        *last = Some((user_key, seqno));
+        if !goes {
             return Ok(Some(item));
         }
     }
@@ -82,7 +130,7 @@ fn next_staying<T: Version + Drop, I: Source<T>>(
 }
 
 /// Takes the first version that stays.
-impl<T: Version + Drop, I: Source<T> + Drop> Source<T> for Compact<T, I> {
+impl<T: Version + Drop, I: Source<T> + Drop, B: Bottom + Drop> Source<T> for Compact<T, I, B> {
     ghost left = { λ c. c };
 
     fn next_entry(&mut self, alloc: Global) -> Result<Option<T>> {
@@ -92,8 +140,8 @@ impl<T: Version + Drop, I: Source<T> + Drop> Source<T> for Compact<T, I> {
         let step = next_staying(
             alloc,
             &mut self.source,
-            self.snapshot,
-            self.bottom,
+            self.snapshots.as_slice(),
+            &self.bottom,
             &mut self.last,
         );
         keep_error(&mut self.ended, &step);

@@ -6,6 +6,7 @@ ghost use Rattle.sst_merge.specs.Outputs.{AreWritten};
 ghost use Rattle.sstable_blocks.specs.Run.{form, IsWritable};
 ghost use Rattle.sstable_blocks.specs.Scans.{EndsBy};
 
+use crate::bottom::Bottom;
 use crate::compact::Compact;
 use crate::merge::Head;
 use crate::output::Outputs;
@@ -69,21 +70,21 @@ pub fn write_tables<H: BlockHash, I: Source<InternalValue>, O: Outputs>(
     }
 }
 
-/// Compacts what is left of a source, which is in order: writes as tables the versions that a read
-/// at the snapshot or above can see. `bottom` says that no older version of these keys is
-/// elsewhere; tombstones are then dropped too. See [`Compact`].
+/// Compacts what is left of a source, which is in order: writes as tables the versions that a read at
+/// one of some snapshots, or at or above all of them, can see. `bottom` says of which keys no older
+/// version is elsewhere; their tombstones may go too. See [`Compact`].
 ///
-/// What a read at the snapshot or above sees of the tables is what it sees of the source (the law
-/// `compaction_keeps_reads`).
+/// What such a read sees of the tables is what it sees of the source, also together with newer and
+/// older lists (the laws `compaction_keeps_reads` and `levels_keep_reads`).
 ///
 /// # Errors
 ///
 /// Those of the source, of the outputs and of [`write_table`]. The tables closed before stay.
-pub fn compact_tables<H: BlockHash, I: Source<InternalValue> + Drop, O: Outputs>(
+pub fn compact_tables<H: BlockHash, I: Source<InternalValue> + Drop, B: Bottom + Drop, O: Outputs>(
     alloc: Global,
     source: I,
-    snapshot: SeqNo,
-    bottom: bool,
+    snapshots: Vec<SeqNo>,
+    bottom: B,
     outputs: &mut O,
     config: RunConfig,
     sizes: Sizes,
@@ -91,10 +92,10 @@ pub fn compact_tables<H: BlockHash, I: Source<InternalValue> + Drop, O: Outputs>
     requires writable { IsWritable config }
     ensures written { OnOk result
         (AreWritten (form H.hash64 H.hash128 config) O.start
-        (option_map (compacted (λ e. e) snapshot bottom) (I.left source).list)
+        (option_map (compacted (λ e. e) snapshots.items (B.at_bottom bottom)) (I.left source).list)
         (option_map (λ _. []) (I.left source).list) (O.tables outputs.old) (O.tables outputs.new)) }
 {
-    let compacted = Compact::new(source, snapshot, bottom);
+    let compacted = Compact::new(source, snapshots, bottom);
     let mut head = Head::new(alloc, compacted)?;
-    write_tables::<H, Compact<InternalValue, I>, O>(alloc, &mut head, outputs, config, sizes)
+    write_tables::<H, Compact<InternalValue, I, B>, O>(alloc, &mut head, outputs, config, sizes)
 }

@@ -1,7 +1,7 @@
 //! Laws of merges, snapshots and compaction, for callers' proofs. Each function states one law, and
 //! does nothing.
-ghost use Rattle.std.specs.Prelude.{◌≡◌, ℕ, ◌≤◌, Bool, List, filter, map, reverse, slice_get};
-ghost use Rattle.std.specs.Prelude.{Some, Ok};
+ghost use Rattle.std.specs.Prelude.{◌≡◌, ℕ, Bool, true, false, List, [], ◌∷◌, ◌++◌};
+ghost use Rattle.std.specs.Prelude.{Some, Ok, filter, map, reverse, slice_get};
 ghost use Rattle.std.specs.List.{AllByRecursion};
 ghost use Rattle.std.specs.Option.{option_map};
 ghost use Rattle.std.specs.Ordering.{flip_args, nat_cmp, is_eq};
@@ -11,7 +11,8 @@ ghost use Rattle.sst_block_core.specs.Entries.{entries};
 ghost use Rattle.sst_block_core.specs.Kind.{IsOrdered};
 ghost use Rattle.sst_block_core.specs.Window.{first_match};
 ghost use Rattle.sstable_blocks.specs.Blocks.{joined};
-ghost use Rattle.sst_merge.specs.Compact.{compacted, staying};
+ghost use Rattle.sst_merge.specs.Compact.{IsKeptRead, compacted, staying};
+ghost use Rattle.sst_merge.specs.Levels.{AreWithin, HasNone, IsAbove, is_outside};
 ghost use Rattle.sst_merge.specs.Merge.{merged, least_match, entry_cmp};
 ghost use Rattle.sst_merge.specs.Snapshot.{seen, shown, snapshot};
 ghost use Rattle.sst_merge.specs.Stored.{known_reads};
@@ -48,15 +49,52 @@ pub fn snapshot_is_read()
         ≡ seen (first_match entries needle seqno items) }
 {}
 
-/// A compaction of an ordered list changes no read at its snapshot or above, and keeps the order.
+/// A compaction of an ordered list changes no read at one of its snapshots, or at or above all of them,
+/// and keeps the order. Of a key that is not at the bottom such a read finds the same version, also
+/// where it is a tombstone.
 pub fn compaction_keeps_reads()
-    ensures reads { (snapshot seqno : ℕ) (bottom : Bool) (needle : List ℕ) (items : List Entry)
-        → snapshot ≤ seqno → IsOrdered entries items
-        → seen (first_match entries needle seqno (compacted (λ e. e) snapshot bottom items))
+    ensures above { (snapshots : List ℕ) (bottom : List ℕ → Bool) (needle : List ℕ) (seqno : ℕ)
+        (items : List Entry)
+        → IsKeptRead snapshots seqno → IsOrdered entries items → bottom needle ≡ false
+        → first_match entries needle seqno (compacted (λ e. e) snapshots bottom items)
+        ≡ first_match entries needle seqno items }
+    ensures reads { (snapshots : List ℕ) (bottom : List ℕ → Bool) (needle : List ℕ) (seqno : ℕ)
+        (items : List Entry) → IsKeptRead snapshots seqno → IsOrdered entries items
+        → seen (first_match entries needle seqno (compacted (λ e. e) snapshots bottom items))
         ≡ seen (first_match entries needle seqno items) }
-    ensures ordered { (snapshot : ℕ) (bottom : Bool) (items : List Entry)
+    ensures ordered { (snapshots : List ℕ) (bottom : List ℕ → Bool) (items : List Entry)
         → IsOrdered entries items
-        → IsOrdered entries (compacted (λ e. e) snapshot bottom items) }
+        → IsOrdered entries (compacted (λ e. e) snapshots bottom items) }
+{}
+
+/// A compaction of one list among newer and older ones, as the levels of a store are, changes no read
+/// of all of them together that it is to keep. Of a key that is not at the bottom the read finds the
+/// same version, whatever the other lists have. Of one that is, a reader sees the same, where no older
+/// list has the key, and no newer list an older version of a key than this one.
+pub fn levels_keep_reads()
+    ensures above { (snapshots : List ℕ) (bottom : List ℕ → Bool) (needle : List ℕ) (seqno : ℕ)
+        (newer : List (List Entry)) (items : List Entry) (older : List (List Entry))
+        → IsKeptRead snapshots seqno
+        → AllByRecursion (IsOrdered entries) (newer ++ items ∷ older)
+        → bottom needle ≡ false
+        → first_match entries needle seqno (merged entry_cmp
+        (newer ++ compacted (λ e. e) snapshots bottom items ∷ older))
+        ≡ first_match entries needle seqno (merged entry_cmp (newer ++ items ∷ older)) }
+    ensures reads { (snapshots : List ℕ) (bottom : List ℕ → Bool) (needle : List ℕ) (seqno : ℕ)
+        (newer : List (List Entry)) (items : List Entry) (older : List (List Entry))
+        → IsKeptRead snapshots seqno
+        → AllByRecursion (IsOrdered entries) (newer ++ items ∷ older)
+        → AllByRecursion (λ n. IsAbove n items) newer
+        → (bottom needle ≡ true → AllByRecursion (HasNone needle) older)
+        → seen (first_match entries needle seqno (merged entry_cmp
+        (newer ++ compacted (λ e. e) snapshots bottom items ∷ older)))
+        ≡ seen (first_match entries needle seqno (merged entry_cmp (newer ++ items ∷ older))) }
+{}
+
+/// A key outside the ranges of the older tables is in none of them, so it is at the bottom.
+pub fn keys_outside_the_ranges_are_in_no_table()
+    ensures { (ranges : List (List ℕ × List ℕ)) (needle : List ℕ) (older : List Entry)
+        → AreWithin ranges older → is_outside ranges needle ≡ true → HasNone needle older }
 {}
 
 /// What a snapshot has of an ordered list, said by each version and those before it: it is below
@@ -66,12 +104,13 @@ pub fn snapshot_shows()
         → snapshot (λ e. e) seqno items ≡ shown (λ e. e) seqno items }
 {}
 
-/// What a compaction leaves of an ordered list, said by each version and those before it: it is at
-/// the snapshot or above; or no version of its key before it is below the snapshot, and at the
-/// bottom level it is no tombstone.
+/// What a compaction leaves of an ordered list, said by each version and those before it: no snapshot
+/// sees it; or one sees it that sees no version of its key before it, and it is no tombstone at the
+/// bottom that every snapshot sees.
 pub fn compaction_leaves()
-    ensures { (snapshot : ℕ) (bottom : Bool) (items : List Entry) → IsOrdered entries items
-        → compacted (λ e. e) snapshot bottom items ≡ staying (λ e. e) snapshot bottom items }
+    ensures { (snapshots : List ℕ) (bottom : List ℕ → Bool) (items : List Entry)
+        → IsOrdered entries items
+        → compacted (λ e. e) snapshots bottom items ≡ staying (λ e. e) snapshots bottom items }
 {}
 
 /// A merge of ordered lists from the last item to the first is the merge of the lists from the back,

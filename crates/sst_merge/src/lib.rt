@@ -3,6 +3,7 @@
 #![tactic(auto)]
 
 mod block_len;
+pub mod bottom;
 pub mod compact;
 pub mod compaction;
 pub mod front;
@@ -20,6 +21,7 @@ pub mod stored;
 pub mod version;
 pub mod writing;
 
+pub use bottom::{Bottom, OlderRanges};
 pub use compact::Compact;
 pub use compaction::{compact_tables, write_tables};
 pub use merge::{Head, Merge};

@@ -13,6 +13,13 @@ use crate::reader::Reader;
 use sst_base::{InternalValue, Result, SeqNo, Steps, UserKey};
 use std::alloc::Global;
 
+// Whether a user key is between two, which belong to the range.
+pub(crate) fn is_between(first: &UserKey, last: &UserKey, needle: &[u8]) -> bool
+    ensures { result ≡ covers first.now last.now needle.now }
+{
+    first.cmp_bytes(needle).is_le() && last.cmp_bytes(needle).is_ge()
+}
+
 /// A reader with the first and the last of its user keys. A read of a key outside that range reads
 /// and examines nothing. What it has are the reader's entries with a key in the range, so all of
 /// them where the range is right.
@@ -42,7 +49,7 @@ impl<R: Reader> Ranged<R> {
     pub fn covers(&self, needle: &[u8]) -> bool
         ensures { result ≡ covers self.now.first self.now.last needle.now }
     {
-        self.first.cmp_bytes(needle).is_le() && self.last.cmp_bytes(needle).is_ge()
+        is_between(&self.first, &self.last, needle)
     }
 }
 

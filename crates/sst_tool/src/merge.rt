@@ -58,26 +58,28 @@ impl TableForm {
 }
 
 // Which reads may come after a merge.
-#[derive(Clone, Copy)]
+#[derive(Drop)]
 struct Reads {
-    // the least sequence number that is read at: all versions stay where it is 0
-    snapshot: SeqNo,
-    // whether no older table is below
+    // The sequence numbers that are read at, beside those at or above all of them: all versions stay
+    // where there are none.
+    snapshots: Vec<SeqNo>,
+    // Whether no older table is below.
     is_bottom: bool,
 }
 
-impl Reads {
-    // The reads that the words name.
-    fn of_words(words: &ArgMatches<'_>) -> Reads {
-        Reads {
-            snapshot: if words.get_flag(LATEST) {
-                SeqNo::MAX
-            } else {
-                words.get_one::<u64>(SNAPSHOT).unwrap_or(0)
-            },
-            is_bottom: words.get_flag(BOTTOM),
+// The sequence numbers that are read at after a merge, as the words name them.
+fn snapshots_of(alloc: Global, words: &ArgMatches<'_>) -> Result<Vec<SeqNo>> {
+    let mut snapshots = Vec::new(alloc);
+    if words.get_flag(LATEST) {
+        snapshots.push(SeqNo::MAX)?;
+    }
+    if let Some(numbers) = words.get_many::<u64>(SNAPSHOT) {
+        for number in numbers {
+            // (the parser of the words has refused what is no number)
+            snapshots.push(number.unwrap_or(0))?;
         }
     }
+    Ok(snapshots)
 }
 
 /// Writes what is left of a source as tables of a form.
@@ -111,12 +113,12 @@ fn write_merged<H: BlockHash, I: Source<InternalValue> + Drop, O: Outputs>(
 ) -> sstable_blocks::Result<()>
     requires writable { IsWritable how.config }
     ensures written { OnOk result (AreWritten (form H.hash64 H.hash128 how.config) O.start
-        (staying reads.snapshot reads.is_bottom heads.items)
-        (option_map (λ _. []) (staying reads.snapshot reads.is_bottom heads.items))
+        (staying reads.snapshots.items reads.is_bottom heads.items)
+        (option_map (λ _. []) (staying reads.snapshots.items reads.is_bottom heads.items))
         (O.tables tables.old) (O.tables tables.new)) }
 {
     let merged = Merge::new(heads);
-    let staying = Compact::new(merged, reads.snapshot, reads.is_bottom);
+    let staying = Compact::new(merged, reads.snapshots, reads.is_bottom);
     let written = Written::new(staying, notes);
     write_source::<H, _, O>(alloc, written, how, tables)
 }
@@ -130,7 +132,10 @@ fn write_staying<T: Tables, N: BlockHash, R: LockFiles>(
     written: &mut NewTables<'_, '_, '_, R>,
 ) -> Result<sstable_blocks::Result<()>> {
     let heads = heads_of(tables, alloc, words.get_strs(FILE).unwrap_or(&[]))?;
-    let reads = Reads::of_words(words);
+    let reads = Reads {
+        snapshots: snapshots_of(alloc, words)?,
+        is_bottom: words.get_flag(BOTTOM),
+    };
     let how = TableForm::of_words(words, &notes.longest);
     Ok(write_merged::<N, T::Entries, _>(alloc, heads, reads, notes, how, written))
 }
@@ -199,8 +204,9 @@ fn merge_into<'p, H: BlockHash, N: BlockHash, R: LockFiles + Clock + Eprint>(
 }
 
 /// Merges tables, the newest first, into one, or with `--table-size` into several of this size,
-/// which are put under their names when all are whole. With `--snapshot` only versions stay that a
-/// read at that sequence number or above sees, with `--latest` of each key the newest; with
+/// which are put under their names when all are whole. With `--snapshot`, which may be given several
+/// times, only versions stay that a read at one of these sequence numbers, or at or above all of them,
+/// sees, with `--latest` of each key the newest; with
 /// `--bottom` no tombstones of these; with `--hash` the new tables have this hash function;
 /// `--block`, `--interval` and `--bits` say how they are cut and encoded.
 ///

@@ -66,7 +66,7 @@ pub const INTERVAL: &str = "interval";
 /// The name of the option for the filter's bits for a key.
 pub const BITS: &str = "bits";
 
-/// The name of the option for the least sequence number that is read at after a merge.
+/// The name of the option for a sequence number that is read at after a merge.
 pub const SNAPSHOT: &str = "snapshot";
 
 /// The name of the option for a hash function.
@@ -113,6 +113,8 @@ enum Kind {
     Text(&'static str),
     // An option with a number below 2^64, of this name.
     Number(&'static str),
+    // The same, which may be given several times.
+    Numbers(&'static str),
     // An option with a number below 2^32, of this name.
     Short(&'static str),
     // An option with a number from 1 to 255, of this name.
@@ -213,8 +215,8 @@ const MERGE_WORDS: [Word; 11] = [
     ),
     (
         SNAPSHOT,
-        Kind::Number("SEQNO"),
-        "Keep what reads at this sequence number and above see; else all versions",
+        Kind::Numbers("SEQNO"),
+        "Keep what reads at this number see, and reads above all that are given; else all versions",
     ),
     (
         LATEST,
@@ -298,6 +300,11 @@ fn arg_of<'a>(alloc: Global, word: &Word) -> Arg<'a> {
             .long(name)
             .value_name(value)
             .value_parser(value_parser!(u64)),
+        Kind::Numbers(value) => arg
+            .long(name)
+            .value_name(value)
+            .value_parser(value_parser!(u64))
+            .action(ArgAction::Append),
         Kind::Short(value) => arg
             .long(name)
             .value_name(value)

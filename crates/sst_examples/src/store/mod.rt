@@ -5,7 +5,7 @@ ghost use Rattle.std.specs.Prelude.{IfErr, IfOk, OnOk, OnErr};
 ghost use Rattle.sst_base.specs.Entry.{plain, plain_value};
 ghost use Rattle.sst_block_core.specs.Entries.{entries};
 ghost use Rattle.sst_block_core.specs.Window.{first_match};
-ghost use Rattle.sst_merge.specs.Compact.{compacted};
+ghost use Rattle.sst_merge.specs.Compact.{IsKeptRead, compacted};
 ghost use Rattle.sst_merge.specs.Merge.{entry_cmp, merge};
 ghost use Rattle.sst_merge.specs.Snapshot.{seen};
 ghost use Rattle.sst_examples.specs.Levels.{IsFull, IsWritten, read, version, versions};
@@ -180,18 +180,18 @@ impl Store {
         Ok(())
     }
 
-    /// Compacts all tables into one, without the versions that no read at the snapshot or above
-    /// sees. Reads below the snapshot may see a difference.
+    /// Compacts all tables into one, without the versions that no read at one of the snapshots, or
+    /// at or above all, sees. Other reads may see a difference.
     ///
     /// # Errors
     ///
     /// `Error::TooLong` if the versions are too many for a table, `Error::Memory` if an allocation
     /// fails. The store is then as it was. No clause says which error it is.
-    pub fn compact(&mut self, snapshot: SeqNo) -> Result<()>
-        ensures reads { OnOk result ((key : List ℕ) (seqno : ℕ) → snapshot ≤ seqno
-            → read self.new key seqno ≡ read self.old key seqno) }
+    pub fn compact(&mut self, snapshots: Vec<SeqNo>) -> Result<()>
+        ensures reads { OnOk result ((key : List ℕ) (seqno : ℕ)
+            → IsKeptRead snapshots.items seqno → read self.new key seqno ≡ read self.old key seqno) }
         ensures stored { OnOk result (self.new.stored
-            ≡ map plain (compacted (λ e. e) snapshot true self.old.stored)) }
+            ≡ map plain (compacted (λ e. e) snapshots.items (λ _. true) self.old.stored)) }
         ensures memory { self.new.memory ≡ self.old.memory }
         ensures next { self.new.next ≡ self.old.next }
         ensures err { OnErr result (self.new ≡ self.old) }
@@ -199,7 +199,7 @@ impl Store {
         compaction_keeps_reads();
         first_match_of_plain();
         let merged = merge_of(self.alloc, &self.tables)?;
-        let table = table_of(self.alloc, Compact::new(merged, snapshot, true))?;
+        let table = table_of(self.alloc, Compact::new(merged, snapshots, true))?;
         let mut tables = Vec::new(self.alloc);
         add_table(&mut tables, table)?;
         self.tables = tables;

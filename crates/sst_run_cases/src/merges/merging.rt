@@ -2,12 +2,12 @@
 
 use super::sources::{backs_of, merge_of, merged, merged_back, sources_of};
 use super::{drained, or_none, taken};
-use sst_base::InternalValue;
+use sst_base::{InternalValue, Slice};
 use sst_block_cases::fault::{Fault, Result, kept};
 use sst_block_cases::room::Room;
 use sst_block_cases::texts::agreed;
-use sst_block_cases::words::{number_of, push_word, word_of, word_of_found};
-use sst_merge::{Compact, Merge, Reversed, Snapshot, Source};
+use sst_block_cases::words::{bytes_of, number_of, push_word, word_of, word_of_found};
+use sst_merge::{Bottom, Compact, Merge, OlderRanges, Reversed, Snapshot, Source};
 use std::alloc::Global;
 
 /// The number of the entries of all sources.
@@ -167,15 +167,42 @@ pub fn level_of(word: &str) -> Result<bool> {
     }
 }
 
+/// The snapshots of a word: numbers joined by commas, or `-` for none.
+pub fn snapshots_of(alloc: Global, word: &str) -> Result<Vec<u64>> {
+    let mut snapshots = Vec::new(alloc);
+    if word != "-" {
+        for number in word.split(',') {
+            snapshots.push(number_of(number)?)?;
+        }
+    }
+    Ok(snapshots)
+}
+
+/// The user keys of a word.
+fn keys_of(alloc: Global, word: &str) -> Result<(Slice, Slice)> {
+    let (first, last) = word.split_once(':').ok_or(Fault::Word)?;
+    let first = Slice::from_vec(bytes_of(alloc, first)?)?;
+    Ok((first, Slice::from_vec(bytes_of(alloc, last)?)?))
+}
+
+/// The ranges of user keys of the older tables, FIRST:LAST,..
+fn ranges_of(alloc: Global, word: &str) -> Result<OlderRanges> {
+    let mut ranges = Vec::new(alloc);
+    for range in word.split(',') {
+        ranges.push(keys_of(alloc, range)?)?;
+    }
+    Ok(OlderRanges { ranges })
+}
+
 /// What is left of a compaction of sources.
-fn compacted<I: Source<InternalValue> + Drop>(
+fn compacted<I: Source<InternalValue> + Drop, B: Bottom + Drop>(
     alloc: Global,
     sources: Result<Vec<I>>,
-    snapshot: u64,
-    bottom: bool,
+    snapshots: Vec<u64>,
+    bottom: B,
 ) -> Result<String> {
     let merge = merge_of(alloc, sources)?;
-    drained(alloc, &mut Compact::new(merge, snapshot, bottom))
+    drained(alloc, &mut Compact::new(merge, snapshots, bottom))
 }
 
 /// What a snapshot sees of sources.
@@ -192,35 +219,41 @@ fn seen<I: Source<InternalValue> + Drop>(
 fn seen_compacted<I: Source<InternalValue> + Drop>(
     alloc: Global,
     sources: Result<Vec<I>>,
-    snapshot: u64,
+    snapshots: Vec<u64>,
     bottom: bool,
     seqno: u64,
 ) -> Result<String> {
     let merge = merge_of(alloc, sources)?;
-    let compact = Compact::new(merge, snapshot, bottom);
+    let compact = Compact::new(merge, snapshots, bottom);
     drained(alloc, &mut Snapshot::new(compact, seqno))
 }
 
-/// A compaction of the sources: SNAPSHOT LEVEL.
+/// A compaction of the sources: SNAPSHOTS LEVEL, or SNAPSHOTS over RANGES of the older tables.
 pub fn compact(alloc: Global, room: &Room, words: &[&str]) -> Result<String> {
-    let [snapshot, level] = words else {
-        return Err(Fault::Word);
-    };
-    let (snapshot, bottom) = (number_of(snapshot)?, level_of(level)?);
-    compacted(alloc, sources_of(alloc, room), snapshot, bottom)
+    match words {
+        [snapshots, level] => {
+            let (snapshots, bottom) = (snapshots_of(alloc, snapshots)?, level_of(level)?);
+            compacted(alloc, sources_of(alloc, room), snapshots, bottom)
+        }
+        [snapshots, "over", ranges] => {
+            let (snapshots, bottom) = (snapshots_of(alloc, snapshots)?, ranges_of(alloc, ranges)?);
+            compacted(alloc, sources_of(alloc, room), snapshots, bottom)
+        }
+        _ => Err(Fault::Word),
+    }
 }
 
-/// What a snapshot sees of the sources, or of a compaction of them: SEQNO, or SEQNO SNAPSHOT LEVEL.
+/// What a snapshot sees of the sources, or of a compaction of them: SEQNO, or SEQNO SNAPSHOTS LEVEL.
 pub fn snapshot(alloc: Global, room: &Room, words: &[&str]) -> Result<String> {
     match words {
         [seqno] => {
             let seqno = number_of(seqno)?;
             seen(alloc, sources_of(alloc, room), seqno)
         }
-        [seqno, snapshot, level] => {
-            let (snapshot, bottom) = (number_of(snapshot)?, level_of(level)?);
+        [seqno, snapshots, level] => {
+            let (snapshots, bottom) = (snapshots_of(alloc, snapshots)?, level_of(level)?);
             let seqno = number_of(seqno)?;
-            seen_compacted(alloc, sources_of(alloc, room), snapshot, bottom, seqno)
+            seen_compacted(alloc, sources_of(alloc, room), snapshots, bottom, seqno)
         }
         _ => Err(Fault::Word),
     }

@@ -4,6 +4,7 @@ mod merging;
 mod sources;
 mod stores;
 mod tables;
+
 ghost use Rattle.std.specs.Prelude.{IfOk};
 ghost use Rattle.sst_merge.specs.Sources.{TakesFirst};
 

@@ -1,5 +1,6 @@
 //! Stories of a store: writes, flushes, compactions and reads, one after the other.
 
+use super::merging::snapshots_of;
 use sst_base::{SeqNo, Slice};
 use sst_block_cases::fault::{Fault, Result};
 use sst_block_cases::words::{bytes_of, number_of, push_word, word_of_found};
@@ -56,9 +57,9 @@ fn step(alloc: Global, store: &mut Store, word: &str) -> Result<String> {
     match word.split_once(':') {
         Some(("write", rest)) => write_word(alloc, store, rest),
         Some(("read", rest)) => read(alloc, store, rest),
-        Some(("compact", snapshot)) => {
-            let snapshot = number_of(snapshot)?;
-            word_of_done(alloc, store.compact(snapshot))
+        Some(("compact", snapshots)) => {
+            let snapshots = snapshots_of(alloc, snapshots)?;
+            word_of_done(alloc, store.compact(snapshots))
         }
         None if word == "flush" => word_of_done(alloc, store.flush()),
         _ => Err(Fault::Word),
@@ -66,7 +67,7 @@ fn step(alloc: Global, store: &mut Store, word: &str) -> Result<String> {
 }
 
 /// A story of a new store: STEP .., each `write:KEY:VALUE`, `write:KEY`, which deletes, `flush`,
-/// `compact:SNAPSHOT` or `read:KEY:SEQNO`.
+/// `compact:SNAPSHOTS` or `read:KEY:SEQNO`.
 pub fn story(alloc: Global, words: &[&str]) -> Result<String> {
     let (mut store, mut text) = (Store::new(alloc), String::new(alloc));
     for word in words {

@@ -1,7 +1,7 @@
 //! Tables into which sources are compacted, and how these are read.
 ghost use Rattle.std.specs.Prelude.{Some, [], map};
 
-use super::merging::level_of;
+use super::merging::{level_of, snapshots_of};
 use super::or_none;
 use super::sources::{backs_of, memory_of, merge_of, merged, merged_back, sources_of};
 use sst_base::{BlockHash, HashRatio, InternalValue, Slice, Steps};
@@ -43,10 +43,10 @@ impl Outputs for Kept {
     }
 }
 
-/// How a source is compacted: below a snapshot, at a level, into blocks and tables of these sizes.
-#[derive(Clone, Copy)]
+/// How a source is compacted: for some snapshots, at a level, into blocks and tables of these sizes.
+#[derive(Drop)]
 struct Plan {
-    seqno: u64,
+    snapshots: Vec<u64>,
     bottom: bool,
     sizes: Sizes,
 }
@@ -78,8 +78,8 @@ fn compact_into<H: BlockHash, I: Source<InternalValue> + Drop>(
     kept: &mut Kept,
 ) -> Result<()> {
     let config = RunConfig::new(2, HashRatio { num: 1, den: 1 }, 10);
-    let (seqno, bottom, sizes) = (plan.seqno, plan.bottom, plan.sizes);
-    Ok(compact_tables::<H, I, Kept>(alloc, source, seqno, bottom, kept, config, sizes)?)
+    let (snapshots, bottom, sizes) = (plan.snapshots, plan.bottom, plan.sizes);
+    Ok(compact_tables::<H, I, bool, Kept>(alloc, source, snapshots, bottom, kept, config, sizes)?)
 }
 
 /// The tables into which the merge of sources is compacted.
@@ -138,13 +138,13 @@ fn all_counts<H: BlockHash>(alloc: Global, tables: &[KeptTable]) -> Result<Strin
     or_none(alloc, text)
 }
 
-/// Compacts the sources into tables: SNAPSHOT LEVEL BLOCK_SIZE TABLE_SIZE.
+/// Compacts the sources into tables: SNAPSHOTS LEVEL BLOCK_SIZE TABLE_SIZE.
 fn tables<H: BlockHash>(alloc: Global, room: &mut Room, words: &[&str]) -> Result<String> {
-    let [seqno, level, block, table] = words else {
+    let [snapshots, level, block, table] = words else {
         return Err(Fault::Word);
     };
     let plan = Plan {
-        seqno: number_of(seqno)?,
+        snapshots: snapshots_of(alloc, snapshots)?,
         bottom: level_of(level)?,
         sizes: sizes_of(block, table)?,
     };
@@ -245,7 +245,7 @@ fn write_list<H: BlockHash>(
     kept: &mut Kept,
 ) -> Result<()> {
     let plan = Plan {
-        seqno: 0,
+        snapshots: Vec::new(alloc),
         bottom: false,
         sizes,
     };

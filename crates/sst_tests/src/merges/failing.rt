@@ -110,7 +110,7 @@ fn counts_seen(alloc: Global, steps: usize) -> Result<(usize, bool)> {
 
 /// What is counted of a compaction of such a source.
 fn counts_compacted(alloc: Global, steps: usize) -> Result<(usize, bool)> {
-    let mut compact = Compact::new(failing_after(alloc, steps)?, 6, false);
+    let mut compact = Compact::new(failing_after(alloc, steps)?, vec![in alloc; 6]?, false);
     Ok(counts(alloc, &mut compact, Error::Io))
 }
 
@@ -244,7 +244,7 @@ fn counts_seen_of_refused(alloc: Global) -> Result<(usize, bool)> {
 
 /// What is counted of a compaction of the same.
 fn counts_compacted_of_refused(alloc: Global, bottom: bool) -> Result<(usize, bool)> {
-    let mut compact = Compact::new(refused_at(alloc, 9)?, 10, bottom);
+    let mut compact = Compact::new(refused_at(alloc, 9)?, vec![in alloc; 10]?, bottom);
     Ok(counts(alloc, &mut compact, Error::Memory))
 }
 

@@ -49,12 +49,10 @@ impl Outputs for Kept {
     }
 }
 
-/// Compacts a source into tables in memory, of which at most so many are closed.
+/// Compacts a source, for all reads, into tables in memory, of which at most so many are closed.
 fn compact<I: Source<InternalValue> + Drop>(
     alloc: Global,
     source: I,
-    snapshot: u64,
-    bottom: bool,
     sizes: Sizes,
     more: usize,
 ) -> (Vec<Written>, Result<()>) {
@@ -64,8 +62,14 @@ fn compact<I: Source<InternalValue> + Drop>(
         more,
     };
     let config = RunConfig::new(2, HashRatio { num: 1, den: 1 }, 10);
-    let done = compact_tables::<ByteSum, I, Kept>(
-        alloc, source, snapshot, bottom, &mut kept, config, sizes,
+    let done = compact_tables::<ByteSum, I, bool, Kept>(
+        alloc,
+        source,
+        Vec::new(alloc),
+        false,
+        &mut kept,
+        config,
+        sizes,
     );
     (kept.tables, done)
 }
@@ -103,7 +107,7 @@ fn entries_of_keys(alloc: Global, count: u8) -> Result<Vec<InternalValue>> {
 fn are_kept_by_outputs(alloc: Global, more: usize) -> Result<bool> {
     let sizes = Sizes { block: 1, table: 1 };
     let source = entries_of_keys(alloc, 12)?.into_iter();
-    let (tables, done) = compact(alloc, source, 0, false, sizes, more);
+    let (tables, done) = compact(alloc, source, sizes, more);
     let counts = counts_of(alloc, &tables)?;
     let are_whole = counts.iter().all(|count| *count == (1, 1));
     Ok(done == Err(Error::Io) && counts.len() == more && are_whole)
@@ -153,7 +157,7 @@ fn an_output_that_fails_ends_the_source(rt: HostRuntime) -> Tested {
 fn written_before(alloc: Global, steps: usize) -> Result<(usize, bool)> {
     let sizes = Sizes { block: 1, table: 1 };
     let source = failing_after(alloc, steps)?;
-    let (tables, done) = compact(alloc, source, 0, false, sizes, 100);
+    let (tables, done) = compact(alloc, source, sizes, 100);
     Ok((counts_of(alloc, &tables)?.len(), done.is_ok()))
 }
 

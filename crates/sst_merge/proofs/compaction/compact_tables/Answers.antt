@@ -11,7 +11,7 @@ use Rattle.sst_merge.proofs.compaction.compact_tables.Goals as goal
 pub returns : goal.returns
 returns g c =
     let f = form g.H.BlockHash.hash64 g.H.BlockHash.hash128 c.args.config in
-    let kept = compacted (λ (e : Entry). e) c.args.snapshot c.args.bottom in
+    let kept = compacted (λ (e : Entry). e) c.args.snapshots.items (g.B.Bottom.at_bottom c.args.bottom) in
     let given = (g.I.Source.left c.args.source).list in
     let same : c.in_ok-head.head.list ≡ option_map kept given = c.in_ok-head.ensures.list ∙ ap (λ s. s.list) c.new-compacted.ensures in
     let P = λ (before after : Option (List Entry)). OnOk c.write_tables.result (AreWritten f g.O.Outputs.start before after (g.O.Outputs.tables c.args.outputs.now) (g.O.Outputs.tables c.write_tables.new.outputs)) in

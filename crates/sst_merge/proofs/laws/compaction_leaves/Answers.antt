@@ -1,5 +1,6 @@
-use Rattle.sst_merge.specs.ReadLaws.{compact_plain}
+use Rattle.sst_base.specs.Entry.{Entry}
+use Rattle.sst_merge.specs.StayLaws.{compacted-staying}
 use Rattle.sst_merge.proofs.laws.compaction_leaves.Goals as goal
 
 pub returns : goal.returns
-returns c = compact_plain
+returns c = λ snapshots bottom items up. compacted-staying (λ (e : Entry). e) snapshots bottom items up

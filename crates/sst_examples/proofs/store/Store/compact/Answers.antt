@@ -9,17 +9,17 @@ use Rattle.sst_examples.specs.Levels.{AreLevels, levels, or_none, read}
 use Rattle.sst_examples.specs.Tables.{IsTableOf, MemoryTable, merged_tables}
 
 -- the table has what the compaction of the tables' merge leaves
-written : (snapshot : ℕ) (tables lent : List MemoryTable) (merged source : Left Entry) (table : Option MemoryTable) → merged.list ≡ merged_tables lent → lent ≡ tables → source ≡ left_as (compacted (λ (e : Entry). e) snapshot true) None merged
-    → ((items : List Entry) → source.list ≡ Some items → IsTableOf table (map plain items)) → (older : List Entry) → merged_tables tables ≡ Some older → IsTableOf table (map plain (compacted (λ (e : Entry). e) snapshot true older))
-written snapshot tables lent merged source table is same compacts of older known =
-    let left = compacted (λ (e : Entry). e) snapshot true in
+written : (snapshots : List ℕ) (tables lent : List MemoryTable) (merged source : Left Entry) (table : Option MemoryTable) → merged.list ≡ merged_tables lent → lent ≡ tables → source ≡ left_as (compacted (λ (e : Entry). e) snapshots (λ _. true)) None merged
+    → ((items : List Entry) → source.list ≡ Some items → IsTableOf table (map plain items)) → (older : List Entry) → merged_tables tables ≡ Some older → IsTableOf table (map plain (compacted (λ (e : Entry). e) snapshots (λ _. true) older))
+written snapshots tables lent merged source table is same compacts of older known =
+    let left = compacted (λ (e : Entry). e) snapshots (λ _. true) in
     of (left older) (ap (λ (s : Left Entry). s.list) compacts ∙ ap (option_map left) (is ∙ ap merged_tables same ∙ known))
 
 abbrev IsLeft : goal.After-drop-self-inside → Type 0
-IsLeft c = (older : List Entry) → merged_tables c.self.inside.tables.items ≡ Some older → IsTableOf c.in_ok-table.table (map plain (compacted (λ (e : Entry). e) c.args.snapshot true older))
+IsLeft c = (older : List Entry) → merged_tables c.self.inside.tables.items ≡ Some older → IsTableOf c.in_ok-table.table (map plain (compacted (λ (e : Entry). e) c.args.snapshots.items (λ _. true) older))
 
 left : (c : goal.After-drop-self-inside) → IsLeft c
-left c = written c.args.snapshot c.self.inside.tables.items c.deref.result.now c.in_ok-merged.merged c.new.result c.in_ok-table.table c.in_ok-merged.ensures c.deref.ensures.value c.new.ensures c.in_ok-table.ensures
+left c = written c.args.snapshots.items c.self.inside.tables.items c.deref.result.now c.in_ok-merged.merged c.new.result c.in_ok-table.table c.in_ok-merged.ensures c.deref.ensures.value c.new.ensures c.in_ok-table.ensures
 
 added : (c : goal.After-drop-self-inside) → c.add_table.new.tables.items ≡ before c.in_ok-table.table []
 added c = c.in_ok-add_table.ensures.ok ∙ ap (before c.in_ok-table.table) c.new-tables.ensures.items
@@ -28,18 +28,18 @@ pub invariant_of-self : goal.invariant_of-self
 invariant_of-self c =
     let old = c.self.inside in
     subst (λ ts. AreLevels old.memory.items (merged_tables ts) old.next) (sym (added c))
-    (level_compacted old.memory.items old.tables.items old.next c.args.snapshot c.self.invariant c.in_ok-table.table (left c) c.first_match_of_plain.ensures c.compaction_keeps_reads.ensures.reads c.compaction_keeps_reads.ensures.ordered)
+    (level_compacted old.memory.items old.tables.items old.next c.args.snapshots.items c.self.invariant c.in_ok-table.table (left c) c.first_match_of_plain.ensures c.compaction_keeps_reads.ensures.reads c.compaction_keeps_reads.ensures.ordered)
 
 pub returns-clause-reads : goal.returns-clause-reads
 returns-clause-reads c = λ key seqno at.
     let old = c.self.inside in
     ap (λ ts. read (levels old.memory.items (merged_tables ts) old.next) key seqno) (added c)
-    ∙ compacted_same old.memory.items old.tables.items old.next c.args.snapshot c.self.invariant c.in_ok-table.table (left c) c.first_match_of_plain.ensures c.compaction_keeps_reads.ensures.reads c.compaction_keeps_reads.ensures.ordered key seqno at
+    ∙ compacted_same old.memory.items old.tables.items old.next c.args.snapshots.items c.self.invariant c.in_ok-table.table (left c) c.first_match_of_plain.ensures c.compaction_keeps_reads.ensures.reads c.compaction_keeps_reads.ensures.ordered key seqno at
     ∙ ap (λ s. read s key seqno) c.self.view_is
 
 pub returns-clause-stored : goal.returns-clause-stored
 returns-clause-stored c =
     let old = c.self.inside in
     ap (λ ts. or_none (merged_tables ts)) (added c)
-    ∙ compacted_left old.memory.items old.tables.items old.next c.args.snapshot c.self.invariant c.in_ok-table.table (left c) c.first_match_of_plain.ensures c.compaction_keeps_reads.ensures.reads c.compaction_keeps_reads.ensures.ordered
-    ∙ ap (λ s. map plain (compacted (λ (e : Entry). e) c.args.snapshot true s.stored)) c.self.view_is
+    ∙ compacted_left old.memory.items old.tables.items old.next c.args.snapshots.items c.self.invariant c.in_ok-table.table (left c) c.first_match_of_plain.ensures c.compaction_keeps_reads.ensures.reads c.compaction_keeps_reads.ensures.ordered
+    ∙ ap (λ s. map plain (compacted (λ (e : Entry). e) c.args.snapshots.items (λ _. true) s.stored)) c.self.view_is
