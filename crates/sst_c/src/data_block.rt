@@ -7,9 +7,10 @@ ghost use Rattle.sst_block_core.specs.Found.{IsOptionalRange, optional_range};
 ghost use Rattle.sst_block_core.specs.Stages.{items_in};
 ghost use Rattle.sst_block_core.specs.Window.{first_match};
 ghost use Rattle.sst_block_core.specs.Checks.{data_check};
+ghost use Rattle.sst_block_core.specs.Trailer.{trailer_in};
 ghost use Rattle.sst_block_core.specs.ParsedEntry.{entry_of, IsParsedEntry};
 ghost use Rattle.sst_c.specs.Blocks.{bytes_at, IsAnswer, IsDataBlock, IsFind, IsPlaceOf};
-ghost use Rattle.sst_c.specs.Checks.{IsCheck};
+ghost use Rattle.sst_c.specs.Checks.{IsCheck, IsRefusedOrLacks};
 ghost use Rattle.sst_c.specs.Codes.{code_of};
 ghost use Rattle.sst_c.specs.Given.{CanEncode, IsEncode};
 ghost use Rattle.sst_c.specs.Listing.{AreListed, IsListing};
@@ -182,8 +183,10 @@ pub extern "C" fn sst_data_block_entries(
 
 // Checks any bytes, and notes the number of entries.
 fn check(alloc: Global, payload: &[u8], count: &mut usize) -> Status
-    ensures { IsCheck (IsDataBlock payload.now) payload.now (data_check xxh3_64 payload.now)
-        (length (items_in entries payload.now)) count.old count.new result }
+    ensures { IsCheck (IsDataBlock payload.now)
+        (IsRefusedOrLacks (0 < (trailer_in payload.now).hash_len) payload.now
+        (data_check xxh3_64 payload.now) count.old count.new)
+        (length (items_in entries payload.now)) count.new result }
 {
     match DataBlockRef::<Xxh3>::check(alloc, payload) {
         Ok(block) => {
@@ -203,8 +206,10 @@ fn check(alloc: Global, payload: &[u8], count: &mut usize) -> Status
 #[unsafe(no_mangle)]
 pub extern "C" fn sst_data_block_check(payload: &[u8], count: &mut usize, alloc: Global) -> u32
     ensures { (s : Status) × (result ≡ code_of s)
-        × IsCheck (IsDataBlock payload.now) payload.now (data_check xxh3_64 payload.now)
-        (length (items_in entries payload.now)) count.old count.new s }
+        × IsCheck (IsDataBlock payload.now)
+        (IsRefusedOrLacks (0 < (trailer_in payload.now).hash_len) payload.now
+        (data_check xxh3_64 payload.now) count.old count.new)
+        (length (items_in entries payload.now)) count.new s }
 {
     check(alloc, payload, count).code()
 }

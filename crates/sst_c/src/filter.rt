@@ -46,7 +46,9 @@ pub extern "C" fn sst_filter_may_contain(payload: &[u8], key: &[u8]) -> u32
 // Inserts the hash of each key.
 fn insert(builder: &mut Builder, keys: &[&[u8]])
     requires { IsFilterOf [] builder.old }
-    ensures { IsFilterOf (map (λ k. xxh3_64 k.now) keys.now) builder.new }
+    ensures inserted { IsFilterOf (map (λ k. xxh3_64 k.now) keys.now) builder.new }
+    ensures m { builder.new.m ≡ builder.old.m }
+    ensures k { builder.new.k ≡ builder.old.k }
 {
     for key in keys {
         builder.set_with_hash(Xxh3::hash64(key));
@@ -56,7 +58,8 @@ fn insert(builder: &mut Builder, keys: &[&[u8]])
 // The payload of a filter of keys.
 fn payload_of(alloc: Global, keys: &[&[u8]], bits: u32) -> Result<Vec<u8>>
     requires { CanBuild (length keys.now) bits }
-    ensures ok { IfOk result (λ v. IsFilterPayload (map (λ k. xxh3_64 k.now) keys.now) v.items) }
+    ensures ok { IfOk result (λ v. IsFilterPayload (length keys.now) bits
+        (map (λ k. xxh3_64 k.now) keys.now) v.items) }
     ensures memory { IsOkUnless result Error.Memory }
 {
     let mut builder = Builder::with_bpk(alloc, keys.len(), bits)?;
