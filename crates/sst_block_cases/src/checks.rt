@@ -104,6 +104,7 @@ fn index_checks(alloc: Global, payload: &[u8]) -> Result<Checks> {
 fn text_of(alloc: Global, checked: &Checked) -> Result<String> {
     match checked {
         Ok(count) => Ok(format!(in alloc; "{count}")?),
+        Err(Error::Memory) => Err(Fault::Refused(Error::Memory)),
         Err(error) => Ok(format!(in alloc; "{error:?}")?),
     }
 }

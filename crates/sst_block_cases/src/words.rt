@@ -1,7 +1,7 @@
 //! Words of a case: numbers, byte strings and entries.
 
 use crate::fault::{Fault, Result};
-use sst_base::{InternalValue, Slice, ValueType};
+use sst_base::{Error, InternalValue, Slice, ValueType};
 use std::alloc::Global;
 
 /// The longest key, and the most bytes that a word may encode.
@@ -41,13 +41,22 @@ pub fn size_of(word: &str) -> Result<u32> {
     }
 }
 
+/// Returns the bytes of hex digits.
+fn digits_of(alloc: Global, digits: &str) -> Result<Vec<u8>> {
+    match hex::decode(alloc, digits) {
+        Ok(bytes) => Ok(bytes),
+        Err(hex::FromHexError::OutOfMemory) => Err(Fault::Refused(Error::Memory)),
+        Err(_) => Err(Fault::Word),
+    }
+}
+
 /// Appends the bytes of a part of a word: hex digits, or hex digits, `*` and how often.
 fn push_part(alloc: Global, bytes: &mut Vec<u8>, part: &str) -> Result<()> {
     let (digits, times) = match part.split_once('*') {
         Some((digits, times)) => (digits, number_of(times)?),
         None => (part, 1),
     };
-    let digits = hex::decode(alloc, digits).ok().ok_or(Fault::Word)?;
+    let digits = digits_of(alloc, digits)?;
     for _ in 0..times {
         if bytes.len() > MAX_LEN {
             return Err(Fault::Word);

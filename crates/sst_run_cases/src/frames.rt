@@ -45,8 +45,9 @@ fn frame<H: BlockHash>(alloc: Global, room: &mut Room, words: &[&str]) -> Result
     let mut frame = Vec::new(alloc);
     let kind = type_of(kind)?;
     let header = Block::write_into::<H, Vec<u8>>(&mut frame, room.payload.as_slice(), kind)?;
+    let text = text_of(alloc, &header)?;
     room.payload = frame;
-    text_of(alloc, &header)
+    Ok(text)
 }
 
 /// Puts bytes in the place of those from an index on.

@@ -70,9 +70,10 @@ fn list_of<H: BlockHash>(alloc: Global, words: &[&str]) -> Result<Vec<InternalVa
 /// Adds a source: ENTRY ..
 fn source<H: BlockHash>(alloc: Global, room: &mut Room, words: &[&str]) -> Result<String> {
     let list = list_of::<H>(alloc, words)?;
-    let count = list.len();
+    let (count, sources) = (list.len(), room.sources.len().saturating_add(1));
+    let text = format!(in alloc; "{sources} sources, {count} entries")?;
     room.sources.push(list)?;
-    Ok(format!(in alloc; "{} sources, {count} entries", room.sources.len())?)
+    Ok(text)
 }
 
 /// The front of an entry with a key, of at most 65535 bytes and at least one.

@@ -41,8 +41,10 @@ fn end(alloc: Global, room: &mut Room) -> Result<String> {
         Some(handles) => encode_footer(handles),
         None => return Err(Fault::Word),
     };
+    let len = room.payload.len().saturating_add(footer.len());
+    let text = format!(in alloc; "{len} bytes")?;
     room.payload.extend_from_slice(&footer)?;
-    Ok(format!(in alloc; "{} bytes", room.payload.len())?)
+    Ok(text)
 }
 
 /// Reads the payload as a footer, and encodes it again.

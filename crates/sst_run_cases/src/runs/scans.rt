@@ -44,17 +44,38 @@ impl<H: BlockHash> BothEnds for TrustedScan<'_, '_, H> {
     }
 }
 
-impl<H: BlockHash> BothEnds for RunScan<'_, '_, H> {
-    fn step(&mut self, alloc: Global, is_first: bool) -> Found {
+/// A scan of views, each of which is made an entry. An error of that is kept.
+#[derive(Drop)]
+struct Made<'a, 'k, H: BlockHash> {
+    views: RunScan<'a, 'k, H>,
+    ended: Option<Error>,
+}
+
+impl<H: BlockHash> Made<'_, '_, H> {
+    /// Makes the entry of the first view left, or of the last.
+    fn make(&mut self, alloc: Global, is_first: bool) -> Found {
         let taken = if is_first {
-            self.next()
+            self.views.next()
         } else {
-            self.next_back()
+            self.views.next_back()
         };
         match taken {
             Some(view) => Ok(Some(view.to_entry(alloc)?)),
             None => Ok(None),
         }
+    }
+}
+
+impl<H: BlockHash> BothEnds for Made<'_, '_, H> {
+    fn step(&mut self, alloc: Global, is_first: bool) -> Found {
+        if let Some(error) = self.ended {
+            return Err(error);
+        }
+        let made = self.make(alloc, is_first);
+        if let Err(error) = &made {
+            self.ended = Some(*error);
+        }
+        made
     }
 }
 
@@ -124,8 +145,11 @@ fn by_ref<H: BlockHash>(
     path: &Path<'_>,
 ) -> Result<String> {
     let (start, end) = (bound_of(&path.start), bound_of(&path.end));
-    let run = trusted.by_ref();
-    steps_of(alloc, run.scan_range(start, end), path.steps)
+    let made = Made {
+        views: trusted.by_ref().scan_range(start, end),
+        ended: None,
+    };
+    steps_of(alloc, made, path.steps)
 }
 
 /// Scans a sound run in memory without checks.
