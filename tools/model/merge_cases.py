@@ -112,10 +112,11 @@ def stored(room, words):
 
 
 class Store:
-    """A store: the versions in memory, those of its tables, and the next sequence number."""
+    """A store: the versions in memory, those of its tables, the next sequence number, and the open
+    snapshots."""
 
     def __init__(self):
-        self.memory, self.stored, self.next = [], [], 0
+        self.memory, self.stored, self.next, self.snapshots = [], [], 0, []
 
     def write(self, words):
         """Writes KEY:VALUE, or a tombstone of KEY."""
@@ -131,9 +132,21 @@ class Store:
         self.memory, self.stored = [], merges.merged([self.memory, self.stored])
         return "done"
 
-    def compact(self, words):
-        """Compacts the tables for SNAPSHOTS."""
-        self.stored = merges.compacted(self.stored, snapshots_of(words), lambda key: True)
+    def snapshot(self):
+        """Opens a snapshot, at a sequence number of its own."""
+        self.snapshots.append(self.next)
+        self.next += 1
+        return str(self.snapshots[-1])
+
+    def release(self, words):
+        """Gives SNAPSHOT up."""
+        self.snapshots = [seqno for seqno in self.snapshots if seqno != number_of(words)]
+        return "done"
+
+    def compact(self):
+        """Compacts the tables for the open snapshots and what is read from now on."""
+        wanted = self.snapshots + [self.next]
+        self.stored = merges.compacted(self.stored, wanted, lambda key: True)
         return "done"
 
     def read(self, words):
@@ -145,11 +158,9 @@ class Store:
     def step(self, word):
         """Takes a step of a story."""
         name, colon, rest = word.partition(":")
-        if name == "flush" and not colon:
-            return self.flush()
-        if name not in ("write", "compact", "read") or not colon:
+        if name not in (("write", "release", "read") if colon else ("snapshot", "flush", "compact")):
             raise bad_word()
-        return getattr(self, name)(rest)
+        return getattr(self, name)(*([rest] if colon else []))
 
 
 def store(room, words):

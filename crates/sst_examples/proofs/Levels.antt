@@ -106,27 +106,44 @@ module _ (memory : List Entry) (tables : Option (List Entry)) (next : ℕ) (are 
       | inr miss ↦ miss
     ]
 
-    pub is_written : IsWritten (levels memory tables next) (levels (merge entry_cmp (e ∷ []) memory) tables (next + 1)) e.key.user_key (seen (Some e))
-    is_written = record {
+    pub is_written : (snapshots : List ℕ) → IsWritten (levels memory tables next snapshots) (levels (merge entry_cmp (e ∷ []) memory) tables (next + 1) snapshots) e.key.user_key (seen (Some e))
+    is_written snapshots = record {
       next = refl;
+      snapshots = refl;
       above = λ s less. shown e.key.user_key s ∙ ap (λ b. cond b (seen (Some e)) (seen (first_match entries e.key.user_key s (all_versions memory tables)))) (passes s less);
       below = λ s more. shown e.key.user_key s ∙ ap (λ b. cond b (seen (Some e)) (seen (first_match entries e.key.user_key s (all_versions memory tables)))) (fails e.key.user_key s more);
       others = λ other s differs. shown other s ∙ ap (λ b. cond b (seen (Some e)) (seen (first_match entries other s (all_versions memory tables)))) (other_fails other s differs);
     }
 
 -- what the levels are after a version was added
-pub record IsAdded (memory : List Entry) (tables : Option (List Entry)) (next : ℕ) (new : List Entry) (number : ℕ) (e : Entry) : Type 0 where
+pub record IsAdded (memory : List Entry) (tables : Option (List Entry)) (next : ℕ) (snapshots : List ℕ) (new : List Entry) (number : ℕ) (e : Entry) : Type 0 where
   pub are : AreLevels new tables number
-  pub written : IsWritten (levels memory tables next) (levels new tables number) e.key.user_key (seen (Some e))
+  pub written : IsWritten (levels memory tables next snapshots) (levels new tables number snapshots) e.key.user_key (seen (Some e))
 
-pub version_added : (memory : List Entry) (tables : Option (List Entry)) (next : ℕ) → AreLevels memory tables next → (key value : List ℕ) (value_type : ValueType) → plain_value value_type value ≡ value
-    → (new : List Entry) (number : ℕ) → new ≡ merge entry_cmp (version key next value_type value ∷ []) memory → number ≡ next + 1 → IsAdded memory tables next new number (version key next value_type value)
-version_added memory tables next are key value value_type none new number is follows =
+pub version_added : (memory : List Entry) (tables : Option (List Entry)) (next : ℕ) (snapshots : List ℕ) → AreLevels memory tables next → (key value : List ℕ) (value_type : ValueType) → plain_value value_type value ≡ value
+    → (new : List Entry) (number : ℕ) → new ≡ merge entry_cmp (version key next value_type value ∷ []) memory → number ≡ next + 1 → IsAdded memory tables next snapshots new number (version key next value_type value)
+version_added memory tables next snapshots are key value value_type none new number is follows =
     let e = version key next value_type value in
     let same : plain e ≡ e = ap (λ v. version key next value_type v) none in
     let grown : List Entry = merge entry_cmp (e ∷ []) memory in
-    let at : IsAdded memory tables next grown (next + 1) e = record { are = level_added memory tables next are e refl same; written = is_written memory tables next are e refl same } in
-    subst (λ xs. IsAdded memory tables next xs number e) (sym is) (subst (λ n. IsAdded memory tables next grown n e) (sym follows) at)
+    let at : IsAdded memory tables next snapshots grown (next + 1) e = record { are = level_added memory tables next are e refl same; written = is_written memory tables next are e refl same snapshots } in
+    subst (λ xs. IsAdded memory tables next snapshots xs number e) (sym is) (subst (λ n. IsAdded memory tables next snapshots grown n e) (sym follows) at)
+
+-- what the levels are after a sequence number was taken
+pub level_raised : (memory : List Entry) (tables : Option (List Entry)) (next number : ℕ) → AreLevels memory tables next → number ≡ next + 1 → AreLevels memory tables number
+level_raised memory tables next number are follows = subst (AreLevels memory tables) (sym follows) (record {
+  memory_ordered = are.memory_ordered;
+  memory_plain = are.memory_plain;
+  memory_below = raised memory are.memory_below;
+  older = are.older;
+  known = are.known;
+  older_ordered = are.older_ordered;
+  older_below = raised are.older are.older_below;
+  newer = are.newer;
+})
+  where
+    raised : (items : List Entry) → AreBelow next items → AreBelow (next + 1) items
+    raised items below = all_weaker (λ (x : Entry). x.key.seqno < next) (λ (x : Entry). x.key.seqno < next + 1) items (λ x h. omega (arith, h)) below
 
 -- a list of versions as decoded is what it is decoded as
 pub plain_same : (items : List Entry) → ArePlain items → map plain items ≡ items
@@ -207,26 +224,26 @@ module _ (memory : List Entry) (tables : List MemoryTable) (next : ℕ) (snapsho
         ∙ sym (ap seen (level_read memory (merged_tables tables) next are needle s ∙ ap (λ o. or_older inner (first_match entries needle s (or_none o))) are.known))
 
 -- what the levels are after a flush
-pub record IsFlushed (memory : List Entry) (tables : List MemoryTable) (next : ℕ) (left : List Entry) (new : List MemoryTable) : Type 0 where
+pub record IsFlushed (memory : List Entry) (tables : List MemoryTable) (next : ℕ) (snapshots : List ℕ) (left : List Entry) (new : List MemoryTable) : Type 0 where
   pub are : AreLevels left (merged_tables new) next
-  pub is : levels left (merged_tables new) next ≡ record { memory = []; stored = versions (levels memory (merged_tables tables) next); next = next }
+  pub is : levels left (merged_tables new) next snapshots ≡ record { memory = []; stored = versions (levels memory (merged_tables tables) next snapshots); next = next; snapshots = snapshots }
 
-pub memory_flushed : (memory : List Entry) (tables : List MemoryTable) (next : ℕ) → AreLevels memory (merged_tables tables) next → (table : Option MemoryTable) (copy left : List Entry) (new : List MemoryTable) → IsTableOf table (map plain copy) → copy ≡ memory → left ≡ [] → new ≡ before table tables
-    → IsFlushed memory tables next left new
-memory_flushed memory tables next are table copy left new is same none added =
+pub memory_flushed : (memory : List Entry) (tables : List MemoryTable) (next : ℕ) (snapshots : List ℕ) → AreLevels memory (merged_tables tables) next → (table : Option MemoryTable) (copy left : List Entry) (new : List MemoryTable) → IsTableOf table (map plain copy) → copy ≡ memory → left ≡ [] → new ≡ before table tables
+    → IsFlushed memory tables next snapshots left new
+memory_flushed memory tables next snapshots are table copy left new is same none added =
     let of : IsTableOf table (map plain memory) = subst (λ xs. IsTableOf table (map plain xs)) same is in
-    let flat : List Entry → Levels = λ xs. record { memory = []; stored = xs; next = next } in
-    let at : IsFlushed memory tables next [] (before table tables) = record { are = level_flushed memory tables next are table of; is = ap flat (flushed_same memory tables next are table of) } in
-    subst (λ xs. IsFlushed memory tables next xs new) (sym none) (subst (IsFlushed memory tables next []) (sym added) at)
+    let flat : List Entry → Levels = λ xs. record { memory = []; stored = xs; next = next; snapshots = snapshots } in
+    let at : IsFlushed memory tables next snapshots [] (before table tables) = record { are = level_flushed memory tables next are table of; is = ap flat (flushed_same memory tables next are table of) } in
+    subst (λ xs. IsFlushed memory tables next snapshots xs new) (sym none) (subst (IsFlushed memory tables next snapshots []) (sym added) at)
 
 module _ (needle : List ℕ) (s : ℕ) (memory : List Entry) (tables : List MemoryTable) (next : ℕ) (are : AreLevels memory (merged_tables tables) next) where
   -- a version that is found in memory is what a read finds
-  pub newer_found : (e : Entry) → Some e ≡ first_match entries needle s memory → Some e ≡ first_match entries needle s (versions (levels memory (merged_tables tables) next))
+  pub newer_found : (e : Entry) → Some e ≡ first_match entries needle s memory → Some e ≡ first_match entries needle s (all_versions memory (merged_tables tables))
   newer_found e here =
       sym (level_read memory (merged_tables tables) next are needle s ∙ ap (λ o. or_older o (first_match entries needle s (or_none (merged_tables tables)))) (sym here))
 
   -- where none is found there, what is found in the tables is
-  pub older_found : (all : List (List Entry)) → merged entry_cmp all ≡ are.older → None ≡ first_match entries needle s memory → first_match entries needle s (merged entry_cmp all) ≡ first_match entries needle s (versions (levels memory (merged_tables tables) next))
+  pub older_found : (all : List (List Entry)) → merged entry_cmp all ≡ are.older → None ≡ first_match entries needle s memory → first_match entries needle s (merged entry_cmp all) ≡ first_match entries needle s (all_versions memory (merged_tables tables))
   older_found all is here =
       sym (level_read memory (merged_tables tables) next are needle s
       ∙ ap (λ o. or_older o (first_match entries needle s (or_none (merged_tables tables)))) (sym here)

@@ -70,7 +70,7 @@ all_written f sizes start bytes h items before after t empty known none = record
 }
 
 -- clones are the same
-pub zip_same : (xs ys : List Entry) → AllZip (λ e copy. copy ≡ e) xs ys → ys ≡ xs
+pub zip_same : {X : Type 0} (xs ys : List X) → AllZip (λ e copy. copy ≡ e) xs ys → ys ≡ xs
 zip_same [] [] h = refl
 zip_same [] (y ∷ ys) h = absurd h
 zip_same (x ∷ xs) [] h = absurd h

@@ -11,11 +11,13 @@ use Rattle.sst_block_core.specs.Window.{first_match}
 use Rattle.sst_merge.specs.Merge.{entry_cmp, merge}
 use Rattle.sst_merge.specs.Snapshot.{seen}
 
--- what clauses see of a store: the versions in memory and those of its tables, both in order, and the next sequence number
+-- what clauses see of a store: the versions in memory and those of its tables, both in order, the next sequence number, and
+-- the snapshots that are open
 pub record Levels : Type 0 where
   pub memory : List Entry
   pub stored : List Entry
   pub next : ℕ
+  pub snapshots : List ℕ
 
 -- all versions, in order
 abbrev pub versions : Levels → List Entry
@@ -33,6 +35,7 @@ version key seqno value_type value = record { key = record { user_key = key; seq
 -- other reads what they saw.
 pub record IsWritten (old new : Levels) (key : List ℕ) (shown : Option Entry) : Type 0 where
   pub next : new.next ≡ old.next + 1
+  pub snapshots : new.snapshots ≡ old.snapshots
   pub above : (seqno : ℕ) → old.next < seqno → read new key seqno ≡ shown
   pub below : (seqno : ℕ) → seqno ≤ old.next → read new key seqno ≡ read old key seqno
   pub others : (other : List ℕ) (seqno : ℕ) → other ≢ key → read new other seqno ≡ read old other seqno
@@ -58,9 +61,9 @@ abbrev pub or_none : Option (List Entry) → List Entry
 or_none None = []
 or_none (Some items) = items
 
--- the levels of a store: versions in memory, those of the tables, and the next sequence number
-abbrev pub levels : List Entry → Option (List Entry) → ℕ → Levels
-levels memory tables next = record { memory = memory; stored = or_none tables; next = next }
+-- the levels of a store: versions in memory, those of the tables, the next sequence number, and the open snapshots
+abbrev pub levels : List Entry → Option (List Entry) → ℕ → List ℕ → Levels
+levels memory tables next snapshots = record { memory = memory; stored = or_none tables; next = next; snapshots = snapshots }
 
 -- both levels are in order, with numbers below the next one; the versions in memory are newer, and as decoded; those of
 -- the tables are known

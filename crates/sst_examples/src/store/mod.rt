@@ -1,7 +1,7 @@
 //! A small store of versions of keys, over `sst_merge`: writes go into an ordered list in memory,
 //! which is flushed into a table, and the tables are compacted into one. Tables are in memory too.
 ghost use Rattle.std.specs.Prelude.{◌≡◌, ◌≤◌, ◌<◌, ◌^◌, ℕ, List, ◌∷◌, [], Some, None, map, length, true};
-ghost use Rattle.std.specs.Prelude.{IfErr, IfOk, OnOk, OnErr};
+ghost use Rattle.std.specs.Prelude.{IfErr, IfOk, OnOk, OnErr, ◌+◌, ◌++◌, filter, nat_eq, not};
 ghost use Rattle.sst_base.specs.Entry.{plain, plain_value};
 ghost use Rattle.sst_block_core.specs.Entries.{entries};
 ghost use Rattle.sst_block_core.specs.Window.{first_match};
@@ -26,13 +26,15 @@ use std::marker::Model;
 /// A store of versions of keys, each with a sequence number of its own. A read at a sequence number
 /// sees what was written with a lower one.
 ///
-/// Clauses see the versions in memory, those of the tables, and the next sequence number.
+/// Clauses see the versions in memory, those of the tables, the next sequence number, and the open
+/// snapshots.
 #[derive(Drop)]
 pub struct Store {
     alloc: Global,
     memory: Vec<InternalValue>,
     tables: Vec<Stored>,
     next: SeqNo,
+    snapshots: Vec<SeqNo>,
 }
 
 impl Model for Store {
@@ -41,7 +43,8 @@ impl Model for Store {
 
     ghost Value = { Levels };
 
-    ghost view = { λ s. levels s.memory.items (merged_tables s.tables.items) s.next };
+    ghost view = { λ s. levels s.memory.items (merged_tables s.tables.items) s.next
+        s.snapshots.items };
 
     ghost invariant = { λ s. AreLevels s.memory.items (merged_tables s.tables.items) s.next };
 }
@@ -49,13 +52,14 @@ impl Model for Store {
 impl Store {
     /// Makes an empty store, whose next sequence number is 0.
     pub fn new(alloc: Global) -> Store
-        ensures { result ≡ record { memory = []; stored = []; next = 0 } }
+        ensures { result ≡ record { memory = []; stored = []; next = 0; snapshots = [] } }
     {
         Store {
             alloc,
             memory: Vec::new(alloc),
             tables: Vec::new(alloc),
             next: 0,
+            snapshots: Vec::new(alloc),
         }
     }
 
@@ -169,7 +173,12 @@ impl Store {
     /// The store is then as it was. No clause says which error it is.
     pub fn flush(&mut self) -> Result<()>
         ensures ok { OnOk result (self.new
-            ≡ record { memory = []; stored = versions self.old; next = self.old.next }) }
+            ≡ record {
+              memory = [];
+              stored = versions self.old;
+              next = self.old.next;
+              snapshots = self.old.snapshots;
+            }) }
         ensures same { versions self.new ≡ versions self.old }
         ensures err { OnErr result (self.new ≡ self.old) }
     {
@@ -180,24 +189,71 @@ impl Store {
         Ok(())
     }
 
-    /// Compacts all tables into one, without the versions that no read at one of the snapshots, or
-    /// at or above all, sees. Other reads may see a difference.
+    /// Opens a snapshot: a read at the sequence number that is returned, which nothing else has, sees
+    /// what was written before, until the snapshot is released.
+    ///
+    /// # Errors
+    ///
+    /// As [`Store::put`].
+    pub fn snapshot(&mut self) -> Result<SeqNo>
+        ensures number { IfOk result (λ seqno. seqno ≡ self.old.next) }
+        ensures opened { OnOk result (self.new ≡ record self.old {
+          next = self.old.next + 1;
+          snapshots = self.old.snapshots ++ self.old.next ∷ [];
+        }) }
+        ensures cause { IfErr result (IsFull self.old) }
+        ensures err { OnErr result (self.new ≡ self.old) }
+    {
+        let seqno = self.next;
+        let Some(next) = seqno.checked_add(1) else {
+            return Err(Error::TooLong);
+        };
+        self.snapshots.push(seqno)?;
+        self.next = next;
+        Ok(seqno)
+    }
+
+    /// Gives a snapshot up: a compaction no longer keeps what it alone sees.
+    pub fn release(&mut self, snapshot: SeqNo)
+        ensures { self.new ≡ record self.old {
+          snapshots = filter (λ s. not (nat_eq s snapshot)) self.old.snapshots;
+        } }
+    {
+        self.snapshots.retain(|seqno| *seqno != snapshot);
+    }
+
+    // The sequence numbers that may be read at: those of the open snapshots, and the next one.
+    fn read_numbers(&self) -> Result<Vec<SeqNo>>
+        ensures { IfOk result
+            (λ all. all.items ≡ self.now.snapshots ++ self.now.next ∷ []) }
+    {
+        let mut all = self.snapshots.clone()?;
+        all.push(self.next)?;
+        Ok(all)
+    }
+
+    /// Compacts all tables into one, without the versions that no read at an open snapshot, or at the
+    /// next sequence number or above, sees. Other reads may see a difference.
     ///
     /// # Errors
     ///
     /// `Error::TooLong` if the versions are too many for a table, `Error::Memory` if an allocation
     /// fails. The store is then as it was. No clause says which error it is.
-    pub fn compact(&mut self, snapshots: Vec<SeqNo>) -> Result<()>
+    pub fn compact(&mut self) -> Result<()>
         ensures reads { OnOk result ((key : List ℕ) (seqno : ℕ)
-            → IsKeptRead snapshots.items seqno → read self.new key seqno ≡ read self.old key seqno) }
+            → IsKeptRead (self.old.snapshots ++ self.old.next ∷ []) seqno
+            → read self.new key seqno ≡ read self.old key seqno) }
         ensures stored { OnOk result (self.new.stored
-            ≡ map plain (compacted (λ e. e) snapshots.items (λ _. true) self.old.stored)) }
+            ≡ map plain (compacted (λ e. e) (self.old.snapshots ++ self.old.next ∷ [])
+            (λ _. true) self.old.stored)) }
         ensures memory { self.new.memory ≡ self.old.memory }
         ensures next { self.new.next ≡ self.old.next }
+        ensures snapshots { self.new.snapshots ≡ self.old.snapshots }
         ensures err { OnErr result (self.new ≡ self.old) }
     {
         compaction_keeps_reads();
         first_match_of_plain();
+        let snapshots = self.read_numbers()?;
         let merged = merge_of(self.alloc, &self.tables)?;
         let table = table_of(self.alloc, Compact::new(merged, snapshots, true))?;
         let mut tables = Vec::new(self.alloc);

@@ -1,6 +1,5 @@
 //! Stories of a store: writes, flushes, compactions and reads, one after the other.
 
-use super::merging::snapshots_of;
 use sst_base::{SeqNo, Slice};
 use sst_block_cases::fault::{Fault, Result};
 use sst_block_cases::words::{bytes_of, number_of, push_word, word_of_found};
@@ -52,22 +51,35 @@ fn word_of_done(alloc: Global, done: sst_base::Result<()>) -> Result<String> {
     }
 }
 
+/// Takes a step of a story that is a name alone.
+fn step_of_name(alloc: Global, store: &mut Store, name: &str) -> Result<String> {
+    match name {
+        "flush" => word_of_done(alloc, store.flush()),
+        "compact" => word_of_done(alloc, store.compact()),
+        "snapshot" => {
+            let seqno = store.snapshot()?;
+            Ok(format!(in alloc; "{seqno}")?)
+        }
+        _ => Err(Fault::Word),
+    }
+}
+
 /// Takes a step of a story.
 fn step(alloc: Global, store: &mut Store, word: &str) -> Result<String> {
     match word.split_once(':') {
         Some(("write", rest)) => write_word(alloc, store, rest),
         Some(("read", rest)) => read(alloc, store, rest),
-        Some(("compact", snapshots)) => {
-            let snapshots = snapshots_of(alloc, snapshots)?;
-            word_of_done(alloc, store.compact(snapshots))
+        Some(("release", snapshot)) => {
+            store.release(number_of(snapshot)?);
+            word_of_done(alloc, Ok(()))
         }
-        None if word == "flush" => word_of_done(alloc, store.flush()),
+        None => step_of_name(alloc, store, word),
         _ => Err(Fault::Word),
     }
 }
 
-/// A story of a new store: STEP .., each `write:KEY:VALUE`, `write:KEY`, which deletes, `flush`,
-/// `compact:SNAPSHOTS` or `read:KEY:SEQNO`.
+/// A story of a new store: STEP .., each `write:KEY:VALUE`, `write:KEY`, which deletes, `snapshot`,
+/// `release:SNAPSHOT`, `flush`, `compact` or `read:KEY:SEQNO`.
 pub fn story(alloc: Global, words: &[&str]) -> Result<String> {
     let (mut store, mut text) = (Store::new(alloc), String::new(alloc));
     for word in words {

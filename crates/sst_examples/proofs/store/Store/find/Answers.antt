@@ -36,4 +36,4 @@ returns-in-None-clause-found c =
     (c.read_tables.ensures.found k.all (reader_lists old.tables.items c.deref_mut.result.now k.all c.deref_mut.ensures.value k.known))
 
 pub returns-in-None-clause-kept : goal.returns-in-None-clause-kept
-returns-in-None-clause-kept c = ap (λ o. levels c.self.inside.memory.items o c.self.inside.next) (kept c) ∙ c.self.view_is
+returns-in-None-clause-kept c = ap (λ o. levels c.self.inside.memory.items o c.self.inside.next c.self.inside.snapshots.items) (kept c) ∙ c.self.view_is
