@@ -129,31 +129,6 @@ version_added memory tables next snapshots are key value value_type none new num
     let at : IsAdded memory tables next snapshots grown (next + 1) e = record { are = level_added memory tables next are e refl same; written = is_written memory tables next are e refl same snapshots } in
     subst (λ xs. IsAdded memory tables next snapshots xs number e) (sym is) (subst (λ n. IsAdded memory tables next snapshots grown n e) (sym follows) at)
 
--- what the levels are after a sequence number was taken
-pub level_raised : (memory : List Entry) (tables : Option (List Entry)) (next number : ℕ) → AreLevels memory tables next → number ≡ next + 1 → AreLevels memory tables number
-level_raised memory tables next number are follows = subst (AreLevels memory tables) (sym follows) (record {
-  memory_ordered = are.memory_ordered;
-  memory_plain = are.memory_plain;
-  memory_below = raised memory are.memory_below;
-  older = are.older;
-  known = are.known;
-  older_ordered = are.older_ordered;
-  older_below = raised are.older are.older_below;
-  newer = are.newer;
-})
-  where
-    raised : (items : List Entry) → AreBelow next items → AreBelow (next + 1) items
-    raised items below = all_weaker (λ (x : Entry). x.key.seqno < next) (λ (x : Entry). x.key.seqno < next + 1) items (λ x h. omega (arith, h)) below
-
--- a list of versions as decoded is what it is decoded as
-pub plain_same : (items : List Entry) → ArePlain items → map plain items ≡ items
-plain_same [] all = refl
-plain_same (x ∷ xs) all = ap (λ y. y ∷ map plain xs) all.0 ∙ ap (λ ys. x ∷ ys) (plain_same xs all.1)
-
-known_more : (items : List Entry) (o : Option (List (List Entry))) (older : List Entry) → option_map (merged entry_cmp) o ≡ Some older → option_map (merged entry_cmp) (option_map (λ rest. items ∷ rest) o) ≡ Some (merge entry_cmp items older)
-known_more items None older e = absurd (cc)
-known_more items (Some lists) older e = ap (option_map (merge entry_cmp items)) e
-
 -- a table is put before others
 pub table_added : (table : Option MemoryTable) (tables : List MemoryTable) (items older : List Entry) → IsTableOf table items → merged_tables tables ≡ Some older → merged_tables (before table tables) ≡ Some (merge entry_cmp items older)
 table_added None tables items older none known = known ∙ sym (ap (λ xs. Some (merge entry_cmp xs older)) none)
