@@ -129,6 +129,15 @@ version_added memory tables next snapshots are key value value_type none new num
     let at : IsAdded memory tables next snapshots grown (next + 1) e = record { are = level_added memory tables next are e refl same; written = is_written memory tables next are e refl same snapshots } in
     subst (λ xs. IsAdded memory tables next snapshots xs number e) (sym is) (subst (λ n. IsAdded memory tables next snapshots grown n e) (sym follows) at)
 
+-- a list of versions as decoded is what it is decoded as
+pub plain_same : (items : List Entry) → ArePlain items → map plain items ≡ items
+plain_same [] all = refl
+plain_same (x ∷ xs) all = ap (λ y. y ∷ map plain xs) all.0 ∙ ap (λ ys. x ∷ ys) (plain_same xs all.1)
+
+known_more : (items : List Entry) (o : Option (List (List Entry))) (older : List Entry) → option_map (merged entry_cmp) o ≡ Some older → option_map (merged entry_cmp) (option_map (λ rest. items ∷ rest) o) ≡ Some (merge entry_cmp items older)
+known_more items None older e = absurd (cc)
+known_more items (Some lists) older e = ap (option_map (merge entry_cmp items)) e
+
 -- a table is put before others
 pub table_added : (table : Option MemoryTable) (tables : List MemoryTable) (items older : List Entry) → IsTableOf table items → merged_tables tables ≡ Some older → merged_tables (before table tables) ≡ Some (merge entry_cmp items older)
 table_added None tables items older none known = known ∙ sym (ap (λ xs. Some (merge entry_cmp xs older)) none)
