@@ -66,15 +66,12 @@ uint64_t sst_table_get(const uint8_t* entries, size_t entries_len, size_t count,
 uint64_t sst_table_scan(const uint8_t* entries, size_t entries_len, size_t count,
                         size_t per_block, uint8_t interval, uint32_t num, uint32_t den,
                         uint32_t bits, uint64_t times);
-uint64_t sst_trusted_scan(const uint8_t* entries, size_t entries_len, size_t count,
-                          size_t per_block, uint8_t interval, uint32_t num, uint32_t den,
-                          uint32_t bits, uint64_t times);
 uint64_t sst_table_merge(const uint8_t* entries, size_t entries_len, size_t count,
                          size_t per_block, uint8_t interval, uint32_t num, uint32_t den,
                          uint32_t bits, size_t tables, uint64_t times);
-uint64_t sst_trusted_merge(const uint8_t* entries, size_t entries_len, size_t count,
-                           size_t per_block, uint8_t interval, uint32_t num, uint32_t den,
-                           uint32_t bits, size_t tables, uint32_t taken, uint64_t times);
+uint64_t sst_compact(const uint8_t* entries, size_t entries_len, size_t count, size_t per_block,
+                     uint8_t interval, uint32_t num, uint32_t den, uint32_t bits, size_t tables,
+                     uint32_t made, uint64_t times);
 uint64_t sst_blocks_walk(const uint8_t* entries, size_t entries_len, size_t count,
                          size_t per_block, uint8_t interval, uint32_t num, uint32_t den,
                          uint32_t made, uint64_t times);

@@ -55,8 +55,8 @@ int main() {
          kCount, blocks);
   for (bool hits : {true, false}) {
     const std::string& needles = hits ? entries.hits : entries.misses;
-    Print(hits ? "trusted get of a key that is there, beside read_entry"
-               : "trusted get of a key that is not",
+    Print(hits ? "get of a key that is there in a trusted table, beside read_entry"
+               : "get of a key that is not",
           kNeedles,
           [&](uint64_t times) {
             return sst_table_get(At(bytes), bytes.size(), kCount, kPerBlock, kInterval, 0, 100,
@@ -105,12 +105,6 @@ int main() {
         [&](uint64_t times) {
           return parts(times) + walks(times);
         });
-  Print("trusted scan, an entry, beside the walks that make entries", kCount,
-        [&](uint64_t times) {
-          return sst_trusted_scan(At(bytes), bytes.size(), kCount, kPerBlock, kInterval, 0, 100,
-                                  kBits, times);
-        },
-        walks);
   const Repeated views = [&](uint64_t times) {
     return sst_blocks_walk(At(bytes), bytes.size(), kCount, kPerBlock, kInterval, 0, 100, 0, times);
   };
@@ -139,16 +133,6 @@ int main() {
                           times);
   });
   Print("merge of 8 scans, an entry, beside the walks that make entries", kCount, merge, walks);
-  for (bool taken : {false, true}) {
-    Print(taken ? "merge of 8 trusted scans, where each entry is taken"
-                : "merge of 8 trusted scans, an entry, beside the walks that make entries",
-          kCount,
-          [&, taken](uint64_t times) {
-            return sst_trusted_merge(At(bytes), bytes.size(), kCount, kPerBlock, kInterval, 0, 100,
-                                     kBits, kTables, taken, times);
-          },
-          walks);
-  }
   for (bool made : {false, true}) {
     Print(made ? "merge of 8 scans of borrowed bytes that makes entries, beside the walks that do"
                : "merge of 8 scans of borrowed bytes, beside the walks over borrowed bytes",
@@ -159,5 +143,13 @@ int main() {
           },
           made ? walks : views);
   }
+  const auto compaction = [&](bool made) {
+    return [&, made](uint64_t times) {
+      return sst_compact(At(bytes), bytes.size(), kCount, kPerBlock, kInterval, 0, 100, kBits,
+                         kTables, made, times);
+    };
+  };
+  Print("compaction of 8 tables by views, an entry, beside that of entries", kCount,
+        compaction(false), compaction(true));
   return 0;
 }

@@ -3,23 +3,23 @@
 //! The arguments are those of the calls of `run`, and the number of tables: entry after entry goes
 //! to the next table, so the merge goes from table to table at each step.
 ghost use Rattle.std.specs.Prelude.{◌≤◌};
+ghost use Rattle.sstable_blocks.specs.Run.{IsWritable};
 
 use crate::REFUSED;
-use crate::data_block::items_in;
+use crate::data_block::{NEWEST, items_in};
 use crate::hash::Hash;
 use crate::run::run_of;
 use crate::sums::entry_sum;
+use crate::views::view_scans_of;
 use sst_base::{HashRatio, InternalValue, Slice};
-use sst_merge::{Head, Merge, Ranked, Source, Version};
-use sstable_blocks::run::{Scan, Trusted, TrustedScan};
+use sst_block_core::AsEntry;
+use sst_merge::{Compact, Head, Merge, Ranked, Sizes, Source, write_table};
+use sstable_blocks::run::{RunRef, Scan};
 use sstable_blocks::{MemorySource, RunConfig, RunHandles, Table};
 use std::alloc::Global;
 
 // A scan whose first entry is held.
 type Scanned<'k> = Head<InternalValue, Scan<'k, Hash, MemorySource>>;
-
-// A scan without checks, whose first entry is held.
-type ScannedTrusted<'a, 'k> = Head<InternalValue, TrustedScan<'a, 'k, Hash>>;
 
 // A run in memory.
 #[derive(Drop)]
@@ -112,25 +112,6 @@ fn scans_of(
     Some(scans)
 }
 
-// Takes so many entries, and adds each.
-#[inline(always)]
-fn add_taken<I: Source<InternalValue>>(
-    so_far: u64,
-    source: &mut I,
-    count: usize,
-    alloc: Global,
-) -> Option<u64> {
-    let mut sum = so_far;
-    for _ in 0..count {
-        let step = source.next_entry(alloc);
-        match &step {
-            Ok(Some(entry)) => sum = sum.wrapping_add(entry_sum(entry)),
-            _ => return None,
-        }
-    }
-    Some(sum)
-}
-
 // Adds each of so many entries where its source holds it, and passes it.
 #[inline(always)]
 fn add_passed<I: Source<InternalValue> + Drop>(
@@ -168,92 +149,79 @@ fn merged_in(alloc: Global, runs: &[Stored], count: usize, times: u64) -> Option
     Some(sum)
 }
 
-// Checks a table whole, and trusts it.
-fn trusted_of(alloc: Global, table: &mut Table<Hash, MemorySource>) -> Option<Trusted<'_, Hash>> {
-    match table.verify(alloc) {
-        Ok(_) => Some(table.trusted()),
-        Err(_) => None,
-    }
-}
-
-// Checks tables whole, and trusts them.
-pub(crate) fn all_trusted<'a>(
-    alloc: Global,
-    tables: &'a mut [Table<Hash, MemorySource>],
-) -> Option<Vec<Trusted<'a, Hash>>> {
+// Checks each run.
+pub(crate) fn all_checked<'a>(alloc: Global, runs: &'a [Stored]) -> Option<Vec<RunRef<'a, Hash>>> {
     let mut all = Vec::new(alloc);
-    for table in tables.iter_mut() {
-        all.push(trusted_of(alloc, table)?).ok()?;
+    for run in runs {
+        let (checked, _) = RunRef::check(alloc, run.bytes.as_slice(), &run.handles).ok()?;
+        all.push(checked).ok()?;
     }
     Some(all)
 }
 
-// Scans of trusted tables.
-fn trusted_scans_of<'a>(
+// How tables are made of what is merged: blocks of 4 KiB, and one table.
+const SIZES: Sizes = Sizes {
+    block: 4096,
+    table: usize::MAX,
+};
+
+// The length of the table of what a compaction leaves of a source.
+fn compacted_len<T: Ranked + AsEntry + Drop, I: Source<T> + Drop>(
     alloc: Global,
-    tables: &[Trusted<'a, Hash>],
-) -> Option<Vec<ScannedTrusted<'a, 'static>>> {
-    let mut scans = Vec::new(alloc);
-    for table in tables {
-        push_head(alloc, &mut scans, table.scan())?;
+    source: I,
+    config: RunConfig,
+) -> Option<u64>
+    requires { IsWritable config }
+{
+    let compacted = Compact::new(source, vec![in alloc; NEWEST].ok()?, true);
+    let mut head = Head::new(alloc, compacted).ok()?;
+    let bytes = Vec::new(alloc);
+    let table = write_table::<Hash, T, Compact<T, I, bool>, Vec<u8>>(
+        alloc, &mut head, bytes, config, SIZES,
+    );
+    match table {
+        Ok(Some((_, bytes))) => Some(bytes.len() as u64),
+        _ => None,
     }
-    Some(scans)
 }
 
-// Merges scans of trusted tables, and adds each entry where its source holds it.
-#[inline(never)]
-fn add_trusted_merged(
-    so_far: u64,
-    tables: &[Trusted<'_, Hash>],
-    count: usize,
-    alloc: Global,
-) -> Option<u64> {
-    let mut merged = Merge::new(trusted_scans_of(alloc, tables)?);
-    add_passed(so_far, &mut merged, count, alloc)
+// Opens the tables, compacts their scans, and returns the length of the table.
+fn compacted_entries(alloc: Global, runs: &[Stored], config: RunConfig) -> Option<u64>
+    requires { IsWritable config }
+{
+    let merged = Merge::new(scans_of(alloc, tables_of(alloc, runs)?)?);
+    compacted_len(alloc, merged, config)
 }
 
-// Merges scans of trusted tables, takes each entry, and adds it.
-#[inline(never)]
-fn add_trusted_taken(
-    so_far: u64,
-    tables: &[Trusted<'_, Hash>],
-    count: usize,
-    alloc: Global,
-) -> Option<u64> {
-    let mut merged = Merge::new(trusted_scans_of(alloc, tables)?);
-    add_taken(so_far, &mut merged, count, alloc)
+// Checks the runs, compacts their scans, and returns the length of the table.
+fn compacted_views(alloc: Global, runs: &[Stored], config: RunConfig) -> Option<u64>
+    requires { IsWritable config }
+{
+    let checked = all_checked(alloc, runs)?;
+    let merged = Merge::new(view_scans_of(alloc, checked.as_slice())?);
+    compacted_len(alloc, merged, config)
 }
 
-// Merges scans of trusted tables, so many times.
-fn trusted_merges(
-    alloc: Global,
-    tables: &[Trusted<'_, Hash>],
-    count: usize,
-    times: u64,
-    taken: bool,
-) -> Option<u64> {
-    let mut sum = 0;
-    for _ in 0..times {
-        sum = if taken {
-            add_trusted_taken(sum, tables, count, alloc)?
-        } else {
-            add_trusted_merged(sum, tables, count, alloc)?
-        };
-    }
-    Some(sum)
-}
-
-// Opens and checks the tables, and merges their scans without checks, so many times.
-fn trusted_merged_in(
+// Compacts runs, so many times.
+fn compacted_in(
     alloc: Global,
     runs: &[Stored],
-    count: usize,
+    config: RunConfig,
+    made: bool,
     times: u64,
-    taken: bool,
-) -> Option<u64> {
-    let mut tables = tables_of(alloc, runs)?;
-    let trusted = all_trusted(alloc, tables.as_mut_slice())?;
-    trusted_merges(alloc, trusted.as_slice(), count, times, taken)
+) -> Option<u64>
+    requires { IsWritable config }
+{
+    let mut sum = 0u64;
+    for _ in 0..times {
+        let len = if made {
+            compacted_entries(alloc, runs, config)?
+        } else {
+            compacted_views(alloc, runs, config)?
+        };
+        sum = sum.wrapping_add(len);
+    }
+    Some(sum)
 }
 
 /// Opens tables over the runs of the entries' parts, merges their scans, each block verified and
@@ -278,10 +246,11 @@ pub extern "C" fn sst_table_merge(
     }
 }
 
-/// Opens tables over the runs of the entries' parts once, merges their scans without checks, and
-/// adds each entry: one that is taken, or else where its source holds it.
+/// Compacts the runs of the entries' parts into one table, each frame verified and each block
+/// checked, and adds its length: of entries, or of views after a check of each run. Intervals and
+/// denominator are at least 1.
 #[unsafe(no_mangle)]
-pub extern "C" fn sst_trusted_merge(
+pub extern "C" fn sst_compact(
     bytes: &[u8],
     count: usize,
     per_block: usize,
@@ -290,13 +259,16 @@ pub extern "C" fn sst_trusted_merge(
     den: u32,
     bits: u32,
     tables: usize,
-    taken: u32,
+    made: u32,
     times: u64,
     alloc: Global,
 ) -> u64 {
+    if interval == 0 || den == 0 {
+        return REFUSED;
+    }
     let config = RunConfig::new(interval, HashRatio { num, den }, bits);
     match runs_in(alloc, bytes, count, per_block, config, tables) {
-        Some(runs) => trusted_merged_in(alloc, &runs, count, times, taken != 0).unwrap_or(REFUSED),
+        Some(runs) => compacted_in(alloc, &runs, config, made != 0, times).unwrap_or(REFUSED),
         None => REFUSED,
     }
 }

@@ -1,7 +1,7 @@
 //! Tables over runs in memory: reads without checks, scans, and the check of a whole run.
 //!
 //! The arguments are those of the calls of `run`.
-ghost use Rattle.std.specs.Prelude.{◌≤◌, List};
+ghost use Rattle.std.specs.Prelude.{◌≡◌, ◌≤◌, List};
 ghost use Rattle.sst_base.specs.Entry.{Entry};
 ghost use Rattle.sst_bench.specs.Hash.{hash64, hash128};
 ghost use Rattle.sstable_blocks.specs.RunReading.{hashes};
@@ -12,26 +12,46 @@ use crate::data_block::NEWEST;
 use crate::hash::Hash;
 use crate::keys::keys_in;
 use crate::run::run_in;
-use crate::sums::{entry_sum, found_sum};
+use crate::sums::entry_sum;
 use crate::views::add_views_found;
 use sst_base::{HashRatio, Slice, Steps};
-use sstable_blocks::run::{Scan, Trusted, TrustedScan, check};
+use sstable_blocks::run::{RunRef, Scan, check, shared_entry};
 use sstable_blocks::{MemorySource, RunConfig, RunHandles, Table};
 use std::alloc::Global;
+
+// Reads the entry of a needle, which shares the bytes of the run.
+fn read_shared(
+    alloc: Global,
+    run: &RunRef<'_, Hash>,
+    bytes: &Slice,
+    needle: &[u8],
+) -> Option<u64>
+    requires { run.now.bytes ≡ bytes.now }
+{
+    let mut steps = Steps::new();
+    match run.locate(needle, NEWEST, &mut steps) {
+        Some(place) => {
+            let entry = shared_entry(alloc, bytes, &place).ok()?;
+            Some(entry_sum(&entry))
+        }
+        None => Some(1),
+    }
+}
 
 // Reads each needle, and adds the entry that is found, or 1 for none.
 #[inline(never)]
 fn add_found(
     so_far: u64,
-    table: &Trusted<'_, Hash>,
+    run: &RunRef<'_, Hash>,
+    bytes: &Slice,
     needles: &[&[u8]],
     alloc: Global,
-) -> Option<u64> {
+) -> Option<u64>
+    requires { run.now.bytes ≡ bytes.now }
+{
     let mut sum = so_far;
     for needle in needles {
-        let mut steps = Steps::new();
-        let found = table.get(alloc, needle, NEWEST, &mut steps).ok()?;
-        sum = sum.wrapping_add(found_sum(&found));
+        sum = sum.wrapping_add(read_shared(alloc, run, bytes, needle)?);
     }
     Some(sum)
 }
@@ -55,31 +75,6 @@ fn add_taken(
     Some(sum)
 }
 
-// The same of a scan without checks.
-#[inline(always)]
-fn add_taken_trusted(
-    so_far: u64,
-    scan: &mut TrustedScan<'_, '_, Hash>,
-    count: usize,
-    alloc: Global,
-) -> Option<u64> {
-    let mut sum = so_far;
-    for _ in 0..count {
-        let step = scan.next_entry(alloc);
-        match &step {
-            Ok(Some(entry)) => sum = sum.wrapping_add(entry_sum(entry)),
-            _ => return None,
-        }
-    }
-    Some(sum)
-}
-
-// Scans a trusted table, and adds each of its entries.
-#[inline(never)]
-fn add_trusted(so_far: u64, table: &Trusted<'_, Hash>, count: usize, alloc: Global) -> Option<u64> {
-    add_taken_trusted(so_far, &mut table.scan(), count, alloc)
-}
-
 // What is done with a table.
 #[derive(Clone, Copy)]
 pub(crate) enum Asked<'a> {
@@ -87,28 +82,28 @@ pub(crate) enum Asked<'a> {
     Get(&'a [&'a [u8]]),
     // Each needle is found where it is.
     Find(&'a [&'a [u8]]),
-    // So many entries are taken of a scan.
-    Scan(usize),
 }
 
-// Reads a table without checks, so many times.
-fn asked_of(alloc: Global, table: &Trusted<'_, Hash>, asked: Asked<'_>, times: u64) -> Option<u64> {
+// Reads a run without checks, so many times.
+fn asked_of(
+    alloc: Global,
+    run: &RunRef<'_, Hash>,
+    bytes: &Slice,
+    asked: Asked<'_>,
+    times: u64,
+) -> Option<u64>
+    requires { run.now.bytes ≡ bytes.now }
+{
     let mut sum = 0;
     match asked {
         Asked::Get(needles) => {
             for _ in 0..times {
-                sum = add_found(sum, table, needles, alloc)?;
+                sum = add_found(sum, run, bytes, needles, alloc)?;
             }
         }
         Asked::Find(needles) => {
-            let run = table.by_ref();
             for _ in 0..times {
-                sum = add_views_found(sum, &run, needles);
-            }
-        }
-        Asked::Scan(count) => {
-            for _ in 0..times {
-                sum = add_trusted(sum, table, count, alloc)?;
+                sum = add_views_found(sum, run, needles);
             }
         }
     }
@@ -118,16 +113,17 @@ fn asked_of(alloc: Global, table: &Trusted<'_, Hash>, asked: Asked<'_>, times: u
 // Opens a table over a run, and reads it without checks, so many times.
 fn opened(
     alloc: Global,
-    run: Slice,
+    run: &Slice,
     handles: RunHandles,
     asked: Asked<'_>,
     times: u64,
 ) -> Option<u64>
     requires { (blocks : List (List Entry))
-        × IsSound (hashes hash64 hash128) blocks run handles }
+        × IsSound (hashes hash64 hash128) blocks run.now handles }
 {
-    match Table::<Hash, MemorySource>::open(alloc, MemorySource::new(run), handles) {
-        Ok(table) => asked_of(alloc, &table.trusted(), asked, times),
+    let source = MemorySource::new(run.clone().ok()?);
+    match Table::<Hash, MemorySource>::open(alloc, source, handles) {
+        Ok(table) => asked_of(alloc, &table.trusted(), run, asked, times),
         Err(_) => None,
     }
 }
@@ -145,7 +141,7 @@ pub(crate) fn opened_in(
     requires { 1 ≤ config.index_interval }
 {
     match run_in(alloc, bytes, count, per_block, config) {
-        Some((run, handles)) => opened(alloc, run, handles, asked, times).unwrap_or(REFUSED),
+        Some((run, handles)) => opened(alloc, &run, handles, asked, times).unwrap_or(REFUSED),
         None => REFUSED,
     }
 }
@@ -172,31 +168,6 @@ pub extern "C" fn sst_table_get(
     };
     let asked = Asked::Get(needles.as_slice());
     opened_in(alloc, bytes, count, per_block, config, asked, times)
-}
-
-/// Opens a table over the run once, scans it without checks, and adds each entry.
-#[unsafe(no_mangle)]
-pub extern "C" fn sst_trusted_scan(
-    bytes: &[u8],
-    count: usize,
-    per_block: usize,
-    interval: u8,
-    num: u32,
-    den: u32,
-    bits: u32,
-    times: u64,
-    alloc: Global,
-) -> u64 {
-    let config = RunConfig::new(interval, HashRatio { num, den }, bits);
-    opened_in(
-        alloc,
-        bytes,
-        count,
-        per_block,
-        config,
-        Asked::Scan(count),
-        times,
-    )
 }
 
 // Opens a table over a run, scans it, and adds each of its entries.

@@ -12,7 +12,7 @@ use crate::REFUSED;
 use crate::data_block::{NEWEST, add_entries, block_of, items_in};
 use crate::hash::Hash;
 use crate::keys::keys_in;
-use crate::merges::{Stored, all_trusted, push_head, runs_in, tables_of};
+use crate::merges::{Stored, all_checked, push_head, runs_in};
 use crate::run::run_in;
 use crate::sums::{entry_sum, view_found_sum, view_sum};
 use crate::tables::{Asked, opened_in};
@@ -20,7 +20,7 @@ use sst_base::{BlockHash, HashRatio, InternalValue, Steps};
 use sst_block_core::DataBlock;
 use sst_block_core::table::data_block::{DataBlockRef, EntryView};
 use sst_merge::{Head, Merge, Source};
-use sstable_blocks::run::{RunRef, RunScan, Trusted};
+use sstable_blocks::run::{RunRef, RunScan};
 use sstable_blocks::{RunConfig, RunHandles};
 use std::alloc::Global;
 
@@ -286,11 +286,14 @@ pub extern "C" fn sst_views_find(
     opened_in(alloc, bytes, count, per_block, config, asked, times)
 }
 
-// Scans of runs.
-fn scans_of<'a>(alloc: Global, tables: &[Trusted<'a, Hash>]) -> Option<Vec<Scanned<'a, 'static>>> {
+/// Scans of runs.
+pub(crate) fn view_scans_of<'a>(
+    alloc: Global,
+    runs: &[RunRef<'a, Hash>],
+) -> Option<Vec<Scanned<'a, 'static>>> {
     let mut scans = Vec::new(alloc);
-    for table in tables {
-        push_head(alloc, &mut scans, table.by_ref().scan())?;
+    for run in runs {
+        push_head(alloc, &mut scans, run.scan())?;
     }
     Some(scans)
 }
@@ -344,11 +347,11 @@ fn add_passed_made<'a, I: Source<EntryView<'a>> + Drop>(
 #[inline(never)]
 fn add_merged(
     so_far: u64,
-    tables: &[Trusted<'_, Hash>],
+    runs: &[RunRef<'_, Hash>],
     count: usize,
     alloc: Global,
 ) -> Option<u64> {
-    let mut merged = Merge::new(scans_of(alloc, tables)?);
+    let mut merged = Merge::new(view_scans_of(alloc, runs)?);
     add_passed(so_far, &mut merged, count, alloc)
 }
 
@@ -356,18 +359,18 @@ fn add_merged(
 #[inline(never)]
 fn add_merged_made(
     so_far: u64,
-    tables: &[Trusted<'_, Hash>],
+    runs: &[RunRef<'_, Hash>],
     count: usize,
     alloc: Global,
 ) -> Option<u64> {
-    let mut merged = Merge::new(scans_of(alloc, tables)?);
+    let mut merged = Merge::new(view_scans_of(alloc, runs)?);
     add_passed_made(so_far, &mut merged, count, alloc)
 }
 
 // Merges scans of runs, so many times.
 fn merges_of(
     alloc: Global,
-    tables: &[Trusted<'_, Hash>],
+    runs: &[RunRef<'_, Hash>],
     count: usize,
     times: u64,
     made: bool,
@@ -375,23 +378,22 @@ fn merges_of(
     let mut sum = 0;
     for _ in 0..times {
         sum = if made {
-            add_merged_made(sum, tables, count, alloc)?
+            add_merged_made(sum, runs, count, alloc)?
         } else {
-            add_merged(sum, tables, count, alloc)?
+            add_merged(sum, runs, count, alloc)?
         };
     }
     Some(sum)
 }
 
-// Opens and checks the tables, and merges their scans, so many times.
+// Checks the runs, and merges their scans, so many times.
 fn merged_in(alloc: Global, runs: &[Stored], count: usize, times: u64, made: bool) -> Option<u64> {
-    let mut tables = tables_of(alloc, runs)?;
-    let trusted = all_trusted(alloc, tables.as_mut_slice())?;
-    merges_of(alloc, trusted.as_slice(), count, times, made)
+    let checked = all_checked(alloc, runs)?;
+    merges_of(alloc, checked.as_slice(), count, times, made)
 }
 
-/// Opens tables over the runs of the entries' parts once, merges their scans without checks, and
-/// adds each entry.
+/// Checks the runs of the entries' parts once, merges their scans without checks, and adds each
+/// entry.
 #[unsafe(no_mangle)]
 pub extern "C" fn sst_views_merge(
     bytes: &[u8],

@@ -4,7 +4,7 @@ use crate::fault::{Fault, Result};
 use crate::room::Room;
 use crate::words::{alike, entry_of, entry_with, small_of, truth, wide_of};
 use sst_base::{BlockHash, InternalValue, ValueType};
-use sst_block_core::{DataBlock, EntryParts};
+use sst_block_core::{DataBlock, EntryView};
 use std::alloc::Global;
 
 /// The number of entries of the list.
@@ -81,24 +81,24 @@ fn add_prefixes(alloc: Global, room: &mut Room, words: &[&str]) -> Result<String
     count(alloc, room)
 }
 
-/// The parts of entries.
-pub fn parts_of(alloc: Global, entries: &[InternalValue]) -> Result<Vec<EntryParts<'_>>> {
-    let mut parts = Vec::new(alloc);
+/// Views of entries.
+pub fn views_of(alloc: Global, entries: &[InternalValue]) -> Result<Vec<EntryView<'_>>> {
+    let mut views = Vec::new(alloc);
     for entry in entries {
-        parts.push(EntryParts::of(entry))?;
+        views.push(EntryView::of(entry))?;
     }
-    Ok(parts)
+    Ok(views)
 }
 
-/// Whether no entry sorts before its predecessor, by the entries and by their parts.
+/// Whether no entry sorts before its predecessor, by the entries and by views of them.
 fn ordered<H: BlockHash>(alloc: Global, room: &Room) -> Result<String> {
     let entries = room.entries.as_slice();
-    let parts = parts_of(alloc, entries)?;
+    let views = views_of(alloc, entries)?;
     alike(
         alloc,
         truth(alloc, DataBlock::<H>::is_ordered(entries))?,
-        "by parts",
-        truth(alloc, DataBlock::<H>::are_parts_ordered(parts.as_slice()))?,
+        "by views",
+        truth(alloc, DataBlock::<H>::are_views_ordered(views.as_slice()))?,
     )
 }
 

@@ -3,3 +3,4 @@ pub mod Written
 pub mod Endings
 pub mod PointerOrders
 pub mod BucketWrites
+pub mod SharedParts

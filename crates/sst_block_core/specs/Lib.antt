@@ -53,4 +53,3 @@ pub mod Checks
 pub mod PointReads
 pub mod Disorder
 pub mod Tombstones
-pub mod EntryParts

@@ -23,7 +23,7 @@ use crate::entries::{SstEntry, items_of};
 use crate::output::write_bytes;
 use sst_base::table::util::SliceIndexes;
 use sst_base::{HashRatio, SeqNo, Steps};
-use sst_block_core::table::data_block::{DataBlock, DataBlockParsedItem, DataBlockRef, EntryParts};
+use sst_block_core::{DataBlock, DataBlockParsedItem, DataBlockRef, EntryView};
 use sstable_blocks::Xxh3;
 use std::alloc::Global;
 
@@ -220,7 +220,7 @@ fn checked_items<'a>(
     entries: &[SstEntry<'a>],
     interval: u8,
     ratio: HashRatio,
-) -> Result<Vec<EntryParts<'a>>, Status>
+) -> Result<Vec<EntryView<'a>>, Status>
     ensures ok { IfOk result (λ items. CanEncode entries.now interval ratio.den items.items) }
     ensures refused { IfErr result (λ s. (s ≡ Failed Memory) ⊎ ((s ≡ BadArgument)
         × ((items : List Entry) → CanEncode entries.now interval ratio.den items → ⊥))) }
@@ -229,7 +229,7 @@ fn checked_items<'a>(
         return Err(Status::BadArgument);
     }
     let items = items_of(alloc, entries)?;
-    if !DataBlock::<Xxh3>::are_parts_ordered(items.as_slice()) {
+    if !DataBlock::<Xxh3>::are_views_ordered(items.as_slice()) {
         return Err(Status::BadArgument);
     }
     Ok(items)
@@ -251,8 +251,9 @@ fn encode(
         Ok(items) => items,
         Err(status) => return status,
     };
-    match DataBlock::<Xxh3>::encode_parts_into_vec(alloc, items.as_slice(), interval, ratio) {
-        Ok(payload) => write_bytes(payload.as_slice(), out, out_len),
+    let mut payload = Vec::new(alloc);
+    match DataBlock::<Xxh3>::encode_views_into(&mut payload, items.as_slice(), interval, ratio) {
+        Ok(()) => write_bytes(payload.as_slice(), out, out_len),
         Err(error) => Status::Failed(error),
     }
 }

@@ -7,7 +7,7 @@ ghost use Rattle.sst_c.specs.declared.codes.Status.TheVariants.{Failed, BadArgum
 
 use crate::codes::Status;
 use sst_base::{Error, ValueType};
-use sst_block_core::table::data_block::EntryParts;
+use sst_block_core::EntryView;
 use std::alloc::Global;
 
 /// An entry: its key of 1 to 65535 bytes, its value of at most 2^32 - 1 bytes, its sequence number,
@@ -26,14 +26,14 @@ pub struct SstEntry<'a> {
 }
 
 // The entry that is given, over the same bytes, if it is one.
-fn item_of<'a>(entry: &SstEntry<'a>) -> Option<EntryParts<'a>>
+fn item_of<'a>(entry: &SstEntry<'a>) -> Option<EntryView<'a>>
     ensures given { IfSome result (λ item. IsGiven entry.now item) }
     ensures refused { IsNone result → (e : Entry) → IsGiven entry.now e → ⊥ }
 {
     let Ok(value_type) = ValueType::try_from(entry.value_type) else {
         return None;
     };
-    EntryParts::new(entry.key, entry.value, entry.seqno, value_type)
+    EntryView::of_parts(entry.key, entry.value, entry.seqno, value_type)
 }
 
 /// Makes the entries that are given, over the same bytes. Refuses those of which one is not an
@@ -41,7 +41,7 @@ fn item_of<'a>(entry: &SstEntry<'a>) -> Option<EntryParts<'a>>
 pub(crate) fn items_of<'a>(
     alloc: Global,
     entries: &[SstEntry<'a>],
-) -> Result<Vec<EntryParts<'a>>, Status>
+) -> Result<Vec<EntryView<'a>>, Status>
     ensures ok { IfOk result (λ items. AreGiven entries.now items.items) }
     ensures refused { IfErr result (λ s. (s ≡ Failed Memory)
         ⊎ ((s ≡ BadArgument) × ((items : List Entry) → AreGiven entries.now items → ⊥))) }

@@ -24,9 +24,9 @@ use crate::entries::{SstEntry, items_of};
 use crate::output::write_bytes;
 use sst_base::table::block::header::HEADER_LEN;
 use sst_base::table::block::{BlockHandle, BlockOffset};
-use sst_base::{Error, HashRatio, InternalValue, SeqNo, Slice, Steps};
+use sst_base::{Error, HashRatio, SeqNo, Steps};
 use sst_block_core::DataBlock;
-use sst_block_core::table::data_block::{DataBlockParsedItem, EntryParts};
+use sst_block_core::table::data_block::{DataBlockParsedItem, EntryView};
 use sstable_blocks::run::RunRef;
 use sstable_blocks::run::laws::sound_opens;
 use sstable_blocks::{RunConfig, RunHandles, Xxh3, cuts_fit, write_run};
@@ -258,7 +258,7 @@ fn checked_items<'a>(
     entries: &[SstEntry<'a>],
     cuts: &[usize],
     config: &RunConfig,
-) -> Result<Vec<EntryParts<'a>>, Status>
+) -> Result<Vec<EntryView<'a>>, Status>
     ensures ok { IfOk result (λ items. CanWrite entries.now cuts.now config.now items.items) }
     ensures refused { IfErr result (λ s. (s ≡ Failed Memory) ⊎ ((s ≡ BadArgument)
         × ((items : List Entry) → CanWrite entries.now cuts.now config.now items → ⊥))) }
@@ -274,44 +274,16 @@ fn checked_items<'a>(
     if !cuts_fit(parts.len(), cuts) {
         return Err(Status::BadArgument);
     }
-    if !DataBlock::<Xxh3>::are_parts_ordered(parts) {
+    if !DataBlock::<Xxh3>::are_views_ordered(parts) {
         return Err(Status::BadArgument);
     }
     Ok(items)
 }
 
-// Makes an entry, with copies of its key and its value.
-fn owned(alloc: Global, item: &EntryParts<'_>) -> Result<InternalValue, Error>
-    ensures ok { IfOk result (λ entry. entry ≡ item.now) }
-    ensures memory { IsOkUnless result Error.Memory }
-{
-    let user_key = Slice::new(alloc, item.user_key())?;
-    let value = Slice::new(alloc, item.value())?;
-    Ok(InternalValue::from_components(user_key, value, item.seqno(), item.value_type()))
-}
-
-// Makes entries.
-fn all_owned(alloc: Global, items: &[EntryParts<'_>]) -> Result<Vec<InternalValue>, Error>
-    ensures ok { IfOk result (λ all. all.items ≡ items.now) }
-    ensures memory { IsOkUnless result Error.Memory }
-{
-    let mut all = Vec::with_capacity(alloc, items.len())?;
-    for item in items {
-        let entry = match owned(alloc, item) {
-            Ok(entry) => entry,
-            Err(error) => return Err(error),
-        };
-        if all.push(entry).is_err() {
-            return Err(Error::Memory);
-        }
-    }
-    Ok(all)
-}
-
 // Writes the run of entries.
 fn run_of(
     alloc: Global,
-    items: &[InternalValue],
+    items: &[EntryView<'_>],
     cuts: &[usize],
     config: RunConfig,
 ) -> Result<(Vec<u8>, RunHandles), Error>
@@ -324,7 +296,7 @@ fn run_of(
 {
     sound_opens();
     let mut bytes = Vec::new(alloc);
-    match write_run::<Xxh3, Vec<u8>>(alloc, &mut bytes, items, cuts, config) {
+    match write_run::<Xxh3, EntryView<'_>, Vec<u8>>(alloc, &mut bytes, items, cuts, config) {
         Ok(handles) => Ok((bytes, handles)),
         Err(Error::TooLong) => Err(Error::TooLong),
         // A vector fails as a writer where its allocation does.
@@ -383,13 +355,9 @@ fn write(
     ensures { IsRunWrite entries.now cuts.now config out.old out.new out_len.old out_len.new
         handles.old handles.new result }
 {
-    let parts = match checked_items(alloc, entries, cuts, &config) {
-        Ok(parts) => parts,
-        Err(status) => return status,
-    };
-    let items = match all_owned(alloc, parts.as_slice()) {
+    let items = match checked_items(alloc, entries, cuts, &config) {
         Ok(items) => items,
-        Err(error) => return Status::Failed(error),
+        Err(status) => return status,
     };
     match run_of(alloc, items.as_slice(), cuts, config) {
         Ok((bytes, found)) => tell(bytes.as_slice(), &found, out, out_len, handles),
@@ -406,7 +374,7 @@ fn write(
 /// written so: none, one that is not an entry, out of order, cuts that do not fit, an interval or a
 /// denominator of 0; 6 only where a block has more than 4294967262 bytes, the filter more than
 /// 34359737920 bits, or all frames 2^64 bytes or more; 15 if an allocation fails. But for 0 `out`
-/// and `handles` are left, and but for 0 and 18 `out_len`. Each entry is copied.
+/// and `handles` are left, and but for 0 and 18 `out_len`.
 #[unsafe(no_mangle)]
 pub extern "C" fn sst_run_write(
     entries: &[SstEntry<'_>],

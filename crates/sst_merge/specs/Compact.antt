@@ -2,7 +2,8 @@
 use Rattle.std.specs.Prelude.{ℕ, nat_lt, nat_le, nat_eq, Bool, true, false, not, ◌&&◌, ◌||◌, ◌⊎◌, ◌≡◌, if◌then◌else◌, List, [], ◌∷◌, Option, Some, None}
 use Rattle.std.specs.List.{list_any, list_all}
 use Rattle.sst_base.specs.Entry.{Entry}
-use Rattle.sst_merge.specs.Snapshot.{deletes, has_last_key, kept_after}
+use Rattle.sst_block_core.specs.Tombstones.{is_tombstone}
+use Rattle.sst_merge.specs.Snapshot.{has_last_key, kept_after}
 
 -- does a snapshot see a version with this number? It sees those strictly below its own
 abbrev pub is_seen : List ℕ → ℕ → Bool
@@ -29,7 +30,7 @@ module _ {X : Type 0} (entry : X → Entry) where
 
   -- at the bottom of its key a tombstone goes that every snapshot sees
   abbrev pub is_dropped : List ℕ → (List ℕ → Bool) → X → Bool
-  is_dropped snapshots bottom e = deletes (entry e).key.value_type && (is_below_all snapshots (entry e).key.seqno && bottom (entry e).key.user_key)
+  is_dropped snapshots bottom e = is_tombstone (entry e).key.value_type && (is_below_all snapshots (entry e).key.seqno && bottom (entry e).key.user_key)
 
   abbrev pub unless_bottom : List ℕ → (List ℕ → Bool) → X → List X → List X
   unless_bottom snapshots bottom e es = if is_dropped snapshots bottom e then es else e ∷ es

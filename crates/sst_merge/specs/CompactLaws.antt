@@ -13,7 +13,8 @@ use Rattle.sst_base.specs.Entry.{Entry}
 use Rattle.sst_base.specs.KeyOrderLaws.{slice_cmp-equal}
 use Rattle.sst_base.specs.Order.{IsInOrder}
 use Rattle.sst_merge.specs.Compact.{is_seen, is_parted, is_below_all, IsKeptRead, is_hidden, is_dropped, unless_bottom, compact_from, compacted}
-use Rattle.sst_merge.specs.Snapshot.{deletes, has_last_key}
+use Rattle.sst_block_core.specs.Tombstones.{is_tombstone}
+use Rattle.sst_merge.specs.Snapshot.{has_last_key}
 use Rattle.sst_merge.specs.SnapshotReads.{first, first_hit, first_miss, both_false, key, number, has, is_match, has_key, NoneHas, order, after_by, none_behind, skip, order_tail}
 
 lt_test : (a b : ℕ) → a < b → nat_lt a b ≡ true
@@ -168,7 +169,7 @@ module _ {X : Type 0} (entry : X → Entry) (ss : List ℕ) (bottom : List ℕ �
 
     -- the first match stays, or it was a tombstone at the bottom of its key, and none is left
     abbrev pub IsSameOrGone : Option X → Option X → Type 0
-    IsSameOrGone a b = (a ≡ b) ⊎ ((a ≡ None) × ((x : X) × (b ≡ Some x) × (deletes (entry x).key.value_type ≡ true) × (bottom k ≡ true)))
+    IsSameOrGone a b = (a ≡ b) ⊎ ((a ≡ None) × ((x : X) × (b ≡ Some x) × (is_tombstone (entry x).key.value_type ≡ true) × (bottom k ≡ true)))
 
     alike : (a b c d : Option X) → a ≡ c → b ≡ d → IsSameOrGone c d → IsSameOrGone a b
     alike a b c d e f (inl same) = inl (e ∙ same ∙ sym f)
@@ -188,7 +189,7 @@ module _ {X : Type 0} (entry : X → Entry) (ss : List ℕ) (bottom : List ℕ �
               | inl again ↦ absurd (let f : true ≡ false = not_hidden read last x o below hit again in cc)
               | inr fresh ↦ elim (cases_Bool (is_dropped entry ss bottom x)) [
                 | inl gone ↦ (
-                    let t = three (deletes (entry x).key.value_type) (is_below_all ss (entry x).key.seqno) (bottom (entry x).key.user_key) gone in
+                    let t = three (is_tombstone (entry x).key.value_type) (is_below_all ss (entry x).key.seqno) (bottom (entry x).key.user_key) gone in
                     let mine = (and_split (nat_lt (number entry k r x) r) (has entry k r x) hit).1 in
                     inr (
                       ap (first m) (newest last x xs below fresh ∙ dropped x (go (at x) xs) gone) ∙ c2 x xs mine below t.1 up,

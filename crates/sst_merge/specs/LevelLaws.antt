@@ -20,7 +20,8 @@ use Rattle.sst_merge.specs.Levels.{IsAbove, HasNone, AreWithin, is_outside}
 use Rattle.sst_merge.specs.ManyLaws.{above_match, still_or_gone, IsStillOrGone}
 use Rattle.sst_merge.specs.Merge.{merged, lesser, least_match, entry_cmp}
 use Rattle.sst_merge.specs.ReadLaws.{merged_match}
-use Rattle.sst_merge.specs.Snapshot.{deletes, seen}
+use Rattle.sst_block_core.specs.Tombstones.{is_tombstone}
+use Rattle.sst_merge.specs.Snapshot.{seen}
 use Rattle.sst_merge.specs.SnapshotReads.{first, first_hit, first_miss}
 
 eq_is : (o : Ordering) → is_eq o ≡ true → o ≡ Equal
@@ -136,7 +137,7 @@ module _ (needle : List ℕ) (r : ℕ) where
   all_not_after items t is [] all = tt
   all_not_after items t is (n ∷ ns) all = (subst (λ o. NotAfter o (found_in n)) is (not_after n items all.0), all_not_after items t is ns all.1)
 
-  seen_both : (t : Entry) (a b : Option Entry) → deletes t.key.value_type ≡ true → IsBoth t a b → seen a ≡ seen b
+  seen_both : (t : Entry) (a b : Option Entry) → is_tombstone t.key.value_type ≡ true → IsBoth t a b → seen a ≡ seen b
   seen_both t a b d (inl same) = ap seen same
   seen_both t a b d (inr gone) = ap seen gone.0 ∙ sym (ap seen gone.1 ∙ ap (λ c. cond c None (Some t)) d)
 

@@ -7,11 +7,12 @@ use Rattle.sst_block_core.specs.Kind.{IsOrdered}
 use Rattle.sst_block_core.specs.Window.{first_match, is_version}
 use Rattle.sst_merge.specs.CompactLaws.{compact-first_match}
 use Rattle.sst_merge.specs.Compact.{IsKeptRead, compacted}
-use Rattle.sst_merge.specs.Snapshot.{deletes, seen}
+use Rattle.sst_block_core.specs.Tombstones.{is_tombstone}
+use Rattle.sst_merge.specs.Snapshot.{seen}
 
 -- the first match stays, or it was a tombstone at the bottom of its key, and none is left
 abbrev pub IsStillOrGone : Bool → Option Entry → Option Entry → Type 0
-IsStillOrGone bottom a b = (a ≡ b) ⊎ ((a ≡ None) × ((x : Entry) × (b ≡ Some x) × (deletes x.key.value_type ≡ true) × (bottom ≡ true)))
+IsStillOrGone bottom a b = (a ≡ b) ⊎ ((a ≡ None) × ((x : Entry) × (b ≡ Some x) × (is_tombstone x.key.value_type ≡ true) × (bottom ≡ true)))
 
 module _ (ss : List ℕ) (bottom : List ℕ → Bool) (needle : List ℕ) (r : ℕ) (items : List Entry) (read : IsKeptRead ss r) (up : IsOrdered entries items) where
   abbrev left : List Entry

@@ -11,7 +11,8 @@ use Rattle.std.specs.declared.cmp.Ordering.TheVariants.{Less, Equal, Greater}
 use Rattle.sst_base.specs.Entry.{Entry}
 use Rattle.sst_base.specs.Order.{IsInOrder}
 use Rattle.sst_block_core.specs.VersionLaws.{keys_equal}
-use Rattle.sst_merge.specs.Snapshot.{visible_from, snapshot, unless_deleted, deletes, has_last_key, has_version, is_shown, shown, kept_after}
+use Rattle.sst_block_core.specs.Tombstones.{is_tombstone}
+use Rattle.sst_merge.specs.Snapshot.{visible_from, snapshot, unless_deleted, has_last_key, has_version, is_shown, shown, kept_after}
 use Rattle.sst_merge.specs.SnapshotReads.{order, order_tail, skip}
 
 or_same : (b : Bool) → (b || b) ≡ b
@@ -112,7 +113,7 @@ module _ {X : Type 0} (entry : X → Entry) (s : ℕ) where
       let tail = order_tail entry [] 0 x xs up in
       let to = kept_after (is_shown entry s) (x ∷ before) xs in
       let go = visible_from entry s last xs in
-      let gone = deletes (entry x).key.value_type in
+      let gone = is_tombstone (entry x).key.value_type in
       let next = unless_deleted entry x (visible_from entry s (Some (key_of x)) xs) in
       let rest = λ (b v : Bool). cond (b && (not v && not gone)) (x ∷ to) to in
       elim (cases_Bool (is_below x)) [

@@ -13,7 +13,8 @@ use Rattle.sst_merge.specs.Merge.{merge, merged, lesser, least_match, entry_cmp}
 use Rattle.sst_merge.specs.MergeLaws.{merge-ordered}
 use Rattle.sst_merge.specs.MergeReads.{merge-first_match}
 use Rattle.sst_merge.specs.PlainLaws.{snapshot-shown}
-use Rattle.sst_merge.specs.Snapshot.{deletes, seen, shown, snapshot}
+use Rattle.sst_block_core.specs.Tombstones.{is_tombstone}
+use Rattle.sst_merge.specs.Snapshot.{seen, shown, snapshot}
 use Rattle.sst_merge.specs.SnapshotReads.{unless_hidden, snapshot-first_match}
 
 -- decoding changes no order
@@ -70,7 +71,7 @@ seen_by e false = refl
 
 seen_plain : (o : Option Entry) → seen (option_map plain o) ≡ option_map plain (seen o)
 seen_plain None = refl
-seen_plain (Some e) = seen_by e (deletes e.key.value_type)
+seen_plain (Some e) = seen_by e (is_tombstone e.key.value_type)
 
 -- a snapshot has of a key what a read of the list sees
 pub snapshot_match : (needle : List ℕ) (s : ℕ) (items : List Entry) → IsOrdered entries items

@@ -3,21 +3,13 @@ use Rattle.std.specs.Prelude.{ℕ, nat_lt, Bool, true, false, not, ◌&&◌, if�
 use Rattle.std.specs.Ordering.{nat_cmp, is_eq}
 use Rattle.std.specs.Cmp.Lexicographic.{slice_cmp}
 use Rattle.std.specs.List.{list_any}
-use Rattle.sst_base.specs.declared.value_type.ValueType.{ValueType}
-use Rattle.sst_base.specs.declared.value_type.ValueType.TheVariants.{Value, Tombstone, WeakTombstone, Indirection}
 use Rattle.sst_base.specs.Entry.{Entry}
-
--- is it a tombstone?
-abbrev pub deletes : ValueType → Bool
-deletes Value = false
-deletes Tombstone = true
-deletes WeakTombstone = true
-deletes Indirection = false
+use Rattle.sst_block_core.specs.Tombstones.{is_tombstone}
 
 -- what a reader sees of a version: none of a tombstone
 abbrev pub seen : Option Entry → Option Entry
 seen None = None
-seen (Some e) = if deletes e.key.value_type then None else Some e
+seen (Some e) = if is_tombstone e.key.value_type then None else Some e
 
 -- the items that pass a test, which sees an item and those before it, the nearest first
 abbrev pub kept_after : {X : Type 0} → (List X → X → Bool) → List X → List X → List X
@@ -32,7 +24,7 @@ module _ {X : Type 0} (entry : X → Entry) where
 
   -- a version before others, unless it is a tombstone
   abbrev pub unless_deleted : X → List X → List X
-  unless_deleted e es = if deletes (entry e).key.value_type then es else e ∷ es
+  unless_deleted e es = if is_tombstone (entry e).key.value_type then es else e ∷ es
 
   -- is this the first version of its key below a sequence number, after those of the last key?
   abbrev pub is_newest : ℕ → Option (List ℕ) → X → Bool
@@ -54,7 +46,7 @@ module _ {X : Type 0} (entry : X → Entry) where
   -- does a snapshot show a version, where these are before it? It is below the sequence number, none of its key that is
   -- below the number is before it, and it is no tombstone
   abbrev pub is_shown : ℕ → List X → X → Bool
-  is_shown seqno before e = nat_lt (entry e).key.seqno seqno && (not (has_version seqno before e) && not (deletes (entry e).key.value_type))
+  is_shown seqno before e = nat_lt (entry e).key.seqno seqno && (not (has_version seqno before e) && not (is_tombstone (entry e).key.value_type))
 
   -- the versions of an ordered list that a snapshot shows
   abbrev pub shown : ℕ → List X → List X

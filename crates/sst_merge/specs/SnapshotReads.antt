@@ -11,7 +11,8 @@ use Rattle.sst_base.specs.Entry.{Entry}
 use Rattle.sst_base.specs.Order.{versions_cmp, IsInOrder}
 use Rattle.sst_base.specs.KeyOrderLaws.{slice_cmp-equal, versions_cmp_total}
 use Rattle.sst_block_core.specs.VersionLaws.{keys_equal}
-use Rattle.sst_merge.specs.Snapshot.{visible_from, snapshot, is_newest, deletes, has_last_key}
+use Rattle.sst_block_core.specs.Tombstones.{is_tombstone}
+use Rattle.sst_merge.specs.Snapshot.{visible_from, snapshot, is_newest, has_last_key}
 use Rattle.sst_merge.specs.SnapshotLaws.{visible-passed, visible-newest}
 use Rattle.sst_merge.specs.MergeReads.{ge_trans}
 
@@ -60,7 +61,7 @@ module _ {X : Type 0} (entry : X → Entry) (k : List ℕ) (seqno : ℕ) where
   -- none where it is a tombstone
   abbrev pub unless_hidden : Option X → Option X
   unless_hidden None = None
-  unless_hidden (Some x) = cond (deletes (entry x).key.value_type) None (Some x)
+  unless_hidden (Some x) = cond (is_tombstone (entry x).key.value_type) None (Some x)
 
   pub has_key : (x : X) → has x ≡ true → key x ≡ k
   has_key x h = keys_equal (key x) k h
@@ -73,7 +74,7 @@ module _ {X : Type 0} (entry : X → Entry) (k : List ℕ) (seqno : ℕ) where
   v1 : (last : Option (List ℕ)) (xs : List X) → NoneHas xs → first has (visible_from entry seqno last xs) ≡ None
   v1 last [] h = refl
   v1 last (x ∷ xs) h = elim (cases_Bool (is_newest entry seqno last x)) [
-    | inl newest ↦ ap (first has) (visible-newest entry seqno last x xs newest) ∙ elim (cases_Bool (deletes (entry x).key.value_type)) [
+    | inl newest ↦ ap (first has) (visible-newest entry seqno last x xs newest) ∙ elim (cases_Bool (is_tombstone (entry x).key.value_type)) [
       | inl gone ↦ ap (λ b. first has (cond b (visible_from entry seqno (Some (key x)) xs) (x ∷ visible_from entry seqno (Some (key x)) xs))) gone ∙ v1 (Some (key x)) xs h.1
       | inr stays ↦ ap (λ b. first has (cond b (visible_from entry seqno (Some (key x)) xs) (x ∷ visible_from entry seqno (Some (key x)) xs))) stays ∙ first_miss has x _ h.0 ∙ v1 (Some (key x)) xs h.1
     ]
@@ -150,7 +151,7 @@ module _ {X : Type 0} (entry : X → Entry) (k : List ℕ) (seqno : ℕ) where
           let hits : is_match x ≡ true = both_true (nat_lt (number x) seqno) (has x) below ∙ mine in
           let rest = visible_from entry seqno (Some (key x)) xs in
           ap (first has) (visible-newest entry seqno last x xs newest)
-          ∙ elim (cases_Bool (deletes (entry x).key.value_type)) [
+          ∙ elim (cases_Bool (is_tombstone (entry x).key.value_type)) [
             | inl gone ↦ ap (λ b. first has (cond b rest (x ∷ rest))) gone ∙ v2 x xs mine up ∙ ap (λ b. cond b None (Some x)) (sym gone)
             | inr stays ↦ ap (λ b. first has (cond b rest (x ∷ rest))) stays ∙ first_hit has x rest mine ∙ ap (λ b. cond b None (Some x)) (sym stays)
           ]
@@ -165,7 +166,7 @@ module _ {X : Type 0} (entry : X → Entry) (k : List ℕ) (seqno : ℕ) where
         let rest = visible_from entry seqno (Some (key x)) xs in
         elim (cases_Bool (is_newest entry seqno last x)) [
           | inl newest ↦ ap (first has) (visible-newest entry seqno last x xs newest)
-              ∙ elim (cases_Bool (deletes (entry x).key.value_type)) [
+              ∙ elim (cases_Bool (is_tombstone (entry x).key.value_type)) [
                 | inl gone ↦ ap (λ b. first has (cond b rest (x ∷ rest))) gone
                 | inr stays ↦ ap (λ b. first has (cond b rest (x ∷ rest))) stays ∙ first_miss has x rest other
               ]

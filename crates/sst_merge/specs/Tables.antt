@@ -1,5 +1,6 @@
 -- Tables that are written of what is left of a source.
-use Rattle.std.specs.Prelude.{◌≡◌, ◌≢◌, ℕ, ◌-◌, ◌^◌, ◌<◌, ◌≤◌, ◌⊎◌, min, List, [], length, take, drop, slice_get, Option, Some, IfSome}
+use Rattle.std.specs.Prelude.{◌≡◌, ◌≢◌, ℕ, ◌-◌, ◌^◌, ◌<◌, ◌≤◌, ◌⊎◌, min, List, [], length, map, take, drop, slice_get, Option, Some, IfSome}
+use Rattle.std.specs.Option.{option_map}
 use Rattle.std.specs.List.{sum_by, AllByRecursion}
 use Rattle.sst_base.specs.Entry.{Entry}
 use Rattle.sst_block_core.specs.Body.{body}
@@ -39,6 +40,10 @@ pub record IsFilled (r size : ℕ) (rest : Option (List Entry)) (block : List En
 -- no fewer of the blocks, but for none, both reach a size and end before another user key
 abbrev pub IsShortest : ℕ → ℕ → List (List Entry) → Type 0
 IsShortest r size blocks = (n : ℕ) → 1 ≤ n → n < length blocks → IsApart (joined (take n blocks)) (joined (drop n blocks)) → blocks_len r (take n blocks) < size
+
+-- the entries for which the items of a list stand, where these are known
+abbrev pub entries_in : {X : Type 0} → (X → Entry) → Option (List X) → Option (List Entry)
+entries_in entry items = option_map (map entry) items
 
 -- a writer's known bytes grew by the layout of a run, whose entries were taken from a list. Each block ends with the entry
 -- with which it reaches its size, and the table with the first block with which it reaches its own and after which

@@ -6,8 +6,8 @@ ghost use Rattle.sst_merge.specs.Sources.{TakesFirst, left_as};
 
 use crate::bottom::Bottom;
 use crate::source::{Source, keep_error};
-use crate::version::Version;
 use sst_base::{Error, Result, SeqNo, UserKey};
+use sst_block_core::AsEntry;
 use std::alloc::Global;
 use std::marker::{Model, PhantomData};
 
@@ -19,7 +19,7 @@ use std::marker::{Model, PhantomData};
 /// step returns it again. Clauses see the versions left, where those of the source are known, and the
 /// error that ended the compaction, if one did.
 #[derive(Drop)]
-pub struct Compact<T: Version, I: Source<T>, B: Bottom> {
+pub struct Compact<T: AsEntry, I: Source<T>, B: Bottom> {
     source: I,
     snapshots: Vec<SeqNo>,
     bottom: B,
@@ -29,7 +29,7 @@ pub struct Compact<T: Version, I: Source<T>, B: Bottom> {
     versions: PhantomData<T>,
 }
 
-impl<T: Version, I: Source<T>, B: Bottom> Model for Compact<T, I, B> {
+impl<T: AsEntry, I: Source<T>, B: Bottom> Model for Compact<T, I, B> {
     ghost use Rattle.sst_merge.specs.Compact.{compact_from};
     ghost use Rattle.sst_merge.specs.Sources.{Left, left_as};
 
@@ -40,7 +40,7 @@ impl<T: Version, I: Source<T>, B: Bottom> Model for Compact<T, I, B> {
         (I.left c.source) };
 }
 
-impl<T: Version, I: Source<T>, B: Bottom> Compact<T, I, B> {
+impl<T: AsEntry, I: Source<T>, B: Bottom> Compact<T, I, B> {
     /// Compacts ordered versions for the reads at these snapshots, in any order, and at or above all
     /// of them; no other read may be wanted any more. `bottom` says of which keys no older version is
     /// elsewhere.
@@ -83,12 +83,14 @@ fn is_below_all(snapshots: &[SeqNo], seqno: SeqNo) -> bool
 }
 
 // Whether every snapshot that sees a version sees the last one, which is newer and has its key.
-fn is_hidden<T: Version>(snapshots: &[SeqNo], last: &Option<(UserKey, SeqNo)>, item: &T) -> bool
+fn is_hidden<T: AsEntry>(snapshots: &[SeqNo], last: &Option<(UserKey, SeqNo)>, item: &T) -> bool
     ensures { result ≡ is_hidden T.entry snapshots.now last.now item.now }
 {
     match last {
         Some((user_key, newer)) => {
-            item.has_user_key(user_key.as_slice()) && !is_parted(snapshots, item.seqno(), *newer)
+            let item = item.view();
+            item.compare_key(user_key.as_slice()).is_eq()
+                && !is_parted(snapshots, item.seqno(), *newer)
         }
         None => false,
     }
@@ -96,7 +98,7 @@ fn is_hidden<T: Version>(snapshots: &[SeqNo], last: &Option<(UserKey, SeqNo)>, i
 
 // Takes versions from a source up to the first that stays, and notes the last one that is not hidden.
 #[inline(always)]
-fn next_staying<T: Version + Drop, I: Source<T>, B: Bottom>(
+fn next_staying<T: AsEntry + Drop, I: Source<T>, B: Bottom>(
     alloc: Global,
     source: &mut I,
     snapshots: &[SeqNo],
@@ -110,15 +112,15 @@ fn next_staying<T: Version + Drop, I: Source<T>, B: Bottom>(
         (I.left source.new))) }
 {
     while let Some(item) = source.next_entry(alloc)? {
-        let seqno = item.seqno();
+        let seqno = item.view().seqno();
         if !is_seen(snapshots, seqno) {
             return Ok(Some(item));
         }
         if is_hidden(snapshots, last, &item) {
             continue;
         }
-        let user_key = item.user_key(alloc)?;
-        let goes = item.is_tombstone()
+        let user_key = item.view().to_user_key(alloc)?;
+        let goes = item.view().is_tombstone()
             && is_below_all(snapshots, seqno)
             && bottom.is_bottom(user_key.as_slice());
         *last = Some((user_key, seqno));
@@ -130,7 +132,7 @@ fn next_staying<T: Version + Drop, I: Source<T>, B: Bottom>(
 }
 
 /// Takes the first version that stays.
-impl<T: Version + Drop, I: Source<T> + Drop, B: Bottom + Drop> Source<T> for Compact<T, I, B> {
+impl<T: AsEntry + Drop, I: Source<T> + Drop, B: Bottom + Drop> Source<T> for Compact<T, I, B> {
     ghost left = { λ c. c };
 
     fn next_entry(&mut self, alloc: Global) -> Result<Option<T>> {

@@ -3,6 +3,7 @@ ghost use Rattle.std.specs.Prelude.{◌≡◌, [], Some, OnOk};
 ghost use Rattle.std.specs.Option.{option_map};
 ghost use Rattle.sst_merge.specs.Compact.{compacted};
 ghost use Rattle.sst_merge.specs.Outputs.{AreWritten};
+ghost use Rattle.sst_merge.specs.Tables.{entries_in};
 ghost use Rattle.sstable_blocks.specs.Run.{form, IsWritable};
 ghost use Rattle.sstable_blocks.specs.Scans.{EndsBy};
 
@@ -10,29 +11,31 @@ use crate::bottom::Bottom;
 use crate::compact::Compact;
 use crate::merge::Head;
 use crate::output::Outputs;
+use crate::ranked::Ranked;
 use crate::source::Source;
 use crate::writing::{Sizes, write_table};
-use sst_base::{BlockHash, InternalValue, Result, SeqNo};
+use sst_base::{BlockHash, Result, SeqNo};
+use sst_block_core::AsEntry;
 use sstable_blocks::RunConfig;
 use std::alloc::Global;
 
 // Writes all that is left of a source as tables, where no error ended it.
-fn all_tables<H: BlockHash, I: Source<InternalValue>, O: Outputs>(
+fn all_tables<H: BlockHash, T: Ranked + AsEntry + Drop, I: Source<T>, O: Outputs>(
     alloc: Global,
-    source: &mut Head<InternalValue, I>,
+    source: &mut Head<T, I>,
     outputs: &mut O,
     config: RunConfig,
     sizes: Sizes,
 ) -> Result<()>
     requires writable { IsWritable config }
     ensures written { OnOk result
-        (AreWritten (form H.hash64 H.hash128 config) O.start source.old.list
+        (AreWritten (form H.hash64 H.hash128 config) O.start (entries_in T.entry source.old.list)
         (option_map (λ _. []) source.old.list) (O.tables outputs.old) (O.tables outputs.new)) }
     ensures ended { OnOk result (source.new.ended ≡ source.old.ended) }
 {
     while source.peek().is_some() {
         let writer = outputs.open()?;
-        let table = write_table::<H, I, O::Writer>(alloc, source, writer, config, sizes)?;
+        let table = write_table::<H, T, I, O::Writer>(alloc, source, writer, config, sizes)?;
         let Some((handles, writer)) = table else {
             return Ok(());
         };
@@ -48,23 +51,23 @@ fn all_tables<H: BlockHash, I: Source<InternalValue>, O: Outputs>(
 /// Those of the source, of the outputs and of [`write_table`]. The tables closed before stay. Each
 /// of them ends the source, since entries may have been taken of it that are in no table: each
 /// later step returns the error again.
-pub fn write_tables<H: BlockHash, I: Source<InternalValue>, O: Outputs>(
+pub fn write_tables<H: BlockHash, T: Ranked + AsEntry + Drop, I: Source<T>, O: Outputs>(
     alloc: Global,
-    source: &mut Head<InternalValue, I>,
+    source: &mut Head<T, I>,
     outputs: &mut O,
     config: RunConfig,
     sizes: Sizes,
 ) -> Result<()>
     requires writable { IsWritable config }
     ensures written { OnOk result
-        (AreWritten (form H.hash64 H.hash128 config) O.start source.old.list
+        (AreWritten (form H.hash64 H.hash128 config) O.start (entries_in T.entry source.old.list)
         (option_map (λ _. []) source.old.list) (O.tables outputs.old) (O.tables outputs.new)) }
     ensures ended { EndsBy source.old.ended source.new.ended result }
 {
     if let Some(error) = source.end() {
         return Err(error);
     }
-    match all_tables::<H, I, O>(alloc, source, outputs, config, sizes) {
+    match all_tables::<H, T, I, O>(alloc, source, outputs, config, sizes) {
         Ok(()) => Ok(()),
         Err(error) => Err(source.end_with(&error)),
     }
@@ -80,7 +83,13 @@ pub fn write_tables<H: BlockHash, I: Source<InternalValue>, O: Outputs>(
 /// # Errors
 ///
 /// Those of the source, of the outputs and of [`write_table`]. The tables closed before stay.
-pub fn compact_tables<H: BlockHash, I: Source<InternalValue> + Drop, B: Bottom + Drop, O: Outputs>(
+pub fn compact_tables<
+    H: BlockHash,
+    T: Ranked + AsEntry + Drop,
+    I: Source<T> + Drop,
+    B: Bottom + Drop,
+    O: Outputs,
+>(
     alloc: Global,
     source: I,
     snapshots: Vec<SeqNo>,
@@ -92,10 +101,11 @@ pub fn compact_tables<H: BlockHash, I: Source<InternalValue> + Drop, B: Bottom +
     requires writable { IsWritable config }
     ensures written { OnOk result
         (AreWritten (form H.hash64 H.hash128 config) O.start
-        (option_map (compacted (λ e. e) snapshots.items (B.at_bottom bottom)) (I.left source).list)
+        (entries_in T.entry
+        (option_map (compacted T.entry snapshots.items (B.at_bottom bottom)) (I.left source).list))
         (option_map (λ _. []) (I.left source).list) (O.tables outputs.old) (O.tables outputs.new)) }
 {
     let compacted = Compact::new(source, snapshots, bottom);
     let mut head = Head::new(alloc, compacted)?;
-    write_tables::<H, Compact<InternalValue, I, B>, O>(alloc, &mut head, outputs, config, sizes)
+    write_tables::<H, T, Compact<T, I, B>, O>(alloc, &mut head, outputs, config, sizes)
 }

@@ -18,7 +18,6 @@ pub mod rev;
 pub mod snapshot;
 pub mod source;
 pub mod stored;
-pub mod version;
 pub mod writing;
 
 pub use bottom::{Bottom, OlderRanges};
@@ -32,5 +31,4 @@ pub use reader::{Reader, read_tables};
 pub use rev::{Rev, Reversed};
 pub use snapshot::Snapshot;
 pub use source::Source;
-pub use version::Version;
 pub use writing::{Sizes, write_table};

@@ -4,8 +4,8 @@ ghost use Rattle.sst_merge.specs.Snapshot.{snapshot, visible_from, has_last_key}
 ghost use Rattle.sst_merge.specs.Sources.{TakesFirst, left_as};
 
 use crate::source::{Source, keep_error};
-use crate::version::Version;
 use sst_base::{Error, Result, SeqNo, UserKey};
+use sst_block_core::AsEntry;
 use std::alloc::Global;
 use std::marker::{Model, PhantomData};
 
@@ -14,7 +14,7 @@ use std::marker::{Model, PhantomData};
 /// versions left, where those of the source are known, and the error that ended the view, if one
 /// did.
 #[derive(Drop)]
-pub struct Snapshot<T: Version, I: Source<T>> {
+pub struct Snapshot<T: AsEntry, I: Source<T>> {
     source: I,
     seqno: SeqNo,
     last: Option<UserKey>,
@@ -22,7 +22,7 @@ pub struct Snapshot<T: Version, I: Source<T>> {
     versions: PhantomData<T>,
 }
 
-impl<T: Version, I: Source<T>> Model for Snapshot<T, I> {
+impl<T: AsEntry, I: Source<T>> Model for Snapshot<T, I> {
     ghost use Rattle.sst_merge.specs.Snapshot.{visible_from};
     ghost use Rattle.sst_merge.specs.Sources.{Left, left_as};
 
@@ -33,16 +33,16 @@ impl<T: Version, I: Source<T>> Model for Snapshot<T, I> {
 }
 
 // Whether a version has the last key.
-pub(crate) fn has_last_key<T: Version>(last: &Option<UserKey>, item: &T) -> bool
+pub(crate) fn has_last_key<T: AsEntry>(last: &Option<UserKey>, item: &T) -> bool
     ensures { result ≡ has_last_key T.entry last.now item.now }
 {
     match last {
-        Some(last) => item.has_user_key(last.as_slice()),
+        Some(last) => item.view().compare_key(last.as_slice()).is_eq(),
         None => false,
     }
 }
 
-impl<T: Version, I: Source<T>> Snapshot<T, I> {
+impl<T: AsEntry, I: Source<T>> Snapshot<T, I> {
     /// Makes the view of ordered versions at a sequence number: what a read at it sees.
     pub fn new(source: I, seqno: SeqNo) -> Snapshot<T, I>
         ensures { result ≡ left_as (snapshot T.entry seqno) None (I.left source) }
@@ -60,7 +60,7 @@ impl<T: Version, I: Source<T>> Snapshot<T, I> {
 // Takes versions from a source up to the first that a snapshot sees, and notes the key of the newest
 // one below its sequence number.
 #[inline(always)]
-fn next_seen<T: Version + Drop, I: Source<T>>(
+fn next_seen<T: AsEntry + Drop, I: Source<T>>(
     alloc: Global,
     source: &mut I,
     seqno: SeqNo,
@@ -71,11 +71,11 @@ fn next_seen<T: Version + Drop, I: Source<T>>(
         (left_as (visible_from T.entry seqno last.new) None (I.left source.new))) }
 {
     while let Some(item) = source.next_entry(alloc)? {
-        if item.seqno() >= seqno || has_last_key(last, &item) {
+        if item.view().seqno() >= seqno || has_last_key(last, &item) {
             continue;
         }
-        *last = Some(item.user_key(alloc)?);
-        if !item.is_tombstone() {
+        *last = Some(item.view().to_user_key(alloc)?);
+        if !item.view().is_tombstone() {
             return Ok(Some(item));
         }
     }
@@ -83,7 +83,7 @@ fn next_seen<T: Version + Drop, I: Source<T>>(
 }
 
 /// Takes the first version that the snapshot sees.
-impl<T: Version + Drop, I: Source<T> + Drop> Source<T> for Snapshot<T, I> {
+impl<T: AsEntry + Drop, I: Source<T> + Drop> Source<T> for Snapshot<T, I> {
     ghost left = { λ s. s };
 
     fn next_entry(&mut self, alloc: Global) -> Result<Option<T>> {

@@ -14,7 +14,7 @@ use sst_base::{BlockHash, InternalValue, Result, SeqNo, Steps};
 use sst_block_core::laws::first_match_of_plain;
 use sst_block_core::table::data_block::EntryView;
 use sstable_blocks::run::laws::{accepted_run_is_sound, sound_is_scanned};
-use sstable_blocks::run::{FrameSource, RunScan, Scan, Table, TrustedScan};
+use sstable_blocks::run::{FrameSource, RunScan, Scan, Table};
 use std::alloc::Global;
 
 /// A scan of a stored table. Its entries are known where the bytes of the table are, every block
@@ -45,33 +45,6 @@ impl<'k, H: BlockHash, S: FrameSource> Source<Reversed<InternalValue>> for Rev<S
     #[inline(always)]
     fn next_entry(&mut self, alloc: Global) -> Result<Option<Reversed<InternalValue>>> {
         match self.source.next_entry_back(alloc) {
-            Ok(entry) => Ok(in_reverse(entry)),
-            Err(error) => Err(error),
-        }
-    }
-}
-
-/// A scan of a trusted table, whose entries are known.
-impl<'a, 'k, H: BlockHash> Source<InternalValue> for TrustedScan<'a, 'k, H> {
-    ghost left = { λ s. record { list = Some s.left; most = length s.left; ended = s.ended } };
-
-    #[inline(always)]
-    fn next_entry(&mut self, alloc: Global) -> Result<Option<InternalValue>> {
-        TrustedScan::next_entry(self, alloc)
-    }
-}
-
-/// The same scan, from the back.
-impl<'a, 'k, H: BlockHash> Source<Reversed<InternalValue>> for Rev<TrustedScan<'a, 'k, H>> {
-    ghost left = { λ s. record {
-      list = Some (reverse s.source.left);
-      most = length s.source.left;
-      ended = s.source.ended;
-    } };
-
-    #[inline(always)]
-    fn next_entry(&mut self, alloc: Global) -> Result<Option<Reversed<InternalValue>>> {
-        match TrustedScan::next_entry_back(&mut self.source, alloc) {
             Ok(entry) => Ok(in_reverse(entry)),
             Err(error) => Err(error),
         }

@@ -1,16 +1,19 @@
 //! Writing what is left of a source as tables.
 ghost use Rattle.std.specs.Prelude.{◌≡◌, ◌+◌, ◌≤◌, ◌<◌, ◌++◌, ◌∷◌, [], ◌⊎◌, ℕ, false, true};
-ghost use Rattle.std.specs.Prelude.{None, length, IfOk, OnOk, IfSome, IfNone};
+ghost use Rattle.std.specs.Prelude.{None, length, map, IfOk, OnOk, IfSome, IfNone};
 ghost use Rattle.sstable_blocks.specs.Run.{form, IsWritable};
 ghost use Rattle.sstable_blocks.specs.Scans.{EndsBy};
 ghost use Rattle.sstable_blocks.specs.Writing.{IsSameRun};
 ghost use Rattle.sst_merge.specs.Sources.{IsTaken};
 ghost use Rattle.sst_merge.specs.Tables.{IsApart, IsFilled, IsTableOf, capped, block_len};
+ghost use Rattle.sst_merge.specs.Tables.{entries_in};
 
 use crate::block_len::form_len;
 use crate::merge::Head;
+use crate::ranked::Ranked;
 use crate::source::Source;
-use sst_base::{BlockHash, Error, InternalValue, Result};
+use sst_base::{BlockHash, Error, Result};
+use sst_block_core::AsEntry;
 use sstable_blocks::{RunConfig, RunHandles, RunWriter};
 use std::alloc::Global;
 use std::io::Write;
@@ -30,10 +33,10 @@ pub struct Sizes {
 
 // Takes entries until they reach a size, and at least one, if one is left. Returns their size.
 #[tactic(auto, using(crate::specs::SizeLaws::len_none))]
-fn fill_block<I: Source<InternalValue>>(
+fn fill_block<T: Ranked + AsEntry + Drop, I: Source<T>>(
     alloc: Global,
-    source: &mut Head<InternalValue, I>,
-    block: &mut Vec<InternalValue>,
+    source: &mut Head<T, I>,
+    block: &mut Vec<T>,
     interval: u8,
     size: usize,
 ) -> Result<usize>
@@ -41,9 +44,12 @@ fn fill_block<I: Source<InternalValue>>(
     requires interval { 1 ≤ interval }
     ensures taken { OnOk result (IsTaken source.old.list block.new.items source.new.list) }
     ensures most { OnOk result (source.new.most + length block.new.items ≤ source.old.most) }
-    ensures filled { OnOk result (IsFilled interval size source.new.list block.new.items) }
+    ensures filled { OnOk result
+        (IsFilled interval size (entries_in T.entry source.new.list)
+        (map T.entry block.new.items)) }
     ensures ended { OnOk result (source.new.ended ≡ source.old.ended) }
-    ensures len { IfOk result (λ len. len ≡ capped (block_len interval block.new.items)) }
+    ensures len { IfOk result
+        (λ len. len ≡ capped (block_len interval (map T.entry block.new.items))) }
 {
     let mut len = 0usize;
     while block.is_empty() || len < size {
@@ -57,11 +63,11 @@ fn fill_block<I: Source<InternalValue>>(
 }
 
 // Writes the next block of a table. Returns its size.
-fn add_block<H: BlockHash, I: Source<InternalValue>, W: Write>(
+fn add_block<H: BlockHash, T: Ranked + AsEntry + Drop, I: Source<T>, W: Write>(
     alloc: Global,
-    source: &mut Head<InternalValue, I>,
+    source: &mut Head<T, I>,
     run: &mut RunWriter<H, W>,
-    block: &mut Vec<InternalValue>,
+    block: &mut Vec<T>,
     interval: u8,
     size: usize,
 ) -> Result<usize>
@@ -69,13 +75,18 @@ fn add_block<H: BlockHash, I: Source<InternalValue>, W: Write>(
     requires interval { 1 ≤ interval }
     ensures run { IsSameRun run.old run.new }
     ensures accepting { OnOk result (run.new.refusal ≡ None) }
-    ensures blocks { OnOk result (run.new.blocks ≡ run.old.blocks ++ block.new.items ∷ []) }
-    ensures taken { OnOk result (IsTaken source.old.list block.new.items source.new.list) }
+    ensures blocks { OnOk result
+        (run.new.blocks ≡ run.old.blocks ++ map T.entry block.new.items ∷ []) }
+    ensures taken { OnOk result (IsTaken (entries_in T.entry source.old.list)
+        (map T.entry block.new.items) (entries_in T.entry source.new.list)) }
     ensures most { OnOk result (source.new.most < source.old.most) }
     ensures some { OnOk result (1 ≤ length block.new.items) }
-    ensures filled { OnOk result (IsFilled interval size source.new.list block.new.items) }
+    ensures filled { OnOk result
+        (IsFilled interval size (entries_in T.entry source.new.list)
+        (map T.entry block.new.items)) }
     ensures ended { OnOk result (source.new.ended ≡ source.old.ended) }
-    ensures len { IfOk result (λ len. len ≡ capped (block_len interval block.new.items)) }
+    ensures len { IfOk result
+        (λ len. len ≡ capped (block_len interval (map T.entry block.new.items))) }
 {
     block.clear();
     let len = fill_block(alloc, source, block, interval, size)?;
@@ -88,26 +99,24 @@ fn add_block<H: BlockHash, I: Source<InternalValue>, W: Write>(
 
 // Whether a table goes on: an entry is left, and the table has not reached its size, or that entry
 // is of the last user key.
-fn goes_on<I: Source<InternalValue>>(
-    source: &Head<InternalValue, I>,
-    block: &[InternalValue],
+fn goes_on<T: Ranked + AsEntry + Drop, I: Source<T>>(
+    source: &Head<T, I>,
+    block: &[T],
     len: usize,
     size: usize,
 ) -> bool
     requires { 1 ≤ length block.now }
-    ensures apart { result ≡ false → IfSome source.now.list (IsApart block.now) }
+    ensures apart { result ≡ false
+        → IfSome (entries_in T.entry source.now.list) (IsApart (map T.entry block.now)) }
     ensures reaches { result ≡ false
-        → (size ≤ len) ⊎ IfSome source.now.list (λ xs. xs ≡ []) }
+        → (size ≤ len) ⊎ IfSome (entries_in T.entry source.now.list) (λ xs. xs ≡ []) }
     ensures goes_on { (total : ℕ) → len ≡ capped total → result ≡ true
-        → IfSome source.now.list (λ rest. IsApart block.now rest → total < size) }
+        → IfSome (entries_in T.entry source.now.list)
+        (λ rest. IsApart (map T.entry block.now) rest → total < size) }
 {
     match (source.peek(), block.last()) {
         (Some(next), Some(last)) => {
-            len < size
-                || last
-                    .key()
-                    .user_key()
-                    .eq_bytes(next.key().user_key().as_slice())
+            len < size || last.view().compare_user_key(&next.view()).is_eq()
         }
         (None, _) => false,
         (Some(_), None) => false,
@@ -115,9 +124,9 @@ fn goes_on<I: Source<InternalValue>>(
 }
 
 // Writes the next table of a source that no error ended.
-fn next_table<H: BlockHash, I: Source<InternalValue>, W: Write + Drop>(
+fn next_table<H: BlockHash, T: Ranked + AsEntry + Drop, I: Source<T>, W: Write + Drop>(
     alloc: Global,
-    source: &mut Head<InternalValue, I>,
+    source: &mut Head<T, I>,
     writer: W,
     config: RunConfig,
     sizes: Sizes,
@@ -125,7 +134,7 @@ fn next_table<H: BlockHash, I: Source<InternalValue>, W: Write + Drop>(
     requires writable { IsWritable config }
     ensures table { IfOk result (λ r. IfSome r (λ t.
         IsTableOf (form H.hash64 H.hash128 config) sizes (W.contents writer) (W.contents t.1)
-        t.0 source.old.list source.new.list)) }
+        t.0 (entries_in T.entry source.old.list) (entries_in T.entry source.new.list))) }
     ensures most { IfOk result (λ r. IfSome r (λ t. source.new.most < source.old.most)) }
     ensures done { IfOk result (λ r. IfNone r (IfSome source.old.list (λ xs. xs ≡ []))) }
     ensures ended { OnOk result (source.new.ended ≡ source.old.ended) }
@@ -153,9 +162,9 @@ fn next_table<H: BlockHash, I: Source<InternalValue>, W: Write + Drop>(
 /// Those of the source and of `RunWriter`; `Error::OutOfOrder` if the source is not in order. Each
 /// of them ends the source, since entries were taken of it that are in no table: each later step
 /// returns the error again.
-pub fn write_table<H: BlockHash, I: Source<InternalValue>, W: Write + Drop>(
+pub fn write_table<H: BlockHash, T: Ranked + AsEntry + Drop, I: Source<T>, W: Write + Drop>(
     alloc: Global,
-    source: &mut Head<InternalValue, I>,
+    source: &mut Head<T, I>,
     writer: W,
     config: RunConfig,
     sizes: Sizes,
@@ -163,7 +172,7 @@ pub fn write_table<H: BlockHash, I: Source<InternalValue>, W: Write + Drop>(
     requires writable { IsWritable config }
     ensures table { IfOk result (λ r. IfSome r (λ t.
         IsTableOf (form H.hash64 H.hash128 config) sizes (W.contents writer) (W.contents t.1)
-        t.0 source.old.list source.new.list)) }
+        t.0 (entries_in T.entry source.old.list) (entries_in T.entry source.new.list))) }
     ensures most { IfOk result (λ r. IfSome r (λ t. source.new.most < source.old.most)) }
     ensures done { IfOk result (λ r. IfNone r (IfSome source.old.list (λ xs. xs ≡ []))) }
     ensures ended { EndsBy source.old.ended source.new.ended result }
@@ -171,7 +180,7 @@ pub fn write_table<H: BlockHash, I: Source<InternalValue>, W: Write + Drop>(
     if let Some(error) = source.end() {
         return Err(error);
     }
-    match next_table::<H, I, W>(alloc, source, writer, config, sizes) {
+    match next_table::<H, T, I, W>(alloc, source, writer, config, sizes) {
         Ok(table) => Ok(table),
         Err(error) => Err(source.end_with(&error)),
     }

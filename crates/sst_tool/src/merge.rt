@@ -99,7 +99,7 @@ pub fn write_source<H: BlockHash, I: Source<InternalValue> + Drop, O: Outputs>(
         (O.tables tables.new)) }
 {
     let mut head = Head::new(alloc, source)?;
-    write_tables::<H, I, O>(alloc, &mut head, tables, how.config, how.sizes)
+    write_tables::<H, InternalValue, I, O>(alloc, &mut head, tables, how.config, how.sizes)
 }
 
 // Merges tables, and writes what stays of them for the reads that may come.

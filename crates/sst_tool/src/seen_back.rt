@@ -3,7 +3,7 @@ ghost use Rattle.std.specs.Prelude.{◌≡◌, ◌+◌, ◌≤◌, if◌then◌e
 ghost use Rattle.sst_merge.specs.Sources.{held_count};
 ghost use Rattle.sst_tool.specs.Back.{is_same_key, newest_below};
 
-use sst_merge::{Source, Version};
+use sst_merge::Source;
 use sstable_blocks::{Error, InternalValue, Result, SeqNo};
 use std::alloc::Global;
 
@@ -23,7 +23,7 @@ fn is_same_key(kept: &Option<InternalValue>, entry: &InternalValue) -> bool
     ensures { result ≡ is_same_key kept.now entry.now }
 {
     match kept {
-        Some(kept) => entry.has_user_key(kept.key().user_key().as_slice()),
+        Some(kept) => entry.key().user_key().cmp(kept.key().user_key()).is_eq(),
         None => true,
     }
 }

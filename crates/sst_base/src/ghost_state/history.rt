@@ -2,7 +2,6 @@
 ghost use Rattle.std.specs.Prelude.{◌≡◌, [], ◌∷◌, ◌++◌};
 
 use crate::ghost_state::note::{Note, chosen_note};
-use crate::value::InternalValue;
 use std::collections::LinkedList;
 use std::marker::Model;
 
@@ -36,18 +35,17 @@ impl<T> History<T> {
         self.items = chosen_note(&self.items, item);
     }
 
+    /// Appends an item that the caller's proof picks, from what the reference shows.
+    pub fn push_chosen<S>(&mut self, shown: &S)
+        ghost chosen: { T }
+        ensures { self.new ≡ self.old ++ chosen ∷ [] }
+    {
+        self.items = chosen_note(&self.items, shown);
+    }
+
     /// Appends some items.
     pub fn extend_from_slice(&mut self, items: &[T])
         ensures { self.new ≡ self.old ++ items.now }
-    {
-        self.items = chosen_note(&self.items, &items);
-    }
-}
-
-impl History<LinkedList<InternalValue>> {
-    /// Appends a list of entries.
-    pub fn push_list(&mut self, items: &[InternalValue])
-        ensures { self.new ≡ self.old ++ items.now ∷ [] }
     {
         self.items = chosen_note(&self.items, &items);
     }

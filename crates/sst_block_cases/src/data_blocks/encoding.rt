@@ -4,13 +4,13 @@ ghost use Rattle.std.specs.Prelude.{◌≤◌};
 use super::{Opened, data_block};
 use crate::digest::hash_of;
 use crate::fault::{Fault, Result};
-use crate::lists::parts_of;
+use crate::lists::views_of;
 use crate::words::{bytes_of, hex_of, number_of, small_of};
 use sst_base::table::block::{Block, BlockType};
 use sst_base::{BlockHash, HashRatio, InternalValue, Slice};
-use sst_block_core::DataBlock;
 use sst_block_core::table::block::encoder::Encoder;
 use sst_block_core::table::block::hash_index::Lookup;
+use sst_block_core::{DataBlock, EntryView};
 use std::alloc::Global;
 
 /// The numbers of a block.
@@ -45,8 +45,26 @@ pub fn encoded<H: BlockHash>(
     Ok(DataBlock::new(Block::from_payload(BlockType::Data, payload)))
 }
 
-/// Encodes entries by their parts.
-fn by_parts<H: BlockHash>(
+/// Encodes views of entries.
+fn by_views<H: BlockHash>(
+    alloc: Global,
+    views: &[EntryView<'_>],
+    interval: u8,
+    ratio: HashRatio,
+) -> Result<Vec<u8>>
+    requires interval { 1 ≤ interval }
+    requires den { 1 ≤ ratio.den }
+{
+    if views.is_empty() || !DataBlock::<H>::are_views_ordered(views) {
+        return Err(Fault::Word);
+    }
+    let mut bytes = Vec::new(alloc);
+    DataBlock::<H>::encode_views_into(&mut bytes, views, interval, ratio)?;
+    Ok(bytes)
+}
+
+/// Encodes views of the entries of a block, whose keys may be in two parts.
+fn again<H: BlockHash>(
     alloc: Global,
     entries: &[InternalValue],
     interval: u8,
@@ -55,14 +73,15 @@ fn by_parts<H: BlockHash>(
     requires interval { 1 ≤ interval }
     requires den { 1 ≤ ratio.den }
 {
-    let parts = parts_of(alloc, entries)?;
-    if parts.is_empty() || !DataBlock::<H>::are_parts_ordered(parts.as_slice()) {
-        return Err(Fault::Word);
+    let block = encoded::<H>(alloc, entries, "5")?;
+    let mut views = Vec::new(alloc);
+    for view in block.entries() {
+        views.push(view)?;
     }
-    Ok(DataBlock::<H>::encode_parts_into_vec(alloc, parts.as_slice(), interval, ratio)?)
+    by_views::<H>(alloc, views.as_slice(), interval, ratio)
 }
 
-/// Encodes entries as the payload, by themselves and by their parts.
+/// Encodes entries as the payload: themselves, views of them, and views of the entries of a block.
 fn encode_list<H: BlockHash>(
     alloc: Global,
     entries: &[InternalValue],
@@ -76,15 +95,17 @@ fn encode_list<H: BlockHash>(
     if entries.is_empty() || !DataBlock::<H>::is_ordered(entries) {
         return Err(Fault::Word);
     }
-    let parts = by_parts::<H>(alloc, entries, interval, ratio)?;
+    let views = views_of(alloc, entries)?;
+    let views = by_views::<H>(alloc, views.as_slice(), interval, ratio)?;
+    let again = again::<H>(alloc, entries, interval, ratio)?;
     *payload = DataBlock::<H>::encode_into_vec(alloc, entries, interval, ratio)?;
-    if parts.as_slice() != payload.as_slice() {
-        return Ok(format!(in alloc; "{} bytes by parts", parts.len())?);
+    if views.as_slice() != payload.as_slice() || again.as_slice() != payload.as_slice() {
+        return Ok(format!(in alloc; "{} bytes, {} again, by views", views.len(), again.len())?);
     }
     numbers::<H>(alloc, payload.as_slice())
 }
 
-/// Encodes the list, by its entries and by their parts: INTERVAL NUM DEN.
+/// Encodes the list, by its entries and by views: INTERVAL NUM DEN.
 pub fn encode<H: BlockHash>(
     alloc: Global,
     entries: &[InternalValue],

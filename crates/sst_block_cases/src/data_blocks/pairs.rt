@@ -6,8 +6,7 @@ use crate::fault::{Fault, Result};
 use crate::room::Room;
 use crate::words::{bytes_of, number_of, truth, type_of};
 use sst_base::{BlockHash, InternalValue};
-use sst_block_core::table::data_block::EntryRef;
-use sst_block_core::{DataBlock, EntryParts};
+use sst_block_core::{DataBlock, EntryView};
 use std::alloc::Global;
 use std::cmp::Ordering;
 
@@ -54,8 +53,8 @@ impl Signs {
 fn compare_entries(
     alloc: Global,
     signs: &mut Signs,
-    left: &EntryRef<'_>,
-    right: &EntryRef<'_>,
+    left: &EntryView<'_>,
+    right: &EntryView<'_>,
 ) -> Result<()> {
     let copies = left.clone()?.compare(&right.clone()?);
     signs.add(
@@ -70,7 +69,7 @@ fn compare_entries(
 fn compare_with<H: BlockHash>(
     alloc: Global,
     signs: &mut Signs,
-    left: &EntryRef<'_>,
+    left: &EntryView<'_>,
     block: &DataBlock<H>,
 ) -> Result<()> {
     for right in block.entries() {
@@ -121,8 +120,8 @@ pub fn compare<H: BlockHash>(alloc: Global, room: &Room, words: &[&str]) -> Resu
 }
 
 /// The text of the parts of an entry.
-fn text_of_parts(alloc: Global, parts: &EntryParts<'_>) -> Result<String> {
-    let (key, value) = (parts.user_key().len(), parts.value().len());
+fn text_of_parts(alloc: Global, parts: &EntryView<'_>) -> Result<String> {
+    let (key, value) = (parts.key_len(), parts.value().len());
     let (value_type, seqno) = (parts.value_type(), parts.seqno());
     let dead = truth(alloc, parts.is_tombstone())?;
     Ok(format!(in alloc;
@@ -146,7 +145,7 @@ pub fn parts(alloc: Global, words: &[&str]) -> Result<String> {
     };
     let (seqno, value_type) = (number_of(seqno)?, type_of(letter)?);
     let (key, value) = (bytes_of(alloc, key)?, bytes_of(alloc, value)?);
-    match EntryParts::new(key.as_slice(), value.as_slice(), seqno, value_type) {
+    match EntryView::of_parts(key.as_slice(), value.as_slice(), seqno, value_type) {
         Some(parts) => text_of_parts(alloc, &parts),
         None => Ok(String::from_str(alloc, "none")?),
     }

@@ -7,8 +7,7 @@ use crate::fault::{Fault, Result};
 use crate::room::Room;
 use crate::words::{alike, bytes_of, number_of, size_of, word_of, word_of_found};
 use sst_base::{BlockHash, InternalValue, Slice, Steps};
-use sst_block_core::table::data_block::{EntryRef, EntryView};
-use sst_block_core::{DataBlock, DataBlockParsedItem, DataBlockRef, ParsedItem};
+use sst_block_core::{DataBlock, DataBlockParsedItem, DataBlockRef, EntryView, ParsedItem};
 use std::alloc::Global;
 
 /// A point read of bytes that are lent.
@@ -187,9 +186,9 @@ fn add_around<H: BlockHash>(
     alloc: Global,
     reads: &mut Reads,
     blocks: Blocks<'_, H>,
-    entry: &EntryRef<'_>,
+    entry: &EntryView<'_>,
 ) -> Result<()> {
-    let entry = entry.materialize(alloc)?;
+    let entry = entry.to_entry(alloc)?;
     add_reads(alloc, reads, blocks, &entry)
 }
 
@@ -209,8 +208,8 @@ pub fn queries<H: BlockHash>(alloc: Global, opened: &Opened<H>) -> Result<String
 }
 
 /// Appends an entry that borrows its block to a list.
-fn push_entry(alloc: Global, entries: &mut Vec<InternalValue>, entry: &EntryRef<'_>) -> Result<()> {
-    entries.push(entry.materialize(alloc)?)?;
+fn push_entry(alloc: Global, entries: &mut Vec<InternalValue>, entry: &EntryView<'_>) -> Result<()> {
+    entries.push(entry.to_entry(alloc)?)?;
     Ok(())
 }
 
@@ -261,36 +260,11 @@ fn by_items<H: BlockHash>(alloc: Global, block: &DataBlock<H>) -> Result<String>
 }
 
 /// The word of an entry that borrows its block.
-fn word_of_ref(alloc: Global, entry: &EntryRef<'_>) -> Result<String> {
-    word_of(alloc, &entry.materialize(alloc)?)
-}
-
-/// The entries of a block, each of which borrows it, from the front.
-fn by_entries<H: BlockHash>(alloc: Global, block: &DataBlock<H>) -> Result<String> {
-    let (mut count, mut digest) = (0usize, Digest::new());
-    for entry in block.entries() {
-        digest.add(word_of_ref(alloc, &entry)?.as_str());
-        count = count.saturating_add(1);
-    }
-    counted(alloc, count, &digest)
-}
-
-/// The entries of a block, each of which borrows it, from the back.
-fn from_the_back<H: BlockHash>(alloc: Global, block: &DataBlock<H>) -> Result<String> {
-    let mut words = Vec::new(alloc);
-    for entry in block.entries().rev() {
-        words.push(word_of_ref(alloc, &entry)?)?;
-    }
-    words.reverse();
-    digest_of(alloc, words.as_slice())
-}
-
-/// The word of an entry over bytes that are lent.
 fn word_of_view(alloc: Global, view: &EntryView<'_>) -> Result<String> {
     word_of(alloc, &view.to_entry(alloc)?)
 }
 
-/// The entries of bytes that are lent.
+/// The entries of a block, each of which borrows it, from the front.
 fn by_views<H: BlockHash>(alloc: Global, page: &DataBlockRef<'_, H>) -> Result<String> {
     let (mut count, mut digest) = (0usize, Digest::new());
     for view in page.entries() {
@@ -300,7 +274,7 @@ fn by_views<H: BlockHash>(alloc: Global, page: &DataBlockRef<'_, H>) -> Result<S
     counted(alloc, count, &digest)
 }
 
-/// The entries of bytes that are lent, from the back.
+/// The entries of a block, each of which borrows it, from the back.
 fn by_views_back<H: BlockHash>(alloc: Global, page: &DataBlockRef<'_, H>) -> Result<String> {
     let mut words = Vec::new(alloc);
     for view in page.entries().rev() {
@@ -331,10 +305,8 @@ fn by_lent<H: BlockHash>(alloc: Global, payload: &[u8]) -> Result<String> {
 pub fn entries<H: BlockHash>(alloc: Global, payload: &[u8], opened: &Opened<H>) -> Result<String> {
     let block = opened.bare()?;
     let all = by_items(alloc, block)?;
-    let entries = by_entries(alloc, block)?;
+    let entries = by_views(alloc, &block.by_ref())?;
     let all = alike(alloc, all, "by entries", entries)?;
-    let back = from_the_back(alloc, block)?;
-    let all = alike(alloc, all, "from the back", back)?;
     let views = by_lent::<H>(alloc, payload)?;
     alike(alloc, all, "by views", views)
 }

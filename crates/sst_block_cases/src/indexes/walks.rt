@@ -10,9 +10,7 @@ use crate::room::Room;
 use crate::words::{alike, bytes_of, number_of, push_word, repeated, truth};
 use sst_base::Slice;
 use sst_base::table::block::BlockHandle;
-use sst_block_core::table::index_block::{
-    Answer, HandleRef, HandleView, Handles, IndexOp, Iter, walk,
-};
+use sst_block_core::table::index_block::{Answer, HandleView, HandleViews, IndexOp, Iter, walk};
 use sst_block_core::{IndexBlock, IndexBlockParsedItem, IndexBlockRef, KeyedBlockHandle};
 use std::alloc::Global;
 
@@ -47,8 +45,8 @@ fn ops_of(alloc: Global, words: &[&str]) -> Result<Vec<IndexOp>> {
 
 /// Returns the word of a handle that borrows its block, and says if its parts are not those of the
 /// handle that it is made as.
-fn word_of_ref(alloc: Global, handle: &HandleRef<'_>) -> Result<String> {
-    let made = handle.clone()?.materialize(alloc)?;
+fn word_of_view(alloc: Global, handle: &HandleView<'_>) -> Result<String> {
+    let made = handle.clone()?.to_handle(alloc)?;
     let word = word_of(alloc, &made)?;
     let is_number = handle.seqno() == made.seqno();
     let is_place = handle.offset() == made.offset() && handle.size() == made.size();
@@ -64,7 +62,7 @@ fn taken(alloc: Global, block: &IndexBlock, item: Option<IndexBlockParsedItem>) 
     requires { IfSome item (IsParsedHandle block.now.payload) }
 {
     match item {
-        Some(item) => word_of_ref(alloc, &block.handle(item)),
+        Some(item) => word_of_view(alloc, &block.handle(item)),
         None => Ok(String::from_str(alloc, "none")?),
     }
 }
@@ -153,19 +151,19 @@ fn walks(alloc: Global, room: &Room, words: &[&str]) -> Result<String> {
 }
 
 /// The words of handles from the front.
-fn words_of(alloc: Global, handles: Handles<'_>) -> Result<Vec<String>> {
+fn words_of(alloc: Global, handles: HandleViews<'_>) -> Result<Vec<String>> {
     let mut words = Vec::new(alloc);
     for handle in handles {
-        words.push(word_of_ref(alloc, &handle)?)?;
+        words.push(word_of_view(alloc, &handle)?)?;
     }
     Ok(words)
 }
 
 /// The words of handles from the back, the first of which stands first again.
-fn words_back(alloc: Global, handles: Handles<'_>) -> Result<Vec<String>> {
+fn words_back(alloc: Global, handles: HandleViews<'_>) -> Result<Vec<String>> {
     let mut words = Vec::new(alloc);
     for handle in handles.rev() {
-        words.push(word_of_ref(alloc, &handle)?)?;
+        words.push(word_of_view(alloc, &handle)?)?;
     }
     words.reverse();
     Ok(words)
@@ -194,7 +192,7 @@ fn between_front(alloc: Global, block: &IndexBlock, from: &Bound, upto: &Bound) 
     let mut iter = block.iter();
     iter.seek(from.0.as_slice(), from.1);
     iter.seek_upper(upto.0.as_slice(), upto.1);
-    let words = words_of(alloc, Handles::new(block, iter))?;
+    let words = words_of(alloc, HandleViews::new(&block.by_ref(), iter))?;
     joined(alloc, words.as_slice())
 }
 
@@ -203,7 +201,7 @@ fn between_back(alloc: Global, block: &IndexBlock, from: &Bound, upto: &Bound) -
     let mut iter = block.iter();
     iter.seek_upper(upto.0.as_slice(), upto.1);
     iter.seek(from.0.as_slice(), from.1);
-    let words = words_back(alloc, Handles::new(block, iter))?;
+    let words = words_back(alloc, HandleViews::new(&block.by_ref(), iter))?;
     joined(alloc, words.as_slice())
 }
 
@@ -233,11 +231,6 @@ fn digest_of(alloc: Global, words: &[String]) -> Result<String> {
     }
     let (count, state) = (words.len(), digest.state);
     Ok(format!(in alloc; "{count} handles, {state:016x}")?)
-}
-
-/// The word of a handle of bytes that are lent.
-fn word_of_view(alloc: Global, view: &HandleView<'_>) -> Result<String> {
-    word_of(alloc, &view.to_handle(alloc)?)
 }
 
 /// The handles of bytes that are lent, with or without a table of their heads.
@@ -296,7 +289,7 @@ fn take(alloc: Global, room: &mut Room) -> Result<String> {
     let block = index_block(alloc, room, false)?;
     room.handles = Vec::new(alloc);
     for handle in block.handles() {
-        room.handles.push(handle.materialize(alloc)?)?;
+        room.handles.push(handle.to_handle(alloc)?)?;
     }
     Ok(format!(in alloc; "{} handles", room.handles.len())?)
 }

@@ -6,6 +6,7 @@ ghost use Rattle.sst_block_core.specs.Entries.{value_part};
 
 use crate::block_item::BlockItem;
 use crate::table::block::Encodable;
+use crate::table::block::key_parts::KeyParts;
 use sst_base::in_place::{PREFIXED_ROOM, make_room, put_byte, put_length_prefixed, put_varint};
 use sst_base::{AllocResult, InternalKey, InternalValue, ValueType};
 
@@ -62,14 +63,14 @@ fn put_value(writer: &mut Vec<u8>, at: usize, item: &InternalValue) -> AllocResu
 ///
 /// The value part is the value's length (varint 32) and the value; a tombstone has none.
 impl Encodable for InternalValue {
-    fn key(&self) -> &[u8] {
-        InternalValue::key(self).user_key().as_slice()
+    fn key_parts(&self) -> KeyParts<'_> {
+        (&[], self.key().user_key().as_slice())
     }
 
     #[inline(always)]
     #[tactic(auto, unfolding(crate::specs::Entries::full))]
     fn put_full(&self, writer: &mut Vec<u8>, at: usize) -> AllocResult<usize> {
-        let key = InternalValue::key(self);
+        let key = self.key();
         make_room(writer, at)?;
         let at = put_fields(writer.as_mut_slice(), at, key);
         let at = put_length_prefixed(writer, at, key.user_key(), 0, PREFIXED_ROOM)?;
@@ -84,7 +85,7 @@ impl Encodable for InternalValue {
         at: usize,
         shared_len: usize,
     ) -> AllocResult<usize> {
-        let key = InternalValue::key(self);
+        let key = self.key();
         make_room(writer, at)?;
         let at = put_fields(writer.as_mut_slice(), at, key);
         let at = put_varint(writer.as_mut_slice(), at, shared_len as u64);

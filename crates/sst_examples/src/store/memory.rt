@@ -9,7 +9,8 @@ ghost use Rattle.sst_merge.specs.Snapshot.{seen};
 ghost use Rattle.sst_examples.specs.Levels.{ArePlain};
 
 use sst_base::{InternalValue, SeqNo};
-use sst_merge::{Ranked, Version};
+use sst_block_core::AsEntry;
+use sst_merge::Ranked;
 
 // The index at which a version goes into an ordered list: before the first one that does not sort
 // before it.
@@ -30,7 +31,7 @@ pub(crate) fn place_of(memory: &[InternalValue], entry: &InternalValue) -> usize
 fn is_version(entry: &InternalValue, key: &[u8], seqno: SeqNo) -> bool
     ensures { result ≡ is_version entries key.now seqno entry.now }
 {
-    entry.seqno() < seqno && entry.has_user_key(key)
+    entry.key().seqno() < seqno && entry.key().user_key().eq_bytes(key)
 }
 
 // The first version of a key below a sequence number.
@@ -55,7 +56,7 @@ pub(crate) fn shown(found: Option<InternalValue>) -> Option<InternalValue>
     ensures { result ≡ seen found }
 {
     match found {
-        Some(entry) if !Version::is_tombstone(&entry) => Some(entry),
+        Some(entry) if !entry.view().is_tombstone() => Some(entry),
         _ => None,
     }
 }

@@ -2,22 +2,24 @@
 ghost use Rattle.std.specs.Prelude.{◌≡◌, List, Some, map, IfOk, OnOk, OnErr, IsSome};
 ghost use Rattle.sst_base.specs.Entry.{Entry, plain};
 ghost use Rattle.sst_merge.specs.Sources.{before};
+ghost use Rattle.sst_merge.specs.Tables.{entries_in};
 ghost use Rattle.sst_examples.specs.Tables.{IsTableOf, merged_tables, table_entries, table_hashes};
 ghost use Rattle.sstable_blocks.specs.Blocks.{joined};
 ghost use Rattle.sstable_blocks.specs.Sound.{IsSound};
 
 use crate::store::laws::sound_table_is_known;
-use sst_base::{Error, HashRatio, InternalValue, Result, Slice};
-use sst_merge::{Head, Merge, Sizes, Source, write_table};
+use sst_base::{Error, HashRatio, Result, Slice};
+use sst_block_core::{AsEntry, EntryView};
+use sst_merge::{Head, Merge, Ranked, Sizes, Source, write_table};
 use sstable_blocks::run::laws::{accepted_run_is_sound, layout_is_sound, sound_is_scanned};
-use sstable_blocks::{MemorySource, RunConfig, RunHandles, Table, TrustedScan, Xxh3};
+use sstable_blocks::{MemorySource, RunConfig, RunHandles, RunScan, Table, Xxh3};
 use std::alloc::Global;
 
 /// A table in memory.
 pub type Stored = Table<Xxh3, MemorySource>;
 
 // Scans a table.
-fn scan_of<'a>(table: &'a Stored) -> TrustedScan<'a, 'a, Xxh3>
+fn scan_of<'a>(table: &'a Stored) -> RunScan<'a, 'a, Xxh3>
     requires { IsSome (table_entries table.now) }
     ensures { table_entries table.now ≡ Some result.left }
 {
@@ -32,7 +34,7 @@ fn scan_of<'a>(table: &'a Stored) -> TrustedScan<'a, 'a, Xxh3>
 pub(crate) fn merge_of<'a>(
     alloc: Global,
     tables: &'a [Stored],
-) -> Result<Merge<InternalValue, TrustedScan<'a, 'a, Xxh3>>>
+) -> Result<Merge<EntryView<'a>, RunScan<'a, 'a, Xxh3>>>
     requires { IsSome (merged_tables tables.now) }
     ensures { IfOk result (λ merge. merge.list ≡ merged_tables tables.now) }
 {
@@ -58,11 +60,11 @@ fn open_table(alloc: Global, bytes: Vec<u8>, handles: RunHandles) -> Result<Stor
 }
 
 // Writes all that is left of a source as one table, if something is left.
-pub(crate) fn table_of<I: Source<InternalValue> + Drop>(
+pub(crate) fn table_of<T: Ranked + AsEntry + Drop, I: Source<T> + Drop>(
     alloc: Global,
     source: I,
 ) -> Result<Option<Stored>>
-    ensures { (items : List Entry) → (I.left source).list ≡ Some items
+    ensures { (items : List Entry) → entries_in T.entry (I.left source).list ≡ Some items
         → IfOk result (λ table. IsTableOf table (map plain items)) }
 {
     layout_is_sound();
@@ -73,7 +75,7 @@ pub(crate) fn table_of<I: Source<InternalValue> + Drop>(
     };
     let mut head = Head::new(alloc, source)?;
     let writer = Vec::new(alloc);
-    let written = write_table::<Xxh3, I, Vec<u8>>(alloc, &mut head, writer, config, sizes)?;
+    let written = write_table::<Xxh3, T, I, Vec<u8>>(alloc, &mut head, writer, config, sizes)?;
     let Some((handles, bytes)) = written else {
         return Ok(None);
     };

@@ -5,14 +5,14 @@ ghost use Rattle.sstable_blocks.specs.RunReading.{hashes};
 ghost use Rattle.sstable_blocks.specs.Sound.{IsSound};
 
 use super::checking::{checked, summary_of};
-use super::reads::{fetched, read_sound, read_trusted, text_of};
-use super::scans::{Path, scan_sound, scan_table, scan_trusted};
+use super::reads::{fetched, read_ref, read_sound, text_of};
+use super::scans::{Path, scan_ref, scan_sound, scan_table};
 use sst_base::{BlockHash, Slice, Steps};
 use sst_block_cases::fault::{Fault, Result};
 use sst_block_cases::room::Room;
 use sstable_blocks::Table;
 use sstable_blocks::run::{
-    BorrowedSource, CheckedRun, FileSource, FrameSource, MemorySource, RunHandles, Trusted,
+    BorrowedSource, FileSource, FrameSource, MemorySource, RunHandles, RunRef,
 };
 use std::alloc::Global;
 use std::io::Cursor;
@@ -119,15 +119,15 @@ pub enum Wanted<'a> {
     Scan(&'a Path<'a>),
 }
 
-/// What a table without checks answers.
-fn of_trusted<H: BlockHash>(
+/// What a run over borrowed bytes answers.
+pub fn of_ref<H: BlockHash>(
     alloc: Global,
-    trusted: &Trusted<'_, H>,
+    run: &RunRef<'_, H>,
     wanted: Wanted<'_>,
 ) -> Result<String> {
     match wanted {
-        Wanted::Read(query) => read_trusted::<H>(alloc, trusted, query),
-        Wanted::Scan(path) => scan_trusted::<H>(alloc, trusted, path),
+        Wanted::Read(query) => read_ref::<H>(alloc, run, query),
+        Wanted::Scan(path) => scan_ref::<H>(alloc, run, path),
     }
 }
 
@@ -157,15 +157,14 @@ pub fn by_trusted<H: BlockHash>(
         × IsSound (hashes H.hash64 H.hash128) blocks run.now handles.now }
 {
     let table = table_of::<H>(alloc, run, handles)?;
-    let trusted = table.trusted();
-    of_trusted::<H>(alloc, &trusted, wanted)
+    of_ref::<H>(alloc, &table.trusted(), wanted)
 }
 
 /// What a sound run answers, by all that read it.
 fn by_all<H: BlockHash>(
     alloc: Global,
     room: &Room,
-    checked: &CheckedRun<H>,
+    checked: &RunRef<'_, H>,
     run: &Slice,
     handles: &RunHandles,
     wanted: Wanted<'_>,
@@ -175,26 +174,14 @@ fn by_all<H: BlockHash>(
 {
     match wanted {
         Wanted::Read(query) => read_sound::<H>(alloc, room, checked, run, handles, query),
-        Wanted::Scan(path) => scan_sound::<H>(alloc, room, run, handles, path),
+        Wanted::Scan(path) => scan_sound::<H>(alloc, room, checked, run, handles, path),
     }
-}
-
-/// Checks a run in memory.
-fn checked_of<H: BlockHash>(
-    alloc: Global,
-    run: &Slice,
-    handles: &RunHandles,
-) -> Result<CheckedRun<H>>
-    ensures { IfOk result (λ r. r ≡ record { bytes = run.now; handles = handles.now }) }
-{
-    Ok(CheckedRun::<H>::open(alloc, run.clone()?, *handles)?)
 }
 
 /// What a sound run answers, by all that read it. The run is checked first.
 pub fn of_sound<H: BlockHash>(alloc: Global, room: &Room, wanted: Wanted<'_>) -> Result<String> {
     let handles = room.places.ok_or(Fault::Word)?;
     let run = Slice::new(alloc, room.payload.as_slice())?;
-    let checked = checked_of::<H>(alloc, &run, &handles)?;
-    checked.note_sound();
+    let (checked, _) = RunRef::<H>::check(alloc, run.as_slice(), &handles)?;
     by_all::<H>(alloc, room, &checked, &run, &handles, wanted)
 }

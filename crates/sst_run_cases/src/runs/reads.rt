@@ -12,9 +12,7 @@ use sst_block_cases::room::Room;
 use sst_block_cases::texts::agreed;
 use sst_block_cases::words::{bytes_of, number_of, word_of, word_of_found};
 use sst_block_core::table::data_block::EntryView;
-use sstable_blocks::run::{
-    CheckedRun, FrameSource, RunHandles, Trusted, read_entry, read_entry_checked,
-};
+use sstable_blocks::run::{FrameSource, RunHandles, RunRef, read_entry, read_entry_checked};
 use std::alloc::Global;
 
 /// What is found.
@@ -35,18 +33,6 @@ pub fn fetched<H: BlockHash, S: FrameSource + Drop>(
 ) -> Result<String> {
     let found = read_entry_checked::<H, S>(alloc, &mut source, handles, query.0, query.1);
     text_of(alloc, found)
-}
-
-/// A read of a run that was checked.
-fn by_checked<H: BlockHash>(
-    alloc: Global,
-    checked: &CheckedRun<H>,
-    query: Query<'_>,
-) -> Result<String> {
-    text_of(
-        alloc,
-        checked.get(alloc, query.0, query.1, &mut Steps::new()),
-    )
 }
 
 /// A read of a sound run without checks.
@@ -72,32 +58,18 @@ fn text_of_view(alloc: Global, found: Option<EntryView<'_>>) -> Result<String> {
 }
 
 /// A read that borrows what it finds.
-fn by_ref<H: BlockHash>(
+pub fn read_ref<H: BlockHash>(
     alloc: Global,
-    trusted: &Trusted<'_, H>,
+    run: &RunRef<'_, H>,
     query: Query<'_>,
 ) -> Result<String> {
-    let run = trusted.by_ref();
     text_of_view(alloc, run.find(query.0, query.1, &mut Steps::new()))
-}
-
-/// The reads of a sound run in memory by a table without checks.
-pub fn read_trusted<H: BlockHash>(
-    alloc: Global,
-    trusted: &Trusted<'_, H>,
-    query: Query<'_>,
-) -> Result<String> {
-    let found = trusted.get(alloc, query.0, query.1, &mut Steps::new());
-    agreed(
-        alloc,
-        &[text_of(alloc, found), by_ref::<H>(alloc, trusted, query)],
-    )
 }
 
 /// The reads of a sound run in memory by all that take no source.
 fn unchecked<H: BlockHash>(
     alloc: Global,
-    checked: &CheckedRun<H>,
+    checked: &RunRef<'_, H>,
     run: &Slice,
     handles: &RunHandles,
     query: Query<'_>,
@@ -106,7 +78,7 @@ fn unchecked<H: BlockHash>(
         × IsSound (hashes H.hash64 H.hash128) blocks run.now handles.now }
 {
     let found = [
-        by_checked::<H>(alloc, checked, query),
+        read_ref::<H>(alloc, checked, query),
         by_bytes::<H>(alloc, run, handles, query),
         by_trusted::<H>(alloc, run, handles, Wanted::Read(query)),
     ];
@@ -117,7 +89,7 @@ fn unchecked<H: BlockHash>(
 pub fn read_sound<H: BlockHash>(
     alloc: Global,
     room: &Room,
-    checked: &CheckedRun<H>,
+    checked: &RunRef<'_, H>,
     run: &Slice,
     handles: &RunHandles,
     query: Query<'_>,

@@ -12,7 +12,7 @@ use sst_block_cases::room::Room;
 use sst_block_cases::texts::agreed;
 use sst_block_cases::words::{push_word, word_of_found};
 use sstable_blocks::Table;
-use sstable_blocks::run::{FrameSource, RunHandles, RunScan, Scan, Trusted, TrustedScan};
+use sstable_blocks::run::{FrameSource, RunHandles, RunRef, RunScan, Scan};
 use std::alloc::Global;
 
 /// What is found.
@@ -25,16 +25,6 @@ trait BothEnds {
 }
 
 impl<H: BlockHash, S: FrameSource> BothEnds for Scan<'_, H, S> {
-    fn step(&mut self, alloc: Global, is_first: bool) -> Found {
-        if is_first {
-            self.next_entry(alloc)
-        } else {
-            self.next_entry_back(alloc)
-        }
-    }
-}
-
-impl<H: BlockHash> BothEnds for TrustedScan<'_, '_, H> {
     fn step(&mut self, alloc: Global, is_first: bool) -> Found {
         if is_first {
             self.next_entry(alloc)
@@ -128,41 +118,18 @@ pub fn scan_table<H: BlockHash, S: FrameSource + Drop>(
     steps_of(alloc, table.scan_range(start, end), path.steps)
 }
 
-/// Scans a sound run by a table without checks.
-fn by_table<H: BlockHash>(
-    alloc: Global,
-    trusted: &Trusted<'_, H>,
-    path: &Path<'_>,
-) -> Result<String> {
-    let (start, end) = (bound_of(&path.start), bound_of(&path.end));
-    steps_of(alloc, trusted.scan_range(start, end), path.steps)
-}
-
 /// Scans a sound run by views that borrow its bytes.
-fn by_ref<H: BlockHash>(
+pub fn scan_ref<H: BlockHash>(
     alloc: Global,
-    trusted: &Trusted<'_, H>,
+    run: &RunRef<'_, H>,
     path: &Path<'_>,
 ) -> Result<String> {
     let (start, end) = (bound_of(&path.start), bound_of(&path.end));
     let made = Made {
-        views: trusted.by_ref().scan_range(start, end),
+        views: run.scan_range(start, end),
         ended: None,
     };
     steps_of(alloc, made, path.steps)
-}
-
-/// Scans a sound run in memory without checks.
-pub fn scan_trusted<H: BlockHash>(
-    alloc: Global,
-    trusted: &Trusted<'_, H>,
-    path: &Path<'_>,
-) -> Result<String> {
-    let found = [
-        by_table::<H>(alloc, trusted, path),
-        by_ref::<H>(alloc, trusted, path),
-    ];
-    agreed(alloc, &found)
 }
 
 /// Scans a run in memory with checks.
@@ -178,6 +145,7 @@ fn scan_checked<H: BlockHash>(alloc: Global, room: &Room, path: &Path<'_>) -> Re
 pub fn scan_sound<H: BlockHash>(
     alloc: Global,
     room: &Room,
+    checked: &RunRef<'_, H>,
     run: &Slice,
     handles: &RunHandles,
     path: &Path<'_>,
@@ -188,6 +156,7 @@ pub fn scan_sound<H: BlockHash>(
     let found = [
         scan_checked::<H>(alloc, room, path),
         of_run::<H>(alloc, room, Place::File, Asked::Scan(path)),
+        scan_ref::<H>(alloc, checked, path),
         by_trusted::<H>(alloc, run, handles, Wanted::Scan(path)),
     ];
     agreed(alloc, &found)

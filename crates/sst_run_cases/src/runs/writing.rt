@@ -73,7 +73,7 @@ fn write_whole<H: BlockHash>(
         return Err(Fault::Word);
     }
     let mut bytes = Vec::new(alloc);
-    let handles = write_run::<H, Vec<u8>>(alloc, &mut bytes, items, cuts, config)?;
+    let handles = write_run::<H, InternalValue, Vec<u8>>(alloc, &mut bytes, items, cuts, config)?;
     Ok((handles, bytes))
 }
 

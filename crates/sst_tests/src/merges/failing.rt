@@ -5,7 +5,7 @@ use crate::Tested;
 use crate::merges::lists::{Memory, Row, T, V, entry_of, list_of};
 use sst_base::{ByteSum, Error, HashRatio, InternalValue, Result, SeqNo, UserKey};
 use sst_merge::{
-    Compact, Head, Merge, Rev, Reversed, Sizes, Snapshot, Source, Version, write_table,
+    Compact, Head, Merge, Rev, Reversed, Sizes, Snapshot, Source, write_table,
 };
 use sstable_blocks::{RunConfig, RunHandles};
 use std::alloc::{AllocError, Global};
@@ -194,71 +194,6 @@ fn a_version_is_not_passed_by_a_failed_step(rt: HostRuntime) -> Tested {
     Ok(())
 }
 
-/// An entry whose user key may be refused.
-#[derive(Drop)]
-struct Refused {
-    entry: InternalValue,
-    is_refused: bool,
-}
-
-impl Version for Refused {
-    ghost entry = { λ v. v.entry };
-
-    fn seqno(&self) -> SeqNo {
-        Version::seqno(&self.entry)
-    }
-
-    fn has_user_key(&self, user_key: &[u8]) -> bool {
-        self.entry.has_user_key(user_key)
-    }
-
-    fn user_key(&self, alloc: Global) -> std::result::Result<UserKey, AllocError> {
-        if self.is_refused {
-            return Err(AllocError);
-        }
-        self.entry.user_key(alloc)
-    }
-
-    fn is_tombstone(&self) -> bool {
-        Version::is_tombstone(&self.entry)
-    }
-}
-
-/// Versions of a key, of which the user key of one number is refused.
-fn refused_at(alloc: Global, number: u64) -> Result<vec::IntoIter<Refused, Global>> {
-    let mut versions = Vec::new(alloc);
-    for row in &[Row(b'k', 12, V), Row(b'k', 9, T), Row(b'k', 5, V)] {
-        versions.push(Refused {
-            entry: entry_of(alloc, row, 0)?,
-            is_refused: row.1 == number,
-        })?;
-    }
-    Ok(versions.into_iter())
-}
-
-/// What is counted of a snapshot of versions of which the tombstone's key is refused.
-fn counts_seen_of_refused(alloc: Global) -> Result<(usize, bool)> {
-    let mut snapshot = Snapshot::new(refused_at(alloc, 9)?, 10);
-    Ok(counts(alloc, &mut snapshot, Error::Memory))
-}
-
-/// What is counted of a compaction of the same.
-fn counts_compacted_of_refused(alloc: Global, bottom: bool) -> Result<(usize, bool)> {
-    let mut compact = Compact::new(refused_at(alloc, 9)?, vec![in alloc; 10]?, bottom);
-    Ok(counts(alloc, &mut compact, Error::Memory))
-}
-
-// Where the key of a tombstone is refused, the version that it hides is not given.
-#[test]
-fn a_refused_key_ends_a_snapshot_and_a_compaction(rt: HostRuntime) -> Tested {
-    let alloc = rt.alloc();
-    assert_eq!(rt; counts_seen_of_refused(alloc)?, (0, true));
-    for bottom in [false, true] {
-        assert_eq!(rt; counts_compacted_of_refused(alloc, bottom)?, (1, true));
-    }
-    Ok(())
-}
-
 /// A writer that fails.
 #[derive(Drop)]
 struct Full;
@@ -281,7 +216,7 @@ fn written<I: Source<InternalValue>, W: Write + Drop>(
 ) -> Result<Option<(RunHandles, W)>> {
     let config = RunConfig::new(2, HashRatio { num: 1, den: 1 }, 10);
     let sizes = Sizes { block: 7, table: 7 };
-    write_table::<ByteSum, I, W>(alloc, source, writer, config, sizes)
+    write_table::<ByteSum, InternalValue, I, W>(alloc, source, writer, config, sizes)
 }
 
 /// Whether a source fails with an error at each step, also one that would write a table.

@@ -62,7 +62,7 @@ fn compact<I: Source<InternalValue> + Drop>(
         more,
     };
     let config = RunConfig::new(2, HashRatio { num: 1, den: 1 }, 10);
-    let done = compact_tables::<ByteSum, I, bool, Kept>(
+    let done = compact_tables::<ByteSum, InternalValue, I, bool, Kept>(
         alloc,
         source,
         Vec::new(alloc),
@@ -130,7 +130,7 @@ fn is_ended_by_outputs<I: Source<InternalValue>>(
 ) -> bool {
     let config = RunConfig::new(2, HashRatio { num: 1, den: 1 }, 10);
     let sizes = Sizes { block: 1, table: 1 };
-    let done = write_tables::<ByteSum, I, Kept>(alloc, source, kept, config, sizes);
+    let done = write_tables::<ByteSum, InternalValue, I, Kept>(alloc, source, kept, config, sizes);
     let taken = source.take(alloc).err();
     done == Err(Error::Io) && kept.tables.len() == 3 && taken == Some(Error::Io)
 }

@@ -22,7 +22,7 @@ fn write_once(to: &mut SlowWriter, list: &[InternalValue]) -> Result<RunHandles>
     if !can_be_written(list, &[1, 2], &config) {
         return Err(Error::OutOfOrder);
     }
-    write_run::<ByteSum, SlowWriter>(alloc, to, list, &[1, 2], config)
+    write_run::<ByteSum, InternalValue, SlowWriter>(alloc, to, list, &[1, 2], config)
 }
 
 /// Writes the worked run block by block. After a block is refused, each further one is.

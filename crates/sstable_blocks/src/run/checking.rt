@@ -175,10 +175,7 @@ fn first_key_with<H: BlockHash>(
     }
     match block.entries().next() {
         None => Ok(first),
-        Some(entry) => {
-            let entry = entry.materialize(alloc)?;
-            Ok(entry.key().user_key().clone()?)
-        }
+        Some(entry) => entry.to_user_key(alloc),
     }
 }
 

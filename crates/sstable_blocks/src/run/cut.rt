@@ -5,7 +5,7 @@ ghost use Rattle.sst_base.specs.declared.error.Error.TheVariants.{Io, Memory};
 ghost use Rattle.sst_block_core.specs.Window.{items_left};
 ghost use Rattle.sst_block_core.specs.Handles.{Handle};
 ghost use Rattle.sstable_blocks.specs.ReadingLaws.{sound_laws, table_laws};
-ghost use Rattle.sstable_blocks.specs.Readings.{made_reading, run_reading, table_reading};
+ghost use Rattle.sstable_blocks.specs.Readings.{run_reading, table_reading};
 ghost use Rattle.sstable_blocks.specs.RunReading.{hashes};
 ghost use Rattle.sstable_blocks.specs.Scans.{AllWithin, block_within};
 ghost use Rattle.sstable_blocks.specs.Sources.{GivesOr, KeepsSource};
@@ -17,7 +17,6 @@ use super::open_block::{OpenBlock, count_of, open_at};
 use super::run_ref::RunRef;
 use super::source::FrameSource;
 use super::table::Table;
-use super::trusted::Trusted;
 use sst_base::{BlockHash, InternalValue, Result};
 use sst_block_core::table::data_block::{EntryView, IntoEntries};
 use std::alloc::Global;
@@ -156,25 +155,4 @@ impl<'a, 'k, H: BlockHash> Blocks<OpenBlock<'a>> for Cut<'k, RunRef<'a, H>> {
     }
 
     ghost laws = { sound_laws (λ e. ⊥) };
-}
-
-/// Nothing is tested, and blocks share the bytes.
-impl<'a, 'k, H: BlockHash> Blocks<IntoEntries<H>> for Cut<'k, Trusted<'a, H>> {
-    ghost reading = { made_reading };
-
-    fn open(
-        &mut self,
-        _alloc: Global,
-        index: usize,
-        block: &mut Option<IntoEntries<H>>,
-    ) -> Result<()> {
-        let mut entries = self.run.block_at(index)?.into_entries();
-        self.bounds.cut(&mut entries);
-        // The proof needs the bound on their number.
-        let _count = IntoEntries::count_left(&entries);
-        *block = Some(entries);
-        Ok(())
-    }
-
-    ghost laws = { sound_laws (λ e. e ≡ Memory) };
 }

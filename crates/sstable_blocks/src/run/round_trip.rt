@@ -39,7 +39,7 @@ pub fn write_and_read<H: BlockHash>(
 {
     blocks_are_the_list::<InternalValue>();
     let mut bytes = Vec::new(alloc);
-    let handles = write_run::<H, Vec<u8>>(alloc, &mut bytes, items, cuts, config)?;
+    let handles = write_run::<H, InternalValue, Vec<u8>>(alloc, &mut bytes, items, cuts, config)?;
     let bytes = Slice::from_vec(bytes)?;
     read_entry::<H>(alloc, &bytes, &handles, needle, seqno, &mut Steps::new())
 }

@@ -1,11 +1,10 @@
 //! What is kept while a run is written.
 ghost use Rattle.std.specs.Prelude.{◌≡◌, ◌≢◌, ◌↔◌, ◌⊎◌, ◌+◌};
 ghost use Rattle.std.specs.Prelude.{◌*◌, ◌≤◌, ◌<◌, [], ◌∷◌, ◌++◌};
-ghost use Rattle.std.specs.Prelude.{length};
+ghost use Rattle.std.specs.Prelude.{length, map, take};
 ghost use Rattle.std.specs.Prelude.{OnOk, OnErr, IfOk, IfErr, IfSome, IsNone, IsTrue, IsOkUnless};
 ghost use Rattle.std.specs.Prelude.{◌^◌};
 ghost use Rattle.std.specs.Io.KnownBytes.{Appends};
-ghost use Rattle.std.specs.Vec.{vec_len, vec_capacity};
 ghost use Rattle.sst_base.specs.declared.error.Error.TheVariants.{Io, TooLong};
 ghost use Rattle.sst_base.specs.declared.table.block.block_type.BlockType.TheVariants.{Index};
 ghost use Rattle.sst_base.specs.Frame.{frame};
@@ -29,7 +28,7 @@ use sst_base::table::block::header::HEADER_LEN;
 use sst_base::{
     Block, BlockHandle, BlockHash, BlockOffset, BlockType, Error, History, InternalValue, Result,
 };
-use sst_block_core::{DataBlock, IndexBlock, KeyedBlockHandle};
+use sst_block_core::{AsEntry, EntryView, IndexBlock, KeyedBlockHandle};
 use std::alloc::Global;
 use std::collections::LinkedList;
 use std::io::Write;
@@ -85,26 +84,25 @@ impl<H: BlockHash> RunCore<H> {
     }
 
     /// Returns whether entries can be the next block.
-    pub(crate) fn fits_after(&self, items: &[InternalValue]) -> bool
-        ensures { IsTrue result ↔ Follows self.now.blocks items.now }
+    pub(crate) fn fits_after<T: AsEntry>(&self, items: &[T]) -> bool
+        ensures { IsTrue result ↔ Follows self.now.blocks (map T.entry items.now) }
     {
         match items.first() {
             None => false,
-            Some(first) => DataBlock::<H>::is_ordered(items) && self.is_behind(first),
+            Some(first) => T::are_ordered(items) && self.is_behind(&first.view()),
         }
     }
 
     // Returns whether an entry does not sort before the last one of the blocks accepted.
-    fn is_behind(&self, item: &InternalValue) -> bool
+    fn is_behind(&self, item: &EntryView<'_>) -> bool
         ensures behind { IsTrue result ↔ FollowsLast self.now.blocks item.now }
         ensures ordered { IsOrdered entries (joined self.now.blocks) }
     {
         match self.handles.last() {
             None => true,
             Some(handle) => {
-                let key = InternalValue::key(item);
-                let by_key = key.user_key().cmp(handle.end_key());
-                by_key.then(handle.seqno().cmp(&key.seqno())).is_ge()
+                let by_key = item.compare_key(handle.end_key().as_slice());
+                by_key.then(handle.seqno().cmp(&item.seqno())).is_ge()
             }
         }
     }
@@ -124,39 +122,39 @@ impl<H: BlockHash> RunCore<H> {
     ///
     /// `Error::TooLong` only where the block does not fit, `Error::Memory` if an allocation fails;
     /// nothing is written then. `Error::Io` if the writer fails. The block is not accepted.
-    pub(crate) fn add_block<W: Write>(
+    pub(crate) fn add_block<T: AsEntry, W: Write>(
         &mut self,
         writer: &mut W,
-        items: &[InternalValue],
+        items: &[T],
     ) -> Result<()>
-        requires follows { Follows self.old.blocks items.now }
+        requires follows { Follows self.old.blocks (map T.entry items.now) }
         requires den { 1 ≤ self.old.config.ratio.den }
         ensures config { self.new.config ≡ self.old.config }
-        ensures accepted { OnOk result (self.new.blocks ≡ self.old.blocks ++ items.now ∷ []) }
+        ensures accepted { OnOk result
+            (self.new.blocks ≡ self.old.blocks ++ map T.entry items.now ∷ []) }
         ensures bytes { OnOk result
             (Appends (W.contents writer.old) (W.contents writer.new)
-            (block_frame (form H.hash64 H.hash128 self.old.config) items.now)) }
+            (block_frame (form H.hash64 H.hash128 self.old.config) (map T.entry items.now))) }
         ensures kept { OnErr result (self.new.blocks ≡ self.old.blocks) }
         ensures untouched { IfErr result (λ e. e ≢ Io → writer.new ≡ writer.old) }
         ensures cause { let f = form H.hash64 H.hash128 self.old.config in
             IfErr result
             (IsWriteRefusal
-            (FrameFits f (length (block_frames f self.old.blocks)) items.now → ⊥)) }
+            (FrameFits f (length (block_frames f self.old.blocks)) (map T.entry items.now) → ⊥)) }
     {
-        let last = InternalValue::key(&items[items.len() - 1]);
-        let end_key = last.user_key().clone()?;
-        self.handles.try_reserve(1)?;
-        let hashed = hashed_items(items, &self.config);
-        self.hashes.try_reserve(hashed.len())?;
         let (config, offset) = (self.config, self.offset);
-        let (size, end) = framed_block::<H>(&mut self.payload, items, &config, offset)?;
-        let place = BlockHandle::new(BlockOffset(offset), size);
-        let handle = KeyedBlockHandle::new(end_key, last.seqno(), place);
-        write_frame::<H, W>(writer, &self.payload, BlockType::Data)?;
+        let (size, end) = framed_block::<H, T>(&mut self.payload, items, &config, offset)?;
+        let handle = handle_at(*self.handles.allocator(), &items[items.len() - 1], offset, size)?;
+        self.handles.try_reserve(1)?;
+        let known = self.hashes.len();
+        push_hashes::<H, T>(&mut self.hashes, hashed_items(items, &config))?;
+        if let Err(error) = write_frame::<H, W>(writer, &self.payload, BlockType::Data) {
+            self.hashes.truncate(known);
+            return Err(error);
+        }
         let _room = self.handles.push(handle);
-        push_hashes::<H>(&mut self.hashes, hashed);
         self.offset = end;
-        self.accepted.push_list(items);
+        self.accepted.push_chosen(&items);
         Ok(())
     }
 
@@ -237,27 +235,50 @@ impl<H: BlockHash> RunCore<H> {
     }
 }
 
+// The handle of a block that ends with this item, whose frame is at an offset and has this many
+// bytes.
+fn handle_at<T: AsEntry>(
+    alloc: Global,
+    last: &T,
+    offset: u64,
+    size: u32,
+) -> Result<KeyedBlockHandle>
+    ensures ok { IfOk result (λ handle. handle ≡ record {
+      offset = offset;
+      size = size;
+      seqno = (T.entry last.now).key.seqno;
+      end_key = (T.entry last.now).key.user_key;
+    }) }
+    ensures memory { IsOkUnless result Error.Memory }
+{
+    let last = last.view();
+    let end_key = last.to_user_key(alloc)?;
+    let place = BlockHandle::new(BlockOffset(offset), size);
+    Ok(KeyedBlockHandle::new(end_key, last.seqno(), place))
+}
+
 // Makes the payload of a block. Returns the length of its frame, and the offset after it.
-fn framed_block<H: BlockHash>(
+fn framed_block<H: BlockHash, T: AsEntry>(
     payload: &mut Vec<u8>,
-    items: &[InternalValue],
+    items: &[T],
     config: &RunConfig,
     offset: u64,
 ) -> Result<(u32, u64)>
-    requires some { IsNotEmpty items.now }
-    requires ordered { IsOrdered entries items.now }
+    requires some { 1 ≤ length items.now }
+    requires ordered { IsOrdered entries (map T.entry items.now) }
     requires interval { 1 ≤ config.now.restart_interval }
     requires den { 1 ≤ config.now.ratio.den }
     ensures ok { IfOk result
         (λ r.
-        IsFramedBlock (form H.hash64 H.hash128 config.now) offset items.now payload.new.items r.0
-        r.1) }
+        IsFramedBlock (form H.hash64 H.hash128 config.now) offset (map T.entry items.now)
+        payload.new.items r.0 r.1) }
     ensures cause { IfErr result
-        (IsWriteRefusal (FrameFits (form H.hash64 H.hash128 config.now) offset items.now → ⊥)) }
+        (IsWriteRefusal
+        (FrameFits (form H.hash64 H.hash128 config.now) offset (map T.entry items.now) → ⊥)) }
     ensures not_io { IfErr result (λ e. e ≢ Io) }
 {
     payload.clear();
-    match DataBlock::<H>::encode_into(payload, items, config.restart_interval, config.ratio) {
+    match T::encode_into::<H>(payload, items, config.restart_interval, config.ratio) {
         Err(e) => Err(e),
         Ok(()) => match frame_end(payload.len(), offset) {
             Some((size, end)) => Ok((size, end)),
@@ -322,21 +343,40 @@ fn write_part<H: BlockHash, W: Write>(
 }
 
 // The entries whose keys the filter takes: all, or none where there is no filter.
-fn hashed_items<'a>(items: &'a [InternalValue], config: &RunConfig) -> &'a [InternalValue]
+fn hashed_items<'a, T>(items: &'a [T], config: &RunConfig) -> &'a [T]
     ensures { 1 ≤ config.now.bits_per_key → result.now ≡ items.now }
 {
     if config.bits_per_key == 0 { &[] } else { items }
 }
 
-// Keeps the hashes of the keys of entries, for which there is capacity.
-fn push_hashes<H: BlockHash>(hashes: &mut Vec<u64>, items: &[InternalValue])
-    requires { vec_len hashes.old + length items.now ≤ vec_capacity hashes.old }
-    ensures { hashes.new.items ≡ hashes.old.items ++ key_hashes H.hash64 items.now }
+// Keeps the hashes of the keys of entries, or of none of them.
+fn push_hashes<H: BlockHash, T: AsEntry>(hashes: &mut Vec<u64>, items: &[T]) -> Result<()>
+    ensures ok { OnOk result (hashes.new.items
+        ≡ hashes.old.items ++ key_hashes H.hash64 (map T.entry items.now)) }
+    ensures err { OnErr result (hashes.new.items ≡ hashes.old.items) }
+    ensures memory { IsOkUnless result Error.Memory }
 {
-    for item in items {
-        let hash = H::hash64(InternalValue::key(item).user_key().as_slice());
-        let _room = hashes.push(hash);
+    let known = hashes.len();
+    let pushed = push_all::<H, T>(hashes, items);
+    if pushed.is_err() {
+        hashes.truncate(known);
     }
+    pushed
+}
+
+// Pushes the hashes of the keys of entries, or of the first of them.
+fn push_all<H: BlockHash, T: AsEntry>(hashes: &mut Vec<u64>, items: &[T]) -> Result<()>
+    ensures ok { OnOk result (hashes.new.items
+        ≡ hashes.old.items ++ key_hashes H.hash64 (map T.entry items.now)) }
+    ensures kept { take (length hashes.old.items) hashes.new.items ≡ hashes.old.items }
+    ensures memory { IsOkUnless result Error.Memory }
+{
+    let alloc = *hashes.allocator();
+    hashes.try_reserve(items.len())?;
+    for item in items {
+        hashes.push(item.view().hash_key::<H>(alloc)?)?;
+    }
+    Ok(())
 }
 
 // The payload of the filter of hashes.

@@ -14,7 +14,7 @@ ghost use Rattle.sstable_blocks.specs.ReadCosts.{heads_most_in, entries_most_in}
 ghost use Rattle.sstable_blocks.specs.ReadCosts.{heads_most_by, entries_most_by};
 ghost use Rattle.sstable_blocks.specs.Opened.{range_of};
 ghost use Rattle.sstable_blocks.specs.RunChecks.{check_run as run_checked, summary_of};
-ghost use Rattle.sstable_blocks.specs.RunReading.{hashes, items_at, handles_at, filter_answer};
+ghost use Rattle.sstable_blocks.specs.RunReading.{hashes, items_at, handles_at};
 ghost use Rattle.sstable_blocks.specs.RunReading.{read_checked};
 ghost use Rattle.sstable_blocks.specs.Sound.{IsSound};
 ghost use Rattle.sstable_blocks.specs.Sources.{FailsAs, GivesOr, KeepsSource, filter_frames};
@@ -25,13 +25,12 @@ use super::RunHandles;
 use super::checked::{block_from, data_block_from, read_in_block};
 use super::checking::{RunSummary, check};
 use super::footer::read_footer;
+use super::kept_filter::KeptFilter;
 use super::laws::sound_is_read;
 use super::run_ref::RunRef;
 use super::search::IndexSearch;
-use super::source::{BorrowedSource, FrameSource, MemorySource, SizedSource};
-use super::trusted::Trusted;
+use super::source::{FrameSource, MemorySource, SizedSource};
 use crate::table::filter::FilterBlock;
-use crate::table::filter::standard_bloom::StandardBloomFilterReader;
 use sst_base::{BlockHandle, BlockHash, BlockType, Error, InternalValue, Result, SeqNo, Steps};
 use sst_block_core::laws::index_check_is_by_stages;
 use sst_block_core::{DataBlock, IndexBlock};
@@ -48,7 +47,7 @@ use std::marker::{Model, PhantomData};
 pub struct Table<H: BlockHash, S: FrameSource> {
     source: S,
     handles: RunHandles,
-    filter: Option<FilterBlock>,
+    filter: Option<KeptFilter>,
     index: IndexBlock,
     hash: PhantomData<H>,
 }
@@ -64,14 +63,13 @@ impl<H: BlockHash, S: FrameSource> Model for Table<H, S> {
     ghost view = { λ t. record {
       source = t.source;
       handles = t.handles;
-      filter = option_map (λ b. b.payload) t.filter;
+      filter = t.filter;
       index = t.index.items;
       interval = t.index.interval;
     } };
 
     ghost invariant = { λ t. IfSome (S.bytes t.source)
-        (IsKeptOf (hashes H.hash64 H.hash128) t.handles (option_map (λ b. b.payload) t.filter)
-        t.index.items t.index.interval)
+        (IsKeptOf (hashes H.hash64 H.hash128) t.handles t.filter t.index.items t.index.interval)
         × (t.index.heads ≡ true) };
 }
 
@@ -97,44 +95,32 @@ fn filter_block_from<H: BlockHash, S: FrameSource>(
     alloc: Global,
     source: &mut S,
     filter: &Option<BlockHandle>,
-) -> Result<Option<FilterBlock>>
+) -> Result<Option<KeptFilter>>
     ensures source { KeepsSource S.bytes S.failures S.is_reliable source.old source.new }
     ensures reads { OnOk result
         (S.reads source.new ≡ S.reads source.old + filter_frames filter.now) }
     ensures io { IfErr result (λ e. e ≡ Io → S.failures source.old < S.failures source.new) }
     ensures exact { IfSome (S.bytes source.old)
         (λ all. GivesOr (S.failures source.old < S.failures source.new) (S.is_reliable source.old)
-        (option_map (λ b. b.payload)) result
-        (filter_kept (hashes H.hash64 H.hash128) all filter.now)) }
+        (λ f. f) result (filter_kept (hashes H.hash64 H.hash128) all filter.now)) }
 {
     match filter {
         None => Ok(None),
         Some(handle) => {
             let block = block_from::<H, S>(alloc, source, handle, BlockType::Filter)?;
-            let payload = block.data().as_slice();
-            StandardBloomFilterReader::new(payload)?;
-            Ok(Some(FilterBlock::new(block)))
+            Ok(Some(KeptFilter::read(block)?))
         }
     }
 }
 
-// What a filter that was kept says of a hash.
-fn query_kept(filter: &FilterBlock, hash: u64) -> Result<bool>
-    ensures exact { result ≡ filter_answer filter.now.payload hash }
-    ensures not_io { IfErr result (λ e. e ≢ Io) }
-{
-    filter.maybe_contains_hash(hash)
-}
-
 // Whether a run can have a key, by the filter that was kept, if there is one.
-fn kept_allows<H: BlockHash>(filter: &Option<FilterBlock>, needle: &[u8]) -> Result<bool>
-    ensures exact { result
-        ≡ kept_says H.hash64 (option_map (λ b. b.payload) filter.now) needle.now }
-    ensures not_io { IfErr result (λ e. e ≢ Io) }
+#[inline(always)]
+fn kept_allows<H: BlockHash>(filter: &Option<KeptFilter>, needle: &[u8]) -> bool
+    ensures { Ok result ≡ kept_says H.hash64 filter.now needle.now }
 {
     match filter {
-        None => Ok(true),
-        Some(filter) => query_kept(filter, H::hash64(needle)),
+        None => true,
+        Some(filter) => filter.allows(H::hash64(needle)),
     }
 }
 
@@ -178,17 +164,16 @@ fn kept_from<H: BlockHash, S: FrameSource>(
     alloc: Global,
     source: &mut S,
     handles: &RunHandles,
-) -> Result<(Option<FilterBlock>, IndexBlock)>
+) -> Result<(Option<KeptFilter>, IndexBlock)>
     ensures source { KeepsSource S.bytes S.failures S.is_reliable source.old source.new }
     ensures reads { OnOk result
         (S.reads source.new ≡ S.reads source.old + (filter_frames handles.now.filter + 1)) }
     ensures io { IfErr result (λ e. e ≡ Io → S.failures source.old < S.failures source.new) }
     ensures kept { IfSome (S.bytes source.old) (λ all. IfOk result
-        (λ k. IsKeptOf (hashes H.hash64 H.hash128) handles.now (option_map (λ b. b.payload) k.0)
-        k.1.items k.1.interval all)) }
+        (λ k. IsKeptOf (hashes H.hash64 H.hash128) handles.now k.0 k.1.items k.1.interval all)) }
     ensures exact { IfSome (S.bytes source.old)
         (λ all. GivesOr (S.failures source.old < S.failures source.new) (S.is_reliable source.old)
-        (λ k. (option_map (λ b. b.payload) k.0, k.1.items)) result
+        (λ k. (k.0, k.1.items)) result
         (kept_of (hashes H.hash64 H.hash128) all handles.now)) }
     ensures heads { IfOk result (λ k. k.1.heads ≡ true) }
 {
@@ -201,7 +186,7 @@ fn kept_from<H: BlockHash, S: FrameSource>(
 fn read_by_kept<H: BlockHash, S: FrameSource>(
     alloc: Global,
     source: &mut S,
-    filter: &Option<FilterBlock>,
+    filter: &Option<KeptFilter>,
     index: &IndexSearch<'_>,
     needle: &[u8],
     seqno: SeqNo,
@@ -209,23 +194,20 @@ fn read_by_kept<H: BlockHash, S: FrameSource>(
 ) -> Result<Option<InternalValue>>
     ensures source { KeepsSource S.bytes S.failures S.is_reliable source.old source.new }
     ensures reads { S.reads source.new ≤ S.reads source.old
-        + frames_by (kept_says H.hash64 (option_map (λ b. b.payload) filter.now) needle.now) }
+        + frames_by (kept_says H.hash64 filter.now needle.now) }
     ensures io { IfErr result (λ e. e ≡ Io → S.failures source.old < S.failures source.new) }
     ensures exact { IfSome (S.bytes source.old)
         (λ all. GivesOr (S.failures source.old < S.failures source.new)
         (S.is_reliable source.old) (λ x. x) result
-        (read_kept (hashes H.hash64 H.hash128) all (option_map (λ b. b.payload) filter.now)
-        index.now.items needle.now seqno)) }
+        (read_kept (hashes H.hash64 H.hash128) all filter.now index.now.items needle.now seqno)) }
     ensures counts { IfSome (S.bytes source.old)
         (λ all. CountsBetween steps.old steps.new (0, 0) (
           heads_most_by all index.now.items index.now.interval needle.now seqno,
           entries_most_by all index.now.items index.now.interval needle.now seqno,
         )) }
-    ensures looked { LooksBy
-        (kept_says H.hash64 (option_map (λ b. b.payload) filter.now) needle.now)
-        steps.old steps.new }
+    ensures looked { LooksBy (kept_says H.hash64 filter.now needle.now) steps.old steps.new }
 {
-    if !kept_allows::<H>(filter, needle)? {
+    if !kept_allows::<H>(filter, needle) {
         return Ok(None);
     }
     let handle = index.find(needle, seqno, steps);
@@ -301,7 +283,10 @@ impl<H: BlockHash, S: FrameSource> Table<H, S> {
     pub fn filter(&self) -> Option<&FilterBlock>
         ensures { option_map (λ f. f.now.payload) result ≡ self.now.filter }
     {
-        self.filter.as_ref()
+        match &self.filter {
+            None => None,
+            Some(filter) => Some(filter.block()),
+        }
     }
 
     /// Returns the index, with the table of its heads.
@@ -447,29 +432,16 @@ impl<H: BlockHash, S: SizedSource> Table<H, S> {
 }
 
 impl<H: BlockHash> Table<H, MemorySource> {
-    /// Views a table over a sound run in memory, as [`Table::verify`] accepts one: it is then read
-    /// without checks and checksums. Nothing is tested.
-    pub fn trusted(&self) -> Trusted<'_, H>
+    /// Returns the run of a table in memory, which is sound, as [`Table::verify`] finds out: it is
+    /// read without checks and checksums, by the index and the table of its heads that were kept.
+    /// Nothing is tested.
+    pub fn trusted(&self) -> RunRef<'_, H>
         requires { (blocks : List (List Entry))
             × IsSound (hashes H.hash64 H.hash128) blocks self.now.source.inner self.now.handles }
         ensures { result
             ≡ record { bytes = self.now.source.inner; handles = self.now.handles } }
     {
         let index = IndexSearch::new(self.index.by_ref());
-        Trusted::new(self.source.bytes(), &self.handles, index)
-    }
-}
-
-impl<'a, H: BlockHash> Table<H, BorrowedSource<'a>> {
-    /// Returns the run without checks, over the bytes that the table's source borrows, with the
-    /// index and the filter that the table keeps. The bytes are a sound run, as `verify` finds out.
-    pub fn trusted_ref(&self) -> RunRef<'_, H>
-        requires { (blocks : List (List Entry))
-            × IsSound (hashes H.hash64 H.hash128) blocks self.now.source.inner self.now.handles }
-        ensures { result
-            ≡ record { bytes = self.now.source.inner; handles = self.now.handles } }
-    {
-        let index = IndexSearch::new(self.index.by_ref());
-        RunRef::with_index(self.source.bytes(), &self.handles, index)
+        RunRef::with_index(self.source.bytes().as_slice(), &self.handles, index)
     }
 }

@@ -1,5 +1,5 @@
 //! Writing a run whose entries are all in memory.
-ghost use Rattle.std.specs.Prelude.{◌↔◌, ◌≤◌, length, IsTrue, IfOk};
+ghost use Rattle.std.specs.Prelude.{◌↔◌, ◌≤◌, length, map, IsTrue, IfOk};
 ghost use Rattle.std.specs.Prelude.{IfErr};
 ghost use Rattle.sst_block_core.specs.Entries.{entries};
 ghost use Rattle.sst_block_core.specs.Kind.{IsOrdered};
@@ -12,6 +12,7 @@ use super::laws::blocks_are_the_list;
 use super::run_core::RunCore;
 use super::{RunConfig, RunHandles};
 use sst_base::{BlockHash, InternalValue, Result};
+use sst_block_core::AsEntry;
 use std::alloc::Global;
 use std::io::Write;
 
@@ -31,7 +32,7 @@ pub fn cuts_fit(len: usize, cuts: &[usize]) -> bool
     true
 }
 
-/// Writes a run: an ordered list of entries, at least one, cut into blocks where `cuts` says. The
+/// Writes a run: an ordered list of entries or of views, at least one, cut into blocks where `cuts` says. The
 /// frames of the blocks come first, then that of the index, then, if there are bits for it, that of
 /// the filter.
 ///
@@ -44,26 +45,28 @@ pub fn cuts_fit(len: usize, cuts: &[usize]) -> bool
 /// 34359737920 bits, or all frames 2^64 bytes or more; `Error::Memory` if an allocation fails;
 /// `Error::Io` if the writer fails, as a vector does whose allocation fails. The writer may then
 /// hold a partial write of the run.
-pub fn write_run<H: BlockHash, W: Write>(
+pub fn write_run<H: BlockHash, T: AsEntry, W: Write>(
     alloc: Global,
     writer: &mut W,
-    items: &[InternalValue],
+    items: &[T],
     cuts: &[usize],
     config: RunConfig,
 ) -> Result<RunHandles>
     requires some { 1 ≤ length items.now }
-    requires ordered { IsOrdered entries items.now }
+    requires ordered { IsOrdered entries (map T.entry items.now) }
     requires cuts { CutsFit 0 (length items.now) cuts.now }
     requires writable { IsWritable config }
     ensures layout { IfOk result
-        (AppendsLayout (form H.hash64 H.hash128 config) (blocks_of cuts.now items.now)
+        (AppendsLayout (form H.hash64 H.hash128 config)
+        (blocks_of cuts.now (map T.entry items.now))
         (W.contents writer.old) (W.contents writer.new)) }
     ensures sound { IfOk result
-        (AppendsSound (hashes H.hash64 H.hash128) (blocks_of cuts.now items.now)
+        (AppendsSound (hashes H.hash64 H.hash128) (blocks_of cuts.now (map T.entry items.now))
         (W.contents writer.old) (W.contents writer.new)) }
     ensures cause { IfErr result
         (IsWriteRefusal
-        (RunFits (form H.hash64 H.hash128 config) (blocks_of cuts.now items.now) → ⊥)) }
+        (RunFits (form H.hash64 H.hash128 config) (blocks_of cuts.now (map T.entry items.now))
+        → ⊥)) }
 {
     blocks_are_the_list::<InternalValue>();
     let mut core = RunCore::<H>::new(alloc, config);

@@ -1,6 +1,6 @@
 //! Writing a run block by block.
 ghost use Rattle.std.specs.Prelude.{◌≡◌, ◌≢◌, ◌↔◌, ◌+◌, ◌^◌, ◌≤◌, []};
-ghost use Rattle.std.specs.Prelude.{◌∷◌, ◌++◌, length, IsTrue, None, Some};
+ghost use Rattle.std.specs.Prelude.{◌∷◌, ◌++◌, length, map, IsTrue, None, Some};
 ghost use Rattle.std.specs.Prelude.{OnOk, IfOk, IfErr, IfSome, MatchResult, Err};
 ghost use Rattle.std.specs.Io.KnownBytes.{Appends};
 ghost use Rattle.sst_base.specs.declared.error.Error.TheVariants.{Io, TooLong};
@@ -15,7 +15,8 @@ use super::footer::{FOOTER_LEN, end_table};
 use super::run_core::RunCore;
 use super::sync::SyncWrite;
 use super::{RunConfig, RunHandles};
-use sst_base::{BlockHash, Contents, Error, InternalValue, Result};
+use sst_base::{BlockHash, Contents, Error, Result};
+use sst_block_core::AsEntry;
 use std::alloc::Global;
 use std::io::Write;
 use std::marker::Model;
@@ -74,8 +75,8 @@ impl<H: BlockHash, W: Write> RunWriter<H, W> {
 
     /// Returns whether entries can be the next block: there is one, none sorts before its
     /// predecessor, and the first not before the last entry of the blocks accepted.
-    pub fn fits_after(&self, items: &[InternalValue]) -> bool
-        ensures { IsTrue result ↔ Follows self.now.blocks items.now }
+    pub fn fits_after<T: AsEntry>(&self, items: &[T]) -> bool
+        ensures { IsTrue result ↔ Follows self.now.blocks (map T.entry items.now) }
     {
         self.core.fits_after(items)
     }
@@ -95,23 +96,23 @@ impl<H: BlockHash, W: Write> RunWriter<H, W> {
     /// frames of all blocks 2^64 bytes or more, `Error::Memory` if an allocation fails; nothing is
     /// written then. `Error::Io` if the writer fails. The block is not accepted, and from then on
     /// every call returns the same error, and does not touch the writer.
-    pub fn add_block(&mut self, items: &[InternalValue]) -> Result<()>
-        requires { Follows self.old.blocks items.now }
+    pub fn add_block<T: AsEntry>(&mut self, items: &[T]) -> Result<()>
+        requires { Follows self.old.blocks (map T.entry items.now) }
         ensures run { IsSameRun self.old self.new }
         ensures blocks { MatchResult result
-            (λ ok. self.new.blocks ≡ self.old.blocks ++ items.now ∷ [])
+            (λ ok. self.new.blocks ≡ self.old.blocks ++ map T.entry items.now ∷ [])
             (λ e. self.new.blocks ≡ self.old.blocks) }
         ensures refusal { MatchResult result (λ ok. self.new.refusal ≡ None)
             (λ e. self.new.refusal ≡ Some e) }
         ensures repeated { IfSome self.old.refusal (RepeatsError self.old self.new result) }
         ensures bytes { OnOk result
             (Appends (W.contents self.old.writer) (W.contents self.new.writer)
-            (block_frame (form H.hash64 H.hash128 self.old.config) items.now)) }
+            (block_frame (form H.hash64 H.hash128 self.old.config) (map T.entry items.now))) }
         ensures untouched { IfErr result (λ e. e ≢ Io → self.new.writer ≡ self.old.writer) }
         ensures cause { let f = form H.hash64 H.hash128 self.old.config in self.old.refusal ≡ None
             → IfErr result
             (IsWriteRefusal
-            (FrameFits f (length (block_frames f self.old.blocks)) items.now → ⊥)) }
+            (FrameFits f (length (block_frames f self.old.blocks)) (map T.entry items.now) → ⊥)) }
     {
         if let Some(refusal) = self.refusal {
             return Err(refusal);

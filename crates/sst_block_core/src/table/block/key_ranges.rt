@@ -52,33 +52,6 @@ pub fn compare_ranges(
     }
 }
 
-// Compares two keys, each by a prefix and the bytes after it. The first prefix is at least as long
-// as the second.
-fn compare_longer(prefix: &[u8], rest: &[u8], shorter: &[u8], other: &[u8]) -> Ordering
-    requires { length shorter.now ≤ length prefix.now }
-    ensures { result
-        ≡ slice_cmp nat_cmp (prefix.now ++ rest.now) (shorter.now ++ other.now) }
-{
-    let (front, more) = prefix.split_at(shorter.len());
-    match compare_bytes(front, shorter) {
-        Ordering::Equal => compare_prefixed_slice(more, rest, other),
-        decided => decided,
-    }
-}
-
-/// Compares two keys, each by a prefix and the bytes after it, which may be of two payloads. Nothing
-/// is joined.
-pub fn compare_parts(prefix: &[u8], rest: &[u8], other_prefix: &[u8], other_rest: &[u8]) -> Ordering
-    ensures { result
-        ≡ slice_cmp nat_cmp (prefix.now ++ rest.now) (other_prefix.now ++ other_rest.now) }
-{
-    if prefix.len() < other_prefix.len() {
-        compare_longer(other_prefix, other_rest, prefix, rest).reverse()
-    } else {
-        compare_longer(prefix, rest, other_prefix, other_rest)
-    }
-}
-
 /// Makes the key: a sub-slice of the payload, or prefix and rest joined.
 ///
 /// # Errors

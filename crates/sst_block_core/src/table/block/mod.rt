@@ -11,6 +11,7 @@ pub(crate) mod form_reader;
 pub mod hash_index;
 pub mod heads;
 pub mod intervals;
+pub mod key_parts;
 pub mod key_ranges;
 pub(crate) mod place;
 pub(crate) mod positions;

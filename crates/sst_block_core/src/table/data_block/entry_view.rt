@@ -1,37 +1,48 @@
 //! Entries that borrow the bytes of their block, and the iterator over them.
-ghost use Rattle.std.specs.Prelude.{◌≡◌, ◌↔◌, ◌++◌, IfOk, IsOkUnless, IsTrue, length, refl};
+ghost use Rattle.std.specs.Prelude.{◌≡◌, ◌↔◌, ◌++◌, IfOk, IfSome, IsOkUnless, IsSome, IsTrue, length, refl, ◌≤◌};
 ghost use Rattle.std.specs.Ordering.{nat_cmp};
 ghost use Rattle.std.specs.Cmp.Lexicographic.{slice_cmp};
 ghost use Rattle.std.specs.Iterator.{YieldsFirst, YieldsLast, item_count};
+ghost use Rattle.sst_base.specs.Entry.{IsEntry};
+ghost use Rattle.sst_base.specs.SharedPrefix.{shared_prefix_length};
 ghost use Rattle.sst_base.specs.ValueType.{IsTombstone};
-ghost use Rattle.sst_block_core.specs.Entries.{entries};
+ghost use Rattle.sst_block_core.specs.Entries.{entries, entry_with};
 ghost use Rattle.sst_block_core.specs.Found.{IsOptionalRange, optional_range};
 ghost use Rattle.sst_block_core.specs.Kind.{item_cmp};
 ghost use Rattle.sst_block_core.specs.Window.{items_left};
 ghost use Rattle.sst_block_core.specs.ParsedEntry.{entry_of, IsParsedEntry};
 ghost use Rattle.sst_block_core.specs.Tombstones.{is_tombstone};
 
-use crate::table::block::key_ranges::{bytes_of, compare_parts};
+use crate::table::block::key_parts::{KeyParts, compare_parts, hash_parts, shared_len};
+use crate::table::block::key_ranges::bytes_of;
 use crate::table::data_block::block_ref::DataBlockRef;
 use crate::table::data_block::iter::Iter;
 use crate::table::data_block::parsed_item::DataBlockParsedItem;
 use sst_base::double_ended_peekable::ListIterator;
+use sst_base::key::MAX_KEY_LEN;
 use sst_base::table::util::{SliceIndexes, compare_prefixed_slice};
 use sst_base::{
-    AllocResult, BlockHash, Error, InternalValue, Result, SeqNo, Slice, TypeWord, ValueType,
+    AllocResult, BlockHash, Error, InternalValue, Result, SeqNo, Slice, TypeWord, UserKey,
+    ValueType,
 };
 use std::alloc::Global;
 use std::cmp::Ordering;
 use std::marker::Model;
 
-/// An entry of a block, whose parts borrow the bytes of the block's payload. Clauses see the entry.
+/// The greatest length of a value in bytes.
+const MAX_VALUE_LEN: usize = 4_294_967_295;
+
+/// An entry whose key and value are borrowed: from the payload of a block, from an
+/// [`InternalValue`], or from wherever else an entry is held, such as a memory table. Takes no
+/// memory. Clauses see the entry.
 #[derive(Drop)]
 pub struct EntryView<'a> {
-    // The bytes that the key shares with the head of its restart interval, none in a full form.
+    // The bytes that the key shares with the head of its restart interval, none where it is held
+    // whole.
     prefix: &'a [u8],
     // The key's own bytes.
     rest: &'a [u8],
-    // The value, empty for a tombstone.
+    // The value; of an entry of a block, empty for a tombstone.
     value: &'a [u8],
     seqno: SeqNo,
     value_type: TypeWord,
@@ -90,6 +101,60 @@ impl<'a> EntryView<'a> {
         }
     }
 
+    /// Returns the entry of its parts, or `None` if they are not within the limits of an entry: a
+    /// user key of 1 to 65535 bytes, and a value of at most 2^32 - 1 bytes.
+    pub fn of_parts(
+        user_key: &'a [u8],
+        value: &'a [u8],
+        seqno: SeqNo,
+        value_type: ValueType,
+    ) -> Option<EntryView<'a>>
+        ensures entry { IfSome result
+            (λ e. e ≡ entry_with user_key.now value.now seqno value_type) }
+        ensures limits { IsSome result
+            ↔ IsEntry (entry_with user_key.now value.now seqno value_type) }
+    {
+        if user_key.is_empty() || user_key.len() > MAX_KEY_LEN || value.len() > MAX_VALUE_LEN {
+            return None;
+        }
+        Some(EntryView {
+            prefix: &[],
+            rest: user_key,
+            value,
+            seqno,
+            value_type: TypeWord::new(value_type),
+        })
+    }
+
+    /// Views an entry.
+    #[inline(always)]
+    pub fn of(entry: &'a InternalValue) -> EntryView<'a>
+        ensures { result ≡ entry.now }
+    {
+        let key = entry.key();
+        EntryView {
+            prefix: &[],
+            rest: key.user_key().as_slice(),
+            value: entry.value().as_slice(),
+            seqno: key.seqno(),
+            value_type: TypeWord::new(key.value_type()),
+        }
+    }
+
+    /// Returns another view of the same entry, which borrows the same bytes.
+    #[inline(always)]
+    pub fn again(&self) -> EntryView<'a>
+        ensures { result ≡ self.now }
+    {
+        EntryView {
+            prefix: self.prefix,
+            rest: self.rest,
+            value: self.value,
+            seqno: self.seqno,
+            value_type: self.value_type.again(),
+        }
+    }
+
     /// Returns its sequence number.
     #[inline(always)]
     pub fn seqno(&self) -> SeqNo
@@ -118,13 +183,47 @@ impl<'a> EntryView<'a> {
     /// restart interval, none in a full form, and the key's own bytes. Joined they are the user
     /// key.
     #[inline(always)]
-    pub fn key_parts(&self) -> (&'a [u8], &'a [u8])
-        ensures { result.0.now ++ result.1.now ≡ self.now.key.user_key }
+    pub fn key_parts(&self) -> KeyParts<'a>
+        ensures value { result.0.now ++ result.1.now ≡ self.now.key.user_key }
+        ensures fits { IsEntry self.now }
     {
+        // The proof needs the range of the sequence number.
+        let _range = self.seqno;
         (self.prefix, self.rest)
     }
 
-    /// Returns its value, which is empty for a tombstone.
+    /// Returns the length of its user key in bytes, 1 to 65535.
+    #[inline(always)]
+    pub fn key_len(&self) -> usize
+        ensures value { result ≡ length self.now.key.user_key }
+        ensures limit { result ≤ 65535 }
+    {
+        self.prefix.len() + self.rest.len()
+    }
+
+    /// Returns the length of the longest prefix that its user key shares with that of another
+    /// entry.
+    #[inline(always)]
+    pub fn shared_key_len(&self, other: &EntryView<'_>) -> usize
+        ensures { result
+            ≡ shared_prefix_length self.now.key.user_key other.now.key.user_key }
+    {
+        shared_len(self.key_parts(), other.key_parts())
+    }
+
+    /// Makes its user key: copies it.
+    ///
+    /// # Errors
+    ///
+    /// `Error::Memory` if an allocation fails.
+    pub fn to_user_key(&self, alloc: Global) -> Result<UserKey>
+        ensures ok { IfOk result (λ user_key. user_key ≡ self.now.key.user_key) }
+        ensures memory { IsOkUnless result Error.Memory }
+    {
+        Slice::fused(alloc, self.prefix, self.rest)
+    }
+
+    /// Returns its value, which is empty for a tombstone of a block.
     #[inline(always)]
     pub fn value(&self) -> &'a [u8]
         ensures { result.now ≡ self.now.value }
@@ -144,7 +243,7 @@ impl<'a> EntryView<'a> {
     pub fn compare_user_key(&self, other: &EntryView<'_>) -> Ordering
         ensures { result ≡ slice_cmp nat_cmp self.now.key.user_key other.now.key.user_key }
     {
-        compare_parts(self.prefix, self.rest, other.prefix, other.rest)
+        compare_parts(self.key_parts(), other.key_parts())
     }
 
     /// Compares it with another entry, which may be of another block: by user key rising, then by
@@ -166,14 +265,7 @@ impl<'a> EntryView<'a> {
         ensures ok { IfOk result (λ hash. hash ≡ H.hash64 self.now.key.user_key) }
         ensures memory { IsOkUnless result Error.Memory }
     {
-        if self.prefix.is_empty() {
-            return Ok(H::hash64(self.rest));
-        }
-        if let Some(hash) = H::hash64_behind(H::hash64(self.prefix), self.rest) {
-            return Ok(hash);
-        }
-        let key = Slice::fused(alloc, self.prefix, self.rest)?;
-        Ok(H::hash64(key.as_slice()))
+        Ok(hash_parts::<H>(alloc, self.key_parts())?)
     }
 
     /// Makes the entry: copies its user key and its value.
@@ -205,13 +297,7 @@ impl<'a> Clone for EntryView<'a> {
     ghost is_clone = { λ entry copy. copy ≡ entry };
 
     fn clone(&self) -> AllocResult<EntryView<'a>> {
-        Ok(EntryView {
-            prefix: self.prefix,
-            rest: self.rest,
-            value: self.value,
-            seqno: self.seqno,
-            value_type: self.value_type.again(),
-        })
+        Ok(self.again())
     }
 }
 

@@ -20,7 +20,7 @@ use crate::table::block::ParsedItem;
 use crate::table::block::bound::Bound;
 use crate::table::block::ends::Ends;
 use crate::table::data_block::DataBlock;
-use crate::table::data_block::entry_ref::EntryRef;
+use crate::table::data_block::entry_view::EntryView;
 use crate::table::data_block::parsed_item::DataBlockParsedItem;
 use sst_base::double_ended_peekable::ListIterator;
 use sst_base::{BlockHash, Error, InternalValue, Result, Steps};
@@ -105,12 +105,11 @@ impl<H: BlockHash> IntoEntries<H> {
     }
 
     /// Returns the entry of an item that a step gave. It borrows the block.
-    pub fn entry(&self, item: DataBlockParsedItem) -> EntryRef<'_>
+    pub fn entry(&self, item: DataBlockParsedItem) -> EntryView<'_>
         requires { IsParsedEntry self.now.payload item }
         ensures { result ≡ entry_of self.now.payload item }
     {
-        let block = &self.block;
-        EntryRef::new(block.as_slice(), item)
+        EntryView::new(self.block.as_slice().as_slice(), item)
     }
 
     // Moves the front to the first entry that a bound doesn't pass. Returns whether an entry is

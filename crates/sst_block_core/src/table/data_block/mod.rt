@@ -20,11 +20,11 @@ ghost use Rattle.sst_block_core.specs.DataBlock.{block_of, data_block_of, ref_of
 ghost use Rattle.sst_block_core.specs.Disorder.{disorder_from};
 ghost use Rattle.sst_block_core.specs.ParsedEntry.{entry_of, IsParsedEntry};
 
+pub mod as_entry;
 pub mod block_ref;
 mod checking;
 mod decoding;
-pub mod entry_parts;
-pub mod entry_ref;
+mod encoding;
 pub mod entry_view;
 pub mod into_entries;
 pub mod iter;
@@ -38,9 +38,8 @@ use crate::table::block::encoder::encode_all;
 use crate::table::block::heads::HeadTable;
 use crate::table::block::{ParsedItem, hash_index};
 use crate::table::order;
+pub use as_entry::AsEntry;
 pub use block_ref::DataBlockRef;
-pub use entry_parts::EntryParts;
-pub use entry_ref::{Entries, EntryRef};
 pub use entry_view::{EntryView, EntryViews};
 pub use into_entries::IntoEntries;
 pub use iter::Iter;
@@ -181,24 +180,23 @@ impl<H: BlockHash> DataBlock<H> {
     }
 
     /// Returns whether no entry sorts before its predecessor, as [`DataBlock::is_ordered`] does for
-    /// entries whose parts are borrowed.
-    pub fn are_parts_ordered(items: &[EntryParts<'_>]) -> bool
+    /// views of entries.
+    pub fn are_views_ordered(items: &[EntryView<'_>]) -> bool
         ensures { IsTrue result ↔ IsOrdered entries items.now }
     {
         order::is_ordered(items)
     }
 
-    /// Encodes a non-empty ordered list of entries whose parts are borrowed, as
-    /// [`DataBlock::encode_into`] does: no [`InternalValue`] is made, and keys and values are copied
-    /// once, into the block.
+    /// Encodes a non-empty ordered list of views of entries, as [`DataBlock::encode_into`] does: no
+    /// [`InternalValue`] is made, and keys and values are copied once, into the block.
     ///
     /// # Errors
     ///
     /// `Error::TooLong` only where the block has 2^32 bytes or more; `Error::Memory` if an
     /// allocation fails. The vector is then empty.
-    pub fn encode_parts_into(
+    pub fn encode_views_into(
         writer: &mut Vec<u8>,
-        items: &[EntryParts<'_>],
+        items: &[EntryView<'_>],
         restart_interval: u8,
         ratio: HashRatio,
     ) -> Result<()>
@@ -220,42 +218,7 @@ impl<H: BlockHash> DataBlock<H> {
             (data_payload H.hash64 items.now restart_interval
             (bucket_count ratio.num ratio.den (length items.now))))) }
     {
-        encode_all::<EntryParts<'_>, H>(writer, items, restart_interval, ratio)
-    }
-
-    /// Encodes a non-empty ordered list of entries whose parts are borrowed, as
-    /// [`DataBlock::encode_parts_into`] does, into a vector of its own.
-    ///
-    /// # Errors
-    ///
-    /// `Error::TooLong` only where the block has 2^32 bytes or more; `Error::Memory` if an
-    /// allocation fails.
-    pub fn encode_parts_into_vec(
-        alloc: Global,
-        items: &[EntryParts<'_>],
-        restart_interval: u8,
-        ratio: HashRatio,
-    ) -> Result<Vec<u8>>
-        requires some { 1 ≤ length items.now }
-        requires ordered { IsOrdered entries items.now }
-        requires interval { 1 ≤ restart_interval }
-        requires den { 1 ≤ ratio.den }
-        ensures payload { IfOk result (λ v. v.items
-            ≡ data_payload H.hash64 items.now restart_interval
-            (bucket_count ratio.num ratio.den (length items.now))) }
-        ensures block { IfOk result
-            (λ v. IsBlock entries IsEntry H.hash64 v.items items.now restart_interval
-            (bucket_count ratio.num ratio.den (length items.now))) }
-        ensures fits { IfOk result (λ v. length v.items < 2 ^ 32) }
-        ensures cause { IfErr result (IsRefusal None
-            (2 ^ 32
-            ≤ length
-            (data_payload H.hash64 items.now restart_interval
-            (bucket_count ratio.num ratio.den (length items.now))))) }
-    {
-        let mut writer = Vec::new(alloc);
-        DataBlock::<H>::encode_parts_into(&mut writer, items, restart_interval, ratio)?;
-        Ok(writer)
+        encode_all::<EntryView<'_>, H>(writer, items, restart_interval, ratio)
     }
 
     /// Wraps a block whose payload is the encoding of some ordered, non-empty list of entries.
@@ -485,10 +448,10 @@ impl<H: BlockHash> DataBlock<H> {
     }
 
     /// Returns an iterator over the entries, each of which borrows the block. Takes no memory.
-    pub fn entries(&self) -> Entries<'_>
+    pub fn entries(&self) -> EntryViews<'_>
         ensures { result ≡ self.now.items }
     {
-        Entries::new(self)
+        self.by_ref().entries()
     }
 
     /// Returns an iterator over the entries that owns the block. Takes no memory.

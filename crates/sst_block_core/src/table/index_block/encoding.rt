@@ -6,6 +6,7 @@ ghost use Rattle.sst_block_core.specs.Handles.{fields, fields_of};
 
 use crate::BlockItem;
 use crate::table::block::Encodable;
+use crate::table::block::key_parts::KeyParts;
 use crate::table::index_block::block_handle::KeyedBlockHandle;
 use crate::table::order::Sorted;
 use sst_base::AllocResult;
@@ -54,8 +55,8 @@ fn put_fields(form: &mut [u8], at: usize, item: &KeyedBlockHandle) -> usize
 /// - Truncated: 00, offset, size, sequence number, shared length (varint 16), rest length
 ///   (varint 16), rest of the end key.
 impl Encodable for KeyedBlockHandle {
-    fn key(&self) -> &[u8] {
-        self.end_key().as_slice()
+    fn key_parts(&self) -> KeyParts<'_> {
+        (&[], self.end_key().as_slice())
     }
 
     #[inline(always)]

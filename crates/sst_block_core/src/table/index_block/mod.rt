@@ -19,7 +19,6 @@ pub mod block_ref;
 mod checking;
 mod decoding;
 mod encoding;
-pub mod handle_ref;
 pub mod handle_view;
 pub mod iter;
 pub mod ops;
@@ -33,7 +32,6 @@ use crate::table::block::heads::HeadTable;
 use crate::table::order;
 pub use block_handle::{BlockHandle, KeyedBlockHandle};
 pub use block_ref::IndexBlockRef;
-pub use handle_ref::{HandleRef, Handles};
 pub use handle_view::{HandleView, HandleViews};
 pub use iter::Iter;
 pub use ops::{IndexOp, walk};
@@ -357,18 +355,18 @@ impl IndexBlock {
     }
 
     /// Returns an iterator over the handles, each of which borrows the block. Takes no memory.
-    pub fn handles(&self) -> Handles<'_>
+    pub fn handles(&self) -> HandleViews<'_>
         ensures { result ≡ self.now.items }
     {
-        Handles::new(self, self.iter())
+        self.by_ref().handles()
     }
 
     /// Returns the handle of an item that an iterator over the block gave. It borrows the block.
-    pub fn handle(&self, item: IndexBlockParsedItem) -> HandleRef<'_>
+    pub fn handle(&self, item: IndexBlockParsedItem) -> HandleView<'_>
         requires { IsParsedHandle self.now.payload item }
         ensures { result ≡ handle_of self.now.payload item }
     {
-        HandleRef::new(self.as_slice(), item)
+        self.by_ref().handle(item)
     }
 }
 

@@ -6,14 +6,14 @@ use Rattle.sstable_blocks.specs.Blocks.{CutsFit}
 use Rattle.sst_c.proofs.Givens.{same_entries}
 use Rattle.sst_c.proofs.run.checked_items.Goals as goal
 
-pub returns-then-not-are_parts_ordered-clause-refused : goal.returns-then-not-are_parts_ordered-clause-refused
-returns-then-not-are_parts_ordered-clause-refused c = inr (
+pub returns-then-not-are_views_ordered-clause-refused : goal.returns-then-not-are_views_ordered-clause-refused
+returns-then-not-are_views_ordered-clause-refused c = inr (
   refl,
   λ items can.
       (let made = c.in_ok-items.ensures.ok in
       let same = same_entries items c.in_ok-items.items.items (can.are.1 ∙ sym made.1) in
-      let yes = c.are_parts_ordered.ensures.1 (subst (IsOrdered entries) (same ∙ sym c.as_slice-parts.ensures.value) can.ordered) in
-      let no = c.if-not-are_parts_ordered.true in
+      let yes = c.are_views_ordered.ensures.1 (subst (IsOrdered entries) (same ∙ sym c.as_slice-parts.ensures.value) can.ordered) in
+      let no = c.if-not-are_views_ordered.true in
       cc),
 )
 

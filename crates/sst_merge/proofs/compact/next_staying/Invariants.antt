@@ -5,7 +5,7 @@ use Rattle.sst_merge.proofs.compact.next_staying.Given as goal
 
 abbrev pub invariant-loop-item : goal.invariant-loop-item
 invariant-loop-item g l = record {
-  list : option_map (compact_from g.T.Version.entry l.fn.snapshots (g.B.Bottom.at_bottom l.fn.bottom) l.last) (g.I.Source.left l.source).list ≡ option_map (compact_from g.T.Version.entry l.fn.snapshots (g.B.Bottom.at_bottom l.fn.bottom) l.fn.last) (g.I.Source.left l.fn.source).list;
+  list : option_map (compact_from g.T.AsEntry.entry l.fn.snapshots (g.B.Bottom.at_bottom l.fn.bottom) l.last) (g.I.Source.left l.source).list ≡ option_map (compact_from g.T.AsEntry.entry l.fn.snapshots (g.B.Bottom.at_bottom l.fn.bottom) l.fn.last) (g.I.Source.left l.fn.source).list;
   most : (g.I.Source.left l.source).most ≤ (g.I.Source.left l.fn.source).most;
 }
 

@@ -5,7 +5,7 @@ use Rattle.sst_merge.proofs.snapshot.next_seen.Given as goal
 
 abbrev pub invariant-loop-item : goal.invariant-loop-item
 invariant-loop-item g l = record {
-  list : option_map (visible_from g.T.Version.entry l.seqno l.last) (g.I.Source.left l.source).list ≡ option_map (visible_from g.T.Version.entry l.seqno l.fn.last) (g.I.Source.left l.fn.source).list;
+  list : option_map (visible_from g.T.AsEntry.entry l.seqno l.last) (g.I.Source.left l.source).list ≡ option_map (visible_from g.T.AsEntry.entry l.seqno l.fn.last) (g.I.Source.left l.fn.source).list;
   most : (g.I.Source.left l.source).most ≤ (g.I.Source.left l.fn.source).most;
 }
 

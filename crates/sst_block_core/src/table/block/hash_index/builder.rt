@@ -6,6 +6,7 @@ ghost use Rattle.sst_block_core.specs.Buckets.{bucket_count, bucket_byte_with, b
 ghost use Rattle.sst_block_core.specs.Buckets.{AreFew};
 
 use super::{MARKER_CONFLICT, MARKER_FREE};
+use crate::table::block::key_parts::{KeyParts, hash_parts};
 use sst_base::{AllocResult, BlockHash, Error, HashRatio, Result};
 use std::alloc::Global;
 use std::marker::{Model, PhantomData};
@@ -131,14 +132,24 @@ impl<H: BlockHash> Builder<H> {
     }
 
     /// Notes that a key is in the last of this many restart intervals, if there are buckets.
+    ///
+    /// # Errors
+    ///
+    /// `AllocError` if an allocation fails.
     #[inline(always)]
-    pub(crate) fn note_key(&mut self, key: &[u8], heads: usize)
+    pub(crate) fn note_key(&mut self, key: KeyParts<'_>, heads: usize) -> AllocResult<()>
         requires { AreFew heads self.old }
-        ensures { self.new ≡ noted H.hash64 key.now heads self.old }
+        ensures { OnOk result
+            (self.new ≡ noted H.hash64 (key.entry.0.now ++ key.entry.1.now) heads self.old) }
     {
-        if !self.buckets.is_empty() {
-            self.set(key, (heads - 1) as u8);
+        let count = self.buckets.len();
+        if count == 0 {
+            return Ok(());
         }
+        let alloc = *self.buckets.allocator();
+        let hash = hash_parts::<H>(alloc, key)?;
+        self.set_at(index_of(hash, count), (heads - 1) as u8);
+        Ok(())
     }
 
     /// Returns the bytes of the buckets, borrowed.
@@ -175,7 +186,17 @@ pub(crate) fn bucket_index<H: BlockHash>(key: &[u8], bucket_count: usize) -> usi
     ensures index { result ≡ H.hash64 key.now % bucket_count }
     ensures range { result < bucket_count }
 {
-    (H::hash64(key) % bucket_count as u64) as usize
+    index_of(H::hash64(key), bucket_count)
+}
+
+// The index of the bucket of a hash, of at least one.
+#[inline(always)]
+fn index_of(hash: u64, bucket_count: usize) -> usize
+    requires { 0 < bucket_count }
+    ensures index { result ≡ hash % bucket_count }
+    ensures range { result < bucket_count }
+{
+    (hash % bucket_count as u64) as usize
 }
 
 // The byte of a bucket into which one interval number more falls.

@@ -1,7 +1,8 @@
 //! Standard Bloom filters: two hashes make all probes of a key.
-ghost use Rattle.std.specs.Prelude.{◌≡◌, ◌↔◌, ◌+◌, ◌≤◌, length, drop, IsTrue};
+ghost use Rattle.std.specs.Prelude.{◌≡◌, ◌↔◌, ◌+◌, ◌≤◌, length, drop, IsTrue, Ok};
 ghost use Rattle.byteorder.specs.Endian.{little_number};
-ghost use Rattle.sstable_blocks.specs.Filter.{filter_at, MayContain};
+ghost use Rattle.sstable_blocks.specs.Filter.{filter_at, IsSized, MayContain};
+ghost use Rattle.sstable_blocks.specs.RunReading.{filter_answer};
 
 pub mod builder;
 
@@ -29,6 +30,47 @@ const K_AT: usize = 14;
 
 const BITS_AT: usize = 22;
 
+/// The numbers of a filter. Clauses see them.
+#[derive(Drop)]
+pub(crate) struct FilterShape {
+    // The number of bits.
+    pub(crate) m: Divisor,
+    // The number of probes of a hash.
+    pub(crate) k: u64,
+}
+
+// Whether the bit of each probe of a hash is set.
+#[inline(always)]
+fn has_probes(bits: &BitArrayReader<'_>, shape: &FilterShape, hash: u64) -> bool
+    requires { IsSized (record { m = shape.now.m; k = shape.now.k; bits = bits.now }) }
+    ensures { IsTrue result
+        ↔ MayContain (record { m = shape.now.m; k = shape.now.k; bits = bits.now }) hash }
+{
+    let mut first = hash;
+    let mut second = secondary_hash(hash);
+    for i in 0..shape.k {
+        if !bits.get(shape.m.remainder(first) as usize) {
+            return false;
+        }
+        first = first.wrapping_add(second);
+        second = second.wrapping_mul(i + 1);
+    }
+    true
+}
+
+impl FilterShape {
+    /// Returns whether a filter with these numbers, whose payload this is, may contain a hash.
+    #[inline(always)]
+    pub(crate) fn allows(&self, payload: &[u8], hash: u64) -> bool
+        requires { filter_at payload.now
+            ≡ Ok (record { m = self.now.m; k = self.now.k; bits = drop 22 payload.now }) }
+        ensures { Ok result ≡ filter_answer payload.now hash }
+    {
+        let (_, bits) = payload.split_at(BITS_AT);
+        has_probes(&BitArrayReader::new(bits), self, hash)
+    }
+}
+
 /// Reads a standard Bloom filter from its payload.
 ///
 /// | At | Bytes | Content |
@@ -44,8 +86,7 @@ const BITS_AT: usize = 22;
 #[derive(Drop)]
 pub struct StandardBloomFilterReader<'a> {
     inner: BitArrayReader<'a>,
-    m: Divisor,
-    k: u64,
+    shape: FilterShape,
 }
 
 impl<'a> Model for StandardBloomFilterReader<'a> {
@@ -53,9 +94,9 @@ impl<'a> Model for StandardBloomFilterReader<'a> {
 
     ghost Value = { Filter };
 
-    ghost view = { λ r. record { m = r.m; k = r.k; bits = r.inner } };
+    ghost view = { λ r. record { m = r.shape.m; k = r.shape.k; bits = r.inner } };
 
-    ghost invariant = { λ r. IsSized (record { m = r.m; k = r.k; bits = r.inner }) };
+    ghost invariant = { λ r. IsSized (record { m = r.shape.m; k = r.shape.k; bits = r.inner }) };
 }
 
 // The number of eight bytes at an offset.
@@ -100,8 +141,10 @@ impl<'a> StandardBloomFilterReader<'a> {
         }
         Ok(StandardBloomFilterReader {
             inner: BitArrayReader::new(bits),
-            m: Divisor::new(m),
-            k,
+            shape: FilterShape {
+                m: Divisor::new(m),
+                k,
+            },
         })
     }
 
@@ -116,7 +159,7 @@ impl<'a> StandardBloomFilterReader<'a> {
     pub fn probe_count(&self) -> u64
         ensures { result ≡ self.now.k }
     {
-        self.k
+        self.shape.k
     }
 
     /// Returns the bytes of the bits.
@@ -131,16 +174,14 @@ impl<'a> StandardBloomFilterReader<'a> {
     pub fn contains_hash(&self, hash: u64) -> bool
         ensures { IsTrue result ↔ MayContain self.now hash }
     {
-        let mut first = hash;
-        let mut second = secondary_hash(hash);
-        for i in 0..self.k {
-            if !self.inner.get(self.m.remainder(first) as usize) {
-                return false;
-            }
-            first = first.wrapping_add(second);
-            second = second.wrapping_mul(i + 1);
-        }
-        true
+        has_probes(&self.inner, &self.shape, hash)
+    }
+
+    /// Returns its numbers.
+    pub(crate) fn into_shape(self) -> FilterShape
+        ensures { result ≡ record { m = self.m; k = self.k } }
+    {
+        self.shape
     }
 
     /// Returns the same for the hash of a key.

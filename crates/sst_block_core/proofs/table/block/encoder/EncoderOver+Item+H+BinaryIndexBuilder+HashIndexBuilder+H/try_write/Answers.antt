@@ -24,7 +24,7 @@ pub returns-then-end-clause-cause : goal.returns-then-end-clause-cause
 returns-then-end-clause-cause g c =
     let w = opened _ _ _ _ _ _ _ _ _ c.requires.tied (open_yet _ c.if-is_some.ensures) in
     let test = ap (λ k. eqb k 0) c.requires.phase in
-    let e = ap length (c.in-Ok.ensures.bytes ∙ body_more _ _ c.requires.interval_some _ _ _ _ _ _ _ _ _ _ w test c.key-key.ensures.value c.base_after-base_key.ensures) in
+    let e = ap length (c.in-Ok.ensures.bytes ∙ body_more _ _ c.requires.interval_some _ _ _ _ _ _ _ _ _ _ w test c.key_parts-key.ensures.value c.base_after-base_key.ensures) in
     let long : 2 ^ 32 ≤ length (take c.in-Ok.end c.add.new.writer.items) = omega (arith, length-take-le c.in-Ok.end c.add.new.writer.items c.in-Ok.ensures.inside, c.if-end.true) in
     rw c.refuse-then-end.ensures.kept (long_first _ _ (open_yet _ c.if-is_some.ensures) (subst (λ n. 2 ^ 32 ≤ n) e long))
 
@@ -33,7 +33,7 @@ overflow_add-self g c =
     let w = opened _ _ _ _ _ _ _ _ _ c.requires.tied (open_yet _ c.if-is_some.ensures) in
     let test = ap (λ k. eqb k 0) c.requires.phase in
     let room : length (take c.in-Ok.end c.add.new.writer.items) < 2 ^ 32 = omega (arith, length-take-le c.in-Ok.end c.add.new.writer.items c.in-Ok.ensures.inside, c.if-end.false) in
-    let next = written_push _ _ c.requires.interval_some _ _ _ _ _ _ _ _ _ _ _ w c.key-key.ensures.valid test c.key-key.ensures.value c.base_after-base_key.ensures c.in-Ok.ensures.bytes room in
+    let next = written_push _ _ c.requires.interval_some _ _ _ _ _ _ _ _ _ _ _ w c.key_parts-key.ensures.valid test c.key_parts-key.ensures.value c.base_after-base_key.ensures c.in-Ok.ensures.bytes room in
     let small = count_room _ _ c.requires.interval_some _ g.Item.BlockItem.is_kind _ _ _ _ _ next in
     omega (arith, small)
 
@@ -42,7 +42,7 @@ returns-clause-sound g c =
     let w = opened _ _ _ _ _ _ _ _ _ c.requires.tied (open_yet _ c.if-is_some.ensures) in
     let test = ap (λ k. eqb k 0) c.requires.phase in
     let room : length (take c.in-Ok.end c.add.new.writer.items) < 2 ^ 32 = omega (arith, length-take-le c.in-Ok.end c.add.new.writer.items c.in-Ok.ensures.inside, c.if-end.false) in
-    let next = written_push _ _ c.requires.interval_some _ _ _ _ _ _ _ _ _ _ _ w c.key-key.ensures.valid test c.key-key.ensures.value c.base_after-base_key.ensures c.in-Ok.ensures.bytes room in
+    let next = written_push _ _ c.requires.interval_some _ _ _ _ _ _ _ _ _ _ _ w c.key_parts-key.ensures.valid test c.key_parts-key.ensures.value c.base_after-base_key.ensures c.in-Ok.ensures.bytes room in
     let len = length-take-le c.args.self.now.len c.args.self.now.writer.now.items c.requires.inside in
     let pointers = c.in-Ok.ensures.pointers ∙ ap (λ n. if c.args.self.now.phase == 0 then c.args.self.now.pointers ++ n ∷ [] else c.args.self.now.pointers) (sym len) in
     record {

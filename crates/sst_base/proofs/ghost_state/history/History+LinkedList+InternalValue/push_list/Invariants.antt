@@ -1,5 +1,0 @@
-use Rattle.std.proofs.Common.{[], ◌∷◌, ◌++◌}
-use Rattle.sst_base.proofs.ghost_state.history.History+LinkedList+InternalValue.push_list.Given as goal
-
-abbrev pub ghost-chosen_note : goal.ghost-chosen_note
-ghost-chosen_note a = a.first.now.value ++ a.second.now.now ∷ []

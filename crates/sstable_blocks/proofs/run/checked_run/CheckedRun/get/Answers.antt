@@ -1,8 +1,0 @@
-use Rattle.std.proofs.Common.{◌<◌, subst, OnOk}
-use Rattle.sstable_blocks.specs.Opened.{IsDenied}
-use Rattle.sstable_blocks.proofs.run.checked_run.CheckedRun.get.Goals as goal
-
-pub returns-clause-looked : goal.returns-clause-looked
-returns-clause-looked g c =
-    subst (λ v. OnOk c.read_entry.result ((IsDenied v.bytes v.handles.filter (g.H.BlockHash.hash64 c.args.needle.now) → ⊥) → c.args.steps.now.heads < c.read_entry.new.steps.heads))
-    c.self.view_is c.read_entry.ensures.looked
