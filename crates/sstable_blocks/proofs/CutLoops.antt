@@ -91,7 +91,7 @@ last_is blocks start i cuts items rest all h r e =
 pub so_far_is : (old new : List (List Entry)) (b : List Entry) (bs all : List (List Entry)) → new ≡ old ++ b ∷ [] → old ++ b ∷ bs ≡ all → new ++ bs ≡ all
 so_far_is old new b bs all n e = ap (λ xs. xs ++ bs) n ∙ append_assoc old (b ∷ []) bs ∙ e
 
-pub rest_is : (start cut : ℕ) (items rest behind : List Entry) → start ≤ cut → rest ≡ drop start items → behind ≡ drop (cut - start) rest → behind ≡ drop cut items
+pub rest_is : {X : Type 0} (start cut : ℕ) (items rest behind : List X) → start ≤ cut → rest ≡ drop start items → behind ≡ drop (cut - start) rest → behind ≡ drop cut items
 rest_is start cut items rest behind h r b =
     let n : start + (cut - start) ≡ cut = omega arith in
     b ∙ ap (drop (cut - start)) r ∙ drop-drop (cut - start) start items ∙ ap (λ k. drop k items) n

@@ -2,6 +2,7 @@ pub mod Bits
 pub mod Counts
 pub mod Probes
 pub mod Kept
+pub mod Mapped
 pub mod CutLoops
 pub mod Endings
 pub mod FilterTexts

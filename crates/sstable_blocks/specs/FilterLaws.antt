@@ -139,6 +139,18 @@ is_not : (b : Bool) → not b ≡ false → b ≡ true
 is_not true e = refl
 is_not false e = cc
 
+-- what is read is the numbers and the bits of at least 22 bytes
+pub filter_at_reads : (bytes : List ℕ) (f : Filter) → filter_at bytes ≡ Ok f → (filter_in bytes ≡ f) × (22 ≤ length bytes) × IsSized f
+unfolding filter_at
+filter_at_reads bytes f e =
+    let long = past (ltb (length bytes) 22) _ f _ e in
+    let named = past (not (pointwise nat_eq (take 4 bytes) magic)) _ f _ long.1 in
+    let standard = past (not (nat_eq (get_or bytes 4 0) 0)) _ f _ named.1 in
+    let plain = past (not (nat_eq (get_or bytes 5 0) 0)) _ f _ standard.1 in
+    let sized = guard_ok (is_sized (filter_in bytes)) (filter_in bytes) f _ plain.1 in
+    let some = ltb-false (length bytes) 22 long.0 in
+    (sized.1, some, subst IsSized sized.1 (IsSized_of (filter_in bytes) sized.0))
+
 -- what is read was written so
 pub filter_at_takes : (bytes : List ℕ) (f : Filter) → IsBytes bytes → filter_at bytes ≡ Ok f → (bytes ≡ filter_payload f) × IsSized f
 unfolding filter_at

@@ -179,7 +179,7 @@ impl<'a> StandardBloomFilterReader<'a> {
 
     /// Returns its numbers.
     pub(crate) fn into_shape(self) -> FilterShape
-        ensures { result ≡ record { m = self.m; k = self.k } }
+        ensures { result ≡ record { m = self.entry.m; k = self.entry.k } }
     {
         self.shape
     }
