@@ -29,6 +29,7 @@ pub mod TableReads
 pub mod Tables
 pub mod Reversals
 pub mod SizeLaws
+pub mod MappedLaws
 pub mod StayLaws
 pub mod Outputs
 pub mod OutputLaws

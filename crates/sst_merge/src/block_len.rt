@@ -24,6 +24,8 @@ fn value_len(entry: &EntryView<'_>) -> usize
     ensures value { result ≡ length (value_part entry.now.key.value_type entry.now.value) }
     ensures most { result < 2 ^ 33 }
 {
+    // The proof needs the limits of the entry.
+    let _limits = entry.key_parts();
     match entry.value_type() {
         ValueType::Tombstone | ValueType::WeakTombstone => 0,
         ValueType::Value | ValueType::Indirection => {

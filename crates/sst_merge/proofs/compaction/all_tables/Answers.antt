@@ -2,15 +2,16 @@ use Rattle.std.proofs.Common.{◌++◌, ◌∷◌, [], ◌∙◌, refl, ap, sym,
 use Rattle.std.specs.Option.{IfSome}
 use Rattle.sstable_blocks.specs.Run.{form}
 use Rattle.sst_merge.specs.OutputLaws.{none_written, one_written, all_written}
-use Rattle.sst_merge.specs.Outputs.{Output}
+use Rattle.sst_merge.specs.MappedLaws.{after_entries, none_entries}
+use Rattle.sst_merge.specs.Outputs.{AreWritten, Output}
 use Rattle.sst_merge.specs.SourceLaws.{same_end}
 use Rattle.sst_merge.specs.TableLaws.{none_left}
-use Rattle.sst_merge.specs.Tables.{IsTableOf}
+use Rattle.sst_merge.specs.Tables.{IsTableOf, entries_in}
 use Rattle.sst_merge.proofs.compaction.all_tables.Goals as goal
 
 pub loop-alloc-init : goal.loop-alloc-init
 loop-alloc-init g c = record {
-  written = none_written (form g.H.BlockHash.hash64 g.H.BlockHash.hash128 c.args.config) g.O.Outputs.start c.args.source.now.list (g.O.Outputs.tables c.args.outputs.now);
+  written = none_written (form g.H.BlockHash.hash64 g.H.BlockHash.hash128 c.args.config) g.O.Outputs.start (entries_in g.T.AsEntry.entry c.args.source.now.list) (g.O.Outputs.tables c.args.outputs.now);
   ended = refl;
 }
 
@@ -18,19 +19,25 @@ pub loop-alloc-preserved : goal.loop-alloc-preserved
 loop-alloc-preserved g c =
     let f = form g.H.BlockHash.hash64 g.H.BlockHash.hash128 c.args.config in
     let contents = g.O.Writer.Write.contents in
-    let mid = c.loop-alloc.source.list in
-    let after = c.write_table.new.source.list in
+    let entry = g.T.AsEntry.entry in
+    let mid = entries_in entry c.loop-alloc.source.list in
+    let after = entries_in entry c.write_table.new.source.list in
     let output : Output = record { handles = c.in-Some.handles; bytes = contents c.in-Some.writer } in
     let written : IsTableOf f c.args.sizes (contents c.in_ok-writer.writer) output.bytes output.handles mid after =
     subst (λ o. IfSome o (λ t. IsTableOf f c.args.sizes (contents c.in_ok-writer.writer) (contents t.1) t.0 mid after)) c.in-Some.is c.in_ok-table.ensures.table in
     let before = c.loop-alloc.invariant in
     record {
-      written = one_written f c.args.sizes g.O.Outputs.start c.args.source.now.list mid after (g.O.Outputs.tables c.args.outputs.now) (g.O.Outputs.tables c.loop-alloc.outputs) (g.O.Outputs.tables c.close.new.self) output before.written
+      written = one_written f c.args.sizes g.O.Outputs.start (entries_in entry c.args.source.now.list) mid after (g.O.Outputs.tables c.args.outputs.now) (g.O.Outputs.tables c.loop-alloc.outputs) (g.O.Outputs.tables c.close.new.self) output before.written
           (subst (λ start. IsTableOf f c.args.sizes start output.bytes output.handles mid after) c.in_ok-writer.ensures.fresh written)
           (c.in_ok-close.ensures ∙ ap (λ tables. tables ++ output ∷ []) c.in_ok-writer.ensures.same);
       ended = same_end c.loop-alloc.source.ended c.write_table.new.source.ended c.in_ok-table.table c.in_ok-table.ensures.ended ∙ before.ended;
     }
 
 pub returns-clause-written : goal.returns-clause-written
-returns-clause-written g c = all_written (form g.H.BlockHash.hash64 g.H.BlockHash.hash128 c.args.config) g.O.Outputs.start c.args.source.now.list c.loop-alloc.source.list (g.O.Outputs.tables c.args.outputs.now) (g.O.Outputs.tables c.loop-alloc.outputs) c.loop-alloc.invariant.written
-    (none_left (λ r. r.now) c.loop-alloc.source.list c.peek.result c.peek.ensures.first (sym c.loop-alloc-test.ensures))
+returns-clause-written g c =
+    let entry = g.T.AsEntry.entry in
+    let f = form g.H.BlockHash.hash64 g.H.BlockHash.hash128 c.args.config in
+    let given = entries_in entry c.args.source.now.list in
+    let none = none_entries entry c.loop-alloc.source.list (none_left (λ r. r.now) c.loop-alloc.source.list c.peek.result c.peek.ensures.first (sym c.loop-alloc-test.ensures)) in
+    subst (λ o. AreWritten f g.O.Outputs.start given o (g.O.Outputs.tables c.args.outputs.now) (g.O.Outputs.tables c.loop-alloc.outputs)) (after_entries entry c.args.source.now.list)
+    (all_written f g.O.Outputs.start given (entries_in entry c.loop-alloc.source.list) (g.O.Outputs.tables c.args.outputs.now) (g.O.Outputs.tables c.loop-alloc.outputs) c.loop-alloc.invariant.written none)

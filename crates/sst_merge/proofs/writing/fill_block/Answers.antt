@@ -1,7 +1,7 @@
-use Rattle.std.proofs.Common.{◌≡◌, ◌∷◌, [], ◌++◌, List, Some, length, length-append, subst, sym, ap, ◌∙◌, inl, inr, arith}
+use Rattle.std.proofs.Common.{◌≡◌, ◌∷◌, [], ◌++◌, Some, length, length-append, map, subst, sym, ap, ◌∙◌, inl, inr, arith}
+use Rattle.std.proofs.lemmas.List.{length-map, map-append}
 use Rattle.std.proofs.lemmas.Bool.Decides.{nat_tests}
 use Rattle.std.proofs.lemmas.Grind.{common_steps}
-use Rattle.sst_base.specs.Entry.{Entry}
 use Rattle.sst_block_core.specs.Body.{form}
 use Rattle.sst_block_core.specs.Entries.{entries}
 use Rattle.sst_merge.specs.SizeLaws.{below_more, len_more}
@@ -14,18 +14,21 @@ use Rattle.sst_merge.proofs.writing.fill_block.Goals.{then-is_empty, else-is_emp
 pub loop-alloc-preserved : goal.loop-alloc-preserved
 loop-alloc-preserved g c =
     let r = c.args.interval in
+    let entry = g.T.AsEntry.entry in
     let block = c.loop-alloc.block.items in
+    let entries_before = map entry block in
     let before = c.loop-alloc.invariant in
     let e = c.in-Some.entry in
     let more : c.push.new.self.items ≡ block ++ e ∷ [] = c.in_ok-push.ensures.items in
+    let grown : map entry c.push.new.self.items ≡ entries_before ++ entry e ∷ [] = ap (map entry) more ∙ map-append entry block (e ∷ []) in
     let first = rw c.in-Some.is at c.in_ok-entry.ensures.first in
     record {
-      taken = subst (λ (xs : List Entry). IsTaken c.args.source.now.list xs c.take.new.self.list) (sym more) (taken_both c.args.source.now.list c.loop-alloc.source.list c.take.new.self.list block (e ∷ []) before.taken first.0);
+      taken = subst (λ xs. IsTaken c.args.source.now.list xs c.take.new.self.list) (sym more) (taken_both c.args.source.now.list c.loop-alloc.source.list c.take.new.self.list block (e ∷ []) before.taken first.0);
       most = (let l = ap length more in let n = length-append block (e ∷ []) in omega (arith, first.1, before.most, l, n));
-      len = len_more r c.requires.interval block c.push.new.self.items e c.loop-alloc.len c.form_len.result c.saturating_add-len.result more before.len
-          (subst (λ (xs : List Entry). c.form_len.result ≡ length (form entries r (xs ++ e ∷ []) (length xs) e)) c.deref.ensures.value c.form_len.ensures.value) c.saturating_add-len.ensures;
-      below = below_more r c.args.size block c.push.new.self.items e c.loop-alloc.len c.ranges.size.fits more before.len before.below (elim c.if-is_empty.branch [
-        | then-is_empty w ↦ inl (grind (arith, common_steps, nat_tests, w.if-is_empty.ensures))
+      len = len_more r c.requires.interval entries_before (map entry c.push.new.self.items) (entry e) c.loop-alloc.len c.form_len.result c.saturating_add-len.result grown before.len
+          (subst (λ n. c.form_len.result ≡ length (form entries r (entries_before ++ entry e ∷ []) n (entry e))) (sym (length-map block entry)) (subst (λ xs. c.form_len.result ≡ length (form entries r (map entry xs ++ entry e ∷ []) (length xs) (entry e))) c.deref.ensures.value c.form_len.ensures.value)) c.saturating_add-len.ensures;
+      below = below_more r c.args.size entries_before (map entry c.push.new.self.items) (entry e) c.loop-alloc.len c.ranges.size.fits grown before.len before.below (elim c.if-is_empty.branch [
+        | then-is_empty w ↦ inl (length-map block entry ∙ grind (arith, common_steps, nat_tests, w.if-is_empty.ensures))
         | else-is_empty+then-len-size w ↦ inr w.if-len-size.true
       ]);
       ended = same_end c.loop-alloc.source.ended c.take.new.self.ended (Some e) (rw c.in-Some.is at c.in_ok-entry.ensures.ended) ∙ before.ended;

@@ -1,4 +1,4 @@
-use Rattle.std.proofs.Common.{◌≡◌, ◌+◌, ◌≤◌, length}
+use Rattle.std.proofs.Common.{◌≡◌, ◌+◌, ◌≤◌, length, map}
 use Rattle.sst_merge.specs.SizeLaws.{IsBelow}
 use Rattle.sst_merge.specs.Sources.{IsTaken}
 use Rattle.sst_merge.specs.Tables.{capped, block_len}
@@ -8,8 +8,8 @@ abbrev pub invariant-loop-alloc : goal.invariant-loop-alloc
 invariant-loop-alloc g l = record {
   taken : IsTaken l.fn.source.list l.block.items l.source.list;
   most : l.source.most + length l.block.items ≤ l.fn.source.most;
-  len : l.len ≡ capped (block_len l.interval l.block.items);
-  below : IsBelow l.interval l.size l.block.items;
+  len : l.len ≡ capped (block_len l.interval (map g.T.AsEntry.entry l.block.items));
+  below : IsBelow l.interval l.size (map g.T.AsEntry.entry l.block.items);
   ended : l.source.ended ≡ l.fn.source.ended;
 }
 

@@ -1,4 +1,5 @@
-use Rattle.std.proofs.Common.{◌≡◌, ◌<◌, ◌≤◌, ◌∙◌, sym, subst, arith, length, List}
+use Rattle.std.proofs.Common.{◌≡◌, ◌<◌, ◌≤◌, ◌∙◌, sym, subst, arith, length, map, List}
+use Rattle.std.proofs.lemmas.List.{length-map}
 use Rattle.std.specs.List.{AllByRecursion}
 use Rattle.std.specs.Option.{IfSome}
 use Rattle.sst_base.specs.Entry.{Entry}
@@ -8,7 +9,7 @@ use Rattle.sstable_blocks.specs.Writing.{AppendsLayout}
 use Rattle.sst_merge.specs.SizeLaws.{filled_more, joined_some, len_block, reaches_by, shortest_block}
 use Rattle.sst_merge.specs.Sources.{IsTaken}
 use Rattle.sst_merge.specs.TableLaws.{apart_blocks, taken_block, some_push, none_left}
-use Rattle.sst_merge.specs.Tables.{IsApart, IsFilled, IsShortest, blocks_len, capped}
+use Rattle.sst_merge.specs.Tables.{IsApart, IsFilled, IsShortest, blocks_len, capped, entries_in}
 use Rattle.sst_merge.proofs.writing.next_table.Goals as goal
 
 pub returns-then-is_none-clause-done : goal.returns-then-is_none-clause-done
@@ -18,8 +19,13 @@ pub loop-alloc-preserved : goal.loop-alloc-preserved
 loop-alloc-preserved g c =
     let added = c.in_ok-added.ensures in
     let before = c.loop-alloc.invariant in
-    let block = c.add_block-in-loop-alloc.new.block.items in
-    let left = c.add_block-in-loop-alloc.new.source.list in
+    let entry = g.T.AsEntry.entry in
+    let block = map entry c.add_block-in-loop-alloc.new.block.items in
+    let left = entries_in entry c.add_block-in-loop-alloc.new.source.list in
+    let now = entries_in entry c.loop-alloc.source.list in
+    let given = entries_in entry c.args.source.now.list in
+    let some : 1 ≤ length (map entry c.loop-alloc.block.items) = (let n = length-map c.loop-alloc.block.items entry in omega (arith, before.entries, n)) in
+    let more : 1 ≤ length block = (let n = length-map c.add_block-in-loop-alloc.new.block.items entry in let e = added.some in omega (arith, e, n)) in
     let r = c.args.config.restart_interval in
     record {
       config = added.run.config ∙ before.config;
@@ -31,13 +37,13 @@ loop-alloc-preserved g c =
       entries = added.some;
       len = subst (λ (bs : List (List Entry)). c.saturating_add-len.result ≡ capped (blocks_len r bs)) (sym added.blocks)
           (len_block r c.loop-alloc.run.blocks block c.loop-alloc.len c.in_ok-added.added c.saturating_add-len.result before.len added.len c.saturating_add-len.ensures);
-      filled = subst (AllByRecursion (IsFilled r c.args.sizes.block left)) (sym added.blocks) (filled_more r c.args.sizes.block c.loop-alloc.source.list left c.loop-alloc.run.blocks block before.filled added.taken added.filled);
-      shortest = subst (λ (bs : List (List Entry)). IfSome c.args.source.now.list (λ _. IsShortest r c.args.sizes.table bs)) (sym added.blocks)
-          (shortest_block r c.args.sizes.table c.loop-alloc.run.blocks before.last.0 c.loop-alloc.block.items block c.args.source.now.list c.loop-alloc.source.list left before.taken added.taken before.shortest before.last.1 before.entries added.some
-          (subst (λ last. IfSome c.loop-alloc.source.list (λ rest. IsApart last rest → blocks_len r c.loop-alloc.run.blocks < c.args.sizes.table)) c.deref.ensures.value
+      filled = subst (AllByRecursion (IsFilled r c.args.sizes.block left)) (sym added.blocks) (filled_more r c.args.sizes.block now left c.loop-alloc.run.blocks block before.filled added.taken added.filled);
+      shortest = subst (λ (bs : List (List Entry)). IfSome given (λ _. IsShortest r c.args.sizes.table bs)) (sym added.blocks)
+          (shortest_block r c.args.sizes.table c.loop-alloc.run.blocks before.last.0 (map entry c.loop-alloc.block.items) block given now left before.taken added.taken before.shortest before.last.1 some more
+          (subst (λ last. IfSome now (λ rest. IsApart (map entry last) rest → blocks_len r c.loop-alloc.run.blocks < c.args.sizes.table)) c.deref.ensures.value
           (c.goes_on.ensures.goes_on (blocks_len r c.loop-alloc.run.blocks) before.len c.loop-alloc-test.true)));
-      taken = subst (λ (bs : List (List Entry)). IsTaken c.args.source.now.list (joined bs) left) (sym added.blocks)
-          (taken_block c.args.source.now.list c.loop-alloc.source.list left c.loop-alloc.run.blocks block before.taken added.taken);
+      taken = subst (λ (bs : List (List Entry)). IsTaken given (joined bs) left) (sym added.blocks)
+          (taken_block given now left c.loop-alloc.run.blocks block before.taken added.taken);
       most = (let less = added.most in let e = before.most in omega (arith, less, e));
       ended = added.ended ∙ before.ended;
     }
@@ -48,14 +54,17 @@ returns-clause-table g c =
     let f = form g.H.BlockHash.hash64 g.H.BlockHash.hash128 in
     let t = c.in_ok-finish.field-0 in
     let blocks = c.loop-alloc.run.blocks in
-    let left = c.loop-alloc.source.list in
+    let entry = g.T.AsEntry.entry in
+    let left = entries_in entry c.loop-alloc.source.list in
+    let block = map entry c.loop-alloc.block.items in
+    let entries : 1 ≤ length block = (let n = length-map c.loop-alloc.block.items entry in let some = inv.entries in omega (arith, some, n)) in
     record {
       blocks = blocks;
       layout = subst (λ config. AppendsLayout (f config) blocks (g.W.Write.contents c.args.writer) (g.W.Write.contents t.1) t.0) inv.config
           (subst (λ start. AppendsLayout (f c.loop-alloc.run.config) blocks start (g.W.Write.contents t.1) t.0) inv.start c.in_ok-finish.ensures.layout);
-      some = joined_some blocks inv.last.0 c.loop-alloc.block.items inv.last.1 inv.entries;
+      some = joined_some blocks inv.last.0 block inv.last.1 entries;
       taken = inv.taken;
-      apart = apart_blocks blocks inv.last.0 c.loop-alloc.block.items left inv.last.1 inv.entries (subst (λ last. IfSome left (IsApart last)) c.deref.ensures.value (c.goes_on.ensures.apart c.loop-alloc-test.false));
+      apart = apart_blocks blocks inv.last.0 block left inv.last.1 entries (subst (λ last. IfSome left (IsApart (map entry last))) c.deref.ensures.value (c.goes_on.ensures.apart c.loop-alloc-test.false));
       filled = inv.filled;
       reaches = reaches_by left (blocks_len c.args.config.restart_interval blocks) c.loop-alloc.len c.args.sizes.table inv.len (c.goes_on.ensures.reaches c.loop-alloc-test.false);
       shortest = inv.shortest;
