@@ -58,7 +58,7 @@ pub fn append_entries(
     ensures memory { IsOkUnless result Error.Memory }
 {
     for entry in block.entries() {
-        out.push(entry.materialize(alloc)?)?;
+        out.push(entry.to_entry(alloc)?)?;
     }
     Ok(())
 }

@@ -1,5 +1,5 @@
 -- Laws of lists of items that stand for entries.
-use Rattle.std.proofs.Common.{◌≡◌, ◌≢◌, ◌∙◌, ◌-◌, ℕ, List, [], ◌∷◌, ◌++◌, length, map, Option, Some, None, refl, sym, ap, subst, true, IfSome}
+use Rattle.std.proofs.Common.{◌≡◌, ◌≢◌, ◌∙◌, ◌-◌, ℕ, List, [], ◌∷◌, ◌++◌, length, map, Option, Some, None, refl, sym, ap, subst, true, map-id, IfSome}
 use Rattle.std.proofs.lemmas.List.{length-map, map-append}
 use Rattle.std.proofs.lemmas.Option.{slice_get-map}
 use Rattle.std.proofs.lemmas.Cmp.{nat_list_cmp_total}
@@ -66,3 +66,8 @@ module _ {X : Type 0} (entry : X → Entry) where
   pub apart_none : (list : Option (List X)) (block : List X) → IfSome list (λ xs. xs ≡ []) → IfSome (entries_in entry list) (IsApart (map entry block))
   apart_none None block none = tt
   apart_none (Some xs) block none = λ l n is_last is_next same. let no : slice_get (map entry xs) 0 ≡ None = ap (λ ys. slice_get (map entry ys) 0) none in let wrong = sym no ∙ is_next in cc
+
+-- entries stand for themselves
+pub entries_themselves : (list : Option (List Entry)) → entries_in (λ e. e) list ≡ list
+entries_themselves None = refl
+entries_themselves (Some xs) = ap (λ ys. Some ys) (map-id xs)

@@ -63,7 +63,19 @@ fn by_views<H: BlockHash>(
     Ok(bytes)
 }
 
-/// Encodes views of the entries of a block, whose keys may be in two parts.
+/// Views of the entries of a block, whose keys may be in two parts.
+fn views_in<'a, H: BlockHash>(
+    alloc: Global,
+    block: &'a DataBlock<H>,
+) -> Result<Vec<EntryView<'a>>> {
+    let mut views = Vec::new(alloc);
+    for view in block.entries() {
+        views.push(view)?;
+    }
+    Ok(views)
+}
+
+/// Encodes views of the entries of a block.
 fn again<H: BlockHash>(
     alloc: Global,
     entries: &[InternalValue],
@@ -74,10 +86,7 @@ fn again<H: BlockHash>(
     requires den { 1 ≤ ratio.den }
 {
     let block = encoded::<H>(alloc, entries, "5")?;
-    let mut views = Vec::new(alloc);
-    for view in block.entries() {
-        views.push(view)?;
-    }
+    let views = views_in(alloc, &block)?;
     by_views::<H>(alloc, views.as_slice(), interval, ratio)
 }
 

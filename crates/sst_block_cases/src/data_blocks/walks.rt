@@ -202,11 +202,11 @@ fn take_owned<H: BlockHash>(
         (false, false) => Ok(iter.next_entry(alloc)?),
         (true, false) => Ok(iter.next_entry_back(alloc)?),
         (false, true) => match iter.next() {
-            Some(item) => Ok(Some(iter.entry(item).materialize(alloc)?)),
+            Some(item) => Ok(Some(iter.entry(item).to_entry(alloc)?)),
             None => Ok(None),
         },
         (true, true) => match iter.next_back() {
-            Some(item) => Ok(Some(iter.entry(item).materialize(alloc)?)),
+            Some(item) => Ok(Some(iter.entry(item).to_entry(alloc)?)),
             None => Ok(None),
         },
     }

@@ -31,7 +31,7 @@ pub(crate) fn place_of(memory: &[InternalValue], entry: &InternalValue) -> usize
 fn is_version(entry: &InternalValue, key: &[u8], seqno: SeqNo) -> bool
     ensures { result ≡ is_version entries key.now seqno entry.now }
 {
-    entry.key().seqno() < seqno && entry.key().user_key().eq_bytes(key)
+    entry.key().seqno() < seqno && entry.key().user_key().cmp_bytes(key).is_eq()
 }
 
 // The first version of a key below a sequence number.

@@ -1,4 +1,5 @@
-use Rattle.std.proofs.Common.{◌≤◌, length, ◌∙◌, arith}
+use Rattle.std.proofs.Common.{◌≤◌, length, ◌∙◌, ◌∷◌, [], ◌++◌, ap, sym, subst, map-id, arith}
+use Rattle.sstable_blocks.specs.Writing.{Follows}
 use Rattle.sst_program.proofs.Outcomes.{some-from_test}
 use Rattle.sst_program.proofs.Tables.{all-next, ordered-next, size-next, full-next}
 use Rattle.sst_program.proofs.pack.add_blocks.Goals as goal
@@ -6,15 +7,16 @@ use Rattle.sst_program.proofs.pack.add_blocks.Goals as goal
 pub add_block-requires : goal.add_block-requires
 add_block-requires g c =
     let some : 1 ≤ length c.loop-rest.rest.now = some-from_test _ c.loop-rest-test.ensures in
-    record {
+    subst (Follows c.loop-rest.run.blocks) (sym (map-id c.split_at.result.0.now)) (record {
       some = omega (arith, c.split_at.ensures.front_len, c.min.ensures, c.requires.per_block);
       ordered = ordered-next c.loop-rest.run.blocks c.split_at.result.0.now c.split_at.result.1.now c.loop-rest.rest.now c.args.items.now c.loop-rest.invariant.all c.split_at.ensures.by_index.0 c.requires.ordered;
-    }
+    })
 
 pub loop-rest-preserved : goal.loop-rest-preserved
 loop-rest-preserved g c =
     let i = c.loop-rest.invariant in
     let e = c.in_ok-add_block.ensures in
+    let blocks = e.blocks ∙ ap (λ b. c.loop-rest.run.blocks ++ b ∷ []) (map-id c.split_at.result.0.now) in
     let some : 1 ≤ length c.loop-rest.rest.now = some-from_test _ c.loop-rest-test.ensures in
     let front : 1 ≤ length c.split_at.result.0.now = omega (arith, c.split_at.ensures.front_len, c.min.ensures, c.requires.per_block) in
     let most : length c.split_at.result.0.now ≤ c.args.per_block = omega (arith, c.split_at.ensures.front_len, c.min.ensures) in
@@ -22,7 +24,7 @@ loop-rest-preserved g c =
       config = e.run.config ∙ i.config;
       start = e.run.start ∙ i.start;
       accepting = e.refusal;
-      all = rw e.blocks (all-next c.loop-rest.run.blocks c.split_at.result.0.now c.split_at.result.1.now c.loop-rest.rest.now c.args.items.now i.all c.split_at.ensures.by_index.0);
-      sizes = rw e.blocks (size-next c.args.per_block c.loop-rest.run.blocks c.split_at.result.0.now (i.full some) front most);
-      full = λ more. rw e.blocks (full-next c.args.per_block c.loop-rest.run.blocks c.split_at.result.0.now (i.full some) (omega (arith, c.split_at.ensures.front_len, c.split_at.ensures.back_len, c.min.ensures, more)));
+      all = rw blocks (all-next c.loop-rest.run.blocks c.split_at.result.0.now c.split_at.result.1.now c.loop-rest.rest.now c.args.items.now i.all c.split_at.ensures.by_index.0);
+      sizes = rw blocks (size-next c.args.per_block c.loop-rest.run.blocks c.split_at.result.0.now (i.full some) front most);
+      full = λ more. rw blocks (full-next c.args.per_block c.loop-rest.run.blocks c.split_at.result.0.now (i.full some) (omega (arith, c.split_at.ensures.front_len, c.split_at.ensures.back_len, c.min.ensures, more)));
     }

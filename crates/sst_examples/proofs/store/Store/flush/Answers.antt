@@ -1,4 +1,5 @@
 use Rattle.std.proofs.Common.{[], Some, ◌∙◌, ap}
+use Rattle.sst_merge.specs.MappedLaws.{entries_themselves}
 use Rattle.sst_examples.proofs.Levels.{IsFlushed, memory_flushed}
 use Rattle.sst_examples.proofs.store.Store.flush.Goals as goal
 use Rattle.sst_examples.proofs.Written.{zip_same}
@@ -9,7 +10,7 @@ flushed c =
     let old = c.self.inside in
     let copy = c.in_ok-memory.memory.items in
     memory_flushed old.memory.items old.tables.items old.next old.snapshots.items c.self.invariant c.in_ok-table.table copy c.clear.new.self.items c.add_table.new.tables.items
-    (c.in_ok-table.ensures copy (ap Some c.into_iter.ensures.rest)) (zip_same old.memory.items copy c.in_ok-memory.ensures.cases.0) c.clear.ensures.items c.in_ok-add_table.ensures.ok
+    (c.in_ok-table.ensures copy (entries_themselves _ ∙ ap Some c.into_iter.ensures.rest)) (zip_same old.memory.items copy c.in_ok-memory.ensures.cases.0) c.clear.ensures.items c.in_ok-add_table.ensures.ok
 
 pub invariant_of-self-2 : goal.invariant_of-self-2
 invariant_of-self-2 c = (flushed c).are
