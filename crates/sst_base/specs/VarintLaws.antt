@@ -165,11 +165,6 @@ varint_at_takes bytes bits n len b h e =
     let most : 2 ^ bits ≤ 2 ^ 64 = pow-le-pow_right (lit< tt) h in
     (one_encoding (take len bytes) (varint n) n r.0 (IsVarint-varint n (omega arith)), below, r.2)
 
--- one byte encodes a number below 128
-pub varint_small : (n : ℕ) → n < 128 → varint n ≡ n ∷ []
-unfolding varint
-varint_small n h = varint_within_small 9 n h
-
 -- and is read at every width
 pub varint_at_small : (bits b : ℕ) (bs : List ℕ) → IsWidth bits → b < 128 → varint_at bits (b ∷ bs) ≡ Some (b, 1)
 unfolding varint_at

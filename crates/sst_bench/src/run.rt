@@ -59,7 +59,9 @@ fn written(
         (blocks_of cuts.now items.now) r.0.items r.1) }
 {
     let mut bytes = Vec::new(alloc);
-    let handles = write_run::<Hash, InternalValue, Vec<u8>>(alloc, &mut bytes, items, cuts, config).ok()?;
+    let handles = write_run::<Hash, InternalValue, Vec<u8>>(
+        alloc, &mut bytes, items, cuts, config,
+    ).ok()?;
     Some((bytes, handles))
 }
 

@@ -20,12 +20,7 @@ use sstable_blocks::{MemorySource, RunConfig, RunHandles, Table};
 use std::alloc::Global;
 
 // Reads the entry of a needle, which shares the bytes of the run.
-fn read_shared(
-    alloc: Global,
-    run: &RunRef<'_, Hash>,
-    bytes: &Slice,
-    needle: &[u8],
-) -> Option<u64>
+fn read_shared(alloc: Global, run: &RunRef<'_, Hash>, bytes: &Slice, needle: &[u8]) -> Option<u64>
     requires { run.now.bytes ≡ bytes.now }
 {
     let mut steps = Steps::new();

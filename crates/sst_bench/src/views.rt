@@ -345,12 +345,7 @@ fn add_passed_made<'a, I: Source<EntryView<'a>> + Drop>(
 
 // Merges scans of runs, and adds each entry where its source holds it.
 #[inline(never)]
-fn add_merged(
-    so_far: u64,
-    runs: &[RunRef<'_, Hash>],
-    count: usize,
-    alloc: Global,
-) -> Option<u64> {
+fn add_merged(so_far: u64, runs: &[RunRef<'_, Hash>], count: usize, alloc: Global) -> Option<u64> {
     let mut merged = Merge::new(view_scans_of(alloc, runs)?);
     add_passed(so_far, &mut merged, count, alloc)
 }

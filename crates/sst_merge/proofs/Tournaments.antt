@@ -11,7 +11,7 @@ use Rattle.sst_merge.specs.MergeReads.{ge_trans, is_not_lt, not_lt}
 use Rattle.sst_merge.specs.Picks.{IsPick, goes, least, list_at, wins, wins_nil}
 use Rattle.sst_merge.specs.Sources.{Left, lists_left}
 use Rattle.sst_merge.specs.SourceLaws.{known_at, lists_length}
-use Rattle.sst_merge.specs.Tournament.{ArePlaces, AreSeats, IsAbove, IsFirstOf, IsTournament, Leads, halved, known_list}
+use Rattle.sst_merge.specs.Tournament.{ArePlaces, IsAbove, IsFirstOf, IsTournament, Leads, halved, known_list}
 
 not_true : (b : Bool) → not b ≡ true → b ≡ false
 not_true true h = absurd (cc)
@@ -194,9 +194,6 @@ module _ {X : Type 0} (cmp : X → X → Ordering) (order : IsTotalOrder cmp) wh
 
   pub half_above : (place from : ℕ) → IsAbove place from → IsAbove (place / 2) from
   half_above place from a = record { steps = suc a.steps; is = next_half a.steps from ∙ ap (λ m. m / 2) a.is }
-
-  above_half : (place from : ℕ) → IsAbove place (from / 2) → IsAbove place from
-  above_half place from a = record { steps = suc a.steps; is = a.is }
 
   above_by : (place from steps : ℕ) → halved steps from ≡ place → (from ≡ place) ⊎ IsAbove place (from / 2)
   above_by place from zero e = inl e
@@ -402,16 +399,6 @@ module _ {X : Type 0} (cmp : X → X → Ordering) (order : IsTotalOrder cmp) wh
     inside = all.inside;
     first = λ j one m fresh. all.first j one m (λ below. omega (arith, below, small, one));
   }
-
-  -- the last places alone are made
-  pub seats_are : (lefts : List (Left X)) (places : List ℕ) (count : ℕ) → count ≡ length lefts → AreSeats count places → 0 < length lefts → ArePlaces cmp lefts places (λ k. k < length lefts)
-  seats_are lefts places count same seats some =
-      subst (λ n. ArePlaces cmp lefts places (λ k. k < n)) refl (record {
-        size = seats.size ∙ ap (λ n. n + n) same;
-        last = λ i m. ap (λ n. slice_index places (n + i)) (sym same) ∙ seats.last i (omega (arith, m, same));
-        inside = λ k m. (let z = seats.first k (omega (arith, m, same)) in omega (arith, z, some));
-        first = λ k one m fresh. absurd (fresh m);
-      })
 
   -- where the source that goes first went on, the places above it are stale
   pub still_tournament : (lefts seen : List (Left X)) (places : List ℕ) (stale count i : ℕ) (l : Left X) → seen ≡ lefts → stale ≡ 0 → count ≡ length seen → i < length seen → IsTournament cmp seen places stale → IsTournament cmp (set lefts i l) places ((count + i) / 2)

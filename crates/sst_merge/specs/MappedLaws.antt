@@ -1,6 +1,6 @@
 -- Laws of lists of items that stand for entries.
-use Rattle.std.proofs.Common.{◌≡◌, ◌≢◌, ◌∙◌, ◌-◌, ℕ, List, [], ◌∷◌, ◌++◌, length, map, Option, Some, None, refl, sym, ap, subst, true, map-id, IfSome}
-use Rattle.std.proofs.lemmas.List.{length-map, map-append}
+use Rattle.std.proofs.Common.{◌≡◌, ◌≢◌, ◌∙◌, ◌-◌, ℕ, List, [], length, map, Option, Some, None, refl, sym, ap, subst, true, map-id, IfSome}
+use Rattle.std.proofs.lemmas.List.{length-map}
 use Rattle.std.proofs.lemmas.Option.{slice_get-map}
 use Rattle.std.proofs.lemmas.Cmp.{nat_list_cmp_total}
 use Rattle.std.specs.Cmp.Lexicographic.{slice_cmp}
@@ -10,7 +10,6 @@ use Rattle.std.specs.Ordering.{is_eq, nat_cmp, ordering_reverse}
 use Rattle.std.specs.declared.cmp.Ordering.{Ordering}
 use Rattle.std.specs.declared.cmp.Ordering.TheVariants.{Less, Equal, Greater}
 use Rattle.sst_base.specs.Entry.{Entry}
-use Rattle.sst_merge.specs.Sources.{IsTaken}
 use Rattle.sst_merge.specs.Tables.{IsApart, entries_in}
 
 self_equal : (o : Ordering) → o ≡ ordering_reverse o → is_eq o ≡ true
@@ -26,14 +25,6 @@ same_item : (x y : Entry) → Some x ≡ Some y → x ≡ y
 same_item x y e = cc
 
 module _ {X : Type 0} (entry : X → Entry) where
-  taken_before : (t : Option (List X)) (xs : List X) → entries_in entry (option_map (λ rest. xs ++ rest) t) ≡ option_map (λ rest. map entry xs ++ rest) (entries_in entry t)
-  taken_before None xs = refl
-  taken_before (Some rest) xs = ap (λ ys. Some ys) (map-append entry xs rest)
-
-  -- the entries of items that were taken were taken
-  pub taken_entries : (s t : Option (List X)) (xs : List X) → IsTaken s xs t → IsTaken (entries_in entry s) (map entry xs) (entries_in entry t)
-  taken_entries s t xs e = ap (entries_in entry) e ∙ taken_before t xs
-
   -- no items have no entries
   pub none_entries : (s : Option (List X)) → IfSome s (λ xs. xs ≡ []) → IfSome (entries_in entry s) (λ xs. xs ≡ [])
   none_entries None e = tt

@@ -62,10 +62,3 @@ all_from_back : (F R : Type 0) (b : Option (List ℕ)) (r s : List ℕ → List 
     → IfSome b (λ all. old ≡ None → GivesFirst F R (reverse (r all)) (reverse (s all)) (Ok x))
 all_from_back F R None r s old x h = tt
 all_from_back F R (Some all) r s old x h = λ e. from_back F R (r all) (s all) x (h e)
-
-pub scan_step_back : (F R : Type 0) (b c : Option (List ℕ)) (r s : List ℕ → List Read) (old new : Option Error) (m n : ℕ) (result : Result (Option Entry) Error) → EndsBy old new result → c ≡ b
-    → IfSome b (λ all. old ≡ None → GivesLast F R (r all) (s all) result) → IfOk result (IsFewer m n)
-    → IfOk result (λ x. TakesFirst (record { list = scan_list old b (λ all. reverse (r all)); most = m; ended = old }) x (record { list = scan_list new c (λ all. reverse (s all)); most = n; ended = new }))
-scan_step_back F R b c r s old new m n (Err e) ends same gives fewer = tt
-scan_step_back F R b c r s old new m n (Ok x) ends same gives fewer =
-    scan_step F R b c (λ all. reverse (r all)) (λ all. reverse (s all)) old new m n (Ok x) ends same (all_from_back F R b r s old x gives) fewer

@@ -4,9 +4,9 @@ ghost use Rattle.sst_base.specs.Varint.{varint};
 ghost use Rattle.sst_block_core.specs.Body.{form, truncated_against};
 ghost use Rattle.sst_block_core.specs.Entries.{entries, full, truncated, value_part};
 
+use sst_base::ValueType;
 use sst_base::coding::MAX_VARINT_LEN;
 use sst_base::in_place::put_varint;
-use sst_base::ValueType;
 use sst_block_core::{AsEntry, EntryView};
 
 // How many bytes a number takes as a varint.

@@ -6,7 +6,7 @@ use Rattle.std.proofs.Math.Seq.{take-append_seam}
 use Rattle.std.specs.Iterator.{YieldsFirst, YieldsLast}
 use Rattle.std.specs.List.{AllByRecursion}
 use Rattle.std.specs.Option.{option_map}
-use Rattle.std.specs.Prelude.{IfOk, IfSome, MatchResult, Result}
+use Rattle.std.specs.Prelude.{IfSome, MatchResult, Result}
 use Rattle.sst_base.specs.Entry.{Entry}
 use Rattle.sst_base.specs.declared.error.Error.{Error}
 use Rattle.sst_base.specs.declared.error.Error.TheVariants.{Memory}
@@ -108,15 +108,6 @@ entries_push (y ∷ ys) x = ap (λ xs. y ∷ xs) (entries_push ys x)
 pub gave_last : (old new : List Entry) (x : Option Entry) → GivesNext {X = Entry} (reverse (map Ok old)) (reverse (map Ok new)) x → YieldsLast (λ xs. xs) old x new
 gave_last old new None h = (sym (entries_again old) ∙ ap entries_read (turned_none (map Ok old) h.0), sym (entries_again new) ∙ ap entries_read (turned_none (map Ok new) h.1))
 gave_last old new (Some x) h = sym (entries_again old) ∙ ap entries_read (turned_back (map Ok old) (map Ok new) (Ok x) h) ∙ entries_push new x
-
--- the same of a step that may fail
-pub first_made : (Fails : Error → Type 0) (old new : List Entry) (result : Result (Option Entry) Error) → MatchResult result (GivesNext (map Ok old) (map Ok new)) Fails → IfOk result (λ x. YieldsFirst (λ xs. xs) old x new)
-first_made Fails old new (Ok x) h = gave_first old new x h
-first_made Fails old new (Err e) h = tt
-
-pub last_made : (Fails : Error → Type 0) (old new : List Entry) (result : Result (Option Entry) Error) → MatchResult result (GivesNext (reverse (map Ok old)) (reverse (map Ok new))) Fails → IfOk result (λ x. YieldsLast (λ xs. xs) old x new)
-last_made Fails old new (Ok x) h = gave_last old new x h
-last_made Fails old new (Err e) h = tt
 
 -- ---- blocks
 pub all_true : {X : Type 0} (xs : List X) → AllByRecursion (λ (x : X). ◌≡◌ {A = Bool} true true) xs

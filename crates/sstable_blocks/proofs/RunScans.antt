@@ -1,5 +1,5 @@
 -- Scans of sound runs.
-use Rattle.std.proofs.Common.{zero, suc, take, drop, ◌≡◌, ℕ, ◌+◌, ◌-◌, List, [], ◌∷◌, ◌++◌, map, refl, sym, ◌∙◌, ap, append-nil, Result, Ok}
+use Rattle.std.proofs.Common.{zero, suc, take, drop, ◌≡◌, ℕ, ◌-◌, List, [], ◌∷◌, ◌++◌, map, refl, sym, ◌∙◌, ap, append-nil, Result, Ok}
 use Rattle.std.proofs.lemmas.List.{map-append}
 use Rattle.std.specs.List.{AllByRecursion}
 use Rattle.sst_base.specs.Entry.{Entry, plain}

@@ -5,7 +5,7 @@ use Rattle.std.specs.Prelude.{Result}
 use Rattle.sst_base.specs.Entry.{Entry}
 use Rattle.sst_base.specs.declared.error.Error.{Error}
 use Rattle.sstable_blocks.specs.BlockReading.{AreBlocks}
-use Rattle.sstable_blocks.specs.Readings.{TableGoes, table_reading, sound_reading, block_of_index}
+use Rattle.sstable_blocks.specs.Readings.{TableGoes, table_reading, run_reading, block_of_index}
 use Rattle.sstable_blocks.specs.RunReading.{Hashes}
 use Rattle.sstable_blocks.specs.Scans.{CutParts, in_range}
 use Rattle.sstable_blocks.specs.Sources.{FailsAs}
@@ -58,12 +58,12 @@ module _ {S : Type 0} (c : Hashes) (bytes : S → Option (List ℕ)) (failures r
     fails_later = fails_by;
   }
 
-pub sound_laws : (Lacks : Error → Type 0) → AreBlocks (sound_reading Lacks)
-sound_laws Lacks = record {
+pub run_laws : AreBlocks run_reading
+run_laws = record {
   stays = λ s. refl;
   goes_on = λ s t u m n g h. h ∙ g;
-  same_len = λ s t n g. ap (sound_reading Lacks).len g;
-  same_read = λ s t n g. ap (sound_reading Lacks).read g;
+  same_len = λ s t n g. ap run_reading.len g;
+  same_read = λ s t n g. ap run_reading.read g;
   same_admits = λ s t n g. refl;
   errs_later = λ s t u n e g h. h;
   fails_later = λ s t u n x e g h. h;

@@ -3,7 +3,7 @@ use Rattle.std.specs.Prelude.{◌≡◌, ◌<◌, ◌+◌, ◌^◌, ℕ, List, [
 use Rattle.std.specs.Option.{option_map}
 use Rattle.sst_base.specs.Entry.{Entry}
 use Rattle.sst_base.specs.declared.error.Error.{Error}
-use Rattle.sst_base.specs.declared.error.Error.TheVariants.{Io, BadHandle, Memory}
+use Rattle.sst_base.specs.declared.error.Error.TheVariants.{Io, BadHandle}
 use Rattle.sst_block_core.specs.Entries.{entries}
 use Rattle.sst_block_core.specs.Stages.{items_in}
 use Rattle.sst_block_core.specs.Handles.{Handle}
@@ -45,22 +45,14 @@ abbrev pub entries_of_index : List ℕ → KeyRange → Option Handle → List E
 entries_of_index bytes r None = []
 entries_of_index bytes r (Some h) = within r (items_in entries (payload_in bytes (range_of h)))
 
--- the blocks of a sound run, which are refused with such errors alone
-abbrev pub sound_reading : (Error → Type 0) → Reading (CutParts RunParts) Entry
-sound_reading Lacks = record {
+-- the blocks of a sound run, which are never refused
+abbrev pub run_reading : Reading (CutParts RunParts) Entry
+run_reading = record {
   len = λ t. length (index_in t.run.bytes t.run.handles.index);
   read = λ t. Some (λ i. Ok (entries_of_index t.run.bytes t.range (slice_get (index_in t.run.bytes t.run.handles.index) i)));
   most = 2 ^ 64;
   admits = λ t x. true;
   Goes = λ s n t. t ≡ s;
-  Errs = λ s t e. Lacks e;
-  Fails = λ s t x e. Lacks e;
+  Errs = λ s t e. ⊥;
+  Fails = λ s t x e. ⊥;
 }
-
--- blocks that borrow the bytes are never refused
-abbrev pub run_reading : Reading (CutParts RunParts) Entry
-run_reading = sound_reading (λ e. ⊥)
-
--- blocks that share the bytes are refused where no memory is found
-abbrev pub made_reading : Reading (CutParts RunParts) Entry
-made_reading = sound_reading (λ e. e ≡ Memory)

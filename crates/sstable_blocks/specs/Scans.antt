@@ -207,14 +207,6 @@ pub record CutParts (R : Type 0) : Type 0 where
   pub run : R
   pub range : KeyRange
 
--- what contracts see of a scan without checks: the bytes and the handles, the range, the entries left, and the error
--- that ended it, if one did
-pub record TrustedScanParts : Type 0 where
-  pub run : RunParts
-  pub range : KeyRange
-  pub left : List Entry
-  pub ended : Option Error
-
 -- the entries in a range of the blocks of handles, as they are in bytes
 abbrev pub entries_within : List ℕ → KeyRange → List Handle → List Entry
 entries_within bytes r [] = []
@@ -228,13 +220,8 @@ entries_among bytes r front hs back = front ++ (entries_within bytes r hs ++ bac
 abbrev pub views_left : Option (List Entry) → List Entry
 views_left = items_of (λ (xs : List Entry). xs)
 
--- the entries left of a run by the ends of a scan: those of the blocks opened from the front and from the back, and those
--- of the blocks of handles between two indexes
-abbrev pub left_of_run : RunParts → KeyRange → List Entry → ℕ → ℕ → List Entry → List Entry
-left_of_run run r front lo hi back = entries_among run.bytes r front (between (index_in run.bytes run.handles.index) lo hi) back
-
 abbrev pub left_by : RunParts → KeyRange → Option (List Entry) → ℕ → ℕ → Option (List Entry) → List Entry
-left_by run r front lo hi back = left_of_run run r (views_left front) lo hi (views_left back)
+left_by run r front lo hi back = entries_among run.bytes r (views_left front) (between (index_in run.bytes run.handles.index) lo hi) (views_left back)
 
 -- what contracts see of a scan over borrowed bytes: the bytes and the handles, the range, and the entries left
 pub record RunScanParts : Type 0 where

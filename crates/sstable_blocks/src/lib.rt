@@ -23,6 +23,6 @@ pub use sst_base::{
     UserKey, UserValue, ValueType, append_exact, checksum, coding, double_ended_peekable, hash,
     key, slice, value, value_type,
 };
-pub use sst_block_core::{DataBlock, IndexBlock, KeyedBlockHandle};
+pub use sst_block_core::{AsEntry, DataBlock, EntryView, IndexBlock, KeyedBlockHandle};
 pub use table::filter::{self, FilterBlock};
 pub use xxh3_hash::Xxh3;

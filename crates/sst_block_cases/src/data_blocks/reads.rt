@@ -208,7 +208,11 @@ pub fn queries<H: BlockHash>(alloc: Global, opened: &Opened<H>) -> Result<String
 }
 
 /// Appends an entry that borrows its block to a list.
-fn push_entry(alloc: Global, entries: &mut Vec<InternalValue>, entry: &EntryView<'_>) -> Result<()> {
+fn push_entry(
+    alloc: Global,
+    entries: &mut Vec<InternalValue>,
+    entry: &EntryView<'_>,
+) -> Result<()> {
     entries.push(entry.to_entry(alloc)?)?;
     Ok(())
 }

@@ -123,12 +123,7 @@ fn append_long(writer: &mut Vec<u8>, at: usize, parts: KeyParts<'_>) -> AllocRes
 // ten more, and the string, in place where there is room for it and for `more` bytes. Returns the
 // length with the string, after which there is room for `more` bytes.
 #[inline(always)]
-fn put_long(
-    writer: &mut Vec<u8>,
-    at: usize,
-    parts: KeyParts<'_>,
-    more: usize,
-) -> AllocResult<usize>
+fn put_long(writer: &mut Vec<u8>, at: usize, parts: KeyParts<'_>, more: usize) -> AllocResult<usize>
     requires room { at + 10 ≤ length writer.old.items }
     requires few { more ≤ 128 }
     ensures bytes { IfOk result (λ end. take end writer.new.items

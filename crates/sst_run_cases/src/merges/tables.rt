@@ -79,7 +79,9 @@ fn compact_into<H: BlockHash, I: Source<InternalValue> + Drop>(
 ) -> Result<()> {
     let config = RunConfig::new(2, HashRatio { num: 1, den: 1 }, 10);
     let (snapshots, bottom, sizes) = (plan.snapshots, plan.bottom, plan.sizes);
-    Ok(compact_tables::<H, InternalValue, I, bool, Kept>(alloc, source, snapshots, bottom, kept, config, sizes)?)
+    Ok(compact_tables::<H, InternalValue, I, bool, Kept>(
+        alloc, source, snapshots, bottom, kept, config, sizes,
+    )?)
 }
 
 /// The tables into which the merge of sources is compacted.

@@ -4,9 +4,7 @@ ghost use Rattle.std.specs.Prelude.{None};
 use crate::Tested;
 use crate::merges::lists::{Memory, Row, T, V, entry_of, list_of};
 use sst_base::{ByteSum, Error, HashRatio, InternalValue, Result, SeqNo, UserKey};
-use sst_merge::{
-    Compact, Head, Merge, Rev, Reversed, Sizes, Snapshot, Source, write_table,
-};
+use sst_merge::{Compact, Head, Merge, Rev, Reversed, Sizes, Snapshot, Source, write_table};
 use sstable_blocks::{RunConfig, RunHandles};
 use std::alloc::{AllocError, Global};
 use std::io::Write;

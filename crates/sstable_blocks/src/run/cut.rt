@@ -4,7 +4,7 @@ ghost use Rattle.std.specs.Prelude.{IfErr, IfOk, IfSome};
 ghost use Rattle.sst_base.specs.declared.error.Error.TheVariants.{Io, Memory};
 ghost use Rattle.sst_block_core.specs.Window.{items_left};
 ghost use Rattle.sst_block_core.specs.Handles.{Handle};
-ghost use Rattle.sstable_blocks.specs.ReadingLaws.{sound_laws, table_laws};
+ghost use Rattle.sstable_blocks.specs.ReadingLaws.{run_laws, table_laws};
 ghost use Rattle.sstable_blocks.specs.Readings.{run_reading, table_reading};
 ghost use Rattle.sstable_blocks.specs.RunReading.{hashes};
 ghost use Rattle.sstable_blocks.specs.Scans.{AllWithin, block_within};
@@ -154,5 +154,5 @@ impl<'a, 'k, H: BlockHash> Blocks<OpenBlock<'a>> for Cut<'k, RunRef<'a, H>> {
         Ok(())
     }
 
-    ghost laws = { sound_laws (λ e. ⊥) };
+    ghost laws = { run_laws };
 }

@@ -144,7 +144,12 @@ impl<H: BlockHash> RunCore<H> {
     {
         let (config, offset) = (self.config, self.offset);
         let (size, end) = framed_block::<H, T>(&mut self.payload, items, &config, offset)?;
-        let handle = handle_at(*self.handles.allocator(), &items[items.len() - 1], offset, size)?;
+        let handle = handle_at(
+            *self.handles.allocator(),
+            &items[items.len() - 1],
+            offset,
+            size,
+        )?;
         self.handles.try_reserve(1)?;
         let known = self.hashes.len();
         push_hashes::<H, T>(&mut self.hashes, hashed_items(items, &config))?;

@@ -23,8 +23,8 @@ returns-else-len-size-clause-apart g c = λ no.
     let last = c.in-Some-Some.last.now in
     let next = c.in-Some-Some.next.now in
     let differ : (entry last).key.user_key ≢ (entry next).key.user_key = λ same.
-        let alike = keys_alike c.view.result.key.user_key c.view-else-len-size.result.key.user_key (ap key c.view.ensures ∙ same ∙ sym (ap key c.view-else-len-size.ensures)) in
-        let wrong : true ≡ false = sym alike ∙ sym (ap is_eq c.compare_user_key.ensures) ∙ sym c.is_eq.ensures ∙ no in cc
+    let alike = keys_alike c.view.result.key.user_key c.view-else-len-size.result.key.user_key (ap key c.view.ensures ∙ same ∙ sym (ap key c.view-else-len-size.ensures)) in
+    let wrong : true ≡ false = sym alike ∙ sym (ap is_eq c.compare_user_key.ensures) ∙ sym c.is_eq.ensures ∙ no in cc
     in apart_entries entry c.args.source.now.list c.args.block.now next last c.in-Some-Some.ensures.first c.in-Some-Some.ensures'.value differ
 
 pub returns-else-len-size-clause-goes_on : goal.returns-else-len-size-clause-goes_on

@@ -1,5 +1,4 @@
 use Rattle.std.proofs.Common.{rules, ◌≡◌, ◌∙◌, sym, ap, drop, Ok}
-use Rattle.sst_base.specs.Block.{BlockParts}
 use Rattle.sstable_blocks.specs.Filter.{Filter, filter_at}
 use Rattle.sstable_blocks.specs.FilterLaws.{filter_at_reads}
 use Rattle.sstable_blocks.specs.declared.table.filter.standard_bloom.FilterShape.{FilterShape}

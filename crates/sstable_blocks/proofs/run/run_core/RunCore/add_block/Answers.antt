@@ -1,5 +1,5 @@
 use Rattle.std.proofs.Common.{◌≡◌, map, refl, sym, ◌∙◌, ap, arith, subst, [], ◌∷◌, ◌++◌}
-use Rattle.sstable_blocks.specs.Run.{handle_of, end_of, form, key_hashes}
+use Rattle.sstable_blocks.specs.Run.{handle_of, form, key_hashes}
 use Rattle.sst_base.specs.Key.{Key}
 use Rattle.std.proofs.lemmas.Grind.{common_steps}
 use Rattle.sstable_blocks.specs.Writing.{Written}

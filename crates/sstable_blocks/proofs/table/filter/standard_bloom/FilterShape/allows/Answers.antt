@@ -1,5 +1,5 @@
-use Rattle.std.proofs.Common.{◌≡◌, ◌∙◌, ◌↔◌, List, ℕ, Ok, IsTrue, drop, sym, subst}
-use Rattle.sstable_blocks.specs.Filter.{Filter, IsSized, MayContain}
+use Rattle.std.proofs.Common.{◌∙◌, ◌↔◌, List, ℕ, Ok, IsTrue, sym, subst}
+use Rattle.sstable_blocks.specs.Filter.{IsSized, MayContain}
 use Rattle.sstable_blocks.specs.FilterLaws.{filter_at_reads}
 use Rattle.sstable_blocks.proofs.CheckedReads.{asked}
 use Rattle.sstable_blocks.proofs.table.filter.standard_bloom.FilterShape.allows.Goals as goal
