@@ -1,9 +1,6 @@
 //! Writes entries as a block, and reads one of them by its key.
-ghost use Rattle.std.specs.Prelude.{◌≡◌, ◌≤◌, length, map, IfOk};
-ghost use Rattle.sst_base.specs.Entry.{plain};
-ghost use Rattle.sst_block_core.specs.Entries.{entries};
-ghost use Rattle.sst_block_core.specs.Kind.{IsOrdered};
-ghost use Rattle.sst_block_core.specs.Window.{first_match};
+ghost use Rattle.sstable_blocks.specs.Prelude.{◌≡◌, ◌≤◌, length, map, IfOk};
+ghost use Rattle.sstable_blocks.specs.Prelude.{IsOrdered, entries, first_match, plain};
 
 use sstable_blocks::{
     Block, BlockType, DataBlock, HashRatio, InternalValue, Result, SeqNo, Slice, Steps, Xxh3,

@@ -22,3 +22,4 @@ pub mod Scans
 pub mod Ends
 pub mod Readings
 pub mod ReadingLaws
+pub mod Prelude
