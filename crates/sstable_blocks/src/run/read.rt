@@ -1,5 +1,5 @@
 //! Reading runs.
-ghost use Rattle.std.specs.Prelude.{◌≡◌, ℕ, ◌+◌, ◌<◌, List, Some, length, IfOk, IsOkUnless, OnOk, false};
+ghost use Rattle.std.specs.Prelude.{◌≡◌, ◌↔◌, ℕ, ◌+◌, ◌<◌, List, Some, length, IfOk, IfSome, IsOkUnless, OnOk, false};
 ghost use Rattle.sst_base.specs.Counted.{CountsExactly, CountsBetween};
 ghost use Rattle.sst_base.specs.Entry.{Entry, IsEntry};
 ghost use Rattle.sst_block_core.specs.DataBlock.{data_ref_of};
@@ -21,7 +21,9 @@ ghost use Rattle.sstable_blocks.specs.RunReading.{hashes};
 ghost use Rattle.sstable_blocks.specs.Sound.{IsSound};
 
 use crate::run::RunHandles;
-use crate::run::run_ref::RunRef;
+use crate::run::laws::sound_opens;
+use crate::run::open_filter::OpenFilter;
+use crate::run::run_ref::item_by_index;
 use crate::run::search::{DataSearchRef, IndexSearch};
 use sst_base::table::block::header::HEADER_LEN;
 use sst_base::{BlockHandle, BlockHash, Error, InternalValue, Result, SeqNo, Slice, Steps};
@@ -39,6 +41,14 @@ pub(crate) fn payload_at<'a>(bytes: &'a [u8], handle: &BlockHandle) -> &'a [u8]
     let size = handle.size();
     let start = *handle.offset() as usize;
     &bytes[start + HEADER_LEN..start + size as usize]
+}
+
+// Whether a run can have a key of this hash, by its filter. It can where there is none.
+fn is_allowed(bytes: &[u8], filter: &Option<BlockHandle>, hash: u64) -> bool
+    requires { IfSome filter.now (IsFrameRange bytes.now) }
+    ensures { (result ≡ false) ↔ IsDenied bytes.now filter.now hash }
+{
+    OpenFilter::new(bytes, filter).allows(hash)
 }
 
 // The index in a frame, over the same bytes.
@@ -108,7 +118,7 @@ pub(crate) fn item_in<H: BlockHash>(
     }
 }
 
-/// Makes the entry at a place in these bytes that [`RunRef::locate`] returned. Its value, and its
+/// Makes the entry at a place in these bytes that [`RunRef::locate`](super::RunRef::locate) returned. Its value, and its
 /// key where that is encoded in full, share the bytes.
 ///
 /// # Errors
@@ -173,8 +183,13 @@ pub fn read_entry<H: BlockHash>(
     ensures denied { IsDenied bytes.now handles.now.filter (H.hash64 needle.now)
         → CountsExactly steps.old steps.new 0 0 }
 {
-    let run = RunRef::<H>::new(bytes.as_slice(), handles);
-    match run.locate(needle, seqno, steps) {
+    sound_opens();
+    let data = bytes.as_slice();
+    if !is_allowed(data, &handles.filter, H::hash64(needle)) {
+        return Ok(None);
+    }
+    let index = index_over(data, &handles.index);
+    match item_by_index::<H>(data, handles, &index, needle, seqno, steps) {
         None => Ok(None),
         Some(place) => Ok(Some(shared_entry(alloc, bytes, &place)?)),
     }

@@ -239,7 +239,7 @@ fn summary_in<H: BlockHash>(alloc: Global, bytes: &[u8], handles: &RunHandles) -
 }
 
 // Where the first match of a sound run is, by its index.
-fn item_by_index<H: BlockHash>(
+pub(crate) fn item_by_index<H: BlockHash>(
     bytes: &[u8],
     handles: &RunHandles,
     index: &IndexSearch<'_>,
