@@ -1,5 +1,5 @@
 //! Writes entries as a block, and reads one of them by its key.
-ghost use Rattle.sstable_blocks.specs.Prelude.{◌≡◌, ◌≤◌, length, map, IfOk};
+ghost use Rattle.std.specs.Prelude.{◌≡◌, ◌≤◌, length, map, IfOk};
 ghost use Rattle.sstable_blocks.specs.Prelude.{IsOrdered, entries, first_match, plain};
 
 use sstable_blocks::{
