@@ -1,5 +1,5 @@
--- What callers' contracts name mostly, in one place: ghost use Rattle.sstable_blocks.specs.Prelude.{..}
-pub use Rattle.std.specs.Prelude.{◌≡◌, ◌≢◌, ◌↔◌, ◌⊎◌, ℕ, ◌+◌, ◌-◌, ◌*◌, ◌^◌, ◌<◌, ◌≤◌, List, [], ◌∷◌, ◌++◌, length, map, filter, reverse, take, drop, Some, None, Ok, Err, IfSome, IfNone, IsSome, IsNone, IfOk, IfErr, OnOk, OnErr, IsOk, IsErr, IsOkUnless, IsTrue, true, false}
+-- The library's words that contracts of callers name mostly, in one place, beside std's own prelude:
+-- ghost use Rattle.sstable_blocks.specs.Prelude.{..}
 pub use Rattle.sst_base.specs.Entry.{Entry, IsEntry, plain}
 pub use Rattle.sst_block_core.specs.Entries.{entries}
 pub use Rattle.sst_block_core.specs.Kind.{IsOrdered}
