@@ -284,7 +284,7 @@ impl<R: Read, H: BlockHash> Read for ChecksummedReader<R, H> {
 impl<R: Input, H: BlockHash> Input for ChecksummedReader<R, H> {
     ghost use Rattle.std.specs.Prelude.{◌<◌, ◌≤◌, ◌+◌, ◌⊎◌, List, length, drop, IfSome, IfErr};
     ghost use Rattle.std.specs.Vec.{vec_len, vec_capacity};
-    ghost use Rattle.std.specs.Prelude.{IsOkUnless};
+    ghost use Rattle.std.specs.Prelude.{IsOkUnless, MatchResult};
     ghost use Rattle.sst_base.specs.declared.error.Error.TheVariants.{Io, Memory};
 
     ghost is_memory = { λ r. R.is_memory r.inner };
@@ -318,9 +318,9 @@ impl<R: Input, H: BlockHash> Input for ChecksummedReader<R, H> {
             → IfSome (R.remaining self.old.inner) (λ bytes. length bytes < len)) }
         ensures kept { R.is_memory self.old.inner → R.is_memory self.new.inner }
         ensures whole { R.whole self.new.inner ≡ R.whole self.old.inner }
-        ensures given { OnOk result (self.new.passed
-            ≡ self.old.passed ++ drop (length buf.old.items) buf.new.items) }
-        ensures refused { OnErr result (self.new.passed ≡ self.old.passed) }
+        ensures given { MatchResult result
+            (λ _. self.new.passed ≡ self.old.passed ++ drop (length buf.old.items) buf.new.items)
+            (λ _. self.new.passed ≡ self.old.passed) }
     {
         let start = buf.as_slice().len();
         self.inner.append(buf, len)?;

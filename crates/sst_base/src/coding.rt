@@ -125,7 +125,7 @@ fn decode_digits(bytes: &[u8], max: u64) -> Option<(u64, usize)>
 // `None`: a pair of numbers is returned in registers, an `Option` of one by way of memory.
 #[cold]
 #[inline(never)]
-#[tactic(auto, using(crate::proofs::ShortVarints::takes_some), unfolding(crate::specs::Varint::varint_at))]
+#[tactic(auto, using(crate::proofs::Framing::ShortVarints::takes_some), unfolding(crate::specs::Varint::varint_at))]
 fn decode_long(bytes: &[u8], bits: u32) -> (u64, usize)
     requires { IsWidth bits }
     ensures found { 0 < result.1 → varint_at bits bytes.now ≡ Some result }

@@ -1,39 +1,6 @@
-pub mod Bits
-pub mod Counts
-pub mod Probes
-pub mod Kept
-pub mod Mapped
-pub mod CutLoops
-pub mod Endings
-pub mod FilterTexts
-pub mod Cuts
-pub mod Ends
-pub mod Search
-pub mod BlockHandles
-pub mod Layouts
-pub mod FilterReads
-pub mod Openings
-pub mod SoundLayouts
-pub mod LayoutCosts
-pub mod IndexSteps
-pub mod Points
-pub mod CheckedReads
-pub mod SoundReads
-pub mod Meanings
-pub mod Answered
-pub mod FileRanges
-pub mod RunSummaries
-pub mod RunCheckLaws
-pub mod RunCheckSteps
-pub mod Footers
-pub mod TableCounts
-pub mod TableEnds
-pub mod ScanWindows
-pub mod SoundScans
-pub mod ScanCounts
-pub mod ScanSteps
-pub mod ScanCuts
-pub mod RunScans
-pub mod KeptReads
-pub mod EndSteps
-pub mod EndReads
+mod Filters
+mod Lists
+mod Layouts
+mod Reading
+mod Checks
+mod Scans

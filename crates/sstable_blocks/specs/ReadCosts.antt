@@ -1,7 +1,7 @@
 -- How little a read of a run examines.
 use Rattle.std.specs.Prelude.{ℕ, ◌+◌, ◌==◌, ◌≤◌, if◌then◌else◌, List, length, slice_get, Option, Some, None}
 use Rattle.sst_base.specs.BlockHandle.{HandleParts}
-use Rattle.sst_base.specs.Counted.{Counted}
+use Rattle.sst_base.specs.Counted.{Counted, CountsBetween}
 use Rattle.sst_base.specs.Entry.{Entry}
 use Rattle.sst_block_core.specs.Entries.{entries}
 use Rattle.sst_block_core.specs.Intervals.{digits}
@@ -56,6 +56,10 @@ heads_most_in bytes h needle seqno = heads_most_by bytes (index_in bytes h.index
 
 abbrev pub entries_most_in : List ℕ → RunHandles → List ℕ → ℕ → ℕ
 entries_most_in bytes h needle seqno = entries_most_by bytes (index_in bytes h.index) (interval_in bytes h.index) needle seqno
+
+-- what a read of these bytes adds to the counters is at most that
+abbrev pub CountsRead : List ℕ → RunHandles → List ℕ → ℕ → Counted → Counted → Type 0
+CountsRead bytes h needle seqno old new = CountsBetween old new (0, 0) (heads_most_in bytes h needle seqno, entries_most_in bytes h needle seqno)
 
 -- the block of a run that can hold the needle below a sequence number, if there is one
 abbrev pub block_for : Form → List (List Entry) → List ℕ → ℕ → Option (List Entry)

@@ -2,6 +2,7 @@
 use Rattle.std.specs.Prelude.{◌≡◌, ◌≢◌, ◌⊎◌, ◌<◌, ℕ, ◌+◌, ◌*◌, ◌^◌, ◌&&◌, min, not, Bool, true, false, List, [], ◌∷◌, ◌++◌, length, map, filter, count_by, Option, Some, None, IfSome, Result, Ok, Err}
 use Rattle.std.specs.Cmp.Lexicographic.{slice_cmp}
 use Rattle.std.specs.Ordering.{nat_cmp, is_le, is_lt}
+use Rattle.std.specs.Range.Bound.{bound_map}
 use Rattle.std.specs.declared.ops.Bound.{Bound}
 use Rattle.std.specs.declared.ops.Bound.TheVariants.{Included, Excluded, Unbounded}
 use Rattle.sst_base.specs.Entry.{Entry}
@@ -30,6 +31,10 @@ use Rattle.sst_base.specs.Header.{◌>>=◌}
 pub record KeyRange : Type 0 where
   pub from : Bound (List ℕ)
   pub to : Bound (List ℕ)
+
+-- the range between two bounds, whose keys are seen by `key`
+abbrev pub range_by : {K : Type 0} → (K → List ℕ) → Bound K → Bound K → KeyRange
+range_by key from to = record { from = bound_map key from; to = bound_map key to }
 
 -- does a key sort before the start of a range?
 abbrev pub is_before : Bound (List ℕ) → List ℕ → Bool

@@ -13,8 +13,10 @@ use Rattle.sstable_blocks.specs.Filter.{Filter, filter_at, MayContain}
 use Rattle.sstable_blocks.specs.Lookup.{IsEnd}
 use Rattle.sstable_blocks.specs.Opened.{range_of}
 use Rattle.sstable_blocks.specs.Run.{IsFramed}
+use Rattle.sstable_blocks.specs.RunChecks.{summary_of}
 use Rattle.sstable_blocks.specs.RunReading.{Hashes, IsFramedAt}
 use Rattle.sstable_blocks.specs.declared.run.RunHandles.{RunHandles}
+use Rattle.sstable_blocks.specs.declared.run.checking.RunSummary.{RunSummary}
 
 -- in the range of a handle is the frame of a data block that encodes these entries, at an interval and a number of
 -- buckets of its own; the handle has the key and the sequence number of the last entry
@@ -57,6 +59,18 @@ pub record IsSound (c : Hashes) (blocks : List (List Entry)) (bytes : List ℕ) 
   pub contiguous : AreContiguous 0 handles
   pub ordered : IsOrdered entries (joined blocks)
   pub filter : IfSome h.filter (IsStoredFilter c bytes (joined blocks))
+
+-- bytes with these handles are a sound run of some blocks
+abbrev pub IsSoundRun : Hashes → List ℕ → RunHandles → Type 0
+IsSoundRun c bytes h = (blocks : List (List Entry)) × IsSound c blocks bytes h
+
+-- what holds of the blocks, if bytes with these handles are a sound run
+abbrev pub ForSound : Hashes → List ℕ → RunHandles → (List (List Entry) → Type 0) → Type 0
+ForSound c bytes h holds = (blocks : List (List Entry)) → IsSound c blocks bytes h → holds blocks
+
+-- bytes with these handles are a sound run, and this is the summary of its blocks
+abbrev pub IsSummary : Hashes → List ℕ → RunHandles → RunSummary → Type 0
+IsSummary c bytes h summary = (blocks : List (List Entry)) × IsSound c blocks bytes h × (summary ≡ summary_of blocks)
 
 -- what contracts see of a run in memory that was checked
 pub record RunParts : Type 0 where

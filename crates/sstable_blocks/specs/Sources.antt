@@ -1,6 +1,6 @@
 -- How a clause says that a call over a source of frames returns exactly this, where an allocation or the source may
 -- fail.
-use Rattle.std.specs.Prelude.{◌≡◌, ◌≢◌, ◌⊎◌, ◌≤◌, ◌<◌, ℕ, Option, None, Some, Result, Ok, Err, List}
+use Rattle.std.specs.Prelude.{◌≡◌, ◌≢◌, ◌⊎◌, ◌≤◌, ◌<◌, ℕ, Option, None, Some, IfSome, Result, Ok, Err, IfErr, List}
 use Rattle.sst_base.specs.BlockHandle.{HandleParts}
 use Rattle.sst_base.specs.declared.error.Error.{Error}
 use Rattle.sst_base.specs.declared.error.Error.TheVariants.{Memory, Io, Truncated, BadHandle}
@@ -48,3 +48,12 @@ IsRangeRead over_memory size (Err e) range = IsRangeRefused over_memory size e r
 abbrev pub filter_frames : Option HandleParts → ℕ
 filter_frames None = 0
 filter_frames (Some h) = 1
+
+-- an error of a call is `Io` only where the source failed in that call
+abbrev pub IsIoCounted : {S Y : Type 0} → (S → ℕ) → S → S → Result Y Error → Type 0
+IsIoCounted failures old new result = IfErr result (λ e. e ≡ Io → failures old < failures new)
+
+-- where the bytes of a source are known, a result, seen by `view`, is exactly what is read of them, unless an allocation
+-- or the source failed
+abbrev pub ReadsAs : {S X Y : Type 0} → (S → Option (List ℕ)) → (S → ℕ) → (S → Type 0) → S → S → (X → Y) → Result X Error → (List ℕ → Result Y Error) → Type 0
+ReadsAs bytes failures is_reliable old new view result read = IfSome (bytes old) (λ all. GivesOr (failures old < failures new) (is_reliable old) view result (read all))

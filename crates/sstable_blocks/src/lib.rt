@@ -11,7 +11,7 @@ pub mod table;
 pub mod xxh3_hash;
 
 pub use run::{
-    BorrowedSource, BufferedFile, FileSource, FrameSource, LockFiles, MemorySource, NewFile,
+    BufferedFile, FileSource, FrameSource, LockFiles, MemorySource, NewFile,
     NotMade, OpenError, RunConfig, RunHandles, RunRef, RunScan, RunSummary, RunWriter, Scan,
     SizedSource, SyncWrite, Table, cuts_fit, decode_footer, encode_footer, end_table, read_entry,
     read_entry_checked, shared_entry, write_and_read, write_run,

@@ -23,7 +23,7 @@ fn word_at(bytes: &[u8], at: usize) -> u64
 }
 
 // The same as `compare_bytes`, a byte a step: for strings one of which has less than eight bytes.
-#[tactic(auto, using(crate::proofs::Orders::tails_same, crate::proofs::Orders::tails_differ, crate::proofs::Orders::tails_end))]
+#[tactic(auto, using(crate::proofs::Strings::Orders::tails_same, crate::proofs::Strings::Orders::tails_differ, crate::proofs::Strings::Orders::tails_end))]
 fn compare_tails(a: &[u8], b: &[u8]) -> Ordering
     ensures { result ≡ slice_cmp nat_cmp a.now b.now }
 {
@@ -74,7 +74,7 @@ pub fn compare_bytes(a: &[u8], b: &[u8]) -> Ordering
 }
 
 // The same as `longest_shared_prefix_length`, a byte a step.
-#[tactic(auto, using(crate::proofs::Shared::shared_step, crate::proofs::Shared::shared_stop, crate::proofs::Shared::shared_end))]
+#[tactic(auto, using(crate::proofs::Strings::Shared::shared_step, crate::proofs::Strings::Shared::shared_stop, crate::proofs::Strings::Shared::shared_end))]
 fn shared_bytes(a: &[u8], b: &[u8]) -> usize
     ensures value { result ≡ shared_prefix_length a.now b.now }
     ensures inside { result ≤ length a.now }

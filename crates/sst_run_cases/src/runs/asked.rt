@@ -11,9 +11,7 @@ use sst_base::{BlockHash, Slice, Steps};
 use sst_block_cases::fault::{Fault, Result};
 use sst_block_cases::room::Room;
 use sstable_blocks::Table;
-use sstable_blocks::run::{
-    BorrowedSource, FileSource, FrameSource, MemorySource, RunHandles, RunRef,
-};
+use sstable_blocks::run::{FileSource, FrameSource, MemorySource, RunHandles, RunRef};
 use std::alloc::Global;
 use std::io::Cursor;
 
@@ -40,8 +38,6 @@ pub enum Asked<'a> {
 pub enum Place {
     /// In memory.
     Memory,
-    /// In bytes that are lent.
-    Lent,
     /// In a file.
     File,
 }
@@ -102,7 +98,6 @@ pub fn of_run<H: BlockHash>(
             let source = MemorySource::new(Slice::new(alloc, bytes)?);
             of_source::<H, _>(alloc, source, &handles, asked)
         }
-        Place::Lent => of_source::<H, _>(alloc, BorrowedSource::new(bytes), &handles, asked),
         Place::File => {
             let source = FileSource::new(Cursor::new(bytes));
             of_source::<H, _>(alloc, source, &handles, asked)

@@ -55,7 +55,7 @@ fn by_ref<H: BlockHash>(alloc: Global, room: &Room) -> Result<String> {
 fn check_memory<H: BlockHash>(alloc: Global, room: &Room) -> Result<String> {
     let found = [
         of_run::<H>(alloc, room, Place::Memory, Asked::Check),
-        of_run::<H>(alloc, room, Place::Lent, Asked::Verify),
+        of_run::<H>(alloc, room, Place::Memory, Asked::Verify),
         by_ref::<H>(alloc, room),
     ];
     agreed(alloc, &found)

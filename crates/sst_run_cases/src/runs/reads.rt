@@ -155,15 +155,6 @@ fn reads<H: BlockHash>(alloc: Global, room: &Room) -> Result<String> {
     Ok(format!(in alloc; "{total} reads, {count} found, {state:016x}")?)
 }
 
-/// A checked read in memory, and in bytes that are lent.
-fn fetch_memory<H: BlockHash>(alloc: Global, room: &Room, query: Query<'_>) -> Result<String> {
-    let found = [
-        of_run::<H>(alloc, room, Place::Memory, Asked::Fetch(query)),
-        of_run::<H>(alloc, room, Place::Lent, Asked::Fetch(query)),
-    ];
-    agreed(alloc, &found)
-}
-
 /// A checked read, in memory or in a file: WHERE KEY SEQNO.
 fn fetch<H: BlockHash>(alloc: Global, room: &Room, words: &[&str]) -> Result<String> {
     let [place, key, seqno] = words else {
@@ -172,11 +163,8 @@ fn fetch<H: BlockHash>(alloc: Global, room: &Room, words: &[&str]) -> Result<Str
     let seqno = number_of(seqno)?;
     let key = bytes_of(alloc, key)?;
     let query = (key.as_slice(), seqno);
-    if *place == "file" {
-        of_run::<H>(alloc, room, Place::File, Asked::Fetch(query))
-    } else {
-        fetch_memory::<H>(alloc, room, query)
-    }
+    let place = if *place == "file" { Place::File } else { Place::Memory };
+    of_run::<H>(alloc, room, place, Asked::Fetch(query))
 }
 
 /// Performs a command, if it is one that reads a key of a run.

@@ -132,15 +132,6 @@ pub fn scan_ref<H: BlockHash>(
     steps_of(alloc, made, path.steps)
 }
 
-/// Scans a run in memory with checks.
-fn scan_checked<H: BlockHash>(alloc: Global, room: &Room, path: &Path<'_>) -> Result<String> {
-    let found = [
-        of_run::<H>(alloc, room, Place::Memory, Asked::Scan(path)),
-        of_run::<H>(alloc, room, Place::Lent, Asked::Scan(path)),
-    ];
-    agreed(alloc, &found)
-}
-
 /// Scans a sound run in each way.
 pub fn scan_sound<H: BlockHash>(
     alloc: Global,
@@ -154,7 +145,7 @@ pub fn scan_sound<H: BlockHash>(
         × IsSound (hashes H.hash64 H.hash128) blocks run.now handles.now }
 {
     let found = [
-        scan_checked::<H>(alloc, room, path),
+        of_run::<H>(alloc, room, Place::Memory, Asked::Scan(path)),
         of_run::<H>(alloc, room, Place::File, Asked::Scan(path)),
         scan_ref::<H>(alloc, checked, path),
         by_trusted::<H>(alloc, run, handles, Wanted::Scan(path)),

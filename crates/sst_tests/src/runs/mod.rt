@@ -1,5 +1,6 @@
 //! Runs over devices, writers and sources that fail, and worked values of the definitions.
 mod faults;
 mod lists;
+mod many;
 mod vectors;
 mod written;

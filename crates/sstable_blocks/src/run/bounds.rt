@@ -75,11 +75,8 @@ impl<'k> Bounds<'k> {
     // Moves the front of a block's entries to the start of the range.
     fn cut_front<H: BlockHash>(&self, entries: &mut IntoEntries<H>)
         requires { entries.old.window.lo ≡ 0 }
-        ensures { entries.new.window ≡ record {
-          list = entries.old.window.list;
-          lo = first_entry self.now entries.old.window.list;
-          hi = entries.old.window.hi;
-        } }
+        ensures { entries.new.window ≡ record entries.old.window {
+          lo = first_entry self.now entries.old.window.list; } }
     {
         match self.from {
             Bound::Included(start) => {
@@ -95,11 +92,8 @@ impl<'k> Bounds<'k> {
     // Moves the back of a block's entries to the end of the range.
     fn cut_back<H: BlockHash>(&self, entries: &mut IntoEntries<H>)
         requires { entries.old.window.hi ≡ length entries.old.window.list }
-        ensures { entries.new.window ≡ record {
-          list = entries.old.window.list;
-          lo = entries.old.window.lo;
-          hi = end_entry self.now entries.old.window.list;
-        } }
+        ensures { entries.new.window ≡ record entries.old.window {
+          hi = end_entry self.now entries.old.window.list; } }
     {
         match self.to {
             Bound::Included(end) => {
@@ -128,11 +122,8 @@ impl<'k> Bounds<'k> {
     fn cut_iter_front(&self, iter: &mut Iter<'_>)
         requires { iter.old.window.lo ≡ 0 }
         ensures payload { iter.new.payload ≡ iter.old.payload }
-        ensures window { iter.new.window ≡ record {
-          list = iter.old.window.list;
-          lo = first_entry self.now iter.old.window.list;
-          hi = iter.old.window.hi;
-        } }
+        ensures window { iter.new.window ≡ record iter.old.window {
+          lo = first_entry self.now iter.old.window.list; } }
     {
         match self.from {
             Bound::Included(start) => {
@@ -149,11 +140,8 @@ impl<'k> Bounds<'k> {
     fn cut_iter_back(&self, iter: &mut Iter<'_>)
         requires { iter.old.window.hi ≡ length iter.old.window.list }
         ensures payload { iter.new.payload ≡ iter.old.payload }
-        ensures window { iter.new.window ≡ record {
-          list = iter.old.window.list;
-          lo = iter.old.window.lo;
-          hi = end_entry self.now iter.old.window.list;
-        } }
+        ensures window { iter.new.window ≡ record iter.old.window {
+          hi = end_entry self.now iter.old.window.list; } }
     {
         match self.to {
             Bound::Included(end) => {

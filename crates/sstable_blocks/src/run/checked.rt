@@ -1,10 +1,9 @@
 //! Reading runs from bytes of any kind.
-ghost use Rattle.std.specs.Prelude.{◌≡◌, ◌≢◌, ◌⊎◌, ◌+◌, ◌≤◌, ◌<◌, List, None};
-ghost use Rattle.std.specs.Prelude.{Option, Ok, OnOk, IfOk, IfErr, IfSome, false};
+ghost use Rattle.std.specs.Prelude.{◌≡◌, ◌≢◌, ◌⊎◌, ◌+◌, ◌≤◌, ◌<◌, None, Option, Ok, OnOk, IfOk};
+ghost use Rattle.std.specs.Prelude.{IfErr, IfSome, false};
 ghost use Rattle.std.specs.Option.{option_map};
 ghost use Rattle.sst_base.specs.Bytes.{IsBytes};
 ghost use Rattle.sst_base.specs.Counted.{CountsBetween};
-ghost use Rattle.sst_base.specs.Entry.{Entry};
 ghost use Rattle.sst_base.specs.declared.error.Error.TheVariants.{Io};
 ghost use Rattle.sst_block_core.specs.Entries.{entries};
 ghost use Rattle.sst_block_core.specs.Intervals.{digits};
@@ -14,10 +13,11 @@ ghost use Rattle.sstable_blocks.specs.Blocks.{joined};
 ghost use Rattle.sstable_blocks.specs.Opened.{range_of};
 ghost use Rattle.sstable_blocks.specs.ReadCosts.{CountsGrow, heads_at, entries_at};
 ghost use Rattle.sstable_blocks.specs.RunReading.{hashes, payload_at, filter_says, filter_answer};
-ghost use Rattle.sstable_blocks.specs.RunReading.{read_block, items_at, handles_at};
-ghost use Rattle.sstable_blocks.specs.RunReading.{read_blocks, read_checked, AnswerMeans};
-ghost use Rattle.sstable_blocks.specs.Sound.{IsSound};
-ghost use Rattle.sstable_blocks.specs.Sources.{GivesOr, KeepsSource, filter_frames};
+ghost use Rattle.sstable_blocks.specs.RunReading.{read_block, items_at, handles_at, read_blocks};
+ghost use Rattle.sstable_blocks.specs.RunReading.{read_checked, AnswerMeans};
+ghost use Rattle.sstable_blocks.specs.Sound.{ForSound};
+ghost use Rattle.sstable_blocks.specs.Sources.{GivesOr, KeepsSource, filter_frames, ReadsAs};
+ghost use Rattle.sstable_blocks.specs.Sources.{IsIoCounted};
 
 use super::RunHandles;
 use super::laws::{checked_answer_means, sound_is_read};
@@ -45,12 +45,11 @@ pub fn block_from<H: BlockHash, S: FrameSource>(
 ) -> Result<Block>
     ensures source { KeepsSource S.bytes S.failures S.is_reliable source.old source.new }
     ensures reads { S.reads source.new ≡ S.reads source.old + 1 }
-    ensures io { IfErr result (λ e. e ≡ Io → S.failures source.old < S.failures source.new) }
+    ensures io { IsIoCounted S.failures source.old source.new result }
     ensures cells { OnOk result (IfSome (S.bytes source.old) IsBytes) }
-    ensures exact { IfSome (S.bytes source.old)
-        (λ all. GivesOr (S.failures source.old < S.failures source.new)
-        (S.is_reliable source.old) (λ b. b.payload) result
-        (payload_at (hashes H.hash64 H.hash128) block_type all handle.now)) }
+    ensures exact { ReadsAs S.bytes S.failures S.is_reliable source.old source.new
+        (λ b. b.payload) result (λ all. payload_at (hashes H.hash64 H.hash128) block_type all
+        handle.now) }
 {
     let frame = source.read_frame(alloc, handle)?;
     let block = Block::from_frame::<H>(frame)?;
@@ -74,11 +73,9 @@ pub fn data_block_from<H: BlockHash, S: FrameSource>(
 ) -> Result<DataBlock<H>>
     ensures source { KeepsSource S.bytes S.failures S.is_reliable source.old source.new }
     ensures reads { S.reads source.new ≡ S.reads source.old + 1 }
-    ensures io { IfErr result (λ e. e ≡ Io → S.failures source.old < S.failures source.new) }
-    ensures exact { IfSome (S.bytes source.old)
-        (λ all. GivesOr (S.failures source.old < S.failures source.new)
-        (S.is_reliable source.old) (λ b. b.items) result
-        (items_at (hashes H.hash64 H.hash128) all handle.now)) }
+    ensures io { IsIoCounted S.failures source.old source.new result }
+    ensures exact { ReadsAs S.bytes S.failures S.is_reliable source.old source.new
+        (λ b. b.items) result (λ all. items_at (hashes H.hash64 H.hash128) all handle.now) }
 {
     let block = block_from::<H, S>(alloc, source, handle, BlockType::Data)?;
     DataBlock::<H>::check_once(alloc, block)
@@ -97,12 +94,10 @@ pub fn index_block_from<H: BlockHash, S: FrameSource>(
 ) -> Result<IndexBlock>
     ensures source { KeepsSource S.bytes S.failures S.is_reliable source.old source.new }
     ensures reads { S.reads source.new ≡ S.reads source.old + 1 }
-    ensures io { IfErr result (λ e. e ≡ Io → S.failures source.old < S.failures source.new) }
+    ensures io { IsIoCounted S.failures source.old source.new result }
     ensures cells { OnOk result (IfSome (S.bytes source.old) IsBytes) }
-    ensures exact { IfSome (S.bytes source.old)
-        (λ all. GivesOr (S.failures source.old < S.failures source.new)
-        (S.is_reliable source.old) (λ b. b.items) result
-        (handles_at (hashes H.hash64 H.hash128) all handle.now)) }
+    ensures exact { ReadsAs S.bytes S.failures S.is_reliable source.old source.new
+        (λ b. b.items) result (λ all. handles_at (hashes H.hash64 H.hash128) all handle.now) }
 {
     let block = block_from::<H, S>(alloc, source, handle, BlockType::Index)?;
     IndexBlock::check_once(block)
@@ -126,12 +121,10 @@ fn filter_allows<H: BlockHash, S: FrameSource>(
 ) -> Result<bool>
     ensures source { KeepsSource S.bytes S.failures S.is_reliable source.old source.new }
     ensures reads { S.reads source.new ≡ S.reads source.old + filter_frames filter.now }
-    ensures io { IfErr result (λ e. e ≡ Io → S.failures source.old < S.failures source.new) }
+    ensures io { IsIoCounted S.failures source.old source.new result }
     ensures cells { OnOk result ((filter.now ≡ None) ⊎ IfSome (S.bytes source.old) IsBytes) }
-    ensures exact { IfSome (S.bytes source.old)
-        (λ all. GivesOr (S.failures source.old < S.failures source.new)
-        (S.is_reliable source.old) (λ b. b) result
-        (filter_says (hashes H.hash64 H.hash128) all filter.now needle.now)) }
+    ensures exact { ReadsAs S.bytes S.failures S.is_reliable source.old source.new (λ b. b) result
+        (λ all. filter_says (hashes H.hash64 H.hash128) all filter.now needle.now) }
 {
     match filter {
         None => Ok(true),
@@ -154,12 +147,11 @@ pub(crate) fn read_in_block<H: BlockHash, S: FrameSource>(
     ensures source { KeepsSource S.bytes S.failures S.is_reliable source.old source.new }
     ensures reads { S.reads source.new ≤ S.reads source.old + 1 }
     ensures reads_grow { S.reads source.old ≤ S.reads source.new }
-    ensures io { IfErr result (λ e. e ≡ Io → S.failures source.old < S.failures source.new) }
+    ensures io { IsIoCounted S.failures source.old source.new result }
     ensures exact { IfSome (S.bytes source.old)
         (λ all. (h : Option Handle) → handle.now ≡ option_map range_of h
-        → GivesOr (S.failures source.old < S.failures source.new)
-        (S.is_reliable source.old) (λ x. x) result
-        (read_block (hashes H.hash64 H.hash128) all h needle.now seqno)) }
+        → GivesOr (S.failures source.old < S.failures source.new) (S.is_reliable source.old)
+        (λ x. x) result (read_block (hashes H.hash64 H.hash128) all h needle.now seqno)) }
     ensures counts { IfSome (S.bytes source.old)
         (λ all. (h : Option Handle) → handle.now ≡ option_map range_of h
         → CountsBetween steps.old steps.new (0, 0) (digits (heads_at all h), entries_at all h)) }
@@ -186,12 +178,10 @@ fn read_by_index<H: BlockHash, S: FrameSource>(
     ensures source { KeepsSource S.bytes S.failures S.is_reliable source.old source.new }
     ensures reads { S.reads source.new ≤ S.reads source.old + 2 }
     ensures reads_grow { S.reads source.old ≤ S.reads source.new }
-    ensures io { IfErr result (λ e. e ≡ Io → S.failures source.old < S.failures source.new) }
+    ensures io { IsIoCounted S.failures source.old source.new result }
     ensures cells { OnOk result (IfSome (S.bytes source.old) IsBytes) }
-    ensures exact { IfSome (S.bytes source.old)
-        (λ all. GivesOr (S.failures source.old < S.failures source.new)
-        (S.is_reliable source.old) (λ x. x) result
-        (read_blocks (hashes H.hash64 H.hash128) all index.now needle.now seqno)) }
+    ensures exact { ReadsAs S.bytes S.failures S.is_reliable source.old source.new (λ x. x) result
+        (λ all. read_blocks (hashes H.hash64 H.hash128) all index.now needle.now seqno) }
 {
     let block = block_from::<H, S>(alloc, source, index, BlockType::Index)?;
     let index = IndexBlock::check_once(block)?;
@@ -215,12 +205,10 @@ fn read_in_stages<H: BlockHash, S: FrameSource>(
     ensures denied { IfSome (S.bytes source.old)
         (λ all. filter_says (hashes H.hash64 H.hash128) all handles.now.filter needle.now ≡ Ok false
         → S.reads source.new ≤ S.reads source.old + 1) }
-    ensures io { IfErr result (λ e. e ≡ Io → S.failures source.old < S.failures source.new) }
+    ensures io { IsIoCounted S.failures source.old source.new result }
     ensures cells { OnOk result (IfSome (S.bytes source.old) IsBytes) }
-    ensures exact { IfSome (S.bytes source.old)
-        (λ all. GivesOr (S.failures source.old < S.failures source.new)
-        (S.is_reliable source.old) (λ x. x) result
-        (read_checked (hashes H.hash64 H.hash128) all handles.now needle.now seqno)) }
+    ensures exact { ReadsAs S.bytes S.failures S.is_reliable source.old source.new (λ x. x) result
+        (λ all. read_checked (hashes H.hash64 H.hash128) all handles.now needle.now seqno) }
 {
     if filter_allows::<H, S>(alloc, source, &handles.filter, needle)? {
         read_by_index::<H, S>(alloc, source, &handles.index, needle, seqno)
@@ -255,19 +243,16 @@ pub fn read_entry_checked<H: BlockHash, S: FrameSource>(
     ensures denied { IfSome (S.bytes source.old)
         (λ all. filter_says (hashes H.hash64 H.hash128) all handles.now.filter needle.now ≡ Ok false
         → S.reads source.new ≤ S.reads source.old + 1) }
-    ensures io { IfErr result (λ e. e ≡ Io → S.failures source.old < S.failures source.new) }
-    ensures exact { IfSome (S.bytes source.old)
-        (λ all. GivesOr (S.failures source.old < S.failures source.new)
-        (S.is_reliable source.old) (λ x. x) result
-        (read_checked (hashes H.hash64 H.hash128) all handles.now needle.now seqno)) }
+    ensures io { IsIoCounted S.failures source.old source.new result }
+    ensures exact { ReadsAs S.bytes S.failures S.is_reliable source.old source.new (λ x. x) result
+        (λ all. read_checked (hashes H.hash64 H.hash128) all handles.now needle.now seqno) }
     ensures means { IfSome (S.bytes source.old)
         (λ all. IfOk result
         (AnswerMeans (hashes H.hash64 H.hash128) all handles.now needle.now seqno)) }
     ensures sound { IfSome (S.bytes source.old)
-        (λ all. (blocks : List (List Entry))
-        → IsSound (hashes H.hash64 H.hash128) blocks all handles.now
-        → IfOk result
-        (λ found. found ≡ first_match entries needle.now seqno (joined blocks))) }
+        (λ all. ForSound (hashes H.hash64 H.hash128) all handles.now
+        (λ blocks. IfOk result
+        (λ found. found ≡ first_match entries needle.now seqno (joined blocks)))) }
 {
     checked_answer_means();
     sound_is_read();

@@ -1,8 +1,7 @@
 //! Checking whole runs.
-ghost use Rattle.std.specs.Prelude.{◌≡◌, ◌≢◌, ◌+◌, ◌<◌, ◌^◌, List, false, Ok};
-ghost use Rattle.std.specs.Prelude.{length, OnOk, IfOk, IfErr, IfSome, IsOkUnless};
+ghost use Rattle.std.specs.Prelude.{◌≡◌, ◌≢◌, ◌+◌, ◌<◌, ◌^◌, false, Ok, length, OnOk, IfOk, IfErr};
+ghost use Rattle.std.specs.Prelude.{IfSome, IsOkUnless};
 ghost use Rattle.sst_base.specs.Bytes.{IsBytes};
-ghost use Rattle.sst_base.specs.Entry.{Entry};
 ghost use Rattle.sst_base.specs.declared.error.Error.TheVariants.{Io};
 ghost use Rattle.sstable_blocks.specs.RunChecks.{starts_after, is_end, allows, first_after};
 ghost use Rattle.sstable_blocks.specs.RunChecks.{check_entries as entries_checked};
@@ -11,8 +10,9 @@ ghost use Rattle.sstable_blocks.specs.RunChecks.{check_block as block_checked, c
 ghost use Rattle.sstable_blocks.specs.RunChecks.{check_by_index as index_checked, none_passed};
 ghost use Rattle.sstable_blocks.specs.RunChecks.{check_run as run_checked, summary_by, summary_of};
 ghost use Rattle.sstable_blocks.specs.RunReading.{hashes};
-ghost use Rattle.sstable_blocks.specs.Sound.{IsSound};
-ghost use Rattle.sstable_blocks.specs.Sources.{GivesOr, KeepsSource, filter_frames};
+ghost use Rattle.sstable_blocks.specs.Sound.{ForSound, IsSummary};
+ghost use Rattle.sstable_blocks.specs.Sources.{GivesOr, KeepsSource, filter_frames, ReadsAs};
+ghost use Rattle.sstable_blocks.specs.Sources.{IsIoCounted};
 
 use super::RunHandles;
 use super::checked::{block_from, data_block_from, index_block_from};
@@ -227,11 +227,9 @@ fn check_block<H: BlockHash, S: FrameSource>(
     requires { handle.offset + handle.size < 2 ^ 64 }
     ensures source { KeepsSource S.bytes S.failures S.is_reliable source.old source.new }
     ensures reads { OnOk result (S.reads source.new ≡ S.reads source.old + 1) }
-    ensures io { IfErr result (λ e. e ≡ Io → S.failures source.old < S.failures source.new) }
-    ensures exact { IfSome (S.bytes source.old)
-        (λ all. GivesOr (S.failures source.old < S.failures source.new)
-        (S.is_reliable source.old) (λ s. s) result
-        (block_checked (hashes H.hash64 H.hash128) all filter.now passed handle)) }
+    ensures io { IsIoCounted S.failures source.old source.new result }
+    ensures exact { ReadsAs S.bytes S.failures S.is_reliable source.old source.new (λ s. s) result
+        (λ all. block_checked (hashes H.hash64 H.hash128) all filter.now passed handle) }
 {
     if *handle.offset() != passed.offset {
         return Err(Error::BadHandle);
@@ -249,11 +247,9 @@ fn check_blocks<H: BlockHash, S: FrameSource>(
 ) -> Result<Passed>
     ensures source { KeepsSource S.bytes S.failures S.is_reliable source.old source.new }
     ensures reads { OnOk result (S.reads source.new ≡ S.reads source.old + length index.now.items) }
-    ensures io { IfErr result (λ e. e ≡ Io → S.failures source.old < S.failures source.new) }
-    ensures exact { IfSome (S.bytes source.old)
-        (λ all. GivesOr (S.failures source.old < S.failures source.new)
-        (S.is_reliable source.old) (λ s. s) result
-        (check_from (hashes H.hash64 H.hash128) all filter.now none_passed index.now.items)) }
+    ensures io { IsIoCounted S.failures source.old source.new result }
+    ensures exact { ReadsAs S.bytes S.failures S.is_reliable source.old source.new (λ s. s) result
+        (λ all. check_from (hashes H.hash64 H.hash128) all filter.now none_passed index.now.items) }
 {
     let payload = index.as_slice();
     let mut passed = Passed::none(alloc);
@@ -273,12 +269,10 @@ fn check_by_index<H: BlockHash, S: FrameSource>(
 ) -> Result<RunSummary>
     ensures source { KeepsSource S.bytes S.failures S.is_reliable source.old source.new }
     ensures reads { IfOk result (λ s. S.reads source.new ≡ S.reads source.old + (1 + s.blocks)) }
-    ensures io { IfErr result (λ e. e ≡ Io → S.failures source.old < S.failures source.new) }
+    ensures io { IsIoCounted S.failures source.old source.new result }
     ensures cells { OnOk result (IfSome (S.bytes source.old) IsBytes) }
-    ensures exact { IfSome (S.bytes source.old)
-        (λ all. GivesOr (S.failures source.old < S.failures source.new)
-        (S.is_reliable source.old) (λ s. s) result
-        (index_checked (hashes H.hash64 H.hash128) all filter.now index.now)) }
+    ensures exact { ReadsAs S.bytes S.failures S.is_reliable source.old source.new (λ s. s) result
+        (λ all. index_checked (hashes H.hash64 H.hash128) all filter.now index.now) }
 {
     let index = index_block_from::<H, S>(alloc, source, index)?;
     let passed = check_blocks::<H, S>(alloc, source, filter, &index)?;
@@ -295,12 +289,10 @@ fn check_in_stages<H: BlockHash, S: FrameSource>(
     ensures source { KeepsSource S.bytes S.failures S.is_reliable source.old source.new }
     ensures reads { IfOk result (λ s. S.reads source.new
         ≡ S.reads source.old + (filter_frames handles.now.filter + (1 + s.blocks))) }
-    ensures io { IfErr result (λ e. e ≡ Io → S.failures source.old < S.failures source.new) }
+    ensures io { IsIoCounted S.failures source.old source.new result }
     ensures cells { OnOk result (IfSome (S.bytes source.old) IsBytes) }
-    ensures exact { IfSome (S.bytes source.old)
-        (λ all. GivesOr (S.failures source.old < S.failures source.new)
-        (S.is_reliable source.old) (λ s. s) result
-        (run_checked (hashes H.hash64 H.hash128) all handles.now)) }
+    ensures exact { ReadsAs S.bytes S.failures S.is_reliable source.old source.new (λ s. s) result
+        (λ all. run_checked (hashes H.hash64 H.hash128) all handles.now) }
 {
     match &handles.filter {
         None => check_by_index::<H, S>(alloc, source, &None, &handles.index),
@@ -349,24 +341,19 @@ pub fn check<H: BlockHash, S: FrameSource>(
     ensures source { KeepsSource S.bytes S.failures S.is_reliable source.old source.new }
     ensures reads { IfOk result (λ s. S.reads source.new
         ≡ S.reads source.old + (filter_frames handles.now.filter + (1 + s.blocks))) }
-    ensures io { IfErr result (λ e. e ≡ Io → S.failures source.old < S.failures source.new) }
-    ensures exact { IfSome (S.bytes source.old)
-        (λ all. GivesOr (S.failures source.old < S.failures source.new)
-        (S.is_reliable source.old) (λ s. s) result
-        (run_checked (hashes H.hash64 H.hash128) all handles.now)) }
+    ensures io { IsIoCounted S.failures source.old source.new result }
+    ensures exact { ReadsAs S.bytes S.failures S.is_reliable source.old source.new (λ s. s) result
+        (λ all. run_checked (hashes H.hash64 H.hash128) all handles.now) }
 
     // What is accepted is a sound run, and the summary is that of its blocks.
     ensures sound { IfSome (S.bytes source.old)
-        (λ all. IfOk result (λ s. (blocks : List (List Entry))
-        × IsSound (hashes H.hash64 H.hash128) blocks all handles.now × (s ≡ summary_of blocks))) }
+        (λ all. IfOk result (IsSummary (hashes H.hash64 H.hash128) all handles.now)) }
 
     // A sound run is accepted.
     ensures accepts { IfSome (S.bytes source.old)
-        (λ all. (blocks : List (List Entry))
-        → IsSound (hashes H.hash64 H.hash128) blocks all handles.now
-        → GivesOr (S.failures source.old < S.failures source.new)
-        (S.is_reliable source.old) (λ s. s) result
-        (Ok (summary_of blocks))) }
+        (λ all. ForSound (hashes H.hash64 H.hash128) all handles.now
+        (λ blocks. GivesOr (S.failures source.old < S.failures source.new)
+        (S.is_reliable source.old) (λ s. s) result (Ok (summary_of blocks)))) }
 {
     accepted_run_is_sound();
     sound_run_is_accepted();

@@ -1,14 +1,13 @@
 //! What opens the blocks of a scan, each cut by the bounds.
-ghost use Rattle.std.specs.Prelude.{◌≡◌, ◌<◌, ◌+◌, ◌^◌, Some, length, slice_get};
-ghost use Rattle.std.specs.Prelude.{IfErr, IfOk, IfSome};
-ghost use Rattle.sst_base.specs.declared.error.Error.TheVariants.{Io, Memory};
+ghost use Rattle.std.specs.Prelude.{◌≡◌, ◌<◌, ◌+◌, ◌^◌, Some, length, slice_get, IfOk, IfSome};
+ghost use Rattle.sst_base.specs.declared.error.Error.TheVariants.{Memory};
 ghost use Rattle.sst_block_core.specs.Window.{items_left};
 ghost use Rattle.sst_block_core.specs.Handles.{Handle};
 ghost use Rattle.sstable_blocks.specs.ReadingLaws.{run_laws, table_laws};
 ghost use Rattle.sstable_blocks.specs.Readings.{run_reading, table_reading};
 ghost use Rattle.sstable_blocks.specs.RunReading.{hashes};
 ghost use Rattle.sstable_blocks.specs.Scans.{AllWithin, block_within};
-ghost use Rattle.sstable_blocks.specs.Sources.{GivesOr, KeepsSource};
+ghost use Rattle.sstable_blocks.specs.Sources.{GivesOr, KeepsSource, IsIoCounted};
 ghost use Rattle.sstable_blocks.specs.Tables.{kept_parts};
 
 use super::blocks::{Blocks, Ended};
@@ -92,7 +91,7 @@ impl<'a> Ended for OpenBlock<'a> {
 }
 
 // Opens the block of a handle, and cuts it by the bounds.
-#[tactic(auto, using(crate::proofs::ScanCounts::few_within))]
+#[tactic(auto, using(crate::proofs::Scans::ScanCounts::few_within))]
 fn cut_block<H: BlockHash, S: FrameSource>(
     alloc: Global,
     table: &mut Table<H, S>,
@@ -104,8 +103,7 @@ fn cut_block<H: BlockHash, S: FrameSource>(
     ensures source { KeepsSource S.bytes S.failures S.is_reliable table.old.source
         table.new.source }
     ensures reads { S.reads table.new.source ≡ S.reads table.old.source + 1 }
-    ensures io { IfErr result
-        (λ e. e ≡ Io → S.failures table.old.source < S.failures table.new.source) }
+    ensures io { IsIoCounted S.failures table.old.source table.new.source result }
     ensures all { IfOk result (λ e. AllWithin bounds.now (items_left e.window)) }
     ensures few { IfOk result (λ e. length (items_left e.window) < 2 ^ 32) }
     ensures exact { IfSome (S.bytes table.old.source)

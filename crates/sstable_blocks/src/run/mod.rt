@@ -35,7 +35,7 @@ pub use round_trip::write_and_read;
 pub use run_ref::RunRef;
 pub use run_scan::RunScan;
 pub use scan::Scan;
-pub use source::{BorrowedSource, FileSource, FrameSource, MemorySource, SizedSource};
+pub use source::{FileSource, FrameSource, MemorySource, SizedSource};
 use sst_base::{BlockHandle, HashRatio};
 pub use sync::{BufferedFile, SyncWrite};
 pub use table::{OpenError, Table};

@@ -1,5 +1,5 @@
 //! The blocks that a scan over borrowed bytes has opened.
-ghost use Rattle.std.specs.Prelude.{◌≡◌, ◌<◌, length, nat_lt, slice_get, Some};
+ghost use Rattle.std.specs.Prelude.{◌≡◌, ◌<◌, length, slice_get, Some};
 ghost use Rattle.std.specs.Iterator.{YieldsFirst, YieldsLast};
 ghost use Rattle.sst_block_core.specs.Entries.{entries};
 ghost use Rattle.sst_block_core.specs.Stages.{items_in};
@@ -96,10 +96,9 @@ pub(super) fn open_at<'a, H: BlockHash>(
     opened: &mut Option<OpenBlock<'a>>,
 )
     requires { index < length (index_in run.now.bytes run.now.handles.index) }
-    ensures { (h : Handle)
-        → slice_get (index_in run.now.bytes run.now.handles.index) index ≡ Some h
-        → views_left opened.new
-        ≡ within bounds.now (items_in entries (payload_in run.now.bytes (range_of h))) }
+    ensures { (h : Handle) → slice_get (index_in run.now.bytes run.now.handles.index) index ≡ Some h
+        → views_left opened.new ≡ within bounds.now
+        (items_in entries (payload_in run.now.bytes (range_of h))) }
 {
     let block = run.block_at(index);
     if let Some(opened) = opened {

@@ -1,5 +1,6 @@
 //! Reading runs.
-ghost use Rattle.std.specs.Prelude.{◌≡◌, ◌↔◌, ℕ, ◌+◌, ◌<◌, List, Some, length, IfOk, IfSome, IsOkUnless, OnOk, false};
+ghost use Rattle.std.specs.Prelude.{◌≡◌, ◌↔◌, ℕ, ◌+◌, ◌<◌, List, Some, length, IfOk, IfSome};
+ghost use Rattle.std.specs.Prelude.{IsOkUnless, OnOk, false};
 ghost use Rattle.sst_base.specs.Counted.{CountsExactly, CountsBetween};
 ghost use Rattle.sst_base.specs.Entry.{Entry, IsEntry};
 ghost use Rattle.sst_block_core.specs.DataBlock.{data_ref_of};
@@ -16,9 +17,9 @@ ghost use Rattle.sst_block_core.specs.Window.{first_match};
 ghost use Rattle.sstable_blocks.specs.Blocks.{joined};
 ghost use Rattle.sstable_blocks.specs.Opened.{IsDenied, IsFoundIn, IsFrameRange, found_entry};
 ghost use Rattle.sstable_blocks.specs.Opened.{payload_in};
-ghost use Rattle.sstable_blocks.specs.ReadCosts.{heads_most_in, entries_most_in};
+ghost use Rattle.sstable_blocks.specs.ReadCosts.{CountsRead};
 ghost use Rattle.sstable_blocks.specs.RunReading.{hashes};
-ghost use Rattle.sstable_blocks.specs.Sound.{IsSound};
+ghost use Rattle.sstable_blocks.specs.Sound.{ForSound, IsSoundRun};
 
 use crate::run::RunHandles;
 use crate::run::laws::sound_opens;
@@ -33,7 +34,7 @@ use sst_block_core::table::index_block::IndexBlockRef;
 use std::alloc::Global;
 
 // The payload of a frame, by the frame's range alone.
-#[tactic(auto, using(crate::proofs::Points::payload_range), unfolding(crate::specs::Opened::payload_in))]
+#[tactic(auto, using(crate::proofs::Reading::Points::payload_range), unfolding(crate::specs::Opened::payload_in))]
 pub(crate) fn payload_at<'a>(bytes: &'a [u8], handle: &BlockHandle) -> &'a [u8]
     requires { IsFrameRange bytes.now handle.now }
     ensures { result.now ≡ payload_in bytes.now handle.now }
@@ -52,7 +53,7 @@ fn is_allowed(bytes: &[u8], filter: &Option<BlockHandle>, hash: u64) -> bool
 }
 
 // The index in a frame, over the same bytes.
-#[tactic(auto, using(crate::proofs::Points::payload_fits))]
+#[tactic(auto, using(crate::proofs::Reading::Points::payload_fits))]
 pub(crate) fn index_over<'a>(bytes: &'a [u8], handle: &BlockHandle) -> IndexSearch<'a>
     requires range { IsFrameRange bytes.now handle.now }
     requires index { (items : List Handle) × (r : ℕ)
@@ -65,7 +66,7 @@ pub(crate) fn index_over<'a>(bytes: &'a [u8], handle: &BlockHandle) -> IndexSear
 }
 
 // The data block in a frame, over the same bytes.
-#[tactic(auto, using(crate::proofs::Points::payload_fits))]
+#[tactic(auto, using(crate::proofs::Reading::Points::payload_fits))]
 pub(crate) fn block_over<'a, H: BlockHash>(
     bytes: &'a [u8],
     handle: &BlockHandle,
@@ -91,7 +92,7 @@ fn search_over<'a, H: BlockHash>(bytes: &'a [u8], handle: &BlockHandle) -> DataS
 }
 
 // Where the first match in the block in a frame is.
-#[tactic(auto, using(crate::proofs::Points::ref_heads, crate::proofs::Points::ref_entries))]
+#[tactic(auto, using(crate::proofs::Reading::Points::ref_heads, crate::proofs::Reading::Points::ref_entries))]
 pub(crate) fn item_in<H: BlockHash>(
     bytes: &[u8],
     handle: BlockHandle,
@@ -102,15 +103,12 @@ pub(crate) fn item_in<H: BlockHash>(
     requires range { IsFrameRange bytes.now handle }
     requires block { (items : List Entry) × (r : ℕ) × (b : ℕ)
         × IsBlock entries IsEntry H.hash64 (payload_in bytes.now handle) items r b }
-    ensures found { found_entry bytes.now result
-        ≡ first_match entries needle.now seqno
+    ensures found { found_entry bytes.now result ≡ first_match entries needle.now seqno
         (items_in entries (payload_in bytes.now handle)) }
     ensures place { IsFoundIn bytes.now result }
-    ensures counts { let p = payload_in bytes.now handle in
-        CountsBetween steps.old steps.new (0, 0) (
-          digits (head_count (trailer_in p).interval (length (items_in entries p))),
-          (trailer_in p).interval + 1,
-        ) }
+    ensures counts { let p = payload_in bytes.now handle in CountsBetween steps.old steps.new (0, 0)
+        (digits (head_count (trailer_in p).interval (length (items_in entries p))),
+        (trailer_in p).interval + 1) }
 {
     match search_over::<H>(bytes, &handle).find(needle, seqno, steps) {
         Some(item) => Some((handle, item)),
@@ -125,7 +123,7 @@ pub(crate) fn item_in<H: BlockHash>(
 ///
 /// `Error::Memory` if an allocation fails.
 #[inline(never)]
-#[tactic(auto, using(crate::proofs::Points::payload_range), unfolding(crate::specs::Opened::payload_in))]
+#[tactic(auto, using(crate::proofs::Reading::Points::payload_range), unfolding(crate::specs::Opened::payload_in))]
 pub fn shared_entry(
     alloc: Global,
     bytes: &Slice,
@@ -167,18 +165,13 @@ pub fn read_entry<H: BlockHash>(
     seqno: SeqNo,
     steps: &mut Steps,
 ) -> Result<Option<InternalValue>>
-    requires sound { (blocks : List (List Entry))
-        × IsSound (hashes H.hash64 H.hash128) blocks bytes.now handles.now }
-    ensures found { (blocks : List (List Entry))
-        → IsSound (hashes H.hash64 H.hash128) blocks bytes.now handles.now
-        → IfOk result (λ item. item ≡ first_match entries needle.now seqno (joined blocks)) }
+    requires sound { IsSoundRun (hashes H.hash64 H.hash128) bytes.now handles.now }
+    ensures found { ForSound (hashes H.hash64 H.hash128) bytes.now handles.now
+        (λ blocks. IfOk result (λ item. item ≡ first_match entries needle.now seqno
+        (joined blocks))) }
     ensures memory { IsOkUnless result Error.Memory }
-    ensures counts { CountsBetween steps.old steps.new (0, 0) (
-      heads_most_in bytes.now handles.now needle.now seqno,
-      entries_most_in bytes.now handles.now needle.now seqno,
-    ) }
-    ensures looked { OnOk result
-        ((IsDenied bytes.now handles.now.filter (H.hash64 needle.now) → ⊥)
+    ensures counts { CountsRead bytes.now handles.now needle.now seqno steps.old steps.new }
+    ensures looked { OnOk result ((IsDenied bytes.now handles.now.filter (H.hash64 needle.now) → ⊥)
         → steps.old.heads < steps.new.heads) }
     ensures denied { IsDenied bytes.now handles.now.filter (H.hash64 needle.now)
         → CountsExactly steps.old steps.new 0 0 }

@@ -31,10 +31,8 @@ pub fn write_and_read<H: BlockHash>(
     requires ordered { IsOrdered entries items.now }
     requires cuts { CutsFit 0 (length items.now) cuts.now }
     requires writable { IsWritable config }
-    ensures found { IfOk result
-        (λ found. found ≡ first_match entries needle.now seqno items.now) }
-    ensures cause { IfErr result
-        (IsWriteRefusal
+    ensures found { IfOk result (λ found. found ≡ first_match entries needle.now seqno items.now) }
+    ensures cause { IfErr result (IsWriteRefusal
         (RunFits (form H.hash64 H.hash128 config) (blocks_of cuts.now items.now) → ⊥)) }
 {
     blocks_are_the_list::<InternalValue>();

@@ -1,24 +1,22 @@
 //! What is kept while a run is written.
-ghost use Rattle.std.specs.Prelude.{◌≡◌, ◌≢◌, ◌↔◌, ◌⊎◌, ◌+◌};
-ghost use Rattle.std.specs.Prelude.{◌*◌, ◌≤◌, ◌<◌, [], ◌∷◌, ◌++◌};
-ghost use Rattle.std.specs.Prelude.{length, map, take};
-ghost use Rattle.std.specs.Prelude.{OnOk, OnErr, IfOk, IfErr, IfSome, IsNone, IsTrue, IsOkUnless};
-ghost use Rattle.std.specs.Prelude.{◌^◌};
+ghost use Rattle.std.specs.Prelude.{◌≡◌, ◌≢◌, ◌↔◌, ◌⊎◌, ◌+◌, ◌*◌, ◌≤◌, ◌<◌, [], ◌∷◌, ◌++◌, length};
+ghost use Rattle.std.specs.Prelude.{map, take, OnOk, OnErr, IfOk, IfErr, IfSome, IsNone, IsTrue};
+ghost use Rattle.std.specs.Prelude.{IsOkUnless, ◌^◌};
 ghost use Rattle.std.specs.Io.KnownBytes.{Appends};
 ghost use Rattle.sst_base.specs.declared.error.Error.TheVariants.{Io, TooLong};
 ghost use Rattle.sst_base.specs.declared.table.block.block_type.BlockType.TheVariants.{Index};
 ghost use Rattle.sst_base.specs.Frame.{frame};
 ghost use Rattle.sst_block_core.specs.Entries.{entries};
 ghost use Rattle.sst_block_core.specs.Kind.{IsOrdered};
-ghost use Rattle.sstable_blocks.specs.Blocks.{joined, IsNotEmpty};
+ghost use Rattle.sstable_blocks.specs.Blocks.{joined};
 ghost use Rattle.sstable_blocks.specs.Policy.{bits_per_key};
 ghost use Rattle.sstable_blocks.specs.Run.{form, block_frame, block_frames, key_hashes, RunFits};
-ghost use Rattle.sstable_blocks.specs.Run.{block_payload, IsRun};
+ghost use Rattle.sstable_blocks.specs.Run.{block_payload, IsRun, index_frame, index_text};
+ghost use Rattle.sstable_blocks.specs.Run.{IsFilterText, IsFramed};
 ghost use Rattle.std.specs.List.{AllByRecursion};
-ghost use Rattle.sstable_blocks.specs.Run.{index_frame, index_text, IsFilterText, IsFramed};
 ghost use Rattle.sstable_blocks.specs.Writing.{Follows, FollowsLast, FrameFits, PartFits};
-ghost use Rattle.sstable_blocks.specs.Writing.{IsFramedBlock, IsWriteRefusal};
-ghost use Rattle.sstable_blocks.specs.Writing.{IsFrameAppended, AppendsFilter, AppendsEnd};
+ghost use Rattle.sstable_blocks.specs.Writing.{IsFramedBlock, IsWriteRefusal, IsFrameAppended};
+ghost use Rattle.sstable_blocks.specs.Writing.{AppendsFilter, AppendsEnd};
 
 use super::laws::handles_are_ready;
 use super::{RunConfig, RunHandles};
@@ -132,15 +130,13 @@ impl<H: BlockHash> RunCore<H> {
         ensures config { self.new.config ≡ self.old.config }
         ensures accepted { OnOk result
             (self.new.blocks ≡ self.old.blocks ++ map T.entry items.now ∷ []) }
-        ensures bytes { OnOk result
-            (Appends (W.contents writer.old) (W.contents writer.new)
+        ensures bytes { OnOk result (Appends (W.contents writer.old) (W.contents writer.new)
             (block_frame (form H.hash64 H.hash128 self.old.config) (map T.entry items.now))) }
         ensures kept { OnErr result (self.new.blocks ≡ self.old.blocks) }
         ensures untouched { IfErr result (λ e. e ≢ Io → writer.new ≡ writer.old) }
         ensures cause { let f = form H.hash64 H.hash128 self.old.config in
-            IfErr result
-            (IsWriteRefusal
-            (FrameFits f (length (block_frames f self.old.blocks)) (map T.entry items.now) → ⊥)) }
+            IfErr result (IsWriteRefusal (FrameFits f (length (block_frames f self.old.blocks))
+            (map T.entry items.now) → ⊥)) }
     {
         let (config, offset) = (self.config, self.offset);
         let (size, end) = framed_block::<H, T>(&mut self.payload, items, &config, offset)?;
@@ -171,11 +167,9 @@ impl<H: BlockHash> RunCore<H> {
     /// `Error::Io` if the writer fails.
     pub(crate) fn finish<W: Write>(&self, writer: &mut W) -> Result<RunHandles>
         requires { 1 ≤ length self.now.blocks }
-        ensures layout { IfOk result
-            (AppendsEnd (form H.hash64 H.hash128 self.now.config) self.now.blocks
-            (W.contents writer.old) (W.contents writer.new)) }
-        ensures cause { IfErr result
-            (IsWriteRefusal
+        ensures layout { IfOk result (AppendsEnd (form H.hash64 H.hash128 self.now.config)
+            self.now.blocks (W.contents writer.old) (W.contents writer.new)) }
+        ensures cause { IfErr result (IsWriteRefusal
             (RunFits (form H.hash64 H.hash128 self.now.config) self.now.blocks → ⊥)) }
     {
         let (index, end) = self.write_index(writer)?;
@@ -187,22 +181,18 @@ impl<H: BlockHash> RunCore<H> {
     fn write_index<W: Write>(&self, writer: &mut W) -> Result<(BlockHandle, u64)>
         requires { 1 ≤ length self.now.blocks }
         ensures written { let f = form H.hash64 H.hash128 self.now.config in
-            IfOk result
-            (λ r. IsFrameAppended H.hash128 Index (length (block_frames f self.now.blocks))
-            (index_text f self.now.blocks)
+            IfOk result (λ r. IsFrameAppended H.hash128 Index
+            (length (block_frames f self.now.blocks)) (index_text f self.now.blocks)
             (W.contents writer.old) (W.contents writer.new) r.0) }
         ensures end { let f = form H.hash64 H.hash128 self.now.config in
-            IfOk result
-            (λ r. r.1
-            ≡ length (block_frames f self.now.blocks)
+            IfOk result (λ r. r.1 ≡ length (block_frames f self.now.blocks)
             + (33 + length (index_text f self.now.blocks))) }
         ensures run { OnOk result
             (IsRun (form H.hash64 H.hash128 self.now.config) self.now.blocks) }
         ensures framed { let f = form H.hash64 H.hash128 self.now.config in
             OnOk result
             (AllByRecursion (λ block. IsFramed (block_payload f block)) self.now.blocks) }
-        ensures cause { IfErr result
-            (IsWriteRefusal
+        ensures cause { IfErr result (IsWriteRefusal
             (RunFits (form H.hash64 H.hash128 self.now.config) self.now.blocks → ⊥)) }
     {
         handles_are_ready();
@@ -219,11 +209,9 @@ impl<H: BlockHash> RunCore<H> {
             offset
             ≡ length (block_frames f self.now.blocks) + length (index_frame f self.now.blocks) }
         ensures written { let f = form H.hash64 H.hash128 self.now.config in
-            IfOk result
-            (AppendsFilter f self.now.blocks offset (W.contents writer.old)
+            IfOk result (AppendsFilter f self.now.blocks offset (W.contents writer.old)
             (W.contents writer.new)) }
-        ensures cause { IfErr result
-            (IsWriteRefusal
+        ensures cause { IfErr result (IsWriteRefusal
             (RunFits (form H.hash64 H.hash128 self.now.config) self.now.blocks → ⊥)) }
     {
         let policy = BloomConstructionPolicy::BitsPerKey(self.config.bits_per_key);
@@ -273,13 +261,10 @@ fn framed_block<H: BlockHash, T: AsEntry>(
     requires ordered { IsOrdered entries (map T.entry items.now) }
     requires interval { 1 ≤ config.now.restart_interval }
     requires den { 1 ≤ config.now.ratio.den }
-    ensures ok { IfOk result
-        (λ r.
-        IsFramedBlock (form H.hash64 H.hash128 config.now) offset (map T.entry items.now)
-        payload.new.items r.0 r.1) }
-    ensures cause { IfErr result
-        (IsWriteRefusal
-        (FrameFits (form H.hash64 H.hash128 config.now) offset (map T.entry items.now) → ⊥)) }
+    ensures ok { IfOk result (λ r. IsFramedBlock (form H.hash64 H.hash128 config.now) offset
+        (map T.entry items.now) payload.new.items r.0 r.1) }
+    ensures cause { IfErr result (IsWriteRefusal (FrameFits (form H.hash64 H.hash128 config.now)
+        offset (map T.entry items.now) → ⊥)) }
     ensures not_io { IfErr result (λ e. e ≢ Io) }
 {
     payload.clear();
@@ -317,8 +302,7 @@ fn write_frame<H: BlockHash, W: Write>(
     block_type: BlockType,
 ) -> Result<()>
     requires { IsFramed payload.now }
-    ensures bytes { OnOk result
-        (Appends (W.contents writer.old) (W.contents writer.new)
+    ensures bytes { OnOk result (Appends (W.contents writer.old) (W.contents writer.new)
         (frame H.hash128 block_type payload.now)) }
     ensures io { IsOkUnless result Error.Io }
 {

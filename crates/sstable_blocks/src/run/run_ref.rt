@@ -1,7 +1,7 @@
 //! Sound runs over borrowed bytes, read without checks and without memory.
-ghost use Rattle.std.specs.Prelude.{◌≡◌, ◌≢◌, ◌<◌, List, length, slice_get};
-ghost use Rattle.std.specs.Prelude.{Ok, Err, IfOk, IfErr, MatchResult, false};
-ghost use Rattle.sst_base.specs.Counted.{CountsExactly, CountsBetween};
+ghost use Rattle.std.specs.Prelude.{◌≡◌, ◌≢◌, ◌<◌, List, length, slice_get, Ok, Err, IfOk, IfErr};
+ghost use Rattle.std.specs.Prelude.{MatchResult, false};
+ghost use Rattle.sst_base.specs.Counted.{CountsExactly};
 ghost use Rattle.sst_base.specs.Entry.{Entry};
 ghost use Rattle.sst_block_core.specs.Entries.{entries};
 ghost use Rattle.sst_block_core.specs.Window.{first_match};
@@ -10,11 +10,11 @@ ghost use Rattle.sst_block_core.specs.Handles.{Handle};
 ghost use Rattle.sstable_blocks.specs.Blocks.{joined};
 ghost use Rattle.sstable_blocks.specs.Opened.{IsDenied, IsFoundIn, found_entry, index_in};
 ghost use Rattle.sstable_blocks.specs.Opened.{payload_in, range_of};
-ghost use Rattle.sstable_blocks.specs.ReadCosts.{heads_most_in, entries_most_in};
+ghost use Rattle.sstable_blocks.specs.ReadCosts.{CountsRead};
 ghost use Rattle.sstable_blocks.specs.RunChecks.{check_run, summary_of};
 ghost use Rattle.sstable_blocks.specs.RunReading.{hashes};
 ghost use Rattle.sstable_blocks.specs.Scans.{IsReadRun};
-ghost use Rattle.sstable_blocks.specs.Sound.{IsSound};
+ghost use Rattle.sstable_blocks.specs.Sound.{IsSound, ForSound, IsSoundRun, IsSummary};
 ghost use Rattle.sstable_blocks.specs.Tables.{IsIndexIn};
 
 use super::RunHandles;
@@ -64,8 +64,7 @@ impl<'a, H: BlockHash> RunRef<'a, H> {
     /// Reads bytes and handles that are a sound run, as `write_run` writes one of any configuration
     /// and [`super::check`] accepts it. Nothing of it is tested, and no checksum is computed.
     pub fn new(bytes: &'a [u8], handles: &'a RunHandles) -> RunRef<'a, H>
-        requires { (blocks : List (List Entry))
-            × IsSound (hashes H.hash64 H.hash128) blocks bytes.now handles.now }
+        requires { IsSoundRun (hashes H.hash64 H.hash128) bytes.now handles.now }
         ensures { result ≡ record { bytes = bytes.now; handles = handles.now } }
     {
         sound_opens();
@@ -83,22 +82,19 @@ impl<'a, H: BlockHash> RunRef<'a, H> {
         bytes: &'a [u8],
         handles: &'a RunHandles,
     ) -> Result<(RunRef<'a, H>, RunSummary)>
-        ensures run { IfOk result
-            (λ r. r.0 ≡ record { bytes = bytes.now; handles = handles.now }) }
+        ensures run { IfOk result (λ r. r.0 ≡ record { bytes = bytes.now; handles = handles.now }) }
         ensures checked { IfOk result
             (λ r. check_run (hashes H.hash64 H.hash128) bytes.now handles.now ≡ Ok r.1) }
         ensures refused { IfErr result (λ e. e ≢ Error.Memory
             → check_run (hashes H.hash64 H.hash128) bytes.now handles.now ≡ Err e) }
 
         // What is accepted is a sound run, and the summary is that of its blocks.
-        ensures sound { IfOk result (λ r. (blocks : List (List Entry))
-            × IsSound (hashes H.hash64 H.hash128) blocks bytes.now handles.now
-            × (r.1 ≡ summary_of blocks)) }
+        ensures sound { IfOk result (λ r. IsSummary (hashes H.hash64 H.hash128) bytes.now
+            handles.now r.1) }
 
         // A sound run is accepted.
-        ensures accepts { (blocks : List (List Entry))
-            → IsSound (hashes H.hash64 H.hash128) blocks bytes.now handles.now
-            → MatchResult result (λ r. r.1 ≡ summary_of blocks) (λ e. e ≡ Error.Memory) }
+        ensures accepts { ForSound (hashes H.hash64 H.hash128) bytes.now handles.now
+            (λ blocks. MatchResult result (λ r. r.1 ≡ summary_of blocks) (λ e. e ≡ Error.Memory)) }
     {
         match summary_in::<H>(alloc, bytes, handles) {
             Ok(summary) => Ok((RunRef::new(bytes, handles), summary)),
@@ -112,8 +108,7 @@ impl<'a, H: BlockHash> RunRef<'a, H> {
         handles: &'a RunHandles,
         index: IndexSearch<'a>,
     ) -> RunRef<'a, H>
-        requires sound { (blocks : List (List Entry))
-            × IsSound (hashes H.hash64 H.hash128) blocks bytes.now handles.now }
+        requires sound { IsSoundRun (hashes H.hash64 H.hash128) bytes.now handles.now }
         requires index { IsIndexIn bytes.now handles.now.index index.items index.interval }
         ensures { result ≡ record { bytes = bytes.now; handles = handles.now } }
     {
@@ -138,15 +133,12 @@ impl<'a, H: BlockHash> RunRef<'a, H> {
         seqno: SeqNo,
         steps: &mut Steps,
     ) -> Option<(BlockHandle, DataBlockParsedItem)>
-        ensures found { (blocks : List (List Entry))
-            → IsSound (hashes H.hash64 H.hash128) blocks self.now.bytes self.now.handles
-            → found_entry self.now.bytes result
-            ≡ first_match entries needle.now seqno (joined blocks) }
+        ensures found { ForSound (hashes H.hash64 H.hash128) self.now.bytes self.now.handles
+            (λ blocks. found_entry self.now.bytes result
+            ≡ first_match entries needle.now seqno (joined blocks)) }
         ensures place { IsFoundIn self.now.bytes result }
-        ensures counts { CountsBetween steps.old steps.new (0, 0) (
-          heads_most_in self.now.bytes self.now.handles needle.now seqno,
-          entries_most_in self.now.bytes self.now.handles needle.now seqno,
-        ) }
+        ensures counts { CountsRead self.now.bytes self.now.handles needle.now seqno steps.old
+            steps.new }
         ensures looked { (IsDenied self.now.bytes self.now.handles.filter (H.hash64 needle.now) → ⊥)
             → steps.old.heads < steps.new.heads }
         ensures denied { IsDenied self.now.bytes self.now.handles.filter (H.hash64 needle.now)
@@ -165,13 +157,10 @@ impl<'a, H: BlockHash> RunRef<'a, H> {
     /// What is examined is added to `steps`, as [`super::read_entry`] does.
     #[inline(always)]
     pub fn find(&self, needle: &[u8], seqno: SeqNo, steps: &mut Steps) -> Option<EntryView<'a>>
-        ensures found { (blocks : List (List Entry))
-            → IsSound (hashes H.hash64 H.hash128) blocks self.now.bytes self.now.handles
-            → result ≡ first_match entries needle.now seqno (joined blocks) }
-        ensures counts { CountsBetween steps.old steps.new (0, 0) (
-          heads_most_in self.now.bytes self.now.handles needle.now seqno,
-          entries_most_in self.now.bytes self.now.handles needle.now seqno,
-        ) }
+        ensures found { ForSound (hashes H.hash64 H.hash128) self.now.bytes self.now.handles
+            (λ blocks. result ≡ first_match entries needle.now seqno (joined blocks)) }
+        ensures counts { CountsRead self.now.bytes self.now.handles needle.now seqno steps.old
+            steps.new }
         ensures looked { (IsDenied self.now.bytes self.now.handles.filter (H.hash64 needle.now) → ⊥)
             → steps.old.heads < steps.new.heads }
         ensures denied { IsDenied self.now.bytes self.now.handles.filter (H.hash64 needle.now)
@@ -209,9 +198,8 @@ impl<'a, H: BlockHash> RunRef<'a, H> {
     // The block of the handle at an index of the index.
     pub(crate) fn block_at(&self, index: usize) -> DataBlockRef<'a, H>
         requires { index < length (index_in self.now.bytes self.now.handles.index) }
-        ensures { (h : Handle)
-            → slice_get (index_in self.now.bytes self.now.handles.index) index ≡ Some h
-            → result ≡ data_ref_of (payload_in self.now.bytes (range_of h)) false }
+        ensures { (h : Handle) → slice_get (index_in self.now.bytes self.now.handles.index) index
+            ≡ Some h → result ≡ data_ref_of (payload_in self.now.bytes (range_of h)) false }
     {
         sound_opens();
         let handle = self.index.handle_at(index, &mut Steps::new());
@@ -225,12 +213,9 @@ fn summary_in<H: BlockHash>(alloc: Global, bytes: &[u8], handles: &RunHandles) -
         (λ s. check_run (hashes H.hash64 H.hash128) bytes.now handles.now ≡ Ok s) }
     ensures refused { IfErr result (λ e. e ≢ Error.Memory
         → check_run (hashes H.hash64 H.hash128) bytes.now handles.now ≡ Err e) }
-    ensures sound { IfOk result (λ s. (blocks : List (List Entry))
-        × IsSound (hashes H.hash64 H.hash128) blocks bytes.now handles.now
-        × (s ≡ summary_of blocks)) }
-    ensures accepts { (blocks : List (List Entry))
-        → IsSound (hashes H.hash64 H.hash128) blocks bytes.now handles.now
-        → MatchResult result (λ s. s ≡ summary_of blocks) (λ e. e ≡ Error.Memory) }
+    ensures sound { IfOk result (IsSummary (hashes H.hash64 H.hash128) bytes.now handles.now) }
+    ensures accepts { ForSound (hashes H.hash64 H.hash128) bytes.now handles.now
+        (λ blocks. MatchResult result (λ s. s ≡ summary_of blocks) (λ e. e ≡ Error.Memory)) }
 {
     let mut source = BorrowedSource::new(bytes);
     let summary = check::<H, BorrowedSource<'_>>(alloc, &mut source, handles);
@@ -247,17 +232,13 @@ pub(crate) fn item_by_index<H: BlockHash>(
     seqno: SeqNo,
     steps: &mut Steps,
 ) -> Option<(BlockHandle, DataBlockParsedItem)>
-    requires sound { (blocks : List (List Entry))
-        × IsSound (hashes H.hash64 H.hash128) blocks bytes.now handles.now }
+    requires sound { IsSoundRun (hashes H.hash64 H.hash128) bytes.now handles.now }
     requires index { IsIndexIn bytes.now handles.now.index index.now.items index.now.interval }
-    ensures found { (blocks : List (List Entry))
-        → IsSound (hashes H.hash64 H.hash128) blocks bytes.now handles.now
-        → found_entry bytes.now result ≡ first_match entries needle.now seqno (joined blocks) }
+    ensures found { ForSound (hashes H.hash64 H.hash128) bytes.now handles.now
+        (λ blocks. found_entry bytes.now result ≡ first_match entries needle.now seqno
+        (joined blocks)) }
     ensures place { IsFoundIn bytes.now result }
-    ensures counts { CountsBetween steps.old steps.new (0, 0) (
-      heads_most_in bytes.now handles.now needle.now seqno,
-      entries_most_in bytes.now handles.now needle.now seqno,
-    ) }
+    ensures counts { CountsRead bytes.now handles.now needle.now seqno steps.old steps.new }
     ensures looked { steps.old.heads < steps.new.heads }
 {
     sound_opens();

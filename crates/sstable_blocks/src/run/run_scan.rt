@@ -1,16 +1,14 @@
 //! Scans of sound runs over borrowed bytes: without checks, and without memory.
-ghost use Rattle.std.specs.Prelude.{◌≡◌, ◌≤◌, List, [], length, Ok, IsOk, map, refl};
+ghost use Rattle.std.specs.Prelude.{◌≡◌, List, Ok, IsOk, map, refl};
 ghost use Rattle.std.specs.Iterator.{YieldsFirst, YieldsLast, item_count};
 ghost use Rattle.sstable_blocks.specs.Ends.{AreEnds, ends};
 ghost use Rattle.sstable_blocks.specs.Readings.{run_reading};
-ghost use Rattle.std.specs.Range.Bound.{bound_map};
 ghost use Rattle.std.specs.declared.ops.Bound.TheVariants.{Unbounded};
 ghost use Rattle.sst_base.specs.Entry.{Entry, plain};
 ghost use Rattle.sstable_blocks.specs.Blocks.{joined};
-ghost use Rattle.sstable_blocks.specs.Opened.{index_in};
 ghost use Rattle.sstable_blocks.specs.RunReading.{hashes};
-ghost use Rattle.sstable_blocks.specs.Scans.{ScansFirst, ScansLast, left_by, views_left, within};
-ghost use Rattle.sstable_blocks.specs.Sound.{IsSound};
+ghost use Rattle.sstable_blocks.specs.Scans.{ScansFirst, ScansLast, left_by, within, range_by};
+ghost use Rattle.sstable_blocks.specs.Sound.{ForSound};
 
 use super::bounds::Bounds;
 use super::cut::Cut;
@@ -183,9 +181,8 @@ impl<'a, H: BlockHash> RunRef<'a, H> {
     pub fn scan<'k>(&self) -> RunScan<'a, 'k, H>
         ensures run { result.run ≡ self.now }
         ensures range { result.range ≡ record { from = Unbounded; to = Unbounded } }
-        ensures left { (blocks : List (List Entry))
-            → IsSound (hashes H.hash64 H.hash128) blocks self.now.bytes self.now.handles
-            → result.left ≡ within result.range (map plain (joined blocks)) }
+        ensures left { ForSound (hashes H.hash64 H.hash128) self.now.bytes self.now.handles
+            (λ blocks. result.left ≡ within result.range (map plain (joined blocks))) }
     {
         self.scan_range(Bound::Unbounded, Bound::Unbounded)
     }
@@ -194,13 +191,9 @@ impl<'a, H: BlockHash> RunRef<'a, H> {
     /// before it starts has no keys.
     pub fn scan_range<'k>(&self, from: Bound<&'k [u8]>, to: Bound<&'k [u8]>) -> RunScan<'a, 'k, H>
         ensures run { result.run ≡ self.now }
-        ensures range { result.range ≡ record {
-          from = bound_map (λ k. k.now) from.entry;
-          to = bound_map (λ k. k.now) to.entry;
-        } }
-        ensures left { (blocks : List (List Entry))
-            → IsSound (hashes H.hash64 H.hash128) blocks self.now.bytes self.now.handles
-            → result.left ≡ within result.range (map plain (joined blocks)) }
+        ensures range { result.range ≡ range_by (λ k. k.now) from.entry to.entry }
+        ensures left { ForSound (hashes H.hash64 H.hash128) self.now.bytes self.now.handles
+            (λ blocks. result.left ≡ within result.range (map plain (joined blocks))) }
     {
         sound_is_scanned();
         self.note_read();

@@ -1,16 +1,15 @@
 //! Scans of tables: the entries within a range of keys, from both ends.
-ghost use Rattle.std.specs.Prelude.{◌≡◌, ◌+◌, ◌<◌, List, [], Ok, true, length, map};
-ghost use Rattle.std.specs.Prelude.{IfOk, IfErr, IfSome, None};
-ghost use Rattle.std.specs.Range.Bound.{bound_map};
+ghost use Rattle.std.specs.Prelude.{◌≡◌, ◌+◌, ◌<◌, [], Ok, true, length, map, IfOk, IfErr, IfSome};
+ghost use Rattle.std.specs.Prelude.{None};
 ghost use Rattle.std.specs.declared.ops.Bound.TheVariants.{Unbounded};
-ghost use Rattle.sst_base.specs.Entry.{Entry, plain};
+ghost use Rattle.sst_base.specs.Entry.{plain};
 ghost use Rattle.sst_base.specs.declared.error.Error.TheVariants.{Io};
 ghost use Rattle.sstable_blocks.specs.Blocks.{joined};
 ghost use Rattle.sstable_blocks.specs.RunReading.{hashes};
 ghost use Rattle.sstable_blocks.specs.Scans.{EndsBy, GivesFirst, GivesLast, IsFewer, IsSameScan};
 ghost use Rattle.sstable_blocks.specs.Scans.{between, handles_within, in_range, most_left};
-ghost use Rattle.sstable_blocks.specs.Scans.{reads_left, within};
-ghost use Rattle.sstable_blocks.specs.Sound.{IsSound};
+ghost use Rattle.sstable_blocks.specs.Scans.{reads_left, within, range_by};
+ghost use Rattle.sstable_blocks.specs.Sound.{ForSound};
 ghost use Rattle.sstable_blocks.specs.Sources.{KeepsSource};
 
 use super::bounds::Bounds;
@@ -74,17 +73,13 @@ impl<'k, H: BlockHash, S: FrameSource> Scan<'k, H, S> {
     #[tactic(auto, unfolding(crate::specs::Scans::handles_within))]
     pub fn new(table: Table<H, S>, from: Bound<&'k [u8]>, to: Bound<&'k [u8]>) -> Scan<'k, H, S>
         ensures table { result.table ≡ table }
-        ensures range { result.range ≡ record {
-          from = bound_map (λ k. k.now) from.entry;
-          to = bound_map (λ k. k.now) to.entry;
-        } }
+        ensures range { result.range ≡ range_by (λ k. k.now) from.entry to.entry }
         ensures handles { result.handles ≡ handles_within result.range table.index }
         ensures fresh { (result.front ≡ []) × (result.back ≡ []) × (result.ended ≡ None) }
         ensures sound { IfSome (S.bytes table.source)
-            (λ all. (blocks : List (List Entry))
-            → IsSound (hashes H.hash64 H.hash128) blocks all table.handles
-            → reads_left (hashes H.hash64 H.hash128) all result
-            ≡ map Ok (within result.range (map plain (joined blocks)))) }
+            (λ all. ForSound (hashes H.hash64 H.hash128) all table.handles
+            (λ blocks. reads_left (hashes H.hash64 H.hash128) all result
+            ≡ map Ok (within result.range (map plain (joined blocks))))) }
     {
         sound_is_scanned();
         let bounds = Bounds { from, to };
@@ -211,10 +206,9 @@ impl<H: BlockHash, S: FrameSource> Table<H, S> {
         ensures handles { result.handles ≡ handles_within result.range self.index }
         ensures fresh { (result.front ≡ []) × (result.back ≡ []) × (result.ended ≡ None) }
         ensures sound { IfSome (S.bytes self.source)
-            (λ all. (blocks : List (List Entry))
-            → IsSound (hashes H.hash64 H.hash128) blocks all self.handles
-            → reads_left (hashes H.hash64 H.hash128) all result
-            ≡ map Ok (within result.range (map plain (joined blocks)))) }
+            (λ all. ForSound (hashes H.hash64 H.hash128) all self.handles
+            (λ blocks. reads_left (hashes H.hash64 H.hash128) all result
+            ≡ map Ok (within result.range (map plain (joined blocks))))) }
     {
         Scan::new(self, Bound::Unbounded, Bound::Unbounded)
     }
@@ -222,17 +216,13 @@ impl<H: BlockHash, S: FrameSource> Table<H, S> {
     /// Scans the entries whose user keys are between two bounds: see [`Scan`].
     pub fn scan_range<'k>(self, from: Bound<&'k [u8]>, to: Bound<&'k [u8]>) -> Scan<'k, H, S>
         ensures table { result.table ≡ self }
-        ensures range { result.range ≡ record {
-          from = bound_map (λ k. k.now) from.entry;
-          to = bound_map (λ k. k.now) to.entry;
-        } }
+        ensures range { result.range ≡ range_by (λ k. k.now) from.entry to.entry }
         ensures handles { result.handles ≡ handles_within result.range self.index }
         ensures fresh { (result.front ≡ []) × (result.back ≡ []) × (result.ended ≡ None) }
         ensures sound { IfSome (S.bytes self.source)
-            (λ all. (blocks : List (List Entry))
-            → IsSound (hashes H.hash64 H.hash128) blocks all self.handles
-            → reads_left (hashes H.hash64 H.hash128) all result
-            ≡ map Ok (within result.range (map plain (joined blocks)))) }
+            (λ all. ForSound (hashes H.hash64 H.hash128) all self.handles
+            (λ blocks. reads_left (hashes H.hash64 H.hash128) all result
+            ≡ map Ok (within result.range (map plain (joined blocks))))) }
     {
         Scan::new(self, from, to)
     }

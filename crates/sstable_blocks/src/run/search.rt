@@ -3,11 +3,10 @@
 //! A read is passed counters, to which it adds what it examines. It is given blocks as these types,
 //! whose every look into a block is passed the counters: there is no iterator, no copy and no bytes
 //! of a block that it could read beside them.
-ghost use Rattle.std.specs.Prelude.{◌≡◌, ◌≢◌, ◌%◌, ◌+◌, ◌<◌, IfErr, IfOk, IfSome, IsOkUnless};
-ghost use Rattle.std.specs.Prelude.{Err, Ok, Some, false, length, slice_get};
+ghost use Rattle.std.specs.Prelude.{◌≡◌, ◌≢◌, ◌%◌, ◌+◌, ◌<◌, IfErr, IfOk, IfSome, IsOkUnless, Err};
+ghost use Rattle.std.specs.Prelude.{Ok, Some, false, length, slice_get};
 ghost use Rattle.std.specs.Option.{option_map};
 ghost use Rattle.sst_base.specs.Counted.{CountsBetween, CountsExactly};
-ghost use Rattle.sst_block_core.specs.Candidates.{scan_cost};
 ghost use Rattle.sst_block_core.specs.Entries.{entries};
 ghost use Rattle.sst_block_core.specs.Intervals.{digits};
 ghost use Rattle.sst_block_core.specs.Pointers.{head_count};
@@ -17,11 +16,12 @@ ghost use Rattle.sst_block_core.specs.DataBlock.{data_block_of};
 ghost use Rattle.sst_block_core.specs.HandleRanges.{handle_range};
 ghost use Rattle.sst_block_core.specs.Handles.{handles};
 ghost use Rattle.sst_block_core.specs.ParsedEntry.{IsParsedEntry, entry_of};
-ghost use Rattle.sst_block_core.specs.PointReads.{read_least, read_most};
-ghost use Rattle.sst_block_core.specs.PointReads.{ref_read_least, ref_read_most};
+ghost use Rattle.sst_block_core.specs.PointReads.{read_least, read_most, ref_read_least};
+ghost use Rattle.sst_block_core.specs.PointReads.{ref_read_most};
 ghost use Rattle.sstable_blocks.specs.Lookup.{handle_for};
 ghost use Rattle.sstable_blocks.specs.Opened.{range_of};
 ghost use Rattle.sstable_blocks.specs.ReadCosts.{handles_most};
+ghost use Rattle.sstable_blocks.specs.Scans.{index_cost};
 
 use sst_base::{Block, BlockHandle, BlockHash, Error, InternalValue, Result, SeqNo, Steps};
 use sst_block_core::DataBlock;
@@ -74,14 +74,12 @@ impl<'a> IndexSearch<'a> {
     }
 
     /// Returns the first handle that can lead to a key below a sequence number.
-    #[tactic(auto, using(crate::proofs::IndexSteps::found_range, crate::proofs::IndexSteps::handles_by_scan))]
+    #[tactic(auto, using(crate::proofs::Reading::IndexSteps::found_range, crate::proofs::Reading::IndexSteps::handles_by_scan))]
     pub(crate) fn find(&self, needle: &[u8], seqno: SeqNo, steps: &mut Steps) -> Option<BlockHandle>
         ensures found { result
             ≡ option_map range_of (handle_for handles needle.now seqno self.now.items) }
-        ensures counts { CountsBetween steps.old steps.new (1, 0) (
-          digits (head_count self.now.interval (length self.now.items)),
-          handles_most self.now.interval,
-        ) }
+        ensures counts { CountsBetween steps.old steps.new (1, 0) (digits
+            (head_count self.now.interval (length self.now.items)), handles_most self.now.interval) }
     {
         let mut iter = self.block.iter();
         iter.seek(needle, seqno);
@@ -98,10 +96,8 @@ impl<'a> IndexSearch<'a> {
     pub(crate) fn position(&self, bound: &Bound<'_>, steps: &mut Steps) -> usize
         ensures value { result
             ≡ count_passed handles bound.now.needle.now bound.now.from self.now.items }
-        ensures counts { CountsBetween steps.old steps.new (1, 0) (
-          digits (head_count self.now.interval (length self.now.items)),
-          scan_cost self.now.interval,
-        ) }
+        ensures counts { CountsBetween steps.old steps.new (1, 0)
+            (index_cost self.now.interval (length self.now.items)) }
     {
         self.block.position(bound, steps)
     }

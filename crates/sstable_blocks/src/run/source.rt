@@ -1,11 +1,10 @@
 //! Sources of frames: memory and files.
-ghost use Rattle.std.specs.Prelude.{◌≡◌, ◌⊎◌, ℕ, ◌+◌, ◌≤◌};
-ghost use Rattle.std.specs.Prelude.{◌<◌, ◌^◌, List, Option, Some};
-ghost use Rattle.std.specs.Prelude.{length, OnOk, OnErr, IfOk, IfErr, IfSome, IsOk, IsOkUnless, MatchResult};
+ghost use Rattle.std.specs.Prelude.{◌≡◌, ◌⊎◌, ℕ, ◌+◌, ◌≤◌, ◌<◌, ◌^◌, List, Option, Some, length};
+ghost use Rattle.std.specs.Prelude.{OnOk, OnErr, IfOk, IfErr, IfSome, IsOk, IsOkUnless};
+ghost use Rattle.std.specs.Prelude.{MatchResult};
 ghost use Rattle.sst_base.specs.BlockHandle.{HandleParts};
 ghost use Rattle.sst_base.specs.Bytes.{IsBytes};
-ghost use Rattle.sst_base.specs.declared.error.Error.TheVariants.{Io, Truncated, BadHandle};
-ghost use Rattle.sst_base.specs.declared.error.Error.TheVariants.{Memory};
+ghost use Rattle.sst_base.specs.declared.error.Error.TheVariants.{Io, Truncated, BadHandle, Memory};
 ghost use Rattle.sstable_blocks.specs.RunReading.{range_at};
 ghost use Rattle.sstable_blocks.specs.Sources.{GivesOr, KeepsSource, IsRangeRead, IsRangeRefused};
 
@@ -160,10 +159,10 @@ impl SizedSource for MemorySource {
     }
 }
 
-/// A run in bytes that are borrowed. A frame is copied where it is read; a
-/// [`RunRef`](super::RunRef) over the same bytes copies nothing.
+// A run in bytes that are borrowed, as [`RunRef::check`](super::RunRef::check) reads it. A frame is
+// copied where it is read.
 #[derive(Drop)]
-pub struct BorrowedSource<'a> {
+pub(crate) struct BorrowedSource<'a> {
     bytes: &'a [u8],
     reads: Count,
 }
@@ -181,21 +180,14 @@ impl<'a> Model for BorrowedSource<'a> {
 }
 
 impl<'a> BorrowedSource<'a> {
-    /// Wraps the bytes of a run.
-    pub fn new(bytes: &'a [u8]) -> BorrowedSource<'a>
+    // Wraps the bytes of a run.
+    pub(crate) fn new(bytes: &'a [u8]) -> BorrowedSource<'a>
         ensures { result ≡ record { inner = bytes.now; failures = 0; reads = 0 } }
     {
         BorrowedSource {
             bytes,
             reads: Count::new(),
         }
-    }
-
-    /// Returns the bytes of the run.
-    pub fn bytes(&self) -> &'a [u8]
-        ensures { result.now ≡ self.now.inner }
-    {
-        self.bytes
     }
 
     // States in a proof that memory never fails.
@@ -230,12 +222,6 @@ impl<'a> FrameSource for BorrowedSource<'a> {
             alloc,
             &self.bytes[offset as usize..(offset + size) as usize],
         )
-    }
-}
-
-impl<'a> SizedSource for BorrowedSource<'a> {
-    fn byte_len(&mut self) -> Result<u64> {
-        Ok(self.bytes.len() as u64)
     }
 }
 
@@ -313,10 +299,9 @@ fn check_range<F: SeekInput>(file: &mut F, handle: &BlockHandle) -> Result<()>
     ensures errors { IfErr result (λ e. (e ≡ Io)
         ⊎ ((e ≡ BadHandle) × (2 ^ 64 ≤ handle.now.offset + handle.now.size))
         ⊎ ((e ≡ Truncated) × (handle.now.size ≡ 0))) }
-    ensures range { IfSome (F.whole file.old) (λ all. MatchResult result
-        (λ _. handle.now.size ≡ 0 → handle.now.offset ≤ length all)
-        (λ e. IsRangeRefused (F.is_memory file.old) handle.now.size e
-        (range_at all handle.now))) }
+    ensures range { IfSome (F.whole file.old)
+        (λ all. MatchResult result (λ _. handle.now.size ≡ 0 → handle.now.offset ≤ length all)
+        (λ e. IsRangeRefused (F.is_memory file.old) handle.now.size e (range_at all handle.now))) }
 {
     let (offset, size) = (*handle.offset(), handle.size());
     if offset.checked_add(u64::from(size)).is_none() {

@@ -1,23 +1,21 @@
 //! Tables: runs in a source, whose filter and index are read once.
-ghost use Rattle.std.specs.Prelude.{◌≡◌, ◌≢◌, ◌+◌, ◌≤◌, ◌<◌, List, Ok, OnOk, IfOk, IfErr, IfSome};
-ghost use Rattle.std.specs.Prelude.{MatchResult, Some, length, slice_get, true};
+ghost use Rattle.std.specs.Prelude.{◌≡◌, ◌+◌, ◌≤◌, ◌<◌, Ok, OnOk, IfOk, IfErr, IfSome, MatchResult};
+ghost use Rattle.std.specs.Prelude.{Some, length, slice_get, true};
 ghost use Rattle.std.specs.Option.{option_map};
 ghost use Rattle.sst_base.specs.Counted.{CountsBetween};
-ghost use Rattle.sst_base.specs.Entry.{Entry};
 ghost use Rattle.sst_base.specs.declared.error.Error.TheVariants.{Io};
 ghost use Rattle.sst_block_core.specs.Entries.{entries};
 ghost use Rattle.sst_block_core.specs.Window.{first_match};
 ghost use Rattle.sst_block_core.specs.Handles.{Handle};
 ghost use Rattle.sstable_blocks.specs.Blocks.{joined};
 ghost use Rattle.sstable_blocks.specs.Footer.{table_handles};
-ghost use Rattle.sstable_blocks.specs.ReadCosts.{heads_most_in, entries_most_in};
-ghost use Rattle.sstable_blocks.specs.ReadCosts.{heads_most_by, entries_most_by};
+ghost use Rattle.sstable_blocks.specs.ReadCosts.{heads_most_by, entries_most_by, CountsRead};
 ghost use Rattle.sstable_blocks.specs.Opened.{range_of};
 ghost use Rattle.sstable_blocks.specs.RunChecks.{check_run as run_checked, summary_of};
-ghost use Rattle.sstable_blocks.specs.RunReading.{hashes, items_at, handles_at};
-ghost use Rattle.sstable_blocks.specs.RunReading.{read_checked};
-ghost use Rattle.sstable_blocks.specs.Sound.{IsSound};
+ghost use Rattle.sstable_blocks.specs.RunReading.{hashes, items_at, handles_at, read_checked};
+ghost use Rattle.sstable_blocks.specs.Sound.{ForSound, IsSoundRun, IsSummary};
 ghost use Rattle.sstable_blocks.specs.Sources.{FailsAs, GivesOr, KeepsSource, filter_frames};
+ghost use Rattle.sstable_blocks.specs.Sources.{ReadsAs, IsIoCounted};
 ghost use Rattle.sstable_blocks.specs.Tables.{filter_kept, kept_of, kept_by_footer, IsKeptOf};
 ghost use Rattle.sstable_blocks.specs.Tables.{IsIndexIn, kept_says, read_kept, frames_by, LooksBy};
 
@@ -99,10 +97,9 @@ fn filter_block_from<H: BlockHash, S: FrameSource>(
     ensures source { KeepsSource S.bytes S.failures S.is_reliable source.old source.new }
     ensures reads { OnOk result
         (S.reads source.new ≡ S.reads source.old + filter_frames filter.now) }
-    ensures io { IfErr result (λ e. e ≡ Io → S.failures source.old < S.failures source.new) }
-    ensures exact { IfSome (S.bytes source.old)
-        (λ all. GivesOr (S.failures source.old < S.failures source.new) (S.is_reliable source.old)
-        (λ f. f) result (filter_kept (hashes H.hash64 H.hash128) all filter.now)) }
+    ensures io { IsIoCounted S.failures source.old source.new result }
+    ensures exact { ReadsAs S.bytes S.failures S.is_reliable source.old source.new (λ f. f) result
+        (λ all. filter_kept (hashes H.hash64 H.hash128) all filter.now) }
 {
     match filter {
         None => Ok(None),
@@ -128,10 +125,9 @@ fn kept_allows<H: BlockHash>(filter: &Option<KeptFilter>, needle: &[u8]) -> bool
 fn handles_from<S: SizedSource>(alloc: Global, source: &mut S) -> Result<RunHandles>
     ensures source { KeepsSource S.bytes S.failures S.is_reliable source.old source.new }
     ensures reads { OnOk result (S.reads source.new ≡ S.reads source.old + 1) }
-    ensures io { IfErr result (λ e. e ≡ Io → S.failures source.old < S.failures source.new) }
-    ensures exact { IfSome (S.bytes source.old)
-        (λ all. GivesOr (S.failures source.old < S.failures source.new) (S.is_reliable source.old)
-        (λ h. h) result (table_handles all)) }
+    ensures io { IsIoCounted S.failures source.old source.new result }
+    ensures exact { ReadsAs S.bytes S.failures S.is_reliable source.old source.new (λ h. h) result
+        (λ all. table_handles all) }
 {
     let len = source.byte_len()?;
     read_footer(alloc, source, len)
@@ -145,11 +141,9 @@ fn kept_index_from<H: BlockHash, S: FrameSource>(
 ) -> Result<IndexBlock>
     ensures source { KeepsSource S.bytes S.failures S.is_reliable source.old source.new }
     ensures reads { S.reads source.new ≡ S.reads source.old + 1 }
-    ensures io { IfErr result (λ e. e ≡ Io → S.failures source.old < S.failures source.new) }
-    ensures exact { IfSome (S.bytes source.old)
-        (λ all. GivesOr (S.failures source.old < S.failures source.new)
-        (S.is_reliable source.old) (λ b. b.items) result
-        (handles_at (hashes H.hash64 H.hash128) all handle.now)) }
+    ensures io { IsIoCounted S.failures source.old source.new result }
+    ensures exact { ReadsAs S.bytes S.failures S.is_reliable source.old source.new
+        (λ b. b.items) result (λ all. handles_at (hashes H.hash64 H.hash128) all handle.now) }
     ensures place { IfOk result (λ b. IfSome (S.bytes source.old)
         (λ all. IsIndexIn all handle.now b.items b.interval)) }
     ensures heads { IfOk result (λ b. b.heads ≡ true) }
@@ -168,13 +162,12 @@ fn kept_from<H: BlockHash, S: FrameSource>(
     ensures source { KeepsSource S.bytes S.failures S.is_reliable source.old source.new }
     ensures reads { OnOk result
         (S.reads source.new ≡ S.reads source.old + (filter_frames handles.now.filter + 1)) }
-    ensures io { IfErr result (λ e. e ≡ Io → S.failures source.old < S.failures source.new) }
+    ensures io { IsIoCounted S.failures source.old source.new result }
     ensures kept { IfSome (S.bytes source.old) (λ all. IfOk result
         (λ k. IsKeptOf (hashes H.hash64 H.hash128) handles.now k.0 k.1.items k.1.interval all)) }
-    ensures exact { IfSome (S.bytes source.old)
-        (λ all. GivesOr (S.failures source.old < S.failures source.new) (S.is_reliable source.old)
+    ensures exact { ReadsAs S.bytes S.failures S.is_reliable source.old source.new
         (λ k. (k.0, k.1.items)) result
-        (kept_of (hashes H.hash64 H.hash128) all handles.now)) }
+        (λ all. kept_of (hashes H.hash64 H.hash128) all handles.now) }
     ensures heads { IfOk result (λ k. k.1.heads ≡ true) }
 {
     let filter = filter_block_from::<H, S>(alloc, source, &handles.filter)?;
@@ -195,16 +188,14 @@ fn read_by_kept<H: BlockHash, S: FrameSource>(
     ensures source { KeepsSource S.bytes S.failures S.is_reliable source.old source.new }
     ensures reads { S.reads source.new ≤ S.reads source.old
         + frames_by (kept_says H.hash64 filter.now needle.now) }
-    ensures io { IfErr result (λ e. e ≡ Io → S.failures source.old < S.failures source.new) }
-    ensures exact { IfSome (S.bytes source.old)
-        (λ all. GivesOr (S.failures source.old < S.failures source.new)
-        (S.is_reliable source.old) (λ x. x) result
-        (read_kept (hashes H.hash64 H.hash128) all filter.now index.now.items needle.now seqno)) }
+    ensures io { IsIoCounted S.failures source.old source.new result }
+    ensures exact { ReadsAs S.bytes S.failures S.is_reliable source.old source.new (λ x. x) result
+        (λ all. read_kept (hashes H.hash64 H.hash128) all filter.now index.now.items needle.now
+        seqno) }
     ensures counts { IfSome (S.bytes source.old)
-        (λ all. CountsBetween steps.old steps.new (0, 0) (
-          heads_most_by all index.now.items index.now.interval needle.now seqno,
-          entries_most_by all index.now.items index.now.interval needle.now seqno,
-        )) }
+        (λ all. CountsBetween steps.old steps.new (0, 0)
+        (heads_most_by all index.now.items index.now.interval needle.now seqno, entries_most_by all
+        index.now.items index.now.interval needle.now seqno)) }
     ensures looked { LooksBy (kept_says H.hash64 filter.now needle.now) steps.old steps.new }
 {
     if !kept_allows::<H>(filter, needle) {
@@ -241,22 +232,16 @@ impl<H: BlockHash, S: FrameSource> Table<H, S> {
             self.new.source }
         ensures reads { S.reads self.new.source ≤ S.reads self.old.source
             + frames_by (kept_says H.hash64 self.old.filter needle.now) }
-        ensures io { IfErr result
-            (λ e. e ≡ Io → S.failures self.old.source < S.failures self.new.source) }
-        ensures exact { IfSome (S.bytes self.old.source)
-            (λ all. GivesOr (S.failures self.old.source < S.failures self.new.source)
-            (S.is_reliable self.old.source) (λ x. x) result
-            (read_checked (hashes H.hash64 H.hash128) all self.old.handles needle.now seqno)) }
+        ensures io { IsIoCounted S.failures self.old.source self.new.source result }
+        ensures exact { ReadsAs S.bytes S.failures S.is_reliable self.old.source self.new.source
+            (λ x. x) result (λ all. read_checked (hashes H.hash64 H.hash128) all self.old.handles
+            needle.now seqno) }
         ensures sound { IfSome (S.bytes self.old.source)
-            (λ all. (blocks : List (List Entry))
-            → IsSound (hashes H.hash64 H.hash128) blocks all self.old.handles
-            → IfOk result
-            (λ found. found ≡ first_match entries needle.now seqno (joined blocks))) }
+            (λ all. ForSound (hashes H.hash64 H.hash128) all self.old.handles
+            (λ blocks. IfOk result
+            (λ found. found ≡ first_match entries needle.now seqno (joined blocks)))) }
         ensures counts { IfSome (S.bytes self.old.source)
-            (λ all. CountsBetween steps.old steps.new (0, 0) (
-              heads_most_in all self.old.handles needle.now seqno,
-              entries_most_in all self.old.handles needle.now seqno,
-            )) }
+            (λ all. CountsRead all self.old.handles needle.now seqno steps.old steps.new) }
         ensures looked { LooksBy (kept_says H.hash64 self.old.filter needle.now)
             steps.old steps.new }
     {
@@ -315,8 +300,7 @@ impl<H: BlockHash, S: FrameSource> Table<H, S> {
         ensures source { KeepsSource S.bytes S.failures S.is_reliable self.old.source
             self.new.source }
         ensures reads { S.reads self.new.source ≡ S.reads self.old.source + 1 }
-        ensures io { IfErr result
-            (λ e. e ≡ Io → S.failures self.old.source < S.failures self.new.source) }
+        ensures io { IsIoCounted S.failures self.old.source self.new.source result }
         ensures exact { IfSome (S.bytes self.old.source)
             (λ all. (h : Handle) → slice_get self.old.index index ≡ Some h
             → GivesOr (S.failures self.old.source < S.failures self.new.source)
@@ -338,21 +322,15 @@ impl<H: BlockHash, S: FrameSource> Table<H, S> {
             self.new.source }
         ensures reads { IfOk result (λ s. S.reads self.new.source
             ≡ S.reads self.old.source + (filter_frames self.old.handles.filter + (1 + s.blocks))) }
-        ensures io { IfErr result
-            (λ e. e ≡ Io → S.failures self.old.source < S.failures self.new.source) }
-        ensures exact { IfSome (S.bytes self.old.source)
-            (λ all. GivesOr (S.failures self.old.source < S.failures self.new.source)
-            (S.is_reliable self.old.source) (λ s. s) result
-            (run_checked (hashes H.hash64 H.hash128) all self.old.handles)) }
+        ensures io { IsIoCounted S.failures self.old.source self.new.source result }
+        ensures exact { ReadsAs S.bytes S.failures S.is_reliable self.old.source self.new.source
+            (λ s. s) result (λ all. run_checked (hashes H.hash64 H.hash128) all self.old.handles) }
         ensures sound { IfSome (S.bytes self.old.source)
-            (λ all. IfOk result (λ s. (blocks : List (List Entry))
-            × IsSound (hashes H.hash64 H.hash128) blocks all self.old.handles
-            × (s ≡ summary_of blocks))) }
+            (λ all. IfOk result (IsSummary (hashes H.hash64 H.hash128) all self.old.handles)) }
         ensures accepts { IfSome (S.bytes self.old.source)
-            (λ all. (blocks : List (List Entry))
-            → IsSound (hashes H.hash64 H.hash128) blocks all self.old.handles
-            → GivesOr (S.failures self.old.source < S.failures self.new.source)
-            (S.is_reliable self.old.source) (λ s. s) result (Ok (summary_of blocks))) }
+            (λ all. ForSound (hashes H.hash64 H.hash128) all self.old.handles
+            (λ blocks. GivesOr (S.failures self.old.source < S.failures self.new.source)
+            (S.is_reliable self.old.source) (λ s. s) result (Ok (summary_of blocks)))) }
     {
         check::<H, S>(alloc, &mut self.source, &self.handles)
     }
@@ -380,8 +358,7 @@ impl<H: BlockHash, S: FrameSource> Table<H, S> {
             (λ e. KeepsSource S.bytes S.failures S.is_reliable source e.source) }
         ensures reads { IfOk result
             (λ t. S.reads t.source ≡ S.reads source + (filter_frames handles.filter + 1)) }
-        ensures io { IfErr result
-            (λ e. e.error ≡ Io → S.failures source < S.failures e.source) }
+        ensures io { IfErr result (λ e. e.error ≡ Io → S.failures source < S.failures e.source) }
         ensures exact { IfSome (S.bytes source) (λ all. MatchResult result
             (λ t. kept_of (hashes H.hash64 H.hash128) all handles ≡ Ok (t.filter, t.index))
             (λ e. FailsAs (S.failures source < S.failures e.source) (S.is_reliable source)
@@ -415,8 +392,7 @@ impl<H: BlockHash, S: SizedSource> Table<H, S> {
             (λ e. KeepsSource S.bytes S.failures S.is_reliable source e.source) }
         ensures reads { IfOk result
             (λ t. S.reads t.source ≡ S.reads source + (filter_frames t.handles.filter + 2)) }
-        ensures io { IfErr result
-            (λ e. e.error ≡ Io → S.failures source < S.failures e.source) }
+        ensures io { IfErr result (λ e. e.error ≡ Io → S.failures source < S.failures e.source) }
         ensures exact { IfSome (S.bytes source) (λ all. MatchResult result
             (λ t. kept_by_footer (hashes H.hash64 H.hash128) all
             ≡ Ok (t.handles, t.filter, t.index))
@@ -436,10 +412,8 @@ impl<H: BlockHash> Table<H, MemorySource> {
     /// read without checks and checksums, by the index and the table of its heads that were kept.
     /// Nothing is tested.
     pub fn trusted(&self) -> RunRef<'_, H>
-        requires { (blocks : List (List Entry))
-            × IsSound (hashes H.hash64 H.hash128) blocks self.now.source.inner self.now.handles }
-        ensures { result
-            ≡ record { bytes = self.now.source.inner; handles = self.now.handles } }
+        requires { IsSoundRun (hashes H.hash64 H.hash128) self.now.source.inner self.now.handles }
+        ensures { result ≡ record { bytes = self.now.source.inner; handles = self.now.handles } }
     {
         let index = IndexSearch::new(self.index.by_ref());
         RunRef::with_index(self.source.bytes().as_slice(), &self.handles, index)

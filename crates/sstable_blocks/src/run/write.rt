@@ -1,6 +1,5 @@
 //! Writing a run whose entries are all in memory.
-ghost use Rattle.std.specs.Prelude.{◌↔◌, ◌≤◌, length, map, IsTrue, IfOk};
-ghost use Rattle.std.specs.Prelude.{IfErr};
+ghost use Rattle.std.specs.Prelude.{◌↔◌, ◌≤◌, length, map, IsTrue, IfOk, IfErr};
 ghost use Rattle.sst_block_core.specs.Entries.{entries};
 ghost use Rattle.sst_block_core.specs.Kind.{IsOrdered};
 ghost use Rattle.sstable_blocks.specs.Blocks.{CutsFit, blocks_of};
@@ -56,15 +55,13 @@ pub fn write_run<H: BlockHash, T: AsEntry, W: Write>(
     requires ordered { IsOrdered entries (map T.entry items.now) }
     requires cuts { CutsFit 0 (length items.now) cuts.now }
     requires writable { IsWritable config }
-    ensures layout { IfOk result
-        (AppendsLayout (form H.hash64 H.hash128 config)
-        (blocks_of cuts.now (map T.entry items.now))
-        (W.contents writer.old) (W.contents writer.new)) }
+    ensures layout { IfOk result (AppendsLayout (form H.hash64 H.hash128 config)
+        (blocks_of cuts.now (map T.entry items.now)) (W.contents writer.old)
+        (W.contents writer.new)) }
     ensures sound { IfOk result
         (AppendsSound (hashes H.hash64 H.hash128) (blocks_of cuts.now (map T.entry items.now))
         (W.contents writer.old) (W.contents writer.new)) }
-    ensures cause { IfErr result
-        (IsWriteRefusal
+    ensures cause { IfErr result (IsWriteRefusal
         (RunFits (form H.hash64 H.hash128 config) (blocks_of cuts.now (map T.entry items.now))
         → ⊥)) }
 {

@@ -1,15 +1,15 @@
 //! Writing a run block by block.
-ghost use Rattle.std.specs.Prelude.{◌≡◌, ◌≢◌, ◌↔◌, ◌+◌, ◌^◌, ◌≤◌, []};
-ghost use Rattle.std.specs.Prelude.{◌∷◌, ◌++◌, length, map, IsTrue, None, Some};
-ghost use Rattle.std.specs.Prelude.{OnOk, IfOk, IfErr, IfSome, MatchResult, Err};
+ghost use Rattle.std.specs.Prelude.{◌≡◌, ◌≢◌, ◌↔◌, ◌+◌, ◌^◌, ◌≤◌, [], ◌∷◌, ◌++◌, length, map};
+ghost use Rattle.std.specs.Prelude.{IsTrue, None, Some, OnOk, IfOk, IfErr, IfSome, MatchResult};
+ghost use Rattle.std.specs.Prelude.{Err};
 ghost use Rattle.std.specs.Io.KnownBytes.{Appends};
 ghost use Rattle.sst_base.specs.declared.error.Error.TheVariants.{Io, TooLong};
 ghost use Rattle.sstable_blocks.specs.Footer.{run_end};
 ghost use Rattle.sstable_blocks.specs.Run.{form, block_frame, block_frames, IsWritable, RunFits};
 ghost use Rattle.sstable_blocks.specs.RunReading.{hashes};
 ghost use Rattle.sstable_blocks.specs.Writing.{Follows, FrameFits, IsWriteRefusal, AppendsLayout};
-ghost use Rattle.sstable_blocks.specs.Writing.{AppendsSound, AppendsTable, TableFits};
-ghost use Rattle.sstable_blocks.specs.Writing.{IsSameRun, RepeatsError};
+ghost use Rattle.sstable_blocks.specs.Writing.{AppendsSound, AppendsTable, TableFits, IsSameRun};
+ghost use Rattle.sstable_blocks.specs.Writing.{RepeatsError};
 
 use super::footer::{FOOTER_LEN, end_table};
 use super::run_core::RunCore;
@@ -110,9 +110,8 @@ impl<H: BlockHash, W: Write> RunWriter<H, W> {
             (block_frame (form H.hash64 H.hash128 self.old.config) (map T.entry items.now))) }
         ensures untouched { IfErr result (λ e. e ≢ Io → self.new.writer ≡ self.old.writer) }
         ensures cause { let f = form H.hash64 H.hash128 self.old.config in self.old.refusal ≡ None
-            → IfErr result
-            (IsWriteRefusal
-            (FrameFits f (length (block_frames f self.old.blocks)) (map T.entry items.now) → ⊥)) }
+            → IfErr result (IsWriteRefusal (FrameFits f (length (block_frames f self.old.blocks))
+            (map T.entry items.now) → ⊥)) }
     {
         if let Some(refusal) = self.refusal {
             return Err(refusal);
@@ -135,14 +134,10 @@ impl<H: BlockHash, W: Write + Drop> RunWriter<H, W> {
     /// see `write_run`; `Error::Memory` if an allocation fails, `Error::Io` if the writer fails.
     pub fn finish(self) -> Result<(RunHandles, W)>
         requires { self.refusal ≡ None → 1 ≤ length self.blocks }
-        ensures layout { IfOk result
-            (λ r.
-            AppendsLayout (form H.hash64 H.hash128 self.config) self.blocks self.start
-            (W.contents r.1) r.0) }
-        ensures sound { IfOk result
-            (λ r.
-            AppendsSound (hashes H.hash64 H.hash128) self.blocks self.start
-            (W.contents r.1) r.0) }
+        ensures layout { IfOk result (λ r. AppendsLayout (form H.hash64 H.hash128 self.config)
+            self.blocks self.start (W.contents r.1) r.0) }
+        ensures sound { IfOk result (λ r. AppendsSound (hashes H.hash64 H.hash128) self.blocks
+            self.start (W.contents r.1) r.0) }
         ensures repeated { IfSome self.refusal (λ e. result ≡ Err e) }
         ensures cause { self.refusal ≡ None
             → IfErr result
@@ -165,8 +160,7 @@ impl<H: BlockHash, W: Write + Drop> RunWriter<H, W> {
 // The length of the table of a run with these handles.
 fn table_len(handles: &RunHandles) -> Result<u64>
     ensures len { IfOk result (λ len. len ≡ run_end handles.now + 24) }
-    ensures too_long { IfErr result
-        (λ e. (e ≡ TooLong) × (2 ^ 64 ≤ run_end handles.now + 24)) }
+    ensures too_long { IfErr result (λ e. (e ≡ TooLong) × (2 ^ 64 ≤ run_end handles.now + 24)) }
 {
     let last = handles.filter.as_ref().unwrap_or(&handles.index);
     let behind = u64::from(last.size()) + FOOTER_LEN as u64;

@@ -1,6 +1,6 @@
 use Rattle.std.proofs.Common.{◌≡◌, ℕ, ◌≤◌, Option, Some, arith, rules}
 use Rattle.sst_base.specs.Varint.{varint_at}
-use Rattle.sst_base.proofs.ShortVarints.{takes_some}
+use Rattle.sst_base.proofs.Framing.ShortVarints.{takes_some}
 use Rattle.sst_base.proofs.coding.decode_long.Goals as goal
 
 pub returns-in-Some-clause-none : goal.returns-in-Some-clause-none

@@ -1,5 +1,5 @@
 use Rattle.std.proofs.Common.{arith}
-use Rattle.sst_base.proofs.ShortVarints.{one_byte, two_bytes, three_bytes, four_bytes}
+use Rattle.sst_base.proofs.Framing.ShortVarints.{one_byte, two_bytes, three_bytes, four_bytes}
 use Rattle.sst_base.proofs.coding.decode_short.Goals as goal
 
 pub returns-in-len4-up : goal.returns-in-len4-up

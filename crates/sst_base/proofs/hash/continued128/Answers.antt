@@ -1,6 +1,6 @@
 use Rattle.std.proofs.Common.{rules, arith, ◌≡◌, ◌∙◌}
 use Rattle.std.specs.List.{fold}
-use Rattle.sst_base.proofs.Polynomials.{wrapped31, poly31_from_steps}
+use Rattle.sst_base.proofs.Hashes.Polynomials.{wrapped31, poly31_from_steps}
 use Rattle.sst_base.proofs.hash.continued128.Goals as goal
 
 pub returns : goal.returns

@@ -1,5 +1,5 @@
 use Rattle.std.proofs.Common.{arith, refl, ◌≡◌, ◌≤◌, ◌+◌, ◌*◌, ◌/◌, length}
-use Rattle.sst_base.proofs.Polynomials.{sixteen_steps, bytes_more, tail_more}
+use Rattle.sst_base.proofs.Hashes.Polynomials.{sixteen_steps, bytes_more, tail_more}
 use Rattle.sst_base.proofs.hash.continued128_by_sixteen.Goals as goal
 
 pub loop-i-preserved : goal.loop-i-preserved

@@ -1,5 +1,5 @@
 use Rattle.std.proofs.Common.{arith, refl, ◌≡◌, ◌≤◌, ◌+◌, ◌*◌, ◌/◌, length}
-use Rattle.sst_base.proofs.Polynomials.{eight_steps, bytes_more, tail_more}
+use Rattle.sst_base.proofs.Hashes.Polynomials.{eight_steps, bytes_more, tail_more}
 use Rattle.sst_base.proofs.hash.continued64_by_eight.Goals as goal
 
 pub loop-i-preserved : goal.loop-i-preserved

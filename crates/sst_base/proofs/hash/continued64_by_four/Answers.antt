@@ -1,5 +1,5 @@
 use Rattle.std.proofs.Common.{refl}
-use Rattle.sst_base.proofs.Fours.{four_more}
+use Rattle.sst_base.proofs.Hashes.Fours.{four_more}
 use Rattle.sst_base.proofs.hash.continued64_by_four.Goals as goal
 
 pub returns : goal.returns

@@ -1,5 +1,5 @@
 use Rattle.std.proofs.Common.{arith, ◌∙◌}
-use Rattle.sst_base.proofs.Fours.{four_first}
+use Rattle.sst_base.proofs.Hashes.Fours.{four_first}
 use Rattle.sst_base.proofs.hash.first_four.Goals as goal
 
 pub returns : goal.returns

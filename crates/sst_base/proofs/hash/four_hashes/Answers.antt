@@ -1,5 +1,5 @@
 use Rattle.std.proofs.Common.{arith}
-use Rattle.sst_base.proofs.FourHashes.{fours_in_lanes}
+use Rattle.sst_base.proofs.Hashes.FourHashes.{fours_in_lanes}
 use Rattle.sst_base.proofs.hash.four_hashes.Goals as goal
 
 pub returns : goal.returns

@@ -1,6 +1,6 @@
 use Rattle.std.proofs.Common.{rules, arith, ◌≡◌, ◌∙◌}
 use Rattle.std.specs.List.{fold}
-use Rattle.sst_base.proofs.Sums.{wrapped_sum, byte_sum_steps}
+use Rattle.sst_base.proofs.Hashes.Sums.{wrapped_sum, byte_sum_steps}
 use Rattle.sst_base.proofs.hash.sum64_from.Goals as goal
 
 pub returns : goal.returns

@@ -1,5 +1,5 @@
 use Rattle.std.proofs.Common.{refl}
-use Rattle.sst_base.proofs.Lanes.{word_hash_is}
+use Rattle.sst_base.proofs.Hashes.Lanes.{word_hash_is}
 use Rattle.sst_base.proofs.hash.word_hash.Goals as goal
 
 pub returns : goal.returns

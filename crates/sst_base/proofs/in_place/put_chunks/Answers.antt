@@ -1,4 +1,4 @@
-use Rattle.sst_base.proofs.InPlace.{three_put}
+use Rattle.sst_base.proofs.Strings.InPlace.{three_put}
 use Rattle.sst_base.proofs.in_place.put_chunks.Goals as goal
 
 pub returns-clause-bytes : goal.returns-clause-bytes

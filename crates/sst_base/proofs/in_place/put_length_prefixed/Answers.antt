@@ -2,7 +2,7 @@ use Rattle.std.proofs.Common.{◌-◌, ◌++◌, ◌≡◌, length, take, drop, 
 use Rattle.std.proofs.lemmas.List.{take_at}
 use Rattle.std.specs.Vec.{vec_len}
 use Rattle.sst_base.specs.Varint.{varint}
-use Rattle.sst_base.proofs.InPlace.{rest_prefixed}
+use Rattle.sst_base.proofs.Strings.InPlace.{rest_prefixed}
 use Rattle.sst_base.proofs.in_place.put_length_prefixed.Goals as goal
 
 pub returns-in-Some-clause-bytes : goal.returns-in-Some-clause-bytes

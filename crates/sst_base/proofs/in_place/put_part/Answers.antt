@@ -1,6 +1,6 @@
 use Rattle.std.proofs.Common.{◌-◌, drop, arith}
 use Rattle.std.proofs.lemmas.List.{length-take-le}
-use Rattle.sst_base.proofs.InPlace.{fewer_put}
+use Rattle.sst_base.proofs.Strings.InPlace.{fewer_put}
 use Rattle.sst_base.proofs.in_place.put_part.Goals as goal
 
 pub returns-then-from-le-LAST_CHUNK-clause-bytes : goal.returns-then-from-le-LAST_CHUNK-clause-bytes

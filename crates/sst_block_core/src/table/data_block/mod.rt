@@ -19,6 +19,7 @@ ghost use Rattle.sst_block_core.specs.Window.{whole, first_match};
 ghost use Rattle.sst_block_core.specs.DataBlock.{block_of, data_block_of, ref_of_block};
 ghost use Rattle.sst_block_core.specs.Disorder.{disorder_from};
 ghost use Rattle.sst_block_core.specs.ParsedEntry.{entry_of, IsParsedEntry};
+ghost use Rattle.sst_block_core.specs.Trailer.{trailer_in};
 
 pub mod as_entry;
 pub mod block_ref;
@@ -341,6 +342,8 @@ impl<H: BlockHash> DataBlock<H> {
             (λ b. IsBlock entries IsEntry H.hash64 block.payload b.items b.interval b.stored) }
         ensures refused { IfErr result
             (λ e. e ≢ Error.Memory → data_check H.hash64 block.payload ≡ Err e) }
+        ensures memory { IfErr result
+            (λ e. e ≡ Error.Memory → 0 < (trailer_in block.payload).hash_len) }
         ensures not_io { IfErr result (λ e. e ≢ Error.Io) }
 
         // An encoding is accepted.

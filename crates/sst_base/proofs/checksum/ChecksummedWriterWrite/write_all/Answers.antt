@@ -1,5 +1,5 @@
 use Rattle.std.proofs.Common.{arith, ◌∙◌, sym, ap, take, ◌++◌}
-use Rattle.sst_base.proofs.Passing.{appends_step, appends_kept, passed_step}
+use Rattle.sst_base.proofs.Framing.Passing.{appends_step, appends_kept, passed_step}
 use Rattle.sst_base.proofs.checksum.ChecksummedWriterWrite.write_all.Goals as goal
 use Rattle.sst_base.proofs.checksum.ChecksummedWriterWrite.write_all.Goals.{in-Ok, in-Err+else-ne}
 

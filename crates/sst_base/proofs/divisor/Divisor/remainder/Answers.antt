@@ -1,5 +1,5 @@
 use Rattle.std.proofs.Common.{arith, ◌%◌, ap, ◌∙◌}
-use Rattle.sst_base.proofs.Remainders.{not_above, near, rest_is, rest_more}
+use Rattle.sst_base.proofs.Hashes.Remainders.{not_above, near, rest_is, rest_more}
 use Rattle.sst_base.proofs.divisor.Divisor.remainder.Goals as goal
 
 pub overflow_sub-rest : goal.overflow_sub-rest

@@ -1,7 +1,7 @@
 use Rattle.std.specs.Prelude.{None, option_map}
 use Rattle.std.specs.Option.{option_to_list}
 use Rattle.std.proofs.Common.{sym}
-use Rattle.sst_base.proofs.LastItems.{last_or-append}
+use Rattle.sst_base.proofs.Strings.LastItems.{last_or-append}
 use Rattle.sst_base.proofs.double_ended_peekable.DoubleEndedPeekable.last_peeked.Goals as goal
 
 pub returns-in-Some : goal.returns-in-Some

@@ -1,5 +1,5 @@
 use Rattle.std.proofs.Common.{take, ap, ◌∙◌}
-use Rattle.sst_base.proofs.ShortSlices.{joined_wide}
+use Rattle.sst_base.proofs.Strings.ShortSlices.{joined_wide}
 use Rattle.sst_base.proofs.slice.short.joined_chunks.Goals as goal
 
 pub returns : goal.returns

@@ -1,5 +1,5 @@
 use Rattle.std.proofs.Common.{arith, ◌≤◌, ◌+◌, ◌*◌, ◌∙◌, length}
-use Rattle.sst_base.proofs.Orders.{words_decide, words_agree}
+use Rattle.sst_base.proofs.Strings.Orders.{words_decide, words_agree}
 use Rattle.sst_base.proofs.table.util.compare_bytes.Goals as goal
 
 pub returns-then-x-y : goal.returns-then-x-y

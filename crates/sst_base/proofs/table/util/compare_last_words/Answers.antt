@@ -1,5 +1,5 @@
 use Rattle.std.proofs.Common.{arith, ◌≤◌, ◌+◌, ◌-◌, ◌∙◌, ◌≡◌, length, min}
-use Rattle.sst_base.proofs.Orders.{words_decide, last_words_same}
+use Rattle.sst_base.proofs.Strings.Orders.{words_decide, last_words_same}
 use Rattle.sst_base.proofs.table.util.compare_last_words.Goals as goal
 
 pub returns-then-x-y : goal.returns-then-x-y

@@ -1,5 +1,5 @@
 use Rattle.std.proofs.Common.{arith}
-use Rattle.sst_base.proofs.Joined.{needle_inside, prefix_equal, prefix_differs}
+use Rattle.sst_base.proofs.Strings.Joined.{needle_inside, prefix_equal, prefix_differs}
 use Rattle.sst_base.proofs.table.util.compare_prefixed_slice.Goals as goal
 
 pub returns-then-needle-prefix : goal.returns-then-needle-prefix

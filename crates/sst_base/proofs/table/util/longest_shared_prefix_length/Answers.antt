@@ -1,6 +1,6 @@
 use Rattle.std.proofs.Common.{arith, ◌≤◌, ◌+◌, ◌*◌, length, ◌≡◌, ◌/◌, ◌∙◌, ap, take, subst}
-use Rattle.sst_base.proofs.Orders.{words_agree}
-use Rattle.sst_base.proofs.FirstDifference.{xor_zero, differs_at}
+use Rattle.sst_base.proofs.Strings.Orders.{words_agree}
+use Rattle.sst_base.proofs.Strings.FirstDifference.{xor_zero, differs_at}
 use Rattle.sst_base.specs.SharedPrefix.{shared_prefix_length}
 use Rattle.sst_base.specs.SharedPrefixLaws.{shared_prefix_behind}
 use Rattle.sst_base.proofs.table.util.longest_shared_prefix_length.Goals as goal

@@ -1,5 +1,5 @@
 use Rattle.sstable_blocks.specs.RunReading.{hashes}
-use Rattle.sstable_blocks.proofs.Answered.{means_on, sound_on}
+use Rattle.sstable_blocks.proofs.Reading.Answered.{means_on, sound_on}
 use Rattle.sstable_blocks.proofs.run.checked.read_entry_checked.Goals as goal
 
 pub returns-clause-means : goal.returns-clause-means

@@ -1,5 +1,5 @@
 use Rattle.sstable_blocks.specs.RunReading.{hashes}
-use Rattle.sstable_blocks.proofs.CheckedReads.{by_filter}
+use Rattle.sstable_blocks.proofs.Reading.CheckedReads.{by_filter}
 use Rattle.sstable_blocks.proofs.run.checked.read_in_stages.Goals as goal
 
 pub returns-then-branch-clause-exact : goal.returns-then-branch-clause-exact

@@ -1,5 +1,5 @@
 use Rattle.sstable_blocks.specs.RunReading.{hashes}
-use Rattle.sstable_blocks.proofs.RunCheckSteps.{sound_on_check}
+use Rattle.sstable_blocks.proofs.Checks.RunCheckSteps.{sound_on_check}
 use Rattle.sstable_blocks.proofs.run.checking.check.Goals as goal
 
 pub returns-clause-accepts : goal.returns-clause-accepts

@@ -1,7 +1,7 @@
 use Rattle.std.proofs.Common.{◌≡◌, arith}
 use Rattle.std.proofs.lemmas.Result.{err_from_is_err_and}
 use Rattle.sstable_blocks.specs.RunReading.{hashes}
-use Rattle.sstable_blocks.proofs.RunCheckSteps.{block_items, block_fail}
+use Rattle.sstable_blocks.proofs.Checks.RunCheckSteps.{block_items, block_fail}
 use Rattle.sstable_blocks.proofs.run.checking.check_block.Goals as goal
 
 pub returns-in_err-block-clause-exact : goal.returns-in_err-block-clause-exact

@@ -3,7 +3,7 @@ use Rattle.std.proofs.lemmas.Result.{err_from_is_err_and}
 use Rattle.std.specs.List.{AllByRecursion}
 use Rattle.sst_block_core.specs.Handles.{Handle, EndFits}
 use Rattle.sstable_blocks.specs.RunReading.{hashes}
-use Rattle.sstable_blocks.proofs.RunCheckSteps.{handle_left, none_left, blocks_on, blocks_fail, blocks_end}
+use Rattle.sstable_blocks.proofs.Checks.RunCheckSteps.{handle_left, none_left, blocks_on, blocks_fail, blocks_end}
 use Rattle.sstable_blocks.proofs.run.checking.check_blocks.Goals as goal
 
 pub check_block-requires : goal.check_block-requires

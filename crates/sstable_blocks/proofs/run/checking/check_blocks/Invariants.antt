@@ -4,7 +4,7 @@ use Rattle.sst_block_core.specs.Window.{items_left}
 use Rattle.sst_block_core.specs.Handles.{EndFits}
 use Rattle.sstable_blocks.specs.RunReading.{hashes}
 use Rattle.sstable_blocks.specs.Sources.{KeepsSource}
-use Rattle.sstable_blocks.proofs.RunCheckSteps.{BlocksLeft}
+use Rattle.sstable_blocks.proofs.Checks.RunCheckSteps.{BlocksLeft}
 use Rattle.sstable_blocks.proofs.run.checking.check_blocks.Given as goal
 
 abbrev pub invariant-loop-item : goal.invariant-loop-item

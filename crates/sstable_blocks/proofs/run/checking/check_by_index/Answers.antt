@@ -1,7 +1,7 @@
 use Rattle.std.proofs.Common.{arith}
 use Rattle.std.proofs.lemmas.Result.{err_from_is_err_and}
 use Rattle.sstable_blocks.specs.RunReading.{hashes}
-use Rattle.sstable_blocks.proofs.RunCheckSteps.{index_fail}
+use Rattle.sstable_blocks.proofs.Checks.RunCheckSteps.{index_fail}
 use Rattle.sstable_blocks.proofs.run.checking.check_by_index.Goals as goal
 
 pub returns-in_err-passed-clause-exact : goal.returns-in_err-passed-clause-exact

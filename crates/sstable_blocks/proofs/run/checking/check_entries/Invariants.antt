@@ -1,6 +1,6 @@
 use Rattle.std.proofs.Common.{false}
 use Rattle.sstable_blocks.specs.RunChecks.{check_entries}
-use Rattle.sstable_blocks.proofs.RunCheckSteps.{Left}
+use Rattle.sstable_blocks.proofs.Checks.RunCheckSteps.{Left}
 use Rattle.sstable_blocks.proofs.run.checking.check_entries.Given as goal
 
 abbrev pub invariant-loop-entry : goal.invariant-loop-entry

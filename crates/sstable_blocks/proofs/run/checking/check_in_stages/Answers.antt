@@ -4,7 +4,7 @@ use Rattle.sst_base.specs.FrameErrorLaws.{NotIo}
 use Rattle.sstable_blocks.specs.Filter.{filter_at}
 use Rattle.sstable_blocks.specs.FilterLaws.{filter_not_io}
 use Rattle.sstable_blocks.specs.RunReading.{hashes}
-use Rattle.sstable_blocks.proofs.RunCheckSteps.{filter_on}
+use Rattle.sstable_blocks.proofs.Checks.RunCheckSteps.{filter_on}
 use Rattle.sstable_blocks.proofs.run.checking.check_in_stages.Goals as goal
 
 pub returns-in_err-filter-in-Some-clause-io : goal.returns-in_err-filter-in-Some-clause-io

@@ -1,6 +1,6 @@
 use Rattle.std.proofs.Common.{false}
 use Rattle.sstable_blocks.specs.Ends.{ends}
-use Rattle.sstable_blocks.proofs.EndSteps.{taken}
+use Rattle.sstable_blocks.proofs.Scans.EndSteps.{taken}
 use Rattle.sstable_blocks.proofs.run.ends.step_front.Goals as goal
 
 pub returns-clause-taken : goal.returns-clause-taken

@@ -2,7 +2,7 @@ use Rattle.std.proofs.Common.{sym, ◌∙◌, not, eqb}
 use Rattle.std.proofs.lemmas.Result.{err_from_is_err_and}
 use Rattle.sstable_blocks.specs.BlockReading.{items_of}
 use Rattle.sstable_blocks.specs.Ends.{ends}
-use Rattle.sstable_blocks.proofs.EndSteps.{no_items, reached_next, reached_refused}
+use Rattle.sstable_blocks.proofs.Scans.EndSteps.{no_items, reached_next, reached_refused}
 use Rattle.sstable_blocks.proofs.run.ends.turn.Goals as goal
 
 pub open-preserved : goal.open-preserved

@@ -1,6 +1,6 @@
 use Rattle.std.proofs.Common.{◌-◌, not, eqb}
 use Rattle.sstable_blocks.specs.Ends.{ends}
-use Rattle.sstable_blocks.proofs.EndSteps.{IsReached}
+use Rattle.sstable_blocks.proofs.Scans.EndSteps.{IsReached}
 use Rattle.sstable_blocks.proofs.run.ends.turn.Given as goal
 
 abbrev pub invariant-open : goal.invariant-open

@@ -5,7 +5,7 @@ use Rattle.sst_block_core.specs.Entries.{entries}
 use Rattle.sst_block_core.specs.Payload.{IsBlock}
 use Rattle.sst_block_core.specs.Trailer.{trailer_in}
 use Rattle.sst_block_core.specs.Checks.{data_check, DataVerdict}
-use Rattle.sstable_blocks.proofs.RunCheckLaws.{accepted_is_sound}
+use Rattle.sstable_blocks.proofs.Checks.RunCheckLaws.{accepted_is_sound}
 use Rattle.sstable_blocks.proofs.run.laws.accepted_run_is_sound.Goals as goal
 
 pub returns : goal.returns

@@ -1,5 +1,5 @@
 use Rattle.std.proofs.Common.{length}
-use Rattle.sstable_blocks.proofs.Cuts.{cuts_left, joined-blocks_from, blocks_from-some}
+use Rattle.sstable_blocks.proofs.Lists.Cuts.{cuts_left, joined-blocks_from, blocks_from-some}
 use Rattle.sstable_blocks.proofs.run.laws.blocks_are_the_list.Goals as goal
 
 pub returns : goal.returns

@@ -1,4 +1,4 @@
-use Rattle.sstable_blocks.proofs.LayoutCosts.{layout_costs}
+use Rattle.sstable_blocks.proofs.Layouts.LayoutCosts.{layout_costs}
 use Rattle.sstable_blocks.proofs.run.laws.layout_costs.Goals as goal
 
 pub returns : goal.returns

@@ -1,4 +1,4 @@
-use Rattle.sstable_blocks.proofs.SoundScans.{scan_sound}
+use Rattle.sstable_blocks.proofs.Scans.SoundScans.{scan_sound}
 use Rattle.sstable_blocks.proofs.run.laws.sound_is_scanned.Goals as goal
 
 pub returns : goal.returns

@@ -1,4 +1,4 @@
-use Rattle.sstable_blocks.proofs.RunCheckLaws.{sound_is_accepted}
+use Rattle.sstable_blocks.proofs.Checks.RunCheckLaws.{sound_is_accepted}
 use Rattle.sstable_blocks.proofs.run.laws.sound_run_is_accepted.Goals as goal
 
 pub returns : goal.returns

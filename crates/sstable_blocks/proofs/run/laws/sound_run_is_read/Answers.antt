@@ -1,4 +1,4 @@
-use Rattle.sstable_blocks.proofs.SoundScans.{read_run}
+use Rattle.sstable_blocks.proofs.Scans.SoundScans.{read_run}
 use Rattle.sstable_blocks.proofs.run.laws.sound_run_is_read.Goals as goal
 
 pub returns : goal.returns

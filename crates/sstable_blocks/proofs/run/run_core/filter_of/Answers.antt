@@ -1,7 +1,7 @@
 use Rattle.std.proofs.Common.{◌∙◌, ap, subst}
 use Rattle.std.proofs.lemmas.List.{take_all}
 use Rattle.sstable_blocks.specs.Filter.{Filter, IsFilterOf}
-use Rattle.sstable_blocks.proofs.FilterTexts.{next_inserted, filter_text, if_ok_map}
+use Rattle.sstable_blocks.proofs.Filters.FilterTexts.{next_inserted, filter_text, if_ok_map}
 use Rattle.sstable_blocks.proofs.run.run_core.filter_of.Goals as goal
 
 pub loop-hash-preserved : goal.loop-hash-preserved

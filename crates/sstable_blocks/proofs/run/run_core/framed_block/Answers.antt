@@ -6,7 +6,7 @@ use Rattle.sst_block_core.specs.Encoders.{IsBlockPayload, IsRefusal}
 use Rattle.sst_block_core.specs.Entries.{entries, data_payload}
 use Rattle.sst_block_core.specs.Payload.{IsBlock}
 use Rattle.sstable_blocks.specs.Run.{form, block_payload}
-use Rattle.sstable_blocks.proofs.Kept.{data_refused, frame_refused, framed}
+use Rattle.sstable_blocks.proofs.Layouts.Kept.{data_refused, frame_refused, framed}
 use Rattle.sstable_blocks.proofs.run.run_core.framed_block.Goals as goal
 
 pub returns-in-Err-clause-cause : goal.returns-in-Err-clause-cause

@@ -2,7 +2,7 @@ use Rattle.std.proofs.Common.{subst, sym, ◌≤◌}
 use Rattle.sstable_blocks.specs.Opened.{index_in}
 use Rattle.sstable_blocks.specs.Readings.{run_reading}
 use Rattle.sstable_blocks.specs.Scans.{views_left}
-use Rattle.sstable_blocks.proofs.EndReads.{gave_first, run_front}
+use Rattle.sstable_blocks.proofs.Scans.EndReads.{gave_first, run_front}
 use Rattle.sstable_blocks.proofs.run.run_scan.step_front.Goals as goal
 
 pub returns-clause-first : goal.returns-clause-first

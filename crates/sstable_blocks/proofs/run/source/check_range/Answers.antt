@@ -1,5 +1,5 @@
 use Rattle.std.proofs.Common.{arith, rules, subst, length, IfSome, List, Option, ℕ, ◌≡◌, ◌≤◌, ◌<◌, ◌^◌, ◌+◌}
-use Rattle.sstable_blocks.proofs.FileRanges.{long_range, past_range, some_size, no_size}
+use Rattle.sstable_blocks.proofs.Reading.FileRanges.{long_range, past_range, some_size, no_size}
 use Rattle.sstable_blocks.proofs.run.source.check_range.Goals as goal
 
 pub returns-then-is_none-clause-range : goal.returns-then-is_none-clause-range

@@ -1,7 +1,7 @@
 use Rattle.std.proofs.Common.{◌∙◌, subst, Some, IfSome, drop, ◌≡◌, List, ℕ, Option}
 use Rattle.sst_base.specs.Header.{bytes_at}
 use Rattle.sst_base.specs.Inputs.{ReadsAllocating}
-use Rattle.sstable_blocks.proofs.FileRanges.{file_range}
+use Rattle.sstable_blocks.proofs.Reading.FileRanges.{file_range}
 use Rattle.sstable_blocks.proofs.run.source.read_at.Goals as goal
 
 pub returns-clause-range : goal.returns-clause-range

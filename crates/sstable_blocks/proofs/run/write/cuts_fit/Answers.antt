@@ -2,7 +2,7 @@ use Rattle.std.proofs.Common.{arith, subst, sym, refl, false}
 use Rattle.std.specs.Bool.{IsTrue}
 use Rattle.std.proofs.lemmas.List.{drop_all}
 use Rattle.sstable_blocks.specs.Blocks.{CutsFit}
-use Rattle.sstable_blocks.proofs.CutLoops.{next_fit, before_fit}
+use Rattle.sstable_blocks.proofs.Layouts.CutLoops.{next_fit, before_fit}
 use Rattle.sstable_blocks.proofs.run.write.cuts_fit.Goals as goal
 
 pub returns-then-cut-start : goal.returns-then-cut-start

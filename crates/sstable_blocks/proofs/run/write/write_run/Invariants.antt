@@ -1,7 +1,7 @@
 use Rattle.std.proofs.Common.{◌≡◌, ◌++◌, length, map, drop}
 use Rattle.std.specs.Io.KnownBytes.{Appends}
 use Rattle.sstable_blocks.specs.Blocks.{blocks_from, blocks_of}
-use Rattle.sstable_blocks.proofs.Cuts.{CutsLeft}
+use Rattle.sstable_blocks.proofs.Lists.Cuts.{CutsLeft}
 use Rattle.sstable_blocks.specs.Run.{form, block_frames}
 use Rattle.sstable_blocks.proofs.run.write.write_run.Given as goal
 

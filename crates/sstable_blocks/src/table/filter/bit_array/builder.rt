@@ -10,7 +10,7 @@ use std::alloc::Global;
 use std::marker::Model;
 
 /// Sets a bit of a byte. Its index is below 8; 0 is the highest bit.
-#[tactic(auto, using(crate::proofs::Bits::mask_is))]
+#[tactic(auto, using(crate::proofs::Filters::Bits::mask_is))]
 #[inline(always)]
 pub fn enable_bit(byte: u8, index: usize) -> u8
     requires { index < 8 }
@@ -63,7 +63,7 @@ impl Builder {
     }
 
     /// Sets the bit at an index, which lies within the array.
-    #[tactic(auto, using(crate::proofs::Bits::enabled))]
+    #[tactic(auto, using(crate::proofs::Filters::Bits::enabled))]
     #[inline(always)]
     pub fn enable_bit(&mut self, index: usize)
         requires { index < 8 * length self.old }

@@ -56,7 +56,7 @@ impl Builder {
     /// # Errors
     ///
     /// `Error::Memory` if an allocation fails.
-    #[tactic(auto, using(crate::proofs::Counts::probes_below_bits))]
+    #[tactic(auto, using(crate::proofs::Filters::Counts::probes_below_bits))]
     pub fn with_bpk(alloc: Global, n: usize, bpk: u32) -> Result<Builder>
         requires some { 1 ≤ n }
         requires active { 1 ≤ bpk }

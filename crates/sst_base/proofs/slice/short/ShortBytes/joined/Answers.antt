@@ -1,4 +1,4 @@
-use Rattle.sst_base.proofs.ShortSlices.{joined_front}
+use Rattle.sst_base.proofs.Strings.ShortSlices.{joined_front}
 use Rattle.sst_base.proofs.slice.short.ShortBytes.joined.Goals as goal
 
 pub returns : goal.returns

@@ -1,5 +1,5 @@
 use Rattle.std.proofs.Common.{◌-◌, ◌++◌, take, ap, ◌∙◌, arith}
-use Rattle.sst_base.proofs.ShortSlices.{cut_front}
+use Rattle.sst_base.proofs.Strings.ShortSlices.{cut_front}
 use Rattle.sst_base.proofs.slice.short.ShortBytes.joined_parts.Goals as goal
 
 pub returns-in-Some-Some : goal.returns-in-Some-Some

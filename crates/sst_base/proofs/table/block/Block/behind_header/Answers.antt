@@ -1,4 +1,4 @@
-use Rattle.sst_base.proofs.Frames.{checked_own}
+use Rattle.sst_base.proofs.Framing.Frames.{checked_own}
 use Rattle.sst_base.proofs.table.block.Block.behind_header.Goals as goal
 
 pub returns-clause-own : goal.returns-clause-own

@@ -1,6 +1,6 @@
 use Rattle.std.proofs.Common.{◌≡◌, ◌∙◌, ap, drop, Some}
 use Rattle.std.proofs.lemmas.Result.{err_from_is_err_and}
-use Rattle.sst_base.proofs.Frames.{file_unread, file_read, found_size}
+use Rattle.sst_base.proofs.Framing.Frames.{file_unread, file_read, found_size}
 use Rattle.sst_base.proofs.table.block.Block.from_file.Goals as goal
 
 pub returns-in_err-bytes-clause-read : goal.returns-in_err-bytes-clause-read

@@ -1,5 +1,5 @@
 use Rattle.std.proofs.Common.{ap, ◌∙◌}
-use Rattle.sst_base.proofs.Frames.{found_whole, only_whole}
+use Rattle.sst_base.proofs.Framing.Frames.{found_whole, only_whole}
 use Rattle.sst_base.specs.Frame.{block_for, frame_in}
 use Rattle.sst_base.specs.FrameLaws.{frame_in-frame}
 use Rattle.sst_base.specs.FrameErrorLaws.{given_not_io, frame_in_not_io}

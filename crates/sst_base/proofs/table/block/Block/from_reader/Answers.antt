@@ -1,6 +1,6 @@
 use Rattle.std.proofs.Common.{◌≡◌, ◌++◌, take, drop, Some}
 use Rattle.sst_base.specs.Bytes.{IsBytes}
-use Rattle.sst_base.proofs.Frames.{found_front, only_front, cells_if_ok}
+use Rattle.sst_base.proofs.Framing.Frames.{found_front, only_front, cells_if_ok}
 use Rattle.sst_base.specs.Frame.{block_for, frame, frame_at}
 use Rattle.sst_base.specs.FrameLaws.{frame_at-frame}
 use Rattle.sst_base.proofs.table.block.Block.from_reader.Goals as goal

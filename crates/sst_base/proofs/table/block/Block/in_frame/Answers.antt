@@ -1,5 +1,5 @@
 use Rattle.std.proofs.Common.{rules, arith, ◌≡◌, ◌≤◌, ◌∙◌, sym, ap, length, Some, true}
-use Rattle.sst_base.proofs.Frames.{Gives-same, left_behind, payload_behind, length_payload, frame_in_by}
+use Rattle.sst_base.proofs.Framing.Frames.{Gives-same, left_behind, payload_behind, length_payload, frame_in_by}
 use Rattle.sst_base.specs.Frame.{has_length, frame_in}
 use Rattle.sst_base.proofs.table.block.Block.in_frame.Goals as goal
 

@@ -1,5 +1,5 @@
 use Rattle.std.proofs.lemmas.Result.{err_from_is_err_and}
-use Rattle.sst_base.proofs.Handles.{byte_unread}
+use Rattle.sst_base.proofs.Framing.Handles.{byte_unread}
 use Rattle.sst_base.proofs.table.block.block_handle.+number_from.Goals as goal
 
 pub returns-in_err-byte-clause-read : goal.returns-in_err-byte-clause-read

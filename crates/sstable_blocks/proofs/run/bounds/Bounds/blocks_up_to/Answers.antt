@@ -1,4 +1,4 @@
-use Rattle.sstable_blocks.proofs.ScanCuts.{end_is, up_to_included, up_to_excluded, all_up_to}
+use Rattle.sstable_blocks.proofs.Scans.ScanCuts.{end_is, up_to_included, up_to_excluded, all_up_to}
 use Rattle.sstable_blocks.proofs.run.bounds.Bounds.blocks_up_to.Goals as goal
 
 pub returns-in-Included-clause-value : goal.returns-in-Included-clause-value

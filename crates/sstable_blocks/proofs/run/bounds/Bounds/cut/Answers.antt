@@ -1,7 +1,7 @@
 use Rattle.std.proofs.Common.{sym, subst}
 use Rattle.sstable_blocks.specs.Scans.{AllWithin}
-use Rattle.sstable_blocks.proofs.ScanCuts.{cut_left}
-use Rattle.sstable_blocks.proofs.ScanSteps.{all_within}
+use Rattle.sstable_blocks.proofs.Scans.ScanCuts.{cut_left}
+use Rattle.sstable_blocks.proofs.Scans.ScanSteps.{all_within}
 use Rattle.sstable_blocks.proofs.run.bounds.Bounds.cut.Goals as goal
 
 pub returns-clause-left : goal.returns-clause-left

@@ -1,4 +1,4 @@
-use Rattle.sstable_blocks.proofs.ScanCuts.{cut_left}
+use Rattle.sstable_blocks.proofs.Scans.ScanCuts.{cut_left}
 use Rattle.sstable_blocks.proofs.run.bounds.Bounds.cut_iter.Goals as goal
 
 pub returns-clause-left : goal.returns-clause-left

@@ -1,4 +1,4 @@
-use Rattle.sstable_blocks.proofs.ScanCuts.{end_is, back_by, back_included, back_excluded, back_unbounded}
+use Rattle.sstable_blocks.proofs.Scans.ScanCuts.{end_is, back_by, back_included, back_excluded, back_unbounded}
 use Rattle.sstable_blocks.proofs.run.bounds.Bounds.cut_iter_back.Goals as goal
 
 pub returns-in-Included-clause-window : goal.returns-in-Included-clause-window

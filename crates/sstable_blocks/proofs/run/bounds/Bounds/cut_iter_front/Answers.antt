@@ -1,4 +1,4 @@
-use Rattle.sstable_blocks.proofs.ScanCuts.{start_is, front_by, front_included, front_excluded, front_unbounded}
+use Rattle.sstable_blocks.proofs.Scans.ScanCuts.{start_is, front_by, front_included, front_excluded, front_unbounded}
 use Rattle.sstable_blocks.proofs.run.bounds.Bounds.cut_iter_front.Goals as goal
 
 pub returns-in-Included-clause-window : goal.returns-in-Included-clause-window

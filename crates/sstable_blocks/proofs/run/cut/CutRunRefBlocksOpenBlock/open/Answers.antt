@@ -3,7 +3,7 @@ use Rattle.sstable_blocks.specs.BlockReading.{Opens}
 use Rattle.sstable_blocks.specs.Opened.{index_in}
 use Rattle.sstable_blocks.specs.Readings.{run_reading}
 use Rattle.sstable_blocks.specs.Scans.{views_left}
-use Rattle.sstable_blocks.proofs.EndReads.{all_true, opened_entries}
+use Rattle.sstable_blocks.proofs.Scans.EndReads.{all_true, opened_entries}
 use Rattle.sstable_blocks.proofs.run.cut.CutRunRefBlocksOpenBlock.open.Goals as goal
 
 pub returns : goal.returns

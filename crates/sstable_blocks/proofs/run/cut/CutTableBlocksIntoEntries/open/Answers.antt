@@ -5,7 +5,7 @@ use Rattle.sst_block_core.specs.Window.{items_left}
 use Rattle.sstable_blocks.specs.BlockReading.{Opens}
 use Rattle.sstable_blocks.specs.Readings.{table_reading}
 use Rattle.sstable_blocks.specs.RunReading.{hashes}
-use Rattle.sstable_blocks.proofs.EndReads.{table_opened, table_refused}
+use Rattle.sstable_blocks.proofs.Scans.EndReads.{table_opened, table_refused}
 use Rattle.sstable_blocks.proofs.run.cut.CutTableBlocksIntoEntries.open.Goals as goal
 
 pub returns : goal.returns

@@ -1,6 +1,6 @@
 use Rattle.std.proofs.Common.{ap, ◌∙◌}
 use Rattle.sst_block_core.specs.Window.{items_left}
-use Rattle.sstable_blocks.proofs.ScanSteps.{next_rest}
+use Rattle.sstable_blocks.proofs.Scans.ScanSteps.{next_rest}
 use Rattle.sstable_blocks.proofs.run.cut.IntoEntriesEnded.next.Goals as goal
 
 pub returns : goal.returns

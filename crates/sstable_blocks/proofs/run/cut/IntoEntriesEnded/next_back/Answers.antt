@@ -1,8 +1,8 @@
 use Rattle.std.proofs.Common.{ap, ◌∙◌}
 use Rattle.std.proofs.lemmas.Result.{IfOk-weaker}
 use Rattle.sst_block_core.specs.Window.{items_left}
-use Rattle.sstable_blocks.proofs.ScanSteps.{back_rest}
-use Rattle.sstable_blocks.proofs.EndReads.{seen_last, seen_rest}
+use Rattle.sstable_blocks.proofs.Scans.ScanSteps.{back_rest}
+use Rattle.sstable_blocks.proofs.Scans.EndReads.{seen_last, seen_rest}
 use Rattle.sstable_blocks.proofs.run.cut.IntoEntriesEnded.next_back.Goals as goal
 
 pub returns : goal.returns

@@ -6,9 +6,9 @@ use Rattle.sstable_blocks.specs.Writing.{Written}
 use Rattle.sstable_blocks.specs.Blocks.{joined}
 use Rattle.sst_block_core.specs.Entries.{entries}
 use Rattle.sst_block_core.specs.Kind.{IsOrdered, item_cmp}
-use Rattle.sstable_blocks.proofs.Ends.{back_in_order}
-use Rattle.sstable_blocks.proofs.Mapped.{last_mapped}
-use Rattle.sstable_blocks.proofs.Kept.{joined-push, kept_push, end_of-last, handle_is}
+use Rattle.sstable_blocks.proofs.Lists.Ends.{back_in_order}
+use Rattle.sstable_blocks.proofs.Lists.Mapped.{last_mapped}
+use Rattle.sstable_blocks.proofs.Layouts.Kept.{joined-push, kept_push, end_of-last, handle_is}
 use Rattle.sstable_blocks.proofs.run.run_core.RunCore.add_block.Goals as goal
 
 pub framed_block-requires-clause-ordered : goal.framed_block-requires-clause-ordered

@@ -1,7 +1,7 @@
 use Rattle.std.proofs.Common.{ap, ◌∙◌, length}
 use Rattle.sstable_blocks.specs.Run.{form}
 use Rattle.sstable_blocks.specs.Writing.{Written}
-use Rattle.sstable_blocks.proofs.BlockHandles.{length-handles_from}
+use Rattle.sstable_blocks.proofs.Layouts.BlockHandles.{length-handles_from}
 use Rattle.sstable_blocks.proofs.run.run_core.RunCore.block_count.Goals as goal
 
 pub returns : goal.returns

@@ -1,6 +1,6 @@
 use Rattle.std.proofs.Common.{sym, ◌∙◌, ap, ◌+◌, length}
 use Rattle.sstable_blocks.specs.Run.{form, block_frames}
-use Rattle.sstable_blocks.proofs.Endings.{index_long, ended}
+use Rattle.sstable_blocks.proofs.Layouts.Endings.{index_long, ended}
 use Rattle.sstable_blocks.proofs.run.run_core.RunCore.finish.Goals as goal
 
 pub write_filter-requires-clause-offset : goal.write_filter-requires-clause-offset

@@ -1,8 +1,8 @@
 use Rattle.std.proofs.Common.{◌≡◌, ◌∙◌, Some, map, sym, ap, IsTrue}
 use Rattle.std.specs.List.{slice_get}
 use Rattle.sst_base.specs.Entry.{Entry}
-use Rattle.sstable_blocks.proofs.Kept.{follows_from, follows_ordered, follows_behind}
-use Rattle.sstable_blocks.proofs.Mapped.{get_mapped}
+use Rattle.sstable_blocks.proofs.Layouts.Kept.{follows_from, follows_ordered, follows_behind}
+use Rattle.sstable_blocks.proofs.Lists.Mapped.{get_mapped}
 use Rattle.sstable_blocks.proofs.run.run_core.RunCore.fits_after.Goals as goal
 
 pub returns-then-are_ordered : goal.returns-then-are_ordered

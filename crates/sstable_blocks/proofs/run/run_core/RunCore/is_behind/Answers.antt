@@ -5,7 +5,7 @@ use Rattle.std.specs.Cmp.Lexicographic.{slice_cmp}
 use Rattle.sst_block_core.specs.Handles.{Handle}
 use Rattle.sstable_blocks.specs.Run.{form}
 use Rattle.sstable_blocks.specs.Writing.{Written, FollowsLast}
-use Rattle.sstable_blocks.proofs.Kept.{no_last, is_behind}
+use Rattle.sstable_blocks.proofs.Layouts.Kept.{no_last, is_behind}
 use Rattle.sstable_blocks.proofs.run.run_core.RunCore.is_behind.Goals as goal
 
 pub returns-in-None-clause-behind : goal.returns-in-None-clause-behind

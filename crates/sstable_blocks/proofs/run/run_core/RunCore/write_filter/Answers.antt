@@ -2,7 +2,7 @@ use Rattle.std.proofs.Common.{rules, ap, sym, subst, ◌≤◌, ℕ, List, lengt
 use Rattle.std.proofs.lemmas.Result.{err_from_is_err_and}
 use Rattle.sstable_blocks.specs.Run.{form, RunFits, IsFilterText}
 use Rattle.sstable_blocks.specs.Writing.{Written, IsKept}
-use Rattle.sstable_blocks.proofs.Endings.{hashes_some, filter_is, filter_fits, part_refused}
+use Rattle.sstable_blocks.proofs.Layouts.Endings.{hashes_some, filter_is, filter_fits, part_refused}
 use Rattle.sstable_blocks.proofs.run.run_core.RunCore.write_filter.Goals as goal
 
 pub filter_of-requires-clause-some : goal.filter_of-requires-clause-some

@@ -4,7 +4,7 @@ use Rattle.sst_base.specs.declared.table.block.block_type.BlockType.TheVariants.
 use Rattle.sst_block_core.specs.Handles.{index_payload}
 use Rattle.sstable_blocks.specs.Run.{form, block_frames}
 use Rattle.sstable_blocks.specs.Writing.{Written, IsKept, IsFrameAppended}
-use Rattle.sstable_blocks.proofs.Endings.{index_text_is, index_refused, index_fits, part_refused, if_err_map, on_any, run}
+use Rattle.sstable_blocks.proofs.Layouts.Endings.{index_text_is, index_refused, index_fits, part_refused, if_err_map, on_any, run}
 use Rattle.sstable_blocks.proofs.run.run_core.RunCore.write_index.Goals as goal
 
 pub returns-in_err-payload-clause-cause : goal.returns-in_err-payload-clause-cause

@@ -1,5 +1,5 @@
 use Rattle.sstable_blocks.specs.RunReading.{hashes}
-use Rattle.sstable_blocks.proofs.Points.{cut_at}
+use Rattle.sstable_blocks.proofs.Reading.Points.{cut_at}
 use Rattle.sstable_blocks.proofs.run.run_ref.RunRef.block_at.Goals as goal
 
 pub block_over-requires-clause-range : goal.block_over-requires-clause-range

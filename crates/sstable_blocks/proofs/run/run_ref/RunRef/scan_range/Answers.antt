@@ -5,7 +5,7 @@ use Rattle.sstable_blocks.specs.Opened.{index_in}
 use Rattle.sstable_blocks.specs.RunReading.{hashes}
 use Rattle.sstable_blocks.specs.Scans.{KeyRange, end_block, first_block, left_by}
 use Rattle.sstable_blocks.specs.Sound.{RunParts}
-use Rattle.sstable_blocks.proofs.RunScans.{fresh_entries}
+use Rattle.sstable_blocks.proofs.Scans.RunScans.{fresh_entries}
 use Rattle.sstable_blocks.proofs.run.run_ref.RunRef.scan_range.Goals as goal
 
 pub returns-clause-left : goal.returns-clause-left

@@ -5,7 +5,7 @@ use Rattle.sst_block_core.specs.IndexBlock.{IndexRefParts}
 use Rattle.std.proofs.Common.{List}
 use Rattle.sstable_blocks.specs.RunReading.{hashes}
 use Rattle.sstable_blocks.specs.Scans.{KeyRange, first_block, end_block}
-use Rattle.sstable_blocks.proofs.ScanSteps.{fresh_reads}
+use Rattle.sstable_blocks.proofs.Scans.ScanSteps.{fresh_reads}
 use Rattle.sstable_blocks.proofs.run.scan.Scan.new.Goals as goal
 
 pub returns-clause-sound : goal.returns-clause-sound

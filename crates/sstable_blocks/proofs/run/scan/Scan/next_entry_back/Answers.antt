@@ -2,7 +2,7 @@ use Rattle.std.proofs.Common.{◌≡◌, ◌<◌, ◌≤◌, subst, ap, length, 
 use Rattle.sstable_blocks.specs.RunReading.{hashes}
 use Rattle.sstable_blocks.specs.Scans.{GivesLast, between, left_in, reads_among, reads_left}
 use Rattle.sstable_blocks.specs.Tables.{KeptParts}
-use Rattle.sstable_blocks.proofs.EndReads.{gives_back, if_fresh}
+use Rattle.sstable_blocks.proofs.Scans.EndReads.{gives_back, if_fresh}
 use Rattle.sstable_blocks.proofs.run.scan.Scan.next_entry_back.Goals as goal
 
 pub returns-clause-last : goal.returns-clause-last

@@ -3,9 +3,9 @@ use Rattle.sst_base.specs.Counted.{CountsBetween}
 use Rattle.sstable_blocks.specs.ReadCosts.{heads_most_in, entries_most_in}
 use Rattle.sstable_blocks.specs.RunReading.{hashes, read_checked}
 use Rattle.sstable_blocks.specs.Sources.{GivesOr}
-use Rattle.sstable_blocks.proofs.Answered.{sound_on}
-use Rattle.sstable_blocks.proofs.KeptReads.{checked_on}
-use Rattle.sstable_blocks.proofs.TableCounts.{kept_counts}
+use Rattle.sstable_blocks.proofs.Reading.Answered.{sound_on}
+use Rattle.sstable_blocks.proofs.Reading.KeptReads.{checked_on}
+use Rattle.sstable_blocks.proofs.Reading.TableCounts.{kept_counts}
 use Rattle.sstable_blocks.proofs.run.table.Table.get.Goals as goal
 
 pub returns-clause-exact : goal.returns-clause-exact

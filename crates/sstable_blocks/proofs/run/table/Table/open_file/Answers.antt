@@ -1,6 +1,6 @@
 use Rattle.std.proofs.Common.{arith}
 use Rattle.sstable_blocks.specs.RunReading.{hashes}
-use Rattle.sstable_blocks.proofs.KeptReads.{file_on, footer_fails_first}
+use Rattle.sstable_blocks.proofs.Reading.KeptReads.{file_on, footer_fails_first}
 use Rattle.sstable_blocks.proofs.run.table.Table.open_file.Goals as goal
 
 pub returns-in-Ok-clause-exact : goal.returns-in-Ok-clause-exact

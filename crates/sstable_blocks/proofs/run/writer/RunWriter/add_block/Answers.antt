@@ -2,7 +2,7 @@ use Rattle.std.proofs.Common.{◌≡◌, map, sym, subst, OnOk, ◌≤◌, ◌�
 use Rattle.std.specs.Io.KnownBytes.{Appends}
 use Rattle.sstable_blocks.specs.Run.{form, block_frame, block_frames}
 use Rattle.sstable_blocks.specs.declared.run.RunConfig.{RunConfig}
-use Rattle.sstable_blocks.proofs.CutLoops.{bytes_next}
+use Rattle.sstable_blocks.proofs.Layouts.CutLoops.{bytes_next}
 use Rattle.sstable_blocks.proofs.run.writer.RunWriter.add_block.Goals as goal
 
 pub invariant_of-self-in_default-added : goal.invariant_of-self-in_default-added

@@ -1,8 +1,8 @@
 use Rattle.std.proofs.Common.{◌≡◌, subst, None}
 use Rattle.sstable_blocks.specs.Run.{form}
 use Rattle.sstable_blocks.specs.Writing.{AppendsLayout}
-use Rattle.sstable_blocks.proofs.CutLoops.{layout_joined}
-use Rattle.sstable_blocks.proofs.SoundLayouts.{layout_is_sound}
+use Rattle.sstable_blocks.proofs.Layouts.CutLoops.{layout_joined}
+use Rattle.sstable_blocks.proofs.Layouts.SoundLayouts.{layout_is_sound}
 use Rattle.sstable_blocks.proofs.run.writer.RunWriter.finish.Goals as goal
 
 pub returns-clause-layout : goal.returns-clause-layout

@@ -1,6 +1,6 @@
 use Rattle.std.proofs.Common.{◌%◌, subst, below_more}
 use Rattle.sstable_blocks.specs.Bits.{HasBit}
-use Rattle.sstable_blocks.proofs.Probes.{next_at, probe_at}
+use Rattle.sstable_blocks.proofs.Filters.Probes.{next_at, probe_at}
 use Rattle.sstable_blocks.proofs.table.filter.standard_bloom.has_probes.Goals as goal
 
 pub loop-i-preserved : goal.loop-i-preserved

@@ -1,7 +1,7 @@
 use Rattle.std.proofs.Common.{ℕ, ◌<◌}
 use Rattle.sstable_blocks.specs.Bits.{HasBit}
 use Rattle.sstable_blocks.specs.Probes.{probe}
-use Rattle.sstable_blocks.proofs.Probes.{IsAt}
+use Rattle.sstable_blocks.proofs.Filters.Probes.{IsAt}
 use Rattle.sstable_blocks.proofs.table.filter.standard_bloom.has_probes.Given as goal
 
 abbrev pub invariant-loop-i : goal.invariant-loop-i

@@ -1,4 +1,4 @@
-use Rattle.sstable_blocks.proofs.Bits.{bit_read}
+use Rattle.sstable_blocks.proofs.Filters.Bits.{bit_read}
 use Rattle.sstable_blocks.proofs.table.filter.bit_array.reader.get_bit.Goals as goal
 
 pub returns : goal.returns

@@ -1,6 +1,6 @@
 use Rattle.std.proofs.Common.{◌∙◌}
 use Rattle.sstable_blocks.specs.Bits.{HasBit}
-use Rattle.sstable_blocks.proofs.Probes.{next_at, probe_at, probes_more}
+use Rattle.sstable_blocks.proofs.Filters.Probes.{next_at, probe_at, probes_more}
 use Rattle.sstable_blocks.proofs.table.filter.standard_bloom.builder.enable_probes.Goals as goal
 
 pub loop-i-preserved : goal.loop-i-preserved

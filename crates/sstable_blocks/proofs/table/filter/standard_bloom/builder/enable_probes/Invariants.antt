@@ -2,7 +2,7 @@ use Rattle.std.proofs.Common.{◌≡◌, ◌⊎◌, ℕ, length}
 use Rattle.std.specs.Prelude.{◌↔◌}
 use Rattle.sstable_blocks.specs.Bits.{HasBit}
 use Rattle.sstable_blocks.specs.Probes.{IsProbe}
-use Rattle.sstable_blocks.proofs.Probes.{IsAt}
+use Rattle.sstable_blocks.proofs.Filters.Probes.{IsAt}
 use Rattle.sstable_blocks.proofs.table.filter.standard_bloom.builder.enable_probes.Given as goal
 
 abbrev pub invariant-loop-i : goal.invariant-loop-i

@@ -1,7 +1,7 @@
 use Rattle.std.proofs.Common.{arith, ℕ, ◌≤◌, ◌*◌, [], subst, sym}
 use Rattle.std.proofs.lemmas.Grind.{common_steps}
 use Rattle.sstable_blocks.specs.Filter.{IsFilterOf}
-use Rattle.sstable_blocks.proofs.Counts.{probes_below_bits}
+use Rattle.sstable_blocks.proofs.Filters.Counts.{probes_below_bits}
 use Rattle.sstable_blocks.specs.FilterLaws.{none_inserted}
 use Rattle.sstable_blocks.proofs.table.filter.standard_bloom.builder.Builder.with_bpk.Goals as goal
 

@@ -22,7 +22,7 @@ use Rattle.sstable_blocks.specs.Lookup.{handle_for}
 use Rattle.sstable_blocks.specs.Opened.{range_of}
 use Rattle.sstable_blocks.specs.RunReading.{Hashes, range_at, payload_at, filter_answer, filter_says, read_block, read_blocks, read_checked, IsFramedAt, FilterDenies, FilterAllows, BlockMeans, IndexMeans, AnswerMeans}
 use Rattle.sstable_blocks.specs.declared.run.RunHandles.{RunHandles}
-use Rattle.sstable_blocks.proofs.CheckedReads.{may_contain_to, may_contain_from}
+use Rattle.sstable_blocks.proofs.Reading.CheckedReads.{may_contain_to, may_contain_from}
 
 same_type : (t u : BlockType) → block_type_byte t ≡ block_type_byte u → t ≡ u
 same_type t u e =

@@ -19,7 +19,7 @@ use Rattle.sstable_blocks.specs.Blocks.{joined}
 use Rattle.sstable_blocks.specs.Filter.{Filter, filter_at, MayContain, bit_count}
 use Rattle.sstable_blocks.specs.FilterLaws.{filter_at-payload}
 use Rattle.sstable_blocks.specs.Run.{Form, block_frames, filter_frame, index_frame, run_handles, key_hashes, IsFilterText}
-use Rattle.sstable_blocks.proofs.Search.{first-cons}
+use Rattle.sstable_blocks.proofs.Lists.Search.{first-cons}
 
 -- a first match has the needle as its key, so what holds of the hash of each key holds of the needle's
 match_satisfies : (hash : List ℕ → ℕ) (P : ℕ → Type 0) (needle : List ℕ) (s : ℕ) (xs : List Entry) (x : Entry) → slice_get (filter (is_version entries needle s) xs) 0 ≡ Some x → AllByRecursion (λ y. P (hash y.key.user_key)) xs → P (hash needle)

@@ -17,10 +17,10 @@ use Rattle.sstable_blocks.specs.Opened.{range_of, payload_in, index_in}
 use Rattle.sstable_blocks.specs.ReadCosts.{interval_in, heads_at, entries_at, heads_most_in, entries_most_in, heads_most, handles_most, entries_most, heads_of}
 use Rattle.sstable_blocks.specs.Run.{Form, block_payload, block_frame, handle_of, handles_from, index_text, run_text, run_handles, IsFramed, IsRun, RunFits, IsLayout}
 use Rattle.sstable_blocks.specs.declared.run.RunHandles.{RunHandles}
-use Rattle.sstable_blocks.proofs.BlockHandles.{length-handles_from}
-use Rattle.sstable_blocks.proofs.Layouts.{IsPlace, run_frames, index_stands, IsDataBlock, blocks_are_blocks, index_is_index}
-use Rattle.sstable_blocks.proofs.Openings.{frame_range}
-use Rattle.sstable_blocks.proofs.SoundLayouts.{both, part_is_framed}
+use Rattle.sstable_blocks.proofs.Layouts.BlockHandles.{length-handles_from}
+use Rattle.sstable_blocks.proofs.Layouts.BlockFrames.{IsPlace, run_frames, index_stands, IsDataBlock, blocks_are_blocks, index_is_index}
+use Rattle.sstable_blocks.proofs.Layouts.Openings.{frame_range}
+use Rattle.sstable_blocks.proofs.Layouts.SoundLayouts.{both, part_is_framed}
 
 module _ (f : Form)
     (data_read : (p : List ℕ) (items : List Entry) (r b : ℕ) → length p < 2 ^ 32 → IsBlock entries IsEntry f.hash64 p items r b → (items_in entries p ≡ map plain items) × ((trailer_in p).interval ≡ r))

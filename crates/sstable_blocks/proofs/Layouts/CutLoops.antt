@@ -9,9 +9,9 @@ use Rattle.sst_block_core.specs.Entries.{entries}
 use Rattle.sst_block_core.specs.Kind.{IsOrdered, item_cmp}
 use Rattle.sstable_blocks.specs.Blocks.{joined, CutsFit, blocks_from}
 use Rattle.sstable_blocks.specs.Run.{Form, block_payload, block_frame, block_frames, IsFramed, RunFits}
-use Rattle.sstable_blocks.proofs.Cuts.{CutsLeft, cuts_below}
-use Rattle.sstable_blocks.proofs.Ends.{front_in_order}
-use Rattle.sstable_blocks.proofs.Kept.{block_frames-push}
+use Rattle.sstable_blocks.proofs.Lists.Cuts.{CutsLeft, cuts_below}
+use Rattle.sstable_blocks.proofs.Lists.Ends.{front_in_order}
+use Rattle.sstable_blocks.proofs.Layouts.Kept.{block_frames-push}
 use Rattle.sstable_blocks.specs.Writing.{FrameFits, IsWriteRefusal, AppendsLayout, AppendsEnd}
 use Rattle.sstable_blocks.specs.declared.run.RunHandles.{RunHandles}
 

@@ -5,7 +5,7 @@ use Rattle.byteorder.specs.Endian.{big_number}
 use Rattle.sst_base.specs.Bytes.{IsBytes}
 use Rattle.sst_base.specs.Hashes.{times31, poly31_from}
 use Rattle.sst_base.specs.HashLaws.{add-mod_first}
-use Rattle.sst_base.proofs.Polynomials.{tail_more}
+use Rattle.sst_base.proofs.Hashes.Polynomials.{tail_more}
 
 -- a 0 before bytes
 zero_first : (bytes : List ℕ) → IsBytes bytes → IsBytes (0 ∷ bytes)

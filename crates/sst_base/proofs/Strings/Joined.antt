@@ -5,7 +5,7 @@ use Rattle.std.specs.Ordering.{nat_cmp, ordering_then}
 use Rattle.std.specs.declared.cmp.Ordering.{Ordering}
 use Rattle.std.specs.declared.cmp.Ordering.TheVariants.{Equal}
 use Rattle.sst_base.specs.OrderLaws.{slice_cmp-prefix, slice_cmp-needle}
-use Rattle.sst_base.proofs.Orders.{decided}
+use Rattle.sst_base.proofs.Strings.Orders.{decided}
 
 -- the needle ends inside the prefix
 pub needle_inside : (p s n front rest : List ℕ) (o w t : Ordering) → length n ≤ length p → front ≡ take (length n) p → rest ≡ drop (length n) p → o ≡ slice_cmp nat_cmp front n → w ≡ nat_cmp (length rest + length s) 0 → t ≡ ordering_then o w → t ≡ slice_cmp nat_cmp (p ++ s) n

@@ -21,10 +21,10 @@ use Rattle.sstable_blocks.specs.RunReading.{Hashes, hashes, IsFramedAt}
 use Rattle.sstable_blocks.specs.Sound.{IsStoredBlock, IsStoredFilter, AreContiguous, IsSound}
 use Rattle.sstable_blocks.specs.Writing.{AppendsLayout, AppendsSound}
 use Rattle.sstable_blocks.specs.declared.run.RunHandles.{RunHandles}
-use Rattle.sstable_blocks.proofs.BlockHandles.{handles_end}
-use Rattle.sstable_blocks.proofs.Endings.{filter_framed as filter_small}
-use Rattle.sstable_blocks.proofs.FilterReads.{filter_handle, no_filter, some_filter, filter_framed, filter_reads}
-use Rattle.sstable_blocks.proofs.Layouts.{IsPart, IsPlace, run_frames, index_stands, filter_stands, IsDataBlock, blocks_are_blocks, index_is_index}
+use Rattle.sstable_blocks.proofs.Layouts.BlockHandles.{handles_end}
+use Rattle.sstable_blocks.proofs.Layouts.Endings.{filter_framed as filter_small}
+use Rattle.sstable_blocks.proofs.Layouts.FilterReads.{filter_handle, no_filter, some_filter, filter_framed, filter_reads}
+use Rattle.sstable_blocks.proofs.Layouts.BlockFrames.{IsPart, IsPlace, run_frames, index_stands, filter_stands, IsDataBlock, blocks_are_blocks, index_is_index}
 
 -- what holds of all hashes of keys holds of each key's
 each_key : (hash : List ℕ → ℕ) (P : ℕ → Type 0) (items : List Entry) → ((n : ℕ) → Contains (key_hashes hash items) n → P n) → AllByRecursion (λ x. P (hash x.key.user_key)) items

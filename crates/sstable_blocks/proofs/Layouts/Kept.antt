@@ -21,8 +21,8 @@ use Rattle.sst_base.specs.declared.error.Error.TheVariants.{TooLong}
 use Rattle.sst_base.specs.declared.table.block.block_type.BlockType.TheVariants.{Data}
 use Rattle.std.proofs.SliceLists.{all_by_recursion_push}
 use Rattle.sst_block_core.specs.Encoders.{IsRefusal}
-use Rattle.sstable_blocks.proofs.BlockHandles.{end_parts}
-use Rattle.sstable_blocks.proofs.Ends.{back_in_order}
+use Rattle.sstable_blocks.proofs.Layouts.BlockHandles.{end_parts}
+use Rattle.sstable_blocks.proofs.Lists.Ends.{back_in_order}
 use Rattle.sstable_blocks.specs.Writing.{Follows, IsKept, FollowsLast, FrameFits, IsFramedBlock, IsWriteRefusal}
 
 pub joined-push : {X : Type 0} (blocks : List (List X)) (b : List X) → joined (blocks ++ b ∷ []) ≡ joined blocks ++ b

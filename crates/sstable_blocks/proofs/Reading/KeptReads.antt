@@ -17,7 +17,7 @@ use Rattle.sstable_blocks.specs.SourceLaws.{source_fails}
 use Rattle.sstable_blocks.specs.Sources.{GivesOr, FailsAs}
 use Rattle.sstable_blocks.specs.Tables.{filter_kept, kept_of, kept_by_footer, IsIndexIn, IsKeptOf, kept_says, read_kept}
 use Rattle.sstable_blocks.specs.declared.run.RunHandles.{RunHandles}
-use Rattle.sstable_blocks.proofs.SoundReads.{bind_to}
+use Rattle.sstable_blocks.proofs.Reading.SoundReads.{bind_to}
 
 -- the filter that was kept says what that of the bytes says
 says_same : (c : Hashes) (bytes : List ℕ) (h : Option HandleParts) (p : Option (List ℕ)) (needle : List ℕ) → filter_kept c bytes h ≡ Ok p → filter_says c bytes h needle ≡ kept_says c.hash64 p needle

@@ -18,7 +18,7 @@ use Rattle.sst_block_core.specs.Scan.{Scan}
 use Rattle.sst_block_core.specs.Window.{Window, Answer, items_left, whole, passes, passes_cmp, count_passed, seek, seek_exclusive, seek_upper, seek_upper_exclusive}
 use Rattle.sst_block_core.specs.Handles.{Handle, handles}
 use Rattle.sstable_blocks.specs.Scans.{KeyRange, is_before, is_up_to, first_entry, end_entry, within}
-use Rattle.sstable_blocks.proofs.ScanWindows.{within_between}
+use Rattle.sstable_blocks.proofs.Scans.ScanWindows.{within_between}
 
 -- tests that agree count the same
 pub count_same : {X : Type 0} (p q : X → Bool) → ((x : X) → p x ≡ q x) → (xs : List X) → count_by p xs ≡ count_by q xs

@@ -18,8 +18,8 @@ use Rattle.sstable_blocks.specs.Filter.{bit_count}
 use Rattle.sstable_blocks.specs.FilterLaws.{length-filter_payload}
 use Rattle.sstable_blocks.specs.Run.{Form, block_payload, block_frames, index_text, index_frame, filter_frame, key_hashes, filter_frame_length, run_text, run_handles, IsFramed, IsFilterText, IsRun, RunFits}
 use Rattle.sstable_blocks.specs.Writing.{IsKept, PartFits, IsWriteRefusal, IsFrameAppended, AppendsFilter, AppendsEnd}
-use Rattle.sstable_blocks.proofs.CutLoops.{appends_then}
-use Rattle.sstable_blocks.proofs.Kept.{joined_some}
+use Rattle.sstable_blocks.proofs.Layouts.CutLoops.{appends_then}
+use Rattle.sstable_blocks.proofs.Layouts.Kept.{joined_some}
 
 -- a part that is refused does not fit
 pub part_refused : (fits : Type 0) (at : ℕ) (p : List ℕ) (e : Error) → (e ≡ Io) ⊎ ((e ≡ TooLong) × (PartFits at p → ⊥)) → (fits → PartFits at p) → IsWriteRefusal (fits → ⊥) e

@@ -20,8 +20,8 @@ use Rattle.sstable_blocks.specs.Readings.{block_of_index, entries_of_index}
 use Rattle.sstable_blocks.specs.RunReading.{Hashes}
 use Rattle.sstable_blocks.specs.Scans.{KeyRange, Read, FailsFirst, FailsLast, GivesFirst, GivesLast, block_within, within, between, blocks_read, entries_read, entries_among, entries_within, reads_among, reads_of}
 use Rattle.sstable_blocks.specs.Sources.{FailsAs}
-use Rattle.sstable_blocks.proofs.ScanSteps.{none_between, taken}
-use Rattle.sstable_blocks.proofs.RunScans.{entries_again}
+use Rattle.sstable_blocks.proofs.Scans.ScanSteps.{none_between, taken}
+use Rattle.sstable_blocks.proofs.Scans.RunScans.{entries_again}
 
 -- lists in order, of which one is near and one is far
 abbrev pub whole : {X : Type 0} → Bool → List X → List X → List X → List X
