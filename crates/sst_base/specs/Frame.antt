@@ -19,8 +19,8 @@ header_for hash128 t payload = record {
 }
 
 -- a payload with its header
-abbrev pub block_for : (List ℕ → ℕ) → BlockType → List ℕ → BlockParts
-block_for hash128 t payload = record { header = header_for hash128 t payload; payload = payload }
+abbrev pub frame_block : (List ℕ → ℕ) → BlockType → List ℕ → BlockParts
+frame_block hash128 t payload = record { header = header_for hash128 t payload; payload = payload }
 
 -- the frame of a payload: the 33 bytes of its header, and the payload
 unfoldable pub frame : (List ℕ → ℕ) → BlockType → List ℕ → List ℕ
@@ -31,8 +31,8 @@ abbrev pub demand : Bool → Error → Result (Unit {0}) Error
 demand test e = if test then Ok tt else Err e
 
 -- the block of a header and a payload, where the payload's checksum is the header's
-unfoldable pub block_of : (List ℕ → ℕ) → Header → List ℕ → Result BlockParts Error
-block_of hash128 h payload =
+unfoldable pub verified_block : (List ℕ → ℕ) → Header → List ℕ → Result BlockParts Error
+verified_block hash128 h payload =
     if nat_eq (hash128 payload) h.checksum then Ok (record { header = h; payload = payload })
     else Err (ChecksumMismatch (hash128 payload) h.checksum)
 
@@ -41,7 +41,7 @@ unfoldable pub block_at : (List ℕ → ℕ) → Header → List ℕ → Result 
 block_at hash128 h bytes = do
   equal ← demand (nat_eq h.data_length h.uncompressed_length) LengthMismatch
   payload ← bytes_at h.data_length bytes
-  block ← block_of hash128 h payload.0
+  block ← verified_block hash128 h payload.0
   Ok (block, payload.1)
 
 -- the block whose frame is at the start of bytes, or the first error in the order of the bytes
@@ -60,7 +60,7 @@ frame_in hash128 bytes = do
   long ← demand (nat_le 33 (length bytes)) Truncated
   h ← header_at hash128 bytes
   equal ← demand (has_length h.0 (length h.1)) LengthMismatch
-  block_of hash128 h.0 h.1
+  verified_block hash128 h.0 h.1
 
 -- the block whose frame has this length at this offset of a file
 unfoldable pub frame_in_file : (List ℕ → ℕ) → ℕ → ℕ → List ℕ → Result BlockParts Error

@@ -2,7 +2,7 @@
 use Rattle.std.proofs.Common.{◌≡◌, ◌≢◌, ℕ, ◌+◌, ◌≤◌, List, length, take, drop, arith, refl, sym, ap, subst, ◌∙◌, Bool, true, false, leb, nat_eq, slice_index, if◌then◌else◌, Result, Ok, Err, IfErr, length-append}
 use Rattle.std.proofs.lemmas.Bool.{leb-true, le-ltb}
 use Rattle.sst_base.specs.BlockType.{block_type_of}
-use Rattle.sst_base.specs.Frame.{demand, block_of, has_length, frame_in}
+use Rattle.sst_base.specs.Frame.{demand, verified_block, has_length, frame_in}
 use Rattle.byteorder.specs.Endian.{little_number}
 use Rattle.sst_base.specs.Header.{◌>>=◌, bytes_at, magic_at, block_type_at, header_with, header_of, header_at}
 use Rattle.sst_base.specs.HeaderLaws.{bind_ok, guard_ok, bytes_at_takes}
@@ -85,8 +85,8 @@ header_not_io hash128 bytes h =
     not_io_bind (bytes_at 28 t.1) _ (bytes_at_not_io 28 t.1 (omega arith)) (λ tail c.
     not_io_bind (header_of hash128 t.0 (take 24 tail.0) (little_number 4 (drop 24 tail.0))) _ (header_of_not_io hash128 t.0 (take 24 tail.0) (little_number 4 (drop 24 tail.0))) (λ x k. tt))))
 
-block_of_not_io : (hash128 : List ℕ → ℕ) (h : Header) (payload : List ℕ) → NotIo (block_of hash128 h payload)
-unfolding block_of
+block_of_not_io : (hash128 : List ℕ → ℕ) (h : Header) (payload : List ℕ) → NotIo (verified_block hash128 h payload)
+unfolding verified_block
 block_of_not_io hash128 h payload = not_io_if _ (Ok (record { header = h; payload = payload })) _ (λ e. cc) tt
 
 -- reading a frame in memory does not return the error that the input failed

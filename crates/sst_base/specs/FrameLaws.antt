@@ -7,7 +7,7 @@ use Rattle.sst_base.specs.Block.{BlockParts}
 use Rattle.sst_base.specs.BytesLaws.{IsBytes-take, IsBytes-drop}
 use Rattle.sst_base.specs.Header.{header_start, header, IsHeader, bytes_at, header_at}
 use Rattle.sst_base.specs.HeaderLaws.{bind_ok, guard_ok, bytes_at-append, bytes_at_takes, header_at-header, header_at_takes}
-use Rattle.sst_base.specs.Frame.{header_for, block_for, frame, demand, block_of, block_at, frame_at, has_length, frame_in}
+use Rattle.sst_base.specs.Frame.{header_for, frame_block, frame, demand, verified_block, block_at, frame_at, has_length, frame_in}
 use Rattle.sst_base.specs.declared.error.Error.TheVariants.{LengthMismatch, Truncated}
 use Rattle.sst_base.specs.declared.table.block.block_type.BlockType.{BlockType}
 use Rattle.sst_base.specs.declared.table.block.header.Header.{Header}
@@ -38,7 +38,7 @@ pub record IsOwn (hash128 : List ℕ → ℕ) (b : BlockParts) : Type 0 where
   pub len : length b.payload ≡ b.header.data_length
   pub sum : hash128 b.payload ≡ b.header.checksum
 
-pub block_for_lem : (hash128 : List ℕ → ℕ) (b : BlockParts) → IsOwn hash128 b → b ≡ block_for hash128 b.header.block_type b.payload
+pub block_for_lem : (hash128 : List ℕ → ℕ) (b : BlockParts) → IsOwn hash128 b → b ≡ frame_block hash128 b.header.block_type b.payload
 block_for_lem hash128 b own i = record {
   header = record {
     block_type = b.header.block_type;
@@ -49,18 +49,18 @@ block_for_lem hash128 b own i = record {
   payload = b.payload;
 }
 
-block_of-own : (hash128 : List ℕ → ℕ) (h : Header) (payload : List ℕ) → hash128 payload ≡ h.checksum → block_of hash128 h payload ≡ Ok (record { header = h; payload = payload })
-unfolding block_of
+block_of-own : (hash128 : List ℕ → ℕ) (h : Header) (payload : List ℕ) → hash128 payload ≡ h.checksum → verified_block hash128 h payload ≡ Ok (record { header = h; payload = payload })
+unfolding verified_block
 block_of-own hash128 h payload e = rw (eq-eqb (hash128 payload) h.checksum e) refl
 
-pub block_of_takes : (hash128 : List ℕ → ℕ) (h : Header) (payload : List ℕ) (b : BlockParts) → block_of hash128 h payload ≡ Ok b → (hash128 payload ≡ h.checksum) × (◌≡◌ {A = BlockParts} (record { header = h; payload = payload }) b)
-unfolding block_of
+pub block_of_takes : (hash128 : List ℕ → ℕ) (h : Header) (payload : List ℕ) (b : BlockParts) → verified_block hash128 h payload ≡ Ok b → (hash128 payload ≡ h.checksum) × (◌≡◌ {A = BlockParts} (record { header = h; payload = payload }) b)
+unfolding verified_block
 block_of_takes hash128 h payload b e =
     let g = guard_ok (nat_eq (hash128 payload) h.checksum) (record { header = h; payload = payload }) b _ e in
     (eqb-true (hash128 payload) h.checksum g.0, g.1)
 
 -- a frame is read again, whatever follows it
-pub frame_at-frame : (hash128 : List ℕ → ℕ) (t : BlockType) (payload rest : List ℕ) → length payload < 2 ^ 32 → hash128 payload < 2 ^ 128 → frame_at hash128 (frame hash128 t payload ++ rest) ≡ Ok (block_for hash128 t payload, rest)
+pub frame_at-frame : (hash128 : List ℕ → ℕ) (t : BlockType) (payload rest : List ℕ) → length payload < 2 ^ 32 → hash128 payload < 2 ^ 128 → frame_at hash128 (frame hash128 t payload ++ rest) ≡ Ok (frame_block hash128 t payload, rest)
 unfolding frame frame_at block_at
 frame_at-frame hash128 t payload rest short sum =
     let h = header_for hash128 t payload in
@@ -68,7 +68,7 @@ frame_at-frame hash128 t payload rest short sum =
     rw (append_assoc (header hash128 h) payload rest, head, eq-eqb (length payload) (length payload) refl, bytes_at-append (length payload) payload rest refl, block_of-own hash128 h payload refl) refl
 
 -- and a frame alone is read again
-pub frame_in-frame : (hash128 : List ℕ → ℕ) (t : BlockType) (payload : List ℕ) → length payload < 2 ^ 32 → hash128 payload < 2 ^ 128 → frame_in hash128 (frame hash128 t payload) ≡ Ok (block_for hash128 t payload)
+pub frame_in-frame : (hash128 : List ℕ → ℕ) (t : BlockType) (payload : List ℕ) → length payload < 2 ^ 32 → hash128 payload < 2 ^ 128 → frame_in hash128 (frame hash128 t payload) ≡ Ok (frame_block hash128 t payload)
 unfolding frame frame_in
 frame_in-frame hash128 t payload short sum =
     let h = header_for hash128 t payload in
@@ -84,7 +84,7 @@ block_at_takes hash128 h bytes b rest e =
     let equal = guard_ok (nat_eq h.data_length h.uncompressed_length) tt d.0 LengthMismatch d.1 in
     let p = bind_ok (bytes_at h.data_length bytes) _ (b, rest) d.2 in
     let cut = bytes_at_takes h.data_length bytes p.0 p.1 in
-    let o = bind_ok (block_of hash128 h p.0.0) _ (b, rest) p.2 in
+    let o = bind_ok (verified_block hash128 h p.0.0) _ (b, rest) p.2 in
     let found = block_of_takes hash128 h p.0.0 o.0 o.1 in
     let same : (o.0, p.0.1) ≡ (b, rest) = cc (o.2) in
     let whole : (◌≡◌ {A = BlockParts} (record { header = h; payload = p.0.0 }) b) = found.1 ∙ ap (λ (q : BlockParts × List ℕ). q.0) same in
@@ -103,7 +103,7 @@ frame_of_own hash128 b h bytes rest same own e =
     ∙ sym (append_assoc (header hash128 (header_for hash128 b.header.block_type b.payload)) b.payload rest)
 
 -- what is read was written so
-pub frame_at_takes : (hash128 : List ℕ → ℕ) (bytes : List ℕ) (b : BlockParts) (rest : List ℕ) → IsBytes (take 28 (drop 5 bytes)) → frame_at hash128 bytes ≡ Ok (b, rest) → (bytes ≡ frame hash128 b.header.block_type b.payload ++ rest) × (b ≡ block_for hash128 b.header.block_type b.payload) × (length b.payload < 2 ^ 32)
+pub frame_at_takes : (hash128 : List ℕ → ℕ) (bytes : List ℕ) (b : BlockParts) (rest : List ℕ) → IsBytes (take 28 (drop 5 bytes)) → frame_at hash128 bytes ≡ Ok (b, rest) → (bytes ≡ frame hash128 b.header.block_type b.payload ++ rest) × (b ≡ frame_block hash128 b.header.block_type b.payload) × (length b.payload < 2 ^ 32)
 unfolding frame_at
 frame_at_takes hash128 bytes b rest small e =
     let h = bind_ok (header_at hash128 bytes) _ (b, rest) e in
@@ -116,7 +116,7 @@ frame_at_takes hash128 bytes b rest small e =
     )
 
 -- bytes that are read as a frame were written so
-pub frame_in_takes : (hash128 : List ℕ → ℕ) (bytes : List ℕ) (b : BlockParts) → IsBytes bytes → frame_in hash128 bytes ≡ Ok b → (bytes ≡ frame hash128 b.header.block_type b.payload) × (b ≡ block_for hash128 b.header.block_type b.payload) × (length b.payload < 2 ^ 32)
+pub frame_in_takes : (hash128 : List ℕ → ℕ) (bytes : List ℕ) (b : BlockParts) → IsBytes bytes → frame_in hash128 bytes ≡ Ok b → (bytes ≡ frame hash128 b.header.block_type b.payload) × (b ≡ frame_block hash128 b.header.block_type b.payload) × (length b.payload < 2 ^ 32)
 unfolding frame_in
 frame_in_takes hash128 bytes b small e =
     let d = bind_ok (demand (nat_le 33 (length bytes)) Truncated) _ b e in

@@ -15,7 +15,7 @@ ghost use Rattle.sst_base.specs.Key.{Key};
 ghost use Rattle.sst_base.specs.Order.{key_cmp};
 ghost use Rattle.sst_base.specs.Block.{BlockParts};
 ghost use Rattle.sst_base.specs.BlockHandle.{HandleParts, handle_bytes, handle_at};
-ghost use Rattle.sst_base.specs.Frame.{block_for, frame, frame_at, frame_in};
+ghost use Rattle.sst_base.specs.Frame.{frame_block, frame, frame_at, frame_in};
 ghost use Rattle.sst_base.specs.Header.{IsHeader, header, header_at};
 ghost use Rattle.sst_base.specs.declared.value_type.ValueType.{ValueType};
 ghost use Rattle.sst_base.specs.declared.table.block.block_type.BlockType.{BlockType};
@@ -109,7 +109,7 @@ pub fn frame_is_read_again()
     ensures { (hash128 : List ℕ → ℕ) (t : BlockType) (payload rest : List ℕ)
         → length payload < 2 ^ 32 → hash128 payload < 2 ^ 128
         → frame_at hash128 (frame hash128 t payload ++ rest)
-        ≡ Ok (block_for hash128 t payload, rest) }
+        ≡ Ok (frame_block hash128 t payload, rest) }
 {}
 
 /// Where a frame is read, the bytes begin with the frame of its payload.
@@ -117,7 +117,7 @@ pub fn frame_was_written()
     ensures { (hash128 : List ℕ → ℕ) (bytes : List ℕ) (b : BlockParts) (rest : List ℕ)
         → IsBytes bytes → frame_at hash128 bytes ≡ Ok (b, rest)
         → (bytes ≡ frame hash128 b.header.block_type b.payload ++ rest)
-        × (b ≡ block_for hash128 b.header.block_type b.payload)
+        × (b ≡ frame_block hash128 b.header.block_type b.payload)
         × (length b.payload < 2 ^ 32) }
 {}
 
@@ -125,7 +125,7 @@ pub fn frame_was_written()
 pub fn whole_frame_is_read_again()
     ensures { (hash128 : List ℕ → ℕ) (t : BlockType) (payload : List ℕ)
         → length payload < 2 ^ 32 → hash128 payload < 2 ^ 128
-        → frame_in hash128 (frame hash128 t payload) ≡ Ok (block_for hash128 t payload) }
+        → frame_in hash128 (frame hash128 t payload) ≡ Ok (frame_block hash128 t payload) }
 {}
 
 /// Where bytes are read as a frame, they are the frame of its payload.
@@ -133,7 +133,7 @@ pub fn whole_frame_was_written()
     ensures { (hash128 : List ℕ → ℕ) (bytes : List ℕ) (b : BlockParts)
         → IsBytes bytes → frame_in hash128 bytes ≡ Ok b
         → (bytes ≡ frame hash128 b.header.block_type b.payload)
-        × (b ≡ block_for hash128 b.header.block_type b.payload)
+        × (b ≡ frame_block hash128 b.header.block_type b.payload)
         × (length b.payload < 2 ^ 32) }
 {}
 

@@ -17,7 +17,7 @@ use Rattle.sst_block_core.specs.Pointers.{head_count, pointer_width}
 use Rattle.sst_block_core.specs.Buckets.{bucket}
 use Rattle.sst_block_core.specs.Entries.{entries}
 use Rattle.sst_block_core.specs.Handles.{Handle, handles, HasIndexParts, HasEnds, IndexPassesBy}
-use Rattle.sst_block_core.specs.Stages.{body_in, index_in, buckets_in, reads_all, items_by, HasTrailer, HasParts, HasForms, HasOrder, HasPointers, HasBuckets, PassesBy}
+use Rattle.sst_block_core.specs.Stages.{body_in, pointer_bytes, buckets_in, reads_all, items_by, HasTrailer, HasParts, HasForms, HasOrder, HasPointers, HasBuckets, PassesBy}
 
 -- does a test hold of all numbers below n?
 abbrev pub all_below : ℕ → (ℕ → Bool) → Bool
@@ -52,7 +52,7 @@ has_order kind t p = is_in_order (item_cmp kind) (items_by kind t p)
 -- stage 5: is each pointer the offset of its head, and the pointer width the smallest that suffices?
 abbrev pub has_pointers : {X : Type 0} → Kind X → Trailer → List ℕ → Bool
 has_pointers kind t p =
-    all_below t.heads (λ j. nat_eq (little_number t.width (drop (j * t.width) (index_in t p))) (place_offset kind t.interval (items_by kind t p) (j * t.interval)))
+    all_below t.heads (λ j. nat_eq (little_number t.width (drop (j * t.width) (pointer_bytes t p))) (place_offset kind t.interval (items_by kind t p) (j * t.interval)))
     && nat_eq t.width (pointer_width kind t.interval (items_by kind t p))
 
 -- stage 6: does each stored bucket say in which intervals its keys are?

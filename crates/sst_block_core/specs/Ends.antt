@@ -9,7 +9,7 @@ use Rattle.sst_block_core.specs.Window.{Window}
 use Rattle.sst_block_core.specs.declared.table.block.ends.Ends.{Ends}
 
 -- two ends lie in a block: the front is a place of it, and the back an end with the offsets before it
-pub record AreEnds {X : Type 0} (kind : Kind X) (list : Listed X) (ends : Ends) : Type 0 where
+pub record AreBlockEnds {X : Type 0} (kind : Kind X) (list : Listed X) (ends : Ends) : Type 0 where
   pub front : IsPlace kind list ends.front
   pub back : IsBack kind list ends.back.hi ends.back.stack.items ends.back.base
 

@@ -7,8 +7,8 @@ use Rattle.byteorder.specs.Endian.{big_number}
 use Rattle.sst_base.specs.Order.{versions_cmp, IsInOrder}
 use Rattle.sst_block_core.specs.Kind.{Kind}
 use Rattle.sst_block_core.specs.Body.{place_offset}
-use Rattle.sst_block_core.specs.Found.{IsRange, range_of}
-use Rattle.sst_block_core.specs.Passes.{last_of}
+use Rattle.sst_block_core.specs.Found.{IsRange, range_bytes}
+use Rattle.sst_block_core.specs.Passes.{last_passed}
 use Rattle.sst_block_core.specs.Pointers.{head_count}
 use Rattle.sst_block_core.specs.Scan.{Listed}
 use Rattle.sst_block_core.specs.Stages.{items_in}
@@ -35,7 +35,7 @@ head_of offset seqno key = record { offset = offset; seqno = seqno; key = key }
 
 -- the key of a head
 abbrev pub key_in : List ℕ → Head → List ℕ
-key_in payload h = range_of payload h.key
+key_in payload h = range_bytes payload h.key
 
 -- a key begins with a prefix
 abbrev pub Begins : List ℕ → List ℕ → Type 0
@@ -49,10 +49,10 @@ pub record IsHead (payload prefix : List ℕ) (h : Head) (number : ℕ) : Type 0
   pub front_is : number ≡ front (drop (length prefix) (key_in payload h)) / 2
 
 -- a table of heads of a payload, in order
-pub record IsTable (payload : List ℕ) (t : Table) : Type 0 where
+pub record IsHeadTable (payload : List ℕ) (t : Table) : Type 0 where
   pub prefix_inside : IsRange payload t.prefix
   pub count : length t.fronts ≡ length t.heads
-  pub each_is : (j : ℕ) (h : Head) → slice_get t.heads j ≡ Some h → IsHead payload (range_of payload t.prefix) h (slice_index t.fronts j)
+  pub each_is : (j : ℕ) (h : Head) → slice_get t.heads j ≡ Some h → IsHead payload (range_bytes payload t.prefix) h (slice_index t.fronts j)
   pub ordered : IsInOrder (versions_cmp (key_in payload) (λ (h : Head). h.seqno)) t.heads
 
 -- how many heads have a key below the needle, or equal to it with a sequence number of at least `from`
@@ -70,14 +70,14 @@ abbrev pub listed_in : {X : Type 0} → Kind X → List ℕ → Listed X
 listed_in kind payload = record { payload = payload; interval = (trailer_in payload).interval; items = items_in kind payload }
 
 -- a table of the first n heads of a block's list
-pub record IsTableUpto {X : Type 0} (kind : Kind X) (list : Listed X) (n : ℕ) (t : Table) : Type 0 where
-  pub sound : IsTable list.payload t
+pub record IsHeadTableUpto {X : Type 0} (kind : Kind X) (list : Listed X) (n : ℕ) (t : Table) : Type 0 where
+  pub sound : IsHeadTable list.payload t
   pub count : length t.heads ≡ n
   pub same : (j : ℕ) (x : X) (h : Head) → slice_get list.items (j * list.interval) ≡ Some x → slice_get t.heads j ≡ Some h → IsHeadOf kind list j x h
 
 -- a table of all heads of a block's list
-abbrev pub IsTableOf : {X : Type 0} → Kind X → Listed X → Table → Type 0
-IsTableOf kind list t = IsTableUpto kind list (head_count list.interval (length list.items)) t
+abbrev pub IsHeadTableOf : {X : Type 0} → Kind X → Listed X → Table → Type 0
+IsHeadTableOf kind list t = IsHeadTableUpto kind list (head_count list.interval (length list.items)) t
 
 -- the keys of all heads of a block's list begin with a prefix
 abbrev pub HeadsBegin : {X : Type 0} → Kind X → Listed X → List ℕ → Type 0
@@ -101,8 +101,8 @@ FollowsHead kind payload last x = ordering_then (slice_cmp nat_cmp (kind.key x) 
 
 -- an item can be the next head of a table: its key begins with the table's prefix, and it doesn't sort before the last head
 pub record IsNextHead {X : Type 0} (kind : Kind X) (payload : List ℕ) (t : Table) (x : X) : Type 0 where
-  pub begins : Begins (range_of payload t.prefix) (kind.key x)
-  pub order : (last : Head) → last_of t.heads ≡ Some last → FollowsHead kind payload last x
+  pub begins : Begins (range_bytes payload t.prefix) (kind.key x)
+  pub order : (last : Head) → last_passed t.heads ≡ Some last → FollowsHead kind payload last x
 
 -- a table has the prefix that it had, and no less capacity
 pub record KeepsPrefixAndRoom (old new : Table) : Type 0 where

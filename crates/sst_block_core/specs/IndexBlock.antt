@@ -26,8 +26,8 @@ index_block_of b heads = record {
 }
 
 -- the header and the payload of an index block
-abbrev pub block_of : IndexBlockParts → BlockParts
-block_of d = record { header = d.header; payload = d.payload }
+abbrev pub index_inner : IndexBlockParts → BlockParts
+index_inner d = record { header = d.header; payload = d.payload }
 
 -- What contracts see of an index block whose payload is borrowed: the payload, its handles, its interval, and whether it
 -- has a table of its heads.

@@ -4,13 +4,13 @@ use Rattle.std.specs.declared.cmp.Ordering.{Ordering}
 use Rattle.sst_base.specs.Order.{versions_cmp}
 use Rattle.sst_base.specs.declared.table.util.SliceIndexes.{SliceIndexes}
 use Rattle.sst_block_core.specs.Kind.{Kind}
-use Rattle.sst_block_core.specs.Found.{range_of, IsRange}
+use Rattle.sst_block_core.specs.Found.{range_bytes, IsRange}
 use Rattle.sst_block_core.specs.declared.table.block.check.keys.KeyRanges.{KeyRanges}
 use Rattle.sst_block_core.specs.declared.table.block.check.keys.KeyVersion.{KeyVersion}
 
 -- the key: a prefix, and what is after it
 abbrev pub key_by : List ℕ → KeyRanges → List ℕ
-key_by payload k = range_of payload k.prefix ++ range_of payload k.rest
+key_by payload k = range_bytes payload k.prefix ++ range_bytes payload k.rest
 
 -- both ranges lie in a payload
 pub record IsKeyRanges (payload : List ℕ) (k : KeyRanges) : Type 0 where
@@ -19,7 +19,7 @@ pub record IsKeyRanges (payload : List ℕ) (k : KeyRanges) : Type 0 where
 
 -- some bytes begin with those of a range of a payload
 abbrev pub HasFront : List ℕ → SliceIndexes → List ℕ → Type 0
-HasFront payload front bytes = take (front.1 - front.0) bytes ≡ range_of payload front
+HasFront payload front bytes = take (front.1 - front.0) bytes ≡ range_bytes payload front
 
 -- the order of versions: by key rising, then by sequence number falling
 abbrev pub version_cmp : List ℕ → KeyVersion → KeyVersion → Ordering

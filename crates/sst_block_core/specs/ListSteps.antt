@@ -3,14 +3,14 @@ use Rattle.std.specs.Prelude.{List, ℕ, Option, Some, None}
 use Rattle.std.specs.Iterator.{YieldsFirstBy, YieldsLastBy}
 use Rattle.sst_block_core.specs.Backs.{GivesNextBack}
 use Rattle.sst_block_core.specs.Candidates.{GivesNextHeld}
-use Rattle.sst_block_core.specs.Scan.{Scan, GivesNext}
+use Rattle.sst_block_core.specs.Scan.{Scan, GivesScanned}
 use Rattle.sst_block_core.specs.Window.{items_left}
 use Rattle.sst_block_core.specs.WindowLaws.{next_some, next_none, back_some, back_none}
 use Rattle.std.proofs.Common.{◌≡◌, [], ◌∷◌, ◌++◌, sym, ap, ◌∙◌}
 
 module _ {X P : Type 0} (item_of : List ℕ → P → X) (is_found : List ℕ → P → Type 0) where
   -- `next` of a decoder
-  pub scan_gives_first : (s : Scan X) (r : Option P) (t : Scan X) → GivesNext item_of is_found s r t → YieldsFirstBy (item_of s.payload) (λ d. items_left d.window) s r t
+  pub scan_gives_first : (s : Scan X) (r : Option P) (t : Scan X) → GivesScanned item_of is_found s r t → YieldsFirstBy (item_of s.payload) (λ d. items_left d.window) s r t
   scan_gives_first s None t gives = next_none s.window t.window gives.step
   scan_gives_first s (Some p) t gives = (next_some s.window t.window (item_of s.payload p) gives.step).0
 
@@ -27,7 +27,7 @@ module _ {X P : Type 0} (item_of : List ℕ → P → X) (is_found : List ℕ �
 -- what is left after a step that gives an item
 module _ {X P : Type 0} (item_of : List ℕ → P → X) (is_found : List ℕ → P → Type 0) (s t : Scan X) where
   -- from the front
-  pub took_some : (payload : List ℕ) (p : P) → payload ≡ s.payload → GivesNext item_of is_found s (Some p) t → items_left s.window ≡ item_of payload p ∷ items_left t.window
+  pub took_some : (payload : List ℕ) (p : P) → payload ≡ s.payload → GivesScanned item_of is_found s (Some p) t → items_left s.window ≡ item_of payload p ∷ items_left t.window
   took_some payload p same gives = (next_some s.window t.window (item_of s.payload p) gives.step).0 ∙ ap (λ bytes. item_of bytes p ∷ items_left t.window) (sym same)
 
   -- from the back

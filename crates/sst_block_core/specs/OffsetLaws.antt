@@ -2,14 +2,14 @@
 use Rattle.std.proofs.Common.{◌≡◌, ℕ, ◌+◌, ◌-◌, ◌%◌, ◌<◌, ◌≤◌, suc, cond, eqb, List, [], ◌∷◌, ◌++◌, length, take, drop, refl, sym, ap, ◌∙◌, arith, append_assoc, length-append, map, length-drop, inl, inr, ◌*◌}
 use Rattle.std.proofs.lemmas.List.{get_or_append_left, take-append-drop, take-take, take-map, length-take-le}
 use Rattle.sst_block_core.specs.Kind.{Kind, IsKind}
-use Rattle.sst_block_core.specs.Body.{truncated_against, form, forms, body, place_offset}
+use Rattle.sst_block_core.specs.Body.{truncated_against, item_form, forms, body, place_offset}
 use Rattle.sst_block_core.specs.BodyLaws.{body-plain, cond_has}
 use Rattle.std.proofs.lemmas.Bool.{cases_lt}
 use Rattle.std.proofs.lemmas.Nat.{mul-le}
 
 module _ {X : Type 0} (kind : Kind X) (r : ℕ) (pos : 0 < r) where
-  -- what follows an item changes nothing of its form
-  form-append : (items more : List X) (i : ℕ) (x : X) → i < length items → form kind r (items ++ more) i x ≡ form kind r items i x
+  -- what follows an item changes nothing of its item_form
+  form-append : (items more : List X) (i : ℕ) (x : X) → i < length items → item_form kind r (items ++ more) i x ≡ item_form kind r items i x
   form-append items more i x h =
       ap (λ head. cond (eqb (i % r) 0) (kind.full x) (truncated_against kind head x)) (get_or_append_left items more x (i - i % r) (omega arith))
 
@@ -18,7 +18,7 @@ module _ {X : Type 0} (kind : Kind X) (r : ℕ) (pos : 0 < r) where
   forms-append items i [] ys = ap (λ n. forms kind r items n ys) (omega arith)
   forms-append items i (x ∷ xs) ys =
       let e : length xs + (i + 1) ≡ suc (length xs) + i = omega arith in
-      rw (forms-append items (i + 1) xs ys, e) (sym (append_assoc (form kind r items i x) (forms kind r items (i + 1) xs) (forms kind r items (suc (length xs) + i) ys)))
+      rw (forms-append items (i + 1) xs ys, e) (sym (append_assoc (item_form kind r items i x) (forms kind r items (i + 1) xs) (forms kind r items (suc (length xs) + i) ys)))
 
   forms-more : (items more : List X) (i : ℕ) (xs : List X) → i + length xs ≤ length items → forms kind r (items ++ more) i xs ≡ forms kind r items i xs
   forms-more items more i [] h = refl
@@ -61,11 +61,11 @@ module _ {X : Type 0} (kind : Kind X) (r : ℕ) (pos : 0 < r) where
     length-forms items [] i = omega arith
     length-forms items (x ∷ xs) i =
         let rest = length-forms items xs (i + 1) in
-        let l = length-append (form kind r items i x) (forms kind r items (i + 1) xs) in
-        let has : 0 < length (form kind r items i x) = cond_has (eqb (i % r) 0) _ _ (laws.full_some x) (laws.truncated_some x _) in
+        let l = length-append (item_form kind r items i x) (forms kind r items (i + 1) xs) in
+        let has : 0 < length (item_form kind r items i x) = cond_has (eqb (i % r) 0) _ _ (laws.full_some x) (laws.truncated_some x _) in
         omega (arith, rest, l, has)
 
-    -- no form is empty
+    -- no item_form is empty
     pub body_long : (items : List X) → length items ≤ length (body kind r items)
     unfolding body
     body_long items = length-forms items items 0

@@ -8,7 +8,7 @@ use Rattle.sst_block_core.specs.Body.{items_at, place_offset}
 use Rattle.sst_block_core.specs.Trailer.{Trailer}
 use Rattle.sst_block_core.specs.Buckets.{bucket, bucket_byte_with}
 use Rattle.sst_block_core.specs.Pointers.{head_count}
-use Rattle.sst_block_core.specs.Found.{range_of}
+use Rattle.sst_block_core.specs.Found.{range_bytes}
 use Rattle.sst_block_core.specs.KeyRanges.{IsLast, HasFront}
 use Rattle.sst_base.specs.declared.table.util.SliceIndexes.{SliceIndexes}
 use Rattle.sst_block_core.specs.Stages.{items_by, HasTrailer, HasParts, HasForms, HasOrder, HasPointers, HasBuckets}
@@ -35,13 +35,13 @@ base_after kind r i [] base = base
 base_after kind r i (x ∷ xs) base = base_after kind r (i + 1) xs (if (i % r) == 0 then kind.key x else base)
 
 -- the last of some items, if there is one
-abbrev pub last_of : {X : Type 0} → List X → Option X
-last_of [] = None
-last_of (x ∷ []) = Some x
-last_of (x ∷ y ∷ xs) = last_of (y ∷ xs)
+abbrev pub last_passed : {X : Type 0} → List X → Option X
+last_passed [] = None
+last_passed (x ∷ []) = Some x
+last_passed (x ∷ y ∷ xs) = last_passed (y ∷ xs)
 
 -- decoding as many items from the start of a body gives these, and ends at an offset, after a head with this key
-pub record IsRead {X : Type 0} (kind : Kind X) (r : ℕ) (body : List ℕ) (xs : List X) (place offset : ℕ) (base : List ℕ) : Type 0 where
+pub record IsReadUpto {X : Type 0} (kind : Kind X) (r : ℕ) (body : List ℕ) (xs : List X) (place offset : ℕ) (base : List ℕ) : Type 0 where
   pub count : place ≡ length xs
   pub inside : offset ≤ length body
   pub reads : items_at kind r 0 place [] body ≡ Some (xs, drop offset body)
@@ -59,8 +59,8 @@ pub record IsJudged {X : Type 0} (kind : Kind X) (fits : X → Type 0) (r : ℕ)
 
 -- the state of a pass after these items, of which the last head has its key in a range
 pub record IsAlong {X : Type 0} (kind : Kind X) (fits : X → Type 0) (r : ℕ) (body pointers : List ℕ) (xs : List X) (base : SliceIndexes) (at : PassState) : Type 0 where
-  pub read : IsRead kind r body xs (length xs) at.offset (range_of body base)
-  pub last_is : IsLast kind body at.last (last_of xs)
+  pub read : IsReadUpto kind r body xs (length xs) at.offset (range_bytes body base)
+  pub last_is : IsLast kind body at.last (last_passed xs)
   pub judged : IsJudged kind fits r pointers xs at.passed.all_fit at.passed.is_ordered at.passed.is_indexed
 
 -- the state of a pass after this many items, of which this is known besides
@@ -99,7 +99,7 @@ pub record TallyState : Type 0 where
 
 -- a hashed prefix has the hash of its range of a body, if it has one
 abbrev pub IsHashed : (List ℕ → ℕ) → List ℕ → HashedPrefix → Type 0
-IsHashed hash body prefix = IfSome prefix.hash (λ h. hash (range_of body prefix.range) ≡ h)
+IsHashed hash body prefix = IfSome prefix.hash (λ h. hash (range_bytes body prefix.range) ≡ h)
 
 -- the key that is joined
 abbrev pub joined_key : JoinedKey → List ℕ
@@ -151,5 +151,5 @@ IsBucketsRefusal kind fits hash t p e =
     ⊎ ((e ≡ Memory) × (0 < t.hash_len))
 
 -- why the items of a payload or its stored buckets are refused
-abbrev pub IsRefusal : {X : Type 0} → Kind X → (X → Type 0) → Error → (List ℕ → ℕ) → Trailer → List ℕ → Error → Type 0
-IsRefusal kind fits unfit hash t p e = IsItemsRefusal kind fits unfit t p e ⊎ IsBucketsRefusal kind fits hash t p e
+abbrev pub IsPassRefusal : {X : Type 0} → Kind X → (X → Type 0) → Error → (List ℕ → ℕ) → Trailer → List ℕ → Error → Type 0
+IsPassRefusal kind fits unfit hash t p e = IsItemsRefusal kind fits unfit t p e ⊎ IsBucketsRefusal kind fits hash t p e

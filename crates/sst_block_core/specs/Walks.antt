@@ -14,13 +14,13 @@ pub data End : Type 0 where
   back : End
 
 -- the end from which an operation on entries takes, if it is no seek
-abbrev pub end_of : Op → Option End
-end_of entry_ops.Next = Some front
-end_of entry_ops.NextBack = Some back
-end_of (entry_ops.Seek key) = None
-end_of (entry_ops.SeekUpper key) = None
-end_of (entry_ops.SeekExclusive key) = None
-end_of (entry_ops.SeekUpperExclusive key) = None
+abbrev pub op_end : Op → Option End
+op_end entry_ops.Next = Some front
+op_end entry_ops.NextBack = Some back
+op_end (entry_ops.Seek key) = None
+op_end (entry_ops.SeekUpper key) = None
+op_end (entry_ops.SeekExclusive key) = None
+op_end (entry_ops.SeekUpperExclusive key) = None
 
 -- the same for an operation on handles
 abbrev pub index_end_of : IndexOp → Option End
@@ -29,11 +29,11 @@ index_end_of index_ops.NextBack = Some back
 index_end_of (index_ops.Seek key seqno) = None
 index_end_of (index_ops.SeekUpper key seqno) = None
 
-module _ {O : Type 0} (end_of : O → Option End) where
+module _ {O : Type 0} (op_end : O → Option End) where
   -- no operation is a seek
   abbrev pub AreSteps : List O → Type 0
   AreSteps [] = Unit {0}
-  AreSteps (op ∷ ops) = IsSome (end_of op) × AreSteps ops
+  AreSteps (op ∷ ops) = IsSome (op_end op) × AreSteps ops
 
 -- the item of a result, if it has one
 abbrev pub taken : {X : Type 0} → Answer X → List X
@@ -50,15 +50,15 @@ abbrev pub with_given_back : {X : Type 0} → List X → Option End → Answer X
 with_given_back later (Some back) a = later ++ taken a
 with_given_back later o a = later
 
-module _ {O X : Type 0} (end_of : O → Option End) where
+module _ {O X : Type 0} (op_end : O → Option End) where
   -- the items that steps from the front returned, in order
   abbrev pub fronts : List O → List (Answer X) → List X
-  fronts (op ∷ ops) (a ∷ answers) = given_front (end_of op) a ++ fronts ops answers
+  fronts (op ∷ ops) (a ∷ answers) = given_front (op_end op) a ++ fronts ops answers
   fronts ops answers = []
 
   -- the items that steps from the back returned, the last one first
   abbrev pub backs : List O → List (Answer X) → List X
-  backs (op ∷ ops) (a ∷ answers) = with_given_back (backs ops answers) (end_of op) a
+  backs (op ∷ ops) (a ∷ answers) = with_given_back (backs ops answers) (op_end op) a
   backs ops answers = []
 
 -- the most entries that an iteration from the back decodes, from an end down to the first, in a block of n items in

@@ -5,11 +5,11 @@ use Rattle.std.proofs.lemmas.List.{drop-drop, drop-take, length-take, take-take}
 use Rattle.sst_base.specs.BlockHandle.{HandleParts}
 use Rattle.sst_base.specs.Entry.{Entry}
 use Rattle.sstable_blocks.specs.Opened.{IsFrameRange, payload_in}
-use Rattle.sst_c.specs.Blocks.{bytes_at, IsPlaceOf}
+use Rattle.sst_c.specs.Blocks.{bytes_behind, IsPlaceOf}
 use Rattle.sst_c.specs.declared.data_block.SstPlace.{SstPlace}
 
 -- a part of a part
-part_of_part : (bytes : List ℕ) (start n offset len : ℕ) → offset + len ≤ n → bytes_at bytes (start + offset) len ≡ bytes_at (take n (drop start bytes)) offset len
+part_of_part : (bytes : List ℕ) (start n offset len : ℕ) → offset + len ≤ n → bytes_behind bytes (start + offset) len ≡ bytes_behind (take n (drop start bytes)) offset len
 part_of_part bytes start n offset len inside =
     let k = n - offset in
     let whole : n ≡ offset + k = omega (arith, inside) in
@@ -36,8 +36,8 @@ placed bytes h f e range at =
     record {
       seqno = at.seqno;
       value_type = at.value_type;
-      key = ap (λ xs. xs ++ bytes_at bytes (start + f.key_offset) f.key_len) (part_of_part bytes start n f.prefix_offset f.prefix_len (omega (arith, p, fits)))
-          ∙ ap (λ xs. bytes_at (payload_in bytes h) f.prefix_offset f.prefix_len ++ xs) (part_of_part bytes start n f.key_offset f.key_len (omega (arith, k, fits)))
+      key = ap (λ xs. xs ++ bytes_behind bytes (start + f.key_offset) f.key_len) (part_of_part bytes start n f.prefix_offset f.prefix_len (omega (arith, p, fits)))
+          ∙ ap (λ xs. bytes_behind (payload_in bytes h) f.prefix_offset f.prefix_len ++ xs) (part_of_part bytes start n f.key_offset f.key_len (omega (arith, k, fits)))
           ∙ at.key;
       value = part_of_part bytes start n f.value_offset f.value_len (omega (arith, v, fits)) ∙ at.value;
       prefix_inside = omega (arith, p, fits, inside, header);

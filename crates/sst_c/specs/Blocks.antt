@@ -15,15 +15,15 @@ pub record IsDataBlock (p : List ℕ) : Type 0 where
   pub encoding : (items : List Entry) × (r : ℕ) × (b : ℕ) × IsBlock entries IsEntry xxh3_64 p items r b
 
 -- so many bytes of a payload, from an offset on
-abbrev pub bytes_at : List ℕ → ℕ → ℕ → List ℕ
-bytes_at p offset len = take len (drop offset p)
+abbrev pub bytes_behind : List ℕ → ℕ → ℕ → List ℕ
+bytes_behind p offset len = take len (drop offset p)
 
 -- a place says where the parts of this entry are in a payload
 pub record IsPlaceOf (p : List ℕ) (f : SstPlace) (e : Entry) : Type 0 where
   pub seqno : f.seqno ≡ e.key.seqno
   pub value_type : f.value_type ≡ value_type_byte e.key.value_type
-  pub key : bytes_at p f.prefix_offset f.prefix_len ++ bytes_at p f.key_offset f.key_len ≡ e.key.user_key
-  pub value : bytes_at p f.value_offset f.value_len ≡ e.value
+  pub key : bytes_behind p f.prefix_offset f.prefix_len ++ bytes_behind p f.key_offset f.key_len ≡ e.key.user_key
+  pub value : bytes_behind p f.value_offset f.value_len ≡ e.value
   pub prefix_inside : f.prefix_offset + f.prefix_len ≤ length p
   pub key_inside : f.key_offset + f.key_len ≤ length p
   pub value_inside : f.value_offset + f.value_len ≤ length p

@@ -7,7 +7,7 @@ use Rattle.sst_c.specs.declared.codes.Status.TheVariants.{Done, Failed}
 
 -- bytes are refused by a check that takes no memory: they are too long, or the stages of the check, which have this verdict,
 -- name the error; the count is left as it was
-pub record IsRefused {X : Type 0} (p : List ℕ) (verdict : Result X Error) (old new : ℕ) (e : Error) : Type 0 where
+pub record IsCheckRefused {X : Type 0} (p : List ℕ) (verdict : Result X Error) (old new : ℕ) (e : Error) : Type 0 where
   pub too_long : (e ≡ TooLong) ↔ (2 ^ 32 ≤ length p)
   pub staged : e ≢ TooLong → verdict ≡ Err e
   pub kept : new ≡ old

@@ -3,7 +3,7 @@ use Rattle.std.specs.Prelude.{◌≡◌, ℕ, ◌*◌, ◌≤◌, List, Result, 
 use Rattle.sst_base.specs.declared.error.Error.{Error}
 use Rattle.sst_base.specs.declared.error.Error.TheVariants.{Memory}
 use Rattle.sstable_blocks.specs.Filter.{Filter, bit_count, filter_payload, probe_count, IsFilterOf, MayContain}
-use Rattle.sst_c.specs.Given.{AreKept, IsWritten}
+use Rattle.sst_c.specs.Given.{AreKept, IsWrittenOut}
 use Rattle.sst_c.specs.declared.codes.Status.{Status}
 use Rattle.sst_c.specs.declared.codes.Status.TheVariants.{Done, Failed, NotFound, BadArgument}
 
@@ -32,4 +32,4 @@ pub record IsFilterPayload (count bits : ℕ) (hashes bytes : List ℕ) : Type 0
 abbrev pub IsFilterBuild : ℕ → ℕ → List ℕ → List ℕ → List ℕ → ℕ → ℕ → Status → Type 0
 IsFilterBuild count bits hashes old new len_old len_new BadArgument = (CanBuild count bits → ⊥) × AreKept old new len_old len_new
 IsFilterBuild count bits hashes old new len_old len_new (Failed e) = (e ≡ Memory) × AreKept old new len_old len_new
-IsFilterBuild count bits hashes old new len_old len_new s = CanBuild count bits × ((bytes : List ℕ) × IsFilterPayload count bits hashes bytes × IsWritten bytes old new len_new s)
+IsFilterBuild count bits hashes old new len_old len_new s = CanBuild count bits × ((bytes : List ℕ) × IsFilterPayload count bits hashes bytes × IsWrittenOut bytes old new len_new s)

@@ -7,7 +7,7 @@ use Rattle.xxh3.specs.Xxh3.{xxh3_128}
 use Rattle.sst_base.specs.declared.error.Error.{Error}
 use Rattle.sst_base.specs.declared.error.Error.TheVariants.{TooLong, Memory}
 use Rattle.sst_base.specs.declared.table.block.block_type.BlockType.{BlockType}
-use Rattle.sst_c.specs.Given.{AreKept, IsWritten}
+use Rattle.sst_c.specs.Given.{AreKept, IsWrittenOut}
 use Rattle.sst_c.specs.declared.codes.Status.{Status}
 use Rattle.sst_c.specs.declared.codes.Status.TheVariants.{Done, Failed, BadArgument}
 
@@ -20,7 +20,7 @@ pub record IsFrameFailure (payload old new : List ℕ) (len_old len_new : ℕ) (
 abbrev pub IsFrameWrite : List ℕ → ℕ → List ℕ → List ℕ → ℕ → ℕ → Status → Type 0
 IsFrameWrite payload byte old new len_old len_new BadArgument = ((t : BlockType) → block_type_of byte ≡ Ok t → ⊥) × AreKept old new len_old len_new
 IsFrameWrite payload byte old new len_old len_new (Failed e) = IsFrameFailure payload old new len_old len_new e
-IsFrameWrite payload byte old new len_old len_new s = (t : BlockType) × (block_type_of byte ≡ Ok t) × IsWritten (frame xxh3_128 t payload) old new len_new s
+IsFrameWrite payload byte old new len_old len_new s = (t : BlockType) × (block_type_of byte ≡ Ok t) × IsWrittenOut (frame xxh3_128 t payload) old new len_new s
 
 -- bytes are refused as a frame, by the first error, or an allocation failed; what a check tells is left
 pub record IsNoFrame (bytes : List ℕ) (type_old type_new len_old len_new : ℕ) (e : Error) : Type 0 where

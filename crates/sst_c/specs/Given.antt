@@ -43,22 +43,22 @@ pub record CanEncode (given : List SstEntry) (interval den : ℕ) (items : List 
   pub some_den : 1 ≤ den
 
 -- the payload of a data block at an interval and a hash ratio of num to den
-abbrev pub block_payload : List Entry → ℕ → ℕ → ℕ → List ℕ
-block_payload items interval num den = data_payload xxh3_64 items interval (bucket_count num den (length items))
+abbrev pub given_payload : List Entry → ℕ → ℕ → ℕ → List ℕ
+given_payload items interval num den = data_payload xxh3_64 items interval (bucket_count num den (length items))
 
 -- a buffer and the length that a call writes are left as they were
 abbrev pub AreKept : List ℕ → List ℕ → ℕ → ℕ → Type 0
 AreKept old new len_old len_new = (new ≡ old) × (len_new ≡ len_old)
 
 -- bytes were written at the front of a buffer, or it has no room for them; in both cases their length is told
-abbrev pub IsWritten : List ℕ → List ℕ → List ℕ → ℕ → Status → Type 0
-IsWritten bytes old new len Done = (len ≡ length bytes) × (length bytes ≤ length old) × (new ≡ bytes ++ drop (length bytes) old)
-IsWritten bytes old new len NoRoom = (len ≡ length bytes) × (length old < length bytes) × (new ≡ old)
-IsWritten bytes old new len _ = ⊥
+abbrev pub IsWrittenOut : List ℕ → List ℕ → List ℕ → ℕ → Status → Type 0
+IsWrittenOut bytes old new len Done = (len ≡ length bytes) × (length bytes ≤ length old) × (new ≡ bytes ++ drop (length bytes) old)
+IsWrittenOut bytes old new len NoRoom = (len ≡ length bytes) × (length old < length bytes) × (new ≡ old)
+IsWrittenOut bytes old new len _ = ⊥
 
 -- an encoding failed: the block is too long, or an allocation failed
 pub record IsFailure (given : List SstEntry) (interval num den : ℕ) (old new : List ℕ) (len_old len_new : ℕ) (e : Error) : Type 0 where
-  pub cause : (e ≡ Memory) ⊎ ((e ≡ TooLong) × ((items : List Entry) × CanEncode given interval den items × (2 ^ 32 ≤ length (block_payload items interval num den))))
+  pub cause : (e ≡ Memory) ⊎ ((e ≡ TooLong) × ((items : List Entry) × CanEncode given interval den items × (2 ^ 32 ≤ length (given_payload items interval num den))))
   pub kept : AreKept old new len_old len_new
 
 -- what becomes of an encoding: an argument is refused exactly if the entries can't be encoded
@@ -66,4 +66,4 @@ abbrev pub IsEncode : List SstEntry → ℕ → ℕ → ℕ → List ℕ → Lis
 IsEncode given interval num den old new len_old len_new BadArgument = ((items : List Entry) → CanEncode given interval den items → ⊥) × AreKept old new len_old len_new
 IsEncode given interval num den old new len_old len_new (Failed e) = IsFailure given interval num den old new len_old len_new e
 IsEncode given interval num den old new len_old len_new s =
-    (items : List Entry) × CanEncode given interval den items × IsWritten (block_payload items interval num den) old new len_new s
+    (items : List Entry) × CanEncode given interval den items × IsWrittenOut (given_payload items interval num den) old new len_new s

@@ -7,7 +7,7 @@ use Rattle.sst_base.specs.declared.error.Error.TheVariants.{TooLong, Memory}
 use Rattle.sst_block_core.specs.Kind.{IsOrdered}
 use Rattle.sst_block_core.specs.Window.{count_passed}
 use Rattle.sst_block_core.specs.Handles.{Handle, handles, index_payload, EndFits, IsIndexBlock}
-use Rattle.sst_c.specs.Given.{AreKept, IsWritten}
+use Rattle.sst_c.specs.Given.{AreKept, IsWrittenOut}
 use Rattle.sst_c.specs.declared.codes.Status.{Status}
 use Rattle.sst_c.specs.declared.codes.Status.TheVariants.{Done, Failed, NotFound, BadArgument}
 use Rattle.sst_c.specs.declared.index_block.SstHandle.{SstHandle}
@@ -60,4 +60,4 @@ pub record IsIndexFailure (given : List SstKeyedHandle) (interval : ℕ) (old ne
 abbrev pub IsIndexEncode : List SstKeyedHandle → ℕ → List ℕ → List ℕ → ℕ → ℕ → Status → Type 0
 IsIndexEncode given interval old new len_old len_new BadArgument = (CanEncodeHandles given interval → ⊥) × AreKept old new len_old len_new
 IsIndexEncode given interval old new len_old len_new (Failed e) = IsIndexFailure given interval old new len_old len_new e
-IsIndexEncode given interval old new len_old len_new s = CanEncodeHandles given interval × IsWritten (index_payload (map handle_given given) interval) old new len_new s
+IsIndexEncode given interval old new len_old len_new s = CanEncodeHandles given interval × IsWrittenOut (index_payload (map handle_given given) interval) old new len_new s

@@ -13,7 +13,7 @@ use Rattle.sstable_blocks.specs.RunReading.{Hashes, hashes}
 use Rattle.sstable_blocks.specs.Sound.{IsSound}
 use Rattle.sstable_blocks.specs.declared.run.RunConfig.{RunConfig}
 use Rattle.sstable_blocks.specs.declared.run.RunHandles.{RunHandles}
-use Rattle.sst_c.specs.Given.{AreGiven, AreKept, IsWritten}
+use Rattle.sst_c.specs.Given.{AreGiven, AreKept, IsWrittenOut}
 use Rattle.sst_c.specs.declared.codes.Status.{Status}
 use Rattle.sst_c.specs.declared.codes.Status.TheVariants.{Done, Failed, BadArgument}
 use Rattle.sst_c.specs.declared.entries.SstEntry.{SstEntry}
@@ -89,4 +89,4 @@ IsRunWrite given cuts config old new len_old len_new h_old h_new BadArgument =
 IsRunWrite given cuts config old new len_old len_new h_old h_new (Failed e) = IsRunFailure given cuts config old new len_old len_new h_old h_new e
 IsRunWrite given cuts config old new len_old len_new h_old h_new s =
     (items : List Entry) × CanWrite given cuts config items
-    × ((bytes : List ℕ) × (h : RunHandles) × IsLayout (run_form config) (blocks_of cuts items) bytes h × IsWritten bytes old new len_new s × AreTold h h_old h_new s)
+    × ((bytes : List ℕ) × (h : RunHandles) × IsLayout (run_form config) (blocks_of cuts items) bytes h × IsWrittenOut bytes old new len_new s × AreTold h h_old h_new s)

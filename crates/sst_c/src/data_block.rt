@@ -9,7 +9,7 @@ ghost use Rattle.sst_block_core.specs.Window.{first_match};
 ghost use Rattle.sst_block_core.specs.Checks.{data_check};
 ghost use Rattle.sst_block_core.specs.Trailer.{trailer_in};
 ghost use Rattle.sst_block_core.specs.ParsedEntry.{entry_of, IsParsedEntry};
-ghost use Rattle.sst_c.specs.Blocks.{bytes_at, IsAnswer, IsDataBlock, IsFind, IsPlaceOf};
+ghost use Rattle.sst_c.specs.Blocks.{bytes_behind, IsAnswer, IsDataBlock, IsFind, IsPlaceOf};
 ghost use Rattle.sst_c.specs.Checks.{IsCheck, IsRefusedOrLacks};
 ghost use Rattle.sst_c.specs.Codes.{code_of};
 ghost use Rattle.sst_c.specs.Given.{CanEncode, IsEncode};
@@ -53,7 +53,7 @@ pub struct SstPlace {
 // The offset and the length of a range, if there is one.
 fn place_of_range(payload: &[u8], range: &Option<SliceIndexes>) -> (usize, usize)
     requires { IsOptionalRange payload.now range.now }
-    ensures bytes { bytes_at payload.now result.0 result.1 ≡ optional_range payload.now range.now }
+    ensures bytes { bytes_behind payload.now result.0 result.1 ≡ optional_range payload.now range.now }
     ensures inside { result.0 + result.1 ≤ length payload.now }
 {
     match range {

@@ -3,7 +3,7 @@ ghost use Rattle.std.specs.Prelude.{◌≡◌, ◌⊎◌, ◌^◌, length, map, 
 ghost use Rattle.sst_block_core.specs.Stages.{items_in};
 ghost use Rattle.sst_block_core.specs.Checks.{index_check};
 ghost use Rattle.sst_block_core.specs.Handles.{handles};
-ghost use Rattle.sst_c.specs.Checks.{IsCheck, IsRefused};
+ghost use Rattle.sst_c.specs.Checks.{IsCheck, IsCheckRefused};
 ghost use Rattle.sst_c.specs.Codes.{code_of};
 ghost use Rattle.sst_base.specs.declared.error.Error.TheVariants.{Memory};
 ghost use Rattle.sst_c.specs.Index.{first_for, handle_given, CanEncodeHandles, IsHandleAnswer};
@@ -92,7 +92,7 @@ pub extern "C" fn sst_index_block_find(
 // Checks any bytes, and notes the number of handles.
 fn check(payload: &[u8], count: &mut usize) -> Status
     ensures { IsCheck (IsIndexPayload payload.now)
-        (IsRefused payload.now (index_check payload.now) count.old count.new)
+        (IsCheckRefused payload.now (index_check payload.now) count.old count.new)
         (length (items_in handles payload.now)) count.new result }
 {
     match IndexBlockRef::check(payload) {
@@ -113,7 +113,7 @@ fn check(payload: &[u8], count: &mut usize) -> Status
 pub extern "C" fn sst_index_block_check(payload: &[u8], count: &mut usize) -> u32
     ensures { (s : Status) × (result ≡ code_of s)
         × IsCheck (IsIndexPayload payload.now)
-        (IsRefused payload.now (index_check payload.now) count.old count.new)
+        (IsCheckRefused payload.now (index_check payload.now) count.old count.new)
         (length (items_in handles payload.now)) count.new s }
 {
     check(payload, count).code()

@@ -1,11 +1,11 @@
 //! Bytes that are written into a caller's buffer.
-ghost use Rattle.sst_c.specs.Given.{IsWritten};
+ghost use Rattle.sst_c.specs.Given.{IsWrittenOut};
 
 use crate::codes::Status;
 
 /// Writes bytes at the front of a buffer, if it has room for them, and notes their number.
 pub(crate) fn write_bytes(bytes: &[u8], out: &mut [u8], out_len: &mut usize) -> Status
-    ensures { IsWritten bytes.now out.old out.new out_len.new result }
+    ensures { IsWrittenOut bytes.now out.old out.new out_len.new result }
 {
     *out_len = bytes.len();
     if out.len() < bytes.len() {

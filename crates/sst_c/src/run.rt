@@ -12,7 +12,7 @@ ghost use Rattle.sst_base.specs.declared.error.Error.TheVariants.{Memory, TooLon
 ghost use Rattle.sst_c.specs.Blocks.{IsAnswer, IsFind, IsPlaceOf};
 ghost use Rattle.sst_c.specs.Codes.{code_of};
 ghost use Rattle.sst_c.specs.Runs.{config_given, handles_given, run_form, run_hashes};
-ghost use Rattle.sst_c.specs.Given.{IsWritten};
+ghost use Rattle.sst_c.specs.Given.{IsWrittenOut};
 ghost use Rattle.sst_c.specs.Runs.{AreTold, CanWrite, IsRunCheck, IsRunWrite};
 ghost use Rattle.sst_c.specs.declared.codes.Status.{Status};
 ghost use Rattle.sst_c.specs.declared.entries.SstEntry.{SstEntry};
@@ -330,7 +330,7 @@ fn tell(
     handles: &mut SstRunHandles,
 ) -> Status
     requires { IfSome found.now.filter (λ f. 0 < f.size) }
-    ensures written { IsWritten bytes.now out.old out.new out_len.new result }
+    ensures written { IsWrittenOut bytes.now out.old out.new out_len.new result }
     ensures told { AreTold found.now handles.old handles.new result }
 {
     match write_bytes(bytes, out, out_len) {

@@ -18,8 +18,8 @@ use Rattle.sst_merge.specs.MergeLaws.{merge-nil}
 use Rattle.sst_merge.specs.ReadLaws.{merge_order, plain_ordered}
 use Rattle.sst_merge.specs.Snapshot.{seen}
 use Rattle.sst_merge.specs.Sources.{all_known, before}
-use Rattle.sst_examples.specs.Levels.{AreBelow, AreLevels, ArePlain, IsWritten, Levels, levels, or_none, version, versions}
-use Rattle.sst_examples.specs.Tables.{IsTableOf, MemoryTable, merged_tables, table_entries}
+use Rattle.sst_examples.specs.Levels.{AreBelow, AreLevels, ArePlain, IsVersionWritten, Levels, levels, or_none, version, versions}
+use Rattle.sst_examples.specs.Tables.{HoldsEntries, MemoryTable, merged_tables, table_entries}
 use Rattle.sst_examples.proofs.Newer.{all_compact, all_merge, all_plain, all_weaker, newer_read, one_read, or_older, or_older_both, version_key}
 
 -- all versions in order
@@ -106,7 +106,7 @@ module _ (memory : List Entry) (tables : Option (List Entry)) (next : ℕ) (are 
       | inr miss ↦ miss
     ]
 
-    pub is_written : (snapshots : List ℕ) → IsWritten (levels memory tables next snapshots) (levels (merge entry_cmp (e ∷ []) memory) tables (next + 1) snapshots) e.key.user_key (seen (Some e))
+    pub is_written : (snapshots : List ℕ) → IsVersionWritten (levels memory tables next snapshots) (levels (merge entry_cmp (e ∷ []) memory) tables (next + 1) snapshots) e.key.user_key (seen (Some e))
     is_written snapshots = record {
       next = refl;
       snapshots = refl;
@@ -118,7 +118,7 @@ module _ (memory : List Entry) (tables : Option (List Entry)) (next : ℕ) (are 
 -- what the levels are after a version was added
 pub record IsAdded (memory : List Entry) (tables : Option (List Entry)) (next : ℕ) (snapshots : List ℕ) (new : List Entry) (number : ℕ) (e : Entry) : Type 0 where
   pub are : AreLevels new tables number
-  pub written : IsWritten (levels memory tables next snapshots) (levels new tables number snapshots) e.key.user_key (seen (Some e))
+  pub written : IsVersionWritten (levels memory tables next snapshots) (levels new tables number snapshots) e.key.user_key (seen (Some e))
 
 pub version_added : (memory : List Entry) (tables : Option (List Entry)) (next : ℕ) (snapshots : List ℕ) → AreLevels memory tables next → (key value : List ℕ) (value_type : ValueType) → plain_value value_type value ≡ value
     → (new : List Entry) (number : ℕ) → new ≡ merge entry_cmp (version key next value_type value ∷ []) memory → number ≡ next + 1 → IsAdded memory tables next snapshots new number (version key next value_type value)
@@ -139,12 +139,12 @@ known_more items None older e = absurd (cc)
 known_more items (Some lists) older e = ap (option_map (merge entry_cmp items)) e
 
 -- a table is put before others
-pub table_added : (table : Option MemoryTable) (tables : List MemoryTable) (items older : List Entry) → IsTableOf table items → merged_tables tables ≡ Some older → merged_tables (before table tables) ≡ Some (merge entry_cmp items older)
+pub table_added : (table : Option MemoryTable) (tables : List MemoryTable) (items older : List Entry) → HoldsEntries table items → merged_tables tables ≡ Some older → merged_tables (before table tables) ≡ Some (merge entry_cmp items older)
 table_added None tables items older none known = known ∙ sym (ap (λ xs. Some (merge entry_cmp xs older)) none)
 table_added (Some t) tables items older is known =
     ap (λ o. option_map (merged entry_cmp) (all_known (o ∷ map table_entries tables))) is ∙ known_more items (all_known (map table_entries tables)) older known
 
-module _ (memory : List Entry) (tables : List MemoryTable) (next : ℕ) (are : AreLevels memory (merged_tables tables) next) (table : Option MemoryTable) (is : IsTableOf table (map plain memory)) where
+module _ (memory : List Entry) (tables : List MemoryTable) (next : ℕ) (are : AreLevels memory (merged_tables tables) next) (table : Option MemoryTable) (is : HoldsEntries table (map plain memory)) where
   flushed : merged_tables (before table tables) ≡ Some (merge entry_cmp memory are.older)
   flushed = table_added table tables (map plain memory) are.older is are.known ∙ ap (λ xs. Some (merge entry_cmp xs are.older)) (plain_same memory are.memory_plain)
 
@@ -165,7 +165,7 @@ module _ (memory : List Entry) (tables : List MemoryTable) (next : ℕ) (are : A
   flushed_same = ap or_none flushed ∙ sym (ap (all_versions memory) are.known)
 
 module _ (memory : List Entry) (tables : List MemoryTable) (next : ℕ) (snapshots : List ℕ) (are : AreLevels memory (merged_tables tables) next) (table : Option MemoryTable)
-    (is : (older : List Entry) → merged_tables tables ≡ Some older → IsTableOf table (map plain (compacted (λ (e : Entry). e) snapshots (λ _. true) older)))
+    (is : (older : List Entry) → merged_tables tables ≡ Some older → HoldsEntries table (map plain (compacted (λ (e : Entry). e) snapshots (λ _. true) older)))
     (plains : (needle : List ℕ) (s : ℕ) (items : List Entry) → first_match entries needle s (map plain items) ≡ first_match entries needle s items)
     (keeps : (snapshots : List ℕ) (bottom : List ℕ → Bool) (needle : List ℕ) (s : ℕ) (items : List Entry) → IsKeptRead snapshots s → IsOrdered entries items → seen (first_match entries needle s (compacted (λ (e : Entry). e) snapshots bottom items)) ≡ seen (first_match entries needle s items))
     (orders : (snapshots : List ℕ) (bottom : List ℕ → Bool) (items : List Entry) → IsOrdered entries items → IsOrdered entries (compacted (λ (e : Entry). e) snapshots bottom items))
@@ -212,10 +212,10 @@ pub record IsFlushed (memory : List Entry) (tables : List MemoryTable) (next : �
   pub are : AreLevels left (merged_tables new) next
   pub is : levels left (merged_tables new) next snapshots ≡ record { memory = []; stored = versions (levels memory (merged_tables tables) next snapshots); next = next; snapshots = snapshots }
 
-pub memory_flushed : (memory : List Entry) (tables : List MemoryTable) (next : ℕ) (snapshots : List ℕ) → AreLevels memory (merged_tables tables) next → (table : Option MemoryTable) (copy left : List Entry) (new : List MemoryTable) → IsTableOf table (map plain copy) → copy ≡ memory → left ≡ [] → new ≡ before table tables
+pub memory_flushed : (memory : List Entry) (tables : List MemoryTable) (next : ℕ) (snapshots : List ℕ) → AreLevels memory (merged_tables tables) next → (table : Option MemoryTable) (copy left : List Entry) (new : List MemoryTable) → HoldsEntries table (map plain copy) → copy ≡ memory → left ≡ [] → new ≡ before table tables
     → IsFlushed memory tables next snapshots left new
 memory_flushed memory tables next snapshots are table copy left new is same none added =
-    let of : IsTableOf table (map plain memory) = subst (λ xs. IsTableOf table (map plain xs)) same is in
+    let of : HoldsEntries table (map plain memory) = subst (λ xs. HoldsEntries table (map plain xs)) same is in
     let flat : List Entry → Levels = λ xs. record { memory = []; stored = xs; next = next; snapshots = snapshots } in
     let at : IsFlushed memory tables next snapshots [] (before table tables) = record { are = level_flushed memory tables next are table of; is = ap flat (flushed_same memory tables next are table of) } in
     subst (λ xs. IsFlushed memory tables next snapshots xs new) (sym none) (subst (IsFlushed memory tables next snapshots []) (sym added) at)

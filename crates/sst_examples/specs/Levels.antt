@@ -33,7 +33,7 @@ version key seqno value_type value = record { key = record { user_key = key; seq
 
 -- A version of a key was written with the next sequence number: reads of the key above that number see this, and all
 -- other reads what they saw.
-pub record IsWritten (old new : Levels) (key : List ℕ) (shown : Option Entry) : Type 0 where
+pub record IsVersionWritten (old new : Levels) (key : List ℕ) (shown : Option Entry) : Type 0 where
   pub next : new.next ≡ old.next + 1
   pub snapshots : new.snapshots ≡ old.snapshots
   pub above : (seqno : ℕ) → old.next < seqno → read new key seqno ≡ shown

@@ -28,6 +28,6 @@ abbrev pub merged_tables : List MemoryTable → Option (List Entry)
 merged_tables tables = option_map (merged entry_cmp) (all_known (map table_entries tables))
 
 -- a table has these entries; there is none where there are none
-abbrev pub IsTableOf : Option MemoryTable → List Entry → Type 0
-IsTableOf None items = items ≡ []
-IsTableOf (Some t) items = table_entries t ≡ Some items
+abbrev pub HoldsEntries : Option MemoryTable → List Entry → Type 0
+HoldsEntries None items = items ≡ []
+HoldsEntries (Some t) items = table_entries t ≡ Some items

@@ -7,7 +7,7 @@ use Rattle.std.proofs.lemmas.Option.{slice_get-get_or}
 use Rattle.std.specs.List.{AllByRecursion}
 use Rattle.std.specs.Option.{option_map, IfSome}
 use Rattle.sst_base.specs.Entry.{Entry}
-use Rattle.sst_block_core.specs.Body.{body, form}
+use Rattle.sst_block_core.specs.Body.{body, item_form}
 use Rattle.sst_block_core.specs.Entries.{entries}
 use Rattle.sst_block_core.specs.OffsetLaws.{body-append}
 use Rattle.sstable_blocks.specs.Blocks.{joined}
@@ -24,13 +24,13 @@ unfolding body
 len_none r = refl
 
 -- of one entry more
-pub len_entry : (r : ℕ) → 0 < r → (block : List Entry) (e : Entry) → block_len r (block ++ e ∷ []) ≡ block_len r block + length (form entries r (block ++ e ∷ []) (length block) e)
+pub len_entry : (r : ℕ) → 0 < r → (block : List Entry) (e : Entry) → block_len r (block ++ e ∷ []) ≡ block_len r block + length (item_form entries r (block ++ e ∷ []) (length block) e)
 len_entry r pos block e =
     ap length (body-append entries r pos block (e ∷ []))
-    ∙ length-append (body entries r block) (form entries r (block ++ e ∷ []) (length block) e ++ [])
-    ∙ ap (λ bytes. block_len r block + length bytes) (append-nil (form entries r (block ++ e ∷ []) (length block) e))
+    ∙ length-append (body entries r block) (item_form entries r (block ++ e ∷ []) (length block) e ++ [])
+    ∙ ap (λ bytes. block_len r block + length bytes) (append-nil (item_form entries r (block ++ e ∷ []) (length block) e))
 
-pub len_more : (r : ℕ) → 1 ≤ r → (block more : List Entry) (e : Entry) (n k m : ℕ) → more ≡ block ++ e ∷ [] → n ≡ capped (block_len r block) → k ≡ length (form entries r (block ++ e ∷ []) (length block) e) → m ≡ min (n + k) (2 ^ 64 - 1) → m ≡ capped (block_len r more)
+pub len_more : (r : ℕ) → 1 ≤ r → (block more : List Entry) (e : Entry) (n k m : ℕ) → more ≡ block ++ e ∷ [] → n ≡ capped (block_len r block) → k ≡ length (item_form entries r (block ++ e ∷ []) (length block) e) → m ≡ min (n + k) (2 ^ 64 - 1) → m ≡ capped (block_len r more)
 len_more r pos block more e n k m is h i j =
     let l : block_len r more ≡ block_len r block + k = ap (block_len r) is ∙ len_entry r pos block e ∙ ap (λ n. block_len r block + n) (sym i) in
     omega (arith, h, j, l)

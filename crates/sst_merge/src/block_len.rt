@@ -1,7 +1,7 @@
 //! How many bytes entries take in a data block.
 ghost use Rattle.std.specs.Prelude.{◌≡◌, ◌+◌, ◌<◌, ◌≤◌, ◌^◌, ◌++◌, ◌∷◌, [], length, map};
 ghost use Rattle.sst_base.specs.Varint.{varint};
-ghost use Rattle.sst_block_core.specs.Body.{form, truncated_against};
+ghost use Rattle.sst_block_core.specs.Body.{item_form, truncated_against};
 ghost use Rattle.sst_block_core.specs.Entries.{entries, full, truncated, value_part};
 
 use sst_base::ValueType;
@@ -74,7 +74,7 @@ fn len_behind(head: &EntryView<'_>, entry: &EntryView<'_>) -> usize
 /// entries: of its key those that the head of its interval has not.
 pub(crate) fn form_len<T: AsEntry>(block: &[T], entry: &T, interval: u8) -> usize
     requires { 1 ≤ interval }
-    ensures value { result ≡ length (form entries interval
+    ensures value { result ≡ length (item_form entries interval
         (map T.entry block.now ++ T.entry entry.now ∷ []) (length block.now) (T.entry entry.now)) }
     ensures most { result < 2 ^ 34 }
 {

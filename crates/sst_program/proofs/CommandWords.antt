@@ -7,20 +7,20 @@ use Rattle.std.proofs.lemmas.List.{take_all}
 use Rattle.std.proofs.lemmas.Str.{IsUtf8-from_is_utf8, is_utf8-from_IsUtf8}
 use Rattle.sst_base.specs.declared.config.HashRatio.{HashRatio}
 use Rattle.sstable_blocks.specs.declared.run.RunConfig.{RunConfig}
-use Rattle.sst_program.specs.Text.{number_of, within, number_within}
+use Rattle.sst_program.specs.Text.{number_of, between_limits, number_within}
 use Rattle.sst_program.specs.Commands.{name_of, point_of_words, pack_of_words, get_of_words, file_of_words, command_named, command_of_words, index_interval_of, query_of, ratio_of, config_of, packing_of, lookup_of, file_of}
 
-pub within-kept : (least most n : ℕ) → least ≤ n → n ≤ most → within least most n ≡ Some n
+pub within-kept : (least most n : ℕ) → least ≤ n → n ≤ most → between_limits least most n ≡ Some n
 within-kept least most n some small =
     let test : (nat_le least n && nat_le n most) ≡ true = grind (arith, nat_tests) in
     rw test refl
 
-pub within-passed : (least most n : ℕ) → (n < least) ⊎ (most < n) → within least most n ≡ None
+pub within-passed : (least most n : ℕ) → (n < least) ⊎ (most < n) → between_limits least most n ≡ None
 within-passed least most n h =
     let test : (nat_le least n && nat_le n most) ≡ false = grind (arith, nat_tests) in
     rw test refl
 
-pub number_within-some : (least most : ℕ) (text : List ℕ) (n : ℕ) → number_of text ≡ Some n → number_within least most text ≡ within least most n
+pub number_within-some : (least most : ℕ) (text : List ℕ) (n : ℕ) → number_of text ≡ Some n → number_within least most text ≡ between_limits least most n
 unfolding number_within
 number_within-some least most text n e = rw e refl
 

@@ -16,7 +16,7 @@ use Rattle.sst_base.specs.declared.value_type.ValueType.TheVariants.{Value, Tomb
 use Rattle.sst_base.specs.Reading.{◌>>=◌}
 use Rattle.sst_base.specs.Entry.{Entry, plain_value}
 use Rattle.sst_program.specs.Text.{IsNumberText, is_number_text, number_of, hex_bytes}
-use Rattle.sst_program.specs.Line.{letter_of, type_of_letter, type_of_letters, IsEncodedBy, Encodes, Lacks, cut_at, entry_within_limits, entry_of_parts, entry_of_line}
+use Rattle.sst_program.specs.Line.{letter_of, type_of_letter, type_of_letters, IsLineOf, Encodes, Lacks, cut_at, entry_within_limits, entry_of_parts, entry_of_line}
 use Rattle.sst_program.proofs.Numbers.{number_text-sound, number_of-some}
 use Rattle.sst_program.proofs.EntryParts.{line-with_parts, parts-all, limits-kept}
 
@@ -85,7 +85,7 @@ plain-length Indirection v = omega arith
 
 encoded-by : (letter number key value : List ℕ) (t : ValueType) (n : ℕ) (k v : List ℕ) → letter ≡ letter_of t ∷ [] → IsNumberText number → digits_value 10 number ≡ n
     → hex_bytes key ≡ Some k → hex_bytes value ≡ Some v → 1 ≤ length k → length k ≤ 65535 → length v < 2 ^ 32
-    → IsEncodedBy letter number key value (record { key = record { user_key = k; seqno = n; value_type = t }; value = plain_value t v })
+    → IsLineOf letter number key value (record { key = record { user_key = k; seqno = n; value_type = t }; value = plain_value t v })
 encoded-by letter number key value t n k v l d s p q some short fits = record {
   is_letter = l;
   is_number = d;
@@ -95,7 +95,7 @@ encoded-by letter number key value t n k v l d s p q some short fits = record {
   is_entry = record { some = some; user_key = short; seqno = omega (arith, d.1, s); value = omega (arith, plain-length t v) };
 }
 
-parts-inverse : (letter number key value : List ℕ) (e : Entry) → entry_of_parts letter number key value ≡ Some e → IsEncodedBy letter number key value e
+parts-inverse : (letter number key value : List ℕ) (e : Entry) → entry_of_parts letter number key value ≡ Some e → IsLineOf letter number key value e
 unfolding entry_of_parts
 parts-inverse letter number key value e h =
     let a = bind-some (type_of_letters letter) _ e h in
@@ -161,7 +161,7 @@ some-and : {A : Type 0} (o : Option A) (P : A → Type 0) → IsSomeAnd o P → 
 some-and None P h = absurd h
 some-and (Some x) P h = (x, refl, h)
 
-parts-complete : (letter number key value : List ℕ) (e : Entry) → IsEncodedBy letter number key value e → entry_of_parts letter number key value ≡ Some e
+parts-complete : (letter number key value : List ℕ) (e : Entry) → IsLineOf letter number key value e → entry_of_parts letter number key value ≡ Some e
 parts-complete letter number key value e by =
     let t = e.key.value_type in
     let v = some-and (hex_bytes value) (λ bytes. (e.value ≡ plain_value t bytes) × (length bytes < 2 ^ 32)) by.is_value in

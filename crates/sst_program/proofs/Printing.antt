@@ -5,7 +5,7 @@ use Rattle.std.specs.Io.KnownBytes.{append_known}
 use Rattle.std.proofs.KnownBytes.{Appends-nil, Appends-trans}
 use Rattle.hex.specs.Hex.{encode_with, encode_lower, lower_digits}
 use Rattle.sst_base.specs.Entry.{Entry}
-use Rattle.sst_block_core.specs.Scan.{Scan, GivesNext}
+use Rattle.sst_block_core.specs.Scan.{Scan, GivesScanned}
 use Rattle.sst_block_core.specs.Window.{Window, items_left, whole}
 use Rattle.sst_block_core.specs.WindowLaws.{next_some, next_none, items_left-whole}
 use Rattle.sst_block_core.specs.ParsedEntry.{entry_of, IsParsedEntry}
@@ -75,7 +75,7 @@ puts_line e value a b c d f h u v w x y z front key space text same feed =
     puts_then a f h u y z _ _ (puts_then a d f u x y _ _ (puts_then a c d u w x _ _ (puts_then a b c u v w _ _ front key) space) line) feed
 
 -- a step of the iterator over a block: the line of its entry, and those left
-pub lines_step : (s t : Scan Entry) (p : DataBlockParsedItem) → GivesNext entry_of IsParsedEntry s (Some p) t
+pub lines_step : (s t : Scan Entry) (p : DataBlockParsedItem) → GivesScanned entry_of IsParsedEntry s (Some p) t
     → lines_text_of (items_left s.window) ≡ (entry_line_of (entry_of s.payload p) ++ (10 ∷ [])) ++ lines_text_of (items_left t.window)
 lines_step s t p gives =
     ap lines_text_of (next_some s.window t.window (entry_of s.payload p) gives.step).0
@@ -84,12 +84,12 @@ lines_step s t p gives =
 pub lines_whole : (w : Window Entry) (items : List Entry) → w ≡ whole items → lines_text_of (items_left w) ≡ lines_text_of items
 lines_whole w items e = ap (λ (v : Window Entry). lines_text_of (items_left v)) e ∙ ap lines_text_of (items_left-whole items)
 
-pub lines_over : (s t : Scan Entry) → GivesNext entry_of IsParsedEntry s None t → lines_text_of (items_left s.window) ≡ []
+pub lines_over : (s t : Scan Entry) → GivesScanned entry_of IsParsedEntry s None t → lines_text_of (items_left s.window) ≡ []
 lines_over s t gives = ap lines_text_of (next_none s.window t.window gives.step).0
 
 -- the line of an entry, put after those before it
 pub puts_entry : (s t : Scan Entry) (p : DataBlockParsedItem) (a b c : Option (List ℕ)) (u v w payload all : List ℕ) → PutsTo a u b v (lines_text_of (items_left s.window)) all
-    → Puts b v c w (entry_line_of (entry_of payload p) ++ (10 ∷ [])) → s.payload ≡ payload → GivesNext entry_of IsParsedEntry s (Some p) t → PutsTo a u c w (lines_text_of (items_left t.window)) all
+    → Puts b v c w (entry_line_of (entry_of payload p) ++ (10 ∷ [])) → s.payload ≡ payload → GivesScanned entry_of IsParsedEntry s (Some p) t → PutsTo a u c w (lines_text_of (items_left t.window)) all
 puts_entry s t p a b c u v w payload all before line same gives =
     puts_next a b c u v w (lines_text_of (items_left s.window)) (lines_text_of (items_left t.window)) (entry_line_of (entry_of s.payload p) ++ (10 ∷ [])) all before
     (subst (λ q. Puts b v c w (entry_line_of (entry_of q p) ++ (10 ∷ []))) (sym same) line) (lines_step s t p gives)

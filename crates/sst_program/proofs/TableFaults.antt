@@ -15,7 +15,7 @@ use Rattle.sst_block_core.specs.Handles.{Handle}
 use Rattle.sstable_blocks.specs.SourceLaws.{source_fails, fails_outside}
 use Rattle.sstable_blocks.specs.Sources.{FailsAs}
 use Rattle.sstable_blocks.specs.declared.run.RunHandles.{RunHandles}
-use Rattle.sst_program.specs.TableReads.{index_read, run_filter_check, entries_counted, run_counts, run_blocks, blocks_by, blocks_read, blocks_behind, table_blocks, before_refusal, first_refusal, AreCutOff, FailsAround, FailsAmong, IsTableFault, IsWalkFault, PrintsBefore, PrintsUntil}
+use Rattle.sst_program.specs.TableReads.{index_read, run_filter_check, entries_counted, run_counts, run_blocks, blocks_by, blocks_listed, blocks_behind, table_blocks, before_refusal, first_refusal, AreCutOff, FailsAround, FailsAmong, IsTableFault, IsWalkFault, PrintsBefore, PrintsUntil}
 use Rattle.sst_program.specs.declared.fault.Fault.{Fault}
 use Rattle.sst_program.specs.declared.fault.Fault.TheVariants.{Refused}
 
@@ -56,35 +56,35 @@ among (Some all) P R h e grew fails = λ io. elim (fails (not_memory e io)) [
 
 -- a walk that ended early over the blocks of an index that was read
 blocks_late_at : (all : List ℕ) (P Q : Type 0) (h : HandleParts) (hs : List Handle) (old new : Option (List ℕ)) (r : Result (Unit {0}) Error) → index_read all h ≡ Ok hs → (P → Q)
-    → IfErr r (λ e. e ≢ Memory → e ≢ Io → PrintsBefore P old new (blocks_read all hs) e) → IfErr r (λ e. e ≢ Memory → e ≢ Io → PrintsBefore Q old new (run_blocks all h) e)
+    → IfErr r (λ e. e ≢ Memory → e ≢ Io → PrintsBefore P old new (blocks_listed all hs) e) → IfErr r (λ e. e ≢ Memory → e ≢ Io → PrintsBefore Q old new (run_blocks all h) e)
 blocks_late_at all P Q h hs old new (Ok u) index later refused = tt
 blocks_late_at all P Q h hs old new (Err e) index later refused =
-    let whole : run_blocks all h ≡ blocks_read all hs = ap (λ q. blocks_by all q) index in λ memory io. elim (refused memory io) [
+    let whole : run_blocks all h ≡ blocks_listed all hs = ap (λ q. blocks_by all q) index in λ memory io. elim (refused memory io) [
       | inl past ↦ inl (past.0, later past.1, subst (λ q. PrintsUntil old new q (Some BadHandle)) (sym whole) past.2)
       | inr until ↦ inr (subst (λ q. PrintsUntil old new q (Some e)) (sym whole) until)
     ]
 
 pub blocks_late : (o o' : Option (List ℕ)) (P Q : Type 0) (h : HandleParts) (hs : List Handle) (old new : Option (List ℕ)) (r : Result (Unit {0}) Error) → o' ≡ o → IfSome o (λ all. index_read all h ≡ Ok hs) → (P → Q)
-    → IfSome o' (λ all. IfErr r (λ e. e ≢ Memory → e ≢ Io → PrintsBefore P old new (blocks_read all hs) e)) → IfSome o (λ all. IfErr r (λ e. e ≢ Memory → e ≢ Io → PrintsBefore Q old new (run_blocks all h) e))
+    → IfSome o' (λ all. IfErr r (λ e. e ≢ Memory → e ≢ Io → PrintsBefore P old new (blocks_listed all hs) e)) → IfSome o (λ all. IfErr r (λ e. e ≢ Memory → e ≢ Io → PrintsBefore Q old new (run_blocks all h) e))
 blocks_late None o' P Q h hs old new r same index later refused = tt
 blocks_late (Some all) o' P Q h hs old new r same index later refused =
-    blocks_late_at all P Q h hs old new r index later (subst (λ x. IfSome x (λ bytes. IfErr r (λ e. e ≢ Memory → e ≢ Io → PrintsBefore P old new (blocks_read bytes hs) e))) same refused)
+    blocks_late_at all P Q h hs old new r index later (subst (λ x. IfSome x (λ bytes. IfErr r (λ e. e ≢ Memory → e ≢ Io → PrintsBefore P old new (blocks_listed bytes hs) e))) same refused)
 
 -- and one that failed there
 blocks_fail_at : (all : List ℕ) (P Q R T : Type 0) (h : HandleParts) (hs : List Handle) (r : Result (Unit {0}) Error) → index_read all h ≡ Ok hs → (P → Q) → (T → R)
-    → IfErr r (λ e. e ≡ Io → FailsAmong P R (blocks_read all hs)) → IfErr r (λ e. e ≡ Io → FailsAmong Q T (run_blocks all h))
+    → IfErr r (λ e. e ≡ Io → FailsAmong P R (blocks_listed all hs)) → IfErr r (λ e. e ≡ Io → FailsAmong Q T (run_blocks all h))
 blocks_fail_at all P Q R T h hs (Ok u) index later kept fails = tt
 blocks_fail_at all P Q R T h hs (Err e) index later kept fails =
-    let whole : run_blocks all h ≡ blocks_read all hs = ap (λ q. blocks_by all q) index in λ io. elim (fails io) [
+    let whole : run_blocks all h ≡ blocks_listed all hs = ap (λ q. blocks_by all q) index in λ io. elim (fails io) [
       | inl failed ↦ inl (later failed.0, λ t. subst (λ q. AreCutOff q) (sym whole) (failed.1 (kept t)))
       | inr some ↦ inr (subst (λ (q : List (Result (List Entry) Error)). 1 ≤ length (before_refusal q)) (sym whole) some)
     ]
 
 pub blocks_fail : (o o' : Option (List ℕ)) (P Q R T : Type 0) (h : HandleParts) (hs : List Handle) (r : Result (Unit {0}) Error) → o' ≡ o → IfSome o (λ all. index_read all h ≡ Ok hs) → (P → Q) → (T → R)
-    → IfSome o' (λ all. IfErr r (λ e. e ≡ Io → FailsAmong P R (blocks_read all hs))) → IfSome o (λ all. IfErr r (λ e. e ≡ Io → FailsAmong Q T (run_blocks all h)))
+    → IfSome o' (λ all. IfErr r (λ e. e ≡ Io → FailsAmong P R (blocks_listed all hs))) → IfSome o (λ all. IfErr r (λ e. e ≡ Io → FailsAmong Q T (run_blocks all h)))
 blocks_fail None o' P Q R T h hs r same index later kept fails = tt
 blocks_fail (Some all) o' P Q R T h hs r same index later kept fails =
-    blocks_fail_at all P Q R T h hs r index later kept (subst (λ x. IfSome x (λ bytes. IfErr r (λ e. e ≡ Io → FailsAmong P R (blocks_read bytes hs)))) same fails)
+    blocks_fail_at all P Q R T h hs r index later kept (subst (λ x. IfSome x (λ bytes. IfErr r (λ e. e ≡ Io → FailsAmong P R (blocks_listed bytes hs)))) same fails)
 
 -- a footer that is refused
 pub footer_fault : {Y : Type 0} (o : Option (List ℕ)) (m : Type 0) (go : List ℕ → RunHandles → Result Y Error) (e : Error) (fault : Fault) → fault ≡ Refused e → IfSome o (λ all. FailsAs (m → ⊥) ⊥ (table_handles all) e)

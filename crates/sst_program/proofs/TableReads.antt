@@ -14,13 +14,13 @@ use Rattle.sst_block_core.specs.Scan.{Scan}
 use Rattle.sst_block_core.specs.Window.{Window, items_left, whole}
 use Rattle.sst_block_core.specs.WindowLaws.{next_some, next_none, items_left-whole}
 use Rattle.sst_block_core.specs.Handles.{Handle}
-use Rattle.sst_block_core.specs.ParsedHandle.{handle_of, IsParsedHandle}
+use Rattle.sst_block_core.specs.ParsedHandle.{parsed_handle, IsParsedHandle}
 use Rattle.sst_block_core.specs.declared.table.index_block.parsed_item.IndexBlockParsedItem.{IndexBlockParsedItem}
 use Rattle.sstable_blocks.specs.Blocks.{joined}
 use Rattle.sstable_blocks.specs.SourceLaws.{source_fails}
 use Rattle.sstable_blocks.specs.Sources.{FailsAs}
 use Rattle.sst_program.specs.Outcome.{lines_text_of}
-use Rattle.sst_program.specs.TableReads.{block_read, block_count, blocks_read, before_refusal, first_refusal, entry_count, entries_counted, PrintsUntil, PrintsFirst, FailsAround, FailsAmong}
+use Rattle.sst_program.specs.TableReads.{block_read, block_count, blocks_listed, before_refusal, first_refusal, entry_count, entries_counted, PrintsUntil, PrintsFirst, FailsAround, FailsAmong}
 use Rattle.sst_program.proofs.Outcomes.{lines-append}
 use Rattle.sst_program.proofs.Tables.{joined-next}
 
@@ -42,19 +42,19 @@ known_all None R f = tt
 known_all (Some all) R f = f all
 
 -- a step of the iterator over an index, and what is read of its block: one block fewer is left to read
-pub read_step : (all : List ℕ) (s t : Scan Handle) (p : IndexBlockParsedItem) (h : HandleParts) (read : Result (List Entry) Error) → h ≡ record { offset = p.offset.0; size = p.size } → GivesNextHeld handle_of IsParsedHandle s (Some p) t
-    → block_read all h ≡ read → blocks_read all (items_left s.window) ≡ read ∷ blocks_read all (items_left t.window)
+pub read_step : (all : List ℕ) (s t : Scan Handle) (p : IndexBlockParsedItem) (h : HandleParts) (read : Result (List Entry) Error) → h ≡ record { offset = p.offset.0; size = p.size } → GivesNextHeld parsed_handle IsParsedHandle s (Some p) t
+    → block_read all h ≡ read → blocks_listed all (items_left s.window) ≡ read ∷ blocks_listed all (items_left t.window)
 read_step all s t p h read is gives e =
-    ap (blocks_read all) (next_some s.window t.window (handle_of s.payload p) gives.step).0
-    ∙ ap (λ (r : Result (List Entry) Error). r ∷ blocks_read all (items_left t.window)) (ap (block_read all) (sym is) ∙ e)
+    ap (blocks_listed all) (next_some s.window t.window (parsed_handle s.payload p) gives.step).0
+    ∙ ap (λ (r : Result (List Entry) Error). r ∷ blocks_listed all (items_left t.window)) (ap (block_read all) (sym is) ∙ e)
 
 -- all are left at the start
-pub read_whole : (all : List ℕ) (w : Window Handle) (hs : List Handle) → w ≡ whole hs → blocks_read all (items_left w) ≡ blocks_read all hs
-read_whole all w hs e = ap (λ (v : Window Handle). blocks_read all (items_left v)) e ∙ ap (blocks_read all) (items_left-whole hs)
+pub read_whole : (all : List ℕ) (w : Window Handle) (hs : List Handle) → w ≡ whole hs → blocks_listed all (items_left w) ≡ blocks_listed all hs
+read_whole all w hs e = ap (λ (v : Window Handle). blocks_listed all (items_left v)) e ∙ ap (blocks_listed all) (items_left-whole hs)
 
 -- none is left at the end
-pub read_over : (all : List ℕ) (s t : Scan Handle) → GivesNextHeld handle_of IsParsedHandle s None t → blocks_read all (items_left s.window) ≡ []
-read_over all s t gives = ap (blocks_read all) (next_none s.window t.window gives.step).0
+pub read_over : (all : List ℕ) (s t : Scan Handle) → GivesNextHeld parsed_handle IsParsedHandle s None t → blocks_listed all (items_left s.window) ≡ []
+read_over all s t gives = ap (blocks_listed all) (next_none s.window t.window gives.step).0
 
 -- these blocks were read, and what is left decides the rest
 pub record IsReadTo (reads left : Reads) (done : List (List Entry)) : Type 0 where
@@ -128,18 +128,18 @@ counts_next reads left more items count n p e is = record {
 }
 
 -- all were counted where nothing is left
-pub counts_all : (all : List ℕ) (hs : List Handle) (left : Reads) (count : ℕ) → CountsTo (blocks_read all hs) left count → left ≡ [] → entries_counted all hs ≡ Ok count
+pub counts_all : (all : List ℕ) (hs : List Handle) (left : Reads) (count : ℕ) → CountsTo (blocks_listed all hs) left count → left ≡ [] → entries_counted all hs ≡ Ok count
 unfolding entries_counted
 counts_all all hs left count p e =
-    let is = read_end (blocks_read all hs) left p.done None p.read (ap (λ (q : Reads). before_refusal q) e) (ap (λ (q : Reads). first_refusal q) e) in
+    let is = read_end (blocks_listed all hs) left p.done None p.read (ap (λ (q : Reads). before_refusal q) e) (ap (λ (q : Reads). first_refusal q) e) in
     rw (is.1, is.0) (ap (λ n. Ok n) (sym p.counted))
 
 -- a refusal that is left is that of the count
-pub counts_refused : (all : List ℕ) (hs : List Handle) (left more : Reads) (count : ℕ) (error : Error) → CountsTo (blocks_read all hs) left count → left ≡ Err error ∷ more
+pub counts_refused : (all : List ℕ) (hs : List Handle) (left more : Reads) (count : ℕ) (error : Error) → CountsTo (blocks_listed all hs) left count → left ≡ Err error ∷ more
     → entries_counted all hs ≡ Err error
 unfolding entries_counted
 counts_refused all hs left more count error p e =
-    let end = read_end (blocks_read all hs) left p.done (Some error) p.read (ap (λ (q : Reads). before_refusal q) e) (ap (λ (q : Reads). first_refusal q) e) in
+    let end = read_end (blocks_listed all hs) left p.done (Some error) p.read (ap (λ (q : Reads). before_refusal q) e) (ap (λ (q : Reads). first_refusal q) e) in
     rw end.1 refl
 
 -- what was printed stays, unless printing failed
@@ -147,10 +147,10 @@ pub kept_unless : (a b : Option (List ℕ)) (error : Error) → error ≢ Io →
 kept_unless a b error other (inl io) = absurd (other io)
 kept_unless a b error other (inr kept) = kept
 
-pub counts_all_on : (o : Option (List ℕ)) (hs : List Handle) (s t : Scan Handle) (count : ℕ) → IfSome o (λ all. CountsTo (blocks_read all hs) (blocks_read all (items_left s.window)) count)
-    → GivesNextHeld handle_of IsParsedHandle s None t → IfSome o (λ all. entries_counted all hs ≡ Ok count)
+pub counts_all_on : (o : Option (List ℕ)) (hs : List Handle) (s t : Scan Handle) (count : ℕ) → IfSome o (λ all. CountsTo (blocks_listed all hs) (blocks_listed all (items_left s.window)) count)
+    → GivesNextHeld parsed_handle IsParsedHandle s None t → IfSome o (λ all. entries_counted all hs ≡ Ok count)
 counts_all_on None hs s t count p gives = tt
-counts_all_on (Some all) hs s t count p gives = counts_all all hs (blocks_read all (items_left s.window)) count p (read_over all s t gives)
+counts_all_on (Some all) hs s t count p gives = counts_all all hs (blocks_listed all (items_left s.window)) count p (read_over all s t gives)
 
 -- a number of entries is that of entries that were read
 pub count_read : (read : Result (List Entry) Error) (n : ℕ) → (read >>= (λ items. Ok (length items))) ≡ Ok n → (items : List Entry) × (read ≡ Ok items) × (length items ≡ n)
@@ -163,23 +163,23 @@ count_refused (Err d) error e = let same : ◌≡◌ {A = Result ℕ Error} (Err
 
 -- a step of the count
 pub counts_step_on : (o o' : Option (List ℕ)) (hs : List Handle) (s t : Scan Handle) (p : IndexBlockParsedItem) (h : HandleParts) (count len n : ℕ) → o' ≡ o
-    → IfSome o (λ all. CountsTo (blocks_read all hs) (blocks_read all (items_left s.window)) count) → h ≡ record { offset = p.offset.0; size = p.size } → GivesNextHeld handle_of IsParsedHandle s (Some p) t
-    → IfSome o' (λ all. block_count all h ≡ Ok len) → n ≡ min (count + len) (2 ^ 64 - 1) → IfSome o (λ all. CountsTo (blocks_read all hs) (blocks_read all (items_left t.window)) n)
+    → IfSome o (λ all. CountsTo (blocks_listed all hs) (blocks_listed all (items_left s.window)) count) → h ≡ record { offset = p.offset.0; size = p.size } → GivesNextHeld parsed_handle IsParsedHandle s (Some p) t
+    → IfSome o' (λ all. block_count all h ≡ Ok len) → n ≡ min (count + len) (2 ^ 64 - 1) → IfSome o (λ all. CountsTo (blocks_listed all hs) (blocks_listed all (items_left t.window)) n)
 counts_step_on None o' hs s t p h count len n same to is gives read e = tt
 counts_step_on (Some all) o' hs s t p h count len n same to is gives read e =
     let r = count_read (block_read all h) len (subst (λ x. IfSome x (λ bytes. block_count bytes h ≡ Ok len)) same read) in
-    counts_next (blocks_read all hs) (blocks_read all (items_left s.window)) (blocks_read all (items_left t.window)) r.0 count n to (read_step all s t p h (Ok r.0) is gives r.1) (rw r.2 e)
+    counts_next (blocks_listed all hs) (blocks_listed all (items_left s.window)) (blocks_listed all (items_left t.window)) r.0 count n to (read_step all s t p h (Ok r.0) is gives r.1) (rw r.2 e)
 
 pub counts_fail_on : (o o' : Option (List ℕ)) (hs : List Handle) (s t : Scan Handle) (p : IndexBlockParsedItem) (h : HandleParts) (count : ℕ) (error : Error) (P Q R T : Type 0) → o' ≡ o
-    → IfSome o (λ all. CountsTo (blocks_read all hs) (blocks_read all (items_left s.window)) count) → h ≡ record { offset = p.offset.0; size = p.size } → GivesNextHeld handle_of IsParsedHandle s (Some p) t
+    → IfSome o (λ all. CountsTo (blocks_listed all hs) (blocks_listed all (items_left s.window)) count) → h ≡ record { offset = p.offset.0; size = p.size } → GivesNextHeld parsed_handle IsParsedHandle s (Some p) t
     → (P → Q) → (T → R) → IfSome o' (λ all. FailsAs P R (block_count all h) error) → IfSome o (λ all. FailsAs Q T (entries_counted all hs) error)
 counts_fail_on None o' hs s t p h count error P Q R T same to is gives later kept fails = tt
 counts_fail_on (Some all) o' hs s t p h count error P Q R T same to is gives later kept fails = λ other.
     elim ((subst (λ x. IfSome x (λ bytes. FailsAs P R (block_count bytes h) error)) same fails) other) [
       | inl failed ↦ inl (source_fails later kept
-          (λ bad. counts_refused all hs (blocks_read all (items_left s.window)) (blocks_read all (items_left t.window)) count BadHandle to
+          (λ bad. counts_refused all hs (blocks_listed all (items_left s.window)) (blocks_listed all (items_left t.window)) count BadHandle to
           (read_step all s t p h (Err BadHandle) is gives (count_refused (block_read all h) BadHandle bad))) failed)
-      | inr refused ↦ inr (counts_refused all hs (blocks_read all (items_left s.window)) (blocks_read all (items_left t.window)) count error to
+      | inr refused ↦ inr (counts_refused all hs (blocks_listed all (items_left s.window)) (blocks_listed all (items_left t.window)) count error to
           (read_step all s t p h (Err error) is gives (count_refused (block_read all h) error refused)))
     ]
 
@@ -189,25 +189,25 @@ ok_read (Err d) h = absurd (let wrong : false ≡ true = h in cc)
 
 -- printing fails only where a block was read, or the source failed
 pub prints_io_on : (o o' old now : Option (List ℕ)) (hs : List Handle) (s t : Scan Handle) (p : IndexBlockParsedItem) (h : HandleParts) (P Q R T : Type 0) (error : Error) → o' ≡ o
-    → IfSome o (λ all. PrintsTo old now (blocks_read all hs) (blocks_read all (items_left s.window))) → h ≡ record { offset = p.offset.0; size = p.size } → GivesNextHeld handle_of IsParsedHandle s (Some p) t
-    → (P → Q) → (T → R) → IfSome o' (λ all. error ≡ Io → FailsAround P R (block_read all h)) → IfSome o (λ all. error ≡ Io → FailsAmong Q T (blocks_read all hs))
+    → IfSome o (λ all. PrintsTo old now (blocks_listed all hs) (blocks_listed all (items_left s.window))) → h ≡ record { offset = p.offset.0; size = p.size } → GivesNextHeld parsed_handle IsParsedHandle s (Some p) t
+    → (P → Q) → (T → R) → IfSome o' (λ all. error ≡ Io → FailsAround P R (block_read all h)) → IfSome o (λ all. error ≡ Io → FailsAmong Q T (blocks_listed all hs))
 prints_io_on None o' old now hs s t p h P Q R T error same to is gives later kept fails = tt
 prints_io_on (Some all) o' old now hs s t p h P Q R T error same to is gives later kept fails = λ io.
     elim ((subst (λ x. IfSome x (λ bytes. error ≡ Io → FailsAround P R (block_read bytes h))) same fails) io) [
       | inl failed ↦ inl (
         later failed.0,
         λ r. elim (failed.1 (kept r)) [
-          | inl outside ↦ inl ((prints_refused old now now (blocks_read all hs) (blocks_read all (items_left s.window)) (blocks_read all (items_left t.window)) BadHandle to
+          | inl outside ↦ inl ((prints_refused old now now (blocks_listed all hs) (blocks_listed all (items_left s.window)) (blocks_listed all (items_left t.window)) BadHandle to
               (read_step all s t p h (Err BadHandle) is gives outside) (Keeps-refl now)).until)
-          | inr io ↦ inr ((prints_refused old now now (blocks_read all hs) (blocks_read all (items_left s.window)) (blocks_read all (items_left t.window)) Io to
+          | inr io ↦ inr ((prints_refused old now now (blocks_listed all hs) (blocks_listed all (items_left s.window)) (blocks_listed all (items_left t.window)) Io to
               (read_step all s t p h (Err Io) is gives io) (Keeps-refl now)).until)
         ],
       )
       | inr ok ↦ (
           let r = ok_read (block_read all h) ok in
-          let next = read_next (blocks_read all hs) (blocks_read all (items_left s.window)) (blocks_read all (items_left t.window)) to.done r.0 to.read (read_step all s t p h (Ok r.0) is gives r.1) in
+          let next = read_next (blocks_listed all hs) (blocks_listed all (items_left s.window)) (blocks_listed all (items_left t.window)) to.done r.0 to.read (read_step all s t p h (Ok r.0) is gives r.1) in
           let whole = ap length next.before in
-          let parts = length-append (to.done ++ (r.0 ∷ [])) (before_refusal (blocks_read all (items_left t.window))) in
+          let parts = length-append (to.done ++ (r.0 ∷ [])) (before_refusal (blocks_listed all (items_left t.window))) in
           let front = length-append to.done (r.0 ∷ []) in
           inr (omega (arith, whole, parts, front)))
     ]

@@ -6,10 +6,10 @@ use Rattle.sst_block_core.specs.Entries.{entries}
 use Rattle.sst_block_core.specs.Kind.{IsOrdered}
 use Rattle.std.proofs.Common.{subst, Option}
 use Rattle.std.specs.Io.KnownBytes.{Appends}
-use Rattle.sstable_blocks.specs.Writing.{IsTable as IsTableOf, AppendsTable as IsAppended}
+use Rattle.sstable_blocks.specs.Writing.{IsTable as IsTableOf, AppendsPacked as IsAppended}
 use Rattle.sstable_blocks.specs.declared.run.RunConfig.{RunConfig}
 use Rattle.sstable_blocks.specs.declared.run.RunHandles.{RunHandles}
-use Rattle.sst_program.specs.Table.{HaveSize, IsCutBy, AppendsTable, sst_form}
+use Rattle.sst_program.specs.Table.{HaveSize, IsCutBy, AppendsPacked, sst_form}
 
 -- all blocks have n items
 abbrev pub AreFull : {X : Type 0} → ℕ → List (List X) → Type 0
@@ -49,7 +49,7 @@ ordered-next blocks block behind rest items all cut h =
 -- blocks of a size, written as a table
 pub table-of : (config config' : RunConfig) (n : ℕ) (items : List Entry) (blocks : List (List Entry)) (h : RunHandles) (old start after : Option (List ℕ)) (count len : ℕ)
     → IsCutBy n items blocks → config' ≡ config → start ≡ old → IsAppended (sst_form config') blocks start after h len → count ≡ length blocks
-    → AppendsTable config n items old after (record { blocks = count; len = len })
+    → AppendsPacked config n items old after (record { blocks = count; len = len })
 table-of config config' n items blocks h old start after count len cut same begin t is-count = record {
   blocks = blocks;
   bytes = t.bytes;

@@ -48,7 +48,7 @@ abbrev pub joined_by_spaces : List ℕ → List ℕ → List ℕ → List ℕ �
 joined_by_spaces a b c d = a ++ (32 ∷ (b ++ (32 ∷ (c ++ (32 ∷ d)))))
 
 -- four parts encode an entry: a letter, a number and two byte strings, the second of which a tombstone drops
-pub record IsEncodedBy (letter number key value : List ℕ) (e : Entry) : Type 0 where
+pub record IsLineOf (letter number key value : List ℕ) (e : Entry) : Type 0 where
   pub is_letter : letter ≡ letter_of e.key.value_type ∷ []
   pub is_number : IsNumberText number
   pub is_seqno : e.key.seqno ≡ digits_value 10 number
@@ -58,7 +58,7 @@ pub record IsEncodedBy (letter number key value : List ℕ) (e : Entry) : Type 0
 
 -- a line encodes an entry
 abbrev pub Encodes : List ℕ → Entry → Type 0
-Encodes line e = (letter number key value : List ℕ) × IsEncodedBy letter number key value e × (line ≡ joined_by_spaces letter number key value)
+Encodes line e = (letter number key value : List ℕ) × IsLineOf letter number key value e × (line ≡ joined_by_spaces letter number key value)
 
 -- the bytes before the first one of this value, and those after it
 unfoldable pub cut_at : ℕ → List ℕ → Option (List ℕ × List ℕ)

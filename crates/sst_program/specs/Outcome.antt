@@ -124,8 +124,8 @@ HasPrinted (Some (Walk file)) known old new = PrintsLines old new
 HasPrinted (Some (Check file)) known old new = PrintsCounts old new
 
 -- a refusal of the library, the file or the output
-abbrev pub IsRefused : Fault → Type 0
-IsRefused fault = (error : Error) × (fault ≡ Refused error)
+abbrev pub IsLibraryRefusal : Fault → Type 0
+IsLibraryRefusal fault = (error : Error) × (fault ≡ Refused error)
 
 -- a fault of `pack`: the input's, or that the run does not fit
 abbrev pub IsPackFault : Option (List ℕ) → Fault → Type 0
@@ -136,9 +136,9 @@ abbrev pub IsReported : Option Command → Option (List ℕ) → Fault → Type 
 IsReported None known fault = IsFailure fault ⊎ (fault ≡ Usage)
 IsReported (Some (Point query)) known fault = IsFaultOf (outcome_of_query query) known fault
 IsReported (Some (Pack packing)) known fault = IsPackFault known fault
-IsReported (Some (Get lookup)) known fault = IsRefused fault
-IsReported (Some (Walk file)) known fault = IsRefused fault
-IsReported (Some (Check file)) known fault = IsRefused fault
+IsReported (Some (Get lookup)) known fault = IsLibraryRefusal fault
+IsReported (Some (Walk file)) known fault = IsLibraryRefusal fault
+IsReported (Some (Check file)) known fault = IsLibraryRefusal fault
 
 -- what a run with a fault has printed: nothing, unless it failed; but `walk` the lines of the blocks before
 abbrev pub HasKept : Option Command → Option (List ℕ) → Option (List ℕ) → Fault → Type 0

@@ -7,7 +7,7 @@ use Rattle.sst_base.specs.declared.error.Error.TheVariants.{Io, TooLong, Memory}
 use Rattle.sst_base.specs.Hashes.{poly31}
 use Rattle.sstable_blocks.specs.Blocks.{joined}
 use Rattle.sstable_blocks.specs.Run.{Form, form}
-use Rattle.sstable_blocks.specs.Writing.{IsTable as IsTableOf}
+use Rattle.sstable_blocks.specs.Writing.{IsPackedTable as IsTableOf}
 use Rattle.sstable_blocks.specs.declared.run.RunConfig.{RunConfig}
 use Rattle.sstable_blocks.specs.declared.run.RunHandles.{RunHandles}
 use Rattle.sst_program.specs.declared.pack.Packed.{Packed}
@@ -32,15 +32,15 @@ abbrev pub IsWriteFault : Error → Type 0
 IsWriteFault e = (e ≡ Io) ⊎ (e ≡ TooLong) ⊎ (e ≡ Memory)
 
 -- the bytes of a table file that `sst` writes
-abbrev pub IsTable : RunConfig → List (List Entry) → List ℕ → Type 0
-IsTable config blocks bytes = (h : RunHandles) × IsTableOf (sst_form config) blocks h bytes
+abbrev pub IsPackedTable : RunConfig → List (List Entry) → List ℕ → Type 0
+IsPackedTable config blocks bytes = (h : RunHandles) × IsTableOf (sst_form config) blocks h bytes
 
 -- a writer's known bytes grew by the table of entries in blocks of n, and this is how much it is
-pub record AppendsTable (config : RunConfig) (n : ℕ) (items : List Entry) (old new : Option (List ℕ)) (p : Packed) : Type 0 where
+pub record AppendsPacked (config : RunConfig) (n : ℕ) (items : List Entry) (old new : Option (List ℕ)) (p : Packed) : Type 0 where
   pub blocks : List (List Entry)
   pub bytes : List ℕ
   pub cut : IsCutBy n items blocks
-  pub table : IsTable config blocks bytes
+  pub table : IsPackedTable config blocks bytes
   pub appended : Appends old new bytes
   pub block_count : p.blocks ≡ length blocks
   pub len : p.len ≡ length bytes
@@ -50,6 +50,6 @@ pub record IsPacked (config : RunConfig) (n : ℕ) (items : List Entry) (p : Pac
   pub blocks : List (List Entry)
   pub bytes : List ℕ
   pub cut : IsCutBy n items blocks
-  pub table : IsTable config blocks bytes
+  pub table : IsPackedTable config blocks bytes
   pub block_count : p.blocks ≡ length blocks
   pub len : p.len ≡ length bytes

@@ -56,12 +56,12 @@ run_filter_check bytes None = Ok tt
 run_filter_check bytes (Some h) = filter_check bytes h
 
 -- what is read of the blocks of these handles, in order
-abbrev pub blocks_read : List ℕ → List Handle → List (Result (List Entry) Error)
-blocks_read bytes hs = map (λ h. block_read bytes (range_of h)) hs
+abbrev pub blocks_listed : List ℕ → List Handle → List (Result (List Entry) Error)
+blocks_listed bytes hs = map (λ h. block_read bytes (range_of h)) hs
 
 -- the same for the handles of an index. Where that is refused, the refusal is all.
 abbrev pub blocks_by : List ℕ → Result (List Handle) Error → List (Result (List Entry) Error)
-blocks_by bytes (Ok hs) = blocks_read bytes hs
+blocks_by bytes (Ok hs) = blocks_listed bytes hs
 blocks_by bytes (Err e) = Err e ∷ []
 
 -- the same for a run, by the range of its index
@@ -96,7 +96,7 @@ entry_count blocks = min (length (joined blocks)) (2 ^ 64 - 1)
 -- the number of the entries of the blocks of these handles, or the first refusal
 unfoldable pub entries_counted : List ℕ → List Handle → Result ℕ Error
 entries_counted bytes hs = do
-  blocks ← all_read (blocks_read bytes hs)
+  blocks ← all_read (blocks_listed bytes hs)
   Ok (entry_count blocks)
 
 -- the numbers of the blocks of a run and of their entries, or the first refusal: that of its filter, of its index or of

@@ -21,12 +21,12 @@ unfoldable pub number_of : List ℕ → Option ℕ
 number_of text = if is_number_text text then Some (digits_value 10 text) else None
 
 -- a number from `least` to `most`
-abbrev pub within : ℕ → ℕ → ℕ → Option ℕ
-within least most n = if nat_le least n && nat_le n most then Some n else None
+abbrev pub between_limits : ℕ → ℕ → ℕ → Option ℕ
+between_limits least most n = if nat_le least n && nat_le n most then Some n else None
 
 -- the number from `least` to `most` that decimal digits encode
 unfoldable pub number_within : ℕ → ℕ → List ℕ → Option ℕ
-number_within least most text = number_of text >>= within least most
+number_within least most text = number_of text >>= between_limits least most
 
 -- the byte string that hex digits encode, or the empty one for a hyphen
 abbrev pub hex_bytes : List ℕ → Option (List ℕ)

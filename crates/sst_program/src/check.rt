@@ -9,7 +9,7 @@ ghost use Rattle.sst_program.specs.TableReads.{block_count, filter_check, run_fi
 ghost use Rattle.sst_program.specs.TableReads.{entries_counted, run_counts, PrintsCountsOf};
 ghost use Rattle.sst_program.specs.TableReads.{FailsAround, IsRefusalOf};
 ghost use Rattle.sst_program.specs.TableReads.{table_counts, IsTableFault};
-ghost use Rattle.sst_program.specs.Outcome.{checked_text_of, PrintsCounts, PrintsNothing, IsRefused};
+ghost use Rattle.sst_program.specs.Outcome.{checked_text_of, PrintsCounts, PrintsNothing, IsLibraryRefusal};
 
 use crate::fault;
 use crate::output::print_text;
@@ -162,7 +162,7 @@ pub fn check_from<F: SeekInput + Drop, O: Write>(
     output: &mut O,
 ) -> fault::Result<()>
     ensures printed { OnOk result (PrintsCounts (O.contents output.old) (O.contents output.new)) }
-    ensures err { IfErr result IsRefused }
+    ensures err { IfErr result IsLibraryRefusal }
     ensures kept { IfErr result (PrintsNothing (O.contents output.old) (O.contents output.new)) }
 
     // Of a file whose bytes are known.
@@ -188,7 +188,7 @@ pub fn check<R: Files, O: Write>(
     output: &mut O,
 ) -> fault::Result<()>
     ensures printed { OnOk result (PrintsCounts (O.contents output.old) (O.contents output.new)) }
-    ensures err { IfErr result IsRefused }
+    ensures err { IfErr result IsLibraryRefusal }
     ensures kept { IfErr result (PrintsNothing (O.contents output.old) (O.contents output.new)) }
 {
     check_from(alloc, open_file(rt, file)?, output)

@@ -9,7 +9,7 @@ ghost use Rattle.sstable_blocks.specs.Sources.{GivesOr, KeepsSource, filter_fram
 ghost use Rattle.sst_program.specs.TableReads.{sst_hashes, PrintsAnswerOf, FailsAround};
 ghost use Rattle.sst_program.specs.TableReads.{IsRefusalOf};
 ghost use Rattle.sst_program.specs.TableReads.{table_answer, IsTableFault};
-ghost use Rattle.sst_program.specs.Outcome.{answer_text_of, PrintsAnswer, PrintsNothing, IsRefused};
+ghost use Rattle.sst_program.specs.Outcome.{answer_text_of, PrintsAnswer, PrintsNothing, IsLibraryRefusal};
 
 use crate::fault;
 use crate::lines::answer_line;
@@ -101,7 +101,7 @@ pub fn get_from<F: SeekInput + Drop, O: Write>(
     output: &mut O,
 ) -> fault::Result<()>
     ensures printed { OnOk result (PrintsAnswer (O.contents output.old) (O.contents output.new)) }
-    ensures err { IfErr result IsRefused }
+    ensures err { IfErr result IsLibraryRefusal }
     ensures kept { IfErr result (PrintsNothing (O.contents output.old) (O.contents output.new)) }
 
     // Of a file whose bytes are known.
@@ -128,7 +128,7 @@ pub fn get<R: Files, O: Write>(
     output: &mut O,
 ) -> fault::Result<()>
     ensures printed { OnOk result (PrintsAnswer (O.contents output.old) (O.contents output.new)) }
-    ensures err { IfErr result IsRefused }
+    ensures err { IfErr result IsLibraryRefusal }
     ensures kept { IfErr result (PrintsNothing (O.contents output.old) (O.contents output.new)) }
 {
     get_from(alloc, open_file(rt, words.file())?, words, output)

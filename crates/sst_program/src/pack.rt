@@ -5,7 +5,7 @@ ghost use Rattle.std.specs.Prelude.{[], None, string_bytes};
 ghost use Rattle.sst_block_core.specs.Entries.{entries};
 ghost use Rattle.sst_block_core.specs.Kind.{IsOrdered};
 ghost use Rattle.sst_program.specs.Outcome.{packed_text_of, PrintsPacked, PrintsNothing, IsPackFault};
-ghost use Rattle.sst_program.specs.Table.{IsCutBy, AppendsTable, IsWriteFault};
+ghost use Rattle.sst_program.specs.Table.{IsCutBy, AppendsPacked, IsWriteFault};
 ghost use Rattle.sstable_blocks.specs.Run.{IsWritable};
 ghost use Rattle.sstable_blocks.specs.Writing.{IsSameRun};
 
@@ -71,7 +71,7 @@ pub fn write_table<W: SyncWrite + Drop>(
     requires some { 1 ≤ length items.now }
     requires ordered { IsOrdered entries items.now }
     ensures table { IfOk result
-        (λ r. AppendsTable config per_block items.now (W.contents writer) (W.contents r.1) r.0) }
+        (λ r. AppendsPacked config per_block items.now (W.contents writer) (W.contents r.1) r.0) }
     ensures synced { IfOk result (λ r. W.is_synced r.1) }
     ensures cause { IfErr result IsWriteFault }
 {

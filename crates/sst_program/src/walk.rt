@@ -5,8 +5,8 @@ ghost use Rattle.std.specs.Prelude.{IfSome};
 ghost use Rattle.std.specs.Io.KnownBytes.{Keeps};
 ghost use Rattle.sst_base.specs.declared.error.Error.TheVariants.{Io, Memory};
 ghost use Rattle.sst_program.specs.declared.fault.Fault.TheVariants.{Refused};
-ghost use Rattle.sst_program.specs.Outcome.{PrintsLines, IsRefused};
-ghost use Rattle.sst_program.specs.TableReads.{block_read, blocks_read, run_blocks};
+ghost use Rattle.sst_program.specs.Outcome.{PrintsLines, IsLibraryRefusal};
+ghost use Rattle.sst_program.specs.TableReads.{block_read, blocks_listed, run_blocks};
 ghost use Rattle.sst_program.specs.TableReads.{FailsAround, FailsAmong, table_blocks, IsWalkFault};
 ghost use Rattle.sst_program.specs.TableReads.{IsRefusalOf, PrintsLinesOf, PrintsUntil};
 ghost use Rattle.sst_program.specs.TableReads.{PrintsBefore, PrintsFirst};
@@ -60,18 +60,18 @@ fn print_blocks<S: FrameSource, O: Write>(
         (λ e. (e ≡ Io) ⊎ PrintsLines (O.contents output.old) (O.contents output.new)) }
     ensures exact { IfSome (S.bytes source.old) (λ all. OnOk result
         (PrintsUntil (O.contents output.old) (O.contents output.new)
-        (blocks_read all index.now.items) None)) }
+        (blocks_listed all index.now.items) None)) }
     ensures refused { IfSome (S.bytes source.old)
         (λ all. IfErr result (λ e. e ≢ Memory → e ≢ Io
         → PrintsBefore (S.failures source.old < S.failures source.new)
         (O.contents output.old) (O.contents output.new)
-        (blocks_read all index.now.items) e)) }
+        (blocks_listed all index.now.items) e)) }
     ensures first { IfSome (S.bytes source.old) (λ all. IfErr result (λ e. (e ≡ Io)
         ⊎ PrintsFirst (O.contents output.old) (O.contents output.new)
-        (blocks_read all index.now.items))) }
+        (blocks_listed all index.now.items))) }
     ensures io { IfSome (S.bytes source.old) (λ all. IfErr result (λ e. e ≡ Io
         → FailsAmong (S.failures source.old < S.failures source.new) (S.is_reliable source.old)
-        (blocks_read all index.now.items))) }
+        (blocks_listed all index.now.items))) }
 {
     for item in index.iter() {
         let handle = BlockHandle::new(item.offset, item.size);
@@ -128,7 +128,7 @@ pub fn walk_from<F: SeekInput + Drop, O: Write>(
     output: &mut O,
 ) -> fault::Result<()>
     ensures printed { OnOk result (PrintsLines (O.contents output.old) (O.contents output.new)) }
-    ensures err { IfErr result IsRefused }
+    ensures err { IfErr result IsLibraryRefusal }
     ensures kept { IfErr result
         (λ fault. (fault ≡ Refused Io)
         ⊎ PrintsLines (O.contents output.old) (O.contents output.new)) }
@@ -157,7 +157,7 @@ pub fn walk<R: Files, O: Write>(
     output: &mut O,
 ) -> fault::Result<()>
     ensures printed { OnOk result (PrintsLines (O.contents output.old) (O.contents output.new)) }
-    ensures err { IfErr result IsRefused }
+    ensures err { IfErr result IsLibraryRefusal }
     ensures kept { IfErr result
         (λ fault. (fault ≡ Refused Io)
         ⊎ PrintsLines (O.contents output.old) (O.contents output.new)) }

@@ -6,23 +6,23 @@ use Rattle.std.proofs.lemmas.Option.{slice_get_within, get_or_from_slice_get}
 use Rattle.sst_base.specs.BlockHandle.{HandleParts}
 use Rattle.sst_block_core.specs.Handles.{Handle}
 use Rattle.sst_block_core.specs.HandleRanges.{handle_range}
-use Rattle.sst_tool.specs.Frames.{end_of, follow_from}
+use Rattle.sst_tool.specs.Frames.{offset_after, follow_from}
 
 tail-at : (items : List Handle) (i : ℕ) (h : Handle) → slice_get items i ≡ Some h → drop i items ≡ h ∷ drop (i + 1) items
 tail-at items i h is = grind (arith, drop-cons items i h (slice_get_within items i h is), get_or_from_slice_get items i h h is)
 
-follows-first : (h : Handle) (hs : List Handle) (at : ℕ) → h.offset ≡ at → follow_from at (h ∷ hs) ≡ follow_from (end_of (handle_range h)) hs
+follows-first : (h : Handle) (hs : List Handle) (at : ℕ) → h.offset ≡ at → follow_from at (h ∷ hs) ≡ follow_from (offset_after (handle_range h)) hs
 follows-first h hs at is = grind arith
 
 astray-first : (h : Handle) (hs : List Handle) (at : ℕ) → h.offset ≢ at → follow_from at (h ∷ hs) ≡ false
 astray-first h hs at not = grind arith
 
 follows-by : (found : Option Handle) (items : List Handle) (i at : ℕ) (r : HandleParts) → slice_get items i ≡ found → Some r ≡ option_map handle_range found → r.offset ≡ at
-    → follow_from at (drop i items) ≡ follow_from (end_of r) (drop (i + 1) items)
+    → follow_from at (drop i items) ≡ follow_from (offset_after r) (drop (i + 1) items)
 follows-by None items i at r is range same = search rules
 follows-by (Some h) items i at r is range same =
     let same-range : r ≡ handle_range h = search rules in
-    ap (follow_from at) (tail-at items i h is) ∙ follows-first h (drop (i + 1) items) at (ap (λ q. q.offset) (sym same-range) ∙ same) ∙ ap (λ q. follow_from (end_of q) (drop (i + 1) items)) (sym same-range)
+    ap (follow_from at) (tail-at items i h is) ∙ follows-first h (drop (i + 1) items) at (ap (λ q. q.offset) (sym same-range) ∙ same) ∙ ap (λ q. follow_from (offset_after q) (drop (i + 1) items)) (sym same-range)
 
 astray-by : (found : Option Handle) (items : List Handle) (i at : ℕ) (r : HandleParts) → slice_get items i ≡ found → Some r ≡ option_map handle_range found → r.offset ≢ at
     → follow_from at (drop i items) ≡ false
@@ -32,7 +32,7 @@ astray-by (Some h) items i at r is range differs =
     ap (follow_from at) (tail-at items i h is) ∙ astray-first h (drop (i + 1) items) at (λ e. differs (ap (λ q. q.offset) same-range ∙ e))
 
 -- a frame that begins where the one before it ends is passed
-pub follows : (items : List Handle) (i at : ℕ) (r : HandleParts) → Some r ≡ option_map handle_range (slice_get items i) → r.offset ≡ at → follow_from at (drop i items) ≡ follow_from (end_of r) (drop (i + 1) items)
+pub follows : (items : List Handle) (i at : ℕ) (r : HandleParts) → Some r ≡ option_map handle_range (slice_get items i) → r.offset ≡ at → follow_from at (drop i items) ≡ follow_from (offset_after r) (drop (i + 1) items)
 follows items i at r range same = follows-by (slice_get items i) items i at r refl range same
 
 -- after one that does not, they do not follow each other

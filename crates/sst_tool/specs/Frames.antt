@@ -5,10 +5,10 @@ use Rattle.sst_block_core.specs.Handles.{Handle}
 use Rattle.sstable_blocks.specs.Opened.{range_of}
 
 -- the offset after a frame; none is greater than a file's
-abbrev pub end_of : HandleParts → ℕ
-end_of h = min (h.offset + h.size) (2 ^ 64 - 1)
+abbrev pub offset_after : HandleParts → ℕ
+offset_after h = min (h.offset + h.size) (2 ^ 64 - 1)
 
 -- the frames of data blocks follow each other from an offset on
 abbrev pub follow_from : ℕ → List Handle → Bool
 follow_from at [] = true
-follow_from at (h ∷ hs) = nat_eq h.offset at && follow_from (end_of (range_of h)) hs
+follow_from at (h ∷ hs) = nat_eq h.offset at && follow_from (offset_after (range_of h)) hs

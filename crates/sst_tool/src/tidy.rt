@@ -1,6 +1,6 @@
 //! Bytes of a table file that belong to no frame.
 ghost use Rattle.std.specs.Prelude.{◌≡◌, ◌+◌, ◌<◌, length, not, is_some, IfSome};
-ghost use Rattle.sst_tool.specs.Frames.{end_of, follow_from};
+ghost use Rattle.sst_tool.specs.Frames.{offset_after, follow_from};
 
 use sstable_blocks::run::footer::FOOTER_LEN;
 use sstable_blocks::{BlockHandle, IndexBlock, RunHandles, Steps};
@@ -45,8 +45,8 @@ fn between(from: u64, to: u64) -> Option<Gap>
 }
 
 // The offset after a frame.
-fn end_of(handle: &BlockHandle) -> u64
-    ensures { result ≡ end_of handle.now }
+fn offset_after(handle: &BlockHandle) -> u64
+    ensures { result ≡ offset_after handle.now }
 {
     handle.offset().saturating_add(u64::from(handle.size()))
 }
@@ -64,7 +64,7 @@ pub fn first_astray(index: &IndexBlock) -> Option<usize>
         if *handle.offset() != end {
             return Some(number);
         }
-        end = end_of(&handle);
+        end = offset_after(&handle);
         number += 1;
     }
     None
@@ -87,8 +87,11 @@ impl Gaps {
         let (first, last) = frames_behind(handles);
         Gaps([
             between(data_end, *first.offset()),
-            between(end_of(first), *last.offset()),
-            between(end_of(last), file_len.saturating_sub(FOOTER_LEN as u64)),
+            between(offset_after(first), *last.offset()),
+            between(
+                offset_after(last),
+                file_len.saturating_sub(FOOTER_LEN as u64),
+            ),
         ])
     }
 

@@ -43,13 +43,13 @@ pub record Opens {S X T : Type 0} (r : Reading S X) (s : S) (index : ℕ) (resul
   pub few : length items ≤ r.most
   pub exact : IfSome (r.read s) (λ read. MatchResult result (λ _. read index ≡ Ok items) (r.Fails s t (read index)))
 
--- a list, seen from its back or its front
-abbrev pub seen : {X : Type 0} → Bool → List X → List X
-seen true xs = reverse xs
-seen false xs = xs
+-- a list, seen_from from its back or its front
+abbrev pub seen_from : {X : Type 0} → Bool → List X → List X
+seen_from true xs = reverse xs
+seen_from false xs = xs
 
--- a step from an end takes the first item seen from there, which is gone then, also where it is not made
+-- a step from an end takes the first item seen_from from there, which is gone then, also where it is not made
 pub record TakesEnd {X : Type 0} (back : Bool) (Lacks : Error → Type 0) (old : List X) (result : Result (Option X) Error) (new : List X) : Type 0 where
-  pub first : IfOk result (λ x. YieldsFirst (seen back) old x new)
-  pub rest : seen back new ≡ drop 1 (seen back old)
+  pub first : IfOk result (λ x. YieldsFirst (seen_from back) old x new)
+  pub rest : seen_from back new ≡ drop 1 (seen_from back old)
   pub lacks : IfErr result Lacks

@@ -1,6 +1,6 @@
 -- The ends of a scan, and its steps.
 use Rattle.std.specs.Prelude.{◌≡◌, ◌⊎◌, ◌≤◌, ◌<◌, ◌+◌, ◌-◌, ◌*◌, ℕ, zero, suc, Bool, true, false, List, [], ◌∷◌, ◌++◌, length, map, Option, Some, None, IfSome, Result, Ok, IfOk, IfErr, OnOk, MatchResult}
-use Rattle.sstable_blocks.specs.BlockReading.{Reading, AllAdmitted, items_of, seen}
+use Rattle.sstable_blocks.specs.BlockReading.{Reading, AllAdmitted, items_of, seen_from}
 use Rattle.sst_base.specs.declared.error.Error.{Error}
 use Rattle.sstable_blocks.specs.Scans.{reads_of}
 use Rattle.sstable_blocks.specs.declared.run.ends.Between.{Between}
@@ -36,9 +36,9 @@ pub record Ends (X : Type 0) : Type 0 where
 abbrev pub ends : {P X : Type 0} → (P → List X) → Option P → Between → Option P → Ends X
 ends items near m far = record { near = items_of items near; lo = m.lo; hi = m.hi; far = items_of items far }
 
--- what is left to read, seen from an end
+-- what is left to read, seen_from from an end
 abbrev pub reads_left : {X : Type 0} → Bool → (ℕ → Result (List X) Error) → Ends X → List (Result X Error)
-reads_left back read e = seen back (map Ok e.near) ++ (seen back (reads_between read e.lo e.hi) ++ seen back (map Ok e.far))
+reads_left back read e = seen_from back (map Ok e.near) ++ (seen_from back (reads_between read e.lo e.hi) ++ seen_from back (map Ok e.far))
 
 -- at most how many items are left
 abbrev pub most_left : {X : Type 0} → ℕ → Ends X → ℕ
@@ -52,7 +52,7 @@ pub record AreEnds {S X : Type 0} (r : Reading S X) (s : S) (e : Ends X) : Type 
 
 -- the next block is refused
 abbrev pub FailsNext : {S X : Type 0} → Reading S X → Bool → S → S → List (Result X Error) → Error → Type 0
-FailsNext {S} {X} r back s t left e = (x : Result (List X) Error) × (rest : List (Result X Error)) × (left ≡ seen back (reads_of x) ++ rest) × r.Fails s t x e
+FailsNext {S} {X} r back s t left e = (x : Result (List X) Error) × (rest : List (Result X Error)) × (left ≡ seen_from back (reads_of x) ++ rest) × r.Fails s t x e
 
 -- blocks were opened, and what is left is the same
 pub record IsReady {S X T : Type 0} (r : Reading S X) (back : Bool) (s : S) (old : Ends X) (result : Result T Error) (t : S) (new : Ends X) : Type 0 where
@@ -74,7 +74,7 @@ abbrev pub GivesNext : {X : Type 0} → List (Result X Error) → List (Result X
 GivesNext old new None = (old ≡ []) × (new ≡ [])
 GivesNext old new (Some x) = old ≡ Ok x ∷ new
 
--- a step takes the first item left, seen from an end
+-- a step takes the first item left, seen_from from an end
 pub record TakesNear {S X : Type 0} (r : Reading S X) (Lacks : Error → Type 0) (back : Bool) (s : S) (old : Ends X) (result : Result (Option X) Error) (t : S) (new : Ends X) : Type 0 where
   pub goes : r.Goes s ((old.hi - old.lo) - (new.hi - new.lo)) t
   pub opened : new.hi - new.lo ≤ old.hi - old.lo

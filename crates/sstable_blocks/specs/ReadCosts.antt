@@ -41,6 +41,10 @@ handle_in bytes h needle seqno = handle_for handles needle seqno (index_in bytes
 abbrev pub handles_most : ℕ → ℕ
 handles_most q = if q == 1 then 1 else q + 1
 
+-- the most heads and handles that a search for a handle among so many examines
+abbrev pub find_cost : ℕ → ℕ → ℕ × ℕ
+find_cost interval count = (digits (head_count interval count), handles_most interval)
+
 -- the most heads that a read by handles of an index with this interval compares: those of a search in the index, and of
 -- one in the block
 abbrev pub heads_most_by : List ℕ → List Handle → ℕ → List ℕ → ℕ → ℕ
@@ -49,6 +53,10 @@ heads_most_by bytes hs interval needle seqno = digits (head_count interval (leng
 -- the most handles and entries that it decodes: of the block those of an interval, and one more
 abbrev pub entries_most_by : List ℕ → List Handle → ℕ → List ℕ → ℕ → ℕ
 entries_most_by bytes hs interval needle seqno = handles_most interval + entries_at bytes (handle_for handles needle seqno hs)
+
+-- both
+abbrev pub most_by : List ℕ → List Handle → ℕ → List ℕ → ℕ → ℕ × ℕ
+most_by bytes hs interval needle seqno = (heads_most_by bytes hs interval needle seqno, entries_most_by bytes hs interval needle seqno)
 
 -- the same for a read of these bytes
 abbrev pub heads_most_in : List ℕ → RunHandles → List ℕ → ℕ → ℕ

@@ -42,14 +42,14 @@ block_frames f [] = []
 block_frames f (block ∷ blocks) = block_frame f block ++ block_frames f blocks
 
 -- the key of the last entry
-abbrev pub end_of : List Entry → Key
-end_of [] = record { user_key = []; seqno = 0; value_type = Value }
-end_of (x ∷ []) = x.key
-end_of (x ∷ y ∷ ys) = end_of (y ∷ ys)
+abbrev pub end_key_of : List Entry → Key
+end_key_of [] = record { user_key = []; seqno = 0; value_type = Value }
+end_key_of (x ∷ []) = x.key
+end_key_of (x ∷ y ∷ ys) = end_key_of (y ∷ ys)
 
 -- the handle of a block whose frame is at an offset
 abbrev pub handle_of : Form → ℕ → List Entry → Handle
-handle_of f offset block = record { offset = offset; size = length (block_frame f block); seqno = (end_of block).seqno; end_key = (end_of block).user_key }
+handle_of f offset block = record { offset = offset; size = length (block_frame f block); seqno = (end_key_of block).seqno; end_key = (end_key_of block).user_key }
 
 -- the handles of blocks whose frames are one after the other from an offset on
 abbrev pub handles_from : Form → ℕ → List (List Entry) → List Handle

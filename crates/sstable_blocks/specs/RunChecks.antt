@@ -14,8 +14,8 @@ use Rattle.sst_block_core.specs.Handles.{Handle}
 use Rattle.sstable_blocks.specs.Blocks.{joined}
 use Rattle.sstable_blocks.specs.Filter.{Filter, filter_at, may_contain}
 use Rattle.sstable_blocks.specs.Opened.{range_of}
-use Rattle.sstable_blocks.specs.Run.{end_of}
-use Rattle.sstable_blocks.specs.RunReading.{Hashes, payload_at, items_at, handles_at}
+use Rattle.sstable_blocks.specs.Run.{end_key_of}
+use Rattle.sstable_blocks.specs.RunReading.{Hashes, payload_at, block_items_at, handles_at}
 use Rattle.sstable_blocks.specs.declared.run.RunHandles.{RunHandles}
 use Rattle.sstable_blocks.specs.declared.run.checking.Passed.{Passed}
 use Rattle.sstable_blocks.specs.declared.run.checking.RunSummary.{RunSummary}
@@ -74,7 +74,7 @@ check_items hash64 f s h items = do
 unfoldable pub check_block : Hashes → List ℕ → Option Filter → Passed → Handle → Result Passed Error
 check_block c bytes f s h = do
   place ← demand (nat_eq h.offset s.offset) BadHandle
-  items ← items_at c bytes (range_of h)
+  items ← block_items_at c bytes (range_of h)
   check_items c.hash64 f s h items
 
 -- the blocks of handles, one after the other
@@ -145,7 +145,7 @@ summary_of blocks = record {
   blocks = length blocks;
   entries = min (length (joined blocks)) (2 ^ 64 - 1);
   first_key = first_key (joined blocks);
-  last_key = (end_of (joined blocks)).user_key;
+  last_key = (end_key_of (joined blocks)).user_key;
   least_seqno = least_from (2 ^ 64 - 1) (joined blocks);
   greatest_seqno = greatest_from 0 (joined blocks);
 }

@@ -38,8 +38,8 @@ payload_at c t bytes h = do
   payload_of_type c.hash128 t found
 
 -- the entries of the data block in the range of a handle, and the handles of an index block
-abbrev pub items_at : Hashes → List ℕ → HandleParts → Result (List Entry) Error
-items_at c bytes h = do
+abbrev pub block_items_at : Hashes → List ℕ → HandleParts → Result (List Entry) Error
+block_items_at c bytes h = do
   p ← payload_at c types.Data bytes h
   data_check c.hash64 p
 

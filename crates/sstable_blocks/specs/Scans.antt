@@ -20,7 +20,7 @@ use Rattle.sst_block_core.specs.Window.{items_left}
 use Rattle.sst_block_core.specs.Handles.{Handle}
 use Rattle.sstable_blocks.specs.BlockReading.{items_of}
 use Rattle.sstable_blocks.specs.Opened.{range_of, index_in, payload_in}
-use Rattle.sstable_blocks.specs.RunReading.{Hashes, items_at, handles_at}
+use Rattle.sstable_blocks.specs.RunReading.{Hashes, block_items_at, handles_at}
 use Rattle.sstable_blocks.specs.Sound.{RunParts}
 use Rattle.sstable_blocks.specs.Sources.{IsSourceFailure}
 use Rattle.sstable_blocks.specs.Tables.{TableParts}
@@ -83,7 +83,7 @@ Read = Result Entry Error
 -- the entries of the block of a handle that are in a range, or the error that the block is refused with
 abbrev pub block_within : Hashes → List ℕ → KeyRange → Handle → Result (List Entry) Error
 block_within c bytes r h = do
-  items ← items_at c bytes (range_of h)
+  items ← block_items_at c bytes (range_of h)
   Ok (within r items)
 
 -- what is read of a block: each of its entries, or its error
@@ -199,13 +199,13 @@ entries_read (Ok x ∷ reads) = x ∷ entries_read reads
 entries_read (Err e ∷ reads) = entries_read reads
 
 -- the block of a handle is read as the entries of the payload there
-abbrev pub IsRead : Hashes → List ℕ → Handle → Type 0
-IsRead c bytes h = items_at c bytes (range_of h) ≡ Ok (items_in entries (payload_in bytes (range_of h)))
+abbrev pub IsBlockRead : Hashes → List ℕ → Handle → Type 0
+IsBlockRead c bytes h = block_items_at c bytes (range_of h) ≡ Ok (items_in entries (payload_in bytes (range_of h)))
 
 -- the index of a run is read, and the block of each of its handles
 pub record IsReadRun (c : Hashes) (bytes : List ℕ) (h : RunHandles) : Type 0 where
   pub index : handles_at c bytes h.index ≡ Ok (index_in bytes h.index)
-  pub blocks : AllByRecursion (IsRead c bytes) (index_in bytes h.index)
+  pub blocks : AllByRecursion (IsBlockRead c bytes) (index_in bytes h.index)
 
 -- what contracts see of what opens the blocks of a run, each cut by a range
 pub record CutParts (R : Type 0) : Type 0 where

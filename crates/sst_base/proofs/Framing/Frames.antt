@@ -5,7 +5,7 @@ use Rattle.std.specs.List.{slice_range}
 use Rattle.std.proofs.lemmas.Bool.{eqb-true, le-leb}
 use Rattle.std.proofs.lemmas.List.{take_all}
 use Rattle.sst_base.specs.Block.{BlockParts}
-use Rattle.sst_base.specs.Frame.{block_of, block_for, frame, has_length, frame_at, frame_in, frame_in_file}
+use Rattle.sst_base.specs.Frame.{verified_block, frame_block, frame, has_length, frame_at, frame_in, frame_in_file}
 use Rattle.sst_base.specs.Header.{◌>>=◌, bytes_at, header_at}
 use Rattle.sst_base.specs.Bytes.{IsBytes}
 use Rattle.sst_base.specs.FrameLaws.{length-frame, block_of_takes, block_for_lem, frame_at_takes, frame_in_takes}
@@ -42,14 +42,14 @@ pub length_payload : (h : Header) (payload rest : List ℕ) → payload ≡ rest
 length_payload h payload rest e l =
     ap length e ∙ sym (eqb-true h.data_length (length rest) (and_last (nat_eq h.data_length h.uncompressed_length) (nat_eq h.data_length (length rest)) l))
 
-pub frame_in_by : (hash128 : List ℕ → ℕ) (all rest payload : List ℕ) (h : Header) (r : Result BlockParts Error) → 33 ≤ length all → header_at hash128 all ≡ Ok (h, rest) → has_length h (length rest) ≡ true → payload ≡ rest → r ≡ block_of hash128 h payload → r ≡ frame_in hash128 all
+pub frame_in_by : (hash128 : List ℕ → ℕ) (all rest payload : List ℕ) (h : Header) (r : Result BlockParts Error) → 33 ≤ length all → header_at hash128 all ≡ Ok (h, rest) → has_length h (length rest) ≡ true → payload ≡ rest → r ≡ verified_block hash128 h payload → r ≡ frame_in hash128 all
 unfolding frame_in
 frame_in_by hash128 all rest payload h r long e l p q =
-    rw (le-leb 33 (length all) long, e, l) (q ∙ ap (block_of hash128 h) p)
+    rw (le-leb 33 (length all) long, e, l) (q ∙ ap (verified_block hash128 h) p)
 
 -- what is read is a prefix that is a frame
 pub found_front : (hash128 : List ℕ → ℕ) (m : Type 0) (r : Result BlockParts Error) (left : Option (List ℕ)) (bytes : List ℕ) → IfOk r (λ _. IsBytes (take 28 (drop 5 bytes))) → ReadsAllocating m r left (frame_at hash128 bytes)
-    → IfOk r (λ b. (rest : List ℕ) × (left ≡ Some rest) × (bytes ≡ frame hash128 b.header.block_type b.payload ++ rest) × (b ≡ block_for hash128 b.header.block_type b.payload))
+    → IfOk r (λ b. (rest : List ℕ) × (left ≡ Some rest) × (bytes ≡ frame hash128 b.header.block_type b.payload ++ rest) × (b ≡ frame_block hash128 b.header.block_type b.payload))
 found_front hash128 m (Ok b) left bytes small h =
     let takes = frame_at_takes hash128 bytes b h.0 small h.2 in
     (h.0, h.1, takes.0, takes.1)
@@ -67,7 +67,7 @@ only_front m (Err d) left read b rest memory e h = cc (h, e)
 
 -- the same for bytes that are a whole frame
 pub found_whole : (hash128 : List ℕ → ℕ) (r : Result BlockParts Error) (bytes : List ℕ) → IsBytes bytes → Gives r (frame_in hash128 bytes)
-    → IfOk r (λ b. (bytes ≡ frame hash128 b.header.block_type b.payload) × (b ≡ block_for hash128 b.header.block_type b.payload))
+    → IfOk r (λ b. (bytes ≡ frame hash128 b.header.block_type b.payload) × (b ≡ frame_block hash128 b.header.block_type b.payload))
 found_whole hash128 (Ok b) bytes small h =
     let takes = frame_in_takes hash128 bytes b small (sym h) in
     (takes.0, takes.1)
@@ -104,16 +104,16 @@ file_read hash128 m n r found left offset size bytes h g =
     gives_or_fails m r (frame_in hash128 found) _ (ap (λ q. q >>= (λ (x : List ℕ × List ℕ). frame_in hash128 x.0)) h.2) g
 
 -- the payload of a frame of this size has 33 bytes less
-pub found_size : (hash128 : List ℕ → ℕ) (r : Result BlockParts Error) (bytes : List ℕ) (size : ℕ) → length bytes ≡ size → IfOk r (λ b. (bytes ≡ frame hash128 b.header.block_type b.payload) × (b ≡ block_for hash128 b.header.block_type b.payload)) → IfOk r (λ b. 33 + length b.payload ≡ size)
+pub found_size : (hash128 : List ℕ → ℕ) (r : Result BlockParts Error) (bytes : List ℕ) (size : ℕ) → length bytes ≡ size → IfOk r (λ b. (bytes ≡ frame hash128 b.header.block_type b.payload) × (b ≡ frame_block hash128 b.header.block_type b.payload)) → IfOk r (λ b. 33 + length b.payload ≡ size)
 found_size hash128 (Ok b) bytes size l h = sym (length-frame hash128 b.header.block_type b.payload) ∙ sym (ap length (h.0)) ∙ l
 found_size hash128 (Err e) bytes size l h = tt
 
 -- a block that was checked is the block of its payload
-pub checked_own : (hash128 : List ℕ → ℕ) (h : Header) (payload : List ℕ) (r : Result BlockParts Error) → h.data_length ≡ h.uncompressed_length → length payload ≡ h.data_length → r ≡ block_of hash128 h payload → IfOk r (λ b. b ≡ block_for hash128 b.header.block_type b.payload)
+pub checked_own : (hash128 : List ℕ → ℕ) (h : Header) (payload : List ℕ) (r : Result BlockParts Error) → h.data_length ≡ h.uncompressed_length → length payload ≡ h.data_length → r ≡ verified_block hash128 h payload → IfOk r (λ b. b ≡ frame_block hash128 b.header.block_type b.payload)
 checked_own hash128 h payload (Err e) equal len s = tt
 checked_own hash128 h payload (Ok b) equal len s =
     let found = block_of_takes hash128 h payload b (sym s) in
-    let P : BlockParts → Type 0 = λ c. c ≡ block_for hash128 c.header.block_type c.payload in
+    let P : BlockParts → Type 0 = λ c. c ≡ frame_block hash128 c.header.block_type c.payload in
     subst P (found.1) (block_for_lem hash128 (record { header = h; payload = payload }) (record { equal = equal; len = len; sum = found.0 }))
 
 -- what holds of all bytes where a result is Ok holds of these bytes

@@ -6,7 +6,7 @@ use Rattle.sst_base.specs.Bytes.{IsBytes}
 use Rattle.sst_base.specs.ReadingLaws.{bind_some, pair_parts}
 use Rattle.sst_block_core.specs.Kind.{Kind, IsKind}
 use Rattle.sst_block_core.specs.Body.{body, item_at, items_at}
-use Rattle.sst_block_core.specs.Passes.{base_after, IsRead}
+use Rattle.sst_block_core.specs.Passes.{base_after, IsReadUpto}
 use Rattle.sst_block_core.specs.BodyLaws.{body_takes}
 
 some_same : {A : Type 0} (a b : A) → ◌≡◌ {A = Option A} (Some a) (Some b) → a ≡ b
@@ -62,11 +62,11 @@ module _ {X : Type 0} (kind : Kind X) (r : ℕ) where
       base_push (s + 1) xs x next ∙ ap (λ k. cond (eqb (k % r) 0) (kind.key x) (base_after kind r (s + 1) xs next)) e
 
   -- a pass begins
-  pub read_none : (bytes base : List ℕ) → base ≡ [] → IsRead kind r bytes [] 0 0 base
+  pub read_none : (bytes base : List ℕ) → base ≡ [] → IsReadUpto kind r bytes [] 0 0 base
   unfolding items_at
   read_none bytes base e = record { count = refl; inside = omega arith; reads = refl; base_is = e }
 
-  module _ (bytes : List ℕ) (xs : List X) (place offset : ℕ) (base : List ℕ) (at : IsRead kind r bytes xs place offset base) where
+  module _ (bytes : List ℕ) (xs : List X) (place offset : ℕ) (base : List ℕ) (at : IsReadUpto kind r bytes xs place offset base) where
     item_more : (x : X) (end : ℕ) → end ≤ length bytes → item_at kind r place base (drop offset bytes) ≡ Some (x, drop end bytes) → items_at kind r 0 (place + 1) [] bytes ≡ Some (xs ++ x ∷ [], drop end bytes)
     item_more x end inside h =
         let e : suc place ≡ place + 1 = omega arith in
@@ -83,7 +83,7 @@ module _ {X : Type 0} (kind : Kind X) (r : ℕ) where
 
     -- a pass over a head
     pub read_head : (x : X) (end : ℕ) (next : List ℕ) → place % r ≡ 0 → end ≤ length bytes → kind.full_at (drop offset bytes) ≡ Some (x, drop end bytes) → next ≡ kind.key x
-        → IsRead kind r bytes (xs ++ x ∷ []) (place + 1) end next
+        → IsReadUpto kind r bytes (xs ++ x ∷ []) (place + 1) end next
     read_head x end next z inside h e =
         let yes : eqb (place % r) 0 ≡ true = eq-eqb (place % r) 0 z in
         record {
@@ -95,7 +95,7 @@ module _ {X : Type 0} (kind : Kind X) (r : ℕ) where
 
     -- over another place
     pub read_rest : (x : X) (end : ℕ) → (place % r ≡ 0 → ⊥) → end ≤ length bytes → kind.truncated_at base (drop offset bytes) ≡ Some (x, drop end bytes)
-        → IsRead kind r bytes (xs ++ x ∷ []) (place + 1) end base
+        → IsReadUpto kind r bytes (xs ++ x ∷ []) (place + 1) end base
     read_rest x end n inside h =
         let no : eqb (place % r) 0 ≡ false = ne_eqb (place % r) 0 n in
         record {

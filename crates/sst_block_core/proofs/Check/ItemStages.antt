@@ -9,7 +9,7 @@ use Rattle.sst_block_core.specs.Kind.{Kind, IsOrdered}
 use Rattle.sst_block_core.specs.Body.{items_at, place_offset}
 use Rattle.sst_block_core.specs.Trailer.{Trailer}
 use Rattle.sst_block_core.specs.Pointers.{head_count, head_offsets, last_pointer, pointer_width, pointers_in}
-use Rattle.sst_block_core.specs.Stages.{HasParts, HasForms, HasOrder, HasPointers, body_in, index_in, items_by, items_read}
+use Rattle.sst_block_core.specs.Stages.{HasParts, HasForms, HasOrder, HasPointers, body_in, pointer_bytes, items_by, items_read}
 use Rattle.sst_block_core.specs.Passes.{ArePointed, IsPassed, IsFound}
 use Rattle.sst_block_core.proofs.Check.PassSteps.{both}
 use Rattle.sst_block_core.specs.OpeningLaws.{length-items_at}
@@ -20,18 +20,18 @@ use Rattle.sst_block_core.proofs.Places.PointerReads.{pointers_count, pointer_is
 pub heads_some : (r n heads : ℕ) → 0 < r → 1 ≤ n → heads ≡ head_count r n → 0 < heads
 heads_some r n heads pos some e = let b = (head_below r n 0 pos).1 (omega arith) in omega (arith, b, e)
 
-pub index_length : (t : Trailer) (p : List ℕ) → HasParts t p → length (index_in t p) ≡ t.heads * t.width
+pub index_length : (t : Trailer) (p : List ℕ) → HasParts t p → length (pointer_bytes t p) ≡ t.heads * t.width
 index_length t p parts = let e = parts.end in length-take-le (t.heads * t.width) (drop t.index_offset p) (omega (arith, e, length-drop t.index_offset p))
 
 -- so a payload has as many pointers as heads
-pub pointers_length : (t : Trailer) (p : List ℕ) → HasParts t p → length (pointers_in t.width (index_in t p)) ≡ t.heads
+pub pointers_length : (t : Trailer) (p : List ℕ) → HasParts t p → length (pointers_in t.width (pointer_bytes t p)) ≡ t.heads
 pointers_length t p parts =
     let some : 0 < t.width = elim parts.width [ inl two ↦ omega arith | inr four ↦ omega arith ] in
     let turned : t.heads * t.width ≡ t.width * t.heads = omega arith in
-    pointers_count t.width (index_in t p) ∙ ap (λ n. n / t.width) (index_length t p parts ∙ turned) ∙ mul-div_cancel_left t.heads some
+    pointers_count t.width (pointer_bytes t p) ∙ ap (λ n. n / t.width) (index_length t p parts ∙ turned) ∙ mul-div_cancel_left t.heads some
 
 -- each place has the pointer of its head
-pub pointer_inside : (t : Trailer) (p : List ℕ) → HasParts t p → (place : ℕ) → place < t.item_count → place / t.interval < length (pointers_in t.width (index_in t p))
+pub pointer_inside : (t : Trailer) (p : List ℕ) → HasParts t p → (place : ℕ) → place < t.item_count → place / t.interval < length (pointers_in t.width (pointer_bytes t p))
 pointer_inside t p parts place h =
     let d = div-mul-le_self place t.interval in
     let below : place / t.interval < head_count t.interval t.item_count = (head_below t.interval t.item_count (place / t.interval) parts.interval).1 (omega (arith, d, h)) in
@@ -63,16 +63,16 @@ module _ {X : Type 0} (kind : Kind X) (t : Trailer) (p : List ℕ) (parts : HasP
   count = length-items_at kind t.interval 0 t.item_count [] (body_in t p) xs [] reads
 
   -- pointer j, of which there are enough
-  pointer_here : (j : ℕ) → j < t.heads → get_or (pointers_in t.width (index_in t p)) j 0 ≡ little_number t.width (drop (j * t.width) (index_in t p))
-  pointer_here j few = let n = pointers_length t p parts in pointer_is t.width (index_in t p) j 0 (omega (arith, few, n))
+  pointer_here : (j : ℕ) → j < t.heads → get_or (pointers_in t.width (pointer_bytes t p)) j 0 ≡ little_number t.width (drop (j * t.width) (pointer_bytes t p))
+  pointer_here j few = let n = pointers_length t p parts in pointer_is t.width (pointer_bytes t p) j 0 (omega (arith, few, n))
 
-  pub pointers_to : HasPointers kind t p → ArePointed kind t.interval (pointers_in t.width (index_in t p)) xs
+  pub pointers_to : HasPointers kind t p → ArePointed kind t.interval (pointers_in t.width (pointer_bytes t p)) xs
   pointers_to h = λ j below.
       let few : j < t.heads = let b = (head_below t.interval t.item_count j parts.interval).1 (omega (arith, below, count)) in let e = parts.heads in omega (arith, b, e) in
       pointer_here j few ∙ h.offsets j few ∙ ap (λ ys. place_offset kind t.interval ys (j * t.interval)) found_is
 
   -- the last pointer
-  last_is : (last : ℕ) → ArePointed kind t.interval (pointers_in t.width (index_in t p)) xs → last ≡ get_or (pointers_in t.width (index_in t p)) (t.heads - 1) 0
+  last_is : (last : ℕ) → ArePointed kind t.interval (pointers_in t.width (pointer_bytes t p)) xs → last ≡ get_or (pointers_in t.width (pointer_bytes t p)) (t.heads - 1) 0
       → cond (leb last 65535) 2 4 ≡ pointer_width kind t.interval (items_by kind t p)
   last_is last all e =
       let some = heads_some t.interval t.item_count t.heads parts.interval parts.some parts.heads in
@@ -83,7 +83,7 @@ module _ {X : Type 0} (kind : Kind X) (t : Trailer) (p : List ℕ) (parts : HasP
       ap (λ n. cond (leb n 65535) 2 4) (place ∙ ap (λ h. place_offset kind t.interval xs ((h - 1) * t.interval)) heads ∙ sym at_end)
       ∙ ap (pointer_width kind t.interval) (sym found_is)
 
-  pub pointers_from : (last : ℕ) → ArePointed kind t.interval (pointers_in t.width (index_in t p)) xs → last ≡ get_or (pointers_in t.width (index_in t p)) (t.heads - 1) 0
+  pub pointers_from : (last : ℕ) → ArePointed kind t.interval (pointers_in t.width (pointer_bytes t p)) xs → last ≡ get_or (pointers_in t.width (pointer_bytes t p)) (t.heads - 1) 0
       → t.width ≡ cond (leb last 65535) 2 4 → HasPointers kind t p
   pointers_from last all e w = record {
     offsets = λ j few.
@@ -92,21 +92,21 @@ module _ {X : Type 0} (kind : Kind X) (t : Trailer) (p : List ℕ) (parts : HasP
     width = w ∙ last_is last all e;
   }
 
-  pub width_to : (last : ℕ) → last ≡ get_or (pointers_in t.width (index_in t p)) (t.heads - 1) 0 → HasPointers kind t p → t.width ≡ cond (leb last 65535) 2 4
+  pub width_to : (last : ℕ) → last ≡ get_or (pointers_in t.width (pointer_bytes t p)) (t.heads - 1) 0 → HasPointers kind t p → t.width ≡ cond (leb last 65535) 2 4
   width_to last e h = h.width ∙ sym (last_is last (pointers_to h) e)
 
 -- what a pass over parts of a payload knows, of the payload
-module _ {X : Type 0} (kind : Kind X) (fits : X → Type 0) (t : Trailer) (p bytes pointers : List ℕ) (parts : HasParts t p) (e : bytes ≡ body_in t p) (same : pointers ≡ pointers_in t.width (index_in t p)) where
-  passed_in : (a o i : Bool) → IsPassed kind fits t.interval t.item_count bytes pointers a o i → IsPassed kind fits t.interval t.item_count (body_in t p) (pointers_in t.width (index_in t p)) a o i
+module _ {X : Type 0} (kind : Kind X) (fits : X → Type 0) (t : Trailer) (p bytes pointers : List ℕ) (parts : HasParts t p) (e : bytes ≡ body_in t p) (same : pointers ≡ pointers_in t.width (pointer_bytes t p)) where
+  passed_in : (a o i : Bool) → IsPassed kind fits t.interval t.item_count bytes pointers a o i → IsPassed kind fits t.interval t.item_count (body_in t p) (pointers_in t.width (pointer_bytes t p)) a o i
   passed_in a o i k =
-      subst (λ b. IsPassed kind fits t.interval t.item_count b (pointers_in t.width (index_in t p)) a o i) e (subst (λ x. IsPassed kind fits t.interval t.item_count bytes x a o i) same k)
+      subst (λ b. IsPassed kind fits t.interval t.item_count b (pointers_in t.width (pointer_bytes t p)) a o i) e (subst (λ x. IsPassed kind fits t.interval t.item_count bytes x a o i) same k)
 
   pub found_from : (a o i w : Bool) (last : ℕ) → IsPassed kind fits t.interval t.item_count bytes pointers a o i → last ≡ get_or pointers (t.heads - 1) 0 → IsTrue w ↔ (t.width ≡ cond (leb last 65535) 2 4)
       → IsFound kind fits t p a o (i && w)
   found_from a o i w last known last_is least =
       let k = passed_in a o i known in
       let j = k.judged in
-      let at_end : last ≡ get_or (pointers_in t.width (index_in t p)) (t.heads - 1) 0 = last_is ∙ ap (λ ps. get_or ps (t.heads - 1) 0) same in
+      let at_end : last ≡ get_or (pointers_in t.width (pointer_bytes t p)) (t.heads - 1) 0 = last_is ∙ ap (λ ps. get_or ps (t.heads - 1) 0) same in
       record {
         forms = forms_from kind t p parts k.items k.reads;
         fit = ((λ h. all_from kind t p parts k.items k.reads fits (j.fit.0 h)), (λ h. j.fit.1 (all_to kind t p parts k.items k.reads fits h)));

@@ -15,21 +15,21 @@ use Rattle.sst_base.specs.ReadingLaws.{pair_parts}
 use Rattle.sst_block_core.specs.Kind.{Kind, IsKind, item_cmp}
 use Rattle.sst_block_core.specs.Body.{body, items_at, place_offset}
 use Rattle.sst_block_core.specs.KeyRanges.{key_by, IsKeyRanges, version_cmp, IsVersion, IsLast, least_version}
-use Rattle.sst_block_core.specs.Passes.{last_of, IsRead, ArePointed, IsAlong, HasNoHead}
+use Rattle.sst_block_core.specs.Passes.{last_passed, IsReadUpto, ArePointed, IsAlong, HasNoHead}
 use Rattle.sst_base.specs.declared.table.util.SliceIndexes.{SliceIndexes}
-use Rattle.sst_block_core.specs.Found.{range_of}
+use Rattle.sst_block_core.specs.Found.{range_bytes}
 use Rattle.sst_block_core.specs.declared.table.block.check.keys.KeyVersion.{KeyVersion}
 use Rattle.sst_block_core.specs.declared.table.block.check.pass.PassState.{PassState}
 use Rattle.sst_block_core.proofs.Check.KeyOrders.{not_before}
 use Rattle.sst_block_core.proofs.Check.ItemReads.{read_offset, read_none}
 use Rattle.sst_block_core.proofs.Writing.Written.{place_same}
 
-last_push : {X : Type 0} (xs : List X) (x : X) → last_of (xs ++ x ∷ []) ≡ Some x
+last_push : {X : Type 0} (xs : List X) (x : X) → last_passed (xs ++ x ∷ []) ≡ Some x
 last_push [] x = refl
 last_push (y ∷ []) x = refl
 last_push (y ∷ z ∷ ys) x = last_push (z ∷ ys) x
 
-pub no_last : {X : Type 0} (xs : List X) → None ≡ last_of xs → xs ≡ []
+pub no_last : {X : Type 0} (xs : List X) → None ≡ last_passed xs → xs ≡ []
 no_last [] e = refl
 no_last (x ∷ []) e = cc
 no_last (x ∷ y ∷ xs) e = let r = no_last (y ∷ xs) e in cc
@@ -40,7 +40,7 @@ both false b = ((λ h. cc (h.0)), (λ h. cc))
 
 module _ {X : Type 0} (cmp : X → X → Ordering) where
   -- one item more keeps the order exactly if it doesn't sort before the last
-  pub order_more : (xs : List X) (l x : X) → Some l ≡ last_of xs → (IsInOrder cmp xs × (cmp x l ≢ Less)) ↔ IsInOrder cmp (xs ++ x ∷ [])
+  pub order_more : (xs : List X) (l x : X) → Some l ≡ last_passed xs → (IsInOrder cmp xs × (cmp x l ≢ Less)) ↔ IsInOrder cmp (xs ++ x ∷ [])
   order_more [] l x e = cc
   order_more (y ∷ []) l x e =
       let s : l ≡ y = cc in
@@ -49,7 +49,7 @@ module _ {X : Type 0} (cmp : X → X → Ordering) where
       let r = order_more (z ∷ ys) l x e in
       ((λ h. (h.0.0, r.0 (h.0.1, h.1))), (λ h. let g = r.1 h.1 in ((h.0, g.0), g.1)))
 
-  pub order_push : (xs : List X) (x : X) (last : Option X) (o t : Bool) → last ≡ last_of xs → IsTrue o ↔ IsInOrder cmp xs → IsTrue t ↔ IfSome last (λ l. cmp x l ≢ Less)
+  pub order_push : (xs : List X) (x : X) (last : Option X) (o t : Bool) → last ≡ last_passed xs → IsTrue o ↔ IsInOrder cmp xs → IsTrue t ↔ IfSome last (λ l. cmp x l ≢ Less)
       → IsTrue (o && t) ↔ IsInOrder cmp (xs ++ x ∷ [])
   order_push xs x None o t e so_far keeps =
       let z = no_last xs e in
@@ -140,21 +140,21 @@ module _ {X : Type 0} (kind : Kind X) (valid fits : X → Type 0) (laws : IsKind
   module _ (xs : List X) (base : SliceIndexes) (from : PassState) (k : IsAlong kind fits r bytes pointers xs base from) (x : X) (v : KeyVersion) (offset : ℕ) (s t : Bool)
       (small : v.seqno ≤ 18446744073709551615) (version : IsVersion kind bytes x v) (fit : IsTrue s ↔ fits x) (keeps : IsTrue t ↔ (version_cmp bytes v from.last ≢ Less)) where
     -- an item more
-    pub along_head : (next : SliceIndexes) (u : Bool) → IsRead kind r bytes (xs ++ x ∷ []) (length xs + 1) offset (range_of bytes next)
+    pub along_head : (next : SliceIndexes) (u : Bool) → IsReadUpto kind r bytes (xs ++ x ∷ []) (length xs + 1) offset (range_bytes bytes next)
         → IsTrue u ↔ (length xs % r ≡ 0 → get_or pointers (length xs / r) 0 ≡ from.offset)
         → IsAlong kind fits r bytes pointers (xs ++ x ∷ []) next (record { offset = offset; last = v; passed = record { all_fit = from.passed.all_fit && s; is_ordered = from.passed.is_ordered && t; is_indexed = from.passed.is_indexed && u } })
     along_head next u read here = record {
-      read = subst (λ n. IsRead kind r bytes (xs ++ x ∷ []) n offset (range_of bytes next)) read.count read;
+      read = subst (λ n. IsReadUpto kind r bytes (xs ++ x ∷ []) n offset (range_bytes bytes next)) read.count read;
       last_is = subst (IsLast kind bytes v) (sym (last_push xs x)) version;
       judged = record {
         fit = fit_push fits xs x from.passed.all_fit s k.judged.fit fit;
-        ordered = order_push (item_cmp kind) xs x (last_of xs) from.passed.is_ordered t refl k.judged.ordered (keeps_by kind bytes from.last (last_of xs) v x t small k.last_is version keeps);
-        indexed = pointed_push kind r pos pointers xs x (length xs) (length xs % r) from.offset from.passed.is_indexed u refl refl (read_offset kind r bytes xs (length xs) from.offset (range_of bytes base) k.read valid laws pos b) k.judged.indexed here;
+        ordered = order_push (item_cmp kind) xs x (last_passed xs) from.passed.is_ordered t refl k.judged.ordered (keeps_by kind bytes from.last (last_passed xs) v x t small k.last_is version keeps);
+        indexed = pointed_push kind r pos pointers xs x (length xs) (length xs % r) from.offset from.passed.is_indexed u refl refl (read_offset kind r bytes xs (length xs) from.offset (range_bytes bytes base) k.read valid laws pos b) k.judged.indexed here;
       };
     }
 
     -- one that is no head
-    pub along_rest : (length xs % r ≡ 0 → ⊥) → IsRead kind r bytes (xs ++ x ∷ []) (length xs + 1) offset (range_of bytes base)
+    pub along_rest : (length xs % r ≡ 0 → ⊥) → IsReadUpto kind r bytes (xs ++ x ∷ []) (length xs + 1) offset (range_bytes bytes base)
         → IsAlong kind fits r bytes pointers (xs ++ x ∷ []) base (record { offset = offset; last = v; passed = record { all_fit = from.passed.all_fit && s; is_ordered = from.passed.is_ordered && t; is_indexed = from.passed.is_indexed } })
     along_rest rest read =
         subst (λ i. IsAlong kind fits r bytes pointers (xs ++ x ∷ []) base (record { offset = offset; last = v; passed = record { all_fit = from.passed.all_fit && s; is_ordered = from.passed.is_ordered && t; is_indexed = i } }))

@@ -12,12 +12,12 @@ use Rattle.sst_base.specs.OrderLaws.{ordering_then_assoc}
 use Rattle.sst_base.specs.KeyOrderLaws.{slice_cmp-equal}
 use Rattle.std.specs.Cmp.{nat_cmp_is}
 use Rattle.std.proofs.lemmas.List.{get_or_append_left, get_or_at, length_push}
-use Rattle.sst_block_core.specs.Found.{IsRange, range_of}
-use Rattle.sst_block_core.specs.Heads.{key_in, Begins, front, Table, IsHead, IsTable, IsHeadPassed, IsHeadPassedBit, heads_before}
+use Rattle.sst_block_core.specs.Found.{IsRange, range_bytes}
+use Rattle.sst_block_core.specs.Heads.{key_in, Begins, front, Table, IsHead, IsHeadTable, IsHeadPassed, IsHeadPassedBit, heads_before}
 use Rattle.sst_block_core.proofs.Heads.Fronts.{fronts_decide, half_small}
 use Rattle.std.specs.declared.cmp.Ordering.TheVariants.{Less, Equal, Greater}
 use Rattle.sst_base.specs.Order.{versions_cmp, IsInOrder}
-use Rattle.sst_block_core.specs.Passes.{last_of}
+use Rattle.sst_block_core.specs.Passes.{last_passed}
 use Rattle.sst_block_core.proofs.Check.PassSteps.{order_more, no_last}
 use Rattle.sst_block_core.specs.Kind.{Kind}
 use Rattle.sst_block_core.specs.Window.{passes_cmp, count_passed}
@@ -92,7 +92,7 @@ begins_between (c ∷ p) (d ∷ a) (y ∷ x) (e ∷ b) f g lo hi =
     let rest = begins_between p a x b af bf (λ less. lo (ap (λ o. ordering_then o (slice_cmp nat_cmp x a)) (sym first) ∙ less)) (λ less. hi (ap (λ o. ordering_then o (slice_cmp nat_cmp b x)) (sym last) ∙ less)) in
     λ i. yc i ∷ rest i
 
-module _ (payload needle : List ℕ) (from : Option ℕ) (t : Table) (table : IsTable payload t) where
+module _ (payload needle : List ℕ) (from : Option ℕ) (t : Table) (table : IsHeadTable payload t) where
   -- a bound passes at most as many heads as there are
   pub before_inside : heads_before payload needle from t.heads ≤ length t.heads
   unfolding heads_before count_passed
@@ -117,7 +117,7 @@ module _ (payload needle : List ℕ) (from : Option ℕ) (t : Table) (table : Is
       ] told.tells told.is
 
   -- where all keys compare so with the needle
-  decided : (o : Ordering) → ((key : List ℕ) → Begins (range_of payload t.prefix) key → slice_cmp nat_cmp key needle ≡ o)
+  decided : (o : Ordering) → ((key : List ℕ) → Begins (range_bytes payload t.prefix) key → slice_cmp nat_cmp key needle ≡ o)
       → (j : ℕ) (b : Bool) → ((seqno : ℕ) → passes_cmp o from seqno ≡ b) → j < length t.heads → IsHeadPassed payload needle from t.heads j b
   decided o all j b is h = elim (slice_get_cases t.heads j).1 [
     | inl at ↦
@@ -130,23 +130,23 @@ module _ (payload needle : List ℕ) (from : Option ℕ) (t : Table) (table : Is
   ]
 
   -- a needle that sorts after the prefix of all keys, or before it
-  pub all_before : ((rest : List ℕ) → slice_cmp nat_cmp (range_of payload t.prefix ++ rest) needle ≡ Less) → length t.heads ≡ heads_before payload needle from t.heads
+  pub all_before : ((rest : List ℕ) → slice_cmp nat_cmp (range_bytes payload t.prefix ++ rest) needle ≡ Less) → length t.heads ≡ heads_before payload needle from t.heads
   all_before h =
       let within = before_inside in elim (cases_lt 0 (length t.heads)) [
         | inl some ↦
-            (let low = before_low (length t.heads - 1) (decided Less (λ key b. ap (λ k. slice_cmp nat_cmp k needle) b ∙ h (drop (length (range_of payload t.prefix)) key)) (length t.heads - 1) true (λ s. refl) (omega (arith, some))) in
+            (let low = before_low (length t.heads - 1) (decided Less (λ key b. ap (λ k. slice_cmp nat_cmp k needle) b ∙ h (drop (length (range_bytes payload t.prefix)) key)) (length t.heads - 1) true (λ s. refl) (omega (arith, some))) in
             omega (arith, within, low))
         | inr none ↦ omega (arith, within, none)
       ]
 
-  pub none_before : ((rest : List ℕ) → slice_cmp nat_cmp (range_of payload t.prefix ++ rest) needle ≡ Greater) → 0 < length t.heads → 0 ≡ heads_before payload needle from t.heads
+  pub none_before : ((rest : List ℕ) → slice_cmp nat_cmp (range_bytes payload t.prefix ++ rest) needle ≡ Greater) → 0 < length t.heads → 0 ≡ heads_before payload needle from t.heads
   none_before h some =
-      let high = before_high 0 (decided Greater (λ key b. ap (λ k. slice_cmp nat_cmp k needle) b ∙ h (drop (length (range_of payload t.prefix)) key)) 0 false (λ s. refl) some) in
+      let high = before_high 0 (decided Greater (λ key b. ap (λ k. slice_cmp nat_cmp k needle) b ∙ h (drop (length (range_bytes payload t.prefix)) key)) 0 false (λ s. refl) some) in
       omega (arith, high)
 
   -- what follows the prefix in a head's key is bytes
-  rest_bytes : (h : Head) → IsBytes payload → IsBytes (drop (length (range_of payload t.prefix)) (key_in payload h))
-  rest_bytes h bytes = IsBytes-drop (length (range_of payload t.prefix)) (key_in payload h) (IsBytes-take (h.key.1 - h.key.0) (drop h.key.0 payload) (IsBytes-drop h.key.0 payload bytes))
+  rest_bytes : (h : Head) → IsBytes payload → IsBytes (drop (length (range_bytes payload t.prefix)) (key_in payload h))
+  rest_bytes h bytes = IsBytes-drop (length (range_bytes payload t.prefix)) (key_in payload h) (IsBytes-take (h.key.1 - h.key.0) (drop h.key.0 payload) (IsBytes-drop h.key.0 payload bytes))
 
   -- a number of the table has 63 bits
   pub number_small : (j own : ℕ) → j < length t.heads → IsBytes payload → own ≡ slice_index t.fronts j → own < 2 ^ 63
@@ -159,10 +159,10 @@ module _ (payload needle : List ℕ) (from : Option ℕ) (t : Table) (table : Is
   ]
 
   -- a needle that begins with the prefix, and has a rest after it
-  module _ (rest : List ℕ) (behind : (s : List ℕ) → slice_cmp nat_cmp (range_of payload t.prefix ++ s) needle ≡ slice_cmp nat_cmp s rest) where
+  module _ (rest : List ℕ) (behind : (s : List ℕ) → slice_cmp nat_cmp (range_bytes payload t.prefix ++ s) needle ≡ slice_cmp nat_cmp s rest) where
     -- what follows the prefix decides
-    pub by_rest : (h : Head) → Begins (range_of payload t.prefix) (key_in payload h) → slice_cmp nat_cmp (key_in payload h) needle ≡ slice_cmp nat_cmp (drop (length (range_of payload t.prefix)) (key_in payload h)) rest
-    by_rest h b = ap (λ k. slice_cmp nat_cmp k needle) b ∙ behind (drop (length (range_of payload t.prefix)) (key_in payload h))
+    pub by_rest : (h : Head) → Begins (range_bytes payload t.prefix) (key_in payload h) → slice_cmp nat_cmp (key_in payload h) needle ≡ slice_cmp nat_cmp (drop (length (range_bytes payload t.prefix)) (key_in payload h)) rest
+    by_rest h b = ap (λ k. slice_cmp nat_cmp k needle) b ∙ behind (drop (length (range_bytes payload t.prefix)) (key_in payload h))
 
     -- fronts that differ decide
     pub told_apart : (j own number : ℕ) → j < length t.heads → IsBytes payload → IsBytes rest → own ≡ slice_index t.fronts j → number ≡ front rest / 2 → own ≢ number → IsHeadPassed payload needle from t.heads j (nat_lt own number)
@@ -170,7 +170,7 @@ module _ (payload needle : List ℕ) (from : Option ℕ) (t : Table) (table : Is
       | inl at ↦
           let is = table.each_is j at.0 at.2 in
           let key = key_in payload at.0 in
-          let n = length (range_of payload t.prefix) in
+          let n = length (range_bytes payload t.prefix) in
           let by = fronts_decide (drop n key) rest own number (rest_bytes at.0 bytes) needle_bytes (e ∙ is.front_is) f ne in
           record {
             head = at.0;
@@ -182,7 +182,7 @@ module _ (payload needle : List ℕ) (from : Option ℕ) (t : Table) (table : Is
 
     -- where they are the same, the bytes decide
     pub told_tied : (j : ℕ) (o : Ordering) (seqno : ℕ) → j < length t.heads
-        → ((h : Head) → slice_get t.heads j ≡ Some h → (o ≡ slice_cmp nat_cmp (drop (length (range_of payload t.prefix)) (key_in payload h)) rest) × (seqno ≡ h.seqno))
+        → ((h : Head) → slice_get t.heads j ≡ Some h → (o ≡ slice_cmp nat_cmp (drop (length (range_bytes payload t.prefix)) (key_in payload h)) rest) × (seqno ≡ h.seqno))
         → IsHeadPassed payload needle from t.heads j (passes_cmp o from seqno)
     told_tied j o seqno h read = elim (slice_get_cases t.heads j).1 [
       | inl at ↦
@@ -192,13 +192,13 @@ module _ (payload needle : List ℕ) (from : Option ℕ) (t : Table) (table : Is
       | inr past ↦ absurd (omega (arith, h, past.0))
     ]
 
-in_order_more : {X : Type 0} (cmp : X → X → Ordering) (xs : List X) (x : X) (last : Option X) → last ≡ last_of xs → IsInOrder cmp xs → IfSome last (λ l. cmp x l ≢ Less) → IsInOrder cmp (xs ++ x ∷ [])
+in_order_more : {X : Type 0} (cmp : X → X → Ordering) (xs : List X) (x : X) (last : Option X) → last ≡ last_passed xs → IsInOrder cmp xs → IfSome last (λ l. cmp x l ≢ Less) → IsInOrder cmp (xs ++ x ∷ [])
 in_order_more cmp xs x None e o h = subst (λ ys. IsInOrder cmp (ys ++ x ∷ [])) (sym (no_last xs e)) tt
 in_order_more cmp xs x (Some l) e o h = (order_more cmp xs l x e).0 (o, h)
 
 -- one head more
-module _ (payload : List ℕ) (t more : Table) (h : Head) (number : ℕ) (table : IsTable payload t) (heads : more.heads ≡ t.heads ++ h ∷ []) (fronts : more.fronts ≡ t.fronts ++ number ∷ []) (prefix : more.prefix ≡ t.prefix) (is : IsHead payload (range_of payload t.prefix) h number) where
-  each_more : (j : ℕ) (g : Head) → slice_get more.heads j ≡ Some g → IsHead payload (range_of payload t.prefix) g (slice_index more.fronts j)
+module _ (payload : List ℕ) (t more : Table) (h : Head) (number : ℕ) (table : IsHeadTable payload t) (heads : more.heads ≡ t.heads ++ h ∷ []) (fronts : more.fronts ≡ t.fronts ++ number ∷ []) (prefix : more.prefix ≡ t.prefix) (is : IsHead payload (range_bytes payload t.prefix) h number) where
+  each_more : (j : ℕ) (g : Head) → slice_get more.heads j ≡ Some g → IsHead payload (range_bytes payload t.prefix) g (slice_index more.fronts j)
   each_more j g got =
       let inside = slice_get_within more.heads j g got in
       let l = ap length heads ∙ length_push t.heads h in
@@ -207,19 +207,19 @@ module _ (payload : List ℕ) (t more : Table) (h : Head) (number : ℕ) (table 
         | inl less ↦
             let old = table.each_is j g (sym (slice_get_front t.heads h j less) ∙ there) in
             let same : slice_index more.fronts j ≡ slice_index t.fronts j = ap (λ fs. slice_index fs j) fronts ∙ get_or_append_left t.fronts (number ∷ []) 0 j (omega (arith, less, c)) in
-            subst (IsHead payload (range_of payload t.prefix) g) (sym same) old
+            subst (IsHead payload (range_bytes payload t.prefix) g) (sym same) old
         | inr ge ↦
             let last : j ≡ length t.heads = omega (arith, ge, inside, l) in
             let gh : h ≡ g = some_some (sym (slice_get_last t.heads h j last) ∙ there) in
             let same : slice_index more.fronts j ≡ number = ap (λ fs. slice_index fs j) fronts ∙ get_or_at t.fronts number [] 0 j (c ∙ sym last) in
-            subst (λ k. IsHead payload (range_of payload t.prefix) k (slice_index more.fronts j)) gh (subst (IsHead payload (range_of payload t.prefix) h) (sym same) is)
+            subst (λ k. IsHead payload (range_bytes payload t.prefix) k (slice_index more.fronts j)) gh (subst (IsHead payload (range_bytes payload t.prefix) h) (sym same) is)
       ]
 
-  pub table_more : IfSome (last_of t.heads) (λ (l : Head). versions_cmp (key_in payload) (λ (g : Head). g.seqno) h l ≢ Less) → IsTable payload more
+  pub table_more : IfSome (last_passed t.heads) (λ (l : Head). versions_cmp (key_in payload) (λ (g : Head). g.seqno) h l ≢ Less) → IsHeadTable payload more
   table_more order = record {
     prefix_inside = subst (IsRange payload) (sym prefix) table.prefix_inside;
     count = ap length fronts ∙ length_push t.fronts number ∙ ap (λ n. n + 1) table.count ∙ sym (ap length heads ∙ length_push t.heads h);
-    each_is = λ j g got. subst (λ p. IsHead payload (range_of payload p) g (slice_index more.fronts j)) (sym prefix) (each_more j g got);
+    each_is = λ j g got. subst (λ p. IsHead payload (range_bytes payload p) g (slice_index more.fronts j)) (sym prefix) (each_more j g got);
     ordered = subst (IsInOrder (versions_cmp (key_in payload) (λ (g : Head). g.seqno))) (sym heads)
-        (in_order_more (versions_cmp (key_in payload) (λ (h : Head). h.seqno)) t.heads h (last_of t.heads) refl table.ordered order);
+        (in_order_more (versions_cmp (key_in payload) (λ (h : Head). h.seqno)) t.heads h (last_passed t.heads) refl table.ordered order);
   }

@@ -11,9 +11,9 @@ use Rattle.std.specs.declared.cmp.Ordering.{Ordering}
 use Rattle.std.specs.declared.cmp.Ordering.TheVariants.{Less, Equal, Greater}
 use Rattle.sst_base.specs.KeyOrderLaws.{slice_cmp-equal}
 use Rattle.sst_block_core.specs.declared.table.block.heads.Head.{Head}
-use Rattle.sst_block_core.specs.Heads.{Begins, Table, IsTable, IsHeadOf, IsTableUpto, HeadsBegin, FollowsHead}
+use Rattle.sst_block_core.specs.Heads.{Begins, Table, IsHeadTable, IsHeadOf, IsHeadTableUpto, HeadsBegin, FollowsHead}
 use Rattle.sst_block_core.specs.Kind.{Kind, IsOrdered, item_cmp}
-use Rattle.sst_block_core.specs.Passes.{last_of}
+use Rattle.sst_block_core.specs.Passes.{last_passed}
 use Rattle.sst_block_core.specs.Pointers.{head_count}
 use Rattle.sst_block_core.specs.Scan.{Listed}
 use Rattle.sst_block_core.specs.Window.{passes, passes_cmp}
@@ -56,7 +56,7 @@ all_begin kind list pos some ordered prefix first last at_first at_last f l = λ
     (λ less. after (ap (λ o. ordering_then o (nat_cmp (kind.seqno first) (kind.seqno x))) less))
     (λ less. before (ap (λ o. ordering_then o (nat_cmp (kind.seqno x) (kind.seqno last))) less))
 
-last_at : (heads : List Head) (l : Head) → last_of heads ≡ Some l → (0 < length heads) × (slice_get heads (length heads - 1) ≡ Some l)
+last_at : (heads : List Head) (l : Head) → last_passed heads ≡ Some l → (0 < length heads) × (slice_get heads (length heads - 1) ≡ Some l)
 last_at [] l e = cc
 last_at (h ∷ []) l e = (omega arith, e)
 last_at (h ∷ g ∷ hs) l e =
@@ -64,8 +64,8 @@ last_at (h ∷ g ∷ hs) l e =
     let n : length (h ∷ g ∷ hs) - 1 ≡ suc (length (g ∷ hs) - 1) = omega arith in
     (omega arith, ap (slice_get (h ∷ g ∷ hs)) n ∙ r.1)
 
-module _ {X : Type 0} (kind : Kind X) (list : Listed X) (pos : 0 < list.interval) (ordered : IsOrdered kind list.items) (j : ℕ) (t : Table) (upto : IsTableUpto kind list j t) (x : X) (there : slice_get list.items (j * list.interval) ≡ Some x) (inside : j * list.interval < length list.items) where
-  pub next_behind : (last : Head) → last_of t.heads ≡ Some last → FollowsHead kind list.payload last x
+module _ {X : Type 0} (kind : Kind X) (list : Listed X) (pos : 0 < list.interval) (ordered : IsOrdered kind list.items) (j : ℕ) (t : Table) (upto : IsHeadTableUpto kind list j t) (x : X) (there : slice_get list.items (j * list.interval) ≡ Some x) (inside : j * list.interval < length list.items) where
+  pub next_behind : (last : Head) → last_passed t.heads ≡ Some last → FollowsHead kind list.payload last x
   next_behind last e =
       let l = last_at t.heads last e in
       let c = upto.count in
@@ -80,7 +80,7 @@ module _ {X : Type 0} (kind : Kind X) (list : Listed X) (pos : 0 < list.interval
         | inr past ↦ absurd (omega (arith, low, inside, past.0))
       ]
 
-  pub upto_more : (h : Head) (more : Table) → more.heads ≡ t.heads ++ h ∷ [] → IsTable list.payload more → IsHeadOf kind list j x h → IsTableUpto kind list (j + 1) more
+  pub upto_more : (h : Head) (more : Table) → more.heads ≡ t.heads ++ h ∷ [] → IsHeadTable list.payload more → IsHeadOf kind list j x h → IsHeadTableUpto kind list (j + 1) more
   upto_more h more e table is =
       let c = upto.count in
       record {

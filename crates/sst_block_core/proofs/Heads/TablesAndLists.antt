@@ -9,9 +9,9 @@ use Rattle.std.proofs.lemmas.List.{take_at, take-take, take-append-le, take-appe
 use Rattle.sst_base.specs.declared.table.util.SliceIndexes.{SliceIndexes}
 use Rattle.sst_base.specs.SharedPrefix.{shared_prefix_length}
 use Rattle.sst_base.specs.SharedPrefixLaws.{shared_prefix_inside, shared_prefix_joins}
-use Rattle.sst_block_core.specs.Found.{IsEncodedAt, IsRange, range_of}
-use Rattle.sst_block_core.specs.Passes.{last_of}
-use Rattle.sst_block_core.specs.Heads.{key_in, Begins, Table, IsTableOf, heads_before}
+use Rattle.sst_block_core.specs.Found.{IsEncodedAt, IsRange, range_bytes}
+use Rattle.sst_block_core.specs.Passes.{last_passed}
+use Rattle.sst_block_core.specs.Heads.{key_in, Begins, Table, IsHeadTableOf, heads_before}
 use Rattle.sst_block_core.specs.Kind.{Kind, IsOrdered}
 use Rattle.sst_block_core.specs.Pointers.{head_count}
 use Rattle.sst_block_core.specs.Scan.{Listed}
@@ -21,7 +21,7 @@ use Rattle.sst_block_core.proofs.Search.HeadAnswers.{times_upto}
 use Rattle.sst_block_core.proofs.Heads.TableSearches.{as_items}
 use Rattle.sst_block_core.proofs.Places.HeadPlaces.{head_below, heads_reach}
 
-module _ {X : Type 0} (kind : Kind X) (list : Listed X) (pos : 0 < list.interval) (t : Table) (tie : IsTableOf kind list t) where
+module _ {X : Type 0} (kind : Kind X) (list : Listed X) (pos : 0 < list.interval) (t : Table) (tie : IsHeadTableOf kind list t) where
   -- an item that is a head has one in the table
   pub inside_table : (j : ℕ) → j * list.interval < length list.items → j < length t.heads
   inside_table j h = let b = (head_below list.interval (length list.items) j pos).1 h in let c = tie.count in omega (arith, b, c)
@@ -88,7 +88,7 @@ module _ {X : Type 0} (kind : Kind X) (list : Listed X) (pos : 0 < list.interval
         omega (arith, up, reach)
 
 -- the range of a key that is encoded in a payload
-pub encoded_range : (payload key own : List ℕ) (start n : ℕ) → IsEncodedAt payload start key → own ≡ drop n key → n ≡ 0 → IsRange payload (start, start + length own) × (range_of payload (start, start + length own) ≡ key)
+pub encoded_range : (payload key own : List ℕ) (start n : ℕ) → IsEncodedAt payload start key → own ≡ drop n key → n ≡ 0 → IsRange payload (start, start + length own) × (range_bytes payload (start, start + length own) ≡ key)
 encoded_range payload key own start n s e z =
     let same : own ≡ key = e ∙ ap (λ m. drop m key) z in
     let l : length (drop start payload) ≡ length key + length s.after = ap length s.there ∙ length-append key s.after in
@@ -101,11 +101,11 @@ encoded_range payload key own start n s e z =
     )
 
 -- a prefix that two ranges share, as a range
-pub shared_range : (payload : List ℕ) (a b : SliceIndexes) (n : ℕ) → IsRange payload a → IsRange payload b → n ≤ shared_prefix_length (range_of payload a) (range_of payload b)
-    → (a.0 + n ≤ a.1) × IsRange payload (a.0, a.0 + n) × Begins (range_of payload (a.0, a.0 + n)) (range_of payload a) × Begins (range_of payload (a.0, a.0 + n)) (range_of payload b)
+pub shared_range : (payload : List ℕ) (a b : SliceIndexes) (n : ℕ) → IsRange payload a → IsRange payload b → n ≤ shared_prefix_length (range_bytes payload a) (range_bytes payload b)
+    → (a.0 + n ≤ a.1) × IsRange payload (a.0, a.0 + n) × Begins (range_bytes payload (a.0, a.0 + n)) (range_bytes payload a) × Begins (range_bytes payload (a.0, a.0 + n)) (range_bytes payload b)
 shared_range payload a b n ra rb e =
-    let A = range_of payload a in
-    let B = range_of payload b in
+    let A = range_bytes payload a in
+    let B = range_bytes payload b in
     let s = (shared_prefix_inside A B).0 in
     let d = length-drop a.0 payload in
     let order = ra.order in
@@ -113,8 +113,8 @@ shared_range payload a b n ra rb e =
     let l : length A ≡ a.1 - a.0 = length-take-le (a.1 - a.0) (drop a.0 payload) (omega (arith, d, order, inside)) in
     let up : n ≤ a.1 - a.0 = omega (arith, s, l, e) in
     let width : (a.0 + n) - a.0 ≡ n = omega arith in
-    let prefix : range_of payload (a.0, a.0 + n) ≡ take n A = ap (λ m. take m (drop a.0 payload)) width ∙ sym (take-take n (a.1 - a.0) (drop a.0 payload) up) in
-    let long : length (range_of payload (a.0, a.0 + n)) ≡ n = ap length prefix ∙ length-take-le n A (omega (arith, l, up)) in
+    let prefix : range_bytes payload (a.0, a.0 + n) ≡ take n A = ap (λ m. take m (drop a.0 payload)) width ∙ sym (take-take n (a.1 - a.0) (drop a.0 payload) up) in
+    let long : length (range_bytes payload (a.0, a.0 + n)) ≡ n = ap length prefix ∙ length-take-le n A (omega (arith, l, up)) in
     let all = shared_prefix_length A B in
     let reach : n ≤ length (take all A) = omega (arith, length-take-le all A s, e) in
     let same : take n B ≡ take n A = ap (take n) (sym (shared_prefix_joins A B)) ∙ take-append-le n (take all A) (drop all B) reach ∙ take-take n all A e in
@@ -131,9 +131,9 @@ is_there None h = cc
 is_there (Some x) h = (x, refl)
 
 -- what holds of the last head, if there is one
-by_cases : (o : Option Head) (heads : List Head) (P : Head → Type 0) → last_of heads ≡ o → ((last : Head) → last_of heads ≡ Some last → P last) → IfSome o P
+by_cases : (o : Option Head) (heads : List Head) (P : Head → Type 0) → last_passed heads ≡ o → ((last : Head) → last_passed heads ≡ Some last → P last) → IfSome o P
 by_cases None heads P e h = tt
 by_cases (Some l) heads P e h = h l e
 
-pub if_last : (heads : List Head) (P : Head → Type 0) → ((last : Head) → last_of heads ≡ Some last → P last) → IfSome (last_of heads) P
-if_last heads P h = by_cases (last_of heads) heads P refl h
+pub if_last : (heads : List Head) (P : Head → Type 0) → ((last : Head) → last_passed heads ≡ Some last → P last) → IfSome (last_passed heads) P
+if_last heads P h = by_cases (last_passed heads) heads P refl h

@@ -11,7 +11,7 @@ use Rattle.sst_block_core.specs.Window.{Window, Answer, Step, items_left, answer
 use Rattle.sst_block_core.specs.Handles.{Handle}
 use Rattle.sst_block_core.specs.Ops.{step_of}
 use Rattle.sst_block_core.specs.IndexOps.{step_of as index_step_of}
-use Rattle.sst_block_core.specs.Walks.{End, front, back, end_of, index_end_of, AreSteps, given_front, with_given_back, fronts, backs}
+use Rattle.sst_block_core.specs.Walks.{End, front, back, op_end, index_end_of, AreSteps, given_front, with_given_back, fronts, backs}
 use Rattle.sst_block_core.specs.declared.table.data_block.ops.Op.{Op}
 use Rattle.sst_block_core.specs.declared.table.data_block.ops.Op.TheVariants as entry_ops
 use Rattle.sst_block_core.specs.declared.table.index_block.ops.IndexOp.{IndexOp}
@@ -42,7 +42,7 @@ module _ {X : Type 0} (items : List X) (lo hi : ℕ) (some : lo < hi) (inside : 
       let e : get_or (drop lo items) ((hi - 1) - lo) x ≡ x = get_or-drop lo items ((hi - 1) - lo) x ∙ ap (λ i. get_or items i x) place ∙ get_or_from_slice_get items (hi - 1) x x at in
       rw n (take_more (drop lo items) ((hi - 1) - lo) x (omega (arith, l)) ∙ ap (λ y. take ((hi - 1) - lo) (drop lo items) ++ y ∷ []) e)
 
-module _ {O X : Type 0} (end_of : O → Option End) (step_of : O → Step X) (steps_are : (op : O) (e : End) → end_of op ≡ Some e → step_of op ≡ step_at e) where
+module _ {O X : Type 0} (op_end : O → Option End) (step_of : O → Step X) (steps_are : (op : O) (e : End) → op_end op ≡ Some e → step_of op ≡ step_at e) where
   abbrev later : List O → Window X → List (Answer X)
   later ops w = answers (map step_of ops) w
 
@@ -52,16 +52,16 @@ module _ {O X : Type 0} (end_of : O → Option End) (step_of : O → Step X) (st
   -- what an operation and those after it give and leave, where the operation takes from this end and is this step
   abbrev Given : List O → Window X → Option End → Step X → Type 0
   Given ops w e step =
-      (given_front e (step w).1 ++ fronts end_of ops (later ops (step w).0)) ++ (items_left (after ops (step w).0) ++ with_given_back (backs end_of ops (later ops (step w).0)) e (step w).1) ≡ items_left w
+      (given_front e (step w).1 ++ fronts op_end ops (later ops (step w).0)) ++ (items_left (after ops (step w).0) ++ with_given_back (backs op_end ops (later ops (step w).0)) e (step w).1) ≡ items_left w
 
   front_case : (ops : List O) (w t u : Window X) (o p : Option X) → t ≡ u → o ≡ p
-      → (option_to_list p ++ fronts end_of ops (later ops u)) ++ (items_left (after ops u) ++ backs end_of ops (later ops u)) ≡ items_left w
-      → (option_to_list o ++ fronts end_of ops (later ops t)) ++ (items_left (after ops t) ++ backs end_of ops (later ops t)) ≡ items_left w
+      → (option_to_list p ++ fronts op_end ops (later ops u)) ++ (items_left (after ops u) ++ backs op_end ops (later ops u)) ≡ items_left w
+      → (option_to_list o ++ fronts op_end ops (later ops t)) ++ (items_left (after ops t) ++ backs op_end ops (later ops t)) ≡ items_left w
   front_case ops w t u o p e f g = rw (e, f) g
 
   back_case : (ops : List O) (w t u : Window X) (o p : Option X) → t ≡ u → o ≡ p
-      → fronts end_of ops (later ops u) ++ (items_left (after ops u) ++ (backs end_of ops (later ops u) ++ option_to_list p)) ≡ items_left w
-      → fronts end_of ops (later ops t) ++ (items_left (after ops t) ++ (backs end_of ops (later ops t) ++ option_to_list o)) ≡ items_left w
+      → fronts op_end ops (later ops u) ++ (items_left (after ops u) ++ (backs op_end ops (later ops u) ++ option_to_list p)) ≡ items_left w
+      → fronts op_end ops (later ops t) ++ (items_left (after ops t) ++ (backs op_end ops (later ops t) ++ option_to_list o)) ≡ items_left w
   back_case ops w t u o p e f g = rw (e, f) g
 
   append_three : (a b c d : List X) → (a ++ (b ++ c)) ++ d ≡ a ++ (b ++ (c ++ d))
@@ -72,7 +72,7 @@ module _ {O X : Type 0} (end_of : O → Option End) (step_of : O → Step X) (st
 
   -- a step from either end, where the items that later steps give and the items left are the window after this step
   one_given : (ops : List O) (w : Window X) (e : End) → w.hi ≤ length w.list
-      → ((u : Window X) → u.list ≡ w.list → u.hi ≤ w.hi → fronts end_of ops (later ops u) ++ (items_left (after ops u) ++ backs end_of ops (later ops u)) ≡ items_left u) → Given ops w (Some e) (step_at e)
+      → ((u : Window X) → u.list ≡ w.list → u.hi ≤ w.hi → fronts op_end ops (later ops u) ++ (items_left (after ops u) ++ backs op_end ops (later ops u)) ≡ items_left u) → Given ops w (Some e) (step_at e)
   one_given ops w front inside rest = elim (cases_lt w.lo w.hi) [
     | inl some ↦ elim (slice_get_cases w.list w.lo).1 [
       | inl at ↦
@@ -88,15 +88,15 @@ module _ {O X : Type 0} (end_of : O → Option End) (step_of : O → Step X) (st
       | inl at ↦
           (let u = record w { hi = w.hi - 1 } in
           back_case ops w _ u _ (Some at.0) (rw (lt_test w.lo w.hi some) refl) (rw (lt_test w.lo w.hi some, at.2) refl)
-          (sym (append_three (fronts end_of ops (later ops u)) (items_left (after ops u)) (backs end_of ops (later ops u)) (at.0 ∷ []))
+          (sym (append_three (fronts op_end ops (later ops u)) (items_left (after ops u)) (backs op_end ops (later ops u)) (at.0 ∷ []))
           ∙ ap (λ xs. xs ++ at.0 ∷ []) (rest u refl (omega arith)) ∙ sym (last_item w.list w.lo w.hi some inside at.0 at.2)))
       | inr past ↦ absurd (omega (arith, some, inside, past.0))
     ]
     | inr none ↦ back_case ops w _ w _ None (rw (ge_test w.lo w.hi none) refl) (rw (ge_test w.lo w.hi none) refl)
-        (same_nothing (fronts end_of ops (later ops w)) (items_left (after ops w)) (backs end_of ops (later ops w)) (items_left w) (rest w refl (omega arith)))
+        (same_nothing (fronts op_end ops (later ops w)) (items_left (after ops w)) (backs op_end ops (later ops w)) (items_left w) (rest w refl (omega arith)))
   ]
 
-  by_end : (ops : List O) (w : Window X) (op : O) (o : Option End) → end_of op ≡ o → IsSome o → ((e : End) → Given ops w (Some e) (step_at e)) → Given ops w (end_of op) (step_of op)
+  by_end : (ops : List O) (w : Window X) (op : O) (o : Option End) → op_end op ≡ o → IsSome o → ((e : End) → Given ops w (Some e) (step_at e)) → Given ops w (op_end op) (step_of op)
   by_end ops w op None same some given = cc
   by_end ops w op (Some e) same some given =
       let P : Option End → Type 0 = λ o. Given ops w o (step_of op) in
@@ -104,14 +104,14 @@ module _ {O X : Type 0} (end_of : O → Option End) (step_of : O → Step X) (st
       subst P (sym same) (subst Q (sym (steps_are op e same)) (given e))
 
   -- the items given from both ends, and those left between them, are the window
-  pub window_given : (ops : List O) (w : Window X) → w.hi ≤ length w.list → AreSteps end_of ops
-      → fronts end_of ops (later ops w) ++ (items_left (after ops w) ++ backs end_of ops (later ops w)) ≡ items_left w
+  pub window_given : (ops : List O) (w : Window X) → w.hi ≤ length w.list → AreSteps op_end ops
+      → fronts op_end ops (later ops w) ++ (items_left (after ops w) ++ backs op_end ops (later ops w)) ≡ items_left w
   window_given [] w inside steps = append-nil (items_left w)
   window_given (op ∷ ops) w inside steps =
-      by_end ops w op (end_of op) refl steps.0 (λ e. one_given ops w e inside (λ u same low.
+      by_end ops w op (op_end op) refl steps.0 (λ e. one_given ops w e inside (λ u same low.
       let len = ap length same in window_given ops u (omega (arith, len, low, inside)) steps.1))
 
-entry_steps : (op : Op) (e : End) → end_of op ≡ Some e → step_of op ≡ step_at e
+entry_steps : (op : Op) (e : End) → op_end op ≡ Some e → step_of op ≡ step_at e
 entry_steps entry_ops.Next front h = refl
 entry_steps entry_ops.Next back h = cc
 entry_steps entry_ops.NextBack front h = cc
@@ -130,9 +130,9 @@ index_steps (index_ops.Seek key seqno) e h = cc
 index_steps (index_ops.SeekUpper key seqno) e h = cc
 
 -- the same for entries and for handles
-pub entries_given : (ops : List Op) (w : Window Entry) → w.hi ≤ length w.list → AreSteps end_of ops
-    → fronts end_of ops (answers (map step_of ops) w) ++ (items_left (window_after (map step_of ops) w) ++ backs end_of ops (answers (map step_of ops) w)) ≡ items_left w
-entries_given = window_given end_of step_of entry_steps
+pub entries_given : (ops : List Op) (w : Window Entry) → w.hi ≤ length w.list → AreSteps op_end ops
+    → fronts op_end ops (answers (map step_of ops) w) ++ (items_left (window_after (map step_of ops) w) ++ backs op_end ops (answers (map step_of ops) w)) ≡ items_left w
+entries_given = window_given op_end step_of entry_steps
 
 pub handles_given : (ops : List IndexOp) (w : Window Handle) → w.hi ≤ length w.list → AreSteps index_end_of ops
     → fronts index_end_of ops (answers (map index_step_of ops) w) ++ (items_left (window_after (map index_step_of ops) w) ++ backs index_end_of ops (answers (map index_step_of ops) w)) ≡ items_left w

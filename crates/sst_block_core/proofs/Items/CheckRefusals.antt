@@ -13,7 +13,7 @@ use Rattle.sst_block_core.specs.Entries.{entries}
 use Rattle.sst_block_core.specs.EntryLaws.{IsKind-entries}
 use Rattle.sst_block_core.specs.Handles.{EndFits, handles, HasIndexParts, IndexPasses, IsIndexBlock}
 use Rattle.sst_block_core.specs.Checks.{data_check, index_check}
-use Rattle.sst_block_core.specs.Passes.{IsPartsRefusal, IsItemsRefusal, IsRefusal}
+use Rattle.sst_block_core.specs.Passes.{IsPartsRefusal, IsItemsRefusal, IsPassRefusal}
 use Rattle.sst_block_core.specs.CanonicalLaws.{block_from}
 use Rattle.sst_block_core.specs.OpeningLaws.{length-items_at}
 use Rattle.sst_block_core.proofs.Items.IndexBlocks.{index_block_from}
@@ -49,7 +49,7 @@ module _ (hash64 : List ℕ → ℕ) (p : List ℕ) where
     data_items_refused e (inr (inr (inl h))) = data_is hash64 p (Err OutOfOrder) (a, b, h.1, h.3) ∙ ap Err (sym h.0)
     data_items_refused e (inr (inr (inr h))) = data_is hash64 p (Err BadIndex) (a, b, h.1, h.3, h.4) ∙ ap Err (sym h.0)
 
-    pub data_refused : (e : Error) → IsRefusal entries Any BadEntry hash64 (trailer_in p) p e → e ≢ Memory → data_check hash64 p ≡ Err e
+    pub data_refused : (e : Error) → IsPassRefusal entries Any BadEntry hash64 (trailer_in p) p e → e ≢ Memory → data_check hash64 p ≡ Err e
     data_refused e (inl h) other = data_items_refused e h
     data_refused e (inr (inl h)) other = data_is hash64 p (Err BadHashIndex) (a, b, h.1, h.3, h.4, h.5) ∙ ap Err (sym h.0)
     data_refused e (inr (inr h)) other = absurd (other h.0)

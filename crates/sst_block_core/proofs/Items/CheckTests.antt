@@ -15,7 +15,7 @@ use Rattle.sst_block_core.specs.Body.{place_offset, items_at}
 use Rattle.sst_block_core.specs.Trailer.{Trailer}
 use Rattle.sst_block_core.specs.Pointers.{pointer_width}
 use Rattle.sst_block_core.specs.Handles.{handles, EndFits, HasEnds}
-use Rattle.sst_block_core.specs.Stages.{body_in, index_in, reads_all, items_by, items_read, HasParts, HasForms, HasOrder, HasPointers, HasBuckets}
+use Rattle.sst_block_core.specs.Stages.{body_in, pointer_bytes, reads_all, items_by, items_read, HasParts, HasForms, HasOrder, HasPointers, HasBuckets}
 use Rattle.sst_block_core.specs.Checks.{all_below, is_in_order, has_parts, has_forms, has_order, has_pointers, has_buckets, end_fits}
 
 decides_below : (test : ℕ → Bool) (P : ℕ → Type 0) → ((k : ℕ) → Decides (test k) (P k)) → (n : ℕ) → Decides (all_below n test) ((k : ℕ) → k < n → P k)
@@ -58,8 +58,8 @@ decides_forms kind t p = (
 
 pub decides_pointers : {X : Type 0} (kind : Kind X) (t : Trailer) (p : List ℕ) → Decides (has_pointers kind t p) (HasPointers kind t p)
 decides_pointers kind t p =
-    let same : ℕ → Bool = λ j. eqb (little_number t.width (drop (j * t.width) (index_in t p))) (place_offset kind t.interval (items_by kind t p) (j * t.interval)) in
-    let each = decides_below same (λ j. little_number t.width (drop (j * t.width) (index_in t p)) ≡ place_offset kind t.interval (items_by kind t p) (j * t.interval)) (λ j. Decides-eqb _ _) t.heads in
+    let same : ℕ → Bool = λ j. eqb (little_number t.width (drop (j * t.width) (pointer_bytes t p))) (place_offset kind t.interval (items_by kind t p) (j * t.interval)) in
+    let each = decides_below same (λ j. little_number t.width (drop (j * t.width) (pointer_bytes t p)) ≡ place_offset kind t.interval (items_by kind t p) (j * t.interval)) (λ j. Decides-eqb _ _) t.heads in
     let both = Decides-and (all_below t.heads same) (eqb t.width (pointer_width kind t.interval (items_by kind t p))) each (Decides-eqb _ _) in
     ((λ e. record { offsets = (both.0 e).0; width = (both.0 e).1 }), λ h. both.1 (h.offsets, h.width))
 

@@ -12,7 +12,7 @@ use Rattle.sst_base.specs.declared.table.util.SliceIndexes.{SliceIndexes}
 use Rattle.sst_base.specs.ReadingLaws.{bind_some, pair_parts}
 use Rattle.sst_block_core.specs.Entries.{Truncated, value_at, full_at, truncated_form_at, truncated_at, is_truncation, joined_to}
 use Rattle.sst_block_core.specs.EntryLaws.{truncation_parts}
-use Rattle.sst_block_core.specs.Found.{IsEncodedAt, IsRange, range_of, optional_range}
+use Rattle.sst_block_core.specs.Found.{IsEncodedAt, IsRange, range_bytes, optional_range}
 use Rattle.sst_block_core.specs.ParsedEntry.{entry_of, truncated_of, IsKeyLength}
 use Rattle.sst_block_core.specs.declared.table.data_block.parsed_item.DataBlockParsedItem.{DataBlockParsedItem}
 use Rattle.sst_block_core.specs.declared.table.data_block.decoding.TruncatedForm.{TruncatedForm}
@@ -93,7 +93,7 @@ truncated_parts base bytes x rest h =
 
 -- a prefix of the bytes at an offset, by its range
 pub range_of-front : (payload : List ℕ) (offset n : ℕ) (base : List ℕ) → IsEncodedAt payload offset base → n ≤ length base
-    → (offset + n ≤ length payload) × (range_of payload (record { 0 = offset; 1 = offset + n }) ≡ take n base)
+    → (offset + n ≤ length payload) × (range_bytes payload (record { 0 = offset; 1 = offset + n }) ≡ take n base)
 range_of-front payload offset n base encoded h =
     let d = length-drop offset payload in
     let l = ap length encoded.there ∙ length-append base encoded.after in
@@ -128,7 +128,7 @@ truncated_found payload bytes base base_offset end f x rest encoded range read f
     let front = range_of-front payload base_offset f.shared base encoded (omega arith) in (
       front.0,
       (omega arith, omega arith),
-      (λ i. record { key = record { user_key = front.1 i ++ range_of payload f.key; seqno = f.seqno; value_type = f.value_type }; value = optional_range payload f.value })
+      (λ i. record { key = record { user_key = front.1 i ++ range_bytes payload f.key; seqno = f.seqno; value_type = f.value_type }; value = optional_range payload f.value })
           ∙ ap (joined_to base) (sym s.0) ∙ p.entry_is,
       sym s.1,
     )
@@ -136,17 +136,17 @@ truncated_found payload bytes base base_offset end f x rest encoded range read f
 -- where the shared prefix is the longest, the result is the decoded entry
 pub truncated_read : (payload bytes base : List ℕ) (base_offset end : ℕ) (f : TruncatedForm) (prefix : SliceIndexes) → IsEncodedAt payload base_offset base
     → IsRange payload f.key → prefix ≡ record { 0 = base_offset; 1 = base_offset + f.shared } → IsKeyLength (f.shared + (f.key.1 - f.key.0))
-    → prefix.1 - prefix.0 ≡ shared_prefix_length base (range_of payload prefix ++ range_of payload f.key)
+    → prefix.1 - prefix.0 ≡ shared_prefix_length base (range_bytes payload prefix ++ range_bytes payload f.key)
     → truncated_form_at bytes ≡ Some (truncated_of payload f, drop end payload)
     → truncated_at base bytes ≡ Some (entry_of payload (record { value_type = f.value_type; seqno = f.seqno; prefix = Some prefix; key = f.key; value = f.value }), drop end payload)
 unfolding truncated_at
 truncated_read payload bytes base base_offset end f prefix encoded range is fits longest form =
     let n = f.shared in
-    let rest = range_of payload f.key in
+    let rest = range_bytes payload f.key in
     let len : prefix.1 - prefix.0 ≡ n = ap (λ (p : SliceIndexes). p.1 - p.0) is ∙ (let e : (base_offset + n) - base_offset ≡ n = omega arith in e) in
-    let inside = (shared_prefix_inside base (range_of payload prefix ++ rest)).0 in
+    let inside = (shared_prefix_inside base (range_bytes payload prefix ++ rest)).0 in
     let front = range_of-front payload base_offset n base encoded (omega (arith, len, longest, inside)) in
-    let same : range_of payload prefix ≡ take n base = ap (range_of payload) is ∙ front.1 in
+    let same : range_bytes payload prefix ≡ take n base = ap (range_bytes payload) is ∙ front.1 in
     let shared : shared_prefix_length base (take n base ++ rest) ≡ n = ap (λ k. shared_prefix_length base (k ++ rest)) (sym same) ∙ sym longest ∙ len in
     let l : length (take n base ++ rest) ≡ n + (f.key.1 - f.key.0) =
     let a = length-take-le n base (omega (arith, len, longest, inside)) in

@@ -11,7 +11,7 @@ use Rattle.sst_base.specs.ReadingLaws.{pair_parts, some_value, chain_first, chai
 use Rattle.sst_base.specs.SharedPrefix.{shared_prefix_length}
 use Rattle.sst_base.specs.SharedPrefixLaws.{shared_prefix_inside}
 use Rattle.sst_base.specs.declared.table.util.SliceIndexes.{SliceIndexes}
-use Rattle.sst_block_core.specs.Found.{IsEncodedAt, IsRange, range_of}
+use Rattle.sst_block_core.specs.Found.{IsEncodedAt, IsRange, range_bytes}
 use Rattle.sst_block_core.specs.Handles.{Handle, IsHandle, Fields, handle_with, marker_at, fields_at, full_at, truncated_at, is_truncation}
 use Rattle.sst_block_core.specs.HandleLaws.{IsKind-handles, truncation_parts}
 use Rattle.sst_block_core.specs.FoundLaws.{length-range}
@@ -140,13 +140,13 @@ marker_ends payload offset t encoded form =
     no_reading (fields_at (drop offset payload)) t form none
 
 module _ (payload bytes base : List ℕ) (base_offset end n : ℕ) (f : Fields) (a b : List ℕ) (key : SliceIndexes) (encoded : IsEncodedAt payload base_offset base) (range : IsRange payload key)
-    (front_is : fields_at bytes ≡ Some (f, a)) (shared_is : number_at 16 a ≡ Some (n, b)) (rest_is : length_prefixed_at 16 b ≡ Some (range_of payload key, drop end payload)) where
+    (front_is : fields_at bytes ≡ Some (f, a)) (shared_is : number_at 16 a ≡ Some (n, b)) (rest_is : length_prefixed_at 16 b ≡ Some (range_bytes payload key, drop end payload)) where
   -- where a truncated form is encoded after a head, the parser returns its prefix and its handle
   pub truncated_found : (x : Handle) (rest : List ℕ) → truncated_at base bytes ≡ Some (x, rest)
-      → (base_offset + n ≤ length payload) × (n + (key.1 - key.0) ≤ 65535) × (handle_with f (range_of payload (record { 0 = base_offset; 1 = base_offset + n }) ++ range_of payload key) ≡ x)
+      → (base_offset + n ≤ length payload) × (n + (key.1 - key.0) ≤ 65535) × (handle_with f (range_bytes payload (record { 0 = base_offset; 1 = base_offset + n }) ++ range_bytes payload key) ≡ x)
       × (drop end payload ≡ rest) × (n ≡ shared_prefix_length base x.end_key)
   truncated_found x rest read =
-      let r = range_of payload key in
+      let r = range_bytes payload key in
       let t = truncated_is bytes f a front_is base n b shared_is r (drop end payload) rest_is x rest read in
       let k = truncation_parts base n (take n base ++ r) t.0 in
       let longest = k.0 in
@@ -163,14 +163,14 @@ module _ (payload bytes base : List ℕ) (base_offset end n : ℕ) (f : Fields) 
 
   -- where the shared prefix is the longest, the result is the decoded handle
   pub truncated_read : (prefix : SliceIndexes) → prefix ≡ record { 0 = base_offset; 1 = base_offset + n } → n + (key.1 - key.0) ≤ 65535
-      → prefix.1 - prefix.0 ≡ shared_prefix_length base (range_of payload prefix ++ range_of payload key)
-      → truncated_at base bytes ≡ Some (handle_with f (range_of payload prefix ++ range_of payload key), drop end payload)
+      → prefix.1 - prefix.0 ≡ shared_prefix_length base (range_bytes payload prefix ++ range_bytes payload key)
+      → truncated_at base bytes ≡ Some (handle_with f (range_bytes payload prefix ++ range_bytes payload key), drop end payload)
   truncated_read prefix is most longest =
-      let r = range_of payload key in
+      let r = range_bytes payload key in
       let len : prefix.1 - prefix.0 ≡ n = ap (λ (p : SliceIndexes). p.1 - p.0) is ∙ (let e : (base_offset + n) - base_offset ≡ n = omega arith in e) in
-      let inside : n ≤ length base = let s = (shared_prefix_inside base (range_of payload prefix ++ r)).0 in omega (arith, len, longest, s) in
+      let inside : n ≤ length base = let s = (shared_prefix_inside base (range_bytes payload prefix ++ r)).0 in omega (arith, len, longest, s) in
       let fields' = range_of-front payload base_offset n base encoded inside in
-      let same : range_of payload prefix ≡ take n base = ap (range_of payload) is ∙ fields'.1 in
+      let same : range_bytes payload prefix ≡ take n base = ap (range_bytes payload) is ∙ fields'.1 in
       let shared : shared_prefix_length base (take n base ++ r) ≡ n = ap (λ k. shared_prefix_length base (k ++ r)) (sym same) ∙ sym longest ∙ len in
       let l : length (take n base ++ r) ≡ n + (key.1 - key.0) = let m = length-take-le n base inside in let o = length-range payload key range.order range.inside in omega (arith, length-append (take n base) r, m, o) in
       let truncation : is_truncation base n (take n base ++ r) ≡ true = rw (eq-eqb _ _ shared) (le-leb (length (take n base ++ r)) 65535 (omega (arith, l, most))) in

@@ -4,11 +4,11 @@ use Rattle.std.specs.Iterator.{YieldsFirst, YieldsLast}
 use Rattle.std.specs.Option.{option_map}
 use Rattle.sst_block_core.specs.Backs.{GivesNextBack}
 use Rattle.sst_block_core.specs.ListSteps.{scan_gives_first, scan_gives_last}
-use Rattle.sst_block_core.specs.Scan.{Scan, GivesNext}
+use Rattle.sst_block_core.specs.Scan.{Scan, GivesScanned}
 use Rattle.sst_block_core.specs.Window.{items_left}
 
 module _ {X P : Type 0} (item_of : List ℕ → P → X) (is_found : List ℕ → P → Type 0) (s t : Scan X) where
-  first_of_item : (r : Option P) → GivesNext item_of is_found s r t → YieldsFirst (λ (left : List X). left) (items_left s.window) (option_map (item_of t.payload) r) (items_left t.window)
+  first_of_item : (r : Option P) → GivesScanned item_of is_found s r t → YieldsFirst (λ (left : List X). left) (items_left s.window) (option_map (item_of t.payload) r) (items_left t.window)
   first_of_item None gives = scan_gives_first item_of is_found s None t gives
   first_of_item (Some p) gives = scan_gives_first item_of is_found s (Some p) t gives ∙ ap (λ bytes. item_of bytes p ∷ items_left t.window) (sym gives.payload)
 
@@ -17,7 +17,7 @@ module _ {X P : Type 0} (item_of : List ℕ → P → X) (is_found : List ℕ �
   last_of_item (Some p) gives = scan_gives_last item_of is_found s (Some p) t gives ∙ ap (λ bytes. items_left t.window ++ item_of bytes p ∷ []) (sym gives.payload)
 
   -- from the front
-  pub made_first : {E : Type 0} (r : Option P) (made : Result (Option X) E) → GivesNext item_of is_found s r t → IfOk made (λ x. x ≡ option_map (item_of t.payload) r)
+  pub made_first : {E : Type 0} (r : Option P) (made : Result (Option X) E) → GivesScanned item_of is_found s r t → IfOk made (λ x. x ≡ option_map (item_of t.payload) r)
       → IfOk made (λ x. YieldsFirst (λ (left : List X). left) (items_left s.window) x (items_left t.window))
   made_first r (Ok x) gives is = subst (λ y. YieldsFirst (λ (left : List X). left) (items_left s.window) y (items_left t.window)) (sym is) (first_of_item r gives)
   made_first r (Err e) gives is = tt

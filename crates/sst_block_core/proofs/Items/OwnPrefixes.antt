@@ -4,7 +4,7 @@ use Rattle.std.proofs.lemmas.Bool.{eq-eqb}
 use Rattle.std.proofs.lemmas.List.{length-take-le, take-append-drop}
 use Rattle.sst_base.specs.SharedPrefix.{shared_prefix_length}
 use Rattle.sst_base.specs.declared.table.util.SliceIndexes.{SliceIndexes}
-use Rattle.sst_block_core.specs.Found.{IsRange, IsEncodedAt, range_of}
+use Rattle.sst_block_core.specs.Found.{IsRange, IsEncodedAt, range_bytes}
 
 -- a byte string shares all its bytes with a string that begins with it
 shared_whole : (base rest : List ℕ) → shared_prefix_length base (base ++ rest) ≡ length base
@@ -16,7 +16,7 @@ module _ (payload : List ℕ) (base_offset n : ℕ) (prefix : SliceIndexes) (is 
   abbrev pub own_base : List ℕ
   own_base = take (prefix.1 - prefix.0) (drop base_offset payload)
 
-  pub own_range : range_of payload prefix ≡ own_base
+  pub own_range : range_bytes payload prefix ≡ own_base
   own_range = ap (λ (p : SliceIndexes). take (prefix.1 - prefix.0) (drop p.0 payload)) is
 
   pub length-own : length own_base ≡ prefix.1 - prefix.0
@@ -33,5 +33,5 @@ module _ (payload : List ℕ) (base_offset n : ℕ) (prefix : SliceIndexes) (is 
   }
 
   -- after a head with this key the shared prefix is the longest
-  pub own_longest : (rest : List ℕ) → prefix.1 - prefix.0 ≡ shared_prefix_length own_base (range_of payload prefix ++ rest)
+  pub own_longest : (rest : List ℕ) → prefix.1 - prefix.0 ≡ shared_prefix_length own_base (range_bytes payload prefix ++ rest)
   own_longest rest = sym (ap (λ k. shared_prefix_length own_base (k ++ rest)) own_range ∙ shared_whole own_base rest ∙ length-own)

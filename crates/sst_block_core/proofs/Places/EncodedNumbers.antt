@@ -11,7 +11,7 @@ use Rattle.sst_base.specs.VarintLaws.{varint_at_small, with_digit-with_digits, d
 use Rattle.sst_base.specs.Reading.{◌>>=◌, number_at, length_prefixed_at}
 use Rattle.sst_base.specs.ReadingLaws.{chain_first, chain_next}
 use Rattle.sst_block_core.specs.Digits.{IsReadTo}
-use Rattle.sst_block_core.specs.Found.{Takes, range_of}
+use Rattle.sst_block_core.specs.Found.{Takes, range_bytes}
 use Rattle.sst_block_core.proofs.Places.OffsetReads.{number_some}
 
 -- where a number is encoded, a varint is
@@ -174,7 +174,7 @@ length_first bits bytes h = chain_first (number_at bits bytes) _ h
 
 -- and after it lie the bytes, a range of the payload
 pub length_range : (bits : ℕ) (payload bytes : List ℕ) (n start : ℕ) → start ≤ length payload → number_at bits bytes ≡ Some (n, drop start payload) → IsSome (length_prefixed_at bits bytes)
-    → (start + n ≤ length payload) × (length_prefixed_at bits bytes ≡ Some (range_of payload (record { 0 = start; 1 = start + n }), drop (start + n) payload))
+    → (start + n ≤ length payload) × (length_prefixed_at bits bytes ≡ Some (range_bytes payload (record { 0 = start; 1 = start + n }), drop (start + n) payload))
 length_range bits payload bytes n start inside e h =
     let t = length_some bits bytes n (drop start payload) e h in
     let l = length-drop start payload in

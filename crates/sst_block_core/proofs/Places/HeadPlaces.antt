@@ -10,7 +10,7 @@ use Rattle.sst_block_core.specs.Trailer.{Trailer, trailer, trailer_in}
 use Rattle.sst_block_core.specs.Pointers.{head_count, pointers, pointers_in}
 use Rattle.sst_block_core.specs.Buckets.{buckets, stored_count}
 use Rattle.sst_block_core.specs.Payload.{IsEncoding, trailer_of}
-use Rattle.sst_block_core.specs.Stages.{items_in, index_in, HasParts}
+use Rattle.sst_block_core.specs.Stages.{items_in, pointer_bytes, HasParts}
 use Rattle.sst_block_core.specs.Scan.{Listed, IsFormOffset, IsPlace}
 use Rattle.sst_block_core.specs.Intervals.{IsIndexed}
 use Rattle.sst_block_core.specs.BodyLaws.{forms_again}
@@ -74,16 +74,16 @@ module _ {X : Type 0} (kind : Kind X) (valid : X → Type 0) (laws : IsKind kind
   }
 
 -- the binary index of a payload has as many pointers as its trailer says
-index_count : (t : Trailer) (p : List ℕ) → HasParts t p → length (pointers_in t.width (index_in t p)) ≡ t.heads
+index_count : (t : Trailer) (p : List ℕ) → HasParts t p → length (pointers_in t.width (pointer_bytes t p)) ≡ t.heads
 index_count t p parts =
     let e = parts.end in
-    let l : length (index_in t p) ≡ t.heads * t.width = length-take-le (t.heads * t.width) (drop t.index_offset p) (let d = length-drop t.index_offset p in omega (arith, e, d)) in
+    let l : length (pointer_bytes t p) ≡ t.heads * t.width = length-take-le (t.heads * t.width) (drop t.index_offset p) (let d = length-drop t.index_offset p in omega (arith, e, d)) in
     let w : 0 < t.width = elim parts.width [ inl two ↦ omega (arith, two) | inr four ↦ omega (arith, four) ] in
-    pointers_count t.width (index_in t p) ∙ ap (λ n. n / t.width) l ∙ mul-div_cancel t.heads w
+    pointers_count t.width (pointer_bytes t p) ∙ ap (λ n. n / t.width) l ∙ mul-div_cancel t.heads w
 
 module _ {X : Type 0} (kind : Kind X) (valid : X → Type 0) (laws : IsKind kind valid) (hash : List ℕ → ℕ) (p : List ℕ) (items : List X) (r b : ℕ) (block : IsEncoding kind valid hash p items r b) (room : length p < 2 ^ 32) where
   -- each pointer of a block leads to its head
-  pub indexed_from : IsIndexed kind (record { payload = p; interval = (trailer_in p).interval; items = items_in kind p }) (pointers_in (trailer_in p).width (index_in (trailer_in p) p)) (trailer_in p).item_count
+  pub indexed_from : IsIndexed kind (record { payload = p; interval = (trailer_in p).interval; items = items_in kind p }) (pointers_in (trailer_in p).width (pointer_bytes (trailer_in p) p)) (trailer_in p).item_count
   indexed_from =
       let all = encoded_from kind valid laws hash p items r b block room in
       let pass = all.0 in
@@ -99,11 +99,11 @@ module _ {X : Type 0} (kind : Kind X) (valid : X → Type 0) (laws : IsKind kind
       let long : length items ≤ length (body kind r items) = body_long kind r block.interval.some valid laws items in
       let total : length p ≡ length (body kind r items) + length rest = ap length block.whole ∙ length-append (body kind r items) rest in
       let many = index_count t p pass.parts in
-      let pointer : (j : ℕ) → j * t.interval < length (items_in kind p) → slice_index (pointers_in t.width (index_in t p)) j ≡ place_offset kind t.interval (items_in kind p) (j * t.interval) = (λ j h.
+      let pointer : (j : ℕ) → j * t.interval < length (items_in kind p) → slice_index (pointers_in t.width (pointer_bytes t p)) j ≡ place_offset kind t.interval (items_in kind p) (j * t.interval) = (λ j h.
       let k = (head_below t.interval (length (items_in kind p)) j pos).1 h in
       let e = ap (head_count t.interval) count in
       let few : j < t.heads = omega (arith, k, e, heads) in
-      pointer_is t.width (index_in t p) j 0 (omega (arith, few, many)) ∙ pass.pointers.offsets j few) in
+      pointer_is t.width (pointer_bytes t p) j 0 (omega (arith, few, many)) ∙ pass.pointers.offsets j few) in
       record {
         listed = record {
           interval_some = pos;
@@ -117,7 +117,7 @@ module _ {X : Type 0} (kind : Kind X) (valid : X → Type 0) (laws : IsKind kind
         are_heads = λ j h.
             let z : (j * r) % r ≡ 0 = mul-mod_left j r in
             let there = head_behind kind valid laws r block.interval.some items block.are_valid rest p block.whole (j * r) (let e = ap (λ q. j * q) same in omega (arith, h, n, e)) z in
-            let offset : place_offset kind r items (j * r) ≡ slice_index (pointers_in t.width (index_in t p)) j =
+            let offset : place_offset kind r items (j * r) ≡ slice_index (pointers_in t.width (pointer_bytes t p)) j =
             sym (place_plain kind r block.interval.some valid laws items (j * r)) ∙ (λ i. place_offset kind (sym same i) (sym all.1 i) (j * sym same i)) ∙ sym (pointer j h) in
             record {
               head = [];
@@ -151,11 +151,11 @@ module _ {X : Type 0} (kind : Kind X) (valid : X → Type 0) (laws : IsKind kind
       → IsIndexed kind (record { payload = q; interval = r; items = items_in kind q }) ps n
   indexed_along r n ps interval items index =
       let t = trailer_in p in
-      let e : ps ≡ pointers_in t.width (index_in t p) = index ∙ (λ i. pointers_in (width i) (take (count i * width i) (drop (offset i) (same i)))) in
+      let e : ps ≡ pointers_in t.width (pointer_bytes t p) = index ∙ (λ i. pointers_in (width i) (take (count i * width i) (drop (offset i) (same i)))) in
       subst (λ (xs : List ℕ). IsIndexed kind (record { payload = q; interval = r; items = items_in kind q }) xs n) (sym e)
-      (subst (λ (m : ℕ). IsIndexed kind (record { payload = q; interval = r; items = items_in kind q }) (pointers_in t.width (index_in t p)) m) (sym items)
-      (subst (λ (m : ℕ). IsIndexed kind (record { payload = q; interval = m; items = items_in kind q }) (pointers_in t.width (index_in t p)) t.item_count) (sym interval)
-      (subst (λ (s : List ℕ). IsIndexed kind (record { payload = s; interval = t.interval; items = items_in kind s }) (pointers_in t.width (index_in t p)) t.item_count) (sym same)
+      (subst (λ (m : ℕ). IsIndexed kind (record { payload = q; interval = r; items = items_in kind q }) (pointers_in t.width (pointer_bytes t p)) m) (sym items)
+      (subst (λ (m : ℕ). IsIndexed kind (record { payload = q; interval = m; items = items_in kind q }) (pointers_in t.width (pointer_bytes t p)) t.item_count) (sym interval)
+      (subst (λ (s : List ℕ). IsIndexed kind (record { payload = s; interval = t.interval; items = items_in kind s }) (pointers_in t.width (pointer_bytes t p)) t.item_count) (sym same)
       (indexed_from kind valid laws some.0 p some.1 some.2 some.3 some.4 room))))
 
 -- the first item is encoded at the start

@@ -8,7 +8,7 @@ ghost use Rattle.sst_block_core.specs.Window.{first_match};
 ghost use Rattle.sst_merge.specs.Compact.{IsKeptRead, compacted};
 ghost use Rattle.sst_merge.specs.Merge.{entry_cmp, merge};
 ghost use Rattle.sst_merge.specs.Snapshot.{seen};
-ghost use Rattle.sst_examples.specs.Levels.{IsFull, IsWritten, read, version, versions};
+ghost use Rattle.sst_examples.specs.Levels.{IsFull, IsVersionWritten, read, version, versions};
 
 pub mod laws;
 mod memory;
@@ -82,7 +82,7 @@ impl Store {
         requires key { length key ≤ 65535 }
         requires value { length value < 2 ^ 32 }
         ensures number { IfOk result (λ seqno. seqno ≡ self.old.next) }
-        ensures written { OnOk result (IsWritten self.old self.new key
+        ensures written { OnOk result (IsVersionWritten self.old self.new key
             (Some (version key self.old.next ValueType.Value value))) }
         ensures memory { OnOk result (self.new.memory ≡ merge entry_cmp
             (version key self.old.next ValueType.Value value ∷ []) self.old.memory) }
@@ -102,7 +102,7 @@ impl Store {
         requires some { 1 ≤ length key }
         requires key { length key ≤ 65535 }
         ensures number { IfOk result (λ seqno. seqno ≡ self.old.next) }
-        ensures written { OnOk result (IsWritten self.old self.new key None) }
+        ensures written { OnOk result (IsVersionWritten self.old self.new key None) }
         ensures memory { OnOk result (self.new.memory ≡ merge entry_cmp
             (version key self.old.next ValueType.Tombstone [] ∷ []) self.old.memory) }
         ensures stored { self.new.stored ≡ self.old.stored }
@@ -120,7 +120,7 @@ impl Store {
         requires value { length value < 2 ^ 32 }
         requires plain { plain_value value_type value ≡ value }
         ensures number { IfOk result (λ seqno. seqno ≡ self.old.next) }
-        ensures written { OnOk result (IsWritten self.old self.new key
+        ensures written { OnOk result (IsVersionWritten self.old self.new key
             (seen (Some (version key self.old.next value_type value)))) }
         ensures memory { OnOk result (self.new.memory ≡ merge entry_cmp
             (version key self.old.next value_type value ∷ []) self.old.memory) }

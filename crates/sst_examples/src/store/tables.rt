@@ -3,7 +3,7 @@ ghost use Rattle.std.specs.Prelude.{◌≡◌, List, Some, map, IfOk, OnOk, OnEr
 ghost use Rattle.sst_base.specs.Entry.{Entry, plain};
 ghost use Rattle.sst_merge.specs.Sources.{before};
 ghost use Rattle.sst_merge.specs.Tables.{entries_in};
-ghost use Rattle.sst_examples.specs.Tables.{IsTableOf, merged_tables, table_entries, table_hashes};
+ghost use Rattle.sst_examples.specs.Tables.{HoldsEntries, merged_tables, table_entries, table_hashes};
 ghost use Rattle.sstable_blocks.specs.Blocks.{joined};
 ghost use Rattle.sstable_blocks.specs.Sound.{IsSound};
 
@@ -65,7 +65,7 @@ pub(crate) fn table_of<T: Ranked + AsEntry + Drop, I: Source<T> + Drop>(
     source: I,
 ) -> Result<Option<Stored>>
     ensures { (items : List Entry) → entries_in T.entry (I.left source).list ≡ Some items
-        → IfOk result (λ table. IsTableOf table (map plain items)) }
+        → IfOk result (λ table. HoldsEntries table (map plain items)) }
 {
     layout_is_sound();
     let config = RunConfig::new(16, HashRatio { num: 1, den: 1 }, 10);

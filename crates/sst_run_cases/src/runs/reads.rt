@@ -163,7 +163,11 @@ fn fetch<H: BlockHash>(alloc: Global, room: &Room, words: &[&str]) -> Result<Str
     let seqno = number_of(seqno)?;
     let key = bytes_of(alloc, key)?;
     let query = (key.as_slice(), seqno);
-    let place = if *place == "file" { Place::File } else { Place::Memory };
+    let place = if *place == "file" {
+        Place::File
+    } else {
+        Place::Memory
+    };
     of_run::<H>(alloc, room, place, Asked::Fetch(query))
 }
 

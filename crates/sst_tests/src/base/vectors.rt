@@ -4,7 +4,7 @@ ghost use Rattle.std.specs.Prelude.{◌≡◌, ◌-◌, ◌^◌, [], ◌∷◌, 
 ghost use Rattle.sst_base.specs.Varint.{varint};
 ghost use Rattle.sst_base.specs.Hashes.{poly31};
 ghost use Rattle.sst_base.specs.BlockHandle.{handle_bytes, handle_at};
-ghost use Rattle.sst_base.specs.Frame.{block_for, frame, frame_at, frame_in};
+ghost use Rattle.sst_base.specs.Frame.{frame_block, frame, frame_at, frame_in};
 ghost use Rattle.sst_base.specs.Header.{header};
 ghost use Rattle.sst_base.specs.declared.error.Error.TheVariants.{Io, InvalidHeader, InvalidTag};
 ghost use Rattle.sst_base.specs.declared.error.Error.TheVariants.{ChecksumMismatch, LengthMismatch};
@@ -68,7 +68,7 @@ pub fn frames()
 {}
 
 /// The frame of `abc` as read from a stream, with two bytes after it, and changed.
-#[tactic(auto, unfolding(sst_base::specs::Frame::frame_at, sst_base::specs::Frame::block_at, sst_base::specs::Frame::block_of, sst_base::specs::Header::header_at, sst_base::specs::Header::header_of))]
+#[tactic(auto, unfolding(sst_base::specs::Frame::frame_at, sst_base::specs::Frame::block_at, sst_base::specs::Frame::verified_block, sst_base::specs::Header::header_at, sst_base::specs::Header::header_of))]
 pub fn read_frames()
     ensures followed { frame_at sum (0x4c ∷ 0x53 ∷ 0x4d ∷ 0x03 ∷ 0x00
         ∷ 0x26 ∷ 0x01 ∷ 0x00 ∷ 0x00 ∷ 0x00 ∷ 0x00 ∷ 0x00 ∷ 0x00
@@ -76,7 +76,7 @@ pub fn read_frames()
         ∷ 0x03 ∷ 0x00 ∷ 0x00 ∷ 0x00 ∷ 0x03 ∷ 0x00 ∷ 0x00 ∷ 0x00
         ∷ 0x1c ∷ 0x01 ∷ 0x00 ∷ 0x00 ∷ 0x61 ∷ 0x62 ∷ 0x63
         ∷ 0x07 ∷ 0x08 ∷ [])
-        ≡ Ok (block_for sum Data (97 ∷ 98 ∷ 99 ∷ []), 7 ∷ 8 ∷ []) }
+        ≡ Ok (frame_block sum Data (97 ∷ 98 ∷ 99 ∷ []), 7 ∷ 8 ∷ []) }
     ensures last_byte { frame_at sum (0x4c ∷ 0x53 ∷ 0x4d ∷ 0x03 ∷ 0x00
         ∷ 0x26 ∷ 0x01 ∷ 0x00 ∷ 0x00 ∷ 0x00 ∷ 0x00 ∷ 0x00 ∷ 0x00
         ∷ 0x00 ∷ 0x00 ∷ 0x00 ∷ 0x00 ∷ 0x00 ∷ 0x00 ∷ 0x00 ∷ 0x00
@@ -114,7 +114,7 @@ pub fn read_frames()
 {}
 
 /// The same as a frame in memory.
-#[tactic(auto, unfolding(sst_base::specs::Frame::frame_in, sst_base::specs::Frame::block_of, sst_base::specs::Header::header_at, sst_base::specs::Header::header_of))]
+#[tactic(auto, unfolding(sst_base::specs::Frame::frame_in, sst_base::specs::Frame::verified_block, sst_base::specs::Header::header_at, sst_base::specs::Header::header_of))]
 pub fn frames_in_memory()
     ensures whole { frame_in sum (0x4c ∷ 0x53 ∷ 0x4d ∷ 0x03 ∷ 0x00
         ∷ 0x26 ∷ 0x01 ∷ 0x00 ∷ 0x00 ∷ 0x00 ∷ 0x00 ∷ 0x00 ∷ 0x00
@@ -122,7 +122,7 @@ pub fn frames_in_memory()
         ∷ 0x03 ∷ 0x00 ∷ 0x00 ∷ 0x00 ∷ 0x03 ∷ 0x00 ∷ 0x00 ∷ 0x00
         ∷ 0x1c ∷ 0x01 ∷ 0x00 ∷ 0x00
         ∷ 0x61 ∷ 0x62 ∷ 0x63 ∷ [])
-        ≡ Ok (block_for sum Data (97 ∷ 98 ∷ 99 ∷ [])) }
+        ≡ Ok (frame_block sum Data (97 ∷ 98 ∷ 99 ∷ [])) }
     ensures followed { frame_in sum (0x4c ∷ 0x53 ∷ 0x4d ∷ 0x03 ∷ 0x00
         ∷ 0x26 ∷ 0x01 ∷ 0x00 ∷ 0x00 ∷ 0x00 ∷ 0x00 ∷ 0x00 ∷ 0x00
         ∷ 0x00 ∷ 0x00 ∷ 0x00 ∷ 0x00 ∷ 0x00 ∷ 0x00 ∷ 0x00 ∷ 0x00

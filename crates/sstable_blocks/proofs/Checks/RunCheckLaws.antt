@@ -33,7 +33,7 @@ use Rattle.sstable_blocks.specs.Filter.{Filter, filter_at, MayContain}
 use Rattle.sstable_blocks.specs.Lookup.{IsEnd}
 use Rattle.sstable_blocks.specs.Opened.{range_of, payload_in}
 use Rattle.sstable_blocks.specs.RunChecks.{end_cmp, starts_after, is_end, allows, check_entries, first_after, passed_on, check_items, check_block, check_from, none_passed, summary_by, filter_in_run, check_run, least_from, greatest_from, summary_of}
-use Rattle.sstable_blocks.specs.RunReading.{Hashes, IsFramedAt, payload_at, items_at, handles_at}
+use Rattle.sstable_blocks.specs.RunReading.{Hashes, IsFramedAt, payload_at, block_items_at, handles_at}
 use Rattle.sstable_blocks.specs.Sound.{IsStoredBlock, IsStoredFilter, AreContiguous, IsSound}
 use Rattle.sstable_blocks.specs.declared.run.RunHandles.{RunHandles}
 use Rattle.sstable_blocks.specs.declared.run.checking.Passed.{Passed}
@@ -237,7 +237,7 @@ module _ (c : Hashes) (bytes : List ℕ) (small : IsBytes bytes)
         let is : check_block c bytes f s h ≡ Ok one.0 = one.1 in
         let rest = holds f one.0 t hs one.2 in
         let at = demand_ok (eqb h.offset s.offset) BadHandle _ one.0 is in
-        let items = bind_ok (items_at c bytes (range_of h)) _ one.0 at.1 in
+        let items = bind_ok (block_items_at c bytes (range_of h)) _ one.0 at.1 in
         let p = bind_ok (payload_at c types.Data bytes (range_of h)) (data_check c.hash64) items.0 items.1 in
         let frame = payload_at_takes c types.Data bytes (range_of h) p.0 small p.1 in
         let order = demand_ok (starts_after s.last items.0) OutOfOrder _ one.0 items.2 in
@@ -331,7 +331,7 @@ module _ (c : Hashes) (sums : (bytes : List ℕ) → c.hash128 bytes < 2 ^ 128)
         demand_to (starts_after s.last (map plain b)) OutOfOrder _ t (follows_to s.last b (joined bs) follows) (bind_to _ _ (least_from s.least b, greatest_from s.greatest b) (Ok t) through now) in
         let block : check_block c bytes f s h ≡ Ok t =
         demand_to (eqb h.offset s.offset) BadHandle _ t (eq-eqb h.offset s.offset at.0)
-        (bind_to (items_at c bytes (range_of h)) _ (map plain b) (Ok t) (bind_to _ (data_check c.hash64) k.payload (Ok (map plain b)) read.0 read.1) items) in
+        (bind_to (block_items_at c bytes (range_of h)) _ (map plain b) (Ok t) (bind_to _ (data_check c.hash64) k.payload (Ok (map plain b)) read.0 read.1) items) in
         bind_to (check_block c bytes f s h) _ t (Ok (passed_all t hs bs)) block rest
 
     -- the filter of a sound run is read, and may contain its keys

@@ -13,12 +13,12 @@ use Rattle.sst_block_core.specs.Scan.{Scan}
 use Rattle.sst_block_core.specs.Window.{items_left}
 use Rattle.sst_block_core.specs.WindowLaws.{next_some, next_none}
 use Rattle.sst_block_core.specs.Handles.{Handle}
-use Rattle.sst_block_core.specs.ParsedHandle.{handle_of, IsParsedHandle}
+use Rattle.sst_block_core.specs.ParsedHandle.{parsed_handle, IsParsedHandle}
 use Rattle.sst_block_core.specs.declared.table.index_block.parsed_item.IndexBlockParsedItem.{IndexBlockParsedItem}
 use Rattle.sstable_blocks.specs.Filter.{Filter, filter_at}
 use Rattle.sstable_blocks.specs.Opened.{range_of}
 use Rattle.sstable_blocks.specs.RunChecks.{check_entries, check_items, check_block, check_from, none_passed, summary_by, filter_in_run, check_by_index, check_run, summary_of}
-use Rattle.sstable_blocks.specs.RunReading.{Hashes, payload_at, items_at, handles_at}
+use Rattle.sstable_blocks.specs.RunReading.{Hashes, payload_at, block_items_at, handles_at}
 use Rattle.sstable_blocks.specs.SourceLaws.{source_fails}
 use Rattle.sstable_blocks.specs.Sources.{GivesOr, FailsAs}
 use Rattle.sstable_blocks.specs.Sound.{IsSound}
@@ -41,12 +41,12 @@ module _ (hash : List ℕ → ℕ) (f : Option Filter) (h : Handle) (known : Res
   Left ends least greatest left = known ≡ check_entries hash f h ends (least, greatest) left
 
 -- a step of the iterator over an index, and the handle that was made of its item
-pub handle_left : (s t : Scan Handle) (p : IndexBlockParsedItem) (payload : List ℕ) (h : Handle) → GivesNextHeld handle_of IsParsedHandle s (Some p) t → s.payload ≡ payload → h ≡ handle_of payload p → items_left s.window ≡ h ∷ items_left t.window
+pub handle_left : (s t : Scan Handle) (p : IndexBlockParsedItem) (payload : List ℕ) (h : Handle) → GivesNextHeld parsed_handle IsParsedHandle s (Some p) t → s.payload ≡ payload → h ≡ parsed_handle payload p → items_left s.window ≡ h ∷ items_left t.window
 handle_left s t p payload h gives same is =
-    (next_some s.window t.window (handle_of s.payload p) gives.step).0
-    ∙ ap (λ (x : Handle). x ∷ items_left t.window) (ap (λ xs. handle_of xs p) same ∙ sym is)
+    (next_some s.window t.window (parsed_handle s.payload p) gives.step).0
+    ∙ ap (λ (x : Handle). x ∷ items_left t.window) (ap (λ xs. parsed_handle xs p) same ∙ sym is)
 
-pub none_left : (s t : Scan Handle) → GivesNextHeld handle_of IsParsedHandle s None t → items_left s.window ≡ []
+pub none_left : (s t : Scan Handle) → GivesNextHeld parsed_handle IsParsedHandle s None t → items_left s.window ≡ []
 none_left s t gives = (next_none s.window t.window gives.step).0
 
 -- what is known of the check of known bytes, block by block
@@ -79,21 +79,21 @@ module _ (c : Hashes) (f : Option Filter) (hs : List Handle) where
 
 -- the check of a block that was read is that of its entries
 module _ (c : Hashes) (f : Option Filter) (s : Passed) (h : Handle) where
-  block_is : (all : List ℕ) (r : HandleParts) → h.offset ≡ s.offset → r ≡ range_of h → check_block c all f s h ≡ (items_at c all r >>= (λ (xs : List Entry). check_items c.hash64 f s h xs))
+  block_is : (all : List ℕ) (r : HandleParts) → h.offset ≡ s.offset → r ≡ range_of h → check_block c all f s h ≡ (block_items_at c all r >>= (λ (xs : List Entry). check_items c.hash64 f s h xs))
   unfolding check_block
   block_is all r at is =
-      ap (λ b. demand b BadHandle >>= (λ u. items_at c all (range_of h) >>= (λ (xs : List Entry). check_items c.hash64 f s h xs))) (eq-eqb h.offset s.offset at)
-      ∙ ap (λ (k : HandleParts). items_at c all k >>= (λ (xs : List Entry). check_items c.hash64 f s h xs)) (sym is)
+      ap (λ b. demand b BadHandle >>= (λ u. block_items_at c all (range_of h) >>= (λ (xs : List Entry). check_items c.hash64 f s h xs))) (eq-eqb h.offset s.offset at)
+      ∙ ap (λ (k : HandleParts). block_items_at c all k >>= (λ (xs : List Entry). check_items c.hash64 f s h xs)) (sym is)
 
   pub block_items : (o : Option (List ℕ)) (r : HandleParts) (items : List Entry) (res : Result Passed Error) (P Q R : Type 0) → h.offset ≡ s.offset → r ≡ range_of h
-      → IfSome o (λ all. items_at c all r ≡ Ok items) → GivesOr ⊥ R (λ x. x) res (check_items c.hash64 f s h items) → IfSome o (λ all. GivesOr P Q (λ x. x) res (check_block c all f s h))
+      → IfSome o (λ all. block_items_at c all r ≡ Ok items) → GivesOr ⊥ R (λ x. x) res (check_items c.hash64 f s h items) → IfSome o (λ all. GivesOr P Q (λ x. x) res (check_block c all f s h))
   block_items None r items res P Q R at is read given = tt
   block_items (Some all) r items res P Q R at is read given =
       let whole : check_block c all f s h ≡ check_items c.hash64 f s h items = block_is all r at is ∙ ap (λ q. q >>= (λ (xs : List Entry). check_items c.hash64 f s h xs)) read in
       subst (GivesOr P Q (λ x. x) res) (sym whole) (gives_or_over P Q R (λ x. x) res (check_items c.hash64 f s h items) given)
 
   pub block_fail : (o : Option (List ℕ)) (r : HandleParts) (e : Error) (P Q : Type 0) → h.offset ≡ s.offset → r ≡ range_of h
-      → IfSome o (λ all. FailsAs P Q (items_at c all r) e) → IfSome o (λ all. GivesOr {X = Passed} P Q (λ x. x) (Err e) (check_block c all f s h))
+      → IfSome o (λ all. FailsAs P Q (block_items_at c all r) e) → IfSome o (λ all. GivesOr {X = Passed} P Q (λ x. x) (Err e) (check_block c all f s h))
   block_fail None r e P Q at is read = tt
   block_fail (Some all) r e P Q at is read =
       let go : Result (List Entry) Error → Result Passed Error = λ (q : Result (List Entry) Error). q >>= (λ (xs : List Entry). check_items c.hash64 f s h xs) in

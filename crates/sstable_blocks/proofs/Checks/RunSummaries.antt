@@ -6,7 +6,7 @@ use Rattle.sst_block_core.specs.Entries.{entries}
 use Rattle.sst_block_core.specs.Handles.{Handle, handles}
 use Rattle.sstable_blocks.specs.Blocks.{joined}
 use Rattle.sstable_blocks.specs.Lookup.{IsEnd}
-use Rattle.sstable_blocks.specs.Run.{end_of}
+use Rattle.sstable_blocks.specs.Run.{end_key_of}
 use Rattle.sstable_blocks.specs.RunChecks.{first_after, passed_on, none_passed, end_key_or, summary_by, first_key, least_from, greatest_from, summary_of}
 use Rattle.sstable_blocks.specs.declared.run.checking.Passed.{Passed}
 use Rattle.sstable_blocks.specs.declared.run.checking.RunSummary.{RunSummary}
@@ -72,7 +72,7 @@ last_append : (key : List ℕ) (xs ys : List Entry) → last_from key (xs ++ ys)
 last_append key [] ys = refl
 last_append key (x ∷ xs) ys = last_append x.key.user_key xs ys
 
-last_is_end : (x : Entry) (xs : List Entry) → last_from x.key.user_key xs ≡ (end_of (x ∷ xs)).user_key
+last_is_end : (x : Entry) (xs : List Entry) → last_from x.key.user_key xs ≡ (end_key_of (x ∷ xs)).user_key
 last_is_end x [] = refl
 last_is_end x (y ∷ ys) = last_is_end y ys
 
@@ -97,7 +97,7 @@ first_of_block : (b rest : List Entry) (h : Handle) → IsEnd entries handles b 
 first_of_block [] rest h i = absurd (let some = end_some [] h i in omega arith)
 first_of_block (x ∷ xs) rest h i = refl
 
-last_of_rest : (b rest : List Entry) (h : Handle) → IsEnd entries handles b h → last_from h.end_key rest ≡ (end_of (b ++ rest)).user_key
+last_of_rest : (b rest : List Entry) (h : Handle) → IsEnd entries handles b h → last_from h.end_key rest ≡ (end_key_of (b ++ rest)).user_key
 last_of_rest [] rest h i = absurd (let some = end_some [] h i in omega arith)
 last_of_rest (x ∷ xs) rest h i =
     ap (λ key. last_from key rest) (sym (last_of_block [] (x ∷ xs) h i)) ∙ sym (last_append x.key.user_key xs rest) ∙ last_is_end x (xs ++ rest)

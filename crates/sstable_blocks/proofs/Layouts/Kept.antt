@@ -14,7 +14,7 @@ use Rattle.std.specs.Ordering.{is_ge, nat_cmp, ordering_then}
 use Rattle.std.specs.Cmp.Lexicographic.{slice_cmp}
 use Rattle.sst_base.specs.Key.{Key}
 use Rattle.sstable_blocks.specs.Blocks.{joined, IsNotEmpty}
-use Rattle.sstable_blocks.specs.Run.{Form, block_payload, block_frame, block_frames, end_of, handle_of, handles_from, key_hashes, IsFramed}
+use Rattle.sstable_blocks.specs.Run.{Form, block_payload, block_frame, block_frames, end_key_of, handle_of, handles_from, key_hashes, IsFramed}
 use Rattle.sst_base.specs.FrameLaws.{length-frame}
 use Rattle.sst_base.specs.declared.error.Error.{Error}
 use Rattle.sst_base.specs.declared.error.Error.TheVariants.{TooLong}
@@ -34,7 +34,7 @@ all_append P [] ys h k = k
 all_append P (x ∷ xs) ys h k = (h.0, all_append P xs ys h.1 k)
 
 -- the last entry's key is the end key
-pub end_of-last : (b : List Entry) (x : Entry) → 1 ≤ length b → x ≡ get_or b (length b - 1) x → end_of b ≡ x.key
+pub end_of-last : (b : List Entry) (x : Entry) → 1 ≤ length b → x ≡ get_or b (length b - 1) x → end_key_of b ≡ x.key
 end_of-last [] x h e = absurd (omega arith)
 end_of-last (y ∷ []) x h e = sym (ap (λ (z : Entry). z.key) e)
 end_of-last (y ∷ z ∷ zs) x h e =
@@ -73,13 +73,13 @@ follows_behind blocks (x ∷ xs) first s follows =
     subst (FollowsLast blocks) same (behind_last (joined blocks) x xs (subst (IsOrdered entries) (joined-push blocks (x ∷ xs)) follows.ordered))
 
 -- the last key of two lists is that of the second, if that is not empty
-end_of-append : (xs ys : List Entry) → 1 ≤ length ys → end_of (xs ++ ys) ≡ end_of ys
+end_of-append : (xs ys : List Entry) → 1 ≤ length ys → end_key_of (xs ++ ys) ≡ end_key_of ys
 end_of-append [] ys h = refl
 end_of-append (x ∷ []) [] h = absurd (omega arith)
 end_of-append (x ∷ []) (y ∷ ys) h = refl
 end_of-append (x ∷ z ∷ xs) ys h = end_of-append (z ∷ xs) ys h
 
-end_of-push : (front : List Entry) (last : Entry) → end_of (front ++ last ∷ []) ≡ last.key
+end_of-push : (front : List Entry) (last : Entry) → end_key_of (front ++ last ∷ []) ≡ last.key
 end_of-push front last = end_of-append front (last ∷ []) (omega arith)
 
 pub joined_some : (blocks : List (List Entry)) → 1 ≤ length blocks → AllByRecursion IsNotEmpty blocks → 1 ≤ length (joined blocks)
@@ -105,17 +105,17 @@ is_ge_of Greater h = refl
 module _ (f : Form) where
   -- the last handle has the key and the sequence number of the last entry
   last_handle : (offset : ℕ) (blocks : List (List Entry)) (h : Handle) → AllByRecursion IsNotEmpty blocks → slice_get (handles_from f offset blocks) (length (handles_from f offset blocks) - 1) ≡ Some h
-      → (h.end_key ≡ (end_of (joined blocks)).user_key) × (h.seqno ≡ (end_of (joined blocks)).seqno)
+      → (h.end_key ≡ (end_key_of (joined blocks)).user_key) × (h.seqno ≡ (end_key_of (joined blocks)).seqno)
   last_handle offset [] h s e = cc
   last_handle offset (b ∷ []) h s e =
       let is : handle_of f offset b ≡ h = cc in
-      let same : end_of b ≡ end_of (b ++ []) = ap end_of (sym (append-nil b)) in
+      let same : end_key_of b ≡ end_key_of (b ++ []) = ap end_key_of (sym (append-nil b)) in
       (ap (λ (x : Handle). x.end_key) (sym is) ∙ ap (λ (x : Key). x.user_key) same, ap (λ (x : Handle). x.seqno) (sym is) ∙ ap (λ (x : Key). x.seqno) same)
   last_handle offset (b ∷ c ∷ bs) h s e =
       let hs = handles_from f (offset + length (block_frame f b)) (c ∷ bs) in
       let n : length (handle_of f offset b ∷ hs) - 1 ≡ suc (length hs - 1) = omega arith in
       let r = last_handle (offset + length (block_frame f b)) (c ∷ bs) h s.1 (sym (ap (slice_get (handle_of f offset b ∷ hs)) n) ∙ e) in
-      let same : end_of (b ++ joined (c ∷ bs)) ≡ end_of (joined (c ∷ bs)) = end_of-append b (joined (c ∷ bs)) (joined_some (c ∷ bs) (omega arith) s.1) in
+      let same : end_key_of (b ++ joined (c ∷ bs)) ≡ end_key_of (joined (c ∷ bs)) = end_of-append b (joined (c ∷ bs)) (joined_some (c ∷ bs) (omega arith) s.1) in
       (r.0 ∙ ap (λ (x : Key). x.user_key) (sym same), r.1 ∙ ap (λ (x : Key). x.seqno) (sym same))
 
   -- without blocks there is no last entry
@@ -133,10 +133,10 @@ module _ (f : Form) where
       → o ≡ ordering_then (slice_cmp nat_cmp item.key.user_key h.end_key) (nat_cmp h.seqno item.key.seqno) → IsTrue (is_ge o) ↔ FollowsLast blocks item
   is_behind blocks item h o s e is =
       let end = last_handle 0 blocks h s e in
-      let at : (k : Key) → end_of (joined blocks) ≡ k → o ≡ ordering_then (slice_cmp nat_cmp item.key.user_key k.user_key) (nat_cmp k.seqno item.key.seqno) = λ k x.
+      let at : (k : Key) → end_key_of (joined blocks) ≡ k → o ≡ ordering_then (slice_cmp nat_cmp item.key.user_key k.user_key) (nat_cmp k.seqno item.key.seqno) = λ k x.
       is ∙ ap (λ u. ordering_then (slice_cmp nat_cmp item.key.user_key u) (nat_cmp h.seqno item.key.seqno)) (end.0 ∙ ap (λ (y : Key). y.user_key) x)
       ∙ ap (λ n. ordering_then (slice_cmp nat_cmp item.key.user_key k.user_key) (nat_cmp n item.key.seqno)) (end.1 ∙ ap (λ (y : Key). y.seqno) x) in (
-        (λ ge front last j. subst (λ c. c ≢ Less) (at last.key (ap end_of j ∙ end_of-push front last)) (ge_is o ge)),
+        (λ ge front last j. subst (λ c. c ≢ Less) (at last.key (ap end_key_of j ∙ end_of-push front last)) (ge_is o ge)),
         (λ behind. let p = end_parts (joined blocks) (joined_some blocks (handles_some blocks _ h e) s) in is_ge_of o (subst (λ c. c ≢ Less) (sym (at p.1.key p.3)) (behind p.0 p.1 p.2))),
       )
 
@@ -187,5 +187,5 @@ module _ (f : Form) where
       let l = length-block_frame b in
       record { payload = e; size = omega arith; end = omega arith; fits = record { framed = (let h : length (block_payload f b) ≤ 4294967262 = omega arith in h); end = omega arith }; valid = valid }
 
-  pub handle_is : (at : ℕ) (b : List Entry) (offset size seqno : ℕ) (key : List ℕ) → offset ≡ at → size ≡ length (block_frame f b) → seqno ≡ (end_of b).seqno → key ≡ (end_of b).user_key → record { offset = offset; size = size; seqno = seqno; end_key = key } ≡ handle_of f at b
+  pub handle_is : (at : ℕ) (b : List Entry) (offset size seqno : ℕ) (key : List ℕ) → offset ≡ at → size ≡ length (block_frame f b) → seqno ≡ (end_key_of b).seqno → key ≡ (end_key_of b).user_key → record { offset = offset; size = size; seqno = seqno; end_key = key } ≡ handle_of f at b
   handle_is at b offset size seqno key o s n k = λ i. record { offset = o i; size = s i; seqno = n i; end_key = k i }

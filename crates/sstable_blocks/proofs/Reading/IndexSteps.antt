@@ -8,7 +8,7 @@ use Rattle.sst_base.specs.BlockHandle.{HandleParts}
 use Rattle.sst_block_core.specs.Backs.{GivesStep}
 use Rattle.sst_block_core.specs.Handles.{Handle, handles}
 use Rattle.sst_block_core.specs.Candidates.{GivesNextHeld, scan_cost}
-use Rattle.sst_block_core.specs.ParsedHandle.{handle_of, IsParsedHandle}
+use Rattle.sst_block_core.specs.ParsedHandle.{parsed_handle, IsParsedHandle}
 use Rattle.sst_block_core.specs.Scan.{Scan}
 use Rattle.sst_block_core.specs.WindowLaws.{item_same}
 use Rattle.sst_block_core.specs.Window.{Window, Answer, found, whole, next, first_left, seek_index}
@@ -22,7 +22,7 @@ abbrev pub range_by : IndexBlockParsedItem → HandleParts
 range_by p = record { offset = p.offset.0; size = p.size }
 
 -- it does not depend on the payload
-range_by-handle : (payload : List ℕ) (r : Option IndexBlockParsedItem) → option_map range_by r ≡ option_map range_of (option_map (handle_of payload) r)
+range_by-handle : (payload : List ℕ) (r : Option IndexBlockParsedItem) → option_map range_by r ≡ option_map range_of (option_map (parsed_handle payload) r)
 range_by-handle payload None = refl
 range_by-handle payload (Some p) = refl
 
@@ -35,13 +35,13 @@ left_at hs n = elim (cases_Bool (ltb n (length hs))) [
 
 -- the step after a seek from the whole list gives the handle of the needle
 pub found_range : (s t u : Scan Handle) (hs : List Handle) (needle : List ℕ) (seqno : ℕ) (b : Bool) (r : Option IndexBlockParsedItem) → s.window ≡ whole hs
-    → GivesStep s t (found b) (seek_index handles needle seqno s.window) → GivesNextHeld handle_of IsParsedHandle t r u → option_map range_by r ≡ option_map range_of (handle_for handles needle seqno hs)
+    → GivesStep s t (found b) (seek_index handles needle seqno s.window) → GivesNextHeld parsed_handle IsParsedHandle t r u → option_map range_by r ≡ option_map range_of (handle_for handles needle seqno hs)
 found_range s t u hs needle seqno b r fresh sought given =
     let step = sought.step_is ∙ ap (seek_index handles needle seqno) fresh in
     let moved : Window Handle = record { list = hs; lo = place_for handles needle seqno hs; hi = length hs } in
     let at : t.window ≡ moved = ap (λ (q : Window Handle × Answer Handle). q.0) step in
     let answer = ap (λ (q : Window Handle × Answer Handle). q.1) (given.step ∙ ap next at) in
-    let same = item_same (option_map (handle_of t.payload) r) (first_left moved) answer in
+    let same = item_same (option_map (parsed_handle t.payload) r) (first_left moved) answer in
     range_by-handle t.payload r ∙ ap (option_map range_of) (same ∙ left_at hs (place_for handles needle seqno hs))
 
 -- the most handles: those of a scan, and one

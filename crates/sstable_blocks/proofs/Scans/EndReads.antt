@@ -13,7 +13,7 @@ use Rattle.sst_base.specs.declared.error.Error.TheVariants.{Memory}
 use Rattle.sst_block_core.specs.Handles.{Handle}
 use Rattle.sst_block_core.specs.Entries.{entries}
 use Rattle.sst_block_core.specs.Stages.{items_in}
-use Rattle.sstable_blocks.specs.BlockReading.{seen}
+use Rattle.sstable_blocks.specs.BlockReading.{seen_from}
 use Rattle.sstable_blocks.specs.Opened.{payload_in, range_of}
 use Rattle.sstable_blocks.specs.Ends.{GivesNext, reads_between, reads_from, reads_left}
 use Rattle.sstable_blocks.specs.Readings.{block_of_index, entries_of_index}
@@ -28,7 +28,7 @@ abbrev pub whole : {X : Type 0} → Bool → List X → List X → List X → Li
 whole true near middle far = far ++ (middle ++ near)
 whole false near middle far = near ++ (middle ++ far)
 
-pub seen_whole : {X : Type 0} (b : Bool) (near middle far : List X) → seen b near ++ (seen b middle ++ seen b far) ≡ seen b (whole b near middle far)
+pub seen_whole : {X : Type 0} (b : Bool) (near middle far : List X) → seen_from b near ++ (seen_from b middle ++ seen_from b far) ≡ seen_from b (whole b near middle far)
 seen_whole false near middle far = refl
 seen_whole true near middle far =
     sym (reverse-append far (middle ++ near) ∙ ap (λ xs. xs ++ reverse far) (reverse-append middle near) ∙ append_assoc (reverse near) (reverse middle) (reverse far))
@@ -121,8 +121,8 @@ opened_entries bytes r hs i items inside at = elim ((slice_get_cases hs i).1) [
   | inr past ↦ absurd (let most = past.0 in omega (arith, most, inside))
 ]
 
--- the last of a block, seen from its back
-pub seen_last : (old new : List Entry) (x : Option Entry) → YieldsLast (λ xs. xs) old x new → YieldsFirst (seen true) old x new
+-- the last of a block, seen_from from its back
+pub seen_last : (old new : List Entry) (x : Option Entry) → YieldsLast (λ xs. xs) old x new → YieldsFirst (seen_from true) old x new
 seen_last old new None h = (ap reverse h.0, ap reverse h.1)
 seen_last old new (Some x) h = ap reverse h ∙ reverse-append new (x ∷ [])
 
@@ -158,7 +158,7 @@ table_refused c o r hs i F R e inside at = opened_by c r hs o i (λ x. FailsAs F
 
 -- ---- steps of a table's scan
 abbrev pub NextFails : Bool → Type 0 → Type 0 → List Read → Error → Type 0
-NextFails b F R left e = (x : Result (List Entry) Error) × (rest : List Read) × (left ≡ seen b (reads_of x) ++ rest) × FailsAs F R x e
+NextFails b F R left e = (x : Result (List Entry) Error) × (rest : List Read) × (left ≡ seen_from b (reads_of x) ++ rest) × FailsAs F R x e
 
 fails_first : (F R : Type 0) (left : List Read) (e : Error) → NextFails false F R left e → FailsFirst F R left e
 fails_first F R left e f = λ n. elim (f.3 n) [

@@ -1,16 +1,16 @@
--- A step of a scan, seen from an end.
+-- A step of a scan, seen_from from an end.
 use Rattle.std.proofs.Common.{◌≡◌, inl, inr, ℕ, zero, suc, ◌+◌, ◌-◌, ◌*◌, ◌<◌, ◌≤◌, Bool, true, false, nat_lt, List, [], ◌∷◌, ◌++◌, length, map, reverse, drop, Option, Some, None, Ok, Err, refl, sym, ap, subst, ◌∙◌, arith}
 use Rattle.std.proofs.lemmas.List.{reverse-append, append_assoc, append-nil, length-reverse, map-append, reverse-reverse}
 use Rattle.std.proofs.lemmas.Bool.{ltb-false}
 use Rattle.std.specs.Iterator.{YieldsFirst}
 use Rattle.std.specs.List.{AllByRecursion}
 use Rattle.std.specs.Prelude.{IfSome, Result}
-use Rattle.sstable_blocks.specs.BlockReading.{Reading, AreBlocks, AllAdmitted, Opens, seen, TakesEnd}
+use Rattle.sstable_blocks.specs.BlockReading.{Reading, AreBlocks, AllAdmitted, Opens, seen_from, TakesEnd}
 use Rattle.sstable_blocks.specs.Ends.{AreEnds, Ends, GivesNext, IsFewer, IsReady, TakesNear, hi_at, index_at, lo_at, most_left, reads_between, reads_from, reads_left}
 use Rattle.sstable_blocks.specs.Scans.{reads_of}
 use Rattle.sst_base.specs.declared.error.Error.{Error}
 
--- ---- lists seen from an end
+-- ---- lists seen_from from an end
 push_reverse : {X : Type 0} (x : X) (xs : List X) → reverse (x ∷ xs) ≡ reverse xs ++ x ∷ []
 push_reverse x xs = reverse-append (x ∷ []) xs
 
@@ -19,15 +19,15 @@ reverse_map f [] = refl
 reverse_map f (x ∷ xs) =
     push_reverse (f x) (map f xs) ∙ ap (λ ys. ys ++ f x ∷ []) (reverse_map f xs) ∙ sym (map-append f (reverse xs) (x ∷ [])) ∙ ap (map f) (sym (push_reverse x xs))
 
-seen_map : {X Y : Type 0} (b : Bool) (f : X → Y) (xs : List X) → seen b (map f xs) ≡ map f (seen b xs)
+seen_map : {X Y : Type 0} (b : Bool) (f : X → Y) (xs : List X) → seen_from b (map f xs) ≡ map f (seen_from b xs)
 seen_map true f xs = reverse_map f xs
 seen_map false f xs = refl
 
-seen_twice : {X : Type 0} (b : Bool) (xs : List X) → seen b (seen b xs) ≡ xs
+seen_twice : {X : Type 0} (b : Bool) (xs : List X) → seen_from b (seen_from b xs) ≡ xs
 seen_twice true xs = reverse-reverse xs
 seen_twice false xs = refl
 
-seen_length : {X : Type 0} (b : Bool) (xs : List X) → length (seen b xs) ≡ length xs
+seen_length : {X : Type 0} (b : Bool) (xs : List X) → length (seen_from b xs) ≡ length xs
 seen_length true xs = length-reverse xs
 seen_length false xs = refl
 
@@ -39,7 +39,7 @@ all_reverse : {X : Type 0} (P : X → Type 0) (xs : List X) → AllByRecursion P
 all_reverse P [] a = a
 all_reverse P (x ∷ xs) a = subst (AllByRecursion P) (sym (push_reverse x xs)) (all_append P (reverse xs) (x ∷ []) (all_reverse P xs a.1) (a.0, tt))
 
-all_seen : {X : Type 0} (b : Bool) (P : X → Type 0) (xs : List X) → AllByRecursion P xs → AllByRecursion P (seen b xs)
+all_seen : {X : Type 0} (b : Bool) (P : X → Type 0) (xs : List X) → AllByRecursion P xs → AllByRecursion P (seen_from b xs)
 all_seen true P xs a = all_reverse P xs a
 all_seen false P xs a = a
 
@@ -48,10 +48,10 @@ all_drop P [] a = a
 all_drop P (x ∷ xs) a = a.1
 
 -- what is left is such as all were
-all_rest : {X : Type 0} (b : Bool) (P : X → Type 0) (xs ys : List X) → seen b ys ≡ drop 1 (seen b xs) → AllByRecursion P xs → AllByRecursion P ys
-all_rest b P xs ys e a = subst (AllByRecursion P) (seen_twice b ys) (all_seen b P (seen b ys) (subst (AllByRecursion P) (sym e) (all_drop P (seen b xs) (all_seen b P xs a))))
+all_rest : {X : Type 0} (b : Bool) (P : X → Type 0) (xs ys : List X) → seen_from b ys ≡ drop 1 (seen_from b xs) → AllByRecursion P xs → AllByRecursion P ys
+all_rest b P xs ys e a = subst (AllByRecursion P) (seen_twice b ys) (all_seen b P (seen_from b ys) (subst (AllByRecursion P) (sym e) (all_drop P (seen_from b xs) (all_seen b P xs a))))
 
-pub seen_nil : {X : Type 0} (b : Bool) → seen {X = X} b [] ≡ []
+pub seen_nil : {X : Type 0} (b : Bool) → seen_from {X = X} b [] ≡ []
 seen_nil true = refl
 seen_nil false = refl
 
@@ -67,7 +67,7 @@ reads_push f lo (suc n) =
 
 -- the block at an end, and the others
 near_next : {X : Type 0} (b : Bool) (f : ℕ → Result (List X) Error) (lo hi : ℕ) → lo < hi
-    → seen b (reads_between f lo hi) ≡ seen b (reads_of (f (index_at b lo hi))) ++ seen b (reads_between f (lo_at b lo) (hi_at b hi))
+    → seen_from b (reads_between f lo hi) ≡ seen_from b (reads_of (f (index_at b lo hi))) ++ seen_from b (reads_between f (lo_at b lo) (hi_at b hi))
 near_next false f lo hi h =
     let n : hi - lo ≡ suc (hi - (lo + 1)) = omega (arith, h) in
     let s : suc lo ≡ lo + 1 = omega arith in
@@ -121,15 +121,15 @@ next_ends b c items = record { near = items; lo = lo_at b c.lo; hi = hi_at b c.h
 module _ {X : Type 0} (b : Bool) (f : ℕ → Result (List X) Error) where
   -- what is left, where the block at the end has no item left: the next block and what is behind it
   left_split : (c : Ends X) → c.near ≡ [] → c.lo < c.hi
-      → reads_left b f c ≡ seen b (reads_of (f (index_at b c.lo c.hi))) ++ (seen b (reads_between f (lo_at b c.lo) (hi_at b c.hi)) ++ seen b (map Ok c.far))
+      → reads_left b f c ≡ seen_from b (reads_of (f (index_at b c.lo c.hi))) ++ (seen_from b (reads_between f (lo_at b c.lo) (hi_at b c.hi)) ++ seen_from b (map Ok c.far))
   left_split c none more =
-      ap (λ rs. rs ++ (seen b (reads_between f c.lo c.hi) ++ seen b (map Ok c.far))) (ap (λ xs. seen b (map Ok xs)) none ∙ seen_nil b)
-      ∙ ap (λ rs. rs ++ seen b (map Ok c.far)) (near_next b f c.lo c.hi more)
-      ∙ append_assoc (seen b (reads_of (f (index_at b c.lo c.hi)))) (seen b (reads_between f (lo_at b c.lo) (hi_at b c.hi))) (seen b (map Ok c.far))
+      ap (λ rs. rs ++ (seen_from b (reads_between f c.lo c.hi) ++ seen_from b (map Ok c.far))) (ap (λ xs. seen_from b (map Ok xs)) none ∙ seen_nil b)
+      ∙ ap (λ rs. rs ++ seen_from b (map Ok c.far)) (near_next b f c.lo c.hi more)
+      ∙ append_assoc (seen_from b (reads_of (f (index_at b c.lo c.hi)))) (seen_from b (reads_between f (lo_at b c.lo) (hi_at b c.hi))) (seen_from b (map Ok c.far))
 
   left_next : (c : Ends X) (items : List X) → c.near ≡ [] → c.lo < c.hi → f (index_at b c.lo c.hi) ≡ Ok items → reads_left b f (next_ends b c items) ≡ reads_left b f c
   left_next c items none more read =
-      ap (λ x. seen b (reads_of x) ++ (seen b (reads_between f (lo_at b c.lo) (hi_at b c.hi)) ++ seen b (map Ok c.far))) (sym read)
+      ap (λ x. seen_from b (reads_of x) ++ (seen_from b (reads_between f (lo_at b c.lo) (hi_at b c.hi)) ++ seen_from b (map Ok c.far))) (sym read)
       ∙ sym (left_split c none more)
 
 module _ {S X : Type 0} (r : Reading S X) (laws : AreBlocks r) (b : Bool) where
@@ -210,7 +210,7 @@ module _ {S X : Type 0} (r : Reading S X) (laws : AreBlocks r) (b : Bool) where
             let p = more_most r.most k (c.hi - c.lo) fewer in
             omega (arith, few, most, z, p);
         done = tt;
-        exact = both_some (r.read s) (λ read left fails. (read (index_at b c.lo c.hi), seen b (reads_between read (lo_at b c.lo) (hi_at b c.hi)) ++ seen b (map Ok c.far), sym left ∙ left_split b read c none more, laws.fails_later s t u _ (read (index_at b c.lo c.hi)) e w.goes fails)) w.exact
+        exact = both_some (r.read s) (λ read left fails. (read (index_at b c.lo c.hi), seen_from b (reads_between read (lo_at b c.lo) (hi_at b c.hi)) ++ seen_from b (map Ok c.far), sym left ∙ left_split b read c none more, laws.fails_later s t u _ (read (index_at b c.lo c.hi)) e w.goes fails)) w.exact
             (subst (λ f. IfSome f (λ read. r.Fails t u (read (index_at b c.lo c.hi)) e)) (laws.same_read s t _ w.goes) step.exact);
       }
 
@@ -222,25 +222,25 @@ module _ {S X : Type 0} (r : Reading S X) (laws : AreBlocks r) (b : Bool) where
       (next_refused s old t c u items err w none more (subst (λ j. Opens {T = T} r t j (Err err) u items) e step)))
 
   -- ---- an item is taken
-  taken_left : (read : ℕ → Result (List X) Error) (c : Ends X) (x : X) (rest : List X) → seen b c.near ≡ x ∷ seen b rest → reads_left b read c ≡ Ok x ∷ reads_left b read (at rest c.lo c.hi c.far)
+  taken_left : (read : ℕ → Result (List X) Error) (c : Ends X) (x : X) (rest : List X) → seen_from b c.near ≡ x ∷ seen_from b rest → reads_left b read c ≡ Ok x ∷ reads_left b read (at rest c.lo c.hi c.far)
   taken_left read c x rest e =
-      let more = seen b (reads_between read c.lo c.hi) ++ seen b (map Ok c.far) in
+      let more = seen_from b (reads_between read c.lo c.hi) ++ seen_from b (map Ok c.far) in
       ap (λ rs. rs ++ more) (seen_map b Ok c.near ∙ ap (map Ok) e ∙ ap (λ rs. Ok x ∷ rs) (sym (seen_map b Ok rest)))
 
-  none_near : (xs : List X) → seen b xs ≡ [] → xs ≡ []
-  none_near xs e = sym (seen_twice b xs) ∙ ap (seen b) e ∙ seen_nil b
+  none_near : (xs : List X) → seen_from b xs ≡ [] → xs ≡ []
+  none_near xs e = sym (seen_twice b xs) ∙ ap (seen_from b) e ∙ seen_nil b
 
   left_none : (read : ℕ → Result (List X) Error) (near far : List X) (lo hi : ℕ) → near ≡ [] → far ≡ [] → hi ≤ lo → reads_left b read (at near lo hi far) ≡ []
   left_none read near far lo hi none empty over =
-      let z : seen b (map Ok near) ≡ [] = ap (λ xs. seen b (map Ok xs)) none ∙ seen_nil b in
-      let y : seen b (map Ok far) ≡ [] = ap (λ xs. seen b (map Ok xs)) empty ∙ seen_nil b in
-      let m : seen b (reads_between read lo hi) ≡ [] = ap (seen b) (none_left read lo hi over) ∙ seen_nil b in
+      let z : seen_from b (map Ok near) ≡ [] = ap (λ xs. seen_from b (map Ok xs)) none ∙ seen_nil b in
+      let y : seen_from b (map Ok far) ≡ [] = ap (λ xs. seen_from b (map Ok xs)) empty ∙ seen_nil b in
+      let m : seen_from b (reads_between read lo hi) ≡ [] = ap (seen_from b) (none_left read lo hi over) ∙ seen_nil b in
       λ i. z i ++ (m i ++ y i)
 
-  first_admitted : (s : S) (x : X) (xs ys : List X) → seen b xs ≡ x ∷ ys → AllAdmitted r s xs → r.admits s x ≡ true
+  first_admitted : (s : S) (x : X) (xs ys : List X) → seen_from b xs ≡ x ∷ ys → AllAdmitted r s xs → r.admits s x ≡ true
   first_admitted s x xs ys e a = (subst (AllByRecursion (λ x. r.admits s x ≡ true)) e (all_seen b (λ x. r.admits s x ≡ true) xs a)).0
 
-  taken_fewer : (m : ℕ) (old c : Ends X) (result : Option X) (rest : List X) → YieldsFirst (seen b) c.near result rest → (c.near ≡ [] → (c.hi ≤ c.lo) × (c.far ≡ [])) → most_left m c ≤ most_left m old → IsFewer (most_left m old) (most_left m (at rest c.lo c.hi c.far)) result
+  taken_fewer : (m : ℕ) (old c : Ends X) (result : Option X) (rest : List X) → YieldsFirst (seen_from b) c.near result rest → (c.near ≡ [] → (c.hi ≤ c.lo) × (c.far ≡ [])) → most_left m c ≤ most_left m old → IsFewer (most_left m old) (most_left m (at rest c.lo c.hi c.far)) result
   taken_fewer m old c None rest step done less =
       let d = done (none_near c.near step.0) in
       let over = d.0 in
@@ -250,12 +250,12 @@ module _ {S X : Type 0} (r : Reading S X) (laws : AreBlocks r) (b : Bool) where
       let p : m * (c.hi - c.lo) ≡ 0 = ap (λ k. m * k) n ∙ omega arith in
       omega (arith, z, y, p)
   taken_fewer m old c (Some x) rest step done less =
-      let e : length (seen b c.near) ≡ suc (length (seen b rest)) = ap length step in
+      let e : length (seen_from b c.near) ≡ suc (length (seen_from b rest)) = ap length step in
       let n = seen_length b c.near in
       let k = seen_length b rest in
       omega (arith, e, n, k, less)
 
-  taken_exact : (read : ℕ → Result (List X) Error) (c : Ends X) (result : Option X) (rest : List X) → YieldsFirst (seen b) c.near result rest → (c.near ≡ [] → (c.hi ≤ c.lo) × (c.far ≡ []))
+  taken_exact : (read : ℕ → Result (List X) Error) (c : Ends X) (result : Option X) (rest : List X) → YieldsFirst (seen_from b) c.near result rest → (c.near ≡ [] → (c.hi ≤ c.lo) × (c.far ≡ []))
       → GivesNext (reads_left b read c) (reads_left b read (at rest c.lo c.hi c.far)) result
   taken_exact read c None rest step done =
       let none = none_near c.near step.0 in
@@ -263,9 +263,9 @@ module _ {S X : Type 0} (r : Reading S X) (laws : AreBlocks r) (b : Bool) where
       (left_none read c.near c.far c.lo c.hi none d.1 d.0, left_none read rest c.far c.lo c.hi (none_near rest step.1) d.1 d.0)
   taken_exact read c (Some x) rest step done = taken_left read c x rest step
 
-  admitted_by : (s t : S) (n : ℕ) (c : Ends X) (result : Option X) (rest : List X) → r.Goes s n t → AreEnds r t c → YieldsFirst (seen b) c.near result rest → IfSome result (λ x. r.admits s x ≡ true)
+  admitted_by : (s t : S) (n : ℕ) (c : Ends X) (result : Option X) (rest : List X) → r.Goes s n t → AreEnds r t c → YieldsFirst (seen_from b) c.near result rest → IfSome result (λ x. r.admits s x ≡ true)
   admitted_by s t n c None rest g a step = tt
-  admitted_by s t n c (Some x) rest g a step = ap (λ f. f x) (sym (laws.same_admits s t n g)) ∙ first_admitted t x c.near (seen b rest) step a.near
+  admitted_by s t n c (Some x) rest g a step = ap (λ f. f x) (sym (laws.same_admits s t n g)) ∙ first_admitted t x c.near (seen_from b rest) step a.near
 
   module _ (Lacks : Error → Type 0) where
     pub taken : {T : Type 0} (s : S) (old : Ends X) (t : S) (c : Ends X) (o : T) (result : Result (Option X) Error) (rest : List X) → IsReady {T = T} r b s old (Ok o) t c → TakesEnd b Lacks c.near result rest

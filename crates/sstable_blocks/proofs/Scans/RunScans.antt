@@ -11,7 +11,7 @@ use Rattle.sst_block_core.specs.Handles.{Handle}
 use Rattle.sstable_blocks.specs.Blocks.{joined}
 use Rattle.sstable_blocks.specs.Opened.{range_of, payload_in}
 use Rattle.sstable_blocks.specs.RunReading.{Hashes}
-use Rattle.sstable_blocks.specs.Scans.{KeyRange, within, reads_of, blocks_read, between, entries_read, entries_within, entries_among, first_block, end_block, handles_within, IsRead}
+use Rattle.sstable_blocks.specs.Scans.{KeyRange, within, reads_of, blocks_read, between, entries_read, entries_within, entries_among, first_block, end_block, handles_within, IsBlockRead}
 
 module _ {X : Type 0} (P : X → Type 0) where
   pub some_dropped : (n : ℕ) (xs : List X) → AllByRecursion P xs → AllByRecursion P (drop n xs)
@@ -40,7 +40,7 @@ module _ (bytes : List ℕ) (r : KeyRange) where
     Among front lo hi back = entries_among bytes r front (between hs lo hi) back
 
   -- what is read of blocks that are read
-  pub reads_are : (c : Hashes) (hs : List Handle) → AllByRecursion (IsRead c bytes) hs → blocks_read c bytes r hs ≡ map Ok (entries_within bytes r hs)
+  pub reads_are : (c : Hashes) (hs : List Handle) → AllByRecursion (IsBlockRead c bytes) hs → blocks_read c bytes r hs ≡ map Ok (entries_within bytes r hs)
   reads_are c [] a = refl
   reads_are c (h ∷ hs) a =
       let f : List Entry → Result (List Entry) Error = λ (xs : List Entry). Ok (within r xs) in
@@ -48,14 +48,14 @@ module _ (bytes : List ℕ) (r : KeyRange) where
       ∙ sym (map-append Ok (of_block h) (entries_within bytes r hs))
 
   -- a scan that begins
-  pub fresh_entries : (c : Hashes) (hs : List Handle) (front back : List Entry) (lo hi : ℕ) (blocks : List (List Entry)) → AllByRecursion (IsRead c bytes) hs → front ≡ [] → back ≡ [] → lo ≡ first_block r hs → hi ≡ end_block r hs
+  pub fresh_entries : (c : Hashes) (hs : List Handle) (front back : List Entry) (lo hi : ℕ) (blocks : List (List Entry)) → AllByRecursion (IsBlockRead c bytes) hs → front ≡ [] → back ≡ [] → lo ≡ first_block r hs → hi ≡ end_block r hs
       → blocks_read c bytes r (handles_within r hs) ≡ map Ok (within r (map plain (joined blocks))) → Among hs front lo hi back ≡ within r (map plain (joined blocks))
   unfolding handles_within
   fresh_entries c hs front back lo hi blocks all none none' first last law =
       let lo' = first_block r hs in
       let hi' = end_block r hs in
       let ks = between hs lo' hi' in
-      let some = some_taken (IsRead c bytes) (hi' - lo') _ (some_dropped (IsRead c bytes) lo' hs all) in
+      let some = some_taken (IsBlockRead c bytes) (hi' - lo') _ (some_dropped (IsBlockRead c bytes) lo' hs all) in
       ap (λ xs. xs ++ (entries_within bytes r (between hs lo hi) ++ back)) none ∙ ap (λ xs. entries_within bytes r (between hs lo hi) ++ xs) none'
       ∙ append-nil (entries_within bytes r (between hs lo hi)) ∙ ap (λ n. entries_within bytes r (between hs n hi)) first ∙ ap (λ n. entries_within bytes r (between hs lo' n)) last
       ∙ sym (entries_again (entries_within bytes r ks)) ∙ ap entries_read (sym (reads_are c ks some)) ∙ ap entries_read law ∙ entries_again (within r (map plain (joined blocks)))

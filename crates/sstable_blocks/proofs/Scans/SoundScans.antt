@@ -18,8 +18,8 @@ use Rattle.sst_block_core.specs.Window.{items_left, first_match}
 use Rattle.sst_block_core.specs.Handles.{Handle, handles, IsHandle, IsIndexBlock, IndexPasses}
 use Rattle.sstable_blocks.specs.Blocks.{joined}
 use Rattle.sstable_blocks.specs.Opened.{range_of, index_in}
-use Rattle.sstable_blocks.specs.RunReading.{Hashes, payload_at, items_at, handles_at}
-use Rattle.sstable_blocks.specs.Scans.{KeyRange, Read, is_before, is_up_to, in_range, within, first_block, end_block, handles_within, block_within, reads_of, blocks_read, IsRead, IsReadRun}
+use Rattle.sstable_blocks.specs.RunReading.{Hashes, payload_at, block_items_at, handles_at}
+use Rattle.sstable_blocks.specs.Scans.{KeyRange, Read, is_before, is_up_to, in_range, within, first_block, end_block, handles_within, block_within, reads_of, blocks_read, IsBlockRead, IsReadRun}
 use Rattle.sstable_blocks.specs.Sound.{IsStoredBlock, IsSound}
 use Rattle.sstable_blocks.specs.declared.run.RunHandles.{RunHandles}
 use Rattle.sstable_blocks.proofs.Lists.Ends.{ends_in_order, block_behind, back_in_order, tail_in_order}
@@ -78,7 +78,7 @@ module _ (r : KeyRange) where
       within-out r x xs (out_after (is_before r.from x.key.user_key) (is_up_to r.to x.key.user_key) fails) ∙ after_end x xs h.1 fails
 
   module _ (c : Hashes) (bytes : List ℕ)
-      (stored_read : (h : Handle) (b : List Entry) → IsHandle h → IsStoredBlock c bytes b h → items_at c bytes (range_of h) ≡ Ok (map plain b))
+      (stored_read : (h : Handle) (b : List Entry) → IsHandle h → IsStoredBlock c bytes b h → block_items_at c bytes (range_of h) ≡ Ok (map plain b))
     where
       abbrev starts : List Handle → ℕ
       starts hs = counted handles.key (is_before r.from) hs
@@ -155,7 +155,7 @@ module _ (c : Hashes) (sums : (bytes : List ℕ) → c.hash128 bytes < 2 ^ 128)
     (plain_match : (needle : List ℕ) (seqno : ℕ) (items : List Entry) → first_match entries needle seqno (map plain items) ≡ first_match entries needle seqno items)
     (bytes : List ℕ)
   where
-    stored_items : (h : Handle) (b : List Entry) → IsHandle h → IsStoredBlock c bytes b h → items_at c bytes (range_of h) ≡ Ok (map plain b)
+    stored_items : (h : Handle) (b : List Entry) → IsHandle h → IsStoredBlock c bytes b h → block_items_at c bytes (range_of h) ≡ Ok (map plain b)
     stored_items h b valid k =
         let p = k.payload in
         let size = framed_size c types.Data bytes p (range_of h) k.frame in
@@ -166,7 +166,7 @@ module _ (c : Hashes) (sums : (bytes : List ℕ) → c.hash128 bytes < 2 ^ 128)
         (data_ok c.hash64 (trailer_in p) p (data_check c.hash64 p) (data_verdict p) read.0 ∙ ap (λ xs. Ok xs) read.1)
 
     -- the block of a handle
-    read_of : (h : Handle) (b : List Entry) → IsHandle h → IsStoredBlock c bytes b h → IsRead c bytes h
+    read_of : (h : Handle) (b : List Entry) → IsHandle h → IsStoredBlock c bytes b h → IsBlockRead c bytes h
     read_of h b valid k =
         let p = k.payload in
         let size = framed_size c types.Data bytes p (range_of h) k.frame in
@@ -176,7 +176,7 @@ module _ (c : Hashes) (sums : (bytes : List ℕ) → c.hash128 bytes < 2 ^ 128)
         let f = frame_range c types.Data bytes p (range_of h) k.frame in
         stored_items h b valid k ∙ ap (λ xs. Ok xs) (sym (ap (items_in entries) f.1 ∙ read.1))
 
-    all_read : (blocks : List (List Entry)) (hs : List Handle) → AllByRecursion IsHandle hs → AllZip (IsStoredBlock c bytes) blocks hs → AllByRecursion (IsRead c bytes) hs
+    all_read : (blocks : List (List Entry)) (hs : List Handle) → AllByRecursion IsHandle hs → AllZip (IsStoredBlock c bytes) blocks hs → AllByRecursion (IsBlockRead c bytes) hs
     all_read [] [] valid stored = tt
     all_read [] (h ∷ hs) valid stored = absurd stored
     all_read (b ∷ bs) [] valid stored = tt
@@ -194,7 +194,7 @@ module _ (c : Hashes) (sums : (bytes : List ℕ) → c.hash128 bytes < 2 ^ 128)
         let valid = k.is_block.block.encoding.are_valid in
         record {
           index = is ∙ ap (λ hs. Ok hs) (sym same);
-          blocks = subst (AllByRecursion (IsRead c bytes)) (sym same) (all_read blocks d.handles valid d.stored);
+          blocks = subst (AllByRecursion (IsBlockRead c bytes)) (sym same) (all_read blocks d.handles valid d.stored);
         }
 
     pub scan_sound : (blocks : List (List Entry)) (h : RunHandles) (r : KeyRange) (hs : List Handle) → IsSound c blocks bytes h → handles_at c bytes h.index ≡ Ok hs

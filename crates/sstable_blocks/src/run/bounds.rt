@@ -76,7 +76,8 @@ impl<'k> Bounds<'k> {
     fn cut_front<H: BlockHash>(&self, entries: &mut IntoEntries<H>)
         requires { entries.old.window.lo ≡ 0 }
         ensures { entries.new.window ≡ record entries.old.window {
-          lo = first_entry self.now entries.old.window.list; } }
+          lo = first_entry self.now entries.old.window.list;
+        } }
     {
         match self.from {
             Bound::Included(start) => {
@@ -93,7 +94,8 @@ impl<'k> Bounds<'k> {
     fn cut_back<H: BlockHash>(&self, entries: &mut IntoEntries<H>)
         requires { entries.old.window.hi ≡ length entries.old.window.list }
         ensures { entries.new.window ≡ record entries.old.window {
-          hi = end_entry self.now entries.old.window.list; } }
+          hi = end_entry self.now entries.old.window.list;
+        } }
     {
         match self.to {
             Bound::Included(end) => {
@@ -123,7 +125,8 @@ impl<'k> Bounds<'k> {
         requires { iter.old.window.lo ≡ 0 }
         ensures payload { iter.new.payload ≡ iter.old.payload }
         ensures window { iter.new.window ≡ record iter.old.window {
-          lo = first_entry self.now iter.old.window.list; } }
+          lo = first_entry self.now iter.old.window.list;
+        } }
     {
         match self.from {
             Bound::Included(start) => {
@@ -141,7 +144,8 @@ impl<'k> Bounds<'k> {
         requires { iter.old.window.hi ≡ length iter.old.window.list }
         ensures payload { iter.new.payload ≡ iter.old.payload }
         ensures window { iter.new.window ≡ record iter.old.window {
-          hi = end_entry self.now iter.old.window.list; } }
+          hi = end_entry self.now iter.old.window.list;
+        } }
     {
         match self.to {
             Bound::Included(end) => {

@@ -13,7 +13,7 @@ ghost use Rattle.sstable_blocks.specs.Blocks.{joined};
 ghost use Rattle.sstable_blocks.specs.Opened.{range_of};
 ghost use Rattle.sstable_blocks.specs.ReadCosts.{CountsGrow, heads_at, entries_at};
 ghost use Rattle.sstable_blocks.specs.RunReading.{hashes, payload_at, filter_says, filter_answer};
-ghost use Rattle.sstable_blocks.specs.RunReading.{read_block, items_at, handles_at, read_blocks};
+ghost use Rattle.sstable_blocks.specs.RunReading.{read_block, block_items_at, handles_at, read_blocks};
 ghost use Rattle.sstable_blocks.specs.RunReading.{read_checked, AnswerMeans};
 ghost use Rattle.sstable_blocks.specs.Sound.{ForSound};
 ghost use Rattle.sstable_blocks.specs.Sources.{GivesOr, KeepsSource, filter_frames, ReadsAs};
@@ -75,7 +75,7 @@ pub fn data_block_from<H: BlockHash, S: FrameSource>(
     ensures reads { S.reads source.new ≡ S.reads source.old + 1 }
     ensures io { IsIoCounted S.failures source.old source.new result }
     ensures exact { ReadsAs S.bytes S.failures S.is_reliable source.old source.new
-        (λ b. b.items) result (λ all. items_at (hashes H.hash64 H.hash128) all handle.now) }
+        (λ b. b.items) result (λ all. block_items_at (hashes H.hash64 H.hash128) all handle.now) }
 {
     let block = block_from::<H, S>(alloc, source, handle, BlockType::Data)?;
     DataBlock::<H>::check_once(alloc, block)

@@ -106,9 +106,10 @@ pub(crate) fn item_in<H: BlockHash>(
     ensures found { found_entry bytes.now result ≡ first_match entries needle.now seqno
         (items_in entries (payload_in bytes.now handle)) }
     ensures place { IsFoundIn bytes.now result }
-    ensures counts { let p = payload_in bytes.now handle in CountsBetween steps.old steps.new (0, 0)
-        (digits (head_count (trailer_in p).interval (length (items_in entries p))),
-        (trailer_in p).interval + 1) }
+    ensures counts { let p = payload_in bytes.now handle in CountsBetween steps.old steps.new (0, 0) (
+      digits (head_count (trailer_in p).interval (length (items_in entries p))),
+      (trailer_in p).interval + 1,
+    ) }
 {
     match search_over::<H>(bytes, &handle).find(needle, seqno, steps) {
         Some(item) => Some((handle, item)),

@@ -8,8 +8,6 @@ ghost use Rattle.std.specs.Prelude.{Ok, Some, false, length, slice_get};
 ghost use Rattle.std.specs.Option.{option_map};
 ghost use Rattle.sst_base.specs.Counted.{CountsBetween, CountsExactly};
 ghost use Rattle.sst_block_core.specs.Entries.{entries};
-ghost use Rattle.sst_block_core.specs.Intervals.{digits};
-ghost use Rattle.sst_block_core.specs.Pointers.{head_count};
 ghost use Rattle.sst_block_core.specs.Window.{count_passed, first_match};
 ghost use Rattle.sst_block_core.specs.Checks.{data_check};
 ghost use Rattle.sst_block_core.specs.DataBlock.{data_block_of};
@@ -20,7 +18,7 @@ ghost use Rattle.sst_block_core.specs.PointReads.{read_least, read_most, ref_rea
 ghost use Rattle.sst_block_core.specs.PointReads.{ref_read_most};
 ghost use Rattle.sstable_blocks.specs.Lookup.{handle_for};
 ghost use Rattle.sstable_blocks.specs.Opened.{range_of};
-ghost use Rattle.sstable_blocks.specs.ReadCosts.{handles_most};
+ghost use Rattle.sstable_blocks.specs.ReadCosts.{find_cost};
 ghost use Rattle.sstable_blocks.specs.Scans.{index_cost};
 
 use sst_base::{Block, BlockHandle, BlockHash, Error, InternalValue, Result, SeqNo, Steps};
@@ -78,8 +76,8 @@ impl<'a> IndexSearch<'a> {
     pub(crate) fn find(&self, needle: &[u8], seqno: SeqNo, steps: &mut Steps) -> Option<BlockHandle>
         ensures found { result
             ≡ option_map range_of (handle_for handles needle.now seqno self.now.items) }
-        ensures counts { CountsBetween steps.old steps.new (1, 0) (digits
-            (head_count self.now.interval (length self.now.items)), handles_most self.now.interval) }
+        ensures counts { CountsBetween steps.old steps.new (1, 0)
+            (find_cost self.now.interval (length self.now.items)) }
     {
         let mut iter = self.block.iter();
         iter.seek(needle, seqno);

@@ -9,10 +9,10 @@ ghost use Rattle.sst_block_core.specs.Window.{first_match};
 ghost use Rattle.sst_block_core.specs.Handles.{Handle};
 ghost use Rattle.sstable_blocks.specs.Blocks.{joined};
 ghost use Rattle.sstable_blocks.specs.Footer.{table_handles};
-ghost use Rattle.sstable_blocks.specs.ReadCosts.{heads_most_by, entries_most_by, CountsRead};
+ghost use Rattle.sstable_blocks.specs.ReadCosts.{most_by, CountsRead};
 ghost use Rattle.sstable_blocks.specs.Opened.{range_of};
 ghost use Rattle.sstable_blocks.specs.RunChecks.{check_run as run_checked, summary_of};
-ghost use Rattle.sstable_blocks.specs.RunReading.{hashes, items_at, handles_at, read_checked};
+ghost use Rattle.sstable_blocks.specs.RunReading.{hashes, block_items_at, handles_at, read_checked};
 ghost use Rattle.sstable_blocks.specs.Sound.{ForSound, IsSoundRun, IsSummary};
 ghost use Rattle.sstable_blocks.specs.Sources.{FailsAs, GivesOr, KeepsSource, filter_frames};
 ghost use Rattle.sstable_blocks.specs.Sources.{ReadsAs, IsIoCounted};
@@ -194,8 +194,7 @@ fn read_by_kept<H: BlockHash, S: FrameSource>(
         seqno) }
     ensures counts { IfSome (S.bytes source.old)
         (λ all. CountsBetween steps.old steps.new (0, 0)
-        (heads_most_by all index.now.items index.now.interval needle.now seqno, entries_most_by all
-        index.now.items index.now.interval needle.now seqno)) }
+        (most_by all index.now.items index.now.interval needle.now seqno)) }
     ensures looked { LooksBy (kept_says H.hash64 filter.now needle.now) steps.old steps.new }
 {
     if !kept_allows::<H>(filter, needle) {
@@ -305,7 +304,7 @@ impl<H: BlockHash, S: FrameSource> Table<H, S> {
             (λ all. (h : Handle) → slice_get self.old.index index ≡ Some h
             → GivesOr (S.failures self.old.source < S.failures self.new.source)
             (S.is_reliable self.old.source) (λ b. b.items) result
-            (items_at (hashes H.hash64 H.hash128) all (range_of h))) }
+            (block_items_at (hashes H.hash64 H.hash128) all (range_of h))) }
     {
         let handle = self.index.handle_at(index, &mut Steps::new());
         data_block_from::<H, S>(alloc, &mut self.source, &handle)

@@ -5,8 +5,8 @@ ghost use Rattle.std.specs.Prelude.{drop, take, IfOk, IfErr, IsErrOf, MatchResul
 ghost use Rattle.std.specs.Io.KnownBytes.{Appends};
 ghost use Rattle.sst_base.specs.Block.{BlockParts};
 ghost use Rattle.sst_base.specs.Bytes.{IsBytes};
-ghost use Rattle.sst_base.specs.Frame.{header_for, block_for, frame, frame_at, frame_in, block_at};
-ghost use Rattle.sst_base.specs.Frame.{block_of, frame_in_file};
+ghost use Rattle.sst_base.specs.Frame.{header_for, frame_block, frame, frame_at, frame_in, block_at};
+ghost use Rattle.sst_base.specs.Frame.{verified_block, frame_in_file};
 ghost use Rattle.sst_base.specs.declared.table.block.block_type.BlockType.{BlockType};
 ghost use Rattle.sst_base.specs.Inputs.{ReadsAllocating, Gives, GivesOrFails};
 
@@ -63,7 +63,7 @@ impl Block {
     /// `write_into` writes a payload as a frame.
     pub fn from_payload(block_type: BlockType, payload: Slice) -> Block
         requires { length payload < 2 ^ 32 }
-        ensures { result ≡ block_for (λ _. 0) block_type payload }
+        ensures { result ≡ frame_block (λ _. 0) block_type payload }
     {
         let len = payload.len() as u32;
         let header = Header {
@@ -153,18 +153,18 @@ impl Block {
         ensures found { (bytes : List ℕ) → R.remaining reader.old ≡ Some bytes
             → IfOk result (λ b. (rest : List ℕ) × (R.remaining reader.new ≡ Some rest)
             × (bytes ≡ frame H.hash128 b.header.block_type b.payload ++ rest)
-            × (b ≡ block_for H.hash128 b.header.block_type b.payload)) }
+            × (b ≡ frame_block H.hash128 b.header.block_type b.payload)) }
 
         // Over memory a prefix that is a frame is read.
         ensures only { (t : BlockType) (payload rest : List ℕ) → length payload < 2 ^ 32
             → R.remaining reader.old ≡ Some (frame H.hash128 t payload ++ rest)
             → R.is_memory reader.old
             → MatchResult result
-            (λ b. (b ≡ block_for H.hash128 t payload) × (R.remaining reader.new ≡ Some rest))
+            (λ b. (b ≡ frame_block H.hash128 t payload) × (R.remaining reader.new ≡ Some rest))
             (λ e. e ≡ Error.Memory) }
 
         // Of any reader.
-        ensures own { IfOk result (λ b. b ≡ block_for H.hash128 b.header.block_type b.payload) }
+        ensures own { IfOk result (λ b. b ≡ frame_block H.hash128 b.header.block_type b.payload) }
         ensures kept { R.is_memory reader.old → R.is_memory reader.new }
     {
         Block::read_from::<H, R>(alloc, reader)
@@ -178,7 +178,7 @@ impl Block {
             (frame_at H.hash128 bytes) }
         ensures cells { OnOk result ((bytes : List ℕ) → R.remaining reader.old ≡ Some bytes
             → IsBytes (take 28 (drop 5 bytes))) }
-        ensures own { IfOk result (λ b. b ≡ block_for H.hash128 b.header.block_type b.payload) }
+        ensures own { IfOk result (λ b. b ≡ frame_block H.hash128 b.header.block_type b.payload) }
         ensures kept { R.is_memory reader.old → R.is_memory reader.new }
     {
         let header = Header::decode_from::<H, R>(reader)?;
@@ -195,7 +195,7 @@ impl Block {
         ensures read { (bytes : List ℕ) → R.remaining reader.old ≡ Some bytes
             → ReadsAllocating (R.is_memory reader.old) result (R.remaining reader.new)
             (block_at H.hash128 header bytes) }
-        ensures own { IfOk result (λ b. b ≡ block_for H.hash128 b.header.block_type b.payload) }
+        ensures own { IfOk result (λ b. b ≡ frame_block H.hash128 b.header.block_type b.payload) }
         ensures kept { R.is_memory reader.old → R.is_memory reader.new }
     {
         if header.data_length != header.uncompressed_length {
@@ -206,10 +206,10 @@ impl Block {
     }
 
     // The block of a header and a payload whose checksum is the header's.
-    #[tactic(auto, unfolding(crate::specs::Frame::block_of))]
+    #[tactic(auto, unfolding(crate::specs::Frame::verified_block))]
     fn checked<H: BlockHash>(header: Header, payload: Slice) -> Result<Block>
         requires { length payload < 2 ^ 32 }
-        ensures { result ≡ block_of H.hash128 header payload }
+        ensures { result ≡ verified_block H.hash128 header payload }
     {
         let got = Checksum::from_raw(H::hash128(payload.as_slice()));
         if got != header.checksum {
@@ -236,12 +236,12 @@ impl Block {
 
         // What is read is a frame.
         ensures found { IfOk result (λ b. (bytes ≡ frame H.hash128 b.header.block_type b.payload)
-            × (b ≡ block_for H.hash128 b.header.block_type b.payload)) }
+            × (b ≡ frame_block H.hash128 b.header.block_type b.payload)) }
 
         // A frame is read.
         ensures only { (t : BlockType) (payload : List ℕ) → length payload < 2 ^ 32
             → bytes ≡ frame H.hash128 t payload
-            → MatchResult result (λ b. b ≡ block_for H.hash128 t payload)
+            → MatchResult result (λ b. b ≡ frame_block H.hash128 t payload)
             (λ e. e ≡ Error.Memory) }
     {
         Block::in_frame::<H>(&bytes)
@@ -267,7 +267,7 @@ impl Block {
 
         // Of any file.
         ensures size { IfOk result (λ b. 33 + length b.payload ≡ handle.size) }
-        ensures own { IfOk result (λ b. b ≡ block_for H.hash128 b.header.block_type b.payload) }
+        ensures own { IfOk result (λ b. b ≡ frame_block H.hash128 b.header.block_type b.payload) }
     {
         file.move_to(*handle.offset())?;
         let bytes = Slice::from_reader(alloc, file, handle.size() as usize)?;

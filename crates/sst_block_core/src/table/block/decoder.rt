@@ -18,10 +18,10 @@ ghost use Rattle.sst_block_core.specs.Pointers.{head_count};
 ghost use Rattle.sst_block_core.specs.Intervals.{Splits, digits, seek_picked};
 ghost use Rattle.sst_block_core.specs.ListSteps.{scan_gives_first, scan_gives_last};
 ghost use Rattle.sst_block_core.specs.Window.{Window, Answer, found, items_left, whole, picked_head};
-ghost use Rattle.sst_block_core.specs.Scan.{GivesNext};
+ghost use Rattle.sst_block_core.specs.Scan.{GivesScanned};
 ghost use Rattle.sst_block_core.specs.Backs.{GivesNextBack, seek_upper_picked};
 ghost use Rattle.sst_block_core.specs.Trailer.{trailer_in};
-ghost use Rattle.sst_block_core.specs.Heads.{IsTableOf, listed_in};
+ghost use Rattle.sst_block_core.specs.Heads.{IsHeadTableOf, listed_in};
 
 use crate::block_item::BlockItem;
 use crate::table::block::ends::Ends;
@@ -203,13 +203,13 @@ pub struct Decoder<'a, Item: Decodable<Parsed>, Parsed: ParsedItem<Item>> {
 
 impl<'a, Item: Decodable<Parsed>, Parsed: ParsedItem<Item>> Model for Decoder<'a, Item, Parsed> {
     ghost use Rattle.sst_block_core.specs.Scan.{Scan};
-    ghost use Rattle.sst_block_core.specs.Ends.{AreEnds, scan_between};
+    ghost use Rattle.sst_block_core.specs.Ends.{AreBlockEnds, scan_between};
 
     ghost Value = { Scan Item };
 
     ghost view = { λ d. scan_between d.intervals d.ends };
 
-    ghost invariant = { λ d. AreEnds Item.kind d.intervals.list d.ends };
+    ghost invariant = { λ d. AreBlockEnds Item.kind d.intervals.list d.ends };
 }
 
 impl<'a, Item: Decodable<Parsed>, Parsed: ParsedItem<Item>> Decoder<'a, Item, Parsed> {
@@ -233,7 +233,7 @@ impl<'a, Item: Decodable<Parsed>, Parsed: ParsedItem<Item>> Decoder<'a, Item, Pa
         requires fits { length payload.now < 2 ^ 32 }
         requires encoding { (hash : List ℕ → ℕ) × (items : List Item) × (r : ℕ) × (b : ℕ)
             × IsEncoding Item.kind Item.valid hash payload.now items r b }
-        requires table { IsTableOf Item.kind (listed_in Item.kind payload.now) table.now }
+        requires table { IsHeadTableOf Item.kind (listed_in Item.kind payload.now) table.now }
         ensures payload { result.payload ≡ payload.now }
         ensures interval { result.interval ≡ (trailer_in payload.now).interval }
         ensures window { result.window ≡ whole (items_in Item.kind payload.now) }
@@ -374,7 +374,7 @@ impl<'a, Item: Decodable<Parsed>, Parsed: ParsedItem<Item> + Drop> Iterator
     for Decoder<'a, Item, Parsed> {
     type Item = Parsed;
 
-    ghost next_gives = { λ s r t. GivesNext Parsed.item_of Parsed.is_found s r t };
+    ghost next_gives = { λ s r t. GivesScanned Parsed.item_of Parsed.is_found s r t };
 
     ghost remaining = { λ s. at_most (s.window.hi - s.window.lo) };
 

@@ -2,11 +2,11 @@
 ghost use Rattle.std.specs.Prelude.{◌≡◌, ◌+◌, ◌*◌, ◌≤◌, length};
 ghost use Rattle.sst_base.specs.Counted.{CountsBetween};
 ghost use Rattle.sst_block_core.specs.Backs.{GivesNextBack};
-ghost use Rattle.sst_block_core.specs.Ends.{AreEnds, some_between, window_between, scan_between};
+ghost use Rattle.sst_block_core.specs.Ends.{AreBlockEnds, some_between, window_between, scan_between};
 ghost use Rattle.sst_block_core.specs.Intervals.{digits};
 ghost use Rattle.sst_block_core.specs.Kind.{IsOrdered};
 ghost use Rattle.sst_block_core.specs.Pointers.{head_count};
-ghost use Rattle.sst_block_core.specs.Scan.{GivesNext};
+ghost use Rattle.sst_block_core.specs.Scan.{GivesScanned};
 ghost use Rattle.sst_block_core.specs.Window.{count_passed, has_key, first_left, last_left};
 ghost use Rattle.sst_block_core.specs.Window.{items_left, whole};
 
@@ -40,7 +40,7 @@ impl Ends {
 impl<'a, Item: Decodable<Parsed>, Parsed: ParsedItem<Item>> Intervals<'a, Item, Parsed> {
     /// Returns the two ends of all items. Takes no memory.
     pub fn ends(&self) -> Ends
-        ensures ends { AreEnds Item.kind self.now.list result }
+        ensures ends { AreBlockEnds Item.kind self.now.list result }
         ensures window { window_between self.now.list.items result ≡ whole self.now.list.items }
     {
         Ends {
@@ -51,7 +51,7 @@ impl<'a, Item: Decodable<Parsed>, Parsed: ParsedItem<Item>> Intervals<'a, Item, 
 
     /// Makes ends those of all items, whatever block they were of. Takes no memory.
     pub fn reset(&self, ends: &mut Ends)
-        ensures ends { AreEnds Item.kind self.now.list ends.new }
+        ensures ends { AreBlockEnds Item.kind self.now.list ends.new }
         ensures window { window_between self.now.list.items ends.new
             ≡ whole self.now.list.items }
     {
@@ -62,7 +62,7 @@ impl<'a, Item: Decodable<Parsed>, Parsed: ParsedItem<Item>> Intervals<'a, Item, 
 
     /// Returns the number of items left between two ends of the block.
     pub fn count_left(&self, ends: &Ends) -> usize
-        requires { AreEnds Item.kind self.now.list ends.now }
+        requires { AreBlockEnds Item.kind self.now.list ends.now }
         ensures count { result
             ≡ length (items_left (window_between self.now.list.items ends.now)) }
         ensures within { (window_between self.now.list.items ends.now).hi
@@ -76,10 +76,10 @@ impl<'a, Item: Decodable<Parsed>, Parsed: ParsedItem<Item> + Drop> Intervals<'a,
     /// Takes the first item left, if there is one. Counts an entry for an item.
     #[inline(always)]
     pub fn next(&mut self, ends: &mut Ends) -> Option<Parsed>
-        requires { AreEnds Item.kind self.old.list ends.old }
+        requires { AreBlockEnds Item.kind self.old.list ends.old }
         ensures list { self.new.list ≡ self.old.list }
-        ensures ends { AreEnds Item.kind self.old.list ends.new }
-        ensures step { GivesNext Parsed.item_of Parsed.is_found (scan_between self.old ends.old)
+        ensures ends { AreBlockEnds Item.kind self.old.list ends.new }
+        ensures step { GivesScanned Parsed.item_of Parsed.is_found (scan_between self.old ends.old)
             result (scan_between self.new ends.new) }
     {
         if ends.front.index >= ends.back.hi {
@@ -92,9 +92,9 @@ impl<'a, Item: Decodable<Parsed>, Parsed: ParsedItem<Item> + Drop> Intervals<'a,
     /// its interval where it is the last of it.
     #[inline(always)]
     pub fn next_back(&mut self, ends: &mut Ends) -> Option<Parsed>
-        requires { AreEnds Item.kind self.old.list ends.old }
+        requires { AreBlockEnds Item.kind self.old.list ends.old }
         ensures list { self.new.list ≡ self.old.list }
-        ensures ends { AreEnds Item.kind self.old.list ends.new }
+        ensures ends { AreBlockEnds Item.kind self.old.list ends.new }
         ensures step { GivesNextBack Parsed.item_of Parsed.is_found
             (scan_between self.old ends.old) result (scan_between self.new ends.new) }
     {
@@ -109,9 +109,9 @@ impl<'a, Item: Decodable<Parsed>, Parsed: ParsedItem<Item> + Drop> Intervals<'a,
     #[inline(always)]
     pub fn seek_front(&mut self, ends: &mut Ends, bound: &Bound<'_>) -> bool
         requires ordered { IsOrdered Item.kind self.old.list.items }
-        requires ends { AreEnds Item.kind self.old.list ends.old }
+        requires ends { AreBlockEnds Item.kind self.old.list ends.old }
         ensures list { self.new.list ≡ self.old.list }
-        ensures ends { AreEnds Item.kind self.old.list ends.new }
+        ensures ends { AreBlockEnds Item.kind self.old.list ends.new }
         ensures window { window_between self.old.list.items ends.new ≡ record {
           list = self.old.list.items;
           lo = count_passed Item.kind bound.now.needle.now bound.now.from self.old.list.items;
@@ -138,9 +138,9 @@ impl<'a, Item: Decodable<Parsed>, Parsed: ParsedItem<Item> + Drop> Intervals<'a,
     #[inline(always)]
     pub fn seek_back(&mut self, ends: &mut Ends, bound: &Bound<'_>) -> bool
         requires ordered { IsOrdered Item.kind self.old.list.items }
-        requires ends { AreEnds Item.kind self.old.list ends.old }
+        requires ends { AreBlockEnds Item.kind self.old.list ends.old }
         ensures list { self.new.list ≡ self.old.list }
-        ensures ends { AreEnds Item.kind self.old.list ends.new }
+        ensures ends { AreBlockEnds Item.kind self.old.list ends.new }
         ensures window { window_between self.old.list.items ends.new ≡ record {
           list = self.old.list.items;
           lo = (window_between self.old.list.items ends.old).lo;

@@ -5,8 +5,8 @@ ghost use Rattle.std.specs.Ordering.{nat_cmp};
 ghost use Rattle.std.specs.Cmp.Lexicographic.{slice_cmp};
 ghost use Rattle.sst_base.specs.Counted.{IsZero, CountsExactly, CountsBetween};
 ghost use Rattle.sst_base.specs.SharedPrefix.{shared_prefix_length};
-ghost use Rattle.sst_block_core.specs.Found.{Takes, IsEncodedAt, IsRange, range_of};
-ghost use Rattle.sst_block_core.specs.Heads.{IsTable, key_in, heads_before, Begins};
+ghost use Rattle.sst_block_core.specs.Found.{Takes, IsEncodedAt, IsRange, range_bytes};
+ghost use Rattle.sst_block_core.specs.Heads.{IsHeadTable, key_in, heads_before, Begins};
 ghost use Rattle.sst_block_core.specs.Heads.{IsNextHead, KeepsPrefixAndRoom};
 ghost use Rattle.sst_block_core.specs.Intervals.{digits};
 ghost use Rattle.sst_block_core.specs.declared.table.block.heads.Head.{Head};
@@ -88,7 +88,7 @@ impl<'a, Item: Decodable<Parsed>, Parsed: ParsedItem<Item>> FormReader<'a, Item,
     /// Returns the key and the sequence number of head j of a table. Counts a head.
     #[inline(always)]
     pub(crate) fn head_of(&mut self, table: &HeadTable, j: usize) -> (&'a [u8], u64)
-        requires table { IsTable self.old.payload table.now }
+        requires table { IsHeadTable self.old.payload table.now }
         requires inside { j < length table.now.heads }
         ensures payload { self.new.payload ≡ self.old.payload }
         ensures head { (h : Head) → slice_get table.now.heads j ≡ Some h
@@ -101,7 +101,7 @@ impl<'a, Item: Decodable<Parsed>, Parsed: ParsedItem<Item>> FormReader<'a, Item,
     /// Returns how many heads of a table a bound passes. Counts the heads that it examines.
     #[inline(always)]
     pub(crate) fn count_heads(&mut self, table: &HeadTable, bound: &Bound<'_>) -> usize
-        requires { IsTable self.old.payload table.now }
+        requires { IsHeadTable self.old.payload table.now }
         ensures payload { self.new.payload ≡ self.old.payload }
         ensures value { result
             ≡ heads_before self.old.payload bound.now.needle.now bound.now.from table.now.heads }
@@ -194,7 +194,7 @@ impl<'a, Item: Decodable<Parsed>, Parsed: ParsedItem<Item> + Drop> FormReader<'a
         ensures range { IsRange self.old.payload result.0 }
         ensures key { (x : Item) (rest : List ℕ)
             → Item.kind.full_at (drop offset self.old.payload) ≡ Some (x, rest)
-            → (range_of self.old.payload result.0 ≡ Item.kind.key x)
+            → (range_bytes self.old.payload result.0 ≡ Item.kind.key x)
             × (result.1 ≡ Item.kind.seqno x) }
     {
         let (item, _) = Item::read_full(self.payload, offset, &mut self.steps);
@@ -213,10 +213,10 @@ impl<'a, Item: Decodable<Parsed>, Parsed: ParsedItem<Item> + Drop> FormReader<'a
         ensures range { IsRange self.old.payload result }
         ensures first { (x : Item) (rest : List ℕ)
             → Item.kind.full_at (drop first self.old.payload) ≡ Some (x, rest)
-            → Begins (range_of self.old.payload result) (Item.kind.key x) }
+            → Begins (range_bytes self.old.payload result) (Item.kind.key x) }
         ensures last { (x : Item) (rest : List ℕ)
             → Item.kind.full_at (drop last self.old.payload) ≡ Some (x, rest)
-            → Begins (range_of self.old.payload result) (Item.kind.key x) }
+            → Begins (range_bytes self.old.payload result) (Item.kind.key x) }
     {
         let (first, _) = self.key_range(first);
         let (last, _) = self.key_range(last);
@@ -235,7 +235,7 @@ impl<'a, Item: Decodable<Parsed>, Parsed: ParsedItem<Item> + Drop> FormReader<'a
         requires next { (x : Item) (rest : List ℕ)
             → Item.kind.full_at (drop offset self.old.payload) ≡ Some (x, rest)
             → IsNextHead Item.kind self.old.payload table.old x }
-        requires table { IsTable self.old.payload table.old }
+        requires table { IsHeadTable self.old.payload table.old }
         ensures payload { self.new.payload ≡ self.old.payload }
         ensures pushed { (x : Item) (rest : List ℕ)
             → Item.kind.full_at (drop offset self.old.payload) ≡ Some (x, rest)
@@ -243,7 +243,7 @@ impl<'a, Item: Decodable<Parsed>, Parsed: ParsedItem<Item> + Drop> FormReader<'a
             × (key_in self.old.payload h ≡ Item.kind.key x) × (h.seqno ≡ Item.kind.seqno x)
             × (h.offset ≡ offset) }
         ensures kept { KeepsPrefixAndRoom table.old table.new }
-        ensures table { IsTable self.old.payload table.new }
+        ensures table { IsHeadTable self.old.payload table.new }
     {
         let (key, seqno) = self.key_range(offset);
         table.push(self.payload, offset, seqno, key);

@@ -7,11 +7,11 @@ ghost use Rattle.std.specs.Cmp.Lexicographic.{slice_cmp};
 ghost use Rattle.std.specs.declared.cmp.Ordering.TheVariants.{Less, Equal};
 ghost use Rattle.sst_base.specs.Counted.{CountsExactly, CountsBetween};
 ghost use Rattle.sst_base.specs.Order.{versions_cmp};
-ghost use Rattle.sst_block_core.specs.Found.{IsRange, range_of};
-ghost use Rattle.sst_block_core.specs.Heads.{front, key_in, Begins, IsTable, IsHeadPassedBit, head_of};
+ghost use Rattle.sst_block_core.specs.Found.{IsRange, range_bytes};
+ghost use Rattle.sst_block_core.specs.Heads.{front, key_in, Begins, IsHeadTable, IsHeadPassedBit, head_of};
 ghost use Rattle.sst_block_core.specs.Heads.{heads_before, KeepsPrefixAndRoom};
 ghost use Rattle.sst_block_core.specs.Intervals.{digits};
-ghost use Rattle.sst_block_core.specs.Passes.{last_of};
+ghost use Rattle.sst_block_core.specs.Passes.{last_passed};
 ghost use Rattle.sst_block_core.specs.declared.table.block.heads.Head.{Head};
 
 use crate::table::block::bound::Bound;
@@ -186,8 +186,8 @@ impl HeadTable {
     #[inline(always)]
     fn behind_prefix<'k>(&self, payload: &[u8], key: &'k [u8]) -> &'k [u8]
         requires prefix { IsRange payload.now self.now.prefix }
-        requires begins { Begins (range_of payload.now self.now.prefix) key.now }
-        ensures { result.now ≡ drop (length (range_of payload.now self.now.prefix)) key.now }
+        requires begins { Begins (range_bytes payload.now self.now.prefix) key.now }
+        ensures { result.now ≡ drop (length (range_bytes payload.now self.now.prefix)) key.now }
     {
         let (_, rest) = key.split_at(bytes_of(payload, &self.prefix).len());
         rest
@@ -199,14 +199,14 @@ impl HeadTable {
     pub fn push(&mut self, payload: &[u8], offset: usize, seqno: SeqNo, key: SliceIndexes)
         requires room { length self.old.heads < self.old.room }
         requires range { IsRange payload.now key }
-        requires begins { Begins (range_of payload.now self.old.prefix) (range_of payload.now key) }
-        requires order { IfSome (last_of self.old.heads)
+        requires begins { Begins (range_bytes payload.now self.old.prefix) (range_bytes payload.now key) }
+        requires order { IfSome (last_passed self.old.heads)
             (λ (last : Head). versions_cmp (key_in payload.now) (λ (h : Head). h.seqno)
             (head_of offset seqno key) last ≢ Less) }
-        requires table { IsTable payload.now self.old }
+        requires table { IsHeadTable payload.now self.old }
         ensures heads { self.new.heads ≡ self.old.heads ++ head_of offset seqno key ∷ [] }
         ensures kept { KeepsPrefixAndRoom self.old self.new }
-        ensures table { IsTable payload.now self.new }
+        ensures table { IsHeadTable payload.now self.new }
     {
         let number = front_of(self.behind_prefix(payload, bytes_of(payload, &key))) / 2;
         let pushed = self.heads.push(Head { offset, seqno, key });
@@ -224,7 +224,7 @@ impl HeadTable {
     /// Returns the key and the sequence number of head j. Counts a head.
     #[inline(always)]
     pub fn head<'p>(&self, payload: &'p [u8], j: usize, steps: &mut Steps) -> (&'p [u8], SeqNo)
-        requires table { IsTable payload.now self.now }
+        requires table { IsHeadTable payload.now self.now }
         requires inside { j < length self.now.heads }
         ensures head { (h : Head) → slice_get self.now.heads j ≡ Some h
             → (result.0.now ≡ key_in payload.now h) × (result.1 ≡ h.seqno) }
@@ -240,12 +240,12 @@ impl HeadTable {
     fn compare_prefix(&self, payload: &[u8], needle: &[u8]) -> Ordering
         requires { IsRange payload.now self.now.prefix }
         ensures decides { (rest : List ℕ)
-            → slice_cmp nat_cmp (range_of payload.now self.now.prefix ++ rest) needle.now
+            → slice_cmp nat_cmp (range_bytes payload.now self.now.prefix ++ rest) needle.now
             ≡ ordering_then result
             (slice_cmp nat_cmp rest
-            (drop (length (range_of payload.now self.now.prefix)) needle.now)) }
+            (drop (length (range_bytes payload.now self.now.prefix)) needle.now)) }
         ensures equal { result ≡ Equal
-            → length (range_of payload.now self.now.prefix) ≤ length needle.now }
+            → length (range_bytes payload.now self.now.prefix) ≤ length needle.now }
     {
         let prefix = bytes_of(payload, &self.prefix);
         if needle.len() < prefix.len() {
@@ -259,13 +259,13 @@ impl HeadTable {
     // where the numbers decide nothing may the bytes be compared, which is seldom.
     #[inline(never)]
     fn compare_rest(&self, j: usize, payload: &[u8], rest: &[u8]) -> Ordering
-        requires table { IsTable payload.now self.now }
+        requires table { IsHeadTable payload.now self.now }
         requires inside { j < length self.now.heads }
         requires undecided { slice_index self.now.fronts j ≡ front rest.now / 2 }
         ensures { (h : Head) → slice_get self.now.heads j ≡ Some h
             → result
             ≡ slice_cmp nat_cmp
-            (drop (length (range_of payload.now self.now.prefix)) (key_in payload.now h))
+            (drop (length (range_bytes payload.now self.now.prefix)) (key_in payload.now h))
             rest.now }
     {
         let head = &self.heads[j];
@@ -287,10 +287,10 @@ impl HeadTable {
         number: u64,
         steps: &mut Steps,
     ) -> u64
-        requires table { IsTable payload.now self.now }
+        requires table { IsHeadTable payload.now self.now }
         requires inside { j < length self.now.heads }
         requires rest { (s : List ℕ)
-            → slice_cmp nat_cmp (range_of payload.now self.now.prefix ++ s) bound.now.needle.now
+            → slice_cmp nat_cmp (range_bytes payload.now self.now.prefix ++ s) bound.now.needle.now
             ≡ slice_cmp nat_cmp s rest.now }
         requires number { number ≡ front rest.now / 2 }
         ensures tells { IsHeadPassedBit payload.now bound.now.needle.now bound.now.from self.now.heads j
@@ -315,9 +315,9 @@ impl HeadTable {
         rest: &[u8],
         steps: &mut Steps,
     ) -> usize
-        requires table { IsTable payload.now self.now }
+        requires table { IsHeadTable payload.now self.now }
         requires rest { (s : List ℕ)
-            → slice_cmp nat_cmp (range_of payload.now self.now.prefix ++ s) bound.now.needle.now
+            → slice_cmp nat_cmp (range_bytes payload.now self.now.prefix ++ s) bound.now.needle.now
             ≡ slice_cmp nat_cmp s rest.now }
         ensures value { result
             ≡ heads_before payload.now bound.now.needle.now bound.now.from self.now.heads }
@@ -339,7 +339,7 @@ impl HeadTable {
     /// Returns how many heads a bound passes. Counts at most as many heads as their number has
     /// binary digits, and one at least if there is any.
     pub(crate) fn count(&self, payload: &[u8], bound: &Bound<'_>, steps: &mut Steps) -> usize
-        requires { IsTable payload.now self.now }
+        requires { IsHeadTable payload.now self.now }
         ensures value { result
             ≡ heads_before payload.now bound.now.needle.now bound.now.from self.now.heads }
         ensures counts { CountsBetween steps.old steps.new (min 1 (length self.now.heads), 0)
@@ -366,7 +366,7 @@ impl HeadTable {
 
     /// Returns the number of heads with a key below the needle.
     pub fn count_below(&self, payload: &[u8], needle: &[u8], steps: &mut Steps) -> usize
-        requires { IsTable payload.now self.now }
+        requires { IsHeadTable payload.now self.now }
         ensures value { result ≡ heads_before payload.now needle.now None self.now.heads }
         ensures counts { CountsBetween steps.old steps.new (min 1 (length self.now.heads), 0)
             (digits (length self.now.heads), 0) }
@@ -376,7 +376,7 @@ impl HeadTable {
 
     /// Returns the number of heads with a key of at most the needle.
     pub fn count_at_most(&self, payload: &[u8], needle: &[u8], steps: &mut Steps) -> usize
-        requires { IsTable payload.now self.now }
+        requires { IsHeadTable payload.now self.now }
         ensures value { result ≡ heads_before payload.now needle.now (Some 0) self.now.heads }
         ensures counts { CountsBetween steps.old steps.new (min 1 (length self.now.heads), 0)
             (digits (length self.now.heads), 0) }
@@ -393,7 +393,7 @@ impl HeadTable {
         seqno: SeqNo,
         steps: &mut Steps,
     ) -> usize
-        requires { IsTable payload.now self.now }
+        requires { IsHeadTable payload.now self.now }
         ensures value { result
             ≡ heads_before payload.now needle.now (Some seqno) self.now.heads }
         ensures counts { CountsBetween steps.old steps.new (min 1 (length self.now.heads), 0)

@@ -8,7 +8,7 @@ ghost use Rattle.std.specs.Ordering.{nat_cmp};
 ghost use Rattle.std.specs.Cmp.Lexicographic.{slice_cmp};
 ghost use Rattle.sst_base.specs.SharedPrefix.{shared_prefix_length};
 ghost use Rattle.sst_block_core.specs.Body.{place_offset};
-ghost use Rattle.sst_block_core.specs.Found.{IsRange, range_of};
+ghost use Rattle.sst_block_core.specs.Found.{IsRange, range_bytes};
 ghost use Rattle.sst_block_core.specs.Payload.{IsEncoding};
 ghost use Rattle.sst_block_core.specs.Places.{IsItemPlace, IsItemAt};
 ghost use Rattle.sst_block_core.specs.Pointers.{head_count};
@@ -16,7 +16,7 @@ ghost use Rattle.sst_block_core.specs.Scan.{IsPlaceAfter, IsPlace};
 ghost use Rattle.sst_block_core.specs.Stages.{items_in};
 ghost use Rattle.sst_block_core.specs.Trailer.{trailer_in};
 ghost use Rattle.sst_block_core.specs.Intervals.{IsListed};
-ghost use Rattle.sst_block_core.specs.Heads.{IsTableOf, IsTableUpto, HeadsBegin, listed_in};
+ghost use Rattle.sst_block_core.specs.Heads.{IsHeadTableOf, IsHeadTableUpto, HeadsBegin, listed_in};
 ghost use Rattle.sst_block_core.specs.Heads.{KeepsPrefixAndRoom};
 
 use crate::table::block::binary_index::Reader;
@@ -47,7 +47,7 @@ impl<'a, Item: Decodable<Parsed>, Parsed: ParsedItem<Item>> Model for Intervals<
     ghost use Rattle.sst_block_core.specs.Stages.{items_in};
     ghost use Rattle.std.specs.Prelude.{IfSome};
     ghost use Rattle.sst_block_core.specs.Intervals.{IntervalsParts, IsIndexed};
-    ghost use Rattle.sst_block_core.specs.Heads.{IsTableOf};
+    ghost use Rattle.sst_block_core.specs.Heads.{IsHeadTableOf};
 
     ghost Value = { IntervalsParts Item };
 
@@ -67,7 +67,7 @@ impl<'a, Item: Decodable<Parsed>, Parsed: ParsedItem<Item>> Model for Intervals<
           items = items_in Item.kind i.forms.payload;
         })
         i.pointers i.item_count
-        × IfSome i.table (λ t. IsTableOf Item.kind
+        × IfSome i.table (λ t. IsHeadTableOf Item.kind
         (record {
           payload = i.forms.payload;
           interval = i.restart_interval;
@@ -101,7 +101,7 @@ impl<'a, Item: Decodable<Parsed>, Parsed: ParsedItem<Item>> Intervals<'a, Item, 
         requires fits { length payload.now < 2 ^ 32 }
         requires encoding { (hash : List ℕ → ℕ) × (items : List Item) × (r : ℕ) × (b : ℕ)
             × IsEncoding Item.kind Item.valid hash payload.now items r b }
-        requires table { IfSome table (λ t. IsTableOf Item.kind
+        requires table { IfSome table (λ t. IsHeadTableOf Item.kind
             (listed_in Item.kind payload.now) t.now) }
         ensures payload { result.list.payload ≡ payload.now }
         ensures items { result.list.items ≡ items_in Item.kind payload.now }
@@ -393,7 +393,7 @@ impl<'a, Item: Decodable<Parsed>, Parsed: ParsedItem<Item> + Drop> Intervals<'a,
         ensures list { self.new.list ≡ self.old.list }
         ensures range { IsRange self.old.list.payload result }
         ensures begins { HeadsBegin Item.kind self.old.list
-            (range_of self.old.list.payload result) }
+            (range_bytes self.old.list.payload result) }
     {
         let count = self.count();
         let first = self.start(0);
@@ -406,12 +406,12 @@ impl<'a, Item: Decodable<Parsed>, Parsed: ParsedItem<Item> + Drop> Intervals<'a,
     fn push_head(&mut self, table: &mut HeadTable, j: usize)
         requires ordered { IsOrdered Item.kind self.old.list.items }
         requires inside { j * self.old.list.interval < length self.old.list.items }
-        requires table { IsTableUpto Item.kind self.old.list j table.old }
+        requires table { IsHeadTableUpto Item.kind self.old.list j table.old }
         requires begins { HeadsBegin Item.kind self.old.list
-            (range_of self.old.list.payload table.old.prefix) }
+            (range_bytes self.old.list.payload table.old.prefix) }
         requires room { j < table.old.room }
         ensures list { self.new.list ≡ self.old.list }
-        ensures table { IsTableUpto Item.kind self.old.list (j + 1) table.new }
+        ensures table { IsHeadTableUpto Item.kind self.old.list (j + 1) table.new }
         ensures kept { KeepsPrefixAndRoom table.old table.new }
     {
         let at = self.start(j);
@@ -425,7 +425,7 @@ impl<'a, Item: Decodable<Parsed>, Parsed: ParsedItem<Item> + Drop> Intervals<'a,
     /// `Error::Memory` if an allocation fails.
     pub fn make_table(&mut self, alloc: Global) -> Result<HeadTable>
         requires { IsOrdered Item.kind self.old.list.items }
-        ensures ok { IfOk result (λ t. IsTableOf Item.kind self.old.list t) }
+        ensures ok { IfOk result (λ t. IsHeadTableOf Item.kind self.old.list t) }
         ensures memory { IsOkUnless result Error.Memory }
     {
         let count = self.count();

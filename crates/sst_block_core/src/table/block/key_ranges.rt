@@ -2,7 +2,7 @@
 ghost use Rattle.std.specs.Prelude.{◌≡◌, ◌≤◌, ◌++◌, length, IfOk};
 ghost use Rattle.std.specs.Ordering.{nat_cmp};
 ghost use Rattle.std.specs.Cmp.Lexicographic.{slice_cmp};
-ghost use Rattle.sst_block_core.specs.Found.{IsRange, IsOptionalRange, range_of, optional_range};
+ghost use Rattle.sst_block_core.specs.Found.{IsRange, IsOptionalRange, range_bytes, optional_range};
 ghost use Rattle.sst_block_core.specs.Found.{range_len};
 
 use sst_base::table::util::{SliceIndexes, compare_bytes, compare_prefixed_slice};
@@ -14,7 +14,7 @@ use std::cmp::Ordering;
 #[inline(always)]
 pub fn bytes_of<'a>(payload: &'a [u8], range: &SliceIndexes) -> &'a [u8]
     requires { IsRange payload.now range.now }
-    ensures { result.now ≡ range_of payload.now range.now }
+    ensures { result.now ≡ range_bytes payload.now range.now }
 {
     &payload[range.0..range.1]
 }
@@ -43,7 +43,7 @@ pub fn compare_ranges(
     requires rest { IsRange payload.now rest.now }
     ensures { result
         ≡ slice_cmp nat_cmp
-        (optional_range payload.now prefix.now ++ range_of payload.now rest.now) needle.now }
+        (optional_range payload.now prefix.now ++ range_bytes payload.now rest.now) needle.now }
 {
     let rest = bytes_of(payload, rest);
     match prefix {
@@ -67,7 +67,7 @@ pub fn join_ranges(
     requires prefix { IsOptionalRange payload.now prefix.now }
     requires rest { IsRange payload.now rest.now }
     ensures { IfOk result
-        (λ key. key ≡ optional_range payload.now prefix.now ++ range_of payload.now rest.now) }
+        (λ key. key ≡ optional_range payload.now prefix.now ++ range_bytes payload.now rest.now) }
 {
     match prefix {
         Some(prefix) => Slice::joined(alloc, payload.as_slice(), prefix, rest),

@@ -6,7 +6,7 @@ ghost use Rattle.sst_base.specs.Entry.{Entry, IsEntry, plain};
 ghost use Rattle.sst_block_core.specs.Body.{place_offset};
 ghost use Rattle.sst_block_core.specs.Buckets.{buckets, stored_count};
 ghost use Rattle.sst_block_core.specs.Entries.{entries};
-ghost use Rattle.sst_block_core.specs.Heads.{IsTableOf, listed_in};
+ghost use Rattle.sst_block_core.specs.Heads.{IsHeadTableOf, listed_in};
 ghost use Rattle.sst_block_core.specs.Kind.{IsOrdered};
 ghost use Rattle.sst_block_core.specs.Payload.{IsBlock};
 ghost use Rattle.sst_block_core.specs.Pointers.{head_count};
@@ -47,7 +47,7 @@ impl<'a, H: BlockHash> Model for DataBlockRef<'a, H> {
     ghost use Rattle.sst_base.specs.Entry.{Entry, IsEntry};
     ghost use Rattle.sst_block_core.specs.Entries.{entries};
     ghost use Rattle.sst_block_core.specs.Payload.{IsBlock};
-    ghost use Rattle.sst_block_core.specs.Heads.{IsTableOf, listed_in};
+    ghost use Rattle.sst_block_core.specs.Heads.{IsHeadTableOf, listed_in};
     ghost use Rattle.sst_block_core.specs.DataBlock.{DataRefParts, data_ref_of};
 
     ghost Value = { DataRefParts };
@@ -58,7 +58,7 @@ impl<'a, H: BlockHash> Model for DataBlockRef<'a, H> {
         × IsBytes d.payload.now
         × ((items : List Entry) × (r : ℕ) × (b : ℕ)
         × IsBlock entries IsEntry H.hash64 d.payload.now items r b)
-        × IfSome d.heads (λ t. IsTableOf entries (listed_in entries d.payload.now) t.now) };
+        × IfSome d.heads (λ t. IsHeadTableOf entries (listed_in entries d.payload.now) t.now) };
 }
 
 impl<'a, H: BlockHash> DataBlockRef<'a, H> {
@@ -85,7 +85,7 @@ impl<'a, H: BlockHash> DataBlockRef<'a, H> {
         requires encoding { (items : List Entry) × (r : ℕ) × (b : ℕ)
             × IsBlock entries IsEntry H.hash64 payload.now items r b }
         requires heads { IfSome heads
-            (λ t. IsTableOf entries (listed_in entries payload.now) t.now) }
+            (λ t. IsHeadTableOf entries (listed_in entries payload.now) t.now) }
         ensures { result ≡ data_ref_of payload.now (is_some heads.entry) }
     {
         DataBlockRef {
@@ -98,7 +98,7 @@ impl<'a, H: BlockHash> DataBlockRef<'a, H> {
     /// Returns the same block with a table of its heads, which the caller keeps: searches then
     /// compare numbers of the table, and examine the payload only where these are equal.
     pub fn with_table(&self, heads: &'a HeadTable) -> DataBlockRef<'a, H>
-        requires { IsTableOf entries (listed_in entries self.now.payload) heads.now }
+        requires { IsHeadTableOf entries (listed_in entries self.now.payload) heads.now }
         ensures { result ≡ record self.now { heads = true } }
     {
         DataBlockRef {
@@ -116,7 +116,7 @@ impl<'a, H: BlockHash> DataBlockRef<'a, H> {
     /// `Error::Memory` if an allocation fails.
     pub fn make_heads(&self, alloc: Global) -> Result<HeadTable>
         ensures ok { IfOk result
-            (λ t. IsTableOf entries (listed_in entries self.now.payload) t) }
+            (λ t. IsHeadTableOf entries (listed_in entries self.now.payload) t) }
         ensures memory { IsOkUnless result Error.Memory }
     {
         // The proof needs that the items are those of the payload.
@@ -128,7 +128,7 @@ impl<'a, H: BlockHash> DataBlockRef<'a, H> {
     pub fn heads(&self) -> Option<&'a HeadTable>
         ensures there { is_some result ≡ self.now.heads }
         ensures table { IfSome result
-            (λ t. IsTableOf entries (listed_in entries self.now.payload) t.now) }
+            (λ t. IsHeadTableOf entries (listed_in entries self.now.payload) t.now) }
     {
         self.heads
     }

@@ -2,7 +2,7 @@
 ghost use Rattle.std.specs.Prelude.{◌≡◌, ◌+◌, ◌-◌, ◌^◌, ◌<◌, ◌≤◌};
 ghost use Rattle.std.specs.Prelude.{length, drop, [], ◌∷◌, IfSome, IfNone, IsSome, None};
 ghost use Rattle.sst_block_core.specs.Found.{Finds, Takes, IsRange, IsOptionalRange};
-ghost use Rattle.sst_block_core.specs.Found.{optional_range, range_of, IsEncodedAt};
+ghost use Rattle.sst_block_core.specs.Found.{optional_range, range_bytes, IsEncodedAt};
 ghost use Rattle.sst_block_core.specs.Entries.{value_at, full_at, truncated_form_at};
 ghost use Rattle.sst_block_core.specs.ParsedEntry.{entry_of, truncated_of, IsKeyLength};
 ghost use Rattle.sst_block_core.specs.ParsedEntry.{IsParsedEntry};
@@ -147,7 +147,7 @@ fn full_form_from(payload: &[u8], offset: usize) -> Option<(DataBlockParsedItem,
         (full_at (drop offset payload.now)) }
     ensures found { IfSome result (λ f. IsParsedEntry payload.now f.0) }
     ensures key { IfSome result
-        (λ f. IsEncodedAt payload.now f.0.key.0 (range_of payload.now f.0.key)) }
+        (λ f. IsEncodedAt payload.now f.0.key.0 (range_bytes payload.now f.0.key)) }
     ensures prefix { IfSome result (λ f. f.0.prefix ≡ None) }
     ensures marker { IsEncodedAt payload.now offset (255 ∷ []) → result ≡ None }
 {

@@ -10,7 +10,7 @@ ghost use Rattle.sst_block_core.specs.Intervals.{digits};
 ghost use Rattle.sst_block_core.specs.Kind.{IsOrdered};
 ghost use Rattle.sst_block_core.specs.ListSteps.{scan_gives_first, scan_gives_last};
 ghost use Rattle.sst_block_core.specs.Pointers.{head_count};
-ghost use Rattle.sst_block_core.specs.Scan.{Scan, GivesNext};
+ghost use Rattle.sst_block_core.specs.Scan.{Scan, GivesScanned};
 ghost use Rattle.sst_block_core.specs.Window.{found, items_left, seek, seek_exclusive, seek_upper};
 ghost use Rattle.sst_block_core.specs.Window.{seek_upper_exclusive, whole, next, next_back};
 ghost use Rattle.sst_block_core.specs.Window.{count_passed, has_key, first_left, last_left};
@@ -42,7 +42,7 @@ pub struct IntoEntries<H: BlockHash> {
 
 impl<H: BlockHash> Model for IntoEntries<H> {
     ghost use Rattle.sst_base.specs.Entry.{Entry};
-    ghost use Rattle.sst_block_core.specs.Ends.{AreEnds, scan_over};
+    ghost use Rattle.sst_block_core.specs.Ends.{AreBlockEnds, scan_over};
     ghost use Rattle.sst_block_core.specs.Entries.{entries};
     ghost use Rattle.sst_block_core.specs.Scan.{Scan};
     ghost use Rattle.sst_block_core.specs.DataBlock.{listed_of_block};
@@ -51,7 +51,7 @@ impl<H: BlockHash> Model for IntoEntries<H> {
 
     ghost view = { λ i. scan_over (listed_of_block i.block) i.steps i.ends };
 
-    ghost invariant = { λ i. AreEnds entries (listed_of_block i.block) i.ends };
+    ghost invariant = { λ i. AreBlockEnds entries (listed_of_block i.block) i.ends };
 }
 
 impl<H: BlockHash> IntoEntries<H> {
@@ -275,7 +275,7 @@ impl<H: BlockHash> IntoEntries<H> {
 impl<H: BlockHash> Iterator for IntoEntries<H> {
     type Item = DataBlockParsedItem;
 
-    ghost next_gives = { λ s r t. GivesNext entry_of IsParsedEntry s r t };
+    ghost next_gives = { λ s r t. GivesScanned entry_of IsParsedEntry s r t };
 
     ghost remaining = { λ s. at_most (s.window.hi - s.window.lo) };
 

@@ -12,11 +12,11 @@ ghost use Rattle.sst_block_core.specs.Entries.{entries, data_payload};
 ghost use Rattle.sst_block_core.specs.Pointers.{head_count};
 ghost use Rattle.sst_block_core.specs.Buckets.{bucket_count, buckets, stored_count};
 ghost use Rattle.sst_block_core.specs.Payload.{IsBlock};
-ghost use Rattle.sst_block_core.specs.Heads.{IsTableOf, listed_in};
+ghost use Rattle.sst_block_core.specs.Heads.{IsHeadTableOf, listed_in};
 ghost use Rattle.sst_block_core.specs.Encoders.{IsRefusal, IsBlockPayload};
 ghost use Rattle.sst_block_core.specs.PointReads.{read_least, read_most};
 ghost use Rattle.sst_block_core.specs.Window.{whole, first_match};
-ghost use Rattle.sst_block_core.specs.DataBlock.{block_of, data_block_of, ref_of_block};
+ghost use Rattle.sst_block_core.specs.DataBlock.{data_inner, data_block_of, ref_of_block};
 ghost use Rattle.sst_block_core.specs.Disorder.{disorder_from};
 ghost use Rattle.sst_block_core.specs.ParsedEntry.{entry_of, IsParsedEntry};
 ghost use Rattle.sst_block_core.specs.Trailer.{trailer_in};
@@ -72,7 +72,7 @@ impl<H: BlockHash> Model for DataBlock<H> {
     ghost use Rattle.sst_block_core.specs.Entries.{entries};
     ghost use Rattle.std.specs.Prelude.{IfSome};
     ghost use Rattle.sst_block_core.specs.Payload.{IsBlock};
-    ghost use Rattle.sst_block_core.specs.Heads.{IsTableOf, listed_in};
+    ghost use Rattle.sst_block_core.specs.Heads.{IsHeadTableOf, listed_in};
     ghost use Rattle.sst_block_core.specs.DataBlock.{DataBlockParts, data_block_of};
 
     ghost Value = { DataBlockParts };
@@ -81,7 +81,7 @@ impl<H: BlockHash> Model for DataBlock<H> {
 
     ghost invariant = { λ d. ((items : List Entry) × (r : ℕ) × (b : ℕ)
         × IsBlock entries IsEntry H.hash64 d.inner.payload items r b)
-        × IfSome d.heads (λ t. IsTableOf entries (listed_in entries d.inner.payload) t.value) };
+        × IfSome d.heads (λ t. IsHeadTableOf entries (listed_in entries d.inner.payload) t.value) };
 }
 
 impl<H: BlockHash> DataBlock<H> {
@@ -227,7 +227,7 @@ impl<H: BlockHash> DataBlock<H> {
     pub fn new(block: Block) -> DataBlock<H>
         requires { (items : List Entry) × (r : ℕ) × (b : ℕ)
             × IsBlock entries IsEntry H.hash64 block.payload items r b }
-        ensures inner { block_of result ≡ block }
+        ensures inner { data_inner result ≡ block }
         ensures payload { result.payload ≡ block.payload }
         ensures parts { result ≡ data_block_of block false }
         ensures read { (items : List Entry) (r b : ℕ)
@@ -274,7 +274,7 @@ impl<H: BlockHash> DataBlock<H> {
     pub fn heads(&self) -> Option<&HeadTable>
         ensures there { is_some result ≡ self.now.heads }
         ensures table { IfSome result
-            (λ t. IsTableOf entries (listed_in entries self.now.payload) t.now) }
+            (λ t. IsHeadTableOf entries (listed_in entries self.now.payload) t.now) }
     {
         match &self.heads {
             Some(heads) => Some(&**heads),
@@ -285,7 +285,7 @@ impl<H: BlockHash> DataBlock<H> {
     // Makes the table of the block's heads, which clones of the block will share.
     fn make_shared(&self, alloc: Global) -> Result<Arc<HeadTable>>
         ensures ok { IfOk result
-            (λ t. IsTableOf entries (listed_in entries self.now.payload) t.value) }
+            (λ t. IsHeadTableOf entries (listed_in entries self.now.payload) t.value) }
         ensures memory { IsOkUnless result Error.Memory }
     {
         self.by_ref().make_heads(alloc)?.into_shared(alloc)
@@ -372,14 +372,14 @@ impl<H: BlockHash> DataBlock<H> {
 
     /// Returns the block, with its header.
     pub fn inner(&self) -> &Block
-        ensures { result.now ≡ block_of self.now }
+        ensures { result.now ≡ data_inner self.now }
     {
         &self.inner
     }
 
     /// Returns the block, with its header, by value.
     pub fn into_inner(self) -> Block
-        ensures { result ≡ block_of self }
+        ensures { result ≡ data_inner self }
     {
         self.inner
     }

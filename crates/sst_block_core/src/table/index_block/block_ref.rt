@@ -2,13 +2,13 @@
 ghost use Rattle.std.specs.Prelude.{◌≡◌, ℕ, ◌^◌, ◌<◌, ◌≤◌, List, length, None, Some};
 ghost use Rattle.std.specs.Prelude.{IfOk, IfSome, IsOkUnless, is_some, true, false};
 ghost use Rattle.sst_base.specs.Counted.{IsZero};
-ghost use Rattle.sst_block_core.specs.Heads.{IsTableOf, listed_in};
+ghost use Rattle.sst_block_core.specs.Heads.{IsHeadTableOf, listed_in};
 ghost use Rattle.sst_block_core.specs.Kind.{IsOrdered};
 ghost use Rattle.sst_block_core.specs.Trailer.{trailer_in};
 ghost use Rattle.sst_block_core.specs.Window.{whole};
 ghost use Rattle.sst_block_core.specs.Handles.{Handle, handles, IsIndexBlock};
 ghost use Rattle.sst_block_core.specs.IndexBlock.{index_ref_of};
-ghost use Rattle.sst_block_core.specs.ParsedHandle.{handle_of, IsParsedHandle};
+ghost use Rattle.sst_block_core.specs.ParsedHandle.{parsed_handle, IsParsedHandle};
 
 use crate::table::block::heads::HeadTable;
 use crate::table::block::intervals::Intervals;
@@ -36,7 +36,7 @@ pub struct IndexBlockRef<'a> {
 impl<'a> Model for IndexBlockRef<'a> {
     ghost use Rattle.std.specs.Prelude.{ℕ, List, length, ◌<◌, ◌^◌, IfSome, is_some};
     ghost use Rattle.sst_base.specs.Bytes.{IsBytes};
-    ghost use Rattle.sst_block_core.specs.Heads.{IsTableOf, listed_in};
+    ghost use Rattle.sst_block_core.specs.Heads.{IsHeadTableOf, listed_in};
     ghost use Rattle.sst_block_core.specs.Handles.{Handle, handles, IsIndexBlock};
     ghost use Rattle.sst_block_core.specs.IndexBlock.{IndexRefParts, index_ref_of};
 
@@ -47,7 +47,7 @@ impl<'a> Model for IndexBlockRef<'a> {
     ghost invariant = { λ b. (length b.payload.now < 2 ^ 32)
         × IsBytes b.payload.now
         × ((items : List Handle) × (r : ℕ) × IsIndexBlock b.payload.now items r)
-        × IfSome b.heads (λ t. IsTableOf handles (listed_in handles b.payload.now) t.now) };
+        × IfSome b.heads (λ t. IsHeadTableOf handles (listed_in handles b.payload.now) t.now) };
 }
 
 impl<'a> IndexBlockRef<'a> {
@@ -70,7 +70,7 @@ impl<'a> IndexBlockRef<'a> {
         requires fits { length payload.now < 2 ^ 32 }
         requires encoding { (items : List Handle) × (r : ℕ) × IsIndexBlock payload.now items r }
         requires heads { IfSome heads
-            (λ t. IsTableOf handles (listed_in handles payload.now) t.now) }
+            (λ t. IsHeadTableOf handles (listed_in handles payload.now) t.now) }
         ensures { result ≡ index_ref_of payload.now (is_some heads.entry) }
     {
         IndexBlockRef { payload, heads }
@@ -79,7 +79,7 @@ impl<'a> IndexBlockRef<'a> {
     /// Returns the same block with a table of its heads, which the caller keeps: seeks then compare
     /// numbers of the table, and examine the payload only where these are equal.
     pub fn with_table(&self, heads: &'a HeadTable) -> IndexBlockRef<'a>
-        requires { IsTableOf handles (listed_in handles self.now.payload) heads.now }
+        requires { IsHeadTableOf handles (listed_in handles self.now.payload) heads.now }
         ensures { result ≡ record self.now { heads = true } }
     {
         IndexBlockRef {
@@ -96,7 +96,7 @@ impl<'a> IndexBlockRef<'a> {
     /// `Error::Memory` if an allocation fails.
     pub fn make_heads(&self, alloc: Global) -> Result<HeadTable>
         ensures ok { IfOk result
-            (λ t. IsTableOf handles (listed_in handles self.now.payload) t) }
+            (λ t. IsHeadTableOf handles (listed_in handles self.now.payload) t) }
         ensures memory { IsOkUnless result Error.Memory }
     {
         // The proof needs that the items are those of the payload.
@@ -108,7 +108,7 @@ impl<'a> IndexBlockRef<'a> {
     pub fn heads(&self) -> Option<&'a HeadTable>
         ensures there { is_some result ≡ self.now.heads }
         ensures table { IfSome result
-            (λ t. IsTableOf handles (listed_in handles self.now.payload) t.now) }
+            (λ t. IsHeadTableOf handles (listed_in handles self.now.payload) t.now) }
     {
         self.heads
     }
@@ -172,7 +172,7 @@ impl<'a> IndexBlockRef<'a> {
     #[inline(always)]
     pub fn handle(&self, item: IndexBlockParsedItem) -> HandleView<'a>
         requires { IsParsedHandle self.now.payload item }
-        ensures { result ≡ handle_of self.now.payload item }
+        ensures { result ≡ parsed_handle self.now.payload item }
     {
         HandleView::new(self.payload, item)
     }

@@ -1,9 +1,9 @@
 //! Handles as items of a block: how they are decoded.
 ghost use Rattle.std.specs.Prelude.{◌≡◌, ◌≤◌, length, drop};
 ghost use Rattle.std.specs.Prelude.{[], ◌∷◌, None, IfSome, IsSome};
-ghost use Rattle.sst_block_core.specs.Found.{Finds, Takes, IsEncodedAt, range_of};
+ghost use Rattle.sst_block_core.specs.Found.{Finds, Takes, IsEncodedAt, range_bytes};
 ghost use Rattle.sst_block_core.specs.Handles.{marker_at, fields_at, full_at};
-ghost use Rattle.sst_block_core.specs.ParsedHandle.{fields_by, handle_of, IsParsedHandle};
+ghost use Rattle.sst_block_core.specs.ParsedHandle.{fields_by, parsed_handle, IsParsedHandle};
 
 use crate::table::block::Decodable;
 use crate::table::block::key_ranges::bytes_of;
@@ -90,11 +90,11 @@ pub(super) fn fields_from(payload: &[u8], at: usize) -> Option<(HandleFields, us
 #[tactic(auto, using(crate::proofs::Items::HandleReads::full_no_front, crate::proofs::Items::HandleReads::full_no_key))]
 fn full_form_from(payload: &[u8], offset: usize) -> Option<(IndexBlockParsedItem, usize)>
     requires { offset ≤ length payload.now }
-    ensures exact { Finds (handle_of payload.now) payload.now result
+    ensures exact { Finds (parsed_handle payload.now) payload.now result
         (full_at (drop offset payload.now)) }
     ensures found { IfSome result (λ f. IsParsedHandle payload.now f.0) }
     ensures key { IfSome result
-        (λ f. IsEncodedAt payload.now f.0.end_key.0 (range_of payload.now f.0.end_key)) }
+        (λ f. IsEncodedAt payload.now f.0.end_key.0 (range_bytes payload.now f.0.end_key)) }
     ensures prefix { IfSome result (λ f. f.0.prefix ≡ None) }
     ensures marker { IsEncodedAt payload.now offset (255 ∷ []) → result ≡ None }
 {

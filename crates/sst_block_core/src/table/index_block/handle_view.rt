@@ -4,7 +4,7 @@ ghost use Rattle.std.specs.Ordering.{nat_cmp};
 ghost use Rattle.std.specs.Cmp.Lexicographic.{slice_cmp};
 ghost use Rattle.std.specs.Iterator.{YieldsFirst, YieldsLast, item_count};
 ghost use Rattle.sst_block_core.specs.Window.{items_left};
-ghost use Rattle.sst_block_core.specs.ParsedHandle.{handle_of, IsParsedHandle};
+ghost use Rattle.sst_block_core.specs.ParsedHandle.{parsed_handle, IsParsedHandle};
 
 use crate::table::block::ParsedItem;
 use crate::table::block::key_ranges::bytes_of;
@@ -27,11 +27,11 @@ pub struct HandleView<'a> {
 
 impl<'a> Model for HandleView<'a> {
     ghost use Rattle.sst_block_core.specs.Handles.{Handle};
-    ghost use Rattle.sst_block_core.specs.ParsedHandle.{handle_of, IsParsedHandle};
+    ghost use Rattle.sst_block_core.specs.ParsedHandle.{parsed_handle, IsParsedHandle};
 
     ghost Value = { Handle };
 
-    ghost view = { λ h. handle_of h.payload.now h.item };
+    ghost view = { λ h. parsed_handle h.payload.now h.item };
 
     ghost invariant = { λ h. IsParsedHandle h.payload.now h.item };
 }
@@ -41,7 +41,7 @@ impl<'a> HandleView<'a> {
     #[inline(always)]
     pub(super) fn new(payload: &'a [u8], item: IndexBlockParsedItem) -> HandleView<'a>
         requires { IsParsedHandle payload.now item }
-        ensures { result ≡ handle_of payload.now item }
+        ensures { result ≡ parsed_handle payload.now item }
     {
         HandleView { payload, item }
     }

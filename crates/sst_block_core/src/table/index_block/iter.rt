@@ -9,7 +9,7 @@ ghost use Rattle.sst_block_core.specs.Intervals.{digits};
 ghost use Rattle.sst_block_core.specs.Kind.{IsOrdered};
 ghost use Rattle.sst_block_core.specs.Candidates.{GivesNextHeld, scan_cost};
 ghost use Rattle.sst_block_core.specs.ListSteps.{held_gives_first, scan_gives_last};
-ghost use Rattle.sst_block_core.specs.ParsedHandle.{handle_of, IsParsedHandle};
+ghost use Rattle.sst_block_core.specs.ParsedHandle.{parsed_handle, IsParsedHandle};
 ghost use Rattle.sst_block_core.specs.Pointers.{head_count};
 ghost use Rattle.sst_block_core.specs.Window.{found, items_left, seek_index, seek_upper_index};
 
@@ -39,7 +39,7 @@ impl<'a> Model for Iter<'a> {
     ghost use Rattle.sst_block_core.specs.Kind.{IsOrdered};
     ghost use Rattle.sst_block_core.specs.Handles.{Handle, handles};
     ghost use Rattle.sst_block_core.specs.Candidates.{IsHeldAt, listed_of};
-    ghost use Rattle.sst_block_core.specs.ParsedHandle.{handle_of, IsParsedHandle};
+    ghost use Rattle.sst_block_core.specs.ParsedHandle.{parsed_handle, IsParsedHandle};
     ghost use Rattle.sst_block_core.specs.Scan.{Scan};
 
     ghost Value = { Scan Handle };
@@ -48,7 +48,7 @@ impl<'a> Model for Iter<'a> {
 
     ghost invariant = { λ i. IsOrdered handles i.decoder.window.list
         × IfSome i.held
-        (IsHeldAt handle_of IsParsedHandle handles (listed_of i.decoder) i.decoder.window.lo) };
+        (IsHeldAt parsed_handle IsParsedHandle handles (listed_of i.decoder) i.decoder.window.lo) };
 }
 
 impl<'a> Iter<'a> {
@@ -119,7 +119,7 @@ impl<'a> Iter<'a> {
 impl<'a> Iterator for Iter<'a> {
     type Item = IndexBlockParsedItem;
 
-    ghost next_gives = { λ s r t. GivesNextHeld handle_of IsParsedHandle s r t };
+    ghost next_gives = { λ s r t. GivesNextHeld parsed_handle IsParsedHandle s r t };
 
     ghost remaining = { λ s. at_most (s.window.hi - s.window.lo) };
 
@@ -135,7 +135,7 @@ impl<'a> Iterator for Iter<'a> {
 /// Returns the last handle, if one is left. Counts an entry for a handle, and the entries of its
 /// interval where the handle is the last of its interval.
 impl<'a> DoubleEndedIterator for Iter<'a> {
-    ghost next_back_gives = { λ s r t. GivesNextBack handle_of IsParsedHandle s r t };
+    ghost next_back_gives = { λ s r t. GivesNextBack parsed_handle IsParsedHandle s r t };
 
     #[inline(always)]
     fn next_back(&mut self) -> Option<IndexBlockParsedItem> {
@@ -147,7 +147,7 @@ impl<'a> DoubleEndedIterator for Iter<'a> {
 impl<'a> ListIterator for Iter<'a> {
     type Value = KeyedBlockHandle;
 
-    ghost value_of = { λ i. handle_of i.payload };
+    ghost value_of = { λ i. parsed_handle i.payload };
 
     ghost items = { λ i. items_left i.window };
 
@@ -155,11 +155,11 @@ impl<'a> ListIterator for Iter<'a> {
 
     ghost may_next_back = { λ _. tt };
 
-    ghost gives_first = { held_gives_first handle_of IsParsedHandle };
+    ghost gives_first = { held_gives_first parsed_handle IsParsedHandle };
 
-    ghost gives_last = { scan_gives_last handle_of IsParsedHandle };
+    ghost gives_last = { scan_gives_last parsed_handle IsParsedHandle };
 
-    ghost keeps_values = { λ s r t step. ap handle_of step.payload };
+    ghost keeps_values = { λ s r t step. ap parsed_handle step.payload };
 
-    ghost keeps_values_back = { λ s r t step. ap handle_of step.payload };
+    ghost keeps_values_back = { λ s r t step. ap parsed_handle step.payload };
 }

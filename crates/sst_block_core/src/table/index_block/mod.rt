@@ -8,10 +8,10 @@ ghost use Rattle.sst_block_core.specs.Checks.{index_check};
 ghost use Rattle.sst_block_core.specs.Encoders.{IsRefusal, IsBlockPayload};
 ghost use Rattle.sst_block_core.specs.Handles.{Handle, EndFits, handles, index_payload};
 ghost use Rattle.sst_block_core.specs.Handles.{IsIndexBlock};
-ghost use Rattle.sst_block_core.specs.IndexBlock.{block_of, index_block_of, ref_of_block};
-ghost use Rattle.sst_block_core.specs.ParsedHandle.{handle_of, IsParsedHandle};
+ghost use Rattle.sst_block_core.specs.IndexBlock.{index_inner, index_block_of, ref_of_block};
+ghost use Rattle.sst_block_core.specs.ParsedHandle.{parsed_handle, IsParsedHandle};
 ghost use Rattle.sst_block_core.specs.Kind.{IsOrdered};
-ghost use Rattle.sst_block_core.specs.Heads.{IsTableOf, listed_in};
+ghost use Rattle.sst_block_core.specs.Heads.{IsHeadTableOf, listed_in};
 ghost use Rattle.sst_block_core.specs.Window.{whole};
 
 pub mod block_handle;
@@ -57,7 +57,7 @@ pub struct IndexBlock {
 impl Model for IndexBlock {
     ghost use Rattle.std.specs.Prelude.{ℕ, List};
     ghost use Rattle.std.specs.Prelude.{IfSome, is_some};
-    ghost use Rattle.sst_block_core.specs.Heads.{IsTableOf, listed_in};
+    ghost use Rattle.sst_block_core.specs.Heads.{IsHeadTableOf, listed_in};
     ghost use Rattle.sst_block_core.specs.Handles.{Handle, handles, IsIndexBlock};
     ghost use Rattle.sst_block_core.specs.IndexBlock.{IndexBlockParts, index_block_of};
 
@@ -67,7 +67,7 @@ impl Model for IndexBlock {
 
     ghost invariant = { λ b. ((items : List Handle) × (r : ℕ)
         × IsIndexBlock b.inner.payload items r)
-        × IfSome b.heads (λ t. IsTableOf handles (listed_in handles b.inner.payload) t.value) };
+        × IfSome b.heads (λ t. IsHeadTableOf handles (listed_in handles b.inner.payload) t.value) };
 }
 
 impl IndexBlock {
@@ -189,7 +189,7 @@ impl IndexBlock {
     /// of whose blocks ends below 2^64. Takes no memory.
     pub fn new(block: Block) -> IndexBlock
         requires { (items : List Handle) × (r : ℕ) × IsIndexBlock block.payload items r }
-        ensures inner { block_of result ≡ block }
+        ensures inner { index_inner result ≡ block }
         ensures payload { result.payload ≡ block.payload }
         ensures parts { result ≡ index_block_of block false }
         ensures read { (items : List Handle) (r : ℕ) → IsIndexBlock block.payload items r
@@ -228,7 +228,7 @@ impl IndexBlock {
     pub fn heads(&self) -> Option<&HeadTable>
         ensures there { is_some result ≡ self.now.heads }
         ensures table { IfSome result
-            (λ t. IsTableOf handles (listed_in handles self.now.payload) t.now) }
+            (λ t. IsHeadTableOf handles (listed_in handles self.now.payload) t.now) }
     {
         match &self.heads {
             Some(heads) => Some(&**heads),
@@ -239,7 +239,7 @@ impl IndexBlock {
     // Makes the table of the block's heads, which clones of the block will share.
     fn make_shared(&self, alloc: Global) -> Result<Arc<HeadTable>>
         ensures ok { IfOk result
-            (λ t. IsTableOf handles (listed_in handles self.now.payload) t.value) }
+            (λ t. IsHeadTableOf handles (listed_in handles self.now.payload) t.value) }
         ensures memory { IsOkUnless result Error.Memory }
     {
         self.by_ref().make_heads(alloc)?.into_shared(alloc)
@@ -314,14 +314,14 @@ impl IndexBlock {
 
     /// Returns the block, with its header.
     pub fn inner(&self) -> &Block
-        ensures { result.now ≡ block_of self.now }
+        ensures { result.now ≡ index_inner self.now }
     {
         &self.inner
     }
 
     /// Returns the block, with its header, by value.
     pub fn into_inner(self) -> Block
-        ensures { result ≡ block_of self }
+        ensures { result ≡ index_inner self }
     {
         self.inner
     }
@@ -364,7 +364,7 @@ impl IndexBlock {
     /// Returns the handle of an item that an iterator over the block gave. It borrows the block.
     pub fn handle(&self, item: IndexBlockParsedItem) -> HandleView<'_>
         requires { IsParsedHandle self.now.payload item }
-        ensures { result ≡ handle_of self.now.payload item }
+        ensures { result ≡ parsed_handle self.now.payload item }
     {
         self.by_ref().handle(item)
     }

@@ -25,9 +25,9 @@ pub struct IndexBlockParsedItem {
 }
 
 impl ParsedItem<KeyedBlockHandle> for IndexBlockParsedItem {
-    ghost use Rattle.sst_block_core.specs.ParsedHandle.{handle_of, IsParsedHandle, prefix_len};
+    ghost use Rattle.sst_block_core.specs.ParsedHandle.{parsed_handle, IsParsedHandle, prefix_len};
 
-    ghost item_of = { handle_of };
+    ghost item_of = { parsed_handle };
 
     ghost is_found = { IsParsedHandle };
 

@@ -2,7 +2,7 @@ use Rattle.std.proofs.Common.{◌≡◌, ◌∷◌, [], ◌++◌, Some, length, 
 use Rattle.std.proofs.lemmas.List.{length-map, map-append}
 use Rattle.std.proofs.lemmas.Bool.Decides.{nat_tests}
 use Rattle.std.proofs.lemmas.Grind.{common_steps}
-use Rattle.sst_block_core.specs.Body.{form}
+use Rattle.sst_block_core.specs.Body.{item_form}
 use Rattle.sst_block_core.specs.Entries.{entries}
 use Rattle.sst_merge.specs.SizeLaws.{below_more, len_more}
 use Rattle.sst_merge.specs.SourceLaws.{same_end}
@@ -26,7 +26,7 @@ loop-alloc-preserved g c =
       taken = subst (λ xs. IsTaken c.args.source.now.list xs c.take.new.self.list) (sym more) (taken_both c.args.source.now.list c.loop-alloc.source.list c.take.new.self.list block (e ∷ []) before.taken first.0);
       most = (let l = ap length more in let n = length-append block (e ∷ []) in omega (arith, first.1, before.most, l, n));
       len = len_more r c.requires.interval entries_before (map entry c.push.new.self.items) (entry e) c.loop-alloc.len c.form_len.result c.saturating_add-len.result grown before.len
-          (subst (λ n. c.form_len.result ≡ length (form entries r (entries_before ++ entry e ∷ []) n (entry e))) (sym (length-map block entry)) (subst (λ xs. c.form_len.result ≡ length (form entries r (map entry xs ++ entry e ∷ []) (length xs) (entry e))) c.deref.ensures.value c.form_len.ensures.value)) c.saturating_add-len.ensures;
+          (subst (λ n. c.form_len.result ≡ length (item_form entries r (entries_before ++ entry e ∷ []) n (entry e))) (sym (length-map block entry)) (subst (λ xs. c.form_len.result ≡ length (item_form entries r (map entry xs ++ entry e ∷ []) (length xs) (entry e))) c.deref.ensures.value c.form_len.ensures.value)) c.saturating_add-len.ensures;
       below = below_more r c.args.size entries_before (map entry c.push.new.self.items) (entry e) c.loop-alloc.len c.ranges.size.fits grown before.len before.below (elim c.if-is_empty.branch [
         | then-is_empty w ↦ inl (length-map block entry ∙ grind (arith, common_steps, nat_tests, w.if-is_empty.ensures))
         | else-is_empty+then-len-size w ↦ inr w.if-len-size.true

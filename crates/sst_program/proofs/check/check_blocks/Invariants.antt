@@ -1,6 +1,6 @@
 use Rattle.std.proofs.Common.{◌≡◌, ◌≤◌, IfSome}
 use Rattle.sst_block_core.specs.Window.{items_left}
-use Rattle.sst_program.specs.TableReads.{blocks_read}
+use Rattle.sst_program.specs.TableReads.{blocks_listed}
 use Rattle.sst_program.proofs.TableReads.{CountsTo}
 use Rattle.sst_program.proofs.check.check_blocks.Given as goal
 
@@ -9,5 +9,5 @@ invariant-loop-item g l = record {
   same : g.S.FrameSource.bytes l.source ≡ g.S.FrameSource.bytes l.initial.source;
   failures_grow : g.S.FrameSource.failures l.initial.source ≤ g.S.FrameSource.failures l.source;
   kept : g.S.FrameSource.is_reliable l.initial.source → g.S.FrameSource.is_reliable l.source;
-  known : IfSome (g.S.FrameSource.bytes l.initial.source) (λ all. CountsTo (blocks_read all l.index.items) (blocks_read all (items_left l.item-iterator.window)) l.entries);
+  known : IfSome (g.S.FrameSource.bytes l.initial.source) (λ all. CountsTo (blocks_listed all l.index.items) (blocks_listed all (items_left l.item-iterator.window)) l.entries);
 }

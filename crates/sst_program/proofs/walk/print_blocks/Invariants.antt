@@ -1,7 +1,7 @@
 use Rattle.std.proofs.Common.{◌≡◌, ◌≤◌, IfSome}
 use Rattle.sst_block_core.specs.Window.{items_left}
 use Rattle.sst_program.specs.Outcome.{PrintsLines}
-use Rattle.sst_program.specs.TableReads.{blocks_read}
+use Rattle.sst_program.specs.TableReads.{blocks_listed}
 use Rattle.sst_program.proofs.TableReads.{PrintsTo}
 use Rattle.sst_program.proofs.walk.print_blocks.Given as goal
 
@@ -12,5 +12,5 @@ invariant-loop-item g l = record {
   kept : g.S.FrameSource.is_reliable l.initial.source → g.S.FrameSource.is_reliable l.source;
   lines : PrintsLines (g.O.Write.contents l.initial.output) (g.O.Write.contents l.output);
   known : IfSome (g.S.FrameSource.bytes l.initial.source) (λ all. PrintsTo (g.O.Write.contents l.initial.output) (g.O.Write.contents l.output)
-      (blocks_read all l.index.items) (blocks_read all (items_left l.item-iterator.window)));
+      (blocks_listed all l.index.items) (blocks_listed all (items_left l.item-iterator.window)));
 }

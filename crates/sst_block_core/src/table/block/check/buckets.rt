@@ -1,7 +1,7 @@
 //! The check of the items of a payload and of its hash index, in one pass.
 ghost use Rattle.std.specs.Prelude.{OnOk, IfErr};
 ghost use Rattle.std.specs.List.{AllByRecursion};
-ghost use Rattle.sst_block_core.specs.Passes.{trailer_by, IsRefusal};
+ghost use Rattle.sst_block_core.specs.Passes.{trailer_by, IsPassRefusal};
 ghost use Rattle.sst_block_core.specs.Stages.{HasParts, HasForms, HasOrder, HasPointers};
 ghost use Rattle.sst_block_core.specs.Stages.{HasBuckets, items_by};
 
@@ -35,7 +35,7 @@ pub fn check_items_and_buckets<
     ensures pointers { OnOk result (HasPointers Item.kind (trailer_by t.now) payload.now) }
     ensures buckets { OnOk result (HasBuckets Item.kind H.hash64 (trailer_by t.now) payload.now) }
     ensures refused { IfErr result
-        (IsRefusal Item.kind Item.fits Item.unfit H.hash64 (trailer_by t.now) payload.now) }
+        (IsPassRefusal Item.kind Item.fits Item.unfit H.hash64 (trailer_by t.now) payload.now) }
 {
     if t.hash_len == 0 {
         return check_items::<Item, Parsed>(payload, t);

@@ -2,7 +2,7 @@
 ghost use Rattle.std.specs.Prelude.{◌≡◌, ◌↔◌, ℕ, ◌-◌, ◌≤◌, List, length};
 ghost use Rattle.std.specs.Prelude.{drop, IfSome, IsTrue};
 ghost use Rattle.sst_base.specs.declared.error.Error.{Error};
-ghost use Rattle.sst_block_core.specs.Found.{Finds, IsRange, range_of};
+ghost use Rattle.sst_block_core.specs.Found.{Finds, IsRange, range_bytes};
 ghost use Rattle.sst_block_core.specs.KeyRanges.{key_by, IsKeyRanges};
 
 pub mod buckets;
@@ -50,6 +50,6 @@ pub trait Checkable<Parsed: ParsedItem<Self>>: Decodable<Parsed> {
         requires inside { offset ≤ length payload.now }
         requires base { IsRange payload.now base.now }
         ensures exact { Finds (Parsed.item_of payload.now) payload.now result
-            (Self.kind.truncated_at (range_of payload.now base.now) (drop offset payload.now)) }
+            (Self.kind.truncated_at (range_bytes payload.now base.now) (drop offset payload.now)) }
         ensures found { IfSome result (λ f. Parsed.is_found payload.now f.0) };
 }

@@ -5,7 +5,7 @@ ghost use Rattle.std.specs.Prelude.{IfSome, OnSome, IsTrue, MatchOption, slice_i
 ghost use Rattle.std.specs.Prelude.{nat_le, if◌then◌else◌};
 ghost use Rattle.std.specs.List.{AllByRecursion};
 ghost use Rattle.sst_block_core.specs.Body.{items_at};
-ghost use Rattle.sst_block_core.specs.Found.{IsRange, range_of};
+ghost use Rattle.sst_block_core.specs.Found.{IsRange, range_bytes};
 ghost use Rattle.sst_block_core.specs.KeyRanges.{IsKeyRanges, IsVersion};
 ghost use Rattle.sst_block_core.specs.Passes.{HasNoHead, IsAlong, GoesOn, IsPassed, IsFound};
 ghost use Rattle.sst_block_core.specs.Passes.{trailer_by, IsItemsRefusal};
@@ -40,7 +40,7 @@ fn head_version_of<Item: Checkable<Parsed>, Parsed: ParsedItem<Item>>(item: &Par
         → Parsed.shared_len item.now ≡ 0
         → IsVersion Item.kind payload (Parsed.item_of payload item.now) result }
     ensures prefix { (payload : List ℕ) → Parsed.shared_len item.now ≡ 0
-        → Item.kind.key (Parsed.item_of payload item.now) ≡ range_of payload result.key.prefix }
+        → Item.kind.key (Parsed.item_of payload item.now) ≡ range_bytes payload result.key.prefix }
 {
     let key = Item::key_ranges(item).rest;
     KeyVersion {

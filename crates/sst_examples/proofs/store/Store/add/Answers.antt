@@ -5,7 +5,7 @@ use Rattle.sst_merge.specs.Merge.{entry_cmp, merge}
 use Rattle.sst_merge.specs.Snapshot.{seen}
 use Rattle.sst_examples.proofs.Levels.{version_added}
 use Rattle.sst_examples.proofs.store.Store.add.Goals as goal
-use Rattle.sst_examples.specs.Levels.{IsWritten, levels, version}
+use Rattle.sst_examples.specs.Levels.{IsVersionWritten, levels, version}
 use Rattle.sst_examples.specs.Tables.{merged_tables}
 
 -- a version that was inserted at its place was merged into the list
@@ -29,4 +29,4 @@ returns-clause-written c =
     let is = inserted old.memory.items c.deref.result.now c.insert.new.self.items c.place_of-at.result c.from_components-entry.result made
     c.in_ok-insert.ensures.items c.place_of-at.ensures.place c.deref.ensures.value c.from_components-entry.ensures in
     let added = version_added old.memory.items tables old.next old.snapshots.items c.self.invariant c.args.key c.args.value c.args.value_type c.requires.plain c.insert.new.self.items c.in-Some.next is c.in-Some.ensures.1 in
-    subst (λ s. IsWritten s (levels c.insert.new.self.items tables c.in-Some.next old.snapshots.items) c.args.key (seen (Some (version c.args.key s.next c.args.value_type c.args.value)))) c.self.view_is added.written
+    subst (λ s. IsVersionWritten s (levels c.insert.new.self.items tables c.in-Some.next old.snapshots.items) c.args.key (seen (Some (version c.args.key s.next c.args.value_type c.args.value)))) c.self.view_is added.written

@@ -7,11 +7,11 @@ use Rattle.sst_merge.specs.Sources.{Left, before, left_as}
 use Rattle.sst_examples.proofs.Levels.{compacted_left, compacted_same, level_compacted}
 use Rattle.sst_examples.proofs.store.Store.compact.Goals as goal
 use Rattle.sst_examples.specs.Levels.{AreLevels, Levels, levels, or_none, read}
-use Rattle.sst_examples.specs.Tables.{IsTableOf, MemoryTable, merged_tables}
+use Rattle.sst_examples.specs.Tables.{HoldsEntries, MemoryTable, merged_tables}
 
 -- the table has what the compaction of the tables' merge leaves
 written : (snapshots : List ℕ) (tables lent : List MemoryTable) (merged source : Left Entry) (table : Option MemoryTable) → merged.list ≡ merged_tables lent → lent ≡ tables → source ≡ left_as (compacted (λ (e : Entry). e) snapshots (λ _. true)) None merged
-    → ((items : List Entry) → source.list ≡ Some items → IsTableOf table (map plain items)) → (older : List Entry) → merged_tables tables ≡ Some older → IsTableOf table (map plain (compacted (λ (e : Entry). e) snapshots (λ _. true) older))
+    → ((items : List Entry) → source.list ≡ Some items → HoldsEntries table (map plain items)) → (older : List Entry) → merged_tables tables ≡ Some older → HoldsEntries table (map plain (compacted (λ (e : Entry). e) snapshots (λ _. true) older))
 written snapshots tables lent merged source table is same compacts of older known =
     let left = compacted (λ (e : Entry). e) snapshots (λ _. true) in
     of (left older) (ap (λ (s : Left Entry). s.list) compacts ∙ ap (option_map left) (is ∙ ap merged_tables same ∙ known))
@@ -24,7 +24,7 @@ same_reads : (c : goal.After-drop-self-inside) → c.in_ok-snapshots.snapshots.i
 same_reads c = c.in_ok-snapshots.ensures ∙ sym (ap (λ (s : Levels). s.snapshots ++ s.next ∷ []) c.self.view_is)
 
 abbrev IsLeft : goal.After-drop-self-inside → Type 0
-IsLeft c = (older : List Entry) → merged_tables c.self.inside.tables.items ≡ Some older → IsTableOf c.in_ok-table.table (map plain (compacted (λ (e : Entry). e) (reads_at c) (λ _. true) older))
+IsLeft c = (older : List Entry) → merged_tables c.self.inside.tables.items ≡ Some older → HoldsEntries c.in_ok-table.table (map plain (compacted (λ (e : Entry). e) (reads_at c) (λ _. true) older))
 
 left : (c : goal.After-drop-self-inside) → IsLeft c
 left c = written (reads_at c) c.self.inside.tables.items c.deref.result.now c.in_ok-merged.merged c.new.result c.in_ok-table.table c.in_ok-merged.ensures c.deref.ensures.value (c.new.ensures ∙ ap (λ l. left_as (compacted (λ (e : Entry). e) l (λ _. true)) None c.in_ok-merged.merged) (same_reads c)) (λ items known. c.in_ok-table.ensures items (entries_themselves c.new.result.list ∙ known))

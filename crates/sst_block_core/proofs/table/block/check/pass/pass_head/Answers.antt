@@ -1,7 +1,7 @@
 use Rattle.std.proofs.Common.{ℕ, ◌≡◌, ◌<◌, [], None, length, get_or, arith, sym, ap, ◌∙◌, refl, rules}
 use Rattle.std.proofs.lemmas.List.{length_push}
 use Rattle.sst_block_core.specs.Body.{items_at}
-use Rattle.sst_block_core.specs.Found.{range_of}
+use Rattle.sst_block_core.specs.Found.{range_bytes}
 use Rattle.sst_block_core.proofs.Check.ItemReads.{read_head, stop_head}
 use Rattle.sst_block_core.proofs.Check.PassSteps.{along_head, head_place}
 use Rattle.sst_block_core.proofs.table.block.check.pass.pass_head.Goals as goal
@@ -28,7 +28,7 @@ returns-clause-exact g c = λ r xs base pos place k.
     let head = c.head_version_of-version in
     let version = head.ensures.version body e.found e.shared in
     let p = head_place r c.args.number (length xs) pos place in
-    let read = read_head kind r body xs (length xs) c.args.from.now.offset _ k.read item c.in_ok-item.offset (range_of body head.result.key.prefix) p.0 e.exact.0 e.exact.1
+    let read = read_head kind r body xs (length xs) c.args.from.now.offset _ k.read item c.in_ok-item.offset (range_bytes body head.result.key.prefix) p.0 e.exact.0 e.exact.1
     (sym (head.ensures.prefix body e.shared)) in
     let here = c.is_pointed.ensures in
     record {

@@ -1,6 +1,6 @@
 use Rattle.std.proofs.Common.{◌≡◌, ◌+◌, [], length, drop, Some, None, refl, arith, rules, sym, ap, ◌∙◌, subst}
 use Rattle.sst_block_core.specs.Body.{items_at}
-use Rattle.sst_block_core.specs.Passes.{last_of, HasNoHead}
+use Rattle.sst_block_core.specs.Passes.{last_passed, HasNoHead}
 use Rattle.sst_block_core.proofs.Check.PassSteps.{along_none, head_place, no_heads, last_ranges, not_filled, read_whole, read_to_end}
 use Rattle.sst_block_core.proofs.table.block.check.pass.pass_over.Goals as goal
 
@@ -33,7 +33,7 @@ pass_head-requires-clause-inside g c = c.loop-place.invariant.goes.1.along.read.
 pub pass_head-requires-clause-last : goal.pass_head-requires-clause-last
 pass_head-requires-clause-last g c =
     let k = c.loop-place.invariant.goes.1 in
-    last_ranges g.Item.BlockItem.kind c.args.body.now c.loop-place.at.last (last_of k.items) k.along.last_is
+    last_ranges g.Item.BlockItem.kind c.args.body.now c.loop-place.at.last (last_passed k.items) k.along.last_is
 
 pub pass_rest-requires-clause-base : goal.pass_rest-requires-clause-base
 pass_rest-requires-clause-base g c = c.in_ok-base.ensures.base
@@ -48,7 +48,7 @@ pub pass_rest-requires-clause-last : goal.pass_rest-requires-clause-last
 pass_rest-requires-clause-last g c =
     let goes = c.loop-place.invariant.goes in
     let head = c.in_ok-base.ensures.exact c.args.restart_interval goes.1.items goes.0 c.requires.some (goes.1.count ∙ c.loop-place.invariant.row c.loop-place-test.true) goes.1.along in
-    last_ranges g.Item.BlockItem.kind c.args.body.now c.in_ok-base.head.last (last_of head.items) head.along.last_is
+    last_ranges g.Item.BlockItem.kind c.args.body.now c.in_ok-base.head.last (last_passed head.items) head.along.last_is
 
 pub loop-place-preserved : goal.loop-place-preserved
 loop-place-preserved g c =

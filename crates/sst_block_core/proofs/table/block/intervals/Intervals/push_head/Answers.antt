@@ -1,5 +1,5 @@
 use Rattle.std.proofs.Common.{◌≡◌, ◌∙◌, ◌+◌, ap, sym, subst, slice_get, arith}
-use Rattle.sst_block_core.specs.Heads.{IsNextHead, IsTableUpto}
+use Rattle.sst_block_core.specs.Heads.{IsNextHead, IsHeadTableUpto}
 use Rattle.sst_block_core.specs.Intervals.{IntervalsParts}
 use Rattle.sst_block_core.proofs.Search.Cuts.{some_some}
 use Rattle.sst_block_core.proofs.Places.PlaceReads.{head_item, head_is_there}
@@ -42,5 +42,5 @@ returns-clause-table g c =
     let ordered = rw (← c.self.view_is) at c.requires.ordered in
     let upto = rw (← c.self.view_is) at c.requires.table in
     let pushed = c.push_head.ensures.pushed item.0 item.1 item.2 in
-    let P : IntervalsParts g.row.Item.Denot → Type 0 = λ i. IsTableUpto kind i.list (c.args.j + 1) c.push_head.new.table in
+    let P : IntervalsParts g.row.Item.Denot → Type 0 = λ i. IsHeadTableUpto kind i.list (c.args.j + 1) c.push_head.new.table in
     subst P c.self.view_is (upto_more kind _ pos ordered c.args.j c.args.table.now upto item.0 there h pushed.0 c.push_head.new.table pushed.1 c.push_head.ensures.table (record { key = pushed.2; seqno = pushed.3; offset = pushed.4 ∙ o }))

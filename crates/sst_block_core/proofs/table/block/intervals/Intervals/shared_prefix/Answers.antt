@@ -1,6 +1,6 @@
 use Rattle.std.proofs.Common.{◌≡◌, ◌∙◌, ◌-◌, ◌*◌, slice_get, ap, sym, subst, arith}
 use Rattle.sst_block_core.specs.Heads.{HeadsBegin}
-use Rattle.sst_block_core.specs.Found.{range_of}
+use Rattle.sst_block_core.specs.Found.{range_bytes}
 use Rattle.sst_block_core.specs.Intervals.{IntervalsParts}
 use Rattle.sst_block_core.specs.Scan.{Listed}
 use Rattle.sst_block_core.specs.Stages.{items_in}
@@ -42,5 +42,5 @@ returns-clause-begins g c =
     let zero : c.start-first.result.index ≡ 0 = omega (arith, p) in
     let at_first = ap (slice_get list.items) (sym zero) ∙ first.3 in
     let at_last = ap (slice_get list.items) (ap (λ n. (n - 1) * c.self.inside.restart_interval) (sym value) ∙ sym q) ∙ last.3 in
-    let P : IntervalsParts g.row.Item.Denot → Type 0 = λ i. HeadsBegin kind i.list (range_of i.list.payload c.shared_prefix.result) in
-    subst P c.self.view_is (all_begin kind list listed.interval_some some ordered (range_of list.payload c.shared_prefix.result) first.0 last.0 at_first at_last (c.shared_prefix.ensures.first first.0 first.1 first.2) (c.shared_prefix.ensures.last last.0 last.1 last.2))
+    let P : IntervalsParts g.row.Item.Denot → Type 0 = λ i. HeadsBegin kind i.list (range_bytes i.list.payload c.shared_prefix.result) in
+    subst P c.self.view_is (all_begin kind list listed.interval_some some ordered (range_bytes list.payload c.shared_prefix.result) first.0 last.0 at_first at_last (c.shared_prefix.ensures.first first.0 first.1 first.2) (c.shared_prefix.ensures.last last.0 last.1 last.2))

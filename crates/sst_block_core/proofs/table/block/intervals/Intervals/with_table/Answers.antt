@@ -1,5 +1,5 @@
 use Rattle.std.proofs.Common.{◌∙◌, ap, refl, sym, subst, IfSome}
-use Rattle.sst_block_core.specs.Heads.{IsTableOf}
+use Rattle.sst_block_core.specs.Heads.{IsHeadTableOf}
 use Rattle.sst_block_core.specs.Scan.{Listed}
 use Rattle.sst_block_core.specs.Stages.{items_in}
 use Rattle.sst_block_core.specs.Trailer.{trailer_in}
@@ -34,6 +34,6 @@ invariant_of-result g c =
           read (c.width.ensures ∙ ap (λ p. (trailer_in p).width) t) (c.heads.ensures ∙ ap (λ p. (trailer_in p).heads) t) (c.index_offset.ensures ∙ ap (λ p. (trailer_in p).index_offset) t)
           c.requires.fits c.requires.encoding c.interval.result c.item_count.result c.new-2.result
           (c.interval.ensures ∙ ap (λ p. (trailer_in p).interval) t) (c.item_count.ensures ∙ ap (λ p. (trailer_in p).item_count) t) (rw read c.new-2.ensures),
-      subst (λ (l : Listed g.row.Item.Denot). IfSome c.args.table (λ t. IsTableOf g.Item.BlockItem.kind l t.now))
+      subst (λ (l : Listed g.row.Item.Denot). IfSome c.args.table (λ t. IsHeadTableOf g.Item.BlockItem.kind l t.now))
           (sym (λ i. record { payload = read i; interval = (c.interval.ensures ∙ ap (λ p. (trailer_in p).interval) t) i; items = items_in g.Item.BlockItem.kind (read i) })) c.requires.table,
     )

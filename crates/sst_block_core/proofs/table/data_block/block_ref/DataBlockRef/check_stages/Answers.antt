@@ -3,7 +3,7 @@ use Rattle.sst_base.specs.declared.error.Error.TheVariants.{BadEntry}
 use Rattle.sst_block_core.specs.Entries.{entries}
 use Rattle.sst_block_core.specs.Stages.{HasForms, HasOrder, HasPointers, HasBuckets}
 use Rattle.sst_block_core.specs.Trailer.{Trailer}
-use Rattle.sst_block_core.specs.Passes.{trailer_by, IsRefusal}
+use Rattle.sst_block_core.specs.Passes.{trailer_by, IsPassRefusal}
 use Rattle.sst_block_core.proofs.Items.CheckRefusals.{Any, moved, data_parts, data_refused, data_passes, data_passed, data_block, items_counted}
 use Rattle.sst_block_core.proofs.table.data_block.block_ref.DataBlockRef.check_stages.Goals as goal
 
@@ -20,7 +20,7 @@ returns-in_err-check_items_and_buckets-clause-refused g c =
     let same = refl in
     let e = c.in_err-check_items_and_buckets.field-0.0 in
     let r = data_refused hash p n.long n.parts e
-    (moved (trailer_by c.in_ok-numbers.numbers) p _ n.trailer same (λ s x. IsRefusal entries Any BadEntry hash s x e) c.in_err-check_items_and_buckets.ensures.refused) in
+    (moved (trailer_by c.in_ok-numbers.numbers) p _ n.trailer same (λ s x. IsPassRefusal entries Any BadEntry hash s x e) c.in_err-check_items_and_buckets.ensures.refused) in
     search (rules, r)
 
 pub returns-clause-checked : goal.returns-clause-checked

@@ -1,14 +1,14 @@
 use Rattle.std.proofs.Common.{◌∙◌, ap, refl, sym, length, drop, Some, arith, rules}
 use Rattle.sst_base.specs.declared.table.util.SliceIndexes.{SliceIndexes}
 use Rattle.sst_base.specs.BytesLaws.{length_part}
-use Rattle.sst_block_core.specs.Found.{range_of}
+use Rattle.sst_block_core.specs.Found.{range_bytes}
 use Rattle.sst_block_core.specs.ParsedEntry.{entry_of}
 use Rattle.sst_block_core.proofs.Items.ExactEntries.{no_form, not_longest, not_key, found_exactly}
 use Rattle.sst_block_core.proofs.table.data_block.checking.InternalValueCheckableDataBlockParsedItem.parse_exactly.Goals as goal
 
 pub returns-in_err-form-clause-exact : goal.returns-in_err-form-clause-exact
 returns-in_err-form-clause-exact c =
-    let n = no_form (range_of c.args.payload.now c.args.base.now) (drop c.args.offset c.args.payload.now) c.in_err-form.ensures.exact in
+    let n = no_form (range_bytes c.args.payload.now c.args.base.now) (drop c.args.offset c.args.payload.now) c.in_err-form.ensures.exact in
     search (rules, n)
 
 pub returns-then-not-is_greatest-clause-exact : goal.returns-then-not-is_greatest-clause-exact

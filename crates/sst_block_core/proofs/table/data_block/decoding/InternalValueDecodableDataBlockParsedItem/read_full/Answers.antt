@@ -1,5 +1,5 @@
 use Rattle.std.proofs.Common.{◌++◌, sym, subst, drop, arith}
-use Rattle.sst_block_core.specs.Found.{IsOptionalRange, IsEncodedAt, optional_range, range_of}
+use Rattle.sst_block_core.specs.Found.{IsOptionalRange, IsEncodedAt, optional_range, range_bytes}
 use Rattle.sst_block_core.specs.ParsedEntry.{entry_of}
 use Rattle.sst_block_core.specs.FoundLaws.{range_encoded}
 use Rattle.sst_block_core.proofs.Items.EncodedForms.{full_fits}
@@ -21,4 +21,4 @@ returns-clause-key c =
     let p = c.args.payload.now in
     let item = c.read_full_form.result.0 in
     let k = c.read_full_form.ensures.key in
-    subst (λ o. IsEncodedAt p item.key.0 (optional_range p o ++ range_of p item.key)) (sym c.read_full_form.ensures.prefix) (range_encoded p item.key k.order k.inside)
+    subst (λ o. IsEncodedAt p item.key.0 (optional_range p o ++ range_bytes p item.key)) (sym c.read_full_form.ensures.prefix) (range_encoded p item.key k.order k.inside)

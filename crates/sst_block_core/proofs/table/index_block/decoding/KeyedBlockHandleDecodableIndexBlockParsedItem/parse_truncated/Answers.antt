@@ -2,8 +2,8 @@ use Rattle.std.proofs.Common.{◌≡◌, ◌∙◌, ◌++◌, take, drop, sym, a
 use Rattle.sst_base.specs.SharedPrefix.{shared_prefix_length}
 use Rattle.sst_base.specs.declared.table.util.SliceIndexes.{SliceIndexes}
 use Rattle.sst_block_core.specs.Handles.{handle_with, truncated_at}
-use Rattle.sst_block_core.specs.Found.{range_len, range_of}
-use Rattle.sst_block_core.specs.ParsedHandle.{handle_of, fields_by}
+use Rattle.sst_block_core.specs.Found.{range_len, range_bytes}
+use Rattle.sst_block_core.specs.ParsedHandle.{parsed_handle, fields_by}
 use Rattle.sst_block_core.specs.declared.table.index_block.parsed_item.IndexBlockParsedItem.{IndexBlockParsedItem}
 use Rattle.sst_block_core.proofs.Items.EntryReads.{no_reading}
 use Rattle.sst_block_core.proofs.Items.HandleReads.{truncated_no_front, truncated_no_shared, truncated_no_rest, truncated_found, truncated_read, marker_ends}
@@ -38,7 +38,7 @@ returns-clause-item c = λ base encoded x rest e.
     let f = truncated_found p (drop c.args.offset p) base c.args.base_key_offset c.in_ok-key.end c.in_ok-shared.shared fields _ _ c.in_ok-key.key
     encoded c.in_ok-key.ensures.range c.in_ok-fields.ensures.1 c.in_ok-shared.ensures.exact.1 c.in_ok-key.ensures.exact.1 x rest e in (
       c.in_ok-key.ensures.exact.0,
-      ap (handle_of p) c.with_key.ensures ∙ ap (λ (q : SliceIndexes). handle_with fields (range_of p q ++ range_of p c.in_ok-key.key)) c.in_ok-prefix.ensures.found.0 ∙ f.2,
+      ap (parsed_handle p) c.with_key.ensures ∙ ap (λ (q : SliceIndexes). handle_with fields (range_bytes p q ++ range_bytes p c.in_ok-key.key)) c.in_ok-prefix.ensures.found.0 ∙ f.2,
       f.3,
     )
 
@@ -46,8 +46,8 @@ pub returns-clause-read : goal.returns-clause-read
 returns-clause-read c = λ base encoded.
     let p = c.args.payload.now in
     let bytes = drop c.args.offset p in
-    let P : IndexBlockParsedItem → Type 0 = λ q. range_len q.prefix ≡ shared_prefix_length base (handle_of p q).end_key
-    → ◌≡◌ (truncated_at base bytes) (Some (handle_of p q, drop c.in_ok-key.end p)) in
+    let P : IndexBlockParsedItem → Type 0 = λ q. range_len q.prefix ≡ shared_prefix_length base (parsed_handle p q).end_key
+    → ◌≡◌ (truncated_at base bytes) (Some (parsed_handle p q, drop c.in_ok-key.end p)) in
     subst P (sym c.with_key.ensures) (truncated_read p bytes base c.args.base_key_offset c.in_ok-key.end c.in_ok-shared.shared (fields_by c.in_ok-fields.fields) _ _ c.in_ok-key.key
     encoded c.in_ok-key.ensures.range c.in_ok-fields.ensures.1 c.in_ok-shared.ensures.exact.1 c.in_ok-key.ensures.exact.1 c.in_ok-prefix.prefix c.in_ok-prefix.ensures.found.0 c.in_ok-prefix.ensures.found.2)
 
@@ -62,7 +62,7 @@ returns-clause-encoded c =
     let base = c.args.base_key_offset in
     let n = c.in_ok-shared.shared in
     let prefix = c.in_ok-prefix.prefix in
-    let key = range_of p c.in_ok-key.key in
-    let P : IndexBlockParsedItem → Type 0 = λ q. ◌≡◌ (truncated_at (take (range_len q.prefix) (drop base p)) bytes) (Some (handle_of p q, drop c.in_ok-key.end p)) in
+    let key = range_bytes p c.in_ok-key.key in
+    let P : IndexBlockParsedItem → Type 0 = λ q. ◌≡◌ (truncated_at (take (range_len q.prefix) (drop base p)) bytes) (Some (parsed_handle p q, drop c.in_ok-key.end p)) in
     subst P (sym c.with_key.ensures) (truncated_read p bytes (own_base p base n prefix found.0 found.1) base c.in_ok-key.end n (fields_by c.in_ok-fields.fields) _ _ c.in_ok-key.key
     (own_encoded p base n prefix found.0 found.1) c.in_ok-key.ensures.range c.in_ok-fields.ensures.1 c.in_ok-shared.ensures.exact.1 c.in_ok-key.ensures.exact.1 prefix found.0 found.2 (own_longest p base n prefix found.0 found.1 key))

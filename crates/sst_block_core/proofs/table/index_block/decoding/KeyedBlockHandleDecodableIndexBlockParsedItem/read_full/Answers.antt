@@ -1,6 +1,6 @@
 use Rattle.std.proofs.Common.{◌∙◌, drop, sym, ap, subst, Some, arith}
 use Rattle.sst_block_core.specs.Found.{IsEncodedAt}
-use Rattle.sst_block_core.specs.ParsedHandle.{handle_of, fields_by, IsParsedHandle}
+use Rattle.sst_block_core.specs.ParsedHandle.{parsed_handle, fields_by, IsParsedHandle}
 use Rattle.sst_block_core.specs.declared.table.index_block.parsed_item.IndexBlockParsedItem.{IndexBlockParsedItem}
 use Rattle.sst_block_core.specs.FoundLaws.{range_encoded}
 use Rattle.sst_block_core.proofs.Items.HandleReads.{full_front, full_key, full_whole, full_fits}
@@ -16,7 +16,7 @@ pub returns-clause-exact : goal.returns-clause-exact
 returns-clause-exact c = (
   c.read_length_prefixed-end.ensures.exact.0,
   full_whole (drop c.args.offset c.args.payload.now) (fields_by c.read_fields-at.result.0) _ c.read_fields-at.ensures.1 _ _ c.read_length_prefixed-end.ensures.exact.1
-      ∙ ap (λ p. Some (handle_of c.args.payload.now p, drop c.read_length_prefixed-end.result.1 c.args.payload.now)) (sym c.with_key.ensures),
+      ∙ ap (λ p. Some (parsed_handle c.args.payload.now p, drop c.read_length_prefixed-end.result.1 c.args.payload.now)) (sym c.with_key.ensures),
 )
 
 pub returns-clause-found : goal.returns-clause-found
@@ -32,5 +32,5 @@ returns-clause-found c =
 pub returns-clause-key : goal.returns-clause-key
 returns-clause-key c =
     let k = c.read_length_prefixed-end.ensures.range in
-    let P : IndexBlockParsedItem → Type 0 = λ p. IsEncodedAt c.args.payload.now p.end_key.0 (handle_of c.args.payload.now p).end_key in
+    let P : IndexBlockParsedItem → Type 0 = λ p. IsEncodedAt c.args.payload.now p.end_key.0 (parsed_handle c.args.payload.now p).end_key in
     subst P (sym c.with_key.ensures) (range_encoded c.args.payload.now c.read_length_prefixed-end.result.0 k.order k.inside)

@@ -1,7 +1,7 @@
 use Rattle.std.proofs.Common.{◌∙◌, drop, sym, ap, subst, arith}
 use Rattle.sst_block_core.specs.Handles.{IsHandle, truncated_at}
 use Rattle.sst_block_core.specs.Found.{range_len}
-use Rattle.sst_block_core.specs.ParsedHandle.{handle_of, fields_by, IsParsedHandle}
+use Rattle.sst_block_core.specs.ParsedHandle.{parsed_handle, fields_by, IsParsedHandle}
 use Rattle.sst_block_core.specs.declared.table.index_block.parsed_item.IndexBlockParsedItem.{IndexBlockParsedItem}
 use Rattle.sst_base.specs.ReadingLaws.{some_value}
 use Rattle.sst_block_core.proofs.Items.HandleReads.{truncated_front, truncated_shared, truncated_rest, truncated_found, truncated_fits}
@@ -25,7 +25,7 @@ returns-clause-item c = λ base x rest encoded e.
     encoded k.ensures.range c.read_fields-at.ensures.1 c.read_number-shared.ensures.exact.1 k.ensures.exact.1 x rest e in
     let len = ap (λ (q : IndexBlockParsedItem). range_len q.prefix) c.with_key.ensures in
     let shares = f.4 in
-    (ap (handle_of p) c.with_key.ensures ∙ f.2, f.3, omega (arith, len, shares))
+    (ap (parsed_handle p) c.with_key.ensures ∙ f.2, f.3, omega (arith, len, shares))
 
 pub returns-clause-found : goal.returns-clause-found
 returns-clause-found c =

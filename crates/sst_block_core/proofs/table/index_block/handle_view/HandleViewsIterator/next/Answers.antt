@@ -5,13 +5,13 @@ use Rattle.sst_block_core.specs.Scan.{Scan}
 use Rattle.sst_block_core.specs.Window.{items_left}
 use Rattle.sst_block_core.specs.WindowLaws.{next_some}
 use Rattle.sst_block_core.specs.Handles.{Handle}
-use Rattle.sst_block_core.specs.ParsedHandle.{handle_of, IsParsedHandle}
+use Rattle.sst_block_core.specs.ParsedHandle.{parsed_handle, IsParsedHandle}
 use Rattle.sst_block_core.specs.declared.table.index_block.parsed_item.IndexBlockParsedItem.{IndexBlockParsedItem}
 use Rattle.sst_block_core.proofs.table.index_block.handle_view.HandleViewsIterator.next.Goals as goal
 
 -- what is left after a step that gives a handle
-took_held : (s t : Scan Handle) (payload : List ℕ) (p : IndexBlockParsedItem) → payload ≡ s.payload → GivesNextHeld handle_of IsParsedHandle s (Some p) t → items_left s.window ≡ handle_of payload p ∷ items_left t.window
-took_held s t payload p same gives = (next_some s.window t.window (handle_of s.payload p) gives.step).0 ∙ ap (λ bytes. handle_of bytes p ∷ items_left t.window) (sym same)
+took_held : (s t : Scan Handle) (payload : List ℕ) (p : IndexBlockParsedItem) → payload ≡ s.payload → GivesNextHeld parsed_handle IsParsedHandle s (Some p) t → items_left s.window ≡ parsed_handle payload p ∷ items_left t.window
+took_held s t payload p same gives = (next_some s.window t.window (parsed_handle s.payload p) gives.step).0 ∙ ap (λ bytes. parsed_handle bytes p ∷ items_left t.window) (sym same)
 
 pub returns-clause-steps : goal.returns-clause-steps
 returns-clause-steps c = sym c.self.view_is ∙ took_held _ _ _ _ c.self.invariant c.in-Some.ensures.steps
