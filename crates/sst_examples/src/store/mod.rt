@@ -78,8 +78,7 @@ impl Store {
     /// `Error::TooLong` if the sequence numbers are used up, `Error::Memory` if an allocation fails.
     /// The store is then as it was.
     pub fn put(&mut self, key: UserKey, value: UserValue) -> Result<SeqNo>
-        requires some { 1 ≤ length key }
-        requires key { length key ≤ 65535 }
+        requires key { (1 ≤ length key) × (length key ≤ 65535) }
         requires value { length value < 2 ^ 32 }
         ensures number { IfOk result (λ seqno. seqno ≡ self.old.next) }
         ensures written { OnOk result (IsVersionWritten self.old self.new key
@@ -99,8 +98,7 @@ impl Store {
     ///
     /// As [`Store::put`].
     pub fn delete(&mut self, key: UserKey) -> Result<SeqNo>
-        requires some { 1 ≤ length key }
-        requires key { length key ≤ 65535 }
+        requires key { (1 ≤ length key) × (length key ≤ 65535) }
         ensures number { IfOk result (λ seqno. seqno ≡ self.old.next) }
         ensures written { OnOk result (IsVersionWritten self.old self.new key None) }
         ensures memory { OnOk result (self.new.memory ≡ merge entry_cmp
@@ -115,10 +113,8 @@ impl Store {
 
     // Writes a version of a key with the next sequence number, which it returns.
     fn add(&mut self, key: UserKey, value: UserValue, value_type: ValueType) -> Result<SeqNo>
-        requires some { 1 ≤ length key }
-        requires key { length key ≤ 65535 }
-        requires value { length value < 2 ^ 32 }
-        requires plain { plain_value value_type value ≡ value }
+        requires key { (1 ≤ length key) × (length key ≤ 65535) }
+        requires value { (length value < 2 ^ 32) × (plain_value value_type value ≡ value) }
         ensures number { IfOk result (λ seqno. seqno ≡ self.old.next) }
         ensures written { OnOk result (IsVersionWritten self.old self.new key
             (seen (Some (version key self.old.next value_type value)))) }

@@ -19,7 +19,7 @@ invariant_of-self-2 c =
     let made = version c.args.key old.next c.args.value_type c.args.value in
     let is = inserted old.memory.items c.deref.result.now c.insert.new.self.items c.place_of-at.result c.from_components-entry.result made
     c.in_ok-insert.ensures.items c.place_of-at.ensures.place c.deref.ensures.value c.from_components-entry.ensures in
-    (version_added old.memory.items (merged_tables old.tables.items) old.next old.snapshots.items c.self.invariant c.args.key c.args.value c.args.value_type c.requires.plain c.insert.new.self.items c.in-Some.next is c.in-Some.ensures.1).are
+    (version_added old.memory.items (merged_tables old.tables.items) old.next old.snapshots.items c.self.invariant c.args.key c.args.value c.args.value_type c.requires.value.1 c.insert.new.self.items c.in-Some.next is c.in-Some.ensures.1).are
 
 pub returns-clause-written : goal.returns-clause-written
 returns-clause-written c =
@@ -28,5 +28,5 @@ returns-clause-written c =
     let made = version c.args.key old.next c.args.value_type c.args.value in
     let is = inserted old.memory.items c.deref.result.now c.insert.new.self.items c.place_of-at.result c.from_components-entry.result made
     c.in_ok-insert.ensures.items c.place_of-at.ensures.place c.deref.ensures.value c.from_components-entry.ensures in
-    let added = version_added old.memory.items tables old.next old.snapshots.items c.self.invariant c.args.key c.args.value c.args.value_type c.requires.plain c.insert.new.self.items c.in-Some.next is c.in-Some.ensures.1 in
+    let added = version_added old.memory.items tables old.next old.snapshots.items c.self.invariant c.args.key c.args.value c.args.value_type c.requires.value.1 c.insert.new.self.items c.in-Some.next is c.in-Some.ensures.1 in
     subst (λ s. IsVersionWritten s (levels c.insert.new.self.items tables c.in-Some.next old.snapshots.items) c.args.key (seen (Some (version c.args.key s.next c.args.value_type c.args.value)))) c.self.view_is added.written
