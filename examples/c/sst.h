@@ -1,5 +1,5 @@
 /* The block layer of a log-structured storage engine, for C and C++: data and index blocks over bytes
-   that the caller lends. Link libsst_c.a (tools/c-library OUT makes it) and the kit's liblibc_c.a.
+   that the caller lends. Link libsst.a or libsst.so (tools/c-library PREFIX makes them).
 
    What a caller owes each call:
    - every pointer is valid for its length, aligned for its type, and never null, also with length 0;
@@ -219,6 +219,16 @@ uint32_t sst_run_check(const uint8_t *run, size_t len, const struct sst_run_hand
    none, and *place is left. Takes no memory, and copies nothing. */
 uint32_t sst_run_get(const uint8_t *run, size_t len, const struct sst_run_handles *handles,
                      const uint8_t *key, size_t key_len, uint64_t below_seqno, struct sst_place *place);
+
+/* Reads where index and filter are in the run of a table file, from its last 24 bytes; the run is the bytes
+   before these. SST_OK: *handles tells it. SST_TRUNCATED: exactly if there are fewer than 24 bytes, and
+   *handles is left. Takes no memory. */
+uint32_t sst_footer_read(const uint8_t *file, size_t len, struct sst_run_handles *handles);
+
+/* Writes the 24 bytes that end the table file of a run with these handles at the front of out. *out_len is
+   24. SST_NO_ROOM: out_cap is less, and out is left. Takes no memory. */
+uint32_t sst_footer_write(const struct sst_run_handles *handles, uint8_t *out, size_t out_cap,
+                          size_t *out_len);
 
 #ifdef __cplusplus
 }

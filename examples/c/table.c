@@ -1,4 +1,4 @@
-/* Writes a run, checks it, reads keys of it, and damages it. */
+/* Writes a run and its footer, checks it, reads keys of it, and damages it. */
 #include "sst.h"
 #include <stdio.h>
 #include <stdlib.h>
@@ -62,6 +62,20 @@ static void get_all(const uint8_t *run, size_t len, const struct sst_run_handles
     printf("of %d entries, found where they are: %d\n", COUNT, right);
 }
 
+/* Writes the footer of a run, and reads it again: whole, and a byte less. */
+static void end_table(const struct sst_run_handles *handles) {
+    uint8_t file[25] = {0};
+    size_t len = 0;
+    struct sst_run_handles again = {1, 2, 3, 4};
+    printf("footer into 23 bytes: %s, ", sst_error_name(sst_footer_write(handles, file + 1, 23, &len)));
+    printf("%zu, into 24: %s; ", len, sst_error_name(sst_footer_write(handles, file + 1, 24, &len)));
+    printf("of 23 bytes: %s, %llu; ", sst_error_name(sst_footer_read(file + 2, 23, &again)),
+           (unsigned long long)again.index_offset);
+    printf("of 25: %s, ", sst_error_name(sst_footer_read(file, 25, &again)));
+    printf("index %llu %u, filter %llu %u\n", (unsigned long long)again.index_offset, again.index_size,
+           (unsigned long long)again.filter_offset, again.filter_size);
+}
+
 /* Writes what can't be written. */
 static void refuse(void) {
     uint8_t out[16];
@@ -88,6 +102,7 @@ int main(void) {
     uint8_t *run = malloc(len);
     if (run == NULL || write_run(run, len, &len, &handles) != SST_OK) return 1;
     check("the run", run, len, &handles);
+    end_table(&handles);
     get(run, len, &handles, (const char *)keys[6], UINT64_MAX);
     get(run, len, &handles, (const char *)keys[6], 100);
     get(run, len, &handles, (const char *)keys[6], 99);
@@ -106,6 +121,7 @@ int main(void) {
     check("a byte less", run, len - 1, &handles);
     handles.filter_size = 0;
     check("without a filter", run, len, &handles);
+    end_table(&handles);
     get_all(run, len, &handles);
     handles.index_offset = handles.filter_offset;
     check("another index", run, len, &handles);

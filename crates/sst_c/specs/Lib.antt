@@ -2,6 +2,7 @@ pub mod Codes
 pub mod Blocks
 pub mod Checks
 pub mod Filters
+pub mod Footers
 pub mod Frames
 pub mod Given
 pub mod Index

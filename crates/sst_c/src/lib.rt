@@ -8,6 +8,7 @@ pub mod codes;
 pub mod data_block;
 pub mod entries;
 pub mod filter;
+pub mod footer;
 pub mod frame;
 pub mod handles;
 pub mod index_block;

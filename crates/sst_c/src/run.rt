@@ -78,7 +78,7 @@ pub struct SstSummary {
 }
 
 // The handles that are given.
-fn run_handles(given: &SstRunHandles) -> RunHandles
+pub(crate) fn run_handles(given: &SstRunHandles) -> RunHandles
     ensures { result ≡ handles_given given.now }
 {
     let filter = if given.filter_size == 0 {
@@ -305,7 +305,7 @@ fn run_of(
 }
 
 // The handles as C has them.
-fn handles_told(handles: &RunHandles) -> SstRunHandles
+pub(crate) fn handles_told(handles: &RunHandles) -> SstRunHandles
     requires { IfSome handles.now.filter (λ f. 0 < f.size) }
     ensures { handles_given result ≡ handles.now }
 {
