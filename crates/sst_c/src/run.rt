@@ -172,7 +172,7 @@ fn place_in(bytes: &[u8], handle: &BlockHandle, item: &DataBlockParsedItem) -> S
     requires item { IsParsedEntry (payload_in bytes.now handle.now) item.now }
     ensures { IsPlaceOf bytes.now result (entry_of (payload_in bytes.now handle.now) item.now) }
 {
-    // The proof needs the bound on the length of the bytes.
+    // A slice has fewer than 2^63 bytes.
     let _len = bytes.len();
     let place = place_of(payload_of(bytes, handle), item);
     place_behind(handle, &place)

@@ -56,7 +56,7 @@ fn decoder_of<H: BlockHash>(block: &DataBlock<H>) -> Entries<'_>
     ensures interval { result.interval ≡ block.now.interval }
     ensures window { result.window ≡ whole block.now.items }
 {
-    // The proof needs that the payload is the encoding of the entries as decoded.
+    // The payload is the encoding of the entries as decoded.
     let payload = block.as_slice();
     let _plain = block.iter();
     data_block_is_read();

@@ -78,7 +78,7 @@ fn heads_of<H: BlockHash>(alloc: Global, block: &DataBlock<H>) -> Result<String>
 
 /// A block that is new, of the bytes of another.
 fn renewed<H: BlockHash>(block: &DataBlock<H>) -> Result<DataBlock<H>> {
-    // The proof needs that the payload is an encoding.
+    // The payload is an encoding.
     let _payload = block.as_slice();
     Ok(DataBlock::new(block.clone()?.into_inner()))
 }

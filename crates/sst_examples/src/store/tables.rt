@@ -25,7 +25,7 @@ fn scan_of<'a>(table: &'a Stored) -> RunScan<'a, 'a, Xxh3>
 {
     accepted_run_is_sound();
     sound_is_scanned();
-    // The proof needs that the index is that of the bytes.
+    // The index is that of the bytes.
     let _index = table.index();
     table.trusted().scan()
 }
@@ -52,7 +52,7 @@ fn open_table(alloc: Global, bytes: Vec<u8>, handles: RunHandles) -> Result<Stor
 {
     sound_table_is_known();
     let bytes = Slice::from_vec(bytes)?;
-    // The proof needs that the cells are bytes.
+    // Each cell is a byte.
     let _len = bytes.len();
     let table = Table::open(alloc, MemorySource::new(bytes), handles)?;
     let _index = table.index();

@@ -114,7 +114,7 @@ impl<'k> Bounds<'k> {
         ensures left { items_left entries.new.window ≡ within self.now entries.old.window.list }
         ensures all { AllWithin self.now (items_left entries.new.window) }
     {
-        // The proof needs that the entries are ordered.
+        // The entries are ordered.
         let _count = entries.count_left();
         self.cut_front(entries);
         self.cut_back(entries);
@@ -164,7 +164,7 @@ impl<'k> Bounds<'k> {
         ensures payload { iter.new.payload ≡ iter.old.payload }
         ensures left { items_left iter.new.window ≡ within self.now iter.old.window.list }
     {
-        // The proof needs that the entries are ordered.
+        // The entries are ordered.
         let _count = iter.count_left();
         self.cut_iter_front(iter);
         self.cut_iter_back(iter);

@@ -358,7 +358,7 @@ pub fn check<H: BlockHash, S: FrameSource>(
     accepted_run_is_sound();
     sound_run_is_accepted();
     note_size(&handles.filter);
-    // The proof needs the bound on the size of the index.
+    // The size of the index has 32 bits.
     let _fits = handles.index.size();
     check_in_stages::<H, S>(alloc, source, handles)
 }

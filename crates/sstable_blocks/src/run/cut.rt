@@ -58,7 +58,7 @@ impl<H: BlockHash> Ended for IntoEntries<H> {
 
     #[inline(always)]
     fn next_back(&mut self, alloc: Global) -> Result<Option<InternalValue>> {
-        // The proof needs that the end lies within the block.
+        // The end lies within the block.
         let _count = IntoEntries::count_left(self);
         self.next_entry_back(alloc)
     }
@@ -113,7 +113,7 @@ fn cut_block<H: BlockHash, S: FrameSource>(
         (block_within (hashes H.hash64 H.hash128) all bounds.now h)) }
 {
     let block = table.block_at(alloc, index)?;
-    // The proof needs that the payload is an encoding, and the bound on its length.
+    // The payload is an encoding, of fewer than 2^32 bytes.
     let payload = block.as_slice();
     let _len = payload.len();
     let mut entries = block.into_entries();
@@ -147,7 +147,7 @@ impl<'a, 'k, H: BlockHash> Blocks<OpenBlock<'a>> for Cut<'k, RunRef<'a, H>> {
 
     fn open(&mut self, _room: (), index: usize, block: &mut Option<OpenBlock<'a>>) -> Result<()> {
         open_at::<H>(&self.run, &self.bounds, index, block);
-        // The proof needs the bound on their number.
+        // A slice has fewer than 2^63 items.
         let _count = count_of(block);
         Ok(())
     }

@@ -60,7 +60,7 @@ pub(crate) fn index_over<'a>(bytes: &'a [u8], handle: &BlockHandle) -> IndexSear
         × IsIndexBlock (payload_in bytes.now handle.now) items r }
     ensures { result ≡ index_ref_of (payload_in bytes.now handle.now) false }
 {
-    // The proof needs the bound on the size.
+    // A size has 32 bits.
     let _fits = handle.size();
     IndexSearch::new(IndexBlockRef::new(payload_at(bytes, handle)))
 }
@@ -76,7 +76,7 @@ pub(crate) fn block_over<'a, H: BlockHash>(
         × IsBlock entries IsEntry H.hash64 (payload_in bytes.now handle.now) items r b }
     ensures { result ≡ data_ref_of (payload_in bytes.now handle.now) false }
 {
-    // The proof needs the bound on the size.
+    // A size has 32 bits.
     let _fits = handle.size();
     DataBlockRef::new(payload_at(bytes, handle))
 }
@@ -135,7 +135,7 @@ pub fn shared_entry(
         (λ entry. entry ≡ entry_of (payload_in bytes.now place.now.0) place.now.1) }
     ensures memory { IsOkUnless result Error.Memory }
 {
-    // The proof needs the bound on the length of the bytes.
+    // A slice has fewer than 2^63 bytes.
     let _fits = bytes.len();
     let start = *place.0.offset() as usize;
     let payload = bytes.slice(start + HEADER_LEN..start + place.0.size() as usize)?;

@@ -191,7 +191,7 @@ impl<'a, H: BlockHash> RunRef<'a, H> {
         ensures { IsReadRun (hashes H.hash64 H.hash128) self.now.bytes self.now.handles }
     {
         sound_run_is_read();
-        // The proof needs that the run is sound.
+        // The run is sound.
         let _sound = self.bytes;
     }
 

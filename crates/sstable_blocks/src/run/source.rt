@@ -98,7 +98,7 @@ impl MemorySource {
     pub fn new(bytes: Slice) -> MemorySource
         ensures { result ≡ record { inner = bytes; failures = 0; reads = 0 } }
     {
-        // The proof needs that the cells are bytes.
+        // Each cell is a byte.
         let _len = bytes.len();
         MemorySource {
             bytes,

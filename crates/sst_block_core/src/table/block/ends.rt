@@ -104,7 +104,7 @@ impl<'a, Item: Decodable<Parsed>, Parsed: ParsedItem<Item> + Drop> Intervals<'a,
         Some(self.take_back(&mut ends.back))
     }
 
-    /// Moves the front to the first item that a bound doesn't pass. Returns whether an item is
+    /// Moves the front to the first item behind a bound. Returns whether an item is
     /// left, and the first has the needle as its key.
     #[inline(always)]
     pub fn seek_front(&mut self, ends: &mut Ends, bound: &Bound<'_>) -> bool
@@ -133,7 +133,7 @@ impl<'a, Item: Decodable<Parsed>, Parsed: ParsedItem<Item> + Drop> Intervals<'a,
         }
     }
 
-    /// Moves the back to the first item that a bound doesn't pass, not included. Returns whether an
+    /// Moves the back to the first item behind a bound, which is left out. Returns whether an
     /// item is left, and the last has the needle as its key.
     #[inline(always)]
     pub fn seek_back(&mut self, ends: &mut Ends, bound: &Bound<'_>) -> bool

@@ -156,7 +156,7 @@ impl<'a, Item: Decodable<Parsed>, Parsed: ParsedItem<Item>> Intervals<'a, Item, 
         ensures place { result.index ≡ 0 }
         ensures is_place { IsPlace Item.kind self.now.list result }
     {
-        // The proof needs that the first pointer is 0.
+        // The first pointer is 0.
         let _pointers = self.pointers.len();
         Place {
             index: 0,
@@ -193,7 +193,7 @@ impl<'a, Item: Decodable<Parsed>, Parsed: ParsedItem<Item>> Intervals<'a, Item, 
             (j * self.now.list.interval) }
         ensures inside { j * self.now.list.interval < length self.now.list.items }
     {
-        // The proof needs that each interval but the last is full.
+        // Each interval but the last is full.
         let _count = self.count();
         self.start(j).offset
     }

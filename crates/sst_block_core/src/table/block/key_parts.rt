@@ -43,7 +43,7 @@ pub fn compare_parts(key: KeyParts<'_>, other: KeyParts<'_>) -> Ordering
 fn shared_with(key: KeyParts<'_>, whole: &[u8]) -> usize
     ensures { result ≡ shared_prefix_length (key.entry.0.now ++ key.entry.1.now) whole.now }
 {
-    // The proof needs the bound on its length.
+    // A slice has fewer than 2^63 bytes.
     let _fits = whole.len();
     let shared = longest_shared_prefix_length(key.0, whole);
     if shared < key.0.len() {
@@ -61,7 +61,7 @@ fn shared_longer(longer: KeyParts<'_>, shorter: KeyParts<'_>) -> usize
     ensures { result ≡ shared_prefix_length (longer.entry.0.now ++ longer.entry.1.now)
         (shorter.entry.0.now ++ shorter.entry.1.now) }
 {
-    // The proof needs the bound on its length.
+    // A slice has fewer than 2^63 bytes.
     let _fits = shorter.1.len();
     let (front, more) = longer.0.split_at(shorter.0.len());
     let shared = longest_shared_prefix_length(front, shorter.0);

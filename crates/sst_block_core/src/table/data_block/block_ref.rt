@@ -119,7 +119,7 @@ impl<'a, H: BlockHash> DataBlockRef<'a, H> {
             (λ t. IsHeadTableOf entries (listed_in entries self.now.payload) t) }
         ensures memory { IsOkUnless result Error.Memory }
     {
-        // The proof needs that the items are those of the payload.
+        // The items are those of the payload.
         let _heads = self.heads;
         self.intervals().make_table(alloc)
     }

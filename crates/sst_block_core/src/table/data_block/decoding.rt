@@ -274,7 +274,7 @@ impl Decodable<DataBlockParsedItem> for InternalValue {
         steps: &mut Steps,
     ) -> (DataBlockParsedItem, usize) {
         steps.count_entry();
-        // The proof needs the bound on the payload's length.
+        // A payload has fewer than 2^32 bytes.
         let _size = payload.len();
         let (form, end) = read_truncated_form(payload, offset);
         let prefix = SliceIndexes(base_key_offset, base_key_offset + form.shared as usize);

@@ -187,7 +187,7 @@ impl<'a> EntryView<'a> {
         ensures value { result.0.now ++ result.1.now ≡ self.now.key.user_key }
         ensures fits { IsEntry self.now }
     {
-        // The proof needs the range of the sequence number.
+        // A sequence number has 64 bits.
         let _range = self.seqno;
         (self.prefix, self.rest)
     }

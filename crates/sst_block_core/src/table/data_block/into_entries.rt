@@ -112,7 +112,7 @@ impl<H: BlockHash> IntoEntries<H> {
         EntryView::new(self.block.as_slice().as_slice(), item)
     }
 
-    // Moves the front to the first entry that a bound doesn't pass. Returns whether an entry is
+    // Moves the front to the first entry behind a bound. Returns whether an entry is
     // left, and the first has the needle as its key.
     #[inline(always)]
     fn seek_front(&mut self, bound: &Bound<'_>) -> bool
@@ -136,7 +136,7 @@ impl<H: BlockHash> IntoEntries<H> {
         answer
     }
 
-    // Moves the back to the first entry that a bound doesn't pass, not included. Returns whether an
+    // Moves the back to the first entry behind a bound, which is left out. Returns whether an
     // entry is left, and the last has the needle as its key.
     #[inline(always)]
     fn seek_back(&mut self, bound: &Bound<'_>) -> bool

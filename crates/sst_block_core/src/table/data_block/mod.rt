@@ -235,7 +235,7 @@ impl<H: BlockHash> DataBlock<H> {
             → (result.items ≡ map plain items) × (result.interval ≡ r)
             × (result.stored ≡ stored_count r (length items) b) }
     {
-        // The proof needs the bound on the payload's length.
+        // A payload has fewer than 2^32 bytes.
         let _fits = block.size();
         DataBlock {
             hash: PhantomData,
@@ -365,7 +365,7 @@ impl<H: BlockHash> DataBlock<H> {
             self.now.interval self.now.stored }
         ensures fits { length self.now.payload < 2 ^ 32 }
     {
-        // The proof needs the bound on the payload's length, and that its cells are bytes.
+        // A payload has fewer than 2^32 cells, each a byte.
         let _fits = self.inner.size();
         self.inner.data()
     }

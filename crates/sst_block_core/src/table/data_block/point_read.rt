@@ -27,7 +27,7 @@ impl<'a, H: BlockHash> DataBlockRef<'a, H> {
         ensures few_heads { 0 < self.now.stored
             → head_count self.now.interval (length self.now.items) ≤ 254 }
     {
-        // The proof needs how many heads a block with a hash index has.
+        // A block with a hash index has at most 254 heads.
         let _trailer = self.trailer();
         match self.get_hash_index_reader() {
             Some(index) => index.lookup(needle),

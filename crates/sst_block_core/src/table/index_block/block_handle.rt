@@ -54,9 +54,9 @@ impl KeyedBlockHandle {
               end_key = end_key;
             } }
     {
-        // The proof needs the ranges of the numbers.
+        // An offset has 64 bits.
         let _offset = handle.offset();
-        // The proof needs the bound on the size.
+        // A size has 32 bits.
         let _size = handle.size();
         KeyedBlockHandle {
             end_key,

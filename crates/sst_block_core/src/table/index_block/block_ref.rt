@@ -99,7 +99,7 @@ impl<'a> IndexBlockRef<'a> {
             (λ t. IsHeadTableOf handles (listed_in handles self.now.payload) t) }
         ensures memory { IsOkUnless result Error.Memory }
     {
-        // The proof needs that the items are those of the payload.
+        // The items are those of the payload.
         let _heads = self.heads;
         self.intervals().make_table(alloc)
     }

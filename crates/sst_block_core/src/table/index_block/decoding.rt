@@ -178,7 +178,7 @@ impl Decodable<IndexBlockParsedItem> for KeyedBlockHandle {
         steps: &mut Steps,
     ) -> (IndexBlockParsedItem, usize) {
         steps.count_entry();
-        // The proof needs the bound on the payload's length.
+        // A payload has fewer than 2^32 bytes.
         let _size = payload.len();
         let (fields, at) = read_fields(payload, offset);
         let (shared, at) = read_number(payload, at, 16);

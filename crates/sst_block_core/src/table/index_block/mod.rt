@@ -195,7 +195,7 @@ impl IndexBlock {
         ensures read { (items : List Handle) (r : ℕ) → IsIndexBlock block.payload items r
             → (result.items ≡ items) × (result.interval ≡ r) }
     {
-        // The proof needs the bound on the payload's length.
+        // A payload has fewer than 2^32 bytes.
         let _fits = block.size();
         IndexBlock {
             inner: block,
@@ -307,7 +307,7 @@ impl IndexBlock {
         ensures encoded { IsIndexBlock self.now.payload self.now.items self.now.interval }
         ensures fits { length self.now.payload < 2 ^ 32 }
     {
-        // The proof needs the bound on the payload's length.
+        // A payload has fewer than 2^32 bytes.
         let _fits = self.inner.size();
         self.inner.data()
     }

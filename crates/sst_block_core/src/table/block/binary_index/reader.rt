@@ -34,7 +34,7 @@ impl<'a> Reader<'a> {
         requires inside { offset + len * width ≤ length bytes.now }
         ensures { result ≡ pointers_in width (take (len * width) (drop offset bytes.now)) }
     {
-        // The proof needs the bound on the length of the bytes.
+        // A slice has fewer than 2^63 bytes.
         let _size = bytes.len();
         let (_, rest) = bytes.split_at(offset as usize);
         let (bytes, _) = rest.split_at(len as usize * usize::from(width));
@@ -62,7 +62,7 @@ impl<'a> Reader<'a> {
         requires { index < length self.now }
         ensures { result ≡ slice_index self.now index }
     {
-        // The proof needs the bound on the length of the bytes.
+        // A slice has fewer than 2^63 bytes.
         let _size = self.bytes.len();
         let (_, rest) = self.bytes.split_at(index * usize::from(self.width));
         if self.width == 2 {
