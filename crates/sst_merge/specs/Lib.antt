@@ -2,6 +2,8 @@ pub mod Compact
 pub mod CompactLaws
 pub mod Counts
 pub mod CountLaws
+pub mod ErrorLaws
+pub mod FailureLaws
 pub mod Flips
 pub mod Fronts
 pub mod FrontLaws
@@ -35,3 +37,4 @@ pub mod Outputs
 pub mod OutputLaws
 pub mod PartLaws
 pub mod Tournament
+pub mod WriteLaws

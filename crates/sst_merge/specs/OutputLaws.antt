@@ -7,10 +7,11 @@ use Rattle.std.specs.Option.{option_map, IfSome}
 use Rattle.sst_base.specs.Entry.{Entry}
 use Rattle.sstable_blocks.specs.Blocks.{joined}
 use Rattle.sstable_blocks.specs.Run.{Form}
-use Rattle.sst_merge.specs.Outputs.{Output, IsOutputOf, entries_of, AreWritten}
+use Rattle.sstable_blocks.specs.declared.run.RunHandles.{RunHandles}
+use Rattle.sst_merge.specs.Outputs.{Output, IsOutputOf, IsSized, AreSized, entries_of, AreWritten}
 use Rattle.sst_merge.specs.TableLaws.{taken_none, taken_both, joined_push}
 use Rattle.sst_merge.specs.SizeLaws.{apart_part}
-use Rattle.sst_merge.specs.Tables.{IsApart, IsTableOf}
+use Rattle.sst_merge.specs.Tables.{IsApart, IsShortest, IsTableOf}
 use Rattle.sst_merge.specs.Sources.{IsTaken}
 use Rattle.sst_merge.specs.declared.writing.Sizes.{Sizes}
 
@@ -63,13 +64,38 @@ apart_after runs blocks (Some ys) (Some rest) taken some all here =
     let is : ys ≡ joined blocks ++ rest = cc in
     apart_more runs blocks rest some (λ n. subst (λ es. IsApart (entries_of (take n runs)) (entries_of (drop n runs) ++ es)) is (all n)) here
 
+same_after : (o : Option (List Entry)) → option_map (λ rest. entries_of [] ++ rest) o ≡ o
+same_after None = refl
+same_after (Some xs) = refl
+
+later_after : (runs : List (List (List Entry))) (blocks : List (List Entry)) (mid after : Option (List Entry)) → IsTaken mid (joined blocks) after → option_map (λ rest. entries_of runs ++ rest) mid ≡ option_map (λ rest. entries_of (runs ++ blocks ∷ []) ++ rest) after
+later_after runs blocks mid None taken = ap (option_map (λ rest. entries_of runs ++ rest)) taken
+later_after runs blocks mid (Some rest) taken =
+    ap (option_map (λ rest. entries_of runs ++ rest)) taken ∙ ap Some (sym (append_assoc (entries_of runs) (joined blocks) rest) ∙ ap (λ es. es ++ rest) (sym (entries_push runs blocks)))
+
+sized_push : (r : ℕ) (sizes : Sizes) (mid after : Option (List Entry)) (runs : List (List (List Entry))) (blocks : List (List Entry)) → IsTaken mid (joined blocks) after → AreSized r sizes mid runs → IsSized r sizes after blocks → AreSized r sizes after (runs ++ blocks ∷ [])
+sized_push r sizes mid after [] blocks taken all one = (subst (λ o. IsSized r sizes o blocks) (sym (same_after after)) one, tt)
+sized_push r sizes mid after (b ∷ runs) blocks taken all one = (subst (λ o. IsSized r sizes o b) (later_after runs blocks mid after taken) all.0, sized_push r sizes mid after runs blocks taken all.1 one)
+
+known_before : (P : Type 0) (before after : Option (List Entry)) (xs : List Entry) → IsTaken before xs after → IfSome before (λ _. P) → IfSome after (λ _. P)
+known_before P before None xs taken h = tt
+known_before P None (Some rest) xs taken h = absurd (cc)
+known_before P (Some ys) (Some rest) xs taken h = h
+
+table_sized : (f : Form) (sizes : Sizes) (start bytes : Option (List ℕ)) (h : RunHandles) (before after : Option (List Entry)) → (t : IsTableOf f sizes start bytes h before after) → IsSized f.config.restart_interval sizes after t.blocks
+table_sized f sizes start bytes h before after t = record {
+  filled = t.filled;
+  reaches = t.reaches;
+  shortest = known_before (IsShortest f.config.restart_interval sizes.table t.blocks) before after (joined t.blocks) t.taken t.shortest;
+}
+
 -- no table was written yet
-pub none_written : (f : Form) (start : Option (List ℕ)) (s : Option (List Entry)) (tables : List Output) → AreWritten f start s s tables tables
-none_written f start s tables = record { outputs = []; runs = []; grown = sym (append-nil tables); each = tt; taken = taken_none s; apart = none_apart s }
+pub none_written : (f : Form) (sizes : Sizes) (start : Option (List ℕ)) (s : Option (List Entry)) (tables : List Output) → AreWritten f sizes start s s tables tables
+none_written f sizes start s tables = record { outputs = []; runs = []; grown = sym (append-nil tables); each = tt; taken = taken_none s; apart = none_apart s; sized = tt }
 
 -- one table more
-pub one_written : (f : Form) (sizes : Sizes) (start : Option (List ℕ)) (before mid after : Option (List Entry)) (old now new : List Output) (o : Output) → AreWritten f start before mid old now → IsTableOf f sizes start o.bytes o.handles mid after → new ≡ now ++ o ∷ []
-    → AreWritten f start before after old new
+pub one_written : (f : Form) (sizes : Sizes) (start : Option (List ℕ)) (before mid after : Option (List Entry)) (old now new : List Output) (o : Output) → AreWritten f sizes start before mid old now → IsTableOf f sizes start o.bytes o.handles mid after → new ≡ now ++ o ∷ []
+    → AreWritten f sizes start before after old new
 one_written f sizes start before mid after old now new o w t e = record {
   outputs = w.outputs ++ o ∷ [];
   runs = w.runs ++ t.blocks ∷ [];
@@ -77,6 +103,7 @@ one_written f sizes start before mid after old now new o w t e = record {
   each = zip_push (IsOutputOf f start) w.outputs w.runs o t.blocks w.each t.layout;
   taken = taken_both before mid after (entries_of w.runs) (joined t.blocks) w.taken t.taken ∙ ap (λ xs. option_map (λ rest. xs ++ rest) after) (sym (entries_push w.runs t.blocks));
   apart = apart_after w.runs t.blocks mid after t.taken t.some w.apart t.apart;
+  sized = sized_push f.config.restart_interval sizes mid after w.runs t.blocks t.taken w.sized (table_sized f sizes start o.bytes o.handles mid after t);
 }
 
 nothing_left : (s : Option (List Entry)) → IfSome s (λ xs. xs ≡ []) → (t : Option (List Entry)) (xs : List Entry) → t ≡ option_map (λ rest. xs ++ rest) s → s ≡ option_map (λ _. []) t
@@ -86,8 +113,8 @@ nothing_left (Some ys) h None xs e = absurd (cc)
 nothing_left (Some ys) h (Some zs) xs e = ap Some h
 
 -- all was written where nothing is left
-pub all_written : (f : Form) (start : Option (List ℕ)) (before after : Option (List Entry)) (old new : List Output) → AreWritten f start before after old new → IfSome after (λ xs. xs ≡ []) → AreWritten f start before (option_map (λ _. []) before) old new
-all_written f start before after old new w h = subst (λ s. AreWritten f start before s old new) (nothing_left after h before (entries_of w.runs) w.taken) w
+pub all_written : (f : Form) (sizes : Sizes) (start : Option (List ℕ)) (before after : Option (List Entry)) (old new : List Output) → AreWritten f sizes start before after old new → IfSome after (λ xs. xs ≡ []) → AreWritten f sizes start before (option_map (λ _. []) before) old new
+all_written f sizes start before after old new w h = subst (λ s. AreWritten f sizes start before s old new) (nothing_left after h before (entries_of w.runs) w.taken) w
 
 -- whether what is left is known does not depend on how its list is changed
 pub none_after : {X Y Z : Type 0} (f : List X → List Y) (o : Option (List X)) → ◌≡◌ {A = Option (List Z)} (option_map (λ _. []) (option_map f o)) (option_map (λ _. []) o)

@@ -1,13 +1,17 @@
 -- Tables that a compaction wrote.
-use Rattle.std.specs.Prelude.{◌≡◌, ℕ, List, ◌++◌, map, take, drop, Option, IfSome}
-use Rattle.std.specs.List.{AllZip}
+use Rattle.std.specs.Prelude.{◌≡◌, ◌⊎◌, ℕ, List, [], ◌∷◌, ◌++◌, map, take, drop, Option, IfSome}
+use Rattle.std.specs.List.{AllByRecursion, AllZip}
+use Rattle.std.specs.Option.{option_map}
 use Rattle.sst_base.specs.Entry.{Entry}
 use Rattle.sstable_blocks.specs.Blocks.{joined}
 use Rattle.sstable_blocks.specs.Run.{Form}
 use Rattle.sstable_blocks.specs.Writing.{AppendsLayout}
 use Rattle.sstable_blocks.specs.declared.run.RunHandles.{RunHandles}
+use Rattle.sst_base.specs.declared.error.Error.{Error}
+use Rattle.sst_base.specs.declared.error.Error.TheVariants.{Io, OutOfOrder, TooLong}
 use Rattle.sst_merge.specs.Sources.{IsTaken}
-use Rattle.sst_merge.specs.Tables.{IsApart}
+use Rattle.sst_merge.specs.Tables.{IsApart, IsFilled, IsOutOfOrder, IsShortest, IsTooLong, Reaches, blocks_len}
+use Rattle.sst_merge.specs.declared.writing.Sizes.{Sizes}
 
 -- a table: its handles, and its bytes where they are known
 pub record Output : Type 0 where
@@ -22,12 +26,37 @@ IsOutputOf f start output blocks = AppendsLayout f blocks start output.bytes out
 abbrev pub entries_of : List (List (List Entry)) → List Entry
 entries_of runs = joined (map joined runs)
 
+-- each block of a table ends with the entry with which it reaches its size, and the table with the first block with
+-- which it reaches its own and after which another user key comes; both may be smaller only where nothing comes after
+pub record IsSized (r : ℕ) (sizes : Sizes) (after : Option (List Entry)) (blocks : List (List Entry)) : Type 0 where
+  pub filled : AllByRecursion (IsFilled r sizes.block after) blocks
+  pub reaches : Reaches sizes.table (blocks_len r blocks) after
+  pub shortest : IfSome after (λ _. IsShortest r sizes.table blocks)
+
+-- so does each of some tables, after each of which come the entries of the later ones, and others
+abbrev pub AreSized : ℕ → Sizes → Option (List Entry) → List (List (List Entry)) → Type 0
+AreSized r sizes after [] = Unit {0}
+AreSized r sizes after (blocks ∷ runs) = IsSized r sizes (option_map (λ rest. entries_of runs ++ rest) after) blocks × AreSized r sizes after runs
+
 -- tables were added, whose entries, one table after the other, were taken from a list; each ends only before another
--- user key
-pub record AreWritten (f : Form) (start : Option (List ℕ)) (before after : Option (List Entry)) (old new : List Output) : Type 0 where
+-- user key, and is cut by these sizes
+pub record AreWritten (f : Form) (sizes : Sizes) (start : Option (List ℕ)) (before after : Option (List Entry)) (old new : List Output) : Type 0 where
   pub outputs : List Output
   pub runs : List (List (List Entry))
   pub grown : new ≡ old ++ outputs
   pub each : AllZip (IsOutputOf f start) outputs runs
   pub taken : IsTaken before (entries_of runs) after
   pub apart : IfSome after (λ rest. (n : ℕ) → IsApart (entries_of (take n runs)) (entries_of (drop n runs) ++ rest))
+  pub sized : AreSized f.config.restart_interval sizes after runs
+
+-- what is left of a list after some of its entries begins with a run that does not fit
+pub record IsTooLongLater (f : Form) (size : ℕ) (given : Option (List Entry)) : Type 0 where
+  pub passed : List Entry
+  pub left : Option (List Entry)
+  pub taken : IsTaken given passed left
+  pub long : IsTooLong f size left
+
+-- why the entries of a list are not all written: what tables are written into fails, a run does not fit, or the entries
+-- are not in order
+abbrev pub MayNotWriteAll : (Error → Type 0) → Form → ℕ → Option (List Entry) → Error → Type 0
+MayNotWriteAll outputs_fail f size given e = (outputs_fail e ⊎ (e ≡ Io)) ⊎ (((e ≡ TooLong) × IsTooLongLater f size given) ⊎ ((e ≡ OutOfOrder) × IsOutOfOrder given))

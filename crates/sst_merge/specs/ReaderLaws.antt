@@ -1,5 +1,5 @@
 -- Laws of reads over several readers.
-use Rattle.std.proofs.Common.{◌≡◌, ℕ, ◌+◌, ◌<◌, List, [], ◌∷◌, length, map, drop, get_or, Option, Some, None, refl, sym, ap, subst, ◌∙◌, arith}
+use Rattle.std.proofs.Common.{◌≡◌, ℕ, zero, suc, ◌+◌, ◌<◌, List, [], ◌∷◌, length, map, drop, get_or, Option, Some, None, refl, sym, ap, subst, ◌∙◌, arith, inl, inr}
 use Rattle.std.specs.Prelude.{IfSome}
 use Rattle.std.specs.List.{AllByRecursion}
 use Rattle.std.proofs.Math.ListN.{set}
@@ -9,6 +9,7 @@ use Rattle.sst_base.specs.Entry.{Entry}
 use Rattle.sst_block_core.specs.Entries.{entries}
 use Rattle.sst_block_core.specs.Kind.{IsOrdered}
 use Rattle.sst_block_core.specs.Window.{first_match}
+use Rattle.sst_merge.specs.Counts.{OneFails}
 use Rattle.sst_merge.specs.Merge.{entry_cmp, lesser, least_match, merged}
 use Rattle.sst_merge.specs.Picks.{list_at, from_here}
 use Rattle.sst_merge.specs.ReadLaws.{merged_match}
@@ -56,3 +57,9 @@ module _ {R : Type 0} (list : R → Option (List Entry)) (needle : List ℕ) (s 
   pub read_is_merge : ((r : R) → IfSome (list r) (IsOrdered entries)) → (rs : List R) (lists : List (List Entry)) (best : Option Entry) → all_known (map list rs) ≡ Some lists → best ≡ matches needle s lists
       → best ≡ first_match entries needle s (merged entry_cmp lists)
   read_is_merge up rs lists best known e = e ∙ sym (merged_match needle s lists (all_ordered up rs lists known))
+
+-- where a read of the reader at an index fails so, one of all does
+pub one_fails : {R : Type 0} (fails : R → Type 0) (readers : List R) (i : ℕ) (r : R) → i < length readers → r ≡ get_or readers i r → fails r → OneFails fails readers
+one_fails fails [] i r inside is h = absurd (omega arith)
+one_fails fails (x ∷ readers) zero r inside is h = inl (subst fails is h)
+one_fails fails (x ∷ readers) (suc i) r inside is h = inr (one_fails fails readers i r (omega arith) is h)

@@ -1,5 +1,5 @@
 -- Laws of the sizes of blocks and tables.
-use Rattle.std.proofs.Common.{◌≡◌, ℕ, ◌+◌, ◌-◌, ◌^◌, ◌<◌, ◌≤◌, ◌⊎◌, min, List, [], ◌∷◌, ◌++◌, length, take, drop, slice_get, Option, Some, None, refl, sym, ap, subst, ◌∙◌, inl, inr, arith, length-append, append-nil}
+use Rattle.std.proofs.Common.{◌≡◌, ℕ, ◌+◌, ◌-◌, ◌^◌, ◌<◌, ◌≤◌, ◌⊎◌, min, List, [], ◌∷◌, ◌++◌, length, take, drop, slice_get, is_some, true, Option, Some, None, refl, sym, ap, subst, ◌∙◌, inl, inr, arith, length-append, append-nil}
 use Rattle.std.proofs.lemmas.Bool.{cases_lt}
 use Rattle.std.proofs.lemmas.List.{length_push, take-append-le, drop-append-le, take_all, drop_all}
 use Rattle.std.proofs.lemmas.List.Sums.{sum_by-append}
@@ -158,3 +158,20 @@ pub joined_some : (blocks front : List (List Entry)) (b : List Entry) → blocks
 joined_some blocks front b e some =
     let w : length (joined blocks) ≡ length (joined front) + length b = ap length (ap joined e ∙ joined_push front b) ∙ length-append (joined front) b in
     omega (arith, w, some)
+
+-- where a first item is seen, some are left
+pub some_peeked : {X Y : Type 0} (f : Y → X) (list : Option (List X)) (r : Y) → IfSome list (λ xs. Some (f r) ≡ slice_get xs 0) → IfSome list (λ xs. 1 ≤ length xs)
+some_peeked f None r h = tt
+some_peeked f (Some []) r h = absurd (cc)
+some_peeked f (Some (x ∷ xs)) r h = omega arith
+
+pub some_first : {X Y : Type 0} (f : Y → X) (list : Option (List X)) (r : Option Y) → IfSome list (λ xs. option_map f r ≡ slice_get xs 0) → is_some r ≡ true → IfSome list (λ xs. 1 ≤ length xs)
+some_first f None r h e = tt
+some_first f (Some []) None h e = absurd (cc)
+some_first f (Some []) (Some y) h e = absurd (cc)
+some_first f (Some (x ∷ xs)) r h e = omega arith
+
+-- one block is the shortest table
+pub one_shortest : (r size : ℕ) (given : Option (List Entry)) (b : List Entry) → IfSome given (λ _. IsShortest r size (b ∷ []))
+one_shortest r size None b = tt
+one_shortest r size (Some xs) b = λ n one inside apart. absurd (omega arith)

@@ -1,14 +1,18 @@
 -- What clauses know of sources.
-use Rattle.std.specs.Prelude.{◌≡◌, ℕ, ◌+◌, ◌<◌, ◌≤◌, List, [], ◌∷◌, ◌++◌, map, Option, Some, None, IfSome, Bool, true, false}
+use Rattle.std.specs.Prelude.{◌≡◌, ◌⊎◌, ℕ, ◌+◌, ◌<◌, ◌≤◌, List, [], ◌∷◌, ◌++◌, map, Option, Some, None, IfSome, Bool, true, false}
 use Rattle.std.specs.Option.{option_map}
 use Rattle.std.specs.List.{sum_by}
 use Rattle.sst_base.specs.declared.error.Error.{Error}
+use Rattle.sst_base.specs.declared.error.Error.TheVariants.{Memory}
+use Rattle.sstable_blocks.specs.Blocks.{joined}
 
 -- What is left of a source: the list of its items, where the bytes are known that they are read from, and else nothing
--- is said of it; at most how many they are; and the error that ended the source, if one did.
+-- is said of it; at most how many they are; the errors that reading them may give, where these bytes are known; and the
+-- error that ended the source, if one did.
 pub record Left (X : Type 0) : Type 0 where
   pub list : Option (List X)
   pub most : ℕ
+  pub errors : Option (List Error)
   pub ended : Option Error
 
 -- a step takes the first item of what is left, or there is none
@@ -25,14 +29,36 @@ PassesFirst s false t = TakesFirst s None t
 abbrev pub IsTaken : {X : Type 0} → Option (List X) → List X → Option (List X) → Type 0
 IsTaken s items t = s ≡ option_map (λ rest. items ++ rest) t
 
--- what is left, in a list of other items, where this error ended it, if one did
-abbrev pub left_as : {X Y : Type 0} → (List X → List Y) → Option Error → Left X → Left Y
-left_as f ended s = record { list = option_map f s.list; most = s.most; ended = ended }
-
 -- an item, if there is one, before others
 abbrev pub before : {X : Type 0} → Option X → List X → List X
 before None xs = xs
 before (Some x) xs = x ∷ xs
+
+-- the errors that a step may give: the one that ended the source, and those of reading what is left
+abbrev pub step_errors : {X : Type 0} → Left X → Option (List Error)
+step_errors s = option_map (before s.ended) s.errors
+
+-- an error is one of these
+abbrev pub IsAmong : Error → List Error → Type 0
+IsAmong e [] = ⊥
+IsAmong e (x ∷ xs) = (x ≡ e) ⊎ IsAmong e xs
+
+-- a step may give an error, where its errors are known: it is one of these
+abbrev pub MayMeet : {X : Type 0} → Left X → Error → Type 0
+MayMeet s e = IfSome (step_errors s) (IsAmong e)
+
+-- why a step fails: an allocation did, or what every step of such a source may fail by, or what is left is read with
+-- this error
+abbrev pub MayGive : {X : Type 0} → (Error → Type 0) → Left X → Error → Type 0
+MayGive may_fail s e = (e ≡ Memory) ⊎ (may_fail e ⊎ MayMeet s e)
+
+-- later steps may give no other errors
+abbrev pub MeetsNoMore : {X : Type 0} → Left X → Left X → Type 0
+MeetsNoMore old new = (e : Error) → MayMeet new e → MayMeet old e
+
+-- what is left, in a list of other items, where this error ended it, if one did
+abbrev pub left_as : {X Y : Type 0} → (List X → List Y) → Option Error → Left X → Left Y
+left_as f ended s = record { list = option_map f s.list; most = s.most; errors = step_errors s; ended = ended }
 
 abbrev pub held_count : {X : Type 0} → Option X → ℕ
 held_count None = 0
@@ -40,7 +66,7 @@ held_count (Some x) = 1
 
 -- what is left where an item is held before it, and this error ended it, if one did
 abbrev pub left_held : {X : Type 0} → Option X → Option Error → Left X → Left X
-left_held held ended s = record { list = option_map (before held) s.list; most = held_count held + s.most; ended = ended }
+left_held held ended s = record { list = option_map (before held) s.list; most = held_count held + s.most; errors = step_errors s; ended = ended }
 
 -- where none is held, none is left
 abbrev pub IsHeld : {X : Type 0} → Option X → Option (List X) → Type 0
@@ -56,6 +82,15 @@ all_known (Some a ∷ all) = option_map (λ rest. a ∷ rest) (all_known all)
 abbrev pub lists_left : {X : Type 0} → List (Left X) → Option (List (List X))
 lists_left {X = X} lefts = all_known (map (λ (s : Left X). s.list) lefts)
 
+-- the errors of all, where those of each are known
+abbrev pub errors_of : List (Option (List Error)) → Option (List Error)
+errors_of each = option_map joined (all_known each)
+
 -- what is left of sources together, put into one list, where this error ended it, if one did
 abbrev pub all_left : {X : Type 0} → (List (List X) → List X) → Option Error → List (Left X) → Left X
-all_left {X = X} together ended lefts = record { list = option_map together (lists_left lefts); most = sum_by (λ (s : Left X). s.most) lefts; ended = ended }
+all_left {X = X} together ended lefts = record {
+  list = option_map together (lists_left lefts);
+  most = sum_by (λ (s : Left X). s.most) lefts;
+  errors = errors_of (map (λ (s : Left X). step_errors s) lefts);
+  ended = ended;
+}

@@ -1,12 +1,12 @@
 -- Entries of stored tables.
-use Rattle.std.specs.Prelude.{ℕ, ◌^◌, nat_lt, Bool, not, ◌&&◌, true, if◌then◌else◌, List, [], ◌∷◌, Option, Some, None, Result, Ok, Err}
+use Rattle.std.specs.Prelude.{◌≡◌, ℕ, ◌^◌, nat_lt, Bool, not, ◌&&◌, true, if◌then◌else◌, List, [], ◌∷◌, ◌++◌, Option, Some, None, Result, Ok, Err}
 use Rattle.std.specs.Option.{option_map}
 use Rattle.std.specs.Ordering.{is_lt}
 use Rattle.std.specs.declared.ops.Bound.TheVariants.{Unbounded}
 use Rattle.sst_base.specs.Entry.{Entry}
 use Rattle.sst_base.specs.declared.error.Error.{Error}
 use Rattle.sst_merge.specs.Merge.{entry_cmp}
-use Rattle.sst_base.specs.declared.error.Error.TheVariants.{BadHandle}
+use Rattle.sst_base.specs.declared.error.Error.TheVariants.{BadHandle, Io, Truncated}
 use Rattle.sst_base.specs.BlockHandle.{HandleParts}
 use Rattle.sst_block_core.specs.Handles.{Handle}
 use Rattle.sstable_blocks.specs.RunChecks.{check_run}
@@ -26,6 +26,22 @@ abbrev pub scan_list : Option Error → Option (List ℕ) → (List ℕ → List
 scan_list (Some e) bytes reads = None
 scan_list None None reads = None
 scan_list None (Some all) reads = known_reads (reads all)
+
+-- the errors that a source of frames may report where a block is read with this one: a range that is not inside may be
+-- reported as `Io` or `Truncated` too
+abbrev pub reported : Error → List Error
+reported BadHandle = BadHandle ∷ Io ∷ Truncated ∷ []
+reported e = e ∷ []
+
+-- the errors that reading these may give
+abbrev pub read_errors : List Read → List Error
+read_errors [] = []
+read_errors (Ok x ∷ reads) = read_errors reads
+read_errors (Err e ∷ reads) = reported e ++ read_errors reads
+
+-- a device may fail by `Io` at any time, unless each source of frames of its kind is reliable
+abbrev pub MayFailAnyTime : {S : Type 0} → (S → Type 0) → Error → Type 0
+MayFailAnyTime {S = S} is_reliable e = (e ≡ Io) × (((s : S) → is_reliable s) → ⊥)
 
 -- does no entry sort before its predecessor?
 abbrev pub is_in_order : List Entry → Bool

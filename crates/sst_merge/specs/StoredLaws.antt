@@ -34,9 +34,9 @@ given : (F R : Type 0) (b : Option (List ℕ)) (old : Option Error) (P : List �
 given F R None old P e h = tt
 given F R (Some all) old P e h = h e
 
-module _ (F R : Type 0) (b c : Option (List ℕ)) (r s : List ℕ → List Read) (old new : Option Error) (m n : ℕ) where
+module _ (F R : Type 0) (b c : Option (List ℕ)) (r s : List ℕ → List Read) (old new : Option Error) (m n : ℕ) (p q : Option (List Error)) where
   step_by : (x : Option Entry) → EndsBy {X = Option Entry} None new (Ok x) → c ≡ b → IfSome b (λ all. GivesFirst F R (r all) (s all) (Ok x)) → IsFewer m n x
-      → TakesFirst (record { list = scan_list None b r; most = m; ended = None }) x (record { list = scan_list None c s; most = n; ended = None })
+      → TakesFirst (record { list = scan_list None b r; most = m; errors = p; ended = None }) x (record { list = scan_list None c s; most = n; errors = q; ended = None })
   step_by None ends same gives fewer =
       let k = first_none b r s gives in
       (ap (λ o. scan_list None o s) same ∙ k.0, k.1, omega (arith, fewer))
@@ -44,13 +44,13 @@ module _ (F R : Type 0) (b c : Option (List ℕ)) (r s : List ℕ → List Read)
 
   -- a step from the front takes the first entry left
   pub scan_step : (result : Result (Option Entry) Error) → EndsBy old new result → c ≡ b → IfSome b (λ all. old ≡ None → GivesFirst F R (r all) (s all) result) → IfOk result (IsFewer m n)
-      → IfOk result (λ x. TakesFirst (record { list = scan_list old b r; most = m; ended = old }) x (record { list = scan_list new c s; most = n; ended = new }))
+      → IfOk result (λ x. TakesFirst (record { list = scan_list old b r; most = m; errors = p; ended = old }) x (record { list = scan_list new c s; most = n; errors = q; ended = new }))
   scan_step (Err e) ends same gives fewer = tt
   scan_step (Ok x) ends same gives fewer =
       let here : old ≡ None = not_ended old new x ends in
       let there : new ≡ None = ends.ended in
-      subst (λ o. TakesFirst (record { list = scan_list o b r; most = m; ended = o }) x (record { list = scan_list new c s; most = n; ended = new })) (sym here)
-      (subst (λ o. TakesFirst (record { list = scan_list None b r; most = m; ended = None }) x (record { list = scan_list o c s; most = n; ended = o })) (sym there)
+      subst (λ o. TakesFirst (record { list = scan_list o b r; most = m; errors = p; ended = o }) x (record { list = scan_list new c s; most = n; errors = q; ended = new })) (sym here)
+      (subst (λ o. TakesFirst (record { list = scan_list None b r; most = m; errors = p; ended = None }) x (record { list = scan_list o c s; most = n; errors = q; ended = o })) (sym there)
       (step_by x (subst (λ o. EndsBy o new (Ok x)) here ends) same (given F R b old (λ all. GivesFirst F R (r all) (s all) (Ok x)) here gives) fewer))
 
 -- what a step from the back gives, seen from there

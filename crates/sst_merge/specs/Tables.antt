@@ -1,15 +1,18 @@
 -- Tables that are written of what is left of a source.
-use Rattle.std.specs.Prelude.{◌≡◌, ◌≢◌, ℕ, ◌-◌, ◌^◌, ◌<◌, ◌≤◌, ◌⊎◌, min, List, [], length, map, take, drop, slice_get, Option, Some, IfSome}
+use Rattle.std.specs.Prelude.{◌≡◌, ◌≢◌, ◌∷◌, ◌++◌, ℕ, ◌+◌, ◌-◌, ◌^◌, ◌<◌, ◌≤◌, ◌⊎◌, min, List, [], length, map, take, drop, slice_get, Option, Some, None, IfSome}
 use Rattle.std.specs.Option.{option_map}
 use Rattle.std.specs.List.{sum_by, AllByRecursion}
 use Rattle.sst_base.specs.Entry.{Entry}
 use Rattle.sst_block_core.specs.Body.{body}
+use Rattle.sst_base.specs.declared.error.Error.{Error}
+use Rattle.sst_base.specs.declared.error.Error.TheVariants.{Io, OutOfOrder, TooLong}
 use Rattle.sst_block_core.specs.Entries.{entries}
+use Rattle.sst_block_core.specs.Kind.{IsOrdered}
 use Rattle.sstable_blocks.specs.Blocks.{joined}
-use Rattle.sstable_blocks.specs.Run.{Form}
-use Rattle.sstable_blocks.specs.Writing.{AppendsLayout}
+use Rattle.sstable_blocks.specs.Run.{Form, RunFits, block_frames}
+use Rattle.sstable_blocks.specs.Writing.{AppendsLayout, Follows, FrameFits, Writing}
 use Rattle.sstable_blocks.specs.declared.run.RunHandles.{RunHandles}
-use Rattle.sst_merge.specs.Sources.{IsTaken}
+use Rattle.sst_merge.specs.Sources.{IsTaken, Left, MayGive, MeetsNoMore}
 use Rattle.sst_merge.specs.declared.writing.Sizes.{Sizes}
 
 -- the last of these entries and the first one after them, if both are there, have different user keys
@@ -44,6 +47,48 @@ IsShortest r size blocks = (n : ℕ) → 1 ≤ n → n < length blocks → IsApa
 -- the entries for which the items of a list stand, where these are known
 abbrev pub entries_in : {X : Type 0} → (X → Entry) → Option (List X) → Option (List Entry)
 entries_in entry items = option_map (map entry) items
+
+-- the items of a block were taken from what is left of a source: they end with the one with which they reach a size, and
+-- are at least one, if one was left
+pub record TakesBlock {X : Type 0} (entry : X → Entry) (r size : ℕ) (before : Left X) (block : List X) (after : Left X) : Type 0 where
+  pub taken : IsTaken before.list block after.list
+  pub filled : IsFilled r size (entries_in entry after.list) (map entry block)
+  pub some : (1 ≤ length block) ⊎ IfSome after.list (λ xs. xs ≡ [])
+  pub most : after.most + length block ≤ before.most
+  pub ended : after.ended ≡ before.ended
+  pub no_more : MeetsNoMore before after
+
+-- a writer of runs accepted one more block
+pub record AddsBlock {W : Type 0} (old new : Writing W) (block : List Entry) : Type 0 where
+  pub blocks : new.blocks ≡ old.blocks ++ block ∷ []
+  pub accepting : new.refusal ≡ None
+
+-- a block that was taken is not the next one of a run: it does not fit after the blocks before, or is not in order
+abbrev pub IsNoBlock : Form → List (List Entry) → List Entry → Error → Type 0
+IsNoBlock f blocks block e = ((e ≡ TooLong) × (FrameFits f (length (block_frames f blocks)) block → ⊥)) ⊎ ((e ≡ OutOfOrder) × (Follows blocks block → ⊥))
+
+-- why the next block of a run is not written: its source fails, or the writer, or the items taken are no block of it
+abbrev pub MayNotAdd : {X : Type 0} → (Error → Type 0) → (X → Entry) → Form → List (List Entry) → ℕ → ℕ → Left X → List X → Left X → Error → Type 0
+MayNotAdd may_fail entry f blocks r size before block after e =
+    MayGive may_fail before e ⊎ ((e ≡ Io) ⊎ (TakesBlock entry r size before block after × IsNoBlock f blocks (map entry block) e))
+
+-- the first entries of a list, cut into blocks by their size, do not fit a run
+pub record IsTooLong (f : Form) (size : ℕ) (given : Option (List Entry)) : Type 0 where
+  pub blocks : List (List Entry)
+  pub rest : Option (List Entry)
+  pub taken : IsTaken given (joined blocks) rest
+  pub filled : AllByRecursion (IsFilled f.config.restart_interval size rest) blocks
+  pub long : RunFits f blocks → ⊥
+
+-- a known list is not in order
+abbrev pub IsOutOfOrder : Option (List Entry) → Type 0
+IsOutOfOrder given = IfSome given (λ xs. IsOrdered entries xs → ⊥)
+
+-- why the next table of a source is not written: its source fails, or the writer, or the run does not fit, or the
+-- entries are not in order
+abbrev pub MayNotWrite : {X : Type 0} → (Error → Type 0) → (X → Entry) → Form → ℕ → Left X → Error → Type 0
+MayNotWrite may_fail entry f size s e =
+    MayGive may_fail s e ⊎ ((e ≡ Io) ⊎ (((e ≡ TooLong) × IsTooLong f size (entries_in entry s.list)) ⊎ ((e ≡ OutOfOrder) × IsOutOfOrder (entries_in entry s.list))))
 
 -- a writer's known bytes grew by the layout of a run, whose entries were taken from a list. Each block ends with the entry
 -- with which it reaches its size, and the table with the first block with which it reaches its own and after which

@@ -1,8 +1,8 @@
 //! Compaction of ordered versions.
-ghost use Rattle.std.specs.Prelude.{◌≡◌, IfOk, None};
+ghost use Rattle.std.specs.Prelude.{◌≡◌, IfErr, IfOk, OnOk, None};
 ghost use Rattle.sst_merge.specs.Compact.{compact_from, compacted};
 ghost use Rattle.sst_merge.specs.Compact.{is_below_all, is_hidden, is_parted, is_seen};
-ghost use Rattle.sst_merge.specs.Sources.{TakesFirst, left_as};
+ghost use Rattle.sst_merge.specs.Sources.{MayGive, MeetsNoMore, TakesFirst, left_as};
 
 use crate::bottom::Bottom;
 use crate::source::{Source, keep_error};
@@ -105,11 +105,13 @@ fn next_staying<T: AsEntry + Drop, I: Source<T>, B: Bottom>(
     bottom: &B,
     last: &mut Option<(UserKey, SeqNo)>,
 ) -> Result<Option<T>>
-    ensures { IfOk result (λ r. TakesFirst
+    ensures first { IfOk result (λ r. TakesFirst
         (left_as (compact_from T.entry snapshots.now (B.at_bottom bottom.now) last.old) None
         (I.left source.old)) r
         (left_as (compact_from T.entry snapshots.now (B.at_bottom bottom.now) last.new) None
         (I.left source.new))) }
+    ensures cause { IfErr result (MayGive I.may_fail (I.left source.old)) }
+    ensures no_more { OnOk result (MeetsNoMore (I.left source.old) (I.left source.new)) }
 {
     while let Some(item) = source.next_entry(alloc)? {
         let seqno = item.view().seqno();
@@ -134,6 +136,8 @@ fn next_staying<T: AsEntry + Drop, I: Source<T>, B: Bottom>(
 /// Takes the first version that stays.
 impl<T: AsEntry + Drop, I: Source<T> + Drop, B: Bottom + Drop> Source<T> for Compact<T, I, B> {
     ghost left = { λ c. c };
+
+    ghost may_fail = { I.may_fail };
 
     fn next_entry(&mut self, alloc: Global) -> Result<Option<T>> {
         if let Some(error) = self.ended {

@@ -1,8 +1,9 @@
 //! Compacting what is left of a source into tables.
-ghost use Rattle.std.specs.Prelude.{◌≡◌, [], Some, OnOk};
+ghost use Rattle.std.specs.Prelude.{◌≡◌, ◌⊎◌, [], Some, IfErr, OnOk};
 ghost use Rattle.std.specs.Option.{option_map};
 ghost use Rattle.sst_merge.specs.Compact.{compacted};
-ghost use Rattle.sst_merge.specs.Outputs.{AreWritten};
+ghost use Rattle.sst_merge.specs.Outputs.{AreWritten, MayNotWriteAll};
+ghost use Rattle.sst_merge.specs.Sources.{MayGive};
 ghost use Rattle.sst_merge.specs.Tables.{entries_in};
 ghost use Rattle.sstable_blocks.specs.Run.{form, IsWritable};
 ghost use Rattle.sstable_blocks.specs.Scans.{EndsBy};
@@ -29,9 +30,13 @@ fn all_tables<H: BlockHash, T: Ranked + AsEntry + Drop, I: Source<T>, O: Outputs
 ) -> Result<()>
     requires writable { IsWritable config }
     ensures written { OnOk result
-        (AreWritten (form H.hash64 H.hash128 config) O.start (entries_in T.entry source.old.list)
-        (option_map (λ _. []) source.old.list) (O.tables outputs.old) (O.tables outputs.new)) }
+        (AreWritten (form H.hash64 H.hash128 config) sizes O.start
+        (entries_in T.entry source.old.list) (option_map (λ _. []) source.old.list)
+        (O.tables outputs.old) (O.tables outputs.new)) }
     ensures ended { OnOk result (source.new.ended ≡ source.old.ended) }
+    ensures cause { IfErr result (λ e. MayGive I.may_fail source.old e
+        ⊎ MayNotWriteAll O.may_fail (form H.hash64 H.hash128 config) sizes.block
+        (entries_in T.entry source.old.list) e) }
 {
     while source.peek().is_some() {
         let writer = outputs.open()?;
@@ -60,9 +65,13 @@ pub fn write_tables<H: BlockHash, T: Ranked + AsEntry + Drop, I: Source<T>, O: O
 ) -> Result<()>
     requires writable { IsWritable config }
     ensures written { OnOk result
-        (AreWritten (form H.hash64 H.hash128 config) O.start (entries_in T.entry source.old.list)
-        (option_map (λ _. []) source.old.list) (O.tables outputs.old) (O.tables outputs.new)) }
+        (AreWritten (form H.hash64 H.hash128 config) sizes O.start
+        (entries_in T.entry source.old.list) (option_map (λ _. []) source.old.list)
+        (O.tables outputs.old) (O.tables outputs.new)) }
     ensures ended { EndsBy source.old.ended source.new.ended result }
+    ensures cause { IfErr result (λ e. MayGive I.may_fail source.old e
+        ⊎ MayNotWriteAll O.may_fail (form H.hash64 H.hash128 config) sizes.block
+        (entries_in T.entry source.old.list) e) }
 {
     if let Some(error) = source.end() {
         return Err(error);
@@ -100,10 +109,14 @@ pub fn compact_tables<
 ) -> Result<()>
     requires writable { IsWritable config }
     ensures written { OnOk result
-        (AreWritten (form H.hash64 H.hash128 config) O.start
+        (AreWritten (form H.hash64 H.hash128 config) sizes O.start
         (entries_in T.entry
         (option_map (compacted T.entry snapshots.items (B.at_bottom bottom)) (I.left source).list))
         (option_map (λ _. []) (I.left source).list) (O.tables outputs.old) (O.tables outputs.new)) }
+    ensures cause { IfErr result (λ e. MayGive I.may_fail (I.left source) e
+        ⊎ MayNotWriteAll O.may_fail (form H.hash64 H.hash128 config) sizes.block
+        (entries_in T.entry (option_map (compacted T.entry snapshots.items (B.at_bottom bottom))
+        (I.left source).list)) e) }
 {
     let compacted = Compact::new(source, snapshots, bottom);
     let mut head = Head::new(alloc, compacted)?;

@@ -1,11 +1,13 @@
 //! Ordered merges of any number of sources.
 ghost use Rattle.std.specs.Prelude.{◌≡◌, ◌+◌, ◌*◌, ◌<◌, ◌≤◌, List, length, slice_get, slice_index};
-ghost use Rattle.std.specs.Prelude.{IfOk, IfSome, None, OnOk, Some};
+ghost use Rattle.std.specs.Prelude.{Err, IfErr, IfOk, IfSome, IsOkUnless, None, OnOk, Some};
 ghost use Rattle.std.specs.Option.{option_map};
 ghost use Rattle.sst_merge.specs.Fronts.{IsFrontOf};
 ghost use Rattle.sst_merge.specs.Merge.{merged};
 ghost use Rattle.sst_merge.specs.Picks.{IsPick, goes};
+ghost use Rattle.sst_base.specs.declared.error.Error.TheVariants.{Memory};
 ghost use Rattle.sst_merge.specs.Sources.{TakesFirst, PassesFirst, all_left};
+ghost use Rattle.sst_merge.specs.Sources.{MayGive, MeetsNoMore};
 ghost use Rattle.sst_merge.specs.Tournament.{ArePlaces, AreSeats, IsFirstOf, IsTournament, MayBeTournament};
 ghost use Rattle.sstable_blocks.specs.Scans.{EndsBy};
 
@@ -63,6 +65,9 @@ impl<T: Ranked + Drop, I: Source<T> + Drop> Head<T, I> {
         ensures list { IfOk result (λ head. head.list ≡ (I.left source).list) }
         ensures most { IfOk result (λ head. head.most ≤ (I.left source).most) }
         ensures fresh { IfOk result (λ head. head.ended ≡ None) }
+        ensures repeated { IfSome (I.left source).ended (λ e. result ≡ Err e) }
+        ensures cause { IfErr result (MayGive I.may_fail (I.left source)) }
+        ensures no_more { IfOk result (λ head. MeetsNoMore (I.left source) head) }
     {
         let held = source.next_entry(alloc)?;
         let front = front_of_held(&held);
@@ -114,6 +119,8 @@ impl<T: Ranked + Drop, I: Source<T>> Head<T, I> {
     pub fn take(&mut self, alloc: Global) -> Result<Option<T>>
         ensures first { IfOk result (λ r. TakesFirst self.old r self.new) }
         ensures ended { EndsBy self.old.ended self.new.ended result }
+        ensures cause { IfErr result (MayGive I.may_fail self.old) }
+        ensures no_more { OnOk result (MeetsNoMore self.old self.new) }
     {
         if let Some(error) = self.ended {
             return Err(error);
@@ -141,6 +148,8 @@ impl<T: Ranked + Drop, I: Source<T>> Head<T, I> {
     pub fn advance(&mut self, alloc: Global) -> Result<bool>
         ensures first { IfOk result (λ passed. PassesFirst self.old passed self.new) }
         ensures ended { EndsBy self.old.ended self.new.ended result }
+        ensures cause { IfErr result (MayGive I.may_fail self.old) }
+        ensures no_more { OnOk result (MeetsNoMore self.old self.new) }
     {
         if let Some(error) = self.ended {
             return Err(error);
@@ -258,7 +267,8 @@ fn play_all<T: Ranked, I: Source<T>>(heads: &[Head<T, I>], places: &mut [usize])
 
 // Gives each of some sources its last place in a tournament. The places before are not made.
 fn seats(alloc: Global, count: usize) -> Result<Vec<usize>>
-    ensures { IfOk result (λ places. AreSeats count places.items) }
+    ensures seats { IfOk result (λ places. AreSeats count places.items) }
+    ensures cause { IsOkUnless result Memory }
 {
     let mut places = vec![in alloc; 0; count]?;
     let mut source = 0;
@@ -281,6 +291,7 @@ fn ready_places<T: Ranked, I: Source<T>>(
     requires places { MayBeTournament T.cmp heads.now places.old.items stale.old }
     ensures kept { MayBeTournament T.cmp heads.now places.new.items stale.new }
     ensures made { OnOk result (IsTournament T.cmp heads.now places.new.items stale.new) }
+    ensures cause { IsOkUnless result Memory }
 {
     if !places.is_empty() {
         return Ok(());
@@ -294,7 +305,8 @@ fn ready_places<T: Ranked, I: Source<T>>(
 #[inline(never)]
 fn first_places<T: Ranked, I: Source<T>>(alloc: Global, heads: &[Head<T, I>]) -> Result<Vec<usize>>
     requires { 0 < length heads.now }
-    ensures { IfOk result (λ places. IsTournament T.cmp heads.now places.items 0) }
+    ensures made { IfOk result (λ places. IsTournament T.cmp heads.now places.items 0) }
+    ensures cause { IsOkUnless result Memory }
 {
     let mut places = seats(alloc, heads.len())?;
     play_all(heads, places.as_mut_slice());
@@ -419,6 +431,8 @@ impl<T: Ranked + Drop, I: Source<T> + Drop> Merge<T, I> {
     pub fn advance(&mut self, alloc: Global) -> Result<bool>
         ensures first { IfOk result (λ passed. PassesFirst self.old passed self.new) }
         ensures ended { EndsBy self.old.ended self.new.ended result }
+        ensures cause { IfErr result (MayGive I.may_fail self.old) }
+        ensures no_more { OnOk result (MeetsNoMore self.old self.new) }
     {
         if let Some(error) = self.ended {
             return Err(error);
@@ -444,6 +458,8 @@ impl<T: Ranked + Drop, I: Source<T> + Drop> Merge<T, I> {
 /// Takes the first version of the merge.
 impl<T: Ranked + Drop, I: Source<T> + Drop> Source<T> for Merge<T, I> {
     ghost left = { λ m. m };
+
+    ghost may_fail = { I.may_fail };
 
     fn next_entry(&mut self, alloc: Global) -> Result<Option<T>> {
         if let Some(error) = self.ended {

@@ -1,5 +1,6 @@
 //! Where tables are written.
-ghost use Rattle.std.specs.Prelude.{◌≡◌, ◌++◌, ◌∷◌, [], ℕ, List, Option, IfOk, OnOk};
+ghost use Rattle.std.specs.Prelude.{◌≡◌, ◌++◌, ◌∷◌, [], ℕ, List, Option, IfErr, IfOk, OnOk};
+ghost use Rattle.sst_base.specs.declared.error.Error.{Error};
 ghost use Rattle.sst_merge.specs.Outputs.{Output};
 
 use sst_base::Result;
@@ -17,6 +18,9 @@ pub trait Outputs {
     // What is known of the bytes of a writer that was just opened: none, or nothing.
     ghost start: { Option (List ℕ) };
 
+    // The errors by which opening or closing a writer may fail.
+    ghost may_fail: { Error → Type 0 };
+
     /// Opens a writer for the next table, which holds nothing yet.
     ///
     /// # Errors
@@ -24,7 +28,8 @@ pub trait Outputs {
     /// Those of what is opened.
     fn open(&mut self) -> Result<Self::Writer>
         ensures fresh { IfOk result (λ writer. Self.Writer.contents writer ≡ start) }
-        ensures same { tables self.new ≡ tables self.old };
+        ensures same { tables self.new ≡ tables self.old }
+        ensures cause { IfErr result may_fail };
 
     /// Closes the writer of a table with these handles: here a footer is written, and a file is
     /// synced.
@@ -33,6 +38,7 @@ pub trait Outputs {
     ///
     /// Those of what is closed.
     fn close(&mut self, handles: RunHandles, writer: Self::Writer) -> Result<()>
-        ensures { OnOk result (tables self.new ≡ tables self.old
-            ++ record { handles = handles; bytes = Self.Writer.contents writer } ∷ []) };
+        ensures closed { OnOk result (tables self.new ≡ tables self.old
+            ++ record { handles = handles; bytes = Self.Writer.contents writer } ∷ []) }
+        ensures cause { IfErr result may_fail };
 }

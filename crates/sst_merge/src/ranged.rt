@@ -1,6 +1,7 @@
 //! Readers whose range of user keys is known.
-ghost use Rattle.std.specs.Prelude.{◌≡◌, Some, None, true, false, if◌then◌else◌};
-ghost use Rattle.std.specs.Prelude.{IfOk, IfSome, Ok};
+ghost use Rattle.std.specs.Prelude.{◌≡◌, ◌⊎◌, Some, None, true, false, if◌then◌else◌};
+ghost use Rattle.std.specs.Prelude.{IfErr, IfOk, IfSome, Ok};
+ghost use Rattle.sst_base.specs.declared.error.Error.TheVariants.{Memory};
 ghost use Rattle.std.specs.List.{AllByRecursion};
 ghost use Rattle.std.specs.Option.{option_map};
 ghost use Rattle.sst_base.specs.Counted.{CountsBetween};
@@ -61,6 +62,9 @@ impl<R: Reader> Reader for Ranged<R> {
     ghost most = { λ s needle seqno.
         if covers s.first s.last needle then R.most s.reader needle seqno else Some (0, 0) };
 
+    ghost may_fail = { λ s needle seqno e.
+        (covers s.first s.last needle ≡ true) × R.may_fail s.reader needle seqno e };
+
     fn get(
         &mut self,
         alloc: Global,
@@ -76,6 +80,9 @@ impl<R: Reader> Reader for Ranged<R> {
         ensures counts { IfSome (if covers self.old.first self.old.last needle.now
             then R.most self.old.reader needle.now seqno else Some (0, 0))
             (CountsBetween steps.old steps.new (0, 0)) }
+        ensures cause { IfErr result (λ e. (e ≡ Memory)
+            ⊎ ((covers self.old.first self.old.last needle.now ≡ true)
+            × R.may_fail self.old.reader needle.now seqno e)) }
         ensures outside { covers self.old.first self.old.last needle.now ≡ false
             → (result ≡ Ok None) × (self.new ≡ self.old) × (steps.new ≡ steps.old) }
     {

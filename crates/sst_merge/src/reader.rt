@@ -1,11 +1,13 @@
 //! Point reads over several tables.
-ghost use Rattle.std.specs.Prelude.{◌≡◌, ℕ, List, Option, Some, map, IfOk, IfSome};
+ghost use Rattle.std.specs.Prelude.{◌≡◌, ◌⊎◌, ℕ, List, Option, Some, map, IfErr, IfOk, IfSome};
+ghost use Rattle.sst_base.specs.declared.error.Error.{Error};
+ghost use Rattle.sst_base.specs.declared.error.Error.TheVariants.{Memory};
 ghost use Rattle.sst_base.specs.Counted.{CountsBetween};
 ghost use Rattle.sst_base.specs.Entry.{Entry};
 ghost use Rattle.sst_block_core.specs.Entries.{entries};
 ghost use Rattle.sst_block_core.specs.Kind.{IsOrdered};
 ghost use Rattle.sst_block_core.specs.Window.{first_match};
-ghost use Rattle.sst_merge.specs.Counts.{most_of};
+ghost use Rattle.sst_merge.specs.Counts.{OneFails, most_of};
 ghost use Rattle.sst_merge.specs.Merge.{entry_cmp, lesser, merged};
 ghost use Rattle.sst_merge.specs.Sources.{all_known};
 
@@ -24,6 +26,9 @@ pub trait Reader {
     // are known.
     ghost most: { Self → List ℕ → ℕ → Option (ℕ × ℕ) };
 
+    // The errors that a read of a key below a sequence number may give, where no allocation fails.
+    ghost may_fail: { Self → List ℕ → ℕ → Error → Type 0 };
+
     /// Returns the first entry with this key whose sequence number is strictly below `seqno`. What
     /// is examined is added to `steps`.
     ///
@@ -41,7 +46,9 @@ pub trait Reader {
             (λ all. IfOk result (λ found. found ≡ first_match entries needle.now seqno all)) }
         ensures kept { list self.new ≡ list self.old }
         ensures counts { IfSome (most self.old needle.now seqno)
-            (CountsBetween steps.old steps.new (0, 0)) };
+            (CountsBetween steps.old steps.new (0, 0)) }
+        ensures cause { IfErr result
+            (λ e. (e ≡ Memory) ⊎ may_fail self.old needle.now seqno e) };
 }
 
 // Of two first matches, either of which may be wanting, the lesser, and of equal ones the first.
@@ -83,6 +90,8 @@ pub fn read_tables<R: Reader>(
     ensures counts { (mosts : List (ℕ × ℕ))
         → all_known (map (λ r. R.most r needle.now seqno) readers.old) ≡ Some mosts
         → CountsBetween steps.old steps.new (0, 0) (most_of mosts) }
+    ensures cause { IfErr result (λ e. (e ≡ Memory)
+        ⊎ OneFails (λ r. R.may_fail r needle.now seqno e) readers.old) }
 {
     let mut best = None;
     let mut i = readers.len();

@@ -1,7 +1,7 @@
 //! What a snapshot sees of ordered versions.
-ghost use Rattle.std.specs.Prelude.{◌≡◌, IfOk, None};
+ghost use Rattle.std.specs.Prelude.{◌≡◌, IfErr, IfOk, OnOk, None};
 ghost use Rattle.sst_merge.specs.Snapshot.{snapshot, visible_from, has_last_key};
-ghost use Rattle.sst_merge.specs.Sources.{TakesFirst, left_as};
+ghost use Rattle.sst_merge.specs.Sources.{MayGive, MeetsNoMore, TakesFirst, left_as};
 
 use crate::source::{Source, keep_error};
 use sst_base::{Error, Result, SeqNo, UserKey};
@@ -66,9 +66,11 @@ fn next_seen<T: AsEntry + Drop, I: Source<T>>(
     seqno: SeqNo,
     last: &mut Option<UserKey>,
 ) -> Result<Option<T>>
-    ensures { IfOk result (λ r.
+    ensures first { IfOk result (λ r.
         TakesFirst (left_as (visible_from T.entry seqno last.old) None (I.left source.old)) r
         (left_as (visible_from T.entry seqno last.new) None (I.left source.new))) }
+    ensures cause { IfErr result (MayGive I.may_fail (I.left source.old)) }
+    ensures no_more { OnOk result (MeetsNoMore (I.left source.old) (I.left source.new)) }
 {
     while let Some(item) = source.next_entry(alloc)? {
         if item.view().seqno() >= seqno || has_last_key(last, &item) {
@@ -85,6 +87,8 @@ fn next_seen<T: AsEntry + Drop, I: Source<T>>(
 /// Takes the first version that the snapshot sees.
 impl<T: AsEntry + Drop, I: Source<T> + Drop> Source<T> for Snapshot<T, I> {
     ghost left = { λ s. s };
+
+    ghost may_fail = { I.may_fail };
 
     fn next_entry(&mut self, alloc: Global) -> Result<Option<T>> {
         if let Some(error) = self.ended {

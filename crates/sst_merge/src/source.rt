@@ -1,6 +1,7 @@
 //! Sources of versions.
-ghost use Rattle.std.specs.Prelude.{◌≡◌, IfOk, None, Some};
-ghost use Rattle.sst_merge.specs.Sources.{Left, TakesFirst};
+ghost use Rattle.std.specs.Prelude.{◌≡◌, IfErr, IfOk, OnOk, None, Some};
+ghost use Rattle.sst_base.specs.declared.error.Error.{Error};
+ghost use Rattle.sst_merge.specs.Sources.{Left, MayGive, MeetsNoMore, TakesFirst};
 ghost use Rattle.sstable_blocks.specs.Scans.{EndsBy, error_of};
 
 use sst_base::{Error, Result};
@@ -12,8 +13,12 @@ use std::alloc::Global;
 /// An error ends the source: each later step returns it again.
 pub trait Source<T> {
     // The versions left, where they are known (those of a file whose bytes nothing is known of are
-    // not), at most how many they are, and the error that ended the source, if one did.
+    // not), at most how many they are, the errors that reading them may give, and the error that
+    // ended the source, if one did.
     ghost left: { Self → Left T };
+
+    // The errors that any step may give, whatever is left: those of a device, or of a test.
+    ghost may_fail: { Error → Type 0 };
 
     /// Takes the first version left, or returns `None` where none is left.
     ///
@@ -23,7 +28,9 @@ pub trait Source<T> {
     /// error ends the source: each later step returns it again.
     fn next_entry(&mut self, alloc: Global) -> Result<Option<T>>
         ensures first { IfOk result (λ r. TakesFirst (left self.old) r (left self.new)) }
-        ensures ended { EndsBy (left self.old).ended (left self.new).ended result };
+        ensures ended { EndsBy (left self.old).ended (left self.new).ended result }
+        ensures cause { IfErr result (MayGive may_fail (left self.old)) }
+        ensures no_more { OnOk result (MeetsNoMore (left self.old) (left self.new)) };
 }
 
 // Keeps the error of a step, if it is one. No step before it failed.

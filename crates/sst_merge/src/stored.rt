@@ -1,10 +1,11 @@
 //! Stored tables: scans as sources, tables as readers.
-ghost use Rattle.sstable_blocks.specs.RunReading.{hashes};
+ghost use Rattle.sstable_blocks.specs.RunReading.{hashes, read_checked};
+ghost use Rattle.sstable_blocks.specs.Sources.{FailsAs};
 ghost use Rattle.sstable_blocks.specs.Scans.{most_left, reads_left};
 ghost use Rattle.std.specs.Option.{option_map};
-ghost use Rattle.std.specs.Prelude.{None, Some, length, reverse};
+ghost use Rattle.std.specs.Prelude.{[], IfSome, None, Some, length, reverse};
 ghost use Rattle.sstable_blocks.specs.ReadCosts.{heads_most_in, entries_most_in};
-ghost use Rattle.sst_merge.specs.Stored.{scan_list, table_list};
+ghost use Rattle.sst_merge.specs.Stored.{MayFailAnyTime, read_errors, scan_list, table_list};
 ghost use Rattle.sst_merge.specs.TableReads.{table_ordered};
 
 use crate::reader::Reader;
@@ -24,8 +25,13 @@ impl<'k, H: BlockHash, S: FrameSource> Source<InternalValue> for Scan<'k, H, S> 
       list = scan_list s.ended (S.bytes s.table.source)
           (λ all. reads_left (hashes H.hash64 H.hash128) all s);
       most = most_left s;
+      errors = option_map
+          (λ all. read_errors (reads_left (hashes H.hash64 H.hash128) all s))
+          (S.bytes s.table.source);
       ended = s.ended;
     } };
+
+    ghost may_fail = { MayFailAnyTime S.is_reliable };
 
     #[inline(always)]
     fn next_entry(&mut self, alloc: Global) -> Result<Option<InternalValue>> {
@@ -39,8 +45,13 @@ impl<'k, H: BlockHash, S: FrameSource> Source<Reversed<InternalValue>> for Rev<S
       list = scan_list s.source.ended (S.bytes s.source.table.source)
           (λ all. reverse (reads_left (hashes H.hash64 H.hash128) all s.source));
       most = most_left s.source;
+      errors = option_map
+          (λ all. read_errors (reads_left (hashes H.hash64 H.hash128) all s.source))
+          (S.bytes s.source.table.source);
       ended = s.source.ended;
     } };
+
+    ghost may_fail = { MayFailAnyTime S.is_reliable };
 
     #[inline(always)]
     fn next_entry(&mut self, alloc: Global) -> Result<Option<Reversed<InternalValue>>> {
@@ -54,7 +65,14 @@ impl<'k, H: BlockHash, S: FrameSource> Source<Reversed<InternalValue>> for Rev<S
 /// A scan of a run over borrowed bytes, whose entries are known. It gives entries that borrow these
 /// bytes, takes no memory, and never fails.
 impl<'a, 'k, H: BlockHash> Source<EntryView<'a>> for RunScan<'a, 'k, H> {
-    ghost left = { λ s. record { list = Some s.left; most = length s.left; ended = None } };
+    ghost left = { λ s. record {
+      list = Some s.left;
+      most = length s.left;
+      errors = Some [];
+      ended = None;
+    } };
+
+    ghost may_fail = { λ _. ⊥ };
 
     #[inline(always)]
     fn next_entry(&mut self, _alloc: Global) -> Result<Option<EntryView<'a>>> {
@@ -67,8 +85,11 @@ impl<'a, 'k, H: BlockHash> Source<Reversed<EntryView<'a>>> for Rev<RunScan<'a, '
     ghost left = { λ s. record {
       list = Some (reverse s.source.left);
       most = length s.source.left;
+      errors = Some [];
       ended = None;
     } };
+
+    ghost may_fail = { λ _. ⊥ };
 
     #[inline(always)]
     fn next_entry(&mut self, _alloc: Global) -> Result<Option<Reversed<EntryView<'a>>>> {
@@ -90,6 +111,10 @@ impl<H: BlockHash, S: FrameSource> Reader for Table<H, S> {
           heads_most_in all t.handles needle seqno,
           entries_most_in all t.handles needle seqno,
         )) (S.bytes t.source) };
+
+    ghost may_fail = { λ t needle seqno e. IfSome (S.bytes t.source) (λ all.
+        FailsAs (Unit {0}) (S.is_reliable t.source)
+        (read_checked (hashes H.hash64 H.hash128) all t.handles needle seqno) e) };
 
     fn get(
         &mut self,

@@ -1,12 +1,12 @@
 //! Writing what is left of a source as tables.
 ghost use Rattle.std.specs.Prelude.{◌≡◌, ◌+◌, ◌≤◌, ◌<◌, ◌++◌, ◌∷◌, [], ◌⊎◌, ℕ, false, true};
-ghost use Rattle.std.specs.Prelude.{None, length, map, IfOk, OnOk, IfSome, IfNone};
+ghost use Rattle.std.specs.Prelude.{None, length, map, IfErr, IfOk, OnOk, IfSome, IfNone};
 ghost use Rattle.sstable_blocks.specs.Run.{form, IsWritable};
 ghost use Rattle.sstable_blocks.specs.Scans.{EndsBy};
 ghost use Rattle.sstable_blocks.specs.Writing.{IsSameRun};
-ghost use Rattle.sst_merge.specs.Sources.{IsTaken};
-ghost use Rattle.sst_merge.specs.Tables.{IsApart, IsFilled, IsTableOf, capped, block_len};
-ghost use Rattle.sst_merge.specs.Tables.{entries_in};
+ghost use Rattle.sst_merge.specs.Sources.{MayGive, MeetsNoMore};
+ghost use Rattle.sst_merge.specs.Tables.{AddsBlock, IsApart, IsTableOf, MayNotAdd, MayNotWrite};
+ghost use Rattle.sst_merge.specs.Tables.{TakesBlock, block_len, capped, entries_in};
 
 use crate::block_len::form_len;
 use crate::merge::Head;
@@ -42,12 +42,9 @@ fn fill_block<T: Ranked + AsEntry + Drop, I: Source<T>>(
 ) -> Result<usize>
     requires empty { block.old.items ≡ [] }
     requires interval { 1 ≤ interval }
-    ensures taken { OnOk result (IsTaken source.old.list block.new.items source.new.list) }
-    ensures most { OnOk result (source.new.most + length block.new.items ≤ source.old.most) }
-    ensures filled { OnOk result
-        (IsFilled interval size (entries_in T.entry source.new.list)
-        (map T.entry block.new.items)) }
-    ensures ended { OnOk result (source.new.ended ≡ source.old.ended) }
+    ensures taken { OnOk result
+        (TakesBlock T.entry interval size source.old block.new.items source.new) }
+    ensures cause { IfErr result (MayGive I.may_fail source.old) }
     ensures len { IfOk result
         (λ len. len ≡ capped (block_len interval (map T.entry block.new.items))) }
 {
@@ -74,17 +71,13 @@ fn add_block<H: BlockHash, T: Ranked + AsEntry + Drop, I: Source<T>, W: Write>(
     requires accepting { run.old.refusal ≡ None }
     requires interval { 1 ≤ interval }
     ensures run { IsSameRun run.old run.new }
-    ensures accepting { OnOk result (run.new.refusal ≡ None) }
-    ensures blocks { OnOk result
-        (run.new.blocks ≡ run.old.blocks ++ map T.entry block.new.items ∷ []) }
-    ensures taken { OnOk result (IsTaken (entries_in T.entry source.old.list)
-        (map T.entry block.new.items) (entries_in T.entry source.new.list)) }
-    ensures most { OnOk result (source.new.most < source.old.most) }
+    ensures added { OnOk result (AddsBlock run.old run.new (map T.entry block.new.items)) }
+    ensures taken { OnOk result
+        (TakesBlock T.entry interval size source.old block.new.items source.new) }
     ensures some { OnOk result (1 ≤ length block.new.items) }
-    ensures filled { OnOk result
-        (IsFilled interval size (entries_in T.entry source.new.list)
-        (map T.entry block.new.items)) }
-    ensures ended { OnOk result (source.new.ended ≡ source.old.ended) }
+    ensures cause { IfErr result (MayNotAdd I.may_fail T.entry
+        (form H.hash64 H.hash128 run.old.config) run.old.blocks interval size source.old
+        block.new.items source.new) }
     ensures len { IfOk result
         (λ len. len ≡ capped (block_len interval (map T.entry block.new.items))) }
 {
@@ -110,6 +103,7 @@ fn goes_on<T: Ranked + AsEntry + Drop, I: Source<T>>(
         → IfSome (entries_in T.entry source.now.list) (IsApart (map T.entry block.now)) }
     ensures reaches { result ≡ false
         → (size ≤ len) ⊎ IfSome (entries_in T.entry source.now.list) (λ xs. xs ≡ []) }
+    ensures some { result ≡ true → IfSome source.now.list (λ xs. 1 ≤ length xs) }
     ensures goes_on { (total : ℕ) → len ≡ capped total → result ≡ true
         → IfSome (entries_in T.entry source.now.list)
         (λ rest. IsApart (map T.entry block.now) rest → total < size) }
@@ -138,6 +132,9 @@ fn next_table<H: BlockHash, T: Ranked + AsEntry + Drop, I: Source<T>, W: Write +
     ensures most { IfOk result (λ r. IfSome r (λ t. source.new.most < source.old.most)) }
     ensures done { IfOk result (λ r. IfNone r (IfSome source.old.list (λ xs. xs ≡ []))) }
     ensures ended { OnOk result (source.new.ended ≡ source.old.ended) }
+    ensures cause { IfErr result (MayNotWrite I.may_fail T.entry
+        (form H.hash64 H.hash128 config) sizes.block source.old) }
+    ensures no_more { OnOk result (MeetsNoMore source.old source.new) }
 {
     if source.peek().is_none() {
         return Ok(None);
@@ -176,6 +173,9 @@ pub fn write_table<H: BlockHash, T: Ranked + AsEntry + Drop, I: Source<T>, W: Wr
     ensures most { IfOk result (λ r. IfSome r (λ t. source.new.most < source.old.most)) }
     ensures done { IfOk result (λ r. IfNone r (IfSome source.old.list (λ xs. xs ≡ []))) }
     ensures ended { EndsBy source.old.ended source.new.ended result }
+    ensures cause { IfErr result (MayNotWrite I.may_fail T.entry
+        (form H.hash64 H.hash128 config) sizes.block source.old) }
+    ensures no_more { OnOk result (MeetsNoMore source.old source.new) }
 {
     if let Some(error) = source.end() {
         return Err(error);

@@ -6,4 +6,4 @@ use Rattle.sst_merge.specs.Sources.{Left}
 
 -- what is left of a source of which so many items are taken at most
 abbrev pub limited : ℕ → Left Entry → Left Entry
-limited n s = record { list = option_map (take n) s.list; most = s.most; ended = s.ended }
+limited n s = record { list = option_map (take n) s.list; most = s.most; errors = s.errors; ended = s.ended }

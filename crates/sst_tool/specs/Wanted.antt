@@ -12,7 +12,7 @@ use Rattle.sst_tool.specs.declared.scan.Wanted.{Wanted}
 abbrev pub seen_of : Option ℕ → Direction → Left Entry → Left Entry
 seen_of None d s = s
 seen_of (Some at) Forward s = left_as (snapshot (λ e. e) at) None s
-seen_of (Some at) Backward s = record { list = None; most = s.most; ended = None }
+seen_of (Some at) Backward s = record { list = None; most = s.most; errors = None; ended = None }
 
 -- what is left to print of a source whose entries come in the wanted order
 abbrev pub wanted_of : Wanted → Left Entry → Left Entry

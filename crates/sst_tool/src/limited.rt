@@ -55,8 +55,11 @@ impl<I: Source<InternalValue>> Source<InternalValue> for Limited<I> {
     ghost left = { λ l. record {
       list = (limited l.count (I.left l.source)).list;
       most = (I.left l.source).most;
+      errors = None;
       ended = l.ended;
     } };
+
+    ghost may_fail = { λ _. ⊥ };
 
     fn next_entry(&mut self, alloc: Global) -> Result<Option<InternalValue>> {
         if let Some(error) = self.ended {

@@ -94,7 +94,7 @@ pub fn write_source<H: BlockHash, I: Source<InternalValue> + Drop, O: Outputs>(
     tables: &mut O,
 ) -> sstable_blocks::Result<()>
     requires writable { IsWritable how.config }
-    ensures written { OnOk result (AreWritten (form H.hash64 H.hash128 how.config) O.start
+    ensures written { OnOk result (AreWritten (form H.hash64 H.hash128 how.config) how.sizes O.start
         (I.left source).list (option_map (λ _. []) (I.left source).list) (O.tables tables.old)
         (O.tables tables.new)) }
 {
@@ -112,7 +112,7 @@ fn write_merged<H: BlockHash, I: Source<InternalValue> + Drop, O: Outputs>(
     tables: &mut O,
 ) -> sstable_blocks::Result<()>
     requires writable { IsWritable how.config }
-    ensures written { OnOk result (AreWritten (form H.hash64 H.hash128 how.config) O.start
+    ensures written { OnOk result (AreWritten (form H.hash64 H.hash128 how.config) how.sizes O.start
         (staying reads.snapshots.items reads.is_bottom heads.items)
         (option_map (λ _. []) (staying reads.snapshots.items reads.is_bottom heads.items))
         (O.tables tables.old) (O.tables tables.new)) }

@@ -64,6 +64,8 @@ pub struct Merged<'n, I> {
 impl<'n, I: Source<InternalValue>> Source<InternalValue> for Merged<'n, I> {
     ghost left = { λ s. I.left s.source };
 
+    ghost may_fail = { I.may_fail };
+
     fn next_entry(&mut self, alloc: Global) -> sstable_blocks::Result<Option<InternalValue>> {
         self.place.set(None);
         let entry = self.source.next_entry(alloc);
@@ -94,6 +96,8 @@ impl<'n, I> Written<'n, I> {
 
 impl<'n, I: Source<InternalValue>> Source<InternalValue> for Written<'n, I> {
     ghost left = { λ w. I.left w.source };
+
+    ghost may_fail = { I.may_fail };
 
     fn next_entry(&mut self, alloc: Global) -> sstable_blocks::Result<Option<InternalValue>> {
         let entry = self.source.next_entry(alloc);

@@ -271,6 +271,9 @@ impl<'r, 'w, 'c, R: LockFiles> Outputs for NewTables<'r, 'w, 'c, R> {
 
     ghost start = { None };
 
+    // (the error of a file that is not made or opened is any)
+    ghost may_fail = { λ _. Unit {0} };
+
     fn open(&mut self) -> sstable_blocks::Result<NotedFile<'c, BufferedFile<R::File>>> {
         let file = match self.next.take() {
             Some(file) => file,

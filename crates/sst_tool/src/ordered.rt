@@ -93,8 +93,11 @@ impl<I: InBlocks> Source<InternalValue> for Ordered<I> {
     ghost left = { λ o. record {
       list = (I.left o.source).list;
       most = (I.left o.source).most;
+      errors = None;
       ended = o.ended;
     } };
+
+    ghost may_fail = { λ _. ⊥ };
 
     fn next_entry(&mut self, alloc: Global) -> Result<Option<InternalValue>>
         ensures first { IfOk result (λ r.

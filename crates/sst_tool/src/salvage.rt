@@ -141,8 +141,8 @@ fn next_counted<H: BlockHash, S: FrameSource, R: Clock + Eprint>(
     most: &mut u64,
 ) -> sstable_blocks::Result<Option<InternalValue>>
     ensures first { IfOk result (λ r. TakesFirst
-        (record { list = None; most = most.old; ended = None }) r
-        (record { list = None; most = most.new; ended = None })) }
+        (record { list = None; most = most.old; errors = None; ended = None }) r
+        (record { list = None; most = most.new; errors = None; ended = None })) }
 {
     if *most == 0 {
         return Ok(None);
@@ -165,7 +165,9 @@ struct Salvaged<'p, 'w, H: BlockHash, S, R> {
 
 impl<'p, 'w, H: BlockHash, S: FrameSource, R: Clock + Eprint> Source<InternalValue>
     for Salvaged<'p, 'w, H, S, R> {
-    ghost left = { λ s. record { list = None; most = s.most; ended = s.ended } };
+    ghost left = { λ s. record { list = None; most = s.most; errors = None; ended = s.ended } };
+
+    ghost may_fail = { λ _. ⊥ };
 
     fn next_entry(&mut self, alloc: Global) -> sstable_blocks::Result<Option<InternalValue>> {
         if let Some(error) = self.ended {

@@ -98,8 +98,11 @@ impl<I: Source<InternalValue>> Source<InternalValue> for SeenBack<I> {
     ghost left = { λ s. record {
       list = None;
       most = held_count s.newest + (I.left s.source).most;
+      errors = None;
       ended = s.ended;
     } };
+
+    ghost may_fail = { λ _. ⊥ };
 
     fn next_entry(&mut self, alloc: Global) -> Result<Option<InternalValue>> {
         if let Some(error) = self.ended {

@@ -109,7 +109,14 @@ impl<'p, 'k, H: BlockHash, S: FrameSource> InBlocks for Scanned<'p, 'k, H, S> {
 }
 
 impl<'p, 'k, H: BlockHash, S: FrameSource> Source<InternalValue> for Scanned<'p, 'k, H, S> {
-    ghost left = { λ s. record { list = None; most = most_left s.scan; ended = s.scan.ended } };
+    ghost left = { λ s. record {
+      list = None;
+      most = most_left s.scan;
+      errors = None;
+      ended = s.scan.ended;
+    } };
+
+    ghost may_fail = { λ _. ⊥ };
 
     fn next_entry(&mut self, alloc: Global) -> Result<Option<InternalValue>> {
         self.unread = self.scan.unread();

@@ -1,5 +1,6 @@
 //! Tables into which sources are compacted, and how these are read.
-ghost use Rattle.std.specs.Prelude.{Some, [], map};
+ghost use Rattle.std.specs.Prelude.{◌≡◌, Some, [], map};
+ghost use Rattle.sst_base.specs.declared.error.Error.TheVariants.{Memory};
 
 use super::merging::{level_of, snapshots_of};
 use super::or_none;
@@ -29,6 +30,8 @@ impl Outputs for Kept {
         k.tables.items };
 
     ghost start = { Some [] };
+
+    ghost may_fail = { λ e. e ≡ Memory };
 
     fn open(&mut self) -> sst_base::Result<Vec<u8>> {
         Ok(Vec::new(self.alloc))

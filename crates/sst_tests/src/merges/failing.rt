@@ -22,8 +22,11 @@ impl<T, I: Source<T>> Source<T> for Failing<I> {
     ghost left = { λ s. record {
       list = None;
       most = (I.left s.source).most;
+      errors = None;
       ended = s.ended;
     } };
+
+    ghost may_fail = { λ _. ⊥ };
 
     fn next_entry(&mut self, alloc: Global) -> Result<Option<T>> {
         if let Some(error) = self.ended {

@@ -1,5 +1,6 @@
 // Tables that compactions write: what stays after an output or a source fails.
-ghost use Rattle.std.specs.Prelude.{Some, [], map};
+ghost use Rattle.std.specs.Prelude.{◌≡◌, ◌⊎◌, Some, [], map};
+ghost use Rattle.sst_base.specs.declared.error.Error.TheVariants.{Io, Memory};
 
 use crate::Tested;
 use crate::merges::failing::failing_after;
@@ -31,6 +32,8 @@ impl Outputs for Kept {
         k.tables.items };
 
     ghost start = { Some [] };
+
+    ghost may_fail = { λ e. (e ≡ Io) ⊎ (e ≡ Memory) };
 
     fn open(&mut self) -> Result<Vec<u8>> {
         Ok(Vec::new(self.alloc))

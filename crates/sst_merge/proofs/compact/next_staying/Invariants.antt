@@ -1,12 +1,14 @@
 use Rattle.std.proofs.Common.{◌≡◌, ◌≤◌}
 use Rattle.std.specs.Option.{option_map}
 use Rattle.sst_merge.specs.Compact.{compact_from}
+use Rattle.sst_merge.specs.Sources.{MeetsNoMore}
 use Rattle.sst_merge.proofs.compact.next_staying.Given as goal
 
 abbrev pub invariant-loop-item : goal.invariant-loop-item
 invariant-loop-item g l = record {
   list : option_map (compact_from g.T.AsEntry.entry l.fn.snapshots (g.B.Bottom.at_bottom l.fn.bottom) l.last) (g.I.Source.left l.source).list ≡ option_map (compact_from g.T.AsEntry.entry l.fn.snapshots (g.B.Bottom.at_bottom l.fn.bottom) l.fn.last) (g.I.Source.left l.fn.source).list;
   most : (g.I.Source.left l.source).most ≤ (g.I.Source.left l.fn.source).most;
+  no_more : MeetsNoMore (g.I.Source.left l.fn.source) (g.I.Source.left l.source);
 }
 
 abbrev pub decreases-loop-item : goal.decreases-loop-item

@@ -5,6 +5,6 @@ use Rattle.sst_merge.proofs.merge.first_now.Goals as goal
 
 pub returns : goal.returns
 returns g c =
-    let none : c.args.stale ≡ 0 = omega (arith, c.if-stale-gt0.false) in
-    let there = c.requires.places (omega (arith, c.if-places-lt2.false)) in
+    let none : c.args.stale ≡ 0 = omega arith in
+    let there = c.requires.places (omega arith) in
     root_is_pick g.T.Ranked.cmp g.T.Ranked.ordered c.args.heads.now c.args.places.now (subst (λ n. ArePlaces g.T.Ranked.cmp c.args.heads.now c.args.places.now (λ j. IsAbove j n)) none there.places_are) c.requires.some

@@ -1,11 +1,12 @@
-use Rattle.std.proofs.Common.{◌≡◌, ◌-◌, length, drop, arith, refl, ◌∙◌, ap, sym, subst}
+use Rattle.std.proofs.Common.{◌≡◌, ◌-◌, length, drop, arith, refl, ◌∙◌, ap, sym, subst, inl, inr}
 use Rattle.std.specs.Prelude.{IfSome}
+use Rattle.std.proofs.lemmas.Result.{err_from_is_err_and}
 use Rattle.std.proofs.lemmas.List.{length-set}
 use Rattle.sst_base.specs.Counted.{CountsBetween}
 use Rattle.sst_block_core.specs.Entries.{entries}
 use Rattle.sst_block_core.specs.Window.{first_match}
 use Rattle.sst_merge.specs.CountLaws.{count_more, front_same, none_counted, within_all}
-use Rattle.sst_merge.specs.ReaderLaws.{matches, none_read, read_more, kept_more, read_is_merge}
+use Rattle.sst_merge.specs.ReaderLaws.{matches, none_read, one_fails, read_more, kept_more, read_is_merge}
 use Rattle.sst_merge.specs.Sources.{all_known}
 use Rattle.sst_merge.proofs.reader.read_tables.Goals as goal
 
@@ -50,3 +51,13 @@ returns-in_err-found-clause-counts g c = λ mosts known. within_all c.args.steps
 
 pub returns-clause-counts : goal.returns-clause-counts
 returns-clause-counts g c = λ mosts known. within_all c.args.steps.now c.loop-i.steps mosts c.loop-i.i (c.loop-i.invariant.counts mosts known)
+
+pub returns-in_err-found-clause-cause : goal.returns-in_err-found-clause-cause
+returns-in_err-found-clause-cause g c =
+    let p = err_from_is_err_and c.from_residual.result c.from_residual.ensures.1 in
+    rw (p.1, p.2) (elim c.in_err-found.ensures.cause [
+      | inl memory ↦ inl memory
+      | inr fails ↦ inr (one_fails (λ r. g.R.Reader.may_fail r c.args.needle.now c.args.seqno c.in_err-found.field-0.0) c.args.readers.now (c.loop-i.i - 1) c.index-readers-i.result
+          (let w = c.loop-i.invariant.inside in omega (arith, w, c.loop-i.auto.readers)) (c.index-readers-i.is ∙ c.loop-i.invariant.same (c.loop-i.i - 1) c.index-readers-i.result (omega arith))
+          (subst (λ x. g.R.Reader.may_fail x c.args.needle.now c.args.seqno c.in_err-found.field-0.0) (sym c.index-readers-i.is) fails))
+    ])

@@ -1,4 +1,8 @@
 use Rattle.std.proofs.Common.{◌≡◌, ◌∷◌, [], ◌++◌, Some, length, length-append, map, subst, sym, ap, ◌∙◌, inl, inr, arith}
+use Rattle.std.specs.Option.{IfSome}
+use Rattle.sst_merge.specs.MappedLaws.{none_entries}
+use Rattle.std.proofs.lemmas.Result.{err_from_is_err_and}
+use Rattle.sst_merge.specs.WriteLaws.{gives_more}
 use Rattle.std.proofs.lemmas.List.{length-map, map-append}
 use Rattle.std.proofs.lemmas.Bool.Decides.{nat_tests}
 use Rattle.std.proofs.lemmas.Grind.{common_steps}
@@ -32,4 +36,24 @@ loop-alloc-preserved g c =
         | else-is_empty+then-len-size w ↦ inr w.if-len-size.true
       ]);
       ended = same_end c.loop-alloc.source.ended c.take.new.self.ended (Some e) (rw c.in-Some.is at c.in_ok-entry.ensures.ended) ∙ before.ended;
+      no_more = λ e met. before.no_more e (c.in_ok-entry.ensures.no_more e met);
+    }
+
+pub returns-in_err-entry-clause-cause : goal.returns-in_err-entry-clause-cause
+returns-in_err-entry-clause-cause g c =
+    let p = err_from_is_err_and c.from_residual.result c.from_residual.ensures.1 in
+    rw (p.1, p.2) (gives_more g.I.Source.may_fail c.args.source.now c.loop-alloc.source c.in_err-entry.field-0.0 c.loop-alloc.invariant.no_more c.in_err-entry.ensures.cause)
+
+pub returns-in_default-clause-taken : goal.returns-in_default-clause-taken
+returns-in_default-clause-taken g c =
+    let first = rw c.in_default.is at c.in_ok-entry.ensures.first in
+    let inv = c.loop-alloc.invariant in
+    let none = subst (λ o. IfSome o (λ xs. xs ≡ [])) (sym first.0) first.1 in
+    record {
+      taken = subst (λ o. IsTaken c.args.source.now.list c.loop-alloc.block.items o) (sym first.0) inv.taken;
+      filled = record { reaches = inr (none_entries g.T.AsEntry.entry c.take.new.self.list none); below = inv.below };
+      some = inr none;
+      most = omega (arith, inv.most, first.2);
+      ended = same_end c.loop-alloc.source.ended c.take.new.self.ended _ c.in_ok-entry.ensures.ended ∙ inv.ended;
+      no_more = λ e met. inv.no_more e (c.in_ok-entry.ensures.no_more e met);
     }

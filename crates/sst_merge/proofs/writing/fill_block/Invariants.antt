@@ -1,6 +1,6 @@
 use Rattle.std.proofs.Common.{◌≡◌, ◌+◌, ◌≤◌, length, map}
 use Rattle.sst_merge.specs.SizeLaws.{IsBelow}
-use Rattle.sst_merge.specs.Sources.{IsTaken}
+use Rattle.sst_merge.specs.Sources.{IsTaken, MeetsNoMore}
 use Rattle.sst_merge.specs.Tables.{capped, block_len}
 use Rattle.sst_merge.proofs.writing.fill_block.Given as goal
 
@@ -11,6 +11,7 @@ invariant-loop-alloc g l = record {
   len : l.len ≡ capped (block_len l.interval (map g.T.AsEntry.entry l.block.items));
   below : IsBelow l.interval l.size (map g.T.AsEntry.entry l.block.items);
   ended : l.source.ended ≡ l.fn.source.ended;
+  no_more : MeetsNoMore l.fn.source l.source;
 }
 
 abbrev pub decreases-loop-alloc : goal.decreases-loop-alloc

@@ -3,7 +3,7 @@ use Rattle.std.specs.List.{AllByRecursion}
 use Rattle.std.specs.Option.{IfSome}
 use Rattle.sst_base.specs.Entry.{Entry}
 use Rattle.sstable_blocks.specs.Blocks.{joined}
-use Rattle.sst_merge.specs.Sources.{IsTaken}
+use Rattle.sst_merge.specs.Sources.{IsTaken, MeetsNoMore}
 use Rattle.sst_merge.specs.Tables.{IsFilled, IsShortest, blocks_len, capped, entries_in}
 use Rattle.sst_merge.proofs.writing.next_table.Given as goal
 
@@ -22,6 +22,7 @@ invariant-loop-alloc g l = record {
   taken : IsTaken (entries_in g.T.AsEntry.entry l.fn.source.list) (joined l.run.blocks) (entries_in g.T.AsEntry.entry l.source.list);
   most : l.source.most < l.fn.source.most;
   ended : l.source.ended ≡ l.fn.source.ended;
+  no_more : MeetsNoMore l.fn.source l.source;
 }
 
 abbrev pub decreases-loop-alloc : goal.decreases-loop-alloc

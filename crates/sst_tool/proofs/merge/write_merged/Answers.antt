@@ -15,5 +15,5 @@ returns g c =
     let kept = left_as (compacted (λ (e : Entry). e) c.args.reads.snapshots.items (λ _. c.args.reads.is_bottom)) None in
     let same : c.new-written.result.source.list ≡ staying c.args.reads.snapshots.items c.args.reads.is_bottom c.args.heads.items =
     ap (λ (s : Left Entry). s.list) (c.new-written.ensures ∙ c.new-staying.ensures ∙ ap kept c.new-merged.ensures) in
-    let P = λ (left : Option (List Entry)). OnOk c.write_source.result (AreWritten f g.O.Outputs.start left (option_map (λ _. []) left) (g.O.Outputs.tables c.args.tables.now) (g.O.Outputs.tables c.write_source.new.tables)) in
+    let P = λ (left : Option (List Entry)). OnOk c.write_source.result (AreWritten f c.args.how.sizes g.O.Outputs.start left (option_map (λ _. []) left) (g.O.Outputs.tables c.args.tables.now) (g.O.Outputs.tables c.write_source.new.tables)) in
     record { written = subst P same c.write_source.ensures.written }

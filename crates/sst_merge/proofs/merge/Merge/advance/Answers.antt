@@ -1,5 +1,8 @@
-use Rattle.std.proofs.Common.{◌+◌, ◌/◌, ◌∙◌, subst, sym}
+use Rattle.std.proofs.Common.{◌+◌, ◌/◌, ◌∙◌, ap, subst, sym}
+use Rattle.sstable_blocks.specs.Scans.{error_of}
+use Rattle.sst_merge.specs.ErrorLaws.{merge_gives, merge_no_more}
 use Rattle.sst_merge.specs.Picks.{IsPick}
+use Rattle.sst_merge.specs.Sources.{MayGive}
 use Rattle.sst_merge.specs.SourceLaws.{passed_merge}
 use Rattle.sst_merge.specs.Tournament.{IsTournament}
 use Rattle.sst_merge.proofs.Tournaments.{still_tournament}
@@ -21,3 +24,20 @@ pub first_of-requires : goal.first_of-requires
 first_of-requires g c =
     subst (λ ls. IsTournament g.T.Ranked.cmp ls c.first_of-first.new.places.items ((c.len.result + c.first_of-first.result) / 2)) (sym c.deref-in-Ok.ensures.value)
     (still_tournament g.T.Ranked.cmp g.T.Ranked.ordered c.self.inside.heads.items c.deref-2.result.now c.first_of-first.new.places.items _ c.len.result c.first_of-first.result c.advance.new.self c.deref-2.ensures.value c.first_of-first.ensures.fresh (c.len.ensures ∙ sym c.deref-2.ensures.len) c.first_of-first.ensures.first.inside c.first_of-first.ensures.kept)
+
+pub returns-in-Ok-clause-no_more : goal.returns-in-Ok-clause-no_more
+returns-in-Ok-clause-no_more g c =
+    let cmp = g.T.Ranked.cmp in
+    let heads = c.self.inside.heads.items in
+    let first = c.first_of-first.result in
+    let p : IsPick cmp heads first = subst (λ ls. IsPick cmp ls first) c.deref-2.ensures.value c.first_of-first.ensures.first in
+    merge_no_more cmp _ _ heads first c.index_mut.result.now c.advance.new.self c.args.self.now c.self.view_is (c.keep_error.ensures ∙ ap error_of c.in_ok-ready.was) p c.index_mut.ensures.value c.in-Ok.ensures.no_more
+
+pub returns-in-Err-clause-cause : goal.returns-in-Err-clause-cause
+returns-in-Err-clause-cause g c =
+    let cmp = g.T.Ranked.cmp in
+    let heads = c.self.inside.heads.items in
+    let first = c.first_of-first.result in
+    let p : IsPick cmp heads first = subst (λ ls. IsPick cmp ls first) c.deref-2.ensures.value c.first_of-first.ensures.first in
+    subst (MayGive g.I.Source.may_fail c.args.self.now) (sym c.note_error.ensures.same)
+    (merge_gives cmp g.I.Source.may_fail _ heads first c.index_mut.result.now c.args.self.now c.in-Err.error c.self.view_is p c.index_mut.ensures.value c.in-Err.ensures.cause)

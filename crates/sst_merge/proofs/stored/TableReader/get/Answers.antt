@@ -1,9 +1,10 @@
-use Rattle.std.proofs.Common.{◌≡◌, IfOk, ap, ◌∙◌}
+use Rattle.std.proofs.Common.{◌<◌, ◌≡◌, IfOk, ap, ◌∙◌}
 use Rattle.sst_base.specs.Counted.{CountsBetween}
 use Rattle.sst_merge.specs.Stored.{table_list}
+use Rattle.sst_merge.specs.FailureLaws.{table_fails}
 use Rattle.sst_merge.specs.TableReads.{table_found, mapped}
 use Rattle.sstable_blocks.specs.ReadCosts.{heads_most_in, entries_most_in}
-use Rattle.sstable_blocks.specs.RunReading.{hashes}
+use Rattle.sstable_blocks.specs.RunReading.{hashes, read_checked}
 use Rattle.sst_merge.proofs.stored.TableReader.get.Goals as goal
 
 pub returns-clause-found : goal.returns-clause-found
@@ -26,3 +27,10 @@ pub returns-clause-counts : goal.returns-clause-counts
 returns-clause-counts g c =
     let t = c.args.self.now in
     mapped (λ all. (heads_most_in all t.handles c.args.needle.now c.args.seqno, entries_most_in all t.handles c.args.needle.now c.args.seqno)) (CountsBetween c.args.steps.now c.get.new.steps (0, 0)) (g.S.FrameSource.bytes t.source) c.get.ensures.counts
+
+pub returns-clause-cause : goal.returns-clause-cause
+returns-clause-cause g c =
+    let h = hashes g.H.BlockHash.hash64 g.H.BlockHash.hash128 in
+    let t = c.args.self.now in
+    table_fails (g.S.FrameSource.failures t.source < g.S.FrameSource.failures c.get.new.self.source) (g.S.FrameSource.is_reliable t.source) (g.S.FrameSource.bytes t.source)
+    (λ all. read_checked h all t.handles c.args.needle.now c.args.seqno) c.get.result c.get.ensures.exact
