@@ -1,16 +1,19 @@
 //! Commands that check bytes as blocks, and all changes of them.
 
 use crate::changes::changed;
+use crate::data_blocks::data_block;
 use crate::digest::Digest;
 use crate::fault::{Fault, Result};
+use crate::indexes::index_block;
 use crate::room::{Room, block_with};
 use crate::words::{alike, number_of, small_of};
-use sst_base::table::block::{Block, BlockType};
+use sst_base::table::block::BlockType;
 use sst_base::{BlockHash, Error};
 use sst_block_core::{DataBlock, DataBlockRef, IndexBlock, IndexBlockRef};
 use std::alloc::Global;
 
-type Checked = std::result::Result<usize, Error>;
+/// The number of items of a block, or why it is none.
+type Checked = Result<usize>;
 
 /// The kinds of blocks.
 #[derive(Clone, Copy)]
@@ -30,7 +33,7 @@ fn kind_of(word: &str) -> Result<Kind> {
 
 /// What the checks of some bytes return: the one that makes no table of the heads, the one that makes
 /// it, the one that borrows the block, and the one of bytes that are lent.
-#[derive(Drop)]
+#[derive(Clone, Copy)]
 struct Checks {
     once: Checked,
     tabled: Checked,
@@ -38,92 +41,83 @@ struct Checks {
     lent: Checked,
 }
 
-/// The number of items of a data block that a check returns, or its error.
-fn data_count<H: BlockHash>(checked: std::result::Result<DataBlock<H>, Error>) -> Checked {
-    match checked {
-        Ok(block) => Ok(block.len()),
-        Err(error) => Err(error),
-    }
+/// The check of bytes as a data block, which makes a table of its heads or none.
+fn data_count<H: BlockHash>(alloc: Global, payload: &[u8], tabled: bool) -> Checked {
+    Ok(data_block::<H>(alloc, payload, tabled)?.len())
+}
+
+/// The check that borrows a data block.
+fn data_by_ref<H: BlockHash>(alloc: Global, payload: &[u8]) -> Checked {
+    let block = block_with(alloc, BlockType::Data, payload)?;
+    Ok(DataBlock::<H>::check_ref(alloc, &block)?)
 }
 
 /// The check of bytes that are lent as a data block.
 fn data_lent<H: BlockHash>(alloc: Global, payload: &[u8]) -> Checked {
-    match DataBlockRef::<H>::check(alloc, payload) {
-        Ok(page) => Ok(page.len()),
-        Err(error) => Err(error),
-    }
+    Ok(DataBlockRef::<H>::check(alloc, payload)?.len())
 }
 
 /// The checks of bytes as a data block.
-fn data_checks<H: BlockHash>(alloc: Global, payload: &[u8]) -> Result<Checks> {
-    let block = block_with(alloc, BlockType::Data, payload)?;
-    let once = data_count(DataBlock::<H>::check_once(alloc, block));
-    let block = block_with(alloc, BlockType::Data, payload)?;
-    let tabled = data_count(DataBlock::<H>::check(alloc, block));
-    let block = block_with(alloc, BlockType::Data, payload)?;
-    Ok(Checks {
-        once,
-        tabled,
-        by_ref: DataBlock::<H>::check_ref(alloc, &block),
+fn data_checks<H: BlockHash>(alloc: Global, payload: &[u8]) -> Checks {
+    Checks {
+        once: data_count::<H>(alloc, payload, false),
+        tabled: data_count::<H>(alloc, payload, true),
+        by_ref: data_by_ref::<H>(alloc, payload),
         lent: data_lent::<H>(alloc, payload),
-    })
+    }
 }
 
-/// The number of items of an index block that a check returns, or its error.
-fn index_count(checked: std::result::Result<IndexBlock, Error>) -> Checked {
-    match checked {
-        Ok(block) => Ok(block.len()),
-        Err(error) => Err(error),
-    }
+/// The check of bytes as an index block, which makes a table of its heads or none.
+fn index_count(alloc: Global, payload: &[u8], tabled: bool) -> Checked {
+    Ok(index_block(alloc, payload, tabled)?.len())
+}
+
+/// The check that borrows an index block.
+fn index_by_ref(alloc: Global, payload: &[u8]) -> Checked {
+    let block = block_with(alloc, BlockType::Index, payload)?;
+    Ok(IndexBlock::check_ref(&block)?)
 }
 
 /// The check of bytes that are lent as an index block.
 fn index_lent(payload: &[u8]) -> Checked {
-    match IndexBlockRef::check(payload) {
-        Ok(page) => Ok(page.len()),
-        Err(error) => Err(error),
-    }
+    Ok(IndexBlockRef::check(payload)?.len())
 }
 
 /// The checks of bytes as an index block.
-fn index_checks(alloc: Global, payload: &[u8]) -> Result<Checks> {
-    let block = block_with(alloc, BlockType::Index, payload)?;
-    let once = index_count(IndexBlock::check_once(block));
-    let block = block_with(alloc, BlockType::Index, payload)?;
-    let tabled = index_count(IndexBlock::check(alloc, block));
-    let block = block_with(alloc, BlockType::Index, payload)?;
-    Ok(Checks {
-        once,
-        tabled,
-        by_ref: IndexBlock::check_ref(&block),
+fn index_checks(alloc: Global, payload: &[u8]) -> Checks {
+    Checks {
+        once: index_count(alloc, payload, false),
+        tabled: index_count(alloc, payload, true),
+        by_ref: index_by_ref(alloc, payload),
         lent: index_lent(payload),
-    })
+    }
 }
 
 /// The text of a check.
-fn text_of(alloc: Global, checked: &Checked) -> Result<String> {
+fn text_of(alloc: Global, checked: Checked) -> Result<String> {
     match checked {
         Ok(count) => Ok(format!(in alloc; "{count}")?),
-        Err(Error::Memory) => Err(Fault::Refused(Error::Memory)),
-        Err(error) => Ok(format!(in alloc; "{error:?}")?),
+        Err(Fault::Refused(error)) if error != Error::Memory => {
+            Ok(format!(in alloc; "{error:?}")?)
+        }
+        Err(fault) => Err(fault),
     }
 }
 
 /// The result of checks: the number of items or the error, and each where they differ.
-fn text_of_all(alloc: Global, checks: &Checks) -> Result<String> {
-    let text = text_of(alloc, &checks.once)?;
-    let text = alike(alloc, text, "with a table", text_of(alloc, &checks.tabled)?)?;
-    let text = alike(alloc, text, "borrowed", text_of(alloc, &checks.by_ref)?)?;
-    alike(alloc, text, "lent", text_of(alloc, &checks.lent)?)
+fn text_of_all(alloc: Global, checks: Checks) -> Result<String> {
+    let text = text_of(alloc, checks.once);
+    let text = alike(alloc, text, "with a table", text_of(alloc, checks.tabled));
+    let text = alike(alloc, text, "borrowed", text_of(alloc, checks.by_ref));
+    alike(alloc, text, "lent", text_of(alloc, checks.lent))
 }
 
 /// The result of the checks of bytes as a block of a kind.
 fn check_as<H: BlockHash>(alloc: Global, payload: &[u8], kind: Kind) -> Result<String> {
-    let checks = match kind {
-        Kind::Data => data_checks::<H>(alloc, payload)?,
-        Kind::Index => index_checks(alloc, payload)?,
-    };
-    text_of_all(alloc, &checks)
+    match kind {
+        Kind::Data => text_of_all(alloc, data_checks::<H>(alloc, payload)),
+        Kind::Index => text_of_all(alloc, index_checks(alloc, payload)),
+    }
 }
 
 /// The check of the payload with a byte changed: KIND AT BYTE.
@@ -134,9 +128,12 @@ fn check_with<H: BlockHash>(
     at: &str,
     byte: &str,
 ) -> Result<String> {
+    let (at, byte) = (number_of(at)? as usize, small_of(byte)?);
     let mut payload = room.payload.to_vec(alloc)?;
-    let place = payload.get_mut(number_of(at)? as usize).ok_or(Fault::Word)?;
-    *place = small_of(byte)?;
+    match payload.get_mut(at) {
+        Some(place) => *place = byte,
+        None => return Err(Fault::Word),
+    }
     check_as::<H>(alloc, payload.as_slice(), kind)
 }
 
@@ -150,7 +147,7 @@ fn check<H: BlockHash>(alloc: Global, room: &Room, words: &[&str]) -> Result<Str
 }
 
 /// How many payloads are accepted, and the digest of the results of all.
-#[derive(Drop)]
+#[derive(Clone, Copy)]
 struct Results {
     accepted: usize,
     digest: Digest,

@@ -20,14 +20,27 @@ fn add(alloc: Global, room: &mut Room, words: &[&str]) -> Result<String> {
     count(alloc, room)
 }
 
+/// Appends an entry of its parts.
+fn push(
+    alloc: Global,
+    room: &mut Room,
+    key: &[u8],
+    value: &[u8],
+    seqno: u64,
+    value_type: ValueType,
+) -> Result<()> {
+    let entry = entry_with(alloc, key, value, seqno, value_type)?;
+    room.entries.push(entry)?;
+    Ok(())
+}
+
 /// Appends keys of one byte, from the first number to the last: FIRST LAST.
 fn add_bytes(alloc: Global, room: &mut Room, words: &[&str]) -> Result<String> {
     let [first, last] = words else {
         return Err(Fault::Word);
     };
     for n in small_of(first)?..=small_of(last)? {
-        let entry = entry_with(alloc, &[n], b"", 0, ValueType::Value)?;
-        room.entries.push(entry)?;
+        push(alloc, room, &[n], b"", 0, ValueType::Value)?;
     }
     count(alloc, room)
 }
@@ -40,8 +53,14 @@ fn add_pairs(alloc: Global, room: &mut Room, words: &[&str]) -> Result<String> {
     };
     for n in wide_of(first)?..=wide_of(last)? {
         let key = n.to_be_bytes();
-        let entry = entry_with(alloc, key.as_slice(), b"v", u64::from(n), ValueType::Value)?;
-        room.entries.push(entry)?;
+        push(
+            alloc,
+            room,
+            key.as_slice(),
+            b"v",
+            u64::from(n),
+            ValueType::Value,
+        )?;
     }
     count(alloc, room)
 }
@@ -96,9 +115,9 @@ fn ordered<H: BlockHash>(alloc: Global, room: &Room) -> Result<String> {
     let views = views_of(alloc, entries)?;
     alike(
         alloc,
-        truth(alloc, DataBlock::<H>::is_ordered(entries))?,
+        truth(alloc, DataBlock::<H>::is_ordered(entries)),
         "by views",
-        truth(alloc, DataBlock::<H>::are_views_ordered(views.as_slice()))?,
+        truth(alloc, DataBlock::<H>::are_views_ordered(views.as_slice())),
     )
 }
 

@@ -77,6 +77,29 @@ pub fn bytes_of(alloc: Global, word: &str) -> Result<Vec<u8>> {
     Ok(bytes)
 }
 
+/// Returns the byte strings that words encode.
+pub fn all_bytes_of(alloc: Global, words: &[&str]) -> Result<Vec<Vec<u8>>> {
+    let mut all = Vec::new(alloc);
+    for word in words {
+        all.push(bytes_of(alloc, word)?)?;
+    }
+    Ok(all)
+}
+
+/// Appends the byte of the number that a word encodes.
+pub fn push_small(bytes: &mut Vec<u8>, word: &str) -> Result<()> {
+    let byte = small_of(word)?;
+    match bytes.push(byte) {
+        Ok(()) => Ok(()),
+        Err(_) => Err(Fault::Refused(Error::Memory)),
+    }
+}
+
+/// Returns the slice of the byte string that a word encodes.
+pub fn slice_of(alloc: Global, word: &str) -> Result<Slice> {
+    Ok(Slice::from_vec(bytes_of(alloc, word)?)?)
+}
+
 /// Returns the type that a letter names.
 pub fn type_of(letter: &str) -> Result<ValueType> {
     match letter {
@@ -113,19 +136,32 @@ pub fn entry_with(
     Ok(InternalValue::from_components(key, value, seqno, value_type))
 }
 
+/// The four parts of a word.
+pub type Parts<'a> = (&'a str, &'a str, &'a str, &'a str);
+
+/// Returns the parts of a word of four that are joined by dots.
+pub fn parts_of(word: &str) -> Option<Parts<'_>> {
+    let (first, rest) = word.split_once('.')?;
+    let (second, rest) = rest.split_once('.')?;
+    let (third, fourth) = rest.split_once('.')?;
+    Some((first, second, third, fourth))
+}
+
 /// Returns the entry that a word encodes: letter, sequence number, key and value, joined by dots.
 pub fn entry_of(alloc: Global, word: &str) -> Result<InternalValue> {
-    let (letter, rest) = word.split_once('.').ok_or(Fault::Word)?;
-    let (seqno, rest) = rest.split_once('.').ok_or(Fault::Word)?;
-    let (key, value) = rest.split_once('.').ok_or(Fault::Word)?;
+    let (letter, seqno, key, value) = parts_of(word).ok_or(Fault::Word)?;
+    let (seqno, value_type) = (number_of(seqno)?, type_of(letter)?);
     let (key, value) = (bytes_of(alloc, key)?, bytes_of(alloc, value)?);
-    entry_with(
-        alloc,
-        key.as_slice(),
-        value.as_slice(),
-        number_of(seqno)?,
-        type_of(letter)?,
-    )
+    entry_with(alloc, key.as_slice(), value.as_slice(), seqno, value_type)
+}
+
+/// Returns the entries that words encode.
+pub fn entries_of(alloc: Global, words: &[&str]) -> Result<Vec<InternalValue>> {
+    let mut entries = Vec::new(alloc);
+    for word in words {
+        entries.push(entry_of(alloc, word)?)?;
+    }
+    Ok(entries)
 }
 
 /// Returns bytes as hex digits, or `-` for none.
@@ -153,6 +189,20 @@ pub fn word_of_found(alloc: Global, found: Option<&InternalValue>) -> Result<Str
     }
 }
 
+/// Returns the word of an entry that a read finds, or `none`.
+pub fn word_of_read(
+    alloc: Global,
+    read: sst_base::Result<Option<InternalValue>>,
+) -> Result<String> {
+    let found = read?;
+    word_of_found(alloc, found.as_ref())
+}
+
+/// Returns the word of a number.
+pub fn word_of_number(alloc: Global, number: u64) -> Result<String> {
+    Ok(format!(in alloc; "{number}")?)
+}
+
 /// Returns the word of a truth value.
 pub fn truth(alloc: Global, value: bool) -> Result<String> {
     Ok(String::from_str(alloc, if value { "true" } else { "false" })?)
@@ -167,8 +217,82 @@ pub fn push_word(text: &mut String, word: &str) -> Result<()> {
     Ok(())
 }
 
+/// Words in a row, with a space between them. The first fault of one is kept: nothing is added after it.
+#[derive(Drop)]
+pub struct Row {
+    text: String,
+    fault: Option<Fault>,
+}
+
+impl Row {
+    /// Makes a row of no words.
+    pub fn new(alloc: Global) -> Row {
+        Row {
+            text: String::new(alloc),
+            fault: None,
+        }
+    }
+
+    /// Notes the fault of a call that adds no word, if it fails.
+    pub fn note(&mut self, done: Result<()>) {
+        if let Err(fault) = done
+            && self.fault.is_none()
+        {
+            self.fault = Some(fault);
+        }
+    }
+
+    /// Appends a word.
+    pub fn push(&mut self, word: &str) {
+        if self.fault.is_none() {
+            let done = push_word(&mut self.text, word);
+            self.note(done);
+        }
+    }
+
+    /// Appends the word that a call returns, or notes why it returns none.
+    pub fn add(&mut self, word: Result<String>) {
+        match word {
+            Ok(word) => self.push(word.as_str()),
+            Err(fault) => self.note(Err(fault)),
+        }
+    }
+
+    /// Appends the word of a truth value that a call returns, or notes why it returns none.
+    pub fn add_truth(&mut self, value: Result<bool>) {
+        match value {
+            Ok(true) => self.push("true"),
+            Ok(false) => self.push("false"),
+            Err(fault) => self.note(Err(fault)),
+        }
+    }
+
+    /// Returns the words.
+    ///
+    /// # Errors
+    ///
+    /// The first fault.
+    pub fn text(self) -> Result<String> {
+        let Row { text, fault } = self;
+        match fault {
+            Some(fault) => Err(fault),
+            None => Ok(text),
+        }
+    }
+}
+
 /// Returns an answer that is also given in another way, or both where they differ.
-pub fn alike(alloc: Global, answer: String, way: &str, other: String) -> Result<String> {
+///
+/// # Errors
+///
+/// The fault of the answer, or else that of the other way.
+pub fn alike(
+    alloc: Global,
+    answer: Result<String>,
+    way: &str,
+    other: Result<String>,
+) -> Result<String> {
+    let (answer, other) = (answer?, other?);
     if answer == other {
         return Ok(answer);
     }

@@ -5,7 +5,7 @@ ghost use Rattle.sst_block_core.specs.Window.{whole};
 use super::Opened;
 use super::walks::taken;
 use crate::fault::{Fault, Result};
-use crate::words::{bytes_of, number_of, push_word, repeated, truth};
+use crate::words::{Row, bytes_of, number_of, repeated, truth};
 use sst_base::{BlockHash, InternalValue, compare_bytes};
 use sst_block_core::laws::data_block_is_read;
 use sst_block_core::{DataBlock, DataBlockParsedItem, Decoder};
@@ -132,11 +132,11 @@ fn call<H: BlockHash>(
 /// Makes calls of a decoder of a block.
 fn calls<H: BlockHash>(alloc: Global, block: &DataBlock<H>, words: &[&str]) -> Result<String> {
     let mut decoder = decoder_of(block);
-    let mut text = String::new(alloc);
+    let mut row = Row::new(alloc);
     for word in words {
-        push_word(&mut text, call(alloc, block, &mut decoder, word)?.as_str())?;
+        row.add(call(alloc, block, &mut decoder, word));
     }
-    Ok(text)
+    row.text()
 }
 
 /// Calls of a decoder: `next`, `back`, `left`, `move:` and a head, and a form of a seek, `:` and a

@@ -1,5 +1,5 @@
 //! Commands that encode a list of entries as a data block, and that show its bytes.
-ghost use Rattle.std.specs.Prelude.{◌≤◌};
+ghost use Rattle.std.specs.Prelude.{◌≡◌, ◌≤◌, []};
 
 use super::{Opened, data_block};
 use crate::digest::hash_of;
@@ -75,7 +75,35 @@ fn views_in<'a, H: BlockHash>(
     Ok(views)
 }
 
+/// Encodes views of entries.
+fn by_views_of<H: BlockHash>(
+    alloc: Global,
+    entries: &[InternalValue],
+    interval: u8,
+    ratio: HashRatio,
+) -> Result<Vec<u8>>
+    requires interval { 1 ≤ interval }
+    requires den { 1 ≤ ratio.den }
+{
+    let views = views_of(alloc, entries)?;
+    by_views::<H>(alloc, views.as_slice(), interval, ratio)
+}
+
 /// Encodes views of the entries of a block.
+fn by_views_in<H: BlockHash>(
+    alloc: Global,
+    block: &DataBlock<H>,
+    interval: u8,
+    ratio: HashRatio,
+) -> Result<Vec<u8>>
+    requires interval { 1 ≤ interval }
+    requires den { 1 ≤ ratio.den }
+{
+    let views = views_in(alloc, block)?;
+    by_views::<H>(alloc, views.as_slice(), interval, ratio)
+}
+
+/// Encodes views of the entries of their block.
 fn again<H: BlockHash>(
     alloc: Global,
     entries: &[InternalValue],
@@ -86,8 +114,27 @@ fn again<H: BlockHash>(
     requires den { 1 ≤ ratio.den }
 {
     let block = encoded::<H>(alloc, entries, "5")?;
-    let views = views_in(alloc, &block)?;
-    by_views::<H>(alloc, views.as_slice(), interval, ratio)
+    by_views_in(alloc, &block, interval, ratio)
+}
+
+/// How many bytes are made of views of entries, and of views of the entries of their block, where
+/// these are not the bytes of a payload.
+fn others<H: BlockHash>(
+    alloc: Global,
+    entries: &[InternalValue],
+    payload: &[u8],
+    interval: u8,
+    ratio: HashRatio,
+) -> Result<Option<(usize, usize)>>
+    requires interval { 1 ≤ interval }
+    requires den { 1 ≤ ratio.den }
+{
+    let views = by_views_of::<H>(alloc, entries, interval, ratio)?;
+    let again = again::<H>(alloc, entries, interval, ratio)?;
+    if views.as_slice() == payload && again.as_slice() == payload {
+        return Ok(None);
+    }
+    Ok(Some((views.len(), again.len())))
 }
 
 /// Encodes entries as the payload: themselves, views of them, and views of the entries of a block.
@@ -104,14 +151,11 @@ fn encode_list<H: BlockHash>(
     if entries.is_empty() || !DataBlock::<H>::is_ordered(entries) {
         return Err(Fault::Word);
     }
-    let views = views_of(alloc, entries)?;
-    let views = by_views::<H>(alloc, views.as_slice(), interval, ratio)?;
-    let again = again::<H>(alloc, entries, interval, ratio)?;
     *payload = DataBlock::<H>::encode_into_vec(alloc, entries, interval, ratio)?;
-    if views.as_slice() != payload.as_slice() || again.as_slice() != payload.as_slice() {
-        return Ok(format!(in alloc; "{} bytes, {} again, by views", views.len(), again.len())?);
+    match others::<H>(alloc, entries, payload.as_slice(), interval, ratio)? {
+        Some((views, again)) => Ok(format!(in alloc; "{views} bytes, {again} again, by views")?),
+        None => numbers::<H>(alloc, payload.as_slice()),
     }
-    numbers::<H>(alloc, payload.as_slice())
 }
 
 /// Encodes the list, by its entries and by views: INTERVAL NUM DEN.
@@ -135,22 +179,21 @@ pub fn encode<H: BlockHash>(
     encode_list::<H>(alloc, entries, payload, interval, ratio)
 }
 
-/// What an encoder writes of two entries, in order or not, without buckets.
-fn written<H: BlockHash>(alloc: Global, entries: &[InternalValue], interval: u8) -> Result<Vec<u8>>
-    requires { 1 ≤ interval }
+/// Appends what an encoder writes of two entries, in order or not, without buckets.
+fn write_two<H: BlockHash>(
+    bytes: &mut Vec<u8>,
+    first: &InternalValue,
+    second: &InternalValue,
+    interval: u8,
+) -> sst_base::Result<()>
+    requires empty { bytes.old.items ≡ [] }
+    requires interval { 1 ≤ interval }
 {
-    let [first, second] = entries else {
-        return Err(Fault::Word);
-    };
-    let mut bytes = Vec::new(alloc);
     let ratio = HashRatio { num: 0, den: 1 };
-    let mut encoder: Encoder<'_, '_, InternalValue, H> = Encoder::new(
-        &mut bytes, 2, interval, ratio,
-    );
+    let mut encoder: Encoder<'_, '_, InternalValue, H> = Encoder::new(bytes, 2, interval, ratio);
     encoder.write(first)?;
     encoder.write(second)?;
-    encoder.finish()?;
-    Ok(bytes)
+    encoder.finish()
 }
 
 /// Writes a list of two entries, in order or not, without buckets: INTERVAL.
@@ -164,10 +207,15 @@ pub fn write<H: BlockHash>(
         return Err(Fault::Word);
     };
     let interval = small_of(interval)?;
+    let [first, second] = entries else {
+        return Err(Fault::Word);
+    };
     if interval == 0 {
         return Err(Fault::Word);
     }
-    *payload = written::<H>(alloc, entries, interval)?;
+    let mut bytes = Vec::new(alloc);
+    write_two::<H>(&mut bytes, first, second, interval)?;
+    *payload = bytes;
     Ok(format!(in alloc; "{} bytes", payload.len())?)
 }
 

@@ -84,7 +84,11 @@ fn reading_of(name: &str) -> Option<Reading> {
 }
 
 /// Returns a payload as a data block, with the table of its heads or without.
-fn data_block<H: BlockHash>(alloc: Global, payload: &[u8], tabled: bool) -> Result<DataBlock<H>> {
+pub fn data_block<H: BlockHash>(
+    alloc: Global,
+    payload: &[u8],
+    tabled: bool,
+) -> Result<DataBlock<H>> {
     let block = block_with(alloc, BlockType::Data, payload)?;
     if tabled {
         Ok(DataBlock::check(alloc, block)?)

@@ -4,14 +4,14 @@ use super::encoding::encoded;
 use crate::digest::Digest;
 use crate::fault::{Fault, Result};
 use crate::room::Room;
-use crate::words::{bytes_of, number_of, truth, type_of};
+use crate::words::{bytes_of, number_of, parts_of, type_of};
 use sst_base::{BlockHash, InternalValue};
 use sst_block_core::{DataBlock, EntryView};
 use std::alloc::Global;
 use std::cmp::Ordering;
 
 /// How many pairs compared as less, as equal and as greater, and the digest of all.
-#[derive(Drop)]
+#[derive(Clone, Copy)]
 struct Signs {
     less: usize,
     equal: usize,
@@ -123,10 +123,18 @@ pub fn compare<H: BlockHash>(alloc: Global, room: &Room, words: &[&str]) -> Resu
 fn text_of_parts(alloc: Global, parts: &EntryView<'_>) -> Result<String> {
     let (key, value) = (parts.key_len(), parts.value().len());
     let (value_type, seqno) = (parts.value_type(), parts.seqno());
-    let dead = truth(alloc, parts.is_tombstone())?;
+    let dead = parts.is_tombstone();
     Ok(format!(in alloc;
         "{value_type:?} {seqno}, key of {key}, value of {value}, tombstone {dead}"
     )?)
+}
+
+/// The text of the parts of an entry, if there is one.
+fn text_of_found(alloc: Global, parts: Option<&EntryView<'_>>) -> Result<String> {
+    match parts {
+        Some(parts) => text_of_parts(alloc, parts),
+        None => Ok(String::from_str(alloc, "none")?),
+    }
 }
 
 /// The parts of an entry, whose key may be too long: ENTRY.
@@ -134,19 +142,9 @@ pub fn parts(alloc: Global, words: &[&str]) -> Result<String> {
     let [word] = words else {
         return Err(Fault::Word);
     };
-    let Some((letter, rest)) = word.split_once('.') else {
-        return Err(Fault::Word);
-    };
-    let Some((seqno, rest)) = rest.split_once('.') else {
-        return Err(Fault::Word);
-    };
-    let Some((key, value)) = rest.split_once('.') else {
-        return Err(Fault::Word);
-    };
+    let (letter, seqno, key, value) = parts_of(word).ok_or(Fault::Word)?;
     let (seqno, value_type) = (number_of(seqno)?, type_of(letter)?);
     let (key, value) = (bytes_of(alloc, key)?, bytes_of(alloc, value)?);
-    match EntryView::of_parts(key.as_slice(), value.as_slice(), seqno, value_type) {
-        Some(parts) => text_of_parts(alloc, &parts),
-        None => Ok(String::from_str(alloc, "none")?),
-    }
+    let parts = EntryView::of_parts(key.as_slice(), value.as_slice(), seqno, value_type);
+    text_of_found(alloc, parts.as_ref())
 }

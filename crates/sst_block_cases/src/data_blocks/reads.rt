@@ -5,7 +5,7 @@ use super::{Blocks, Opened};
 use crate::digest::Digest;
 use crate::fault::{Fault, Result};
 use crate::room::Room;
-use crate::words::{alike, bytes_of, number_of, size_of, word_of, word_of_found};
+use crate::words::{alike, bytes_of, number_of, size_of, word_of, word_of_found, word_of_read};
 use sst_base::{BlockHash, InternalValue, Slice, Steps};
 use sst_block_core::{DataBlock, DataBlockParsedItem, DataBlockRef, EntryView, ParsedItem};
 use std::alloc::Global;
@@ -30,8 +30,10 @@ fn found<H: BlockHash>(
     key: &[u8],
     seqno: u64,
 ) -> Result<String> {
-    let found = block.point_read(alloc, key, seqno, &mut Steps::new())?;
-    word_of_found(alloc, found.as_ref())
+    word_of_read(
+        alloc,
+        block.point_read(alloc, key, seqno, &mut Steps::new()),
+    )
 }
 
 /// A point read of a block, and of its bytes as they are lent.
@@ -41,8 +43,8 @@ fn read_from<H: BlockHash>(
     key: &[u8],
     seqno: u64,
 ) -> Result<String> {
-    let owned = found(alloc, block, key, seqno)?;
-    let lent = find(alloc, &block.by_ref(), key, seqno)?;
+    let owned = found(alloc, block, key, seqno);
+    let lent = find(alloc, &block.by_ref(), key, seqno);
     alike(alloc, owned, "by its bytes", lent)
 }
 
@@ -53,8 +55,8 @@ fn read_from_both<H: BlockHash>(
     key: &[u8],
     seqno: u64,
 ) -> Result<String> {
-    let bare = read_from(alloc, blocks.0, key, seqno)?;
-    let tabled = read_from(alloc, blocks.1, key, seqno)?;
+    let bare = read_from(alloc, blocks.0, key, seqno);
+    let tabled = read_from(alloc, blocks.1, key, seqno);
     alike(alloc, bare, "by the table", tabled)
 }
 
@@ -123,34 +125,44 @@ pub fn place<H: BlockHash>(alloc: Global, room: &Room, words: &[&str]) -> Result
 }
 
 /// What some reads found.
-#[derive(Drop)]
+#[derive(Clone, Copy)]
 struct Reads {
     count: usize,
     found: usize,
     digest: Digest,
 }
 
-/// Reads a key, which is a prefix and maybe another byte, from a block without the table of its heads
-/// and with it.
-fn add_read<H: BlockHash>(
-    alloc: Global,
-    reads: &mut Reads,
-    blocks: Blocks<'_, H>,
-    prefix: &[u8],
-    last: Option<u8>,
-    seqno: u64,
-) -> Result<()> {
+impl Reads {
+    /// Adds what a read found.
+    fn add(&mut self, answer: &str) {
+        self.count = self.count.saturating_add(1);
+        if answer != "none" {
+            self.found = self.found.saturating_add(1);
+        }
+        self.digest.add(answer);
+    }
+}
+
+/// A prefix, and maybe another byte.
+fn extended(alloc: Global, prefix: &[u8], last: Option<u8>) -> Result<Vec<u8>> {
     let mut key = prefix.to_vec(alloc)?;
     if let Some(last) = last {
         key.push(last)?;
     }
-    let answer = read_from_both(alloc, blocks, key.as_slice(), seqno)?;
-    reads.count = reads.count.saturating_add(1);
-    if answer.as_str() != "none" {
-        reads.found = reads.found.saturating_add(1);
-    }
-    reads.digest.add(answer.as_str());
-    Ok(())
+    Ok(key)
+}
+
+/// Reads a key, which is a prefix and maybe another byte, from a block without the table of its heads
+/// and with it.
+fn read_extended<H: BlockHash>(
+    alloc: Global,
+    blocks: Blocks<'_, H>,
+    prefix: &[u8],
+    last: Option<u8>,
+    seqno: u64,
+) -> Result<String> {
+    let key = extended(alloc, prefix, last)?;
+    read_from_both(alloc, blocks, key.as_slice(), seqno)
 }
 
 /// Reads the key of an entry at its sequence number and at the next, an extension of it, its prefix,
@@ -176,7 +188,7 @@ fn add_reads<H: BlockHash>(
         (end, None, seqno),
     ];
     for (prefix, last, seqno) in &queries {
-        add_read(alloc, reads, blocks, prefix, *last, *seqno)?;
+        reads.add(read_extended(alloc, blocks, prefix, *last, *seqno)?.as_str());
     }
     Ok(())
 }
@@ -264,7 +276,7 @@ fn by_items<H: BlockHash>(alloc: Global, block: &DataBlock<H>) -> Result<String>
 }
 
 /// The word of an entry that borrows its block.
-fn word_of_view(alloc: Global, view: &EntryView<'_>) -> Result<String> {
+pub fn word_of_view(alloc: Global, view: &EntryView<'_>) -> Result<String> {
     word_of(alloc, &view.to_entry(alloc)?)
 }
 
@@ -298,19 +310,20 @@ fn by_tabled_views<H: BlockHash>(alloc: Global, payload: &[u8]) -> Result<String
 /// The entries of the payload, which is lent, by each way to go over it.
 fn by_lent<H: BlockHash>(alloc: Global, payload: &[u8]) -> Result<String> {
     let page = DataBlockRef::<H>::check(alloc, payload)?;
-    let all = by_views(alloc, &page)?;
-    let tabled = by_tabled_views::<H>(alloc, payload)?;
-    let all = alike(alloc, all, "with a table", tabled)?;
-    let back = by_views_back(alloc, &page)?;
-    alike(alloc, all, "from the back", back)
+    let all = by_views(alloc, &page);
+    let all = alike(
+        alloc,
+        all,
+        "with a table",
+        by_tabled_views::<H>(alloc, payload),
+    );
+    alike(alloc, all, "from the back", by_views_back(alloc, &page))
 }
 
 /// The number of the entries, and their digest, by each way to go over them.
 pub fn entries<H: BlockHash>(alloc: Global, payload: &[u8], opened: &Opened<H>) -> Result<String> {
     let block = opened.bare()?;
-    let all = by_items(alloc, block)?;
-    let entries = by_views(alloc, &block.by_ref())?;
-    let all = alike(alloc, all, "by entries", entries)?;
-    let views = by_lent::<H>(alloc, payload)?;
-    alike(alloc, all, "by views", views)
+    let all = by_items(alloc, block);
+    let all = alike(alloc, all, "by entries", by_views(alloc, &block.by_ref()));
+    alike(alloc, all, "by views", by_lent::<H>(alloc, payload))
 }

@@ -3,7 +3,7 @@
 use super::Opened;
 use crate::fault::{Fault, Result};
 use crate::texts::word_of_table;
-use crate::words::{bytes_of, hex_of, number_of, push_word};
+use crate::words::{Row, bytes_of, hex_of, number_of, word_of_number};
 use sst_base::{BlockHash, Error, Steps};
 use sst_block_core::DataBlock;
 use sst_block_core::table::block::heads::front_of;
@@ -12,12 +12,11 @@ use std::alloc::Global;
 /// The offsets of the heads, by the binary index.
 pub fn offsets<H: BlockHash>(alloc: Global, opened: &Opened<H>) -> Result<String> {
     let block = opened.bare()?;
-    let mut text = String::new(alloc);
+    let mut row = Row::new(alloc);
     for head in 0..block.binary_index_len() as usize {
-        let offset = block.head_offset(head);
-        push_word(&mut text, format!(in alloc; "{offset}")?.as_str())?;
+        row.add(word_of_number(alloc, block.head_offset(head) as u64));
     }
-    Ok(text)
+    row.text()
 }
 
 /// How many heads have a key below a needle, how many one of at most it, and how many an index seek
@@ -47,11 +46,11 @@ pub fn counts<H: BlockHash>(alloc: Global, opened: &Opened<H>, words: &[&str]) -
     };
     let seqno = number_of(seqno)?;
     let block = opened.tabled()?;
-    let mut text = String::new(alloc);
+    let mut row = Row::new(alloc);
     for needle in needles {
-        push_word(&mut text, counts_of(alloc, block, needle, seqno)?.as_str())?;
+        row.add(counts_of(alloc, block, needle, seqno));
     }
-    Ok(text)
+    row.text()
 }
 
 /// The first 8 bytes of a byte string as a number: BYTES.

@@ -2,10 +2,11 @@
 ghost use Rattle.std.specs.Prelude.{◌≡◌, IfSome};
 ghost use Rattle.sst_block_core.specs.ParsedEntry.{IsParsedEntry};
 
+use super::reads::word_of_view;
 use super::{Blocks, Opened};
 use crate::fault::{Fault, Result};
 use crate::words::{
-    alike, bytes_of, number_of, push_word, repeated, truth, word_of, word_of_found,
+    Row, alike, number_of, repeated, slice_of, truth, word_of, word_of_found, word_of_read,
 };
 use sst_base::{BlockHash, InternalValue, Slice};
 use sst_block_core::table::data_block::{Answer, IntoEntries, Iter, Op, walk};
@@ -32,7 +33,7 @@ fn seek_of(alloc: Global, word: &str) -> Result<Step> {
     if name == "move" {
         return Ok(Step::Move(number_of(key)? as usize));
     }
-    let key = Slice::from_vec(bytes_of(alloc, key)?)?;
+    let key = slice_of(alloc, key)?;
     match name {
         "seek" => Ok(Step::Op(Op::Seek(key))),
         "upper" => Ok(Step::Op(Op::SeekUpper(key))),
@@ -157,17 +158,17 @@ fn by_iterator<H: BlockHash>(
     steps: &[Step],
 ) -> Result<String> {
     let mut iter = block.iter();
-    let mut text = String::new(alloc);
+    let mut row = Row::new(alloc);
     for step in steps {
-        push_word(&mut text, call(alloc, block, &mut iter, step)?.as_str())?;
+        row.add(call(alloc, block, &mut iter, step));
     }
-    Ok(text)
+    row.text()
 }
 
 /// Steps of an iterator over a block, without the table of the heads and with it.
 fn stepped<H: BlockHash>(alloc: Global, blocks: Blocks<'_, H>, steps: &[Step]) -> Result<String> {
-    let bare = by_iterator(alloc, blocks.0, steps)?;
-    let tabled = by_iterator(alloc, blocks.1, steps)?;
+    let bare = by_iterator(alloc, blocks.0, steps);
+    let tabled = by_iterator(alloc, blocks.1, steps);
     alike(alloc, bare, "by the table", tabled)
 }
 
@@ -179,48 +180,50 @@ pub fn steps<H: BlockHash>(alloc: Global, opened: &Opened<H>, words: &[&str]) ->
 
 /// The text of what `walk` answers.
 fn text_of(alloc: Global, answers: &[Answer<InternalValue>]) -> Result<String> {
-    let mut text = String::new(alloc);
+    let mut row = Row::new(alloc);
     for answer in answers {
-        let word = match answer {
-            Answer::Found(found) => truth(alloc, *found)?,
-            Answer::Item(entry) => word_of_found(alloc, entry.as_ref())?,
-        };
-        push_word(&mut text, word.as_str())?;
+        row.add(match answer {
+            Answer::Found(found) => truth(alloc, *found),
+            Answer::Item(entry) => word_of_found(alloc, entry.as_ref()),
+        });
     }
-    Ok(text)
+    row.text()
 }
 
-/// Takes an entry from an iterator that owns its block, and makes it: by one call, or by the item of
-/// the step.
-fn take_owned<H: BlockHash>(
+/// The word of an entry that is taken from an iterator that owns its block, by the item of the step.
+fn taken_item<H: BlockHash>(
     alloc: Global,
     iter: &mut IntoEntries<H>,
     is_back: bool,
-    by_item: bool,
-) -> Result<Option<InternalValue>> {
-    match (is_back, by_item) {
-        (false, false) => Ok(iter.next_entry(alloc)?),
-        (true, false) => Ok(iter.next_entry_back(alloc)?),
-        (false, true) => match iter.next() {
-            Some(item) => Ok(Some(iter.entry(item).to_entry(alloc)?)),
-            None => Ok(None),
-        },
-        (true, true) => match iter.next_back() {
-            Some(item) => Ok(Some(iter.entry(item).to_entry(alloc)?)),
-            None => Ok(None),
-        },
+) -> Result<String> {
+    let item = if is_back {
+        iter.next_back()
+    } else {
+        iter.next()
+    };
+    match item {
+        Some(item) => word_of_view(alloc, &iter.entry(item)),
+        None => word_of_found(alloc, None),
     }
 }
 
-/// The word of an entry that is taken from an iterator that owns its block.
+/// The word of an entry that is taken from an iterator that owns its block, and made: by one call, or
+/// by the item of the step.
 fn taken_owned<H: BlockHash>(
     alloc: Global,
     iter: &mut IntoEntries<H>,
     is_back: bool,
     by_item: bool,
 ) -> Result<String> {
-    let entry = take_owned(alloc, iter, is_back, by_item)?;
-    word_of_found(alloc, entry.as_ref())
+    if by_item {
+        return taken_item(alloc, iter, is_back);
+    }
+    let entry = if is_back {
+        iter.next_entry_back(alloc)
+    } else {
+        iter.next_entry(alloc)
+    };
+    word_of_read(alloc, entry)
 }
 
 /// Performs an operation of an iterator that owns its block.
@@ -247,11 +250,11 @@ fn perform_all<H: BlockHash>(
     ops: &[Op],
     by_item: bool,
 ) -> Result<String> {
-    let mut text = String::new(alloc);
+    let mut row = Row::new(alloc);
     for op in ops {
-        push_word(&mut text, perform_owned(alloc, iter, op, by_item)?.as_str())?;
+        row.add(perform_owned(alloc, iter, op, by_item));
     }
-    Ok(text)
+    row.text()
 }
 
 /// Takes so many entries from an iterator that owns its block. Returns how many there were.
@@ -309,23 +312,34 @@ fn walked<H: BlockHash>(alloc: Global, block: &DataBlock<H>, ops: &[Op]) -> Resu
 /// What `walk` answers over a block, and iterators that own the block, after another answer.
 fn after<H: BlockHash>(
     alloc: Global,
-    all: String,
+    all: Result<String>,
     blocks: Blocks<'_, H>,
     ops: &[Op],
 ) -> Result<String> {
-    let walked = walked(alloc, blocks.1, ops)?;
-    let all = alike(alloc, all, "by walk", walked)?;
-    let whole = by_owner(alloc, blocks.0, ops, false)?;
-    let all = alike(alloc, all, "by an owner", whole)?;
-    let by_item = by_owner(alloc, blocks.1, ops, true)?;
-    alike(alloc, all, "by its items", by_item)
+    let all = alike(alloc, all, "by walk", walked(alloc, blocks.1, ops));
+    let all = alike(
+        alloc,
+        all,
+        "by an owner",
+        by_owner(alloc, blocks.0, ops, false),
+    );
+    alike(
+        alloc,
+        all,
+        "by its items",
+        by_owner(alloc, blocks.1, ops, true),
+    )
 }
 
 /// Steps of an iterator that every kind has: by one that borrows its block, by `walk`, and by one that
 /// owns it.
 pub fn walks<H: BlockHash>(alloc: Global, opened: &Opened<H>, words: &[&str]) -> Result<String> {
-    let all = steps(alloc, opened, words)?;
-    let blocks = opened.both()?;
+    let (steps, blocks) = (steps_of(alloc, words)?, opened.both()?);
     let ops = ops_of(alloc, words)?;
-    after(alloc, all, blocks, ops.as_slice())
+    after(
+        alloc,
+        stepped(alloc, blocks, steps.as_slice()),
+        blocks,
+        ops.as_slice(),
+    )
 }

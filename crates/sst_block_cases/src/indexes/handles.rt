@@ -4,7 +4,7 @@ use crate::fault::{Fault, Result};
 use crate::indexes::index_block;
 use crate::room::Room;
 use crate::texts::word_of_table;
-use crate::words::{alike, bytes_of, hex_of, number_of, small_of, truth};
+use crate::words::{bytes_of, hex_of, number_of, parts_of, size_of, small_of};
 use sst_base::table::block::{BlockHandle, BlockOffset};
 use sst_base::{Error, Slice};
 use sst_block_core::{IndexBlock, KeyedBlockHandle};
@@ -13,26 +13,16 @@ use std::alloc::Global;
 /// The longest end key.
 const MAX_KEY_LEN: usize = 65535;
 
-/// Returns the size that a word encodes.
-fn size_of(word: &str) -> Result<u32> {
-    match word.parse::<u32>() {
-        Ok(size) => Ok(size),
-        Err(_) => Err(Fault::Word),
-    }
-}
-
 /// Returns the handle that a word encodes: sequence number, end key, offset and size, joined by dots.
 fn handle_of(alloc: Global, word: &str) -> Result<KeyedBlockHandle> {
-    let (seqno, rest) = word.split_once('.').ok_or(Fault::Word)?;
-    let (key, rest) = rest.split_once('.').ok_or(Fault::Word)?;
-    let (offset, size) = rest.split_once('.').ok_or(Fault::Word)?;
+    let (seqno, key, offset, size) = parts_of(word).ok_or(Fault::Word)?;
+    let (seqno, offset) = (number_of(seqno)?, number_of(offset)?);
+    let handle = BlockHandle::new(BlockOffset(offset), size_of(size)?);
     let key = bytes_of(alloc, key)?;
-    let handle = BlockHandle::new(BlockOffset(number_of(offset)?), size_of(size)?);
     if key.len() > MAX_KEY_LEN {
         return Err(Fault::Word);
     }
-    let key = Slice::from_vec(key)?;
-    Ok(KeyedBlockHandle::new(key, number_of(seqno)?, handle))
+    Ok(KeyedBlockHandle::new(Slice::from_vec(key)?, seqno, handle))
 }
 
 /// Returns the word of a handle.
@@ -53,8 +43,10 @@ fn add(alloc: Global, room: &mut Room, words: &[&str]) -> Result<String> {
 /// Whether the handles are in order, and whether all frames end below 2^64.
 fn tests(alloc: Global, room: &Room) -> Result<String> {
     let handles = room.handles.as_slice();
-    let ordered = truth(alloc, IndexBlock::is_ordered(handles))?;
-    let fit = truth(alloc, IndexBlock::ends_fit(handles))?;
+    let (ordered, fit) = (
+        IndexBlock::is_ordered(handles),
+        IndexBlock::ends_fit(handles),
+    );
     Ok(format!(in alloc; "ordered {ordered}, fit {fit}")?)
 }
 
@@ -66,16 +58,22 @@ fn encoded(alloc: Global, handles: &[KeyedBlockHandle], interval: u8) -> Result<
     if !IndexBlock::ends_fit(handles) {
         return Err(Fault::Word);
     }
-    let bytes = IndexBlock::encode_into_vec_with(alloc, handles, interval)?;
     if interval > 1 {
-        return Ok(bytes);
+        return Ok(IndexBlock::encode_into_vec_with(alloc, handles, interval)?);
     }
     // The call without an interval writes the same bytes; none stand for others.
-    let mut other = IndexBlock::encode_into_vec(alloc, handles)?;
+    let other = IndexBlock::encode_into_vec(alloc, handles)?;
+    let mut bytes = IndexBlock::encode_into_vec_with(alloc, handles, 1)?;
     if other.as_slice() != bytes.as_slice() {
-        other.clear();
+        bytes.clear();
     }
-    Ok(other)
+    Ok(bytes)
+}
+
+/// The number of heads in the table of a block of a payload.
+fn heads_in(alloc: Global, payload: &[u8]) -> Result<String> {
+    let block = index_block(alloc, payload, true)?;
+    word_of_table(alloc, block.heads())
 }
 
 /// Encodes the handles, at 1 also by the call without an interval: INTERVAL.
@@ -84,17 +82,16 @@ fn encode(alloc: Global, room: &mut Room, words: &[&str]) -> Result<String> {
         return Err(Fault::Word);
     };
     room.payload = encoded(alloc, room.handles.as_slice(), small_of(interval)?)?;
-    let block = index_block(alloc, room, true)?;
-    let heads = word_of_table(alloc, block.heads())?;
+    let heads = heads_in(alloc, room.payload.as_slice())?;
     Ok(format!(in alloc; "{} bytes, {heads} heads", room.payload.len())?)
 }
 
 /// A clone of a handle, with an offset that is greater by a number.
 fn shifted(handle: &KeyedBlockHandle, by: u64) -> Result<KeyedBlockHandle> {
-    let mut shifted = handle.clone()?;
-    if *shifted.offset() > u64::MAX - by {
+    if *handle.offset() > u64::MAX - by {
         return Err(Fault::Word);
     }
+    let mut shifted = handle.clone()?;
     shifted.shift(BlockOffset(by));
     Ok(shifted)
 }
@@ -106,18 +103,22 @@ fn is_plain(handle: KeyedBlockHandle) -> bool {
     is_plain && handle.into_inner() == parts
 }
 
+/// The text of a handle, whether it is another one, and whether it is a plain handle of its parts.
+fn text_of(alloc: Global, handle: KeyedBlockHandle, other: &KeyedBlockHandle) -> Result<String> {
+    let (word, same) = (word_of(alloc, &handle)?, handle == *other);
+    let plain = is_plain(handle);
+    Ok(format!(in alloc; "{word}, the same {same}, plain {plain}")?)
+}
+
 /// A handle whose offset is greater by a number, whether it is the handle before, and whether it is a
 /// plain handle of its parts: HANDLE NUMBER.
 fn shift(alloc: Global, words: &[&str]) -> Result<String> {
     let [word, by] = words else {
         return Err(Fault::Word);
     };
+    let by = number_of(by)?;
     let handle = handle_of(alloc, word)?;
-    let shifted = shifted(&handle, number_of(by)?)?;
-    let same = shifted == handle;
-    let word = word_of(alloc, &shifted)?;
-    let plain = is_plain(shifted);
-    Ok(format!(in alloc; "{word}, the same {same}, plain {plain}")?)
+    text_of(alloc, shifted(&handle, by)?, &handle)
 }
 
 /// The number of heads in the table of a block's clone.
@@ -133,9 +134,26 @@ fn heads_of(alloc: Global, block: &IndexBlock) -> Result<String> {
     Ok(format!(in alloc; "{heads}, clone {cloned}")?)
 }
 
-/// The number of heads in the table that is made of a block's.
-fn heads_made(alloc: Global, block: IndexBlock) -> Result<String> {
-    match block.with_heads(alloc) {
+/// The numbers of heads of the block of a payload.
+fn heads_checked(alloc: Global, payload: &[u8]) -> Result<String> {
+    let block = index_block(alloc, payload, true)?;
+    heads_of(alloc, &block)
+}
+
+/// A block that is new, of a payload.
+fn new_block(alloc: Global, payload: &[u8]) -> Result<IndexBlock> {
+    Ok(IndexBlock::new(index_block(alloc, payload, true)?.into_inner()))
+}
+
+/// The numbers of heads of a block that is new.
+fn heads_new(alloc: Global, payload: &[u8]) -> Result<String> {
+    let block = new_block(alloc, payload)?;
+    heads_of(alloc, &block)
+}
+
+/// The number of heads in the table that is made of a new block's.
+fn heads_made(alloc: Global, payload: &[u8]) -> Result<String> {
+    match new_block(alloc, payload)?.with_heads(alloc) {
         Ok(block) => word_of_table(alloc, block.heads()),
         Err(_) => Err(Fault::Refused(Error::Memory)),
     }
@@ -144,12 +162,11 @@ fn heads_made(alloc: Global, block: IndexBlock) -> Result<String> {
 /// Which blocks have a table of their heads, and of how many: one that was checked, its clone, one that
 /// is new, its clone, and one of which the table was made.
 fn table(alloc: Global, room: &Room) -> Result<String> {
-    let checked = index_block(alloc, room, true)?;
-    let first = heads_of(alloc, &checked)?;
-    let new = IndexBlock::new(checked.into_inner());
-    let second = heads_of(alloc, &new)?;
-    let made = heads_made(alloc, new)?;
-    Ok(format!(in alloc; "checked {first}, new {second}, made {made}")?)
+    let payload = room.payload.as_slice();
+    let checked = heads_checked(alloc, payload)?;
+    let new = heads_new(alloc, payload)?;
+    let made = heads_made(alloc, payload)?;
+    Ok(format!(in alloc; "checked {checked}, new {new}, made {made}")?)
 }
 
 /// Performs a command, if it is one on handles.

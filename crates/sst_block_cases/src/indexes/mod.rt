@@ -8,9 +8,9 @@ use sst_base::table::block::BlockType;
 use sst_block_core::IndexBlock;
 use std::alloc::Global;
 
-/// Returns the payload as an index block, with the table of its heads or without.
-fn index_block(alloc: Global, room: &Room, tabled: bool) -> Result<IndexBlock> {
-    let block = block_with(alloc, BlockType::Index, room.payload.as_slice())?;
+/// Returns a payload as an index block, with the table of its heads or without.
+pub fn index_block(alloc: Global, payload: &[u8], tabled: bool) -> Result<IndexBlock> {
+    let block = block_with(alloc, BlockType::Index, payload)?;
     if tabled {
         Ok(IndexBlock::check(alloc, block)?)
     } else {

@@ -7,7 +7,7 @@ use crate::fault::{Fault, Result};
 use crate::indexes::handles::word_of;
 use crate::indexes::index_block;
 use crate::room::Room;
-use crate::words::{alike, bytes_of, number_of, push_word, repeated, truth};
+use crate::words::{Row, alike, bytes_of, number_of, push_word, repeated, slice_of, truth};
 use sst_base::Slice;
 use sst_base::table::block::BlockHandle;
 use sst_block_core::table::index_block::{Answer, HandleView, HandleViews, IndexOp, Iter, walk};
@@ -25,10 +25,10 @@ fn op_of(alloc: Global, word: &str) -> Result<IndexOp> {
     }
     let (name, rest) = word.split_once(':').ok_or(Fault::Word)?;
     let (key, seqno) = rest.split_once(':').ok_or(Fault::Word)?;
-    let key = Slice::from_vec(bytes_of(alloc, key)?)?;
+    let seqno = number_of(seqno)?;
     match name {
-        "seek" => Ok(IndexOp::Seek(key, number_of(seqno)?)),
-        "upper" => Ok(IndexOp::SeekUpper(key, number_of(seqno)?)),
+        "seek" => Ok(IndexOp::Seek(slice_of(alloc, key)?, seqno)),
+        "upper" => Ok(IndexOp::SeekUpper(slice_of(alloc, key)?, seqno)),
         _ => Err(Fault::Word),
     }
 }
@@ -43,18 +43,27 @@ fn ops_of(alloc: Global, words: &[&str]) -> Result<Vec<IndexOp>> {
     Ok(ops)
 }
 
-/// Returns the word of a handle that borrows its block, and says if its parts are not those of the
-/// handle that it is made as.
-fn word_of_view(alloc: Global, handle: &HandleView<'_>) -> Result<String> {
-    let made = handle.clone()?.to_handle(alloc)?;
-    let word = word_of(alloc, &made)?;
+/// Whether the parts of a handle that borrows its block are those of the handle that it is made as.
+fn are_parts_of(handle: &HandleView<'_>, made: &KeyedBlockHandle) -> bool {
     let is_number = handle.seqno() == made.seqno();
     let is_place = handle.offset() == made.offset() && handle.size() == made.size();
     let is_plain = handle.handle() == BlockHandle::new(made.offset(), made.size());
-    if is_number && is_place && is_plain && handle.compare_key(made.end_key().as_slice()).is_eq() {
-        return Ok(word);
+    is_number && is_place && is_plain && handle.compare_key(made.end_key().as_slice()).is_eq()
+}
+
+/// The handle as which a clone of one that borrows its block is made.
+fn made_of(alloc: Global, handle: &HandleView<'_>) -> Result<KeyedBlockHandle> {
+    Ok(handle.clone()?.to_handle(alloc)?)
+}
+
+/// Returns the word of a handle that borrows its block, and says if its parts are not those of the
+/// handle that it is made as.
+fn word_of_view(alloc: Global, handle: &HandleView<'_>) -> Result<String> {
+    let made = made_of(alloc, handle)?;
+    if are_parts_of(handle, &made) {
+        return word_of(alloc, &made);
     }
-    Ok(format!(in alloc; "{word} of other parts")?)
+    Ok(format!(in alloc; "{} of other parts", word_of(alloc, &made)?)?)
 }
 
 /// The word of an item that a step takes.
@@ -67,6 +76,24 @@ fn taken(alloc: Global, block: &IndexBlock, item: Option<IndexBlockParsedItem>) 
     }
 }
 
+/// Performs an operation of an iterator that borrows its block.
+fn perform_op(
+    alloc: Global,
+    block: &IndexBlock,
+    iter: &mut Iter<'_>,
+    op: &IndexOp,
+) -> Result<String>
+    requires { iter.old.payload ≡ block.now.payload }
+    ensures { iter.new.payload ≡ block.now.payload }
+{
+    match op {
+        IndexOp::Next => taken(alloc, block, iter.next()),
+        IndexOp::NextBack => taken(alloc, block, iter.next_back()),
+        IndexOp::Seek(key, seqno) => truth(alloc, iter.seek(key.as_slice(), *seqno)),
+        IndexOp::SeekUpper(key, seqno) => truth(alloc, iter.seek_upper(key.as_slice(), *seqno)),
+    }
+}
+
 /// Makes a call of an iterator that borrows its block.
 fn call(alloc: Global, block: &IndexBlock, iter: &mut Iter<'_>, word: &str) -> Result<String>
     requires { iter.old.payload ≡ block.now.payload }
@@ -75,50 +102,45 @@ fn call(alloc: Global, block: &IndexBlock, iter: &mut Iter<'_>, word: &str) -> R
     if word == "left" {
         return Ok(format!(in alloc; "{}", iter.count_left())?);
     }
-    match op_of(alloc, word)? {
-        IndexOp::Next => taken(alloc, block, iter.next()),
-        IndexOp::NextBack => taken(alloc, block, iter.next_back()),
-        IndexOp::Seek(key, seqno) => truth(alloc, iter.seek(key.as_slice(), seqno)),
-        IndexOp::SeekUpper(key, seqno) => truth(alloc, iter.seek_upper(key.as_slice(), seqno)),
-    }
+    let op = op_of(alloc, word)?;
+    perform_op(alloc, block, iter, &op)
 }
 
 /// Makes calls of an iterator that borrows its block.
 fn by_iterator(alloc: Global, block: &IndexBlock, words: &[&str]) -> Result<String> {
     let mut iter = block.iter();
-    let mut text = String::new(alloc);
+    let mut row = Row::new(alloc);
     for word in words {
-        push_word(&mut text, call(alloc, block, &mut iter, word)?.as_str())?;
+        row.add(call(alloc, block, &mut iter, word));
     }
-    Ok(text)
+    row.text()
 }
 
 /// Steps of an iterator over the payload, without the table of the heads or with it.
 fn stepped(alloc: Global, room: &Room, words: &[&str], tabled: bool) -> Result<String> {
-    let block = index_block(alloc, room, tabled)?;
+    let block = index_block(alloc, room.payload.as_slice(), tabled)?;
     by_iterator(alloc, &block, words)
 }
 
 /// Steps of an iterator, counts among them, without the table of the heads and with it.
 fn steps(alloc: Global, room: &Room, words: &[&str]) -> Result<String> {
     let words = repeated(alloc, words)?;
-    let bare = stepped(alloc, room, words.as_slice(), false)?;
-    let tabled = stepped(alloc, room, words.as_slice(), true)?;
+    let bare = stepped(alloc, room, words.as_slice(), false);
+    let tabled = stepped(alloc, room, words.as_slice(), true);
     alike(alloc, bare, "by the table", tabled)
 }
 
 /// The text of what `walk` answers.
 fn text_of(alloc: Global, answers: &[Answer<KeyedBlockHandle>]) -> Result<String> {
-    let mut text = String::new(alloc);
+    let mut row = Row::new(alloc);
     for answer in answers {
-        let word = match answer {
-            Answer::Found(found) => truth(alloc, *found)?,
-            Answer::Item(Some(handle)) => word_of(alloc, handle)?,
-            Answer::Item(None) => String::from_str(alloc, "none")?,
-        };
-        push_word(&mut text, word.as_str())?;
+        match answer {
+            Answer::Found(found) => row.add(truth(alloc, *found)),
+            Answer::Item(Some(handle)) => row.add(word_of(alloc, handle)),
+            Answer::Item(None) => row.push("none"),
+        }
     }
-    Ok(text)
+    row.text()
 }
 
 /// What `walk` answers over a block.
@@ -129,7 +151,7 @@ fn walked(alloc: Global, block: &IndexBlock, ops: &[IndexOp]) -> Result<String> 
 
 /// A clone of the block of the payload, without the table of the heads or with it.
 fn cloned(alloc: Global, room: &Room, tabled: bool) -> Result<IndexBlock> {
-    let block = index_block(alloc, room, tabled)?;
+    let block = index_block(alloc, room.payload.as_slice(), tabled)?;
     Ok(block.clone()?)
 }
 
@@ -139,15 +161,25 @@ fn walked_over(alloc: Global, room: &Room, ops: &[IndexOp], tabled: bool) -> Res
     walked(alloc, &block, ops)
 }
 
+/// What `walk` answers over a clone, without the table of the heads and with it, after another answer.
+fn walked_after(
+    alloc: Global,
+    room: &Room,
+    ops: &[IndexOp],
+    all: Result<String>,
+) -> Result<String> {
+    let bare = walked_over(alloc, room, ops, false);
+    let tabled = walked_over(alloc, room, ops, true);
+    let all = alike(alloc, all, "by walk", bare);
+    alike(alloc, all, "by walk with a table", tabled)
+}
+
 /// Steps of an iterator, by one that borrows its block, and by `walk` over a clone, without the table
 /// of the heads and with it.
 fn walks(alloc: Global, room: &Room, words: &[&str]) -> Result<String> {
     let all = steps(alloc, room, words)?;
     let ops = ops_of(alloc, words)?;
-    let bare = walked_over(alloc, room, ops.as_slice(), false)?;
-    let tabled = walked_over(alloc, room, ops.as_slice(), true)?;
-    let all = alike(alloc, all, "by walk", bare)?;
-    alike(alloc, all, "by walk with a table", tabled)
+    walked_after(alloc, room, ops.as_slice(), Ok(all))
 }
 
 /// The words of handles from the front.
@@ -205,10 +237,11 @@ fn between_back(alloc: Global, block: &IndexBlock, from: &Bound, upto: &Bound) -
     joined(alloc, words.as_slice())
 }
 
-/// The handles of a block between two bounds, from the front and from the back.
-fn between_of(alloc: Global, block: &IndexBlock, from: &Bound, upto: &Bound) -> Result<String> {
-    let front = between_front(alloc, block, from, upto)?;
-    let back = between_back(alloc, block, from, upto)?;
+/// The handles of the payload between two bounds, from the front and from the back.
+fn between_of(alloc: Global, room: &Room, from: &Bound, upto: &Bound) -> Result<String> {
+    let block = index_block(alloc, room.payload.as_slice(), false)?;
+    let front = between_front(alloc, &block, from, upto);
+    let back = between_back(alloc, &block, from, upto);
     alike(alloc, front, "from the back", back)
 }
 
@@ -219,8 +252,7 @@ fn between(alloc: Global, room: &Room, words: &[&str]) -> Result<String> {
         return Err(Fault::Word);
     };
     let (from, upto) = (bound_of(alloc, from)?, bound_of(alloc, upto)?);
-    let block = index_block(alloc, room, false)?;
-    between_of(alloc, &block, &from, &upto)
+    between_of(alloc, room, &from, &upto)
 }
 
 /// The number and the digest of the words of handles.
@@ -256,9 +288,9 @@ fn digest_back(alloc: Global, block: &IndexBlock) -> Result<String> {
 
 /// The digest of the handles of the payload, from either end.
 fn digests(alloc: Global, room: &Room) -> Result<String> {
-    let block = index_block(alloc, room, false)?;
-    let front = digest_front(alloc, &block)?;
-    let back = digest_back(alloc, &block)?;
+    let block = index_block(alloc, room.payload.as_slice(), false)?;
+    let front = digest_front(alloc, &block);
+    let back = digest_back(alloc, &block);
     alike(alloc, front, "from the back", back)
 }
 
@@ -277,20 +309,38 @@ fn by_lent_with_table(alloc: Global, room: &Room) -> Result<String> {
 
 /// The number of the handles, and their digest, by each way to go over them.
 fn handles(alloc: Global, room: &Room) -> Result<String> {
-    let all = digests(alloc, room)?;
-    let views = by_lent(alloc, room)?;
-    let all = alike(alloc, all, "by views", views)?;
-    let views = by_lent_with_table(alloc, room)?;
-    alike(alloc, all, "with a table", views)
+    let all = alike(
+        alloc,
+        digests(alloc, room),
+        "by views",
+        by_lent(alloc, room),
+    );
+    alike(alloc, all, "with a table", by_lent_with_table(alloc, room))
+}
+
+/// Appends a handle that borrows its block to a list.
+fn push_handle(
+    alloc: Global,
+    handles: &mut Vec<KeyedBlockHandle>,
+    handle: &HandleView<'_>,
+) -> Result<()> {
+    handles.push(handle.to_handle(alloc)?)?;
+    Ok(())
+}
+
+/// The handles of a block.
+fn handles_in(alloc: Global, block: &IndexBlock) -> Result<Vec<KeyedBlockHandle>> {
+    let mut handles = Vec::new(alloc);
+    for handle in block.handles() {
+        push_handle(alloc, &mut handles, &handle)?;
+    }
+    Ok(handles)
 }
 
 /// Takes the handles of the payload as the list.
 fn take(alloc: Global, room: &mut Room) -> Result<String> {
-    let block = index_block(alloc, room, false)?;
-    room.handles = Vec::new(alloc);
-    for handle in block.handles() {
-        room.handles.push(handle.to_handle(alloc)?)?;
-    }
+    let block = index_block(alloc, room.payload.as_slice(), false)?;
+    room.handles = handles_in(alloc, &block)?;
     Ok(format!(in alloc; "{} handles", room.handles.len())?)
 }
 

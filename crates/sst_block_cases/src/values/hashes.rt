@@ -26,21 +26,23 @@ fn continued<H: BlockHash>(bytes: &[u8]) -> usize {
     count
 }
 
+/// The hashes of bytes, of 64 and of 128 bits, and at how many places they are continued.
+fn hashes_of<H: BlockHash>(alloc: Global, bytes: &[u8]) -> Result<String> {
+    let (short, long) = (H::hash64(bytes), H::hash128(bytes));
+    let (stream, count) = (in_pieces::<H>(bytes), continued::<H>(bytes));
+    if stream == long {
+        return Ok(format!(in alloc; "{short} {long}, continued at {count}")?);
+    }
+    Ok(format!(in alloc; "{short} {long}, in pieces {stream}, continued at {count}")?)
+}
+
 /// The hashes of bytes, of 64 and of 128 bits, and at how many places they are continued: BYTES.
 fn hash<H: BlockHash>(alloc: Global, words: &[&str]) -> Result<String> {
     let [bytes] = words else {
         return Err(Fault::Word);
     };
     let bytes = bytes_of(alloc, bytes)?;
-    let (short, long) = (H::hash64(bytes.as_slice()), H::hash128(bytes.as_slice()));
-    let (stream, count) = (
-        in_pieces::<H>(bytes.as_slice()),
-        continued::<H>(bytes.as_slice()),
-    );
-    if stream == long {
-        return Ok(format!(in alloc; "{short} {long}, continued at {count}")?);
-    }
-    Ok(format!(in alloc; "{short} {long}, in pieces {stream}, continued at {count}")?)
+    hashes_of::<H>(alloc, bytes.as_slice())
 }
 
 /// The greatest length of a pattern.
@@ -57,18 +59,23 @@ fn pattern_of(alloc: Global, len: u64) -> Result<Vec<u8>> {
     Ok(bytes)
 }
 
+/// The hashes of bytes in hex, of 64 and of 128 bits.
+fn hex_hashes_of<H: BlockHash>(alloc: Global, bytes: &[u8]) -> Result<String> {
+    let (short, long) = (H::hash64(bytes), H::hash128(bytes));
+    let stream = in_pieces::<H>(bytes);
+    if stream == long {
+        return Ok(format!(in alloc; "{short:016x} {long:032x}")?);
+    }
+    Ok(format!(in alloc; "{short:016x} {long:032x}, in pieces {stream:032x}")?)
+}
+
 /// The hashes of the first bytes of a pattern in hex, of 64 and of 128 bits: LENGTH.
 fn pattern<H: BlockHash>(alloc: Global, words: &[&str]) -> Result<String> {
     let [len] = words else {
         return Err(Fault::Word);
     };
     let bytes = pattern_of(alloc, number_of(len)?)?;
-    let (short, long) = (H::hash64(bytes.as_slice()), H::hash128(bytes.as_slice()));
-    let stream = in_pieces::<H>(bytes.as_slice());
-    if stream == long {
-        return Ok(format!(in alloc; "{short:016x} {long:032x}")?);
-    }
-    Ok(format!(in alloc; "{short:016x} {long:032x}, in pieces {stream:032x}")?)
+    hex_hashes_of::<H>(alloc, bytes.as_slice())
 }
 
 /// How a checksum prints, and its number: NUMBER.

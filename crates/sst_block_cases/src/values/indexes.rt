@@ -1,25 +1,17 @@
 //! Commands on the indexes of a block: buckets and pointers.
 
 use crate::fault::{Fault, Result};
-use crate::words::{bytes_of, number_of, push_word, small_of, truth};
+use crate::words::{Row, bytes_of, number_of, size_of, small_of, word_of_number};
 use sst_base::{BlockHash, HashRatio};
 use sst_block_core::table::block::{binary_index, hash_index};
 use std::alloc::Global;
-
-/// Returns the number below 2^32 that a word encodes.
-fn count_of(word: &str) -> Result<u32> {
-    match word.parse::<u32>() {
-        Ok(number) => Ok(number),
-        Err(_) => Err(Fault::Word),
-    }
-}
 
 /// The number of buckets of as many items at a ratio: ITEMS NUM DEN.
 fn ratio<H: BlockHash>(alloc: Global, words: &[&str]) -> Result<String> {
     let [items, num, den] = words else {
         return Err(Fault::Word);
     };
-    let (items, num, den) = (number_of(items)? as usize, count_of(num)?, count_of(den)?);
+    let (items, num, den) = (number_of(items)? as usize, size_of(num)?, size_of(den)?);
     if den == 0 {
         return Err(Fault::Word);
     }
@@ -39,8 +31,7 @@ fn set_two<H: BlockHash>(alloc: Global, words: &[&str]) -> Result<String> {
         return Err(Fault::Word);
     }
     let mut builder = hash_index::Builder::<H>::with_bucket_count(alloc, 1)?;
-    let one = truth(alloc, builder.set(b"a", first))?;
-    let other = truth(alloc, builder.set(b"b", second))?;
+    let (one, other) = (builder.set(b"a", first), builder.set(b"b", second));
     let mut bytes = Vec::new(alloc);
     builder.write(&mut bytes)?;
     if bytes.len() != 1 {
@@ -66,11 +57,12 @@ fn pointers(alloc: Global, words: &[&str]) -> Result<String> {
     }
     let (offset, count) = (u32::from(offset), u32::from(count));
     let reader = binary_index::Reader::new(bytes.as_slice(), offset, count, width);
-    let mut text = format!(in alloc; "{}", reader.len())?;
+    let mut row = Row::new(alloc);
+    row.add(word_of_number(alloc, reader.len() as u64));
     for at in 0..reader.len() {
-        push_word(&mut text, format!(in alloc; "{}", reader.get(at))?.as_str())?;
+        row.add(word_of_number(alloc, reader.get(at) as u64));
     }
-    Ok(text)
+    row.text()
 }
 
 /// Performs a command, if it is one on indexes.

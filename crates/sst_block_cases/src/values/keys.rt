@@ -1,7 +1,7 @@
 //! Commands on keys and entries: how they compare, and how they print.
 
 use crate::fault::{Fault, Result};
-use crate::words::{entry_of, truth, word_of};
+use crate::words::{entries_of, entry_of, word_of};
 use sst_base::table::block::BlockType;
 use sst_base::{
     Block, Checksum, Header, History, InternalKey, InternalValue, Slice, Steps, ValueType,
@@ -17,11 +17,11 @@ fn compared(alloc: Global, left: &InternalKey, right: &InternalKey) -> Result<St
 
 /// How the keys of two entries compare, and whether they are equal: ENTRY ENTRY.
 fn keys(alloc: Global, words: &[&str]) -> Result<String> {
-    let [left, right] = words else {
-        return Err(Fault::Word);
-    };
-    let (left, right) = (entry_of(alloc, left)?, entry_of(alloc, right)?);
-    compared(alloc, left.key(), right.key())
+    let entries = entries_of(alloc, words)?;
+    match entries.as_slice() {
+        [left, right] => compared(alloc, left.key(), right.key()),
+        _ => Err(Fault::Word),
+    }
 }
 
 /// An entry made by the constructor of its type.
@@ -43,10 +43,15 @@ fn made_of(alloc: Global, word: &str) -> Result<InternalValue> {
     made(alloc, &entry)
 }
 
+/// How an entry prints.
+fn printed(alloc: Global, entry: &InternalValue) -> Result<String> {
+    Ok(format!(in alloc; "{entry:?}")?)
+}
+
 /// How the clone of an entry prints.
 fn text_of_clone(alloc: Global, entry: &InternalValue) -> Result<String> {
     let copy = entry.clone()?;
-    Ok(format!(in alloc; "{copy:?}")?)
+    printed(alloc, &copy)
 }
 
 /// How the clone of an entry prints, its word, and whether it is a tombstone.
@@ -66,6 +71,12 @@ fn print(alloc: Global, words: &[&str]) -> Result<String> {
     text_of(alloc, &entry)
 }
 
+/// The parts of a block, of which this is to be the header.
+fn text_of_block(alloc: Global, block: &Block, header: &Header) -> Result<String> {
+    let (same, abc) = (*block.header() == *header, block.data().eq_bytes(b"abc"));
+    Ok(format!(in alloc; "header {same}, abc {abc}, size {}", block.size())?)
+}
+
 /// The parts of a block of a header and the payload `abc`.
 fn block(alloc: Global) -> Result<String> {
     let header = Header {
@@ -75,9 +86,7 @@ fn block(alloc: Global) -> Result<String> {
         uncompressed_length: 3,
     };
     let block = Block::from_parts(header, Slice::new(alloc, b"abc")?);
-    let same = truth(alloc, *block.header() == header)?;
-    let abc = truth(alloc, block.data().eq_bytes(b"abc"))?;
-    Ok(format!(in alloc; "header {same}, abc {abc}, size {}", block.size())?)
+    text_of_block(alloc, &block, &header)
 }
 
 /// Counts, and notes what was seen.

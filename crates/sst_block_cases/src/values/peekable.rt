@@ -3,7 +3,7 @@ ghost use Rattle.std.specs.Prelude.{refl};
 ghost use Rattle.std.specs.Iterator.{YieldsFirst, YieldsLast, item_count};
 
 use crate::fault::{Fault, Result};
-use crate::words::{alike, bytes_of, push_word, small_of};
+use crate::words::{Row, alike, bytes_of, push_small, small_of};
 use sst_base::double_ended_peekable::{DoubleEndedPeekable, DoubleEndedPeekableExt, ListIterator};
 use std::alloc::Global;
 
@@ -74,17 +74,22 @@ impl Byte for &u8 {
     }
 }
 
-/// Makes a call that takes nothing, or takes an item from an end.
-fn call<T: Byte, I: ListIterator<Item = T>>(
-    it: &mut DoubleEndedPeekable<T, I>,
-    name: &str,
-) -> Option<u8> {
-    match name {
-        "peek" => Some(it.peek()?.byte()),
-        "peek_back" => Some(it.peek_back()?.byte()),
-        "next" => Some(it.next()?.byte()),
-        _ => Some(it.next_back()?.byte()),
+/// The text of an item, or `none`.
+fn text_of<T: Byte>(alloc: Global, item: Option<&T>) -> Result<String> {
+    match item {
+        Some(item) => Ok(format!(in alloc; "{}", item.byte())?),
+        None => Ok(String::from_str(alloc, "none")?),
     }
+}
+
+/// Takes an item if it is the byte of a word.
+fn step_if<T: Byte, I: ListIterator<Item = T>>(
+    alloc: Global,
+    it: &mut DoubleEndedPeekable<T, I>,
+    byte: &str,
+) -> Result<String> {
+    let wanted = small_of(byte)?;
+    text_of(alloc, it.next_if(|item| item.byte() == wanted).as_ref())
 }
 
 /// Makes a call: one by its name, or `if:` and the byte for which alone an item is taken.
@@ -93,22 +98,15 @@ fn step<T: Byte, I: ListIterator<Item = T>>(
     it: &mut DoubleEndedPeekable<T, I>,
     word: &str,
 ) -> Result<String> {
-    let found = match word {
-        "peek" | "peek_back" | "next" | "back" => call(it, word),
+    match word {
+        "peek" => text_of(alloc, it.peek()),
+        "peek_back" => text_of(alloc, it.peek_back()),
+        "next" => text_of(alloc, it.next().as_ref()),
+        "back" => text_of(alloc, it.next_back().as_ref()),
         _ => match word.split_once(':') {
-            Some(("if", byte)) => {
-                let wanted = small_of(byte)?;
-                match it.next_if(|item| item.byte() == wanted) {
-                    Some(item) => Some(item.byte()),
-                    None => None,
-                }
-            }
-            _ => return Err(Fault::Word),
+            Some(("if", byte)) => step_if(alloc, it, byte),
+            _ => Err(Fault::Word),
         },
-    };
-    match found {
-        Some(byte) => Ok(format!(in alloc; "{byte}")?),
-        None => Ok(String::from_str(alloc, "none")?),
     }
 }
 
@@ -118,31 +116,36 @@ fn steps<T: Byte, I: ListIterator<Item = T>>(
     mut it: DoubleEndedPeekable<T, I>,
     words: &[&str],
 ) -> Result<String> {
-    let mut text = String::new(alloc);
+    let mut row = Row::new(alloc);
     for word in words {
-        push_word(&mut text, step(alloc, &mut it, word)?.as_str())?;
+        row.add(step(alloc, &mut it, word));
     }
-    Ok(text)
+    row.text()
+}
+
+/// Calls of a peekable iterator that owns bytes.
+fn by_owner(alloc: Global, bytes: &[u8], words: &[&str]) -> Result<String> {
+    let owned = bytes.to_vec(alloc)?.into_iter();
+    steps(alloc, owned.double_ended_peekable(), words)
 }
 
 /// Calls of peekable iterators over bytes: one that borrows them, one that owns them, and one that is
-/// wrapped again: BYTES STEP ..
+/// wrapped again.
+fn by_each(alloc: Global, bytes: &[u8], words: &[&str]) -> Result<String> {
+    let borrowed = steps(alloc, bytes.iter().double_ended_peekable(), words);
+    let again = bytes.iter().double_ended_peekable();
+    let again = steps(alloc, again.double_ended_peekable(), words);
+    let all = alike(alloc, borrowed, "wrapped again", again);
+    alike(alloc, all, "by an owner", by_owner(alloc, bytes, words))
+}
+
+/// Calls of peekable iterators over bytes, of each kind: BYTES STEP ..
 fn peekable(alloc: Global, words: &[&str]) -> Result<String> {
     let Some((bytes, words)) = words.split_first() else {
         return Err(Fault::Word);
     };
     let bytes = bytes_of(alloc, bytes)?;
-    let borrowed = bytes.as_slice().iter().double_ended_peekable();
-    let text = steps(alloc, borrowed, words)?;
-    let again = bytes.as_slice().iter().double_ended_peekable();
-    let again = steps(alloc, again.double_ended_peekable(), words)?;
-    let owned = steps(
-        alloc,
-        bytes.to_vec(alloc)?.into_iter().double_ended_peekable(),
-        words,
-    )?;
-    let text = alike(alloc, text, "wrapped again", again)?;
-    alike(alloc, text, "by an owner", owned)
+    by_each(alloc, bytes.as_slice(), words)
 }
 
 /// Calls of a peekable iterator over a queue, to which `add:` adds a byte: BYTES STEP ..
@@ -152,14 +155,14 @@ fn over_queue(alloc: Global, words: &[&str]) -> Result<String> {
     };
     let items = bytes_of(alloc, items)?;
     let mut it = GrowingQueue { items }.double_ended_peekable();
-    let mut text = String::new(alloc);
+    let mut row = Row::new(alloc);
     for word in words {
         match word.split_once(':') {
-            Some(("add", byte)) => it.inner_mut().items.push(small_of(byte)?)?,
-            _ => push_word(&mut text, step(alloc, &mut it, word)?.as_str())?,
+            Some(("add", byte)) => row.note(push_small(&mut it.inner_mut().items, byte)),
+            _ => row.add(step(alloc, &mut it, word)),
         }
     }
-    Ok(text)
+    row.text()
 }
 
 /// Performs a command, if it is one on peekable iterators.

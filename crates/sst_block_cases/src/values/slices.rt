@@ -1,61 +1,72 @@
 //! Commands on byte strings: each call that makes one.
 
 use crate::fault::{Fault, Result};
-use crate::words::{alike, bytes_of, hex_of, number_of, truth};
+use crate::words::{alike, all_bytes_of, bytes_of, hex_of, number_of, slice_of};
 use bytes::Bytes;
 use sst_base::Slice;
 use std::alloc::Global;
 
-/// The text of a slice: its bytes, its length, and whether it is empty. A slice of the same bytes that
-/// is new is equal to it.
+/// Whether a slice of the same bytes that is new is equal to a slice.
+fn is_equal_to_new(alloc: Global, slice: &Slice) -> Result<bool> {
+    Ok(Slice::new(alloc, slice.as_slice())? == *slice)
+}
+
+/// The text of a slice: its bytes, its length, whether it is empty, and whether it is equal to a new
+/// one of its bytes.
 fn text_of(alloc: Global, slice: &Slice) -> Result<String> {
-    let same = Slice::new(alloc, slice.as_slice())? == *slice;
-    let (bytes, count) = (hex_of(alloc, slice.as_slice())?, slice.len());
-    let (empty, same) = (truth(alloc, slice.is_empty())?, truth(alloc, same)?);
+    let (count, empty) = (slice.len(), slice.is_empty());
+    let same = is_equal_to_new(alloc, slice)?;
+    let bytes = hex_of(alloc, slice.as_slice())?;
     Ok(format!(in alloc; "{bytes}, {count} bytes, empty {empty}, equal {same}")?)
 }
 
 /// A slice that owns bytes, by a call of a name.
-fn owned(alloc: Global, name: &str, bytes: &[u8]) -> Result<Slice> {
+fn owned(alloc: Global, name: &str, bytes: &[u8]) -> sst_base::Result<Slice> {
     match name {
-        "from_vec" => Ok(Slice::from_vec(bytes.to_vec(alloc)?)?),
-        "from_bytes" => {
-            let bytes = Bytes::copy_from_slice(alloc, bytes)?;
-            Ok(Slice::from_bytes(alloc, bytes)?)
-        }
-        "to_bytes" => {
-            let bytes = Slice::new(alloc, bytes)?.to_bytes(alloc)?;
-            Ok(Slice::from_bytes(alloc, bytes)?)
-        }
-        _ => Ok(Slice::collect_bytes(alloc, bytes.iter().copied())?),
+        "from_vec" => Slice::from_vec(bytes.to_vec(alloc)?),
+        "from_bytes" => Slice::from_bytes(alloc, Bytes::copy_from_slice(alloc, bytes)?),
+        "to_bytes" => Slice::from_bytes(alloc, Slice::new(alloc, bytes)?.to_bytes(alloc)?),
+        _ => Slice::collect_bytes(alloc, bytes.iter().copied()),
     }
 }
 
 /// A slice of text, by a call of a name.
-fn from_text(alloc: Global, name: &str, text: &str) -> Result<Slice> {
+fn from_text(alloc: Global, name: &str, text: &str) -> sst_base::Result<Slice> {
     if name == "from_text" {
-        return Ok(Slice::from_text(alloc, text)?);
+        return Slice::from_text(alloc, text);
     }
-    Ok(Slice::from_string(String::from_str(alloc, text)?)?)
+    Slice::from_string(String::from_str(alloc, text)?)
 }
 
 /// A slice of bytes, by a call of a name.
-fn made(alloc: Global, name: &str, bytes: &[u8]) -> Result<Slice> {
+fn made(alloc: Global, name: &str, bytes: &[u8]) -> sst_base::Result<Slice> {
     match name {
-        "new" => Ok(Slice::new(alloc, bytes)?),
+        "new" => Slice::new(alloc, bytes),
         "clone" => Ok(Slice::new(alloc, bytes)?.clone()?),
-        "whole" => Ok(Slice::new(alloc, bytes)?.slice(..)?),
-        "from_text" | "from_string" => match std::str::from_utf8(bytes) {
-            Ok(text) => from_text(alloc, name, text),
-            Err(_) => Err(Fault::Word),
-        },
+        "whole" => Slice::new(alloc, bytes)?.slice(..),
         _ => owned(alloc, name, bytes),
     }
 }
 
-/// The calls that make a slice of bytes.
-const CALLS: [&str; 9] = [
-    "new",
+/// The text of a slice, if it could be made.
+fn text_of_made(alloc: Global, slice: sst_base::Result<Slice>) -> Result<String> {
+    let slice = slice?;
+    text_of(alloc, &slice)
+}
+
+/// The text of a slice that a call of a name makes of bytes.
+fn text_by(alloc: Global, name: &str, bytes: &[u8]) -> Result<String> {
+    if name != "from_text" && name != "from_string" {
+        return text_of_made(alloc, made(alloc, name, bytes));
+    }
+    match std::str::from_utf8(bytes) {
+        Ok(text) => text_of_made(alloc, from_text(alloc, name, text)),
+        Err(_) => Err(Fault::Word),
+    }
+}
+
+/// The calls that make a slice of bytes, beside `new`.
+const CALLS: [&str; 8] = [
     "clone",
     "whole",
     "from_text",
@@ -66,30 +77,62 @@ const CALLS: [&str; 9] = [
     "collect_bytes",
 ];
 
+/// A slice of bytes, by each call that makes one.
+fn by_each_call(alloc: Global, bytes: &[u8]) -> Result<String> {
+    let mut text = text_by(alloc, "new", bytes);
+    for name in &CALLS {
+        text = alike(alloc, text, name, text_by(alloc, name, bytes));
+    }
+    text
+}
+
 /// A slice, by each call that makes one of bytes: BYTES, which are text.
 fn slice(alloc: Global, words: &[&str]) -> Result<String> {
     let [bytes] = words else {
         return Err(Fault::Word);
     };
     let bytes = bytes_of(alloc, bytes)?;
-    let mut text = text_of(alloc, &Slice::new(alloc, bytes.as_slice())?)?;
-    for name in &CALLS {
-        let slice = made(alloc, name, bytes.as_slice())?;
-        text = alike(alloc, text, name, text_of(alloc, &slice)?)?;
-    }
-    Ok(text)
+    by_each_call(alloc, bytes.as_slice())
 }
 
 /// A slice of two byte strings joined: BYTES BYTES.
 fn fused(alloc: Global, words: &[&str]) -> Result<String> {
-    let [left, right] = words else {
+    let parts = all_bytes_of(alloc, words)?;
+    match parts.as_slice() {
+        [left, right] => {
+            text_of_made(
+                alloc,
+                Slice::fused(alloc, left.as_slice(), right.as_slice()),
+            )
+        }
+        _ => Err(Fault::Word),
+    }
+}
+
+/// A part of a slice, from an offset up to another, also by the open range if it begins or ends where
+/// the slice does.
+fn part_of(alloc: Global, whole: &Slice, start: usize, end: usize) -> Result<String> {
+    if start > end || end > whole.len() {
         return Err(Fault::Word);
-    };
-    let (left, right) = (bytes_of(alloc, left)?, bytes_of(alloc, right)?);
-    text_of(
-        alloc,
-        &Slice::fused(alloc, left.as_slice(), right.as_slice())?,
-    )
+    }
+    let text = text_of_made(alloc, whole.slice(start..end));
+    if start == 0 {
+        return alike(
+            alloc,
+            text,
+            "up to",
+            text_of_made(alloc, whole.slice(..end)),
+        );
+    }
+    if end == whole.len() {
+        return alike(
+            alloc,
+            text,
+            "from",
+            text_of_made(alloc, whole.slice(start..)),
+        );
+    }
+    text
 }
 
 /// A part of a slice, from an offset up to another: BYTES START END.
@@ -97,26 +140,16 @@ fn part(alloc: Global, words: &[&str]) -> Result<String> {
     let [bytes, start, end] = words else {
         return Err(Fault::Word);
     };
-    let whole = Slice::from_vec(bytes_of(alloc, bytes)?)?;
     let (start, end) = (number_of(start)? as usize, number_of(end)? as usize);
-    if start > end || end > whole.len() {
-        return Err(Fault::Word);
-    }
-    let text = text_of(alloc, &whole.slice(start..end)?)?;
-    if start == 0 {
-        return alike(alloc, text, "up to", text_of(alloc, &whole.slice(..end)?)?);
-    }
-    if end == whole.len() {
-        return alike(alloc, text, "from", text_of(alloc, &whole.slice(start..)?)?);
-    }
-    Ok(text)
+    let whole = slice_of(alloc, bytes)?;
+    part_of(alloc, &whole, start, end)
 }
 
 /// Slices of arrays and of nothing.
 fn arrays(alloc: Global) -> Result<String> {
     let empty = text_of(alloc, &Slice::empty(alloc))?;
-    let two = text_of(alloc, &Slice::from_array(alloc, *b"ab")?)?;
-    let fifty = text_of(alloc, &Slice::from_array(alloc, [7; 50])?)?;
+    let two = text_of_made(alloc, Slice::from_array(alloc, *b"ab"))?;
+    let fifty = text_of_made(alloc, Slice::from_array(alloc, [7; 50]))?;
     Ok(format!(in alloc; "{empty}; {two}; {fifty}")?)
 }
 
