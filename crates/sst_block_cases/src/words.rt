@@ -258,15 +258,6 @@ impl Row {
         }
     }
 
-    /// Appends the word of a truth value that a call returns, or notes why it returns none.
-    pub fn add_truth(&mut self, value: Result<bool>) {
-        match value {
-            Ok(true) => self.push("true"),
-            Ok(false) => self.push("false"),
-            Err(fault) => self.note(Err(fault)),
-        }
-    }
-
     /// Returns the words.
     ///
     /// # Errors
