@@ -6,7 +6,7 @@ use Rattle.sst_block_core.specs.Entries.{entries}
 use Rattle.sst_block_core.specs.Kind.{IsOrdered}
 use Rattle.std.proofs.Common.{subst, Option}
 use Rattle.std.specs.Io.KnownBytes.{Appends}
-use Rattle.sstable_blocks.specs.Writing.{IsTable as IsTableOf, AppendsPacked as IsAppended}
+use Rattle.sstable_blocks.specs.Writing.{IsTable, AppendsTable}
 use Rattle.sstable_blocks.specs.declared.run.RunConfig.{RunConfig}
 use Rattle.sstable_blocks.specs.declared.run.RunHandles.{RunHandles}
 use Rattle.sst_program.specs.Table.{HaveSize, IsCutBy, AppendsPacked, sst_form}
@@ -48,13 +48,13 @@ ordered-next blocks block behind rest items all cut h =
 
 -- blocks of a size, written as a table
 pub table-of : (config config' : RunConfig) (n : ℕ) (items : List Entry) (blocks : List (List Entry)) (h : RunHandles) (old start after : Option (List ℕ)) (count len : ℕ)
-    → IsCutBy n items blocks → config' ≡ config → start ≡ old → IsAppended (sst_form config') blocks start after h len → count ≡ length blocks
+    → IsCutBy n items blocks → config' ≡ config → start ≡ old → AppendsTable (sst_form config') blocks start after h len → count ≡ length blocks
     → AppendsPacked config n items old after (record { blocks = count; len = len })
 table-of config config' n items blocks h old start after count len cut same begin t is-count = record {
   blocks = blocks;
   bytes = t.bytes;
   cut = cut;
-  table = (h, subst (λ k. IsTableOf (sst_form k) blocks h t.bytes) same t.table);
+  table = (h, subst (λ k. IsTable (sst_form k) blocks h t.bytes) same t.table);
   appended = subst (λ a. Appends a after t.bytes) begin t.appended;
   block_count = is-count;
   len = t.len_is;

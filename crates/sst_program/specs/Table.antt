@@ -7,7 +7,7 @@ use Rattle.sst_base.specs.declared.error.Error.TheVariants.{Io, TooLong, Memory}
 use Rattle.sst_base.specs.Hashes.{poly31}
 use Rattle.sstable_blocks.specs.Blocks.{joined}
 use Rattle.sstable_blocks.specs.Run.{Form, form}
-use Rattle.sstable_blocks.specs.Writing.{IsPackedTable as IsTableOf}
+use Rattle.sstable_blocks.specs.Writing.{IsTable}
 use Rattle.sstable_blocks.specs.declared.run.RunConfig.{RunConfig}
 use Rattle.sstable_blocks.specs.declared.run.RunHandles.{RunHandles}
 use Rattle.sst_program.specs.declared.pack.Packed.{Packed}
@@ -33,7 +33,7 @@ IsWriteFault e = (e ≡ Io) ⊎ (e ≡ TooLong) ⊎ (e ≡ Memory)
 
 -- the bytes of a table file that `sst` writes
 abbrev pub IsPackedTable : RunConfig → List (List Entry) → List ℕ → Type 0
-IsPackedTable config blocks bytes = (h : RunHandles) × IsTableOf (sst_form config) blocks h bytes
+IsPackedTable config blocks bytes = (h : RunHandles) × IsTable (sst_form config) blocks h bytes
 
 -- a writer's known bytes grew by the table of entries in blocks of n, and this is how much it is
 pub record AppendsPacked (config : RunConfig) (n : ℕ) (items : List Entry) (old new : Option (List ℕ)) (p : Packed) : Type 0 where
