@@ -7,7 +7,6 @@ use crate::progress::Progress;
 use crate::show::Shown;
 use crate::words::FILE;
 use clap::ArgMatches;
-use sst_block_core::table::index_block::HandleView;
 use sstable_blocks::{
     BlockHandle, BlockHash, DataBlock, Error, FrameSource, IndexBlock, InternalValue, Steps, Table,
 };
@@ -27,43 +26,23 @@ pub struct Held {
     pub last: Option<InternalValue>,
 }
 
-// The first entry of a block.
-fn first_in<H: BlockHash>(
-    alloc: Global,
-    block: &DataBlock<H>,
-) -> sstable_blocks::Result<InternalValue> {
-    match block.by_ref().entries().next() {
-        Some(view) => Ok(view.to_entry(alloc)?),
-        None => Err(Error::BadEntry),
-    }
-}
-
-// The last entry of a block.
-fn last_in<H: BlockHash>(
-    alloc: Global,
-    block: &DataBlock<H>,
-) -> sstable_blocks::Result<InternalValue> {
-    match block.by_ref().entries().next_back() {
-        Some(view) => Ok(view.to_entry(alloc)?),
-        None => Err(Error::BadEntry),
-    }
-}
-
 /// Returns what a data block holds.
 ///
 /// # Errors
 ///
 /// `Error::Memory` if an allocation fails.
 pub fn held_in<H: BlockHash>(alloc: Global, block: &DataBlock<H>) -> sstable_blocks::Result<Held> {
-    let (entries, first) = (block.len(), first_in(alloc, block)?);
-    let last = if entries > 1 {
-        Some(last_in(alloc, block)?)
-    } else {
-        None
+    let mut views = block.by_ref().entries();
+    let Some(first) = views.next() else {
+        return Err(Error::BadEntry);
+    };
+    let last = match views.next_back() {
+        Some(last) => Some(last.to_entry(alloc)?),
+        None => None,
     };
     Ok(Held {
-        entries,
-        first,
+        entries: block.len(),
+        first: first.to_entry(alloc)?,
         last,
     })
 }
@@ -83,18 +62,6 @@ fn held_at<H: BlockHash, S: FrameSource>(
     }
 }
 
-// Prints what a block holds.
-fn print_sound<O: Write>(output: &mut O, held: &Held) -> io::Result<()> {
-    let last = held.last.as_ref().unwrap_or(&held.first);
-    writeln!(
-        output,
-        "ok, {} entries, {} to {}",
-        held.entries,
-        Shown(held.first.key().user_key().as_slice()),
-        Shown(last.key().user_key().as_slice())
-    )
-}
-
 // Prints what a block holds, or why it is not sound.
 fn print_held<O: Write>(
     output: &mut O,
@@ -103,10 +70,23 @@ fn print_held<O: Write>(
     held: &sstable_blocks::Result<Held>,
     cause: Cause,
 ) -> io::Result<()> {
-    let (offset, size) = (*handle.offset(), handle.size());
-    write!(output, "block {number} at offset {offset}: {size} bytes, ")?;
+    write!(
+        output,
+        "block {number} at offset {}: {} bytes, ",
+        *handle.offset(),
+        handle.size()
+    )?;
     match held {
-        Ok(held) => print_sound(output, held),
+        Ok(held) => {
+            let last = held.last.as_ref().unwrap_or(&held.first);
+            writeln!(
+                output,
+                "ok, {} entries, {} to {}",
+                held.entries,
+                Shown(held.first.key().user_key().as_slice()),
+                Shown(last.key().user_key().as_slice())
+            )
+        }
         Err(error) => writeln!(output, "{}", ShownError::new(*error, cause)),
     }
 }
@@ -165,30 +145,21 @@ pub fn run<H: BlockHash, R: Files + Clock + Eprint, O: Write>(
     blocks_in(progress, alloc, file, table, output)
 }
 
-// Prints the line of a handle.
-fn print_handle<O: Write>(
-    alloc: Global,
-    number: usize,
-    view: &HandleView<'_>,
-    output: &mut O,
-) -> Result<()> {
-    let Ok(handle) = view.to_handle(alloc) else {
-        return Err(Fault::Memory);
-    };
-    let (offset, size, seqno) = (handle.offset().0, handle.size(), handle.seqno());
-    let last = Shown(handle.end_key().as_slice());
-    writeln!(
-        output,
-        "block {number} at offset {offset}: {size} bytes, up to {last} at {seqno}"
-    )?;
-    Ok(())
-}
-
 // Prints a line for each handle.
 fn print_handles<O: Write>(alloc: Global, index: &IndexBlock, output: &mut O) -> Result<()> {
     let mut number = 0usize;
     for view in index.by_ref().handles() {
-        print_handle(alloc, number, &view, output)?;
+        let Ok(handle) = view.to_handle(alloc) else {
+            return Err(Fault::Memory);
+        };
+        writeln!(
+            output,
+            "block {number} at offset {}: {} bytes, up to {} at {}",
+            handle.offset().0,
+            handle.size(),
+            Shown(handle.end_key().as_slice()),
+            handle.seqno()
+        )?;
         number = number.saturating_add(1);
     }
     Ok(())

@@ -83,18 +83,6 @@ fn print<R: Eprint, O: Write>(
     }
 }
 
-// Checks one of several files, and prints what that came to. Returns whether it is sound.
-fn check_one<R: Files + Clock + Eprint, O: Write>(
-    progress: &Progress<'_, R>,
-    alloc: Global,
-    file: &str,
-    hash: Option<TableHash>,
-    output: &mut O,
-) -> Result<bool> {
-    let checked = check_file(progress, alloc, file, hash);
-    print(progress, file, &checked, output)
-}
-
 // Checks table files whole, each whatever the others are.
 fn check_all<R: Files + Clock + Eprint, O: Write>(
     progress: &Progress<'_, R>,
@@ -105,7 +93,8 @@ fn check_all<R: Files + Clock + Eprint, O: Write>(
 ) -> Result<()> {
     let mut failed = 0usize;
     for file in files {
-        if !check_one(progress, alloc, file, hash, output)? {
+        let checked = check_file(progress, alloc, file, hash);
+        if !print(progress, file, &checked, output)? {
             failed = failed.saturating_add(1);
         }
     }

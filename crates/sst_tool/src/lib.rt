@@ -21,7 +21,6 @@ mod ordered;
 mod place;
 mod probes;
 mod progress;
-mod report;
 mod salvage;
 mod scan;
 mod seen_back;

@@ -221,12 +221,12 @@ pub fn run<H: BlockHash, R: LockFiles + Clock + Eprint, O: Write>(
     output: &mut O,
 ) -> Result<()> {
     let notes = Notes::new();
-    let merged = match hash_in(words) {
-        None => merge_into::<H, H, R>(progress, alloc, words, &notes),
-        Some(TableHash::Poly31) => merge_into::<H, Poly31, R>(progress, alloc, words, &notes),
-        Some(TableHash::Xxh3) => merge_into::<H, Xxh3, R>(progress, alloc, words, &notes),
+    let count = match hash_in(words) {
+        None => merge_into::<H, H, R>(progress, alloc, words, &notes)?,
+        Some(TableHash::Poly31) => merge_into::<H, Poly31, R>(progress, alloc, words, &notes)?,
+        Some(TableHash::Xxh3) => merge_into::<H, Xxh3, R>(progress, alloc, words, &notes)?,
     };
-    match print_counts(words, &notes, merged?, output) {
+    match print_counts(words, &notes, count, output) {
         Ok(()) => Ok(()),
         Err(_) => Err(Fault::of_written(alloc, words.get_str(OUT).unwrap_or(""))),
     }

@@ -145,18 +145,6 @@ fn new_file<'r, R: LockFiles>(
     Ok(file)
 }
 
-// Makes the new file of a number.
-fn numbered_file<'r, R: LockFiles>(
-    rt: &'r R,
-    alloc: Global,
-    names: &Names<'_>,
-    number: usize,
-    is_forced: bool,
-) -> Result<NewFile<'r, R>> {
-    let name = names.name(alloc, number)?;
-    new_file(rt, alloc, name.as_str(), is_forced)
-}
-
 // Removes a new file, if there is one.
 fn discard<R: LockFiles>(file: Option<NewFile<'_, R>>) {
     if let Some(file) = file {
@@ -178,13 +166,14 @@ impl<'r, 'w, 'c, R: LockFiles> NewTables<'r, 'w, 'c, R> {
     ) -> Result<NewTables<'r, 'w, 'c, R>> {
         let names = Names::of_words(words);
         let is_forced = words.get_flag(FORCE);
-        let first = numbered_file(rt, alloc, &names, 1, is_forced)?;
+        let first = names.name(alloc, 1)?;
+        let next = Some(new_file(rt, alloc, first.as_str(), is_forced)?);
         Ok(NewTables {
             rt,
             alloc,
             names,
             is_forced,
-            next: Some(first),
+            next,
             opened: None,
             closed: Vec::new(alloc),
             cause,
@@ -197,26 +186,16 @@ impl<'r, 'w, 'c, R: LockFiles> NewTables<'r, 'w, 'c, R> {
         self.closed.len()
     }
 
-    // The number of the table that is written.
-    fn open_number(&self) -> usize {
-        self.closed.len().saturating_add(1)
+    // The name of the table that is written.
+    fn open_name(&self) -> std::result::Result<String, AllocError> {
+        self.names
+            .name(self.alloc, self.closed.len().saturating_add(1))
     }
 
-    // Takes the file of the next table, which is made if it is not there.
-    fn take_next(&mut self) -> sstable_blocks::Result<NewFile<'r, R>>
-        ensures { self.new.closed ≡ self.old.closed }
-    {
-        if let Some(file) = self.next.take() {
-            return Ok(file);
-        }
-        let number = self.open_number();
-        match numbered_file(self.rt, self.alloc, &self.names, number, self.is_forced) {
-            Ok(file) => Ok(file),
-            Err(fault) => {
-                self.refused = Some(fault);
-                Err(Error::Io)
-            }
-        }
+    // Makes the file of the next table.
+    fn make_next(&self) -> Result<NewFile<'r, R>> {
+        let name = self.open_name()?;
+        new_file(self.rt, self.alloc, name.as_str(), self.is_forced)
     }
 
     /// Returns why a table is not written, by the error of the call: its file was not made, or a
@@ -229,7 +208,7 @@ impl<'r, 'w, 'c, R: LockFiles> NewTables<'r, 'w, 'c, R> {
             Some(cause) => Cause::System(cause),
             None => Cause::Unknown,
         };
-        match self.names.name(self.alloc, self.open_number()) {
+        match self.open_name() {
             Ok(name) => Fault::of_file(self.alloc, name.as_str(), None, error, cause),
             Err(_) => Fault::Memory,
         }
@@ -242,57 +221,31 @@ impl<'r, 'w, 'c, R: LockFiles> NewTables<'r, 'w, 'c, R> {
     /// That of the system for the first one that it refuses; those before it are in place, and the
     /// others as they were.
     pub fn put_in_place(self) -> Result<()> {
-        let NewTables {
-            alloc,
-            names,
-            next,
-            opened,
-            closed,
-            ..
-        } = self;
-        discard(next);
-        discard(opened);
-        put_all_in_place(alloc, &names, closed)
+        discard(self.next);
+        discard(self.opened);
+        let mut number = 0usize;
+        let mut placed = Ok(());
+        for (_, file) in self.closed {
+            number = number.saturating_add(1);
+            placed = match placed {
+                Ok(()) => put_in_place(self.alloc, &self.names, number, file),
+                Err(fault) => {
+                    file.discard();
+                    Err(fault)
+                }
+            };
+        }
+        placed
     }
 
     /// Removes what was written. The files of these names are as they were.
     pub fn discard(self) {
-        let NewTables {
-            next,
-            opened,
-            closed,
-            ..
-        } = self;
-        discard(next);
-        discard(opened);
-        discard_all(closed);
-    }
-}
-
-// Removes new files.
-fn discard_all<R: LockFiles>(files: Vec<(RunHandles, NewFile<'_, R>)>) {
-    for (_, file) in files {
-        file.discard();
-    }
-}
-
-// Puts files in place, in order, up to the first that is refused. The others are removed.
-fn put_all_in_place<R: LockFiles>(
-    alloc: Global,
-    names: &Names<'_>,
-    files: Vec<(RunHandles, NewFile<'_, R>)>,
-) -> Result<()> {
-    let mut number = 0usize;
-    let mut placed = Ok(());
-    for (_, file) in files {
-        number = number.saturating_add(1);
-        if placed.is_ok() {
-            placed = put_in_place(alloc, names, number, file);
-        } else {
+        discard(self.next);
+        discard(self.opened);
+        for (_, file) in self.closed {
             file.discard();
         }
     }
-    placed
 }
 
 // Puts the table of a number in place.
@@ -322,7 +275,16 @@ impl<'r, 'w, 'c, R: LockFiles> Outputs for NewTables<'r, 'w, 'c, R> {
     ghost may_fail = { λ _. Unit {0} };
 
     fn open(&mut self) -> sstable_blocks::Result<NotedFile<'c, BufferedFile<R::File>>> {
-        let file = self.take_next()?;
+        let file = match self.next.take() {
+            Some(file) => file,
+            None => match self.make_next() {
+                Ok(file) => file,
+                Err(fault) => {
+                    self.refused = Some(fault);
+                    return Err(Error::Io);
+                }
+            },
+        };
         let written = file.writer(self.alloc);
         self.opened = Some(file);
         Ok(NotedFile {

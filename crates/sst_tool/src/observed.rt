@@ -84,17 +84,6 @@ pub struct Bits {
     pub probes: u64,
 }
 
-impl fmt::Display for Bits {
-    fn fmt<W: fmt::Write>(&self, f: &mut fmt::Formatter<W>) -> fmt::Result {
-        let Bits { bits, set, probes } = self;
-        let percent = set.saturating_mul(100).checked_div(*bits).unwrap_or(0);
-        write!(
-            f,
-            "{bits} bits, {set} set ({percent} %), {probes} probes a key"
-        )
-    }
-}
-
 /// What was seen of a table.
 #[derive(Clone, Copy)]
 pub struct Seen {

@@ -2,7 +2,7 @@
 ghost use Rattle.std.specs.Prelude.{None, IfOk};
 ghost use Rattle.sst_merge.specs.Sources.{TakesFirst};
 
-use crate::blocks::{Held, held_in};
+use crate::blocks::held_in;
 use crate::fault::{Fault, Result, Shown};
 use crate::frames::data_frames;
 use crate::long_keys::LongestKey;
@@ -18,8 +18,7 @@ use sst_merge::Source;
 use sstable_blocks::run::checked::{data_block_from, index_block_from};
 use sstable_blocks::run::footer::read_footer;
 use sstable_blocks::{
-    BlockHandle, BlockHash, DataBlock, Error, FrameSource, IndexBlock, InternalValue, LockFiles,
-    SizedSource,
+    BlockHandle, BlockHash, DataBlock, Error, FrameSource, InternalValue, LockFiles, SizedSource,
 };
 use std::alloc::Global;
 use std::cell::Cell;
@@ -67,17 +66,6 @@ struct WholeBlocks<'p, 'w, H: BlockHash, S, R> {
     progress: &'p Progress<'p, R>,
 }
 
-// Notes the last entry of a block, if the block does not sort before the last one so far.
-fn note_last(held: Held, last: &mut Option<InternalValue>) -> sstable_blocks::Result<()> {
-    if let Some(last) = &*last
-        && !last.key().cmp(held.first.key()).is_le()
-    {
-        return Err(Error::OutOfOrder);
-    }
-    *last = Some(held.last.unwrap_or(held.first));
-    Ok(())
-}
-
 // The entries of a block that was read, if it is whole and does not sort before the last entry.
 fn kept_entries<H: BlockHash>(
     alloc: Global,
@@ -85,7 +73,15 @@ fn kept_entries<H: BlockHash>(
     last: &mut Option<InternalValue>,
 ) -> sstable_blocks::Result<IntoEntries<H>> {
     let block = read?;
-    note_last(held_in(alloc, &block)?, last)?;
+    let held = held_in(alloc, &block)?;
+    let follows = match &*last {
+        Some(last) => last.key().cmp(held.first.key()).is_le(),
+        None => true,
+    };
+    if !follows {
+        return Err(Error::OutOfOrder);
+    }
+    *last = Some(held.last.unwrap_or(held.first));
     Ok(block.into_entries())
 }
 
@@ -185,15 +181,6 @@ impl<'p, 'w, H: BlockHash, S: FrameSource, R: Clock + Eprint> Source<InternalVal
     }
 }
 
-// The frames that an index names.
-fn frames_in(alloc: Global, index: &IndexBlock) -> sstable_blocks::Result<Vec<BlockHandle>> {
-    let mut found = Vec::new(alloc);
-    for view in index.by_ref().handles() {
-        found.push(view.handle())?;
-    }
-    Ok(found)
-}
-
 // The frames of the data blocks of a table, by its index.
 fn frames_by_index<H: BlockHash, S: SizedSource>(
     alloc: Global,
@@ -204,7 +191,11 @@ fn frames_by_index<H: BlockHash, S: SizedSource>(
     let handles = read_footer(alloc, source, len)?;
     let index = index_block_from::<H, S>(alloc, source, &handles.index)?;
     longest.see(&index);
-    frames_in(alloc, &index)
+    let mut found = Vec::new(alloc);
+    for view in index.by_ref().handles() {
+        found.push(view.handle())?;
+    }
+    Ok(found)
 }
 
 // The frames of the data blocks of a file by their headers, which are found for this reason.

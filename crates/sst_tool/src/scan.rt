@@ -232,20 +232,6 @@ fn print_range<H: BlockHash, R: Files + Clock + Eprint, O: Write + Drop>(
     print_range_in(progress, alloc, words, table, range, lines)
 }
 
-// Prints the entries of a range of a table file to an output.
-fn print_to<H: BlockHash, R: Files + Clock + Eprint, O: Write>(
-    progress: &Progress<'_, R>,
-    alloc: Global,
-    words: &ArgMatches<'_>,
-    range: &Range,
-    output: &mut O,
-) -> Result<()> {
-    let mut lines = Lines::new(alloc, output, form_of(words))?;
-    let printed = print_range::<H, R, _>(progress, alloc, words, range, &mut lines);
-    lines.flush()?;
-    printed
-}
-
 /// Prints the entries of a table from the key of `--from` up to that of `--to`, without it, or of
 /// the keys that begin with `--prefix`; with `--at` only what a read at this sequence number sees;
 /// with `--limit` no more than so many.
@@ -262,5 +248,8 @@ pub fn run<H: BlockHash, R: Files + Clock + Eprint, O: Write>(
     output: &mut O,
 ) -> Result<()> {
     let range = Range::of_words(alloc, words)?;
-    print_to::<H, R, O>(progress, alloc, words, &range, output)
+    let mut lines = Lines::new(alloc, &mut *output, form_of(words))?;
+    let printed = print_range::<H, R, _>(progress, alloc, words, &range, &mut lines);
+    lines.flush()?;
+    printed
 }

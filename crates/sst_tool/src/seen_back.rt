@@ -39,11 +39,13 @@ fn pass_back(
     ensures passed { result ≡ (if is_same_key newest.old entry then None else newest.old) }
 {
     let is_seen = entry.key().seqno() < at;
-    let passed = if is_same_key(newest, &entry) {
-        None
-    } else {
-        newest.take()
-    };
+    if is_same_key(newest, &entry) {
+        if is_seen {
+            *newest = Some(entry);
+        }
+        return None;
+    }
+    let passed = newest.take();
     if is_seen {
         *newest = Some(entry);
     }

@@ -104,22 +104,6 @@ fn check_named<H: BlockHash, S: FrameSource, R>(
     }
 }
 
-// Counts the entries of a run by a check of it without its filter.
-fn count_entries<H: BlockHash, S: FrameSource, R>(
-    progress: &Progress<'_, R>,
-    alloc: Global,
-    file: &str,
-    source: &mut S,
-    index: BlockHandle,
-) -> Result<u64> {
-    let unfiltered = RunHandles {
-        index,
-        filter: None,
-    };
-    let summary = check_named::<H, S, R>(progress, alloc, file, source, &unfiltered)?;
-    Ok(summary.entries)
-}
-
 // Refuses a filter that claims too many probes for the entries of the run, which are counted first
 // where it claims many.
 fn test_filter<H: BlockHash, S: FrameSource, R>(
@@ -136,11 +120,15 @@ fn test_filter<H: BlockHash, S: FrameSource, R>(
     if claim.probes <= FREE_PROBES {
         return Ok(());
     }
-    let entries = count_entries::<H, S, R>(progress, alloc, file, source, index)?;
-    if may_ask(claim, entries) {
+    let unfiltered = RunHandles {
+        index,
+        filter: None,
+    };
+    let summary = check_named::<H, S, R>(progress, alloc, file, source, &unfiltered)?;
+    if may_ask(claim, summary.entries) {
         return Ok(());
     }
-    Err(Fault::of_filter(alloc, file, *filter.offset(), claim, entries))
+    Err(Fault::of_filter(alloc, file, *filter.offset(), claim, summary.entries))
 }
 
 // The number of items in the block at a handle, by the last bytes of its trailer, which are not

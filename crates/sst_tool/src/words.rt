@@ -320,50 +320,16 @@ fn arg_of<'a>(alloc: Global, word: &Word) -> Arg<'a> {
     }
 }
 
-// What a word has to do with others.
-#[derive(Clone, Copy)]
-enum Relation {
-    // It stands in place of the ends of a range.
-    Range,
-    // It stands in place of JSON.
-    Form,
-    // It says which reads may come.
-    Reads,
-    // It needs a word that says which reads may come: which tombstones are dropped depends on them.
-    NeedsReads,
-    // Nothing.
-    None,
-}
-
-// What the word of a name has to do with others.
-fn relation_of(name: &str) -> Relation {
-    match name {
-        PREFIX => Relation::Range,
-        TEXT => Relation::Form,
-        SNAPSHOT | LATEST => Relation::Reads,
-        BOTTOM => Relation::NeedsReads,
-        _ => Relation::None,
-    }
-}
-
 // Says what a word has to do with others: which of two there can be, and which needs another.
-fn related(arg: Arg<'_>, relation: Relation) -> Result<Arg<'_>, AllocError> {
-    match relation {
-        Relation::Range => arg.conflicts_with_all(&[FROM, TO]),
-        Relation::Form => arg.conflicts_with(JSON),
-        Relation::Reads => arg.group(READS),
-        Relation::NeedsReads => arg.requires_arg(READS),
-        Relation::None => Ok(arg),
+fn related<'a>(arg: Arg<'a>, name: &str) -> Result<Arg<'a>, AllocError> {
+    match name {
+        PREFIX => arg.conflicts_with_all(&[FROM, TO]),
+        TEXT => arg.conflicts_with(JSON),
+        SNAPSHOT | LATEST => arg.group(READS),
+        // (which tombstones are dropped depends on the reads that may come)
+        BOTTOM => arg.requires_arg(READS),
+        _ => Ok(arg),
     }
-}
-
-// Adds a word to a command.
-fn with_word<'a>(
-    alloc: Global,
-    command: Command<'a>,
-    word: &Word,
-) -> Result<Command<'a>, AllocError> {
-    command.arg(related(arg_of(alloc, word), relation_of(word.0))?)
 }
 
 // Adds words to a command.
@@ -374,7 +340,7 @@ fn with_words<'a>(
 ) -> Result<Command<'a>, AllocError> {
     let mut command = command;
     for word in words {
-        command = with_word(alloc, command, word)?;
+        command = command.arg(related(arg_of(alloc, word), word.0)?)?;
     }
     Ok(command)
 }
