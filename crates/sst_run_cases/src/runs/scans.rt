@@ -176,7 +176,7 @@ fn scan<H: BlockHash>(
     if is_sound {
         of_sound::<H>(alloc, room, Wanted::Scan(&path))
     } else {
-        scan_checked::<H>(alloc, room, &path)
+        of_run::<H>(alloc, room, Place::Memory, Asked::Scan(&path))
     }
 }
 
