@@ -5,44 +5,33 @@ use Rattle.sst_base.specs.Reading.{length_prefixed}
 use Rattle.sst_base.specs.Varint.{varint}
 use Rattle.bytes.proofs.Ranges.{take-append_past}
 
--- a chunk of n bytes that begins within what was put: what is put then ends with the chunk
-pub chunk_put : (n : ℕ) (before rest form form' post : List ℕ) (at m m' : ℕ) → length (take at before) ≡ at → at + m ≤ length form → m' ≤ m → m' + n ≤ length rest
+-- a chunk that begins within what was put: what is put then ends with the chunk
+pub chunk_put : (before rest form form' post : List ℕ) (at m m' : ℕ) → length (take at before) ≡ at → at + m ≤ length form → m' ≤ m → m' + 16 ≤ length rest
     → take (at + m) form ≡ take at before ++ take m rest
-    → form' ≡ take (at + m') form ++ (take n (drop m' rest) ++ post)
-    → take (at + (m' + n)) form' ≡ take at before ++ take (m' + n) rest
-chunk_put n before rest form form' post at m m' long room less inside so put =
+    → form' ≡ take (at + m') form ++ (take 16 (drop m' rest) ++ post)
+    → take (at + (m' + 16)) form' ≡ take at before ++ take (m' + 16) rest
+chunk_put before rest form form' post at m m' long room less inside so put =
     let short : take (at + m') form ≡ take at before ++ take m' rest =
     sym (take-take (at + m') (at + m) form (omega (arith, less)))
     ∙ ap (take (at + m')) so
     ∙ take-append_past (take at before) (take m rest) m' (at + m') (ap (λ k. k + m') (sym long))
     ∙ ap (λ ys. take at before ++ ys) (take-take m' m rest less) in
     let len : length (take (at + m') form) ≡ at + m' = length-take-le (at + m') form (omega (arith, room, less)) in
-    let chunk : length (take n (drop m' rest)) ≡ n = length-take-le n (drop m' rest) (omega (arith, length-drop m' rest, inside)) in
-    ap (take (at + (m' + n))) put
-    ∙ take-append_past (take (at + m') form) (take n (drop m' rest) ++ post) n (at + (m' + n)) (omega (arith, len))
-    ∙ ap (λ ys. take (at + m') form ++ ys) (take-append-le n (take n (drop m' rest)) post (omega (arith, chunk)) ∙ take-take n n (drop m' rest) (omega arith))
-    ∙ ap (λ xs. xs ++ take n (drop m' rest)) short
-    ∙ append_assoc (take at before) (take m' rest) (take n (drop m' rest))
-    ∙ ap (λ ys. take at before ++ ys) (sym (take-add m' n rest))
+    let chunk : length (take 16 (drop m' rest)) ≡ 16 = length-take-le 16 (drop m' rest) (omega (arith, length-drop m' rest, inside)) in
+    ap (take (at + (m' + 16))) put
+    ∙ take-append_past (take (at + m') form) (take 16 (drop m' rest) ++ post) 16 (at + (m' + 16)) (omega (arith, len))
+    ∙ ap (λ ys. take (at + m') form ++ ys) (take-append-le 16 (take 16 (drop m' rest)) post (omega (arith, chunk)) ∙ take-take 16 16 (drop m' rest) (omega arith))
+    ∙ ap (λ xs. xs ++ take 16 (drop m' rest)) short
+    ∙ append_assoc (take at before) (take m' rest) (take 16 (drop m' rest))
+    ∙ ap (λ ys. take at before ++ ys) (sym (take-add m' 16 rest))
 
 -- the first chunk
-pub first_put : (n : ℕ) (before rest form' post : List ℕ) (at : ℕ) → length (take at before) ≡ at → n ≤ length rest → form' ≡ take at before ++ (take n rest ++ post) → take (at + n) form' ≡ take at before ++ take n rest
-first_put n before rest form' post at long inside put =
-    let chunk : length (take n rest) ≡ n = length-take-le n rest inside in
-    ap (take (at + n)) put
-    ∙ take-append_past (take at before) (take n rest ++ post) n (at + n) (ap (λ k. k + n) (sym long))
-    ∙ ap (λ ys. take at before ++ ys) (take-append-le n (take n rest) post (omega (arith, chunk)) ∙ take-take n n rest (omega arith))
-
--- the first and the last n bytes of a string that has n to 2 * n
-pub ends_put : (n : ℕ) (before bytes one two post post' : List ℕ) (at last : ℕ) → length one ≡ length before → last + n ≡ length bytes → last ≤ n → at + length bytes ≤ length before
-    → one ≡ take at before ++ (take n bytes ++ post)
-    → two ≡ take (at + last) one ++ (take n (drop last bytes) ++ post')
-    → take (at + length bytes) two ≡ take at before ++ bytes
-ends_put n before bytes one two post post' at last k l less room p q =
-    let long : length (take at before) ≡ at = length-take-le at before (omega (arith, room)) in
-    let first = first_put n before bytes one post at long (omega (arith, l)) p in
-    let both = chunk_put n before bytes one two post' at n last long (omega (arith, k, l, room)) less (omega (arith, l)) first q in
-    ap (λ m. take (at + m) two) (sym l) ∙ both ∙ ap (λ ys. take at before ++ ys) (take_all (last + n) bytes (omega (arith, l)))
+pub first_put : (before rest form' post : List ℕ) (at : ℕ) → length (take at before) ≡ at → 16 ≤ length rest → form' ≡ take at before ++ (take 16 rest ++ post) → take (at + 16) form' ≡ take at before ++ take 16 rest
+first_put before rest form' post at long inside put =
+    let chunk : length (take 16 rest) ≡ 16 = length-take-le 16 rest inside in
+    ap (take (at + 16)) put
+    ∙ take-append_past (take at before) (take 16 rest ++ post) 16 (at + 16) (ap (λ k. k + 16) (sym long))
+    ∙ ap (λ ys. take at before ++ ys) (take-append-le 16 (take 16 rest) post (omega (arith, chunk)) ∙ take-take 16 16 rest (omega arith))
 
 -- a chunk from an index of the string is one of what is put
 chunk_of : (bytes rest : List ℕ) (from index m : ℕ) → rest ≡ drop from bytes → index ≡ from + m → take 16 (drop index bytes) ≡ take 16 (drop m rest)
@@ -60,10 +49,10 @@ three_put bytes before one two three post post' post'' at from second b k j room
     let lr : length rest + from ≡ 40 = omega (arith, length-drop from bytes, b, inside) in
     let long : length (take at before) ≡ at = length-take-le at before (omega (arith, room)) in
     let far : (second ≤ from + 16) × (from ≤ second) × (second ≤ 24) × (24 ≤ second + 16) = (omega (arith, is), omega (arith, is, inside), omega (arith, is), omega (arith, is)) in
-    let first = first_put 16 before rest one post at long (omega (arith, lr, inside)) p in
-    let then = chunk_put 16 before rest one two post' at 16 (second - from) long (omega (arith, k, room)) (omega (arith, far.0, far.1)) (omega (arith, lr, far.1, far.2)) first
+    let first = first_put before rest one post at long (omega (arith, lr, inside)) p in
+    let then = chunk_put before rest one two post' at 16 (second - from) long (omega (arith, k, room)) (omega (arith, far.0, far.1)) (omega (arith, lr, far.1, far.2)) first
     (q ∙ ap (λ xs. take (at + (second - from)) one ++ (xs ++ post')) (chunk_of bytes rest from second (second - from) refl (omega (arith, far.1)))) in
-    let last = chunk_put 16 before rest two three post'' at (second - from + 16) (24 - from) long (omega (arith, j, k, room, far.1, far.2)) (omega (arith, far.1, far.3)) (omega (arith, lr, inside)) then
+    let last = chunk_put before rest two three post'' at (second - from + 16) (24 - from) long (omega (arith, j, k, room, far.1, far.2)) (omega (arith, far.1, far.3)) (omega (arith, lr, inside)) then
     (r ∙ ap (λ xs. take (at + (24 - from)) two ++ (xs ++ post'')) (chunk_of bytes rest from 24 (24 - from) refl (omega (arith, inside)))) in
     let whole : 40 - from ≡ 24 - from + 16 = omega (arith, inside) in
     ap (λ n. take (at + n) three) whole ∙ last ∙ ap (λ ys. take at before ++ ys) (take_all (24 - from + 16) rest (omega (arith, lr, inside)))

@@ -1,8 +1,17 @@
 -- Bytes that are copied in place.
-use Rattle.std.proofs.Common.{◌≡◌, ℕ, ◌+◌, ◌≤◌, List, ◌++◌, length, take, sym, ap, ◌∙◌, arith}
-use Rattle.std.proofs.lemmas.List.{take-take, take-append-le, length-take-le}
+use Rattle.std.proofs.Common.{◌≡◌, ℕ, ◌+◌, ◌≤◌, List, ◌++◌, length, take, refl, sym, ap, ◌∙◌, arith, append_assoc, length-append}
+use Rattle.std.proofs.lemmas.List.{take_at, take-take, take-append-le, length-take-le}
 use Rattle.bytes.proofs.Ranges.{take-append_past}
 use Rattle.std.specs.Array.{IsFirstChunk}
+
+-- two byte strings, copied one after the other to the start of an array
+pub joined_front : (left right l r z post : List ℕ) → l ≡ left → r ≡ right
+    → take (length left + length right) (take (length left) (l ++ z) ++ (r ++ post)) ≡ left ++ right
+joined_front left right l r z post e f =
+    (λ i. take (length left + length right) (take (length left) (e i ++ z) ++ (f i ++ post)))
+    ∙ ap (λ xs. take (length left + length right) (xs ++ (right ++ post))) (take_at left z (length left) refl)
+    ∙ ap (take (length left + length right)) (sym (append_assoc left right post))
+    ∙ take_at (left ++ right) post (length left + length right) (length-append left right)
 
 -- the first bytes of an array that was copied
 pub cut_front : (xs ys : List ℕ) (n : ℕ) → n ≤ 40 → IsFirstChunk xs ys 40 → take n ys ≡ take n xs

@@ -44,10 +44,11 @@ impl ShortBytes {
         ensures { result ≡ left.now ++ right.now }
     {
         let mut bytes = [0u8; SHORT_LEN];
-        put_short(&mut bytes, 0, left);
-        put_short(&mut bytes, left.len(), right);
+        let len = left.len() + right.len();
+        bytes[..left.len()].copy_from_slice(left);
+        bytes[left.len()..len].copy_from_slice(right);
         ShortBytes {
-            len: (left.len() + right.len()) as u32,
+            len: len as u32,
             bytes,
         }
     }
@@ -139,61 +140,13 @@ impl ShortBytes {
     }
 }
 
-// The bytes from an index on, as an array.
+// Copies an array over the bytes from an index.
 #[inline(always)]
-fn chunk_at<const N: usize>(bytes: &[u8], from: usize) -> [u8; N]
-    requires { from + N ≤ length bytes.now }
-    ensures { result ≡ take N (drop from bytes.now) }
+fn put_array(wide: &mut [u8; WIDE_LEN], at: usize, chunk: &[u8; SHORT_LEN])
+    requires { at ≤ 40 }
+    ensures { wide.new ≡ take at wide.old ++ (chunk.now ++ drop (at + 40) wide.old) }
 {
-    let mut chunk = [0u8; N];
-    chunk.copy_from_slice(&bytes[from..from + N]);
-    chunk
-}
-
-// Copies an array over the bytes from an index. It passes through registers.
-#[inline(always)]
-fn put_array<const N: usize>(form: &mut [u8], at: usize, chunk: &[u8; N])
-    requires { at + N ≤ length form.old }
-    ensures same_room { length form.new ≡ length form.old }
-    ensures bytes { form.new ≡ take at form.old ++ (chunk.now ++ drop (at + N) form.old) }
-{
-    form[at..at + N].copy_from_slice(chunk);
-}
-
-// Puts a byte string of N to 2 * N bytes after the first `at` bytes: its first N bytes, and then its
-// last N, which may overlap them.
-#[inline(always)]
-fn put_ends<const N: usize>(form: &mut [u8], at: usize, bytes: &[u8])
-    requires least { N ≤ length bytes.now }
-    requires most { length bytes.now ≤ N + N }
-    requires room { at + length bytes.now ≤ length form.old }
-    ensures { take (at + length bytes.now) form.new ≡ take at form.old ++ bytes.now }
-{
-    let last = bytes.len() - N;
-    let (front, back) = (chunk_at::<N>(bytes, 0), chunk_at::<N>(bytes, last));
-    put_array(form, at, &front);
-    put_array(form, at + last, &back);
-}
-
-// Puts a byte string after the first `at` bytes, by its two ends.
-#[inline(always)]
-fn put_short(form: &mut [u8], at: usize, bytes: &[u8])
-    requires short { length bytes.now ≤ 40 }
-    requires room { at + length bytes.now ≤ length form.old }
-    ensures { take (at + length bytes.now) form.new ≡ take at form.old ++ bytes.now }
-{
-    let len = bytes.len();
-    if len > 32 {
-        put_ends::<20>(form, at, bytes);
-    } else if len >= 16 {
-        put_ends::<16>(form, at, bytes);
-    } else if len >= 8 {
-        put_ends::<8>(form, at, bytes);
-    } else if len >= 4 {
-        put_ends::<4>(form, at, bytes);
-    } else {
-        form[at..at + len].copy_from_slice(bytes);
-    }
+    wide[at..at + SHORT_LEN].copy_from_slice(chunk);
 }
 
 // The first half of an array.

@@ -1,8 +1,5 @@
-use Rattle.std.proofs.Common.{◌≡◌, ℕ, ◌+◌, List, ◌++◌, length, take, ap, ◌∙◌, arith}
+use Rattle.sst_base.proofs.Strings.ShortSlices.{joined_front}
 use Rattle.sst_base.proofs.slice.short.ShortBytes.joined.Goals as goal
 
 pub returns : goal.returns
-returns c =
-    let right = c.args.right.now in
-    let from : length c.args.left.now ≡ 0 + length c.args.left.now = omega arith in
-    c.put_short-2.ensures ∙ ap (λ (n : ℕ). take n c.put_short.new.form ++ right) from ∙ ap (λ (xs : List ℕ). xs ++ right) c.put_short.ensures
+returns c = joined_front c.args.left.now c.args.right.now c.copy_from_slice.new.self c.copy_from_slice-2.new.self _ _ c.copy_from_slice.ensures.after c.copy_from_slice-2.ensures.after
