@@ -67,7 +67,7 @@ impl InternalKey {
         ensures value { result.now ≡ self.now.user_key }
         ensures fits { IsKey self.now }
     {
-        // The proof needs the range of the sequence number.
+        // A sequence number has 64 bits.
         let _range = self.seqno;
         &self.user_key
     }

@@ -39,7 +39,7 @@ impl InternalValue {
         requires value { length value < 2 ^ 32 }
         ensures { result ≡ record { key = key; value = value } }
     {
-        // The proof needs the limits of the key.
+        // The key is within its limits.
         let _fits = key.user_key();
         InternalValue { key, value }
     }

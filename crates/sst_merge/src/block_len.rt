@@ -24,7 +24,7 @@ fn value_len(entry: &EntryView<'_>) -> usize
     ensures value { result ≡ length (value_part entry.now.key.value_type entry.now.value) }
     ensures most { result < 2 ^ 33 }
 {
-    // The proof needs the limits of the entry.
+    // The entry is within its limits.
     let _limits = entry.key_parts();
     match entry.value_type() {
         ValueType::Tombstone | ValueType::WeakTombstone => 0,

@@ -126,7 +126,7 @@ impl<H: BlockHash, S: FrameSource> Reader for Table<H, S> {
         accepted_run_is_sound();
         sound_is_scanned();
         first_match_of_plain();
-        // The proof needs that the index is that of the bytes.
+        // The index is that of the bytes.
         let _index = self.index();
         self.get(alloc, needle, seqno, steps)
     }
