@@ -1,4 +1,10 @@
 // The inputs: entries, keys that are there and keys that are not, and varints, from a fixed generator.
+//
+// Entries, seed 1: distances of even numbers from 2 to 131072, sequence numbers modulo 2^20, values of
+// repeated bytes; keys of 16 bytes are `tbl1` and twelve hex digits, of 32 `tenant/0007/obj/` and sixteen.
+// Needles: 1024 keys that are there, seed 2, and 1024 that are not, seed 3. Blocks: keys of 16 and 32
+// bytes, values of 0, 32 and 128, intervals 1, 4 and 16, as many entries as 4, 16 or 64 KiB hold; the quick
+// form takes eight of these 54. Filters: of 1000 and of 100,000 keys.
 #pragma once
 
 #include <cstddef>

@@ -200,8 +200,8 @@ struct sst_summary {
    SST_NO_ROOM: out_cap is less than *out_len. SST_BAD_ARGUMENT: exactly if the entries can't be written
    so: those of sst_data_block_encode, cuts that don't fit, or an interval of 0. SST_TOO_LONG: only where
    a block has more than 4294967262 bytes, the filter more than 34359737920 bits, or the run 2^64 bytes
-   or more. SST_MEMORY. But for SST_OK out and *handles are left, and but for SST_OK and SST_NO_ROOM
-   *out_len. */
+   or more. SST_MEMORY: the run is made, and then copied to out. But for SST_OK out and *handles are left,
+   and but for SST_OK and SST_NO_ROOM *out_len. */
 uint32_t sst_run_write(const struct sst_entry *entries, size_t count, const size_t *cuts, size_t cut_count,
                        const struct sst_run_config *config, uint8_t *out, size_t out_cap, size_t *out_len,
                        struct sst_run_handles *handles);
@@ -219,6 +219,22 @@ uint32_t sst_run_check(const uint8_t *run, size_t len, const struct sst_run_hand
    none, and *place is left. Takes no memory, and copies nothing. */
 uint32_t sst_run_get(const uint8_t *run, size_t len, const struct sst_run_handles *handles,
                      const uint8_t *key, size_t key_len, uint64_t below_seqno, struct sst_place *place);
+
+/* Scans of a run as for sst_run_get go block by block: from either end, or from where sst_run_seek leads.
+   The number of its blocks. Takes no memory. */
+size_t sst_run_block_count(const uint8_t *run, size_t len, const struct sst_run_handles *handles);
+
+/* The index of the block where the entries of this key and of those above begin: how many blocks have a
+   last key below it, so the number of blocks where all keys are below. Takes no memory. */
+size_t sst_run_seek(const uint8_t *run, size_t len, const struct sst_run_handles *handles,
+                    const uint8_t *key, size_t key_len);
+
+/* Writes where all entries of the block at an index are in the run, in its order, tombstones too: the first
+   *count places of the array. SST_OK: *count is the number of entries, and the places after theirs are left.
+   SST_NO_ROOM: cap is less than *count, the number of entries, and the places are left. SST_NOT_FOUND: the
+   run has no such block, and all is left. Takes no memory. */
+uint32_t sst_run_block_entries(const uint8_t *run, size_t len, const struct sst_run_handles *handles,
+                               size_t block, struct sst_place *places, size_t cap, size_t *count);
 
 /* Reads where index and filter are in the run of a table file, from its last 24 bytes; the run is the bytes
    before these. SST_OK: *handles tells it. SST_TRUNCATED: exactly if there are fewer than 24 bytes, and

@@ -180,7 +180,7 @@ fn compacted_len<T: Ranked + AsEntry + Drop, I: Source<T> + Drop>(
         alloc, &mut head, bytes, config, SIZES,
     );
     match table {
-        Ok(Some((_, bytes))) => Some(bytes.len() as u64),
+        Ok((Some(_), bytes)) => Some(bytes.len() as u64),
         _ => None,
     }
 }

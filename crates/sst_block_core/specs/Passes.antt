@@ -110,9 +110,9 @@ abbrev pub with_bucket : List ℕ → ℕ → ℕ → List ℕ
 with_bucket table hash n = let q = hash % length table in slice_set table q (bucket_byte_with (slice_index table q) n)
 
 -- the bytes of buckets, with that of a key that waits with its restart interval
-abbrev pub noted : (List ℕ → ℕ) → List ℕ → Option ℕ → List ℕ → List ℕ
-noted hash table None key = table
-noted hash table (Some n) key = with_bucket table (hash key) n
+abbrev pub noted_late : (List ℕ → ℕ) → List ℕ → Option ℕ → List ℕ → List ℕ
+noted_late hash table None key = table
+noted_late hash table (Some n) key = with_bucket table (hash key) n
 
 -- the room for a joined key begins with its range of a body
 abbrev pub IsBegun : List ℕ → JoinedKey → Type 0

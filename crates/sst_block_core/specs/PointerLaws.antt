@@ -114,8 +114,8 @@ pub heads_behind : (n r : ℕ) → 1 ≤ r → head_count r (n + 1) ≡ n / r + 
 heads_behind n r pos = let e : (n + 1) + (r - 1) ≡ n + r = omega arith in ap (λ k. k / r) e ∙ add-div_right n pos
 
 -- at a multiple of the interval there are as many heads as intervals
-pub heads_before : (n r : ℕ) → 1 ≤ r → n % r ≡ 0 → head_count r n ≡ n / r
-heads_before n r pos z =
+pub heads_at_multiple : (n r : ℕ) → 1 ≤ r → n % r ≡ 0 → head_count r n ≡ n / r
+heads_at_multiple n r pos z =
     let d = div-add-mod' n r in
     let e : n + (r - 1) ≡ n / r * r + (r - 1) = omega arith in
     ap (λ k. k / r) e ∙ div-mul-add (n / r) r (r - 1) (omega arith)
@@ -136,7 +136,7 @@ heads_le n r pos =
     let k : n / r * 1 ≤ n / r * r = mul-le (n / r) 1 (n / r) r (omega arith) pos in
     elim (cases_lt 0 (n % r)) [
       | inl some ↦ (let e = heads_inside n r pos some in omega (arith, e, d, k, some))
-      | inr none ↦ (let e = heads_before n r pos (omega arith) in omega (arith, e, d, k))
+      | inr none ↦ (let e = heads_at_multiple n r pos (omega arith) in omega (arith, e, d, k))
     ]
 
 -- and at least one where there is an item

@@ -5,11 +5,11 @@ use Rattle.sst_base.specs.Entry.{Entry}
 use Rattle.sst_base.specs.ReadingLaws.{value_type_of-byte}
 use Rattle.sst_base.specs.ValueType.{value_type_byte, value_type_of}
 use Rattle.sst_base.specs.declared.value_type.ValueType.{ValueType}
-use Rattle.sst_c.specs.Given.{Parts, parts_given, parts_of, AreGiven, IsGiven}
+use Rattle.sst_c.specs.Given.{Parts, parts_given, entry_parts, AreGiven, IsGiven}
 use Rattle.sst_c.specs.declared.entries.SstEntry.{SstEntry}
 
 -- an entry is the one of its parts
-pub same_entry : (a b : Entry) → parts_of a ≡ parts_of b → a ≡ b
+pub same_entry : (a b : Entry) → entry_parts a ≡ entry_parts b → a ≡ b
 same_entry a b same =
     let byte : value_type_byte a.key.value_type ≡ value_type_byte b.key.value_type = ap (λ (p : Parts). p.byte) same in
     let types : Some a.key.value_type ≡ Some b.key.value_type = sym (value_type_of-byte a.key.value_type) ∙ ap value_type_of byte ∙ value_type_of-byte b.key.value_type in
@@ -21,13 +21,13 @@ same_entry a b same =
     ap (λ k. entry k a.key.seqno a.key.value_type a.value) key ∙ ap (λ s. entry b.key.user_key s a.key.value_type a.value) seqno
     ∙ ap (λ t. entry b.key.user_key b.key.seqno t a.value) value_type ∙ ap (λ v. entry b.key.user_key b.key.seqno b.key.value_type v) value
 
-pub same_entries : (xs ys : List Entry) → map parts_of xs ≡ map parts_of ys → xs ≡ ys
+pub same_entries : (xs ys : List Entry) → map entry_parts xs ≡ map entry_parts ys → xs ≡ ys
 same_entries [] [] same = refl
 same_entries [] (y ∷ ys) same = cc
 same_entries (x ∷ xs) [] same = cc
 same_entries (x ∷ xs) (y ∷ ys) same =
-    let first : parts_of x ≡ parts_of y = cc (same) in
-    let others : map parts_of xs ≡ map parts_of ys = cc (same) in
+    let first : entry_parts x ≡ entry_parts y = cc (same) in
+    let others : map entry_parts xs ≡ map entry_parts ys = cc (same) in
     let front = same_entry x y first in
     let rest = same_entries xs ys others in
     cc
@@ -37,8 +37,8 @@ pub each_given : (gs : List SstEntry) (items : List Entry) → AreGiven gs items
 each_given [] items are = tt
 each_given (x ∷ gs) [] are = absurd (let s = are.1 in cc)
 each_given (x ∷ gs) (e ∷ items) are =
-    let first : parts_of e ≡ parts_given x = let s = are.1 in cc in
-    let others : map parts_of items ≡ map parts_given gs = let s = are.1 in cc in
+    let first : entry_parts e ≡ parts_given x = let s = are.1 in cc in
+    let others : map entry_parts items ≡ map parts_given gs = let s = are.1 in cc in
     ((e, (are.0.0, first)), each_given gs items (are.0.1, others))
 
 -- what holds of each element holds of the one at an index

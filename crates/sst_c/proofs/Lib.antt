@@ -1,3 +1,4 @@
 pub mod Givens
 pub mod Places
 pub mod Listings
+pub mod BlockLists

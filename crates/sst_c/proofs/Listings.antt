@@ -73,8 +73,8 @@ first_from (y ∷ xs) rest (suc i) x e =
     (omega (arith, later.0), later.1, later.2)
 
 -- the place of the item that a step of an iterator gives
-pub item_listed : (p q : List ℕ) (items rest : List Entry) (old new : List SstPlace) (i : ℕ) (f : SstPlace) (item : DataBlockParsedItem) → q ≡ p → drop i items ≡ entry_of p item ∷ rest → length items ≤ length old
-    → IsPlaceOf q f (entry_of q item) → AreListed p (take i items) old new → AreListed p (take (i + 1) items) old (set new i f)
-item_listed p q items rest old new i f item same left room is so_far =
+pub item_listed : (bytes p q : List ℕ) (items rest : List Entry) (old new : List SstPlace) (i : ℕ) (f : SstPlace) (item : DataBlockParsedItem) → q ≡ p → drop i items ≡ entry_of p item ∷ rest → length items ≤ length old
+    → IsPlaceOf bytes f (entry_of q item) → AreListed bytes (take i items) old new → AreListed bytes (take (i + 1) items) old (set new i f)
+item_listed bytes p q items rest old new i f item same left room is so_far =
     let at = first_from items rest i (entry_of p item) left in
-    one_more_listed p items old new i f (entry_of p item) at.0 room at.1 (subst (λ bytes. IsPlaceOf bytes f (entry_of bytes item)) same is) so_far
+    one_more_listed bytes items old new i f (entry_of p item) at.0 room at.1 (subst (λ r. IsPlaceOf bytes f (entry_of r item)) same is) so_far

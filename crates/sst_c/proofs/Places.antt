@@ -1,11 +1,12 @@
--- Places in a run, by those in the payload of one of its blocks.
+-- Places in bytes, by those in a part of them, such as the payload of a run's block.
 use Rattle.std.proofs.Common.{◌≡◌, ℕ, ◌+◌, ◌-◌, ◌≤◌, ◌<◌, Option, Some, None, IfSome, List, ◌++◌, length, take, drop, arith, sym, ◌∙◌, ap}
 use Rattle.std.proofs.Math.Nat.{min-le_left}
-use Rattle.std.proofs.lemmas.List.{drop-drop, drop-take, length-take, take-take}
+use Rattle.std.proofs.Math.Seq.{take-length}
+use Rattle.std.proofs.lemmas.List.{drop-drop, drop-take, length-drop, length-take, length-take-le, take-take}
 use Rattle.sst_base.specs.BlockHandle.{HandleParts}
 use Rattle.sst_base.specs.Entry.{Entry}
 use Rattle.sstable_blocks.specs.Opened.{IsFrameRange, payload_in}
-use Rattle.sst_c.specs.Blocks.{bytes_behind, IsPlaceOf}
+use Rattle.sst_c.specs.Blocks.{bytes_behind, IsPartAt, IsPlaceOf}
 use Rattle.sst_c.specs.declared.data_block.SstPlace.{SstPlace}
 
 -- a part of a part
@@ -18,32 +19,23 @@ part_of_part bytes start n offset len inside =
     ∙ take-take len k (drop offset (drop start bytes)) (omega (arith, inside))
     ∙ ap (take len) (drop-drop offset start bytes))
 
--- the place in a run of what is at a place in the payload of a frame
-pub placed : (bytes : List ℕ) (h : HandleParts) (f : SstPlace) (e : Entry) → IsFrameRange bytes h → IsPlaceOf (payload_in bytes h) f e
-    → IsPlaceOf bytes (record f { prefix_offset = h.offset + 33 + f.prefix_offset; key_offset = h.offset + 33 + f.key_offset; value_offset = h.offset + 33 + f.value_offset }) e
-unfolding payload_in
-placed bytes h f e range at =
-    let start = h.offset + 33 in
-    let n = h.size - 33 in
-    let size = length-take n (drop start bytes) in
-    let least = min-le_left n (length (drop start bytes)) in
-    let fits : length (payload_in bytes h) ≤ n = omega (arith, size, least) in
-    let inside = range.inside in
-    let header = range.header in
-    let p = at.prefix_inside in
-    let k = at.key_inside in
-    let v = at.value_inside in
-    record {
-      seqno = at.seqno;
-      value_type = at.value_type;
-      key = ap (λ xs. xs ++ bytes_behind bytes (start + f.key_offset) f.key_len) (part_of_part bytes start n f.prefix_offset f.prefix_len (omega (arith, p, fits)))
-          ∙ ap (λ xs. bytes_behind (payload_in bytes h) f.prefix_offset f.prefix_len ++ xs) (part_of_part bytes start n f.key_offset f.key_len (omega (arith, k, fits)))
-          ∙ at.key;
-      value = part_of_part bytes start n f.value_offset f.value_len (omega (arith, v, fits)) ∙ at.value;
-      prefix_inside = omega (arith, p, fits, inside, header);
-      key_inside = omega (arith, k, fits, inside, header);
-      value_inside = omega (arith, v, fits, inside, header);
-    }
+-- the place in bytes of what is at a place in a part of them
+pub placed : (bytes p : List ℕ) (start : ℕ) (f : SstPlace) (e : Entry) → IsPartAt bytes start p → IsPlaceOf p f e
+    → IsPlaceOf bytes (record f { prefix_offset = start + f.prefix_offset; key_offset = start + f.key_offset; value_offset = start + f.value_offset }) e
+placed bytes p start f e part at = record {
+  seqno = at.seqno;
+  value_type = at.value_type;
+  key = ap (λ xs. xs ++ bytes_behind bytes (start + f.key_offset) f.key_len) (behind f.prefix_offset f.prefix_len at.prefix_inside)
+      ∙ ap (λ xs. bytes_behind p f.prefix_offset f.prefix_len ++ xs) (behind f.key_offset f.key_len at.key_inside)
+      ∙ at.key;
+  value = behind f.value_offset f.value_len at.value_inside ∙ at.value;
+  prefix_inside = omega (arith, at.prefix_inside, part.inside);
+  key_inside = omega (arith, at.key_inside, part.inside);
+  value_inside = omega (arith, at.value_inside, part.inside);
+}
+  where
+    behind : (offset len : ℕ) → offset + len ≤ length p → bytes_behind bytes (start + offset) len ≡ bytes_behind p offset len
+    behind offset len inside = part_of_part bytes start (length p) offset len inside ∙ ap (λ q. bytes_behind q offset len) part.is
 
 -- the payload of a frame, by its range
 pub frame_payload : (bytes : List ℕ) (h : HandleParts) → IsFrameRange bytes h → take (h.offset + h.size - (h.offset + 33)) (drop (h.offset + 33) bytes) ≡ payload_in bytes h
@@ -53,16 +45,29 @@ frame_payload bytes h range =
     let size : h.offset + h.size - (h.offset + 33) ≡ h.size - 33 = omega (arith, header) in
     ap (λ n. take n (drop (h.offset + 33) bytes)) size
 
--- and it ends within the bytes
-pub payload_end : (bytes : List ℕ) (h : HandleParts) → IsFrameRange bytes h → h.offset + 33 + length (payload_in bytes h) ≤ length bytes
+-- it begins behind the header
+pub frame_part : (bytes : List ℕ) (h : HandleParts) → IsFrameRange bytes h → IsPartAt bytes (h.offset + 33) (payload_in bytes h)
 unfolding payload_in
-payload_end bytes h range =
+frame_part bytes h range =
     let rest = drop (h.offset + 33) bytes in
-    let size = length-take (h.size - 33) rest in
+    let size : length (payload_in bytes h) ≡ h.size - 33 = length-take-le (h.size - 33) rest (omega (arith, length-drop (h.offset + 33) bytes, range.inside, range.header)) in
+    record {
+      is = ap (λ n. take n rest) size;
+      inside = omega (arith, size, range.inside, range.header);
+    }
+
+-- it is no longer than its frame
+pub payload_fits : (bytes : List ℕ) (h : HandleParts) → length (payload_in bytes h) ≤ h.size
+unfolding payload_in
+payload_fits bytes h =
+    let rest = drop (h.offset + 33) bytes in
     let least = min-le_left (h.size - 33) (length rest) in
-    let inside = range.inside in
-    let header = range.header in
-    omega (arith, size, least, inside, header)
+    let size = length-take (h.size - 33) rest in
+    omega (arith, least, size)
+
+-- bytes are a part of themselves
+pub whole_part : (bytes : List ℕ) → IsPartAt bytes 0 bytes
+whole_part bytes = record { is = take-length bytes; inside = omega arith }
 
 -- a frame has some bytes
 pub some_frame : (bytes : List ℕ) (f : Option HandleParts) → IfSome f (IsFrameRange bytes) → IfSome f (λ h. 0 < h.size)

@@ -18,6 +18,11 @@ pub record IsDataBlock (p : List ℕ) : Type 0 where
 abbrev pub bytes_behind : List ℕ → ℕ → ℕ → List ℕ
 bytes_behind p offset len = take len (drop offset p)
 
+-- bytes have these in them, from an offset on
+pub record IsPartAt (bytes : List ℕ) (start : ℕ) (p : List ℕ) : Type 0 where
+  pub is : bytes_behind bytes start (length p) ≡ p
+  pub inside : start + length p ≤ length bytes
+
 -- a place says where the parts of this entry are in a payload
 pub record IsPlaceOf (p : List ℕ) (f : SstPlace) (e : Entry) : Type 0 where
   pub seqno : f.seqno ≡ e.key.seqno

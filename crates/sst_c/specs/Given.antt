@@ -23,16 +23,16 @@ pub record Parts : Type 0 where
 abbrev pub parts_given : SstEntry → Parts
 parts_given e = record { key = e.key.now; value = e.value.now; seqno = e.seqno; byte = e.value_type }
 
-abbrev pub parts_of : Entry → Parts
-parts_of e = record { key = e.key.user_key; value = e.value; seqno = e.key.seqno; byte = value_type_byte e.key.value_type }
+abbrev pub entry_parts : Entry → Parts
+entry_parts e = record { key = e.key.user_key; value = e.value; seqno = e.key.seqno; byte = value_type_byte e.key.value_type }
 
 -- this entry is the one given
 abbrev pub IsGiven : SstEntry → Entry → Type 0
-IsGiven given e = IsEntry e × (parts_of e ≡ parts_given given)
+IsGiven given e = IsEntry e × (entry_parts e ≡ parts_given given)
 
 -- these entries are the ones given
 abbrev pub AreGiven : List SstEntry → List Entry → Type 0
-AreGiven given items = AllByRecursion IsEntry items × (map parts_of items ≡ map parts_given given)
+AreGiven given items = AllByRecursion IsEntry items × (map entry_parts items ≡ map parts_given given)
 
 -- these entries are the ones given, and can be encoded
 pub record CanEncode (given : List SstEntry) (interval den : ℕ) (items : List Entry) : Type 0 where
@@ -57,13 +57,13 @@ IsWrittenOut bytes old new len NoRoom = (len ≡ length bytes) × (length old < 
 IsWrittenOut bytes old new len _ = ⊥
 
 -- an encoding failed: the block is too long, or an allocation failed
-pub record IsFailure (given : List SstEntry) (interval num den : ℕ) (old new : List ℕ) (len_old len_new : ℕ) (e : Error) : Type 0 where
+pub record IsEncodeFailure (given : List SstEntry) (interval num den : ℕ) (old new : List ℕ) (len_old len_new : ℕ) (e : Error) : Type 0 where
   pub cause : (e ≡ Memory) ⊎ ((e ≡ TooLong) × ((items : List Entry) × CanEncode given interval den items × (2 ^ 32 ≤ length (given_payload items interval num den))))
   pub kept : AreKept old new len_old len_new
 
 -- what becomes of an encoding: an argument is refused exactly if the entries can't be encoded
 abbrev pub IsEncode : List SstEntry → ℕ → ℕ → ℕ → List ℕ → List ℕ → ℕ → ℕ → Status → Type 0
 IsEncode given interval num den old new len_old len_new BadArgument = ((items : List Entry) → CanEncode given interval den items → ⊥) × AreKept old new len_old len_new
-IsEncode given interval num den old new len_old len_new (Failed e) = IsFailure given interval num den old new len_old len_new e
+IsEncode given interval num den old new len_old len_new (Failed e) = IsEncodeFailure given interval num den old new len_old len_new e
 IsEncode given interval num den old new len_old len_new s =
     (items : List Entry) × CanEncode given interval den items × IsWrittenOut (given_payload items interval num den) old new len_new s

@@ -6,5 +6,6 @@ pub mod Footers
 pub mod Frames
 pub mod Given
 pub mod Index
+pub mod RunBlocks
 pub mod Runs
 pub mod Listing

@@ -9,7 +9,8 @@ ghost use Rattle.sst_block_core.specs.Window.{first_match};
 ghost use Rattle.sst_block_core.specs.Checks.{data_check};
 ghost use Rattle.sst_block_core.specs.Trailer.{trailer_in};
 ghost use Rattle.sst_block_core.specs.ParsedEntry.{entry_of, IsParsedEntry};
-ghost use Rattle.sst_c.specs.Blocks.{bytes_behind, IsAnswer, IsDataBlock, IsFind, IsPlaceOf};
+ghost use Rattle.sst_c.specs.Blocks.{bytes_behind, IsAnswer, IsDataBlock, IsFind, IsPartAt};
+ghost use Rattle.sst_c.specs.Blocks.{IsPlaceOf};
 ghost use Rattle.sst_c.specs.Checks.{IsCheck, IsRefusedOrLacks};
 ghost use Rattle.sst_c.specs.Codes.{code_of};
 ghost use Rattle.sst_c.specs.Given.{CanEncode, IsEncode};
@@ -62,8 +63,8 @@ fn place_of_range(payload: &[u8], range: &Option<SliceIndexes>) -> (usize, usize
     }
 }
 
-/// Where a parsed item's parts are.
-pub(crate) fn place_of(payload: &[u8], item: &DataBlockParsedItem) -> SstPlace
+// Where a parsed item's parts are.
+fn place_of(payload: &[u8], item: &DataBlockParsedItem) -> SstPlace
     requires { IsParsedEntry payload.now item.now }
     ensures { IsPlaceOf payload.now result (entry_of payload.now item.now) }
 {
@@ -79,6 +80,41 @@ pub(crate) fn place_of(payload: &[u8], item: &DataBlockParsedItem) -> SstPlace
         value_len: value.1,
         value_type: u8::from(item.value_type),
     }
+}
+
+// A place in bytes, by that in a part of them which begins at an offset.
+fn place_behind(start: usize, place: SstPlace) -> SstPlace
+    requires prefix { start + place.prefix_offset < 2 ^ 64 }
+    requires key { start + place.key_offset < 2 ^ 64 }
+    requires value { start + place.value_offset < 2 ^ 64 }
+    ensures { result ≡ record place {
+      prefix_offset = start + place.prefix_offset;
+      key_offset = start + place.key_offset;
+      value_offset = start + place.value_offset;
+    } }
+{
+    SstPlace {
+        prefix_offset: start + place.prefix_offset,
+        key_offset: start + place.key_offset,
+        value_offset: start + place.value_offset,
+        ..place
+    }
+}
+
+/// Where the parts of a payload's item are in the bytes that have the payload in them.
+pub(crate) fn place_at(
+    bytes: &[u8],
+    start: usize,
+    payload: &[u8],
+    item: &DataBlockParsedItem,
+) -> SstPlace
+    requires part { IsPartAt bytes.now start payload.now }
+    requires item { IsParsedEntry payload.now item.now }
+    ensures { IsPlaceOf bytes.now result (entry_of payload.now item.now) }
+{
+    // A slice has fewer than 2^63 bytes.
+    let _len = bytes.len();
+    place_behind(start, place_of(payload, item))
 }
 
 // Where the first entry of a key below a sequence number is.
@@ -131,10 +167,12 @@ pub extern "C" fn sst_data_block_find(
     note_found(payload, key, below_seqno, place).code()
 }
 
-// Writes where the entries of a block are, from the first place on.
-fn write_places(block: &DataBlockRef<'_, Xxh3>, places: &mut [SstPlace])
-    requires { length block.now.items ≤ length places.old }
-    ensures { AreListed block.now.payload block.now.items places.old places.new }
+// Writes where the entries of a block are in the bytes that have its payload in them, from the first
+// place on.
+fn write_places(bytes: &[u8], start: usize, block: &DataBlockRef<'_, Xxh3>, places: &mut [SstPlace])
+    requires part { IsPartAt bytes.now start block.now.payload }
+    requires room { length block.now.items ≤ length places.old }
+    ensures { AreListed bytes.now block.now.items places.old places.new }
 {
     let payload = block.as_slice();
     let mut items = block.iter();
@@ -142,14 +180,22 @@ fn write_places(block: &DataBlockRef<'_, Xxh3>, places: &mut [SstPlace])
         let Some(item) = items.next() else {
             return;
         };
-        places[i] = place_of(payload, &item);
+        places[i] = place_at(bytes, start, payload, &item);
     }
 }
 
-// Writes where all entries are, if there is room for them, and notes their number.
-fn list(payload: &[u8], places: &mut [SstPlace], count: &mut usize) -> Status
-    requires { IsDataBlock payload.now }
-    ensures { IsListing payload.now (items_in entries payload.now) places.old places.new count.new
+/// Writes where all entries of a payload are in the bytes that have it in them, if there is room for
+/// them, and notes their number.
+pub(crate) fn list(
+    bytes: &[u8],
+    start: usize,
+    payload: &[u8],
+    places: &mut [SstPlace],
+    count: &mut usize,
+) -> Status
+    requires block { IsDataBlock payload.now }
+    requires part { IsPartAt bytes.now start payload.now }
+    ensures { IsListing bytes.now (items_in entries payload.now) places.old places.new count.new
         result }
 {
     let block = DataBlockRef::<Xxh3>::new(payload);
@@ -157,7 +203,7 @@ fn list(payload: &[u8], places: &mut [SstPlace], count: &mut usize) -> Status
     if places.len() < block.len() {
         return Status::NoRoom;
     }
-    write_places(&block, places);
+    write_places(bytes, start, &block, places);
     Status::Done
 }
 
@@ -178,7 +224,7 @@ pub extern "C" fn sst_data_block_entries(
     ensures { (s : Status) × (result ≡ code_of s)
         × IsListing payload.now (items_in entries payload.now) places.old places.new count.new s }
 {
-    list(payload, places, count).code()
+    list(payload, 0, payload, places, count).code()
 }
 
 // Checks any bytes, and notes the number of entries.

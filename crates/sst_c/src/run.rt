@@ -9,7 +9,7 @@ ghost use Rattle.sstable_blocks.specs.Opened.{IsFrameRange, payload_in};
 ghost use Rattle.sstable_blocks.specs.Run.{IsLayout, RunFits};
 ghost use Rattle.sstable_blocks.specs.Sound.{IsSound};
 ghost use Rattle.sst_base.specs.declared.error.Error.TheVariants.{Memory, TooLong};
-ghost use Rattle.sst_c.specs.Blocks.{IsAnswer, IsFind, IsPlaceOf};
+ghost use Rattle.sst_c.specs.Blocks.{IsAnswer, IsFind, IsPartAt, IsPlaceOf};
 ghost use Rattle.sst_c.specs.Codes.{code_of};
 ghost use Rattle.sst_c.specs.Runs.{config_given, handles_given, run_form, run_hashes};
 ghost use Rattle.sst_c.specs.Given.{IsWrittenOut};
@@ -19,7 +19,7 @@ ghost use Rattle.sst_c.specs.declared.entries.SstEntry.{SstEntry};
 ghost use Rattle.sst_c.specs.declared.codes.Status.TheVariants.{Failed, BadArgument};
 
 use crate::codes::Status;
-use crate::data_block::{SstPlace, place_of};
+use crate::data_block::{SstPlace, place_at};
 use crate::entries::{SstEntry, items_of};
 use crate::output::write_bytes;
 use sst_base::table::block::header::HEADER_LEN;
@@ -130,9 +130,9 @@ pub extern "C" fn sst_run_check(
     check(alloc, bytes, &run_handles(handles), summary).code()
 }
 
-// The payload of a frame.
+/// The payload of a frame.
 #[tactic(auto, using(crate::proofs::Places::frame_payload))]
-fn payload_of<'a>(bytes: &'a [u8], handle: &BlockHandle) -> &'a [u8]
+pub(crate) fn payload_of<'a>(bytes: &'a [u8], handle: &BlockHandle) -> &'a [u8]
     requires { IsFrameRange bytes.now handle.now }
     ensures { result.now ≡ payload_in bytes.now handle.now }
 {
@@ -141,41 +141,28 @@ fn payload_of<'a>(bytes: &'a [u8], handle: &BlockHandle) -> &'a [u8]
     &bytes[start + HEADER_LEN..start + size as usize]
 }
 
-// The place of an entry in a run, by its place in the payload of the block in a frame.
-fn place_behind(handle: &BlockHandle, place: &SstPlace) -> SstPlace
-    requires prefix { handle.now.offset + 33 + place.now.prefix_offset < 2 ^ 64 }
-    requires key { handle.now.offset + 33 + place.now.key_offset < 2 ^ 64 }
-    requires value { handle.now.offset + 33 + place.now.value_offset < 2 ^ 64 }
-    ensures { result ≡ record place.now {
-      prefix_offset = handle.now.offset + 33 + place.now.prefix_offset;
-      key_offset = handle.now.offset + 33 + place.now.key_offset;
-      value_offset = handle.now.offset + 33 + place.now.value_offset;
-    } }
+/// Where the payload of a frame begins.
+pub(crate) fn start_of(bytes: &[u8], handle: &BlockHandle) -> usize
+    requires { IsFrameRange bytes.now handle.now }
+    ensures { IsPartAt bytes.now result (payload_in bytes.now handle.now) }
 {
-    let start = *handle.offset() as usize + HEADER_LEN;
-    SstPlace {
-        seqno: place.seqno,
-        prefix_offset: start + place.prefix_offset,
-        prefix_len: place.prefix_len,
-        key_offset: start + place.key_offset,
-        key_len: place.key_len,
-        value_offset: start + place.value_offset,
-        value_len: place.value_len,
-        value_type: place.value_type,
-    }
+    // A slice has fewer than 2^63 bytes.
+    let _len = bytes.len();
+    *handle.offset() as usize + HEADER_LEN
 }
 
 // Where an item of the block in a frame is in a run.
-#[tactic(auto, using(crate::proofs::Places::payload_end))]
 fn place_in(bytes: &[u8], handle: &BlockHandle, item: &DataBlockParsedItem) -> SstPlace
     requires range { IsFrameRange bytes.now handle.now }
     requires item { IsParsedEntry (payload_in bytes.now handle.now) item.now }
     ensures { IsPlaceOf bytes.now result (entry_of (payload_in bytes.now handle.now) item.now) }
 {
-    // A slice has fewer than 2^63 bytes.
-    let _len = bytes.len();
-    let place = place_of(payload_of(bytes, handle), item);
-    place_behind(handle, &place)
+    place_at(
+        bytes,
+        start_of(bytes, handle),
+        payload_of(bytes, handle),
+        item,
+    )
 }
 
 // Where the first entry of a key below a sequence number is.

@@ -19,6 +19,7 @@ use Rattle.sst_base.specs.declared.error.Error.{Error}
 use Rattle.sst_base.specs.declared.error.Error.TheVariants.{BadHandle}
 use Rattle.sst_base.specs.declared.table.block.block_type.BlockType.{BlockType}
 use Rattle.sst_base.specs.declared.table.block.block_type.BlockType.TheVariants as types
+use Rattle.sst_block_core.specs.Checks.{is_in_order}
 use Rattle.sst_block_core.specs.Entries.{entries}
 use Rattle.sst_block_core.specs.Kind.{IsOrdered}
 use Rattle.sst_block_core.specs.Handles.{Handle}
@@ -26,7 +27,7 @@ use Rattle.sst_merge.specs.Merge.{entry_cmp, merged}
 use Rattle.sst_merge.specs.RangeLaws.{filter_all}
 use Rattle.sst_merge.specs.ReadLaws.{plain_ordered}
 use Rattle.sst_merge.specs.Sources.{all_known}
-use Rattle.sst_merge.specs.Stored.{all_keys, are_bytes, check_of, checked_list, filter_fits, is_in_order, known_reads, table_list}
+use Rattle.sst_merge.specs.Stored.{all_keys, are_bytes, check_of, checked_list, filter_fits, known_reads, table_list}
 use Rattle.sst_merge.specs.StoredLaws.{known_all}
 use Rattle.sst_examples.proofs.Newer.{both}
 use Rattle.sst_examples.specs.Tables.{MemoryTable, merged_tables, table_entries, table_hashes}
@@ -69,7 +70,7 @@ is_not_lt Less h = absurd (h refl)
 is_not_lt Equal h = refl
 is_not_lt Greater h = refl
 
-order_passes : (xs : List Entry) → IsOrdered entries xs → is_in_order xs ≡ true
+order_passes : (xs : List Entry) → IsOrdered entries xs → is_in_order entry_cmp xs ≡ true
 order_passes [] up = refl
 order_passes (x ∷ []) up = refl
 order_passes (x ∷ y ∷ ys) up = both_true (ap not (is_not_lt (entry_cmp y x) up.0)) (order_passes (y ∷ ys) up.1)
@@ -97,8 +98,8 @@ module _ (c : Hashes) (bytes : List ℕ) where
 
     module _ (index : List Handle) where
       -- what a scan of the table reads
-      abbrev all_read : Option (List Entry)
-      all_read = known_reads (blocks_read c bytes all_keys (handles_within all_keys index))
+      abbrev scan_read : Option (List Entry)
+      scan_read = known_reads (blocks_read c bytes all_keys (handles_within all_keys index))
 
       -- a table that was opened over a sound run has the entries of its blocks, as decoded
       pub sound_listed : (blocks : List (List Entry)) (s : RunSummary) → IsBytes bytes → IsSound c blocks bytes h → check_run c bytes h ≡ Ok s
@@ -106,12 +107,12 @@ module _ (c : Hashes) (bytes : List ℕ) where
           → table_list c (Some bytes) h index ≡ Some (map plain (joined blocks))
       sound_listed blocks s are sound accepted read =
           let xs : List Entry = map plain (joined blocks) in
-          let known : all_read ≡ Some xs = ap known_reads read ∙ known_all (within all_keys xs) ∙ ap Some (within_all xs) in
+          let known : scan_read ≡ Some xs = ap known_reads read ∙ known_all (within all_keys xs) ∙ ap Some (within_all xs) in
           let checked : check_of c bytes h ≡ Ok s = ap (λ t. cond t (check_run c bytes h) (Err BadHandle)) (tests_pass blocks are sound) ∙ accepted in
-          ap (λ r. checked_list r all_read) checked ∙ ap (checked_list (Ok s)) known ∙ ap (λ t. cond t (Some xs) None) (order_passes xs (plain_ordered (joined blocks) sound.ordered))
+          ap (λ r. checked_list r scan_read) checked ∙ ap (checked_list (Ok s)) known ∙ ap (λ t. cond t (Some xs) None) (order_passes xs (plain_ordered (joined blocks) sound.ordered))
 
       -- entries that are known are those of a sound run
-      pub record IsListed (xs : List Entry) : Type 0 where
+      pub record IsKnownRun (xs : List Entry) : Type 0 where
         pub blocks : List (List Entry)
         pub sound : IsSound c blocks bytes h
         pub is : xs ≡ map plain (joined blocks)
@@ -132,7 +133,7 @@ module _ (c : Hashes) (bytes : List ℕ) where
       checked_by : (r : Result RunSummary Error) (o : Option (List Entry)) (xs : List Entry) → checked_list r o ≡ Some xs → IsChecked r o xs
       checked_by (Err e) o xs h = absurd (cc)
       checked_by (Ok s) None xs h = absurd (cc)
-      checked_by (Ok s) (Some ys) xs h = record { summary = s; accepted = refl; read = ap Some (cond_some (is_in_order ys) ys xs h) }
+      checked_by (Ok s) (Some ys) xs h = record { summary = s; accepted = refl; read = ap Some (cond_some (is_in_order entry_cmp ys) ys xs h) }
 
       some_same : (xs ys : List Entry) → ◌≡◌ {A = Option (List Entry)} (Some xs) (Some ys) → xs ≡ ys
       some_same xs ys e = cc
@@ -140,9 +141,9 @@ module _ (c : Hashes) (bytes : List ℕ) where
       pub listed_sound : (xs : List Entry)
           → ((s : RunSummary) → IsBytes bytes → h.index.size < 2 ^ 32 → IfSome h.filter (λ g. g.size < 2 ^ 32) → check_run c bytes h ≡ Ok s → (blocks : List (List Entry)) × IsSound c blocks bytes h)
           → ((blocks : List (List Entry)) → IsSound c blocks bytes h → blocks_read c bytes all_keys (handles_within all_keys index) ≡ map Ok (within all_keys (map plain (joined blocks))))
-          → table_list c (Some bytes) h index ≡ Some xs → IsListed xs
+          → table_list c (Some bytes) h index ≡ Some xs → IsKnownRun xs
       listed_sound xs accepts scanned e =
-          let k = checked_by (check_of c bytes h) all_read xs e in
+          let k = checked_by (check_of c bytes h) scan_read xs e in
           let l = cond_ok (are_bytes bytes && (nat_lt h.index.size (2 ^ 32) && filter_fits h.filter)) (check_run c bytes h) k.summary k.accepted in
           let t = both (are_bytes bytes) (nat_lt h.index.size (2 ^ 32) && filter_fits h.filter) l.0 in
           let u = both (nat_lt h.index.size (2 ^ 32)) (filter_fits h.filter) t.1 in

@@ -90,23 +90,23 @@ or_older_both (Some a) b c = refl
 
 module _ (needle : List ℕ) (s : ℕ) where
   -- a first match is a member as decoded, of which P holds, and a version of the needle below the number
-  pub record IsFound (P : Entry → Type 0) (e : Entry) : Type 0 where
+  pub record IsFirstMatch (P : Entry → Type 0) (e : Entry) : Type 0 where
     pub member : Entry
     pub holds : P member
     pub is : plain member ≡ e
     pub passes : is_version entries needle s member ≡ true
 
-  found_by : (P : Entry → Type 0) (xs : List Entry) → AllByRecursion P xs → IfSome (option_map plain (slice_get (filter (is_version entries needle s) xs) 0)) (IsFound P)
+  found_by : (P : Entry → Type 0) (xs : List Entry) → AllByRecursion P xs → IfSome (option_map plain (slice_get (filter (is_version entries needle s) xs) 0)) (IsFirstMatch P)
   found_by P [] all = tt
   found_by P (x ∷ xs) all =
       let rest = filter (is_version entries needle s) xs in
-      let Goal : Bool → Type 0 = λ b. IfSome (option_map plain (slice_get (cond b (x ∷ rest) rest) 0)) (IsFound P) in
+      let Goal : Bool → Type 0 = λ b. IfSome (option_map plain (slice_get (cond b (x ∷ rest) rest) 0)) (IsFirstMatch P) in
       elim (cases_Bool (is_version entries needle s x)) [
         | inl hit ↦ subst Goal (sym hit) (record { member = x; holds = all.0; is = refl; passes = hit })
         | inr miss ↦ subst Goal (sym miss) (found_by P xs all.1)
       ]
 
-  found : (P : Entry → Type 0) (xs : List Entry) → AllByRecursion P xs → IfSome (first_match entries needle s xs) (IsFound P)
+  found : (P : Entry → Type 0) (xs : List Entry) → AllByRecursion P xs → IfSome (first_match entries needle s xs) (IsFirstMatch P)
   unfolding first_match
   found P xs all = found_by P xs all
 
@@ -116,7 +116,7 @@ module _ (needle : List ℕ) (s : ℕ) where
       let same : slice_cmp nat_cmp b.key.user_key a.key.user_key ≡ Equal = (slice_cmp-equal b.key.user_key a.key.user_key).1 (version_key needle s b there ∙ sym (version_key needle s a here)) in
       ap (λ o. is_lt (ordering_then o (nat_cmp a.key.seqno b.key.seqno))) same ∙ ap is_lt (sym (nat_cmp_is a.key.seqno b.key.seqno Greater less))
 
-  pick : (older : List Entry) (a b : Option Entry) → IfSome a (IsFound (λ x. AreBelow x.key.seqno older)) → ((n : ℕ) → AreBelow n older → IfSome b (IsFound (λ y. y.key.seqno < n))) → lesser entry_cmp a b ≡ or_older a b
+  pick : (older : List Entry) (a b : Option Entry) → IfSome a (IsFirstMatch (λ x. AreBelow x.key.seqno older)) → ((n : ℕ) → AreBelow n older → IfSome b (IsFirstMatch (λ y. y.key.seqno < n))) → lesser entry_cmp a b ≡ or_older a b
   pick older None b h k = refl
   pick older (Some a) None h k = refl
   pick older (Some a) (Some b) h k =

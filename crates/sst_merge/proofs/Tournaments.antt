@@ -11,7 +11,7 @@ use Rattle.sst_merge.specs.MergeReads.{ge_trans, is_not_lt, not_lt}
 use Rattle.sst_merge.specs.Picks.{IsPick, goes, least, list_at, wins, wins_nil}
 use Rattle.sst_merge.specs.Sources.{Left, lists_left}
 use Rattle.sst_merge.specs.SourceLaws.{known_at, lists_length}
-use Rattle.sst_merge.specs.Tournament.{ArePlaces, IsAbove, IsFirstOf, IsTournament, Leads, halved, known_list}
+use Rattle.sst_merge.specs.Tournament.{AreWinners, IsOnWay, IsFirstOf, IsTournament, Leads, halved, known_list}
 
 not_true : (b : Bool) → not b ≡ true → b ≡ false
 not_true true h = absurd (cc)
@@ -192,18 +192,18 @@ module _ {X : Type 0} (cmp : X → X → Ordering) (order : IsTotalOrder cmp) wh
   next_half zero place = refl
   next_half (suc steps) place = next_half steps (place / 2)
 
-  pub half_above : (place from : ℕ) → IsAbove place from → IsAbove (place / 2) from
+  pub half_above : (place from : ℕ) → IsOnWay place from → IsOnWay (place / 2) from
   half_above place from a = record { steps = suc a.steps; is = next_half a.steps from ∙ ap (λ m. m / 2) a.is }
 
-  above_by : (place from steps : ℕ) → halved steps from ≡ place → (from ≡ place) ⊎ IsAbove place (from / 2)
+  above_by : (place from steps : ℕ) → halved steps from ≡ place → (from ≡ place) ⊎ IsOnWay place (from / 2)
   above_by place from zero e = inl e
   above_by place from (suc steps) e = inr (record { steps = steps; is = e })
 
-  above_or : (place from : ℕ) → IsAbove place from → (from ≡ place) ⊎ IsAbove place (from / 2)
+  above_or : (place from : ℕ) → IsOnWay place from → (from ≡ place) ⊎ IsOnWay place (from / 2)
   above_or place from a = above_by place from a.steps a.is
 
   -- a source stands at each place
-  pub place_inside : (lefts : List (Left X)) (places : List ℕ) (IsStale : ℕ → Type 0) → ArePlaces cmp lefts places IsStale → (k : ℕ) → k < length lefts + length lefts → slice_index places k < length lefts
+  pub place_inside : (lefts : List (Left X)) (places : List ℕ) (IsStale : ℕ → Type 0) → AreWinners cmp lefts places IsStale → (k : ℕ) → k < length lefts + length lefts → slice_index places k < length lefts
   place_inside lefts places IsStale all k inside = elim (cases_lt k (length lefts)) [
     | inl inner ↦ all.inside k inner
     | inr outer ↦
@@ -214,20 +214,20 @@ module _ {X : Type 0} (cmp : X → X → Ordering) (order : IsTotalOrder cmp) wh
   ]
 
   -- who stands at a place came from behind it
-  module _ (lefts : List (Left X)) (places : List ℕ) (all : ArePlaces cmp lefts places (λ k. IsAbove k 0)) where
-    fresh : (k : ℕ) → 1 ≤ k → IsAbove k 0 → ⊥
+  module _ (lefts : List (Left X)) (places : List ℕ) (all : AreWinners cmp lefts places (λ k. IsOnWay k 0)) where
+    fresh : (k : ℕ) → 1 ≤ k → IsOnWay k 0 → ⊥
     fresh k some a = let z = none_above k a.steps a.is in omega (arith, some, z)
 
-    came_from : (fuel k i : ℕ) → 1 ≤ k → k < length lefts + length lefts → length lefts + length lefts ≤ k + fuel → slice_index places k ≡ i → IsAbove k (length lefts + i)
+    came_from : (fuel k i : ℕ) → 1 ≤ k → k < length lefts + length lefts → length lefts + length lefts ≤ k + fuel → slice_index places k ≡ i → IsOnWay k (length lefts + i)
     came_from zero k i some inside enough e = absurd (omega (arith, inside, enough))
     came_from (suc fuel) k i some inside enough e = elim (cases_lt k (length lefts)) [
       | inl inner ↦ elim ((all.first k some inner (fresh k some)).one) [
         | inl one ↦
             (let a = came_from fuel (2 * k) i (omega (arith, some)) (omega (arith, inner)) (omega (arith, some, enough)) (sym one ∙ e) in
-            subst (λ m. IsAbove m (length lefts + i)) (omega arith) (half_above (2 * k) (length lefts + i) a))
+            subst (λ m. IsOnWay m (length lefts + i)) (omega arith) (half_above (2 * k) (length lefts + i) a))
         | inr other ↦
             (let a = came_from fuel (2 * k + 1) i (omega (arith, some)) (omega (arith, inner)) (omega (arith, some, enough)) (sym other ∙ e) in
-            subst (λ m. IsAbove m (length lefts + i)) (omega arith) (half_above (2 * k + 1) (length lefts + i) a))
+            subst (λ m. IsOnWay m (length lefts + i)) (omega arith) (half_above (2 * k + 1) (length lefts + i) a))
       ]
       | inr outer ↦
           (let j = k - length lefts in
@@ -249,9 +249,9 @@ module _ {X : Type 0} (cmp : X → X → Ordering) (order : IsTotalOrder cmp) wh
 
       child_by : (k m : ℕ) → 1 ≤ k → k < length lefts → m < length lefts + length lefts → (m ≡ 2 * k) ⊎ (m ≡ 2 * k + 1) → before_at k m
       child_by k m some inner inside (inl e) =
-          leads_at k m (all.inside k inner) (place_inside lefts places (λ k. IsAbove k 0) all m inside) (subst (λ c. Leads cmp lefts (at k) (at c)) (sym e) (all.first k some inner (fresh k some)).before_i)
+          leads_at k m (all.inside k inner) (place_inside lefts places (λ k. IsOnWay k 0) all m inside) (subst (λ c. Leads cmp lefts (at k) (at c)) (sym e) (all.first k some inner (fresh k some)).before_i)
       child_by k m some inner inside (inr e) =
-          leads_at k m (all.inside k inner) (place_inside lefts places (λ k. IsAbove k 0) all m inside) (subst (λ c. Leads cmp lefts (at k) (at c)) (sym e) (all.first k some inner (fresh k some)).before_j)
+          leads_at k m (all.inside k inner) (place_inside lefts places (λ k. IsOnWay k 0) all m inside) (subst (λ c. Leads cmp lefts (at k) (at c)) (sym e) (all.first k some inner (fresh k some)).before_j)
 
       halves : (m : ℕ) → (m ≡ 2 * (m / 2)) ⊎ (m ≡ 2 * (m / 2) + 1)
       halves m = elim (cases_lt (2 * (m / 2)) m) [
@@ -270,13 +270,13 @@ module _ {X : Type 0} (cmp : X → X → Ordering) (order : IsTotalOrder cmp) wh
             (child_by (m / 2) m h inner inside (halves m)))
         | inr one ↦
             (let e : 1 ≡ m = omega (arith, one, some) in
-            let p = place_inside lefts places (λ k. IsAbove k 0) all 1 (omega (arith, inside, e)) in
+            let p = place_inside lefts places (λ k. IsOnWay k 0) all 1 (omega (arith, inside, e)) in
             subst (before_at 1) e (leads_at 1 1 p p (itself lefts (at 1))))
       ]
 
     pub root_is_pick : 0 < length lefts → IsPick cmp lefts (slice_index places 1)
     root_is_pick some =
-        let inside = place_inside lefts places (λ k. IsAbove k 0) all 1 (omega (arith, some)) in
+        let inside = place_inside lefts places (λ k. IsOnWay k 0) all 1 (omega (arith, some)) in
         pick_by lefts (slice_index places 1) inside (λ xss known j m. (
         let e = all.last j m in
         subst (λ c. goes cmp (nat_lt c (slice_index places 1)) (list_at xss (slice_index places 1)) (list_at xss c) ≡ true) e
@@ -292,20 +292,20 @@ module _ {X : Type 0} (cmp : X → X → Ordering) (order : IsTotalOrder cmp) wh
     still_leads i a b l p q leads xs ys x y = leads xs ys (sym (unmoved i a l p) ∙ x) (sym (unmoved i b l q) ∙ y)
 
     -- a place that is not above it has another source, as have those behind it
-    not_here : (i k m : ℕ) → i < length lefts → 1 ≤ k → k < length lefts → (IsAbove k ((length lefts + i) / 2) → ⊥) → 1 ≤ m → m < length lefts + length lefts → (m ≡ k) ⊎ (m / 2 ≡ k) → slice_index places m ≢ i
+    not_here : (i k m : ℕ) → i < length lefts → 1 ≤ k → k < length lefts → (IsOnWay k ((length lefts + i) / 2) → ⊥) → 1 ≤ m → m < length lefts + length lefts → (m ≡ k) ⊎ (m / 2 ≡ k) → slice_index places m ≢ i
     not_here i k m inside some inner fresh_k p q way e =
         let from = length lefts + i in
         let a = came_from (length lefts + length lefts) m i p q (omega arith) e in
-        let above : IsAbove k from = elim way [
-          | inl same ↦ subst (λ c. IsAbove c from) same a
-          | inr half ↦ subst (λ c. IsAbove c from) half (half_above m from a)
+        let above : IsOnWay k from = elim way [
+          | inl same ↦ subst (λ c. IsOnWay c from) same a
+          | inr half ↦ subst (λ c. IsOnWay c from) half (half_above m from a)
         ] in
         elim (above_or k from above) [
           | inl same ↦ omega (arith, same, inner)
           | inr up ↦ fresh_k up
         ]
 
-    pub still_places : (i : ℕ) (l : Left X) → i < length lefts → ArePlaces cmp (set lefts i l) places (λ k. IsAbove k ((length lefts + i) / 2))
+    pub still_places : (i : ℕ) (l : Left X) → i < length lefts → AreWinners cmp (set lefts i l) places (λ k. IsOnWay k ((length lefts + i) / 2))
     still_places i l inside =
         let n : length (set lefts i l) ≡ length lefts = length-set lefts i l in
         record {
@@ -335,8 +335,8 @@ module _ {X : Type 0} (cmp : X → X → Ordering) (order : IsTotalOrder cmp) wh
   index_same places k w inside = get_or-set_same places k w 0 inside
 
   module _ (lefts : List (Left X)) (places : List ℕ) (k w : ℕ) (IsStale IsStaleNow : ℕ → Type 0) where
-    pub place_made : ArePlaces cmp lefts places IsStale → 1 ≤ k → k < length lefts → IsFirstOf cmp lefts (slice_index places (2 * k)) (slice_index places (2 * k + 1)) w
-        → ((j : ℕ) → 1 ≤ j → j ≢ k → (IsStaleNow j → ⊥) → (IsStale j → ⊥) × (2 * j ≢ k) × (2 * j + 1 ≢ k)) → ArePlaces cmp lefts (set places k w) IsStaleNow
+    pub place_made : AreWinners cmp lefts places IsStale → 1 ≤ k → k < length lefts → IsFirstOf cmp lefts (slice_index places (2 * k)) (slice_index places (2 * k + 1)) w
+        → ((j : ℕ) → 1 ≤ j → j ≢ k → (IsStaleNow j → ⊥) → (IsStale j → ⊥) × (2 * j ≢ k) × (2 * j + 1 ≢ k)) → AreWinners cmp lefts (set places k w) IsStaleNow
     place_made all some inner won others =
         let size : length (set places k w) ≡ length lefts + length lefts = length-set places k w ∙ all.size in
         let inside : k < length places = (let n = all.size in omega (arith, n, inner)) in
@@ -363,10 +363,10 @@ module _ {X : Type 0} (cmp : X → X → Ordering) (order : IsTotalOrder cmp) wh
         transported {b = b} {c = c} {d = d} {e = e} p q r h = subst (λ z. IsFirstOf cmp lefts d e z) r (subst (λ y. IsFirstOf cmp lefts d y c) q (subst (λ x. IsFirstOf cmp lefts x b c) p h))
 
   -- on the way to the first place
-  pub place_above : (lefts : List (Left X)) (places : List ℕ) (k w : ℕ) → ArePlaces cmp lefts places (λ j. IsAbove j k) → 1 ≤ k → k < length lefts → IsFirstOf cmp lefts (slice_index places (2 * k)) (slice_index places (2 * k + 1)) w
-      → ArePlaces cmp lefts (set places k w) (λ j. IsAbove j (k / 2))
+  pub place_above : (lefts : List (Left X)) (places : List ℕ) (k w : ℕ) → AreWinners cmp lefts places (λ j. IsOnWay j k) → 1 ≤ k → k < length lefts → IsFirstOf cmp lefts (slice_index places (2 * k)) (slice_index places (2 * k + 1)) w
+      → AreWinners cmp lefts (set places k w) (λ j. IsOnWay j (k / 2))
   place_above lefts places k w all some inner won =
-      place_made lefts places k w (λ j. IsAbove j k) (λ j. IsAbove j (k / 2)) all some inner won
+      place_made lefts places k w (λ j. IsOnWay j k) (λ j. IsOnWay j (k / 2)) all some inner won
       (λ j one differ fresh. (
         (λ a. elim (above_or j k a) [
           | inl same ↦ differ (sym same)
@@ -377,8 +377,8 @@ module _ {X : Type 0} (cmp : X → X → Ordering) (order : IsTotalOrder cmp) wh
       ))
 
   -- and from the last to the first
-  pub place_before : (lefts : List (Left X)) (places : List ℕ) (k w : ℕ) → ArePlaces cmp lefts places (λ j. j < k + 1) → 1 ≤ k → k < length lefts → IsFirstOf cmp lefts (slice_index places (2 * k)) (slice_index places (2 * k + 1)) w
-      → ArePlaces cmp lefts (set places k w) (λ j. j < k)
+  pub place_before : (lefts : List (Left X)) (places : List ℕ) (k w : ℕ) → AreWinners cmp lefts places (λ j. j < k + 1) → 1 ≤ k → k < length lefts → IsFirstOf cmp lefts (slice_index places (2 * k)) (slice_index places (2 * k + 1)) w
+      → AreWinners cmp lefts (set places k w) (λ j. j < k)
   place_before lefts places k w all some inner won =
       place_made lefts places k w (λ j. j < k + 1) (λ j. j < k) all some inner won
       (λ j one differ fresh. (
@@ -392,7 +392,7 @@ module _ {X : Type 0} (cmp : X → X → Ordering) (order : IsTotalOrder cmp) wh
       ((λ a. omega (arith, a, up)), (λ e. omega (arith, e, up)), (λ e. omega (arith, e, up)))))
 
   -- a tournament none of whose places is stale
-  pub all_fresh : (lefts : List (Left X)) (places : List ℕ) (k : ℕ) → k ≤ 1 → ArePlaces cmp lefts places (λ j. j < k) → ArePlaces cmp lefts places (λ j. IsAbove j 0)
+  pub all_fresh : (lefts : List (Left X)) (places : List ℕ) (k : ℕ) → k ≤ 1 → AreWinners cmp lefts places (λ j. j < k) → AreWinners cmp lefts places (λ j. IsOnWay j 0)
   all_fresh lefts places k small all = record {
     size = all.size;
     last = all.last;
@@ -408,5 +408,5 @@ module _ {X : Type 0} (cmp : X → X → Ordering) (order : IsTotalOrder cmp) wh
       step : i < length seen → IsTournament cmp seen places stale → IsTournament cmp (set seen i l) places ((length seen + i) / 2)
       step m t = record {
         stale_inside = (let n = length-set seen i l in omega (arith, n, m));
-        places_are = still_places seen places (subst (λ k. ArePlaces cmp seen places (λ j. IsAbove j k)) none t.places_are) i l m;
+        places_are = still_places seen places (subst (λ k. AreWinners cmp seen places (λ j. IsOnWay j k)) none t.places_are) i l m;
       }

@@ -1,4 +1,5 @@
--- Compactions of ordered lists of versions, for several snapshots.
+-- Compactions of ordered lists of versions, for several snapshots: `staying` says of each version whether it stays, by
+-- those before it, and `compacted` by the last one that a snapshot sees; `StayLaws` has that these are the same.
 use Rattle.std.specs.Prelude.{ℕ, nat_lt, nat_le, nat_eq, Bool, true, false, not, ◌&&◌, ◌||◌, ◌⊎◌, ◌≡◌, if◌then◌else◌, List, [], ◌∷◌, Option, Some, None}
 use Rattle.std.specs.List.{list_any, list_all}
 use Rattle.sst_base.specs.Entry.{Entry}

@@ -141,15 +141,15 @@ module _ {X : Type 0} (entry : X → Entry) (ss : List ℕ) (bottom : List ℕ �
     ]
 
     -- if the last version has the key, the read does not see it
-    abbrev IsPassed : Option (List ℕ × ℕ) → Type 0
-    IsPassed None = Unit {0}
-    IsPassed (Some l) = is_eq (slice_cmp nat_cmp l.0 k) ≡ true → r ≤ l.1
+    abbrev IsUnseen : Option (List ℕ × ℕ) → Type 0
+    IsUnseen None = Unit {0}
+    IsUnseen (Some l) = is_eq (slice_cmp nat_cmp l.0 k) ≡ true → r ≤ l.1
 
     passed_by : (q : ℕ) (t : Bool) → (nat_lt q r && t) ≡ false → t ≡ true → r ≤ q
     passed_by q true h e = grind (arith, nat_tests)
     passed_by q false h e = absurd (cc)
 
-    passed_at : (x : X) → m x ≡ false → IsPassed (at x)
+    passed_at : (x : X) → m x ≡ false → IsUnseen (at x)
     passed_at x miss = λ e. passed_by (number entry k r x) (has entry k r x) miss e
 
     eq_is : (o : Ordering) → is_eq o ≡ true → o ≡ Equal
@@ -158,7 +158,7 @@ module _ {X : Type 0} (entry : X → Entry) (ss : List ℕ) (bottom : List ℕ �
     eq_is Greater h = absurd (cc)
 
     -- no match is hidden
-    not_hidden : IsKeptRead ss r → (last : Option (List ℕ × ℕ)) (x : X) → IsPassed last → is_seen ss (entry x).key.seqno ≡ true → m x ≡ true → is_hidden entry ss last x ≡ true → true ≡ false
+    not_hidden : IsKeptRead ss r → (last : Option (List ℕ × ℕ)) (x : X) → IsUnseen last → is_seen ss (entry x).key.seqno ≡ true → m x ≡ true → is_hidden entry ss last x ≡ true → true ≡ false
     not_hidden read None x o seen hit h = sym h
     not_hidden read (Some l) x o seen hit h =
         let t = two (has_last_key entry (Some l.0) x) (is_parted ss (entry x).key.seqno l.1) h in
@@ -175,7 +175,7 @@ module _ {X : Type 0} (entry : X → Entry) (ss : List ℕ) (bottom : List ℕ �
     alike a b c d e f (inl same) = inl (e ∙ same ∙ sym f)
     alike a b c d e f (inr gone) = inr (e ∙ gone.0, (gone.1.0, f ∙ gone.1.1, gone.1.2, gone.1.3))
 
-    c3 : IsKeptRead ss r → (last : Option (List ℕ × ℕ)) (xs : List X) → IsPassed last → IsInOrder (order entry k r) xs → IsSameOrGone (first m (go last xs)) (first m xs)
+    c3 : IsKeptRead ss r → (last : Option (List ℕ × ℕ)) (xs : List X) → IsUnseen last → IsInOrder (order entry k r) xs → IsSameOrGone (first m (go last xs)) (first m xs)
     c3 read last [] o up = inl refl
     c3 read last (x ∷ xs) o up =
         let tail = order_tail entry k r x xs up in

@@ -55,12 +55,12 @@ none_set (None ∷ os) (suc i) d o inside same e = refl
 none_set (Some a ∷ os) (suc i) d o inside same e = ap (option_map (λ rest. a ∷ rest)) (none_set os i d o (omega arith) same (known_after a (all_known os) e))
 
 -- known lists, the first of which is this one
-pub record IsSplit {A : Type 0} (a : A) (o : Option (List A)) (all : List A) : Type 0 where
+pub record IsKnownFront {A : Type 0} (a : A) (o : Option (List A)) (all : List A) : Type 0 where
   pub rest : List A
   pub known : o ≡ Some rest
   pub is : all ≡ a ∷ rest
 
-pub known_split : {A : Type 0} (a : A) (o : Option (List A)) (all : List A) → option_map (λ rest. a ∷ rest) o ≡ Some all → IsSplit a o all
+pub known_split : {A : Type 0} (a : A) (o : Option (List A)) (all : List A) → option_map (λ rest. a ∷ rest) o ≡ Some all → IsKnownFront a o all
 known_split a None all e = absurd (cc)
 known_split a (Some rest) all e = record { rest = rest; known = refl; is = cc }
 
@@ -110,7 +110,7 @@ module _ {X : Type 0} (cmp : X → X → Ordering) where
   left os = option_map (merged cmp) (all_known os)
 
   -- the item of a list that is known
-  taken_some : (xs : List X) (x : X) (o : Option (List X)) → ◌≡◌ {A = Option (List X)} (Some xs) (option_map (λ ys. x ∷ ys) o) → IsSplit x o xs
+  taken_some : (xs : List X) (x : X) (o : Option (List X)) → ◌≡◌ {A = Option (List X)} (Some xs) (option_map (λ ys. x ∷ ys) o) → IsKnownFront x o xs
   taken_some xs x None e = absurd (cc)
   taken_some xs x (Some ys) e = record { rest = ys; known = refl; is = cc }
 

@@ -1,13 +1,13 @@
 -- Entries of stored tables.
-use Rattle.std.specs.Prelude.{◌≡◌, ℕ, ◌^◌, nat_lt, Bool, not, ◌&&◌, true, if◌then◌else◌, List, [], ◌∷◌, ◌++◌, Option, Some, None, Result, Ok, Err}
+use Rattle.std.specs.Prelude.{◌≡◌, ℕ, ◌^◌, nat_lt, Bool, ◌&&◌, true, if◌then◌else◌, List, [], ◌∷◌, ◌++◌, Option, Some, None, Result, Ok, Err}
 use Rattle.std.specs.Option.{option_map}
-use Rattle.std.specs.Ordering.{is_lt}
 use Rattle.std.specs.declared.ops.Bound.TheVariants.{Unbounded}
 use Rattle.sst_base.specs.Entry.{Entry}
 use Rattle.sst_base.specs.declared.error.Error.{Error}
 use Rattle.sst_merge.specs.Merge.{entry_cmp}
 use Rattle.sst_base.specs.declared.error.Error.TheVariants.{BadHandle, Io, Truncated}
 use Rattle.sst_base.specs.BlockHandle.{HandleParts}
+use Rattle.sst_block_core.specs.Checks.{is_in_order}
 use Rattle.sst_block_core.specs.Handles.{Handle}
 use Rattle.sstable_blocks.specs.RunChecks.{check_run}
 use Rattle.sstable_blocks.specs.RunReading.{Hashes}
@@ -43,15 +43,9 @@ read_errors (Err e ∷ reads) = reported e ++ read_errors reads
 abbrev pub MayFailAnyTime : {S : Type 0} → (S → Type 0) → Error → Type 0
 MayFailAnyTime {S = S} is_reliable e = (e ≡ Io) × (((s : S) → is_reliable s) → ⊥)
 
--- does no entry sort before its predecessor?
-abbrev pub is_in_order : List Entry → Bool
-is_in_order [] = true
-is_in_order (x ∷ []) = true
-is_in_order (x ∷ y ∷ xs) = not (is_lt (entry_cmp y x)) && is_in_order (y ∷ xs)
-
 -- entries, where they are in order
 abbrev pub if_ordered : List Entry → Option (List Entry)
-if_ordered xs = if is_in_order xs then Some xs else None
+if_ordered xs = if is_in_order entry_cmp xs then Some xs else None
 
 -- what is read, where a check accepted all, each entry is read, and they are in order
 abbrev pub checked_list : {S : Type 0} → Result S Error → Option (List Entry) → Option (List Entry)

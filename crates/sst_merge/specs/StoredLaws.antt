@@ -5,7 +5,8 @@ use Rattle.std.specs.Option.{option_map, IfSome}
 use Rattle.std.specs.Result.{IfOk}
 use Rattle.sst_base.specs.Entry.{Entry}
 use Rattle.sst_base.specs.declared.error.Error.{Error}
-use Rattle.sstable_blocks.specs.Scans.{Read, GivesFirst, GivesLast, IsFewer, EndsBy}
+use Rattle.sstable_blocks.specs.Ends.{IsFewer}
+use Rattle.sstable_blocks.specs.Scans.{Read, GivesFirst, GivesLast, EndsBy}
 use Rattle.sst_merge.specs.Sources.{TakesFirst}
 use Rattle.sst_merge.specs.Stored.{known_reads, scan_list}
 

@@ -9,6 +9,7 @@ use Rattle.sst_base.specs.Bytes.{IsBytes}
 use Rattle.sst_base.specs.Entry.{Entry, plain}
 use Rattle.sst_base.specs.declared.error.Error.{Error}
 use Rattle.sst_base.specs.declared.error.Error.TheVariants.{BadHandle}
+use Rattle.sst_block_core.specs.Checks.{is_in_order}
 use Rattle.sst_block_core.specs.Entries.{entries}
 use Rattle.sst_block_core.specs.Kind.{IsOrdered}
 use Rattle.sst_block_core.specs.Window.{first_match}
@@ -24,7 +25,7 @@ use Rattle.sstable_blocks.specs.declared.run.checking.RunSummary.{RunSummary}
 use Rattle.sst_merge.specs.Merge.{entry_cmp}
 use Rattle.sst_merge.specs.MergeReads.{not_lt}
 use Rattle.sst_merge.specs.RangeLaws.{filter_all}
-use Rattle.sst_merge.specs.Stored.{all_keys, are_bytes, check_of, checked_list, filter_fits, is_in_order, known_reads, table_list}
+use Rattle.sst_merge.specs.Stored.{all_keys, are_bytes, check_of, checked_list, filter_fits, known_reads, table_list}
 use Rattle.sst_merge.specs.StoredLaws.{known_all}
 
 both : (a b : Bool) → (a && b) ≡ true → (a ≡ true) × (b ≡ true)
@@ -35,28 +36,28 @@ flip : (b : Bool) → not b ≡ true → b ≡ false
 flip true h = absurd (cc)
 flip false h = refl
 
-passes_ordered : (xs : List Entry) → is_in_order xs ≡ true → IsOrdered entries xs
+passes_ordered : (xs : List Entry) → is_in_order entry_cmp xs ≡ true → IsOrdered entries xs
 passes_ordered [] h = tt
 passes_ordered (x ∷ []) h = tt
 passes_ordered (x ∷ y ∷ xs) h =
-    let k = both (not (is_lt (entry_cmp y x))) (is_in_order (y ∷ xs)) h in
+    let k = both (not (is_lt (entry_cmp y x))) (is_in_order entry_cmp (y ∷ xs)) h in
     (not_lt (entry_cmp y x) (flip (is_lt (entry_cmp y x)) k.0), passes_ordered (y ∷ xs) k.1)
 
 -- what holds of entries where they are in order
-if_any : (P : List Entry → Type 0) (xs : List Entry) (t : Bool) → is_in_order xs ≡ t → (is_in_order xs ≡ true → P xs) → IfSome (cond t (Some xs) None) P
+if_any : (P : List Entry → Type 0) (xs : List Entry) (t : Bool) → is_in_order entry_cmp xs ≡ t → (is_in_order entry_cmp xs ≡ true → P xs) → IfSome (cond t (Some xs) None) P
 if_any P xs true e h = h e
 if_any P xs false e h = tt
 
 pub checked_ordered : {S : Type 0} (r : Result S Error) (o : Option (List Entry)) → IfSome (checked_list r o) (IsOrdered entries)
 checked_ordered (Err e) o = tt
 checked_ordered (Ok s) None = tt
-checked_ordered (Ok s) (Some xs) = if_any (IsOrdered entries) xs (is_in_order xs) refl (passes_ordered xs)
+checked_ordered (Ok s) (Some xs) = if_any (IsOrdered entries) xs (is_in_order entry_cmp xs) refl (passes_ordered xs)
 
 -- what holds of what is read where a check accepted all
 pub checked_by : {S : Type 0} (P : List Entry → Type 0) (r : Result S Error) (o : Option (List Entry)) → ((s : S) → r ≡ Ok s → IfSome o P) → IfSome (checked_list r o) P
 checked_by P (Err e) o h = tt
 checked_by P (Ok s) None h = tt
-checked_by P (Ok s) (Some xs) h = if_any P xs (is_in_order xs) refl (λ t. h s refl)
+checked_by P (Ok s) (Some xs) h = if_any P xs (is_in_order entry_cmp xs) refl (λ t. h s refl)
 
 -- of a number of a known list, what holds of the number holds of the list's
 pub mapped : {A B : Type 0} (f : A → B) (P : B → Type 0) (o : Option A) → IfSome o (λ a. P (f a)) → IfSome (option_map f o) P

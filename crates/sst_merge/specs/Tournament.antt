@@ -27,13 +27,13 @@ halved zero place = place
 halved (suc steps) place = halved steps (place / 2)
 
 -- a place is another one, or one of those that are passed on the way from it to place 1
-pub record IsAbove (place from : ℕ) : Type 0 where
+pub record IsOnWay (place from : ℕ) : Type 0 where
   pub steps : ℕ
   pub is : halved steps from ≡ place
 
 -- Of n sources, source i stands at place n + i, and at each place from 1 to n - 1 that is not stale the one of the
 -- sources at places 2 k and 2 k + 1 that goes first.
-pub record ArePlaces {X : Type 0} (cmp : X → X → Ordering) (lefts : List (Left X)) (places : List ℕ) (IsStale : ℕ → Type 0) : Type 0 where
+pub record AreWinners {X : Type 0} (cmp : X → X → Ordering) (lefts : List (Left X)) (places : List ℕ) (IsStale : ℕ → Type 0) : Type 0 where
   pub size : length places ≡ length lefts + length lefts
   pub last : (i : ℕ) → i < length lefts → slice_index places (length lefts + i) ≡ i
   pub inside : (k : ℕ) → k < length lefts → slice_index places k < length lefts
@@ -42,7 +42,7 @@ pub record ArePlaces {X : Type 0} (cmp : X → X → Ordering) (lefts : List (Le
 -- the places of a tournament that are stale are those above this one, where it is not 0
 pub record IsTournament {X : Type 0} (cmp : X → X → Ordering) (lefts : List (Left X)) (places : List ℕ) (stale : ℕ) : Type 0 where
   pub stale_inside : stale < length lefts
-  pub places_are : ArePlaces cmp lefts places (λ k. IsAbove k stale)
+  pub places_are : AreWinners cmp lefts places (λ k. IsOnWay k stale)
 
 -- a tournament, or none yet
 abbrev pub MayBeTournament : {X : Type 0} → (X → X → Ordering) → List (Left X) → List ℕ → ℕ → Type 0

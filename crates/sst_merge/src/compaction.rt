@@ -40,8 +40,10 @@ fn all_tables<H: BlockHash, T: Ranked + AsEntry + Drop, I: Source<T>, O: Outputs
 {
     while source.peek().is_some() {
         let writer = outputs.open()?;
-        let table = write_table::<H, T, I, O::Writer>(alloc, source, writer, config, sizes)?;
-        let Some((handles, writer)) = table else {
+        let (table, writer) = write_table::<H, T, I, O::Writer>(
+            alloc, source, writer, config, sizes,
+        )?;
+        let Some(handles) = table else {
             return Ok(());
         };
         outputs.close(handles, writer)?;

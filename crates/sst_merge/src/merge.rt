@@ -8,7 +8,7 @@ ghost use Rattle.sst_merge.specs.Picks.{IsPick, goes};
 ghost use Rattle.sst_base.specs.declared.error.Error.TheVariants.{Memory};
 ghost use Rattle.sst_merge.specs.Sources.{TakesFirst, PassesFirst, all_left};
 ghost use Rattle.sst_merge.specs.Sources.{MayGive, MeetsNoMore};
-ghost use Rattle.sst_merge.specs.Tournament.{ArePlaces, AreSeats, IsFirstOf, IsTournament, MayBeTournament};
+ghost use Rattle.sst_merge.specs.Tournament.{AreWinners, AreSeats, IsFirstOf, IsTournament, MayBeTournament};
 ghost use Rattle.sstable_blocks.specs.Scans.{EndsBy};
 
 use crate::ranked::Ranked;
@@ -255,7 +255,7 @@ fn play_up<T: Ranked, I: Source<T>>(
 // Makes all places of a tournament, from the last to the first.
 fn play_all<T: Ranked, I: Source<T>>(heads: &[Head<T, I>], places: &mut [usize])
     requires some { 0 < length heads.now }
-    requires places { ArePlaces T.cmp heads.now places.old (λ k. k < length heads.now) }
+    requires places { AreWinners T.cmp heads.now places.old (λ k. k < length heads.now) }
     ensures { IsTournament T.cmp heads.now places.new 0 }
 {
     let mut k = heads.len();

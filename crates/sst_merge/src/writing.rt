@@ -22,7 +22,8 @@ use std::io::Write;
 /// the head of its restart interval only those count that the head's key has not, and pointers,
 /// buckets, frames, index and filter are not counted. A block ends with the entry with which it
 /// reaches its size, and a table with the first block with which it reaches its size and after which
-/// another user key comes. Only the last table of a source and its last block may be smaller.
+/// another user key comes. Only the last table of a source and its last block may be smaller. So no key
+/// has versions in two tables, and a table may be larger by all versions of one.
 #[derive(Clone, Copy, Debug, PartialEq, Eq)]
 pub struct Sizes {
     /// The size of a block.
@@ -124,20 +125,21 @@ fn next_table<H: BlockHash, T: Ranked + AsEntry + Drop, I: Source<T>, W: Write +
     writer: W,
     config: RunConfig,
     sizes: Sizes,
-) -> Result<Option<(RunHandles, W)>>
+) -> Result<(Option<RunHandles>, W)>
     requires writable { IsWritable config }
-    ensures table { IfOk result (λ r. IfSome r (λ t.
-        IsTableOf (form H.hash64 H.hash128 config) sizes (W.contents writer) (W.contents t.1)
-        t.0 (entries_in T.entry source.old.list) (entries_in T.entry source.new.list))) }
-    ensures most { IfOk result (λ r. IfSome r (λ t. source.new.most < source.old.most)) }
-    ensures done { IfOk result (λ r. IfNone r (IfSome source.old.list (λ xs. xs ≡ []))) }
+    ensures table { IfOk result (λ r. IfSome r.0 (λ handles.
+        IsTableOf (form H.hash64 H.hash128 config) sizes (W.contents writer) (W.contents r.1)
+        handles (entries_in T.entry source.old.list) (entries_in T.entry source.new.list))) }
+    ensures most { IfOk result (λ r. IfSome r.0 (λ _. source.new.most < source.old.most)) }
+    ensures done { IfOk result (λ r. IfNone r.0 (IfSome source.old.list (λ xs. xs ≡ []))) }
+    ensures unwritten { IfOk result (λ r. IfNone r.0 (r.1 ≡ writer)) }
     ensures ended { OnOk result (source.new.ended ≡ source.old.ended) }
     ensures cause { IfErr result (MayNotWrite I.may_fail T.entry
         (form H.hash64 H.hash128 config) sizes.block source.old) }
     ensures no_more { OnOk result (MeetsNoMore source.old source.new) }
 {
     if source.peek().is_none() {
-        return Ok(None);
+        return Ok((None, writer));
     }
     let mut run = RunWriter::<H, W>::new(alloc, writer, config);
     let mut block = Vec::new(alloc);
@@ -147,11 +149,12 @@ fn next_table<H: BlockHash, T: Ranked + AsEntry + Drop, I: Source<T>, W: Write +
         let added = add_block(alloc, source, &mut run, &mut block, interval, sizes.block)?;
         len = len.saturating_add(added);
     }
-    Ok(Some(run.finish()?))
+    let (handles, writer) = run.finish()?;
+    Ok((Some(handles), writer))
 }
 
-/// Writes the next table of a source: entries in blocks, up to a size. Returns its handles and the
-/// writer, or `None` where nothing is left; nothing is written then. Memory is taken for one block,
+/// Writes the next table of a source: entries in blocks, up to a size. Returns its handles, or `None`
+/// where nothing is left, and the writer, which is as it was then. Memory is taken for one block,
 /// and what a `RunWriter` keeps.
 ///
 /// # Errors
@@ -165,13 +168,14 @@ pub fn write_table<H: BlockHash, T: Ranked + AsEntry + Drop, I: Source<T>, W: Wr
     writer: W,
     config: RunConfig,
     sizes: Sizes,
-) -> Result<Option<(RunHandles, W)>>
+) -> Result<(Option<RunHandles>, W)>
     requires writable { IsWritable config }
-    ensures table { IfOk result (λ r. IfSome r (λ t.
-        IsTableOf (form H.hash64 H.hash128 config) sizes (W.contents writer) (W.contents t.1)
-        t.0 (entries_in T.entry source.old.list) (entries_in T.entry source.new.list))) }
-    ensures most { IfOk result (λ r. IfSome r (λ t. source.new.most < source.old.most)) }
-    ensures done { IfOk result (λ r. IfNone r (IfSome source.old.list (λ xs. xs ≡ []))) }
+    ensures table { IfOk result (λ r. IfSome r.0 (λ handles.
+        IsTableOf (form H.hash64 H.hash128 config) sizes (W.contents writer) (W.contents r.1)
+        handles (entries_in T.entry source.old.list) (entries_in T.entry source.new.list))) }
+    ensures most { IfOk result (λ r. IfSome r.0 (λ _. source.new.most < source.old.most)) }
+    ensures done { IfOk result (λ r. IfNone r.0 (IfSome source.old.list (λ xs. xs ≡ []))) }
+    ensures unwritten { IfOk result (λ r. IfNone r.0 (r.1 ≡ writer)) }
     ensures ended { EndsBy source.old.ended source.new.ended result }
     ensures cause { IfErr result (MayNotWrite I.may_fail T.entry
         (form H.hash64 H.hash128 config) sizes.block source.old) }

@@ -1,13 +1,4 @@
-pub mod CommandWords
-pub mod Cuts
-pub mod EntryLaw
-pub mod EntryLines
-pub mod EntryParts
-pub mod Inputs
-pub mod NumberText
-pub mod Numbers
-pub mod Outcomes
-pub mod Printing
-pub mod TableReads
-pub mod TableFaults
-pub mod Tables
+mod EntryTexts
+mod WordTexts
+mod Results
+mod TableFiles

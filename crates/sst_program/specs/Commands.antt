@@ -76,15 +76,15 @@ pack_of_words (file ∷ interval ∷ num ∷ den ∷ bits ∷ per_block ∷ word
 pack_of_words words = None
 
 -- FILE KEYHEX SEQNO
-unfoldable pub lookup_of : List ℕ → List ℕ → List ℕ → Option Lookup
-lookup_of file key seqno = do
+unfoldable pub find_of : List ℕ → List ℕ → List ℕ → Option Lookup
+find_of file key seqno = do
   name ← file_of file
   s ← number_of seqno
   needle ← hex_bytes key
   Some (record { file = name; needle = needle; seqno = s })
 
 unfoldable pub get_of_words : List (List ℕ) → Option Lookup
-get_of_words (file ∷ key ∷ seqno ∷ []) = lookup_of file key seqno
+get_of_words (file ∷ key ∷ seqno ∷ []) = find_of file key seqno
 get_of_words words = None
 
 -- FILE

@@ -47,7 +47,7 @@ fn print_block<S: FrameSource, O: Write>(
 }
 
 // Prints the entries of the blocks of an index, each after its check.
-#[tactic(auto, using(crate::proofs::Outcomes::prints_kept))]
+#[tactic(auto, using(crate::proofs::Results::Outcomes::prints_kept))]
 fn print_blocks<S: FrameSource, O: Write>(
     alloc: Global,
     source: &mut S,

@@ -8,7 +8,7 @@ ghost use Rattle.std.specs.Option.{option_map};
 ghost use Rattle.sst_program.specs.Text.{number_within};
 ghost use Rattle.sst_program.specs.Commands.{name_of, file_of, query_of, point_of_words, ratio_of};
 ghost use Rattle.sst_program.specs.Commands.{config_of, index_interval_of, packing_of, pack_of_words};
-ghost use Rattle.sst_program.specs.Commands.{lookup_of, get_of_words, file_of_words, command_of_words};
+ghost use Rattle.sst_program.specs.Commands.{find_of, get_of_words, file_of_words, command_of_words};
 ghost use Rattle.sst_program.specs.declared.words.Command.TheVariants.{Point, Pack, Get, Walk, Check};
 ghost use Rattle.sstable_blocks.specs.Run.{IsWritable};
 
@@ -414,14 +414,14 @@ fn get_words<'a, W: AsSlice<u8>>(alloc: Global, words: &'a [W]) -> Result<Option
 }
 
 // The words of `get`, of which there are three.
-#[tactic(auto, unfolding(crate::specs::Commands::lookup_of))]
+#[tactic(auto, unfolding(crate::specs::Commands::find_of))]
 fn lookup_in<'a>(
     alloc: Global,
     file: &'a [u8],
     key: &[u8],
     seqno: &[u8],
 ) -> Result<Option<GetWords<'a>>>
-    ensures ok { IfOk result (λ found. found ≡ lookup_of file.now key.now seqno.now) }
+    ensures ok { IfOk result (λ found. found ≡ find_of file.now key.now seqno.now) }
     ensures memory { IsOkUnless result Error.Memory }
 {
     let (Some(file), Some(seqno)) = (file_in(file), number_in(seqno)) else {

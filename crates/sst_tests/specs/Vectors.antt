@@ -154,8 +154,8 @@ abbrev pub prefix_handles_body : List ℕ
 prefix_handles_body = 0 ∷ 0 ∷ 1 ∷ 0 ∷ 1 ∷ 97 ∷ 0 ∷ 0 ∷ 1 ∷ 0 ∷ 1 ∷ 1 ∷ 98 ∷ 0 ∷ 0 ∷ 1 ∷ 0 ∷ 1 ∷ 2 ∷ 98 ∷ 99 ∷ []
 
 -- handles (a, 3), (a, 1), (b, 4)
-abbrev pub versions : List Handle
-versions = handle a 3 0 73 ∷ handle a 1 73 73 ∷ handle b 4 146 73 ∷ []
+abbrev pub version_handles : List Handle
+version_handles = handle a 3 0 73 ∷ handle a 1 73 73 ∷ handle b 4 146 73 ∷ []
 
 -- the predicate over heads: whether the key is below this one
 abbrev pub is_below : List ℕ → List ℕ → ℕ → Bool

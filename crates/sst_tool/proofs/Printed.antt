@@ -9,7 +9,7 @@ use Rattle.sst_program.specs.Line.{entry_line_of}
 use Rattle.sst_program.specs.Outcome.{lines_text_of}
 
 -- a front of what was left is printed, and the rest is left
-pub record HasPrinted (list rest : Option (List Entry)) (old new : Option (List ℕ)) : Type 0 where
+pub record HasPrintedFront (list rest : Option (List Entry)) (old new : Option (List ℕ)) : Type 0 where
   pub front : List Entry
   pub taken : IsTaken list front rest
   pub printed : Appends old new (lines_text_of front)
@@ -24,7 +24,7 @@ taken-next : (list : Option (List Entry)) (front : List Entry) (e : Entry) (t : 
 taken-next list front e None taken = taken
 taken-next list front e (Some xs) taken = taken ∙ ap (λ ys. Some ys) (sym (append_assoc front (e ∷ []) xs))
 
-pub printed_next : (list s t : Option (List Entry)) (e : Entry) (a b c : Option (List ℕ)) → HasPrinted list s a b → s ≡ option_map (λ xs. e ∷ xs) t → Appends b c (entry_line_of e ++ 10 ∷ []) → HasPrinted list t a c
+pub printed_next : (list s t : Option (List Entry)) (e : Entry) (a b c : Option (List ℕ)) → HasPrintedFront list s a b → s ≡ option_map (λ xs. e ∷ xs) t → Appends b c (entry_line_of e ++ 10 ∷ []) → HasPrintedFront list t a c
 printed_next list s t e a b c p first line = record {
   front = p.front ++ e ∷ [];
   taken = taken-next list p.front e t (subst (IsTaken list p.front) first p.taken);

@@ -2,7 +2,7 @@
 ghost use Rattle.std.specs.Prelude.{◌≡◌, [], Some, OnOk};
 ghost use Rattle.std.specs.Option.{option_map};
 ghost use Rattle.sst_merge.specs.Outputs.{AreWritten};
-ghost use Rattle.sst_tool.specs.Merged.{staying};
+ghost use Rattle.sst_tool.specs.Merged.{staying_of};
 ghost use Rattle.sstable_blocks.specs.Run.{form, IsWritable};
 
 use crate::fault::{Fault, Result};
@@ -113,8 +113,8 @@ fn write_merged<H: BlockHash, I: Source<InternalValue> + Drop, O: Outputs>(
 ) -> sstable_blocks::Result<()>
     requires writable { IsWritable how.config }
     ensures written { OnOk result (AreWritten (form H.hash64 H.hash128 how.config) how.sizes O.start
-        (staying reads.snapshots.items reads.is_bottom heads.items)
-        (option_map (λ _. []) (staying reads.snapshots.items reads.is_bottom heads.items))
+        (staying_of reads.snapshots.items reads.is_bottom heads.items)
+        (option_map (λ _. []) (staying_of reads.snapshots.items reads.is_bottom heads.items))
         (O.tables tables.old) (O.tables tables.new)) }
 {
     let merged = Merge::new(heads);

@@ -21,7 +21,7 @@ pub record Filter : Type 0 where
   pub bits : List ℕ
 
 -- there are m bits, and 1 to m probes
-pub record IsSized (f : Filter) : Type 0 where
+pub record HasProbes (f : Filter) : Type 0 where
   pub bits : f.m ≡ 8 * length f.bits
   pub some : 1 ≤ f.k
   pub most : f.k ≤ f.m
@@ -40,7 +40,7 @@ empty_filter n bpk = record { m = bit_count n bpk; k = probe_count bpk; bits = r
 
 -- these hashes were inserted, and no others: the bits that are set are the probes of these hashes
 pub record IsFilterOf (hashes : List ℕ) (f : Filter) : Type 0 where
-  pub sized : IsSized f
+  pub sized : HasProbes f
   pub set : (bit : ℕ) → HasBit f.bits bit ↔ ((hash : ℕ) × Contains hashes hash × IsProbe f.m f.k hash bit)
 
 -- the bit of each probe of a hash is set
@@ -59,7 +59,7 @@ filter_payload f = magic ++ (0 ∷ 0 ∷ (little_bytes 8 f.m ++ (little_bytes 8 
 abbrev pub filter_in : List ℕ → Filter
 filter_in bytes = record { m = little_number 8 (drop 6 bytes); k = little_number 8 (drop 14 bytes); bits = drop 22 bytes }
 
--- IsSized, as a test
+-- HasProbes, as a test
 abbrev pub is_sized : Filter → Bool
 is_sized f = nat_eq f.m (8 * length f.bits) && (nat_le 1 f.k && nat_le f.k f.m)
 

@@ -24,7 +24,7 @@ use Rattle.sst_base.specs.declared.error.HeaderName.TheVariants as names
 use Rattle.sst_base.specs.declared.error.TagName.TheVariants as tags
 use Rattle.sstable_blocks.specs.Bits.{HasBit}
 use Rattle.sstable_blocks.specs.Probes.{probe, IsProbe}
-use Rattle.sstable_blocks.specs.Filter.{Filter, IsSized, IsFilterOf, MayContain, is_sized, filter_in, filter_payload, filter_at}
+use Rattle.sstable_blocks.specs.Filter.{Filter, HasProbes, IsFilterOf, MayContain, is_sized, filter_in, filter_payload, filter_at}
 
 -- the bit of each probe of an inserted hash is set
 pub inserted_may_be_contained : (hashes : List ℕ) (f : Filter) (hash : ℕ) → IsFilterOf hashes f → Contains hashes hash → MayContain f hash
@@ -68,13 +68,13 @@ one_inserted f g hash m k l more hashes is = record {
 }
 
 -- the test of the numbers holds where they are right
-is_sized_of : (f : Filter) → IsSized f → is_sized f ≡ true
+is_sized_of : (f : Filter) → HasProbes f → is_sized f ≡ true
 is_sized_of f sized = let b = sized.bits in let s = sized.some in let m = sized.most in search (arith, nat_tests)
 
 -- both sides of a conjunction
 
 -- and only where they are
-IsSized_of : (f : Filter) → is_sized f ≡ true → IsSized f
+IsSized_of : (f : Filter) → is_sized f ≡ true → HasProbes f
 IsSized_of f e =
     let a = and_parts (eqb f.m (8 * length f.bits)) _ e in
     let b = and_parts (leb 1 f.k) (leb f.k f.m) a.1 in
@@ -99,7 +99,7 @@ taken true x y d e f = ap Ok f
 taken false x y d e f = cc
 
 -- what was written is read again
-pub filter_at-payload : (f : Filter) → IsSized f → f.m < 2 ^ 64 → filter_at (filter_payload f) ≡ Ok f
+pub filter_at-payload : (f : Filter) → HasProbes f → f.m < 2 ^ 64 → filter_at (filter_payload f) ≡ Ok f
 unfolding filter_payload filter_at
 filter_at-payload f sized m_fits =
     let k_fits : f.k < 2 ^ 64 = let h = sized.most in omega arith in
@@ -140,7 +140,7 @@ is_not true e = refl
 is_not false e = cc
 
 -- what is read is the numbers and the bits of at least 22 bytes
-pub filter_at_reads : (bytes : List ℕ) (f : Filter) → filter_at bytes ≡ Ok f → (filter_in bytes ≡ f) × (22 ≤ length bytes) × IsSized f
+pub filter_at_reads : (bytes : List ℕ) (f : Filter) → filter_at bytes ≡ Ok f → (filter_in bytes ≡ f) × (22 ≤ length bytes) × HasProbes f
 unfolding filter_at
 filter_at_reads bytes f e =
     let long = past (ltb (length bytes) 22) _ f _ e in
@@ -149,10 +149,10 @@ filter_at_reads bytes f e =
     let plain = past (not (nat_eq (get_or bytes 5 0) 0)) _ f _ standard.1 in
     let sized = guard_ok (is_sized (filter_in bytes)) (filter_in bytes) f _ plain.1 in
     let some = ltb-false (length bytes) 22 long.0 in
-    (sized.1, some, subst IsSized sized.1 (IsSized_of (filter_in bytes) sized.0))
+    (sized.1, some, subst HasProbes sized.1 (IsSized_of (filter_in bytes) sized.0))
 
 -- what is read was written so
-pub filter_at_takes : (bytes : List ℕ) (f : Filter) → IsBytes bytes → filter_at bytes ≡ Ok f → (bytes ≡ filter_payload f) × IsSized f
+pub filter_at_takes : (bytes : List ℕ) (f : Filter) → IsBytes bytes → filter_at bytes ≡ Ok f → (bytes ≡ filter_payload f) × HasProbes f
 unfolding filter_at
 filter_at_takes bytes f small e =
     let long = past (ltb (length bytes) 22) _ f _ e in
@@ -161,7 +161,7 @@ filter_at_takes bytes f small e =
     let plain = past (not (nat_eq (get_or bytes 5 0) 0)) _ f _ standard.1 in
     let sized = guard_ok (is_sized (filter_in bytes)) (filter_in bytes) f _ plain.1 in
     let whole = filter_payload-in bytes small (ltb-false _ _ long.0) (same_text (take 4 bytes) magic (sym (is_not (pointwise nat_eq (take 4 bytes) magic) named.0))) (eqb-true _ _ (is_not (nat_eq (get_or bytes 4 0) 0) standard.0)) (eqb-true _ _ (is_not (nat_eq (get_or bytes 5 0) 0) plain.0)) in
-    subst (λ (q : Filter). (bytes ≡ filter_payload q) × IsSized q) sized.1 (whole, IsSized_of (filter_in bytes) sized.0)
+    subst (λ (q : Filter). (bytes ≡ filter_payload q) × HasProbes q) sized.1 (whole, IsSized_of (filter_in bytes) sized.0)
 
 -- numbers below 2 that are 1 together
 ones_equal : (m n : ℕ) → m < 2 → n < 2 → ((m ≡ 1) ↔ (n ≡ 1)) → m ≡ n

@@ -1,5 +1,5 @@
 -- Scans of a table: its entries within a range of keys, from both ends, a block at a time.
-use Rattle.std.specs.Prelude.{◌≡◌, ◌≢◌, ◌⊎◌, ◌<◌, ℕ, ◌+◌, ◌*◌, ◌^◌, ◌&&◌, min, not, Bool, true, false, List, [], ◌∷◌, ◌++◌, length, map, filter, count_by, Option, Some, None, IfSome, Result, Ok, Err}
+use Rattle.std.specs.Prelude.{◌≡◌, ◌≢◌, ◌⊎◌, ℕ, ◌+◌, ◌*◌, ◌^◌, ◌&&◌, min, not, Bool, true, false, List, [], ◌∷◌, ◌++◌, length, map, filter, count_by, Option, Some, None, IfSome, Result, Ok, Err}
 use Rattle.std.specs.Cmp.Lexicographic.{slice_cmp}
 use Rattle.std.specs.Ordering.{nat_cmp, is_le, is_lt}
 use Rattle.std.specs.Range.Bound.{bound_map}
@@ -122,11 +122,6 @@ most_among front blocks back = length front + 2 ^ 32 * blocks + length back
 -- at most how many entries a scan has left
 abbrev pub most_left : {S : Type 0} → ScanParts S → ℕ
 most_left s = most_among s.front (length s.handles) s.back
-
--- an entry that was taken leaves less, and there is none where nothing is left
-abbrev pub IsFewer : ℕ → ℕ → Option Entry → Type 0
-IsFewer old new None = new ≡ 0
-IsFewer old new (Some x) = new < old
 
 -- a list begins with this, or ends with it
 abbrev pub StartsWith : Read → List Read → Type 0

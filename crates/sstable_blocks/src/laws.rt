@@ -3,19 +3,19 @@
 ghost use Rattle.std.specs.Prelude.{◌≡◌, ℕ, ◌+◌, ◌<◌, ◌^◌, List, length, Ok};
 ghost use Rattle.std.specs.List.{Contains};
 ghost use Rattle.sst_base.specs.Bytes.{IsBytes};
-ghost use Rattle.sstable_blocks.specs.Filter.{Filter, IsSized, IsFilterOf, MayContain};
+ghost use Rattle.sstable_blocks.specs.Filter.{Filter, HasProbes, IsFilterOf, MayContain};
 ghost use Rattle.sstable_blocks.specs.Filter.{filter_payload, filter_at};
 
 /// A filter is read again from its payload.
 pub fn filter_is_read_again()
-    ensures { (f : Filter) → IsSized f → f.m < 2 ^ 64
+    ensures { (f : Filter) → HasProbes f → f.m < 2 ^ 64
         → filter_at (filter_payload f) ≡ Ok f }
 {}
 
 /// Where a filter is read, the bytes are its payload, and its numbers are right.
 pub fn filter_was_written()
     ensures { (bytes : List ℕ) (f : Filter) → IsBytes bytes → filter_at bytes ≡ Ok f
-        → (bytes ≡ filter_payload f) × IsSized f }
+        → (bytes ≡ filter_payload f) × HasProbes f }
 {}
 
 /// The payload of a filter takes 22 bytes more than its bits.

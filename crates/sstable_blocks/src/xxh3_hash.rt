@@ -1,7 +1,7 @@
 //! XXH3 as the hash function of blocks: of the hash index, the filters and the checksums.
 
 ghost use Rattle.std.specs.Prelude.{◌≡◌, ◌++◌, ℕ, List, []};
-ghost use Rattle.xxh3.specs.Held.{IsHeld};
+ghost use Rattle.xxh3.specs.Held.{IsFed};
 ghost use Rattle.xxh3.specs.Xxh3.{xxh3_64, xxh3_128};
 ghost use Rattle.xxh3.specs.Xxh3Laws.{xxh3_128-below};
 
@@ -29,7 +29,7 @@ impl BlockHash for Xxh3 {
 
     ghost hash128 = { xxh3_128 };
 
-    ghost has_taken = { λ hash taken. IsHeld hash taken };
+    ghost has_taken = { λ hash taken. IsFed hash taken };
 
     ghost hash128_fits = { xxh3_128-below };
 

@@ -6,9 +6,9 @@ use Rattle.std.proofs.lemmas.Bool.Decides.{nat_tests}
 use Rattle.std.proofs.lemmas.Nat.{mul-mod_first}
 use Rattle.xxh3.specs.declared.state.State.{State}
 use Rattle.xxh3.specs.Pieces.{IsSame, IsPut}
-use Rattle.xxh3.specs.Held.{IsHeldAt}
+use Rattle.xxh3.specs.Held.{IsFedAt}
 use Rattle.xxh3.specs.declared.words.Halves.{Halves}
-use Rattle.xxh3.specs.Xxh3.{default_secret, first_sums, with_stripe, with_stripes, message_sums, merged, halves, hash64_by, hash64_long, hash128_by, hash128_long, xxh3_64, xxh3_128}
+use Rattle.xxh3.specs.Xxh3.{default_secret, first_sums, with_stripe, with_stripes, message_sums, merged_sums, halves, hash64_by, hash64_long, hash128_by, hash128_long, xxh3_64, xxh3_128}
 use Rattle.xxh3.proofs.SameBytes.{with_stripe-same, with_stripes-same, message-more}
 
 -- a read, and the place of another
@@ -25,10 +25,10 @@ put_inside old new place bytes p k l = p.inside.each k l ∙ moved bytes (0 + k)
 pub grown : (m d : List ℕ) (n : ℕ) → n ≤ length m → IsSame m 0 (m ++ d) 0 n
 grown m d n fits = record { each = λ k l. sym (get_or_append_left m d 0 (0 + k) (omega arith)) }
 
-module _ (s t : State) (m d : List ℕ) (n : ℕ) (h : IsHeldAt s m n) where
+module _ (s t : State) (m d : List ℕ) (n : ℕ) (h : IsFedAt s m n) where
   -- bytes that wait behind the others
   pub waits_more : IsPut s.window t.window (64 + s.filled) d → t.filled ≡ s.filled + length d → t.total ≡ (s.total + length d) % 2 ^ 64
-      → t.place ≡ s.place → t.has_stripes ≡ s.has_stripes → t.sums ≡ s.sums → IsHeldAt t (m ++ d) n
+      → t.place ≡ s.place → t.has_stripes ≡ s.has_stripes → t.sums ≡ s.sums → IsFedAt t (m ++ d) n
   waits_more p filled total place stripes sums =
       let long = length-append m d in
       let all = h.length_is in
@@ -62,7 +62,7 @@ module _ (s t : State) (m d : List ℕ) (n : ℕ) (h : IsHeldAt s m n) where
   pub takes_stripes : (w rest : List ℕ) (count : ℕ) → s.filled ≡ 0 → s.has_stripes ≡ true → 0 < length d → count ≡ (length d - 1) / 64
       → t.sums ≡ with_stripes default_secret s.sums d 0 s.place count → IsSame w 0 (m ++ d) (64 * (n + count) - 64) 64 → IsPut w t.window 64 rest
       → rest ≡ drop (64 * count) d → t.filled ≡ length d - 64 * count → t.place ≡ (s.place + count) % 16 → t.total ≡ (s.total + length d) % 2 ^ 64
-      → t.has_stripes ≡ s.has_stripes → IsHeldAt t (m ++ d) (n + count)
+      → t.has_stripes ≡ s.has_stripes → IsFedAt t (m ++ d) (n + count)
   takes_stripes w rest count empty stripes some count_is sums front p rest_is filled place total kept =
       let long = length-append m d in
       let all = h.length_is in
@@ -128,9 +128,9 @@ module _ (s t : State) (m d : List ℕ) (n : ℕ) (h : IsHeldAt s m n) where
       ]
 
 -- the four stripes that wait
-pub takes_buffer : (s t : State) (m : List ℕ) (n : ℕ) → IsHeldAt s m n → (last : List ℕ) → s.filled ≡ 256
+pub takes_buffer : (s t : State) (m : List ℕ) (n : ℕ) → IsFedAt s m n → (last : List ℕ) → s.filled ≡ 256
     → t.sums ≡ with_stripes default_secret s.sums s.window 64 s.place 4 → IsPut s.window t.window 0 last → last ≡ take 64 (drop 256 s.window) → length last ≡ 64
-    → t.filled ≡ 0 → t.place ≡ (s.place + 4) % 16 → t.has_stripes ≡ true → t.total ≡ s.total → IsHeldAt t m (n + 4)
+    → t.filled ≡ 0 → t.place ≡ (s.place + 4) % 16 → t.has_stripes ≡ true → t.total ≡ s.total → IsFedAt t m (n + 4)
 takes_buffer s t m n h last full sums p last_is long filled place stripes total =
     let all = h.length_is in
     let placed = h.place_is in
@@ -153,7 +153,7 @@ takes_buffer s t m n h last full sums p last_is long filled place stripes total 
     }
 
 -- the sums at the end of the message
-pub ends : (s : State) (m : List ℕ) (n : ℕ) → IsHeldAt s m n → 4 ≤ n → 0 < s.filled → (count : ℕ) → count ≡ (s.filled - 1) / 64 → (sums result : List ℕ)
+pub ends : (s : State) (m : List ℕ) (n : ℕ) → IsFedAt s m n → 4 ≤ n → 0 < s.filled → (count : ℕ) → count ≡ (s.filled - 1) / 64 → (sums result : List ℕ)
     → sums ≡ with_stripes default_secret s.sums s.window 64 s.place count → result ≡ with_stripe default_secret sums s.window s.filled 121 → result ≡ message_sums default_secret m
 unfolding message_sums
 ends s m n h four waits count count_is sums result sums_is result_is =
@@ -176,7 +176,7 @@ ends s m n h four waits count count_is sums result sums_is result_is =
     ∙ ap (λ (x : List ℕ). with_stripe default_secret x m (length m - 64) 121) (before ∙ ap (with_stripes default_secret first_sums m 0 0) stripes)
 
 -- a message of which no stripe is in the sums
-pub whole : (s : State) (m : List ℕ) (n : ℕ) → IsHeldAt s m n → s.has_stripes ≡ false → length s.window ≡ 320 → s.filled ≤ 256 → (k : ℕ) → k ≡ s.filled
+pub whole : (s : State) (m : List ℕ) (n : ℕ) → IsFedAt s m n → s.has_stripes ≡ false → length s.window ≡ 320 → s.filled ≤ 256 → (k : ℕ) → k ≡ s.filled
     → take k (drop 64 s.window) ≡ m
 whole s m n h empty long fits k k_is =
     let all = h.length_is in
@@ -201,7 +201,7 @@ unfolding hash128_by
 hash128_of_long secret m h =
     rw (lt-not-eqb (length m) 0 (omega arith), lt-leb (length m) 3 (omega arith), lt-leb (length m) 8 (omega arith), lt-leb (length m) 16 (omega arith), lt-leb (length m) 128 (omega arith), lt-leb (length m) 240 h) refl
 
-module _ (s : State) (m : List ℕ) (n : ℕ) (h : IsHeldAt s m n) (stripes : s.has_stripes ≡ true) (waits : 0 < s.filled) (sums : List ℕ)
+module _ (s : State) (m : List ℕ) (n : ℕ) (h : IsFedAt s m n) (stripes : s.has_stripes ≡ true) (waits : 0 < s.filled) (sums : List ℕ)
     (sums_are : sums ≡ message_sums default_secret m) where
   -- a product with the length, from its remainder
   times_length : (p : ℕ) → (s.total * p) % 2 ^ 64 ≡ (length m * p) % 2 ^ 64
@@ -210,23 +210,23 @@ module _ (s : State) (m : List ℕ) (n : ℕ) (h : IsHeldAt s m n) (stripes : s.
   long : 240 < length m
   long = let all = h.length_is in let four = h.some stripes in omega arith
 
-  pub low_end : (r : ℕ) → r ≡ merged default_secret sums 11 ((s.total * 0x9E3779B185EBCA87) % 2 ^ 64) → r ≡ hash64_long default_secret m
+  pub low_end : (r : ℕ) → r ≡ merged_sums default_secret sums 11 ((s.total * 0x9E3779B185EBCA87) % 2 ^ 64) → r ≡ hash64_long default_secret m
   unfolding hash64_long
-  low_end r e = e ∙ (λ i. merged default_secret (sums_are i) 11 (times_length 0x9E3779B185EBCA87 i))
+  low_end r e = e ∙ (λ i. merged_sums default_secret (sums_are i) 11 (times_length 0x9E3779B185EBCA87 i))
 
-  pub ends64 : (r : ℕ) → r ≡ merged default_secret sums 11 ((s.total * 0x9E3779B185EBCA87) % 2 ^ 64) → r ≡ xxh3_64 m
+  pub ends64 : (r : ℕ) → r ≡ merged_sums default_secret sums 11 ((s.total * 0x9E3779B185EBCA87) % 2 ^ 64) → r ≡ xxh3_64 m
   unfolding xxh3_64
   ends64 r e = low_end r e ∙ sym (hash64_of_long default_secret m long)
 
-  pub high_end : (low high : ℕ) → low ≡ merged default_secret sums 11 ((s.total * 0x9E3779B185EBCA87) % 2 ^ 64)
-      → high ≡ merged default_secret sums 117 (2 ^ 64 - 1 - (s.total * 0xC2B2AE3D27D4EB4F) % 2 ^ 64) → halves low high ≡ hash128_long default_secret m
+  pub high_end : (low high : ℕ) → low ≡ merged_sums default_secret sums 11 ((s.total * 0x9E3779B185EBCA87) % 2 ^ 64)
+      → high ≡ merged_sums default_secret sums 117 (2 ^ 64 - 1 - (s.total * 0xC2B2AE3D27D4EB4F) % 2 ^ 64) → halves low high ≡ hash128_long default_secret m
   unfolding hash128_long
   high_end low high e f =
-      λ i. halves ((e ∙ (λ j. merged default_secret (sums_are j) 11 (times_length 0x9E3779B185EBCA87 j))) i)
-      ((f ∙ (λ j. merged default_secret (sums_are j) 117 (2 ^ 64 - 1 - times_length 0xC2B2AE3D27D4EB4F j))) i)
+      λ i. halves ((e ∙ (λ j. merged_sums default_secret (sums_are j) 11 (times_length 0x9E3779B185EBCA87 j))) i)
+      ((f ∙ (λ j. merged_sums default_secret (sums_are j) 117 (2 ^ 64 - 1 - times_length 0xC2B2AE3D27D4EB4F j))) i)
 
-  pub ends128 : (r low high : ℕ) → low ≡ merged default_secret sums 11 ((s.total * 0x9E3779B185EBCA87) % 2 ^ 64)
-      → high ≡ merged default_secret sums 117 (2 ^ 64 - 1 - (s.total * 0xC2B2AE3D27D4EB4F) % 2 ^ 64) → r ≡ low + high * 2 ^ 64 → r ≡ xxh3_128 m
+  pub ends128 : (r low high : ℕ) → low ≡ merged_sums default_secret sums 11 ((s.total * 0x9E3779B185EBCA87) % 2 ^ 64)
+      → high ≡ merged_sums default_secret sums 117 (2 ^ 64 - 1 - (s.total * 0xC2B2AE3D27D4EB4F) % 2 ^ 64) → r ≡ low + high * 2 ^ 64 → r ≡ xxh3_128 m
   unfolding xxh3_128
   ends128 r low high e f joined =
       joined ∙ ap (λ (x : Halves). x.low + x.high * 2 ^ 64) (high_end low high e f ∙ sym (hash128_of_long default_secret m long))

@@ -5,7 +5,7 @@ use Rattle.xxh3.specs.Pieces.{IsSame}
 use Rattle.xxh3.specs.Xxh3.{default_secret, first_sums, with_stripes}
 
 -- the sums have n stripes of the message, and the bytes behind them wait
-pub record IsHeldAt (s : State) (message : List ℕ) (n : ℕ) : Type 0 where
+pub record IsFedAt (s : State) (message : List ℕ) (n : ℕ) : Type 0 where
   pub length_is : length message ≡ 64 * n + s.filled
   pub total_is : s.total ≡ length message % 2 ^ 64
   pub place_is : s.place ≡ n % 16
@@ -17,7 +17,7 @@ pub record IsHeldAt (s : State) (message : List ℕ) (n : ℕ) : Type 0 where
 
 -- the stream was given the message. A byte waits wherever the sums have a stripe, since the last
 -- stripe of a message is not of those.
-pub record IsHeld (s : State) (message : List ℕ) : Type 0 where
+pub record IsFed (s : State) (message : List ℕ) : Type 0 where
   pub stripes : ℕ
-  pub at : IsHeldAt s message stripes
+  pub at : IsFedAt s message stripes
   pub waits : s.has_stripes ≡ true → 0 < s.filled

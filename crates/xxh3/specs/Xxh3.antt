@@ -147,15 +147,15 @@ message_sums secret bytes =
     with_stripe secret (with_stripes secret first_sums bytes 0 0 ((n - 1) / 64)) bytes (n - 64) 121
 
 -- the sums as one word, from a word that depends on the length
-unfoldable pub merged : List ℕ → List ℕ → ℕ → ℕ → ℕ
-merged secret sums k start =
+unfoldable pub merged_sums : List ℕ → List ℕ → ℕ → ℕ → ℕ
+merged_sums secret sums k start =
     let keyed = λ (j : ℕ). bit_xor (slice_index sums j) (word secret (k + 8 * j)) in
     avalanche
     (add (add (add (add start (folded_product (keyed 0) (keyed 1))) (folded_product (keyed 2) (keyed 3)))
     (folded_product (keyed 4) (keyed 5))) (folded_product (keyed 6) (keyed 7)))
 
 unfoldable pub hash64_long : List ℕ → List ℕ → ℕ
-hash64_long secret bytes = merged secret (message_sums secret bytes) 11 (length_sum bytes)
+hash64_long secret bytes = merged_sums secret (message_sums secret bytes) 11 (length_sum bytes)
 
 -- ---- the hash of 64 bits
 
@@ -241,8 +241,8 @@ hash128_to_240 secret bytes =
 unfoldable pub hash128_long : List ℕ → List ℕ → Halves
 hash128_long secret bytes =
     let sums = message_sums secret bytes in
-    halves (merged secret sums 11 (length_sum bytes))
-    (merged secret sums 117 (2 ^ 64 - 1 - mul (length bytes) 0xC2B2AE3D27D4EB4F))
+    halves (merged_sums secret sums 11 (length_sum bytes))
+    (merged_sums secret sums 117 (2 ^ 64 - 1 - mul (length bytes) 0xC2B2AE3D27D4EB4F))
 
 -- ---- the hash of 128 bits
 

@@ -4,7 +4,7 @@ use Rattle.std.specs.Prelude.{if◌then◌else◌}
 use Rattle.std.proofs.Math.Nat.{div-le_self}
 use Rattle.std.proofs.lemmas.Nat.{xor_lt, mod_below}
 use Rattle.xxh3.specs.declared.words.Halves.{Halves}
-use Rattle.xxh3.specs.Xxh3.{xorshift, avalanche, old_avalanche, merged, finished, hash64_to_3, hash128_of_none, hash128_to_3, hash128_to_8, hash128_to_16, hash128_to_128, hash128_to_240, hash128_long, hash128_by, default_secret, xxh3_128}
+use Rattle.xxh3.specs.Xxh3.{xorshift, avalanche, old_avalanche, merged_sums, finished, hash64_to_3, hash128_of_none, hash128_to_3, hash128_to_8, hash128_to_16, hash128_to_128, hash128_to_240, hash128_long, hash128_by, default_secret, xxh3_128}
 
 xorshift-below : (x k : ℕ) → x < 2 ^ 64 → xorshift x k < 2 ^ 64
 xorshift-below x k h = xor_lt 64 x (x / 2 ^ k) h (omega (arith, div-le_self x (2 ^ k)))
@@ -50,7 +50,7 @@ unfolding hash128_to_240
 to_240-below secret bytes = finished-below _ _
 
 long-below : (secret bytes : List ℕ) → AreWords (hash128_long secret bytes)
-unfolding hash128_long merged
+unfolding hash128_long merged_sums
 long-below secret bytes = (avalanche-below _, avalanche-below _)
 
 none-below : (secret : List ℕ) → AreWords (hash128_of_none secret)

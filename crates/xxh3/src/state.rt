@@ -38,12 +38,12 @@ impl State {
     ghost use Rattle.std.specs.Prelude.{ℕ, ◌+◌, ◌-◌, ◌*◌, ◌/◌, List, [], ◌++◌};
     ghost use Rattle.std.specs.Prelude.{true};
     ghost use Rattle.xxh3.specs.Xxh3.{default_secret, xxh3_64, xxh3_128, message_sums, hash64_by, hash128_by};
-    ghost use Rattle.xxh3.specs.Held.{IsHeldAt, IsHeld};
+    ghost use Rattle.xxh3.specs.Held.{IsFedAt, IsFed};
 
     /// Starts with no bytes.
     #[inline(always)]
     pub(crate) fn new() -> State
-        ensures { IsHeld result [] }
+        ensures { IsFed result [] }
     {
         State {
             sums: first_sums().to_array(),
@@ -57,7 +57,7 @@ impl State {
 
     /// Adds bytes.
     pub(crate) fn update(&mut self, bytes: &[u8])
-        ensures { (message : List ℕ) → IsHeld self.old message → IsHeld self.new (message ++ bytes.now) }
+        ensures { (message : List ℕ) → IsFed self.old message → IsFed self.new (message ++ bytes.now) }
     {
         let room = BUFFER_LEN - self.filled;
         if bytes.len() <= room {
@@ -76,8 +76,8 @@ impl State {
         requires { self.old.filled + length bytes.now ≤ 256 }
         ensures filled { self.new.filled ≡ self.old.filled + length bytes.now }
         ensures stripes { self.new.has_stripes ≡ self.old.has_stripes }
-        ensures held { (message : List ℕ) (n : ℕ) → IsHeldAt self.old message n
-            → IsHeldAt self.new (message ++ bytes.now) n }
+        ensures held { (message : List ℕ) (n : ℕ) → IsFedAt self.old message n
+            → IsFedAt self.new (message ++ bytes.now) n }
     {
         put(&mut self.window, STRIPE_LEN + self.filled, bytes);
         self.filled += bytes.len();
@@ -89,8 +89,8 @@ impl State {
         requires { self.old.filled ≡ 256 }
         ensures filled { self.new.filled ≡ 0 }
         ensures stripes { self.new.has_stripes ≡ true }
-        ensures held { (message : List ℕ) (n : ℕ) → IsHeldAt self.old message n
-            → IsHeldAt self.new message (n + 4) }
+        ensures held { (message : List ℕ) (n : ℕ) → IsFedAt self.old message n
+            → IsFedAt self.new message (n + 4) }
     {
         let sums = u64x8::from_array(self.sums);
         self.sums = with_stripes(
@@ -115,8 +115,8 @@ impl State {
         requires stripes { self.old.has_stripes ≡ true }
         requires some { 0 < length bytes.now }
         ensures filled { 0 < self.new.filled }
-        ensures held { (message : List ℕ) (n : ℕ) → IsHeldAt self.old message n
-            → IsHeldAt self.new (message ++ bytes.now) (n + (length bytes.now - 1) / 64) }
+        ensures held { (message : List ℕ) (n : ℕ) → IsFedAt self.old message n
+            → IsFedAt self.new (message ++ bytes.now) (n + (length bytes.now - 1) / 64) }
     {
         let count = (bytes.len() - 1) / STRIPE_LEN;
         let sums = u64x8::from_array(self.sums);
@@ -133,7 +133,7 @@ impl State {
     #[inline(always)]
     fn message_sums(&self) -> [u64; 8]
         requires { 0 < self.now.filled }
-        ensures { (message : List ℕ) (n : ℕ) → IsHeldAt self.now message n → 4 ≤ n
+        ensures { (message : List ℕ) (n : ℕ) → IsFedAt self.now message n → 4 ≤ n
             → result ≡ message_sums default_secret message }
     {
         let count = (self.filled - 1) / STRIPE_LEN;
@@ -144,7 +144,7 @@ impl State {
 
     /// Returns the hash of all bytes, of 64 bits.
     pub(crate) fn digest64(&self) -> u64
-        ensures { (message : List ℕ) → IsHeld self.now message → result ≡ xxh3_64 message }
+        ensures { (message : List ℕ) → IsFed self.now message → result ≡ xxh3_64 message }
     {
         if !self.has_stripes || self.filled == 0 {
             return hash64_by(secret(), &self.window[STRIPE_LEN..STRIPE_LEN + self.filled]);
@@ -155,7 +155,7 @@ impl State {
 
     /// Returns the hash of all bytes, of 128 bits.
     pub(crate) fn digest128(&self) -> u128
-        ensures { (message : List ℕ) → IsHeld self.now message → result ≡ xxh3_128 message }
+        ensures { (message : List ℕ) → IsFed self.now message → result ≡ xxh3_128 message }
     {
         if !self.has_stripes || self.filled == 0 {
             return joined(hash128_by(secret(), &self.window[STRIPE_LEN..STRIPE_LEN + self.filled]));

@@ -1,6 +1,6 @@
 //! Messages of more than 240 bytes: eight sums over stripes of 64 bytes, in blocks of 16 stripes.
 ghost use Rattle.std.specs.Prelude.{◌≡◌, ◌+◌, ◌-◌, ◌*◌, ◌≤◌, ◌<◌, length};
-ghost use Rattle.xxh3.specs.Xxh3.{words, with_stripe, scrambled, with_stripes, message_sums, merged, first_sums};
+ghost use Rattle.xxh3.specs.Xxh3.{words, with_stripe, scrambled, with_stripes, message_sums, merged_sums, first_sums};
 
 use crate::secret::SECRET_LEN;
 use crate::words::{self, avalanche, folded_product, word};
@@ -218,10 +218,10 @@ pub(crate) fn message_sums(secret: &[u8; SECRET_LEN], bytes: &[u8]) -> u64x8
 
 // The sums as one word, by the secret at `key_at`.
 #[inline(always)]
-#[tactic(auto, unfolding(crate::specs::Xxh3::merged))]
+#[tactic(auto, unfolding(crate::specs::Xxh3::merged_sums))]
 pub(crate) fn merged(secret: &[u8; SECRET_LEN], sums: &[u64; 8], key_at: usize, start: u64) -> u64
     requires { key_at + 64 ≤ 192 }
-    ensures { result ≡ merged secret.now sums.now key_at start }
+    ensures { result ≡ merged_sums secret.now sums.now key_at start }
 {
     let [a, b, c, d, e, f, g, h] = *sums;
     let first = folded_product(a ^ word(secret, key_at), b ^ word(secret, key_at + 8));

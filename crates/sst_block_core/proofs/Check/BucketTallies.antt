@@ -12,7 +12,7 @@ use Rattle.sst_block_core.specs.Stages.{HasParts, HasForms, HasBuckets, body_in,
 use Rattle.sst_block_core.specs.Passes.{TallyState, IsHashed, IsBegun, IsTallied, HasTallied}
 use Rattle.sst_block_core.specs.BucketLaws.{bucket_push}
 use Rattle.sst_block_core.specs.OpeningLaws.{length-items_at}
-use Rattle.sst_block_core.specs.PointerLaws.{each_alike, each_whole, heads_behind, heads_before, heads_inside}
+use Rattle.sst_block_core.specs.PointerLaws.{each_alike, each_whole, heads_behind, heads_at_multiple, heads_inside}
 
 -- the number of heads with one item more, by the number before
 heads_next : (r place heads more phase : ℕ) → 0 < r → heads ≡ head_count r place → head_count r (place + 1) ≤ 254 → phase ≡ place % r → (phase ≡ 0 → more ≡ (heads + 1) % 256) → (0 < phase → more ≡ heads)
@@ -22,7 +22,7 @@ heads_next r place heads more phase pos e few p head rest =
     elim (cases_lt 0 (place % r)) [
       | inl some ↦ (let i = heads_inside place r pos some in let k = rest (omega (arith, p, some)) in omega (arith, i, k, e))
       | inr none ↦ (
-          let i = heads_before place r pos (omega (arith, none)) in
+          let i = heads_at_multiple place r pos (omega (arith, none)) in
           let k = head (omega (arith, p, none)) in
           let small : (heads + 1) % 256 ≡ heads + 1 = mod-eq_of_lt (omega (arith, e, i, b, few)) in
           omega (arith, i, k, e, small))
@@ -34,7 +34,7 @@ few_before r place pos few =
     let b = heads_behind place r pos in
     elim (cases_lt 0 (place % r)) [
       | inl some ↦ (let i = heads_inside place r pos some in omega (arith, i, b, few))
-      | inr none ↦ (let i = heads_before place r pos (omega (arith, none)) in omega (arith, i, b, few))
+      | inr none ↦ (let i = heads_at_multiple place r pos (omega (arith, none)) in omega (arith, i, b, few))
     ]
 
 module _ {X : Type 0} (kind : Kind X) (hash : List ℕ → ℕ) (r b : ℕ) (pos : 0 < r) where

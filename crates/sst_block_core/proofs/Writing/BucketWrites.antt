@@ -10,7 +10,7 @@ use Rattle.sst_block_core.specs.Pointers.{each, head_count}
 use Rattle.sst_block_core.specs.Buckets.{bucket, bucket_byte_with, buckets, stored_count, begun, noted, added, AreFew}
 use Rattle.sst_block_core.specs.Encoders.{made_count}
 use Rattle.sst_block_core.specs.BucketLaws.{bucket_push}
-use Rattle.sst_block_core.specs.PointerLaws.{length-each, get_of-each, heads_behind, heads_before, heads_inside, heads_one}
+use Rattle.sst_block_core.specs.PointerLaws.{length-each, get_of-each, heads_behind, heads_at_multiple, heads_inside, heads_one}
 
 each_later : (f g : ℕ → ℕ) (i n : ℕ) → ((q : ℕ) → i ≤ q → g q ≡ f q) → each g i n ≡ each f i n
 each_later f g i zero h = refl
@@ -98,7 +98,7 @@ module _ {X : Type 0} (kind : Kind X) (hash : List ℕ → ℕ) (r : ℕ) (pos :
   begun_stored xs b heads table z is tabled =
       let n = length xs in
       let behind : head_count r (n + 1) ≡ n / r + 1 = heads_behind n r pos in
-      let before : head_count r n ≡ n / r = heads_before n r pos z in
+      let before : head_count r n ≡ n / r = heads_at_multiple n r pos z in
       elim (cases_eq heads 1) [
         | inl one ↦ (
             let none : n ≡ 0 = nothing_before n z (omega (arith, is, one)) in
@@ -145,7 +145,7 @@ module _ {X : Type 0} (kind : Kind X) (hash : List ℕ → ℕ) (r : ℕ) (pos :
         | inr none ↦ (
             let z : n % r ≡ 0 = omega arith in
             let yes : t ≡ true = test ∙ eq-eqb (n % r) 0 z in
-            let before = heads_before n r pos z in
+            let before = heads_at_multiple n r pos z in
             let same = begun_stored xs b (heads + 1) table z (omega (arith, count, before)) tabled in
             rw (yes, is) (ap (noted hash (kind.key x) (heads + 1)) same ∙ stored_push xs x b (heads + 1) (omega (arith, count, before)) ∙ to_made))
       ]

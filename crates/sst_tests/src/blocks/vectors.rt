@@ -30,7 +30,7 @@ ghost use Rattle.sst_tests.specs.Vectors.{byte_keys, numbers, prefixes, prefixes
 ghost use Rattle.sst_tests.specs.Vectors.{letters, older, newer, falling, loose_block};
 ghost use Rattle.sst_tests.specs.Vectors.{three_handles, three_handles_block_1};
 ghost use Rattle.sst_tests.specs.Vectors.{three_handles_block_2, three_handles_block_3};
-ghost use Rattle.sst_tests.specs.Vectors.{prefix_handles, prefix_handles_body, versions};
+ghost use Rattle.sst_tests.specs.Vectors.{prefix_handles, prefix_handles_body, version_handles};
 
 /// One entry at interval 1, and at interval 16, where byte 9 is `10` and the rest is equal.
 pub fn one_entry()
@@ -276,16 +276,16 @@ pub fn both_ends()
 /// that returns false empties only the front.
 pub fn handle_seeks()
     ensures all { answers (seek_index handles a 4 ∷ next ∷ next ∷ next ∷ next ∷ [])
-        (whole versions)
+        (whole version_handles)
         ≡ found true ∷ gives (handle a 3 0 73) ∷ gives (handle a 1 73 73)
         ∷ gives (handle b 4 146 73) ∷ nothing ∷ [] }
     ensures two { answers (seek_index handles a 3 ∷ next ∷ next ∷ next ∷ [])
-        (whole versions)
+        (whole version_handles)
         ≡ found true ∷ gives (handle a 1 73 73) ∷ gives (handle b 4 146 73) ∷ nothing
         ∷ [] }
-    ensures one { answers (seek_index handles a 1 ∷ next ∷ next ∷ []) (whole versions)
+    ensures one { answers (seek_index handles a 1 ∷ next ∷ next ∷ []) (whole version_handles)
         ≡ found true ∷ gives (handle b 4 146 73) ∷ nothing ∷ [] }
-    ensures zero { answers (seek_index handles a 0 ∷ next ∷ next ∷ []) (whole versions)
+    ensures zero { answers (seek_index handles a 0 ∷ next ∷ next ∷ []) (whole version_handles)
         ≡ found true ∷ gives (handle b 4 146 73) ∷ nothing ∷ [] }
     ensures upper { answers (seek_upper_index handles b ∷ next ∷ next ∷ next ∷ [])
         (whole three_handles)

@@ -214,7 +214,7 @@ fn written<I: Source<InternalValue>, W: Write + Drop>(
     alloc: Global,
     source: &mut Head<InternalValue, I>,
     writer: W,
-) -> Result<Option<(RunHandles, W)>> {
+) -> Result<(Option<RunHandles>, W)> {
     let config = RunConfig::new(2, HashRatio { num: 1, den: 1 }, 10);
     let sizes = Sizes { block: 7, table: 7 };
     write_table::<ByteSum, InternalValue, I, W>(alloc, source, writer, config, sizes)

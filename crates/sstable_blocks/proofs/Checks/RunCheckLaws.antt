@@ -160,17 +160,17 @@ passed_plain s h xs range i = record {
 }
 
 -- no item sorts before the last one of the block before, if there is one
-abbrev Follows : Option Handle → List Entry → Type 0
-Follows None xs = Unit {0}
-Follows (Some h) [] = Unit {0}
-Follows (Some h) (x ∷ xs) = end_cmp h x ≢ Less
+abbrev FollowsLast : Option Handle → List Entry → Type 0
+FollowsLast None xs = Unit {0}
+FollowsLast (Some h) [] = Unit {0}
+FollowsLast (Some h) (x ∷ xs) = end_cmp h x ≢ Less
 
-follows_from : (o : Option Handle) (xs rest : List Entry) → 1 ≤ length xs → starts_after o xs ≡ true → Follows o (xs ++ rest)
+follows_from : (o : Option Handle) (xs rest : List Entry) → 1 ≤ length xs → starts_after o xs ≡ true → FollowsLast o (xs ++ rest)
 follows_from None xs rest some e = tt
 follows_from (Some h) [] rest some e = absurd (omega arith)
 follows_from (Some h) (x ∷ xs) rest some e = not_lt (end_cmp h x) e
 
-follows_to : (o : Option Handle) (xs rest : List Entry) → Follows o (xs ++ rest) → starts_after o (map plain xs) ≡ true
+follows_to : (o : Option Handle) (xs rest : List Entry) → FollowsLast o (xs ++ rest) → starts_after o (map plain xs) ≡ true
 follows_to None xs rest c = refl
 follows_to (Some h) [] rest c = refl
 follows_to (Some h) (x ∷ xs) rest c = lt_not (end_cmp h x) c
@@ -181,14 +181,14 @@ end_cmp-last block h i x =
     ap (λ k. ordering_then (slice_cmp nat_cmp x.key.user_key k) (nat_cmp h.seqno x.key.seqno)) i.key
     ∙ ap (λ n. ordering_then (slice_cmp nat_cmp x.key.user_key i.last.key.user_key) (nat_cmp n x.key.seqno)) i.seqno
 
-after_last : (block : List Entry) (h : Handle) (i : IsEnd entries handles block h) (rest : List Entry) → Follows (Some h) rest → IsOrdered entries rest → IsOrdered entries (i.last ∷ rest)
+after_last : (block : List Entry) (h : Handle) (i : IsEnd entries handles block h) (rest : List Entry) → FollowsLast (Some h) rest → IsOrdered entries rest → IsOrdered entries (i.last ∷ rest)
 after_last block h i [] c o = tt
 after_last block h i (y ∷ ys) c o = ((λ less. c (end_cmp-last block h i y ∙ less)), o)
 
 whole_rest : (block : List Entry) (h : Handle) (i : IsEnd entries handles block h) (rest : List Entry) → block ++ rest ≡ i.front ++ i.last ∷ rest
 whole_rest block h i rest = ap (λ xs. xs ++ rest) i.whole ∙ append_assoc i.front (i.last ∷ []) rest
 
-ordered_join : (block : List Entry) (h : Handle) (i : IsEnd entries handles block h) (rest : List Entry) → IsOrdered entries block → Follows (Some h) rest → IsOrdered entries rest → IsOrdered entries (block ++ rest)
+ordered_join : (block : List Entry) (h : Handle) (i : IsEnd entries handles block h) (rest : List Entry) → IsOrdered entries block → FollowsLast (Some h) rest → IsOrdered entries rest → IsOrdered entries (block ++ rest)
 ordered_join block h i rest a c b =
     subst (IsOrdered entries) (sym (whole_rest block h i rest))
     (order_join (item_cmp entries) i.front i.last rest (subst (IsOrdered entries) i.whole a) (after_last block h i rest c b))
@@ -201,7 +201,7 @@ back_ordered : (front : List Entry) (xs : List Entry) → IsOrdered entries (fro
 back_ordered [] xs h = h
 back_ordered (x ∷ front) xs h = back_ordered front xs (tail_ordered x (front ++ xs) h)
 
-follows_last : (block : List Entry) (h : Handle) (i : IsEnd entries handles block h) (rest : List Entry) → IsOrdered entries (i.last ∷ rest) → Follows (Some h) rest
+follows_last : (block : List Entry) (h : Handle) (i : IsEnd entries handles block h) (rest : List Entry) → IsOrdered entries (i.last ∷ rest) → FollowsLast (Some h) rest
 follows_last block h i [] o = tt
 follows_last block h i (y ∷ ys) o = λ less. o.0 (sym (end_cmp-last block h i y) ∙ less)
 
@@ -220,14 +220,14 @@ module _ (c : Hashes) (bytes : List ℕ) (small : IsBytes bytes)
       blocks : List (List Entry)
       stored : AllZip (IsStoredBlock c bytes) blocks hs
       contiguous : AreContiguous s.offset hs
-      follows : Follows s.last (joined blocks)
+      follows : FollowsLast s.last (joined blocks)
       ordered : IsOrdered entries (joined blocks)
       contained : Contains c.hash64 f (joined blocks)
       passed : passed_all s hs blocks ≡ t
 
     holds_none : (f : Option Filter) (s t : Passed) (o : Option Handle) → s.last ≡ o → s ≡ t → Holds f s t []
-    holds_none f s t None e same = record { blocks = []; stored = tt; contiguous = tt; follows = subst (λ (o : Option Handle). Follows o []) (sym e) tt; ordered = tt; contained = contains_none c.hash64 f; passed = same }
-    holds_none f s t (Some g) e same = record { blocks = []; stored = tt; contiguous = tt; follows = subst (λ (o : Option Handle). Follows o []) (sym e) tt; ordered = tt; contained = contains_none c.hash64 f; passed = same }
+    holds_none f s t None e same = record { blocks = []; stored = tt; contiguous = tt; follows = subst (λ (o : Option Handle). FollowsLast o []) (sym e) tt; ordered = tt; contained = contains_none c.hash64 f; passed = same }
+    holds_none f s t (Some g) e same = record { blocks = []; stored = tt; contiguous = tt; follows = subst (λ (o : Option Handle). FollowsLast o []) (sym e) tt; ordered = tt; contained = contains_none c.hash64 f; passed = same }
 
     holds : (f : Option Filter) (s t : Passed) (hs : List Handle) → check_from c bytes f s hs ≡ Ok t → Holds f s t hs
     unfolding check_block
@@ -252,7 +252,7 @@ module _ (c : Hashes) (bytes : List ℕ) (small : IsBytes bytes)
           stored = (record { payload = p.0; frame = frame; interval = block.0; buckets = block.1; is_block = block.2; end = i }, rest.stored);
           contiguous = (eqb-true h.offset s.offset at.0, subst (λ (u : Passed). AreContiguous u.offset hs) (sym also) rest.contiguous);
           follows = follows_from s.last items.0 (joined rest.blocks) block.2.encoding.some order.0;
-          ordered = ordered_join items.0 h i (joined rest.blocks) block.2.ordered (subst (λ (u : Passed). Follows u.last (joined rest.blocks)) (sym also) rest.follows) rest.ordered;
+          ordered = ordered_join items.0 h i (joined rest.blocks) block.2.ordered (subst (λ (u : Passed). FollowsLast u.last (joined rest.blocks)) (sym also) rest.follows) rest.ordered;
           contained = through.0;
           passed = ap (λ (u : Passed). passed_all u hs rest.blocks) also ∙ rest.passed;
         }
@@ -313,7 +313,7 @@ module _ (c : Hashes) (sums : (bytes : List ℕ) → c.hash128 bytes < 2 ^ 128)
         (framed_is_read c types.Data bytes p (range_of h) sums short b.frame, data_ok c.hash64 (trailer_in p) p (data_check c.hash64 p) (data_verdict p) read.0 ∙ ap (λ xs. Ok xs) read.1)
 
     passes_on : (f : Option Filter) (s : Passed) (blocks : List (List Entry)) (hs : List Handle) → AllByRecursion IsHandle hs → AllZip (IsStoredBlock c bytes) blocks hs → AreContiguous s.offset hs
-        → Follows s.last (joined blocks) → IsOrdered entries (joined blocks) → Contains c.hash64 f (joined blocks) → check_from c bytes f s hs ≡ Ok (passed_all s hs blocks)
+        → FollowsLast s.last (joined blocks) → IsOrdered entries (joined blocks) → Contains c.hash64 f (joined blocks) → check_from c bytes f s hs ≡ Ok (passed_all s hs blocks)
     unfolding check_block
     passes_on f s [] [] valid stored at follows order contained = refl
     passes_on f s [] (h ∷ hs) valid stored at follows order contained = absurd stored
@@ -341,7 +341,7 @@ module _ (c : Hashes) (sums : (bytes : List ℕ) → c.hash128 bytes < 2 ^ 128)
         let framed = stored.framed in
         (Some stored.filter, bind_to _ _ stored.payload (Ok (Some stored.filter)) (framed_is_read c types.Filter bytes stored.payload h sums (omega arith) stored.frame) (bind_to _ _ stored.filter (Ok (Some stored.filter)) stored.reads refl), stored.contains)
 
-    follows_none : (items : List Entry) → Follows None items
+    follows_none : (items : List Entry) → FollowsLast None items
     follows_none items = tt
 
     pub sound_is_accepted : (blocks : List (List Entry)) (h : RunHandles) → IsSound c blocks bytes h → check_run c bytes h ≡ Ok (summary_of blocks)

@@ -37,8 +37,8 @@ gives_or_over P Q R view (Err e) read h = λ other. elim (h other) [
 
 -- one entry more that a filter may contain, or may not, and none more
 module _ (hash : List ℕ → ℕ) (f : Option Filter) (h : Handle) (known : Result (ℕ × ℕ) Error) where
-  abbrev pub Left : Bool → ℕ → ℕ → List Entry → Type 0
-  Left ends least greatest left = known ≡ check_entries hash f h ends (least, greatest) left
+  abbrev pub AreLeft : Bool → ℕ → ℕ → List Entry → Type 0
+  AreLeft ends least greatest left = known ≡ check_entries hash f h ends (least, greatest) left
 
 -- a step of the iterator over an index, and the handle that was made of its item
 pub handle_left : (s t : Scan Handle) (p : IndexBlockParsedItem) (payload : List ℕ) (h : Handle) → GivesNextHeld parsed_handle IsParsedHandle s (Some p) t → s.payload ≡ payload → h ≡ parsed_handle payload p → items_left s.window ≡ h ∷ items_left t.window

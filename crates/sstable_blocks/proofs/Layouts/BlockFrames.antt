@@ -37,12 +37,12 @@ bucket_count_below num den n = elim (cases_Bool (eqb num 0)) [
 
 module _ (f : Form) where
   -- the frame of a block is where a handle says
-  pub record IsPlace (bytes : List ℕ) (block : List Entry) (h : Handle) : Type 0 where
+  pub record IsHandleOf (bytes : List ℕ) (block : List Entry) (h : Handle) : Type 0 where
     pub part : IsPart bytes h.offset (block_frame f block)
     pub size : h.size ≡ length (block_frame f block)
 
   -- the frames of all blocks are where their handles say
-  pub frames_stand : (bytes front rest : List ℕ) (offset : ℕ) (blocks : List (List Entry)) → bytes ≡ front ++ (block_frames f blocks ++ rest) → offset ≡ length front → AllZip (IsPlace bytes) blocks (handles_from f offset blocks)
+  pub frames_stand : (bytes front rest : List ℕ) (offset : ℕ) (blocks : List (List Entry)) → bytes ≡ front ++ (block_frames f blocks ++ rest) → offset ≡ length front → AllZip (IsHandleOf bytes) blocks (handles_from f offset blocks)
   frames_stand bytes front rest offset [] e o = tt
   frames_stand bytes front rest offset (b ∷ bs) e o =
       let split : bytes ≡ front ++ (block_frame f b ++ (block_frames f bs ++ rest)) = e ∙ ap (λ xs. front ++ xs) (append_assoc (block_frame f b) (block_frames f bs) rest) in
@@ -54,7 +54,7 @@ module _ (f : Form) where
         frames_stand bytes (front ++ block_frame f b) rest (offset + length (block_frame f b)) bs more at,
       )
 
-  pub run_frames : (blocks : List (List Entry)) (p : List ℕ) → AllZip (IsPlace (run_text f blocks p)) blocks (handles_from f 0 blocks)
+  pub run_frames : (blocks : List (List Entry)) (p : List ℕ) → AllZip (IsHandleOf (run_text f blocks p)) blocks (handles_from f 0 blocks)
   unfolding run_text
   run_frames blocks p = frames_stand (run_text f blocks p) [] (index_frame f blocks ++ filter_frame f p) 0 blocks refl refl
 
@@ -74,10 +74,10 @@ module _ (f : Form) where
       (IsPart-between (block_frames f blocks ++ index_frame f blocks) (filter_frame f p) []))
 
   -- the payload of a block encodes it
-  abbrev pub IsDataBlock : List Entry → Type 0
-  IsDataBlock block = IsBlock entries IsEntry f.hash64 (block_payload f block) block f.config.restart_interval (bucket_count f.config.ratio.num f.config.ratio.den (length block))
+  abbrev pub EncodesBlock : List Entry → Type 0
+  EncodesBlock block = IsBlock entries IsEntry f.hash64 (block_payload f block) block f.config.restart_interval (bucket_count f.config.ratio.num f.config.ratio.den (length block))
 
-  pub blocks_are_blocks : (blocks : List (List Entry)) → AllByRecursion IsNotEmpty blocks → AllByRecursion IsEntry (joined blocks) → IsOrdered entries (joined blocks) → IsInterval f.config.restart_interval → AllByRecursion IsDataBlock blocks
+  pub blocks_are_blocks : (blocks : List (List Entry)) → AllByRecursion IsNotEmpty blocks → AllByRecursion IsEntry (joined blocks) → IsOrdered entries (joined blocks) → IsInterval f.config.restart_interval → AllByRecursion EncodesBlock blocks
   unfolding block_payload
   blocks_are_blocks [] s v o i = tt
   blocks_are_blocks (b ∷ bs) s v o i = (

@@ -18,7 +18,7 @@ use Rattle.sstable_blocks.specs.ReadCosts.{interval_in, heads_at, entries_at, he
 use Rattle.sstable_blocks.specs.Run.{Form, block_payload, block_frame, handle_of, handles_from, index_text, run_text, run_handles, IsFramed, IsRun, RunFits, IsLayout}
 use Rattle.sstable_blocks.specs.declared.run.RunHandles.{RunHandles}
 use Rattle.sstable_blocks.proofs.Layouts.BlockHandles.{length-handles_from}
-use Rattle.sstable_blocks.proofs.Layouts.BlockFrames.{IsPlace, run_frames, index_stands, IsDataBlock, blocks_are_blocks, index_is_index}
+use Rattle.sstable_blocks.proofs.Layouts.BlockFrames.{IsHandleOf, run_frames, index_stands, EncodesBlock, blocks_are_blocks, index_is_index}
 use Rattle.sstable_blocks.proofs.Layouts.Openings.{frame_range}
 use Rattle.sstable_blocks.proofs.Layouts.SoundLayouts.{both, part_is_framed}
 
@@ -26,7 +26,7 @@ module _ (f : Form)
     (data_read : (p : List ℕ) (items : List Entry) (r b : ℕ) → length p < 2 ^ 32 → IsBlock entries IsEntry f.hash64 p items r b → (items_in entries p ≡ map plain items) × ((trailer_in p).interval ≡ r))
     (index_read : (r : ℕ) (p : List ℕ) (items : List Handle) → length p < 2 ^ 32 → IsIndexBlock p items r → (items_in handles p ≡ items) × ((trailer_in p).interval ≡ r))
   where
-    costs_at : (bytes : List ℕ) (offset : ℕ) (blocks : List (List Entry)) → AllZip (IsPlace f bytes) blocks (handles_from f offset blocks) → AllByRecursion (IsDataBlock f) blocks → AllByRecursion (λ block. IsFramed (block_payload f block)) blocks
+    costs_at : (bytes : List ℕ) (offset : ℕ) (blocks : List (List Entry)) → AllZip (IsHandleOf f bytes) blocks (handles_from f offset blocks) → AllByRecursion (EncodesBlock f) blocks → AllByRecursion (λ block. IsFramed (block_payload f block)) blocks
         → (n : ℕ) → (heads_at bytes (slice_get (handles_from f offset blocks) n) ≡ heads_of f (slice_get blocks n)) × (entries_at bytes (slice_get (handles_from f offset blocks) n) ≤ f.config.restart_interval + 1)
     costs_at bytes offset [] stand are small n = (refl, omega arith)
     costs_at bytes offset (b ∷ bs) stand are small zero =

@@ -24,7 +24,7 @@ use Rattle.sstable_blocks.specs.declared.run.RunHandles.{RunHandles}
 use Rattle.sstable_blocks.proofs.Layouts.BlockHandles.{handles_end}
 use Rattle.sstable_blocks.proofs.Layouts.Endings.{filter_framed as filter_small}
 use Rattle.sstable_blocks.proofs.Layouts.FilterReads.{filter_handle, no_filter, some_filter, filter_framed, filter_reads}
-use Rattle.sstable_blocks.proofs.Layouts.BlockFrames.{IsPart, IsPlace, run_frames, index_stands, filter_stands, IsDataBlock, blocks_are_blocks, index_is_index}
+use Rattle.sstable_blocks.proofs.Layouts.BlockFrames.{IsPart, IsHandleOf, run_frames, index_stands, filter_stands, EncodesBlock, blocks_are_blocks, index_is_index}
 
 -- what holds of all hashes of keys holds of each key's
 each_key : (hash : List ℕ → ℕ) (P : ℕ → Type 0) (items : List Entry) → ((n : ℕ) → Contains (key_hashes hash items) n → P n) → AllByRecursion (λ x. P (hash x.key.user_key)) items
@@ -44,7 +44,7 @@ module _ (f : Form) where
     whole = ap (λ n. take n (drop h.offset bytes)) size ∙ part.is;
   }
 
-  blocks_are_stored : (bytes : List ℕ) (offset : ℕ) (blocks : List (List Entry)) → AllZip (IsPlace f bytes) blocks (handles_from f offset blocks) → AllByRecursion (IsDataBlock f) blocks
+  blocks_are_stored : (bytes : List ℕ) (offset : ℕ) (blocks : List (List Entry)) → AllZip (IsHandleOf f bytes) blocks (handles_from f offset blocks) → AllByRecursion (EncodesBlock f) blocks
       → AllZip (IsEnd entries handles) blocks (handles_from f offset blocks) → AllZip (IsStoredBlock both bytes) blocks (handles_from f offset blocks)
   blocks_are_stored bytes offset [] stand are ends = tt
   blocks_are_stored bytes offset (b ∷ bs) stand are ends = (

@@ -20,8 +20,8 @@ use Rattle.sstable_blocks.specs.Lookup.{IsEnd, first_in, place_for}
 use Rattle.sstable_blocks.proofs.Lists.Ends.{turned, tail_in_order, back_in_order, block_behind}
 
 -- a version: a key and a sequence number
-abbrev version_cmp : List ℕ × ℕ → List ℕ × ℕ → Ordering
-version_cmp = versions_cmp (λ v. v.0) (λ v. v.1)
+abbrev pair_cmp : List ℕ × ℕ → List ℕ × ℕ → Ordering
+pair_cmp = versions_cmp (λ v. v.0) (λ v. v.1)
 
 -- what is passed is not after the bound
 passed_by : (o : Ordering) (s n : ℕ) → passes_cmp o (Some s) n ≡ true → is_gt (ordering_then o (nat_cmp s n)) ≡ false
@@ -89,8 +89,8 @@ module _ {X : Type 0} (kind : Kind X) (needle : List ℕ) (s : ℕ) where
       let o = versions_cmp_total {X = List ℕ × ℕ} (λ v. v.0) (λ v. v.1) in
       let va : List ℕ × ℕ = (kind.key a, kind.seqno a) in
       let vb : List ℕ × ℕ = (kind.key b, kind.seqno b) in
-      let first : is_gt (version_cmp va vb) ≡ false = ap is_gt (o.antisymm va vb) ∙ turned (version_cmp vb va) h in
-      let second : is_gt (version_cmp vb (needle, s)) ≡ false = passed_by (slice_cmp nat_cmp (kind.key b) needle) s (kind.seqno b) e in
+      let first : is_gt (pair_cmp va vb) ≡ false = ap is_gt (o.antisymm va vb) ∙ turned (pair_cmp vb va) h in
+      let second : is_gt (pair_cmp vb (needle, s)) ≡ false = passed_by (slice_cmp nat_cmp (kind.key b) needle) s (kind.seqno b) e in
       not_behind (slice_cmp nat_cmp (kind.key a) needle) s (kind.seqno a) (upto o va vb (needle, s) first second)
 
   -- an item that does not sort before one with a greater key has a greater key

@@ -18,13 +18,13 @@ use Rattle.sstable_blocks.specs.Opened.{range_of}
 use Rattle.sstable_blocks.specs.ReadCosts.{handles_most}
 
 -- the range that a parsed handle has
-abbrev pub range_by : IndexBlockParsedItem → HandleParts
-range_by p = record { offset = p.offset.0; size = p.size }
+abbrev pub parsed_range : IndexBlockParsedItem → HandleParts
+parsed_range p = record { offset = p.offset.0; size = p.size }
 
 -- it does not depend on the payload
-range_by-handle : (payload : List ℕ) (r : Option IndexBlockParsedItem) → option_map range_by r ≡ option_map range_of (option_map (parsed_handle payload) r)
-range_by-handle payload None = refl
-range_by-handle payload (Some p) = refl
+parsed_range-handle : (payload : List ℕ) (r : Option IndexBlockParsedItem) → option_map parsed_range r ≡ option_map range_of (option_map (parsed_handle payload) r)
+parsed_range-handle payload None = refl
+parsed_range-handle payload (Some p) = refl
 
 -- of a list up to its end, the item at an index is left, if there is one
 left_at : (hs : List Handle) (n : ℕ) → first_left (record { list = hs; lo = n; hi = length hs }) ≡ slice_get hs n
@@ -35,14 +35,14 @@ left_at hs n = elim (cases_Bool (ltb n (length hs))) [
 
 -- the step after a seek from the whole list gives the handle of the needle
 pub found_range : (s t u : Scan Handle) (hs : List Handle) (needle : List ℕ) (seqno : ℕ) (b : Bool) (r : Option IndexBlockParsedItem) → s.window ≡ whole hs
-    → GivesStep s t (found b) (seek_index handles needle seqno s.window) → GivesNextHeld parsed_handle IsParsedHandle t r u → option_map range_by r ≡ option_map range_of (handle_for handles needle seqno hs)
+    → GivesStep s t (found b) (seek_index handles needle seqno s.window) → GivesNextHeld parsed_handle IsParsedHandle t r u → option_map parsed_range r ≡ option_map range_of (handle_for handles needle seqno hs)
 found_range s t u hs needle seqno b r fresh sought given =
     let step = sought.step_is ∙ ap (seek_index handles needle seqno) fresh in
     let moved : Window Handle = record { list = hs; lo = place_for handles needle seqno hs; hi = length hs } in
     let at : t.window ≡ moved = ap (λ (q : Window Handle × Answer Handle). q.0) step in
     let answer = ap (λ (q : Window Handle × Answer Handle). q.1) (given.step ∙ ap next at) in
     let same = item_same (option_map (parsed_handle t.payload) r) (first_left moved) answer in
-    range_by-handle t.payload r ∙ ap (option_map range_of) (same ∙ left_at hs (place_for handles needle seqno hs))
+    parsed_range-handle t.payload r ∙ ap (option_map range_of) (same ∙ left_at hs (place_for handles needle seqno hs))
 
 -- the most handles: those of a scan, and one
 pub handles_by_scan : (q : ℕ) → handles_most q ≡ scan_cost q + 1

@@ -72,18 +72,18 @@ no_range (Some g) e = cc
 
 module _ (hash64 : List ℕ → ℕ) (blocks : List (List Entry)) (bytes : List ℕ) (h : RunHandles) (needle : List ℕ) (s : ℕ) (o : Opened hash64 blocks bytes h) where
   -- what the search in the index returns
-  abbrev pub IsAnswer : Option HandleParts → Type 0
-  IsAnswer r = r ≡ option_map range_of (handle_in bytes h needle s)
+  abbrev pub IsIndexAnswer : Option HandleParts → Type 0
+  IsIndexAnswer r = r ≡ option_map range_of (handle_in bytes h needle s)
 
   -- the block that it leads to
-  pub chosen : (r : Option HandleParts) (k : HandleParts) → IsAnswer r → r ≡ Some k → (block : List Entry) × (slice_get blocks (place_for handles needle s (index_in bytes h.index)) ≡ Some block) × IsOpen hash64 bytes k block
+  pub chosen : (r : Option HandleParts) (k : HandleParts) → IsIndexAnswer r → r ≡ Some k → (block : List Entry) × (slice_get blocks (place_for handles needle s (index_in bytes h.index)) ≡ Some block) × IsOpen hash64 bytes k block
   chosen r k e is =
       let g = some_range (handle_in bytes h needle s) k (sym e ∙ is) in
       let b = o.block_open (place_for handles needle s (index_in bytes h.index)) g.0 g.1 in
       (b.0, b.1, subst (λ x. IsOpen hash64 bytes x b.0) g.2 b.2)
 
   -- where it leads to none, there is no match
-  pub found_none : (r : Option HandleParts) → IsAnswer r → r ≡ None → None ≡ first_match entries needle s (joined blocks)
+  pub found_none : (r : Option HandleParts) → IsIndexAnswer r → r ≡ None → None ≡ first_match entries needle s (joined blocks)
   found_none r e is =
       let none = no_range (handle_in bytes h needle s) (sym e ∙ is) in
       sym (o.found needle s ∙ ap (first_in entries needle s) (o.none_open (place_for handles needle s (index_in bytes h.index)) none))
@@ -93,7 +93,7 @@ module _ (hash64 : List ℕ → ℕ) (blocks : List (List Entry)) (bytes : List 
   found_denied hash same denied = sym (o.filter_denies needle s (subst (IsDenied bytes h.filter) same denied))
 
   -- the first match of that block is that of the run
-  pub found_some : (r : Option HandleParts) (k : HandleParts) → IsAnswer r → r ≡ Some k → first_match entries needle s (items_in entries (payload_in bytes k)) ≡ first_match entries needle s (joined blocks)
+  pub found_some : (r : Option HandleParts) (k : HandleParts) → IsIndexAnswer r → r ≡ Some k → first_match entries needle s (items_in entries (payload_in bytes k)) ≡ first_match entries needle s (joined blocks)
   found_some r k e is =
       let b = chosen r k e is in
       b.2.first needle s ∙ sym (o.found needle s ∙ ap (first_in entries needle s) b.1)

@@ -24,11 +24,11 @@ use Rattle.sstable_blocks.proofs.Scans.ScanSteps.{none_between, taken}
 use Rattle.sstable_blocks.proofs.Scans.RunScans.{entries_again}
 
 -- lists in order, of which one is near and one is far
-abbrev pub whole : {X : Type 0} → Bool → List X → List X → List X → List X
-whole true near middle far = far ++ (middle ++ near)
-whole false near middle far = near ++ (middle ++ far)
+abbrev pub in_list_order : {X : Type 0} → Bool → List X → List X → List X → List X
+in_list_order true near middle far = far ++ (middle ++ near)
+in_list_order false near middle far = near ++ (middle ++ far)
 
-pub seen_whole : {X : Type 0} (b : Bool) (near middle far : List X) → seen_from b near ++ (seen_from b middle ++ seen_from b far) ≡ seen_from b (whole b near middle far)
+pub seen_whole : {X : Type 0} (b : Bool) (near middle far : List X) → seen_from b near ++ (seen_from b middle ++ seen_from b far) ≡ seen_from b (in_list_order b near middle far)
 seen_whole false near middle far = refl
 seen_whole true near middle far =
     sym (reverse-append far (middle ++ near) ∙ ap (λ xs. xs ++ reverse far) (reverse-append middle near) ∙ append_assoc (reverse near) (reverse middle) (reverse far))

@@ -229,7 +229,7 @@ fn sync_folder<R: Files>(rt: &R, path: Path<'_>) {
 
 impl<'r, R: LockFiles> NewFile<'r, R> {
     /// Makes the new file for a name. A symbolic link stays, and the file that it leads to is
-    /// replaced; its permissions stay too.
+    /// replaced; its permissions stay too, its owner does not.
     ///
     /// # Errors
     ///
@@ -272,7 +272,9 @@ impl<'r, R: LockFiles> NewFile<'r, R> {
         BufferedFile::new(alloc, self.file.try_clone()?)
     }
 
-    /// Renames the file over the one of its name, and waits until that lasts.
+    /// Renames the file over the one of its name, and syncs the folder, so that the rename lasts. Where
+    /// the folder cannot be opened or synced nothing is told: the file is whole under either name, but
+    /// after a power cut it may be the old one that is there.
     ///
     /// # Errors
     ///

@@ -13,7 +13,7 @@ loop-i-preserved c =
     record {
       payload = c.in-Some.ensures.steps.payload ∙ c.loop-i.invariant.payload;
       left = sym (ap (λ k. drop k block.items) (add-one i) ∙ (first_from block.items _ i _ left).2);
-      listed = item_listed block.payload _ block.items _ c.args.places.now c.loop-i.places i c.place_of.result c.in-Some.item c.as_slice-payload.ensures.value left c.requires c.place_of.ensures c.loop-i.invariant.listed;
+      listed = item_listed c.args.bytes.now block.payload _ block.items _ c.args.places.now c.loop-i.places i c.place_at.result c.in-Some.item c.as_slice-payload.ensures.value left c.requires.room c.place_at.ensures c.loop-i.invariant.listed;
     }
 
 pub returns-in_default : goal.returns-in_default

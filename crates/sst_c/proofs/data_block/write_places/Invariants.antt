@@ -7,5 +7,5 @@ abbrev pub invariant-loop-i : goal.invariant-loop-i
 invariant-loop-i l = record {
   payload : l.items.payload ≡ l.fn.block.payload;
   left : items_left l.items.window ≡ drop l.i l.fn.block.items;
-  listed : AreListed l.fn.block.payload (take l.i l.fn.block.items) l.fn.places l.places;
+  listed : AreListed l.fn.bytes (take l.i l.fn.block.items) l.fn.places l.places;
 }

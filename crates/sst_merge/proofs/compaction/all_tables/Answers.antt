@@ -25,15 +25,15 @@ loop-alloc-preserved g c =
     let entry = g.T.AsEntry.entry in
     let mid = entries_in entry c.loop-alloc.source.list in
     let after = entries_in entry c.write_table.new.source.list in
-    let output : Output = record { handles = c.in-Some.handles; bytes = contents c.in-Some.writer } in
+    let output : Output = record { handles = c.in-Some.handles; bytes = contents c.in_ok-table.writer } in
     let written : IsTableOf f c.args.sizes (contents c.in_ok-writer.writer) output.bytes output.handles mid after =
-    subst (λ o. IfSome o (λ t. IsTableOf f c.args.sizes (contents c.in_ok-writer.writer) (contents t.1) t.0 mid after)) c.in-Some.is c.in_ok-table.ensures.table in
+    subst (λ o. IfSome o (λ h. IsTableOf f c.args.sizes (contents c.in_ok-writer.writer) output.bytes h mid after)) c.in-Some.is c.in_ok-table.ensures.table in
     let before = c.loop-alloc.invariant in
     record {
       written = one_written f c.args.sizes g.O.Outputs.start (entries_in entry c.args.source.now.list) mid after (g.O.Outputs.tables c.args.outputs.now) (g.O.Outputs.tables c.loop-alloc.outputs) (g.O.Outputs.tables c.close.new.self) output before.written
           (subst (λ start. IsTableOf f c.args.sizes start output.bytes output.handles mid after) c.in_ok-writer.ensures.fresh written)
           (c.in_ok-close.ensures.closed ∙ ap (λ tables. tables ++ output ∷ []) c.in_ok-writer.ensures.same);
-      ended = same_end c.loop-alloc.source.ended c.write_table.new.source.ended c.in_ok-table.table c.in_ok-table.ensures.ended ∙ before.ended;
+      ended = same_end c.loop-alloc.source.ended c.write_table.new.source.ended (c.in_ok-table.table, c.in_ok-table.writer) c.in_ok-table.ensures.ended ∙ before.ended;
       no_more = λ e met. before.no_more e (c.in_ok-table.ensures.no_more e met);
     }
 

@@ -1,5 +1,5 @@
 use Rattle.std.proofs.Common.{◌*◌, ◌+◌, ◌-◌, ◌<◌, ◌≡◌, arith, subst}
-use Rattle.sst_merge.specs.Tournament.{ArePlaces}
+use Rattle.sst_merge.specs.Tournament.{AreWinners}
 use Rattle.sst_merge.proofs.Tournaments.{all_fresh, place_before, place_inside}
 use Rattle.sst_merge.proofs.merge.play_all.Goals as goal
 
@@ -19,7 +19,7 @@ loop-k-preserved g c =
       some = omega (arith, c.loop-k-test.true);
       inside = omega (arith, c.loop-k.invariant.inside);
       places = place_before g.T.Ranked.cmp g.T.Ranked.ordered c.args.heads.now c.loop-k.places k c.play.result
-          (subst (λ n. ArePlaces g.T.Ranked.cmp c.args.heads.now c.loop-k.places (λ j. j < n)) here c.loop-k.invariant.places)
+          (subst (λ n. AreWinners g.T.Ranked.cmp c.args.heads.now c.loop-k.places (λ j. j < n)) here c.loop-k.invariant.places)
           (omega (arith, c.loop-k-test.true)) (omega (arith, c.loop-k-test.true, c.loop-k.invariant.inside)) c.play.ensures;
     }
 

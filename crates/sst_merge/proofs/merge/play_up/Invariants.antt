@@ -1,11 +1,11 @@
 use Rattle.std.proofs.Common.{◌<◌, length}
-use Rattle.sst_merge.specs.Tournament.{ArePlaces, IsAbove}
+use Rattle.sst_merge.specs.Tournament.{AreWinners, IsOnWay}
 use Rattle.sst_merge.proofs.merge.play_up.Given as goal
 
 abbrev pub invariant-loop-k : goal.invariant-loop-k
 invariant-loop-k g l = record {
   inside : l.k < length l.heads;
-  places : ArePlaces g.T.Ranked.cmp l.heads l.places (λ j. IsAbove j l.k);
+  places : AreWinners g.T.Ranked.cmp l.heads l.places (λ j. IsOnWay j l.k);
 }
 
 abbrev pub decreases-loop-k : goal.decreases-loop-k

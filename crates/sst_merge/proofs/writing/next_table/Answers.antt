@@ -56,7 +56,8 @@ pub returns-clause-table : goal.returns-clause-table
 returns-clause-table g c =
     let inv = c.loop-alloc.invariant in
     let f = form g.H.BlockHash.hash64 g.H.BlockHash.hash128 in
-    let t = c.in_ok-finish.field-0 in
+    let handles = c.in_ok-handles.handles in
+    let bytes = g.W.Write.contents c.in_ok-handles.writer in
     let blocks = c.loop-alloc.run.blocks in
     let entry = g.T.AsEntry.entry in
     let left = entries_in entry c.loop-alloc.source.list in
@@ -64,8 +65,8 @@ returns-clause-table g c =
     let entries : 1 ≤ length block = (let n = length-map c.loop-alloc.block.items entry in let some = inv.entries in omega (arith, some, n)) in
     record {
       blocks = blocks;
-      layout = subst (λ config. AppendsLayout (f config) blocks (g.W.Write.contents c.args.writer) (g.W.Write.contents t.1) t.0) inv.config
-          (subst (λ start. AppendsLayout (f c.loop-alloc.run.config) blocks start (g.W.Write.contents t.1) t.0) inv.start c.in_ok-finish.ensures.layout);
+      layout = subst (λ config. AppendsLayout (f config) blocks (g.W.Write.contents c.args.writer) bytes handles) inv.config
+          (subst (λ start. AppendsLayout (f c.loop-alloc.run.config) blocks start bytes handles) inv.start c.in_ok-handles.ensures.layout);
       some = joined_some blocks inv.last.0 block inv.last.1 entries;
       taken = inv.taken;
       apart = apart_blocks blocks inv.last.0 block left inv.last.1 entries (subst (λ last. IfSome left (IsApart (map entry last))) c.deref.ensures.value (c.goes_on.ensures.apart c.loop-alloc-test.false));

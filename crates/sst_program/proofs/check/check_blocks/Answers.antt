@@ -1,6 +1,6 @@
 use Rattle.std.proofs.Common.{◌∙◌, ap, refl, arith}
 use Rattle.std.proofs.lemmas.Result.{err_from_is_err_and}
-use Rattle.sst_program.proofs.TableReads.{known_all, read_whole, counts_start, counts_step_on, counts_all_on, counts_fail_on}
+use Rattle.sst_program.proofs.TableFiles.TableReads.{known_all, read_whole, counts_start, counts_step_on, counts_all_on, counts_fail_on}
 use Rattle.sst_program.proofs.check.check_blocks.Goals as goal
 
 pub loop-item-init : goal.loop-item-init

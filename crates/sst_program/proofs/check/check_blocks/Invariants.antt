@@ -1,7 +1,7 @@
 use Rattle.std.proofs.Common.{◌≡◌, ◌≤◌, IfSome}
 use Rattle.sst_block_core.specs.Window.{items_left}
 use Rattle.sst_program.specs.TableReads.{blocks_listed}
-use Rattle.sst_program.proofs.TableReads.{CountsTo}
+use Rattle.sst_program.proofs.TableFiles.TableReads.{CountsTo}
 use Rattle.sst_program.proofs.check.check_blocks.Given as goal
 
 abbrev pub invariant-loop-item : goal.invariant-loop-item

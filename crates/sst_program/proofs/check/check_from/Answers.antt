@@ -1,5 +1,5 @@
 use Rattle.sst_program.specs.TableReads.{run_counts}
-use Rattle.sst_program.proofs.TableFaults.{footer_told}
+use Rattle.sst_program.proofs.TableFiles.TableFaults.{footer_told}
 use Rattle.sst_program.proofs.check.check_from.Goals as goal
 
 pub returns-in_err-table-clause-fault : goal.returns-in_err-table-clause-fault

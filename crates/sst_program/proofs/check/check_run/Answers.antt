@@ -1,6 +1,6 @@
 use Rattle.std.proofs.Common.{arith}
 use Rattle.std.proofs.lemmas.Result.{err_from_is_err_and}
-use Rattle.sst_program.proofs.TableFaults.{counts_late}
+use Rattle.sst_program.proofs.TableFiles.TableFaults.{counts_late}
 use Rattle.sst_program.proofs.check.check_run.Goals as goal
 
 pub returns-in_err-entries-clause-exact : goal.returns-in_err-entries-clause-exact

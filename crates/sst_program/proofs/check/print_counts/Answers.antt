@@ -1,6 +1,6 @@
 use Rattle.std.proofs.lemmas.Result.{err_from_is_err_and}
 use Rattle.sst_program.specs.TableReads.{run_counts}
-use Rattle.sst_program.proofs.TableFaults.{around}
+use Rattle.sst_program.proofs.TableFiles.TableFaults.{around}
 use Rattle.sst_program.proofs.check.print_counts.Goals as goal
 
 pub returns-in_err-blocks-clause-io : goal.returns-in_err-blocks-clause-io

@@ -1,5 +1,5 @@
 use Rattle.std.proofs.Common.{◌∙◌, ap, sym}
-use Rattle.sst_program.proofs.Printing.{puts_start, puts_entry, puts_end, lines_whole, lines_over}
+use Rattle.sst_program.proofs.Results.Printing.{puts_start, puts_entry, puts_end, lines_whole, lines_over}
 use Rattle.sst_program.proofs.entry_printer.put_entries.Goals as goal
 
 pub loop-item-init : goal.loop-item-init

@@ -1,5 +1,5 @@
 use Rattle.sst_block_core.specs.ParsedEntry.{entry_of}
-use Rattle.sst_program.proofs.Printing.{puts_line}
+use Rattle.sst_program.proofs.Results.Printing.{puts_line}
 use Rattle.sst_program.proofs.entry_printer.put_entry.Goals as goal
 
 pub returns-clause-put : goal.returns-clause-put

@@ -1,4 +1,4 @@
-use Rattle.sst_program.proofs.Printing.{puts_next, puts_end, encode-cut, encode-over}
+use Rattle.sst_program.proofs.Results.Printing.{puts_next, puts_end, encode-cut, encode-over}
 use Rattle.sst_program.proofs.entry_printer.put_hex.Goals as goal
 
 pub loop-rest-preserved : goal.loop-rest-preserved

@@ -1,6 +1,6 @@
 use Rattle.std.proofs.Common.{length}
 use Rattle.hex.specs.Hex.{encode_lower}
-use Rattle.sst_program.proofs.Printing.{PutsTo}
+use Rattle.sst_program.proofs.Results.Printing.{PutsTo}
 use Rattle.sst_program.proofs.entry_printer.put_hex.Given as goal
 
 abbrev pub invariant-loop-rest : goal.invariant-loop-rest

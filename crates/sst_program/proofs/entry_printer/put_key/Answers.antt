@@ -1,4 +1,4 @@
-use Rattle.sst_program.proofs.Printing.{puts_joined}
+use Rattle.sst_program.proofs.Results.Printing.{puts_joined}
 use Rattle.sst_program.proofs.entry_printer.put_key.Goals as goal
 
 pub returns-clause-put : goal.returns-clause-put

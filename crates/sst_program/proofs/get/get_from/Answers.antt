@@ -1,6 +1,6 @@
 use Rattle.sstable_blocks.specs.RunReading.{read_checked}
 use Rattle.sst_program.specs.TableReads.{sst_hashes}
-use Rattle.sst_program.proofs.TableFaults.{footer_told}
+use Rattle.sst_program.proofs.TableFiles.TableFaults.{footer_told}
 use Rattle.sst_program.proofs.get.get_from.Goals as goal
 
 pub returns-in_err-table-clause-fault : goal.returns-in_err-table-clause-fault

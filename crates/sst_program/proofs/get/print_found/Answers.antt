@@ -1,7 +1,7 @@
 use Rattle.std.proofs.lemmas.Result.{err_from_is_err_and}
 use Rattle.sstable_blocks.specs.RunReading.{read_checked}
 use Rattle.sst_program.specs.TableReads.{sst_hashes}
-use Rattle.sst_program.proofs.TableFaults.{around}
+use Rattle.sst_program.proofs.TableFiles.TableFaults.{around}
 use Rattle.sst_program.proofs.get.print_found.Goals as goal
 
 pub returns-in_err-found-clause-io : goal.returns-in_err-found-clause-io

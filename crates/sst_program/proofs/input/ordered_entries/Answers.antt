@@ -1,6 +1,6 @@
 use Rattle.std.proofs.Common.{sym}
 use Rattle.std.proofs.lemmas.Result.{err_from_is_err_and}
-use Rattle.sst_program.proofs.Outcomes.{run-read, run-refused, fault-of_line}
+use Rattle.sst_program.proofs.Results.Outcomes.{run-read, run-refused, fault-of_line}
 use Rattle.sst_program.proofs.input.ordered_entries.Goals as goal
 
 pub returns-in_err-items-clause-err : goal.returns-in_err-items-clause-err

@@ -1,6 +1,6 @@
 use Rattle.std.proofs.Common.{◌∙◌, ap, sym, vec_items}
 use Rattle.sst_program.specs.Line.{entry_of_line}
-use Rattle.sst_program.proofs.Inputs.{split-start, split-next, read-next, read-fault, read-end}
+use Rattle.sst_program.proofs.EntryTexts.Inputs.{split-start, split-next, read-next, read-fault, read-end}
 use Rattle.sst_program.proofs.input.read_entries.Goals as goal
 
 pub loop-line-init : goal.loop-line-init

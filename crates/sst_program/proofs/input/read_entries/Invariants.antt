@@ -1,7 +1,7 @@
 use Rattle.std.specs.Io.Buffered.{reader_remaining}
 use Rattle.std.specs.Io.Iter.{split_known_bytes, split_byte}
 use Rattle.std.proofs.Common.{◌≡◌, vec_len}
-use Rattle.sst_program.proofs.Inputs.{ReadTo}
+use Rattle.sst_program.proofs.EntryTexts.Inputs.{ReadTo}
 use Rattle.sst_program.proofs.input.read_entries.Given as goal
 
 abbrev pub invariant-loop-line : goal.invariant-loop-line

@@ -1,8 +1,8 @@
 use Rattle.std.proofs.Common.{◌≡◌, ◌≤◌, ◌<◌, ◌^◌, length, sym, ◌∙◌, inl, inr, arith}
 use Rattle.std.specs.Prelude.{Some, None}
 use Rattle.sst_program.specs.Line.{entry_of_parts, entry_within_limits}
-use Rattle.sst_program.proofs.Numbers.{number-exact}
-use Rattle.sst_program.proofs.EntryParts.{parts-no_type, parts-no_number, parts-no_key, parts-no_value, parts-all, limits-passed, limits-kept, length-from_empty}
+use Rattle.sst_program.proofs.WordTexts.Numbers.{number-exact}
+use Rattle.sst_program.proofs.EntryTexts.EntryParts.{parts-no_type, parts-no_number, parts-no_key, parts-no_value, parts-all, limits-passed, limits-kept, length-from_empty}
 use Rattle.sst_program.proofs.lines.entry_from.Goals as goal
 use Rattle.sst_program.proofs.lines.entry_from.Goals.{in_default-via-in-Some+in_default, in_default-via-in_default, then-is_empty-via-then-is_empty, then-is_empty-via-else-is_empty+then-len-gt-MAX_KEY_LEN, then-is_empty-via-else-is_empty+else-len-gt-MAX_KEY_LEN+then-len-gt-MAX_VALUE_LEN}
 

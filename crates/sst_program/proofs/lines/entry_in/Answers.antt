@@ -1,5 +1,5 @@
 use Rattle.std.proofs.Common.{sym, ◌∙◌}
-use Rattle.sst_program.proofs.EntryLaw.{line-inverse, line-complete, law-along}
+use Rattle.sst_program.proofs.EntryTexts.EntryLaw.{line-inverse, line-complete, law-along}
 use Rattle.sst_program.proofs.lines.entry_in.Goals as goal
 
 pub returns-in-Some-clause-encoded : goal.returns-in-Some-clause-encoded

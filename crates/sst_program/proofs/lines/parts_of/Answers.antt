@@ -1,4 +1,4 @@
-use Rattle.sst_program.proofs.EntryParts.{line-without_space, line-with_one_space, line-with_two_spaces, line-with_parts}
+use Rattle.sst_program.proofs.EntryTexts.EntryParts.{line-without_space, line-with_one_space, line-with_two_spaces, line-with_parts}
 use Rattle.sst_program.proofs.lines.parts_of.Goals as goal
 
 pub returns-in_err-letter-clause-none : goal.returns-in_err-letter-clause-none

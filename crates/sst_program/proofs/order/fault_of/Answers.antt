@@ -1,5 +1,5 @@
 use Rattle.std.proofs.Common.{sym}
-use Rattle.sst_program.proofs.Outcomes.{fault-no_entries, fault-disorder, fault-ordered, some-from_test, none-from_test}
+use Rattle.sst_program.proofs.Results.Outcomes.{fault-no_entries, fault-disorder, fault-ordered, some-from_test, none-from_test}
 use Rattle.sst_program.proofs.order.fault_of.Goals as goal
 
 pub returns-then-is_empty-clause-fault : goal.returns-then-is_empty-clause-fault

@@ -1,7 +1,7 @@
 use Rattle.std.proofs.Common.{◌≤◌, length, ◌∙◌, ◌∷◌, [], ◌++◌, ap, sym, subst, map-id, arith}
 use Rattle.sstable_blocks.specs.Writing.{Follows}
-use Rattle.sst_program.proofs.Outcomes.{some-from_test}
-use Rattle.sst_program.proofs.Tables.{all-next, ordered-next, size-next, full-next}
+use Rattle.sst_program.proofs.Results.Outcomes.{some-from_test}
+use Rattle.sst_program.proofs.TableFiles.Tables.{all-next, ordered-next, size-next, full-next}
 use Rattle.sst_program.proofs.pack.add_blocks.Goals as goal
 
 pub add_block-requires : goal.add_block-requires

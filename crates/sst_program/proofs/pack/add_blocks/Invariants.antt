@@ -2,7 +2,7 @@ use Rattle.std.proofs.Common.{◌≡◌, ◌≤◌, ◌++◌, length}
 use Rattle.std.specs.Prelude.{None}
 use Rattle.sstable_blocks.specs.Blocks.{joined}
 use Rattle.sst_program.specs.Table.{HaveSize}
-use Rattle.sst_program.proofs.Tables.{AreFull}
+use Rattle.sst_program.proofs.TableFiles.Tables.{AreFull}
 use Rattle.sst_program.proofs.pack.add_blocks.Given as goal
 
 abbrev pub invariant-loop-rest : goal.invariant-loop-rest

@@ -1,6 +1,6 @@
 use Rattle.std.proofs.Common.{◌∙◌, ap}
 use Rattle.sstable_blocks.specs.Writing.{Writing}
-use Rattle.sst_program.proofs.Tables.{table-of}
+use Rattle.sst_program.proofs.TableFiles.Tables.{table-of}
 use Rattle.sst_program.proofs.pack.write_table.Goals as goal
 
 pub returns-clause-table : goal.returns-clause-table

@@ -1,5 +1,5 @@
 use Rattle.std.proofs.lemmas.Result.{err_from_is_err_and}
-use Rattle.sst_program.proofs.Outcomes.{text-of_run, fault-of_run, fault-of_block}
+use Rattle.sst_program.proofs.Results.Outcomes.{text-of_run, fault-of_run, fault-of_block}
 use Rattle.sst_program.proofs.point.text_for.Goals as goal
 
 pub returns-in_err-items-clause-err : goal.returns-in_err-items-clause-err

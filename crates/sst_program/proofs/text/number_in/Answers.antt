@@ -1,5 +1,5 @@
 use Rattle.std.proofs.Common.{sym}
-use Rattle.sst_program.proofs.Numbers.{number-exact}
+use Rattle.sst_program.proofs.WordTexts.Numbers.{number-exact}
 use Rattle.sst_program.proofs.text.number_in.Goals as goal
 
 pub returns-clause-exact : goal.returns-clause-exact

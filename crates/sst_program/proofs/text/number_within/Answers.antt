@@ -1,5 +1,5 @@
 use Rattle.std.proofs.Common.{sym, ◌∙◌, inl, inr, arith}
-use Rattle.sst_program.proofs.CommandWords.{within-kept, within-passed, number_within-some, number_within-none}
+use Rattle.sst_program.proofs.WordTexts.CommandWords.{within-kept, within-passed, number_within-some, number_within-none}
 use Rattle.sst_program.proofs.text.number_within.Goals as goal
 
 pub returns-in-Some-clause-exact : goal.returns-in-Some-clause-exact

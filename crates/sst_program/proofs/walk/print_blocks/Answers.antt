@@ -1,8 +1,8 @@
 use Rattle.std.proofs.Common.{◌∙◌, ap, refl, arith, inl, inr, Ok, Err}
 use Rattle.std.proofs.lemmas.Result.{err_from_is_err_and}
 use Rattle.std.proofs.KnownBytes.{Keeps-refl}
-use Rattle.sst_program.proofs.Outcomes.{prints_nothing, prints_more}
-use Rattle.sst_program.proofs.TableReads.{known_both, known_all, known_one, read_step, read_whole, read_over, prints_start, prints_next, prints_all, prints_refused, prints_first, prints_io_on, kept_unless}
+use Rattle.sst_program.proofs.Results.Outcomes.{prints_nothing, prints_more}
+use Rattle.sst_program.proofs.TableFiles.TableReads.{known_both, known_all, known_one, read_step, read_whole, read_over, prints_start, prints_next, prints_all, prints_refused, prints_first, prints_io_on, kept_unless}
 use Rattle.sst_program.proofs.walk.print_blocks.Goals as goal
 
 pub loop-item-init : goal.loop-item-init

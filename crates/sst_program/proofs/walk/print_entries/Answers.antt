@@ -1,6 +1,6 @@
 use Rattle.std.proofs.Common.{arith}
 use Rattle.std.proofs.lemmas.Result.{err_from_is_err_and}
-use Rattle.sst_program.proofs.TableFaults.{among, blocks_fail, blocks_late}
+use Rattle.sst_program.proofs.TableFiles.TableFaults.{among, blocks_fail, blocks_late}
 use Rattle.sst_program.proofs.walk.print_entries.Goals as goal
 
 pub returns-in_err-index-clause-io : goal.returns-in_err-index-clause-io

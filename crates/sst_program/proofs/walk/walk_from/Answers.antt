@@ -1,4 +1,4 @@
-use Rattle.sst_program.proofs.TableFaults.{footer_walk_told}
+use Rattle.sst_program.proofs.TableFiles.TableFaults.{footer_walk_told}
 use Rattle.sst_program.proofs.walk.walk_from.Goals as goal
 
 pub returns-in_err-table-clause-fault : goal.returns-in_err-table-clause-fault

@@ -1,7 +1,7 @@
 use Rattle.std.proofs.Common.{sym, ◌∙◌, ap}
 use Rattle.std.specs.Prelude.{map, Some}
 use Rattle.sst_program.specs.Commands.{name_of, command_named}
-use Rattle.sst_program.proofs.CommandWords.{command-none, command-words}
+use Rattle.sst_program.proofs.WordTexts.CommandWords.{command-none, command-words}
 use Rattle.sst_program.proofs.words.command_in.Goals as goal
 
 pub returns-in_default-clause-ok : goal.returns-in_default-clause-ok

@@ -1,5 +1,5 @@
 use Rattle.std.proofs.Common.{sym}
-use Rattle.sst_program.proofs.CommandWords.{file-utf8, file-other}
+use Rattle.sst_program.proofs.WordTexts.CommandWords.{file-utf8, file-other}
 use Rattle.sst_program.proofs.words.file_in.Goals as goal
 
 pub returns-in-Ok : goal.returns-in-Ok

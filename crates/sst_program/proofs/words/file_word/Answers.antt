@@ -1,7 +1,7 @@
 use Rattle.std.proofs.Common.{◌≡◌, sym, ◌∙◌, ap, arith}
 use Rattle.std.specs.Prelude.{map, None}
 use Rattle.sst_program.specs.Commands.{file_of, file_of_words}
-use Rattle.sst_program.proofs.CommandWords.{map-one, file-words, file-too_few, file-too_many}
+use Rattle.sst_program.proofs.WordTexts.CommandWords.{map-one, file-words, file-too_few, file-too_many}
 use Rattle.sst_program.proofs.words.file_word.Goals as goal
 use Rattle.sst_program.proofs.words.file_word.Goals.{in_default-via-then-words-lt1, in_default-via-else-words-lt1+else-words-lt2}
 

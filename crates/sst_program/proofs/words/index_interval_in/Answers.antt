@@ -1,7 +1,7 @@
 use Rattle.std.proofs.Common.{sym, ◌∙◌, ap, arith}
 use Rattle.sst_program.specs.Text.{number_within}
 use Rattle.sst_program.specs.Commands.{index_interval_of}
-use Rattle.sst_program.proofs.CommandWords.{map-one, interval-none, interval-one, interval-more}
+use Rattle.sst_program.proofs.WordTexts.CommandWords.{map-one, interval-none, interval-one, interval-more}
 use Rattle.sst_program.proofs.words.index_interval_in.Goals as goal
 
 pub returns-in-empty-clause-value : goal.returns-in-empty-clause-value

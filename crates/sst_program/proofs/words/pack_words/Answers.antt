@@ -1,7 +1,7 @@
 use Rattle.std.proofs.Common.{sym, ◌∙◌, ap, arith}
 use Rattle.std.specs.Option.{option_map}
 use Rattle.sst_program.specs.declared.words.Command.TheVariants.{Pack}
-use Rattle.sst_program.proofs.CommandWords.{pack-found, pack-other_count}
+use Rattle.sst_program.proofs.WordTexts.CommandWords.{pack-found, pack-other_count}
 use Rattle.sst_program.proofs.words.pack_words.Goals as goal
 
 pub returns-in_default : goal.returns-in_default

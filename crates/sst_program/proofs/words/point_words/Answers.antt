@@ -3,7 +3,7 @@ use Rattle.std.specs.Prelude.{map, None}
 use Rattle.std.specs.Option.{option_map}
 use Rattle.sst_program.specs.Commands.{point_of_words}
 use Rattle.sst_program.specs.declared.words.Command.TheVariants.{Point}
-use Rattle.sst_program.proofs.CommandWords.{point-found, point-too_few, point-too_many}
+use Rattle.sst_program.proofs.WordTexts.CommandWords.{point-found, point-too_few, point-too_many}
 use Rattle.sst_program.proofs.words.point_words.Goals as goal
 use Rattle.sst_program.proofs.words.point_words.Goals.{in_default-via-then-words-lt3, in_default-via-else-words-lt3+else-words-lt4}
 

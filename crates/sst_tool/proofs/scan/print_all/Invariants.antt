@@ -1,6 +1,6 @@
 use Rattle.std.proofs.Common.{◌≡◌, None}
 use Rattle.std.specs.Io.Buffered.{writer_contents}
-use Rattle.sst_tool.proofs.Printed.{HasPrinted}
+use Rattle.sst_tool.proofs.Printed.{HasPrintedFront}
 use Rattle.sst_tool.proofs.scan.print_all.Given as goal
 
 abbrev pub decreases-loop-entry : goal.decreases-loop-entry
@@ -9,5 +9,5 @@ decreases-loop-entry g l = (g.I.Source.left l.source).most
 abbrev pub invariant-loop-entry : goal.invariant-loop-entry
 invariant-loop-entry g l = record {
   form : l.lines.form ≡ l.initial.lines.form;
-  printed : l.initial.lines.form ≡ None → HasPrinted (g.I.Source.left l.initial.source).list (g.I.Source.left l.source).list (writer_contents g.O.Write.contents l.initial.lines.output) (writer_contents g.O.Write.contents l.lines.output);
+  printed : l.initial.lines.form ≡ None → HasPrintedFront (g.I.Source.left l.initial.source).list (g.I.Source.left l.source).list (writer_contents g.O.Write.contents l.initial.lines.output) (writer_contents g.O.Write.contents l.lines.output);
 }

@@ -75,13 +75,13 @@ pub(crate) struct Tally<H: BlockHash> {
 
 impl<H: BlockHash> Model for Tally<H> {
     ghost use Rattle.std.specs.Prelude.{◌≡◌, ◌<◌, length};
-    ghost use Rattle.sst_block_core.specs.Passes.{TallyState, joined_key, noted};
+    ghost use Rattle.sst_block_core.specs.Passes.{TallyState, joined_key, noted_late};
 
     ghost Value = { TallyState };
 
     ghost view = { λ t.
         record {
-          table = noted H.hash64 t.buckets t.waiting (joined_key t.joined);
+          table = noted_late H.hash64 t.buckets t.waiting (joined_key t.joined);
           heads = t.heads;
           has_memory = t.has_memory;
           prefix = t.prefix;

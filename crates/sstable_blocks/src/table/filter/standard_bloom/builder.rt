@@ -40,13 +40,13 @@ pub struct Builder {
 }
 
 impl Model for Builder {
-    ghost use Rattle.sstable_blocks.specs.Filter.{Filter, IsSized};
+    ghost use Rattle.sstable_blocks.specs.Filter.{Filter, HasProbes};
 
     ghost Value = { Filter };
 
     ghost view = { λ b. record { m = b.m; k = b.k; bits = b.inner } };
 
-    ghost invariant = { λ b. IsSized (record { m = b.m; k = b.k; bits = b.inner }) };
+    ghost invariant = { λ b. HasProbes (record { m = b.m; k = b.k; bits = b.inner }) };
 }
 
 impl Builder {

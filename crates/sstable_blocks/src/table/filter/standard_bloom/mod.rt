@@ -1,7 +1,7 @@
 //! Standard Bloom filters: two hashes make all probes of a key.
 ghost use Rattle.std.specs.Prelude.{◌≡◌, ◌↔◌, ◌+◌, ◌≤◌, length, drop, IsTrue, Ok};
 ghost use Rattle.byteorder.specs.Endian.{little_number};
-ghost use Rattle.sstable_blocks.specs.Filter.{filter_at, IsSized, MayContain};
+ghost use Rattle.sstable_blocks.specs.Filter.{filter_at, HasProbes, MayContain};
 ghost use Rattle.sstable_blocks.specs.RunReading.{filter_answer};
 
 pub mod builder;
@@ -42,7 +42,7 @@ pub(crate) struct FilterShape {
 // Whether the bit of each probe of a hash is set.
 #[inline(always)]
 fn has_probes(bits: &BitArrayReader<'_>, shape: &FilterShape, hash: u64) -> bool
-    requires { IsSized (record { m = shape.now.m; k = shape.now.k; bits = bits.now }) }
+    requires { HasProbes (record { m = shape.now.m; k = shape.now.k; bits = bits.now }) }
     ensures { IsTrue result
         ↔ MayContain (record { m = shape.now.m; k = shape.now.k; bits = bits.now }) hash }
 {
@@ -90,13 +90,13 @@ pub struct StandardBloomFilterReader<'a> {
 }
 
 impl<'a> Model for StandardBloomFilterReader<'a> {
-    ghost use Rattle.sstable_blocks.specs.Filter.{Filter, IsSized};
+    ghost use Rattle.sstable_blocks.specs.Filter.{Filter, HasProbes};
 
     ghost Value = { Filter };
 
     ghost view = { λ r. record { m = r.shape.m; k = r.shape.k; bits = r.inner } };
 
-    ghost invariant = { λ r. IsSized (record { m = r.shape.m; k = r.shape.k; bits = r.inner }) };
+    ghost invariant = { λ r. HasProbes (record { m = r.shape.m; k = r.shape.k; bits = r.inner }) };
 }
 
 // The number of eight bytes at an offset.

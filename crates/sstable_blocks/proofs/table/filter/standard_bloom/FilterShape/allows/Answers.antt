@@ -1,5 +1,5 @@
 use Rattle.std.proofs.Common.{◌∙◌, ◌↔◌, List, ℕ, Ok, IsTrue, sym, subst}
-use Rattle.sstable_blocks.specs.Filter.{IsSized, MayContain}
+use Rattle.sstable_blocks.specs.Filter.{HasProbes, MayContain}
 use Rattle.sstable_blocks.specs.FilterLaws.{filter_at_reads}
 use Rattle.sstable_blocks.proofs.Reading.CheckedReads.{asked}
 use Rattle.sstable_blocks.proofs.table.filter.standard_bloom.FilterShape.allows.Goals as goal
@@ -9,7 +9,7 @@ split_at-requires c = (filter_at_reads c.args.payload.now _ c.requires).1
 
 pub has_probes-requires : goal.has_probes-requires
 has_probes-requires c =
-    subst (λ (bits : List ℕ). IsSized (record { m = c.args.self.now.m; k = c.args.self.now.k; bits = bits })) (sym (c.new.ensures ∙ c.split_at.ensures.back)) (filter_at_reads c.args.payload.now _ c.requires).2
+    subst (λ (bits : List ℕ). HasProbes (record { m = c.args.self.now.m; k = c.args.self.now.k; bits = bits })) (sym (c.new.ensures ∙ c.split_at.ensures.back)) (filter_at_reads c.args.payload.now _ c.requires).2
 
 pub returns : goal.returns
 returns c =

@@ -1,5 +1,5 @@
 use Rattle.std.proofs.Common.{◌++◌, ◌∷◌, [], ◌≡◌, ◌∙◌, ◌%◌, ◌<◌, ℕ, List, arith, length, None, Some, refl, ap, sym, subst}
-use Rattle.sst_block_core.specs.Passes.{TallyState, HasTallied, joined_key, noted, with_bucket}
+use Rattle.sst_block_core.specs.Passes.{TallyState, HasTallied, joined_key, noted_late, with_bucket}
 use Rattle.sst_block_core.proofs.Check.BucketTallies.{tally_push}
 use Rattle.sst_block_core.proofs.table.block.check.tally.TallyKeySink.take.Goals as goal
 
@@ -12,8 +12,8 @@ returns-in-Some g c = λ r b items x pos taken is key.
     let prefix = c.prefix_at-prefix in
     let body = c.args.body.now in
     let waits : inside.waiting ≡ None = ap (λ (t : TallyState). t.waiting) (c.self.view_is ∙ c.note_waiting.ensures) in
-    let table = noted hash inside.buckets inside.waiting (joined_key inside.joined) in
-    let same : table ≡ inside.buckets = λ i. noted hash inside.buckets (waits i) (joined_key inside.joined) in
+    let table = noted_late hash inside.buckets inside.waiting (joined_key inside.joined) in
+    let same : table ≡ inside.buckets = λ i. noted_late hash inside.buckets (waits i) (joined_key inside.joined) in
     let old : TallyState =
     record { table = table; heads = inside.heads; has_memory = inside.has_memory; prefix = inside.prefix; joined = inside.joined; waiting = inside.waiting } in
     let new : TallyState =
@@ -44,8 +44,8 @@ returns-in-Some-join g c = λ r b items x pos taken is key.
     let joined = c.join.new.self in
     let body = c.args.body.now in
     let waits : inside.waiting ≡ None = ap (λ (t : TallyState). t.waiting) (c.self.view_is ∙ c.note_waiting.ensures) in
-    let table = noted hash inside.buckets inside.waiting (joined_key inside.joined) in
-    let same : table ≡ inside.buckets = λ i. noted hash inside.buckets (waits i) (joined_key inside.joined) in
+    let table = noted_late hash inside.buckets inside.waiting (joined_key inside.joined) in
+    let same : table ≡ inside.buckets = λ i. noted_late hash inside.buckets (waits i) (joined_key inside.joined) in
     let old : TallyState =
     record { table = table; heads = inside.heads; has_memory = inside.has_memory; prefix = inside.prefix; joined = inside.joined; waiting = inside.waiting } in
     let new : TallyState =

@@ -12,7 +12,7 @@ use Rattle.sst_block_core.specs.ParsedEntry.{entry_of, IsParsedEntry}
 use Rattle.sst_block_core.specs.declared.table.data_block.parsed_item.DataBlockParsedItem.{DataBlockParsedItem}
 use Rattle.sst_program.specs.Line.{entry_line_of, letter_of, byte_text_of}
 use Rattle.sst_program.specs.Outcome.{Puts, lines_text_of}
-use Rattle.sst_program.proofs.Outcomes.{none-from_test}
+use Rattle.sst_program.proofs.Results.Outcomes.{none-from_test}
 use Rattle.std.specs.Fmt.{decimal}
 
 pub puts_nothing : (a : Option (List ℕ)) (u : List ℕ) → Puts a u a u []

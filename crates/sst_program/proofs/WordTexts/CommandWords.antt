@@ -8,7 +8,7 @@ use Rattle.std.proofs.lemmas.Str.{IsUtf8-from_is_utf8, is_utf8-from_IsUtf8}
 use Rattle.sst_base.specs.declared.config.HashRatio.{HashRatio}
 use Rattle.sstable_blocks.specs.declared.run.RunConfig.{RunConfig}
 use Rattle.sst_program.specs.Text.{number_of, between_limits, number_within}
-use Rattle.sst_program.specs.Commands.{name_of, point_of_words, pack_of_words, get_of_words, file_of_words, command_named, command_of_words, index_interval_of, query_of, ratio_of, config_of, packing_of, lookup_of, file_of}
+use Rattle.sst_program.specs.Commands.{name_of, point_of_words, pack_of_words, get_of_words, file_of_words, command_named, command_of_words, index_interval_of, query_of, ratio_of, config_of, packing_of, find_of, file_of}
 
 pub within-kept : (least most n : ℕ) → least ≤ n → n ≤ most → between_limits least most n ≡ Some n
 within-kept least most n some small =
@@ -91,7 +91,7 @@ get-too_many f (w ∷ x ∷ []) h = absurd (omega arith)
 get-too_many f (w ∷ x ∷ y ∷ []) h = absurd (omega arith)
 get-too_many f (w ∷ x ∷ y ∷ z ∷ ws) h = refl
 
-pub get-words : (a b c : List ℕ) → get_of_words (a ∷ b ∷ c ∷ []) ≡ lookup_of a b c
+pub get-words : (a b c : List ℕ) → get_of_words (a ∷ b ∷ c ∷ []) ≡ find_of a b c
 unfolding get_of_words
 get-words a b c = refl
 
@@ -165,7 +165,7 @@ point-found f ws a b c x y z h l p q r e g k =
     ap point_of_words (map-three f ws a b c h l p q r) ∙ point-words (f a) (f b) (f c) ∙ rw (e, g, k) refl
 
 pub get-found : {A : Type 0} (f : A → List ℕ) (ws : List A) (a b c : A) (x y z : List ℕ) → 3 ≤ length ws → length ws < 4
-    → a ≡ get_or ws 0 a → b ≡ get_or ws 1 b → c ≡ get_or ws 2 c → x ≡ f a → y ≡ f b → z ≡ f c → get_of_words (map f ws) ≡ lookup_of x y z
+    → a ≡ get_or ws 0 a → b ≡ get_or ws 1 b → c ≡ get_or ws 2 c → x ≡ f a → y ≡ f b → z ≡ f c → get_of_words (map f ws) ≡ find_of x y z
 get-found f ws a b c x y z h l p q r e g k =
     ap get_of_words (map-three f ws a b c h l p q r) ∙ get-words (f a) (f b) (f c) ∙ rw (e, g, k) refl
 

@@ -15,8 +15,8 @@ use Rattle.sst_program.specs.declared.fault.Fault.TheVariants.{Entry as NoEntry}
 use Rattle.sst_program.specs.Line.{Lacks, entry_of_line}
 use Rattle.sst_program.specs.Lines.{lines_of, entries_from, entries_of_input}
 use Rattle.sst_program.specs.Outcome.{Gave, IsOutcomeOf, IsFaultOf}
-use Rattle.sst_program.proofs.Cuts.{lines-joined, lines-only}
-use Rattle.sst_program.proofs.EntryLines.{after, after-none, entries-step, entries-fault, entries-end}
+use Rattle.sst_program.proofs.EntryTexts.Cuts.{lines-joined, lines-only}
+use Rattle.sst_program.proofs.EntryTexts.EntryLines.{items_then, items_then-none, entries-step, entries-fault, entries-end}
 
 -- bytes with a line feed are those before the first one, and those after it
 abbrev HasFeed : List ℕ → Type 0
@@ -76,19 +76,19 @@ lines-piece (x ∷ xs) some = elim (through (x ∷ xs)) [
 
 -- The n entries so far are those of the lines that were read, of the known bytes if they are known, and of some bytes.
 pub record ReadTo (known left : Option (List ℕ)) (items : List Entry) (n : ℕ) : Type 0 where
-  pub of_known : IfSome known (λ xs. IsSomeAnd left (λ rest. after items (entries_from (n + 1) (lines_of rest)) ≡ entries_of_input xs))
+  pub of_known : IfSome known (λ xs. IsSomeAnd left (λ rest. items_then items (entries_from (n + 1) (lines_of rest)) ≡ entries_of_input xs))
   pub done : List ℕ
-  pub of_done : (behind : List ℕ) → entries_of_input (done ++ behind) ≡ after items (entries_from (n + 1) (lines_of behind))
+  pub of_done : (behind : List ℕ) → entries_of_input (done ++ behind) ≡ items_then items (entries_from (n + 1) (lines_of behind))
 
-start-known : (known left : Option (List ℕ)) → left ≡ known → IfSome known (λ xs. IsSomeAnd left (λ rest. after [] (entries_from 1 (lines_of rest)) ≡ entries_of_input xs))
+start-known : (known left : Option (List ℕ)) → left ≡ known → IfSome known (λ xs. IsSomeAnd left (λ rest. items_then [] (entries_from 1 (lines_of rest)) ≡ entries_of_input xs))
 start-known None left e = tt
-start-known (Some xs) left e = rw e (after-none (entries_of_input xs))
+start-known (Some xs) left e = rw e (items_then-none (entries_of_input xs))
 
 read-start : (known left : Option (List ℕ)) → left ≡ known → ReadTo known left [] 0
 read-start known left e = record {
   of_known = start-known known left e;
   done = [];
-  of_done = λ behind. sym (after-none (entries_of_input behind));
+  of_done = λ behind. sym (items_then-none (entries_of_input behind));
 }
 
 no-feed : (piece : List ℕ) → All (λ b. b ≢ 10) piece → Lacks 10 piece
@@ -99,8 +99,8 @@ abbrev pub IsFirstPiece : List ℕ → Option (List ℕ) → Type 0
 IsFirstPiece piece left = IfSome left (λ xs. (0 < length xs) × (piece ≡ first_piece 10 xs))
 
 next-known : (known left left' : Option (List ℕ)) (items : List Entry) (n : ℕ) (piece : List ℕ) (e : Entry) → entry_of_line piece ≡ Some e → IsFirstPiece piece left → DropsThrough left left' 10
-    → IfSome known (λ xs. IsSomeAnd left (λ rest. after items (entries_from (n + 1) (lines_of rest)) ≡ entries_of_input xs))
-    → IfSome known (λ xs. IsSomeAnd left' (λ rest. after (items ++ (e ∷ [])) (entries_from ((n + 1) + 1) (lines_of rest)) ≡ entries_of_input xs))
+    → IfSome known (λ xs. IsSomeAnd left (λ rest. items_then items (entries_from (n + 1) (lines_of rest)) ≡ entries_of_input xs))
+    → IfSome known (λ xs. IsSomeAnd left' (λ rest. items_then (items ++ (e ∷ [])) (entries_from ((n + 1) + 1) (lines_of rest)) ≡ entries_of_input xs))
 next-known None left left' items n piece e is first drops h = tt
 next-known (Some xs) None left' items n piece e is first drops h = absurd h
 next-known (Some xs) (Some rest) left' items n piece e is first drops h =
@@ -138,7 +138,7 @@ read-end None left items n r end =
     (r.done, tt, ap entries_of_input (sym (append-nil r.done)) ∙ r.of_done [] ∙ entries-end (n + 1) items)
 read-end (Some xs) None items n r end = absurd r.of_known
 read-end (Some xs) (Some rest) items n r end =
-    (xs, refl, sym r.of_known ∙ ap (λ t. after items (entries_from (n + 1) (lines_of t))) end ∙ entries-end (n + 1) items)
+    (xs, refl, sym r.of_known ∙ ap (λ t. items_then items (entries_from (n + 1) (lines_of t))) end ∙ entries-end (n + 1) items)
 
 prepend-nil : (known : Option (List ℕ)) → prepend_known [] known ≡ known
 prepend-nil None = refl

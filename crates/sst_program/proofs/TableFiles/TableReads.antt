@@ -21,12 +21,12 @@ use Rattle.sstable_blocks.specs.SourceLaws.{source_fails}
 use Rattle.sstable_blocks.specs.Sources.{FailsAs}
 use Rattle.sst_program.specs.Outcome.{lines_text_of}
 use Rattle.sst_program.specs.TableReads.{block_read, block_count, blocks_listed, before_refusal, first_refusal, entry_count, entries_counted, PrintsUntil, PrintsFirst, FailsAround, FailsAmong}
-use Rattle.sst_program.proofs.Outcomes.{lines-append}
-use Rattle.sst_program.proofs.Tables.{joined-next}
+use Rattle.sst_program.proofs.Results.Outcomes.{lines-append}
+use Rattle.sst_program.proofs.TableFiles.Tables.{joined-next}
 
 -- what is read of each of some blocks
-abbrev pub Reads : Type 0
-Reads = List (Result (List Entry) Error)
+abbrev pub BlockReads : Type 0
+BlockReads = List (Result (List Entry) Error)
 
 -- facts of known bytes give another
 pub known_both : (o o' : Option (List ℕ)) (P Q R : List ℕ → Type 0) → o' ≡ o → ((all : List ℕ) → P all → Q all → R all) → IfSome o P → IfSome o' Q → IfSome o R
@@ -57,67 +57,67 @@ pub read_over : (all : List ℕ) (s t : Scan Handle) → GivesNextHeld parsed_ha
 read_over all s t gives = ap (blocks_listed all) (next_none s.window t.window gives.step).0
 
 -- these blocks were read, and what is left decides the rest
-pub record IsReadTo (reads left : Reads) (done : List (List Entry)) : Type 0 where
+pub record AreReadTo (reads left : BlockReads) (done : List (List Entry)) : Type 0 where
   pub before : before_refusal reads ≡ done ++ before_refusal left
   pub refusal : first_refusal reads ≡ first_refusal left
 
-read_next : (reads left more : Reads) (done : List (List Entry)) (items : List Entry) → IsReadTo reads left done → left ≡ Ok items ∷ more → IsReadTo reads more (done ++ (items ∷ []))
+read_next : (reads left more : BlockReads) (done : List (List Entry)) (items : List Entry) → AreReadTo reads left done → left ≡ Ok items ∷ more → AreReadTo reads more (done ++ (items ∷ []))
 read_next reads left more done items r e = record {
-  before = r.before ∙ ap (λ (q : Reads). done ++ before_refusal q) e ∙ sym (append_assoc done (items ∷ []) (before_refusal more));
-  refusal = r.refusal ∙ ap (λ (q : Reads). first_refusal q) e;
+  before = r.before ∙ ap (λ (q : BlockReads). done ++ before_refusal q) e ∙ sym (append_assoc done (items ∷ []) (before_refusal more));
+  refusal = r.refusal ∙ ap (λ (q : BlockReads). first_refusal q) e;
 }
 
 -- where a refusal or nothing is left, what was read is all before it
-read_end : (reads left : Reads) (done : List (List Entry)) (refusal : Option Error) → IsReadTo reads left done → before_refusal left ≡ [] → first_refusal left ≡ refusal
+read_end : (reads left : BlockReads) (done : List (List Entry)) (refusal : Option Error) → AreReadTo reads left done → before_refusal left ≡ [] → first_refusal left ≡ refusal
     → (before_refusal reads ≡ done) × (first_refusal reads ≡ refusal)
 read_end reads left done refusal r none is = (r.before ∙ ap (λ q. done ++ q) none ∙ append-nil done, r.refusal ∙ is)
 
 -- the lines of the blocks that were read were printed
-pub record PrintsTo (old new : Option (List ℕ)) (reads left : Reads) : Type 0 where
+pub record PrintsTo (old new : Option (List ℕ)) (reads left : BlockReads) : Type 0 where
   pub done : List (List Entry)
-  pub read : IsReadTo reads left done
+  pub read : AreReadTo reads left done
   pub lines : Appends old new (lines_text_of (joined done))
 
-pub prints_start : (old : Option (List ℕ)) (reads left : Reads) → left ≡ reads → PrintsTo old old reads left
-prints_start old reads left e = record { done = []; read = record { before = ap (λ (q : Reads). before_refusal q) (sym e); refusal = ap (λ (q : Reads). first_refusal q) (sym e) }; lines = Appends-nil old }
+pub prints_start : (old : Option (List ℕ)) (reads left : BlockReads) → left ≡ reads → PrintsTo old old reads left
+prints_start old reads left e = record { done = []; read = record { before = ap (λ (q : BlockReads). before_refusal q) (sym e); refusal = ap (λ (q : BlockReads). first_refusal q) (sym e) }; lines = Appends-nil old }
 
-pub prints_next : (old now new : Option (List ℕ)) (reads left more : Reads) (items : List Entry) → PrintsTo old now reads left → left ≡ Ok items ∷ more → Appends now new (lines_text_of items) → PrintsTo old new reads more
+pub prints_next : (old now new : Option (List ℕ)) (reads left more : BlockReads) (items : List Entry) → PrintsTo old now reads left → left ≡ Ok items ∷ more → Appends now new (lines_text_of items) → PrintsTo old new reads more
 prints_next old now new reads left more items p e next = record {
   done = p.done ++ (items ∷ []);
   read = read_next reads left more p.done items p.read e;
   lines = subst (Appends old new) (lines-append (joined p.done) items ∙ ap lines_text_of (sym (joined-next p.done items))) (Appends-trans old now new (lines_text_of (joined p.done)) (lines_text_of items) p.lines next);
 }
 
-prints_until : (old now new : Option (List ℕ)) (reads left : Reads) (refusal : Option Error) → PrintsTo old now reads left → before_refusal left ≡ [] → first_refusal left ≡ refusal → Keeps now new → PrintsUntil old new reads refusal
+prints_until : (old now new : Option (List ℕ)) (reads left : BlockReads) (refusal : Option Error) → PrintsTo old now reads left → before_refusal left ≡ [] → first_refusal left ≡ refusal → Keeps now new → PrintsUntil old new reads refusal
 prints_until old now new reads left refusal p none is kept =
     let e = read_end reads left p.done refusal p.read none is in
     record { until = e.1; lines = subst (λ q. Appends old new (lines_text_of (joined q))) (sym e.0) (Appends-kept old now new (lines_text_of (joined p.done)) p.lines kept) }
 
 -- all lines were printed where nothing is left
-pub prints_all : (old now : Option (List ℕ)) (reads left : Reads) → PrintsTo old now reads left → left ≡ [] → Keeps now now → PrintsUntil old now reads None
-prints_all old now reads left p e kept = prints_until old now now reads left None p (ap (λ (q : Reads). before_refusal q) e) (ap (λ (q : Reads). first_refusal q) e) kept
+pub prints_all : (old now : Option (List ℕ)) (reads left : BlockReads) → PrintsTo old now reads left → left ≡ [] → Keeps now now → PrintsUntil old now reads None
+prints_all old now reads left p e kept = prints_until old now now reads left None p (ap (λ (q : BlockReads). before_refusal q) e) (ap (λ (q : BlockReads). first_refusal q) e) kept
 
 -- and those before a refusal where that is left
-pub prints_refused : (old now new : Option (List ℕ)) (reads left more : Reads) (error : Error) → PrintsTo old now reads left → left ≡ Err error ∷ more → Keeps now new → PrintsUntil old new reads (Some error)
+pub prints_refused : (old now new : Option (List ℕ)) (reads left more : BlockReads) (error : Error) → PrintsTo old now reads left → left ≡ Err error ∷ more → Keeps now new → PrintsUntil old new reads (Some error)
 prints_refused old now new reads left more error p e kept =
-    prints_until old now new reads left (Some error) p (ap (λ (q : Reads). before_refusal q) e) (ap (λ (q : Reads). first_refusal q) e) kept
+    prints_until old now new reads left (Some error) p (ap (λ (q : BlockReads). before_refusal q) e) (ap (λ (q : BlockReads). first_refusal q) e) kept
 
-pub prints_first : (old now new : Option (List ℕ)) (reads left : Reads) → PrintsTo old now reads left → Keeps now new → PrintsFirst old new reads
+pub prints_first : (old now new : Option (List ℕ)) (reads left : BlockReads) → PrintsTo old now reads left → Keeps now new → PrintsFirst old new reads
 prints_first old now new reads left p kept = record {
   count = length p.done;
   lines = subst (λ q. Appends old new (lines_text_of (joined q))) (sym (ap (take (length p.done)) p.read.before ∙ take-append_seam p.done (before_refusal left))) (Appends-kept old now new (lines_text_of (joined p.done)) p.lines kept);
 }
 
 -- the entries of the blocks that were read were counted
-pub record CountsTo (reads left : Reads) (count : ℕ) : Type 0 where
+pub record CountsTo (reads left : BlockReads) (count : ℕ) : Type 0 where
   pub done : List (List Entry)
-  pub read : IsReadTo reads left done
+  pub read : AreReadTo reads left done
   pub counted : count ≡ entry_count done
 
-pub counts_start : (reads left : Reads) → left ≡ reads → CountsTo reads left 0
-counts_start reads left e = record { done = []; read = record { before = ap (λ (q : Reads). before_refusal q) (sym e); refusal = ap (λ (q : Reads). first_refusal q) (sym e) }; counted = refl }
+pub counts_start : (reads left : BlockReads) → left ≡ reads → CountsTo reads left 0
+counts_start reads left e = record { done = []; read = record { before = ap (λ (q : BlockReads). before_refusal q) (sym e); refusal = ap (λ (q : BlockReads). first_refusal q) (sym e) }; counted = refl }
 
-pub counts_next : (reads left more : Reads) (items : List Entry) (count n : ℕ) → CountsTo reads left count → left ≡ Ok items ∷ more → n ≡ min (count + length items) (2 ^ 64 - 1) → CountsTo reads more n
+pub counts_next : (reads left more : BlockReads) (items : List Entry) (count n : ℕ) → CountsTo reads left count → left ≡ Ok items ∷ more → n ≡ min (count + length items) (2 ^ 64 - 1) → CountsTo reads more n
 counts_next reads left more items count n p e is = record {
   done = p.done ++ (items ∷ []);
   read = read_next reads left more p.done items p.read e;
@@ -128,18 +128,18 @@ counts_next reads left more items count n p e is = record {
 }
 
 -- all were counted where nothing is left
-pub counts_all : (all : List ℕ) (hs : List Handle) (left : Reads) (count : ℕ) → CountsTo (blocks_listed all hs) left count → left ≡ [] → entries_counted all hs ≡ Ok count
+pub counts_all : (all : List ℕ) (hs : List Handle) (left : BlockReads) (count : ℕ) → CountsTo (blocks_listed all hs) left count → left ≡ [] → entries_counted all hs ≡ Ok count
 unfolding entries_counted
 counts_all all hs left count p e =
-    let is = read_end (blocks_listed all hs) left p.done None p.read (ap (λ (q : Reads). before_refusal q) e) (ap (λ (q : Reads). first_refusal q) e) in
+    let is = read_end (blocks_listed all hs) left p.done None p.read (ap (λ (q : BlockReads). before_refusal q) e) (ap (λ (q : BlockReads). first_refusal q) e) in
     rw (is.1, is.0) (ap (λ n. Ok n) (sym p.counted))
 
 -- a refusal that is left is that of the count
-pub counts_refused : (all : List ℕ) (hs : List Handle) (left more : Reads) (count : ℕ) (error : Error) → CountsTo (blocks_listed all hs) left count → left ≡ Err error ∷ more
+pub counts_refused : (all : List ℕ) (hs : List Handle) (left more : BlockReads) (count : ℕ) (error : Error) → CountsTo (blocks_listed all hs) left count → left ≡ Err error ∷ more
     → entries_counted all hs ≡ Err error
 unfolding entries_counted
 counts_refused all hs left more count error p e =
-    let end = read_end (blocks_listed all hs) left p.done (Some error) p.read (ap (λ (q : Reads). before_refusal q) e) (ap (λ (q : Reads). first_refusal q) e) in
+    let end = read_end (blocks_listed all hs) left p.done (Some error) p.read (ap (λ (q : BlockReads). before_refusal q) e) (ap (λ (q : BlockReads). first_refusal q) e) in
     rw end.1 refl
 
 -- what was printed stays, unless printing failed

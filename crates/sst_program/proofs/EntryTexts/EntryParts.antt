@@ -6,7 +6,7 @@ use Rattle.sst_base.specs.declared.value_type.ValueType.{ValueType}
 use Rattle.sst_base.specs.Entry.{plain_value}
 use Rattle.sst_program.specs.Text.{number_of, hex_bytes}
 use Rattle.sst_program.specs.Line.{Lacks, type_of_letters, entry_within_limits, entry_of_parts, entry_of_line}
-use Rattle.sst_program.proofs.Cuts.{cut-joined, cut-none}
+use Rattle.sst_program.proofs.EntryTexts.Cuts.{cut-joined, cut-none}
 
 pub line-without_space : (line : List ℕ) → Lacks 32 line → entry_of_line line ≡ None
 unfolding entry_of_line

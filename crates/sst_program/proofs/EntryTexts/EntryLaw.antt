@@ -17,8 +17,8 @@ use Rattle.sst_base.specs.Reading.{◌>>=◌}
 use Rattle.sst_base.specs.Entry.{Entry, plain_value}
 use Rattle.sst_program.specs.Text.{IsNumberText, is_number_text, number_of, hex_bytes}
 use Rattle.sst_program.specs.Line.{letter_of, type_of_letter, type_of_letters, IsLineOf, Encodes, Lacks, cut_at, entry_within_limits, entry_of_parts, entry_of_line}
-use Rattle.sst_program.proofs.Numbers.{number_text-sound, number_of-some}
-use Rattle.sst_program.proofs.EntryParts.{line-with_parts, parts-all, limits-kept}
+use Rattle.sst_program.proofs.WordTexts.Numbers.{number_text-sound, number_of-some}
+use Rattle.sst_program.proofs.EntryTexts.EntryParts.{line-with_parts, parts-all, limits-kept}
 
 -- what a chain that ends well went through
 bind-some : {A B : Type 0} (o : Option A) (f : A → Option B) (y : B) → (o >>= f) ≡ Some y → (x : A) × (o ≡ Some x) × (f x ≡ Some y)

@@ -1,0 +1,209 @@
+/* Table files of the block layer for C++20: a header over sst.h, to link with libsst.
+
+       auto table = sst::table::check(file);              // std::span<const uint8_t>; throws sst::error
+       if (auto entry = table.get("ann")) use(entry->value);
+       for (auto at = table.lower_bound("a"); at != table.end() && at->compare("b") < 0; ++at) use(*at);
+
+   What is lent has to stay where it is as long as tables, iterators and entries over it are used. A table
+   may be read from any number of threads. What the calls behind this header do is proved; this header is
+   tested. */
+#pragma once
+#include "sst.h"
+
+#include <algorithm>
+#include <cstring>
+#include <iterator>
+#include <memory>
+#include <optional>
+#include <span>
+#include <stdexcept>
+#include <string>
+#include <string_view>
+#include <utility>
+#include <vector>
+
+namespace sst {
+
+/* Bytes that are lent, from a container of bytes or from text. */
+struct bytes : std::span<const uint8_t> {
+    using std::span<const uint8_t>::span;
+    bytes(std::span<const uint8_t> lent) : span(lent) {}
+    bytes(std::string_view text) : span(reinterpret_cast<const uint8_t *>(text.data()), text.size()) {}
+    bytes(const std::string &text) : bytes(std::string_view(text)) {}
+    bytes(const char *text) : bytes(std::string_view(text)) {}
+    std::string text() const { return {reinterpret_cast<const char *>(data()), size()}; }
+    /* The calls take no null pointer. */
+    const uint8_t *lent() const { return data() ? data() : reinterpret_cast<const uint8_t *>(""); }
+};
+
+/* What a call refused. */
+struct error : std::runtime_error {
+    explicit error(uint32_t status) : std::runtime_error(sst_error_name(status)), status(status) {}
+    uint32_t status; /* of enum sst_status */
+};
+
+/* An entry of a table, whose bytes are lent. Its key is the prefix and then the rest. */
+struct entry {
+    bytes prefix, rest, value;
+    uint64_t seqno;
+    sst_value_type type;
+
+    bool is_tombstone() const { return type == SST_TOMBSTONE || type == SST_WEAK_TOMBSTONE; }
+    std::string key() const { return prefix.text() + rest.text(); }
+    /* Below, at or above 0 where the key is below, equal to or above another, bytewise. */
+    int compare(bytes other) const {
+        size_t front = std::min(prefix.size(), other.size());
+        if (int order = front ? std::memcmp(prefix.data(), other.data(), front) : 0) return order;
+        if (front < prefix.size()) return 1;
+        size_t left = other.size() - front, back = std::min(rest.size(), left);
+        if (int order = back ? std::memcmp(rest.data(), other.data() + front, back) : 0) return order;
+        return rest.size() < left ? -1 : rest.size() > left;
+    }
+};
+
+/* A table file over bytes that are lent. */
+class table {
+  public:
+    /* Checks all bytes of a file. Throws error with what the check met first. */
+    static table check(bytes file) {
+        table found(file);
+        if (uint32_t status = sst_run_check(found.run_.data(), found.run_.size(), &found.handles_, &found.summary_))
+            throw error(status);
+        return found;
+    }
+
+    /* Takes a file that was checked before, or that the library wrote, and tests nothing but its length. Reads
+       of other bytes are undefined. Its summary has the number of blocks alone. */
+    static table trusted(bytes file) {
+        table found(file);
+        found.summary_ = {sst_run_block_count(found.run_.data(), found.run_.size(), &found.handles_), 0, 0, 0};
+        return found;
+    }
+
+    const sst_summary &summary() const { return summary_; }
+
+    /* The first entry of a key strictly below a sequence number, a tombstone too. */
+    std::optional<entry> get(bytes key, uint64_t below = UINT64_MAX) const {
+        sst_place at;
+        uint32_t status =
+            sst_run_get(run_.data(), run_.size(), &handles_, key.lent(), key.size(), below, &at);
+        return status == SST_OK ? std::optional(entry_at(at)) : std::nullopt;
+    }
+
+    /* An entry in the order of the table, forwards and backwards. It keeps the places of its block, which
+       copies of it share. */
+    class iterator {
+      public:
+        using iterator_category = std::bidirectional_iterator_tag;
+        using iterator_concept = std::bidirectional_iterator_tag;
+        using value_type = entry;
+        using difference_type = std::ptrdiff_t;
+        using reference = entry;
+        struct pointer {
+            entry held;
+            const entry *operator->() const { return &held; }
+        };
+
+        iterator() = default;
+        entry operator*() const { return table_->entry_at((*places_)[place_]); }
+        pointer operator->() const { return {**this}; }
+        iterator &operator++() {
+            if (++place_ == places_->size()) go_to(block_ + 1), place_ = 0;
+            return *this;
+        }
+        iterator &operator--() {
+            if (place_ == 0) go_to(block_ - 1), place_ = places_->size();
+            --place_;
+            return *this;
+        }
+        iterator operator++(int) { return std::exchange(*this, std::next(*this)); }
+        iterator operator--(int) { return std::exchange(*this, std::prev(*this)); }
+        bool operator==(const iterator &other) const { return block_ == other.block_ && place_ == other.place_; }
+
+      private:
+        friend table;
+        iterator(const table *over, size_t block) : table_(over) { go_to(block); }
+        void go_to(size_t block) {
+            block_ = block;
+            places_ = table_->places_of(block);
+        }
+        const table *table_ = nullptr;
+        std::shared_ptr<const std::vector<sst_place>> places_;
+        size_t block_ = 0, place_ = 0;
+    };
+
+    iterator begin() const { return {this, 0}; }
+    iterator end() const { return {this, summary_.blocks}; }
+    auto rbegin() const { return std::make_reverse_iterator(end()); }
+    auto rend() const { return std::make_reverse_iterator(begin()); }
+
+    /* The first entry whose key is not below this one. */
+    iterator lower_bound(bytes key) const {
+        iterator at(this, sst_run_seek(run_.data(), run_.size(), &handles_, key.lent(), key.size()));
+        if (at.places_)
+            at.place_ = std::partition_point(at.places_->begin(), at.places_->end(),
+                                             [&](const sst_place &p) { return entry_at(p).compare(key) < 0; }) -
+                        at.places_->begin();
+        return at;
+    }
+
+  private:
+    explicit table(bytes file) {
+        if (uint32_t status = sst_footer_read(file.lent(), file.size(), &handles_)) throw error(status);
+        run_ = bytes(file.first(file.size() - 24));
+    }
+    bytes part(size_t offset, size_t size) const { return bytes(run_.subspan(offset, size)); }
+    entry entry_at(const sst_place &at) const {
+        return {part(at.prefix_offset, at.prefix_len), part(at.key_offset, at.key_len),
+                part(at.value_offset, at.value_len), at.seqno, static_cast<sst_value_type>(at.value_type)};
+    }
+    std::shared_ptr<const std::vector<sst_place>> places_of(size_t block) const {
+        if (block >= summary_.blocks) return nullptr;
+        size_t count = 0;
+        sst_place none;
+        sst_run_block_entries(run_.data(), run_.size(), &handles_, block, &none, 0, &count);
+        auto places = std::make_shared<std::vector<sst_place>>(count);
+        sst_run_block_entries(run_.data(), run_.size(), &handles_, block, places->data(), count, &count);
+        return places;
+    }
+
+    bytes run_;
+    sst_run_handles handles_{};
+    sst_summary summary_{};
+};
+
+/* An entry to be written, whose bytes are lent. */
+inline sst_entry given(bytes key, uint64_t seqno, bytes value, sst_value_type type = SST_VALUE) {
+    return {key.lent(), key.size(), value.lent(), value.size(), seqno, static_cast<uint8_t>(type)};
+}
+
+/* Writes entries as a table file: at least one, by key rising and then by sequence number falling, in blocks
+   that end with the entry with which keys and values reach so many bytes. Throws error. */
+inline std::vector<uint8_t> write(std::span<const sst_entry> entries, size_t block_size = 4096,
+                                  const sst_run_config &config = {0, 1, 10, 16, 1}) {
+    std::vector<size_t> cuts;
+    size_t held = 0, all = 4096;
+    for (size_t i = 0; i < entries.size(); i++) {
+        if (i > 0 && held >= block_size) cuts.push_back(i), held = 0;
+        held += entries[i].key_len + entries[i].value_len;
+        all += entries[i].key_len + entries[i].value_len + 64;
+    }
+    std::vector<uint8_t> out(all);
+    sst_run_handles handles;
+    size_t len = 0, no_cut = 0;
+    auto try_write = [&] {
+        sst_entry none{};
+        return sst_run_write(entries.empty() ? &none : entries.data(), entries.size(),
+                             cuts.empty() ? &no_cut : cuts.data(), cuts.size(), &config, out.data(), out.size(), &len,
+                             &handles);
+    };
+    uint32_t status = try_write();
+    if (status == SST_NO_ROOM) out.resize(len), status = try_write();
+    if (status) throw error(status);
+    out.resize(len + 24);
+    size_t footer = 0;
+    sst_footer_write(&handles, out.data() + len, 24, &footer);
+    return out;
+}
+
+} // namespace sst

@@ -1,0 +1,92 @@
+/* Tests of sst.hpp against a sorted list. Prints what it counts; ends with 1 where something is otherwise. */
+#include "sst.hpp"
+
+#include <cstdio>
+#include <random>
+#include <tuple>
+
+namespace {
+struct row {
+    std::string key;
+    uint64_t seqno;
+    sst_value_type type;
+    std::string value;
+};
+size_t failed = 0;
+
+void demand(bool holds, const char *what) {
+    if (!holds) failed++, std::printf("not so: %s\n", what);
+}
+
+bool is(const sst::entry &entry, const row &row) {
+    return entry.key() == row.key && entry.seqno == row.seqno && entry.type == row.type &&
+           entry.value.text() == row.value && entry.compare(row.key) == 0;
+}
+
+std::vector<row> rows_of(unsigned seed, size_t count) {
+    std::mt19937 random(seed);
+    std::vector<row> rows;
+    for (size_t i = 0; i < count; i++) {
+        std::string key = std::string(random() % 2 ? "common/" : "a") + std::to_string(random() % 200);
+        bool dead = random() % 5 == 0;
+        rows.push_back({key, random() % 50, dead ? SST_TOMBSTONE : SST_VALUE, dead ? "" : std::string(random() % 40, 'v')});
+    }
+    auto order = [](const row &a, const row &b) { return std::tie(a.key, b.seqno) < std::tie(b.key, a.seqno); };
+    std::stable_sort(rows.begin(), rows.end(), order);
+    return rows;
+}
+
+std::vector<uint8_t> file_of(const std::vector<row> &rows, size_t block_size, const sst_run_config &config) {
+    std::vector<sst_entry> entries;
+    for (const row &row : rows) entries.push_back(sst::given(row.key, row.seqno, row.value, row.type));
+    return sst::write(entries, block_size, config);
+}
+
+void check_table(const sst::table &table, const std::vector<row> &rows) {
+    demand(std::ranges::equal(table, rows, is), "a walk gives all entries");
+    demand(std::equal(table.rbegin(), table.rend(), rows.rbegin(), rows.rend(), is), "a walk back gives all entries");
+    for (size_t i = 0; i < rows.size(); i += 5) {
+        auto first = std::ranges::find_if(rows, [&](const row &r) { return r.key >= rows[i].key; });
+        demand(std::equal(table.lower_bound(rows[i].key), table.end(), first, rows.end(), is), "entries from a key on");
+        auto newest = std::ranges::find_if(rows, [&](const row &r) { return r.key == rows[i].key && r.seqno < 25; });
+        auto found = table.get(rows[i].key, 25);
+        demand(newest == rows.end() ? !found : found && is(*found, *newest), "the newest version below a number");
+    }
+    demand(table.lower_bound("zz") == table.end() && !table.get("zz"), "nothing above the last key");
+    demand(std::equal(table.lower_bound(""), table.end(), rows.begin(), rows.end(), is), "all from the empty key on");
+}
+} // namespace
+
+int main() {
+    static_assert(std::bidirectional_iterator<sst::table::iterator>);
+    size_t tables = 0;
+    for (unsigned seed = 0; seed < 40; seed++) {
+        auto rows = rows_of(seed, 1 + seed * 10);
+        sst_run_config config{seed % 3, 2, seed % 2 * 10, static_cast<uint8_t>(1 + seed % 17), static_cast<uint8_t>(1 + seed % 3)};
+        auto file = file_of(rows, seed % 3 ? 100 : 1, config);
+        auto table = sst::table::check(sst::bytes(std::span<const uint8_t>(file)));
+        demand(table.summary().entries == rows.size(), "the count of entries");
+        check_table(table, rows);
+        check_table(sst::table::trusted(sst::bytes(std::span<const uint8_t>(file))), rows);
+        for (size_t at : {size_t(0), file.size() / 2, file.size() - 25}) {
+            file[at] ^= 1;
+            try {
+                sst::table::check(sst::bytes(std::span<const uint8_t>(file)));
+                demand(false, "a changed byte is refused");
+            } catch (const sst::error &) {
+            }
+            file[at] ^= 1;
+        }
+        tables += 2;
+    }
+    for (auto bad : {std::vector<row>{}, {{"b", 1, SST_VALUE, ""}, {"a", 1, SST_VALUE, ""}}, {{"", 1, SST_VALUE, ""}}}) {
+        try {
+            file_of(bad, 1, {0, 1, 0, 1, 1});
+            demand(false, "such entries are refused");
+        } catch (const sst::error &met) {
+            demand(met.status == SST_BAD_ARGUMENT, "they are a bad argument");
+        }
+    }
+    std::printf("%zu tables, %zu not so\n", tables, failed);
+    return failed > 0;
+}

@@ -1,0 +1,246 @@
+"""Table files of the block layer, read, checked and written from Python, by ctypes over libsst.so.
+
+    import sst
+    with sst.Table.open("users.sst") as table:      # checks the whole file
+        print(table.get(b"ann"))                    # the newest version, or None
+        for entry in table.scan(b"a", b"b"):        # the entries of the keys from a up to b, in order
+            print(entry.key, entry.seqno, entry.value)
+
+The library is the file that the variable SST_LIBRARY names, or libsst.so beside this file, or what the
+system finds as `sst` (tools/c-library PREFIX puts both into PREFIX/lib). What the calls behind this module do is proved; this
+module is tested. A table may be read from any number of threads.
+"""
+import ctypes
+import ctypes.util
+import enum
+import mmap
+import os
+import typing
+
+MAX_SEQNO = 2**64 - 1
+VERSION = 2
+
+
+class ValueType(enum.IntEnum):
+    """The type of an entry. Tombstones have no value."""
+    VALUE = 0
+    TOMBSTONE = 1
+    WEAK_TOMBSTONE = 2
+    INDIRECTION = 4
+
+
+class Entry(typing.NamedTuple):
+    """A version of a key."""
+    key: bytes
+    seqno: int
+    value: bytes = b""
+    type: ValueType = ValueType.VALUE
+
+
+class Summary(typing.NamedTuple):
+    """What a check of a table counts."""
+    blocks: int
+    entries: int
+    least_seqno: int
+    greatest_seqno: int
+
+
+class Error(Exception):
+    """A refusal of the library: the status that a call returned, and its name in sst.h."""
+    NAMES = ("OK", "IO", "INVALID_HEADER", "INVALID_TAG", "CHECKSUM_MISMATCH", "LENGTH_MISMATCH", "TOO_LONG",
+             "TRUNCATED", "BAD_TRAILER", "BAD_ENTRY", "OUT_OF_ORDER", "BAD_INDEX", "BAD_HASH_INDEX", "BAD_FILTER",
+             "BAD_HANDLE", "MEMORY", "NOT_FOUND", "BAD_ARGUMENT", "NO_ROOM")
+
+    def __init__(self, status):
+        super().__init__(f"SST_{self.NAMES[status]}")
+        self.status = status
+
+
+_NOT_FOUND, _NO_ROOM = 16, 18
+_FOOTER = 24
+
+
+class _Entry(ctypes.Structure):
+    _fields_ = [("key", ctypes.c_char_p), ("key_len", ctypes.c_size_t), ("value", ctypes.c_char_p),
+                ("value_len", ctypes.c_size_t), ("seqno", ctypes.c_uint64), ("value_type", ctypes.c_uint8)]
+
+
+class _Place(ctypes.Structure):
+    _fields_ = [("seqno", ctypes.c_uint64)] + [
+        (f"{part}_{what}", ctypes.c_size_t) for part in ("prefix", "key", "value") for what in ("offset", "len")
+    ] + [("value_type", ctypes.c_uint8)]
+
+
+class _Config(ctypes.Structure):
+    _fields_ = [("num", ctypes.c_uint32), ("den", ctypes.c_uint32), ("bits_per_key", ctypes.c_uint32),
+                ("restart_interval", ctypes.c_uint8), ("index_interval", ctypes.c_uint8)]
+
+
+class _Handles(ctypes.Structure):
+    _fields_ = [("index_offset", ctypes.c_uint64), ("filter_offset", ctypes.c_uint64),
+                ("index_size", ctypes.c_uint32), ("filter_size", ctypes.c_uint32)]
+
+
+class _Summary(ctypes.Structure):
+    _fields_ = [("blocks", ctypes.c_size_t), ("entries", ctypes.c_uint64), ("least_seqno", ctypes.c_uint64),
+                ("greatest_seqno", ctypes.c_uint64)]
+
+
+def _load():
+    beside = os.path.join(os.path.dirname(os.path.abspath(__file__)), "libsst.so")
+    name = os.environ.get("SST_LIBRARY") or (
+        beside if os.path.exists(beside) else ctypes.util.find_library("sst"))
+    if not name:
+        raise ImportError("libsst.so is not found: set SST_LIBRARY to its path")
+    lib = ctypes.CDLL(name)
+    size, count, address = ctypes.c_size_t, ctypes.POINTER(ctypes.c_size_t), ctypes.c_void_p
+    handles, place = ctypes.POINTER(_Handles), ctypes.POINTER(_Place)
+    for call, result, words in (
+            ("sst_version", ctypes.c_uint32, []),
+            ("sst_footer_read", ctypes.c_uint32, [address, size, handles]),
+            ("sst_footer_write", ctypes.c_uint32, [handles, address, size, count]),
+            ("sst_run_check", ctypes.c_uint32, [address, size, handles, ctypes.POINTER(_Summary)]),
+            ("sst_run_get", ctypes.c_uint32, [address, size, handles, ctypes.c_char_p, size, ctypes.c_uint64, place]),
+            ("sst_run_block_count", size, [address, size, handles]),
+            ("sst_run_seek", size, [address, size, handles, ctypes.c_char_p, size]),
+            ("sst_run_block_entries", ctypes.c_uint32, [address, size, handles, size, place, size, count]),
+            ("sst_run_write", ctypes.c_uint32,
+             [ctypes.POINTER(_Entry), size, count, size, ctypes.POINTER(_Config), address, size, count, handles])):
+        function = getattr(lib, call)
+        function.restype, function.argtypes = result, words
+    if lib.sst_version() != VERSION:
+        raise ImportError(f"{name} has calls of version {lib.sst_version()}, not {VERSION}")
+    return lib
+
+
+_LIB = _load()
+
+
+def _demand(status):
+    if status:
+        raise Error(status)
+
+
+class Table:
+    """A table file in memory. To make one checks all its bytes, so reads need no checks."""
+
+    def __init__(self, data):
+        """Checks the bytes of a table file. Raises Error with what the check met first."""
+        self._data = data
+        self._held = None if isinstance(data, bytes) else (ctypes.c_char * len(data)).from_buffer(data)
+        self._at = (ctypes.cast(ctypes.c_char_p(data), ctypes.c_void_p).value if self._held is None
+                    else ctypes.addressof(self._held))
+        self._handles = _Handles()
+        _demand(_LIB.sst_footer_read(self._at, len(data), ctypes.byref(self._handles)))
+        self._run = (self._at, len(data) - _FOOTER, ctypes.byref(self._handles))
+        found = _Summary()
+        _demand(_LIB.sst_run_check(*self._run, ctypes.byref(found)))
+        self.summary = Summary(found.blocks, found.entries, found.least_seqno, found.greatest_seqno)
+
+    @classmethod
+    def open(cls, path):
+        """Maps a table file into memory and checks it. Raises OSError or Error."""
+        with open(path, "rb") as file:
+            if os.fstat(file.fileno()).st_size == 0:
+                return cls(b"")
+            return cls(mmap.mmap(file.fileno(), 0, access=mmap.ACCESS_COPY))
+
+    def close(self):
+        """Gives a mapped file back. The table must not be used afterwards."""
+        self._run = self._at = self._held = None
+        if isinstance(self._data, mmap.mmap):
+            self._data.close()
+
+    def __enter__(self):
+        return self
+
+    def __exit__(self, *_):
+        self.close()
+
+    def __len__(self):
+        return self.summary.entries
+
+    def _part(self, offset, length):
+        return bytes(self._data[offset:offset + length])
+
+    def _entry(self, at):
+        key = self._part(at.prefix_offset, at.prefix_len) + self._part(at.key_offset, at.key_len)
+        return Entry(key, at.seqno, self._part(at.value_offset, at.value_len), ValueType(at.value_type))
+
+    def get(self, key, below=MAX_SEQNO):
+        """The first entry of a key strictly below a sequence number, a tombstone too, or None."""
+        at = _Place()
+        status = _LIB.sst_run_get(*self._run, key, len(key), below, ctypes.byref(at))
+        if status == _NOT_FOUND:
+            return None
+        _demand(status)
+        return self._entry(at)
+
+    def block(self, index):
+        """The entries of the block at an index from 0, in order."""
+        if not 0 <= index < self.summary.blocks:
+            raise IndexError(index)
+        count = ctypes.c_size_t()
+        places = (_Place * 0)()
+        while (status := _LIB.sst_run_block_entries(*self._run, index, places, len(places),
+                                                    ctypes.byref(count))) == _NO_ROOM:
+            places = (_Place * count.value)()
+        _demand(status)
+        return [self._entry(at) for at in places]
+
+    def scan(self, start=b"", end=None, reverse=False):
+        """The entries of the keys from `start` on, up to and without `end` (None: to the last): by key
+        rising and then by sequence number falling, all versions, tombstones too; or backwards."""
+        first = _LIB.sst_run_seek(*self._run, start, len(start))
+        last = self.summary.blocks
+        if end is not None:
+            last = min(last, _LIB.sst_run_seek(*self._run, end, len(end)) + 1)
+        blocks = range(first, last)
+        for index in reversed(blocks) if reverse else blocks:
+            entries = self.block(index)
+            for entry in reversed(entries) if reverse else entries:
+                if start <= entry.key and (end is None or entry.key < end):
+                    yield entry
+
+    def __iter__(self):
+        return self.scan()
+
+    def __reversed__(self):
+        return self.scan(reverse=True)
+
+
+def _cuts(entries, block_size):
+    """The indexes of the entries that begin a block but the first: a block ends with the entry with which
+    its keys and values have this many bytes."""
+    cuts, held = [], 0
+    for index, entry in enumerate(entries):
+        if held >= block_size:
+            cuts.append(index)
+            held = 0
+        held += len(entry.key) + len(entry.value)
+    return cuts
+
+
+def write(entries, block_size=4096, restart_interval=16, index_interval=1, bits_per_key=10, hash_ratio=(0, 1)):
+    """The bytes of the table file of entries: at least one, by key rising and then by sequence number
+    falling. `bits_per_key` 0: no filter; `hash_ratio` (3, 4): three buckets of a block's hash index for
+    four entries. Raises Error with BAD_ARGUMENT where the entries can't be written so."""
+    entries = list(entries)
+    given = (_Entry * len(entries))(*[
+        _Entry(e.key, len(e.key), e.value, len(e.value), e.seqno, e.type) for e in entries])
+    cuts = _cuts(entries, block_size)
+    given_cuts = (ctypes.c_size_t * len(cuts))(*cuts)
+    config = _Config(*hash_ratio, bits_per_key, restart_interval, index_interval)
+    handles, need = _Handles(), ctypes.c_size_t()
+    # What most tables need; a longer one says how much.
+    out = bytearray(sum(len(e.key) + len(e.value) + 64 for e in entries) + 4096)
+    while (status := _LIB.sst_run_write(
+            given, len(entries), given_cuts, len(cuts), ctypes.byref(config),
+            (ctypes.c_char * len(out)).from_buffer(out), len(out), ctypes.byref(need),
+            ctypes.byref(handles))) == _NO_ROOM:
+        out = bytearray(need.value)
+    _demand(status)
+    run = bytes(out[:need.value])
+    footer = ctypes.create_string_buffer(_FOOTER)
+    _demand(_LIB.sst_footer_write(ctypes.byref(handles), footer, _FOOTER, ctypes.byref(need)))
+    return run + footer.raw

@@ -1,0 +1,84 @@
+"""Tests of sst.py: SST_LIBRARY=PREFIX/lib/libsst.so python3 -m unittest bindings/python/test_sst.py"""
+import os
+import random
+import sys
+import tempfile
+import unittest
+
+sys.path.insert(0, os.path.dirname(os.path.abspath(__file__)))
+import sst  # noqa: E402
+from sst import Entry, ValueType  # noqa: E402
+
+FEW = [Entry(b"ab", 2, b"x"), Entry(b"ab", 1, b"", ValueType.TOMBSTONE), Entry(b"ac", 300, b"y")]
+
+
+def random_entries(seed, count):
+    """Versions of keys that share prefixes, in order."""
+    rand = random.Random(seed)
+    keys = [b"%s%03d" % (rand.choice([b"", b"a", b"common/"]), rand.randrange(300)) for _ in range(count)]
+    numbers = [rand.choice([0, 1, 7, 2**63, sst.MAX_SEQNO]) if rand.random() < 0.2 else rand.randrange(1000) for _ in keys]
+    rows = sorted(set(zip(keys, numbers)), key=lambda row: (row[0], -row[1]))
+    return [Entry(key, number, b"", ValueType.TOMBSTONE) if rand.random() < 0.2
+            else Entry(key, number, rand.randbytes(rand.choice([0, 5, 60]))) for key, number in rows]
+
+
+class Tables(unittest.TestCase):
+    def test_few(self):
+        table = sst.Table(sst.write(FEW, block_size=1))
+        self.assertEqual(table.summary, (3, 3, 1, 300))
+        self.assertEqual(list(table), FEW)
+        self.assertEqual(table.get(b"ab"), FEW[0])
+        self.assertEqual(table.get(b"ab", below=2), FEW[1])
+        self.assertIsNone(table.get(b"ab", below=1))
+        self.assertIsNone(table.get(b"aa"))
+        self.assertEqual(list(table.scan(b"ab\0")), FEW[2:])
+        self.assertEqual(list(table.scan(b"ab", b"ac", reverse=True)), [FEW[1], FEW[0]])
+
+    def test_random(self):
+        for seed in range(40):
+            entries = random_entries(seed, 1 + seed * 10)
+            table = sst.Table(sst.write(entries, block_size=[1, 100, 4096][seed % 3], restart_interval=1 + seed % 17,
+                                        index_interval=1 + seed % 3, bits_per_key=seed % 2 * 10,
+                                        hash_ratio=(seed % 3, 2)))
+            self.assertEqual(list(table), entries)
+            self.assertEqual(list(reversed(table)), entries[::-1])
+            self.assertEqual(len(table), len(entries))
+            for index in range(0, len(entries), 7):
+                low, high = entries[index].key, entries[(index * 5 + 3) % len(entries)].key
+                within = [e for e in entries if low <= e.key < high]
+                self.assertEqual(list(table.scan(low, high)), within)
+                self.assertEqual(list(table.scan(low, high, reverse=True)), within[::-1])
+                newest = next((e for e in entries if e.key == low and e.seqno < 500), None)
+                self.assertEqual(table.get(low, below=500), newest)
+
+    def test_refused(self):
+        whole = sst.write(FEW)
+        for data, name in ((b"", "SST_TRUNCATED"), (whole[:20], "SST_TRUNCATED"),
+                           (bytes([whole[0] ^ 1]) + whole[1:], "SST_INVALID_HEADER"),
+                           (whole[:33] + bytes([whole[33] ^ 1]) + whole[34:], "SST_CHECKSUM_MISMATCH")):
+            with self.assertRaises(sst.Error) as met:
+                sst.Table(data)
+            self.assertEqual(str(met.exception), name)
+        for entries in ([], FEW[::-1], [Entry(b"", 1)]):
+            with self.assertRaises(sst.Error) as met:
+                sst.write(entries)
+            self.assertEqual(str(met.exception), "SST_BAD_ARGUMENT")
+        with self.assertRaises(IndexError):
+            sst.Table(whole).block(1)
+
+    def test_file(self):
+        with tempfile.TemporaryDirectory() as room:
+            path = os.path.join(room, "few.sst")
+            with open(path, "wb") as file:
+                file.write(sst.write(FEW))
+            with sst.Table.open(path) as table:
+                self.assertEqual(list(table), FEW)
+            open(path, "wb").close()
+            with self.assertRaises(sst.Error):
+                sst.Table.open(path)
+            with self.assertRaises(OSError):
+                sst.Table.open(os.path.join(room, "none"))
+
+
+if __name__ == "__main__":
+    unittest.main()

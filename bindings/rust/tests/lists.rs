@@ -1,0 +1,193 @@
+//! Blocks and tables of random lists, beside the lists.
+use sst::{Block, BlockHandle, BlockType, Config, DataBlock, Entry, Error, IndexBlock, KeyedBlockHandle};
+use sst::{StandardBloomFilterReader, Table, ValueType, Writer, build_filter, write_table};
+use std::ops::Bound;
+
+/// A row of a list.
+type Row = (Vec<u8>, u64, ValueType, Vec<u8>);
+
+/// Numbers by SplitMix64.
+struct Random(u64);
+
+impl Random {
+    fn below(&mut self, end: u64) -> u64 {
+        self.0 = self.0.wrapping_add(0x9e3779b97f4a7c15);
+        let mut x = self.0;
+        x = (x ^ (x >> 30)).wrapping_mul(0xbf58476d1ce4e5b9);
+        x = (x ^ (x >> 27)).wrapping_mul(0x94d049bb133111eb);
+        (x ^ (x >> 31)) % end
+    }
+}
+
+fn rows(seed: u64, count: usize) -> Vec<Row> {
+    let mut random = Random(seed);
+    let mut rows: Vec<Row> = (0..count)
+        .map(|_| {
+            let front = [&b"a"[..], b"common/", b"common/more/"][random.below(3) as usize];
+            let key = [front, random.below(150).to_string().as_bytes()].concat();
+            let seqno = if random.below(9) == 0 { u64::MAX } else { random.below(50) };
+            match random.below(5) {
+                0 => (key, seqno, ValueType::Tombstone, vec![]),
+                1 => (key, seqno, ValueType::WeakTombstone, vec![]),
+                _ => (key, seqno, ValueType::Value, vec![b'v'; random.below(40) as usize]),
+            }
+        })
+        .collect();
+    rows.sort_by(|a, b| a.0.cmp(&b.0).then(b.1.cmp(&a.1)));
+    rows
+}
+
+fn entries(rows: &[Row]) -> Vec<Entry<'_>> {
+    rows.iter().map(|(key, seqno, value_type, value)| Entry::new(key, *seqno, *value_type, value)).collect()
+}
+
+#[test]
+fn blocks_are_windows_over_their_lists() {
+    for seed in 0..60 {
+        let rows = rows(seed, 1 + seed as usize * 3);
+        let list = entries(&rows);
+        let payload = DataBlock::encode(&list, 1 + seed as u8 % 17, (seed as u32 % 3, 2)).unwrap();
+        let block = DataBlock::check(&payload).unwrap();
+        assert_eq!(block.len(), list.len());
+        assert!(block.iter().eq(list.iter().copied()));
+        assert!(block.iter().rev().eq(list.iter().rev().copied()));
+        for (key, seqno, ..) in &rows {
+            let first = list.iter().find(|e| e.key() == key.as_slice() && e.seqno < *seqno);
+            assert_eq!(block.point_read(key, *seqno), first.copied());
+            let mut iter = block.iter();
+            assert!(iter.seek(key) && iter.seek_upper(key));
+            assert!(iter.eq(list.iter().copied().filter(|e| e.key() == key.as_slice())));
+            let mut iter = block.iter();
+            iter.seek_exclusive(key);
+            assert!(iter.eq(list.iter().copied().filter(|e| e.cmp_key(key).is_gt())));
+            let mut iter = block.iter();
+            iter.seek_upper_exclusive(key);
+            assert!(iter.rev().eq(list.iter().rev().copied().filter(|e| e.cmp_key(key).is_lt())));
+        }
+    }
+}
+
+fn written_in_pieces(list: &[Entry<'_>], config: Config) -> Vec<u8> {
+    let (mut writer, mut file) = (Writer::new(config), vec![]);
+    for (i, entry) in list.iter().enumerate() {
+        writer.add(entry).unwrap();
+        if i % 7 == 0 {
+            file.extend(writer.take());
+        }
+    }
+    file.extend(writer.finish().unwrap());
+    file
+}
+
+#[test]
+fn tables_are_their_lists() {
+    for seed in 0..40 {
+        let rows = rows(seed, 1 + seed as usize * 12);
+        let list = entries(&rows);
+        let config = Config {
+            block_size: [1, 100, 4096][seed as usize % 3],
+            restart_interval: 1 + seed as u8 % 17,
+            index_interval: 1 + seed as u8 % 3,
+            hash_ratio: (seed as u32 % 3, 2),
+            bits_per_key: seed as u32 % 2 * 10,
+        };
+        let file = write_table(&list, &config).unwrap();
+        assert!(written_in_pieces(&list, config) == file);
+        let table = Table::check(&file).unwrap();
+        assert_eq!(table.verify().unwrap().entries, list.len() as u64);
+        assert!(unsafe { Table::trusted(&file) }.unwrap().iter().eq(list.iter().copied()));
+        assert!(table.iter().rev().eq(list.iter().rev().copied()));
+        for (i, low) in rows.iter().enumerate().step_by(5) {
+            let high = &rows[(i * 7 + 3) % rows.len()].0;
+            let first = list.iter().find(|e| e.key() == low.0.as_slice() && e.seqno < 25);
+            assert_eq!(table.get(&low.0, 25), first.copied());
+            for from in [Bound::Included(&low.0), Bound::Excluded(&low.0), Bound::Unbounded] {
+                for to in [Bound::Included(high), Bound::Excluded(high), Bound::Unbounded] {
+                    let within = list.iter().copied().filter(|e| {
+                        (match from {
+                            Bound::Included(key) => e.cmp_key(key).is_ge(),
+                            Bound::Excluded(key) => e.cmp_key(key).is_gt(),
+                            Bound::Unbounded => true,
+                        }) && match to {
+                            Bound::Included(key) => e.cmp_key(key).is_le(),
+                            Bound::Excluded(key) => e.cmp_key(key).is_lt(),
+                            Bound::Unbounded => true,
+                        }
+                    });
+                    let within: Vec<_> = within.collect();
+                    assert_eq!(table.range::<Vec<u8>, _>((from, to)).collect::<Vec<_>>(), within);
+                    // From both ends in turn.
+                    let (mut scan, mut fronts, mut backs) = (table.range::<Vec<u8>, _>((from, to)), vec![], vec![]);
+                    while let Some(entry) = scan.next() {
+                        fronts.push(entry);
+                        backs.extend(scan.next_back());
+                    }
+                    fronts.extend(backs.into_iter().rev());
+                    assert_eq!(fronts, within);
+                }
+            }
+        }
+    }
+}
+
+#[test]
+fn changed_bytes_are_refused() {
+    let rows = rows(7, 100);
+    let file = write_table(&entries(&rows), &Config::default()).unwrap();
+    for at in 0..file.len() - 24 {
+        let mut changed = file.clone();
+        changed[at] ^= 1;
+        assert!(Table::check(&changed).is_err(), "byte {at}");
+    }
+    for len in 0..file.len() {
+        assert!(Table::check(&file[..len]).is_err(), "{len} bytes");
+    }
+    assert_eq!(Table::check(b"").err(), Some(Error::Truncated));
+    assert_eq!(write_table(&[], &Config::default()), Err(Error::BadArgument));
+    assert_eq!(DataBlock::encode(&[], 1, (0, 1)), Err(Error::BadArgument));
+    assert_eq!(Writer::new(Config::default()).finish(), Err(Error::BadArgument));
+    let mut writer = Writer::new(Config { block_size: 1, ..Config::default() });
+    assert_eq!(writer.add(&Entry::new(b"", 1, ValueType::Value, b"")), Err(Error::BadArgument));
+    writer.add(&Entry::new(b"b", 5, ValueType::Value, b"")).unwrap();
+    assert_eq!(writer.add(&Entry::new(b"a", 9, ValueType::Value, b"")), Err(Error::OutOfOrder));
+    assert_eq!(writer.add(&Entry::new(b"b", 6, ValueType::Value, b"")), Err(Error::OutOfOrder));
+    writer.add(&Entry::new(b"b", 5, ValueType::Value, b"")).unwrap();
+    assert_eq!(Table::check(&writer.finish().unwrap()).unwrap().iter().count(), 2);
+}
+
+#[test]
+fn filters_hide_no_key() {
+    let keys: Vec<_> = (0..1000u32).map(u32::to_le_bytes).collect();
+    let lent: Vec<&[u8]> = keys.iter().map(|key| &key[..]).collect();
+    let payload = build_filter(&lent, 10).unwrap();
+    let filter = StandardBloomFilterReader::new(&payload).unwrap();
+    assert!(lent.iter().all(|key| filter.contains(key)));
+    assert!((1000..11_000u32).filter(|n| filter.contains(&n.to_le_bytes())).count() < 300);
+    assert_eq!(StandardBloomFilterReader::new(b"none").err(), Some(Error::Truncated));
+}
+
+#[test]
+fn index_blocks_lead_to_the_block() {
+    let keys = [&b"b"[..], b"bcdef", b"def"];
+    let handles: Vec<_> = keys
+        .iter()
+        .zip([(0, 6000), (6000, 7000), (13_000, 5000)])
+        .map(|(end_key, (offset, size))| KeyedBlockHandle { end_key, seqno: 0, handle: BlockHandle { offset, size } })
+        .collect();
+    let payload = IndexBlock::encode(&handles, 2).unwrap();
+    let index = IndexBlock::check(&payload).unwrap();
+    assert_eq!(index.len(), 3);
+    assert_eq!(index.find(b"a", 5), Some(handles[0].handle));
+    assert_eq!(index.find(b"bcd", 5), Some(handles[1].handle));
+    assert_eq!(index.find(b"z", 5), None);
+}
+
+#[test]
+fn frames_are_read_as_written() {
+    let mut out = b"before".to_vec();
+    let block = Block { block_type: BlockType::Filter, payload: b"payload" };
+    block.write_into(&mut out).unwrap();
+    assert_eq!(Block::from_frame(&out[6..]), Ok(block));
+    out[40] ^= 1;
+    assert!(matches!(Block::from_frame(&out[6..]), Err(Error::ChecksumMismatch)));
+}

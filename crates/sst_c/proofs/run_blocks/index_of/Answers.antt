@@ -1,0 +1,14 @@
+use Rattle.std.proofs.Common.{sym, subst}
+use Rattle.sst_block_core.specs.Handles.{IsIndexBlock}
+use Rattle.sstable_blocks.specs.Opened.{index_in}
+use Rattle.sst_c.specs.Runs.{run_hashes}
+use Rattle.sst_c.proofs.run_blocks.index_of.Goals as goal
+
+pub payload_of-requires : goal.payload_of-requires
+payload_of-requires c = (c.sound_opens.ensures run_hashes c.requires.0 c.args.bytes.now c.args.handles.now c.requires.1).index_range
+
+pub new-requires-clause-encoding : goal.new-requires-clause-encoding
+new-requires-clause-encoding c =
+    let o = c.sound_opens.ensures run_hashes c.requires.0 c.args.bytes.now c.args.handles.now c.requires.1 in
+    let items = index_in c.args.bytes.now c.args.handles.now.index in
+    (items, o.index_interval, subst (λ p. IsIndexBlock p items o.index_interval) (sym c.payload_of.ensures) o.index_block)

@@ -1,0 +1,3 @@
+-- What runs print, and their faults.
+pub mod Outcomes
+pub mod Printing
