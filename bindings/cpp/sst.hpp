@@ -206,4 +206,106 @@ inline std::vector<uint8_t> write(std::span<const sst_entry> entries, size_t blo
     return out;
 }
 
+/* Writes a table piece by piece, the bytes that write() makes of the same entries. What is finished can be
+   taken at any time. Kept are the entries of one block, a handle for each block, and, where there is a
+   filter, all keys. */
+class writer {
+  public:
+    explicit writer(size_t block_size = 4096, const sst_run_config &config = {0, 1, 10, 16, 1})
+        : block_size_(block_size), config_(config) {}
+
+    /* Adds an entry. Throws error: SST_OUT_OF_ORDER where it sorts before the one added last, SST_BAD_ARGUMENT
+       where it is no entry; the table goes on without it. */
+    void add(bytes key, uint64_t seqno, bytes value, sst_value_type type = SST_VALUE) {
+        if (key.empty() || key.size() > 65535 || value.size() > UINT32_MAX) throw error(SST_BAD_ARGUMENT);
+        if (int order = has_last_ ? key.text().compare(last_key_) : 1; order < 0 || (order == 0 && seqno > last_seqno_))
+            throw error(SST_OUT_OF_ORDER);
+        if (!rows_.empty() && held_ >= block_size_) close_block();
+        rows_.push_back({key.text(), value.text(), seqno, type});
+        held_ += key.size() + value.size();
+        if (config_.bits_per_key > 0) keys_.push_back(key.text());
+        last_key_ = key.text(), last_seqno_ = seqno, has_last_ = true;
+    }
+
+    /* Takes the bytes that are finished and were not taken before. */
+    std::vector<uint8_t> take() { return std::exchange(out_, {}); }
+
+    /* Ends the table, and returns its last bytes. Throws error: SST_BAD_ARGUMENT where no entry was added. */
+    std::vector<uint8_t> finish() {
+        close_block();
+        std::vector<sst_keyed_handle> handles;
+        for (const end &end : ends_)
+            handles.push_back({bytes(end.key).lent(), end.key.size(), end.seqno, end.at.offset, end.at.size});
+        sst_handle index = close(1, filled([&](uint8_t *out, size_t cap, size_t *len) {
+            return sst_index_block_encode(handles.data(), handles.size(), config_.index_interval, out, cap, len);
+        }));
+        sst_handle filter{0, 0};
+        if (!keys_.empty()) {
+            std::vector<sst_bytes> keys;
+            for (const std::string &key : keys_) keys.push_back({bytes(key).lent(), key.size()});
+            filter = close(2, filled([&](uint8_t *out, size_t cap, size_t *len) {
+                return sst_filter_build(keys.data(), keys.size(), config_.bits_per_key, out, cap, len);
+            }));
+        }
+        sst_run_handles all{index.offset, filter.offset, index.size, filter.size};
+        append(filled([&](uint8_t *out, size_t cap, size_t *len) { return sst_footer_write(&all, out, cap, len); }));
+        return take();
+    }
+
+  private:
+    struct row {
+        std::string key, value;
+        uint64_t seqno;
+        sst_value_type type;
+    };
+    struct end {
+        std::string key;
+        uint64_t seqno;
+        sst_handle at;
+    };
+
+    /* What a call makes that tells how much room it needs. */
+    template <class Call> static std::vector<uint8_t> filled(Call call) {
+        std::vector<uint8_t> out(4096);
+        size_t len = 0;
+        uint32_t status = call(out.data(), out.size(), &len);
+        if (status == SST_NO_ROOM) out.resize(len), status = call(out.data(), out.size(), &len);
+        if (status) throw error(status);
+        out.resize(len);
+        return out;
+    }
+    void append(const std::vector<uint8_t> &made) { out_.insert(out_.end(), made.begin(), made.end()); }
+    sst_handle close(uint8_t type, const std::vector<uint8_t> &payload) {
+        auto frame = filled([&](uint8_t *out, size_t cap, size_t *len) {
+            return sst_frame_write(payload.data(), payload.size(), type, out, cap, len);
+        });
+        sst_handle at{len_, static_cast<uint32_t>(frame.size())};
+        len_ += frame.size();
+        append(frame);
+        return at;
+    }
+    void close_block() {
+        std::vector<sst_entry> entries;
+        for (const row &row : rows_) entries.push_back(given(row.key, row.seqno, row.value, row.type));
+        sst_entry none{};
+        auto payload = filled([&](uint8_t *out, size_t cap, size_t *len) {
+            return sst_data_block_encode(entries.empty() ? &none : entries.data(), entries.size(), config_.restart_interval,
+                                         config_.num, config_.den, out, cap, len);
+        });
+        sst_handle at = close(0, payload);
+        ends_.push_back({rows_.back().key, rows_.back().seqno, at});
+        rows_.clear(), held_ = 0;
+    }
+
+    size_t block_size_, held_ = 0;
+    sst_run_config config_;
+    std::vector<row> rows_;
+    std::vector<end> ends_;
+    std::vector<std::string> keys_;
+    std::vector<uint8_t> out_;
+    uint64_t len_ = 0, last_seqno_ = 0;
+    std::string last_key_;
+    bool has_last_ = false;
+};
+
 } // namespace sst

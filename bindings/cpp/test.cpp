@@ -42,6 +42,28 @@ std::vector<uint8_t> file_of(const std::vector<row> &rows, size_t block_size, co
     return sst::write(entries, block_size, config);
 }
 
+std::vector<uint8_t> in_pieces(const std::vector<row> &rows, size_t block_size, const sst_run_config &config) {
+    sst::writer writer(block_size, config);
+    std::vector<uint8_t> file;
+    auto append = [&](const std::vector<uint8_t> &piece) { file.insert(file.end(), piece.begin(), piece.end()); };
+    for (size_t i = 0; i < rows.size(); i++) {
+        writer.add(rows[i].key, rows[i].seqno, rows[i].value, rows[i].type);
+        if (i % 7 == 0) append(writer.take());
+    }
+    append(writer.finish());
+    return file;
+}
+
+/* Whether a call throws this status. */
+template <class Call> bool throws(uint32_t status, Call call) {
+    try {
+        call();
+    } catch (const sst::error &met) {
+        return met.status == status;
+    }
+    return false;
+}
+
 void check_table(const sst::table &table, const std::vector<row> &rows) {
     demand(std::ranges::equal(table, rows, is), "a walk gives all entries");
     demand(std::equal(table.rbegin(), table.rend(), rows.rbegin(), rows.rend(), is), "a walk back gives all entries");
@@ -64,6 +86,7 @@ int main() {
         auto rows = rows_of(seed, 1 + seed * 10);
         sst_run_config config{seed % 3, 2, seed % 2 * 10, static_cast<uint8_t>(1 + seed % 17), static_cast<uint8_t>(1 + seed % 3)};
         auto file = file_of(rows, seed % 3 ? 100 : 1, config);
+        demand(in_pieces(rows, seed % 3 ? 100 : 1, config) == file, "a table in pieces is the same");
         auto table = sst::table::check(sst::bytes(std::span<const uint8_t>(file)));
         demand(table.summary().entries == rows.size(), "the count of entries");
         check_table(table, rows);
@@ -80,13 +103,16 @@ int main() {
         tables += 2;
     }
     for (auto bad : {std::vector<row>{}, {{"b", 1, SST_VALUE, ""}, {"a", 1, SST_VALUE, ""}}, {{"", 1, SST_VALUE, ""}}}) {
-        try {
-            file_of(bad, 1, {0, 1, 0, 1, 1});
-            demand(false, "such entries are refused");
-        } catch (const sst::error &met) {
-            demand(met.status == SST_BAD_ARGUMENT, "they are a bad argument");
-        }
+        demand(throws(SST_BAD_ARGUMENT, [&] { file_of(bad, 1, {0, 1, 0, 1, 1}); }), "such entries are a bad argument");
     }
+    sst::writer writer(1);
+    demand(throws(SST_BAD_ARGUMENT, [&] { sst::writer().finish(); }), "no entries are a bad argument");
+    demand(throws(SST_BAD_ARGUMENT, [&] { writer.add("", 1, "v"); }), "no key is a bad argument");
+    writer.add("b", 5, "v");
+    demand(throws(SST_OUT_OF_ORDER, [&] { writer.add("a", 9, "v"); }), "a lower key is out of order");
+    demand(throws(SST_OUT_OF_ORDER, [&] { writer.add("b", 6, "v"); }), "a newer version is out of order");
+    writer.add("b", 5, "w");
+    demand(sst::table::check(sst::bytes(std::span<const uint8_t>(writer.finish()))).summary().entries == 2, "two entries");
     std::printf("%zu tables, %zu not so\n", tables, failed);
     return failed > 0;
 }

@@ -1,4 +1,4 @@
-/* Writes a run and its footer, checks it, reads keys of it, and damages it. */
+/* Writes a run and its footer, checks it, reads keys of it, scans it, and damages it. */
 #include "sst.h"
 #include <stdio.h>
 #include <stdlib.h>
@@ -47,19 +47,52 @@ static void get(const uint8_t *run, size_t len, const struct sst_run_handles *ha
     printf("\n");
 }
 
+/* Whether a place is that of the entry at an index. */
+static int is_at(const uint8_t *run, const struct sst_place *at, int i) {
+    size_t value_len = i == 5 ? 0 : 32;
+    return at->seqno == entries[i].seqno && at->value_type == entries[i].value_type &&
+           at->prefix_len + at->key_len == 16 && memcmp(run + at->prefix_offset, keys[i], at->prefix_len) == 0 &&
+           memcmp(run + at->key_offset, keys[i] + at->prefix_len, at->key_len) == 0 &&
+           at->value_len == value_len && memcmp(run + at->value_offset, values[i], value_len) == 0;
+}
+
 /* Reads every entry of the run by its key and its number. */
 static void get_all(const uint8_t *run, size_t len, const struct sst_run_handles *handles) {
     int right = 0;
     for (int i = 0; i < COUNT; i++) {
         struct sst_place at = {0};
         uint32_t status = sst_run_get(run, len, handles, keys[i], 16, entries[i].seqno + 1, &at);
-        size_t value_len = i == 5 ? 0 : 32;
-        right += status == SST_OK && at.seqno == entries[i].seqno && at.value_type == entries[i].value_type &&
-                 at.prefix_len + at.key_len == 16 && memcmp(run + at.prefix_offset, keys[i], at.prefix_len) == 0 &&
-                 memcmp(run + at.key_offset, keys[i] + at.prefix_len, at.key_len) == 0 &&
-                 at.value_len == value_len && memcmp(run + at.value_offset, values[i], value_len) == 0;
+        right += status == SST_OK && is_at(run, &at, i);
     }
     printf("of %d entries, found where they are: %d\n", COUNT, right);
+}
+
+/* Scans the run, block by block from its front, and block by block from its back. */
+static void scan(const uint8_t *run, size_t len, const struct sst_run_handles *handles) {
+    static struct sst_place places[COUNT];
+    size_t blocks = sst_run_block_count(run, len, handles), count = 7;
+    int next = 0, right = 0;
+    printf("%zu blocks, of", blocks);
+    for (size_t block = 0; block < blocks; block++) {
+        if (sst_run_block_entries(run, len, handles, block, places, COUNT, &count) != SST_OK) return;
+        printf(" %zu", count);
+        for (size_t i = 0; i < count; i++) right += is_at(run, &places[i], next++);
+    }
+    for (size_t block = blocks; block-- > 0;) {
+        if (sst_run_block_entries(run, len, handles, block, places, COUNT, &count) != SST_OK) return;
+        for (size_t i = count; i-- > 0;) right += is_at(run, &places[i], --next);
+    }
+    printf(" entries; from both ends, where they are: %d\n", right);
+    uint32_t status = sst_run_block_entries(run, len, handles, 2, places, 38, &count);
+    printf("room for 38 of block 2: %s, %zu; ", sst_error_name(status), count);
+    status = sst_run_block_entries(run, len, handles, blocks, places, COUNT, &count);
+    printf("block %zu: %s, %zu\n", blocks, sst_error_name(status), count);
+    printf("begin in block:");
+    const int sought[] = {0, 19, 20, 21, 22, 59, 60, 77};
+    for (size_t i = 0; i < sizeof sought / sizeof *sought; i++)
+        printf(" %d in %zu,", sought[i], sst_run_seek(run, len, handles, keys[sought[i]], 16));
+    printf(" a in %zu, u in %zu\n", sst_run_seek(run, len, handles, (const uint8_t *)"a", 1),
+           sst_run_seek(run, len, handles, (const uint8_t *)"u", 1));
 }
 
 /* Writes the footer of a run, and reads it again: whole, and a byte less. */
@@ -109,6 +142,7 @@ int main(void) {
     get(run, len, &handles, (const char *)keys[5], 100);
     get(run, len, &handles, "tbl2", UINT64_MAX);
     get_all(run, len, &handles);
+    scan(run, len, &handles);
     /* the magic of a block, a byte of a block, of the index, of the filter */
     const size_t places[] = {0, 50, (size_t)handles.index_offset + 40, len - 1};
     for (size_t i = 0; i < sizeof places / sizeof *places; i++) {

@@ -312,18 +312,20 @@ impl<'a> Table<'a> {
     }
 
     fn block(&self, index: usize) -> Iter<'a> {
-        let (mut places, mut count) = (Vec::new(), 0);
+        let (mut places, mut count) = (Vec::<ffi::Place>::with_capacity(128), 0);
         loop {
             let status = unsafe {
                 ffi::sst_run_block_entries(
                     self.run.as_ptr(), self.run.len(), &self.handles, index, places.as_mut_ptr(),
-                    places.len(), &mut count,
+                    places.capacity(), &mut count,
                 )
             };
             if status != ffi::NO_ROOM {
+                // The call wrote so many places; it leaves 0 where there is no such block.
+                unsafe { places.set_len(count) };
                 return Iter::over(self.run, places);
             }
-            places.resize(count, ffi::Place::default());
+            places.reserve_exact(count);
         }
     }
 }

@@ -75,8 +75,9 @@ pub(crate) fn table_of<T: Ranked + AsEntry + Drop, I: Source<T> + Drop>(
     };
     let mut head = Head::new(alloc, source)?;
     let writer = Vec::new(alloc);
-    let (written, bytes) =
-        write_table::<Xxh3, T, I, Vec<u8>>(alloc, &mut head, writer, config, sizes)?;
+    let (written, bytes) = write_table::<Xxh3, T, I, Vec<u8>>(
+        alloc, &mut head, writer, config, sizes,
+    )?;
     let Some(handles) = written else {
         return Ok(None);
     };
