@@ -16,10 +16,12 @@ def random_entries(seed, count):
     """Versions of keys that share prefixes, in order."""
     rand = random.Random(seed)
     keys = [b"%s%03d" % (rand.choice([b"", b"a", b"common/"]), rand.randrange(300)) for _ in range(count)]
-    numbers = [rand.choice([0, 1, 7, 2**63, sst.MAX_SEQNO]) if rand.random() < 0.2 else rand.randrange(1000) for _ in keys]
+    numbers = [rand.choice([0, 1, 7, 2**63, sst.MAX_SEQNO]) if rand.random() < 0.2 else rand.randrange(1000)
+               for _ in keys]
     rows = sorted(set(zip(keys, numbers)), key=lambda row: (row[0], -row[1]))
     return [Entry(key, number, b"", ValueType.TOMBSTONE) if rand.random() < 0.2
-            else Entry(key, number, rand.randbytes(rand.choice([0, 5, 60]))) for key, number in rows]
+            else Entry(key, number, bytes(rand.randrange(256) for _ in range(rand.choice([0, 5, 60]))))
+            for key, number in rows]
 
 
 class Tables(unittest.TestCase):
