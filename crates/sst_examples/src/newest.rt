@@ -1,6 +1,5 @@
 //! Writes entries as a block, and reads one of them by its key.
-ghost use Rattle.std.specs.Prelude.{◌≡◌, ◌≤◌, length, map, IfOk};
-ghost use Rattle.sstable_blocks.specs.Prelude.{IsOrdered, entries, first_match, plain};
+ghost use Rattle.sstable_blocks.specs.Prelude.{IsEncodable, GivesNewest};
 
 use sstable_blocks::{
     Block, BlockType, DataBlock, HashRatio, InternalValue, Result, SeqNo, Slice, Steps, Xxh3,
@@ -20,9 +19,8 @@ pub fn newest_below(
     key: &[u8],
     seqno: SeqNo,
 ) -> Result<Option<InternalValue>>
-    requires some { 1 ≤ length items.now }
-    requires ordered { IsOrdered entries items.now }
-    ensures { IfOk result (λ found. found ≡ first_match entries key.now seqno (map plain items.now)) }
+    requires { IsEncodable items.now }
+    ensures { GivesNewest result items.now key.now seqno }
 {
     let no_buckets = HashRatio { num: 0, den: 1 };
     let payload = DataBlock::<Xxh3>::encode_into_vec(alloc, items, 16, no_buckets)?;

@@ -22,4 +22,5 @@ pub mod Scans
 pub mod Ends
 pub mod Readings
 pub mod ReadingLaws
+pub mod Callers
 pub mod Prelude
