@@ -7,8 +7,10 @@ use crate::progress::Progress;
 use crate::show::Shown;
 use crate::words::FILE;
 use clap::ArgMatches;
+use sstable_blocks::table::index_block::HandleView;
 use sstable_blocks::{
-    BlockHandle, BlockHash, DataBlock, Error, FrameSource, IndexBlock, InternalValue, Steps, Table,
+    BlockHandle, BlockHash, DataBlock, EntryView, Error, FrameSource, IndexBlock, InternalValue,
+    KeyedBlockHandle, Steps, Table,
 };
 use std::alloc::Global;
 use std::io;
@@ -33,15 +35,25 @@ pub struct Held {
 /// `Error::Memory` if an allocation fails.
 pub fn held_in<H: BlockHash>(alloc: Global, block: &DataBlock<H>) -> sstable_blocks::Result<Held> {
     let mut views = block.by_ref().entries();
-    let Some(first) = views.next() else {
-        return Err(Error::BadEntry);
-    };
-    let last = match views.next_back() {
+    match views.next() {
+        Some(first) => held_of(alloc, block.len(), &first, views.next_back().as_ref()),
+        None => Err(Error::BadEntry),
+    }
+}
+
+// What a block holds of so many entries, the first one and the last.
+fn held_of(
+    alloc: Global,
+    entries: usize,
+    first: &EntryView<'_>,
+    last: Option<&EntryView<'_>>,
+) -> sstable_blocks::Result<Held> {
+    let last = match last {
         Some(last) => Some(last.to_entry(alloc)?),
         None => None,
     };
     Ok(Held {
-        entries: block.len(),
+        entries,
         first: first.to_entry(alloc)?,
         last,
     })
@@ -91,6 +103,23 @@ fn print_held<O: Write>(
     }
 }
 
+// Prints the line of a data block of a table. Returns whether it is sound.
+fn print_block<H: BlockHash, S: FrameSource, R, O: Write>(
+    progress: &Progress<'_, R>,
+    alloc: Global,
+    table: &mut Table<H, S>,
+    number: usize,
+    output: &mut O,
+) -> io::Result<bool>
+    requires { number < length table.old.index }
+    ensures { table.new.index ≡ table.old.index }
+{
+    let handle = table.index().handle_at(number, &mut Steps::new());
+    let held = held_at(alloc, table, number);
+    print_held(output, number, &handle, &held, progress.cause())?;
+    Ok(held.is_ok())
+}
+
 // Prints a line for each data block of a table. Returns how many are not sound.
 fn print_blocks<H: BlockHash, S: FrameSource, R, O: Write>(
     progress: &Progress<'_, R>,
@@ -100,10 +129,7 @@ fn print_blocks<H: BlockHash, S: FrameSource, R, O: Write>(
 ) -> Result<usize> {
     let (mut number, mut failed) = (0usize, 0usize);
     while number < table.index().len() {
-        let handle = table.index().handle_at(number, &mut Steps::new());
-        let held = held_at(alloc, table, number);
-        print_held(output, number, &handle, &held, progress.cause())?;
-        if held.is_err() {
+        if !print_block(progress, alloc, table, number, output)? {
             failed = failed.saturating_add(1);
         }
         number += 1;
@@ -145,21 +171,40 @@ pub fn run<H: BlockHash, R: Files + Clock + Eprint, O: Write>(
     blocks_in(progress, alloc, file, table, output)
 }
 
+// Prints the line of a handle.
+fn print_handle<O: Write>(
+    output: &mut O,
+    number: usize,
+    handle: &KeyedBlockHandle,
+) -> io::Result<()> {
+    writeln!(
+        output,
+        "block {number} at offset {}: {} bytes, up to {} at {}",
+        handle.offset().0,
+        handle.size(),
+        Shown(handle.end_key().as_slice()),
+        handle.seqno()
+    )
+}
+
+// Prints the line of a handle of an index.
+fn print_view<O: Write>(
+    alloc: Global,
+    output: &mut O,
+    number: usize,
+    view: &HandleView<'_>,
+) -> Result<()> {
+    match view.to_handle(alloc) {
+        Ok(handle) => Ok(print_handle(output, number, &handle)?),
+        Err(_) => Err(Fault::Memory),
+    }
+}
+
 // Prints a line for each handle.
 fn print_handles<O: Write>(alloc: Global, index: &IndexBlock, output: &mut O) -> Result<()> {
     let mut number = 0usize;
     for view in index.by_ref().handles() {
-        let Ok(handle) = view.to_handle(alloc) else {
-            return Err(Fault::Memory);
-        };
-        writeln!(
-            output,
-            "block {number} at offset {}: {} bytes, up to {} at {}",
-            handle.offset().0,
-            handle.size(),
-            Shown(handle.end_key().as_slice()),
-            handle.seqno()
-        )?;
+        print_view(alloc, output, number, &view)?;
         number = number.saturating_add(1);
     }
     Ok(())
