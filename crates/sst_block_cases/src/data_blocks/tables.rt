@@ -21,22 +21,33 @@ pub fn offsets<H: BlockHash>(alloc: Global, opened: &Opened<H>) -> Result<String
 
 /// How many heads have a key below a needle, how many one of at most it, and how many an index seek
 /// passes over, by the table of a block.
+fn counts_by<H: BlockHash>(
+    alloc: Global,
+    block: &DataBlock<H>,
+    needle: &[u8],
+    seqno: u64,
+) -> Result<String> {
+    let Some(table) = block.heads() else {
+        return Err(Fault::Word);
+    };
+    let (payload, mut steps) = (block.as_slice().as_slice(), Steps::new());
+    let below = table.count_below(payload, needle, &mut steps);
+    let at_most = table.count_at_most(payload, needle, &mut steps);
+    let index = table.count_index(payload, needle, seqno, &mut steps);
+    Ok(format!(in alloc; "{below}/{at_most}/{index}")?)
+}
+
+/// The same of a needle's word.
 fn counts_of<H: BlockHash>(
     alloc: Global,
     block: &DataBlock<H>,
     needle: &str,
     seqno: u64,
 ) -> Result<String> {
-    let Some(table) = block.heads() else {
-        return Err(Fault::Word);
-    };
-    let needle = bytes_of(alloc, needle)?;
-    let (needle, payload) = (needle.as_slice(), block.as_slice().as_slice());
-    let mut steps = Steps::new();
-    let below = table.count_below(payload, needle, &mut steps);
-    let at_most = table.count_at_most(payload, needle, &mut steps);
-    let index = table.count_index(payload, needle, seqno, &mut steps);
-    Ok(format!(in alloc; "{below}/{at_most}/{index}")?)
+    match bytes_of(alloc, needle) {
+        Ok(needle) => counts_by(alloc, block, needle.as_slice(), seqno),
+        Err(fault) => Err(fault),
+    }
 }
 
 /// Counts of heads for each needle: SEQNO NEEDLE ..

@@ -56,14 +56,21 @@ fn made_of(alloc: Global, handle: &HandleView<'_>) -> Result<KeyedBlockHandle> {
     Ok(handle.clone()?.to_handle(alloc)?)
 }
 
-/// Returns the word of a handle that borrows its block, and says if its parts are not those of the
-/// handle that it is made as.
-fn word_of_view(alloc: Global, handle: &HandleView<'_>) -> Result<String> {
-    let made = made_of(alloc, handle)?;
-    if are_parts_of(handle, &made) {
-        return word_of(alloc, &made);
+/// The word of a handle that a view is made as, which says if it has other parts than the view.
+fn word_of_made(alloc: Global, handle: &HandleView<'_>, made: &KeyedBlockHandle) -> Result<String> {
+    if are_parts_of(handle, made) {
+        word_of(alloc, made)
+    } else {
+        Ok(String::from_str(alloc, "other parts")?)
     }
-    Ok(format!(in alloc; "{} of other parts", word_of(alloc, &made)?)?)
+}
+
+/// Returns the word of a handle that borrows its block.
+fn word_of_view(alloc: Global, handle: &HandleView<'_>) -> Result<String> {
+    match made_of(alloc, handle) {
+        Ok(made) => word_of_made(alloc, handle, &made),
+        Err(fault) => Err(fault),
+    }
 }
 
 /// The word of an item that a step takes.
@@ -182,11 +189,19 @@ fn walks(alloc: Global, room: &Room, words: &[&str]) -> Result<String> {
     walked_after(alloc, room, ops.as_slice(), Ok(all))
 }
 
+/// Appends the word of a handle.
+fn push_view(alloc: Global, words: &mut Vec<String>, handle: &HandleView<'_>) -> Result<()> {
+    match word_of_view(alloc, handle) {
+        Ok(word) => Ok(words.push(word)?),
+        Err(fault) => Err(fault),
+    }
+}
+
 /// The words of handles from the front.
 fn words_of(alloc: Global, handles: HandleViews<'_>) -> Result<Vec<String>> {
     let mut words = Vec::new(alloc);
     for handle in handles {
-        words.push(word_of_view(alloc, &handle)?)?;
+        push_view(alloc, &mut words, &handle)?;
     }
     Ok(words)
 }
@@ -195,7 +210,7 @@ fn words_of(alloc: Global, handles: HandleViews<'_>) -> Result<Vec<String>> {
 fn words_back(alloc: Global, handles: HandleViews<'_>) -> Result<Vec<String>> {
     let mut words = Vec::new(alloc);
     for handle in handles.rev() {
-        words.push(word_of_view(alloc, &handle)?)?;
+        push_view(alloc, &mut words, &handle)?;
     }
     words.reverse();
     Ok(words)
@@ -265,46 +280,41 @@ fn digest_of(alloc: Global, words: &[String]) -> Result<String> {
     Ok(format!(in alloc; "{count} handles, {state:016x}")?)
 }
 
-/// The handles of bytes that are lent, with or without a table of their heads.
-fn by_views(alloc: Global, page: &IndexBlockRef<'_>) -> Result<String> {
-    let mut words = Vec::new(alloc);
-    for view in page.handles() {
-        words.push(word_of_view(alloc, &view)?)?;
+/// The digest of handles from the front.
+fn digest_front(alloc: Global, handles: HandleViews<'_>) -> Result<String> {
+    match words_of(alloc, handles) {
+        Ok(words) => digest_of(alloc, words.as_slice()),
+        Err(fault) => Err(fault),
     }
-    digest_of(alloc, words.as_slice())
 }
 
-/// The digest of the handles of a block from the front.
-fn digest_front(alloc: Global, block: &IndexBlock) -> Result<String> {
-    let words = words_of(alloc, block.handles())?;
-    digest_of(alloc, words.as_slice())
-}
-
-/// The digest of the handles of a block from the back.
-fn digest_back(alloc: Global, block: &IndexBlock) -> Result<String> {
-    let words = words_back(alloc, block.handles())?;
-    digest_of(alloc, words.as_slice())
+/// The digest of handles from the back.
+fn digest_back(alloc: Global, handles: HandleViews<'_>) -> Result<String> {
+    match words_back(alloc, handles) {
+        Ok(words) => digest_of(alloc, words.as_slice()),
+        Err(fault) => Err(fault),
+    }
 }
 
 /// The digest of the handles of the payload, from either end.
 fn digests(alloc: Global, room: &Room) -> Result<String> {
     let block = index_block(alloc, room.payload.as_slice(), false)?;
-    let front = digest_front(alloc, &block);
-    let back = digest_back(alloc, &block);
+    let front = digest_front(alloc, block.handles());
+    let back = digest_back(alloc, block.handles());
     alike(alloc, front, "from the back", back)
 }
 
 /// The digest of the handles of the payload, which is lent.
 fn by_lent(alloc: Global, room: &Room) -> Result<String> {
     let page = IndexBlockRef::check(room.payload.as_slice())?;
-    by_views(alloc, &page)
+    digest_front(alloc, page.handles())
 }
 
 /// The digest of the handles of the payload, which is lent, with a table of their heads.
 fn by_lent_with_table(alloc: Global, room: &Room) -> Result<String> {
     let page = IndexBlockRef::check(room.payload.as_slice())?;
     let heads = page.make_heads(alloc)?;
-    by_views(alloc, &page.with_table(&heads))
+    digest_front(alloc, page.with_table(&heads).handles())
 }
 
 /// The number of the handles, and their digest, by each way to go over them.
@@ -337,10 +347,17 @@ fn handles_in(alloc: Global, block: &IndexBlock) -> Result<Vec<KeyedBlockHandle>
     Ok(handles)
 }
 
+/// The handles of a payload.
+fn handles_of(alloc: Global, payload: &[u8]) -> Result<Vec<KeyedBlockHandle>> {
+    match index_block(alloc, payload, false) {
+        Ok(block) => handles_in(alloc, &block),
+        Err(fault) => Err(fault),
+    }
+}
+
 /// Takes the handles of the payload as the list.
 fn take(alloc: Global, room: &mut Room) -> Result<String> {
-    let block = index_block(alloc, room.payload.as_slice(), false)?;
-    room.handles = handles_in(alloc, &block)?;
+    room.handles = handles_of(alloc, room.payload.as_slice())?;
     Ok(format!(in alloc; "{} handles", room.handles.len())?)
 }
 

@@ -26,12 +26,14 @@ fn keys(alloc: Global, words: &[&str]) -> Result<String> {
 
 /// An entry made by the constructor of its type.
 fn made(alloc: Global, entry: &InternalValue) -> Result<InternalValue> {
-    let (key, seqno) = (entry.key().user_key().clone()?, entry.key().seqno());
+    let (key, seqno) = (entry.key().user_key(), entry.key().seqno());
     match entry.key().value_type() {
-        ValueType::Tombstone => Ok(InternalValue::new_tombstone(alloc, key, seqno)),
-        ValueType::WeakTombstone => Ok(InternalValue::new_weak_tombstone(alloc, key, seqno)),
+        ValueType::Tombstone => Ok(InternalValue::new_tombstone(alloc, key.clone()?, seqno)),
+        ValueType::WeakTombstone => {
+            Ok(InternalValue::new_weak_tombstone(alloc, key.clone()?, seqno))
+        }
         value_type => {
-            let key = InternalKey::new(key, seqno, value_type);
+            let key = InternalKey::new(key.clone()?, seqno, value_type);
             Ok(InternalValue::new(key, entry.value().clone()?))
         }
     }
@@ -39,8 +41,10 @@ fn made(alloc: Global, entry: &InternalValue) -> Result<InternalValue> {
 
 /// The entry of a word, made by the constructor of its type.
 fn made_of(alloc: Global, word: &str) -> Result<InternalValue> {
-    let entry = entry_of(alloc, word)?;
-    made(alloc, &entry)
+    match entry_of(alloc, word) {
+        Ok(entry) => made(alloc, &entry),
+        Err(fault) => Err(fault),
+    }
 }
 
 /// How an entry prints.

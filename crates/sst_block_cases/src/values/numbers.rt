@@ -37,25 +37,42 @@ fn varint(alloc: Global, words: &[&str]) -> Result<String> {
     decoded(alloc, bytes.as_slice(), bits)
 }
 
+/// How the bytes of a prefix and a suffix, joined, compare with a needle.
+fn split_order(alloc: Global, prefix: &[u8], suffix: &[u8], needle: &[u8]) -> Result<String> {
+    let order = compare_prefixed_slice(prefix, suffix, needle);
+    Ok(format!(in alloc; "{order:?}")?)
+}
+
 /// How the bytes of a prefix and a suffix, joined, compare with a needle: PREFIX SUFFIX NEEDLE.
 fn split(alloc: Global, words: &[&str]) -> Result<String> {
     let parts = all_bytes_of(alloc, words)?;
-    let [prefix, suffix, needle] = parts.as_slice() else {
-        return Err(Fault::Word);
-    };
-    let order = compare_prefixed_slice(prefix.as_slice(), suffix.as_slice(), needle.as_slice());
-    Ok(format!(in alloc; "{order:?}")?)
+    match parts.as_slice() {
+        [prefix, suffix, needle] => {
+            split_order(
+                alloc,
+                prefix.as_slice(),
+                suffix.as_slice(),
+                needle.as_slice(),
+            )
+        }
+        _ => Err(Fault::Word),
+    }
+}
+
+/// How two byte strings compare, and the length of the prefix that they share.
+fn order_of(alloc: Global, left: &[u8], right: &[u8]) -> Result<String> {
+    let order = compare_bytes(left, right);
+    let shared = longest_shared_prefix_length(left, right);
+    Ok(format!(in alloc; "{order:?} {shared}")?)
 }
 
 /// How two byte strings compare, and the length of the prefix that they share: BYTES BYTES.
 fn order(alloc: Global, words: &[&str]) -> Result<String> {
     let parts = all_bytes_of(alloc, words)?;
-    let [left, right] = parts.as_slice() else {
-        return Err(Fault::Word);
-    };
-    let order = compare_bytes(left.as_slice(), right.as_slice());
-    let shared = longest_shared_prefix_length(left.as_slice(), right.as_slice());
-    Ok(format!(in alloc; "{order:?} {shared}")?)
+    match parts.as_slice() {
+        [left, right] => order_of(alloc, left.as_slice(), right.as_slice()),
+        _ => Err(Fault::Word),
+    }
 }
 
 /// Performs a command, if it is one on varints or on the order of byte strings.

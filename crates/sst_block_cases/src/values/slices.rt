@@ -20,12 +20,17 @@ fn text_of(alloc: Global, slice: &Slice) -> Result<String> {
     Ok(format!(in alloc; "{bytes}, {count} bytes, empty {empty}, equal {same}")?)
 }
 
+/// A slice of the bytes that another one gives.
+fn from_slice(alloc: Global, slice: &Slice) -> sst_base::Result<Slice> {
+    Slice::from_bytes(alloc, slice.to_bytes(alloc)?)
+}
+
 /// A slice that owns bytes, by a call of a name.
 fn owned(alloc: Global, name: &str, bytes: &[u8]) -> sst_base::Result<Slice> {
     match name {
         "from_vec" => Slice::from_vec(bytes.to_vec(alloc)?),
         "from_bytes" => Slice::from_bytes(alloc, Bytes::copy_from_slice(alloc, bytes)?),
-        "to_bytes" => Slice::from_bytes(alloc, Slice::new(alloc, bytes)?.to_bytes(alloc)?),
+        "to_bytes" => from_slice(alloc, &Slice::new(alloc, bytes)?),
         _ => Slice::collect_bytes(alloc, bytes.iter().copied()),
     }
 }
