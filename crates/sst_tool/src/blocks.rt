@@ -9,8 +9,8 @@ use crate::words::FILE;
 use clap::ArgMatches;
 use sstable_blocks::table::index_block::HandleView;
 use sstable_blocks::{
-    BlockHandle, BlockHash, DataBlock, EntryView, Error, FrameSource, IndexBlock, InternalValue,
-    KeyedBlockHandle, Steps, Table,
+    BlockHandle, BlockHash, DataBlock, EntryView, Error, FileSource, FrameSource, IndexBlock,
+    InternalValue, KeyedBlockHandle, SeekInput, Steps, Table,
 };
 use std::alloc::Global;
 use std::io;
@@ -74,14 +74,26 @@ fn held_at<H: BlockHash, S: FrameSource>(
     }
 }
 
-// Prints what a block holds, or why it is not sound.
+// Prints what a sound block holds.
+fn print_sound<O: Write>(output: &mut O, held: &Held) -> io::Result<()> {
+    let last = held.last.as_ref().unwrap_or(&held.first);
+    writeln!(
+        output,
+        "ok, {} entries, {} to {}",
+        held.entries,
+        Shown(held.first.key().user_key().as_slice()),
+        Shown(last.key().user_key().as_slice())
+    )
+}
+
+// Prints what a block holds, or why it is not sound. Returns whether it is.
 fn print_held<O: Write>(
     output: &mut O,
     number: usize,
     handle: &BlockHandle,
     held: &sstable_blocks::Result<Held>,
     cause: Cause,
-) -> io::Result<()> {
+) -> io::Result<bool> {
     write!(
         output,
         "block {number} at offset {}: {} bytes, ",
@@ -89,18 +101,10 @@ fn print_held<O: Write>(
         handle.size()
     )?;
     match held {
-        Ok(held) => {
-            let last = held.last.as_ref().unwrap_or(&held.first);
-            writeln!(
-                output,
-                "ok, {} entries, {} to {}",
-                held.entries,
-                Shown(held.first.key().user_key().as_slice()),
-                Shown(last.key().user_key().as_slice())
-            )
-        }
-        Err(error) => writeln!(output, "{}", ShownError::new(*error, cause)),
+        Ok(sound) => print_sound(output, sound)?,
+        Err(error) => writeln!(output, "{}", ShownError::new(*error, cause))?,
     }
+    Ok(held.is_ok())
 }
 
 // Prints the line of a data block of a table. Returns whether it is sound.
@@ -116,8 +120,7 @@ fn print_block<H: BlockHash, S: FrameSource, R, O: Write>(
 {
     let handle = table.index().handle_at(number, &mut Steps::new());
     let held = held_at(alloc, table, number);
-    print_held(output, number, &handle, &held, progress.cause())?;
-    Ok(held.is_ok())
+    print_held(output, number, &handle, &held, progress.cause())
 }
 
 // Prints a line for each data block of a table. Returns how many are not sound.
@@ -138,17 +141,16 @@ fn print_blocks<H: BlockHash, S: FrameSource, R, O: Write>(
 }
 
 // Prints a line for each data block of a table of a file.
-fn blocks_in<H: BlockHash, S: FrameSource + Drop, R, O: Write>(
+fn blocks_in<H: BlockHash, F: SeekInput, R, O: Write>(
     progress: &Progress<'_, R>,
     alloc: Global,
     file: &str,
-    table: Table<H, S>,
+    table: &mut Table<H, FileSource<F>>,
     output: &mut O,
 ) -> Result<()> {
-    let mut table = table;
     let blocks = table.index().len();
     progress.expect_blocks(blocks as u64);
-    match print_blocks(progress, alloc, &mut table, output)? {
+    match print_blocks(progress, alloc, table, output)? {
         0 => Ok(()),
         failed => Err(Fault::of_blocks(alloc, file, failed, blocks)),
     }
@@ -167,8 +169,8 @@ pub fn run<H: BlockHash, R: Files + Clock + Eprint, O: Write>(
     output: &mut O,
 ) -> Result<()> {
     let file = words.get_str(FILE).unwrap_or("");
-    let table = open::<H, R>(progress, alloc, file)?;
-    blocks_in(progress, alloc, file, table, output)
+    let mut table = open::<H, R>(progress, alloc, file)?;
+    blocks_in(progress, alloc, file, &mut table, output)
 }
 
 // Prints the line of a handle.
@@ -210,6 +212,15 @@ fn print_handles<O: Write>(alloc: Global, index: &IndexBlock, output: &mut O) ->
     Ok(())
 }
 
+// Prints a line for each handle of the index of a table of a file.
+fn index_in<H: BlockHash, F: SeekInput, O: Write>(
+    alloc: Global,
+    table: &Table<H, FileSource<F>>,
+    output: &mut O,
+) -> Result<()> {
+    print_handles(alloc, table.index(), output)
+}
+
 /// Prints a line for each data block that the index names, and reads none: its number, offset and
 /// size, its last key and the sequence number there.
 ///
@@ -223,5 +234,5 @@ pub fn run_index<H: BlockHash, R: Files + Clock + Eprint, O: Write>(
     output: &mut O,
 ) -> Result<()> {
     let table = open::<H, R>(progress, alloc, words.get_str(FILE).unwrap_or(""))?;
-    print_handles(alloc, table.index(), output)
+    index_in(alloc, &table, output)
 }

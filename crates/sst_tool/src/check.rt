@@ -7,8 +7,9 @@ use crate::tidy::Gaps;
 use crate::whole::{check_whole, handles_of};
 use crate::words::FILE;
 use clap::ArgMatches;
-use sstable_blocks::{BlockHash, Poly31, RunSummary, SizedSource, Xxh3};
+use sstable_blocks::{BlockHash, FileSource, Poly31, RunSummary, SeekInput, Xxh3};
 use std::alloc::Global;
+use std::io;
 use std::io::Write;
 use std::rt::{Clock, Files};
 
@@ -20,14 +21,14 @@ fn warn_of<R: Eprint>(progress: &Progress<'_, R>, file: &str, gaps: &Gaps) {
 }
 
 // Checks a table of a file whole.
-fn check_in<H: BlockHash, S: SizedSource, R: Clock + Eprint>(
+fn check_in<H: BlockHash, F: SeekInput, R: Clock + Eprint>(
     progress: &Progress<'_, R>,
     alloc: Global,
     file: &str,
-    source: &mut S,
+    source: &mut FileSource<F>,
 ) -> Result<RunSummary> {
     let handles = handles_of(progress, alloc, file, source)?;
-    let checked = check_whole::<H, S, R>(progress, alloc, file, source, &handles);
+    let checked = check_whole::<H, _, R>(progress, alloc, file, source, &handles);
     progress.clear();
     if checked.is_ok() {
         let gaps = Gaps::new(progress.block_end(), &handles, progress.file_len());
@@ -83,6 +84,19 @@ fn print<R: Eprint, O: Write>(
     }
 }
 
+// Checks one of several table files whole, and prints what that came to. Returns whether it is
+// sound.
+fn check_one<R: Files + Clock + Eprint, O: Write>(
+    progress: &Progress<'_, R>,
+    alloc: Global,
+    file: &str,
+    hash: Option<TableHash>,
+    output: &mut O,
+) -> Result<bool> {
+    let checked = check_file(progress, alloc, file, hash);
+    print(progress, file, &checked, output)
+}
+
 // Checks table files whole, each whatever the others are.
 fn check_all<R: Files + Clock + Eprint, O: Write>(
     progress: &Progress<'_, R>,
@@ -93,8 +107,7 @@ fn check_all<R: Files + Clock + Eprint, O: Write>(
 ) -> Result<()> {
     let mut failed = 0usize;
     for file in files {
-        let checked = check_file(progress, alloc, file, hash);
-        if !print(progress, file, &checked, output)? {
+        if !check_one(progress, alloc, file, hash, output)? {
             failed = failed.saturating_add(1);
         }
     }
@@ -102,6 +115,12 @@ fn check_all<R: Files + Clock + Eprint, O: Write>(
         return Ok(());
     }
     Err(Fault::of_failed(alloc, failed, files.len()))
+}
+
+// Prints the line of the only file, which is sound.
+fn print_sound<O: Write>(summary: &RunSummary, output: &mut O) -> io::Result<()> {
+    let (blocks, entries) = (summary.blocks, summary.entries);
+    writeln!(output, "ok {blocks} blocks {entries} entries")
 }
 
 /// Checks table files whole: each block, the order across blocks, end keys, the filter. Prints the
@@ -123,8 +142,8 @@ pub fn run<R: Files + Clock + Eprint, O: Write>(
     let &[file] = files else {
         return check_all(progress, alloc, files, hash, output);
     };
-    let summary = check_file(progress, alloc, file, hash)?;
-    let (blocks, entries) = (summary.blocks, summary.entries);
-    writeln!(output, "ok {blocks} blocks {entries} entries")?;
-    Ok(())
+    match check_file(progress, alloc, file, hash) {
+        Ok(summary) => Ok(print_sound(&summary, output)?),
+        Err(fault) => Err(fault),
+    }
 }

@@ -14,7 +14,9 @@ use crate::progress::Progress;
 use crate::show::{EntryForm, Formed, Style};
 use crate::words::{AT, FILE, KEY};
 use clap::ArgMatches;
-use sstable_blocks::{BlockHash, FrameSource, InternalValue, SeqNo, Steps, Table};
+use sstable_blocks::{
+    BlockHash, FileSource, FrameSource, InternalValue, SeekInput, SeqNo, Steps, Table,
+};
 use std::alloc::Global;
 use std::io;
 use std::io::Write;
@@ -54,6 +56,22 @@ fn read_in<H: BlockHash, S: FrameSource + Drop>(
     }
 }
 
+// Reads the newest version of a key from a table of a file: below a sequence number, if there is
+// one.
+fn found_in<H: BlockHash, F: SeekInput + Drop, R>(
+    progress: &Progress<'_, R>,
+    alloc: Global,
+    file: &str,
+    table: Table<H, FileSource<F>>,
+    key: &[u8],
+    at: Option<SeqNo>,
+) -> Result<Option<InternalValue>> {
+    match read_in(alloc, table, key, at) {
+        Ok(found) => Ok(found),
+        Err(error) => Err(progress.fault(alloc, file, error)),
+    }
+}
+
 // Reads the newest version of a key from a file: below a sequence number, if there is one.
 fn read<H: BlockHash, R: Files + Clock + Eprint>(
     progress: &Progress<'_, R>,
@@ -63,10 +81,18 @@ fn read<H: BlockHash, R: Files + Clock + Eprint>(
     at: Option<SeqNo>,
 ) -> Result<Option<InternalValue>> {
     let table = open::<H, R>(progress, alloc, file)?;
-    match read_in(alloc, table, key, at) {
-        Ok(found) => Ok(found),
-        Err(error) => Err(progress.fault(alloc, file, error)),
-    }
+    found_in(progress, alloc, file, table, key, at)
+}
+
+// Reads the newest version of the key that the words name.
+fn read_named<H: BlockHash, R: Files + Clock + Eprint>(
+    progress: &Progress<'_, R>,
+    alloc: Global,
+    words: &ArgMatches<'_>,
+) -> Result<Option<InternalValue>> {
+    let (file, at) = (words.get_str(FILE).unwrap_or(""), words.get_one(AT));
+    let key = key_in(alloc, words.get_str(KEY).unwrap_or(""))?;
+    read::<H, R>(progress, alloc, file, key.as_slice(), at)
 }
 
 // Prints a version, or `none`.
@@ -95,8 +121,8 @@ pub fn run<H: BlockHash, R: Files + Clock + Eprint, O: Write>(
     words: &ArgMatches<'_>,
     output: &mut O,
 ) -> Result<()> {
-    let file = words.get_str(FILE).unwrap_or("");
-    let key = key_in(alloc, words.get_str(KEY).unwrap_or(""))?;
-    let found = read::<H, R>(progress, alloc, file, key.as_slice(), words.get_one(AT))?;
-    Ok(print(output, &found)?)
+    match read_named::<H, R>(progress, alloc, words) {
+        Ok(found) => Ok(print(output, &found)?),
+        Err(fault) => Err(fault),
+    }
 }

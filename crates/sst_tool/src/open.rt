@@ -93,12 +93,12 @@ fn refused<S: SizedSource + Drop>(
 }
 
 // Opens the table in a source, if there is one.
-fn table_in<H: BlockHash, S: SizedSource + Drop, R>(
+fn table_in<H: BlockHash, F: SeekInput + Drop, R>(
     progress: &Progress<'_, R>,
     alloc: Global,
     name: &str,
-    source: Result<S>,
-) -> Result<Table<H, S>> {
+    source: Result<FileSource<F>>,
+) -> Result<Table<H, FileSource<F>>> {
     match Table::open_file(alloc, source?) {
         Ok(table) => Ok(table),
         Err(failed) => {
