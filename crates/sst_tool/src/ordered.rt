@@ -1,5 +1,5 @@
 //! Sources of which the order is tested.
-ghost use Rattle.std.specs.Prelude.{◌≡◌, None, IfOk};
+ghost use Rattle.std.specs.Prelude.{◌≡◌, None, IfOk, OnOk};
 ghost use Rattle.sst_merge.specs.Sources.{TakesFirst};
 ghost use Rattle.sst_tool.specs.Orders.{may_follow, GivesInOrder};
 ghost use Rattle.sstable_blocks.specs.Scans.{EndsBy};
@@ -63,6 +63,30 @@ impl<I> Ordered<I> {
     }
 }
 
+// Tests the entry that a step of a source gave, which has to follow one with the last key, and notes
+// its key.
+fn follow<I: InBlocks>(
+    source: &I,
+    direction: Direction,
+    last: &mut Option<InternalKey>,
+    next: &Option<InternalValue>,
+) -> Result<()>
+    ensures order { OnOk result (GivesInOrder direction last.old last.new next.now) }
+{
+    if let Some(entry) = next
+        && !may_follow(direction, last, entry.key())
+    {
+        return Err(Error::OutOfOrder);
+    }
+    if !source.ends_fit(last, next) {
+        return Err(Error::BadHandle);
+    }
+    if let Some(entry) = next {
+        *last = Some(entry.key().clone()?);
+    }
+    Ok(())
+}
+
 // Takes the next entry of a source, which has to follow one with the last key, and notes its key.
 fn next_following<I: InBlocks>(
     alloc: Global,
@@ -74,18 +98,10 @@ fn next_following<I: InBlocks>(
     ensures order { IfOk result (GivesInOrder direction last.old last.new) }
 {
     let next = source.next_entry(alloc)?;
-    if let Some(entry) = &next
-        && !may_follow(direction, last, entry.key())
-    {
-        return Err(Error::OutOfOrder);
+    match follow(source, direction, last, &next) {
+        Ok(()) => Ok(next),
+        Err(error) => Err(error),
     }
-    if !source.ends_fit(last, &next) {
-        return Err(Error::BadHandle);
-    }
-    if let Some(entry) = &next {
-        *last = Some(entry.key().clone()?);
-    }
-    Ok(next)
 }
 
 /// Takes the next entry, if it follows the one before.

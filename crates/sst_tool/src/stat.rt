@@ -10,7 +10,7 @@ use crate::whole::{check_whole, handles_of};
 use crate::words::{FILE, JSON};
 use clap::ArgMatches;
 use sstable_blocks::run::footer::FOOTER_LEN;
-use sstable_blocks::{BlockHash, FrameSource, RunHandles, RunSummary, SizedSource};
+use sstable_blocks::{BlockHash, FileSource, FrameSource, RunHandles, RunSummary, SeekInput};
 use std::alloc::Global;
 use std::io;
 use std::io::Write;
@@ -45,50 +45,82 @@ impl Stat {
             .saturating_sub(FOOTER_LEN as u64)
     }
 
+    // Prints what the table has, as lines or as JSON.
+    fn print_as<O: Write>(&self, is_json: bool, output: &mut O) -> io::Result<()> {
+        if is_json {
+            self.print_json(output)
+        } else {
+            self.print(output)
+        }
+    }
+
     // Prints lines, each of a name and a value.
     fn print<O: Write>(&self, output: &mut O) -> io::Result<()> {
         writeln!(output, "hash       {}", self.hash)?;
         self.print_entries(output)?;
+        self.print_intervals(output)?;
+        self.print_bits(output)?;
+        self.print_bytes(output)
+    }
+
+    // Prints the lines of the intervals and of the buckets.
+    fn print_intervals<O: Write>(&self, output: &mut O) -> io::Result<()> {
         let blocks = &self.seen.blocks;
         writeln!(
             output,
-            "intervals  {} to {} in blocks, {} in the index",
-            blocks.least_interval, blocks.greatest_interval, self.seen.index_interval
-        )?;
-        writeln!(output, "buckets    {}", blocks.buckets)?;
-        self.print_bits(output)?;
+            "intervals  {} to {} in blocks, {} in the index\n\
+            buckets    {}",
+            blocks.least_interval,
+            blocks.greatest_interval,
+            self.seen.index_interval,
+            blocks.buckets
+        )
+    }
+
+    // Prints the lines of the bytes: those of the file, those in no block and the longest payload.
+    fn print_bytes<O: Write>(&self, output: &mut O) -> io::Result<()> {
         writeln!(
             output,
-            "bytes      {}: {} of blocks, {} of index, {} of filter, {FOOTER_LEN} of footer",
+            "bytes      {}: {} of blocks, {} of index, {} of filter, {FOOTER_LEN} of footer\n\
+            in none    {} bytes belong to no block\n\
+            longest    {} bytes of payload",
             self.file_len,
             self.blocks_len(),
             self.handles.index.size(),
-            self.filter_len()
-        )?;
-        writeln!(
-            output,
-            "in none    {} bytes belong to no block",
-            self.gaps.byte_len()
-        )?;
-        writeln!(output, "longest    {} bytes of payload", blocks.longest)
+            self.filter_len(),
+            self.gaps.byte_len(),
+            self.seen.blocks.longest
+        )
     }
 
     // Prints the lines of the entries.
     fn print_entries<O: Write>(&self, output: &mut O) -> io::Result<()> {
         let summary = &self.summary;
-        let first = Shown(summary.first_key.as_slice());
-        let last = Shown(summary.last_key.as_slice());
-        writeln!(output, "blocks     {}", summary.blocks)?;
-        writeln!(output, "entries    {}", summary.entries)?;
-        writeln!(output, "tombstones {}", self.seen.blocks.tombstones)?;
-        writeln!(output, "keys       {first} to {last}")?;
         writeln!(
             output,
-            "seqnos     {} to {}",
-            summary.least_seqno, summary.greatest_seqno
+            "blocks     {}\n\
+            entries    {}\n\
+            tombstones {}",
+            summary.blocks, summary.entries, self.seen.blocks.tombstones
         )?;
-        writeln!(output, "key size   {}", self.seen.blocks.keys)?;
-        writeln!(output, "value size {}", self.seen.blocks.values)
+        self.print_keys(output)?;
+        writeln!(
+            output,
+            "seqnos     {} to {}\n\
+            key size   {}\n\
+            value size {}",
+            summary.least_seqno,
+            summary.greatest_seqno,
+            self.seen.blocks.keys,
+            self.seen.blocks.values
+        )
+    }
+
+    // Prints the line of the first key and the last.
+    fn print_keys<O: Write>(&self, output: &mut O) -> io::Result<()> {
+        let first = Shown(self.summary.first_key.as_slice());
+        let last = Shown(self.summary.last_key.as_slice());
+        writeln!(output, "keys       {first} to {last}")
     }
 
     // Prints the line of the filter.
@@ -116,14 +148,17 @@ impl Stat {
             blocks.least_interval, blocks.greatest_interval, self.seen.index_interval
         )?;
         self.print_bits_json(output)?;
-        write!(
-            output,
-            ",\"buckets\":{},\"longest_payload\":{}",
-            blocks.buckets, blocks.longest
-        )?;
+        self.print_bytes_json(output)
+    }
+
+    // Prints the last members of the line of JSON: those of the bytes.
+    fn print_bytes_json<O: Write>(&self, output: &mut O) -> io::Result<()> {
         writeln!(
             output,
-            ",\"index_bytes\":{},\"filter_bytes\":{},\"unused_bytes\":{},\"bytes\":{}}}",
+            ",\"buckets\":{},\"longest_payload\":{},\"index_bytes\":{},\"filter_bytes\":{},\
+            \"unused_bytes\":{},\"bytes\":{}}}",
+            self.seen.blocks.buckets,
+            self.seen.blocks.longest,
             self.handles.index.size(),
             self.filter_len(),
             self.gaps.byte_len(),
@@ -135,11 +170,10 @@ impl Stat {
     fn print_lengths_json<O: Write>(&self, output: &mut O) -> io::Result<()> {
         let blocks = &self.seen.blocks;
         let (keys, values) = (&blocks.keys, &blocks.values);
-        write!(output, ",\"tombstones\":{}", blocks.tombstones)?;
         write!(
             output,
-            ",\"key_bytes\":{},\"least_key_bytes\":{},\"greatest_key_bytes\":{}",
-            keys.sum, keys.least, keys.greatest
+            ",\"tombstones\":{},\"key_bytes\":{},\"least_key_bytes\":{},\"greatest_key_bytes\":{}",
+            blocks.tombstones, keys.sum, keys.least, keys.greatest
         )?;
         write!(
             output,
@@ -155,8 +189,10 @@ impl Stat {
                 b",\"filter_bits\":null,\"filter_bits_set\":null,\"filter_probes\":null",
             );
         };
-        write!(output, ",\"filter_bits\":{bits},\"filter_bits_set\":{set}")?;
-        write!(output, ",\"filter_probes\":{probes}")
+        write!(
+            output,
+            ",\"filter_bits\":{bits},\"filter_bits_set\":{set},\"filter_probes\":{probes}"
+        )
     }
 
     // Prints the first members of the line of JSON: those of the entries.
@@ -164,19 +200,39 @@ impl Stat {
         let summary = &self.summary;
         write!(
             output,
-            "{{\"hash\":\"{}\",\"blocks\":{},\"entries\":{},\"first_key\":\"{}\",\"last_key\":\"{}\"",
+            "{{\"hash\":\"{}\",\"blocks\":{},\"entries\":{},\"first_key\":\"{}\",\"last_key\":\"{}\",\
+            \"least_seqno\":{},\"greatest_seqno\":{}",
             self.hash,
             summary.blocks,
             summary.entries,
             Hex(summary.first_key.as_slice()),
-            Hex(summary.last_key.as_slice())
-        )?;
-        write!(
-            output,
-            ",\"least_seqno\":{},\"greatest_seqno\":{}",
-            summary.least_seqno, summary.greatest_seqno
+            Hex(summary.last_key.as_slice()),
+            summary.least_seqno,
+            summary.greatest_seqno
         )
     }
+}
+
+// What a table has that was checked whole, and seen as it was.
+fn stat_of<R>(
+    progress: &Progress<'_, R>,
+    hash: TableHash,
+    handles: RunHandles,
+    seen: &Seen,
+    summary: RunSummary,
+) -> Result<Stat> {
+    if seen.is_partial {
+        return Err(Fault::Memory);
+    }
+    let file_len = progress.file_len();
+    Ok(Stat {
+        hash,
+        summary,
+        seen: *seen,
+        handles,
+        file_len,
+        gaps: Gaps::new(progress.block_end(), &handles, file_len),
+    })
 }
 
 // Checks a table of a file whole: what it has.
@@ -191,32 +247,25 @@ fn stat_in<H: BlockHash, S: FrameSource + Drop, R: Clock + Eprint>(
     let mut source = Observed::<H, S>::new(source, handles);
     let checked = check_whole::<H, _, R>(progress, alloc, file, &mut source, &handles);
     progress.clear();
-    let summary = checked?;
-    if source.seen().is_partial {
-        return Err(Fault::Memory);
+    match checked {
+        Ok(summary) => stat_of(progress, hash, handles, source.seen(), summary),
+        Err(fault) => Err(fault),
     }
-    let file_len = progress.file_len();
-    Ok(Stat {
-        hash,
-        summary,
-        seen: *source.seen(),
-        handles,
-        file_len,
-        gaps: Gaps::new(progress.block_end(), &handles, file_len),
-    })
 }
 
 // Checks a table of a file whole, from its footer on: what it has.
-fn read_in<H: BlockHash, S: SizedSource + Drop, R: Clock + Eprint>(
+fn read_in<H: BlockHash, F: SeekInput + Drop, R: Clock + Eprint>(
     progress: &Progress<'_, R>,
     alloc: Global,
     hash: TableHash,
     file: &str,
-    source: S,
+    source: FileSource<F>,
 ) -> Result<Stat> {
     let mut source = source;
-    let handles = handles_of(progress, alloc, file, &mut source)?;
-    stat_in::<H, S, R>(progress, alloc, hash, file, source, handles)
+    match handles_of(progress, alloc, file, &mut source) {
+        Ok(handles) => stat_in::<H, _, R>(progress, alloc, hash, file, source, handles),
+        Err(fault) => Err(fault),
+    }
 }
 
 // Checks a table file whole: what it has.
@@ -243,11 +292,8 @@ pub fn run<H: BlockHash, R: Files + Clock + Eprint, O: Write>(
     output: &mut O,
 ) -> Result<()> {
     let file = words.get_str(FILE).unwrap_or("");
-    let stat = read::<H, R>(progress, alloc, hash, file)?;
-    if words.get_flag(JSON) {
-        stat.print_json(output)?;
-    } else {
-        stat.print(output)?;
+    match read::<H, R>(progress, alloc, hash, file) {
+        Ok(stat) => Ok(stat.print_as(words.get_flag(JSON), output)?),
+        Err(fault) => Err(fault),
     }
-    Ok(())
 }
