@@ -140,8 +140,8 @@ fn print_blocks<H: BlockHash, S: FrameSource, R, O: Write>(
     Ok(failed)
 }
 
-// Prints a line for each data block of a table of a file.
-fn blocks_in<H: BlockHash, F: SeekInput, R, O: Write>(
+// Prints a line for each data block of a table of a file, which is read.
+fn lines_in<H: BlockHash, F: SeekInput, R, O: Write>(
     progress: &Progress<'_, R>,
     alloc: Global,
     file: &str,
@@ -154,6 +154,18 @@ fn blocks_in<H: BlockHash, F: SeekInput, R, O: Write>(
         0 => Ok(()),
         failed => Err(Fault::of_blocks(alloc, file, failed, blocks)),
     }
+}
+
+// Prints a line for each data block of a table of a file.
+fn blocks_in<H: BlockHash, F: SeekInput + Drop, R, O: Write>(
+    progress: &Progress<'_, R>,
+    alloc: Global,
+    file: &str,
+    table: Table<H, FileSource<F>>,
+    output: &mut O,
+) -> Result<()> {
+    let mut table = table;
+    lines_in(progress, alloc, file, &mut table, output)
 }
 
 /// Prints a line for each data block: its number, offset and size, and the number of its entries
@@ -169,8 +181,10 @@ pub fn run<H: BlockHash, R: Files + Clock + Eprint, O: Write>(
     output: &mut O,
 ) -> Result<()> {
     let file = words.get_str(FILE).unwrap_or("");
-    let mut table = open::<H, R>(progress, alloc, file)?;
-    blocks_in(progress, alloc, file, &mut table, output)
+    match open::<H, R>(progress, alloc, file) {
+        Ok(table) => blocks_in(progress, alloc, file, table, output),
+        Err(fault) => Err(fault),
+    }
 }
 
 // Prints the line of a handle.
@@ -213,9 +227,9 @@ fn print_handles<O: Write>(alloc: Global, index: &IndexBlock, output: &mut O) ->
 }
 
 // Prints a line for each handle of the index of a table of a file.
-fn index_in<H: BlockHash, F: SeekInput, O: Write>(
+fn index_in<H: BlockHash, F: SeekInput + Drop, O: Write>(
     alloc: Global,
-    table: &Table<H, FileSource<F>>,
+    table: Table<H, FileSource<F>>,
     output: &mut O,
 ) -> Result<()> {
     print_handles(alloc, table.index(), output)
@@ -233,6 +247,8 @@ pub fn run_index<H: BlockHash, R: Files + Clock + Eprint, O: Write>(
     words: &ArgMatches<'_>,
     output: &mut O,
 ) -> Result<()> {
-    let table = open::<H, R>(progress, alloc, words.get_str(FILE).unwrap_or(""))?;
-    index_in(alloc, &table, output)
+    match open::<H, R>(progress, alloc, words.get_str(FILE).unwrap_or("")) {
+        Ok(table) => index_in(alloc, table, output),
+        Err(fault) => Err(fault),
+    }
 }

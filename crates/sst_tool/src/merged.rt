@@ -1,5 +1,6 @@
 //! The tables that are merged, as sources of entries.
-ghost use Rattle.std.specs.Prelude.{◌≡◌, ◌+◌, length, OnOk, IfOk};
+ghost use Rattle.std.specs.Prelude.{◌≡◌, ◌+◌, length, None, OnOk, IfOk};
+ghost use Rattle.sstable_blocks.specs.Scans.{most_left};
 
 use crate::fault::{Fault, Result};
 use crate::long_keys::LongestKey;
@@ -8,7 +9,7 @@ use crate::ordered::{Direction, Ordered};
 use crate::progress::Progress;
 use crate::source::Scanned;
 use sst_merge::{Head, Source};
-use sstable_blocks::{BlockHash, Error, FileSource, FrameSource, InternalValue, Table};
+use sstable_blocks::{BlockHash, Error, FileSource, InternalValue, SeekInput, Table};
 use std::alloc::Global;
 use std::cell::Cell;
 use std::marker::PhantomData;
@@ -143,33 +144,63 @@ impl<'p, H: BlockHash, R> Files<'p, H, R> {
     }
 
     // The entries of a table from the first on.
-    fn entries_of<S: FrameSource + Drop>(
+    fn entries_of<F: SeekInput + Drop>(
         &self,
         alloc: Global,
         file: &str,
         index: usize,
-        table: Result<Table<H, S>>,
-    ) -> Result<InOrder<'p, H, S>> {
+        table: Result<Table<H, FileSource<F>>>,
+    ) -> Result<FileEntries<'p, H, F>> {
         let table = table?;
-        test_frames(alloc, file, table.index())?;
+        match test_frames(alloc, file, table.index()) {
+            Ok(()) => Ok(self.in_order(index, table)),
+            Err(fault) => Err(fault),
+        }
+    }
+
+    // The entries of a table from the first on, whose frames follow each other.
+    fn in_order<F: SeekInput + Drop>(
+        &self,
+        index: usize,
+        table: Table<H, FileSource<F>>,
+    ) -> FileEntries<'p, H, F> {
         self.progress.expect_blocks(table.index().len() as u64);
         self.notes.longest.see(table.index());
         let place = self.progress.place();
         let scanned = Scanned::new(table.scan(), Bound::Unbounded, Direction::Forward, place);
-        Ok(Merged {
+        let entries = Merged {
             source: Ordered::new(scanned, Direction::Forward),
             index,
             notes: self.notes,
             place,
-        })
+        };
+        FileEntries { entries }
     }
 }
 
-// The entries of a table, in order.
-type InOrder<'p, H, S> = Merged<'p, Ordered<Scanned<'p, 'p, H, S>>>;
+/// The entries of a table of a file, in order.
+#[derive(Drop)]
+pub struct FileEntries<'p, H: BlockHash, F: SeekInput> {
+    entries: Merged<'p, Ordered<Scanned<'p, 'p, H, FileSource<F>>>>,
+}
+
+impl<'p, H: BlockHash, F: SeekInput> Source<InternalValue> for FileEntries<'p, H, F> {
+    ghost left = { λ s. record {
+      list = None;
+      most = most_left s.entries.source.source.scan;
+      errors = None;
+      ended = s.entries.source.ended;
+    } };
+
+    ghost may_fail = { λ _. ⊥ };
+
+    fn next_entry(&mut self, alloc: Global) -> sstable_blocks::Result<Option<InternalValue>> {
+        self.entries.next_entry(alloc)
+    }
+}
 
 impl<'p, H: BlockHash, R: rt::Files + Clock + Eprint> Tables for Files<'p, H, R> {
-    type Entries = InOrder<'p, H, FileSource<CountedFile<'p, R>>>;
+    type Entries = FileEntries<'p, H, CountedFile<'p, R>>;
 
     fn entries(&self, alloc: Global, file: &str, index: usize) -> Result<Self::Entries> {
         let table = open::<H, R>(self.progress, alloc, file);

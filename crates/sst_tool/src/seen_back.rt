@@ -1,5 +1,5 @@
 //! What a read sees, from the last key to the first.
-ghost use Rattle.std.specs.Prelude.{◌≡◌, ◌+◌, ◌≤◌, if◌then◌else◌, None, IfOk};
+ghost use Rattle.std.specs.Prelude.{◌≡◌, ◌+◌, ◌≤◌, if◌then◌else◌, None, Some, IfOk};
 ghost use Rattle.sst_merge.specs.Sources.{held_count};
 ghost use Rattle.sst_tool.specs.Back.{is_same_key, newest_below};
 
@@ -28,6 +28,15 @@ fn is_same_key(kept: &Option<InternalValue>, entry: &InternalValue) -> bool
     }
 }
 
+// Notes an entry as the newest one, if a read sees it.
+fn note_seen(newest: &mut Option<InternalValue>, entry: InternalValue, is_seen: bool)
+    ensures { newest.new ≡ (if is_seen then Some entry else newest.old) }
+{
+    if is_seen {
+        *newest = Some(entry);
+    }
+}
+
 // Passes an entry: notes the newest version so far of its key below a sequence number. Returns that
 // of the key before, if this is another key.
 fn pass_back(
@@ -40,15 +49,11 @@ fn pass_back(
 {
     let is_seen = entry.key().seqno() < at;
     if is_same_key(newest, &entry) {
-        if is_seen {
-            *newest = Some(entry);
-        }
+        note_seen(newest, entry, is_seen);
         return None;
     }
     let passed = newest.take();
-    if is_seen {
-        *newest = Some(entry);
-    }
+    note_seen(newest, entry, is_seen);
     passed
 }
 
