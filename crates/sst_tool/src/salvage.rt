@@ -2,7 +2,7 @@
 ghost use Rattle.std.specs.Prelude.{None, IfOk};
 ghost use Rattle.sst_merge.specs.Sources.{TakesFirst};
 
-use crate::blocks::held_in;
+use crate::blocks::{Held, held_in};
 use crate::fault::{Fault, Result, Shown};
 use crate::frames::data_frames;
 use crate::long_keys::LongestKey;
@@ -18,7 +18,8 @@ use sst_merge::Source;
 use sstable_blocks::run::checked::{data_block_from, index_block_from};
 use sstable_blocks::run::footer::read_footer;
 use sstable_blocks::{
-    BlockHandle, BlockHash, DataBlock, Error, FrameSource, InternalValue, LockFiles, SizedSource,
+    BlockHandle, BlockHash, DataBlock, Error, FileSource, FrameSource, IndexBlock, InternalValue,
+    LockFiles, SeekInput, SizedSource,
 };
 use std::alloc::Global;
 use std::cell::Cell;
@@ -66,6 +67,28 @@ struct WholeBlocks<'p, 'w, H: BlockHash, S, R> {
     progress: &'p Progress<'p, R>,
 }
 
+// Whether what a block holds does not sort before the last entry, if there is one.
+fn follows(last: &Option<InternalValue>, held: &Held) -> bool {
+    match last {
+        Some(last) => last.key().cmp(held.first.key()).is_le(),
+        None => true,
+    }
+}
+
+// Notes the last entry of a block that is whole and does not sort before the last entry.
+fn keep_last<H: BlockHash>(
+    alloc: Global,
+    block: &DataBlock<H>,
+    last: &mut Option<InternalValue>,
+) -> sstable_blocks::Result<()> {
+    let held = held_in(alloc, block)?;
+    if !follows(last, &held) {
+        return Err(Error::OutOfOrder);
+    }
+    *last = Some(held.last.unwrap_or(held.first));
+    Ok(())
+}
+
 // The entries of a block that was read, if it is whole and does not sort before the last entry.
 fn kept_entries<H: BlockHash>(
     alloc: Global,
@@ -73,16 +96,10 @@ fn kept_entries<H: BlockHash>(
     last: &mut Option<InternalValue>,
 ) -> sstable_blocks::Result<IntoEntries<H>> {
     let block = read?;
-    let held = held_in(alloc, &block)?;
-    let follows = match &*last {
-        Some(last) => last.key().cmp(held.first.key()).is_le(),
-        None => true,
-    };
-    if !follows {
-        return Err(Error::OutOfOrder);
+    match keep_last(alloc, &block, last) {
+        Ok(()) => Ok(block.into_entries()),
+        Err(error) => Err(error),
     }
-    *last = Some(held.last.unwrap_or(held.first));
-    Ok(block.into_entries())
 }
 
 impl<'p, 'w, H: BlockHash, S: FrameSource, R: Clock + Eprint> WholeBlocks<'p, 'w, H, S, R> {
@@ -181,6 +198,15 @@ impl<'p, 'w, H: BlockHash, S: FrameSource, R: Clock + Eprint> Source<InternalVal
     }
 }
 
+// The frames that an index names.
+fn frames_in(alloc: Global, index: &IndexBlock) -> sstable_blocks::Result<Vec<BlockHandle>> {
+    let mut found = Vec::new(alloc);
+    for view in index.by_ref().handles() {
+        found.push(view.handle())?;
+    }
+    Ok(found)
+}
+
 // The frames of the data blocks of a table, by its index.
 fn frames_by_index<H: BlockHash, S: SizedSource>(
     alloc: Global,
@@ -189,13 +215,13 @@ fn frames_by_index<H: BlockHash, S: SizedSource>(
 ) -> sstable_blocks::Result<Vec<BlockHandle>> {
     let len = source.byte_len()?;
     let handles = read_footer(alloc, source, len)?;
-    let index = index_block_from::<H, S>(alloc, source, &handles.index)?;
-    longest.see(&index);
-    let mut found = Vec::new(alloc);
-    for view in index.by_ref().handles() {
-        found.push(view.handle())?;
+    match index_block_from::<H, S>(alloc, source, &handles.index) {
+        Ok(index) => {
+            longest.see(&index);
+            frames_in(alloc, &index)
+        }
+        Err(error) => Err(error),
     }
-    Ok(found)
 }
 
 // The frames of the data blocks of a file by their headers, which are found for this reason.
@@ -282,6 +308,22 @@ fn write_blocks<H: BlockHash, S: FrameSource + Drop, R: LockFiles + Clock + Epri
     }
 }
 
+// Writes what the whole blocks of a file hold, which is opened.
+fn fill_from<'p, H: BlockHash, F: SeekInput + Drop, R: LockFiles + Clock + Eprint>(
+    progress: &'p Progress<'p, R>,
+    alloc: Global,
+    words: &ArgMatches<'_>,
+    notes: &'p Notes,
+    source: FileSource<F>,
+    tables: &mut NewTables<'_, '_, '_, R>,
+) -> Result<()> {
+    let file = words.get_str(FILE).unwrap_or("");
+    match blocks_of::<H, _, R>(progress, alloc, file, source, notes) {
+        Ok(blocks) => write_blocks(alloc, blocks, words, tables),
+        Err(error) => Err(progress.fault(alloc, file, error)),
+    }
+}
+
 // Writes what the whole blocks of a file hold.
 fn fill<'p, H: BlockHash, R: LockFiles + Clock + Eprint>(
     progress: &'p Progress<'p, R>,
@@ -291,10 +333,9 @@ fn fill<'p, H: BlockHash, R: LockFiles + Clock + Eprint>(
     tables: &mut NewTables<'_, '_, '_, R>,
 ) -> Result<()> {
     let file = words.get_str(FILE).unwrap_or("");
-    let source = source_of(progress, alloc, file)?;
-    match blocks_of::<H, _, R>(progress, alloc, file, source, notes) {
-        Ok(blocks) => write_blocks(alloc, blocks, words, tables),
-        Err(error) => Err(progress.fault(alloc, file, error)),
+    match source_of(progress, alloc, file) {
+        Ok(source) => fill_from::<H, _, R>(progress, alloc, words, notes, source, tables),
+        Err(fault) => Err(fault),
     }
 }
 

@@ -19,7 +19,7 @@ use crate::source::Scanned;
 use crate::words::{AT, FILE, FROM, JSON, KEYS_ONLY, LIMIT, PREFIX, REVERSE, TEXT, TO};
 use clap::ArgMatches;
 use sst_merge::{Snapshot, Source};
-use sstable_blocks::{BlockHash, Error, FrameSource, InternalValue, SeqNo, Table};
+use sstable_blocks::{BlockHash, Error, FileSource, InternalValue, SeekInput, SeqNo, Table};
 use std::alloc::Global;
 use std::io::Write;
 use std::ops::Bound;
@@ -199,11 +199,11 @@ fn fault_of<R>(progress: &Progress<'_, R>, alloc: Global, file: &str, stop: Stop
 }
 
 // Prints the entries of a range of a table of a file.
-fn print_range_in<H: BlockHash, S: FrameSource + Drop, R, O: Write + Drop>(
+fn print_range_in<H: BlockHash, F: SeekInput + Drop, R, O: Write + Drop>(
     progress: &Progress<'_, R>,
     alloc: Global,
     words: &ArgMatches<'_>,
-    table: Table<H, S>,
+    table: Table<H, FileSource<F>>,
     range: &Range,
     lines: &mut Lines<O>,
 ) -> Result<()> {
@@ -232,6 +232,22 @@ fn print_range<H: BlockHash, R: Files + Clock + Eprint, O: Write + Drop>(
     print_range_in(progress, alloc, words, table, range, lines)
 }
 
+// Prints the entries of a range of a table file to their end, and passes on all that was printed.
+fn print_to<H: BlockHash, R: Files + Clock + Eprint, O: Write + Drop>(
+    progress: &Progress<'_, R>,
+    alloc: Global,
+    words: &ArgMatches<'_>,
+    range: &Range,
+    lines: Lines<O>,
+) -> Result<()> {
+    let mut lines = lines;
+    let printed = print_range::<H, R, _>(progress, alloc, words, range, &mut lines);
+    match lines.flush() {
+        Ok(()) => printed,
+        Err(fault) => Err(fault),
+    }
+}
+
 /// Prints the entries of a table from the key of `--from` up to that of `--to`, without it, or of
 /// the keys that begin with `--prefix`; with `--at` only what a read at this sequence number sees;
 /// with `--limit` no more than so many.
@@ -248,8 +264,8 @@ pub fn run<H: BlockHash, R: Files + Clock + Eprint, O: Write>(
     output: &mut O,
 ) -> Result<()> {
     let range = Range::of_words(alloc, words)?;
-    let mut lines = Lines::new(alloc, &mut *output, form_of(words))?;
-    let printed = print_range::<H, R, _>(progress, alloc, words, &range, &mut lines);
-    lines.flush()?;
-    printed
+    match Lines::new(alloc, &mut *output, form_of(words)) {
+        Ok(lines) => print_to::<H, R, _>(progress, alloc, words, &range, lines),
+        Err(fault) => Err(fault),
+    }
 }
