@@ -76,15 +76,22 @@ const FIFTY: [u8; 50] = [b'7'; 50];
 /// The same as text.
 const TEXT: &str = "77777777777777777777777777777777777777777777777777";
 
+/// Makes a slice of another one.
+fn convert_slice(alloc: Global, call: &Call, slice: &Slice) -> Result<Slice> {
+    match call {
+        Call::ToBytes => Slice::from_bytes(alloc, slice.to_bytes(alloc)?),
+        Call::Clone => Ok(slice.clone()?),
+        _ => slice.slice(..),
+    }
+}
+
 /// Makes a slice that other values are made for.
 fn convert(alloc: Global, call: &Call) -> Result<Slice> {
     match call {
         Call::FromString => Slice::from_string(String::from_str(alloc, TEXT)?),
         Call::FromVec => Slice::from_vec(FIFTY.to_vec(alloc)?),
         Call::FromBytes => Slice::from_bytes(alloc, Bytes::copy_from_slice(alloc, &FIFTY)?),
-        Call::ToBytes => Slice::from_bytes(alloc, Slice::new(alloc, &FIFTY)?.to_bytes(alloc)?),
-        Call::Clone => Ok(Slice::new(alloc, &FIFTY)?.clone()?),
-        _ => Slice::new(alloc, &FIFTY)?.slice(..),
+        _ => convert_slice(alloc, call, &Slice::new(alloc, &FIFTY)?),
     }
 }
 

@@ -8,6 +8,7 @@ use sst_merge::{Compact, Head, Merge, Rev, Reversed, Sizes, Snapshot, Source, wr
 use sstable_blocks::{RunConfig, RunHandles};
 use std::alloc::{AllocError, Global};
 use std::io::Write;
+use std::process::Abort;
 use std::{io, vec};
 
 /// A source that fails after so many steps.
@@ -71,16 +72,20 @@ fn failing_back_after(alloc: Global, steps: usize) -> Result<Failing<Rev<Memory>
     })
 }
 
+/// How many versions a source gives before a step gives none.
+fn count<T: Drop, I: Source<T>>(alloc: Global, source: &mut I) -> usize {
+    for before in 0..ROWS.len() + 1 {
+        let Ok(Some(_)) = source.next_entry(alloc) else {
+            return before;
+        };
+    }
+    ROWS.len() + 1
+}
+
 /// How many versions a source gives before a step gives none, and whether that step's error is this
 /// one at each of three later steps.
 fn counts<T: Drop, I: Source<T>>(alloc: Global, source: &mut I, wanted: Error) -> (usize, bool) {
-    let mut before = 0usize;
-    for _ in 0..ROWS.len() + 1 {
-        let Ok(Some(_)) = source.next_entry(alloc) else {
-            break;
-        };
-        before = before.saturating_add(1);
-    }
+    let before = count(alloc, source);
     let wanted = Some(wanted);
     let again = [
         source.next_entry(alloc).err(),
@@ -92,8 +97,9 @@ fn counts<T: Drop, I: Source<T>>(alloc: Global, source: &mut I, wanted: Error) -
 
 /// The merge of a source that fails after so many steps.
 fn failing_merge(alloc: Global, steps: usize) -> Result<Merge<InternalValue, Failing<Memory>>> {
+    let head = Head::new(alloc, failing_after(alloc, steps)?)?;
     let mut heads = Vec::new(alloc);
-    heads.push(Head::new(alloc, failing_after(alloc, steps)?)?)?;
+    heads.push(head)?;
     Ok(Merge::new(heads))
 }
 
@@ -111,38 +117,71 @@ fn counts_seen(alloc: Global, steps: usize) -> Result<(usize, bool)> {
 
 /// What is counted of a compaction of such a source.
 fn counts_compacted(alloc: Global, steps: usize) -> Result<(usize, bool)> {
-    let mut compact = Compact::new(failing_after(alloc, steps)?, vec![in alloc; 6]?, false);
-    Ok(counts(alloc, &mut compact, Error::Io))
+    let source = failing_after(alloc, steps)?;
+    match vec![in alloc; 6] {
+        Ok(snapshots) => {
+            let mut compact = Compact::new(source, snapshots, false);
+            Ok(counts(alloc, &mut compact, Error::Io))
+        }
+        Err(_) => Err(Error::Memory),
+    }
+}
+
+/// Whether no merge begins with a source that fails at once.
+fn is_refused(alloc: Global) -> Result<bool> {
+    Ok(Head::new(alloc, failing_after(alloc, 0)?).is_err())
+}
+
+/// Checks what is counted of what is made of a source that fails after so many steps: of a merge, of
+/// a snapshot, and of a compaction.
+fn check_counts(
+    rt: &impl Abort,
+    alloc: Global,
+    steps: usize,
+    merged: usize,
+    shown: usize,
+) -> Tested {
+    assert_eq!(rt; counts_merged(alloc, steps)?, (merged, true));
+    assert_eq!(rt; counts_seen(alloc, steps)?, (shown, true));
+    assert_eq!(rt; counts_compacted(alloc, steps)?, (steps, true));
+    Ok(())
 }
 
 // A merge holds the first version of each source, so it fails a step earlier.
 #[test]
 fn a_failed_step_ends_what_is_made_of_its_source(rt: HostRuntime) -> Tested {
-    let alloc = rt.alloc();
-    assert!(rt; Head::new(alloc, failing_after(alloc, 0)?).is_err());
+    assert!(rt; is_refused(rt.alloc())?);
     for steps in 1..5 {
-        let shown = [1, 1, 2, 3][steps - 1];
-        assert_eq!(rt; counts_merged(alloc, steps)?, (steps - 1, true));
-        assert_eq!(rt; counts_seen(alloc, steps)?, (shown, true));
-        assert_eq!(rt; counts_compacted(alloc, steps)?, (steps, true));
+        check_counts(&rt, rt.alloc(), steps, steps - 1, [1, 1, 2, 3][steps - 1])?;
     }
     Ok(())
 }
 
+/// A source from the back that fails, of which the first version is taken.
+type HeadBack = Head<Reversed<InternalValue>, Failing<Rev<Memory>>>;
+
+/// Such a source that fails after so many steps.
+fn failing_head_back(alloc: Global, steps: usize) -> Result<HeadBack> {
+    Head::new(alloc, failing_back_after(alloc, steps)?)
+}
+
+/// Whether no merge from the back begins with a source that fails at once.
+fn is_refused_back(alloc: Global) -> Result<bool> {
+    Ok(HeadBack::new(alloc, failing_back_after(alloc, 0)?).is_err())
+}
+
 /// What is counted of a merge from the back of a source that fails after so many steps.
 fn counts_merged_back(alloc: Global, steps: usize) -> Result<(usize, bool)> {
+    let head = failing_head_back(alloc, steps)?;
     let mut heads = Vec::new(alloc);
-    heads.push(Head::new(alloc, failing_back_after(alloc, steps)?)?)?;
-    let mut merged: Merge<Reversed<InternalValue>, _> = Merge::new(heads);
-    Ok(counts(alloc, &mut merged, Error::Io))
+    heads.push(head)?;
+    Ok(counts(alloc, &mut Merge::new(heads), Error::Io))
 }
 
 #[test]
 fn a_failed_step_ends_a_merge_from_the_back(rt: HostRuntime) -> Tested {
     let alloc = rt.alloc();
-    assert!(rt;
-        Head::<Reversed<InternalValue>, _>::new(alloc, failing_back_after(alloc, 0)?).is_err()
-    );
+    assert!(rt; is_refused_back(alloc)?);
     for steps in 1..5 {
         assert_eq!(rt; counts_merged_back(alloc, steps)?, (steps - 1, true));
     }

@@ -87,12 +87,27 @@ fn table_of(alloc: Global, written: &Written) -> Result<Stored> {
     Ok(Table::<ByteSum, MemorySource>::open(alloc, source, written.handles)?)
 }
 
+/// The numbers of entries and of blocks of an open table.
+fn count_in(alloc: Global, table: &mut Stored) -> Result<(u64, usize)> {
+    match table.verify(alloc) {
+        Ok(summary) => Ok((summary.entries, summary.blocks)),
+        Err(error) => Err(error),
+    }
+}
+
+/// The numbers of entries and of blocks of a table.
+fn count_of(alloc: Global, written: &Written) -> Result<(u64, usize)> {
+    match table_of(alloc, written) {
+        Ok(mut table) => count_in(alloc, &mut table),
+        Err(error) => Err(error),
+    }
+}
+
 /// The numbers of entries and of blocks of each table.
 fn counts_of(alloc: Global, tables: &[Written]) -> Result<Vec<(u64, usize)>> {
     let mut counts = Vec::new(alloc);
     for written in tables {
-        let summary = table_of(alloc, written)?.verify(alloc)?;
-        counts.push((summary.entries, summary.blocks))?;
+        counts.push(count_of(alloc, written)?)?;
     }
     Ok(counts)
 }

@@ -45,24 +45,33 @@ fn entries_below_a_number_are_counted(rt: HostRuntime) -> Tested {
     Ok(())
 }
 
+/// Checks that all entries of a block are appended.
+fn check_appended(rt: &impl Abort, alloc: Global, block: &DataBlock<Xxh3>) -> Tested {
+    let mut all = Vec::new(alloc);
+    append_entries(alloc, block, &mut all)?;
+    assert_eq!(rt; all.len(), 3);
+    Ok(())
+}
+
 #[test]
 fn all_entries_are_appended(rt: HostRuntime) -> Tested {
-    let alloc = rt.alloc();
-    let block = block_of_three(&rt, alloc)?;
-    let mut all = Vec::new(alloc);
-    append_entries(alloc, &block, &mut all)?;
-    assert_eq!(rt; all.len(), 3);
+    let block = block_of_three(&rt, rt.alloc())?;
+    check_appended(&rt, rt.alloc(), &block)
+}
+
+/// Checks that the older version is read from a block.
+fn check_older(rt: &impl Abort, alloc: Global, block: &DataBlock<Xxh3>) -> Tested {
+    match read(alloc, block, b"apple", 7)? {
+        Some(found) => assert!(rt; found.value().eq_bytes(b"green")),
+        None => assert!(rt; false, "no apple"),
+    }
     Ok(())
 }
 
 #[test]
 fn an_older_version_is_read(rt: HostRuntime) -> Tested {
     let block = block_of_three(&rt, rt.alloc())?;
-    match read(rt.alloc(), &block, b"apple", 7)? {
-        Some(found) => assert!(rt; found.value().eq_bytes(b"green")),
-        None => assert!(rt; false, "no apple"),
-    }
-    Ok(())
+    check_older(&rt, rt.alloc(), &block)
 }
 
 #[test]
@@ -77,9 +86,14 @@ fn an_older_version_is_read_from_a_list(rt: HostRuntime) -> Tested {
     Ok(())
 }
 
+/// Checks that an absent key is not read from a block.
+fn check_absent(rt: &impl Abort, alloc: Global, block: &DataBlock<Xxh3>) -> Tested {
+    assert!(rt; read(alloc, block, b"plum", 9)?.is_none());
+    Ok(())
+}
+
 #[test]
 fn an_absent_key_is_not_read(rt: HostRuntime) -> Tested {
     let block = block_of_three(&rt, rt.alloc())?;
-    assert!(rt; read(rt.alloc(), &block, b"plum", 9)?.is_none());
-    Ok(())
+    check_absent(&rt, rt.alloc(), &block)
 }

@@ -24,30 +24,43 @@ fn many(alloc: Global) -> Result<Vec<InternalValue>> {
     Ok(list)
 }
 
+/// Adds a block of all these entries to a writer.
+fn add_block(writer: &mut RunWriter<ByteSum, Vec<u8>>, list: &[InternalValue]) -> Result<()> {
+    if writer.fits_after(list) {
+        writer.add_block(list)
+    } else {
+        Err(Error::OutOfOrder)
+    }
+}
+
 /// Writes a run whose one block has all these entries, with a filter.
 fn write_block(alloc: Global, list: &[InternalValue]) -> Result<(RunHandles, Vec<u8>)> {
     let config = RunConfig::new(16, NO_BUCKETS, 10);
     let mut writer: RunWriter<ByteSum, Vec<u8>> = RunWriter::new(alloc, Vec::new(alloc), config);
-    if !writer.fits_after(list) {
-        return Err(Error::OutOfOrder);
+    match add_block(&mut writer, list) {
+        Ok(()) if writer.block_count() > 0 => writer.finish(),
+        Ok(()) => Err(Error::BadEntry),
+        Err(error) => Err(error),
     }
-    writer.add_block(list)?;
-    if writer.block_count() == 0 {
-        return Err(Error::BadEntry);
-    }
-    writer.finish()
 }
 
-/// How many of the entries a run of these bytes has, by its check, and how many of some are found.
-fn counts_of(alloc: Global, handles: &RunHandles, bytes: &[u8]) -> Result<(u64, u32)> {
-    let (run, summary) = RunRef::<ByteSum>::check(alloc, bytes, handles)?;
+/// How many of some of the entries are found in a run.
+fn count_found(run: &RunRef<'_, ByteSum>) -> u32 {
     let mut found = 0u32;
     for number in (0..MANY).step_by(1000) {
         if run.find(&key_of(number), 2, &mut Steps::new()).is_some() {
             found = found.saturating_add(1);
         }
     }
-    Ok((summary.entries, found))
+    found
+}
+
+/// How many of the entries a run of these bytes has, by its check, and how many of some are found.
+fn counts_of(alloc: Global, handles: &RunHandles, bytes: &[u8]) -> Result<(u64, u32)> {
+    match RunRef::<ByteSum>::check(alloc, bytes, handles) {
+        Ok((run, summary)) => Ok((summary.entries, count_found(&run))),
+        Err(error) => Err(error),
+    }
 }
 
 /// Writes the run, checks it, and finds some of its keys.
