@@ -25,14 +25,8 @@ fn write_once(to: &mut SlowWriter, list: &[InternalValue]) -> Result<RunHandles>
     write_run::<ByteSum, InternalValue, SlowWriter>(alloc, to, list, &[1, 2], config)
 }
 
-/// Writes the worked run block by block. After a block is refused, each further one is.
-fn write_blocks(to: &mut SlowWriter, list: &[InternalValue]) -> Result<RunHandles> {
-    let alloc = *to.taken.allocator();
-    let mut writer: RunWriter<ByteSum, &mut SlowWriter> = RunWriter::new(
-        alloc,
-        to,
-        RunConfig::new(1, NO_BUCKETS, 10),
-    );
+/// Adds entries to a writer, a block of each. After a block is refused, each further one is.
+fn add_blocks<W: Write>(writer: &mut RunWriter<ByteSum, W>, list: &[InternalValue]) -> Result<()> {
     let mut refused = Ok(());
     for block in list.chunks(1) {
         if !writer.fits_after(block) {
@@ -44,11 +38,19 @@ fn write_blocks(to: &mut SlowWriter, list: &[InternalValue]) -> Result<RunHandle
         }
         refused = added;
     }
-    refused?;
-    if writer.block_count() == 0 {
-        return Err(Error::TooLong);
+    refused
+}
+
+/// Writes the worked run block by block.
+fn write_blocks(to: &mut SlowWriter, list: &[InternalValue]) -> Result<RunHandles> {
+    let alloc = *to.taken.allocator();
+    let config = RunConfig::new(1, NO_BUCKETS, 10);
+    let mut writer: RunWriter<ByteSum, &mut SlowWriter> = RunWriter::new(alloc, to, config);
+    match add_blocks(&mut writer, list) {
+        Ok(()) if writer.block_count() > 0 => Ok(writer.finish()?.0),
+        Ok(()) => Err(Error::TooLong),
+        Err(error) => Err(error),
     }
-    Ok(writer.finish()?.0)
 }
 
 /// How a run is moved over a device.
@@ -137,30 +139,57 @@ fn see_written(written: Result<RunHandles>, to: &SlowWriter) -> (Result<Option<u
     (seen, to.calls)
 }
 
+/// What is seen of a run that was moved, and how many calls did not fail.
+type Moved = (Result<Option<u8>>, usize);
+
+/// Writes the worked run at once to a writer that fails like this.
+fn moved_once(alloc: Global, mut to: SlowWriter) -> Result<Moved> {
+    let list = list_of(alloc, THREE)?;
+    let written = write_once(&mut to, &list);
+    Ok(see_written(written, &to))
+}
+
+/// Writes the worked run block by block to such a writer.
+fn moved_in_blocks(alloc: Global, mut to: SlowWriter) -> Result<Moved> {
+    let list = list_of(alloc, THREE)?;
+    let written = write_blocks(&mut to, &list);
+    Ok(see_written(written, &to))
+}
+
+/// Reads the worked run from a file whose call of this number fails.
+fn moved_from_file(alloc: Global, fails_at: usize) -> Moved {
+    let mut file = SlowFile::new(&THREE_BLOCKS, fails_at);
+    let read = read_from(alloc, &mut FileSource::new(&mut file));
+    (read, file.calls)
+}
+
+/// Reads the worked run from a source of frames that fails like this.
+fn moved_from_source(alloc: Global, mut source: FailingSource) -> Moved {
+    let read = read_from(alloc, &mut source);
+    (read, source.calls)
+}
+
 /// Moves the worked run in a way, the call of this number failing: what is seen, and how many
 /// calls did not fail.
-fn move_by(alloc: Global, way: Way, fails_at: usize) -> Result<(Result<Option<u8>>, usize)> {
+fn move_by(alloc: Global, way: Way, fails_at: usize) -> Result<Moved> {
     match way {
         Way::Once(failure) => {
-            let mut to = SlowWriter::failing(Vec::new(alloc), fails_at, failure);
-            let written = write_once(&mut to, &list_of(alloc, THREE)?);
-            Ok(see_written(written, &to))
+            moved_once(
+                alloc,
+                SlowWriter::failing(Vec::new(alloc), fails_at, failure),
+            )
         }
         Way::Blocks(failure) => {
-            let mut to = SlowWriter::failing(Vec::new(alloc), fails_at, failure);
-            let written = write_blocks(&mut to, &list_of(alloc, THREE)?);
-            Ok(see_written(written, &to))
+            moved_in_blocks(
+                alloc,
+                SlowWriter::failing(Vec::new(alloc), fails_at, failure),
+            )
         }
-        Way::File => {
-            let mut file = SlowFile::new(&THREE_BLOCKS, fails_at);
-            let read = read_from(alloc, &mut FileSource::new(&mut file));
-            Ok((read, file.calls))
-        }
-        Way::Source => {
-            let mut source = FailingSource::new(Slice::new(alloc, &THREE_BLOCKS)?, fails_at);
-            let read = read_from(alloc, &mut source);
-            Ok((read, source.calls))
-        }
+        Way::File => Ok(moved_from_file(alloc, fails_at)),
+        Way::Source => match Slice::new(alloc, &THREE_BLOCKS) {
+            Ok(bytes) => Ok(moved_from_source(alloc, FailingSource::new(bytes, fails_at))),
+            Err(error) => Err(error),
+        },
     }
 }
 
@@ -249,15 +278,37 @@ fn drain<S: FrameSource>(alloc: Global, scan: &mut Scan<'_, ByteSum, S>) {
     }
 }
 
-/// The errors of two steps over a source that fails at a call.
-fn errors_at(alloc: Global, fails_at: usize) -> Result<(Option<Error>, Option<Error>)> {
-    let source = FailingSource::new(Slice::new(alloc, &THREE_BLOCKS)?, fails_at);
-    let table = Table::<ByteSum, _>::open(alloc, source, worked_handles())?;
-    let mut scan = table.scan();
-    drain(alloc, &mut scan);
+/// The errors of a step from the front and of one from the back.
+type Errors = (Option<Error>, Option<Error>);
+
+/// The errors of two steps of a scan.
+fn errors_of<S: FrameSource>(alloc: Global, scan: &mut Scan<'_, ByteSum, S>) -> Errors {
     let first = scan.next_entry(alloc).err();
     let last = scan.next_entry_back(alloc).err();
-    Ok((first, last))
+    (first, last)
+}
+
+/// The errors of two steps of a scan after all that it gives.
+fn errors_after<S: FrameSource + Drop>(alloc: Global, mut scan: Scan<'_, ByteSum, S>) -> Errors {
+    drain(alloc, &mut scan);
+    errors_of(alloc, &mut scan)
+}
+
+/// The worked run in a source that may fail.
+type Opened = Table<ByteSum, FailingSource>;
+
+/// Opens the worked run in a source that fails at a call.
+fn open_at(alloc: Global, fails_at: usize) -> Result<Opened> {
+    let source = FailingSource::new(Slice::new(alloc, &THREE_BLOCKS)?, fails_at);
+    Ok(Opened::open(alloc, source, worked_handles())?)
+}
+
+/// The errors of two steps over a source that fails at a call.
+fn errors_at(alloc: Global, fails_at: usize) -> Result<Errors> {
+    match open_at(alloc, fails_at) {
+        Ok(table) => Ok(errors_after(alloc, table.scan())),
+        Err(error) => Err(error),
+    }
 }
 
 #[test]
