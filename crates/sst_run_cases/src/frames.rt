@@ -42,8 +42,8 @@ fn frame<H: BlockHash>(alloc: Global, room: &mut Room, words: &[&str]) -> Result
     let [kind] = words else {
         return Err(Fault::Word);
     };
-    let mut frame = Vec::new(alloc);
     let kind = type_of(kind)?;
+    let mut frame = Vec::new(alloc);
     let header = Block::write_into::<H, Vec<u8>>(&mut frame, room.payload.as_slice(), kind)?;
     let text = text_of(alloc, &header)?;
     room.payload = frame;
@@ -170,12 +170,17 @@ fn file<H: BlockHash>(alloc: Global, room: &Room, words: &[&str]) -> Result<Stri
 
 /// Reads the payload, with checksums that fit where the words say so, in a way.
 fn read<H: BlockHash>(alloc: Global, room: &Room, words: &[&str], way: Way) -> Result<String> {
-    let bytes = match words {
-        [] => mended::<H>(alloc, room, "none")?,
-        ["mended", which] => mended::<H>(alloc, room, which)?,
+    let which = match words {
+        [] => "none",
+        ["mended", which] => *which,
         _ => return Err(Fault::Word),
     };
-    let bytes = bytes.as_slice();
+    let bytes = mended::<H>(alloc, room, which)?;
+    read_by::<H>(alloc, bytes.as_slice(), way)
+}
+
+/// Reads bytes in a way.
+fn read_by<H: BlockHash>(alloc: Global, bytes: &[u8], way: Way) -> Result<String> {
     match way {
         Way::Stream => stream::<H>(alloc, bytes),
         Way::Whole => whole::<H>(alloc, bytes),

@@ -42,6 +42,23 @@ pub enum Place {
     File,
 }
 
+/// The check of a table.
+fn verified<H: BlockHash, S: FrameSource>(
+    alloc: Global,
+    table: &mut Table<H, S>,
+) -> Result<String> {
+    summary_of(alloc, table.verify(alloc))
+}
+
+/// A read of a table.
+fn read_in<H: BlockHash, S: FrameSource>(
+    alloc: Global,
+    table: &mut Table<H, S>,
+    query: Query<'_>,
+) -> Result<String> {
+    text_of(alloc, table.get(alloc, query.0, query.1, &mut Steps::new()))
+}
+
 /// What a table answers.
 fn of_table<H: BlockHash, S: FrameSource + Drop>(
     alloc: Global,
@@ -49,10 +66,8 @@ fn of_table<H: BlockHash, S: FrameSource + Drop>(
     asked: Asked<'_>,
 ) -> Result<String> {
     match asked {
-        Asked::Check | Asked::Verify => summary_of(alloc, table.verify(alloc)),
-        Asked::Fetch((key, seqno)) | Asked::Read((key, seqno)) => {
-            text_of(alloc, table.get(alloc, key, seqno, &mut Steps::new()))
-        }
+        Asked::Check | Asked::Verify => verified(alloc, &mut table),
+        Asked::Fetch(query) | Asked::Read(query) => read_in(alloc, &mut table, query),
         Asked::Scan(path) => scan_table(alloc, table, path),
     }
 }
