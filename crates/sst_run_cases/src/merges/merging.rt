@@ -205,6 +205,15 @@ fn compacted<I: Source<InternalValue> + Drop, B: Bottom + Drop>(
     drained(alloc, &mut Compact::new(merge, snapshots, bottom))
 }
 
+/// What a snapshot sees of a source.
+fn seen_of<I: Source<InternalValue> + Drop>(
+    alloc: Global,
+    source: I,
+    seqno: u64,
+) -> Result<String> {
+    drained(alloc, &mut Snapshot::new(source, seqno))
+}
+
 /// What a snapshot sees of sources.
 fn seen<I: Source<InternalValue> + Drop>(
     alloc: Global,
@@ -212,7 +221,7 @@ fn seen<I: Source<InternalValue> + Drop>(
     seqno: u64,
 ) -> Result<String> {
     let merge = merge_of(alloc, sources)?;
-    drained(alloc, &mut Snapshot::new(merge, seqno))
+    seen_of(alloc, merge, seqno)
 }
 
 /// What a snapshot sees of a compaction of sources.
@@ -224,8 +233,7 @@ fn seen_compacted<I: Source<InternalValue> + Drop>(
     seqno: u64,
 ) -> Result<String> {
     let merge = merge_of(alloc, sources)?;
-    let compact = Compact::new(merge, snapshots, bottom);
-    drained(alloc, &mut Snapshot::new(compact, seqno))
+    seen_of(alloc, Compact::new(merge, snapshots, bottom), seqno)
 }
 
 /// A compaction of the sources: SNAPSHOTS LEVEL, or SNAPSHOTS over RANGES of the older tables.
@@ -251,8 +259,10 @@ pub fn snapshot(alloc: Global, room: &Room, words: &[&str]) -> Result<String> {
             seen(alloc, sources_of(alloc, room), seqno)
         }
         [seqno, snapshots, level] => {
-            let (snapshots, bottom) = (snapshots_of(alloc, snapshots)?, level_of(level)?);
-            let seqno = number_of(seqno)?;
+            let snapshots = snapshots_of(alloc, snapshots)?;
+            let (Ok(bottom), Ok(seqno)) = (level_of(level), number_of(seqno)) else {
+                return Err(Fault::Word);
+            };
             seen_compacted(alloc, sources_of(alloc, room), snapshots, bottom, seqno)
         }
         _ => Err(Fault::Word),

@@ -26,21 +26,34 @@ fn write(store: &mut Store, key: Slice, value: Option<Slice>) -> Result<SeqNo> {
     }
 }
 
+/// Writes what a word says, and returns its sequence number.
+fn written(alloc: Global, store: &mut Store, word: &str) -> Result<SeqNo> {
+    match word.split_once(':') {
+        Some((key, value)) => {
+            let key = slice_of(alloc, key)?;
+            write(store, key, Some(slice_of(alloc, value)?))
+        }
+        None => write(store, slice_of(alloc, word)?, None),
+    }
+}
+
 /// Writes what a word says: KEY:VALUE, or KEY to delete it.
 fn write_word(alloc: Global, store: &mut Store, word: &str) -> Result<String> {
-    let seqno = match word.split_once(':') {
-        Some((key, value)) => write(store, slice_of(alloc, key)?, Some(slice_of(alloc, value)?))?,
-        None => write(store, slice_of(alloc, word)?, None)?,
-    };
+    let seqno = written(alloc, store, word)?;
     Ok(format!(in alloc; "{seqno}")?)
+}
+
+/// Reads a key below a sequence number.
+fn read_at(alloc: Global, store: &mut Store, key: &[u8], seqno: SeqNo) -> Result<String> {
+    let found = store.get(key, seqno)?;
+    word_of_found(alloc, found.as_ref())
 }
 
 /// Reads what a word says: KEY:SEQNO.
 fn read(alloc: Global, store: &mut Store, word: &str) -> Result<String> {
     let (key, seqno) = word.split_once(':').ok_or(Fault::Word)?;
     let key = bytes_of(alloc, key)?;
-    let found = store.get(key.as_slice(), number_of(seqno)?)?;
-    word_of_found(alloc, found.as_ref())
+    read_at(alloc, store, key.as_slice(), number_of(seqno)?)
 }
 
 /// The word of a flush or a compaction, after which the story goes on also where it fails.

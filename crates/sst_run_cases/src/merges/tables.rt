@@ -118,9 +118,9 @@ fn text_of(alloc: Global, summary: &RunSummary) -> Result<String> {
 }
 
 /// The numbers of entries and of blocks of a table.
-fn counts_in<H: BlockHash, S: FrameSource + Drop>(
+fn counts_in<H: BlockHash, S: FrameSource>(
     alloc: Global,
-    mut table: Table<H, S>,
+    table: &mut Table<H, S>,
 ) -> Result<String> {
     match table.verify(alloc) {
         Ok(summary) => text_of(alloc, &summary),
@@ -130,8 +130,10 @@ fn counts_in<H: BlockHash, S: FrameSource + Drop>(
 
 /// The numbers of entries and of blocks of a written table.
 fn counts_of<H: BlockHash>(alloc: Global, written: &KeptTable) -> Result<String> {
-    let table = table_of::<H>(alloc, written)?;
-    counts_in(alloc, table)
+    match table_of::<H>(alloc, written) {
+        Ok(mut table) => counts_in(alloc, &mut table),
+        Err(fault) => Err(fault),
+    }
 }
 
 /// The numbers of entries and of blocks of each table.
@@ -143,16 +145,25 @@ fn all_counts<H: BlockHash>(alloc: Global, tables: &[KeptTable]) -> Result<Strin
     or_none(alloc, text)
 }
 
-/// Compacts the sources into tables: SNAPSHOTS LEVEL BLOCK_SIZE TABLE_SIZE.
-fn tables<H: BlockHash>(alloc: Global, room: &mut Room, words: &[&str]) -> Result<String> {
+/// The plan of some words: SNAPSHOTS LEVEL BLOCK_SIZE TABLE_SIZE.
+fn plan_of(alloc: Global, words: &[&str]) -> Result<Plan> {
     let [snapshots, level, block, table] = words else {
         return Err(Fault::Word);
     };
-    let plan = Plan {
-        snapshots: snapshots_of(alloc, snapshots)?,
-        bottom: level_of(level)?,
-        sizes: sizes_of(block, table)?,
-    };
+    let snapshots = snapshots_of(alloc, snapshots)?;
+    match (level_of(level), sizes_of(block, table)) {
+        (Ok(bottom), Ok(sizes)) => Ok(Plan {
+            snapshots,
+            bottom,
+            sizes,
+        }),
+        _ => Err(Fault::Word),
+    }
+}
+
+/// Compacts the sources into tables: SNAPSHOTS LEVEL BLOCK_SIZE TABLE_SIZE.
+fn tables<H: BlockHash>(alloc: Global, room: &mut Room, words: &[&str]) -> Result<String> {
+    let plan = plan_of(alloc, words)?;
     room.tables = compacted::<H, _>(alloc, sources_of(alloc, room), plan)?;
     all_counts::<H>(alloc, room.tables.as_slice())
 }
@@ -166,6 +177,19 @@ fn ranged<H: BlockHash, S: FrameSource + Drop>(
     Ok(Ranged::new(table, summary.first_key, summary.last_key))
 }
 
+/// Opens a table as a reader, with the range of its keys.
+fn reader_of<H: BlockHash>(alloc: Global, written: &KeptTable) -> Result<Ranged<OpenTable<H>>> {
+    match table_of::<H>(alloc, written) {
+        Ok(table) => ranged(alloc, table),
+        Err(fault) => Err(fault),
+    }
+}
+
+/// Adds what was made to a list.
+fn add<T: Drop>(list: &mut Vec<T>, made: Result<T>) -> Result<()> {
+    Ok(list.push(made?)?)
+}
+
 /// The tables as readers, each with the range of its keys.
 fn readers_of<H: BlockHash>(
     alloc: Global,
@@ -173,7 +197,7 @@ fn readers_of<H: BlockHash>(
 ) -> Result<Vec<Ranged<OpenTable<H>>>> {
     let mut readers = Vec::new(alloc);
     for written in tables {
-        readers.push(ranged(alloc, table_of::<H>(alloc, written)?)?)?;
+        add(&mut readers, reader_of::<H>(alloc, written))?;
     }
     Ok(readers)
 }
@@ -219,15 +243,17 @@ type StoredScan<H> = Scan<'static, H, MemorySource>;
 
 /// Opens a table and scans it.
 fn scan_of<H: BlockHash>(alloc: Global, written: &KeptTable) -> Result<StoredScan<H>> {
-    let table = table_of::<H>(alloc, written)?;
-    Ok(table.scan_range(Bound::Unbounded, Bound::Unbounded))
+    match table_of::<H>(alloc, written) {
+        Ok(table) => Ok(table.scan_range(Bound::Unbounded, Bound::Unbounded)),
+        Err(fault) => Err(fault),
+    }
 }
 
 /// Scans of tables.
 fn scans_of<H: BlockHash>(alloc: Global, tables: &[KeptTable]) -> Result<Vec<StoredScan<H>>> {
     let mut scans = Vec::new(alloc);
     for written in tables {
-        scans.push(scan_of::<H>(alloc, written)?)?;
+        add(&mut scans, scan_of::<H>(alloc, written))?;
     }
     Ok(scans)
 }
