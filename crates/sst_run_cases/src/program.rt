@@ -176,7 +176,7 @@ fn sst<R: LockFiles>(rt: &R, alloc: Global, room: &Room, words: &[&str]) -> Resu
     }
 }
 
-/// Appends the line of an entry.
+/// Appends the line of the word of an entry.
 fn push_line(lines: &mut Vec<u8>, word: &str) -> Result<()> {
     for byte in word.as_bytes() {
         lines.push(if *byte == b'.' { b' ' } else { *byte })?;
@@ -184,11 +184,17 @@ fn push_line(lines: &mut Vec<u8>, word: &str) -> Result<()> {
     Ok(lines.push(b'\n')?)
 }
 
+/// Appends the line of an entry of the list.
+fn push_entry(alloc: Global, lines: &mut Vec<u8>, entry: &InternalValue) -> Result<()> {
+    let word = word_of(alloc, entry)?;
+    push_line(lines, word.as_str())
+}
+
 /// Makes the lines of the list the input.
 fn lines(alloc: Global, room: &mut Room) -> Result<String> {
     let mut lines = Vec::new(alloc);
     for entry in &room.entries {
-        push_line(&mut lines, word_of(alloc, entry)?.as_str())?;
+        push_entry(alloc, &mut lines, entry)?;
     }
     room.input = lines;
     word_of_text(alloc, room.input.as_slice())
@@ -206,15 +212,21 @@ fn line_of(alloc: Global, entry: &InternalValue) -> Result<String> {
     word_of_text(alloc, line.as_bytes())
 }
 
+/// Returns the line of an entry, as a word, or `none`.
+fn line_of_found(alloc: Global, found: Option<&InternalValue>) -> Result<String> {
+    match found {
+        Some(entry) => line_of(alloc, entry),
+        None => Ok(String::from_str(alloc, "none")?),
+    }
+}
+
 /// Reads an entry line, and prints the line of the entry: LINE.
 fn line(alloc: Global, words: &[&str]) -> Result<String> {
     let [word] = words else {
         return Err(Fault::Word);
     };
-    match entry_of(alloc, word)? {
-        Some(entry) => line_of(alloc, &entry),
-        None => Ok(String::from_str(alloc, "none")?),
-    }
+    let found = entry_of(alloc, word)?;
+    line_of_found(alloc, found.as_ref())
 }
 
 /// Makes a file of the payload: NAME.

@@ -17,13 +17,14 @@ use std::alloc::Global;
 /// Returns the text of the handles of a run.
 fn text_of(alloc: Global, handles: &RunHandles) -> Result<String> {
     let (offset, size) = (*handles.index.offset(), handles.index.size());
-    match &handles.filter {
+    let text = match &handles.filter {
         Some(filter) => {
             let (at, len) = (*filter.offset(), filter.size());
-            Ok(format!(in alloc; "index {offset} {size}, filter {at} {len}")?)
+            format!(in alloc; "index {offset} {size}, filter {at} {len}")
         }
-        None => Ok(format!(in alloc; "index {offset} {size}, no filter")?),
-    }
+        None => format!(in alloc; "index {offset} {size}, no filter"),
+    };
+    Ok(text?)
 }
 
 /// Performs a command, if it is one on runs.
