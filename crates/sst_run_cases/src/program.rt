@@ -229,13 +229,18 @@ fn line(alloc: Global, words: &[&str]) -> Result<String> {
     line_of_found(alloc, found.as_ref())
 }
 
+/// Returns how many bytes the payload has.
+fn size_of_payload(alloc: Global, room: &Room) -> Result<String> {
+    Ok(format!(in alloc; "{} bytes", room.payload.len())?)
+}
+
 /// Makes a file of the payload: NAME.
 fn save<R: Files>(rt: &R, alloc: Global, room: &Room, words: &[&str]) -> Result<String> {
     let [name] = words else {
         return Err(Fault::Word);
     };
     fs::write(rt, *name, room.payload.as_slice())?;
-    Ok(format!(in alloc; "{} bytes", room.payload.len())?)
+    size_of_payload(alloc, room)
 }
 
 /// Makes the bytes of a file the payload: NAME.
@@ -244,7 +249,7 @@ fn load<R: Files + AllocGlobal>(rt: &R, room: &mut Room, words: &[&str]) -> Resu
         return Err(Fault::Word);
     };
     room.payload = fs::read(rt, *name)?;
-    Ok(format!(in rt.alloc(); "{} bytes", room.payload.len())?)
+    size_of_payload(rt.alloc(), room)
 }
 
 /// Sets a byte: OFFSET BYTE.
@@ -267,20 +272,27 @@ fn set(alloc: Global, room: &mut Room, words: &[&str]) -> Result<String> {
     for pair in words.chunks(2) {
         set_byte(room.payload.as_mut_slice(), pair)?;
     }
-    Ok(format!(in alloc; "{} bytes", room.payload.len())?)
+    size_of_payload(alloc, room)
+}
+
+/// Returns a part of bytes: START END.
+fn part_of(alloc: Global, bytes: &[u8], words: &[&str]) -> Result<Vec<u8>> {
+    let [start, end] = words else {
+        return Err(Fault::Word);
+    };
+    let (Ok(start), Ok(end)) = (number_of(start), number_of(end)) else {
+        return Err(Fault::Word);
+    };
+    match bytes.get(start as usize..end as usize) {
+        Some(part) => Ok(part.to_vec(alloc)?),
+        None => Err(Fault::Word),
+    }
 }
 
 /// Cuts the payload: START END.
 fn cut(alloc: Global, room: &mut Room, words: &[&str]) -> Result<String> {
-    let [start, end] = words else {
-        return Err(Fault::Word);
-    };
-    let (start, end) = (number_of(start)? as usize, number_of(end)? as usize);
-    let Some(part) = room.payload.get(start..end) else {
-        return Err(Fault::Word);
-    };
-    room.payload = part.to_vec(alloc)?;
-    Ok(format!(in alloc; "{} bytes", room.payload.len())?)
+    room.payload = part_of(alloc, room.payload.as_slice(), words)?;
+    size_of_payload(alloc, room)
 }
 
 /// Performs a command on files and bytes, if it is one.
