@@ -1,7 +1,5 @@
 -- Places in bytes, by those in a part of them, such as the payload of a run's block.
 use Rattle.std.proofs.Common.{◌≡◌, ℕ, ◌+◌, ◌-◌, ◌≤◌, ◌<◌, Option, Some, None, IfSome, List, ◌++◌, length, take, drop, arith, sym, ◌∙◌, ap}
-use Rattle.std.proofs.Math.Nat.{min-le_left}
-use Rattle.std.proofs.Math.Seq.{take-length}
 use Rattle.std.proofs.lemmas.List.{drop-drop, drop-take, length-drop, length-take, length-take-le, take-take}
 use Rattle.sst_base.specs.BlockHandle.{HandleParts}
 use Rattle.sst_base.specs.Entry.{Entry}
@@ -55,19 +53,6 @@ frame_part bytes h range =
       is = ap (λ n. take n rest) size;
       inside = omega (arith, size, range.inside, range.header);
     }
-
--- it is no longer than its frame
-pub payload_fits : (bytes : List ℕ) (h : HandleParts) → length (payload_in bytes h) ≤ h.size
-unfolding payload_in
-payload_fits bytes h =
-    let rest = drop (h.offset + 33) bytes in
-    let least = min-le_left (h.size - 33) (length rest) in
-    let size = length-take (h.size - 33) rest in
-    omega (arith, least, size)
-
--- bytes are a part of themselves
-pub whole_part : (bytes : List ℕ) → IsPartAt bytes 0 bytes
-whole_part bytes = record { is = take-length bytes; inside = omega arith }
 
 -- a frame has some bytes
 pub some_frame : (bytes : List ℕ) (f : Option HandleParts) → IfSome f (IsFrameRange bytes) → IfSome f (λ h. 0 < h.size)

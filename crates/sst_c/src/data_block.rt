@@ -298,7 +298,7 @@ fn encode(
         Err(status) => return status,
     };
     let mut payload = Vec::new(alloc);
-    match DataBlock::<Xxh3>::encode_views_into(&mut payload, items.as_slice(), interval, ratio) {
+    match DataBlock::<Xxh3>::encode_into(&mut payload, items.as_slice(), interval, ratio) {
         Ok(()) => write_bytes(payload.as_slice(), out, out_len),
         Err(error) => Status::Failed(error),
     }

@@ -24,7 +24,7 @@ use sstable_blocks::RunHandles;
 use sstable_blocks::run::laws::sound_opens;
 
 // The index of a sound run.
-#[tactic(auto, using(crate::proofs::Places::payload_fits))]
+#[tactic(auto, using(sstable_blocks::specs::RunLaws::payload_fits))]
 fn index_of<'a>(bytes: &'a [u8], handles: &RunHandles) -> IndexBlockRef<'a>
     requires { IsSoundRun run_hashes bytes.now handles.now }
     ensures { result.items ≡ index_in bytes.now handles.now.index }
@@ -64,7 +64,7 @@ pub extern "C" fn sst_run_seek(bytes: &[u8], handles: &SstRunHandles, key: &[u8]
 }
 
 // Writes where the entries of the block in a frame are in the run.
-#[tactic(auto, using(crate::proofs::Places::payload_fits))]
+#[tactic(auto, using(sstable_blocks::specs::RunLaws::payload_fits))]
 fn list_frame(
     bytes: &[u8],
     handle: &BlockHandle,

@@ -1,5 +1,5 @@
 //! Writes entries as a block, and reads one of them by its key.
-ghost use Rattle.sstable_blocks.specs.Prelude.{IsEncodable, GivesNewest};
+ghost use Rattle.sstable_blocks.specs.Prelude.{IsEncodable, GivesNewest, FailsAsEncoding};
 
 use sstable_blocks::{
     Block, BlockType, DataBlock, HashRatio, InternalValue, Result, SeqNo, Slice, Steps, Xxh3,
@@ -20,7 +20,8 @@ pub fn newest_below(
     seqno: SeqNo,
 ) -> Result<Option<InternalValue>>
     requires { IsEncodable items.now }
-    ensures { GivesNewest result items.now key.now seqno }
+    ensures newest { GivesNewest result items.now key.now seqno }
+    ensures errors { FailsAsEncoding result }
 {
     let no_buckets = HashRatio { num: 0, den: 1 };
     let payload = DataBlock::<Xxh3>::encode_into_vec(alloc, items, 16, no_buckets)?;

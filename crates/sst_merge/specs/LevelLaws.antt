@@ -33,10 +33,6 @@ and_split : (a b : Bool) → (a && b) ≡ true → (a ≡ true) × (b ≡ true)
 and_split true b h = (refl, h)
 and_split false b h = absurd (cc)
 
-and_false : (a b : Bool) → b ≡ false → (a && b) ≡ false
-and_false true b h = h
-and_false false b h = refl
-
 -- what holds of all holds of the first that passes
 first_has : (test : Entry → Bool) (P : Entry → Type 0) (xs : List Entry) → AllByRecursion P xs → IfSome (first test xs) (λ e. P e × (test e ≡ true))
 first_has test P [] all = tt

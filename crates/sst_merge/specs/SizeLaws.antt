@@ -159,12 +159,6 @@ joined_some blocks front b e some =
     let w : length (joined blocks) ≡ length (joined front) + length b = ap length (ap joined e ∙ joined_push front b) ∙ length-append (joined front) b in
     omega (arith, w, some)
 
--- where a first item is seen, some are left
-pub some_peeked : {X Y : Type 0} (f : Y → X) (list : Option (List X)) (r : Y) → IfSome list (λ xs. Some (f r) ≡ slice_get xs 0) → IfSome list (λ xs. 1 ≤ length xs)
-some_peeked f None r h = tt
-some_peeked f (Some []) r h = absurd (cc)
-some_peeked f (Some (x ∷ xs)) r h = omega arith
-
 pub some_first : {X Y : Type 0} (f : Y → X) (list : Option (List X)) (r : Option Y) → IfSome list (λ xs. option_map f r ≡ slice_get xs 0) → is_some r ≡ true → IfSome list (λ xs. 1 ≤ length xs)
 some_first f None r h e = tt
 some_first f (Some []) None h e = absurd (cc)

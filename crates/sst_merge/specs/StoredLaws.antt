@@ -1,12 +1,11 @@
 -- Laws of scans as sources.
-use Rattle.std.proofs.Common.{◌≡◌, ℕ, List, [], ◌∷◌, map, reverse, Option, Some, None, Result, Ok, Err, refl, sym, ap, subst, ◌∙◌, arith}
-use Rattle.std.proofs.lemmas.List.{reverse-append}
+use Rattle.std.proofs.Common.{◌≡◌, ℕ, List, [], ◌∷◌, map, Option, Some, None, Result, Ok, Err, refl, sym, ap, subst, ◌∙◌, arith}
 use Rattle.std.specs.Option.{option_map, IfSome}
 use Rattle.std.specs.Result.{IfOk}
 use Rattle.sst_base.specs.Entry.{Entry}
 use Rattle.sst_base.specs.declared.error.Error.{Error}
 use Rattle.sstable_blocks.specs.Ends.{IsFewer}
-use Rattle.sstable_blocks.specs.Scans.{Read, GivesFirst, GivesLast, EndsBy}
+use Rattle.sstable_blocks.specs.Scans.{Read, GivesFirst, EndsBy}
 use Rattle.sst_merge.specs.Sources.{TakesFirst}
 use Rattle.sst_merge.specs.Stored.{known_reads, scan_list}
 
@@ -53,13 +52,3 @@ module _ (F R : Type 0) (b c : Option (List ℕ)) (r s : List ℕ → List Read)
       subst (λ o. TakesFirst (record { list = scan_list o b r; most = m; errors = p; ended = o }) x (record { list = scan_list new c s; most = n; errors = q; ended = new })) (sym here)
       (subst (λ o. TakesFirst (record { list = scan_list None b r; most = m; errors = p; ended = None }) x (record { list = scan_list o c s; most = n; errors = q; ended = o })) (sym there)
       (step_by x (subst (λ o. EndsBy o new (Ok x)) here ends) same (given F R b old (λ all. GivesFirst F R (r all) (s all) (Ok x)) here gives) fewer))
-
--- what a step from the back gives, seen from there
-from_back : (F R : Type 0) (r s : List Read) (x : Option Entry) → GivesLast F R r s (Ok x) → GivesFirst F R (reverse r) (reverse s) (Ok x)
-from_back F R r s None h = (ap reverse h.0, ap reverse h.1)
-from_back F R r s (Some x) h = ap reverse h ∙ reverse-append s (Ok x ∷ [])
-
-all_from_back : (F R : Type 0) (b : Option (List ℕ)) (r s : List ℕ → List Read) (old : Option Error) (x : Option Entry) → IfSome b (λ all. old ≡ None → GivesLast F R (r all) (s all) (Ok x))
-    → IfSome b (λ all. old ≡ None → GivesFirst F R (reverse (r all)) (reverse (s all)) (Ok x))
-all_from_back F R None r s old x h = tt
-all_from_back F R (Some all) r s old x h = λ e. from_back F R (r all) (s all) x (h e)

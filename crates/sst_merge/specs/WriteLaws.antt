@@ -1,5 +1,5 @@
 -- Laws of the errors of tables that are written.
-use Rattle.std.proofs.Common.{◌≡◌, ℕ, ◌≤◌, List, [], ◌∷◌, ◌++◌, length, map, Option, Some, None, Result, Ok, Err, refl, sym, ap, subst, ◌∙◌, arith, inl, inr, append_assoc, length-append}
+use Rattle.std.proofs.Common.{◌≡◌, ℕ, ◌≤◌, List, [], ◌∷◌, ◌++◌, length, map, Option, Some, None, Result, Ok, Err, refl, ap, subst, ◌∙◌, arith, inl, inr, length-append}
 use Rattle.std.specs.Prelude.{◌⊎◌, IfErr, IfSome}
 use Rattle.std.specs.List.{AllByRecursion}
 use Rattle.std.specs.Option.{option_map}
@@ -11,8 +11,9 @@ use Rattle.sst_base.specs.declared.error.Error.{Error}
 use Rattle.sst_block_core.specs.Entries.{entries}
 use Rattle.sst_block_core.specs.Kind.{IsOrdered, item_cmp}
 use Rattle.sstable_blocks.specs.Blocks.{joined}
-use Rattle.sstable_blocks.specs.Run.{Form, RunFits, IsFramed, block_frame, block_frames, block_payload}
-use Rattle.sstable_blocks.specs.Writing.{Follows, FrameFits, IsWriteRefusal}
+use Rattle.sstable_blocks.specs.Run.{Form, RunFits}
+use Rattle.sstable_blocks.specs.RunLaws.{fits_one}
+use Rattle.sstable_blocks.specs.Writing.{Follows, IsWriteRefusal}
 use Rattle.sst_merge.specs.ErrorLaws.{as_gives}
 use Rattle.sst_merge.specs.Outputs.{MayNotWriteAll}
 use Rattle.sst_merge.specs.SizeLaws.{filled_more}
@@ -61,23 +62,6 @@ out_of_order_later (Some ys) (Some rest) xs taken wrong =
     let is : ys ≡ xs ++ rest = cc in
     λ ordered. wrong (order_back (item_cmp entries) xs rest (subst (IsOrdered entries) is ordered))
 
-module _ (f : Form) where
-  frames_more : (xs ys : List (List Entry)) → block_frames f (xs ++ ys) ≡ block_frames f xs ++ block_frames f ys
-  frames_more [] ys = refl
-  frames_more (b ∷ bs) ys = ap (λ zs. block_frame f b ++ zs) (frames_more bs ys) ∙ sym (append_assoc (block_frame f b) (block_frames f bs) (block_frames f ys))
-
-  payload_fits : (blocks : List (List Entry)) (b : List Entry) → AllByRecursion (λ block. IsFramed (block_payload f block)) (blocks ++ b ∷ []) → IsFramed (block_payload f b)
-  payload_fits [] b all = all.0
-  payload_fits (c ∷ blocks) b all = payload_fits blocks b all.1
-
-  -- the last block of a run that fits, fits
-  fits_last : (blocks : List (List Entry)) (b : List Entry) → RunFits f (blocks ++ b ∷ []) → FrameFits f (length (block_frames f blocks)) b
-  fits_last blocks b fits =
-      let end = fits.end in
-      let m = ap length (frames_more blocks (b ∷ [])) ∙ length-append (block_frames f blocks) (block_frames f (b ∷ [])) in
-      let n = length-append (block_frame f b) (block_frames f []) in
-      record { framed = payload_fits blocks b fits.data_frames_fit; end = omega arith }
-
 -- where an item is left, one is taken
 some_taken : {X : Type 0} (entry : X → Entry) (before after : Option (List X)) (block : List X) → IsTaken before block after → (1 ≤ length block) ⊎ IfSome after (λ xs. xs ≡ []) → IfSome before (λ xs. 1 ≤ length xs)
     → (1 ≤ length (map entry block)) ⊎ (before ≡ None)
@@ -115,7 +99,7 @@ module _ {X : Type 0} (may_fail : Error → Type 0) (entry : X → Entry) (f : F
           rest = entries_in entry after.list;
           taken = taken_block (entries_in entry given.list) (entries_in entry before.list) (entries_in entry after.list) blocks (map entry block) taken now;
           filled = filled_more f.config.restart_interval size (entries_in entry before.list) (entries_in entry after.list) blocks (map entry block) filled now took.filled;
-          long = λ fits. long.1 (fits_last f blocks (map entry block) fits);
+          long = λ fits. long.1 (fits_one f blocks (map entry block) [] fits);
         },
       )))
   not_added before after block e taken filled less here (inr (inr (took, inr order))) =

@@ -14,7 +14,7 @@ use Rattle.sst_program.specs.Line.{entry_line_of}
 use Rattle.sst_program.specs.Lines.{entries_of_input}
 use Rattle.sst_program.specs.Point.{point_payload, point_text_of, answer_line_of}
 use Rattle.sst_program.specs.Query.{Query, Packing}
-use Rattle.sst_program.specs.Table.{IsPacked}
+use Rattle.sst_program.specs.Table.{IsPacked, IsTooLong}
 use Rattle.sst_program.specs.declared.pack.Packed.{Packed}
 
 -- an entry that sorts before its predecessor: its line is its index and one
@@ -127,15 +127,17 @@ HasPrinted (Some (Check file)) known old new = PrintsCounts old new
 abbrev pub IsLibraryRefusal : Fault → Type 0
 IsLibraryRefusal fault = (error : Error) × (fault ≡ Refused error)
 
--- a fault of `pack`: the input's, or that the run does not fit
-abbrev pub IsPackFault : Option (List ℕ) → Fault → Type 0
-IsPackFault known fault = IsFaultOf run_of_input known fault ⊎ (fault ≡ Refused TooLong)
+-- a fault of `pack`: the input's, or that the table of the input's entries does not fit
+abbrev pub IsPackFault : Packing → Option (List ℕ) → Fault → Type 0
+IsPackFault packing known fault =
+    IsFaultOf run_of_input known fault
+    ⊎ ((fault ≡ Refused TooLong) × (items : List Entry) × IsOutcomeOf run_of_input known items × IsTooLong packing.config packing.per_block items)
 
 -- the fault that a run reports, if it did not fail. Words that encode no command are a usage fault.
 abbrev pub IsReported : Option Command → Option (List ℕ) → Fault → Type 0
 IsReported None known fault = IsFailure fault ⊎ (fault ≡ Usage)
 IsReported (Some (Point query)) known fault = IsFaultOf (outcome_of_query query) known fault
-IsReported (Some (Pack packing)) known fault = IsPackFault known fault
+IsReported (Some (Pack packing)) known fault = IsPackFault packing known fault
 IsReported (Some (Get lookup)) known fault = IsLibraryRefusal fault
 IsReported (Some (Walk file)) known fault = IsLibraryRefusal fault
 IsReported (Some (Check file)) known fault = IsLibraryRefusal fault

@@ -1,13 +1,12 @@
 -- Table files: the blocks that `pack` cuts, and the bytes that it writes.
-use Rattle.std.specs.Prelude.{◌≡◌, ◌⊎◌, ℕ, ◌≤◌, List, [], ◌∷◌, length, Option}
+use Rattle.std.specs.Prelude.{◌≡◌, ℕ, ◌≤◌, List, [], ◌∷◌, ◌++◌, length, Option}
 use Rattle.std.specs.Io.KnownBytes.{Appends}
 use Rattle.sst_base.specs.Entry.{Entry}
 use Rattle.sst_base.specs.declared.error.Error.{Error}
-use Rattle.sst_base.specs.declared.error.Error.TheVariants.{Io, TooLong, Memory}
 use Rattle.sst_base.specs.Hashes.{poly31}
 use Rattle.sstable_blocks.specs.Blocks.{joined}
 use Rattle.sstable_blocks.specs.Run.{Form, form}
-use Rattle.sstable_blocks.specs.Writing.{IsTable}
+use Rattle.sstable_blocks.specs.Writing.{IsTable, IsWriteRefusal, TableFits}
 use Rattle.sstable_blocks.specs.declared.run.RunConfig.{RunConfig}
 use Rattle.sstable_blocks.specs.declared.run.RunHandles.{RunHandles}
 use Rattle.sst_program.specs.declared.pack.Packed.{Packed}
@@ -27,9 +26,17 @@ pub record IsCutBy {X : Type 0} (n : ℕ) (items : List X) (blocks : List (List 
 abbrev pub sst_form : RunConfig → Form
 sst_form config = form (poly31 64) (poly31 128) config
 
--- why a table is not written: the writer failed, it does not fit, or an allocation failed
-abbrev pub IsWriteFault : Error → Type 0
-IsWriteFault e = (e ≡ Io) ⊎ (e ≡ TooLong) ⊎ (e ≡ Memory)
+-- entries of which a front, cut into blocks of n, is no table that fits
+pub record IsTooLong (config : RunConfig) (n : ℕ) (items : List Entry) : Type 0 where
+  pub blocks : List (List Entry)
+  pub rest : List Entry
+  pub all : joined blocks ++ rest ≡ items
+  pub sizes : HaveSize n blocks
+  pub long : TableFits (sst_form config) blocks → ⊥
+
+-- why a table of entries in blocks of n is not written: the writer failed, it does not fit, or an allocation failed
+abbrev pub IsWriteFault : RunConfig → ℕ → List Entry → Error → Type 0
+IsWriteFault config n items = IsWriteRefusal (IsTooLong config n items)
 
 -- the bytes of a table file that `sst` writes
 abbrev pub IsPackedTable : RunConfig → List (List Entry) → List ℕ → Type 0

@@ -42,7 +42,7 @@ fn add_blocks<W: Write>(
     ensures cut { OnOk result (IsCutBy per_block items.now run.new.blocks) }
     ensures accepting { OnOk result (run.new.refusal ≡ None) }
     ensures run { IsSameRun run.old run.new }
-    ensures cause { IfErr result IsWriteFault }
+    ensures cause { IfErr result (IsWriteFault run.old.config per_block items.now) }
 {
     let mut rest = items;
     while !rest.is_empty() {
@@ -58,7 +58,8 @@ fn add_blocks<W: Write>(
 ///
 /// # Errors
 ///
-/// Those of `RunWriter::add_block` and `RunWriter::finish_table`.
+/// `Error::Io` if the writer fails, `Error::TooLong` only where the blocks of a front of the entries
+/// make a table that does not fit (see `RunWriter`), `Error::Memory` if an allocation fails.
 pub fn write_table<W: SyncWrite + Drop>(
     alloc: Global,
     writer: W,
@@ -73,7 +74,7 @@ pub fn write_table<W: SyncWrite + Drop>(
     ensures table { IfOk result
         (λ r. AppendsPacked config per_block items.now (W.contents writer) (W.contents r.1) r.0) }
     ensures synced { IfOk result (λ r. W.is_synced r.1) }
-    ensures cause { IfErr result IsWriteFault }
+    ensures cause { IfErr result (IsWriteFault config per_block items.now) }
 {
     let mut run = RunWriter::<Poly31, W>::new(alloc, writer, config);
     add_blocks(&mut run, items, per_block)?;
@@ -108,7 +109,7 @@ pub fn pack<R: LockFiles, I: Read, O: Write>(
 ) -> fault::Result<()>
     ensures printed { OnOk result (PrintsPacked words.now (I.remaining input.old)
         (O.contents output.old) (O.contents output.new)) }
-    ensures err { IfErr result (IsPackFault (I.remaining input.old)) }
+    ensures err { IfErr result (IsPackFault words.now (I.remaining input.old)) }
     ensures kept { IfErr result (PrintsNothing (O.contents output.old) (O.contents output.new)) }
 {
     let items = ordered_entries(alloc, input)?;

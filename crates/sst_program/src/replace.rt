@@ -24,7 +24,8 @@ fn write_to<W: SyncWrite + Drop>(
     requires some { 1 ≤ length items.now }
     requires ordered { IsOrdered entries items.now }
     ensures table { IfOk result (IsPacked words.now.config words.now.per_block items.now) }
-    ensures cause { IfErr result IsWriteFault }
+    ensures cause { IfErr result
+        (IsWriteFault words.now.config words.now.per_block items.now) }
 {
     let (packed, _) = write_table(alloc, writer, items, words.config(), words.per_block())?;
     Ok(packed)
@@ -40,7 +41,8 @@ fn fill<R: LockFiles>(
     requires some { 1 ≤ length items.now }
     requires ordered { IsOrdered entries items.now }
     ensures table { IfOk result (IsPacked words.now.config words.now.per_block items.now) }
-    ensures cause { IfErr result IsWriteFault }
+    ensures cause { IfErr result
+        (IsWriteFault words.now.config words.now.per_block items.now) }
 {
     let writer = file.writer(alloc)?;
     write_to(alloc, writer, words, items)
@@ -56,7 +58,8 @@ fn replace<R: LockFiles>(
     requires some { 1 ≤ length items.now }
     requires ordered { IsOrdered entries items.now }
     ensures table { IfOk result (IsPacked words.now.config words.now.per_block items.now) }
-    ensures cause { IfErr result IsWriteFault }
+    ensures cause { IfErr result
+        (IsWriteFault words.now.config words.now.per_block items.now) }
 {
     match fill(alloc, &file, words, items) {
         Ok(packed) => {
@@ -81,7 +84,8 @@ fn write_in_place<R: LockFiles>(
     requires some { 1 ≤ length items.now }
     requires ordered { IsOrdered entries items.now }
     ensures table { IfOk result (IsPacked words.now.config words.now.per_block items.now) }
-    ensures cause { IfErr result IsWriteFault }
+    ensures cause { IfErr result
+        (IsWriteFault words.now.config words.now.per_block items.now) }
 {
     write_table(alloc, io::sink(), items, words.config(), words.per_block())?;
     let file = OpenOptions::new()
@@ -114,7 +118,8 @@ pub fn write_file<R: LockFiles>(
     requires some { 1 ≤ length items.now }
     requires ordered { IsOrdered entries items.now }
     ensures table { IfOk result (IsPacked words.now.config words.now.per_block items.now) }
-    ensures cause { IfErr result IsWriteFault }
+    ensures cause { IfErr result
+        (IsWriteFault words.now.config words.now.per_block items.now) }
 {
     match NewFile::create(rt, alloc, words.file()) {
         Ok(file) => replace(alloc, file, words, items),

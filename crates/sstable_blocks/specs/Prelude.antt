@@ -5,7 +5,7 @@ pub use Rattle.sst_block_core.specs.Entries.{entries}
 pub use Rattle.sst_block_core.specs.Kind.{IsOrdered}
 pub use Rattle.sst_block_core.specs.Window.{first_match}
 pub use Rattle.sstable_blocks.specs.Blocks.{blocks_of, joined, CutsFit}
-pub use Rattle.sstable_blocks.specs.Callers.{IsEncodable, GivesNewest}
+pub use Rattle.sstable_blocks.specs.Callers.{IsEncodable, newest, GivesNewest, FailsAsEncoding}
 pub use Rattle.sstable_blocks.specs.Run.{IsWritable}
 pub use Rattle.sstable_blocks.specs.RunReading.{hashes}
 pub use Rattle.sstable_blocks.specs.Scans.{KeyRange, within}

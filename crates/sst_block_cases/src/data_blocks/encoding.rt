@@ -59,7 +59,7 @@ fn by_views<H: BlockHash>(
         return Err(Fault::Word);
     }
     let mut bytes = Vec::new(alloc);
-    DataBlock::<H>::encode_views_into(&mut bytes, views, interval, ratio)?;
+    DataBlock::<H>::encode_into(&mut bytes, views, interval, ratio)?;
     Ok(bytes)
 }
 

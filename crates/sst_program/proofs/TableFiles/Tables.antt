@@ -6,10 +6,12 @@ use Rattle.sst_block_core.specs.Entries.{entries}
 use Rattle.sst_block_core.specs.Kind.{IsOrdered}
 use Rattle.std.proofs.Common.{subst, Option}
 use Rattle.std.specs.Io.KnownBytes.{Appends}
-use Rattle.sstable_blocks.specs.Writing.{IsTable, AppendsTable}
+use Rattle.sstable_blocks.specs.Run.{block_frames}
+use Rattle.sstable_blocks.specs.RunLaws.{fits_one}
+use Rattle.sstable_blocks.specs.Writing.{IsTable, AppendsTable, FrameFits, TableFits}
 use Rattle.sstable_blocks.specs.declared.run.RunConfig.{RunConfig}
 use Rattle.sstable_blocks.specs.declared.run.RunHandles.{RunHandles}
-use Rattle.sst_program.specs.Table.{HaveSize, IsCutBy, AppendsPacked, sst_form}
+use Rattle.sst_program.specs.Table.{HaveSize, IsCutBy, IsTooLong, AppendsPacked, sst_form}
 
 -- all blocks have n items
 abbrev pub AreFull : {X : Type 0} → ℕ → List (List X) → Type 0
@@ -58,4 +60,28 @@ table-of config config' n items blocks h old start after count len cut same begi
   appended = subst (λ a. Appends a after t.bytes) begin t.appended;
   block_count = is-count;
   len = t.len_is;
+}
+
+-- a block of a front that does not fit behind the blocks before it
+pub too-long : (config config' : RunConfig) (n : ℕ) (blocks : List (List Entry)) (block behind rest items : List Entry) → config' ≡ config → joined blocks ++ rest ≡ items → rest ≡ block ++ behind
+    → AreFull n blocks → 1 ≤ length block → length block ≤ n
+    → (FrameFits (sst_form config') (length (block_frames (sst_form config') blocks)) block → ⊥) → IsTooLong config n items
+too-long config config' n blocks block behind rest items same all cut full some most refused = record {
+  blocks = blocks ++ block ∷ [];
+  rest = behind;
+  all = all-next blocks block behind rest items all cut;
+  sizes = size-next n blocks block full some most;
+  long = λ (t : TableFits (sst_form config) (blocks ++ block ∷ [])).
+    refused (subst (λ k. FrameFits (sst_form k) (length (block_frames (sst_form k) blocks)) block) (sym same) (fits_one (sst_form config) blocks block [] t.run));
+}
+
+-- all blocks, whose table does not fit
+pub too-long-whole : (config config' : RunConfig) (n : ℕ) (items : List Entry) (blocks : List (List Entry)) → config' ≡ config → IsCutBy n items blocks
+    → (TableFits (sst_form config') blocks → ⊥) → IsTooLong config n items
+too-long-whole config config' n items blocks same cut refused = record {
+  blocks = blocks;
+  rest = [];
+  all = append-nil (joined blocks) ∙ cut.all;
+  sizes = cut.sizes;
+  long = λ (t : TableFits (sst_form config) blocks). refused (subst (λ k. TableFits (sst_form k) blocks) (sym same) t);
 }

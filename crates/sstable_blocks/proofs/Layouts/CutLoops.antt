@@ -1,18 +1,17 @@
 -- Writing the blocks of a list one after the other.
-use Rattle.std.proofs.Common.{◌≡◌, ℕ, ◌+◌, ◌-◌, ◌<◌, ◌≤◌, List, [], ◌∷◌, ◌++◌, length, take, drop, get_or, refl, arith, sym, ◌∙◌, ap, subst, append_assoc, length-append, inl, inr, Option, Some, None, Result, Ok, Err, IfOk}
+use Rattle.std.proofs.Common.{◌≡◌, ℕ, ◌+◌, ◌-◌, ◌<◌, ◌≤◌, List, [], ◌∷◌, ◌++◌, length, take, drop, get_or, refl, arith, sym, ◌∙◌, ap, subst, append_assoc, Option, Some, None, Result, Ok, Err, IfOk}
 use Rattle.std.proofs.lemmas.List.{drop_more, drop_all, drop-drop}
 use Rattle.std.specs.Io.KnownBytes.{Appends}
-use Rattle.std.specs.List.{AllByRecursion}
 use Rattle.sst_base.specs.Entry.{Entry}
 use Rattle.sst_base.specs.declared.error.Error.{Error}
 use Rattle.sst_block_core.specs.Entries.{entries}
 use Rattle.sst_block_core.specs.Kind.{IsOrdered, item_cmp}
 use Rattle.sstable_blocks.specs.Blocks.{joined, CutsFit, blocks_from}
-use Rattle.sstable_blocks.specs.Run.{Form, block_payload, block_frame, block_frames, IsFramed, RunFits}
+use Rattle.sstable_blocks.specs.Run.{Form, block_frame, block_frames}
 use Rattle.sstable_blocks.proofs.Lists.Cuts.{CutsLeft, cuts_below}
 use Rattle.sstable_blocks.proofs.Lists.Ends.{front_in_order}
 use Rattle.sstable_blocks.proofs.Layouts.Kept.{block_frames-push}
-use Rattle.sstable_blocks.specs.Writing.{FrameFits, IsWriteRefusal, AppendsLayout, AppendsEnd}
+use Rattle.sstable_blocks.specs.Writing.{AppendsLayout, AppendsEnd}
 use Rattle.sstable_blocks.specs.declared.run.RunHandles.{RunHandles}
 
 -- the next of cuts that fit
@@ -44,37 +43,11 @@ order_next blocks b bs all items e j o =
     sym (joined-append (blocks ++ b ∷ []) bs) ∙ ap joined (append_assoc blocks (b ∷ []) bs) ∙ ap joined e ∙ j in
     front_in_order (item_cmp entries) (joined (blocks ++ b ∷ [])) (joined bs) (subst (IsOrdered entries) (sym whole) o)
 
-all_at : {X : Type 0} (P : X → Type 0) (xs : List X) (x : X) (ys : List X) → AllByRecursion P (xs ++ x ∷ ys) → P x
-all_at P [] x ys h = h.0
-all_at P (y ∷ xs) x ys h = all_at P xs x ys h.1
-
-pub refusal_on : (P Q : Type 0) (e : Error) → IsWriteRefusal P e → (P → Q) → IsWriteRefusal Q e
-refusal_on P Q e (inl io) f = inl io
-refusal_on P Q e (inr (inl long)) f = inr (inl (long.0, f long.1))
-refusal_on P Q e (inr (inr memory)) f = inr (inr memory)
-
 pub appends_then : (a b c : Option (List ℕ)) (x y : List ℕ) → Appends a b x → Appends b c y → Appends a c (x ++ y)
 appends_then None b c x y h k = tt
 appends_then (Some p) None c x y h k = absurd h
 appends_then (Some p) (Some q) None x y h k = absurd k
 appends_then (Some p) (Some q) (Some r) x y h k = k ∙ ap (λ z. z ++ y) h ∙ append_assoc p x y
-
-module _ (f : Form) where
-  block_frames-append : (xs ys : List (List Entry)) → block_frames f (xs ++ ys) ≡ block_frames f xs ++ block_frames f ys
-  block_frames-append [] ys = refl
-  block_frames-append (b ∷ bs) ys = ap (λ zs. block_frame f b ++ zs) (block_frames-append bs ys) ∙ sym (append_assoc (block_frame f b) (block_frames f bs) (block_frames f ys))
-
-  fits_one : (blocks : List (List Entry)) (b : List Entry) (bs : List (List Entry)) → RunFits f (blocks ++ b ∷ bs) → FrameFits f (length (block_frames f blocks)) b
-  fits_one blocks b bs fits =
-      let all = blocks ++ b ∷ bs in
-      let end = fits.end in
-      let m = ap length (block_frames-append blocks (b ∷ bs)) ∙ length-append (block_frames f blocks) (block_frames f (b ∷ bs)) in
-      let n = length-append (block_frame f b) (block_frames f bs) in
-      record { framed = all_at (λ block. IsFramed (block_payload f block)) blocks b bs fits.data_frames_fit; end = omega arith }
-
-  -- a run that fits has blocks that fit
-  pub fits_next : (blocks : List (List Entry)) (b : List Entry) (bs all : List (List Entry)) → blocks ++ b ∷ bs ≡ all → (FrameFits f (length (block_frames f blocks)) b → ⊥) → RunFits f all → ⊥
-  fits_next blocks b bs all e h = λ (fits : RunFits f all). h (fits_one blocks b bs (subst (RunFits f) (sym e) fits))
 
 -- one step of the loop
 pub step_is : (blocks : List (List Entry)) (start i : ℕ) (cuts : List ℕ) (items rest b : List Entry) (all : List (List Entry)) → i < length cuts → rest ≡ drop start items → b ≡ take (get_or cuts i 0 - start) rest

@@ -1,7 +1,5 @@
 -- A point read of a run, by what a reader finds in it.
 use Rattle.std.proofs.Common.{◌≡◌, ℕ, ◌+◌, ◌-◌, ◌≤◌, List, length, take, drop, refl, arith, sym, ◌∙◌, ap, subst, Option, Some, None, Result, Ok}
-use Rattle.std.proofs.Math.Nat.{min-le_left}
-use Rattle.std.proofs.lemmas.List.{length-take}
 use Rattle.std.specs.List.{slice_get}
 use Rattle.std.specs.Option.{option_map}
 use Rattle.sst_base.specs.BlockHandle.{HandleParts}
@@ -52,15 +50,6 @@ ref_heads hash d key = heads_by (ref_lookup hash d key) (head_count d.interval (
 
 pub ref_entries : (hash : List ℕ → ℕ) (d : DataRefParts) (key : List ℕ) → (ref_read_most hash d key).1 ≤ d.interval + 1
 ref_entries hash d key = entries_by (ref_lookup hash d key) d.interval
-
--- a payload has no more bytes than its frame
-pub payload_fits : (bytes : List ℕ) (h : HandleParts) → length (payload_in bytes h) ≤ h.size
-unfolding payload_in
-payload_fits bytes h =
-    let rest = drop (h.offset + 33) bytes in
-    let least = min-le_left (h.size - 33) (length rest) in
-    let size = length-take (h.size - 33) rest in
-    omega (arith, least, size)
 
 pub some_range : (x : Option Handle) (k : HandleParts) → option_map range_of x ≡ Some k → (g : Handle) × (x ≡ Some g) × (range_of g ≡ k)
 some_range None k e = cc

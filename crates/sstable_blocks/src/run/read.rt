@@ -53,7 +53,7 @@ fn is_allowed(bytes: &[u8], filter: &Option<BlockHandle>, hash: u64) -> bool
 }
 
 // The index in a frame, over the same bytes.
-#[tactic(auto, using(crate::proofs::Reading::Points::payload_fits))]
+#[tactic(auto, using(crate::specs::RunLaws::payload_fits))]
 pub(crate) fn index_over<'a>(bytes: &'a [u8], handle: &BlockHandle) -> IndexSearch<'a>
     requires range { IsFrameRange bytes.now handle.now }
     requires index { (items : List Handle) × (r : ℕ)
@@ -66,7 +66,7 @@ pub(crate) fn index_over<'a>(bytes: &'a [u8], handle: &BlockHandle) -> IndexSear
 }
 
 // The data block in a frame, over the same bytes.
-#[tactic(auto, using(crate::proofs::Reading::Points::payload_fits))]
+#[tactic(auto, using(crate::specs::RunLaws::payload_fits))]
 pub(crate) fn block_over<'a, H: BlockHash>(
     bytes: &'a [u8],
     handle: &BlockHandle,

@@ -7,6 +7,8 @@ ghost use Rattle.sst_block_core.specs.Entries.{entries, data_payload};
 ghost use Rattle.sst_block_core.specs.Kind.{IsOrdered};
 ghost use Rattle.sst_block_core.specs.Payload.{IsBlock};
 
+use crate::table::block::Encodable;
+use crate::table::block::encoder::encode_all;
 use crate::table::data_block::DataBlock;
 use crate::table::data_block::entry_view::EntryView;
 use crate::table::order;
@@ -14,7 +16,7 @@ use sst_base::{BlockHash, HashRatio, InternalValue, Poly31, Result};
 
 /// An entry, or a view of one that is held elsewhere: runs are written of either, and merges and
 /// compactions pass either on.
-pub trait AsEntry: Sized {
+pub trait AsEntry: Encodable {
     // the entry
     ghost entry: { Self → Entry };
 
@@ -75,7 +77,7 @@ impl AsEntry for InternalValue {
         restart_interval: u8,
         ratio: HashRatio,
     ) -> Result<()> {
-        DataBlock::<H>::encode_into(writer, items, restart_interval, ratio)
+        encode_all::<InternalValue, H>(writer, items, restart_interval, ratio)
     }
 }
 
@@ -97,6 +99,6 @@ impl<'a> AsEntry for EntryView<'a> {
         restart_interval: u8,
         ratio: HashRatio,
     ) -> Result<()> {
-        DataBlock::<H>::encode_views_into(writer, items, restart_interval, ratio)
+        encode_all::<EntryView<'a>, H>(writer, items, restart_interval, ratio)
     }
 }

@@ -3,8 +3,8 @@ ghost use Rattle.std.specs.Prelude.{◌≡◌, ◌+◌, ◌-◌, ◌*◌, ◌≤
 ghost use Rattle.std.specs.Prelude.{length, IfOk, IsOkUnless};
 ghost use Rattle.std.specs.Iterator.{at_most, YieldsFirst, YieldsLast};
 ghost use Rattle.std.proofs.Common.{ap};
-ghost use Rattle.sst_base.specs.Counted.{IsZero, CountsBetween};
-ghost use Rattle.sst_block_core.specs.Backs.{GivesStep, GivesNextBack};
+ghost use Rattle.sst_base.specs.Counted.{IsZero, CountsBetween, CountsExactly, found_item};
+ghost use Rattle.sst_block_core.specs.Backs.{GivesStep, GivesNextBack, back_cost};
 ghost use Rattle.sst_block_core.specs.Entries.{entries};
 ghost use Rattle.sst_block_core.specs.Intervals.{digits};
 ghost use Rattle.sst_block_core.specs.Kind.{IsOrdered};
@@ -218,8 +218,8 @@ impl<H: BlockHash> IntoEntries<H> {
         self.ends.has_left()
     }
 
-    /// Takes the first entry left, if there is one, and makes it. The entry is taken also where it
-    /// can't be made.
+    /// Takes the first entry left, if there is one, and makes it. The entry is taken, and counted,
+    /// also where it can't be made.
     ///
     /// # Errors
     ///
@@ -234,6 +234,8 @@ impl<H: BlockHash> IntoEntries<H> {
             (λ entry. YieldsFirst (λ left. left) (items_left self.old.window) entry
             (items_left self.new.window)) }
         ensures memory { IsOkUnless result Error.Memory }
+        ensures counts { CountsExactly self.old.steps self.new.steps 0
+            (found_item (first_left self.old.window)) }
     {
         let Some(item) = self.next() else {
             return Ok(None);
@@ -244,8 +246,8 @@ impl<H: BlockHash> IntoEntries<H> {
         }
     }
 
-    /// Takes the last entry left, if there is one, and makes it. The entry is taken also where it
-    /// can't be made.
+    /// Takes the last entry left, if there is one, and makes it. The entry is taken, and counted,
+    /// also where it can't be made.
     ///
     /// # Errors
     ///
@@ -260,6 +262,12 @@ impl<H: BlockHash> IntoEntries<H> {
             (λ entry. YieldsLast (λ left. left) (items_left self.old.window) entry
             (items_left self.new.window)) }
         ensures memory { IsOkUnless result Error.Memory }
+        ensures counts { CountsBetween self.old.steps self.new.steps
+            (0, found_item (last_left self.old.window)) (
+              0,
+              found_item (last_left self.old.window) * (1 + back_cost self.old.interval
+                  (length self.old.window.list) self.old.window.hi),
+            ) }
     {
         let Some(item) = self.next_back() else {
             return Ok(None);

@@ -8,10 +8,10 @@ ghost use Rattle.sst_base.specs.Entry.{Entry, IsEntry, plain};
 ghost use Rattle.sst_block_core.specs.Checks.{data_check};
 ghost use Rattle.sst_block_core.specs.Body.{place_offset};
 ghost use Rattle.sst_block_core.specs.Kind.{IsOrdered};
-ghost use Rattle.sst_block_core.specs.Entries.{entries, data_payload};
+ghost use Rattle.sst_block_core.specs.Entries.{entries};
 ghost use Rattle.sst_block_core.specs.Pointers.{head_count};
 ghost use Rattle.sst_block_core.specs.Buckets.{bucket_count, buckets, stored_count};
-ghost use Rattle.sst_block_core.specs.Payload.{IsBlock};
+ghost use Rattle.sst_block_core.specs.Payload.{IsBlock, payload};
 ghost use Rattle.sst_block_core.specs.Heads.{IsHeadTableOf, listed_in};
 ghost use Rattle.sst_block_core.specs.Encoders.{IsRefusal, IsBlockPayload};
 ghost use Rattle.sst_block_core.specs.PointReads.{read_least, read_most};
@@ -110,69 +110,70 @@ impl<H: BlockHash> DataBlock<H> {
         None
     }
 
-    /// Encodes a non-empty ordered list of entries into an empty vector, in restart intervals of at
-    /// least one entry, with the number of buckets that the ratio gives. The denominator is at
-    /// least 1. With more than 254 heads no buckets are stored.
+    /// Encodes a non-empty ordered list of entries, or of views of entries, into an empty vector, in
+    /// restart intervals of at least one entry, with the number of buckets that the ratio gives. The
+    /// denominator is at least 1. With more than 254 heads no buckets are stored. Of views no entry
+    /// is made: keys and values are copied once, into the block.
     ///
     /// # Errors
     ///
     /// `Error::TooLong` only where the block has 2^32 bytes or more; `Error::Memory` if an
     /// allocation fails. The vector is then empty.
-    pub fn encode_into(
+    pub fn encode_into<Item: AsEntry>(
         writer: &mut Vec<u8>,
-        items: &[InternalValue],
+        items: &[Item],
         restart_interval: u8,
         ratio: HashRatio,
     ) -> Result<()>
         requires empty { writer.old.items ≡ [] }
         requires some { 1 ≤ length items.now }
-        requires ordered { IsOrdered entries items.now }
+        requires ordered { IsOrdered Item.kind items.now }
         requires interval { 1 ≤ restart_interval }
         requires den { 1 ≤ ratio.den }
         ensures written { OnOk result (IsBlockPayload
-            (IsBlock entries IsEntry H.hash64 writer.new.items items.now restart_interval
+            (IsBlock Item.kind Item.valid H.hash64 writer.new.items items.now restart_interval
             (bucket_count ratio.num ratio.den (length items.now)))
-            (data_payload H.hash64 items.now restart_interval
+            (payload Item.kind H.hash64 restart_interval items.now
             (bucket_count ratio.num ratio.den (length items.now)))
             writer.new.items) }
         ensures empty { OnErr result (writer.new.items ≡ []) }
         ensures cause { IfErr result (IsRefusal None
             (2 ^ 32
             ≤ length
-            (data_payload H.hash64 items.now restart_interval
+            (payload Item.kind H.hash64 restart_interval items.now
             (bucket_count ratio.num ratio.den (length items.now))))) }
     {
-        encode_all::<InternalValue, H>(writer, items, restart_interval, ratio)
+        encode_all::<Item, H>(writer, items, restart_interval, ratio)
     }
 
-    /// Encodes a non-empty ordered list of entries, as [`DataBlock::encode_into`] does, into a
-    /// vector of its own.
+    /// Encodes a non-empty ordered list of entries, or of views, as [`DataBlock::encode_into`] does,
+    /// into a vector of its own.
     ///
     /// # Errors
     ///
     /// `Error::TooLong` only where the block has 2^32 bytes or more; `Error::Memory` if an
     /// allocation fails.
-    pub fn encode_into_vec(
+    pub fn encode_into_vec<Item: AsEntry>(
         alloc: Global,
-        items: &[InternalValue],
+        items: &[Item],
         restart_interval: u8,
         ratio: HashRatio,
     ) -> Result<Vec<u8>>
         requires some { 1 ≤ length items.now }
-        requires ordered { IsOrdered entries items.now }
+        requires ordered { IsOrdered Item.kind items.now }
         requires interval { 1 ≤ restart_interval }
         requires den { 1 ≤ ratio.den }
         ensures payload { IfOk result (λ v. v.items
-            ≡ data_payload H.hash64 items.now restart_interval
+            ≡ payload Item.kind H.hash64 restart_interval items.now
             (bucket_count ratio.num ratio.den (length items.now))) }
         ensures block { IfOk result
-            (λ v. IsBlock entries IsEntry H.hash64 v.items items.now restart_interval
+            (λ v. IsBlock Item.kind Item.valid H.hash64 v.items items.now restart_interval
             (bucket_count ratio.num ratio.den (length items.now))) }
         ensures fits { IfOk result (λ v. length v.items < 2 ^ 32) }
         ensures cause { IfErr result (IsRefusal None
             (2 ^ 32
             ≤ length
-            (data_payload H.hash64 items.now restart_interval
+            (payload Item.kind H.hash64 restart_interval items.now
             (bucket_count ratio.num ratio.den (length items.now))))) }
     {
         let mut writer = Vec::new(alloc);
@@ -186,40 +187,6 @@ impl<H: BlockHash> DataBlock<H> {
         ensures { IsTrue result ↔ IsOrdered entries items.now }
     {
         order::is_ordered(items)
-    }
-
-    /// Encodes a non-empty ordered list of views of entries, as [`DataBlock::encode_into`] does: no
-    /// [`InternalValue`] is made, and keys and values are copied once, into the block.
-    ///
-    /// # Errors
-    ///
-    /// `Error::TooLong` only where the block has 2^32 bytes or more; `Error::Memory` if an
-    /// allocation fails. The vector is then empty.
-    pub fn encode_views_into(
-        writer: &mut Vec<u8>,
-        items: &[EntryView<'_>],
-        restart_interval: u8,
-        ratio: HashRatio,
-    ) -> Result<()>
-        requires empty { writer.old.items ≡ [] }
-        requires some { 1 ≤ length items.now }
-        requires ordered { IsOrdered entries items.now }
-        requires interval { 1 ≤ restart_interval }
-        requires den { 1 ≤ ratio.den }
-        ensures written { OnOk result (IsBlockPayload
-            (IsBlock entries IsEntry H.hash64 writer.new.items items.now restart_interval
-            (bucket_count ratio.num ratio.den (length items.now)))
-            (data_payload H.hash64 items.now restart_interval
-            (bucket_count ratio.num ratio.den (length items.now)))
-            writer.new.items) }
-        ensures empty { OnErr result (writer.new.items ≡ []) }
-        ensures cause { IfErr result (IsRefusal None
-            (2 ^ 32
-            ≤ length
-            (data_payload H.hash64 items.now restart_interval
-            (bucket_count ratio.num ratio.den (length items.now))))) }
-    {
-        encode_all::<EntryView<'_>, H>(writer, items, restart_interval, ratio)
     }
 
     /// Wraps a block whose payload is the encoding of some ordered, non-empty list of entries.

@@ -4,10 +4,11 @@ use Rattle.std.proofs.lemmas.Result.{err_from_is_err_and}
 use Rattle.std.specs.Io.KnownBytes.{Appends}
 use Rattle.sstable_blocks.specs.Blocks.{CutsFit, blocks_of}
 use Rattle.sstable_blocks.specs.Run.{form, block_frames, RunFits}
+use Rattle.sstable_blocks.specs.RunLaws.{refusal_on, fits_next}
 use Rattle.sstable_blocks.specs.Writing.{Written, FrameFits, IsWriteRefusal, AppendsLayout}
 use Rattle.sstable_blocks.proofs.Lists.Cuts.{CutsLeft, cuts_left}
 use Rattle.sstable_blocks.proofs.Lists.Mapped.{back_mapped, front_mapped}
-use Rattle.sstable_blocks.proofs.Layouts.CutLoops.{next_cut, step_is, last_is, so_far_is, rest_is, order_next, bytes_next, layout_end, refusal_on, fits_next}
+use Rattle.sstable_blocks.proofs.Layouts.CutLoops.{next_cut, step_is, last_is, so_far_is, rest_is, order_next, bytes_next, layout_end}
 use Rattle.sstable_blocks.proofs.Layouts.SoundLayouts.{sound_appended}
 use Rattle.sstable_blocks.proofs.run.write.write_run.Goals as goal
 
