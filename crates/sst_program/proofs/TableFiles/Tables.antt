@@ -72,7 +72,7 @@ too-long config config' n blocks block behind rest items same all cut full some 
   all = all-next blocks block behind rest items all cut;
   sizes = size-next n blocks block full some most;
   long = λ (t : TableFits (sst_form config) (blocks ++ block ∷ [])).
-    refused (subst (λ k. FrameFits (sst_form k) (length (block_frames (sst_form k) blocks)) block) (sym same) (fits_one (sst_form config) blocks block [] t.run));
+      refused (subst (λ k. FrameFits (sst_form k) (length (block_frames (sst_form k) blocks)) block) (sym same) (fits_one (sst_form config) blocks block [] t.run));
 }
 
 -- all blocks, whose table does not fit
