@@ -1,6 +1,7 @@
 //! The words of the program.
 use crate::hash::NAMES;
-use clap::{Arg, ArgAction, Command, value_parser};
+use clap::builder::ValueParser;
+use clap::{Arg, ArgAction, Command};
 use std::alloc::{AllocError, Global};
 
 /// The name of the command that prints what a table holds.
@@ -105,20 +106,24 @@ enum Kind {
     Plain,
     // Several of these.
     Several,
-    // The option for the file that is written, which has to be there.
-    Out,
     // An option without a value.
     Flag,
-    // An option with a text, of this name.
-    Text(&'static str),
-    // An option with a number below 2^64, of this name.
-    Number(&'static str),
+    // The option for the file that is written, which has to be there.
+    Out,
+    // An option with a key.
+    Key,
+    // An option with a number of entries.
+    Count,
+    // An option with a number of bytes.
+    Size,
+    // An option with a sequence number.
+    SeqNo,
     // The same, which may be given several times.
-    Numbers(&'static str),
-    // An option with a number below 2^32, of this name.
-    Short(&'static str),
-    // An option with a number from 1 to 255, of this name.
-    Byte(&'static str),
+    SeqNos,
+    // An option with a restart interval.
+    Interval,
+    // An option with a number of bits.
+    Bits,
     // An option with a hash function.
     Hash,
 }
@@ -139,7 +144,7 @@ const TABLE_HASH: Word = (
 
 const READ_AT: Word = (
     AT,
-    Kind::Number("SEQNO"),
+    Kind::SeqNo,
     "Read at this sequence number: versions below it",
 );
 
@@ -154,15 +159,15 @@ const STAT_WORDS: [Word; 3] = [
 const SCAN_WORDS: [Word; 11] = [
     TABLE,
     TABLE_HASH,
-    (FROM, Kind::Text(KEY), "The first key"),
-    (TO, Kind::Text(KEY), "The key at which to end, without it"),
+    (FROM, Kind::Key, "The first key"),
+    (TO, Kind::Key, "The key at which to end, without it"),
     (
         PREFIX,
-        Kind::Text(KEY),
+        Kind::Key,
         "The bytes that the keys begin with",
     ),
     READ_AT,
-    (LIMIT, Kind::Number("N"), "At most this many entries"),
+    (LIMIT, Kind::Count, "At most this many entries"),
     (REVERSE, Kind::Flag, "From the last entry to the first"),
     (KEYS_ONLY, Kind::Flag, "Entries without their values"),
     (
@@ -188,19 +193,19 @@ const REPLACED: Word = (FORCE, Kind::Flag, "Replace OUT where it is there");
 
 const BLOCK_SIZE: Word = (
     BLOCK,
-    Kind::Number("SIZE"),
+    Kind::Size,
     "The encoded bytes at which a block ends; else 4096, or twice the longest end key",
 );
 
 const RESTARTS: Word = (
     INTERVAL,
-    Kind::Byte("N"),
+    Kind::Interval,
     "The entries of a restart interval, 1 to 255; else 16, or 255 for keys above 4096",
 );
 
 const FILTER_BITS: Word = (
     BITS,
-    Kind::Short("N"),
+    Kind::Bits,
     "The filter's bits for a key, 0 for no filter; else 10",
 );
 
@@ -215,7 +220,7 @@ const MERGE_WORDS: [Word; 11] = [
     ),
     (
         SNAPSHOT,
-        Kind::Numbers("SEQNO"),
+        Kind::SeqNos,
         "Keep what reads at this number see, and reads above all that are given; else all versions",
     ),
     (
@@ -230,7 +235,7 @@ const MERGE_WORDS: [Word; 11] = [
     ),
     (
         TABLE_SIZE,
-        Kind::Number("SIZE"),
+        Kind::Size,
         "Write several tables, each of which ends at this many bytes of encoded entries; their \
         numbers, from 1 on, are in OUT in the place of {}, or behind a dot at its end",
     ),
@@ -286,77 +291,134 @@ const COMMANDS: [Rules; 8] = [
     ),
 ];
 
+// The name of the value of an option.
+fn value_name_of(kind: Kind) -> &'static str {
+    match kind {
+        Kind::Key => KEY,
+        Kind::Size => "SIZE",
+        Kind::SeqNo | Kind::SeqNos => "SEQNO",
+        Kind::Hash => "HASH",
+        _ => "N",
+    }
+}
+
+// What the value of an option has to be.
+fn parser_of(kind: Kind) -> ValueParser<'static> {
+    match kind {
+        Kind::Count | Kind::Size | Kind::SeqNo | Kind::SeqNos => ValueParser::Unsigned(0, u64::MAX),
+        Kind::Interval => ValueParser::Unsigned(1, u64::from(u8::MAX)),
+        Kind::Bits => ValueParser::Unsigned(0, u64::from(u32::MAX)),
+        Kind::Hash => ValueParser::Names(&NAMES),
+        _ => ValueParser::String,
+    }
+}
+
+// What is done with the values of an option.
+fn action_of(kind: Kind) -> ArgAction {
+    match kind {
+        Kind::SeqNos => ArgAction::Append,
+        _ => ArgAction::Set,
+    }
+}
+
 // Makes a word.
 fn arg_of<'a>(alloc: Global, word: &Word) -> Arg<'a> {
     let (name, kind, help) = *word;
     let arg = Arg::new(alloc, name).help(help);
     match kind {
         Kind::Plain => arg.required(true),
-        Kind::Several => arg.required(true).num_args(1..).action(ArgAction::Append),
-        Kind::Out => arg.short('o').long(name).value_name("OUT").required(true),
+        Kind::Several => arg.required(true).num_args(1..),
         Kind::Flag => arg.long(name).action(ArgAction::SetTrue),
-        Kind::Text(value) => arg.long(name).value_name(value),
-        Kind::Number(value) => arg
+        Kind::Out => arg.short('o').long(name).value_name("OUT").required(true),
+        _ => arg
             .long(name)
-            .value_name(value)
-            .value_parser(value_parser!(u64)),
-        Kind::Numbers(value) => arg
-            .long(name)
-            .value_name(value)
-            .value_parser(value_parser!(u64))
-            .action(ArgAction::Append),
-        Kind::Short(value) => arg
-            .long(name)
-            .value_name(value)
-            .value_parser(value_parser!(u32)),
-        Kind::Byte(value) => arg
-            .long(name)
-            .value_name(value)
-            .value_parser(value_parser!(u8).range(1..)),
-        Kind::Hash => arg
-            .long(name)
-            .value_name("HASH")
-            .value_parser(NAMES.as_slice()),
+            .value_name(value_name_of(kind))
+            .value_parser(parser_of(kind))
+            .action(action_of(kind)),
     }
 }
 
-// Says what a word has to do with others: which of two there can be, and which needs another.
-fn related<'a>(arg: Arg<'a>, name: &str) -> Result<Arg<'a>, AllocError> {
+// The words that may not stand beside one of this name.
+fn conflicts_of(name: &str) -> &'static [&'static str] {
     match name {
-        PREFIX => arg.conflicts_with_all(&[FROM, TO]),
-        TEXT => arg.conflicts_with(JSON),
-        SNAPSHOT | LATEST => arg.group(READS),
+        PREFIX => &[FROM, TO],
+        TEXT => &[JSON],
+        _ => &[],
+    }
+}
+
+// The groups that a word of this name is in.
+fn groups_of(name: &str) -> &'static [&'static str] {
+    match name {
+        SNAPSHOT | LATEST => &[READS],
+        _ => &[],
+    }
+}
+
+// The groups of which a word of this name needs one.
+fn needs_of(name: &str) -> &'static [&'static str] {
+    match name {
         // (which tombstones are dropped depends on the reads that may come)
-        BOTTOM => arg.requires_arg(READS),
-        _ => Ok(arg),
+        BOTTOM => &[READS],
+        _ => &[],
     }
 }
 
-// Adds words to a command.
-fn with_words<'a>(
-    alloc: Global,
-    command: Command<'a>,
-    words: &[Word],
-) -> Result<Command<'a>, AllocError> {
-    let mut command = command;
+// Makes a word, and says what it has to do with others: which of two there can be, and which needs
+// another.
+fn related<'a>(alloc: Global, word: &Word) -> Result<Arg<'a>, AllocError> {
+    let name = word.0;
+    arg_of(alloc, word)
+        .conflicts_with_all(conflicts_of(name))?
+        .groups(groups_of(name))?
+        .requires_all(needs_of(name))
+}
+
+// Adds what was made.
+fn push<T: Drop>(made: &mut Vec<T>, one: Result<T, AllocError>) -> Result<(), AllocError> {
+    made.push(one?)?;
+    Ok(())
+}
+
+// Makes words.
+fn args_of<'a>(alloc: Global, words: &[Word]) -> Result<Vec<Arg<'a>>, AllocError> {
+    let mut args = Vec::new(alloc);
     for word in words {
-        command = command.arg(related(arg_of(alloc, word), word.0)?)?;
+        push(&mut args, related(alloc, word))?;
     }
-    Ok(command)
+    Ok(args)
 }
 
-// Adds the commands.
-fn with_commands<'a>(
-    alloc: Global,
-    command: Command<'a>,
-    commands: &[Rules],
-) -> Result<Command<'a>, AllocError> {
-    let mut command = command;
-    for (name, help, words, after) in commands {
-        let named = Command::new(alloc, name).about(help).after_help(after);
-        command = command.subcommand(with_words(alloc, named, words)?)?;
+// Makes a command.
+fn command_of<'a>(alloc: Global, rules: &Rules) -> Result<Command<'a>, AllocError> {
+    let (name, help, words, after) = *rules;
+    let args = args_of(alloc, words)?;
+    Command::new(alloc, name)
+        .about(help)
+        .after_help(after)
+        .args(args)
+}
+
+// Makes the commands.
+fn commands_of<'a>(alloc: Global, all: &[Rules]) -> Result<Vec<Command<'a>>, AllocError> {
+    let mut commands = Vec::new(alloc);
+    for rules in all {
+        push(&mut commands, command_of(alloc, rules))?;
     }
-    Ok(command)
+    Ok(commands)
+}
+
+// Makes the program, without its commands.
+fn program<'a>(alloc: Global) -> Command<'a> {
+    Command::new(alloc, "sstool")
+        .version("0.1.0")
+        .about("Shows, checks, scans and merges table files")
+        .after_help(
+            "The status is 1 after a line on standard error, and, with none, where the reader of the \
+            output has gone; 2 after words that are refused.",
+        )
+        .subcommand_required(true)
+        .arg_required_else_help(true)
 }
 
 /// Makes the command that parses the program's words.
@@ -365,14 +427,6 @@ fn with_commands<'a>(
 ///
 /// If an allocation fails.
 pub fn command<'a>(alloc: Global) -> Result<Command<'a>, AllocError> {
-    let named = Command::new(alloc, "sstool")
-        .version("0.1.0")
-        .about("Shows, checks, scans and merges table files")
-        .after_help(
-            "The status is 1 after a line on standard error, and, with none, where the reader of the \
-            output has gone; 2 after words that are refused.",
-        )
-        .subcommand_required(true)
-        .arg_required_else_help(true);
-    with_commands(alloc, named, &COMMANDS)
+    let commands = commands_of(alloc, &COMMANDS)?;
+    program(alloc).subcommands(commands)
 }
