@@ -9,7 +9,10 @@ use std::alloc::Global;
 // The block of a payload, which is copied.
 fn block_of(alloc: Global, payload: &[u8], block_type: BlockType) -> Option<Block> {
     u32::try_from(payload.len()).ok()?;
-    Some(Block::from_payload(block_type, Slice::new(alloc, payload).ok()?))
+    match Slice::new(alloc, payload) {
+        Ok(payload) => Some(Block::from_payload(block_type, payload)),
+        Err(_) => None,
+    }
 }
 
 // Checks a block, and adds the number of its entries.
@@ -39,22 +42,26 @@ fn checked(alloc: Global, block: &Block, is_index: bool, times: u64) -> Option<u
     Some(sum)
 }
 
+// Checks the block of a payload `times` times, from 0.
+fn check_payload(alloc: Global, payload: &[u8], block_type: BlockType, times: u64) -> u64 {
+    match block_of(alloc, payload, block_type) {
+        Some(block) => {
+            checked(alloc, &block, block_type == BlockType::Index, times).unwrap_or(REFUSED)
+        }
+        None => REFUSED,
+    }
+}
+
 /// Checks the payload of a data block as bytes from outside, and adds the number of its entries.
 /// Refuses what the check refuses.
 #[unsafe(no_mangle)]
 pub extern "C" fn sst_check(payload: &[u8], times: u64, alloc: Global) -> u64 {
-    match block_of(alloc, payload, BlockType::Data) {
-        Some(block) => checked(alloc, &block, false, times).unwrap_or(REFUSED),
-        None => REFUSED,
-    }
+    check_payload(alloc, payload, BlockType::Data, times)
 }
 
 /// Checks the payload of an index block as bytes from outside, and adds the number of its handles.
 /// Refuses what the check refuses.
 #[unsafe(no_mangle)]
 pub extern "C" fn sst_index_check(payload: &[u8], times: u64, alloc: Global) -> u64 {
-    match block_of(alloc, payload, BlockType::Index) {
-        Some(block) => checked(alloc, &block, true, times).unwrap_or(REFUSED),
-        None => REFUSED,
-    }
+    check_payload(alloc, payload, BlockType::Index, times)
 }

@@ -10,7 +10,7 @@ use crate::REFUSED;
 use crate::entries::entries_in;
 use crate::hash::Hash;
 use crate::keys::keys_in;
-use crate::sums::{entry_sum, found_sum, item_sum, next_sum};
+use crate::sums::{item_sum, made_sum, next_sum, search_sum};
 use sst_base::{Block, BlockType, HashRatio, InternalValue, SeqNo, Slice, Steps};
 use sst_block_core::{DataBlock, ParsedItem};
 use std::alloc::Global;
@@ -148,11 +148,7 @@ pub(crate) fn add_entries(so_far: u64, block: &DataBlock<Hash>, alloc: Global) -
     let mut sum = so_far;
     let mut iter = block.iter();
     while let Some(item) = iter.next() {
-        let made = item.materialize(alloc, payload);
-        match &made {
-            Ok(entry) => sum = sum.wrapping_add(entry_sum(entry)),
-            Err(_) => return None,
-        }
+        sum = sum.wrapping_add(made_sum(item.materialize(alloc, payload))?);
     }
     Some(sum)
 }
@@ -269,8 +265,8 @@ fn add_found(
     let mut sum = so_far;
     for needle in needles {
         let mut steps = Steps::new();
-        let found = block.point_read(alloc, needle, NEWEST, &mut steps).ok()?;
-        sum = sum.wrapping_add(found_sum(&found));
+        let found = block.point_read(alloc, needle, NEWEST, &mut steps);
+        sum = sum.wrapping_add(search_sum(found)?);
     }
     Some(sum)
 }

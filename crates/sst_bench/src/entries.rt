@@ -16,40 +16,20 @@ use byteorder::{ByteOrder, LittleEndian};
 use sst_base::{InternalValue, SeqNo, Slice, ValueType};
 use std::alloc::Global;
 
-// The value type at the start, and the bytes after it.
-fn type_in(bytes: &[u8]) -> Option<(ValueType, &[u8])> {
-    let (byte, rest) = bytes.split_first()?;
-    match ValueType::try_from(*byte) {
-        Ok(value_type) => Some((value_type, rest)),
+// The length of what is before the key.
+const HEAD_LEN: usize = 15;
+
+/// Appends what was made to a list.
+pub(crate) fn push_made<T: Drop>(made: &mut Vec<T>, one: Option<T>) -> Option<()> {
+    made.push(one?).ok()
+}
+
+// The value type of a byte.
+fn type_of(byte: u8) -> Option<ValueType> {
+    match ValueType::try_from(byte) {
+        Ok(value_type) => Some(value_type),
         Err(_) => None,
     }
-}
-
-// The number of two bytes at the start, and the bytes after it.
-pub(crate) fn u16_in(bytes: &[u8]) -> Option<(u16, &[u8])> {
-    if bytes.len() < 2 {
-        return None;
-    }
-    let (_, rest) = bytes.split_at(2);
-    Some((LittleEndian::read_u16(bytes), rest))
-}
-
-// The number of four bytes at the start, and the bytes after it.
-pub(crate) fn u32_in(bytes: &[u8]) -> Option<(u32, &[u8])> {
-    if bytes.len() < 4 {
-        return None;
-    }
-    let (_, rest) = bytes.split_at(4);
-    Some((LittleEndian::read_u32(bytes), rest))
-}
-
-// The number of eight bytes at the start, and the bytes after it.
-pub(crate) fn u64_in(bytes: &[u8]) -> Option<(u64, &[u8])> {
-    if bytes.len() < 8 {
-        return None;
-    }
-    let (_, rest) = bytes.split_at(8);
-    Some((LittleEndian::read_u64(bytes), rest))
 }
 
 // The first `len` bytes, and the bytes after them.
@@ -75,22 +55,53 @@ fn entry_of(
     requires value { length value.now < 2 ^ 32 }
 {
     let key = Slice::new(alloc, key).ok()?;
-    let value = Slice::new(alloc, value).ok()?;
-    Some(InternalValue::from_components(key, value, seqno, value_type))
+    match Slice::new(alloc, value) {
+        Ok(value) => Some(InternalValue::from_components(key, value, seqno, value_type)),
+        Err(_) => None,
+    }
 }
 
-// The entry at the start of bytes, and the bytes after it.
-fn entry_in(alloc: Global, bytes: &[u8]) -> Option<(InternalValue, &[u8])> {
-    let (value_type, rest) = type_in(bytes)?;
-    let (seqno, rest) = u64_in(rest)?;
-    let (key_len, rest) = u16_in(rest)?;
-    let (value_len, rest) = u32_in(rest)?;
-    let (key, rest) = bytes_in(rest, usize::from(key_len))?;
-    let (value, rest) = bytes_in(rest, value_len as usize)?;
+// What is before the key of an entry.
+#[derive(Clone, Copy)]
+struct Head {
+    value_type: ValueType,
+    seqno: SeqNo,
+    key_len: usize,
+    value_len: usize,
+}
+
+// What the bytes before a key say.
+fn head_of(bytes: &[u8]) -> Option<Head>
+    requires { length bytes.now ≡ 15 }
+    ensures key { IfSome result (λ head. head.key_len < 2 ^ 16) }
+    ensures value { IfSome result (λ head. head.value_len < 2 ^ 32) }
+{
+    Some(Head {
+        value_type: type_of(bytes[0])?,
+        seqno: LittleEndian::read_u64(&bytes[1..9]),
+        key_len: usize::from(LittleEndian::read_u16(&bytes[9..11])),
+        value_len: LittleEndian::read_u32(&bytes[11..15]) as usize,
+    })
+}
+
+// Appends the entry at the start of bytes to a list. Returns the bytes after it.
+fn push_entry<'a>(
+    alloc: Global,
+    entries: &mut Vec<InternalValue>,
+    bytes: &'a [u8],
+) -> Option<&'a [u8]> {
+    let (head, rest) = bytes_in(bytes, HEAD_LEN)?;
+    let head = head_of(head)?;
+    let (key, rest) = bytes_in(rest, head.key_len)?;
+    let (value, rest) = bytes_in(rest, head.value_len)?;
     if key.is_empty() {
         return None;
     }
-    Some((entry_of(alloc, key, value, seqno, value_type)?, rest))
+    push_made(
+        entries,
+        entry_of(alloc, key, value, head.seqno, head.value_type),
+    )?;
+    Some(rest)
 }
 
 /// Reads `count` entries. `None` if the bytes are not that many entries and nothing else, or an
@@ -99,12 +110,7 @@ pub fn entries_in(alloc: Global, bytes: &[u8], count: usize) -> Option<Vec<Inter
     let mut entries = Vec::new(alloc);
     let mut rest = bytes;
     for _ in 0..count {
-        let (entry, after) = entry_in(alloc, rest)?;
-        entries.push(entry).ok()?;
-        rest = after;
+        rest = push_entry(alloc, &mut entries, rest)?;
     }
-    if !rest.is_empty() {
-        return None;
-    }
-    Some(entries)
+    if rest.is_empty() { Some(entries) } else { None }
 }

@@ -7,15 +7,17 @@ ghost use Rattle.sstable_blocks.specs.Run.{IsWritable};
 
 use crate::REFUSED;
 use crate::data_block::{NEWEST, items_in};
+use crate::entries::push_made;
 use crate::hash::Hash;
 use crate::run::run_of;
-use crate::sums::entry_sum;
+use crate::sums::Summed;
+use crate::tables::table_over;
 use crate::views::view_scans_of;
 use sst_base::{HashRatio, InternalValue, Slice};
 use sst_block_core::AsEntry;
 use sst_merge::{Compact, Head, Merge, Ranked, Sizes, Source, write_table};
 use sstable_blocks::run::{RunRef, Scan};
-use sstable_blocks::{MemorySource, RunConfig, RunHandles, Table};
+use sstable_blocks::{MemorySource, RunConfig, RunHandles};
 use std::alloc::Global;
 
 // A scan whose first entry is held.
@@ -39,10 +41,25 @@ fn part_of(
     let mut part = Vec::new(alloc);
     for entry in items {
         if entry.key().seqno() as usize % parts.max(1) == number {
-            part.push(entry.clone().ok()?).ok()?;
+            push_made(&mut part, entry.clone().ok())?;
         }
     }
     Some(part)
+}
+
+// The run of entries.
+fn stored_of(
+    alloc: Global,
+    items: &[InternalValue],
+    per_block: usize,
+    config: RunConfig,
+) -> Option<Stored>
+    requires { 1 ≤ config.index_interval }
+{
+    match run_of(alloc, items, per_block, config) {
+        Some((bytes, handles)) => Some(Stored { bytes, handles }),
+        None => None,
+    }
 }
 
 // The runs of the parts of a list.
@@ -58,8 +75,7 @@ fn runs_of(
     let mut runs = Vec::new(alloc);
     for number in 0..tables {
         let part = part_of(alloc, items, number, tables)?;
-        let (bytes, handles) = run_of(alloc, part.as_slice(), per_block, config)?;
-        runs.push(Stored { bytes, handles }).ok()?;
+        push_made(&mut runs, stored_of(alloc, &part, per_block, config))?;
     }
     Some(runs)
 }
@@ -79,51 +95,44 @@ pub(crate) fn runs_in(
     runs_of(alloc, items.as_slice(), per_block, config, tables)
 }
 
-// Opens a table over each run.
-pub(crate) fn tables_of(alloc: Global, runs: &[Stored]) -> Option<Vec<Table<Hash, MemorySource>>> {
-    let mut tables = Vec::new(alloc);
-    for run in runs {
-        let source = MemorySource::new(run.bytes.clone().ok()?);
-        tables
-            .push(Table::open(alloc, source, run.handles).ok()?)
-            .ok()?;
-    }
-    Some(tables)
-}
-
 /// Adds a source to those of a merge.
 pub(crate) fn push_head<T: Ranked + Drop, I: Source<T> + Drop>(
     alloc: Global,
     heads: &mut Vec<Head<T, I>>,
     source: I,
 ) -> Option<()> {
-    heads.push(Head::new(alloc, source).ok()?).ok()
+    push_made(heads, Head::new(alloc, source).ok())
 }
 
-// Scans of tables.
-fn scans_of(
-    alloc: Global,
-    tables: Vec<Table<Hash, MemorySource>>,
-) -> Option<Vec<Scanned<'static>>> {
+// Opens a table over a run, and adds its scan to the sources of a merge.
+fn push_scan(alloc: Global, scans: &mut Vec<Scanned<'static>>, run: &Stored) -> Option<()> {
+    match table_over(alloc, &run.bytes, run.handles) {
+        Some(table) => push_head(alloc, scans, table.scan()),
+        None => None,
+    }
+}
+
+// Scans of tables over runs, which are opened.
+fn scans_of(alloc: Global, runs: &[Stored]) -> Option<Vec<Scanned<'static>>> {
     let mut scans = Vec::new(alloc);
-    for table in tables {
-        push_head(alloc, &mut scans, table.scan())?;
+    for run in runs {
+        push_scan(alloc, &mut scans, run)?;
     }
     Some(scans)
 }
 
 // Adds each of so many entries where its source holds it, and passes it.
 #[inline(always)]
-fn add_passed<I: Source<InternalValue> + Drop>(
+fn add_passed<T: Ranked + Summed + Drop, I: Source<T> + Drop>(
     so_far: u64,
-    merged: &mut Merge<InternalValue, I>,
+    merged: &mut Merge<T, I>,
     count: usize,
     alloc: Global,
 ) -> Option<u64> {
     let mut sum = so_far;
     for _ in 0..count {
         match merged.peek() {
-            Some(entry) => sum = sum.wrapping_add(entry_sum(entry)),
+            Some(entry) => sum = sum.wrapping_add(entry.sum()),
             None => return None,
         }
         if merged.advance(alloc).is_err() {
@@ -133,11 +142,25 @@ fn add_passed<I: Source<InternalValue> + Drop>(
     Some(sum)
 }
 
+/// Merges sources, and adds each of so many entries.
+#[inline(always)]
+pub(crate) fn add_sources<T: Ranked + Summed + Drop, I: Source<T> + Drop>(
+    so_far: u64,
+    sources: Vec<Head<T, I>>,
+    count: usize,
+    alloc: Global,
+) -> Option<u64> {
+    let mut merged = Merge::new(sources);
+    add_passed(so_far, &mut merged, count, alloc)
+}
+
 // Opens the tables, merges their scans, and adds each entry.
 #[inline(never)]
 fn add_merged(so_far: u64, runs: &[Stored], count: usize, alloc: Global) -> Option<u64> {
-    let mut merged = Merge::new(scans_of(alloc, tables_of(alloc, runs)?)?);
-    add_passed(so_far, &mut merged, count, alloc)
+    match scans_of(alloc, runs) {
+        Some(scans) => add_sources(so_far, scans, count, alloc),
+        None => None,
+    }
 }
 
 // Opens the tables and merges their scans, so many times.
@@ -149,12 +172,17 @@ fn merged_in(alloc: Global, runs: &[Stored], count: usize, times: u64) -> Option
     Some(sum)
 }
 
+// Checks a run, and adds it to those that were checked.
+fn push_checked<'a>(alloc: Global, all: &mut Vec<RunRef<'a, Hash>>, run: &'a Stored) -> Option<()> {
+    let (checked, _) = RunRef::check(alloc, run.bytes.as_slice(), &run.handles).ok()?;
+    all.push(checked).ok()
+}
+
 // Checks each run.
 pub(crate) fn all_checked<'a>(alloc: Global, runs: &'a [Stored]) -> Option<Vec<RunRef<'a, Hash>>> {
     let mut all = Vec::new(alloc);
     for run in runs {
-        let (checked, _) = RunRef::check(alloc, run.bytes.as_slice(), &run.handles).ok()?;
-        all.push(checked).ok()?;
+        push_checked(alloc, &mut all, run)?;
     }
     Some(all)
 }
@@ -165,23 +193,37 @@ const SIZES: Sizes = Sizes {
     table: usize::MAX,
 };
 
-// The length of the table of what a compaction leaves of a source.
-fn compacted_len<T: Ranked + AsEntry + Drop, I: Source<T> + Drop>(
+// The length of the table of a source.
+fn table_len<T: Ranked + AsEntry + Drop, I: Source<T> + Drop>(
     alloc: Global,
     source: I,
     config: RunConfig,
 ) -> Option<u64>
     requires { IsWritable config }
 {
-    let compacted = Compact::new(source, vec![in alloc; NEWEST].ok()?, true);
-    let mut head = Head::new(alloc, compacted).ok()?;
+    let mut head = Head::new(alloc, source).ok()?;
     let bytes = Vec::new(alloc);
-    let table = write_table::<Hash, T, Compact<T, I, bool>, Vec<u8>>(
-        alloc, &mut head, bytes, config, SIZES,
-    );
-    match table {
+    match &write_table::<Hash, T, I, Vec<u8>>(alloc, &mut head, bytes, config, SIZES) {
         Ok((Some(_), bytes)) => Some(bytes.len() as u64),
         _ => None,
+    }
+}
+
+// The length of the table of what a compaction leaves of sources.
+fn compacted_len<T: Ranked + AsEntry + Drop, I: Source<T> + Drop>(
+    alloc: Global,
+    sources: Vec<Head<T, I>>,
+    config: RunConfig,
+) -> Option<u64>
+    requires { IsWritable config }
+{
+    match vec![in alloc; NEWEST] {
+        Ok(reads) => table_len(
+            alloc,
+            Compact::new(Merge::new(sources), reads, true),
+            config,
+        ),
+        Err(_) => None,
     }
 }
 
@@ -189,8 +231,10 @@ fn compacted_len<T: Ranked + AsEntry + Drop, I: Source<T> + Drop>(
 fn compacted_entries(alloc: Global, runs: &[Stored], config: RunConfig) -> Option<u64>
     requires { IsWritable config }
 {
-    let merged = Merge::new(scans_of(alloc, tables_of(alloc, runs)?)?);
-    compacted_len(alloc, merged, config)
+    match scans_of(alloc, runs) {
+        Some(scans) => compacted_len(alloc, scans, config),
+        None => None,
+    }
 }
 
 // Checks the runs, compacts their scans, and returns the length of the table.
@@ -198,8 +242,10 @@ fn compacted_views(alloc: Global, runs: &[Stored], config: RunConfig) -> Option<
     requires { IsWritable config }
 {
     let checked = all_checked(alloc, runs)?;
-    let merged = Merge::new(view_scans_of(alloc, checked.as_slice())?);
-    compacted_len(alloc, merged, config)
+    match view_scans_of(alloc, checked.as_slice()) {
+        Some(scans) => compacted_len(alloc, scans, config),
+        None => None,
+    }
 }
 
 // Compacts runs, so many times.

@@ -17,7 +17,7 @@ use crate::data_block::{NEWEST, copy_front, items_in};
 use crate::entries::entries_in;
 use crate::hash::Hash;
 use crate::keys::keys_in;
-use crate::sums::found_sum;
+use crate::sums::search_sum;
 use sst_base::{HashRatio, InternalValue, Slice, Steps};
 use sst_block_core::DataBlock;
 use sstable_blocks::{RunConfig, RunHandles, cuts_fit, read_entry, write_run};
@@ -85,7 +85,10 @@ pub(crate) fn run_of(
     }
     let cuts = cuts_of(alloc, items.len(), per_block)?;
     let (bytes, handles) = written(alloc, items, cuts.as_slice(), config)?;
-    Some((Slice::from_vec(bytes).ok()?, handles))
+    match Slice::from_vec(bytes) {
+        Ok(bytes) => Some((bytes, handles)),
+        Err(_) => None,
+    }
 }
 
 /// The run of entries as bytes.
@@ -165,8 +168,8 @@ fn add_found(
     let mut sum = so_far;
     for needle in needles {
         let mut steps = Steps::new();
-        let found = read_entry::<Hash>(alloc, bytes, handles, needle, NEWEST, &mut steps).ok()?;
-        sum = sum.wrapping_add(found_sum(&found));
+        let found = read_entry::<Hash>(alloc, bytes, handles, needle, NEWEST, &mut steps);
+        sum = sum.wrapping_add(search_sum(found)?);
     }
     Some(sum)
 }

@@ -67,47 +67,66 @@ pub fn last_byte(bytes: &[u8]) -> u64 {
     }
 }
 
-/// Sequence number, lengths of key and value, and their last bytes, of an entry.
-#[inline(always)]
-pub fn entry_sum(entry: &InternalValue) -> u64 {
-    let (key, value) = (entry.key().user_key().as_slice(), entry.value().as_slice());
-    entry
-        .key()
-        .seqno()
-        .wrapping_add(key.len() as u64)
-        .wrapping_add(value.len() as u64)
-        .wrapping_add(last_byte(key))
-        .wrapping_add(last_byte(value))
+/// What has a sum.
+pub trait Summed {
+    /// Returns the sum.
+    fn sum(&self) -> u64;
 }
 
-/// The sum of the entry that is found, or 1 for none.
-#[inline(always)]
-pub fn found_sum(found: &Option<InternalValue>) -> u64 {
-    match found {
-        Some(entry) => entry_sum(entry),
-        None => 1,
+/// Sequence number, lengths of key and value, and their last bytes, of an entry.
+impl Summed for InternalValue {
+    #[inline(always)]
+    fn sum(&self) -> u64 {
+        let (key, value) = (self.key().user_key().as_slice(), self.value().as_slice());
+        self.key()
+            .seqno()
+            .wrapping_add(key.len() as u64)
+            .wrapping_add(value.len() as u64)
+            .wrapping_add(last_byte(key))
+            .wrapping_add(last_byte(value))
     }
 }
 
 /// The same of an entry that borrows its block.
-#[inline(always)]
-pub fn view_sum(entry: &EntryView<'_>) -> u64 {
-    let (prefix, rest) = entry.key_parts();
-    let value = entry.value();
-    entry
-        .seqno()
-        .wrapping_add(prefix.len() as u64)
-        .wrapping_add(rest.len() as u64)
-        .wrapping_add(value.len() as u64)
-        .wrapping_add(last_byte(if rest.is_empty() { prefix } else { rest }))
-        .wrapping_add(last_byte(value))
+impl Summed for EntryView<'_> {
+    #[inline(always)]
+    fn sum(&self) -> u64 {
+        let (prefix, rest) = self.key_parts();
+        let value = self.value();
+        self.seqno()
+            .wrapping_add(prefix.len() as u64)
+            .wrapping_add(rest.len() as u64)
+            .wrapping_add(value.len() as u64)
+            .wrapping_add(last_byte(if rest.is_empty() { prefix } else { rest }))
+            .wrapping_add(last_byte(value))
+    }
 }
 
-/// The sum of the entry that is found and borrows its block, or 1 for none.
+/// The sum of what is found, or 1 for none.
 #[inline(always)]
-pub fn view_found_sum(found: &Option<EntryView<'_>>) -> u64 {
+pub fn found_sum<T: Summed>(found: &Option<T>) -> u64 {
     match found {
-        Some(entry) => view_sum(entry),
+        Some(entry) => entry.sum(),
         None => 1,
+    }
+}
+
+/// The sum of what was made, if it was.
+#[inline(always)]
+pub fn made_sum<T: Summed + Drop, E: Drop>(made: std::result::Result<T, E>) -> Option<u64> {
+    match &made {
+        Ok(entry) => Some(entry.sum()),
+        Err(_) => None,
+    }
+}
+
+/// The sum of what is found, or 1 for none, if the search did not fail.
+#[inline(always)]
+pub fn search_sum<T: Summed + Drop, E: Drop>(
+    found: std::result::Result<Option<T>, E>,
+) -> Option<u64> {
+    match &found {
+        Ok(found) => Some(found_sum(found)),
+        Err(_) => None,
     }
 }

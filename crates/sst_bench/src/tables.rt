@@ -12,11 +12,12 @@ use crate::data_block::NEWEST;
 use crate::hash::Hash;
 use crate::keys::keys_in;
 use crate::run::run_in;
-use crate::sums::entry_sum;
+use crate::sums::{Summed, made_sum};
 use crate::views::add_views_found;
-use sst_base::{HashRatio, Slice, Steps};
-use sstable_blocks::run::{RunRef, Scan, check, shared_entry};
-use sstable_blocks::{MemorySource, RunConfig, RunHandles, Table};
+use sst_base::{HashRatio, InternalValue, Slice, Steps};
+use sst_merge::Source;
+use sstable_blocks::run::{RunRef, check, shared_entry};
+use sstable_blocks::{FrameSource, MemorySource, RunConfig, RunHandles, Table};
 use std::alloc::Global;
 
 // Reads the entry of a needle, which shares the bytes of the run.
@@ -25,10 +26,7 @@ fn read_shared(alloc: Global, run: &RunRef<'_, Hash>, bytes: &Slice, needle: &[u
 {
     let mut steps = Steps::new();
     match run.locate(needle, NEWEST, &mut steps) {
-        Some(place) => {
-            let entry = shared_entry(alloc, bytes, &place).ok()?;
-            Some(entry_sum(&entry))
-        }
+        Some(place) => made_sum(shared_entry(alloc, bytes, &place)),
         None => Some(1),
     }
 }
@@ -51,23 +49,52 @@ fn add_found(
     Some(sum)
 }
 
-// Takes so many entries of a scan, and adds each.
+// Takes the next entry of a source: its sum, if there is one.
 #[inline(always)]
-fn add_taken(
+fn taken_sum<I: Source<InternalValue>>(source: &mut I, alloc: Global) -> Option<u64> {
+    match &source.next_entry(alloc) {
+        Ok(Some(entry)) => Some(entry.sum()),
+        _ => None,
+    }
+}
+
+// Takes so many entries of a source, and adds each.
+#[inline(always)]
+fn add_taken<I: Source<InternalValue>>(
     so_far: u64,
-    scan: &mut Scan<'_, Hash, MemorySource>,
+    source: &mut I,
     count: usize,
     alloc: Global,
 ) -> Option<u64> {
     let mut sum = so_far;
     for _ in 0..count {
-        let step = scan.next_entry(alloc);
-        match &step {
-            Ok(Some(entry)) => sum = sum.wrapping_add(entry_sum(entry)),
-            _ => return None,
-        }
+        sum = sum.wrapping_add(taken_sum(source, alloc)?);
     }
     Some(sum)
+}
+
+// Takes so many entries of what is left of a source, and adds each.
+#[inline(always)]
+fn add_all<I: Source<InternalValue> + Drop>(
+    so_far: u64,
+    source: I,
+    count: usize,
+    alloc: Global,
+) -> Option<u64> {
+    let mut source = source;
+    add_taken(so_far, &mut source, count, alloc)
+}
+
+/// Opens a table over a run in memory.
+pub(crate) fn table_over(
+    alloc: Global,
+    run: &Slice,
+    handles: RunHandles,
+) -> Option<Table<Hash, MemorySource>> {
+    match run.clone() {
+        Ok(run) => Table::open(alloc, MemorySource::new(run), handles).ok(),
+        Err(_) => None,
+    }
 }
 
 // What is done with a table.
@@ -105,6 +132,21 @@ fn asked_of(
     Some(sum)
 }
 
+// Reads a table without checks, so many times.
+fn asked_in(
+    alloc: Global,
+    table: &Table<Hash, MemorySource>,
+    bytes: &Slice,
+    asked: Asked<'_>,
+    times: u64,
+) -> Option<u64>
+    requires sound { (blocks : List (List Entry))
+        × IsSound (hashes hash64 hash128) blocks table.now.source.inner table.now.handles }
+    requires bytes { table.now.source.inner ≡ bytes.now }
+{
+    asked_of(alloc, &table.trusted(), bytes, asked, times)
+}
+
 // Opens a table over a run, and reads it without checks, so many times.
 fn opened(
     alloc: Global,
@@ -118,7 +160,7 @@ fn opened(
 {
     let source = MemorySource::new(run.clone().ok()?);
     match Table::<Hash, MemorySource>::open(alloc, source, handles) {
-        Ok(table) => asked_of(alloc, &table.trusted(), run, asked, times),
+        Ok(table) => asked_in(alloc, &table, run, asked, times),
         Err(_) => None,
     }
 }
@@ -174,9 +216,22 @@ fn add_scanned(
     count: usize,
     alloc: Global,
 ) -> Option<u64> {
-    let source = MemorySource::new(run.clone().ok()?);
-    match Table::<Hash, MemorySource>::open(alloc, source, *handles) {
-        Ok(table) => add_taken(so_far, &mut table.scan(), count, alloc),
+    match table_over(alloc, run, *handles) {
+        Some(table) => add_all(so_far, table.scan(), count, alloc),
+        None => None,
+    }
+}
+
+// Checks the run in a source: the number of its entries.
+#[inline(always)]
+fn checked_len<S: FrameSource + Drop>(
+    alloc: Global,
+    source: S,
+    handles: &RunHandles,
+) -> Option<u64> {
+    let mut source = source;
+    match &check::<Hash, S>(alloc, &mut source, handles) {
+        Ok(summary) => Some(summary.entries),
         Err(_) => None,
     }
 }
@@ -184,9 +239,8 @@ fn add_scanned(
 // Checks a run, and adds the number of its entries.
 #[inline(never)]
 fn add_checked(so_far: u64, run: &Slice, handles: &RunHandles, alloc: Global) -> Option<u64> {
-    let mut source = MemorySource::new(run.clone().ok()?);
-    let summary = check::<Hash, MemorySource>(alloc, &mut source, handles).ok()?;
-    Some(so_far.wrapping_add(summary.entries))
+    let source = MemorySource::new(run.clone().ok()?);
+    Some(so_far.wrapping_add(checked_len(alloc, source, handles)?))
 }
 
 // What is done with a run whose bytes may be any.

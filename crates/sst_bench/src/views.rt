@@ -12,9 +12,9 @@ use crate::REFUSED;
 use crate::data_block::{NEWEST, add_entries, block_of, items_in};
 use crate::hash::Hash;
 use crate::keys::keys_in;
-use crate::merges::{Stored, all_checked, push_head, runs_in};
+use crate::merges::{Stored, add_sources, all_checked, push_head, runs_in};
 use crate::run::run_in;
-use crate::sums::{entry_sum, view_found_sum, view_sum};
+use crate::sums::{Summed, found_sum, made_sum};
 use crate::tables::{Asked, opened_in};
 use sst_base::{BlockHash, HashRatio, InternalValue, Steps};
 use sst_block_core::DataBlock;
@@ -32,7 +32,7 @@ type Scanned<'a, 'k> = Head<EntryView<'a>, RunScan<'a, 'k, Hash>>;
 fn add_views(so_far: u64, block: &DataBlock<Hash>) -> u64 {
     let mut sum = so_far;
     for view in block.by_ref().entries() {
-        sum = sum.wrapping_add(view_sum(&view));
+        sum = sum.wrapping_add(view.sum());
     }
     sum
 }
@@ -187,7 +187,7 @@ pub extern "C" fn sst_blocks_check(
 fn add_scanned(so_far: u64, run: &RunRef<'_, Hash>) -> u64 {
     let mut sum = so_far;
     for view in run.scan() {
-        sum = sum.wrapping_add(view_sum(&view));
+        sum = sum.wrapping_add(view.sum());
     }
     sum
 }
@@ -197,10 +197,7 @@ fn add_scanned(so_far: u64, run: &RunRef<'_, Hash>) -> u64 {
 fn add_scanned_made(so_far: u64, run: &RunRef<'_, Hash>, alloc: Global) -> Option<u64> {
     let mut sum = so_far;
     for view in run.scan() {
-        match view.to_entry(alloc) {
-            Ok(entry) => sum = sum.wrapping_add(entry_sum(&entry)),
-            Err(_) => return None,
-        }
+        sum = sum.wrapping_add(made_sum(view.to_entry(alloc))?);
     }
     Some(sum)
 }
@@ -257,7 +254,7 @@ pub(crate) fn add_views_found(so_far: u64, run: &RunRef<'_, Hash>, needles: &[&[
     let mut sum = so_far;
     for needle in needles {
         let found = run.find(needle, NEWEST, &mut Steps::new());
-        sum = sum.wrapping_add(view_found_sum(&found));
+        sum = sum.wrapping_add(found_sum(&found));
     }
     sum
 }
@@ -298,27 +295,6 @@ pub(crate) fn view_scans_of<'a>(
     Some(scans)
 }
 
-// Adds each of so many entries where its source holds it, and passes it.
-#[inline(always)]
-fn add_passed<'a, I: Source<EntryView<'a>> + Drop>(
-    so_far: u64,
-    merged: &mut Merge<EntryView<'a>, I>,
-    count: usize,
-    alloc: Global,
-) -> Option<u64> {
-    let mut sum = so_far;
-    for _ in 0..count {
-        match merged.peek() {
-            Some(view) => sum = sum.wrapping_add(view_sum(view)),
-            None => return None,
-        }
-        if merged.advance(alloc).is_err() {
-            return None;
-        }
-    }
-    Some(sum)
-}
-
 // Makes each of so many entries, adds it, and passes it.
 #[inline(always)]
 fn add_passed_made<'a, I: Source<EntryView<'a>> + Drop>(
@@ -329,12 +305,9 @@ fn add_passed_made<'a, I: Source<EntryView<'a>> + Drop>(
 ) -> Option<u64> {
     let mut sum = so_far;
     for _ in 0..count {
-        let Some(view) = merged.peek() else {
-            return None;
-        };
-        match &view.to_entry(alloc) {
-            Ok(entry) => sum = sum.wrapping_add(entry_sum(entry)),
-            Err(_) => return None,
+        match merged.peek() {
+            Some(view) => sum = sum.wrapping_add(made_sum(view.to_entry(alloc))?),
+            None => return None,
         }
         if merged.advance(alloc).is_err() {
             return None;
@@ -343,11 +316,25 @@ fn add_passed_made<'a, I: Source<EntryView<'a>> + Drop>(
     Some(sum)
 }
 
+// Merges sources, makes each of so many entries, and adds it.
+#[inline(always)]
+fn add_sources_made<'a, I: Source<EntryView<'a>> + Drop>(
+    so_far: u64,
+    sources: Vec<Head<EntryView<'a>, I>>,
+    count: usize,
+    alloc: Global,
+) -> Option<u64> {
+    let mut merged = Merge::new(sources);
+    add_passed_made(so_far, &mut merged, count, alloc)
+}
+
 // Merges scans of runs, and adds each entry where its source holds it.
 #[inline(never)]
 fn add_merged(so_far: u64, runs: &[RunRef<'_, Hash>], count: usize, alloc: Global) -> Option<u64> {
-    let mut merged = Merge::new(view_scans_of(alloc, runs)?);
-    add_passed(so_far, &mut merged, count, alloc)
+    match view_scans_of(alloc, runs) {
+        Some(scans) => add_sources(so_far, scans, count, alloc),
+        None => None,
+    }
 }
 
 // Merges scans of runs, makes each entry, and adds it.
@@ -358,8 +345,10 @@ fn add_merged_made(
     count: usize,
     alloc: Global,
 ) -> Option<u64> {
-    let mut merged = Merge::new(view_scans_of(alloc, runs)?);
-    add_passed_made(so_far, &mut merged, count, alloc)
+    match view_scans_of(alloc, runs) {
+        Some(scans) => add_sources_made(so_far, scans, count, alloc),
+        None => None,
+    }
 }
 
 // Merges scans of runs, so many times.
