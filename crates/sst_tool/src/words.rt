@@ -161,11 +161,7 @@ const SCAN_WORDS: [Word; 11] = [
     TABLE_HASH,
     (FROM, Kind::Key, "The first key"),
     (TO, Kind::Key, "The key at which to end, without it"),
-    (
-        PREFIX,
-        Kind::Key,
-        "The bytes that the keys begin with",
-    ),
+    (PREFIX, Kind::Key, "The bytes that the keys begin with"),
     READ_AT,
     (LIMIT, Kind::Count, "At most this many entries"),
     (REVERSE, Kind::Flag, "From the last entry to the first"),
