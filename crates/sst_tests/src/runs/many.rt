@@ -25,7 +25,10 @@ fn many(alloc: Global) -> Result<Vec<InternalValue>> {
 }
 
 /// Adds a block of all these entries to a writer.
-fn add_block(writer: &mut RunWriter<ByteSum, Vec<u8>>, list: &[InternalValue]) -> Result<()> {
+pub(crate) fn add_block(
+    writer: &mut RunWriter<ByteSum, Vec<u8>>,
+    list: &[InternalValue],
+) -> Result<()> {
     if writer.fits_after(list) {
         writer.add_block(list)
     } else {
@@ -56,7 +59,7 @@ fn count_found(run: &RunRef<'_, ByteSum>) -> u32 {
 }
 
 /// How many of the entries a run of these bytes has, by its check, and how many of some are found.
-fn counts_of(alloc: Global, handles: &RunHandles, bytes: &[u8]) -> Result<(u64, u32)> {
+pub(crate) fn counts_of(alloc: Global, handles: &RunHandles, bytes: &[u8]) -> Result<(u64, u32)> {
     match RunRef::<ByteSum>::check(alloc, bytes, handles) {
         Ok((run, summary)) => Ok((summary.entries, count_found(&run))),
         Err(error) => Err(error),

@@ -1,4 +1,5 @@
 //! Runs over devices, writers and sources that fail, and worked values of the definitions.
+mod at_size;
 mod faults;
 mod lists;
 mod many;

@@ -1,0 +1,78 @@
+//! Runs with long keys and a long index: each call that takes memory is given enough, and then has to
+//! succeed.
+ghost use Rattle.std.specs.Prelude.{None};
+
+use crate::runs::lists::{NO_BUCKETS, push};
+use crate::runs::many::{add_block, counts_of};
+use sst_base::{ByteSum, Error, InternalValue, Result, Slice, Steps, ValueType};
+use sstable_blocks::run::{RunConfig, RunHandles, RunWriter};
+use sstable_blocks::{MemorySource, Table};
+use std::alloc::Global;
+
+/// How many blocks the run has, each of one entry.
+const BLOCKS: u32 = 1_100;
+
+/// A key of so many bytes, which begins with a number.
+fn key_of(alloc: Global, number: u32, len: usize) -> Result<Vec<u8>> {
+    let mut key = Vec::with_capacity(alloc, len)?;
+    key.extend_from_slice(&number.to_be_bytes())?;
+    key.resize(len, b'k')?;
+    Ok(key)
+}
+
+/// A list of one entry with such a key.
+fn entry_of(alloc: Global, number: u32, len: usize) -> Result<Vec<InternalValue>> {
+    let mut list = Vec::new(alloc);
+    let key = key_of(alloc, number, len)?;
+    push(&mut list, key.as_slice(), b"v", 1, ValueType::Value)?;
+    Ok(list)
+}
+
+/// Writes a run of blocks of one entry each, with a filter.
+fn write_blocks(alloc: Global, blocks: u32, len: usize) -> Result<(RunHandles, Vec<u8>)> {
+    let config = RunConfig::new(16, NO_BUCKETS, 10);
+    let mut writer: RunWriter<ByteSum, Vec<u8>> = RunWriter::new(alloc, Vec::new(alloc), config);
+    for number in 0..blocks {
+        add_block(&mut writer, entry_of(alloc, number, len)?.as_slice())?;
+    }
+    if writer.block_count() > 0 {
+        writer.finish()
+    } else {
+        Err(Error::BadEntry)
+    }
+}
+
+/// Whether a read of a table finds a key, and a scan from the back gives its last entry.
+fn is_read(alloc: Global, table: Table<ByteSum, MemorySource>, key: &[u8]) -> Result<bool> {
+    let mut table = table;
+    let found = table.get(alloc, key, 2, &mut Steps::new())?.is_some();
+    let mut scan = table.scan();
+    let last = scan.next_entry_back(alloc)?;
+    Ok(found && last.is_some())
+}
+
+/// Writes such a run, and reads it as a table in memory by its first and its last key. Returns how
+/// many entries its check counts.
+fn written_and_read(alloc: Global, blocks: u32, len: usize) -> Result<u64> {
+    let (handles, bytes) = write_blocks(alloc, blocks, len)?;
+    let (entries, _) = counts_of(alloc, &handles, bytes.as_slice())?;
+    let source = MemorySource::new(Slice::from_vec(bytes)?);
+    let table = Table::<ByteSum, MemorySource>::open(alloc, source, handles)?;
+    let key = key_of(alloc, blocks.saturating_sub(1), len)?;
+    if is_read(alloc, table, key.as_slice())? {
+        Ok(entries)
+    } else {
+        Err(Error::OutOfOrder)
+    }
+}
+
+/// The index has more than two megabytes.
+#[test]
+fn table_with_a_long_index_is_read(rt: HostRuntime) {
+    assert!(rt; written_and_read(rt.alloc(), BLOCKS, 2_000) == Ok(1_100));
+}
+
+#[test]
+fn table_with_long_keys_is_read(rt: HostRuntime) {
+    assert!(rt; written_and_read(rt.alloc(), 3, 60_000) == Ok(3));
+}
