@@ -103,6 +103,26 @@ module _ (needle : List ℕ) (r : ℕ) where
   abbrev found_in : List Entry → Option Entry
   found_in xs = first_match entries needle r xs
 
+  -- the lesser of two matches that do not sort before x does not sort before it
+  lesser_after : (a b : Option Entry) (x : Entry) → NotAfter a (Some x) → NotAfter b (Some x) → NotAfter (lesser entry_cmp a b) (Some x)
+  lesser_after None b x h k = k
+  lesser_after (Some a) None x h k = h
+  lesser_after (Some a) (Some b) x h k = elim (is_lt (entry_cmp b a)) as (λ t. NotAfter (cond t (Some b) (Some a)) (Some x)) [ true ↦ k | false ↦ h ]
+
+  first_stays : (x : Entry) (b : Option Entry) → NotAfter b (Some x) → lesser entry_cmp (Some x) b ≡ Some x
+  first_stays x None h = refl
+  first_stays x (Some b) h = ap (λ t. cond t (Some b) (Some x)) h
+
+  older_after : (newer : List Entry) (x : Entry) → found_in newer ≡ Some x → (older : List (List Entry)) → AllByRecursion (IsAbove newer) older → NotAfter (least_match entry_cmp (map found_in older)) (Some x)
+  older_after newer x is [] all = tt
+  older_after newer x is (items ∷ older) all =
+      lesser_after (found_in items) (least_match entry_cmp (map found_in older)) x (subst (NotAfter (found_in items)) is (not_after newer items all.0)) (older_after newer x is older all.1)
+
+  -- what a level has is what all levels from there on have
+  pub level_match : (newer : List Entry) (older : List (List Entry)) (x : Entry) → AllByRecursion (IsAbove newer) older → found_in newer ≡ Some x → least_match entry_cmp (map found_in (newer ∷ older)) ≡ Some x
+  level_match newer older x all is =
+      ap (λ o. lesser entry_cmp o (least_match entry_cmp (map found_in older))) is ∙ first_stays x (least_match entry_cmp (map found_in older)) (older_after newer x is older all)
+
   -- the least of the first matches of newer lists and of another
   abbrev chain : List (List Entry) → Option Entry → Option Entry
   chain [] t = t

@@ -1,12 +1,24 @@
 -- Lists of versions of which some are newer and some older, as the levels of a store have them.
-use Rattle.std.specs.Prelude.{◌≡◌, ◌≢◌, ℕ, ◌≤◌, Bool, true, not, List}
+use Rattle.std.specs.Prelude.{◌≡◌, ◌≢◌, ℕ, ◌+◌, ◌≤◌, Bool, true, not, is_some, if◌then◌else◌, List, [], ◌∷◌}
 use Rattle.std.specs.List.{AllByRecursion, list_any}
 use Rattle.sst_base.specs.Entry.{Entry}
+use Rattle.sst_block_core.specs.Entries.{entries}
+use Rattle.sst_block_core.specs.Window.{first_match}
 use Rattle.sst_merge.specs.Ranges.{covers}
 
 -- of a key that both lists have, no version of the first is older than one of the second
 abbrev pub IsAbove : List Entry → List Entry → Type 0
 IsAbove newer items = AllByRecursion (λ y. AllByRecursion (λ x. y.key.user_key ≡ x.key.user_key → x.key.seqno ≤ y.key.seqno) items) newer
+
+-- lists as the levels of a store: no list has a version of a key that is newer than one of a list before it
+abbrev pub AreLevels : List (List Entry) → Type 0
+AreLevels [] = Unit {0}
+AreLevels (newer ∷ older) = AllByRecursion (IsAbove newer) older × AreLevels older
+
+-- the number of lists up to the first that has a version of a key below a sequence number, with it; of all where none has
+abbrev pub asked : List ℕ → ℕ → List (List Entry) → ℕ
+asked needle seqno [] = 0
+asked needle seqno (items ∷ older) = 1 + (if is_some (first_match entries needle seqno items) then 0 else asked needle seqno older)
 
 -- a list has no version of a key
 abbrev pub HasNone : List ℕ → List Entry → Type 0

@@ -27,7 +27,7 @@ pub use merge::{Head, Merge};
 pub use output::Outputs;
 pub use ranged::Ranged;
 pub use ranked::Ranked;
-pub use reader::{Reader, read_tables};
+pub use reader::{Reader, read_levels, read_tables};
 pub use rev::{Rev, Reversed};
 pub use snapshot::Snapshot;
 pub use source::Source;

@@ -1,5 +1,5 @@
 //! Point reads over several tables.
-ghost use Rattle.std.specs.Prelude.{◌≡◌, ◌⊎◌, ℕ, List, Option, Some, map, IfErr, IfOk, IfSome};
+ghost use Rattle.std.specs.Prelude.{◌≡◌, ◌⊎◌, ℕ, List, Option, Some, map, take, drop, IfErr, IfOk, IfSome};
 ghost use Rattle.sst_base.specs.declared.error.Error.{Error};
 ghost use Rattle.sst_base.specs.declared.error.Error.TheVariants.{Memory};
 ghost use Rattle.sst_base.specs.Counted.{CountsBetween};
@@ -8,6 +8,7 @@ ghost use Rattle.sst_block_core.specs.Entries.{entries};
 ghost use Rattle.sst_block_core.specs.Kind.{IsOrdered};
 ghost use Rattle.sst_block_core.specs.Window.{first_match};
 ghost use Rattle.sst_merge.specs.Counts.{OneFails, most_of};
+ghost use Rattle.sst_merge.specs.Levels.{AreLevels, asked};
 ghost use Rattle.sst_merge.specs.Merge.{entry_cmp, lesser, merged};
 ghost use Rattle.sst_merge.specs.Sources.{all_known};
 
@@ -101,4 +102,44 @@ pub fn read_tables<R: Reader>(
         best = lesser(found, best);
     }
     Ok(best)
+}
+
+/// Returns the first entry with this key whose sequence number is strictly below `seqno`, of readers
+/// that are levels: of no key has a reader a version newer than one of a reader before it, as newer
+/// tables of a store that come first. So the first reader that has such an entry decides, and none
+/// behind it is asked. What is examined is added to `steps`.
+///
+/// # Errors
+///
+/// The first one met, from the first reader on.
+pub fn read_levels<R: Reader>(
+    alloc: Global,
+    readers: &mut [R],
+    needle: &[u8],
+    seqno: SeqNo,
+    steps: &mut Steps,
+) -> Result<Option<InternalValue>>
+    requires { (lists : List (List Entry)) → all_known (map R.list readers.old) ≡ Some lists
+        → AreLevels lists }
+    ensures found { (lists : List (List Entry)) → all_known (map R.list readers.old) ≡ Some lists
+        → IfOk result (λ found. found
+        ≡ first_match entries needle.now seqno (merged entry_cmp lists)) }
+    ensures kept { map R.list readers.new ≡ map R.list readers.old }
+    ensures stops { (lists : List (List Entry)) → all_known (map R.list readers.old) ≡ Some lists
+        → drop (asked needle.now seqno lists) readers.new
+        ≡ drop (asked needle.now seqno lists) readers.old }
+    ensures counts { (lists : List (List Entry)) (mosts : List (ℕ × ℕ))
+        → all_known (map R.list readers.old) ≡ Some lists
+        → all_known (map (λ r. R.most r needle.now seqno) readers.old) ≡ Some mosts
+        → CountsBetween steps.old steps.new (0, 0)
+        (most_of (take (asked needle.now seqno lists) mosts)) }
+    ensures cause { IfErr result (λ e. (e ≡ Memory)
+        ⊎ OneFails (λ r. R.may_fail r needle.now seqno e) readers.old) }
+{
+    for i in 0..readers.len() {
+        if let Some(found) = readers[i].get(alloc, needle, seqno, steps)? {
+            return Ok(Some(found));
+        }
+    }
+    Ok(None)
 }
