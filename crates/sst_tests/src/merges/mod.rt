@@ -1,6 +1,7 @@
 //! Merges, snapshots and compaction over sources, outputs and writers that fail,
 //! and the functions that use the library.
 mod failing;
+mod levels;
 mod lists;
 mod many;
 mod tables;
