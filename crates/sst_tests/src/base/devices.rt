@@ -72,7 +72,7 @@ impl Input for SlowReader<'_> {
 }
 
 /// How a writer fails.
-#[derive(Clone, Copy, Debug, PartialEq, Eq)]
+#[derive(Clone, Copy)]
 pub enum Failure {
     /// A call returns an error.
     Error,

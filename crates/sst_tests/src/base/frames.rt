@@ -6,9 +6,9 @@ use sst_base::hash::ByteSum;
 use sst_base::table::block::{Block, BlockHandle, BlockOffset, BlockType, Header};
 use sst_base::{Checksum, Error, Result, Slice};
 use std::alloc::Global;
-use std::fs;
 use std::fs::File;
 use std::io::{Read, Write};
+use std::{fs, io};
 
 // The frame of `abc`, and two more bytes.
 const LONGER: [u8; 38] = [
@@ -127,30 +127,53 @@ fn a_false_length_asks_for_little(rt: HostRuntime) {
     assert!(rt; seen == Err(Error::Io) && reader.most == 65536);
 }
 
+// What is moved: the frame of `abc`, or its header alone.
+#[derive(Clone, Copy)]
+enum Moved {
+    Frame,
+    Header,
+}
+
 // A device that moves a byte a call.
-#[derive(Clone, Copy, Debug)]
+#[derive(Clone, Copy)]
 enum Device {
-    // The frame of `abc` is written.
+    // A writer that fails like this.
     Writer(Failure),
-    // A header alone is written.
-    HeaderWriter(Failure),
-    // The frame of `abc` is read.
+    // A reader.
     Reader,
-    // Its header is read.
-    HeaderReader,
-    // It is read by a handle.
+    // A file, which is read by a handle.
     File,
 }
 
 // The calls of a whole run over each device, those that move a file included.
-const DEVICES: [(Device, usize); 7] = [
-    (Device::Writer(Failure::Error), 36),
-    (Device::Writer(Failure::NoByte), 36),
-    (Device::HeaderWriter(Failure::Error), 33),
-    (Device::HeaderWriter(Failure::NoByte), 33),
-    (Device::Reader, 36),
-    (Device::HeaderReader, 33),
-    (Device::File, 37),
+const DEVICES: [(&str, Device, Moved, usize); 7] = [
+    (
+        "frame, error",
+        Device::Writer(Failure::Error),
+        Moved::Frame,
+        36,
+    ),
+    (
+        "frame, no byte",
+        Device::Writer(Failure::NoByte),
+        Moved::Frame,
+        36,
+    ),
+    (
+        "header, error",
+        Device::Writer(Failure::Error),
+        Moved::Header,
+        33,
+    ),
+    (
+        "header, no byte",
+        Device::Writer(Failure::NoByte),
+        Moved::Header,
+        33,
+    ),
+    ("frame from a reader", Device::Reader, Moved::Frame, 36),
+    ("header from a reader", Device::Reader, Moved::Header, 33),
+    ("frame from a file", Device::File, Moved::Frame, 37),
 ];
 
 // The header of what was written, if these bytes were.
@@ -163,57 +186,90 @@ fn see_written(written: Result<Header>, taken: &[u8], wanted: &[u8]) -> Result<H
     }
 }
 
+// The header of a block that was seen.
+fn header_seen(seen: Result<Seen>) -> Result<Header> {
+    Ok(seen?.0)
+}
+
+// Writes the frame of `abc`, or its header.
+fn write_to(to: &mut SlowWriter, moved: Moved) -> Result<Header> {
+    match moved {
+        Moved::Frame => Block::write_into::<ByteSum, SlowWriter>(to, b"abc", BlockType::Data),
+        Moved::Header => {
+            abc_header().encode_into::<ByteSum, SlowWriter>(to)?;
+            Ok(abc_header())
+        }
+    }
+}
+
+// Reads the frame of `abc`, or its header.
+fn read_from(alloc: Global, from: &mut SlowReader<'_>, moved: Moved) -> Result<Header> {
+    match moved {
+        Moved::Frame => header_seen(read_slowly(alloc, from)),
+        Moved::Header => Header::decode_from::<ByteSum, SlowReader<'_>>(from),
+    }
+}
+
+// The bytes that are moved.
+fn bytes_of(moved: Moved) -> &'static [u8] {
+    match moved {
+        Moved::Frame => &ABC,
+        Moved::Header => ABC.split_at(33).0,
+    }
+}
+
+// The header of what a writer was given, and the number of calls that did not fail.
+fn move_to(
+    alloc: Global,
+    failure: Failure,
+    moved: Moved,
+    fails_at: usize,
+) -> (Result<Header>, usize) {
+    let mut to = SlowWriter::failing(Vec::new(alloc), fails_at, failure);
+    let written = write_to(&mut to, moved);
+    (see_written(written, &to.taken, bytes_of(moved)), to.calls)
+}
+
 // The header of the frame of `abc`, if it is moved like this and the call of this number fails, and
 // the number of calls before.
-fn move_by(alloc: Global, device: Device, fails_at: usize) -> (Result<Header>, usize) {
+fn move_by(
+    alloc: Global,
+    device: Device,
+    moved: Moved,
+    fails_at: usize,
+) -> (Result<Header>, usize) {
     match device {
-        Device::Writer(failure) => {
-            let mut to = SlowWriter::failing(Vec::new(alloc), fails_at, failure);
-            let written = Block::write_into::<ByteSum, SlowWriter>(
-                &mut to,
-                b"abc",
-                BlockType::Data,
-            );
-            (see_written(written, &to.taken, &ABC), to.calls)
-        }
-        Device::HeaderWriter(failure) => {
-            let mut to = SlowWriter::failing(Vec::new(alloc), fails_at, failure);
-            let written = abc_header().encode_into::<ByteSum, SlowWriter>(&mut to);
-            let header = written.map(|_| abc_header());
-            (see_written(header, &to.taken, ABC.split_at(33).0), to.calls)
-        }
+        Device::Writer(failure) => move_to(alloc, failure, moved, fails_at),
         Device::Reader => {
             let mut from = SlowReader::new(&ABC, fails_at);
-            let read = read_slowly(alloc, &mut from);
-            (read.map(|seen| seen.0), from.calls)
-        }
-        Device::HeaderReader => {
-            let mut from = SlowReader::new(&ABC, fails_at);
-            let read = Header::decode_from::<ByteSum, SlowReader<'_>>(&mut from);
-            (read, from.calls)
+            (read_from(alloc, &mut from, moved), from.calls)
         }
         Device::File => {
             let mut file = SlowFile::new(&ABC, fails_at);
             let handle = BlockHandle::new(BlockOffset(0), 36);
             let block = Block::from_file::<ByteSum, SlowFile<'_>>(alloc, &mut file, handle);
-            (see(block, 0).map(|seen| seen.0), file.calls)
+            (header_seen(see(block, 0)), file.calls)
         }
     }
 }
 
+// The first of so many calls that may fail and is not the one that ends the move, if there is one.
+fn first_wrong(alloc: Global, device: Device, moved: Moved, calls: usize) -> Option<usize> {
+    for fails_at in 0..calls {
+        if move_by(alloc, device, moved, fails_at) != (Err(Error::Io), fails_at) {
+            return Some(fails_at);
+        }
+    }
+    None
+}
+
 #[test]
 fn each_call_of_a_device_may_fail(rt: HostRuntime) {
-    for (device, calls) in &DEVICES {
-        let (device, calls) = (*device, *calls);
-        for fails_at in 0..calls {
-            let moved = move_by(rt.alloc(), device, fails_at);
-            assert!(rt;
-                moved == (Err(Error::Io), fails_at),
-                "{device:?} {fails_at}"
-            );
-        }
-        let moved = move_by(rt.alloc(), device, usize::MAX);
-        assert!(rt; moved == (Ok(abc_header()), calls), "{device:?}");
+    for (name, device, moved, calls) in &DEVICES {
+        let wrong = first_wrong(rt.alloc(), *device, *moved, *calls);
+        let whole = move_by(rt.alloc(), *device, *moved, usize::MAX);
+        let is_moved = whole == (Ok(abc_header()), *calls);
+        assert!(rt; wrong.is_none() && is_moved, "{name} {wrong:?}");
     }
 }
 
@@ -242,10 +298,15 @@ fn read_file(alloc: Global, mut file: File) -> Result<Seen> {
     )
 }
 
+// Writes the frame of `abc` into a file, and reads it.
+fn written_and_read(rt: &HostRuntime) -> io::Result<Result<Seen>> {
+    fs::write(rt, "frame", ABC)?;
+    Ok(read_file(rt.alloc(), File::open(rt, "frame")?))
+}
+
 #[test]
 fn a_frame_is_read_from_a_file(rt: HostRuntime) -> Tested {
-    fs::write(&rt, "frame", ABC)?;
-    let seen = read_file(rt.alloc(), File::open(&rt, "frame")?);
+    let seen = written_and_read(&rt)?;
     assert!(rt; seen == Ok((abc_header(), true, 0)));
     Ok(())
 }

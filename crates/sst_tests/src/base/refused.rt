@@ -15,28 +15,37 @@ const WRITTEN: [(&[u64], &[u8]); 4] = [
     ),
 ];
 
-/// Whether a call that fails for memory leaves the vector, and succeeds when it is made again.
-fn is_written_again(alloc: Global, numbers: &[u64], bytes: &[u8]) -> Result<bool> {
-    let mut out = Vec::new(alloc);
-    for n in numbers {
-        let len = out.len();
-        if encode_varint(&mut out, *n) == Err(Error::Memory) {
-            if out.len() != len {
-                return Ok(false);
-            }
-            encode_varint(&mut out, *n)?;
-        }
+/// Appends the varint of a number, again where that fails for memory. Returns whether a call that
+/// fails leaves the vector.
+fn append_again(out: &mut Vec<u8>, number: u64) -> Result<bool> {
+    let len = out.len();
+    if encode_varint(out, number) != Err(Error::Memory) {
+        return Ok(true);
     }
-    Ok(out.as_slice() == bytes)
+    let is_left = out.len() == len;
+    encode_varint(out, number)?;
+    Ok(is_left)
+}
+
+/// Appends the varints of numbers. Returns whether each call that fails leaves the vector.
+fn append_all(out: &mut Vec<u8>, numbers: &[u64]) -> Result<bool> {
+    let mut is_left = true;
+    for number in numbers {
+        is_left &= append_again(out, *number)?;
+    }
+    Ok(is_left)
+}
+
+/// Whether a call that fails for memory leaves the vector, and succeeds when it is made again.
+fn is_written_again(alloc: Global, numbers: &[u64], bytes: &[u8]) -> bool {
+    let mut out = Vec::new(alloc);
+    append_all(&mut out, numbers) == Ok(true) && out.as_slice() == bytes
 }
 
 #[test]
 fn a_failed_growth_leaves_the_vector(rt: HostRuntime) {
     for (numbers, bytes) in &WRITTEN {
-        assert!(rt;
-            is_written_again(rt.alloc(), numbers, bytes) == Ok(true),
-            "{numbers:?}"
-        );
+        assert!(rt; is_written_again(rt.alloc(), numbers, bytes), "{numbers:?}");
     }
 }
 

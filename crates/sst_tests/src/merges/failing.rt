@@ -2,9 +2,11 @@
 ghost use Rattle.std.specs.Prelude.{None};
 
 use crate::Tested;
-use crate::merges::lists::{Memory, Row, T, V, entry_of, list_of};
+use crate::merges::lists::{Memory, Row, V, list_of, push_made};
 use sst_base::{ByteSum, Error, HashRatio, InternalValue, Result, SeqNo, UserKey};
-use sst_merge::{Compact, Head, Merge, Rev, Reversed, Sizes, Snapshot, Source, write_table};
+use sst_merge::{
+    Compact, Head, Merge, Ranked, Rev, Reversed, Sizes, Snapshot, Source, write_table,
+};
 use sstable_blocks::{RunConfig, RunHandles};
 use std::alloc::{AllocError, Global};
 use std::io::Write;
@@ -72,57 +74,80 @@ fn failing_back_after(alloc: Global, steps: usize) -> Result<Failing<Rev<Memory>
     })
 }
 
+/// Whether a step gives a version.
+fn gives<T: Drop, I: Source<T>>(alloc: Global, source: &mut I) -> bool {
+    matches!(&source.next_entry(alloc), Ok(Some(_)))
+}
+
 /// How many versions a source gives before a step gives none.
 fn count<T: Drop, I: Source<T>>(alloc: Global, source: &mut I) -> usize {
     for before in 0..ROWS.len() + 1 {
-        let Ok(Some(_)) = source.next_entry(alloc) else {
+        if !gives(alloc, source) {
             return before;
-        };
+        }
     }
     ROWS.len() + 1
+}
+
+/// The error of a step, if it fails.
+fn error_of<T: Drop, I: Source<T>>(alloc: Global, source: &mut I) -> Option<Error> {
+    source.next_entry(alloc).err()
+}
+
+/// Whether each of three steps fails with this error.
+fn fails_again<T: Drop, I: Source<T>>(
+    alloc: Global,
+    source: &mut I,
+    wanted: &Option<Error>,
+) -> bool {
+    for _ in 0..3 {
+        if error_of(alloc, source) != *wanted {
+            return false;
+        }
+    }
+    true
 }
 
 /// How many versions a source gives before a step gives none, and whether that step's error is this
 /// one at each of three later steps.
 fn counts<T: Drop, I: Source<T>>(alloc: Global, source: &mut I, wanted: Error) -> (usize, bool) {
     let before = count(alloc, source);
-    let wanted = Some(wanted);
-    let again = [
-        source.next_entry(alloc).err(),
-        source.next_entry(alloc).err(),
-        source.next_entry(alloc).err(),
-    ];
-    (before, again.iter().all(|error| *error == wanted))
+    (before, fails_again(alloc, source, &Some(wanted)))
 }
 
-/// The merge of a source that fails after so many steps.
-fn failing_merge(alloc: Global, steps: usize) -> Result<Merge<InternalValue, Failing<Memory>>> {
-    let head = Head::new(alloc, failing_after(alloc, steps)?)?;
+/// The same of a source that is let go.
+fn counts_of<T: Drop, I: Source<T> + Drop>(alloc: Global, source: I) -> (usize, bool) {
+    let mut source = source;
+    counts(alloc, &mut source, Error::Io)
+}
+
+/// The merge of a source.
+fn merge_of<T: Ranked + Drop, I: Source<T> + Drop>(
+    alloc: Global,
+    source: I,
+) -> Result<Merge<T, I>> {
     let mut heads = Vec::new(alloc);
-    heads.push(head)?;
+    push_made(&mut heads, Head::new(alloc, source))?;
     Ok(Merge::new(heads))
 }
 
 /// What is counted of a merge of a source that fails after so many steps.
 fn counts_merged(alloc: Global, steps: usize) -> Result<(usize, bool)> {
-    let mut merged = failing_merge(alloc, steps)?;
-    Ok(counts(alloc, &mut merged, Error::Io))
+    let merged: Merge<InternalValue, _> = merge_of(alloc, failing_after(alloc, steps)?)?;
+    Ok(counts_of(alloc, merged))
 }
 
 /// What is counted of a snapshot of such a source.
 fn counts_seen(alloc: Global, steps: usize) -> Result<(usize, bool)> {
-    let mut snapshot = Snapshot::new(failing_after(alloc, steps)?, u64::MAX);
-    Ok(counts(alloc, &mut snapshot, Error::Io))
+    let source = failing_after(alloc, steps)?;
+    Ok(counts_of(alloc, Snapshot::new(source, u64::MAX)))
 }
 
 /// What is counted of a compaction of such a source.
 fn counts_compacted(alloc: Global, steps: usize) -> Result<(usize, bool)> {
     let source = failing_after(alloc, steps)?;
     match vec![in alloc; 6] {
-        Ok(snapshots) => {
-            let mut compact = Compact::new(source, snapshots, false);
-            Ok(counts(alloc, &mut compact, Error::Io))
-        }
+        Ok(snapshots) => Ok(counts_of(alloc, Compact::new(source, snapshots, false))),
         Err(_) => Err(Error::Memory),
     }
 }
@@ -157,25 +182,19 @@ fn a_failed_step_ends_what_is_made_of_its_source(rt: HostRuntime) -> Tested {
     Ok(())
 }
 
-/// A source from the back that fails, of which the first version is taken.
-type HeadBack = Head<Reversed<InternalValue>, Failing<Rev<Memory>>>;
-
-/// Such a source that fails after so many steps.
-fn failing_head_back(alloc: Global, steps: usize) -> Result<HeadBack> {
-    Head::new(alloc, failing_back_after(alloc, steps)?)
-}
+/// A merge from the back of a source that fails.
+type MergeBack = Merge<Reversed<InternalValue>, Failing<Rev<Memory>>>;
 
 /// Whether no merge from the back begins with a source that fails at once.
 fn is_refused_back(alloc: Global) -> Result<bool> {
-    Ok(HeadBack::new(alloc, failing_back_after(alloc, 0)?).is_err())
+    let merged: Result<MergeBack> = merge_of(alloc, failing_back_after(alloc, 0)?);
+    Ok(merged.is_err())
 }
 
 /// What is counted of a merge from the back of a source that fails after so many steps.
 fn counts_merged_back(alloc: Global, steps: usize) -> Result<(usize, bool)> {
-    let head = failing_head_back(alloc, steps)?;
-    let mut heads = Vec::new(alloc);
-    heads.push(head)?;
-    Ok(counts(alloc, &mut Merge::new(heads), Error::Io))
+    let merged: MergeBack = merge_of(alloc, failing_back_after(alloc, steps)?)?;
+    Ok(counts_of(alloc, merged))
 }
 
 #[test]
@@ -189,25 +208,34 @@ fn a_failed_step_ends_a_merge_from_the_back(rt: HostRuntime) -> Tested {
 }
 
 /// How many versions a merge passes before it fails.
-fn passes(alloc: Global, merged: &mut Merge<InternalValue, Failing<Memory>>) -> usize {
+fn passes<I: Source<InternalValue> + Drop>(
+    alloc: Global,
+    merged: &mut Merge<InternalValue, I>,
+) -> usize {
     for passed in 0..ROWS.len() {
-        let Ok(true) = merged.advance(alloc) else {
+        if merged.advance(alloc) != Ok(true) {
             return passed;
-        };
+        }
     }
     ROWS.len()
 }
 
+/// The number of the version that a merge shows, if it shows one.
+fn shown<I: Source<InternalValue>>(merged: &Merge<InternalValue, I>) -> Option<SeqNo> {
+    match merged.peek() {
+        Some(version) => Some(version.key().seqno()),
+        None => None,
+    }
+}
+
 /// Whether a merge fails at three steps, and shows the version of this number after each.
-fn fails_and_shows(
+fn fails_and_shows<I: Source<InternalValue> + Drop>(
     alloc: Global,
-    merged: &mut Merge<InternalValue, Failing<Memory>>,
+    merged: &mut Merge<InternalValue, I>,
     seqno: SeqNo,
 ) -> bool {
     for _ in 0..3 {
-        let is_failed = merged.advance(alloc) == Err(Error::Io);
-        let shown = merged.peek().map(|version| version.key().seqno());
-        if !is_failed || shown != Some(seqno) {
+        if merged.advance(alloc) != Err(Error::Io) || shown(merged) != Some(seqno) {
             return false;
         }
     }
@@ -216,13 +244,22 @@ fn fails_and_shows(
 
 /// Whether a merge of a source that fails after so many steps passes the versions before, and then
 /// fails, shows the version that it did not pass, and gives none.
+fn keeps<I: Source<InternalValue> + Drop>(
+    alloc: Global,
+    merged: Merge<InternalValue, I>,
+    steps: usize,
+    seqno: SeqNo,
+) -> bool {
+    let mut merged = merged;
+    passes(alloc, &mut merged) == steps.saturating_sub(1)
+        && fails_and_shows(alloc, &mut merged, seqno)
+        && counts(alloc, &mut merged, Error::Io) == (0, true)
+}
+
+/// The same of the merge of such a source.
 fn is_kept(alloc: Global, steps: usize, seqno: SeqNo) -> Result<bool> {
-    let mut merged = failing_merge(alloc, steps)?;
-    Ok(
-        passes(alloc, &mut merged) == steps.saturating_sub(1)
-            && fails_and_shows(alloc, &mut merged, seqno)
-            && counts(alloc, &mut merged, Error::Io) == (0, true),
-    )
+    let merged = merge_of(alloc, failing_after(alloc, steps)?)?;
+    Ok(keeps(alloc, merged, steps, seqno))
 }
 
 // The version that the step was to pass is still shown.
@@ -273,34 +310,34 @@ fn has_ended<I: Source<InternalValue>>(
 }
 
 /// The error of writing a table of a source, and whether the source has then ended with this one.
-fn ends_by<I: Source<InternalValue>, W: Write + Drop>(
+fn ends_by<I: Source<InternalValue> + Drop, W: Write + Drop>(
     alloc: Global,
-    source: &mut Head<InternalValue, I>,
+    source: I,
     writer: W,
     wanted: Error,
-) -> (Option<Error>, bool) {
-    let found = written(alloc, source, writer).err();
-    let has_ended = has_ended(alloc, source, wanted);
-    (found, has_ended)
+) -> Result<(Option<Error>, bool)> {
+    let mut source = Head::new(alloc, source)?;
+    let found = written(alloc, &mut source, writer).err();
+    let has_ended = has_ended(alloc, &mut source, wanted);
+    Ok((found, has_ended))
 }
 
 /// What ends a source whose table is written to an output that fails.
 fn ends_by_output(alloc: Global) -> Result<(Option<Error>, bool)> {
-    let mut source = Head::new(alloc, list_of(alloc, ROWS, 0)?.into_iter())?;
-    Ok(ends_by(alloc, &mut source, Full, Error::Io))
+    let list = list_of(alloc, ROWS, 0)?;
+    ends_by(alloc, list.into_iter(), Full, Error::Io)
 }
 
 /// What ends a source that is out of order.
 fn ends_by_order(alloc: Global) -> Result<(Option<Error>, bool)> {
-    let rows = [Row(b'b', 1, V), Row(b'a', 1, V)];
-    let mut source = Head::new(alloc, list_of(alloc, &rows, 0)?.into_iter())?;
-    Ok(ends_by(alloc, &mut source, Vec::new(alloc), Error::OutOfOrder))
+    let list = list_of(alloc, &[Row(b'b', 1, V), Row(b'a', 1, V)], 0)?;
+    ends_by(alloc, list.into_iter(), Vec::new(alloc), Error::OutOfOrder)
 }
 
 /// What ends a source that fails.
 fn ends_by_source(alloc: Global) -> Result<(Option<Error>, bool)> {
-    let mut source = Head::new(alloc, failing_after(alloc, 2)?)?;
-    Ok(ends_by(alloc, &mut source, Vec::new(alloc), Error::Io))
+    let source = failing_after(alloc, 2)?;
+    ends_by(alloc, source, Vec::new(alloc), Error::Io)
 }
 
 // Entries are taken for a block before it is written, so none of them is given again.

@@ -1,10 +1,12 @@
 // Lists of versions, as rows of a key, a sequence number and a type.
+ghost use Rattle.std.specs.Prelude.{◌≤◌, length, IfOk};
+
 use sst_base::{InternalValue, Result, Slice, ValueType};
 use std::alloc::Global;
 use std::vec;
 
 /// A version: the byte that is its key, its sequence number, and its type.
-#[derive(Clone, Copy, Debug)]
+#[derive(Clone, Copy)]
 pub(crate) struct Row(pub(crate) u8, pub(crate) u64, pub(crate) ValueType);
 
 /// A value.
@@ -13,22 +15,37 @@ pub(crate) const V: ValueType = ValueType::Value;
 /// A tombstone.
 pub(crate) const T: ValueType = ValueType::Tombstone;
 
+/// The value of a row: a byte, the number of its list, or none of a tombstone.
+fn value_of(alloc: Global, row: &Row, list: u8) -> Result<Slice>
+    ensures { IfOk result (λ value. length value ≤ 1) }
+{
+    if row.2 == ValueType::Value {
+        Slice::from_array(alloc, [list])
+    } else {
+        Ok(Slice::empty(alloc))
+    }
+}
+
 /// The entry of a row. Its value is a byte, the number of its list.
 pub(crate) fn entry_of(alloc: Global, row: &Row, list: u8) -> Result<InternalValue> {
     let key = Slice::from_array(alloc, [row.0])?;
-    let value = if row.2 == ValueType::Value {
-        Slice::from_array(alloc, [list])?
-    } else {
-        Slice::empty(alloc)
-    };
-    Ok(InternalValue::from_components(key, value, row.1, row.2))
+    match value_of(alloc, row, list) {
+        Ok(value) => Ok(InternalValue::from_components(key, value, row.1, row.2)),
+        Err(error) => Err(error),
+    }
+}
+
+/// Appends what was made to a list.
+pub(crate) fn push_made<T: Drop>(made: &mut Vec<T>, one: Result<T>) -> Result<()> {
+    made.push(one?)?;
+    Ok(())
 }
 
 /// The entries of rows.
 pub(crate) fn list_of(alloc: Global, rows: &[Row], list: u8) -> Result<Vec<InternalValue>> {
     let mut entries = Vec::new(alloc);
     for row in rows {
-        entries.push(entry_of(alloc, row, list)?)?;
+        push_made(&mut entries, entry_of(alloc, row, list))?;
     }
     Ok(entries)
 }

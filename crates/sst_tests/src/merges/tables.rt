@@ -4,7 +4,7 @@ ghost use Rattle.sst_base.specs.declared.error.Error.TheVariants.{Io, Memory};
 
 use crate::Tested;
 use crate::merges::failing::failing_after;
-use crate::merges::lists::{Row, V, list_of};
+use crate::merges::lists::{Row, V, entry_of, push_made};
 use sst_base::{ByteSum, Error, HashRatio, InternalValue, Result, Slice};
 use sst_merge::{Head, Outputs, Sizes, Source, compact_tables, write_tables};
 use sstable_blocks::{MemorySource, RunConfig, RunHandles, Table};
@@ -82,9 +82,11 @@ type Stored = Table<ByteSum, MemorySource>;
 
 /// Opens a table.
 fn table_of(alloc: Global, written: &Written) -> Result<Stored> {
-    let bytes = Slice::from_vec(written.bytes.clone()?)?;
-    let source = MemorySource::new(bytes);
-    Ok(Table::<ByteSum, MemorySource>::open(alloc, source, written.handles)?)
+    let source = MemorySource::new(Slice::from_vec(written.bytes.clone()?)?);
+    match Stored::open(alloc, source, written.handles) {
+        Ok(table) => Ok(table),
+        Err(failed) => Err(failed.error),
+    }
 }
 
 /// The numbers of entries and of blocks of an open table.
@@ -103,22 +105,24 @@ fn count_of(alloc: Global, written: &Written) -> Result<(u64, usize)> {
     }
 }
 
-/// The numbers of entries and of blocks of each table.
-fn counts_of(alloc: Global, tables: &[Written]) -> Result<Vec<(u64, usize)>> {
-    let mut counts = Vec::new(alloc);
+/// How many tables have one entry in one block. Each is whole.
+fn count_single(alloc: Global, tables: &[Written]) -> Result<usize> {
+    let mut single = 0usize;
     for written in tables {
-        counts.push(count_of(alloc, written)?)?;
+        if count_of(alloc, written)? == (1, 1) {
+            single = single.saturating_add(1);
+        }
     }
-    Ok(counts)
+    Ok(single)
 }
 
 /// Entries of two bytes each, of so many keys.
 fn entries_of_keys(alloc: Global, count: u8) -> Result<Vec<InternalValue>> {
-    let mut rows = Vec::new(alloc);
+    let mut entries = Vec::new(alloc);
     for key in 0..count {
-        rows.push(Row(key, 1, V))?;
+        push_made(&mut entries, entry_of(alloc, &Row(key, 1, V), 0))?;
     }
-    list_of(alloc, &rows, 0)
+    Ok(entries)
 }
 
 /// Whether all tables that are written before an output fails, so many, are whole.
@@ -126,9 +130,8 @@ fn are_kept_by_outputs(alloc: Global, more: usize) -> Result<bool> {
     let sizes = Sizes { block: 1, table: 1 };
     let source = entries_of_keys(alloc, 12)?.into_iter();
     let (tables, done) = compact(alloc, source, sizes, more);
-    let counts = counts_of(alloc, &tables)?;
-    let are_whole = counts.iter().all(|count| *count == (1, 1));
-    Ok(done == Err(Error::Io) && counts.len() == more && are_whole)
+    let is_single = count_single(alloc, &tables) == Ok(more);
+    Ok(done == Err(Error::Io) && tables.len() == more && is_single)
 }
 
 // The tables that were closed before an output fails stay.
@@ -153,20 +156,36 @@ fn is_ended_by_outputs<I: Source<InternalValue>>(
     done == Err(Error::Io) && kept.tables.len() == 3 && taken == Some(Error::Io)
 }
 
-// An output that fails ends the source, whose entries are in no table.
-#[test]
-fn an_output_that_fails_ends_the_source(rt: HostRuntime) -> Tested {
-    let alloc = rt.alloc();
-    let mut source = Head::new(alloc, entries_of_keys(alloc, 12)?.into_iter())?;
+/// Whether each of three writings of a source does that, the first of which writes three tables.
+fn are_ended_by_outputs<I: Source<InternalValue>>(
+    alloc: Global,
+    source: &mut Head<InternalValue, I>,
+) -> bool {
     let mut kept = Kept {
         alloc,
         tables: Vec::new(alloc),
         more: 3,
     };
     for _ in 0..3 {
-        assert!(rt; is_ended_by_outputs(alloc, &mut source, &mut kept));
+        if !is_ended_by_outputs(alloc, source, &mut kept) {
+            return false;
+        }
         kept.more = 100;
     }
+    true
+}
+
+/// Whether an output that fails ends a source.
+fn is_ended<I: Source<InternalValue> + Drop>(alloc: Global, source: I) -> Result<bool> {
+    let mut source = Head::new(alloc, source)?;
+    Ok(are_ended_by_outputs(alloc, &mut source))
+}
+
+// An output that fails ends the source, whose entries are in no table.
+#[test]
+fn an_output_that_fails_ends_the_source(rt: HostRuntime) -> Tested {
+    let entries = entries_of_keys(rt.alloc(), 12)?;
+    assert!(rt; is_ended(rt.alloc(), entries.into_iter())?);
     Ok(())
 }
 
@@ -176,7 +195,10 @@ fn written_before(alloc: Global, steps: usize) -> Result<(usize, bool)> {
     let sizes = Sizes { block: 1, table: 1 };
     let source = failing_after(alloc, steps)?;
     let (tables, done) = compact(alloc, source, sizes, 100);
-    Ok((counts_of(alloc, &tables)?.len(), done.is_ok()))
+    match count_single(alloc, &tables) {
+        Ok(_) => Ok((tables.len(), done.is_ok())),
+        Err(error) => Err(error),
+    }
 }
 
 // So do those that were closed before a source fails.

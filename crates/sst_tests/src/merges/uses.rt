@@ -2,32 +2,41 @@
 ghost use Rattle.std.specs.Prelude.{◌≤◌, length};
 
 use crate::Tested;
+use crate::merges::lists::push_made;
 use sst_examples::newest::newest_below;
 use sst_examples::uses::{append_entries, count_below, open_block, read};
 use sstable_blocks::{DataBlock, InternalValue, Result, Slice, ValueType, Xxh3};
 use std::alloc::Global;
 use std::process::Abort;
 
-/// Appends an entry to a list.
-fn push(list: &mut Vec<InternalValue>, key: &[u8], value: &[u8], seqno: u64) -> Result<()>
+/// An entry of parts.
+fn entry_of(alloc: Global, key: &[u8], value: &[u8], seqno: u64) -> Result<InternalValue>
     requires some { 1 ≤ length key.now }
     requires key { length key.now ≤ 100 }
     requires value { length value.now ≤ 100 }
 {
-    let alloc = *list.allocator();
     let key = Slice::new(alloc, key)?;
-    let value = Slice::new(alloc, value)?;
-    list.push(InternalValue::from_components(key, value, seqno, ValueType::Value))?;
-    Ok(())
+    match Slice::new(alloc, value) {
+        Ok(value) => Ok(InternalValue::from_components(key, value, seqno, ValueType::Value)),
+        Err(error) => Err(error),
+    }
+}
+
+/// Appends two versions of a key, and another key.
+fn push_three(list: &mut Vec<InternalValue>) -> Result<()> {
+    let alloc = *list.allocator();
+    push_made(list, entry_of(alloc, b"apple", b"red", 7))?;
+    push_made(list, entry_of(alloc, b"apple", b"green", 3))?;
+    push_made(list, entry_of(alloc, b"pear", b"yellow", 5))
 }
 
 /// Two versions of a key, and another key.
 fn three_entries(alloc: Global) -> Result<Vec<InternalValue>> {
     let mut list = Vec::new(alloc);
-    push(&mut list, b"apple", b"red", 7)?;
-    push(&mut list, b"apple", b"green", 3)?;
-    push(&mut list, b"pear", b"yellow", 5)?;
-    Ok(list)
+    match push_three(&mut list) {
+        Ok(()) => Ok(list),
+        Err(error) => Err(error),
+    }
 }
 
 /// The block of these entries.

@@ -29,14 +29,20 @@ impl Env for Arguments<'_> {
     }
 }
 
+// Whether words are these.
+fn are_words(found: &[String], words: &[&[u8]]) -> bool {
+    for (found, word) in found.iter().zip(words) {
+        if found.as_bytes() != *word {
+            return false;
+        }
+    }
+    found.len() == words.len()
+}
+
 // Whether the words of a program that was started with these arguments are these.
 fn has_words(alloc: Global, arguments: &[&[u8]], words: &[&[u8]]) -> Result<bool, Fault> {
     let found = words_of(&(Arguments(arguments), alloc))?;
-    let same = found
-        .iter()
-        .zip(words)
-        .all(|(found, word)| found.as_bytes() == *word);
-    Ok(found.len() == words.len() && same)
+    Ok(are_words(&found, words))
 }
 
 #[test]

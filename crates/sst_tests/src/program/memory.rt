@@ -3,7 +3,9 @@
 //! others may fail there.
 use crate::program::scripts::{Run, make_run};
 use sst_base::Error;
+use sst_program::LockFiles;
 use sst_program::fault::Fault;
+use std::alloc::Global;
 use std::fs;
 use std::test::Fail;
 
@@ -51,17 +53,29 @@ fn is_whole_or_refused(run: &Run, printed: &[u8]) -> bool {
     run.status == 1 && printed.starts_with(output) && is_told
 }
 
+// Whether a run that could be made is whole, or says that an allocation failed.
+fn is_well<R: LockFiles>(rt: &R, alloc: Global, words: &str, input: &[u8], printed: &[u8]) -> bool {
+    match &make_run(rt, alloc, words, input) {
+        Ok(run) => is_whole_or_refused(run, printed),
+        Err(_) => true,
+    }
+}
+
+// Whether the table file is there whole.
+fn is_table_there<R: LockFiles>(rt: &R) -> bool {
+    match fs::metadata(rt, "memory") {
+        Ok(file) => file.len() == 323,
+        Err(_) => false,
+    }
+}
+
 #[test]
 fn refused_memory_changes_no_answer(rt: HostRuntime) {
     for (words, input, printed, reads) in &ROWS {
-        if *reads && !fs::metadata(&rt, "memory").is_ok_and(|file| file.len() == 323) {
+        if *reads && !is_table_there(&rt) {
             continue;
         }
-        let is_well = match make_run(&rt, rt.alloc(), words, input) {
-            Ok(run) => is_whole_or_refused(&run, printed),
-            Err(_) => true,
-        };
-        assert!(rt; is_well, "{words}");
+        assert!(rt; is_well(&rt, rt.alloc(), words, input, printed), "{words}");
     }
 }
 

@@ -21,27 +21,34 @@ pub fn words_of(alloc: Global, text: &str) -> Result<Vec<&str>, AllocError> {
     text.split(' ').collect(alloc)
 }
 
+/// Runs the program on words, with a writer of faults that has capacity.
+fn run_words<R: LockFiles>(
+    rt: &R,
+    alloc: Global,
+    words: &[&str],
+    input: &[u8],
+    faults: Vec<u8>,
+) -> Run {
+    let (mut input, mut faults) = (input, faults);
+    let mut output = Vec::new(alloc);
+    let status = sst_main(rt, alloc, words, &mut input, &mut output, &mut faults);
+    Run {
+        status,
+        output,
+        faults,
+    }
+}
+
 /// Runs the program. The writer of faults has capacity before it starts.
 pub fn make_run<R: LockFiles>(
     rt: &R,
     alloc: Global,
     words: &str,
-    mut input: &[u8],
+    input: &[u8],
 ) -> Result<Run, AllocError> {
     let words = words_of(alloc, words)?;
-    let mut output = Vec::new(alloc);
-    let mut faults = Vec::with_capacity(alloc, 256)?;
-    let status = sst_main(
-        rt,
-        alloc,
-        words.as_slice(),
-        &mut input,
-        &mut output,
-        &mut faults,
-    );
-    Ok(Run {
-        status,
-        output,
-        faults,
-    })
+    match Vec::with_capacity(alloc, 256) {
+        Ok(faults) => Ok(run_words(rt, alloc, words.as_slice(), input, faults)),
+        Err(error) => Err(error),
+    }
 }

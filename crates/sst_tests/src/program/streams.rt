@@ -1,6 +1,4 @@
 //! Streams that are slow, interrupted or fail.
-ghost use Rattle.std.specs.Prelude.{◌≤◌};
-
 use crate::program::scripts::words_of;
 use sst_program::{LockFiles, sst_main};
 use std::io;
@@ -48,26 +46,30 @@ const ENDS: [(Option<ErrorKind>, u8, &[u8], &[u8]); 3] = [
     (Some(ErrorKind::OutOfMemory), 1, b"", b"sst: E15 Memory\n"),
 ];
 
+// Runs the program on a slow reader that fails like this: whether it ends with this status, prints
+// and tells this.
+fn ends_so<R: LockFiles + AllocGlobal>(
+    rt: &R,
+    failure: Option<ErrorKind>,
+    status: u8,
+    printed: &[u8],
+    told: &[u8],
+) -> Result<bool, Fail> {
+    let mut input = Slow {
+        bytes: b"V 0 62 62\n",
+        is_interrupted: true,
+        failure,
+    };
+    let mut faults = Vec::with_capacity(rt.alloc(), 256)?;
+    let mut output = Vec::new(rt.alloc());
+    let found = sst_main(rt, rt.alloc(), &WORDS, &mut input, &mut output, &mut faults);
+    Ok(found == status && output.as_slice() == printed && faults.as_slice() == told)
+}
+
 #[test]
 fn a_slow_reader_is_read_whole_and_may_fail(rt: HostRuntime) -> Result<(), Fail> {
     for (failure, status, printed, told) in &ENDS {
-        let mut input = Slow {
-            bytes: b"V 0 62 62\n",
-            is_interrupted: true,
-            failure: *failure,
-        };
-        let mut output = Vec::new(rt.alloc());
-        let mut faults = Vec::with_capacity(rt.alloc(), 256)?;
-        let found = sst_main(
-            &rt,
-            rt.alloc(),
-            &WORDS,
-            &mut input,
-            &mut output,
-            &mut faults,
-        );
-        assert_eq!(rt; found, *status);
-        assert!(rt; output.as_slice() == *printed && faults.as_slice() == *told);
+        assert!(rt; ends_so(&rt, *failure, *status, printed, told)?, "{status}");
     }
     Ok(())
 }
@@ -142,24 +144,32 @@ fn run_into<R: LockFiles + AllocGlobal>(
     Ok((status, place.starts_with(line)))
 }
 
+// With this capacity, which is less than what is printed, the output fails.
+fn check_room<R: LockFiles + AllocGlobal + Abort>(
+    rt: &R,
+    words: &str,
+    room: usize,
+) -> Result<(), Fail> {
+    for at_end in &[AtEnd::Fails, AtEnd::TakesNothing] {
+        let output = Narrow {
+            room,
+            at_end: *at_end,
+            flushes: true,
+        };
+        let found = run_into(rt, words, output, b"sst: E1 Io\n\0")?;
+        assert_eq!(rt; found, (1, true), "{words} {room}");
+    }
+    Ok(())
+}
+
 // With less capacity than what is printed the output fails.
 fn check_rooms<R: LockFiles + AllocGlobal + Abort>(
     rt: &R,
     words: &str,
     len: usize,
-) -> Result<(), Fail>
-    requires { 1 ≤ len }
-{
-    for room in [0, 1, len / 2, len - 1] {
-        for at_end in [AtEnd::Fails, AtEnd::TakesNothing] {
-            let output = Narrow {
-                room,
-                at_end,
-                flushes: true,
-            };
-            let found = run_into(rt, words, output, b"sst: E1 Io\n\0")?;
-            assert_eq!(rt; found, (1, true), "{words} {room}");
-        }
+) -> Result<(), Fail> {
+    for room in &[0, 1, len / 2, len.saturating_sub(1)] {
+        check_room(rt, words, *room)?;
     }
     Ok(())
 }
@@ -170,15 +180,15 @@ fn check_flushes<R: LockFiles + AllocGlobal + Abort>(
     words: &str,
     len: usize,
 ) -> Result<(), Fail> {
-    for flushes in [true, false] {
+    for flushes in &[true, false] {
         let output = Narrow {
             room: len,
             at_end: AtEnd::Fails,
-            flushes,
+            flushes: *flushes,
         };
-        let line: &[u8] = if flushes { b"\0" } else { b"sst: E1 Io\n\0" };
+        let line: &[u8] = if *flushes { b"\0" } else { b"sst: E1 Io\n\0" };
         let found = run_into(rt, words, output, line)?;
-        assert_eq!(rt; found, (u8::from(!flushes), true), "{words}");
+        assert_eq!(rt; found, (u8::from(!*flushes), true), "{words}");
     }
     Ok(())
 }
@@ -186,7 +196,6 @@ fn check_flushes<R: LockFiles + AllocGlobal + Abort>(
 #[test]
 fn a_writer_may_fail(rt: HostRuntime) -> Result<(), Fail> {
     for (words, len) in &PRINTS {
-        assert!(rt; 1 <= *len);
         check_rooms(&rt, words, *len)?;
         check_flushes(&rt, words, *len)?;
     }

@@ -2,10 +2,10 @@
 //! succeed.
 ghost use Rattle.std.specs.Prelude.{None};
 
-use crate::runs::lists::{NO_BUCKETS, push};
-use crate::runs::many::{add_block, counts_of};
+use crate::runs::lists::{NO_BUCKETS, push, write_in_blocks};
+use crate::runs::many::counts_of;
 use sst_base::{ByteSum, Error, InternalValue, Result, Slice, Steps, ValueType};
-use sstable_blocks::run::{RunConfig, RunHandles, RunWriter};
+use sstable_blocks::run::{RunConfig, RunHandles};
 use sstable_blocks::{MemorySource, Table};
 use std::alloc::Global;
 
@@ -20,26 +20,20 @@ fn key_of(alloc: Global, number: u32, len: usize) -> Result<Vec<u8>> {
     Ok(key)
 }
 
-/// A list of one entry with such a key.
-fn entry_of(alloc: Global, number: u32, len: usize) -> Result<Vec<InternalValue>> {
+/// So many entries with such keys.
+fn list_of(alloc: Global, count: u32, len: usize) -> Result<Vec<InternalValue>> {
     let mut list = Vec::new(alloc);
-    let key = key_of(alloc, number, len)?;
-    push(&mut list, key.as_slice(), b"v", 1, ValueType::Value)?;
+    for number in 0..count {
+        push(&mut list, key_of(alloc, number, len)?.as_slice(), b"v", 1, ValueType::Value)?;
+    }
     Ok(list)
 }
 
 /// Writes a run of blocks of one entry each, with a filter.
 fn write_blocks(alloc: Global, blocks: u32, len: usize) -> Result<(RunHandles, Vec<u8>)> {
+    let list = list_of(alloc, blocks, len)?;
     let config = RunConfig::new(16, NO_BUCKETS, 10);
-    let mut writer: RunWriter<ByteSum, Vec<u8>> = RunWriter::new(alloc, Vec::new(alloc), config);
-    for number in 0..blocks {
-        add_block(&mut writer, entry_of(alloc, number, len)?.as_slice())?;
-    }
-    if writer.block_count() > 0 {
-        writer.finish()
-    } else {
-        Err(Error::BadEntry)
-    }
+    write_in_blocks(alloc, Vec::new(alloc), list.as_slice(), 1, config)
 }
 
 /// Whether a read of a table finds a key, and a scan from the back gives its last entry.

@@ -4,7 +4,9 @@ ghost use Rattle.std.specs.Prelude.{None};
 
 use crate::base::devices::{Failure, SlowFile, SlowWriter};
 use crate::runs::lists::{NO_BUCKETS, can_be_written};
-use crate::runs::written::{THREE, THREE_BLOCKS, list_of, value_of, worked_handles};
+use crate::runs::written::{
+    THREE, THREE_BLOCKS, list_of, value_of, worked_handles, write_in_blocks,
+};
 use sst_base::{BlockHandle, ByteSum, Count, Error, InternalValue, Result, Slice};
 use sstable_blocks::Table;
 use sstable_blocks::run::{
@@ -25,36 +27,17 @@ fn write_once(to: &mut SlowWriter, list: &[InternalValue]) -> Result<RunHandles>
     write_run::<ByteSum, InternalValue, SlowWriter>(alloc, to, list, &[1, 2], config)
 }
 
-/// Adds entries to a writer, a block of each. After a block is refused, each further one is.
-fn add_blocks<W: Write>(writer: &mut RunWriter<ByteSum, W>, list: &[InternalValue]) -> Result<()> {
-    let mut refused = Ok(());
-    for block in list.chunks(1) {
-        if !writer.fits_after(block) {
-            return Err(Error::OutOfOrder);
-        }
-        let added = writer.add_block(block);
-        if refused.is_err() && added != refused {
-            return Err(Error::TooLong);
-        }
-        refused = added;
-    }
-    refused
-}
-
 /// Writes the worked run block by block.
 fn write_blocks(to: &mut SlowWriter, list: &[InternalValue]) -> Result<RunHandles> {
     let alloc = *to.taken.allocator();
-    let config = RunConfig::new(1, NO_BUCKETS, 10);
-    let mut writer: RunWriter<ByteSum, &mut SlowWriter> = RunWriter::new(alloc, to, config);
-    match add_blocks(&mut writer, list) {
-        Ok(()) if writer.block_count() > 0 => Ok(writer.finish()?.0),
-        Ok(()) => Err(Error::TooLong),
+    match write_in_blocks(alloc, to, list, 1, RunConfig::new(1, NO_BUCKETS, 10)) {
+        Ok((handles, _)) => Ok(handles),
         Err(error) => Err(error),
     }
 }
 
 /// How a run is moved over a device.
-#[derive(Clone, Copy, Debug)]
+#[derive(Clone, Copy)]
 enum Way {
     /// Written at once.
     Once(Failure),
@@ -67,13 +50,13 @@ enum Way {
 }
 
 /// Each way, and the calls of a whole run: a byte each, or a move, or a frame.
-const WAYS: [(Way, usize); 6] = [
-    (Way::Once(Failure::Error), 368),
-    (Way::Once(Failure::NoByte), 368),
-    (Way::Blocks(Failure::Error), 368),
-    (Way::Blocks(Failure::NoByte), 368),
-    (Way::File, 225),
-    (Way::Source, 3),
+const WAYS: [(&str, Way, usize); 6] = [
+    ("at once, error", Way::Once(Failure::Error), 368),
+    ("at once, no byte", Way::Once(Failure::NoByte), 368),
+    ("in blocks, error", Way::Blocks(Failure::Error), 368),
+    ("in blocks, no byte", Way::Blocks(Failure::NoByte), 368),
+    ("file", Way::File, 225),
+    ("source", Way::Source, 3),
 ];
 
 /// A source of frames in memory that counts the frames requested, and fails at one.
@@ -193,19 +176,23 @@ fn move_by(alloc: Global, way: Way, fails_at: usize) -> Result<Moved> {
     }
 }
 
+/// The first of so many calls that may fail and is not the one that ends the move, if there is one.
+fn first_wrong(alloc: Global, way: Way, calls: usize) -> Option<usize> {
+    for fails_at in 0..calls {
+        if move_by(alloc, way, fails_at) != Ok((Err(Error::Io), fails_at)) {
+            return Some(fails_at);
+        }
+    }
+    None
+}
+
 #[test]
 fn each_call_may_fail(rt: HostRuntime) {
-    for (way, calls) in &WAYS {
-        let (way, calls) = (*way, *calls);
-        for fails_at in 0..calls {
-            let moved = move_by(rt.alloc(), way, fails_at);
-            assert!(rt;
-                moved == Ok((Err(Error::Io), fails_at)),
-                "{way:?} {fails_at}"
-            );
-        }
-        let moved = move_by(rt.alloc(), way, usize::MAX);
-        assert!(rt; moved == Ok((Ok(Some(b'y')), calls)), "{way:?}: {moved:?}");
+    for (name, way, calls) in &WAYS {
+        let wrong = first_wrong(rt.alloc(), *way, *calls);
+        let whole = move_by(rt.alloc(), *way, usize::MAX);
+        let is_moved = whole == Ok((Ok(Some(b'y')), *calls));
+        assert!(rt; wrong.is_none() && is_moved, "{name} {wrong:?}");
     }
 }
 
@@ -239,11 +226,11 @@ impl Write for Room {
 /// is returned at the end.
 type Added = ([Result<()>; 3], usize, Option<Error>);
 
-/// Adds the entries of the worked run as blocks to a writer that takes so many bytes.
-fn add_to(alloc: Global, to: &mut Room) -> Result<Added> {
-    let list = list_of(alloc, THREE)?;
-    let config = RunConfig::new(1, NO_BUCKETS, 10);
-    let mut writer: RunWriter<ByteSum, &mut Room> = RunWriter::new(alloc, to, config);
+/// Adds entries as blocks to a writer, one in each.
+fn add_each<W: Write>(
+    writer: &mut RunWriter<ByteSum, W>,
+    list: &[InternalValue],
+) -> Result<[Result<()>; 3]> {
     let mut answers = [Ok(()); 3];
     for (block, answer) in list.chunks(1).zip(answers.iter_mut()) {
         if !writer.fits_after(block) {
@@ -251,28 +238,50 @@ fn add_to(alloc: Global, to: &mut Room) -> Result<Added> {
         }
         *answer = writer.add_block(block);
     }
+    Ok(answers)
+}
+
+/// Adds entries as blocks to a writer.
+fn add_list<W: Write + Drop>(alloc: Global, to: W, list: &[InternalValue]) -> Result<Added> {
+    let mut writer = RunWriter::new(alloc, to, RunConfig::new(1, NO_BUCKETS, 10));
+    let answers = add_each(&mut writer, list);
     let count = writer.block_count();
-    if count == 0 {
-        return Err(Error::TooLong);
+    match answers {
+        Ok(answers) if count > 0 => Ok((answers, count, writer.finish().err())),
+        Ok(_) => Err(Error::TooLong),
+        Err(error) => Err(error),
     }
-    Ok((answers, count, writer.finish().err()))
+}
+
+/// Adds the entries of the worked run.
+fn add_to(alloc: Global, to: &mut Room) -> Result<Added> {
+    let list = list_of(alloc, THREE)?;
+    add_list(alloc, to, &list)
+}
+
+/// Whether a writer that is full inside the second block ends a run there.
+fn is_ended_inside(alloc: Global) -> bool {
+    let mut to = Room {
+        taken: Vec::new(alloc),
+        left: 100,
+    };
+    let added = add_to(alloc, &mut to);
+    let answers = [Ok(()), Err(Error::Io), Err(Error::Io)];
+    let is_added = added == Ok((answers, 1, Some(Error::Io)));
+    is_added && THREE_BLOCKS.get(..100) == Some(to.taken.as_slice())
 }
 
 // A writer that is full inside the second block is not touched again.
 #[test]
 fn a_writer_that_is_full_ends_a_run(rt: HostRuntime) {
-    let mut to = Room {
-        taken: Vec::new(rt.alloc()),
-        left: 100,
-    };
-    let added = add_to(rt.alloc(), &mut to);
-    let answers = [Ok(()), Err(Error::Io), Err(Error::Io)];
-    assert!(rt; added == Ok((answers, 1, Some(Error::Io))));
-    assert!(rt; THREE_BLOCKS.get(..100) == Some(to.taken.as_slice()));
+    assert!(rt; is_ended_inside(rt.alloc()));
 }
 
+/// A scan of a source that may fail.
+type Scanned<'k> = Scan<'k, ByteSum, FailingSource>;
+
 /// Takes all that a scan gives before it ends.
-fn drain<S: FrameSource>(alloc: Global, scan: &mut Scan<'_, ByteSum, S>) {
+fn drain(alloc: Global, scan: &mut Scanned<'_>) {
     for _ in 0..10u8 {
         let _ = scan.next_entry(alloc);
     }
@@ -282,14 +291,14 @@ fn drain<S: FrameSource>(alloc: Global, scan: &mut Scan<'_, ByteSum, S>) {
 type Errors = (Option<Error>, Option<Error>);
 
 /// The errors of two steps of a scan.
-fn errors_of<S: FrameSource>(alloc: Global, scan: &mut Scan<'_, ByteSum, S>) -> Errors {
+fn errors_of(alloc: Global, scan: &mut Scanned<'_>) -> Errors {
     let first = scan.next_entry(alloc).err();
     let last = scan.next_entry_back(alloc).err();
     (first, last)
 }
 
 /// The errors of two steps of a scan after all that it gives.
-fn errors_after<S: FrameSource + Drop>(alloc: Global, mut scan: Scan<'_, ByteSum, S>) -> Errors {
+fn errors_after(alloc: Global, mut scan: Scanned<'_>) -> Errors {
     drain(alloc, &mut scan);
     errors_of(alloc, &mut scan)
 }
@@ -311,19 +320,19 @@ fn errors_at(alloc: Global, fails_at: usize) -> Result<Errors> {
     }
 }
 
+/// What is wanted of them: the table is not opened, each of both steps fails, or none does.
+fn wanted_at(fails_at: usize) -> Result<Errors> {
+    match fails_at {
+        0 | 1 => Err(Error::Io),
+        2..=4 => Ok((Some(Error::Io), Some(Error::Io))),
+        _ => Ok((None, None)),
+    }
+}
+
 #[test]
 fn scan_over_a_source_that_fails(rt: HostRuntime) {
-    for fails_at in 0..2 {
-        let opened = errors_at(rt.alloc(), fails_at);
-        assert!(rt; opened == Err(Error::Io), "open {fails_at}");
-    }
-    for fails_at in 2..5 {
+    for fails_at in 0..6 {
         let errors = errors_at(rt.alloc(), fails_at);
-        assert!(rt;
-            errors == Ok((Some(Error::Io), Some(Error::Io))),
-            "scan {fails_at}"
-        );
+        assert!(rt; errors == wanted_at(fails_at), "{fails_at}");
     }
-    let errors = errors_at(rt.alloc(), 5);
-    assert!(rt; errors == Ok((None, None)), "none");
 }

@@ -7,9 +7,29 @@ ghost use Rattle.sstable_blocks.specs.Blocks.{CutsFit};
 use sst_base::{ByteSum, HashRatio, InternalValue, Result, Slice, ValueType};
 use sst_block_core::DataBlock;
 use sstable_blocks::run::{RunConfig, cuts_fit};
+use std::alloc::Global;
 
 /// No hash index.
 pub(crate) const NO_BUCKETS: HashRatio = HashRatio { num: 0, den: 1 };
+
+/// An entry of parts, of which the key has at least a byte.
+fn entry_of(
+    alloc: Global,
+    key: &[u8],
+    value: &[u8],
+    seqno: u64,
+    value_type: ValueType,
+) -> Result<InternalValue>
+    requires some { 1 ≤ length key.now }
+    requires key { length key.now ≤ 65535 }
+    requires value { length value.now ≤ 65535 }
+{
+    let key = Slice::new(alloc, key)?;
+    match Slice::new(alloc, value) {
+        Ok(value) => Ok(InternalValue::from_components(key, value, seqno, value_type)),
+        Err(error) => Err(error),
+    }
+}
 
 /// Appends an entry to a list. A key has 1 to 65535 bytes; one that has not is left out.
 pub(crate) fn push(
@@ -23,9 +43,7 @@ pub(crate) fn push(
     if key.is_empty() || key.len() > 65535 || value.len() > 65535 {
         return Ok(());
     }
-    let key = Slice::new(alloc, key)?;
-    let value = Slice::new(alloc, value)?;
-    list.push(InternalValue::from_components(key, value, seqno, value_type))?;
+    list.push(entry_of(alloc, key, value, seqno, value_type)?)?;
     Ok(())
 }
 

@@ -3,8 +3,9 @@
 ghost use Rattle.std.specs.Prelude.{None};
 
 use crate::runs::lists::{NO_BUCKETS, push};
-use sst_base::{ByteSum, Error, InternalValue, Result, Slice, Steps, ValueType};
-use sstable_blocks::run::{RunConfig, RunHandles, RunRef, RunWriter};
+use crate::runs::written::write_in_blocks;
+use sst_base::{ByteSum, InternalValue, Result, Slice, Steps, ValueType};
+use sstable_blocks::run::{RunConfig, RunHandles, RunRef};
 use std::alloc::Global;
 
 /// How many entries the block has: more than 16 bits count.
@@ -24,27 +25,10 @@ fn many(alloc: Global) -> Result<Vec<InternalValue>> {
     Ok(list)
 }
 
-/// Adds a block of all these entries to a writer.
-pub(crate) fn add_block(
-    writer: &mut RunWriter<ByteSum, Vec<u8>>,
-    list: &[InternalValue],
-) -> Result<()> {
-    if writer.fits_after(list) {
-        writer.add_block(list)
-    } else {
-        Err(Error::OutOfOrder)
-    }
-}
-
 /// Writes a run whose one block has all these entries, with a filter.
 fn write_block(alloc: Global, list: &[InternalValue]) -> Result<(RunHandles, Vec<u8>)> {
     let config = RunConfig::new(16, NO_BUCKETS, 10);
-    let mut writer: RunWriter<ByteSum, Vec<u8>> = RunWriter::new(alloc, Vec::new(alloc), config);
-    match add_block(&mut writer, list) {
-        Ok(()) if writer.block_count() > 0 => writer.finish(),
-        Ok(()) => Err(Error::BadEntry),
-        Err(error) => Err(error),
-    }
+    write_in_blocks(alloc, Vec::new(alloc), list, MANY as usize, config)
 }
 
 /// How many of some of the entries are found in a run.

@@ -1,8 +1,12 @@
 // The worked run: its bytes, its entries and its handles.
+ghost use Rattle.std.specs.Prelude.{◌≤◌};
+ghost use Rattle.sstable_blocks.specs.Run.{IsWritable};
+
 use crate::runs::lists::push;
-use sst_base::{BlockHandle, BlockOffset, InternalValue, Result, ValueType};
-use sstable_blocks::run::RunHandles;
+use sst_base::{BlockHandle, BlockOffset, ByteSum, Error, InternalValue, Result, ValueType};
+use sstable_blocks::run::{RunConfig, RunHandles, RunWriter};
 use std::alloc::Global;
+use std::io::Write;
 
 // (a, x, 3), (a, y, 1) and (b, z, 4) in a block each, with index and filter.
 pub(crate) const THREE_BLOCKS: [u8; 368] = [
@@ -59,5 +63,46 @@ pub(crate) fn value_of(found: &Option<InternalValue>) -> Option<u8> {
     match found {
         Some(entry) => entry.value().as_slice().first().copied(),
         None => None,
+    }
+}
+
+/// Adds entries to a writer, so many in each block. After a block is refused, each further one is.
+fn add_blocks<W: Write>(
+    writer: &mut RunWriter<ByteSum, W>,
+    list: &[InternalValue],
+    len: usize,
+) -> Result<()>
+    requires { 1 ≤ len }
+{
+    let mut refused = Ok(());
+    for block in list.chunks(len) {
+        if !writer.fits_after(block) {
+            return Err(Error::OutOfOrder);
+        }
+        let added = writer.add_block(block);
+        if refused.is_err() && added != refused {
+            return Err(Error::TooLong);
+        }
+        refused = added;
+    }
+    refused
+}
+
+/// Writes a run of entries, so many in each block.
+pub(crate) fn write_in_blocks<W: Write + Drop>(
+    alloc: Global,
+    to: W,
+    list: &[InternalValue],
+    len: usize,
+    config: RunConfig,
+) -> Result<(RunHandles, W)>
+    requires len { 1 ≤ len }
+    requires writable { IsWritable config }
+{
+    let mut writer = RunWriter::new(alloc, to, config);
+    match add_blocks(&mut writer, list, len) {
+        Ok(()) if writer.block_count() > 0 => writer.finish(),
+        Ok(()) => Err(Error::TooLong),
+        Err(error) => Err(error),
     }
 }
