@@ -1,7 +1,7 @@
 //! `blocks` and `index`: a line for each data block.
 ghost use Rattle.std.specs.Prelude.{◌≡◌, ◌<◌, length};
 
-use crate::fault::{Cause, Fault, Result, Shown as ShownError};
+use crate::fault::{Cause, Fault, Result, Shown as ShownError, printed};
 use crate::open::open;
 use crate::progress::Progress;
 use crate::show::Shown;
@@ -107,6 +107,17 @@ fn print_held<O: Write>(
     Ok(held.is_ok())
 }
 
+// Prints the line of a block. Returns whether it is sound.
+fn print_line<O: Write>(
+    output: &mut O,
+    number: usize,
+    handle: BlockHandle,
+    held: sstable_blocks::Result<Held>,
+    cause: Cause,
+) -> io::Result<bool> {
+    print_held(output, number, &handle, &held, cause)
+}
+
 // Prints the line of a data block of a table. Returns whether it is sound.
 fn print_block<H: BlockHash, S: FrameSource, R, O: Write>(
     progress: &Progress<'_, R>,
@@ -120,7 +131,7 @@ fn print_block<H: BlockHash, S: FrameSource, R, O: Write>(
 {
     let handle = table.index().handle_at(number, &mut Steps::new());
     let held = held_at(alloc, table, number);
-    print_held(output, number, &handle, &held, progress.cause())
+    print_line(output, number, handle, held, progress.cause())
 }
 
 // Prints a line for each data block of a table. Returns how many are not sound.
@@ -211,7 +222,7 @@ fn print_view<O: Write>(
     view: &HandleView<'_>,
 ) -> Result<()> {
     match view.to_handle(alloc) {
-        Ok(handle) => Ok(print_handle(output, number, &handle)?),
+        Ok(handle) => printed(print_handle(output, number, &handle)),
         Err(_) => Err(Fault::Memory),
     }
 }

@@ -1,9 +1,9 @@
 //! `check`: whether files are sound tables.
-use crate::fault::{Fault, Result};
+use crate::fault::{Fault, Result, printed};
 use crate::hash::{TableHash, hash_in, hash_of_file};
 use crate::open::source_of;
 use crate::progress::Progress;
-use crate::tidy::Gaps;
+use crate::tidy::{Gap, Gaps};
 use crate::whole::{check_whole, handles_of};
 use crate::words::FILE;
 use clap::ArgMatches;
@@ -13,10 +13,17 @@ use std::io;
 use std::io::Write;
 use std::rt::{Clock, Files};
 
-// Warns of bytes that belong to no frame: the table is sound, and the file is not tidy.
-fn warn_of<R: Eprint>(progress: &Progress<'_, R>, file: &str, gaps: &Gaps) {
-    for gap in gaps.found().iter().flatten() {
-        let _ = eprintln!(progress.rt(); "sstool: warning: {file}: {gap}");
+// Warns of bytes that belong to no frame.
+fn warn_of<R: Eprint>(rt: &R, file: &str, gap: Gap) {
+    let _ = eprintln!(rt; "sstool: warning: {file}: {gap}");
+}
+
+// Warns of each gap: the table is sound, and the file is not tidy.
+fn warn_of_all<R: Eprint>(rt: &R, file: &str, gaps: &Gaps) {
+    for gap in gaps.found() {
+        if let Some(gap) = gap {
+            warn_of(rt, file, *gap);
+        }
     }
 }
 
@@ -32,7 +39,7 @@ fn check_in<H: BlockHash, F: SeekInput, R: Clock + Eprint>(
     progress.clear();
     if checked.is_ok() {
         let gaps = Gaps::new(progress.block_end(), &handles, progress.file_len());
-        warn_of(progress, file, &gaps);
+        warn_of_all(progress.rt(), file, &gaps);
     }
     checked
 }
@@ -143,7 +150,7 @@ pub fn run<R: Files + Clock + Eprint, O: Write>(
         return check_all(progress, alloc, files, hash, output);
     };
     match check_file(progress, alloc, file, hash) {
-        Ok(summary) => Ok(print_sound(&summary, output)?),
+        Ok(summary) => printed(print_sound(&summary, output)),
         Err(fault) => Err(fault),
     }
 }

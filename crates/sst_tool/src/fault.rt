@@ -33,6 +33,15 @@ pub enum Fault {
 /// A result whose error ends the run.
 pub type Result<T> = std::result::Result<T, Fault>;
 
+/// Returns what printing came to, as what ends a run.
+///
+/// # Errors
+///
+/// `Fault::Output`.
+pub fn printed(done: io::Result<()>) -> Result<()> {
+    Ok(done?)
+}
+
 /// Why a call on a file failed.
 #[derive(Clone, Copy)]
 pub enum Cause {

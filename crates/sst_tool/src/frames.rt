@@ -1,5 +1,5 @@
 //! Data blocks of a file, found without its index: by their headers.
-ghost use Rattle.std.specs.Prelude.{◌≤◌};
+ghost use Rattle.std.specs.Prelude.{◌≤◌, ◌<◌, IfOk};
 
 use sst_base::table::block::header::HEADER_LEN;
 use sstable_blocks::{
@@ -57,34 +57,82 @@ fn bytes_before_magic(bytes: &[u8]) -> usize
     bytes.len().max(1)
 }
 
-/// Finds the frames of the data blocks of a file by their headers, from its front on. Returns their
-/// handles, and the number of bytes that are in no frame.
+// What is found at an offset: the frame of a data block or nothing, up to the next offset, and how
+// many of the bytes are in no frame.
+#[derive(Clone, Copy)]
+struct Found {
+    block: Option<BlockHandle>,
+    next: u64,
+    passed: u64,
+}
+
+// What the bytes at an offset of a file are.
+fn found_in<H: BlockHash>(bytes: &[u8], at: u64, file_len: u64) -> Found
+    requires { at < file_len }
+    ensures { at < result.next }
+{
+    match frame_in::<H>(bytes) {
+        Some(frame) if u64::from(frame.len) <= file_len - at => Found {
+            block: block_of(frame, at),
+            next: at + u64::from(frame.len).max(1),
+            passed: 0,
+        },
+        _ => {
+            let passed = bytes_before_magic(bytes) as u64;
+            Found {
+                block: None,
+                next: at.saturating_add(passed),
+                passed,
+            }
+        }
+    }
+}
+
+// The handle of a frame at an offset, if it is that of a data block.
+fn block_of(frame: Frame, at: u64) -> Option<BlockHandle> {
+    if frame.block_type == BlockType::Data {
+        Some(BlockHandle::new(BlockOffset(at), frame.len))
+    } else {
+        None
+    }
+}
+
+// Finds what is at an offset of a file.
+fn found_at<H: BlockHash, S: FrameSource>(
+    alloc: Global,
+    source: &mut S,
+    at: u64,
+    file_len: u64,
+) -> Result<Found>
+    requires { at < file_len }
+    ensures { IfOk result (λ found. at < found.next) }
+{
+    match bytes_at(alloc, source, at, PIECE_LEN, file_len) {
+        Ok(bytes) => Ok(found_in::<H>(bytes.as_slice(), at, file_len)),
+        Err(error) => Err(error),
+    }
+}
+
+/// Finds the frames of the data blocks of a file by their headers, from its front on, and adds their
+/// handles. Returns the number of bytes that are in no frame.
 ///
 /// # Errors
 ///
 /// `Error::Io` if the file fails, `Error::Memory` if an allocation fails.
-pub fn data_frames<H: BlockHash, S: SizedSource>(
+pub fn add_frames<H: BlockHash, S: SizedSource>(
     alloc: Global,
     source: &mut S,
-) -> Result<(Vec<BlockHandle>, u64)> {
+    frames: &mut Vec<BlockHandle>,
+) -> Result<u64> {
     let file_len = source.byte_len()?;
-    let mut found = Vec::new(alloc);
     let (mut at, mut passed) = (0u64, 0u64);
     while at < file_len {
-        let bytes = bytes_at(alloc, source, at, PIECE_LEN, file_len)?;
-        match frame_in::<H>(bytes.as_slice()) {
-            Some(frame) if u64::from(frame.len) <= file_len - at => {
-                if frame.block_type == BlockType::Data {
-                    found.push(BlockHandle::new(BlockOffset(at), frame.len))?;
-                }
-                at += u64::from(frame.len).max(1);
-            }
-            _ => {
-                let len = bytes_before_magic(bytes.as_slice()) as u64;
-                at = at.saturating_add(len);
-                passed = passed.saturating_add(len);
-            }
+        let found = found_at::<H, S>(alloc, source, at, file_len)?;
+        if let Some(block) = found.block {
+            frames.push(block)?;
         }
+        at = found.next;
+        passed = passed.saturating_add(found.passed);
     }
-    Ok((found, passed))
+    Ok(passed)
 }

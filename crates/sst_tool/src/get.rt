@@ -7,7 +7,7 @@ ghost use Rattle.sstable_blocks.specs.RunReading.{hashes};
 ghost use Rattle.sstable_blocks.specs.Scans.{within};
 ghost use Rattle.sstable_blocks.specs.Sound.{IsSound};
 
-use crate::fault::Result;
+use crate::fault::{Result, printed};
 use crate::keys::key_in;
 use crate::open::open;
 use crate::progress::Progress;
@@ -122,7 +122,7 @@ pub fn run<H: BlockHash, R: Files + Clock + Eprint, O: Write>(
     output: &mut O,
 ) -> Result<()> {
     match read_named::<H, R>(progress, alloc, words) {
-        Ok(found) => Ok(print(output, &found)?),
+        Ok(found) => printed(print(output, &found)),
         Err(fault) => Err(fault),
     }
 }

@@ -55,21 +55,26 @@ fn hash_at(bytes: &[u8]) -> Option<TableHash>
     }
 }
 
+// The hash function that the first header of a file shows: `Poly31` where it shows none.
+fn hash_in_file<F: Read + Drop>(file: F) -> TableHash {
+    let mut file = file;
+    let mut header = [0u8; HEADER_LEN];
+    match file.read_exact(&mut header) {
+        Ok(()) => hash_at(&header).unwrap_or(TableHash::Poly31),
+        Err(_) => TableHash::Poly31,
+    }
+}
+
 /// Returns the hash function that the first header of a file shows: `Poly31` where it shows none.
 ///
 /// # Errors
 ///
 /// An error if the file cannot be opened.
 pub fn hash_of_file<R: Files>(rt: &R, alloc: Global, name: &str) -> Result<TableHash> {
-    let mut file = match fs::open(rt, name) {
-        Ok(file) => file,
-        Err(cause) => return Err(Fault::of_open(alloc, name, cause)),
-    };
-    let mut header = [0u8; HEADER_LEN];
-    if file.read_exact(&mut header).is_err() {
-        return Ok(TableHash::Poly31);
+    match fs::open(rt, name) {
+        Ok(file) => Ok(hash_in_file(file)),
+        Err(cause) => Err(Fault::of_open(alloc, name, cause)),
     }
-    Ok(hash_at(&header).unwrap_or(TableHash::Poly31))
 }
 
 /// Returns the hash function that a word of `--hash` names, if there is one.
@@ -81,6 +86,21 @@ pub fn hash_in(words: &ArgMatches<'_>) -> Option<TableHash> {
     }
 }
 
+// Tests that a table's hash function is that of the first one.
+fn test_hash<R: Files>(
+    rt: &R,
+    alloc: Global,
+    name: &str,
+    first: &str,
+    wanted: TableHash,
+) -> Result<()> {
+    let found = hash_of_file(rt, alloc, name)?;
+    if found == wanted {
+        return Ok(());
+    }
+    Err(Fault::of_hash(alloc, name, found, first, wanted))
+}
+
 // The hash function of all tables that are merged.
 fn hash_of_all<R: Files>(rt: &R, alloc: Global, files: &[&str]) -> Result<TableHash> {
     let Some((first, others)) = files.split_first() else {
@@ -88,10 +108,7 @@ fn hash_of_all<R: Files>(rt: &R, alloc: Global, files: &[&str]) -> Result<TableH
     };
     let hash = hash_of_file(rt, alloc, first)?;
     for other in others {
-        let found = hash_of_file(rt, alloc, other)?;
-        if found != hash {
-            return Err(Fault::of_hash(alloc, other, found, first, hash));
-        }
+        test_hash(rt, alloc, other, first, hash)?;
     }
     Ok(hash)
 }

@@ -67,9 +67,8 @@ struct Reads {
     is_bottom: bool,
 }
 
-// The sequence numbers that are read at after a merge, as the words name them.
-fn snapshots_of(alloc: Global, words: &ArgMatches<'_>) -> Result<Vec<SeqNo>> {
-    let mut snapshots = Vec::new(alloc);
+// Adds the sequence numbers that are read at after a merge, as the words name them.
+fn add_snapshots(words: &ArgMatches<'_>, snapshots: &mut Vec<SeqNo>) -> Result<()> {
     if words.get_flag(LATEST) {
         snapshots.push(SeqNo::MAX)?;
     }
@@ -79,7 +78,17 @@ fn snapshots_of(alloc: Global, words: &ArgMatches<'_>) -> Result<Vec<SeqNo>> {
             snapshots.push(number.unwrap_or(0))?;
         }
     }
-    Ok(snapshots)
+    Ok(())
+}
+
+// Which reads may come after a merge, as the words say.
+fn reads_of(alloc: Global, words: &ArgMatches<'_>) -> Result<Reads> {
+    let mut snapshots = Vec::new(alloc);
+    add_snapshots(words, &mut snapshots)?;
+    Ok(Reads {
+        snapshots,
+        is_bottom: words.get_flag(BOTTOM),
+    })
 }
 
 /// Writes what is left of a source as tables of a form.
@@ -123,6 +132,24 @@ fn write_merged<H: BlockHash, I: Source<InternalValue> + Drop, O: Outputs>(
     write_source::<H, _, O>(alloc, written, how, tables)
 }
 
+// Merges tables of which the first entries were read, and writes what stays of them.
+fn write_heads<N: BlockHash, I: Source<InternalValue> + Drop, R: LockFiles>(
+    alloc: Global,
+    words: &ArgMatches<'_>,
+    notes: &Notes,
+    heads: Result<Vec<Head<InternalValue, I>>>,
+    written: &mut NewTables<'_, '_, '_, R>,
+) -> Result<sstable_blocks::Result<()>> {
+    let heads = heads?;
+    match reads_of(alloc, words) {
+        Ok(reads) => {
+            let how = TableForm::of_words(words, &notes.longest);
+            Ok(write_merged::<N, I, _>(alloc, heads, reads, notes, how, written))
+        }
+        Err(fault) => Err(fault),
+    }
+}
+
 // Merges tables, and writes what stays of them.
 fn write_staying<T: Tables, N: BlockHash, R: LockFiles>(
     tables: &T,
@@ -131,13 +158,8 @@ fn write_staying<T: Tables, N: BlockHash, R: LockFiles>(
     notes: &Notes,
     written: &mut NewTables<'_, '_, '_, R>,
 ) -> Result<sstable_blocks::Result<()>> {
-    let heads = heads_of(tables, alloc, words.get_strs(FILE).unwrap_or(&[]))?;
-    let reads = Reads {
-        snapshots: snapshots_of(alloc, words)?,
-        is_bottom: words.get_flag(BOTTOM),
-    };
-    let how = TableForm::of_words(words, &notes.longest);
-    Ok(write_merged::<N, T::Entries, _>(alloc, heads, reads, notes, how, written))
+    let heads = heads_of(tables, alloc, words.get_strs(FILE).unwrap_or(&[]));
+    write_heads::<N, T::Entries, R>(alloc, words, notes, heads, written)
 }
 
 // The fault of a merge: that of the table of which a read failed, or else of the new tables.
@@ -171,22 +193,35 @@ fn fill<T: Tables, N: BlockHash, R: LockFiles>(
     }
 }
 
-/// Puts tables in place that were written, or removes them. Returns how many they are.
-///
-/// # Errors
-///
-/// That of the writing, or of the first file that is not put in place.
-pub fn end_tables<R: LockFiles>(
-    tables: NewTables<'_, '_, '_, R>,
-    filled: Result<()>,
+// Merges the tables of files that hash by `H` into new ones that hash by `N`.
+fn fill_from<'p, H: BlockHash, N: BlockHash, R: LockFiles + Clock + Eprint>(
+    progress: &'p Progress<'p, R>,
+    alloc: Global,
+    words: &ArgMatches<'_>,
+    notes: &'p Notes,
+    written: &mut NewTables<'_, '_, '_, R>,
+) -> Result<()> {
+    let tables = Files::<H, R>::new(progress, notes);
+    fill::<_, N, R>(&tables, alloc, words, notes, written)
+}
+
+// Merges tables that hash by `H` into new ones that hash by `N`, and puts these in place. Returns
+// how many.
+fn fill_tables<'p, H: BlockHash, N: BlockHash, R: LockFiles + Clock + Eprint>(
+    progress: &'p Progress<'p, R>,
+    alloc: Global,
+    words: &ArgMatches<'_>,
+    notes: &'p Notes,
+    written: NewTables<'_, '_, '_, R>,
 ) -> Result<usize> {
-    if let Err(fault) = filled {
-        tables.discard();
-        return Err(fault);
+    let mut written = written;
+    let filled = fill_from::<H, N, R>(progress, alloc, words, notes, &mut written);
+    progress.clear();
+    let count = written.count();
+    match written.end(filled) {
+        Ok(()) => Ok(count),
+        Err(fault) => Err(fault),
     }
-    let count = tables.count();
-    tables.put_in_place()?;
-    Ok(count)
 }
 
 // Merges tables that hash by `H` into new ones that hash by `N`. Returns how many.
@@ -196,11 +231,10 @@ fn merge_into<'p, H: BlockHash, N: BlockHash, R: LockFiles + Clock + Eprint>(
     words: &ArgMatches<'_>,
     notes: &'p Notes,
 ) -> Result<usize> {
-    let mut written = NewTables::new(progress.rt(), alloc, words, &notes.cause)?;
-    let tables = Files::<H, R>::new(progress, notes);
-    let filled = fill::<_, N, R>(&tables, alloc, words, notes, &mut written);
-    progress.clear();
-    end_tables(written, filled)
+    match NewTables::new(progress.rt(), alloc, words, &notes.cause) {
+        Ok(written) => fill_tables::<H, N, R>(progress, alloc, words, notes, written),
+        Err(fault) => Err(fault),
+    }
 }
 
 /// Merges tables, the newest first, into one, or with `--table-size` into several of this size,
@@ -242,17 +276,10 @@ fn print_counts<O: Write>(
     let tables = words.get_strs(FILE).unwrap_or(&[]).len();
     let (read, written) = (notes.read.get(), notes.written.get());
     let dropped = read.saturating_sub(written);
-    let names = Names::of_words(words);
-    let (first, last) = (names.numbered(1), names.numbered(count));
-    write!(output, "merged {tables} tables into ")?;
-    if names.is_numbered() {
-        write!(output, "{count}, {first} to {last}")?;
-    } else {
-        write!(output, "{first}")?;
-    }
+    let names = Names::of_words(words).up_to(count);
     writeln!(
         output,
-        ": {read} entries read, {written} written, {dropped} dropped"
+        "merged {tables} tables into {names}: {read} entries read, {written} written, {dropped} dropped"
     )?;
     output.flush()
 }

@@ -64,9 +64,12 @@ impl<'w> Names<'w> {
         }
     }
 
-    /// Returns whether there may be several files.
-    pub fn is_numbered(&self) -> bool {
-        self.is_numbered
+    /// Returns the names of the files up to this number, to be displayed.
+    pub fn up_to(&self, count: usize) -> NamesUpTo<'w> {
+        NamesUpTo {
+            names: *self,
+            count,
+        }
     }
 
     /// Returns the name of the file of this number, which begins at 1, to be displayed.
@@ -102,10 +105,29 @@ impl fmt::Display for Name<'_> {
         if !self.names.is_numbered {
             return f.write_str(out);
         }
-        match out.split_once("{}") {
-            Some((front, end)) => write!(f, "{front}{number}{end}"),
-            None => write!(f, "{out}.{number}"),
+        let (front, dot, end) = match out.split_once("{}") {
+            Some((front, end)) => (front, "", end),
+            None => (out, ".", ""),
+        };
+        write!(f, "{front}{dot}{number}{end}")
+    }
+}
+
+/// The names of the files up to a number: how many, the first and the last, where there may be
+/// several. They are displayed without memory.
+#[derive(Clone, Copy)]
+pub struct NamesUpTo<'w> {
+    names: Names<'w>,
+    count: usize,
+}
+
+impl fmt::Display for NamesUpTo<'_> {
+    fn fmt<W: fmt::Write>(&self, f: &mut fmt::Formatter<W>) -> fmt::Result {
+        let (first, last) = (self.names.numbered(1), self.names.numbered(self.count));
+        if !self.names.is_numbered {
+            return first.fmt(f);
         }
+        write!(f, "{}, {first} to {last}", self.count)
     }
 }
 
@@ -127,22 +149,43 @@ pub struct NewTables<'r, 'w, 'c, R: LockFiles> {
     refused: Option<Fault>,
 }
 
-// Makes the new file of a name. A file of that name is replaced where that is forced alone.
-fn new_file<'r, R: LockFiles>(
+// A new file, unless it replaces one of its name where that is not forced.
+fn kept<'r, R: LockFiles>(
+    alloc: Global,
+    name: &str,
+    is_forced: bool,
+    file: NewFile<'r, R>,
+) -> Result<NewFile<'r, R>> {
+    if is_forced || !file.is_replacement() {
+        return Ok(file);
+    }
+    file.discard();
+    Err(Fault::of_present(alloc, name))
+}
+
+// Makes the new file of a name, unless it replaces one where that is not forced.
+fn created<'r, R: LockFiles>(
     rt: &'r R,
     alloc: Global,
     name: &str,
     is_forced: bool,
 ) -> Result<NewFile<'r, R>> {
-    let file = match NewFile::create(rt, alloc, name) {
-        Ok(file) => file,
-        Err(cause) => return Err(Fault::of_new_file(alloc, name, cause)),
-    };
-    if file.is_replacement() && !is_forced {
-        file.discard();
-        return Err(Fault::of_present(alloc, name));
+    match NewFile::create(rt, alloc, name) {
+        Ok(file) => kept(alloc, name, is_forced, file),
+        Err(cause) => Err(Fault::of_new_file(alloc, name, cause)),
     }
-    Ok(file)
+}
+
+// Makes the new file of a number. A file of its name is replaced where that is forced alone.
+fn new_file<'r, R: LockFiles>(
+    rt: &'r R,
+    alloc: Global,
+    names: &Names<'_>,
+    number: usize,
+    is_forced: bool,
+) -> Result<NewFile<'r, R>> {
+    let name = names.name(alloc, number)?;
+    created(rt, alloc, name.as_str(), is_forced)
 }
 
 // Removes a new file, if there is one.
@@ -166,19 +209,20 @@ impl<'r, 'w, 'c, R: LockFiles> NewTables<'r, 'w, 'c, R> {
     ) -> Result<NewTables<'r, 'w, 'c, R>> {
         let names = Names::of_words(words);
         let is_forced = words.get_flag(FORCE);
-        let first = names.name(alloc, 1)?;
-        let next = Some(new_file(rt, alloc, first.as_str(), is_forced)?);
-        Ok(NewTables {
-            rt,
-            alloc,
-            names,
-            is_forced,
-            next,
-            opened: None,
-            closed: Vec::new(alloc),
-            cause,
-            refused: None,
-        })
+        match new_file(rt, alloc, &names, 1, is_forced) {
+            Ok(first) => Ok(NewTables {
+                rt,
+                alloc,
+                names,
+                is_forced,
+                next: Some(first),
+                opened: None,
+                closed: Vec::new(alloc),
+                cause,
+                refused: None,
+            }),
+            Err(fault) => Err(fault),
+        }
     }
 
     /// Returns the number of tables that are whole.
@@ -186,65 +230,109 @@ impl<'r, 'w, 'c, R: LockFiles> NewTables<'r, 'w, 'c, R> {
         self.closed.len()
     }
 
-    // The name of the table that is written.
-    fn open_name(&self) -> std::result::Result<String, AllocError> {
-        self.names
-            .name(self.alloc, self.closed.len().saturating_add(1))
+    // The number of the table that is written.
+    fn open_number(&self) -> usize {
+        self.closed.len().saturating_add(1)
     }
 
-    // Makes the file of the next table.
-    fn make_next(&self) -> Result<NewFile<'r, R>> {
-        let name = self.open_name()?;
-        new_file(self.rt, self.alloc, name.as_str(), self.is_forced)
-    }
-
-    /// Returns why a table is not written, by the error of the call: its file was not made, or a
-    /// write failed.
-    pub fn fault(&mut self, error: Error) -> Fault {
-        if let Some(fault) = self.refused.take() {
-            return fault;
+    // Takes the file of the next table, which is made if it is not there. Notes why there is none.
+    fn take_next(&mut self) -> Option<NewFile<'r, R>>
+        ensures { self.new.closed ≡ self.old.closed }
+    {
+        if let Some(file) = self.next.take() {
+            return Some(file);
         }
+        let number = self.open_number();
+        match new_file(self.rt, self.alloc, &self.names, number, self.is_forced) {
+            Ok(file) => Some(file),
+            Err(fault) => {
+                self.refused = Some(fault);
+                None
+            }
+        }
+    }
+
+    // Begins to write a file.
+    fn open_file(
+        &mut self,
+        file: NewFile<'r, R>,
+    ) -> sstable_blocks::Result<NotedFile<'c, BufferedFile<R::File>>>
+        ensures { self.new.closed ≡ self.old.closed }
+    {
+        let written = file.writer(self.alloc);
+        self.opened = Some(file);
+        match written {
+            Ok(file) => Ok(NotedFile {
+                file,
+                cause: self.cause,
+            }),
+            Err(error) => Err(error),
+        }
+    }
+
+    // Why a write of the table that is written failed, by the error of the call.
+    fn fault_of_write(&self, error: Error) -> Fault {
         let cause = match self.cause.get() {
             Some(cause) => Cause::System(cause),
             None => Cause::Unknown,
         };
-        match self.open_name() {
+        match self.names.name(self.alloc, self.open_number()) {
             Ok(name) => Fault::of_file(self.alloc, name.as_str(), None, error, cause),
             Err(_) => Fault::Memory,
         }
     }
 
-    /// Puts all tables in place, in order.
+    /// Returns why a table is not written, by the error of the call: its file was not made, or a
+    /// write failed.
+    pub fn fault(&mut self, error: Error) -> Fault {
+        match self.refused.take() {
+            Some(fault) => fault,
+            None => self.fault_of_write(error),
+        }
+    }
+
+    /// Puts all tables in place, in order, if they were filled. Where they were not, and behind the
+    /// first that is not put in place, the files of these names are as they were.
     ///
     /// # Errors
     ///
-    /// That of the system for the first one that it refuses; those before it are in place, and the
-    /// others as they were.
-    pub fn put_in_place(self) -> Result<()> {
+    /// That of the filling, or that of the system for the first table that it refuses.
+    pub fn end(self, filled: Result<()>) -> Result<()> {
+        let names = self.names;
         discard(self.next);
         discard(self.opened);
-        let mut number = 0usize;
-        let mut placed = Ok(());
-        for (_, file) in self.closed {
-            number = number.saturating_add(1);
-            placed = match placed {
-                Ok(()) => put_in_place(self.alloc, &self.names, number, file),
-                Err(fault) => {
-                    file.discard();
-                    Err(fault)
-                }
-            };
-        }
-        placed
+        place_all(self.alloc, &names, self.closed, filled)
     }
+}
 
-    /// Removes what was written. The files of these names are as they were.
-    pub fn discard(self) {
-        discard(self.next);
-        discard(self.opened);
-        for (_, file) in self.closed {
-            file.discard();
-        }
+// Puts tables in place, in order, if they were filled.
+fn place_all<R: LockFiles>(
+    alloc: Global,
+    names: &Names<'_>,
+    files: Vec<(RunHandles, NewFile<'_, R>)>,
+    filled: Result<()>,
+) -> Result<()> {
+    let mut number = 0usize;
+    let mut placed = filled;
+    for (_, file) in files {
+        number = number.saturating_add(1);
+        place(alloc, names, number, file, &mut placed);
+    }
+    placed
+}
+
+// Puts the table of a number in place, if those before it are; else removes it.
+fn place<R: LockFiles>(
+    alloc: Global,
+    names: &Names<'_>,
+    number: usize,
+    file: NewFile<'_, R>,
+    placed: &mut Result<()>,
+) {
+    if placed.is_ok() {
+        *placed = put_in_place(alloc, names, number, file);
+    } else {
+        file.discard();
     }
 }
 
@@ -262,6 +350,12 @@ fn put_in_place<R: LockFiles>(
     Err(Fault::of_open(alloc, name.as_str(), cause))
 }
 
+// Ends the table in a writer.
+fn end_writer<W: SyncWrite + Drop>(writer: W, handles: &RunHandles) -> io::Result<()> {
+    let mut writer = writer;
+    end_table(&mut writer, handles)
+}
+
 impl<'r, 'w, 'c, R: LockFiles> Outputs for NewTables<'r, 'w, 'c, R> {
     ghost use Rattle.std.specs.Prelude.{map, None};
 
@@ -275,22 +369,10 @@ impl<'r, 'w, 'c, R: LockFiles> Outputs for NewTables<'r, 'w, 'c, R> {
     ghost may_fail = { λ _. Unit {0} };
 
     fn open(&mut self) -> sstable_blocks::Result<NotedFile<'c, BufferedFile<R::File>>> {
-        let file = match self.next.take() {
-            Some(file) => file,
-            None => match self.make_next() {
-                Ok(file) => file,
-                Err(fault) => {
-                    self.refused = Some(fault);
-                    return Err(Error::Io);
-                }
-            },
-        };
-        let written = file.writer(self.alloc);
-        self.opened = Some(file);
-        Ok(NotedFile {
-            file: written?,
-            cause: self.cause,
-        })
+        match self.take_next() {
+            Some(file) => self.open_file(file),
+            None => Err(Error::Io),
+        }
     }
 
     fn close(
@@ -298,16 +380,11 @@ impl<'r, 'w, 'c, R: LockFiles> Outputs for NewTables<'r, 'w, 'c, R> {
         handles: RunHandles,
         writer: NotedFile<'c, BufferedFile<R::File>>,
     ) -> sstable_blocks::Result<()> {
-        let mut writer = writer;
-        end_table(&mut writer, &handles)?;
-        let Some(file) = self.opened.take() else {
-            return Err(Error::Io);
-        };
-        if let Err(failed) = self.closed.push((handles, file)) {
-            let (_, file) = failed.value;
-            self.opened = Some(file);
-            return Err(Error::Memory);
+        end_writer(writer, &handles)?;
+        self.closed.reserve(1)?;
+        match self.opened.take() {
+            Some(file) => Ok(self.closed.push((handles, file))?),
+            None => Err(Error::Io),
         }
-        Ok(())
     }
 }

@@ -182,6 +182,13 @@ impl Seen {
         }
     }
 
+    // Adds the block in a frame.
+    fn add_frame<H: BlockHash>(&mut self, alloc: Global, block: Option<TableBlock>, frame: &[u8]) {
+        if let Some(payload) = frame.get(HEADER_LEN..) {
+            self.add::<H>(alloc, block, payload);
+        }
+    }
+
     // Adds a block. A check reads the index before the data blocks.
     fn add<H: BlockHash>(&mut self, alloc: Global, block: Option<TableBlock>, payload: &[u8]) {
         match block {
@@ -238,9 +245,7 @@ impl<H: BlockHash, S: FrameSource> FrameSource for Observed<H, S> {
         let frame = self.source.read_frame(alloc, handle);
         if let Ok(frame) = &frame {
             let block = footer_block_at(&self.handles, *handle.offset());
-            if let Some(payload) = frame.as_slice().get(HEADER_LEN..) {
-                self.seen.add::<H>(alloc, block, payload);
-            }
+            self.seen.add_frame::<H>(alloc, block, frame.as_slice());
         }
         frame
     }

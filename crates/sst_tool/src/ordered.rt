@@ -9,7 +9,7 @@ use sstable_blocks::{Error, InternalKey, InternalValue, Result};
 use std::alloc::Global;
 
 /// The order in which entries are taken.
-#[derive(Clone, Copy, PartialEq, Eq)]
+#[derive(Clone, Copy)]
 pub enum Direction {
     /// From the first to the last.
     Forward,

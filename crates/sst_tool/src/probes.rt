@@ -35,6 +35,17 @@ fn probes_in(head: &[u8]) -> u64
     LittleEndian::read_u64(rest)
 }
 
+// What a filter of so many bits claims in the first bytes of its frame.
+fn claim_in(head: &[u8], bits: u64) -> Option<Claim> {
+    if head.len() < BITS_AT {
+        return None;
+    }
+    Some(Claim {
+        probes: probes_in(head),
+        bits,
+    })
+}
+
 /// Reads what a filter claims from its first bytes, which are not verified. There is none where
 /// they cannot be read.
 pub fn claim_at<S: FrameSource>(
@@ -44,14 +55,10 @@ pub fn claim_at<S: FrameSource>(
 ) -> Option<Claim> {
     let bits = (filter.size() as usize).checked_sub(BITS_AT)?;
     let head = BlockHandle::new(BlockOffset(*filter.offset()), BITS_AT as u32);
-    let frame = source.read_frame(alloc, &head).ok()?;
-    if frame.as_slice().len() < BITS_AT {
-        return None;
+    match source.read_frame(alloc, &head) {
+        Ok(frame) => claim_in(frame.as_slice(), bits as u64 * 8),
+        Err(_) => None,
     }
-    Some(Claim {
-        probes: probes_in(frame.as_slice()),
-        bits: bits as u64 * 8,
-    })
 }
 
 /// Returns whether a filter may be asked for each of so many entries: its probes of a key are not

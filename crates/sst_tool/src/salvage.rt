@@ -4,19 +4,19 @@ ghost use Rattle.sst_merge.specs.Sources.{TakesFirst};
 
 use crate::blocks::{Held, held_in};
 use crate::fault::{Fault, Result, Shown};
-use crate::frames::data_frames;
+use crate::frames::add_frames;
 use crate::long_keys::LongestKey;
-use crate::merge::{TableForm, end_tables, write_source};
+use crate::merge::{TableForm, write_source};
 use crate::merged::count;
 use crate::new_tables::NewTables;
 use crate::open::source_of;
 use crate::progress::Progress;
+use crate::whole::footer_of;
 use crate::words::{FILE, OUT};
 use clap::ArgMatches;
 use sst_block_core::table::data_block::IntoEntries;
 use sst_merge::Source;
 use sstable_blocks::run::checked::{data_block_from, index_block_from};
-use sstable_blocks::run::footer::read_footer;
 use sstable_blocks::{
     BlockHandle, BlockHash, DataBlock, Error, FileSource, FrameSource, IndexBlock, InternalValue,
     LockFiles, SeekInput, SizedSource,
@@ -198,70 +198,68 @@ impl<'p, 'w, H: BlockHash, S: FrameSource, R: Clock + Eprint> Source<InternalVal
     }
 }
 
-// The frames that an index names.
-fn frames_in(alloc: Global, index: &IndexBlock) -> sstable_blocks::Result<Vec<BlockHandle>> {
-    let mut found = Vec::new(alloc);
+// Adds the frames that an index names.
+fn add_named(index: &IndexBlock, frames: &mut Vec<BlockHandle>) -> sstable_blocks::Result<()> {
     for view in index.by_ref().handles() {
-        found.push(view.handle())?;
+        frames.push(view.handle())?;
     }
-    Ok(found)
+    Ok(())
 }
 
-// The frames of the data blocks of a table, by its index.
-fn frames_by_index<H: BlockHash, S: SizedSource>(
+// Adds the frames of the data blocks of a table, by its index.
+fn add_by_index<H: BlockHash, S: SizedSource>(
     alloc: Global,
     source: &mut S,
     longest: &LongestKey,
-) -> sstable_blocks::Result<Vec<BlockHandle>> {
-    let len = source.byte_len()?;
-    let handles = read_footer(alloc, source, len)?;
+    frames: &mut Vec<BlockHandle>,
+) -> sstable_blocks::Result<()> {
+    let handles = footer_of(alloc, source)?;
     match index_block_from::<H, S>(alloc, source, &handles.index) {
         Ok(index) => {
             longest.see(&index);
-            frames_in(alloc, &index)
+            add_named(&index, frames)
         }
         Err(error) => Err(error),
     }
 }
 
-// The frames of the data blocks of a file by their headers, which are found for this reason.
-fn frames_by_headers<H: BlockHash, S: SizedSource, R: Clock + Eprint>(
+// Says why blocks are found by their headers.
+fn tell_why<R: Eprint>(progress: &Progress<'_, R>, alloc: Global, file: &str, error: Error) {
+    let fault = progress.fault(alloc, file, error);
+    let _ = eprintln!(progress.rt(); "sstool: {fault}; blocks are found by their headers");
+}
+
+// Adds the frames of the data blocks of a file by their headers, and warns of bytes that are in none.
+fn add_by_headers<H: BlockHash, S: SizedSource, R: Clock + Eprint>(
     progress: &Progress<'_, R>,
     alloc: Global,
     file: &str,
     source: &mut S,
-    error: Error,
-) -> sstable_blocks::Result<Vec<BlockHandle>> {
-    let fault = progress.fault(alloc, file, error);
-    let _ = eprintln!(progress.rt(); "sstool: {fault}; blocks are found by their headers");
-    let (found, passed) = data_frames::<H, S>(alloc, source)?;
+    frames: &mut Vec<BlockHandle>,
+) -> sstable_blocks::Result<()> {
+    let passed = add_frames::<H, S>(alloc, source, frames)?;
     if passed > 0 {
         let _ = eprintln!(progress.rt(); "sstool: {file}: {passed} bytes are in no block");
     }
-    Ok(found)
+    Ok(())
 }
 
-// Why the index is not read, if it is not; a failed allocation says nothing of it.
-fn refusal_of<T>(read: &sstable_blocks::Result<T>) -> Option<Error> {
-    match read {
-        Err(error) if *error != Error::Memory => Some(*error),
-        _ => None,
-    }
-}
-
-// The frames of the data blocks of a file: by the index, or, where that cannot be read, by their
-// headers.
-fn frames_of<H: BlockHash, S: SizedSource, R: Clock + Eprint>(
+// Adds the frames of the data blocks of a file: by the index, or, where that cannot be read, by
+// their headers; a failed allocation says nothing of it.
+fn add_all<H: BlockHash, S: SizedSource, R: Clock + Eprint>(
     progress: &Progress<'_, R>,
     alloc: Global,
     file: &str,
     source: &mut S,
     longest: &LongestKey,
-) -> sstable_blocks::Result<Vec<BlockHandle>> {
-    let found = frames_by_index::<H, S>(alloc, source, longest);
-    match refusal_of(&found) {
-        Some(error) => frames_by_headers::<H, S, R>(progress, alloc, file, source, error),
-        None => found,
+    frames: &mut Vec<BlockHandle>,
+) -> sstable_blocks::Result<()> {
+    match add_by_index::<H, S>(alloc, source, longest, frames) {
+        Err(error) if error != Error::Memory => {
+            tell_why(progress, alloc, file, error);
+            add_by_headers::<H, S, R>(progress, alloc, file, source, frames)
+        }
+        added => added,
     }
 }
 
@@ -274,7 +272,15 @@ fn blocks_of<'p, 'w, H: BlockHash, S: SizedSource + Drop, R: Clock + Eprint>(
     notes: &'p Notes,
 ) -> sstable_blocks::Result<WholeBlocks<'p, 'w, H, S, R>> {
     let mut source = source;
-    let mut handles = frames_of::<H, S, R>(progress, alloc, file, &mut source, &notes.longest)?;
+    let mut handles = Vec::new(alloc);
+    add_all::<H, S, R>(
+        progress,
+        alloc,
+        file,
+        &mut source,
+        &notes.longest,
+        &mut handles,
+    )?;
     handles.reverse();
     progress.expect_blocks(handles.len() as u64);
     Ok(WholeBlocks {
@@ -339,6 +345,20 @@ fn fill<'p, H: BlockHash, R: LockFiles + Clock + Eprint>(
     }
 }
 
+// Writes what the whole blocks of a file hold into new tables, and puts them in place.
+fn fill_tables<'p, H: BlockHash, R: LockFiles + Clock + Eprint>(
+    progress: &'p Progress<'p, R>,
+    alloc: Global,
+    words: &ArgMatches<'_>,
+    notes: &'p Notes,
+    tables: NewTables<'_, '_, '_, R>,
+) -> Result<()> {
+    let mut tables = tables;
+    let filled = fill::<H, R>(progress, alloc, words, notes, &mut tables);
+    progress.clear();
+    tables.end(filled)
+}
+
 // Writes what the whole blocks of a file hold as a new table.
 fn salvage<'p, H: BlockHash, R: LockFiles + Clock + Eprint>(
     progress: &'p Progress<'p, R>,
@@ -346,11 +366,10 @@ fn salvage<'p, H: BlockHash, R: LockFiles + Clock + Eprint>(
     words: &ArgMatches<'_>,
     notes: &'p Notes,
 ) -> Result<()> {
-    let mut tables = NewTables::new(progress.rt(), alloc, words, &notes.cause)?;
-    let filled = fill::<H, R>(progress, alloc, words, notes, &mut tables);
-    progress.clear();
-    end_tables(tables, filled)?;
-    Ok(())
+    match NewTables::new(progress.rt(), alloc, words, &notes.cause) {
+        Ok(tables) => fill_tables::<H, R>(progress, alloc, words, notes, tables),
+        Err(fault) => Err(fault),
+    }
 }
 
 /// Writes the entries of those data blocks of a table that are whole, and that do not sort before

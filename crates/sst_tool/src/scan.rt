@@ -198,7 +198,23 @@ fn fault_of<R>(progress: &Progress<'_, R>, alloc: Global, file: &str, stop: Stop
     }
 }
 
-// Prints the entries of a range of a table of a file.
+// Prints the entries of a range of a table, whose frames follow each other.
+fn print_table<H: BlockHash, F: SeekInput + Drop, R, O: Write + Drop>(
+    progress: &Progress<'_, R>,
+    alloc: Global,
+    wanted: Wanted,
+    table: Table<H, FileSource<F>>,
+    range: &Range,
+    lines: &mut Lines<O>,
+) -> std::result::Result<(), Stop> {
+    progress.expect_blocks(table.index().len() as u64);
+    let scan = table.scan_range(range.from(), range.to());
+    let scanned = Scanned::new(scan, range.to(), wanted.direction, progress.place());
+    let source = Ordered::new(scanned, wanted.direction);
+    print_scanned(alloc, wanted, source, lines)
+}
+
+// Prints the entries of a range of a table of a file, if its frames follow each other.
 fn print_range_in<H: BlockHash, F: SeekInput + Drop, R, O: Write + Drop>(
     progress: &Progress<'_, R>,
     alloc: Global,
@@ -206,17 +222,17 @@ fn print_range_in<H: BlockHash, F: SeekInput + Drop, R, O: Write + Drop>(
     table: Table<H, FileSource<F>>,
     range: &Range,
     lines: &mut Lines<O>,
-) -> Result<()> {
-    let file = words.get_str(FILE).unwrap_or("");
-    test_frames(alloc, file, table.index())?;
-    progress.expect_blocks(table.index().len() as u64);
-    let wanted = Wanted::of_words(words);
-    let scan = table.scan_range(range.from(), range.to());
-    let scanned = Scanned::new(scan, range.to(), wanted.direction, progress.place());
-    let source = Ordered::new(scanned, wanted.direction);
-    match print_scanned(alloc, wanted, source, lines) {
-        Ok(()) => Ok(()),
-        Err(stop) => Err(fault_of(progress, alloc, file, stop)),
+) -> std::result::Result<(), Stop> {
+    match test_frames(alloc, words.get_str(FILE).unwrap_or(""), table.index()) {
+        Ok(()) => print_table(
+            progress,
+            alloc,
+            Wanted::of_words(words),
+            table,
+            range,
+            lines,
+        ),
+        Err(fault) => Err(Stop::Print(fault)),
     }
 }
 
@@ -228,8 +244,14 @@ fn print_range<H: BlockHash, R: Files + Clock + Eprint, O: Write + Drop>(
     range: &Range,
     lines: &mut Lines<O>,
 ) -> Result<()> {
-    let table = open::<H, R>(progress, alloc, words.get_str(FILE).unwrap_or(""))?;
-    print_range_in(progress, alloc, words, table, range, lines)
+    let file = words.get_str(FILE).unwrap_or("");
+    match open::<H, R>(progress, alloc, file) {
+        Ok(table) => match print_range_in(progress, alloc, words, table, range, lines) {
+            Ok(()) => Ok(()),
+            Err(stop) => Err(fault_of(progress, alloc, file, stop)),
+        },
+        Err(fault) => Err(fault),
+    }
 }
 
 // Prints the entries of a range of a table file to their end, and passes on all that was printed.

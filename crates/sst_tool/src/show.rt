@@ -24,7 +24,7 @@ pub enum Style {
 }
 
 /// How an entry is written.
-#[derive(Clone, Copy, PartialEq, Eq)]
+#[derive(Clone, Copy)]
 pub struct EntryForm {
     /// How its byte strings are.
     pub style: Style,

@@ -1,5 +1,5 @@
 //! `stat`: what a table holds.
-use crate::fault::{Fault, Result};
+use crate::fault::{Fault, Result, printed};
 use crate::hash::TableHash;
 use crate::observed::{Bits, Observed, Seen};
 use crate::open::source_of;
@@ -56,7 +56,6 @@ impl Stat {
 
     // Prints lines, each of a name and a value.
     fn print<O: Write>(&self, output: &mut O) -> io::Result<()> {
-        writeln!(output, "hash       {}", self.hash)?;
         self.print_entries(output)?;
         self.print_intervals(output)?;
         self.print_bits(output)?;
@@ -93,34 +92,30 @@ impl Stat {
         )
     }
 
-    // Prints the lines of the entries.
+    // Prints the lines of the hash function and of the entries.
     fn print_entries<O: Write>(&self, output: &mut O) -> io::Result<()> {
-        let summary = &self.summary;
+        let (summary, blocks) = (&self.summary, &self.seen.blocks);
         writeln!(
             output,
-            "blocks     {}\n\
+            "hash       {}\n\
+            blocks     {}\n\
             entries    {}\n\
-            tombstones {}",
-            summary.blocks, summary.entries, self.seen.blocks.tombstones
-        )?;
-        self.print_keys(output)?;
-        writeln!(
-            output,
-            "seqnos     {} to {}\n\
+            tombstones {}\n\
+            keys       {} to {}\n\
+            seqnos     {} to {}\n\
             key size   {}\n\
             value size {}",
+            self.hash,
+            summary.blocks,
+            summary.entries,
+            blocks.tombstones,
+            Shown(summary.first_key.as_slice()),
+            Shown(summary.last_key.as_slice()),
             summary.least_seqno,
             summary.greatest_seqno,
-            self.seen.blocks.keys,
-            self.seen.blocks.values
+            blocks.keys,
+            blocks.values
         )
-    }
-
-    // Prints the line of the first key and the last.
-    fn print_keys<O: Write>(&self, output: &mut O) -> io::Result<()> {
-        let first = Shown(self.summary.first_key.as_slice());
-        let last = Shown(self.summary.last_key.as_slice());
-        writeln!(output, "keys       {first} to {last}")
     }
 
     // Prints the line of the filter.
@@ -140,13 +135,7 @@ impl Stat {
     // Prints a line of JSON. Keys are in hex; where there is no filter, what is of it is null.
     fn print_json<O: Write>(&self, output: &mut O) -> io::Result<()> {
         self.print_entries_json(output)?;
-        self.print_lengths_json(output)?;
-        let blocks = &self.seen.blocks;
-        write!(
-            output,
-            ",\"least_interval\":{},\"greatest_interval\":{},\"index_interval\":{}",
-            blocks.least_interval, blocks.greatest_interval, self.seen.index_interval
-        )?;
+        self.print_blocks_json(output)?;
         self.print_bits_json(output)?;
         self.print_bytes_json(output)
     }
@@ -166,19 +155,26 @@ impl Stat {
         )
     }
 
-    // Prints the members of the line of JSON that are of the lengths of keys and values.
-    fn print_lengths_json<O: Write>(&self, output: &mut O) -> io::Result<()> {
+    // Prints the members of the line of JSON that are of the lengths of keys and values, and of the
+    // intervals.
+    fn print_blocks_json<O: Write>(&self, output: &mut O) -> io::Result<()> {
         let blocks = &self.seen.blocks;
         let (keys, values) = (&blocks.keys, &blocks.values);
         write!(
             output,
-            ",\"tombstones\":{},\"key_bytes\":{},\"least_key_bytes\":{},\"greatest_key_bytes\":{}",
-            blocks.tombstones, keys.sum, keys.least, keys.greatest
-        )?;
-        write!(
-            output,
-            ",\"value_bytes\":{},\"least_value_bytes\":{},\"greatest_value_bytes\":{}",
-            values.sum, values.least, values.greatest
+            ",\"tombstones\":{},\"key_bytes\":{},\"least_key_bytes\":{},\"greatest_key_bytes\":{},\
+            \"value_bytes\":{},\"least_value_bytes\":{},\"greatest_value_bytes\":{},\
+            \"least_interval\":{},\"greatest_interval\":{},\"index_interval\":{}",
+            blocks.tombstones,
+            keys.sum,
+            keys.least,
+            keys.greatest,
+            values.sum,
+            values.least,
+            values.greatest,
+            blocks.least_interval,
+            blocks.greatest_interval,
+            self.seen.index_interval
         )
     }
 
@@ -293,7 +289,7 @@ pub fn run<H: BlockHash, R: Files + Clock + Eprint, O: Write>(
 ) -> Result<()> {
     let file = words.get_str(FILE).unwrap_or("");
     match read::<H, R>(progress, alloc, hash, file) {
-        Ok(stat) => Ok(stat.print_as(words.get_flag(JSON), output)?),
+        Ok(stat) => printed(stat.print_as(words.get_flag(JSON), output)),
         Err(fault) => Err(fault),
     }
 }

@@ -104,7 +104,9 @@ impl Gaps {
     pub fn byte_len(&self) -> u64 {
         let mut sum = 0u64;
         for gap in &self.0 {
-            sum = sum.saturating_add(gap.map_or(0, |gap| gap.len));
+            if let Some(gap) = gap {
+                sum = sum.saturating_add(gap.len);
+            }
         }
         sum
     }

@@ -34,6 +34,11 @@ fn data_block_at(index: &IndexBlock, offset: u64) -> Option<usize>
     None
 }
 
+// The data block at an offset, by the handles.
+fn data_block_in(index: &IndexBlock, offset: u64) -> Option<TableBlock> {
+    Some(TableBlock::Data(data_block_at(index, offset)?))
+}
+
 // The block at an offset, by the footer and by the index, which is read again.
 fn block_at<H: BlockHash, S: FrameSource>(
     alloc: Global,
@@ -44,8 +49,10 @@ fn block_at<H: BlockHash, S: FrameSource>(
     if let Some(block) = footer_block_at(handles, offset) {
         return Some(block);
     }
-    let index = index_block_from::<H, S>(alloc, source, &handles.index).ok()?;
-    Some(TableBlock::Data(data_block_at(&index, offset)?))
+    match index_block_from::<H, S>(alloc, source, &handles.index) {
+        Ok(index) => data_block_in(&index, offset),
+        Err(_) => None,
+    }
 }
 
 // The fault of a table that a check refuses: it names the block that was read last.
@@ -67,8 +74,15 @@ fn fault_of<H: BlockHash, S: FrameSource, R>(
     }
 }
 
-// The handles in the footer of a table file.
-fn footer_of<S: SizedSource>(alloc: Global, source: &mut S) -> sstable_blocks::Result<RunHandles> {
+/// Reads the handles in the footer of a table file.
+///
+/// # Errors
+///
+/// Those of the footer.
+pub fn footer_of<S: SizedSource>(
+    alloc: Global,
+    source: &mut S,
+) -> sstable_blocks::Result<RunHandles> {
     let len = source.byte_len()?;
     read_footer(alloc, source, len)
 }
