@@ -2,8 +2,9 @@
 //! succeed.
 ghost use Rattle.std.specs.Prelude.{None};
 
-use crate::runs::lists::{NO_BUCKETS, push, write_in_blocks};
+use crate::runs::lists::{NO_BUCKETS, push};
 use crate::runs::many::counts_of;
+use crate::runs::written::write_in_blocks;
 use sst_base::{ByteSum, Error, InternalValue, Result, Slice, Steps, ValueType};
 use sstable_blocks::run::{RunConfig, RunHandles};
 use sstable_blocks::{MemorySource, Table};
@@ -24,7 +25,13 @@ fn key_of(alloc: Global, number: u32, len: usize) -> Result<Vec<u8>> {
 fn list_of(alloc: Global, count: u32, len: usize) -> Result<Vec<InternalValue>> {
     let mut list = Vec::new(alloc);
     for number in 0..count {
-        push(&mut list, key_of(alloc, number, len)?.as_slice(), b"v", 1, ValueType::Value)?;
+        push(
+            &mut list,
+            key_of(alloc, number, len)?.as_slice(),
+            b"v",
+            1,
+            ValueType::Value,
+        )?;
     }
     Ok(list)
 }
