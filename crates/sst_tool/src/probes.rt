@@ -5,7 +5,7 @@ ghost use Rattle.sst_tool.specs.Probes.{may_ask};
 
 use byteorder::{ByteOrder, LittleEndian};
 use sst_base::table::block::header::HEADER_LEN;
-use sstable_blocks::{BlockHandle, BlockOffset, FrameSource};
+use sstable_blocks::{BlockHandle, BlockOffset, FrameSource, Result, Slice};
 use std::alloc::Global;
 
 /// The number of probes of a key that any filter may have.
@@ -35,15 +35,15 @@ fn probes_in(head: &[u8]) -> u64
     LittleEndian::read_u64(rest)
 }
 
-// What a filter of so many bits claims in the first bytes of its frame.
-fn claim_in(head: &[u8], bits: u64) -> Option<Claim> {
-    if head.len() < BITS_AT {
-        return None;
+// What a filter of so many bits claims in the first bytes of its frame, which were read.
+fn claim_in(read: Result<Slice>, bits: u64) -> Option<Claim> {
+    match read {
+        Ok(head) if head.as_slice().len() >= BITS_AT => Some(Claim {
+            probes: probes_in(head.as_slice()),
+            bits,
+        }),
+        _ => None,
     }
-    Some(Claim {
-        probes: probes_in(head),
-        bits,
-    })
 }
 
 /// Reads what a filter claims from its first bytes, which are not verified. There is none where
@@ -55,10 +55,7 @@ pub fn claim_at<S: FrameSource>(
 ) -> Option<Claim> {
     let bits = (filter.size() as usize).checked_sub(BITS_AT)?;
     let head = BlockHandle::new(BlockOffset(*filter.offset()), BITS_AT as u32);
-    match source.read_frame(alloc, &head) {
-        Ok(frame) => claim_in(frame.as_slice(), bits as u64 * 8),
-        Err(_) => None,
-    }
+    claim_in(source.read_frame(alloc, &head), bits as u64 * 8)
 }
 
 /// Returns whether a filter may be asked for each of so many entries: its probes of a key are not

@@ -51,19 +51,23 @@ fn is_plain(bytes: &[u8]) -> bool {
     !bytes.starts_with(b"hex:") && bytes != b"-".as_slice()
 }
 
+// Writes bytes that can be shown as they are.
+fn write_plain<W: fmt::Write>(f: &mut fmt::Formatter<W>, bytes: &[u8]) -> fmt::Result {
+    for byte in bytes.iter() {
+        write!(f, "{}", *byte as char)?;
+    }
+    Ok(())
+}
+
 impl<'a> fmt::Display for Shown<'a> {
     fn fmt<W: fmt::Write>(&self, f: &mut fmt::Formatter<W>) -> fmt::Result {
         if self.0.is_empty() {
             return f.write_str("-");
         }
         if !is_plain(self.0) {
-            f.write_str("hex:")?;
-            return Hex(self.0).fmt(f);
+            return write!(f, "hex:{}", Hex(self.0));
         }
-        for byte in self.0.iter() {
-            write!(f, "{}", *byte as char)?;
-        }
-        Ok(())
+        write_plain(f, self.0)
     }
 }
 

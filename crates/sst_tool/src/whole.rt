@@ -34,9 +34,17 @@ fn data_block_at(index: &IndexBlock, offset: u64) -> Option<usize>
     None
 }
 
-// The data block at an offset, by the handles.
-fn data_block_in(index: &IndexBlock, offset: u64) -> Option<TableBlock> {
-    Some(TableBlock::Data(data_block_at(index, offset)?))
+// The data block of a number, if there is one.
+fn named_by(number: Option<usize>) -> Option<TableBlock> {
+    Some(TableBlock::Data(number?))
+}
+
+// The data block at an offset, by the index that was read.
+fn data_block_in(read: sstable_blocks::Result<IndexBlock>, offset: u64) -> Option<TableBlock> {
+    match read {
+        Ok(index) => named_by(data_block_at(&index, offset)),
+        Err(_) => None,
+    }
 }
 
 // The block at an offset, by the footer and by the index, which is read again.
@@ -49,10 +57,10 @@ fn block_at<H: BlockHash, S: FrameSource>(
     if let Some(block) = footer_block_at(handles, offset) {
         return Some(block);
     }
-    match index_block_from::<H, S>(alloc, source, &handles.index) {
-        Ok(index) => data_block_in(&index, offset),
-        Err(_) => None,
-    }
+    data_block_in(
+        index_block_from::<H, S>(alloc, source, &handles.index),
+        offset,
+    )
 }
 
 // The fault of a table that a check refuses: it names the block that was read last.
