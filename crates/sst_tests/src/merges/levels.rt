@@ -1,6 +1,5 @@
 //! Reads of levels: a level that fails is not asked behind a match.
 ghost use Rattle.std.specs.Prelude.{None};
-ghost use Rattle.std.proofs.Common.{tt};
 
 use crate::merges::lists::{Row, T, entry_of};
 use sst_base::{Error, InternalValue, Result, SeqNo, Steps};
