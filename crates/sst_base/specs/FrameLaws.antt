@@ -1,5 +1,5 @@
 -- Laws of frames: what was written is read again, whatever follows, and what is read was written so.
-use Rattle.std.proofs.Common.{◌≡◌, ℕ, ◌+◌, ◌≤◌, ◌<◌, ◌^◌, List, [], ◌++◌, length, take, drop, refl, arith, sym, ◌∙◌, ap, subst, Ok, true, false, Bool, nat_eq, nat_le, ◌&&◌, length-append, append_assoc}
+use Rattle.std.proofs.Common.{◌≡◌, ℕ, ◌+◌, ◌≤◌, ◌<◌, ◌^◌, List, [], ◌++◌, length, take, drop, refl, arith, sym, ◌∙◌, ap, subst, Ok, nat_eq, nat_le, length-append, append_assoc}
 use Rattle.std.proofs.lemmas.Bool.{eqb-true, eq-eqb, le-leb}
 use Rattle.std.proofs.lemmas.List.{append-nil}
 use Rattle.sst_base.specs.Bytes.{IsBytes}
@@ -11,10 +11,7 @@ use Rattle.sst_base.specs.Frame.{header_for, frame_block, frame, demand, verifie
 use Rattle.sst_base.specs.declared.error.Error.TheVariants.{LengthMismatch, Truncated}
 use Rattle.sst_base.specs.declared.table.block.block_type.BlockType.{BlockType}
 use Rattle.sst_base.specs.declared.table.block.header.Header.{Header}
-
-pub and_parts : (a b : Bool) → (a && b) ≡ true → (a ≡ true) × (b ≡ true)
-and_parts true b e = (refl, e)
-and_parts false b e = cc
+use Rattle.sst_base.specs.TestLaws.{and_parts}
 
 -- a header has 33 bytes
 pub length-header : (hash128 : List ℕ → ℕ) (h : Header) → length (header hash128 h) ≡ 33

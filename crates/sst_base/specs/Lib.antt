@@ -8,6 +8,7 @@ pub mod SharedPrefix
 pub mod Reading
 pub mod BlockType
 pub mod Header
+pub mod TestLaws
 pub mod BytesLaws
 pub mod VarintLaws
 pub mod ReadingLaws

@@ -90,7 +90,7 @@ at_full : (max b : ℕ) (bs : List ℕ) → 128 ≤ b → max < 128 → varint_u
 unfolding varint_up_to
 at_full max b bs h k = search (arith, nat_tests)
 
-at_more : (max b : ℕ) (bs : List ℕ) → 128 ≤ b → 128 ≤ max → varint_up_to max (b ∷ bs) ≡ with_digit (b - 128) (varint_up_to ((max - (b - 128)) / 128) bs)
+pub at_more : (max b : ℕ) (bs : List ℕ) → 128 ≤ b → 128 ≤ max → varint_up_to max (b ∷ bs) ≡ with_digit (b - 128) (varint_up_to ((max - (b - 128)) / 128) bs)
 unfolding varint_up_to
 at_more max b bs h k = search (arith, nat_tests)
 

@@ -1,15 +1,10 @@
 -- Tables over sound runs: their entries are known, and known entries are those of a sound run.
-use Rattle.std.proofs.Common.{◌≡◌, ◌≢◌, ℕ, zero, suc, ◌<◌, ◌^◌, Bool, true, false, not, cond, List, [], ◌∷◌, length, drop, map, get_or, Option, Some, None, Result, Ok, Err, refl, sym, ap, subst, ◌∙◌, arith, length-drop}
+use Rattle.std.proofs.Common.{◌≡◌, ℕ, zero, suc, ◌<◌, ◌^◌, Bool, true, false, not, cond, List, [], ◌∷◌, length, drop, map, get_or, Option, Some, None, Result, Ok, Err, refl, sym, ap, subst, ◌∙◌, arith, length-drop}
 use Rattle.std.proofs.lemmas.Bool.{ltb-true}
-use Rattle.std.proofs.lemmas.Bool.Decides.{nat_tests}
 use Rattle.std.proofs.lemmas.List.{get_or-map, length-map, length-take-le}
 use Rattle.std.specs.Cmp.Derive.{both_true}
-use Rattle.std.specs.List.{AllByRecursion}
 use Rattle.std.specs.Option.{option_map, is_some, IfSome}
-use Rattle.std.specs.Ordering.{is_lt}
 use Rattle.std.specs.Prelude.{nat_lt, ◌&&◌}
-use Rattle.std.specs.declared.cmp.Ordering.{Ordering}
-use Rattle.std.specs.declared.cmp.Ordering.TheVariants.{Less, Equal, Greater}
 use Rattle.sst_base.specs.BlockHandle.{HandleParts}
 use Rattle.sst_base.specs.Bytes.{IsBytes}
 use Rattle.sst_base.specs.Entry.{Entry, plain}
@@ -24,51 +19,25 @@ use Rattle.sst_block_core.specs.Entries.{entries}
 use Rattle.sst_block_core.specs.Kind.{IsOrdered}
 use Rattle.sst_block_core.specs.Handles.{Handle}
 use Rattle.sst_merge.specs.Merge.{entry_cmp, merged}
-use Rattle.sst_merge.specs.RangeLaws.{filter_all}
 use Rattle.sst_merge.specs.ReadLaws.{plain_ordered}
 use Rattle.sst_merge.specs.Sources.{all_known}
 use Rattle.sst_merge.specs.Stored.{all_keys, are_bytes, check_of, checked_list, filter_fits, known_reads, table_list}
 use Rattle.sst_merge.specs.StoredLaws.{known_all}
-use Rattle.sst_examples.proofs.Newer.{both}
 use Rattle.sst_examples.specs.Tables.{MemoryTable, merged_tables, table_entries, table_hashes}
 use Rattle.sstable_blocks.specs.Blocks.{joined}
 use Rattle.sstable_blocks.specs.Run.{IsFramed}
 use Rattle.sstable_blocks.specs.RunChecks.{check_run, summary_of}
 use Rattle.sstable_blocks.specs.RunReading.{Hashes, IsFramedAt, handles_at}
-use Rattle.sstable_blocks.specs.Scans.{KeyRange, blocks_read, handles_within, in_range, within}
+use Rattle.sstable_blocks.specs.Scans.{KeyRange, blocks_read, handles_within, within}
 use Rattle.sstable_blocks.specs.Sound.{IsSound, IsStoredFilter}
 use Rattle.sstable_blocks.specs.declared.run.RunHandles.{RunHandles}
 use Rattle.sstable_blocks.specs.declared.run.checking.RunSummary.{RunSummary}
-
-all_pass : (xs : List Entry) → AllByRecursion (λ (x : Entry). in_range all_keys x.key.user_key ≡ true) xs
-all_pass [] = tt
-all_pass (x ∷ xs) = (refl, all_pass xs)
-
--- all entries are within the range of all keys
-pub within_all : (xs : List Entry) → within all_keys xs ≡ xs
-unfolding within
-within_all xs = filter_all (λ (x : Entry). in_range all_keys x.key.user_key) xs (all_pass xs)
-
-lt_test : (a b : ℕ) → a < b → nat_lt a b ≡ true
-lt_test a b h = grind (arith, nat_tests)
+use Rattle.sst_base.specs.TestLaws.{and_parts, lt_test, is_not_lt}
+use Rattle.sst_merge.specs.TableReads.{bytes_by, fits_by, within_all}
 
 bytes_pass : (bytes : List ℕ) → IsBytes bytes → are_bytes bytes ≡ true
 bytes_pass [] h = refl
 bytes_pass (b ∷ bytes) h = both_true (lt_test b 256 (h 0)) (bytes_pass bytes (λ i. h (suc i)))
-
-bytes_by : (bytes : List ℕ) → are_bytes bytes ≡ true → IsBytes bytes
-bytes_by [] h i = omega arith
-bytes_by (b ∷ bytes) h zero = ltb-true b 256 (both (nat_lt b 256) (are_bytes bytes) h).0
-bytes_by (b ∷ bytes) h (suc i) = bytes_by bytes (both (nat_lt b 256) (are_bytes bytes) h).1 i
-
-fits_by : (o : Option HandleParts) → filter_fits o ≡ true → IfSome o (λ g. g.size < 2 ^ 32)
-fits_by None h = tt
-fits_by (Some g) h = ltb-true g.size (2 ^ 32) h
-
-is_not_lt : (o : Ordering) → o ≢ Less → is_lt o ≡ false
-is_not_lt Less h = absurd (h refl)
-is_not_lt Equal h = refl
-is_not_lt Greater h = refl
 
 order_passes : (xs : List Entry) → IsOrdered entries xs → is_in_order entry_cmp xs ≡ true
 order_passes [] up = refl
@@ -145,8 +114,8 @@ module _ (c : Hashes) (bytes : List ℕ) where
       listed_sound xs accepts scanned e =
           let k = checked_by (check_of c bytes h) scan_read xs e in
           let l = cond_ok (are_bytes bytes && (nat_lt h.index.size (2 ^ 32) && filter_fits h.filter)) (check_run c bytes h) k.summary k.accepted in
-          let t = both (are_bytes bytes) (nat_lt h.index.size (2 ^ 32) && filter_fits h.filter) l.0 in
-          let u = both (nat_lt h.index.size (2 ^ 32)) (filter_fits h.filter) t.1 in
+          let t = and_parts (are_bytes bytes) (nat_lt h.index.size (2 ^ 32) && filter_fits h.filter) l.0 in
+          let u = and_parts (nat_lt h.index.size (2 ^ 32)) (filter_fits h.filter) t.1 in
           let run = accepts k.summary (bytes_by bytes t.0) (ltb-true h.index.size (2 ^ 32) u.0) (fits_by h.filter u.1) l.1 in
           let ys : List Entry = map plain (joined run.0) in
           record {

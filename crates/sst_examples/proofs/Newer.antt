@@ -6,9 +6,9 @@ use Rattle.std.specs.Cmp.Lexicographic.{slice_cmp}
 use Rattle.std.specs.List.{AllByRecursion}
 use Rattle.std.specs.Option.{option_map, IfSome}
 use Rattle.std.specs.Ordering.{nat_cmp, is_eq, is_lt, ordering_then}
-use Rattle.std.specs.Prelude.{nat_lt, ◌&&◌}
+use Rattle.std.specs.Prelude.{nat_lt}
 use Rattle.std.specs.declared.cmp.Ordering.{Ordering}
-use Rattle.std.specs.declared.cmp.Ordering.TheVariants.{Less, Equal, Greater}
+use Rattle.std.specs.declared.cmp.Ordering.TheVariants.{Equal, Greater}
 use Rattle.sst_base.specs.Entry.{Entry, plain}
 use Rattle.sst_base.specs.KeyOrderLaws.{slice_cmp-equal}
 use Rattle.sst_block_core.specs.Entries.{entries}
@@ -18,6 +18,7 @@ use Rattle.sst_merge.specs.Compact.{compact_from, is_seen, is_hidden, is_dropped
 use Rattle.sst_merge.specs.Merge.{entry_cmp, lesser, merge, merge_after}
 use Rattle.sst_merge.specs.ReadLaws.{merge_match}
 use Rattle.sst_examples.specs.Levels.{AreBelow, AreNewer}
+use Rattle.sst_base.specs.TestLaws.{and_parts, eq_is}
 
 -- what holds of all members of two lists holds of all of their merge
 module _ {X : Type 0} (cmp : X → X → Ordering) (P : X → Type 0) where
@@ -63,21 +64,11 @@ pub all_weaker : {X : Type 0} (P Q : X → Type 0) (xs : List X) → ((x : X) �
 all_weaker P Q [] weaker all = tt
 all_weaker P Q (x ∷ xs) weaker all = (weaker x all.0, all_weaker P Q xs weaker all.1)
 
--- a test of two that is passed passes both
-pub both : (a b : Bool) → (a && b) ≡ true → (a ≡ true) × (b ≡ true)
-both true b h = (refl, h)
-both false b h = absurd (cc)
-
-is_equal : (o : Ordering) → is_eq o ≡ true → o ≡ Equal
-is_equal Less h = absurd (cc)
-is_equal Equal h = refl
-is_equal Greater h = absurd (cc)
-
 -- a version of a key has the key
 pub version_key : (needle : List ℕ) (s : ℕ) (x : Entry) → is_version entries needle s x ≡ true → x.key.user_key ≡ needle
 version_key needle s x h =
-    let k = both (nat_lt x.key.seqno s) (is_eq (slice_cmp nat_cmp x.key.user_key needle)) h in
-    (slice_cmp-equal x.key.user_key needle).0 (is_equal (slice_cmp nat_cmp x.key.user_key needle) k.1)
+    let k = and_parts (nat_lt x.key.seqno s) (is_eq (slice_cmp nat_cmp x.key.user_key needle)) h in
+    (slice_cmp-equal x.key.user_key needle).0 (eq_is (slice_cmp nat_cmp x.key.user_key needle) k.1)
 
 -- the earlier of two first matches, if there is one
 abbrev pub or_older : Option Entry → Option Entry → Option Entry

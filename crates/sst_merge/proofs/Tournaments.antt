@@ -7,19 +7,12 @@ use Rattle.std.specs.Cmp.{IsTotalOrder}
 use Rattle.std.specs.Ordering.{is_lt, ordering_reverse}
 use Rattle.std.specs.declared.cmp.Ordering.{Ordering}
 use Rattle.std.specs.declared.cmp.Ordering.TheVariants.{Less, Equal, Greater}
-use Rattle.sst_merge.specs.MergeReads.{ge_trans, is_not_lt, not_lt}
+use Rattle.sst_merge.specs.MergeReads.{ge_trans}
 use Rattle.sst_merge.specs.Picks.{IsPick, goes, least, list_at, wins, wins_nil}
 use Rattle.sst_merge.specs.Sources.{Left, lists_left}
 use Rattle.sst_merge.specs.SourceLaws.{known_at, lists_length}
 use Rattle.sst_merge.specs.Tournament.{AreWinners, IsOnWay, IsFirstOf, IsTournament, Leads, halved, known_list}
-
-not_true : (b : Bool) → not b ≡ true → b ≡ false
-not_true true h = absurd (cc)
-not_true false h = refl
-
-not_false : (b : Bool) → not b ≡ false → b ≡ true
-not_false true h = refl
-not_false false h = absurd (cc)
+use Rattle.sst_base.specs.TestLaws.{not_true, not_false, not_lt, is_not_lt}
 
 same_or : (m n : ℕ) → (m ≡ n) ⊎ (m ≢ n)
 same_or m n = elim (cases_lt m n) [

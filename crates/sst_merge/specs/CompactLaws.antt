@@ -1,5 +1,5 @@
 -- A compaction for several snapshots changes no read at one of them, or at or above all.
-use Rattle.std.proofs.Common.{◌≡◌, ◌≢◌, ℕ, ◌<◌, ◌≤◌, Bool, true, false, not, cond, List, [], ◌∷◌, Option, Some, None, refl, sym, ap, ◌∙◌, inl, inr, ◌⊎◌, arith}
+use Rattle.std.proofs.Common.{◌≡◌, ◌≢◌, ℕ, ◌≤◌, Bool, true, false, not, cond, List, [], ◌∷◌, Option, Some, None, refl, sym, ap, ◌∙◌, inl, inr, ◌⊎◌, arith}
 use Rattle.std.proofs.lemmas.Bool.{cases_Bool, cases_lt}
 use Rattle.std.proofs.lemmas.Bool.Decides.{nat_tests}
 use Rattle.std.specs.Prelude.{nat_lt, nat_le, nat_eq, ◌&&◌}
@@ -16,12 +16,6 @@ use Rattle.sst_merge.specs.Compact.{is_seen, is_parted, is_below_all, IsKeptRead
 use Rattle.sst_block_core.specs.Tombstones.{is_tombstone}
 use Rattle.sst_merge.specs.Snapshot.{has_last_key}
 use Rattle.sst_merge.specs.SnapshotReads.{first, first_hit, first_miss, both_false, key, number, has, is_match, has_key, NoneHas, order, after_by, none_behind, skip, order_tail}
-
-lt_test : (a b : ℕ) → a < b → nat_lt a b ≡ true
-lt_test a b h = grind (arith, nat_tests)
-
-ge_test : (a b : ℕ) → b ≤ a → nat_lt a b ≡ false
-ge_test a b h = grind (arith, nat_tests)
 
 -- where no snapshot parts two numbers, a kept read that sees the one sees the other
 at_one : (ss : List ℕ) (q p r : ℕ) → list_any (λ s. nat_eq s r) ss ≡ true → is_parted ss q p ≡ false → nat_lt q r ≡ true → r ≤ p → true ≡ false

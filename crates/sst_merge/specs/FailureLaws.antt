@@ -184,7 +184,7 @@ in_bytes : (b c : Option (List ℕ)) (r s : List ℕ → List Read) (e : Error) 
 in_bytes None c r s e same f h = tt
 in_bytes (Some all) c r s e same f h = f (subst (λ o. IfSome (option_map (λ bytes. read_errors (s bytes)) o) (IsAmong e)) same h)
 
-no_end : {X : Type 0} (old new : Option Error) (x : X) → EndsBy old new (Ok x) → old ≡ None
+pub no_end : {X : Type 0} (old new : Option Error) (x : X) → EndsBy old new (Ok x) → old ≡ None
 no_end None new x h = refl
 no_end {X = X} (Some e) new x h = absurd (let f : ◌≡◌ {A = Result X Error} (Ok x) (Err e) = h.repeated in cc)
 

@@ -1,14 +1,13 @@
 -- A compaction of one list among others changes no read of all.
 use Rattle.std.proofs.Common.{◌≡◌, ◌≢◌, ℕ, ◌≤◌, Bool, true, false, not, cond, List, [], ◌∷◌, ◌++◌, map, Option, Some, None, refl, sym, ap, subst, ◌∙◌, inl, inr, ◌⊎◌, arith}
-use Rattle.std.specs.Prelude.{IfSome, nat_lt, ◌&&◌, ◌==◌}
+use Rattle.std.specs.Prelude.{IfSome, nat_lt, ◌==◌}
 use Rattle.std.proofs.lemmas.Bool.{cases_Bool}
 use Rattle.std.proofs.lemmas.Bool.Decides.{nat_tests}
 use Rattle.std.specs.Option.{option_map}
 use Rattle.std.specs.List.{AllByRecursion}
 use Rattle.std.specs.Ordering.{nat_cmp, is_lt, is_eq, ordering_then}
 use Rattle.std.specs.Cmp.Lexicographic.{slice_cmp}
-use Rattle.std.specs.declared.cmp.Ordering.{Ordering}
-use Rattle.std.specs.declared.cmp.Ordering.TheVariants.{Less, Equal, Greater}
+use Rattle.std.specs.declared.cmp.Ordering.TheVariants.{Equal, Greater}
 use Rattle.sst_base.specs.Entry.{Entry, plain}
 use Rattle.sst_base.specs.KeyOrderLaws.{slice_cmp-equal}
 use Rattle.sst_block_core.specs.Entries.{entries}
@@ -23,15 +22,7 @@ use Rattle.sst_merge.specs.ReadLaws.{merged_match}
 use Rattle.sst_block_core.specs.Tombstones.{is_tombstone}
 use Rattle.sst_merge.specs.Snapshot.{seen}
 use Rattle.sst_merge.specs.SnapshotReads.{first, first_hit, first_miss}
-
-eq_is : (o : Ordering) → is_eq o ≡ true → o ≡ Equal
-eq_is Less h = absurd (cc)
-eq_is Equal h = refl
-eq_is Greater h = absurd (cc)
-
-and_split : (a b : Bool) → (a && b) ≡ true → (a ≡ true) × (b ≡ true)
-and_split true b h = (refl, h)
-and_split false b h = absurd (cc)
+use Rattle.sst_base.specs.TestLaws.{and_parts, eq_is}
 
 -- what holds of all holds of the first that passes
 first_has : (test : Entry → Bool) (P : Entry → Type 0) (xs : List Entry) → AllByRecursion P xs → IfSome (first test xs) (λ e. P e × (test e ≡ true))
@@ -52,7 +43,7 @@ module _ (needle : List ℕ) (r : ℕ) where
   test = is_version entries needle r
 
   key_is : (e : Entry) → test e ≡ true → e.key.user_key ≡ needle
-  key_is e h = (slice_cmp-equal e.key.user_key needle).0 (eq_is (slice_cmp nat_cmp e.key.user_key needle) (and_split (nat_lt e.key.seqno r) (is_eq (slice_cmp nat_cmp e.key.user_key needle)) h).1)
+  key_is e h = (slice_cmp-equal e.key.user_key needle).0 (eq_is (slice_cmp nat_cmp e.key.user_key needle) (and_parts (nat_lt e.key.seqno r) (is_eq (slice_cmp nat_cmp e.key.user_key needle)) h).1)
 
   passed : (e : Entry) → e.key.user_key ≢ needle → test e ≡ false
   passed e other = elim (cases_Bool (test e)) [

@@ -7,7 +7,7 @@ use Rattle.std.specs.declared.cmp.Ordering.{Ordering}
 use Rattle.std.specs.declared.cmp.Ordering.TheVariants.{Less, Equal, Greater}
 use Rattle.sst_base.specs.Order.{IsInOrder}
 use Rattle.sst_merge.specs.Merge.{merge, merge_after}
-use Rattle.sst_merge.specs.MergeReads.{not_lt}
+use Rattle.sst_base.specs.TestLaws.{not_lt}
 
 module _ {X : Type 0} (cmp : X → X → Ordering) where
   -- merging with nothing

@@ -8,21 +8,7 @@ use Rattle.std.specs.declared.cmp.Ordering.{Ordering}
 use Rattle.std.specs.declared.cmp.Ordering.TheVariants.{Less, Equal, Greater}
 use Rattle.sst_base.specs.Order.{IsInOrder}
 use Rattle.sst_merge.specs.Merge.{merge, merge_after, lesser}
-
-pub lt_is : (o : Ordering) → is_lt o ≡ true → o ≡ Less
-lt_is Less h = refl
-lt_is Equal h = absurd (cc)
-lt_is Greater h = absurd (cc)
-
-pub not_lt : (o : Ordering) → is_lt o ≡ false → o ≢ Less
-not_lt Less h e = absurd (cc)
-not_lt Equal h e = absurd (cc)
-not_lt Greater h e = absurd (cc)
-
-pub is_not_lt : (o : Ordering) → o ≢ Less → is_lt o ≡ false
-is_not_lt Less n = absurd (n refl)
-is_not_lt Equal n = refl
-is_not_lt Greater n = refl
+use Rattle.sst_base.specs.TestLaws.{lt_is, not_lt, is_not_lt}
 
 module _ {X : Type 0} (cmp : X → X → Ordering) (order : IsTotalOrder cmp) where
   ge_by : (z y x : X) (o : Ordering) → cmp y x ≡ o → cmp z y ≢ Less → o ≢ Less → cmp z x ≢ Less

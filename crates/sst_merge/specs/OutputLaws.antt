@@ -9,11 +9,12 @@ use Rattle.sstable_blocks.specs.Blocks.{joined}
 use Rattle.sstable_blocks.specs.Run.{Form}
 use Rattle.sstable_blocks.specs.declared.run.RunHandles.{RunHandles}
 use Rattle.sst_merge.specs.Outputs.{Output, IsOutputOf, IsSized, AreSized, entries_of, AreWritten}
-use Rattle.sst_merge.specs.TableLaws.{taken_none, taken_both, joined_push}
+use Rattle.sst_merge.specs.TableLaws.{taken_none, taken_both}
 use Rattle.sst_merge.specs.SizeLaws.{apart_part}
 use Rattle.sst_merge.specs.Tables.{IsApart, IsShortest, IsTableOf}
 use Rattle.sst_merge.specs.Sources.{IsTaken}
 use Rattle.sst_merge.specs.declared.writing.Sizes.{Sizes}
+use Rattle.sstable_blocks.specs.RunLaws.{joined_push}
 
 zip_push : {X Y : Type 0} (R : X → Y → Type 0) (xs : List X) (ys : List Y) (x : X) (y : Y) → AllZip R xs ys → R x y → AllZip R (xs ++ x ∷ []) (ys ++ y ∷ [])
 zip_push R [] [] x y all r = (r, tt)

@@ -11,7 +11,8 @@ use Rattle.sst_block_core.specs.Kind.{IsOrdered}
 use Rattle.sstable_blocks.specs.Blocks.{joined}
 use Rattle.sst_merge.specs.Merge.{merge, merged, entry_cmp}
 use Rattle.sst_merge.specs.MergeLaws.{merge-first}
-use Rattle.sst_merge.specs.MergeReads.{ge_trans, is_not_lt}
+use Rattle.sst_merge.specs.MergeReads.{ge_trans}
+use Rattle.sst_base.specs.TestLaws.{is_not_lt}
 
 module _ {X : Type 0} (cmp : X → X → Ordering) (order : IsTotalOrder cmp) where
   tail_of : (x : X) (xs : List X) → IsInOrder cmp (x ∷ xs) → IsInOrder cmp xs

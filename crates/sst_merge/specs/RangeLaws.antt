@@ -2,7 +2,7 @@
 use Rattle.std.proofs.Common.{◌≡◌, ℕ, Bool, true, false, cond, List, [], ◌∷◌, filter, slice_get, Option, Some, None, refl, sym, ap, subst, ◌∙◌, inl, inr}
 use Rattle.std.proofs.lemmas.Bool.{cases_Bool}
 use Rattle.std.specs.Cmp.{IsTotalOrder}
-use Rattle.std.specs.Prelude.{nat_lt, ◌&&◌}
+use Rattle.std.specs.Prelude.{nat_lt}
 use Rattle.std.specs.Cmp.Lexicographic.{slice_cmp}
 use Rattle.std.specs.List.{AllByRecursion}
 use Rattle.std.specs.Option.{option_map, IfSome}
@@ -17,6 +17,7 @@ use Rattle.sst_block_core.specs.VersionLaws.{keys_equal}
 use Rattle.sst_block_core.specs.Window.{first_match, is_version}
 use Rattle.sst_merge.specs.MergeReads.{ge_trans}
 use Rattle.sst_merge.specs.Ranges.{covers, ranged}
+use Rattle.sst_base.specs.TestLaws.{and_parts}
 
 module _ {X : Type 0} (test : X → Bool) where
   pub filter_hit : (x : X) (xs : List X) → test x ≡ true → filter test (x ∷ xs) ≡ x ∷ filter test xs
@@ -87,13 +88,9 @@ ranged_ordered first last items up = filter_ordered _ (versions_cmp_total entrie
 pub ranged_all : (first last : List ℕ) (items : List Entry) → AllByRecursion (λ (e : Entry). covers first last e.key.user_key ≡ true) items → ranged first last items ≡ items
 ranged_all first last items all = filter_all (λ (e : Entry). covers first last e.key.user_key) items all
 
-second_of : (a b : Bool) → (a && b) ≡ true → b ≡ true
-second_of true b h = h
-second_of false b h = absurd (cc)
-
 module _ (first last needle : List ℕ) (s : ℕ) where
   key_is : (e : Entry) → is_version entries needle s e ≡ true → e.key.user_key ≡ needle
-  key_is e h = keys_equal e.key.user_key needle (second_of (nat_lt e.key.seqno s) (is_eq (slice_cmp nat_cmp e.key.user_key needle)) h)
+  key_is e h = keys_equal e.key.user_key needle (and_parts (nat_lt e.key.seqno s) (is_eq (slice_cmp nat_cmp e.key.user_key needle)) h).1
 
   -- a read of a key within the range
   pub ranged_match : (items : List Entry) → covers first last needle ≡ true → first_match entries needle s (ranged first last items) ≡ first_match entries needle s items

@@ -125,10 +125,6 @@ module _ (needle : List ℕ) (s : ℕ) where
 pub known_count : {R : Type 0} (list : R → Option (List Entry)) (rs : List R) (lists : List (List Entry)) → all_known (map list rs) ≡ Some lists → length lists ≡ length rs
 known_count list rs lists known = known_length (map list rs) lists known ∙ length-map rs list
 
-pub not_some : {A : Type 0} (o : Option A) → ((a : A) → o ≡ Some a → ⊥) → o ≡ None
-not_some None h = refl
-not_some (Some a) h = absurd (h a refl)
-
 -- what is behind an index is behind a later one
 pub later : {R : Type 0} (rs all : List R) (i n : ℕ) → i ≤ n → drop i rs ≡ drop i all → drop n rs ≡ drop n all
 later rs all i n less same =

@@ -1,27 +1,17 @@
 -- A merge from the back is the merge of the lists from the back, the last list first, in the opposite order.
-use Rattle.std.proofs.Common.{◌≡◌, ◌≢◌, true, false, List, [], ◌∷◌, ◌++◌, map, reverse, refl, sym, ap, subst, ◌∙◌, inl, inr}
+use Rattle.std.proofs.Common.{◌≡◌, ◌≢◌, true, false, List, [], ◌∷◌, ◌++◌, map, reverse, refl, sym, ap, ◌∙◌, inl, inr}
 use Rattle.std.proofs.lemmas.Bool.{cases_Bool}
-use Rattle.std.proofs.lemmas.List.{reverse-append}
 use Rattle.std.specs.Cmp.{IsTotalOrder, back_total}
 use Rattle.std.specs.List.{AllByRecursion}
 use Rattle.std.specs.Ordering.{flip_args, is_lt}
 use Rattle.std.specs.declared.cmp.Ordering.{Ordering}
 use Rattle.std.specs.declared.cmp.Ordering.TheVariants.{Less}
 use Rattle.sst_merge.specs.Merge.{merge, merged}
-use Rattle.sst_merge.specs.MergeReads.{ge_trans, is_not_lt, lt_is, not_lt, order_tail}
+use Rattle.sst_merge.specs.MergeReads.{ge_trans, order_tail}
 use Rattle.sst_merge.specs.MergeLaws.{merge-nil, merge-first, merge-second, merge-ordered}
 use Rattle.sst_base.specs.Order.{IsInOrder}
-
-push_reverse : {X : Type 0} (x : X) (xs : List X) → reverse (x ∷ xs) ≡ reverse xs ++ x ∷ []
-push_reverse x xs = reverse-append (x ∷ []) xs
-
-all_append : {X : Type 0} (P : X → Type 0) (xs ys : List X) → AllByRecursion P xs → AllByRecursion P ys → AllByRecursion P (xs ++ ys)
-all_append P [] ys a b = b
-all_append P (x ∷ xs) ys a b = (a.0, all_append P xs ys a.1 b)
-
-all_reverse : {X : Type 0} (P : X → Type 0) (xs : List X) → AllByRecursion P xs → AllByRecursion P (reverse xs)
-all_reverse P [] a = a
-all_reverse P (x ∷ xs) a = subst (AllByRecursion P) (sym (push_reverse x xs)) (all_append P (reverse xs) (x ∷ []) (all_reverse P xs a.1) (a.0, tt))
+use Rattle.sst_base.specs.TestLaws.{lt_is, not_lt, is_not_lt}
+use Rattle.sst_block_core.specs.ListLaws.{push_reverse, all_reverse}
 
 module _ {X : Type 0} (cmp : X → X → Ordering) where
   -- an item after all of the second list is the last of the merge

@@ -12,8 +12,9 @@ use Rattle.sst_block_core.specs.Entries.{entries}
 use Rattle.sst_block_core.specs.OffsetLaws.{body-append}
 use Rattle.sstable_blocks.specs.Blocks.{joined}
 use Rattle.sst_merge.specs.Sources.{IsTaken}
-use Rattle.sst_merge.specs.TableLaws.{joined_push, last_of}
+use Rattle.sst_merge.specs.TableLaws.{last_of}
 use Rattle.sst_merge.specs.Tables.{IsApart, IsFilled, IsShortest, Reaches, capped, block_len, blocks_len}
+use Rattle.sstable_blocks.specs.RunLaws.{joined_push}
 
 pub reaches_size : (a n size : ℕ) → n ≡ capped a → size ≤ n → size ≤ a
 reaches_size a n size e h = omega arith

@@ -11,7 +11,9 @@ use Rattle.sst_base.specs.declared.error.Error.{Error}
 use Rattle.sstable_blocks.specs.Scans.{EndsBy}
 use Rattle.sst_merge.specs.Merge.{merged}
 use Rattle.sst_merge.specs.Picks.{IsPick, list_at, least, least_none, least_some}
-use Rattle.sst_merge.specs.Sources.{Left, TakesFirst, PassesFirst, before, held_count, left_held, IsHeld, all_known, lists_left, all_left}
+use Rattle.sst_merge.specs.Sources.{Left, TakesFirst, PassesFirst, before, left_held, IsHeld, all_known, lists_left, all_left}
+use Rattle.sst_base.specs.TestLaws.{some_is}
+use Rattle.sst_base.specs.Counted.{found_item}
 
 same_list : {X : Type 0} (o : Option (List X)) → option_map (before None) o ≡ o
 same_list None = refl
@@ -26,7 +28,7 @@ pub held_is : {X : Type 0} (s t : Left X) (r : Option X) → TakesFirst s r t �
 held_is s t None h = subst (λ o. IfSome o (λ xs. xs ≡ [])) (sym h.0) h.1
 held_is s t (Some x) h = tt
 
-pub held_most : {X : Type 0} (s t : Left X) (r : Option X) → TakesFirst s r t → held_count r + t.most ≤ s.most
+pub held_most : {X : Type 0} (s t : Left X) (r : Option X) → TakesFirst s r t → found_item r + t.most ≤ s.most
 held_most s t None h = omega (arith, h.2)
 held_most s t (Some x) h = omega (arith, h.1)
 
@@ -36,9 +38,6 @@ passed_held a b None s t all r e n step = absurd (cc)
 passed_held a b (Some x) s t all r e n step =
     let kept : TakesFirst (left_held (Some x) a s) (Some x) (left_held r b t) = (ap (option_map (λ xs. x ∷ xs)) (sym (held_before s t r step)), (let m = held_most s t r step in omega (arith, m))) in
     (x, subst (λ o. TakesFirst o (Some x) (left_held r b t)) e kept)
-
-some_is : {A : Type 0} (x y : A) → ◌≡◌ {A = Option A} (Some x) (Some y) → x ≡ y
-some_is x y e = cc
 
 -- a known list, after an item
 known_after : {A : Type 0} (a : A) (o : Option (List A)) → option_map (λ rest. a ∷ rest) o ≡ None → o ≡ None

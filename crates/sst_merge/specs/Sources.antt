@@ -5,6 +5,7 @@ use Rattle.std.specs.List.{sum_by}
 use Rattle.sst_base.specs.declared.error.Error.{Error}
 use Rattle.sst_base.specs.declared.error.Error.TheVariants.{Memory}
 use Rattle.sstable_blocks.specs.Blocks.{joined}
+use Rattle.sst_base.specs.Counted.{found_item}
 
 -- What is left of a source: the list of its items, where the bytes are known that they are read from, and else nothing
 -- is said of it; at most how many they are; the errors that reading them may give, where these bytes are known; and the
@@ -60,13 +61,9 @@ MeetsNoMore old new = (e : Error) → MayMeet new e → MayMeet old e
 abbrev pub left_as : {X Y : Type 0} → (List X → List Y) → Option Error → Left X → Left Y
 left_as f ended s = record { list = option_map f s.list; most = s.most; errors = step_errors s; ended = ended }
 
-abbrev pub held_count : {X : Type 0} → Option X → ℕ
-held_count None = 0
-held_count (Some x) = 1
-
 -- what is left where an item is held before it, and this error ended it, if one did
 abbrev pub left_held : {X : Type 0} → Option X → Option Error → Left X → Left X
-left_held held ended s = record { list = option_map (before held) s.list; most = held_count held + s.most; errors = step_errors s; ended = ended }
+left_held held ended s = record { list = option_map (before held) s.list; most = found_item held + s.most; errors = step_errors s; ended = ended }
 
 -- where none is held, none is left
 abbrev pub IsHeld : {X : Type 0} → Option X → Option (List X) → Type 0

@@ -8,6 +8,7 @@ use Rattle.sstable_blocks.specs.Ends.{IsFewer}
 use Rattle.sstable_blocks.specs.Scans.{Read, GivesFirst, EndsBy}
 use Rattle.sst_merge.specs.Sources.{TakesFirst}
 use Rattle.sst_merge.specs.Stored.{known_reads, scan_list}
+use Rattle.sst_merge.specs.FailureLaws.{no_end}
 
 -- entries that are all read
 pub known_all : (xs : List Entry) → known_reads (map Ok xs) ≡ Some xs
@@ -24,11 +25,6 @@ first_some (Some all) r s x h = ap known_reads h
 first_none : (b : Option (List ℕ)) (r s : List ℕ → List Read) → IfSome b (λ all. (r all ≡ []) × (s all ≡ [])) → (scan_list None b s ≡ scan_list None b r) × IfSome (scan_list None b r) (λ xs. xs ≡ [])
 first_none None r s h = (refl, tt)
 first_none (Some all) r s h = (ap known_reads (h.1 ∙ sym h.0), subst (λ reads. IfSome (known_reads reads) (λ xs. xs ≡ [])) (sym h.0) refl)
-
--- a step without an error was one of a scan that had not ended
-not_ended : {X : Type 0} (old new : Option Error) (x : X) → EndsBy old new (Ok x) → old ≡ None
-not_ended None new x h = refl
-not_ended {X = X} (Some e) new x h = absurd (let f : ◌≡◌ {A = Result X Error} (Ok x) (Err e) = h.repeated in cc)
 
 given : (F R : Type 0) (b : Option (List ℕ)) (old : Option Error) (P : List ℕ → Type 0) → old ≡ None → IfSome b (λ all. old ≡ None → P all) → IfSome b P
 given F R None old P e h = tt
@@ -47,7 +43,7 @@ module _ (F R : Type 0) (b c : Option (List ℕ)) (r s : List ℕ → List Read)
       → IfOk result (λ x. TakesFirst (record { list = scan_list old b r; most = m; errors = p; ended = old }) x (record { list = scan_list new c s; most = n; errors = q; ended = new }))
   scan_step (Err e) ends same gives fewer = tt
   scan_step (Ok x) ends same gives fewer =
-      let here : old ≡ None = not_ended old new x ends in
+      let here : old ≡ None = no_end old new x ends in
       let there : new ≡ None = ends.ended in
       subst (λ o. TakesFirst (record { list = scan_list o b r; most = m; errors = p; ended = o }) x (record { list = scan_list new c s; most = n; errors = q; ended = new })) (sym here)
       (subst (λ o. TakesFirst (record { list = scan_list None b r; most = m; errors = p; ended = None }) x (record { list = scan_list o c s; most = n; errors = q; ended = o })) (sym there)

@@ -1,11 +1,12 @@
 -- Laws of what was taken from a source.
-use Rattle.std.proofs.Common.{◌≡◌, suc, ◌-◌, ◌≤◌, false, List, [], ◌∷◌, ◌++◌, length, slice_get, Option, Some, None, refl, sym, ap, subst, ◌∙◌, arith, length-append, append-nil}
+use Rattle.std.proofs.Common.{◌≡◌, suc, ◌-◌, ◌≤◌, false, List, [], ◌∷◌, ◌++◌, length, slice_get, Option, Some, None, refl, sym, ap, subst, ◌∙◌, arith, length-append}
 use Rattle.std.proofs.lemmas.List.{append_assoc, length_push}
 use Rattle.std.specs.Option.{option_map, is_some, IfSome}
 use Rattle.sst_base.specs.Entry.{Entry}
 use Rattle.sstable_blocks.specs.Blocks.{joined}
 use Rattle.sst_merge.specs.Sources.{IsTaken}
 use Rattle.sst_merge.specs.Tables.{IsApart}
+use Rattle.sstable_blocks.specs.RunLaws.{joined_push}
 
 -- nothing was taken yet
 pub taken_none : {X : Type 0} (s : Option (List X)) → IsTaken s [] s
@@ -19,10 +20,6 @@ both_by xs ys (Some rest) = ap Some (sym (append_assoc xs ys rest))
 
 pub taken_both : {X : Type 0} (s t u : Option (List X)) (xs ys : List X) → IsTaken s xs t → IsTaken t ys u → IsTaken s (xs ++ ys) u
 taken_both s t u xs ys h k = h ∙ ap (option_map (λ rest. xs ++ rest)) k ∙ both_by xs ys u
-
-pub joined_push : {X : Type 0} (blocks : List (List X)) (b : List X) → joined (blocks ++ b ∷ []) ≡ joined blocks ++ b
-joined_push [] b = append-nil b
-joined_push (c ∷ cs) b = ap (λ xs. c ++ xs) (joined_push cs b) ∙ sym (append_assoc c (joined cs) b)
 
 -- and then a block
 pub taken_block : {X : Type 0} (s t u : Option (List X)) (blocks : List (List X)) (b : List X) → IsTaken s (joined blocks) t → IsTaken t b u → IsTaken s (joined (blocks ++ b ∷ [])) u

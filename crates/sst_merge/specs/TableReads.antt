@@ -23,25 +23,17 @@ use Rattle.sstable_blocks.specs.Sound.{IsSound}
 use Rattle.sstable_blocks.specs.declared.run.RunHandles.{RunHandles}
 use Rattle.sstable_blocks.specs.declared.run.checking.RunSummary.{RunSummary}
 use Rattle.sst_merge.specs.Merge.{entry_cmp}
-use Rattle.sst_merge.specs.MergeReads.{not_lt}
 use Rattle.sst_merge.specs.RangeLaws.{filter_all}
 use Rattle.sst_merge.specs.Stored.{all_keys, are_bytes, check_of, checked_list, filter_fits, known_reads, table_list}
 use Rattle.sst_merge.specs.StoredLaws.{known_all}
-
-both : (a b : Bool) → (a && b) ≡ true → (a ≡ true) × (b ≡ true)
-both true b h = (refl, h)
-both false b h = absurd (cc)
-
-flip : (b : Bool) → not b ≡ true → b ≡ false
-flip true h = absurd (cc)
-flip false h = refl
+use Rattle.sst_base.specs.TestLaws.{and_parts, not_true, not_lt}
 
 passes_ordered : (xs : List Entry) → is_in_order entry_cmp xs ≡ true → IsOrdered entries xs
 passes_ordered [] h = tt
 passes_ordered (x ∷ []) h = tt
 passes_ordered (x ∷ y ∷ xs) h =
-    let k = both (not (is_lt (entry_cmp y x))) (is_in_order entry_cmp (y ∷ xs)) h in
-    (not_lt (entry_cmp y x) (flip (is_lt (entry_cmp y x)) k.0), passes_ordered (y ∷ xs) k.1)
+    let k = and_parts (not (is_lt (entry_cmp y x))) (is_in_order entry_cmp (y ∷ xs)) h in
+    (not_lt (entry_cmp y x) (not_true (is_lt (entry_cmp y x)) k.0), passes_ordered (y ∷ xs) k.1)
 
 -- what holds of entries where they are in order
 if_any : (P : List Entry → Type 0) (xs : List Entry) (t : Bool) → is_in_order entry_cmp xs ≡ t → (is_in_order entry_cmp xs ≡ true → P xs) → IfSome (cond t (Some xs) None) P
@@ -64,12 +56,12 @@ pub mapped : {A B : Type 0} (f : A → B) (P : B → Type 0) (o : Option A) → 
 mapped f P None h = tt
 mapped f P (Some a) h = h
 
-bytes_by : (bytes : List ℕ) → are_bytes bytes ≡ true → IsBytes bytes
+pub bytes_by : (bytes : List ℕ) → are_bytes bytes ≡ true → IsBytes bytes
 bytes_by [] h i = omega arith
-bytes_by (b ∷ bytes) h zero = ltb-true b 256 (both (nat_lt b 256) (are_bytes bytes) h).0
-bytes_by (b ∷ bytes) h (suc i) = bytes_by bytes (both (nat_lt b 256) (are_bytes bytes) h).1 i
+bytes_by (b ∷ bytes) h zero = ltb-true b 256 (and_parts (nat_lt b 256) (are_bytes bytes) h).0
+bytes_by (b ∷ bytes) h (suc i) = bytes_by bytes (and_parts (nat_lt b 256) (are_bytes bytes) h).1 i
 
-fits_by : (o : Option HandleParts) → filter_fits o ≡ true → IfSome o (λ g. g.size < 2 ^ 32)
+pub fits_by : (o : Option HandleParts) → filter_fits o ≡ true → IfSome o (λ g. g.size < 2 ^ 32)
 fits_by None h = tt
 fits_by (Some g) h = ltb-true g.size (2 ^ 32) h
 
@@ -77,11 +69,11 @@ cond_ok : {A : Type 0} (t : Bool) (r : Result A Error) (e : Error) (a : A) → c
 cond_ok true r e a h = (refl, h)
 cond_ok false r e a h = absurd (cc)
 
-all_pass : (xs : List Entry) → AllByRecursion (λ (x : Entry). in_range all_keys x.key.user_key ≡ true) xs
+pub all_pass : (xs : List Entry) → AllByRecursion (λ (x : Entry). in_range all_keys x.key.user_key ≡ true) xs
 all_pass [] = tt
 all_pass (x ∷ xs) = (refl, all_pass xs)
 
-within_all : (xs : List Entry) → within all_keys xs ≡ xs
+pub within_all : (xs : List Entry) → within all_keys xs ≡ xs
 unfolding within
 within_all xs = filter_all (λ (x : Entry). in_range all_keys x.key.user_key) xs (all_pass xs)
 
@@ -94,8 +86,8 @@ module _ (c : Hashes) (h : RunHandles) (index : List Handle) (needle : List ℕ)
         → IfSome (known_reads (blocks_read c bytes all_keys (handles_within all_keys index))) (λ all. P (first_match entries needle s all))
     known_found bytes summary at found e =
         let k = cond_ok (are_bytes bytes && (nat_lt h.index.size (2 ^ 32) && filter_fits h.filter)) (check_run c bytes h) BadHandle summary e in
-        let t = both (are_bytes bytes) (nat_lt h.index.size (2 ^ 32) && filter_fits h.filter) k.0 in
-        let u = both (nat_lt h.index.size (2 ^ 32)) (filter_fits h.filter) t.1 in
+        let t = and_parts (are_bytes bytes) (nat_lt h.index.size (2 ^ 32) && filter_fits h.filter) k.0 in
+        let u = and_parts (nat_lt h.index.size (2 ^ 32)) (filter_fits h.filter) t.1 in
         let sound = accepted bytes summary (bytes_by bytes t.0) (ltb-true h.index.size (2 ^ 32) u.0) (fits_by h.filter u.1) k.1 in
         let xs : List Entry = within all_keys (map plain (joined sound.0)) in
         let is : known_reads (blocks_read c bytes all_keys (handles_within all_keys index)) ≡ Some xs = ap known_reads (scanned sound.0 bytes sound.1 at) ∙ known_all xs in

@@ -12,7 +12,6 @@ use Rattle.std.proofs.lemmas.List.Elements.{Contains-append_left, Contains-push,
 use Rattle.std.proofs.lemmas.Nat.Bits.{bit_at-zero, same_from_bits_below, bit_at-lt}
 use Rattle.byteorder.specs.Endian.{little_bytes, little_number}
 use Rattle.byteorder.specs.Numbers.{little_number-reads_back}
-use Rattle.sst_base.specs.FrameLaws.{and_parts}
 use Rattle.sst_base.specs.Bytes.{IsBytes}
 use Rattle.sst_base.specs.BytesLaws.{little_bytes-little_number_at, take-drop-more}
 use Rattle.sst_base.specs.FrameErrorLaws.{NotIo, not_io_if}
@@ -25,6 +24,7 @@ use Rattle.sst_base.specs.declared.error.TagName.TheVariants as tags
 use Rattle.sstable_blocks.specs.Bits.{HasBit}
 use Rattle.sstable_blocks.specs.Probes.{probe, IsProbe}
 use Rattle.sstable_blocks.specs.Filter.{Filter, HasProbes, IsFilterOf, MayContain, is_sized, filter_in, filter_payload, filter_at}
+use Rattle.sst_base.specs.TestLaws.{and_parts, not_false}
 
 -- the bit of each probe of an inserted hash is set
 pub inserted_may_be_contained : (hashes : List ℕ) (f : Filter) (hash : ℕ) → IsFilterOf hashes f → Contains hashes hash → MayContain f hash
@@ -134,11 +134,6 @@ past : {A : Type 0} (b : Bool) (r : Result A Error) (y : A) (d : Error) → (if 
 past true r y d e = cc
 past false r y d e = (refl, e)
 
--- a negation that does not hold
-is_not : (b : Bool) → not b ≡ false → b ≡ true
-is_not true e = refl
-is_not false e = cc
-
 -- what is read is the numbers and the bits of at least 22 bytes
 pub filter_at_reads : (bytes : List ℕ) (f : Filter) → filter_at bytes ≡ Ok f → (filter_in bytes ≡ f) × (22 ≤ length bytes) × HasProbes f
 unfolding filter_at
@@ -160,7 +155,7 @@ filter_at_takes bytes f small e =
     let standard = past (not (nat_eq (get_or bytes 4 0) 0)) _ f _ named.1 in
     let plain = past (not (nat_eq (get_or bytes 5 0) 0)) _ f _ standard.1 in
     let sized = guard_ok (is_sized (filter_in bytes)) (filter_in bytes) f _ plain.1 in
-    let whole = filter_payload-in bytes small (ltb-false _ _ long.0) (same_text (take 4 bytes) magic (sym (is_not (pointwise nat_eq (take 4 bytes) magic) named.0))) (eqb-true _ _ (is_not (nat_eq (get_or bytes 4 0) 0) standard.0)) (eqb-true _ _ (is_not (nat_eq (get_or bytes 5 0) 0) plain.0)) in
+    let whole = filter_payload-in bytes small (ltb-false _ _ long.0) (same_text (take 4 bytes) magic (sym (not_false (pointwise nat_eq (take 4 bytes) magic) named.0))) (eqb-true _ _ (not_false (nat_eq (get_or bytes 4 0) 0) standard.0)) (eqb-true _ _ (not_false (nat_eq (get_or bytes 5 0) 0) plain.0)) in
     subst (λ (q : Filter). (bytes ≡ filter_payload q) × HasProbes q) sized.1 (whole, IsSized_of (filter_in bytes) sized.0)
 
 -- numbers below 2 that are 1 together

@@ -1,5 +1,5 @@
 -- Reading a frame in memory, step by step.
-use Rattle.std.proofs.Common.{◌≡◌, ℕ, ◌+◌, ◌≤◌, ◌-◌, List, ◌++◌, length, take, drop, refl, arith, sym, ◌∙◌, ap, subst, Result, Ok, Err, Some, Option, Bool, true, false, nat_eq, ◌&&◌, length-drop}
+use Rattle.std.proofs.Common.{◌≡◌, ℕ, ◌+◌, ◌≤◌, ◌-◌, List, ◌++◌, length, take, drop, refl, arith, sym, ◌∙◌, ap, subst, Result, Ok, Err, Some, Option, true, nat_eq, length-drop}
 use Rattle.std.specs.Result.{IfOk, OnOk, MatchResult}
 use Rattle.std.specs.List.{slice_range}
 use Rattle.std.proofs.lemmas.Bool.{eqb-true, le-leb}
@@ -14,6 +14,7 @@ use Rattle.sst_base.specs.Inputs.{Reads, ReadsAllocating, Gives, GivesOrFails}
 use Rattle.sst_base.specs.declared.error.Error.{Error}
 use Rattle.sst_base.specs.declared.error.Error.TheVariants.{Io, Memory}
 use Rattle.sst_base.specs.declared.table.block.header.Header.{Header}
+use Rattle.sst_base.specs.TestLaws.{and_parts}
 
 -- a result that equals a value is given by it
 pub Gives-same : {A : Type 0} (r answer : Result A Error) → r ≡ answer → Gives r answer
@@ -34,13 +35,9 @@ payload_behind hash128 all rest payload h e p =
     let short : length (drop 33 all) ≤ length all - 33 = omega (arith, length-drop 33 all) in
     p ∙ take_all (length all - 33) (drop 33 all) short ∙ sym begins.1
 
-and_last : (a b : Bool) → (a && b) ≡ true → b ≡ true
-and_last true b e = e
-and_last false b e = cc
-
 pub length_payload : (h : Header) (payload rest : List ℕ) → payload ≡ rest → has_length h (length rest) ≡ true → length payload ≡ h.data_length
 length_payload h payload rest e l =
-    ap length e ∙ sym (eqb-true h.data_length (length rest) (and_last (nat_eq h.data_length h.uncompressed_length) (nat_eq h.data_length (length rest)) l))
+    ap length e ∙ sym (eqb-true h.data_length (length rest) (and_parts (nat_eq h.data_length h.uncompressed_length) (nat_eq h.data_length (length rest)) l).1)
 
 pub frame_in_by : (hash128 : List ℕ → ℕ) (all rest payload : List ℕ) (h : Header) (r : Result BlockParts Error) → 33 ≤ length all → header_at hash128 all ≡ Ok (h, rest) → has_length h (length rest) ≡ true → payload ≡ rest → r ≡ verified_block hash128 h payload → r ≡ frame_in hash128 all
 unfolding frame_in

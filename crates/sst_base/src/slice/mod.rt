@@ -22,7 +22,7 @@ mod short;
 
 use crate::error::{AllocResult, Error, Result};
 use crate::input::{Input, note_bytes};
-use crate::table::util::{SliceIndexes, compare_bytes};
+use crate::table::util::compare_bytes;
 use bytes::Bytes;
 use shared::SharedBytes;
 pub use short::SHORT_LEN;
@@ -276,7 +276,8 @@ impl Slice {
                 }
             }
             Held::Shared(bytes) => {
-                let cut = ShortBytes::cut(bytes.as_slice(), range.start, range.end);
+                let (_, from_start) = bytes.as_slice().split_at(range.start);
+                let cut = ShortBytes::front(from_start, range.end - range.start);
                 Ok(Slice::short(cut))
             }
             Held::Short(bytes) => {
@@ -305,30 +306,52 @@ impl Slice {
         }
     }
 
-    /// Copies the bytes of two ranges of these bytes, the second after the first. Both ranges lie
-    /// inside the bytes.
+    /// Copies the first `len` bytes of a byte string. A few are copied faster where more bytes follow
+    /// them.
     ///
     /// # Errors
     ///
     /// If an allocation fails.
     #[inline(always)]
-    pub fn joined(
-        alloc: Global,
-        bytes: &[u8],
-        left: &SliceIndexes,
-        right: &SliceIndexes,
-    ) -> AllocResult<Slice>
-        requires left_order { left.now.0 ≤ left.now.1 }
-        requires left_inside { left.now.1 ≤ length bytes.now }
-        requires right_order { right.now.0 ≤ right.now.1 }
-        requires right_inside { right.now.1 ≤ length bytes.now }
-        ensures { IfOk result (λ s. s ≡ take (left.now.1 - left.now.0) (drop left.now.0 bytes.now)
-            ++ take (right.now.1 - right.now.0) (drop right.now.0 bytes.now)) }
+    pub fn front(alloc: Global, bytes: &[u8], len: usize) -> AllocResult<Slice>
+        requires { len ≤ length bytes.now }
+        ensures { IfOk result (λ s. s ≡ take len bytes.now) }
     {
-        if (left.1 - left.0) + (right.1 - right.0) <= SHORT_LEN {
-            return Ok(Slice::short(ShortBytes::joined_parts(bytes, left, right)));
+        if len <= SHORT_LEN {
+            return Ok(Slice::short(ShortBytes::front(bytes, len)));
         }
-        match SharedBytes::fused(alloc, &bytes[left.0..left.1], &bytes[right.0..right.1]) {
+        let (front, _) = bytes.split_at(len);
+        match SharedBytes::copied(alloc, front) {
+            Ok(copy) => Ok(Slice::shared(copy)),
+            Err(error) => Err(error),
+        }
+    }
+
+    /// Copies the first bytes of two byte strings, the second's after the first's. A few are copied
+    /// faster where more bytes follow both.
+    ///
+    /// # Errors
+    ///
+    /// If an allocation fails.
+    #[inline(always)]
+    pub fn fused_fronts(
+        alloc: Global,
+        left: &[u8],
+        left_len: usize,
+        right: &[u8],
+        right_len: usize,
+    ) -> AllocResult<Slice>
+        requires left { left_len ≤ length left.now }
+        requires right { right_len ≤ length right.now }
+        ensures { IfOk result (λ s. s ≡ take left_len left.now ++ take right_len right.now) }
+    {
+        if left_len + right_len <= SHORT_LEN {
+            let both = ShortBytes::joined_fronts(left, left_len, right, right_len);
+            return Ok(Slice::short(both));
+        }
+        let (left, _) = left.split_at(left_len);
+        let (right, _) = right.split_at(right_len);
+        match SharedBytes::fused(alloc, left, right) {
             Ok(both) => Ok(Slice::shared(both)),
             Err(error) => Err(error),
         }

@@ -86,7 +86,7 @@ impl SharedBytes {
     }
 
     /// Copies two byte strings, the second after the first. It is a call, so that short strings are
-    /// joined in registers by those that compile [`super::Slice::joined`] in.
+    /// joined in registers by those that compile [`super::Slice::fused_fronts`] in.
     ///
     /// # Errors
     ///

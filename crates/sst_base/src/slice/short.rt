@@ -1,7 +1,6 @@
 //! Byte strings that are held in place.
-ghost use Rattle.std.specs.Prelude.{◌≡◌, ◌+◌, ◌-◌, ◌≤◌, ◌++◌, length, take, drop};
+ghost use Rattle.std.specs.Prelude.{◌≡◌, ◌+◌, ◌≤◌, ◌++◌, length, take, drop};
 
-use crate::table::util::SliceIndexes;
 use std::marker::Model;
 
 /// The greatest number of bytes that are held in place.
@@ -53,57 +52,48 @@ impl ShortBytes {
         }
     }
 
-    /// Copies the bytes from one index to another, where more follow as a whole array: so the copy
+    /// Copies the first `len` bytes of a byte string, where more follow as a whole array: so the copy
     /// has one length, and goes by registers.
     #[inline(always)]
-    pub(crate) fn cut(bytes: &[u8], start: usize, end: usize) -> ShortBytes
-        requires order { start ≤ end }
-        requires inside { end ≤ length bytes.now }
-        requires short { end - start ≤ 40 }
-        ensures { result ≡ take (end - start) (drop start bytes.now) }
+    pub(crate) fn front(bytes: &[u8], len: usize) -> ShortBytes
+        requires inside { len ≤ length bytes.now }
+        requires short { len ≤ 40 }
+        ensures { result ≡ take len bytes.now }
     {
-        let (_, rest) = bytes.split_at(start);
-        let len = end - start;
-        match rest.first_chunk::<SHORT_LEN>() {
+        match bytes.first_chunk::<SHORT_LEN>() {
             Some(front) => ShortBytes {
                 len: len as u32,
                 bytes: *front,
             },
             None => {
-                let (part, _) = rest.split_at(len);
+                let (part, _) = bytes.split_at(len);
                 ShortBytes::new(part)
             }
         }
     }
 
-    /// Copies the bytes of two ranges, the second after the first, where more follow both as whole
-    /// arrays: so both copies have one length, and go by registers.
+    /// Copies the first bytes of two byte strings, the second's after the first's, where more follow
+    /// both as whole arrays: so both copies have one length, and go by registers.
     #[inline(always)]
-    pub(crate) fn joined_parts(
-        bytes: &[u8],
-        left: &SliceIndexes,
-        right: &SliceIndexes,
+    pub(crate) fn joined_fronts(
+        left: &[u8],
+        left_len: usize,
+        right: &[u8],
+        right_len: usize,
     ) -> ShortBytes
-        requires left_order { left.now.0 ≤ left.now.1 }
-        requires left_inside { left.now.1 ≤ length bytes.now }
-        requires right_order { right.now.0 ≤ right.now.1 }
-        requires right_inside { right.now.1 ≤ length bytes.now }
-        requires short { (left.now.1 - left.now.0) + (right.now.1 - right.now.0) ≤ 40 }
-        ensures { result ≡ take (left.now.1 - left.now.0) (drop left.now.0 bytes.now)
-            ++ take (right.now.1 - right.now.0) (drop right.now.0 bytes.now) }
+        requires left_inside { left_len ≤ length left.now }
+        requires right_inside { right_len ≤ length right.now }
+        requires short { left_len + right_len ≤ 40 }
+        ensures { result ≡ take left_len left.now ++ take right_len right.now }
     {
-        let (_, from_left) = bytes.split_at(left.0);
-        let (_, from_right) = bytes.split_at(right.0);
-        let left_len = left.1 - left.0;
-        let right_len = right.1 - right.0;
         match (
-            from_left.first_chunk::<SHORT_LEN>(),
-            from_right.first_chunk::<SHORT_LEN>(),
+            left.first_chunk::<SHORT_LEN>(),
+            right.first_chunk::<SHORT_LEN>(),
         ) {
             (Some(left), Some(right)) => joined_chunks(left, left_len, right, right_len),
             _ => {
-                let (left, _) = from_left.split_at(left_len);
-                let (right, _) = from_right.split_at(right_len);
+                let (left, _) = left.split_at(left_len);
+                let (right, _) = right.split_at(right_len);
                 ShortBytes::joined(left, right)
             }
         }

@@ -1,5 +1,5 @@
 -- Reading a body an item at a time.
-use Rattle.std.proofs.Common.{◌≡◌, ℕ, zero, suc, ◌+◌, ◌%◌, ◌<◌, ◌≤◌, cond, eqb, true, false, List, [], ◌∷◌, ◌++◌, length, drop, Option, Some, None, refl, sym, ap, subst, ◌∙◌, arith, length-append, length-drop}
+use Rattle.std.proofs.Common.{◌≡◌, ℕ, zero, suc, ◌+◌, ◌%◌, ◌<◌, ◌≤◌, cond, eqb, true, false, List, [], ◌∷◌, ◌++◌, length, drop, Some, None, refl, sym, ap, subst, ◌∙◌, arith, length-append, length-drop}
 use Rattle.std.proofs.lemmas.List.{length_push}
 use Rattle.std.proofs.lemmas.Bool.{eq-eqb, ne_eqb}
 use Rattle.sst_base.specs.Bytes.{IsBytes}
@@ -8,9 +8,7 @@ use Rattle.sst_block_core.specs.Kind.{Kind, IsKind}
 use Rattle.sst_block_core.specs.Body.{body, item_at, items_at}
 use Rattle.sst_block_core.specs.Passes.{base_after, IsReadUpto}
 use Rattle.sst_block_core.specs.BodyLaws.{body_takes}
-
-some_same : {A : Type 0} (a b : A) → ◌≡◌ {A = Option A} (Some a) (Some b) → a ≡ b
-some_same a b e = cc
+use Rattle.sst_base.specs.TestLaws.{some_is}
 
 module _ {X : Type 0} (kind : Kind X) (r : ℕ) where
   -- one item more
@@ -18,7 +16,7 @@ module _ {X : Type 0} (kind : Kind X) (r : ℕ) where
       → item_at kind r place (base_after kind r s xs base) mid ≡ Some (x, rest) → items_at kind r s (suc n) base bytes ≡ Some (xs ++ x ∷ [], rest)
   unfolding items_at
   more_from zero s place base bytes xs mid x rest e p h =
-      let q : ◌≡◌ {A = List X × List ℕ} ([], bytes) (xs, mid) = some_same ([], bytes) (xs, mid) e in
+      let q : ◌≡◌ {A = List X × List ℕ} ([], bytes) (xs, mid) = some_is ([], bytes) (xs, mid) e in
       let parts = pair_parts [] xs bytes mid q in
       let place_is : s ≡ place = omega arith in
       let g : item_at kind r s base bytes ≡ Some (x, rest) = (λ i. item_at kind r (place_is i) (base_after kind r s (parts.0 i) base) (parts.1 i)) ∙ h in
@@ -27,7 +25,7 @@ module _ {X : Type 0} (kind : Kind X) (r : ℕ) where
       let f = bind_some (item_at kind r s base bytes) _ (xs, mid) e in
       let next = cond (eqb (s % r) 0) (kind.key f.0.0) base in
       let g = bind_some (items_at kind r (s + 1) n next f.0.1) _ (xs, mid) f.2 in
-      let q : ◌≡◌ {A = List X × List ℕ} (f.0.0 ∷ g.0.0, g.0.1) (xs, mid) = some_same (f.0.0 ∷ g.0.0, g.0.1) (xs, mid) g.2 in
+      let q : ◌≡◌ {A = List X × List ℕ} (f.0.0 ∷ g.0.0, g.0.1) (xs, mid) = some_is (f.0.0 ∷ g.0.0, g.0.1) (xs, mid) g.2 in
       let parts = pair_parts (f.0.0 ∷ g.0.0) xs g.0.1 mid q in
       let h1 : item_at kind r place (base_after kind r (s + 1) g.0.0 next) g.0.1 ≡ Some (x, rest) = (λ i. item_at kind r place (base_after kind r s (parts.0 i) base) (parts.1 i)) ∙ h in
       let again = more_from n (s + 1) place next f.0.1 g.0.0 g.0.1 x rest g.1 (omega arith) h1 in
@@ -39,7 +37,7 @@ module _ {X : Type 0} (kind : Kind X) (r : ℕ) where
   unfolding items_at
   stop_from n s place base bytes xs mid e p h zero l = absurd (omega arith)
   stop_from zero s place base bytes xs mid e p h (suc m) l =
-      let q : ◌≡◌ {A = List X × List ℕ} ([], bytes) (xs, mid) = some_same ([], bytes) (xs, mid) e in
+      let q : ◌≡◌ {A = List X × List ℕ} ([], bytes) (xs, mid) = some_is ([], bytes) (xs, mid) e in
       let parts = pair_parts [] xs bytes mid q in
       let place_is : s ≡ place = omega arith in
       let g : item_at kind r s base bytes ≡ None = (λ i. item_at kind r (place_is i) (base_after kind r s (parts.0 i) base) (parts.1 i)) ∙ h in
@@ -48,7 +46,7 @@ module _ {X : Type 0} (kind : Kind X) (r : ℕ) where
       let f = bind_some (item_at kind r s base bytes) _ (xs, mid) e in
       let next = cond (eqb (s % r) 0) (kind.key f.0.0) base in
       let g = bind_some (items_at kind r (s + 1) n next f.0.1) _ (xs, mid) f.2 in
-      let q : ◌≡◌ {A = List X × List ℕ} (f.0.0 ∷ g.0.0, g.0.1) (xs, mid) = some_same (f.0.0 ∷ g.0.0, g.0.1) (xs, mid) g.2 in
+      let q : ◌≡◌ {A = List X × List ℕ} (f.0.0 ∷ g.0.0, g.0.1) (xs, mid) = some_is (f.0.0 ∷ g.0.0, g.0.1) (xs, mid) g.2 in
       let parts = pair_parts (f.0.0 ∷ g.0.0) xs g.0.1 mid q in
       let h1 : item_at kind r place (base_after kind r (s + 1) g.0.0 next) g.0.1 ≡ None = (λ i. item_at kind r place (base_after kind r s (parts.0 i) base) (parts.1 i)) ∙ h in
       let again = stop_from n (s + 1) place next f.0.1 g.0.0 g.0.1 g.1 (omega arith) h1 m (omega arith) in

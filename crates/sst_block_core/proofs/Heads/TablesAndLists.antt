@@ -1,6 +1,5 @@
 -- The table of a block's list and the list.
 use Rattle.std.proofs.Common.{◌≡◌, ◌<◌, ◌≤◌, ◌+◌, ◌-◌, ◌*◌, ◌∙◌, ◌++◌, ap, refl, take, drop, length-append, length-drop, IfSome, None, ℕ, List, length, Bool, true, false, inl, inr, Option, Some, slice_get, sym, arith}
-use Rattle.std.specs.Option.{IsSome}
 use Rattle.std.specs.Borrow.{Bor}
 use Rattle.std.proofs.lemmas.Bool.{cases_lt}
 use Rattle.std.proofs.lemmas.Option.{slice_get_cases}
@@ -124,11 +123,6 @@ shared_range payload a b n ra rb e =
       sym (take-append-drop n A) ∙ (λ i. sym prefix i ++ drop (sym long i) A),
       sym joined ∙ (λ i. sym prefix i ++ drop (sym long i) B),
     )
-
--- what an option holds
-pub is_there : {A : Type 0} (o : Option A) → IsSome o → (x : A) × (o ≡ Some x)
-is_there None h = cc
-is_there (Some x) h = (x, refl)
 
 -- what holds of the last head, if there is one
 by_cases : (o : Option Head) (heads : List Head) (P : Head → Type 0) → last_passed heads ≡ o → ((last : Head) → last_passed heads ≡ Some last → P last) → IfSome o P

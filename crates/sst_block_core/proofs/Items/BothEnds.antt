@@ -1,9 +1,8 @@
 -- What steps from both ends give together.
-use Rattle.std.proofs.Common.{◌≡◌, ℕ, suc, ◌+◌, ◌-◌, ◌<◌, ◌≤◌, inl, inr, true, false, ltb, List, [], ◌∷◌, ◌++◌, length, take, drop, get_or, map, Option, Some, None, IsSome, refl, sym, ap, subst, ◌∙◌, arith, append_assoc, length-drop}
+use Rattle.std.proofs.Common.{◌≡◌, ℕ, suc, ◌+◌, ◌-◌, ◌<◌, ◌≤◌, inl, inr, List, [], ◌∷◌, ◌++◌, length, take, drop, get_or, map, Option, Some, None, IsSome, refl, sym, ap, subst, ◌∙◌, arith, append_assoc, length-drop}
 use Rattle.std.specs.List.{slice_get}
 use Rattle.std.specs.Option.{option_to_list}
 use Rattle.std.proofs.lemmas.Bool.{cases_lt}
-use Rattle.std.proofs.lemmas.Bool.Decides.{nat_tests}
 use Rattle.std.proofs.lemmas.Option.{slice_get_cases, get_or_from_slice_get}
 use Rattle.std.proofs.lemmas.List.{drop_more, take_more, append-nil, get_or-drop}
 use Rattle.sst_base.specs.Entry.{Entry}
@@ -16,17 +15,12 @@ use Rattle.sst_block_core.specs.declared.table.data_block.ops.Op.{Op}
 use Rattle.sst_block_core.specs.declared.table.data_block.ops.Op.TheVariants as entry_ops
 use Rattle.sst_block_core.specs.declared.table.index_block.ops.IndexOp.{IndexOp}
 use Rattle.sst_block_core.specs.declared.table.index_block.ops.IndexOp.TheVariants as index_ops
+use Rattle.sst_base.specs.TestLaws.{lt_test, ge_test}
 
 -- the step that takes an item from an end
 abbrev step_at : {X : Type 0} → End → Step X
 step_at front = next
 step_at back = next_back
-
-lt_test : (a b : ℕ) → a < b → ltb a b ≡ true
-lt_test a b h = grind (arith, nat_tests)
-
-ge_test : (a b : ℕ) → b ≤ a → ltb a b ≡ false
-ge_test a b h = grind (arith, nat_tests)
 
 module _ {X : Type 0} (items : List X) (lo hi : ℕ) (some : lo < hi) (inside : hi ≤ length items) (x : X) where
   first_item : slice_get items lo ≡ Some x → take (hi - lo) (drop lo items) ≡ x ∷ take (hi - (lo + 1)) (drop (lo + 1) items)

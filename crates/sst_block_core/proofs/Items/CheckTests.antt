@@ -1,5 +1,5 @@
 -- The tests of the checks decide the stages.
-use Rattle.std.proofs.Common.{◌≡◌, ◌≢◌, ℕ, zero, suc, ◌+◌, ◌*◌, ◌<◌, ◌≤◌, ◌^◌, ◌&&◌, ◌||◌, Bool, true, not, cond, eqb, leb, List, [], ◌∷◌, length, drop, refl, arith, sym, ◌∙◌, ap, subst, ◌⊎◌, inl, inr, Option, Some, None}
+use Rattle.std.proofs.Common.{◌≡◌, ◌≢◌, ℕ, zero, suc, ◌+◌, ◌*◌, ◌<◌, ◌≤◌, ◌^◌, ◌&&◌, ◌||◌, Bool, true, not, cond, eqb, leb, List, [], ◌∷◌, drop, refl, arith, sym, ◌∙◌, ap, subst, ◌⊎◌, inl, inr}
 use Rattle.std.proofs.lemmas.Bool.{le-leb, leb-true, eq-eqb, eqb-true, and_from, and_parts, or_cases, or_left, or_right, ne_eqb, eqb-false, cases_eq, cases_Bool}
 use Rattle.std.proofs.lemmas.Bool.Decides.{Decides-and, Decides-eqb, Decides-ltb}
 use Rattle.std.specs.Bool.{Decides}
@@ -15,8 +15,9 @@ use Rattle.sst_block_core.specs.Body.{place_offset, items_at}
 use Rattle.sst_block_core.specs.Trailer.{Trailer}
 use Rattle.sst_block_core.specs.Pointers.{pointer_width}
 use Rattle.sst_block_core.specs.Handles.{handles, EndFits, HasEnds}
-use Rattle.sst_block_core.specs.Stages.{body_in, pointer_bytes, reads_all, items_by, items_read, HasParts, HasForms, HasOrder, HasPointers, HasBuckets}
+use Rattle.sst_block_core.specs.Stages.{body_in, pointer_bytes, reads_all, items_by, HasParts, HasForms, HasOrder, HasPointers, HasBuckets}
 use Rattle.sst_block_core.specs.Checks.{all_below, is_in_order, has_parts, has_forms, has_order, has_pointers, has_buckets, end_fits}
+use Rattle.sst_block_core.specs.CanonicalLaws.{reads_whole}
 
 decides_below : (test : ℕ → Bool) (P : ℕ → Type 0) → ((k : ℕ) → Decides (test k) (P k)) → (n : ℕ) → Decides (all_below n test) ((k : ℕ) → k < n → P k)
 decides_below test P each zero = ((λ e k h. absurd (omega arith)), λ h. refl)
@@ -44,15 +45,10 @@ decides_order cmp [] = ((λ e. tt), λ h. refl)
 decides_order cmp (x ∷ []) = ((λ e. tt), λ h. refl)
 decides_order cmp (x ∷ y ∷ xs) = Decides-and (not (is_lt (cmp y x))) (is_in_order cmp (y ∷ xs)) (not_less (cmp y x)) (decides_order cmp (y ∷ xs))
 
-reads_is : {X : Type 0} (o : Option (List X × List ℕ)) → reads_all o ≡ true → o ≡ Some (items_read o, [])
-reads_is None e = cc
-reads_is (Some (xs, [])) e = refl
-reads_is (Some (xs, b ∷ bs)) e = let k : suc (length bs) ≡ 0 = eqb-true _ _ e in absurd (omega arith)
-
 pub decides_forms : {X : Type 0} (kind : Kind X) (t : Trailer) (p : List ℕ) → Decides (has_forms kind t p) (HasForms kind t p)
 unfolding items_by
 decides_forms kind t p = (
-  (λ e. reads_is (items_at kind t.interval 0 t.item_count [] (body_in t p)) e),
+  (λ e. reads_whole (items_at kind t.interval 0 t.item_count [] (body_in t p)) e),
   (λ h. ap reads_all h),
 )
 

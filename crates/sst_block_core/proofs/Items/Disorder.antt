@@ -1,12 +1,13 @@
 -- The first item that sorts before its predecessor.
 use Rattle.std.proofs.Common.{◌≡◌, ◌≢◌, ℕ, ◌+◌, ◌<◌, ◌≤◌, zero, suc, List, [], ◌∷◌, length, get_or, take, drop, arith, sym, ◌∙◌, ap, refl, true, false, Bool, is_lt, add-one, drop-cons}
 use Rattle.std.specs.declared.cmp.Ordering.{Ordering}
-use Rattle.std.specs.declared.cmp.Ordering.TheVariants.{Less, Equal, Greater}
+use Rattle.std.specs.declared.cmp.Ordering.TheVariants.{Less}
 use Rattle.std.specs.Prelude.{Option, Some, None, MatchOption}
 use Rattle.sst_base.specs.Entry.{Entry}
 use Rattle.sst_block_core.specs.Kind.{item_cmp, IsOrdered}
 use Rattle.sst_block_core.specs.Entries.{entries}
 use Rattle.sst_block_core.specs.Disorder.{disorder_from}
+use Rattle.sst_base.specs.TestLaws.{lt_is, not_lt, is_not_lt}
 
 pub disorder-short : (i : ℕ) (items : List Entry) → length items ≤ 1 → disorder_from i items ≡ None
 unfolding disorder_from
@@ -48,26 +49,12 @@ disorder-found items j i x y e h p q less =
     ∙ disorder-here j x y (drop (suc i) items) less
     ∙ ap Some (add-one j ∙ sym e)
 
--- whether `<` holds, by the ordering
-less-from_test : (o : Ordering) → is_lt o ≡ true → o ≡ Less
-less-from_test Less h = refl
-less-from_test Equal h = let wrong : false ≡ true = h in cc
-less-from_test Greater h = let wrong : false ≡ true = h in cc
-
-not_less-from_test : (o : Ordering) → is_lt o ≡ false → o ≢ Less
-not_less-from_test o h e = let wrong : is_lt o ≡ true = ap is_lt e in cc
-
-test-from_not_less : (o : Ordering) → o ≢ Less → is_lt o ≡ false
-test-from_not_less Less h = absurd (h refl)
-test-from_not_less Equal h = refl
-test-from_not_less Greater h = refl
-
 -- an ordered list has no such item
 pub disorder-ordered : (i : ℕ) (items : List Entry) → IsOrdered entries items → disorder_from i items ≡ None
 disorder-ordered i [] h = disorder-short i [] (omega arith)
 disorder-ordered i (x ∷ []) h = disorder-short i (x ∷ []) (omega arith)
 disorder-ordered i (x ∷ y ∷ items) h =
-    disorder-later i x y items (test-from_not_less (item_cmp entries y x) h.0) ∙ disorder-ordered (i + 1) (y ∷ items) h.1
+    disorder-later i x y items (is_not_lt (item_cmp entries y x) h.0) ∙ disorder-ordered (i + 1) (y ∷ items) h.1
 
 -- the index of such an item: the items before it are in order, and it sorts before its predecessor
 pub record IsFirstDisorder (n : ℕ) (items : List Entry) (i : ℕ) : Type 0 where
@@ -124,9 +111,9 @@ law-later n x y items ne (Some i) r = first-later n x y items i ne r
 law-by : (n : ℕ) (x y : Entry) (items : List Entry) (b : Bool) → is_lt (item_cmp entries y x) ≡ b
     → MatchOption (disorder_from (n + 1) (y ∷ items)) (IsOrdered entries (y ∷ items)) (IsFirstDisorder (n + 1) (y ∷ items))
     → MatchOption (disorder_from n (x ∷ y ∷ items)) (IsOrdered entries (x ∷ y ∷ items)) (IsFirstDisorder n (x ∷ y ∷ items))
-law-by n x y items true e r = rw (disorder-here n x y items e) (first-here n x y items (less-from_test (item_cmp entries y x) e))
+law-by n x y items true e r = rw (disorder-here n x y items e) (first-here n x y items (lt_is (item_cmp entries y x) e))
 law-by n x y items false e r =
-    rw (disorder-later n x y items e) (law-later n x y items (not_less-from_test (item_cmp entries y x) e) (disorder_from (n + 1) (y ∷ items)) r)
+    rw (disorder-later n x y items e) (law-later n x y items (not_lt (item_cmp entries y x) e) (disorder_from (n + 1) (y ∷ items)) r)
 
 -- the definition: an ordered list has no such item, and of any other list this is the first
 disorder-law : (n : ℕ) (items : List Entry) → MatchOption (disorder_from n items) (IsOrdered entries items) (IsFirstDisorder n items)

@@ -2,12 +2,11 @@
 use Rattle.std.proofs.Common.{◌≡◌, ℕ, ◌+◌, ◌-◌, ◌*◌, ◌/◌, ◌^◌, ◌<◌, ◌≤◌, inl, inr, List, [], ◌∷◌, length, take, drop, get_or, refl, sym, ap, subst, ◌∙◌, arith, Option, Some, None, leb, cond, length-drop}
 use Rattle.std.specs.Option.{IsSome}
 use Rattle.std.proofs.lemmas.Bool.{cases_lt, le-leb, lt-leb}
-use Rattle.std.proofs.lemmas.Bool.Decides.{nat_tests}
 use Rattle.std.proofs.lemmas.List.{drop_all, drop_more, drop-drop, get_or-drop, get_or_default}
 use Rattle.std.proofs.lemmas.Nat.{pow_pos}
 use Rattle.std.proofs.Math.Nat.{mul-le-mul_left}
-use Rattle.sst_base.specs.Varint.{IsWidth, varint_up_to, varint_at, with_digit, with_digits}
-use Rattle.sst_base.specs.VarintLaws.{varint_at_small, with_digit-with_digits, digits_end, digits_last, digits_zero, digits_wide, digits_full, digits_more, less_left}
+use Rattle.sst_base.specs.Varint.{IsWidth, varint_up_to, varint_at, with_digits}
+use Rattle.sst_base.specs.VarintLaws.{varint_at_small, with_digit-with_digits, digits_end, digits_last, digits_zero, digits_wide, digits_full, digits_more, less_left, at_more}
 use Rattle.sst_base.specs.Reading.{◌>>=◌, number_at, length_prefixed_at}
 use Rattle.sst_base.specs.ReadingLaws.{chain_first, chain_next}
 use Rattle.sst_block_core.specs.Digits.{IsReadTo}
@@ -25,10 +24,6 @@ none_some o h e = let q = subst IsSome (sym e) h in cc (q)
 no_varint : (bits : ℕ) → varint_at bits [] ≡ None
 unfolding varint_at varint_up_to
 no_varint bits = refl
-
-more_digits : (max b : ℕ) (bs : List ℕ) → 128 ≤ b → 128 ≤ max → varint_up_to max (b ∷ bs) ≡ with_digit (b - 128) (varint_up_to ((max - (b - 128)) / 128) bs)
-unfolding varint_up_to
-more_digits max b bs h k = search (arith, nat_tests)
 
 -- each width holds a digit
 width_some : (bits : ℕ) → IsWidth bits → 256 ≤ 2 ^ bits - 1
@@ -80,7 +75,7 @@ module _ (bits at : ℕ) (bytes : List ℕ) (encoded : IsSome (number_at bits (d
           fits = omega arith;
           rest = ap (λ xs. with_digits 1 (b - 128) 128 (varint_up_to left xs)) (drop-drop 1 at bytes)
               ∙ sym (with_digit-with_digits (b - 128) (varint_up_to left (drop (at + 1) bytes)))
-              ∙ sym (more_digits max b (drop (at + 1) bytes) large (omega arith))
+              ∙ sym (at_more max b (drop (at + 1) bytes) large (omega arith))
               ∙ sym (ap (varint_up_to max) here);
         }
 

@@ -14,7 +14,7 @@ use Rattle.sst_block_core.specs.Window.{passes_cmp, count_passed, is_version}
 use Rattle.sst_block_core.proofs.Search.Cuts.{cut_ordered, some_some}
 use Rattle.std.proofs.Math.Bool.{and-false}
 use Rattle.sst_block_core.specs.ListLaws.{first_filter, filter_none}
-use Rattle.sst_block_core.specs.VersionLaws.{keys_equal}
+use Rattle.sst_block_core.specs.VersionLaws.{keys_equal, version_passed}
 
 -- the first that does
 filter_at : {X : Type 0} (test : X → Bool) (items : List X) (c : ℕ) (x : X) → slice_get items c ≡ Some x → test x ≡ true → ((j : ℕ) (y : X) → j < c → slice_get items j ≡ Some y → test y ≡ false) → slice_get (filter test items) 0 ≡ Some x
@@ -26,12 +26,7 @@ filter_at test (z ∷ zs) (suc c) x at good before =
     first_filter test z zs ∙ ap (λ t. cond t (Some z) (slice_get (filter test zs) 0)) (before 0 z (omega arith) refl)
     ∙ filter_at test zs c x at good (λ j y h e. before (suc j) y (omega arith) e)
 
--- what passes is no version, and what doesn't is one exactly if it has the key
-version_passed : (o : Ordering) (seqno s : ℕ) → passes_cmp o (Some seqno) s ≡ true → (ltb s seqno && is_eq o) ≡ false
-version_passed Less seqno s h = grind (arith, nat_tests)
-version_passed Equal seqno s h = grind (arith, nat_tests)
-version_passed Greater seqno s h = cc
-
+-- what is not passed is a version exactly if it has the key
 version_not_passed : (o : Ordering) (seqno s : ℕ) → passes_cmp o (Some seqno) s ≡ false → (ltb s seqno && is_eq o) ≡ is_eq o
 version_not_passed Less seqno s h = cc
 version_not_passed Equal seqno s h = grind (arith, nat_tests)

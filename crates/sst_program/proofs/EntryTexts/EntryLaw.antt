@@ -13,17 +13,12 @@ use Rattle.hex.specs.declared.error.FromHexError.{FromHexError}
 use Rattle.hex.proofs.HexLemmas.{decode_of-ok}
 use Rattle.sst_base.specs.declared.value_type.ValueType.{ValueType}
 use Rattle.sst_base.specs.declared.value_type.ValueType.TheVariants.{Value, Tombstone, WeakTombstone, Indirection}
-use Rattle.sst_base.specs.Reading.{◌>>=◌}
 use Rattle.sst_base.specs.Entry.{Entry, plain_value}
 use Rattle.sst_program.specs.Text.{IsNumberText, is_number_text, number_of, hex_bytes}
 use Rattle.sst_program.specs.Line.{letter_of, type_of_letter, type_of_letters, IsLineOf, Encodes, Lacks, cut_at, entry_within_limits, entry_of_parts, entry_of_line}
 use Rattle.sst_program.proofs.WordTexts.Numbers.{number_text-sound, number_of-some}
 use Rattle.sst_program.proofs.EntryTexts.EntryParts.{line-with_parts, parts-all, limits-kept}
-
--- what a chain that ends well went through
-bind-some : {A B : Type 0} (o : Option A) (f : A → Option B) (y : B) → (o >>= f) ≡ Some y → (x : A) × (o ≡ Some x) × (f x ≡ Some y)
-bind-some None f y h = let wrong : None ≡ Some y = h in cc
-bind-some (Some x) f y h = (x, refl, h)
+use Rattle.sst_base.specs.ReadingLaws.{bind_some}
 
 -- what a choice that ends well chose
 cond-some : {A : Type 0} (b : Bool) (x y : A) → cond b (Some x) None ≡ Some y → (b ≡ true) × (x ≡ y)
@@ -98,10 +93,10 @@ encoded-by letter number key value t n k v l d s p q some short fits = record {
 parts-inverse : (letter number key value : List ℕ) (e : Entry) → entry_of_parts letter number key value ≡ Some e → IsLineOf letter number key value e
 unfolding entry_of_parts
 parts-inverse letter number key value e h =
-    let a = bind-some (type_of_letters letter) _ e h in
-    let b = bind-some (number_of number) _ e a.2 in
-    let c = bind-some (hex_bytes key) _ e b.2 in
-    let d = bind-some (hex_bytes value) _ e c.2 in
+    let a = bind_some (type_of_letters letter) _ e h in
+    let b = bind_some (number_of number) _ e a.2 in
+    let c = bind_some (hex_bytes key) _ e b.2 in
+    let d = bind_some (hex_bytes value) _ e c.2 in
     let n = number-inverse number b.0 b.1 in
     let small : b.0 < 2 ^ 64 = omega (arith, n.0.1, n.1) in
     let kept = limits-inverse a.0 b.0 c.0 d.0 e small d.2 in
@@ -110,9 +105,9 @@ parts-inverse letter number key value e h =
 pub line-inverse : (line : List ℕ) (e : Entry) → entry_of_line line ≡ Some e → Encodes line e
 unfolding entry_of_line
 line-inverse line e h =
-    let a = bind-some (cut_at 32 line) _ e h in
-    let b = bind-some (cut_at 32 a.0.1) _ e a.2 in
-    let c = bind-some (cut_at 32 b.0.1) _ e b.2 in
+    let a = bind_some (cut_at 32 line) _ e h in
+    let b = bind_some (cut_at 32 a.0.1) _ e a.2 in
+    let c = bind_some (cut_at 32 b.0.1) _ e b.2 in
     let first = cut-inverse 32 line a.0 a.1 in
     let second = cut-inverse 32 a.0.1 b.0 b.1 in
     let third = cut-inverse 32 b.0.1 c.0 c.1 in (

@@ -22,7 +22,7 @@ use Rattle.sstable_blocks.specs.Sources.{FailsAs}
 use Rattle.sst_program.specs.Outcome.{lines_text_of}
 use Rattle.sst_program.specs.TableReads.{block_read, block_count, blocks_listed, before_refusal, first_refusal, entry_count, entries_counted, PrintsUntil, PrintsFirst, FailsAround, FailsAmong}
 use Rattle.sst_program.proofs.Results.Outcomes.{lines-append}
-use Rattle.sst_program.proofs.TableFiles.Tables.{joined-next}
+use Rattle.sstable_blocks.specs.RunLaws.{joined_push}
 
 -- what is read of each of some blocks
 abbrev pub BlockReads : Type 0
@@ -85,7 +85,7 @@ pub prints_next : (old now new : Option (List ℕ)) (reads left more : BlockRead
 prints_next old now new reads left more items p e next = record {
   done = p.done ++ (items ∷ []);
   read = read_next reads left more p.done items p.read e;
-  lines = subst (Appends old new) (lines-append (joined p.done) items ∙ ap lines_text_of (sym (joined-next p.done items))) (Appends-trans old now new (lines_text_of (joined p.done)) (lines_text_of items) p.lines next);
+  lines = subst (Appends old new) (lines-append (joined p.done) items ∙ ap lines_text_of (sym (joined_push p.done items))) (Appends-trans old now new (lines_text_of (joined p.done)) (lines_text_of items) p.lines next);
 }
 
 prints_until : (old now new : Option (List ℕ)) (reads left : BlockReads) (refusal : Option Error) → PrintsTo old now reads left → before_refusal left ≡ [] → first_refusal left ≡ refusal → Keeps now new → PrintsUntil old new reads refusal
@@ -122,7 +122,7 @@ counts_next reads left more items count n p e is = record {
   done = p.done ++ (items ∷ []);
   read = read_next reads left more p.done items p.read e;
   counted =
-      let whole : length (joined (p.done ++ (items ∷ []))) ≡ length (joined p.done) + length items = ap length (joined-next p.done items) ∙ length-append (joined p.done) items in
+      let whole : length (joined (p.done ++ (items ∷ []))) ≡ length (joined p.done) + length items = ap length (joined_push p.done items) ∙ length-append (joined p.done) items in
       let before = p.counted in
       omega (arith, whole, before, is);
 }

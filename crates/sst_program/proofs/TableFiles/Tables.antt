@@ -7,7 +7,7 @@ use Rattle.sst_block_core.specs.Kind.{IsOrdered}
 use Rattle.std.proofs.Common.{subst, Option}
 use Rattle.std.specs.Io.KnownBytes.{Appends}
 use Rattle.sstable_blocks.specs.Run.{block_frames}
-use Rattle.sstable_blocks.specs.RunLaws.{fits_one}
+use Rattle.sstable_blocks.specs.RunLaws.{fits_one, joined_push}
 use Rattle.sstable_blocks.specs.Writing.{IsTable, AppendsTable, FrameFits, TableFits}
 use Rattle.sstable_blocks.specs.declared.run.RunConfig.{RunConfig}
 use Rattle.sstable_blocks.specs.declared.run.RunHandles.{RunHandles}
@@ -17,10 +17,6 @@ use Rattle.sst_program.specs.Table.{HaveSize, IsCutBy, IsTooLong, AppendsPacked,
 abbrev pub AreFull : {X : Type 0} → ℕ → List (List X) → Type 0
 AreFull n [] = Unit {0}
 AreFull n (block ∷ blocks) = (length block ≡ n) × AreFull n blocks
-
-pub joined-next : {X : Type 0} (blocks : List (List X)) (block : List X) → joined (blocks ++ block ∷ []) ≡ joined blocks ++ block
-joined-next [] block = append-nil block
-joined-next (b ∷ blocks) block = ap (λ xs. b ++ xs) (joined-next blocks block) ∙ sym (append_assoc b (joined blocks) block)
 
 pub full-next : {X : Type 0} (n : ℕ) (blocks : List (List X)) (block : List X) → AreFull n blocks → length block ≡ n → AreFull n (blocks ++ block ∷ [])
 full-next n [] block h e = (e, tt)
@@ -41,7 +37,7 @@ ordered-front (x ∷ y ∷ a) b h = (h.0, ordered-front (y ∷ a) b h.1)
 pub all-next : {X : Type 0} (blocks : List (List X)) (block behind rest items : List X) → joined blocks ++ rest ≡ items → rest ≡ block ++ behind
     → joined (blocks ++ block ∷ []) ++ behind ≡ items
 all-next blocks block behind rest items all cut =
-    ap (λ xs. xs ++ behind) (joined-next blocks block) ∙ append_assoc (joined blocks) block behind ∙ ap (λ xs. joined blocks ++ xs) (sym cut) ∙ all
+    ap (λ xs. xs ++ behind) (joined_push blocks block) ∙ append_assoc (joined blocks) block behind ∙ ap (λ xs. joined blocks ++ xs) (sym cut) ∙ all
 
 pub ordered-next : (blocks : List (List Entry)) (block behind rest items : List Entry) → joined blocks ++ rest ≡ items → rest ≡ block ++ behind
     → IsOrdered entries items → IsOrdered entries (joined (blocks ++ block ∷ []))

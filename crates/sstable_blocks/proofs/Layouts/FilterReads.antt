@@ -1,5 +1,5 @@
 -- The filter of a run rules out none of its keys.
-use Rattle.std.proofs.Common.{◌≡◌, ℕ, ◌+◌, ◌*◌, ◌/◌, ◌<◌, ◌≤◌, ◌^◌, inl, inr, cond, ltb, List, [], ◌∷◌, length, filter, refl, arith, sym, ◌∙◌, ap, subst, Option, Some, None, Result, Ok}
+use Rattle.std.proofs.Common.{◌≡◌, ℕ, ◌+◌, ◌*◌, ◌/◌, ◌<◌, ◌≤◌, ◌^◌, inl, inr, cond, ltb, List, [], ◌∷◌, length, filter, arith, sym, ◌∙◌, ap, subst, Some, None, Result, Ok}
 use Rattle.std.proofs.lemmas.Bool.{eq-eqb, ne_eqb, cases_Bool, and_parts}
 use Rattle.std.proofs.lemmas.List.{length-map}
 use Rattle.std.specs.List.{AllByRecursion, slice_get}
@@ -19,7 +19,8 @@ use Rattle.sstable_blocks.specs.Blocks.{joined}
 use Rattle.sstable_blocks.specs.Filter.{Filter, filter_at, MayContain, bit_count}
 use Rattle.sstable_blocks.specs.FilterLaws.{filter_at-payload}
 use Rattle.sstable_blocks.specs.Run.{Form, block_frames, filter_frame, index_frame, run_handles, key_hashes, IsFilterText}
-use Rattle.sstable_blocks.proofs.Lists.Search.{first-cons}
+use Rattle.sst_block_core.specs.ListLaws.{first_filter}
+use Rattle.sst_base.specs.TestLaws.{none_from}
 
 -- a first match has the needle as its key, so what holds of the hash of each key holds of the needle's
 match_satisfies : (hash : List ℕ → ℕ) (P : ℕ → Type 0) (needle : List ℕ) (s : ℕ) (xs : List Entry) (x : Entry) → slice_get (filter (is_version entries needle s) xs) 0 ≡ Some x → AllByRecursion (λ y. P (hash y.key.user_key)) xs → P (hash needle)
@@ -30,12 +31,8 @@ match_satisfies hash P needle s (y ∷ ys) x e all = elim (cases_Bool (is_versio
       let same : y.key.user_key ≡ needle = (slice_cmp-equal y.key.user_key needle).0 ((Equal-is (slice_cmp nat_cmp y.key.user_key needle)).0 both.1) in
       subst (λ k. P (hash k)) same all.0)
   | inr other ↦
-      match_satisfies hash P needle s ys x (sym (first-cons (is_version entries needle s) y ys ∙ ap (λ b. cond b (Some y) (slice_get (filter (is_version entries needle s) ys) 0)) other) ∙ e) all.1
+      match_satisfies hash P needle s ys x (sym (first_filter (is_version entries needle s) y ys ∙ ap (λ b. cond b (Some y) (slice_get (filter (is_version entries needle s) ys) 0)) other) ∙ e) all.1
 ]
-
-none_from : {A : Type 0} (o : Option A) → ((x : A) → o ≡ Some x → ⊥) → o ≡ None
-none_from None h = refl
-none_from (Some x) h = absurd (h x refl)
 
 -- a key that a filter of all keys rules out has no match
 pub denied : (hash : List ℕ → ℕ) (items : List Entry) (p needle : List ℕ) (s : ℕ) (own : Filter) → AllByRecursion (λ y. MayContain own (hash y.key.user_key)) items

@@ -24,14 +24,8 @@ use Rattle.sst_block_core.specs.Encoders.{IsRefusal}
 use Rattle.sstable_blocks.proofs.Layouts.BlockHandles.{end_parts}
 use Rattle.sstable_blocks.proofs.Lists.Ends.{back_in_order}
 use Rattle.sstable_blocks.specs.Writing.{Follows, IsKept, FollowsLast, FrameFits, IsFramedBlock, IsWriteRefusal}
-
-pub joined-push : {X : Type 0} (blocks : List (List X)) (b : List X) → joined (blocks ++ b ∷ []) ≡ joined blocks ++ b
-joined-push [] b = append-nil b
-joined-push (c ∷ cs) b = ap (λ xs. c ++ xs) (joined-push cs b) ∙ sym (append_assoc c (joined cs) b)
-
-pub all_append : {X : Type 0} (P : X → Type 0) (xs ys : List X) → AllByRecursion P xs → AllByRecursion P ys → AllByRecursion P (xs ++ ys)
-all_append P [] ys h k = k
-all_append P (x ∷ xs) ys h k = (h.0, all_append P xs ys h.1 k)
+use Rattle.sst_block_core.specs.ListLaws.{all_append}
+use Rattle.sstable_blocks.specs.RunLaws.{joined_push}
 
 -- the last entry's key is the end key
 pub end_of-last : (b : List Entry) (x : Entry) → 1 ≤ length b → x ≡ get_or b (length b - 1) x → end_key_of b ≡ x.key
@@ -60,17 +54,17 @@ follows_from blocks (x ∷ xs) first s o p behind =
     let same : x ≡ first = cc in
     record {
       some = omega arith;
-      ordered = subst (IsOrdered entries) (sym (joined-push blocks (x ∷ xs))) (ordered_append (joined blocks) x xs o p (subst (FollowsLast blocks) (sym same) behind));
+      ordered = subst (IsOrdered entries) (sym (joined_push blocks (x ∷ xs))) (ordered_append (joined blocks) x xs o p (subst (FollowsLast blocks) (sym same) behind));
     }
 
 pub follows_ordered : (blocks : List (List Entry)) (items : List Entry) → Follows blocks items → IsOrdered entries items
-follows_ordered blocks items follows = back_in_order (item_cmp entries) (joined blocks) items (subst (IsOrdered entries) (joined-push blocks items) follows.ordered)
+follows_ordered blocks items follows = back_in_order (item_cmp entries) (joined blocks) items (subst (IsOrdered entries) (joined_push blocks items) follows.ordered)
 
 pub follows_behind : (blocks : List (List Entry)) (items : List Entry) (first : Entry) → slice_get items 0 ≡ Some first → Follows blocks items → FollowsLast blocks first
 follows_behind blocks [] first s follows = cc
 follows_behind blocks (x ∷ xs) first s follows =
     let same : x ≡ first = cc in
-    subst (FollowsLast blocks) same (behind_last (joined blocks) x xs (subst (IsOrdered entries) (joined-push blocks (x ∷ xs)) follows.ordered))
+    subst (FollowsLast blocks) same (behind_last (joined blocks) x xs (subst (IsOrdered entries) (joined_push blocks (x ∷ xs)) follows.ordered))
 
 -- the last key of two lists is that of the second, if that is not empty
 end_of-append : (xs ys : List Entry) → 1 ≤ length ys → end_key_of (xs ++ ys) ≡ end_key_of ys
@@ -154,7 +148,7 @@ module _ (f : Form) where
       → (1 ≤ f.config.bits_per_key → hashed ≡ b) → IsNotEmpty b → AllByRecursion IsEntry b → IsOrdered entries (joined (blocks ++ b ∷ [])) → IsFramed (block_payload f b) → h ≡ handle_of f next b → end ≡ next + length (block_frame f b) → end < 2 ^ 64
       → IsKept f (blocks ++ b ∷ []) (hs ++ h ∷ []) (hashes ++ key_hashes f.hash64 hashed) end
   kept_push blocks b hs hashes next h end hashed k all some valid ordered framed is at fits =
-      let j = joined-push blocks b in
+      let j = joined_push blocks b in
       let frames = ap length (block_frames-push blocks b) ∙ length-append (block_frames f blocks) (block_frame f b) in
       let start : next ≡ 0 + length (block_frames f blocks) = (let o = k.offset in omega arith) in
       record {

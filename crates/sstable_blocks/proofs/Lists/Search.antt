@@ -1,7 +1,6 @@
 -- A search over the last items of blocks finds the block of the first match.
 use Rattle.std.proofs.Common.{◌≡◌, ◌≢◌, ℕ, ◌+◌, ◌<◌, ◌≤◌, suc, Bool, true, false, cond, ◌&&◌, ltb, List, [], ◌∷◌, ◌++◌, filter, Option, Some, None, refl, arith, sym, ◌∙◌, ap, subst, ◌⊎◌, inl, inr}
 use Rattle.std.proofs.lemmas.Bool.{cases_Bool, cases_lt, leb-true, leb-false, lt-ltb, le-leb}
-use Rattle.std.proofs.lemmas.Bool.Decides.{nat_tests}
 use Rattle.std.proofs.lemmas.Cmp.{upto, nat_list_cmp_total}
 use Rattle.std.proofs.lemmas.List.Sums.{sum_by-cons}
 use Rattle.std.specs.Cmp.{nat_cmp_is}
@@ -18,6 +17,8 @@ use Rattle.sst_block_core.specs.Window.{passes, passes_cmp, is_version, first_ma
 use Rattle.sstable_blocks.specs.Blocks.{joined}
 use Rattle.sstable_blocks.specs.Lookup.{IsEnd, first_in, place_for}
 use Rattle.sstable_blocks.proofs.Lists.Ends.{turned, tail_in_order, back_in_order, block_behind}
+use Rattle.sst_block_core.specs.VersionLaws.{version_passed}
+use Rattle.sst_block_core.specs.ListLaws.{first_filter}
 
 -- a version: a key and a sequence number
 abbrev pair_cmp : List ℕ × ℕ → List ℕ × ℕ → Ordering
@@ -42,12 +43,6 @@ not_behind Equal s n e = elim (cases_lt n s) [
 ]
 not_behind Greater s n e = cc
 
--- what is passed is no version below the bound
-passed_no_version : (o : Ordering) (s n : ℕ) → passes_cmp o (Some s) n ≡ true → (ltb n s && is_eq o) ≡ false
-passed_no_version Less s n e = elim (ltb n s) as (λ b. (b && false) ≡ false) [ true ↦ refl | false ↦ refl ]
-passed_no_version Equal s n e = let most : s ≤ n = leb-true s n e in grind (arith, nat_tests)
-passed_no_version Greater s n e = cc
-
 -- what is not passed is a version below the bound, or has a greater key
 not_passed : (o : Ordering) (s n : ℕ) → passes_cmp o (Some s) n ≡ false → ((ltb n s && is_eq o) ≡ true) ⊎ (o ≡ Greater)
 not_passed Less s n e = cc
@@ -69,9 +64,6 @@ gt_is : (o : Ordering) → is_gt o ≡ true → o ≡ Greater
 gt_is Less e = cc
 gt_is Equal e = cc
 gt_is Greater e = refl
-
-pub first-cons : {X : Type 0} (test : X → Bool) (x : X) (xs : List X) → slice_get (filter test (x ∷ xs)) 0 ≡ cond (test x) (Some x) (slice_get (filter test xs) 0)
-first-cons test x xs = elim (test x) as (λ t. slice_get (cond t (x ∷ filter test xs) (filter test xs)) 0 ≡ cond t (Some x) (slice_get (filter test xs) 0)) [ true ↦ refl | false ↦ refl ]
 
 slice_get-more : {X : Type 0} (x : X) (xs : List X) (n : ℕ) → slice_get (x ∷ xs) (1 + n) ≡ slice_get xs n
 slice_get-more x xs n = ap (λ k. slice_get (x ∷ xs) k) (let e : 1 + n ≡ suc n = omega arith in e)
@@ -114,12 +106,12 @@ module _ {X : Type 0} (kind : Kind X) (needle : List ℕ) (s : ℕ) where
   -- up to a passed item there is no version
   skip : (front : List X) (last : X) (rest : List X) → IsOrdered kind (front ++ last ∷ rest) → pass last ≡ true → slice_get (filter test (front ++ last ∷ rest)) 0 ≡ slice_get (filter test rest) 0
   skip [] last rest h e =
-      first-cons test last rest
-      ∙ ap (λ t. cond t (Some last) (slice_get (filter test rest) 0)) (passed_no_version (slice_cmp nat_cmp (kind.key last) needle) s (kind.seqno last) e)
+      first_filter test last rest
+      ∙ ap (λ t. cond t (Some last) (slice_get (filter test rest) 0)) (version_passed (slice_cmp nat_cmp (kind.key last) needle) s (kind.seqno last) e)
   skip (x ∷ front) last rest h e =
       let here = passed_front x front last rest h e in
-      first-cons test x (front ++ last ∷ rest)
-      ∙ ap (λ t. cond t (Some x) (slice_get (filter test (front ++ last ∷ rest)) 0)) (passed_no_version (slice_cmp nat_cmp (kind.key x) needle) s (kind.seqno x) here)
+      first_filter test x (front ++ last ∷ rest)
+      ∙ ap (λ t. cond t (Some x) (slice_get (filter test (front ++ last ∷ rest)) 0)) (version_passed (slice_cmp nat_cmp (kind.key x) needle) s (kind.seqno x) here)
       ∙ skip front last rest (tail_in_order (item_cmp kind) x (front ++ last ∷ rest) h) e
 
   -- after a greater key there is no version
@@ -127,7 +119,7 @@ module _ {X : Type 0} (kind : Kind X) (needle : List ℕ) (s : ℕ) where
   none_after z [] h g = refl
   none_after z (y ∷ ys) h g =
       let k = greater_after y z h.0 g in
-      first-cons test y ys
+      first_filter test y ys
       ∙ ap (λ t. cond t (Some y) (slice_get (filter test ys) 0)) (greater_no_version (slice_cmp nat_cmp (kind.key y) needle) s (kind.seqno y) k)
       ∙ none_after y ys h.1 k
 
@@ -139,11 +131,11 @@ module _ {X : Type 0} (kind : Kind X) (needle : List ℕ) (s : ℕ) where
         | inl passed ↦ ap (λ t. cond t (Some last) (slice_get (filter test rest) 0)) passed ∙ sym (ap (λ t. cond t (Some last) None) passed)
         | inr greater ↦ ap (λ o. cond (test last) (Some last) o) (none_after last rest h greater)
       ] in
-      first-cons test last rest ∙ behind ∙ sym (first-cons test last [])
+      first_filter test last rest ∙ behind ∙ sym (first_filter test last [])
   stop (x ∷ front) last rest h e =
-      first-cons test x (front ++ last ∷ rest)
+      first_filter test x (front ++ last ∷ rest)
       ∙ ap (λ o. cond (test x) (Some x) o) (stop front last rest (tail_in_order (item_cmp kind) x (front ++ last ∷ rest) h) e)
-      ∙ sym (first-cons test x (front ++ last ∷ []))
+      ∙ sym (first_filter test x (front ++ last ∷ []))
 
   module _ {Y : Type 0} (ends : Kind Y) where
     abbrev end_pass : Y → Bool

@@ -1,8 +1,7 @@
 -- The range of a handle, read from a file.
-use Rattle.std.proofs.Common.{◌≡◌, ◌^◌, IfSome, None, ℕ, ◌+◌, ◌<◌, ◌≤◌, List, ◌++◌, length, take, drop, true, false, ltb, arith, refl, sym, ap, ◌∙◌, Option, Some, Result, Ok, Err, length-append, length-drop, inl, inr}
+use Rattle.std.proofs.Common.{◌≡◌, ◌^◌, IfSome, None, ℕ, ◌+◌, ◌<◌, ◌≤◌, List, ◌++◌, length, take, drop, arith, refl, sym, ap, ◌∙◌, Option, Some, Result, Ok, Err, length-append, length-drop, inl, inr}
 use lib.Seq.{take-append_seam}
 use Rattle.std.proofs.lemmas.Bool.{le-leb, lt-leb, cases_lt}
-use Rattle.std.proofs.lemmas.Bool.Decides.{nat_tests}
 use Rattle.sst_base.specs.BlockHandle.{HandleParts}
 use Rattle.sst_base.specs.Header.{bytes_at}
 use Rattle.sst_base.specs.HeaderLaws.{bytes_at_takes}
@@ -11,18 +10,13 @@ use Rattle.sst_base.specs.declared.error.Error.{Error}
 use Rattle.sst_base.specs.declared.error.Error.TheVariants.{Io, Truncated, Memory, BadHandle}
 use Rattle.sstable_blocks.specs.RunReading.{range_at}
 use Rattle.sstable_blocks.specs.Sources.{IsRangeRead, IsRangeRefused}
-
-not_less : (a b : ℕ) → b ≤ a → ltb a b ≡ false
-not_less a b h = grind (arith, nat_tests)
-
-is_less : (a b : ℕ) → a < b → ltb a b ≡ true
-is_less a b h = grind (arith, nat_tests)
+use Rattle.sst_base.specs.TestLaws.{lt_test, ge_test}
 
 -- bytes that cannot be read have ended
 only_io : (n : ℕ) (bytes : List ℕ) (e : Error) → bytes_at n bytes ≡ Err e → e ≡ Io
 only_io n bytes e read = elim (cases_lt (length bytes) n) [
-  | inl less ↦ (let short : bytes_at n bytes ≡ Err Io = rw (is_less _ _ less) refl in cc (short, read))
-  | inr enough ↦ absurd (let whole : bytes_at n bytes ≡ Ok (take n bytes, drop n bytes) = rw (not_less _ _ enough) refl in cc (whole, read))
+  | inl less ↦ (let short : bytes_at n bytes ≡ Err Io = rw (lt_test _ _ less) refl in cc (short, read))
+  | inr enough ↦ absurd (let whole : bytes_at n bytes ≡ Ok (take n bytes, drop n bytes) = rw (ge_test _ _ enough) refl in cc (whole, read))
 ]
 
 module _ (all : List ℕ) (h : HandleParts) where
@@ -50,7 +44,7 @@ module _ (all : List ℕ) (h : HandleParts) where
   short_outside : bytes_at h.size (drop h.offset all) ≡ Err Io → (range_at all h ≡ Err BadHandle) × (0 < h.size)
   short_outside e = elim (cases_lt (length (drop h.offset all)) h.size) [
     | inl less ↦ (outside (let d = length-drop h.offset all in omega arith), omega arith)
-    | inr enough ↦ absurd (let whole : bytes_at h.size (drop h.offset all) ≡ Ok (take h.size (drop h.offset all), drop h.size (drop h.offset all)) = rw (not_less _ _ enough) refl in cc (whole, e))
+    | inr enough ↦ absurd (let whole : bytes_at h.size (drop h.offset all) ≡ Ok (take h.size (drop h.offset all), drop h.size (drop h.offset all)) = rw (ge_test _ _ enough) refl in cc (whole, e))
   ]
 
   -- what a reader that was moved to the offset gives

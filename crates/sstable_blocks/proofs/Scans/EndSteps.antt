@@ -9,11 +9,9 @@ use Rattle.sstable_blocks.specs.BlockReading.{Reading, AreBlocks, AllAdmitted, O
 use Rattle.sstable_blocks.specs.Ends.{AreEnds, Ends, GivesNext, IsFewer, IsReady, TakesNear, hi_at, index_at, lo_at, most_left, reads_between, reads_from, reads_left}
 use Rattle.sstable_blocks.specs.Scans.{reads_of}
 use Rattle.sst_base.specs.declared.error.Error.{Error}
+use Rattle.sst_block_core.specs.ListLaws.{push_reverse, all_reverse}
 
 -- ---- lists seen_from from an end
-push_reverse : {X : Type 0} (x : X) (xs : List X) → reverse (x ∷ xs) ≡ reverse xs ++ x ∷ []
-push_reverse x xs = reverse-append (x ∷ []) xs
-
 reverse_map : {X Y : Type 0} (f : X → Y) (xs : List X) → reverse (map f xs) ≡ map f (reverse xs)
 reverse_map f [] = refl
 reverse_map f (x ∷ xs) =
@@ -30,14 +28,6 @@ seen_twice false xs = refl
 seen_length : {X : Type 0} (b : Bool) (xs : List X) → length (seen_from b xs) ≡ length xs
 seen_length true xs = length-reverse xs
 seen_length false xs = refl
-
-all_append : {X : Type 0} (P : X → Type 0) (xs ys : List X) → AllByRecursion P xs → AllByRecursion P ys → AllByRecursion P (xs ++ ys)
-all_append P [] ys a b = b
-all_append P (x ∷ xs) ys a b = (a.0, all_append P xs ys a.1 b)
-
-all_reverse : {X : Type 0} (P : X → Type 0) (xs : List X) → AllByRecursion P xs → AllByRecursion P (reverse xs)
-all_reverse P [] a = a
-all_reverse P (x ∷ xs) a = subst (AllByRecursion P) (sym (push_reverse x xs)) (all_append P (reverse xs) (x ∷ []) (all_reverse P xs a.1) (a.0, tt))
 
 all_seen : {X : Type 0} (b : Bool) (P : X → Type 0) (xs : List X) → AllByRecursion P xs → AllByRecursion P (seen_from b xs)
 all_seen true P xs a = all_reverse P xs a

@@ -70,7 +70,11 @@ pub fn join_ranges(
         (λ key. key ≡ optional_range payload.now prefix.now ++ range_bytes payload.now rest.now) }
 {
     match prefix {
-        Some(prefix) => Slice::joined(alloc, payload.as_slice(), prefix, rest),
+        Some(prefix) => {
+            let (_, left) = payload.as_slice().split_at(prefix.0);
+            let (_, right) = payload.as_slice().split_at(rest.0);
+            Slice::fused_fronts(alloc, left, prefix.1 - prefix.0, right, rest.1 - rest.0)
+        }
         None => payload.part(rest.0..rest.1),
     }
 }

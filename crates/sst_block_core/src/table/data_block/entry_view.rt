@@ -1,5 +1,5 @@
 //! Entries that borrow the bytes of their block, and the iterator over them.
-ghost use Rattle.std.specs.Prelude.{◌≡◌, ◌↔◌, ◌++◌, IfOk, IfSome, IsOkUnless, IsSome, IsTrue, length, refl, ◌≤◌};
+ghost use Rattle.std.specs.Prelude.{◌≡◌, ◌↔◌, ◌++◌, IfOk, IfSome, IsOkUnless, IsSome, IsTrue, length, refl, take, ◌≤◌};
 ghost use Rattle.std.specs.Ordering.{nat_cmp};
 ghost use Rattle.std.specs.Cmp.Lexicographic.{slice_cmp};
 ghost use Rattle.std.specs.Iterator.{YieldsFirst, YieldsLast, item_count};
@@ -7,14 +7,13 @@ ghost use Rattle.sst_base.specs.Entry.{IsEntry};
 ghost use Rattle.sst_base.specs.SharedPrefix.{shared_prefix_length};
 ghost use Rattle.sst_base.specs.ValueType.{IsTombstone};
 ghost use Rattle.sst_block_core.specs.Entries.{entries, entry_with};
-ghost use Rattle.sst_block_core.specs.Found.{IsOptionalRange, optional_range};
+ghost use Rattle.sst_block_core.specs.Found.{IsOptionalRange, IsRange, optional_range, range_bytes};
 ghost use Rattle.sst_block_core.specs.Kind.{item_cmp};
 ghost use Rattle.sst_block_core.specs.Window.{items_left};
 ghost use Rattle.sst_block_core.specs.ParsedEntry.{entry_of, IsParsedEntry};
 ghost use Rattle.sst_block_core.specs.Tombstones.{is_tombstone};
 
 use crate::table::block::key_parts::{KeyParts, compare_parts, hash_parts, shared_len};
-use crate::table::block::key_ranges::bytes_of;
 use crate::table::data_block::block_ref::DataBlockRef;
 use crate::table::data_block::iter::Iter;
 use crate::table::data_block::parsed_item::DataBlockParsedItem;
@@ -37,52 +36,83 @@ const MAX_VALUE_LEN: usize = 4_294_967_295;
 /// memory. Clauses see the entry.
 #[derive(Drop)]
 pub struct EntryView<'a> {
-    // The bytes that the key shares with the head of its restart interval, none where it is held
-    // whole.
+    // Begins with the bytes that the key shares with the head of its restart interval, none where it
+    // is held whole. Here and below, of an entry of a block, what follows in the payload is lent too:
+    // a few bytes are copied faster where more follow.
     prefix: &'a [u8],
-    // The key's own bytes.
+    // Begins with the key's own bytes.
     rest: &'a [u8],
-    // The value; of an entry of a block, empty for a tombstone.
+    // Begins with the value; of an entry of a block, empty for a tombstone.
     value: &'a [u8],
     seqno: SeqNo,
     value_type: TypeWord,
+    prefix_len: u16,
+    rest_len: u16,
+    value_len: u32,
 }
 
 impl<'a> Model for EntryView<'a> {
-    ghost use Rattle.std.specs.Prelude.{◌++◌};
+    ghost use Rattle.std.specs.Prelude.{◌++◌, ◌≤◌, length, take};
     ghost use Rattle.sst_base.specs.Entry.{Entry, IsEntry};
 
     ghost Value = { Entry };
 
     ghost view = { λ e. record {
       key = record {
-        user_key = e.prefix.now ++ e.rest.now;
+        user_key = take e.prefix_len e.prefix.now ++ take e.rest_len e.rest.now;
         seqno = e.seqno;
         value_type = e.value_type;
       };
-      value = e.value.now;
+      value = take e.value_len e.value.now;
     } };
 
-    ghost invariant = { λ e. IsEntry (record {
+    ghost invariant = { λ e. (e.prefix_len ≤ length e.prefix.now)
+      × (e.rest_len ≤ length e.rest.now)
+      × (e.value_len ≤ length e.value.now)
+      × IsEntry (record {
       key = record {
-        user_key = e.prefix.now ++ e.rest.now;
+        user_key = take e.prefix_len e.prefix.now ++ take e.rest_len e.rest.now;
         seqno = e.seqno;
         value_type = e.value_type;
       };
-      value = e.value.now;
+      value = take e.value_len e.value.now;
     }) };
 }
 
-// The bytes of a range, none where there is no range.
+// The bytes from the start of a range on, and the length of the range.
 #[inline(always)]
-fn optional_bytes<'a>(payload: &'a [u8], range: &Option<SliceIndexes>) -> &'a [u8]
+fn from_range<'a>(payload: &'a [u8], range: &SliceIndexes) -> (&'a [u8], usize)
+    requires { IsRange payload.now range.now }
+    ensures bytes { take result.1 result.0.now ≡ range_bytes payload.now range.now }
+    ensures len { result.1 ≡ length (range_bytes payload.now range.now) }
+    ensures inside { result.1 ≤ length result.0.now }
+{
+    let (_, from_start) = payload.split_at(range.0);
+    (from_start, range.1 - range.0)
+}
+
+// The same, and no byte where there is no range.
+#[inline(always)]
+fn from_optional<'a>(payload: &'a [u8], range: &Option<SliceIndexes>) -> (&'a [u8], usize)
     requires { IsOptionalRange payload.now range.now }
-    ensures { result.now ≡ optional_range payload.now range.now }
+    ensures bytes { take result.1 result.0.now ≡ optional_range payload.now range.now }
+    ensures len { result.1 ≡ length (optional_range payload.now range.now) }
+    ensures inside { result.1 ≤ length result.0.now }
 {
     match range {
-        Some(range) => bytes_of(payload, range),
-        None => &[],
+        Some(range) => from_range(payload, range),
+        None => (payload, 0),
     }
+}
+
+// The first bytes of a byte string.
+#[inline(always)]
+fn front_of(bytes: &[u8], len: usize) -> &[u8]
+    requires { len ≤ length bytes.now }
+    ensures { result.now ≡ take len bytes.now }
+{
+    let (front, _) = bytes.split_at(len);
+    front
 }
 
 impl<'a> EntryView<'a> {
@@ -92,12 +122,18 @@ impl<'a> EntryView<'a> {
         requires { IsParsedEntry payload.now item }
         ensures { result ≡ entry_of payload.now item }
     {
+        let (prefix, prefix_len) = from_optional(payload, &item.prefix);
+        let (rest, rest_len) = from_range(payload, &item.key);
+        let (value, value_len) = from_optional(payload, &item.value);
         EntryView {
-            prefix: optional_bytes(payload, &item.prefix),
-            rest: bytes_of(payload, &item.key),
-            value: optional_bytes(payload, &item.value),
+            prefix,
+            rest,
+            value,
             seqno: item.seqno,
             value_type: TypeWord::new(item.value_type),
+            prefix_len: prefix_len as u16,
+            rest_len: rest_len as u16,
+            value_len: value_len as u32,
         }
     }
 
@@ -123,6 +159,9 @@ impl<'a> EntryView<'a> {
             value,
             seqno,
             value_type: TypeWord::new(value_type),
+            prefix_len: 0,
+            rest_len: user_key.len() as u16,
+            value_len: value.len() as u32,
         })
     }
 
@@ -132,12 +171,17 @@ impl<'a> EntryView<'a> {
         ensures { result ≡ entry.now }
     {
         let key = entry.key();
+        let user_key = key.user_key().as_slice();
+        let value = entry.value().as_slice();
         EntryView {
             prefix: &[],
-            rest: key.user_key().as_slice(),
-            value: entry.value().as_slice(),
+            rest: user_key,
+            value,
             seqno: key.seqno(),
             value_type: TypeWord::new(key.value_type()),
+            prefix_len: 0,
+            rest_len: user_key.len() as u16,
+            value_len: value.len() as u32,
         }
     }
 
@@ -152,6 +196,9 @@ impl<'a> EntryView<'a> {
             value: self.value,
             seqno: self.seqno,
             value_type: self.value_type.again(),
+            prefix_len: self.prefix_len,
+            rest_len: self.rest_len,
+            value_len: self.value_len,
         }
     }
 
@@ -189,7 +236,10 @@ impl<'a> EntryView<'a> {
     {
         // A sequence number has 64 bits.
         let _range = self.seqno;
-        (self.prefix, self.rest)
+        (
+            front_of(self.prefix, self.prefix_len as usize),
+            front_of(self.rest, self.rest_len as usize),
+        )
     }
 
     /// Returns the length of its user key in bytes, 1 to 65535.
@@ -198,7 +248,7 @@ impl<'a> EntryView<'a> {
         ensures value { result ≡ length self.now.key.user_key }
         ensures limit { result ≤ 65535 }
     {
-        self.prefix.len() + self.rest.len()
+        self.prefix_len as usize + self.rest_len as usize
     }
 
     /// Returns the length of the longest prefix that its user key shares with that of another
@@ -216,11 +266,21 @@ impl<'a> EntryView<'a> {
     /// # Errors
     ///
     /// `Error::Memory` if an allocation fails.
+    #[inline(always)]
     pub fn to_user_key(&self, alloc: Global) -> Result<UserKey>
         ensures ok { IfOk result (λ user_key. user_key ≡ self.now.key.user_key) }
         ensures memory { IsOkUnless result Error.Memory }
     {
-        Slice::fused(alloc, self.prefix, self.rest)
+        let (prefix_len, rest_len) = (self.prefix_len as usize, self.rest_len as usize);
+        let made = if prefix_len == 0 {
+            Slice::front(alloc, self.rest, rest_len)
+        } else {
+            Slice::fused_fronts(alloc, self.prefix, prefix_len, self.rest, rest_len)
+        };
+        match made {
+            Ok(user_key) => Ok(user_key),
+            Err(_) => Err(Error::Memory),
+        }
     }
 
     /// Returns its value, which is empty for a tombstone of a block.
@@ -228,14 +288,15 @@ impl<'a> EntryView<'a> {
     pub fn value(&self) -> &'a [u8]
         ensures { result.now ≡ self.now.value }
     {
-        self.value
+        front_of(self.value, self.value_len as usize)
     }
 
     /// Compares its user key with a needle, without joining prefix and rest.
     pub fn compare_key(&self, needle: &[u8]) -> Ordering
         ensures { result ≡ slice_cmp nat_cmp self.now.key.user_key needle.now }
     {
-        compare_prefixed_slice(self.prefix, self.rest, needle)
+        let (prefix, rest) = self.key_parts();
+        compare_prefixed_slice(prefix, rest, needle)
     }
 
     /// Compares its user key with that of another entry, which may be of another block. Nothing is
@@ -279,13 +340,13 @@ impl<'a> EntryView<'a> {
         ensures memory { IsOkUnless result Error.Memory }
     {
         // (a `?` would copy what it passes on)
-        let user_key = match Slice::fused(alloc, self.prefix, self.rest) {
+        let user_key = match self.to_user_key(alloc) {
             Ok(user_key) => user_key,
             Err(error) => return Err(error),
         };
-        let value = match Slice::new(alloc, self.value) {
+        let value = match Slice::front(alloc, self.value, self.value_len as usize) {
             Ok(value) => value,
-            Err(error) => return Err(error),
+            Err(_) => return Err(Error::Memory),
         };
         let value_type = self.value_type.get();
         Ok(InternalValue::from_components(user_key, value, self.seqno, value_type))

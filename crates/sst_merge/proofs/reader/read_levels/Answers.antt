@@ -1,15 +1,13 @@
-use Rattle.std.proofs.Common.{◌≡◌, ℕ, ◌+◌, ◌<◌, ◌≤◌, List, length, map, get_or, Option, Some, None, arith, refl, ◌∙◌, ap, sym, subst, inl, inr}
+use Rattle.std.proofs.Common.{◌≡◌, ◌+◌, ◌<◌, ◌≤◌, length, Some, None, arith, ◌∙◌, ap, sym, subst, inl, inr}
 use Rattle.std.specs.Prelude.{IfSome}
 use Rattle.std.proofs.lemmas.Result.{err_from_is_err_and}
 use Rattle.sst_base.specs.Counted.{CountsBetween}
-use Rattle.sst_base.specs.Entry.{Entry}
 use Rattle.sst_block_core.specs.Entries.{entries}
 use Rattle.sst_block_core.specs.Window.{first_match}
 use Rattle.sst_merge.specs.CountLaws.{count_next, within_front}
-use Rattle.sst_merge.specs.Picks.{list_at}
-use Rattle.sst_merge.specs.ReaderLaws.{asked_here, asked_least, behind_more, kept_more, known_count, level_found, match_at, missed_more, none_found, not_some, later, one_fails, read_is_merge, same_here}
-use Rattle.sst_merge.specs.Sources.{all_known}
+use Rattle.sst_merge.specs.ReaderLaws.{asked_here, asked_least, behind_more, kept_more, known_count, level_found, match_at, missed_more, none_found, later, one_fails, read_is_merge, same_here}
 use Rattle.sst_merge.proofs.reader.read_levels.Goals as goal
+use Rattle.sst_base.specs.TestLaws.{none_from}
 
 pub returns-in_err-found-clause-kept : goal.returns-in_err-found-clause-kept
 returns-in_err-found-clause-kept g c = kept_more g.R.Reader.list c.args.needle.now c.args.seqno c.loop-i.readers c.loop-i.i c.index-readers-i.result c.get.new.self _ c.loop-i.invariant.kept c.index-readers-i.is
@@ -94,7 +92,7 @@ loop-i-preserved g c =
       missed = λ lists known.
           let is = match_at g.R.Reader.list c.args.needle.now c.args.seqno c.args.readers.now lists c.loop-i.i c.index-readers-i.result c.in_ok-found.field-0 known within same
           (subst (λ x. IfSome (g.R.Reader.list x) (λ all. c.in_ok-found.field-0 ≡ first_match entries c.args.needle.now c.args.seqno all)) (sym c.index-readers-i.is) c.in_ok-found.ensures.found) in
-          missed_more c.args.needle.now c.args.seqno lists c.loop-i.i (c.loop-i.invariant.missed lists known) (sym is ∙ not_some _ c.in_default.not-Some);
+          missed_more c.args.needle.now c.args.seqno lists c.loop-i.i (c.loop-i.invariant.missed lists known) (sym is ∙ none_from _ c.in_default.not-Some);
     }
 
 pub returns-clause-found : goal.returns-clause-found

@@ -1,11 +1,12 @@
 use Rattle.std.proofs.Common.{Some, map, ◌∙◌, ap, sym, subst}
 use Rattle.sst_base.specs.Entry.{plain}
-use Rattle.sst_examples.proofs.Listed.{table_run, within_all}
+use Rattle.sst_examples.proofs.Listed.{table_run}
 use Rattle.sst_examples.specs.Tables.{table_hashes}
 use Rattle.sst_examples.proofs.store.tables.scan_of.Goals as goal
 use Rattle.sstable_blocks.specs.Blocks.{joined}
 use Rattle.sstable_blocks.specs.Scans.{within}
 use Rattle.sstable_blocks.specs.Sound.{IsSound}
+use Rattle.sst_merge.specs.TableReads.{within_all}
 
 pub trusted-requires : goal.trusted-requires
 trusted-requires c =

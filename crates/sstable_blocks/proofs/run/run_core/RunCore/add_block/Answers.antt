@@ -8,13 +8,14 @@ use Rattle.sst_block_core.specs.Entries.{entries}
 use Rattle.sst_block_core.specs.Kind.{IsOrdered, item_cmp}
 use Rattle.sstable_blocks.proofs.Lists.Ends.{back_in_order}
 use Rattle.sstable_blocks.proofs.Lists.Mapped.{last_mapped}
-use Rattle.sstable_blocks.proofs.Layouts.Kept.{joined-push, kept_push, end_of-last, handle_is}
+use Rattle.sstable_blocks.proofs.Layouts.Kept.{kept_push, end_of-last, handle_is}
 use Rattle.sstable_blocks.proofs.run.run_core.RunCore.add_block.Goals as goal
+use Rattle.sstable_blocks.specs.RunLaws.{joined_push}
 
 pub framed_block-requires-clause-ordered : goal.framed_block-requires-clause-ordered
 framed_block-requires-clause-ordered g c =
     let items = map g.T.AsEntry.entry c.args.items.now in
-    back_in_order (item_cmp entries) (joined c.args.self.now.blocks) items (subst (IsOrdered entries) (joined-push c.args.self.now.blocks items) c.requires.follows.ordered)
+    back_in_order (item_cmp entries) (joined c.args.self.now.blocks) items (subst (IsOrdered entries) (joined_push c.args.self.now.blocks items) c.requires.follows.ordered)
 
 pub invariant_of-self-2 : goal.invariant_of-self-2
 invariant_of-self-2 g c =
