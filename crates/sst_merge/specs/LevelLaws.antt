@@ -21,8 +21,8 @@ use Rattle.sst_merge.specs.Merge.{merged, lesser, least_match, entry_cmp}
 use Rattle.sst_merge.specs.ReadLaws.{merged_match}
 use Rattle.sst_block_core.specs.Tombstones.{is_tombstone}
 use Rattle.sst_merge.specs.Snapshot.{seen}
-use Rattle.sst_merge.specs.SnapshotReads.{first, first_hit, first_miss}
 use Rattle.sst_base.specs.TestLaws.{and_parts, eq_is}
+use Rattle.sst_merge.specs.ListLaws.{first, first_hit, first_miss}
 
 -- what holds of all holds of the first that passes
 first_has : (test : Entry → Bool) (P : Entry → Type 0) (xs : List Entry) → AllByRecursion P xs → IfSome (first test xs) (λ e. P e × (test e ≡ true))

@@ -1,3 +1,4 @@
+pub mod ListLaws
 pub mod Compact
 pub mod CompactLaws
 pub mod Counts

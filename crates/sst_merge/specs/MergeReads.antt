@@ -1,5 +1,5 @@
 -- The first match of a merge is the lesser of the first matches of its inputs.
-use Rattle.std.proofs.Common.{◌≡◌, ◌≢◌, Bool, true, false, cond, List, [], ◌∷◌, Option, Some, None, refl, sym, ap, ◌∙◌, inl, inr, filter, slice_get}
+use Rattle.std.proofs.Common.{◌≡◌, ◌≢◌, Bool, true, false, cond, List, [], ◌∷◌, Option, Some, None, refl, sym, ap, ◌∙◌, inl, inr}
 use Rattle.std.proofs.lemmas.Bool.{cases_Bool}
 use Rattle.std.proofs.lemmas.Cmp.{tied_itself}
 use Rattle.std.specs.Cmp.{IsTotalOrder}
@@ -8,7 +8,8 @@ use Rattle.std.specs.declared.cmp.Ordering.{Ordering}
 use Rattle.std.specs.declared.cmp.Ordering.TheVariants.{Less, Equal, Greater}
 use Rattle.sst_base.specs.Order.{IsInOrder}
 use Rattle.sst_merge.specs.Merge.{merge, merge_after, lesser}
-use Rattle.sst_base.specs.TestLaws.{lt_is, not_lt, is_not_lt}
+use Rattle.sst_base.specs.TestLaws.{lt_is, not_lt, is_not_lt, some_is}
+use Rattle.sst_merge.specs.ListLaws.{order_tail, first, first_hit, first_miss}
 
 module _ {X : Type 0} (cmp : X → X → Ordering) (order : IsTotalOrder cmp) where
   ge_by : (z y x : X) (o : Ordering) → cmp y x ≡ o → cmp z y ≢ Less → o ≢ Less → cmp z x ≢ Less
@@ -19,10 +20,6 @@ module _ {X : Type 0} (cmp : X → X → Ordering) (order : IsTotalOrder cmp) wh
   -- what is not before what is not before x is not before x
   pub ge_trans : (z y x : X) → cmp z y ≢ Less → cmp y x ≢ Less → cmp z x ≢ Less
   ge_trans z y x a b = ge_by z y x (cmp y x) refl a b
-
-  pub order_tail : (x : X) (xs : List X) → IsInOrder cmp (x ∷ xs) → IsInOrder cmp xs
-  order_tail x [] h = tt
-  order_tail x (y ∷ ys) h = h.1
 
   pick_second : (a : Option X) (y : X) → ((z : X) → a ≡ Some z → is_lt (cmp y z) ≡ true) → lesser cmp a (Some y) ≡ Some y
   pick_second None y h = refl
@@ -37,64 +34,48 @@ module _ {X : Type 0} (cmp : X → X → Ordering) (order : IsTotalOrder cmp) wh
   pick_only (Some a) = refl
 
   module _ (test : X → Bool) where
-    -- the first item that passes
-    abbrev pub first : List X → Option X
-    first xs = slice_get (filter test xs) 0
-
-    first_more : (x : X) (xs : List X) → first (x ∷ xs) ≡ cond (test x) (Some x) (first xs)
-    first_more x xs = elim (test x) as (λ t. slice_get (cond t (x ∷ filter test xs) (filter test xs)) 0 ≡ cond t (Some x) (slice_get (filter test xs) 0)) [ true ↦ refl | false ↦ refl ]
-
-    first_hit : (x : X) (xs : List X) → test x ≡ true → first (x ∷ xs) ≡ Some x
-    first_hit x xs h = first_more x xs ∙ ap (λ b. cond b (Some x) (first xs)) h
-
-    first_miss : (x : X) (xs : List X) → test x ≡ false → first (x ∷ xs) ≡ first xs
-    first_miss x xs h = first_more x xs ∙ ap (λ b. cond b (Some x) (first xs)) h
-
-    some_same : (x z : X) → ◌≡◌ {A = Option X} (Some x) (Some z) → x ≡ z
-    some_same x z e = cc
-
     -- the first match after x is not before x
-    above : (x : X) (xs : List X) (z : X) → IsInOrder cmp (x ∷ xs) → first xs ≡ Some z → cmp z x ≢ Less
+    above : (x : X) (xs : List X) (z : X) → IsInOrder cmp (x ∷ xs) → first test xs ≡ Some z → cmp z x ≢ Less
     above x [] z h e = absurd (cc)
     above x (y ∷ ys) z h e = elim (cases_Bool (test y)) [
-      | inl hit ↦ (let same : y ≡ z = some_same y z (sym (first_hit y ys hit) ∙ e) in λ l. h.0 (ap (λ w. cmp w x) same ∙ l))
-      | inr miss ↦ ge_trans z y x (above y ys z h.1 (sym (first_miss y ys miss) ∙ e)) h.0
+      | inl hit ↦ (let same : y ≡ z = some_is y z (sym (first_hit test y ys hit) ∙ e) in λ l. h.0 (ap (λ w. cmp w x) same ∙ l))
+      | inr miss ↦ ge_trans z y x (above y ys z h.1 (sym (first_miss test y ys miss) ∙ e)) h.0
     ]
 
     -- nor is that from x on
-    above_or_at : (x : X) (xs : List X) (z : X) → IsInOrder cmp (x ∷ xs) → first (x ∷ xs) ≡ Some z → cmp z x ≢ Less
+    above_or_at : (x : X) (xs : List X) (z : X) → IsInOrder cmp (x ∷ xs) → first test (x ∷ xs) ≡ Some z → cmp z x ≢ Less
     above_or_at x xs z h e = elim (cases_Bool (test x)) [
-      | inl hit ↦ (let same : x ≡ z = some_same x z (sym (first_hit x xs hit) ∙ e) in λ l. absurd (let f : Equal ≡ Less = sym (tied_itself order x) ∙ ap (λ w. cmp w x) same ∙ l in cc))
-      | inr miss ↦ above x xs z h (sym (first_miss x xs miss) ∙ e)
+      | inl hit ↦ (let same : x ≡ z = some_is x z (sym (first_hit test x xs hit) ∙ e) in λ l. absurd (let f : Equal ≡ Less = sym (tied_itself order x) ∙ ap (λ w. cmp w x) same ∙ l in cc))
+      | inr miss ↦ above x xs z h (sym (first_miss test x xs miss) ∙ e)
     ]
 
     at : (x : X) (xs : List X) (after : List X → List X) → IsInOrder cmp (x ∷ xs)
-        → ((ys : List X) → IsInOrder cmp ys → first (after ys) ≡ lesser cmp (first xs) (first ys))
-        → (ys : List X) → IsInOrder cmp ys → first (merge_after cmp x xs after ys) ≡ lesser cmp (first (x ∷ xs)) (first ys)
-    at x xs after up go [] h = sym (pick_only (first (x ∷ xs)))
+        → ((ys : List X) → IsInOrder cmp ys → first test (after ys) ≡ lesser cmp (first test xs) (first test ys))
+        → (ys : List X) → IsInOrder cmp ys → first test (merge_after cmp x xs after ys) ≡ lesser cmp (first test (x ∷ xs)) (first test ys)
+    at x xs after up go [] h = sym (pick_only (first test (x ∷ xs)))
     at x xs after up go (y ∷ ys) h = elim (cases_Bool (is_lt (cmp y x))) [
       | inl second ↦ (
           let rest = merge_after cmp x xs after ys in
           let here : merge_after cmp x xs after (y ∷ ys) ≡ y ∷ rest = ap (λ b. cond b (y ∷ rest) (x ∷ after (y ∷ ys))) second in
           ap first here ∙ elim (cases_Bool (test y)) [
-            | inl hit ↦ first_hit y rest hit ∙ sym (ap (lesser cmp (first (x ∷ xs))) (first_hit y ys hit)
-                ∙ pick_second (first (x ∷ xs)) y (λ z e. elim (cases_Bool (is_lt (cmp y z))) [
+            | inl hit ↦ first_hit test y rest hit ∙ sym (ap (lesser cmp (first test (x ∷ xs))) (first_hit test y ys hit)
+                ∙ pick_second (first test (x ∷ xs)) y (λ z e. elim (cases_Bool (is_lt (cmp y z))) [
                   | inl less ↦ less
                   | inr more ↦ absurd (ge_trans y z x (not_lt (cmp y z) more) (above_or_at x xs z up e) (lt_is (cmp y x) second))
                 ]))
-            | inr miss ↦ first_miss y rest miss ∙ at x xs after up go ys (order_tail y ys h) ∙ ap (lesser cmp (first (x ∷ xs))) (sym (first_miss y ys miss))
+            | inr miss ↦ first_miss test y rest miss ∙ at x xs after up go ys (order_tail cmp y ys h) ∙ ap (lesser cmp (first test (x ∷ xs))) (sym (first_miss test y ys miss))
           ])
       | inr front ↦ (
           let rest = merge_after cmp x xs after ys in
           let here : merge_after cmp x xs after (y ∷ ys) ≡ x ∷ after (y ∷ ys) = ap (λ b. cond b (y ∷ rest) (x ∷ after (y ∷ ys))) front in
           ap first here ∙ elim (cases_Bool (test x)) [
-            | inl hit ↦ first_hit x (after (y ∷ ys)) hit ∙ sym (ap (λ a. lesser cmp a (first (y ∷ ys))) (first_hit x xs hit)
-                ∙ pick_first (first (y ∷ ys)) x (λ z e. is_not_lt (cmp z x) (ge_trans z y x (above_or_at y ys z h e) (not_lt (cmp y x) front))))
-            | inr miss ↦ first_miss x (after (y ∷ ys)) miss ∙ go (y ∷ ys) h ∙ ap (λ a. lesser cmp a (first (y ∷ ys))) (sym (first_miss x xs miss))
+            | inl hit ↦ first_hit test x (after (y ∷ ys)) hit ∙ sym (ap (λ a. lesser cmp a (first test (y ∷ ys))) (first_hit test x xs hit)
+                ∙ pick_first (first test (y ∷ ys)) x (λ z e. is_not_lt (cmp z x) (ge_trans z y x (above_or_at y ys z h e) (not_lt (cmp y x) front))))
+            | inr miss ↦ first_miss test x (after (y ∷ ys)) miss ∙ go (y ∷ ys) h ∙ ap (λ a. lesser cmp a (first test (y ∷ ys))) (sym (first_miss test x xs miss))
           ])
     ]
 
     -- the first match of a merge of ordered lists: the lesser of the first matches of the two, and of equal ones that of the first
-    pub merge-first_match : (xs ys : List X) → IsInOrder cmp xs → IsInOrder cmp ys → first (merge cmp xs ys) ≡ lesser cmp (first xs) (first ys)
+    pub merge-first_match : (xs ys : List X) → IsInOrder cmp xs → IsInOrder cmp ys → first test (merge cmp xs ys) ≡ lesser cmp (first test xs) (first test ys)
     merge-first_match [] ys up h = refl
-    merge-first_match (x ∷ xs) ys up h = at x xs (merge cmp xs) up (λ zs g. merge-first_match xs zs (order_tail x xs up) g) ys h
+    merge-first_match (x ∷ xs) ys up h = at x xs (merge cmp xs) up (λ zs g. merge-first_match xs zs (order_tail cmp x xs up) g) ys h

@@ -13,16 +13,9 @@ use Rattle.sst_merge.specs.Merge.{merge, merged, entry_cmp}
 use Rattle.sst_merge.specs.MergeLaws.{merge-first}
 use Rattle.sst_merge.specs.MergeReads.{ge_trans}
 use Rattle.sst_base.specs.TestLaws.{is_not_lt}
+use Rattle.sst_merge.specs.ListLaws.{order_tail, order_rest}
 
 module _ {X : Type 0} (cmp : X → X → Ordering) (order : IsTotalOrder cmp) where
-  tail_of : (x : X) (xs : List X) → IsInOrder cmp (x ∷ xs) → IsInOrder cmp xs
-  tail_of x [] h = tt
-  tail_of x (y ∷ ys) h = h.1
-
-  rest_of : (xs ys : List X) → IsInOrder cmp (xs ++ ys) → IsInOrder cmp ys
-  rest_of [] ys h = h
-  rest_of (x ∷ xs) ys h = rest_of xs ys (tail_of x (xs ++ ys) h)
-
   -- no later item sorts before the first
   not_before : (x : X) (xs : List X) (y : X) (ys : List X) → IsInOrder cmp (x ∷ (xs ++ y ∷ ys)) → cmp y x ≢ Less
   not_before x [] y ys h = h.0
@@ -34,11 +27,11 @@ module _ {X : Type 0} (cmp : X → X → Ordering) (order : IsTotalOrder cmp) wh
   merge_parts (x ∷ xs) [] h = sym (append-nil (x ∷ xs))
   merge_parts (x ∷ xs) (y ∷ ys) h =
       merge-first cmp x y xs ys (is_not_lt (cmp y x) (not_before x xs y ys h))
-      ∙ ap (λ zs. x ∷ zs) (merge_parts xs (y ∷ ys) (tail_of x (xs ++ y ∷ ys) h))
+      ∙ ap (λ zs. x ∷ zs) (merge_parts xs (y ∷ ys) (order_tail cmp x (xs ++ y ∷ ys) h))
 
   merged_parts : (xss : List (List X)) → IsInOrder cmp (joined xss) → merged cmp xss ≡ joined xss
   merged_parts [] h = refl
-  merged_parts (xs ∷ xss) h = ap (merge cmp xs) (merged_parts xss (rest_of xs (joined xss) h)) ∙ merge_parts xs (joined xss) h
+  merged_parts (xs ∷ xss) h = ap (merge cmp xs) (merged_parts xss (order_rest cmp xs (joined xss) h)) ∙ merge_parts xs (joined xss) h
 
 -- the merge of the parts of an ordered list is the list
 pub parts_whole : (lists : List (List Entry)) → IsOrdered entries (joined lists) → merged entry_cmp lists ≡ joined lists

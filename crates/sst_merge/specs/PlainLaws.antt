@@ -13,7 +13,8 @@ use Rattle.sst_base.specs.Order.{IsInOrder}
 use Rattle.sst_block_core.specs.VersionLaws.{keys_equal}
 use Rattle.sst_block_core.specs.Tombstones.{is_tombstone}
 use Rattle.sst_merge.specs.Snapshot.{visible_from, snapshot, unless_deleted, has_last_key, has_version, is_shown, shown, kept_after}
-use Rattle.sst_merge.specs.SnapshotReads.{order, order_tail, skip}
+use Rattle.sst_merge.specs.SnapshotReads.{order, skip}
+use Rattle.sst_merge.specs.ListLaws.{left_out, order_tail}
 
 or_same : (b : Bool) → (b || b) ≡ b
 or_same true = refl
@@ -103,14 +104,10 @@ module _ {X : Type 0} (entry : X → Entry) (s : ℕ) where
   none_yet [] = tt
   none_yet (x ∷ xs) = (refl, none_yet xs)
 
-  deleted_by : (t : Bool) (x : X) (xs ys : List X) → xs ≡ ys → cond t xs (x ∷ xs) ≡ cond (not t) (x ∷ ys) ys
-  deleted_by true x xs ys e = e
-  deleted_by false x xs ys e = ap (λ zs. x ∷ zs) e
-
   s_same : (last : Option (List ℕ)) (before xs : List X) → IsInOrder cmp xs → Behind last xs → Agree last before xs → visible_from entry s last xs ≡ kept_after (is_shown entry s) before xs
   s_same last before [] up h all = refl
   s_same last before (x ∷ xs) up h all =
-      let tail = order_tail entry [] 0 x xs up in
+      let tail = order_tail (order entry [] 0) x xs up in
       let to = kept_after (is_shown entry s) (x ∷ before) xs in
       let go = visible_from entry s last xs in
       let gone = is_tombstone (entry x).key.value_type in
@@ -126,7 +123,7 @@ module _ {X : Type 0} (entry : X → Entry) (s : ℕ) where
                   ∙ s_same last (x ∷ before) xs tail (behind_rest last x xs h) (agree_again last x before xs below again all.1)
                   ∙ sym (ap (rest true) (sym all.0 ∙ again))
               | inr fresh ↦ ap (λ b. cond (not b) next go) fresh
-                  ∙ deleted_by gone x (visible_from entry s (Some (key_of x)) xs) to
+                  ∙ left_out gone x (visible_from entry s (Some (key_of x)) xs) to
                   (s_same (Some (key_of x)) (x ∷ before) xs tail (behind_first x xs up) (agree_fresh last x before xs xs below fresh h (behind_first x xs up) all.1))
                   ∙ sym (ap (rest true) (sym all.0 ∙ fresh))
             ]

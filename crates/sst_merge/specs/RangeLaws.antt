@@ -18,6 +18,7 @@ use Rattle.sst_block_core.specs.Window.{first_match, is_version}
 use Rattle.sst_merge.specs.MergeReads.{ge_trans}
 use Rattle.sst_merge.specs.Ranges.{covers, ranged}
 use Rattle.sst_base.specs.TestLaws.{and_parts}
+use Rattle.sst_merge.specs.ListLaws.{order_tail}
 
 module _ {X : Type 0} (test : X → Bool) where
   pub filter_hit : (x : X) (xs : List X) → test x ≡ true → filter test (x ∷ xs) ≡ x ∷ filter test xs
@@ -69,16 +70,12 @@ module _ {X : Type 0} (cmp : X → X → Ordering) (order : IsTotalOrder cmp) (t
     | inr miss ↦ rw (filter_miss test x xs miss) (behind l xs (skip l x xs up))
   ]
 
-  tail_of : (x : X) (xs : List X) → IsInOrder cmp (x ∷ xs) → IsInOrder cmp xs
-  tail_of x [] up = tt
-  tail_of x (y ∷ ys) up = up.1
-
   -- what passes a test is in order where all is
   pub filter_ordered : (xs : List X) → IsInOrder cmp xs → IsInOrder cmp (filter test xs)
   filter_ordered [] up = tt
   filter_ordered (x ∷ xs) up = elim (cases_Bool (test x)) [
     | inl hit ↦ rw (filter_hit test x xs hit) (behind x xs up)
-    | inr miss ↦ rw (filter_miss test x xs miss) (filter_ordered xs (tail_of x xs up))
+    | inr miss ↦ rw (filter_miss test x xs miss) (filter_ordered xs (order_tail cmp x xs up))
   ]
 
 pub ranged_ordered : (first last : List ℕ) (items : List Entry) → IsOrdered entries items → IsOrdered entries (ranged first last items)

@@ -1,5 +1,5 @@
 -- What a snapshot of an ordered list has of a key: its first version below the number, unless that is a tombstone.
-use Rattle.std.proofs.Common.{◌≡◌, ◌≢◌, ℕ, Bool, true, false, not, cond, List, [], ◌∷◌, Option, Some, None, refl, sym, ap, ◌∙◌, inl, inr, filter, slice_get}
+use Rattle.std.proofs.Common.{◌≡◌, ◌≢◌, ℕ, Bool, true, false, not, cond, List, [], ◌∷◌, Option, Some, None, refl, sym, ap, ◌∙◌, inl, inr}
 use Rattle.std.proofs.lemmas.Bool.{cases_Bool}
 use Rattle.std.specs.Prelude.{nat_lt, ◌&&◌}
 use Rattle.std.specs.Cmp.Lexicographic.{slice_cmp}
@@ -15,24 +15,11 @@ use Rattle.sst_block_core.specs.Tombstones.{is_tombstone}
 use Rattle.sst_merge.specs.Snapshot.{visible_from, snapshot, is_newest, has_last_key}
 use Rattle.sst_merge.specs.SnapshotLaws.{visible-passed, visible-newest}
 use Rattle.sst_merge.specs.MergeReads.{ge_trans}
+use Rattle.sst_merge.specs.ListLaws.{order_tail, first, first_hit, first_miss}
 
 pub both_false : (a b : Bool) → b ≡ false → (a && b) ≡ false
 both_false true b h = h
 both_false false b h = refl
-
-module _ {X : Type 0} (test : X → Bool) where
-  -- the first item that passes
-  abbrev pub first : List X → Option X
-  first xs = slice_get (filter test xs) 0
-
-  first_more : (x : X) (xs : List X) → first (x ∷ xs) ≡ cond (test x) (Some x) (first xs)
-  first_more x xs = elim (test x) as (λ t. slice_get (cond t (x ∷ filter test xs) (filter test xs)) 0 ≡ cond t (Some x) (slice_get (filter test xs) 0)) [ true ↦ refl | false ↦ refl ]
-
-  pub first_hit : (x : X) (xs : List X) → test x ≡ true → first (x ∷ xs) ≡ Some x
-  first_hit x xs h = first_more x xs ∙ ap (λ b. cond b (Some x) (first xs)) h
-
-  pub first_miss : (x : X) (xs : List X) → test x ≡ false → first (x ∷ xs) ≡ first xs
-  first_miss x xs h = first_more x xs ∙ ap (λ b. cond b (Some x) (first xs)) h
 
 not_eq : (o : Ordering) → o ≡ Greater → is_eq o ≡ false
 not_eq o e = ap is_eq e
@@ -138,10 +125,6 @@ module _ {X : Type 0} (entry : X → Entry) (k : List ℕ) (seqno : ℕ) where
   fresh None x o mine = refl
   fresh (Some l) x o mine = ap (λ b. is_eq (slice_cmp nat_cmp b l)) (has_key x mine) ∙ turned l o
 
-  pub order_tail : (x : X) (xs : List X) → IsInOrder order (x ∷ xs) → IsInOrder order xs
-  order_tail x [] up = tt
-  order_tail x (y ∷ ys) up = up.1
-
   v3 : (last : Option (List ℕ)) (xs : List X) → IsOther last → IsInOrder order xs → first has (visible_from entry seqno last xs) ≡ unless_hidden (first is_match xs)
   v3 last [] o up = refl
   v3 last (x ∷ xs) o up = elim (cases_Bool (has x)) [
@@ -159,7 +142,7 @@ module _ {X : Type 0} (entry : X → Entry) (k : List ℕ) (seqno : ℕ) where
       | inr above ↦ (
           let passed : is_newest entry seqno last x ≡ false = first_false (nat_lt (number x) seqno) (not (has_last_key entry last x)) above in
           let miss : is_match x ≡ false = first_false (nat_lt (number x) seqno) (has x) above in
-          ap (first has) (visible-passed entry seqno last x xs passed) ∙ v3 last xs o (order_tail x xs up) ∙ ap unless_hidden (sym (first_miss is_match x xs miss)))
+          ap (first has) (visible-passed entry seqno last x xs passed) ∙ v3 last xs o (order_tail order x xs up) ∙ ap unless_hidden (sym (first_miss is_match x xs miss)))
     ]
     | inr other ↦ (
         let miss : is_match x ≡ false = both_false (nat_lt (number x) seqno) (has x) other in
@@ -170,8 +153,8 @@ module _ {X : Type 0} (entry : X → Entry) (k : List ℕ) (seqno : ℕ) where
                 | inl gone ↦ ap (λ b. first has (cond b rest (x ∷ rest))) gone
                 | inr stays ↦ ap (λ b. first has (cond b rest (x ∷ rest))) stays ∙ first_miss has x rest other
               ]
-              ∙ v3 (Some (key x)) xs other (order_tail x xs up) ∙ ap unless_hidden (sym (first_miss is_match x xs miss))
-          | inr passed ↦ ap (first has) (visible-passed entry seqno last x xs passed) ∙ v3 last xs o (order_tail x xs up) ∙ ap unless_hidden (sym (first_miss is_match x xs miss))
+              ∙ v3 (Some (key x)) xs other (order_tail order x xs up) ∙ ap unless_hidden (sym (first_miss is_match x xs miss))
+          | inr passed ↦ ap (first has) (visible-passed entry seqno last x xs passed) ∙ v3 last xs o (order_tail order x xs up) ∙ ap unless_hidden (sym (first_miss is_match x xs miss))
         ])
   ]
 

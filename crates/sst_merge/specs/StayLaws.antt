@@ -16,7 +16,8 @@ use Rattle.sst_merge.specs.CompactLaws.{kept, repeated, newest, older}
 use Rattle.sst_merge.specs.Compact.{is_seen, is_parted, is_hidden, is_dropped, compact_from, compacted, has_newer, stays, staying}
 use Rattle.sst_merge.specs.PlainLaws.{Behind, behind_first, behind_rest, key_after, last_is, other, or_false}
 use Rattle.sst_merge.specs.Snapshot.{has_last_key, kept_after}
-use Rattle.sst_merge.specs.SnapshotReads.{order, order_tail, skip}
+use Rattle.sst_merge.specs.SnapshotReads.{order, skip}
+use Rattle.sst_merge.specs.ListLaws.{left_out, order_tail}
 
 -- a snapshot that sees the one number and none that sees the other
 unseen_parts : (ss : List ℕ) (q p : ℕ) → is_seen ss q ≡ true → is_seen ss p ≡ false → is_parted ss q p ≡ true
@@ -136,17 +137,13 @@ module _ {X : Type 0} (entry : X → Entry) (ss : List ℕ) (bottom : List ℕ �
     agree_fresh last x before rest xs fresh h k.1 all.1,
   )
 
-  dropped_by : (t : Bool) (x : X) (xs ys : List X) → xs ≡ ys → cond t xs (x ∷ xs) ≡ cond (not t) (x ∷ ys) ys
-  dropped_by true x xs ys e = e
-  dropped_by false x xs ys e = ap (λ zs. x ∷ zs) e
-
   behind_more : (last : Option (List ℕ × ℕ)) (x : X) (xs : List X) → Behind entry 0 (last_key last) (x ∷ xs) → Behind entry 0 (last_key last) xs
   behind_more last x xs h = behind_rest entry 0 (last_key last) x xs h
 
   c_same : (last : Option (List ℕ × ℕ)) (before xs : List X) → IsInOrder cmp xs → Behind entry 0 (last_key last) xs → Agree last before xs → go last xs ≡ to before xs
   c_same last before [] up h all = refl
   c_same last before (x ∷ xs) up h all =
-      let tail = order_tail entry [] 0 x xs up in
+      let tail = order_tail (order entry [] 0) x xs up in
       let rest = λ (b t v : Bool). cond (not b || (not v && not t)) (x ∷ to (x ∷ before) xs) (to (x ∷ before) xs) in
       let gone = is_dropped entry ss bottom x in
       elim (cases_Bool (is_seen ss (num x))) [
@@ -158,7 +155,7 @@ module _ {X : Type 0} (entry : X → Entry) (ss : List ℕ) (bottom : List ℕ �
               ∙ c_same last (x ∷ before) xs tail (behind_more last x xs h) (agree_again last x before xs again all.1)
               ∙ sym (ap (rest true gone) (sym (all.0 below) ∙ again))
           | inr fresh ↦ newest entry ss bottom last x xs below fresh
-              ∙ dropped_by gone x (go (at x) xs) (to (x ∷ before) xs)
+              ∙ left_out gone x (go (at x) xs) (to (x ∷ before) xs)
               (c_same (at x) (x ∷ before) xs tail (behind_first entry 0 x xs up) (agree_fresh last x before xs xs fresh h (follow x xs up) all.1))
               ∙ sym (ap (rest true gone) (sym (all.0 below) ∙ fresh))
         ]

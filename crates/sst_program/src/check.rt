@@ -4,7 +4,8 @@ ghost use Rattle.std.specs.Prelude.{IfOk, IfErr, IfSome};
 ghost use Rattle.std.specs.Prelude.{IsOkUnless, string_bytes};
 ghost use Rattle.std.specs.Io.KnownBytes.{Keeps};
 ghost use Rattle.sst_base.specs.declared.error.Error.TheVariants.{Io, Memory};
-ghost use Rattle.sstable_blocks.specs.Sources.{GivesOr, KeepsSource};
+ghost use Rattle.sstable_blocks.specs.Sources.{AsksAny, AsksExactly, KeepsSource, ReadsAs, UsesSource};
+ghost use Rattle.sstable_blocks.specs.Sources.{filter_frames};
 ghost use Rattle.sst_program.specs.TableReads.{block_count, filter_check, run_filter_check};
 ghost use Rattle.sst_program.specs.TableReads.{entries_counted, run_counts, PrintsCountsOf};
 ghost use Rattle.sst_program.specs.TableReads.{FailsAround, IsRefusalOf};
@@ -26,12 +27,10 @@ use std::rt::Files;
 // Checks a filter: its type and its fields.
 #[tactic(auto, unfolding(crate::specs::TableReads::filter_check))]
 fn check_filter<S: FrameSource>(alloc: Global, source: &mut S, handle: &BlockHandle) -> Result<()>
-    ensures source { KeepsSource S.bytes S.failures S.is_reliable source.old source.new }
-    ensures io { IfErr result (λ e. e ≡ Io → S.failures source.old < S.failures source.new) }
-    ensures exact { IfSome (S.bytes source.old) (λ all.
-        GivesOr (S.failures source.old < S.failures source.new)
-        (S.is_reliable source.old) (λ u. u) result
-        (filter_check all handle.now)) }
+    ensures source { UsesSource S.bytes S.failures S.reads S.is_reliable
+        (AsksExactly 1) source.old source.new result }
+    ensures exact { ReadsAs S.bytes S.failures S.is_reliable source.old source.new
+        (λ u. u) result (λ all. filter_check all handle.now) }
 {
     let block = block_from::<Poly31, S>(alloc, source, handle, BlockType::Filter)?;
     StandardBloomFilterReader::new(block.data().as_slice())?;
@@ -44,12 +43,10 @@ fn check_run_filter<S: FrameSource>(
     source: &mut S,
     filter: &Option<BlockHandle>,
 ) -> Result<()>
-    ensures source { KeepsSource S.bytes S.failures S.is_reliable source.old source.new }
-    ensures io { IfErr result (λ e. e ≡ Io → S.failures source.old < S.failures source.new) }
-    ensures exact { IfSome (S.bytes source.old) (λ all.
-        GivesOr (S.failures source.old < S.failures source.new)
-        (S.is_reliable source.old) (λ u. u) result
-        (run_filter_check all filter.now)) }
+    ensures source { UsesSource S.bytes S.failures S.reads S.is_reliable
+        (AsksExactly (filter_frames filter.now)) source.old source.new result }
+    ensures exact { ReadsAs S.bytes S.failures S.is_reliable source.old source.new
+        (λ u. u) result (λ all. run_filter_check all filter.now) }
 {
     match filter {
         Some(filter) => check_filter(alloc, source, filter),
@@ -59,12 +56,10 @@ fn check_run_filter<S: FrameSource>(
 
 // Checks the block of a handle. Returns the number of its entries.
 fn check_block<S: FrameSource>(alloc: Global, source: &mut S, handle: &BlockHandle) -> Result<usize>
-    ensures source { KeepsSource S.bytes S.failures S.is_reliable source.old source.new }
-    ensures io { IfErr result (λ e. e ≡ Io → S.failures source.old < S.failures source.new) }
-    ensures exact { IfSome (S.bytes source.old) (λ all.
-        GivesOr (S.failures source.old < S.failures source.new)
-        (S.is_reliable source.old) (λ n. n) result
-        (block_count all handle.now)) }
+    ensures source { UsesSource S.bytes S.failures S.reads S.is_reliable
+        (AsksExactly 1) source.old source.new result }
+    ensures exact { ReadsAs S.bytes S.failures S.is_reliable source.old source.new
+        (λ n. n) result (λ all. block_count all handle.now) }
 {
     let block = data_block_at(alloc, source, handle)?;
     Ok(block.len())
@@ -72,12 +67,10 @@ fn check_block<S: FrameSource>(alloc: Global, source: &mut S, handle: &BlockHand
 
 // Checks the blocks of an index. Returns the number of their entries.
 fn check_blocks<S: FrameSource>(alloc: Global, source: &mut S, index: &IndexBlock) -> Result<u64>
-    ensures source { KeepsSource S.bytes S.failures S.is_reliable source.old source.new }
-    ensures io { IfErr result (λ e. e ≡ Io → S.failures source.old < S.failures source.new) }
-    ensures exact { IfSome (S.bytes source.old) (λ all.
-        GivesOr (S.failures source.old < S.failures source.new)
-        (S.is_reliable source.old) (λ n. n) result
-        (entries_counted all index.now.items)) }
+    ensures source { UsesSource S.bytes S.failures S.reads S.is_reliable
+        AsksAny source.old source.new result }
+    ensures exact { ReadsAs S.bytes S.failures S.is_reliable source.old source.new
+        (λ n. n) result (λ all. entries_counted all index.now.items) }
 {
     let mut entries = 0u64;
     for item in index.iter() {
@@ -95,12 +88,10 @@ fn check_run<S: FrameSource>(
     source: &mut S,
     handles: &RunHandles,
 ) -> Result<(usize, u64)>
-    ensures source { KeepsSource S.bytes S.failures S.is_reliable source.old source.new }
-    ensures io { IfErr result (λ e. e ≡ Io → S.failures source.old < S.failures source.new) }
-    ensures exact { IfSome (S.bytes source.old) (λ all.
-        GivesOr (S.failures source.old < S.failures source.new)
-        (S.is_reliable source.old) (λ counts. counts) result
-        (run_counts all handles.now)) }
+    ensures source { UsesSource S.bytes S.failures S.reads S.is_reliable
+        AsksAny source.old source.new result }
+    ensures exact { ReadsAs S.bytes S.failures S.is_reliable source.old source.new
+        (λ counts. counts) result (λ all. run_counts all handles.now) }
 {
     check_run_filter(alloc, source, &handles.filter)?;
     let index = index_at(alloc, source, &handles.index)?;

@@ -5,7 +5,8 @@ ghost use Rattle.std.specs.Prelude.{IsOkUnless, string_bytes};
 ghost use Rattle.std.specs.Io.KnownBytes.{Keeps};
 ghost use Rattle.sst_base.specs.declared.error.Error.TheVariants.{Io, Memory};
 ghost use Rattle.sstable_blocks.specs.RunReading.{read_checked};
-ghost use Rattle.sstable_blocks.specs.Sources.{GivesOr, KeepsSource, filter_frames};
+ghost use Rattle.sstable_blocks.specs.Sources.{AsksUpTo, KeepsSource, ReadsAs, UsesSource};
+ghost use Rattle.sstable_blocks.specs.Sources.{filter_frames};
 ghost use Rattle.sst_program.specs.TableReads.{sst_hashes, PrintsAnswerOf, FailsAround};
 ghost use Rattle.sst_program.specs.TableReads.{IsRefusalOf};
 ghost use Rattle.sst_program.specs.TableReads.{table_answer, IsTableFault};
@@ -30,14 +31,10 @@ fn find<S: FrameSource>(
     handles: &RunHandles,
     words: &GetWords<'_>,
 ) -> Result<Option<InternalValue>>
-    ensures source { KeepsSource S.bytes S.failures S.is_reliable source.old source.new }
-    ensures reads { S.reads source.new
-        ≤ S.reads source.old + (2 + filter_frames handles.now.filter) }
-    ensures io { IfErr result (λ e. e ≡ Io → S.failures source.old < S.failures source.new) }
-    ensures exact { IfSome (S.bytes source.old) (λ all.
-        GivesOr (S.failures source.old < S.failures source.new)
-        (S.is_reliable source.old) (λ x. x) result
-        (read_checked sst_hashes all handles.now words.now.needle words.now.seqno)) }
+    ensures source { UsesSource S.bytes S.failures S.reads S.is_reliable
+        (AsksUpTo (2 + filter_frames handles.now.filter)) source.old source.new result }
+    ensures exact { ReadsAs S.bytes S.failures S.is_reliable source.old source.new
+        (λ x. x) result (λ all. read_checked sst_hashes all handles.now words.now.needle words.now.seqno) }
 {
     read_entry_checked::<Poly31, S>(alloc, source, handles, words.needle(), words.seqno())
 }

@@ -5,7 +5,7 @@ ghost use Rattle.std.specs.Prelude.{IfSome, IfOk, IsOkUnless};
 ghost use Rattle.sst_base.specs.declared.error.Error.TheVariants.{Io, Truncated, Memory};
 ghost use Rattle.sst_program.specs.TableReads.{index_read, block_read};
 ghost use Rattle.sstable_blocks.specs.Footer.{table_handles};
-ghost use Rattle.sstable_blocks.specs.Sources.{GivesOr, KeepsSource};
+ghost use Rattle.sstable_blocks.specs.Sources.{AsksExactly, GivesOr, ReadsAs, UsesSource};
 
 use sstable_blocks::run::checked::block_from;
 use sstable_blocks::run::footer::read_footer;
@@ -122,12 +122,10 @@ pub fn index_at<S: FrameSource>(
     source: &mut S,
     handle: &BlockHandle,
 ) -> Result<IndexBlock>
-    ensures source { KeepsSource S.bytes S.failures S.is_reliable source.old source.new }
-    ensures io { IfErr result (λ e. e ≡ Io → S.failures source.old < S.failures source.new) }
-    ensures exact { IfSome (S.bytes source.old) (λ all.
-        GivesOr (S.failures source.old < S.failures source.new)
-        (S.is_reliable source.old) (λ b. b.items) result
-        (index_read all handle.now)) }
+    ensures source { UsesSource S.bytes S.failures S.reads S.is_reliable
+        (AsksExactly 1) source.old source.new result }
+    ensures exact { ReadsAs S.bytes S.failures S.is_reliable source.old source.new
+        (λ b. b.items) result (λ all. index_read all handle.now) }
 {
     let block = block_from::<Poly31, S>(alloc, source, handle, BlockType::Index)?;
     IndexBlock::check_once(block)
@@ -145,12 +143,10 @@ pub fn data_block_at<S: FrameSource>(
     source: &mut S,
     handle: &BlockHandle,
 ) -> Result<DataBlock<Poly31>>
-    ensures source { KeepsSource S.bytes S.failures S.is_reliable source.old source.new }
-    ensures io { IfErr result (λ e. e ≡ Io → S.failures source.old < S.failures source.new) }
-    ensures exact { IfSome (S.bytes source.old) (λ all.
-        GivesOr (S.failures source.old < S.failures source.new)
-        (S.is_reliable source.old) (λ b. b.items) result
-        (block_read all handle.now)) }
+    ensures source { UsesSource S.bytes S.failures S.reads S.is_reliable
+        (AsksExactly 1) source.old source.new result }
+    ensures exact { ReadsAs S.bytes S.failures S.is_reliable source.old source.new
+        (λ b. b.items) result (λ all. block_read all handle.now) }
 {
     let block = block_from::<Poly31, S>(alloc, source, handle, BlockType::Data)?;
     DataBlock::<Poly31>::check_once(alloc, block)

@@ -1,5 +1,6 @@
 -- Reads: of bytes that are sound, of any bytes, and by what a table keeps; and what they count.
 pub mod Points
+pub mod FrameCounts
 pub mod IndexSteps
 pub mod CheckedReads
 pub mod SoundReads

@@ -16,6 +16,7 @@ pub mod Sources
 pub mod SourceLaws
 pub mod Sound
 pub mod RunChecks
+pub mod FrameCounts
 pub mod Footer
 pub mod Tables
 pub mod BlockReading

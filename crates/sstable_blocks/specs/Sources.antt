@@ -1,6 +1,6 @@
 -- How a clause says that a call over a source of frames returns exactly this, where an allocation or the source may
 -- fail.
-use Rattle.std.specs.Prelude.{◌≡◌, ◌≢◌, ◌⊎◌, ◌≤◌, ◌<◌, ℕ, Option, None, Some, IfSome, Result, Ok, Err, IfErr, List}
+use Rattle.std.specs.Prelude.{◌≡◌, ◌≢◌, ◌⊎◌, ◌≤◌, ◌<◌, ℕ, Option, None, Some, IfSome, Result, Ok, Err, IfOk, IfErr, List, ◌+◌}
 use Rattle.sst_base.specs.BlockHandle.{HandleParts}
 use Rattle.sst_base.specs.declared.error.Error.{Error}
 use Rattle.sst_base.specs.declared.error.Error.TheVariants.{Memory, Io, Truncated, BadHandle}
@@ -57,3 +57,35 @@ IsIoCounted failures old new result = IfErr result (λ e. e ≡ Io → failures 
 -- or the source failed
 abbrev pub ReadsAs : {S X Y : Type 0} → (S → Option (List ℕ)) → (S → ℕ) → (S → Type 0) → S → S → (X → Y) → Result X Error → (List ℕ → Result Y Error) → Type 0
 ReadsAs bytes failures is_reliable old new view result read = IfSome (bytes old) (λ all. GivesOr (failures old < failures new) (is_reliable old) view result (read all))
+
+-- how many frames a call asks for, by its result, and how often frames were asked for before and after it: any number;
+-- exactly so many; at most so many; or exactly so many where it succeeds, by what it returns
+abbrev pub AsksAny : {Y : Type 0} → Result Y Error → ℕ → ℕ → Type 0
+AsksAny result before after = before ≤ after
+
+abbrev pub AsksExactly : {Y : Type 0} → ℕ → Result Y Error → ℕ → ℕ → Type 0
+AsksExactly n result before after = after ≡ before + n
+
+abbrev pub AsksUpTo : {Y : Type 0} → ℕ → Result Y Error → ℕ → ℕ → Type 0
+AsksUpTo n result before after = (before ≤ after) × (after ≤ before + n)
+
+abbrev pub AsksIfOk : {Y : Type 0} → (Y → ℕ) → Result Y Error → ℕ → ℕ → Type 0
+AsksIfOk n result before after = (before ≤ after) × IfOk result (λ y. after ≡ before + n y)
+
+-- What a call does to a source: its bytes stay the same, its failures are only added to, a reliable one stays reliable, an
+-- error is `Io` only where it failed in that call, and so many frames are asked for.
+pub record UsesSource {S Y : Type 0} (bytes : S → Option (List ℕ)) (failures reads : S → ℕ) (is_reliable : S → Type 0) (Asks : Result Y Error → ℕ → ℕ → Type 0) (old new : S) (result : Result Y Error) : Type 0 where
+  pub same : bytes new ≡ bytes old
+  pub failures_grow : failures old ≤ failures new
+  pub kept : is_reliable old → is_reliable new
+  pub io : IsIoCounted failures old new result
+  pub asks : Asks result (reads old) (reads new)
+
+-- So many frames are asked for, also where a call fails; fewer only where an allocation or the source fails. Failures and
+-- frames are those before and after.
+abbrev pub AsksFor : {Y : Type 0} → ℕ → ℕ → ℕ → ℕ → Result Y Error → ℕ → Type 0
+AsksFor failed failed' asked asked' result n = (asked' ≤ asked + n) × (failed' ≡ failed → (result ≡ Err Memory → ⊥) → asked' ≡ asked + n)
+
+-- the same of a call over a source whose bytes are known, by these
+abbrev pub AsksAs : {S Y : Type 0} → (S → Option (List ℕ)) → (S → ℕ) → (S → ℕ) → S → S → Result Y Error → (List ℕ → ℕ) → Type 0
+AsksAs bytes failures reads old new result frames = IfSome (bytes old) (λ all. AsksFor (failures old) (failures new) (reads old) (reads new) result (frames all))

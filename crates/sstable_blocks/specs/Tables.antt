@@ -1,9 +1,8 @@
 -- Tables: runs in a source, whose filter and index are read once.
 use Rattle.std.specs.Prelude.{◌≡◌, ℕ, ◌<◌, if◌then◌else◌, Bool, true, false, List, Option, Some, None, Result, Ok, Err}
 use Rattle.sst_base.specs.BlockHandle.{HandleParts}
-use Rattle.sst_base.specs.Counted.{Counted, CountsExactly}
+use Rattle.sst_base.specs.Counted.{Counted, CountsExactly, found_item}
 use Rattle.sst_base.specs.Entry.{Entry}
-use Rattle.sst_base.specs.Header.{◌>>=◌}
 use Rattle.sst_base.specs.declared.error.Error.{Error}
 use Rattle.sst_base.specs.declared.table.block.block_type.BlockType.TheVariants as types
 use Rattle.sst_block_core.specs.Handles.{Handle, handles}
@@ -14,6 +13,7 @@ use Rattle.sstable_blocks.specs.Opened.{index_in}
 use Rattle.sstable_blocks.specs.ReadCosts.{interval_in}
 use Rattle.sstable_blocks.specs.RunReading.{Hashes, payload_at, handles_at, filter_answer, read_block}
 use Rattle.sstable_blocks.specs.declared.run.RunHandles.{RunHandles}
+use Rattle.sstable_blocks.specs.declared.run.table.OpenError.{OpenError}
 
 -- what contracts see of a table: its source and its handles, and what is kept of it: the payload of its filter, if it
 -- has one, the handles of its index, and the restart interval of the index
@@ -78,11 +78,22 @@ read_kept c bytes filter hs needle seqno = do
   may ← kept_says c.hash64 filter needle
   if may then read_block c bytes (handle_for handles needle seqno hs) needle seqno else Ok None
 
--- how many frames are requested where the filter says this: one at most where it allows the key, else none
-abbrev pub frames_by : Result Bool Error → ℕ
-frames_by (Ok true) = 1
-frames_by (Ok false) = 0
-frames_by (Err e) = 0
+-- how many frames are asked for where the filter says this, by the handle of the block that can hold the key, if there is
+-- one: that block's, where the key is allowed
+abbrev pub frames_by : Result Bool Error → Option Handle → ℕ
+frames_by (Ok true) h = found_item h
+frames_by (Ok false) h = 0
+frames_by (Err e) h = 0
+
+-- the source of a table, or of what was not opened
+abbrev pub source_after : {S : Type 0} → Result (TableParts S) (OpenError S) → S
+source_after (Ok t) = t.source
+source_after (Err e) = e.source
+
+-- a table, or the error for which it was not opened
+abbrev pub error_after : {S : Type 0} → Result (TableParts S) (OpenError S) → Result (TableParts S) Error
+error_after (Ok t) = Ok t
+error_after (Err e) = Err e.error
 
 -- what is counted where the filter says this: at least a head of the index where it allows the key, else nothing
 abbrev pub LooksBy : Result Bool Error → Counted → Counted → Type 0

@@ -1,9 +1,8 @@
 -- Stages 3 to 5 from what a pass over the items knows.
-use Rattle.std.proofs.Common.{◌≡◌, ◌↔◌, Bool, ◌&&◌, IsTrue, ℕ, ◌-◌, ◌*◌, ◌/◌, ◌<◌, ◌≤◌, inl, inr, List, [], length, drop, get_or, Some, sym, ap, subst, ◌∙◌, arith, leb, cond, length-drop}
+use Rattle.std.proofs.Common.{◌≡◌, ◌↔◌, Bool, ◌&&◌, IsTrue, ℕ, ◌-◌, ◌*◌, ◌/◌, ◌<◌, ◌≤◌, List, [], length, drop, get_or, Some, sym, ap, subst, ◌∙◌, arith, leb, cond, length-drop}
 use Rattle.std.proofs.lemmas.List.{length-take-le}
 use Rattle.std.proofs.Math.Nat.{div-mul-le_self}
 use Rattle.std.specs.List.{AllByRecursion}
-use Rattle.std.proofs.Math.Nat.{mul-div_cancel_left}
 use Rattle.byteorder.specs.Endian.{little_number}
 use Rattle.sst_block_core.specs.Kind.{Kind, IsOrdered}
 use Rattle.sst_block_core.specs.Body.{items_at, place_offset}
@@ -13,22 +12,15 @@ use Rattle.sst_block_core.specs.Stages.{HasParts, HasForms, HasOrder, HasPointer
 use Rattle.sst_block_core.specs.Passes.{ArePointed, IsPassed, IsFound}
 use Rattle.sst_block_core.proofs.Check.PassSteps.{both}
 use Rattle.sst_block_core.specs.OpeningLaws.{length-items_at}
-use Rattle.sst_block_core.proofs.Places.HeadPlaces.{head_below}
+use Rattle.sst_block_core.proofs.Places.HeadPlaces.{head_below, pointers_length}
 use Rattle.sst_block_core.specs.PointerLaws.{last_offset}
-use Rattle.sst_block_core.proofs.Places.PointerReads.{pointers_count, pointer_is}
+use Rattle.sst_block_core.proofs.Places.PointerReads.{pointer_is}
 
 pub heads_some : (r n heads : ℕ) → 0 < r → 1 ≤ n → heads ≡ head_count r n → 0 < heads
 heads_some r n heads pos some e = let b = (head_below r n 0 pos).1 (omega arith) in omega (arith, b, e)
 
 pub index_length : (t : Trailer) (p : List ℕ) → HasParts t p → length (pointer_bytes t p) ≡ t.heads * t.width
 index_length t p parts = let e = parts.end in length-take-le (t.heads * t.width) (drop t.index_offset p) (omega (arith, e, length-drop t.index_offset p))
-
--- so a payload has as many pointers as heads
-pub pointers_length : (t : Trailer) (p : List ℕ) → HasParts t p → length (pointers_in t.width (pointer_bytes t p)) ≡ t.heads
-pointers_length t p parts =
-    let some : 0 < t.width = elim parts.width [ inl two ↦ omega arith | inr four ↦ omega arith ] in
-    let turned : t.heads * t.width ≡ t.width * t.heads = omega arith in
-    pointers_count t.width (pointer_bytes t p) ∙ ap (λ n. n / t.width) (index_length t p parts ∙ turned) ∙ mul-div_cancel_left t.heads some
 
 -- each place has the pointer of its head
 pub pointer_inside : (t : Trailer) (p : List ℕ) → HasParts t p → (place : ℕ) → place < t.item_count → place / t.interval < length (pointers_in t.width (pointer_bytes t p))

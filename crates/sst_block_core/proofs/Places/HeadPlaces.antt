@@ -1,24 +1,23 @@
 -- The pointers of a block lead to its heads.
-use Rattle.std.proofs.Common.{◌≡◌, ℕ, zero, suc, ◌+◌, ◌-◌, ◌*◌, ◌%◌, ◌<◌, ◌≤◌, ◌^◌, ◌⊎◌, ◌↔◌, inl, inr, List, [], ◌∷◌, ◌++◌, map, length, take, drop, Some, refl, sym, ap, subst, ◌∙◌, arith, append_assoc, length-drop, length-append, slice_index, le-div_iff_mul-le}
+use Rattle.std.proofs.Common.{◌≡◌, ℕ, zero, suc, ◌+◌, ◌-◌, ◌*◌, ◌/◌, ◌%◌, ◌<◌, ◌≤◌, ◌^◌, ◌⊎◌, ◌↔◌, inl, inr, List, [], ◌∷◌, ◌++◌, map, length, take, drop, Some, refl, sym, ap, subst, ◌∙◌, arith, append_assoc, length-drop, length-append, slice_index, mul-div_cancel, le-div_iff_mul-le}
 use Rattle.std.specs.List.{AllByRecursion}
 use Rattle.std.proofs.lemmas.Bool.{cases_lt}
 use Rattle.std.proofs.lemmas.List.{drop_all, take-append-drop, drop_at, drop-map, length-map, length-take-le}
 use Rattle.std.proofs.Math.Nat.{mul-mod_left}
 use Rattle.sst_block_core.specs.Kind.{Kind, IsKind}
 use Rattle.sst_block_core.specs.Body.{body, forms, items_at, place_offset}
-use Rattle.sst_block_core.specs.Trailer.{trailer, trailer_in}
+use Rattle.sst_block_core.specs.Trailer.{Trailer, trailer, trailer_in}
 use Rattle.sst_block_core.specs.Pointers.{head_count, pointers, pointers_in}
 use Rattle.sst_block_core.specs.Buckets.{buckets, stored_count}
 use Rattle.sst_block_core.specs.Payload.{IsEncoding, trailer_of}
-use Rattle.sst_block_core.specs.Stages.{items_in, pointer_bytes}
+use Rattle.sst_block_core.specs.Stages.{items_in, pointer_bytes, HasParts}
 use Rattle.sst_block_core.specs.Scan.{Listed, IsFormOffset, IsPlace}
 use Rattle.sst_block_core.specs.Intervals.{IsIndexed}
 use Rattle.sst_block_core.specs.BodyLaws.{forms_again}
 use Rattle.sst_block_core.specs.OffsetLaws.{body-append, place_inside, place_plain, body_long}
 use Rattle.sst_block_core.specs.CanonicalLaws.{encoded_from}
 use Rattle.sst_block_core.specs.OpeningLaws.{opened}
-use Rattle.sst_block_core.proofs.Places.PointerReads.{pointer_is}
-use Rattle.sst_block_core.proofs.Check.ItemStages.{pointers_length}
+use Rattle.sst_block_core.proofs.Places.PointerReads.{pointers_count, pointer_is}
 
 all_drop : {X : Type 0} (P : X → Type 0) (n : ℕ) (xs : List X) → AllByRecursion P xs → AllByRecursion P (drop n xs)
 all_drop P zero xs h = h
@@ -73,6 +72,14 @@ module _ {X : Type 0} (kind : Kind X) (valid : X → Type 0) (laws : IsKind kind
     after = after;
     reads = let e : length (map kind.plain items) - i ≡ length items - i = ap (λ k. k - i) (length-map items kind.plain) in ap (λ n. items_at kind r i n [] (drop (place_offset kind r items i) p)) e ∙ head_reads i [] h z;
   }
+
+-- the binary index of a payload has as many pointers as its trailer says
+pub pointers_length : (t : Trailer) (p : List ℕ) → HasParts t p → length (pointers_in t.width (pointer_bytes t p)) ≡ t.heads
+pointers_length t p parts =
+    let e = parts.end in
+    let l : length (pointer_bytes t p) ≡ t.heads * t.width = length-take-le (t.heads * t.width) (drop t.index_offset p) (let d = length-drop t.index_offset p in omega (arith, e, d)) in
+    let w : 0 < t.width = elim parts.width [ inl two ↦ omega (arith, two) | inr four ↦ omega (arith, four) ] in
+    pointers_count t.width (pointer_bytes t p) ∙ ap (λ n. n / t.width) l ∙ mul-div_cancel t.heads w
 
 module _ {X : Type 0} (kind : Kind X) (valid : X → Type 0) (laws : IsKind kind valid) (hash : List ℕ → ℕ) (p : List ℕ) (items : List X) (r b : ℕ) (block : IsEncoding kind valid hash p items r b) (room : length p < 2 ^ 32) where
   -- each pointer of a block leads to its head

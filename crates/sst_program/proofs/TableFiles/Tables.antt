@@ -70,14 +70,3 @@ too-long config config' n blocks block behind rest items same all cut full some 
   long = λ (t : TableFits (sst_form config) (blocks ++ block ∷ [])).
       refused (subst (λ k. FrameFits (sst_form k) (length (block_frames (sst_form k) blocks)) block) (sym same) (fits_one (sst_form config) blocks block [] t.run));
 }
-
--- all blocks, whose table does not fit
-pub too-long-whole : (config config' : RunConfig) (n : ℕ) (items : List Entry) (blocks : List (List Entry)) → config' ≡ config → IsCutBy n items blocks
-    → (TableFits (sst_form config') blocks → ⊥) → IsTooLong config n items
-too-long-whole config config' n items blocks same cut refused = record {
-  blocks = blocks;
-  rest = [];
-  all = append-nil (joined blocks) ∙ cut.all;
-  sizes = cut.sizes;
-  long = λ (t : TableFits (sst_form config) blocks). refused (subst (λ k. TableFits (sst_form k) blocks) (sym same) t);
-}

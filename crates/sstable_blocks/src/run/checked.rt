@@ -16,8 +16,10 @@ ghost use Rattle.sstable_blocks.specs.RunReading.{hashes, payload_at, filter_say
 ghost use Rattle.sstable_blocks.specs.RunReading.{read_block, block_items_at, handles_at, read_blocks};
 ghost use Rattle.sstable_blocks.specs.RunReading.{read_checked, AnswerMeans};
 ghost use Rattle.sstable_blocks.specs.Sound.{ForSound};
-ghost use Rattle.sstable_blocks.specs.Sources.{GivesOr, KeepsSource, filter_frames, ReadsAs};
-ghost use Rattle.sstable_blocks.specs.Sources.{IsIoCounted};
+ghost use Rattle.sstable_blocks.specs.FrameCounts.{frames_to, read_frames};
+ghost use Rattle.sst_base.specs.Counted.{found_item};
+ghost use Rattle.sstable_blocks.specs.Sources.{AsksAs, AsksExactly, AsksUpTo, GivesOr, ReadsAs};
+ghost use Rattle.sstable_blocks.specs.Sources.{UsesSource, filter_frames};
 
 use super::RunHandles;
 use super::laws::{checked_answer_means, sound_is_read};
@@ -43,9 +45,8 @@ pub fn block_from<H: BlockHash, S: FrameSource>(
     handle: &BlockHandle,
     block_type: BlockType,
 ) -> Result<Block>
-    ensures source { KeepsSource S.bytes S.failures S.is_reliable source.old source.new }
-    ensures reads { S.reads source.new ≡ S.reads source.old + 1 }
-    ensures io { IsIoCounted S.failures source.old source.new result }
+    ensures source { UsesSource S.bytes S.failures S.reads S.is_reliable
+        (AsksExactly 1) source.old source.new result }
     ensures cells { OnOk result (IfSome (S.bytes source.old) IsBytes) }
     ensures exact { ReadsAs S.bytes S.failures S.is_reliable source.old source.new
         (λ b. b.payload) result (λ all. payload_at (hashes H.hash64 H.hash128) block_type all
@@ -71,9 +72,8 @@ pub fn data_block_from<H: BlockHash, S: FrameSource>(
     source: &mut S,
     handle: &BlockHandle,
 ) -> Result<DataBlock<H>>
-    ensures source { KeepsSource S.bytes S.failures S.is_reliable source.old source.new }
-    ensures reads { S.reads source.new ≡ S.reads source.old + 1 }
-    ensures io { IsIoCounted S.failures source.old source.new result }
+    ensures source { UsesSource S.bytes S.failures S.reads S.is_reliable
+        (AsksExactly 1) source.old source.new result }
     ensures exact { ReadsAs S.bytes S.failures S.is_reliable source.old source.new
         (λ b. b.items) result (λ all. block_items_at (hashes H.hash64 H.hash128) all handle.now) }
 {
@@ -92,9 +92,8 @@ pub fn index_block_from<H: BlockHash, S: FrameSource>(
     source: &mut S,
     handle: &BlockHandle,
 ) -> Result<IndexBlock>
-    ensures source { KeepsSource S.bytes S.failures S.is_reliable source.old source.new }
-    ensures reads { S.reads source.new ≡ S.reads source.old + 1 }
-    ensures io { IsIoCounted S.failures source.old source.new result }
+    ensures source { UsesSource S.bytes S.failures S.reads S.is_reliable
+        (AsksExactly 1) source.old source.new result }
     ensures cells { OnOk result (IfSome (S.bytes source.old) IsBytes) }
     ensures exact { ReadsAs S.bytes S.failures S.is_reliable source.old source.new
         (λ b. b.items) result (λ all. handles_at (hashes H.hash64 H.hash128) all handle.now) }
@@ -119,9 +118,8 @@ fn filter_allows<H: BlockHash, S: FrameSource>(
     filter: &Option<BlockHandle>,
     needle: &[u8],
 ) -> Result<bool>
-    ensures source { KeepsSource S.bytes S.failures S.is_reliable source.old source.new }
-    ensures reads { S.reads source.new ≡ S.reads source.old + filter_frames filter.now }
-    ensures io { IsIoCounted S.failures source.old source.new result }
+    ensures source { UsesSource S.bytes S.failures S.reads S.is_reliable
+        (AsksExactly (filter_frames filter.now)) source.old source.new result }
     ensures cells { OnOk result ((filter.now ≡ None) ⊎ IfSome (S.bytes source.old) IsBytes) }
     ensures exact { ReadsAs S.bytes S.failures S.is_reliable source.old source.new (λ b. b) result
         (λ all. filter_says (hashes H.hash64 H.hash128) all filter.now needle.now) }
@@ -144,10 +142,8 @@ pub(crate) fn read_in_block<H: BlockHash, S: FrameSource>(
     seqno: SeqNo,
     steps: &mut Steps,
 ) -> Result<Option<InternalValue>>
-    ensures source { KeepsSource S.bytes S.failures S.is_reliable source.old source.new }
-    ensures reads { S.reads source.new ≤ S.reads source.old + 1 }
-    ensures reads_grow { S.reads source.old ≤ S.reads source.new }
-    ensures io { IsIoCounted S.failures source.old source.new result }
+    ensures source { UsesSource S.bytes S.failures S.reads S.is_reliable
+        (AsksExactly (found_item handle.now)) source.old source.new result }
     ensures exact { IfSome (S.bytes source.old)
         (λ all. (h : Option Handle) → handle.now ≡ option_map range_of h
         → GivesOr (S.failures source.old < S.failures source.new) (S.is_reliable source.old)
@@ -175,10 +171,10 @@ fn read_by_index<H: BlockHash, S: FrameSource>(
     needle: &[u8],
     seqno: SeqNo,
 ) -> Result<Option<InternalValue>>
-    ensures source { KeepsSource S.bytes S.failures S.is_reliable source.old source.new }
-    ensures reads { S.reads source.new ≤ S.reads source.old + 2 }
-    ensures reads_grow { S.reads source.old ≤ S.reads source.new }
-    ensures io { IsIoCounted S.failures source.old source.new result }
+    ensures source { UsesSource S.bytes S.failures S.reads S.is_reliable
+        (AsksUpTo 2) source.old source.new result }
+    ensures asked { AsksAs S.bytes S.failures S.reads source.old source.new result
+        (λ all. frames_to (hashes H.hash64 H.hash128) all index.now needle.now seqno) }
     ensures cells { OnOk result (IfSome (S.bytes source.old) IsBytes) }
     ensures exact { ReadsAs S.bytes S.failures S.is_reliable source.old source.new (λ x. x) result
         (λ all. read_blocks (hashes H.hash64 H.hash128) all index.now needle.now seqno) }
@@ -191,7 +187,7 @@ fn read_by_index<H: BlockHash, S: FrameSource>(
 }
 
 // The first match of a run on any bytes, in stages.
-#[tactic(auto, unfolding(crate::specs::RunReading::read_checked))]
+#[tactic(auto, unfolding(crate::specs::RunReading::read_checked, crate::specs::FrameCounts::read_frames))]
 fn read_in_stages<H: BlockHash, S: FrameSource>(
     alloc: Global,
     source: &mut S,
@@ -199,13 +195,13 @@ fn read_in_stages<H: BlockHash, S: FrameSource>(
     needle: &[u8],
     seqno: SeqNo,
 ) -> Result<Option<InternalValue>>
-    ensures source { KeepsSource S.bytes S.failures S.is_reliable source.old source.new }
-    ensures reads { S.reads source.new
-        ≤ S.reads source.old + (2 + filter_frames handles.now.filter) }
+    ensures source { UsesSource S.bytes S.failures S.reads S.is_reliable
+        (AsksUpTo (2 + filter_frames handles.now.filter)) source.old source.new result }
+    ensures asked { AsksAs S.bytes S.failures S.reads source.old source.new result
+        (λ all. read_frames (hashes H.hash64 H.hash128) all handles.now needle.now seqno) }
     ensures denied { IfSome (S.bytes source.old)
         (λ all. filter_says (hashes H.hash64 H.hash128) all handles.now.filter needle.now ≡ Ok false
         → S.reads source.new ≤ S.reads source.old + 1) }
-    ensures io { IsIoCounted S.failures source.old source.new result }
     ensures cells { OnOk result (IfSome (S.bytes source.old) IsBytes) }
     ensures exact { ReadsAs S.bytes S.failures S.is_reliable source.old source.new (λ x. x) result
         (λ all. read_checked (hashes H.hash64 H.hash128) all handles.now needle.now seqno) }
@@ -237,13 +233,13 @@ pub fn read_entry_checked<H: BlockHash, S: FrameSource>(
     needle: &[u8],
     seqno: SeqNo,
 ) -> Result<Option<InternalValue>>
-    ensures source { KeepsSource S.bytes S.failures S.is_reliable source.old source.new }
-    ensures reads { S.reads source.new
-        ≤ S.reads source.old + (2 + filter_frames handles.now.filter) }
+    ensures source { UsesSource S.bytes S.failures S.reads S.is_reliable
+        (AsksUpTo (2 + filter_frames handles.now.filter)) source.old source.new result }
+    ensures asked { AsksAs S.bytes S.failures S.reads source.old source.new result
+        (λ all. read_frames (hashes H.hash64 H.hash128) all handles.now needle.now seqno) }
     ensures denied { IfSome (S.bytes source.old)
         (λ all. filter_says (hashes H.hash64 H.hash128) all handles.now.filter needle.now ≡ Ok false
         → S.reads source.new ≤ S.reads source.old + 1) }
-    ensures io { IsIoCounted S.failures source.old source.new result }
     ensures exact { ReadsAs S.bytes S.failures S.is_reliable source.old source.new (λ x. x) result
         (λ all. read_checked (hashes H.hash64 H.hash128) all handles.now needle.now seqno) }
     ensures means { IfSome (S.bytes source.old)

@@ -11,8 +11,9 @@ ghost use Rattle.sstable_blocks.specs.RunChecks.{check_by_index as index_checked
 ghost use Rattle.sstable_blocks.specs.RunChecks.{check_run as run_checked, summary_by, summary_of};
 ghost use Rattle.sstable_blocks.specs.RunReading.{hashes};
 ghost use Rattle.sstable_blocks.specs.Sound.{ForSound, IsSummary};
-ghost use Rattle.sstable_blocks.specs.Sources.{GivesOr, KeepsSource, filter_frames, ReadsAs};
-ghost use Rattle.sstable_blocks.specs.Sources.{IsIoCounted};
+ghost use Rattle.sstable_blocks.specs.FrameCounts.{blocks_frames, check_frames, frames_by_index, place_frames};
+ghost use Rattle.sstable_blocks.specs.Sources.{AsksAs, AsksExactly, AsksIfOk, GivesOr, ReadsAs};
+ghost use Rattle.sstable_blocks.specs.Sources.{UsesSource, filter_frames};
 
 use super::RunHandles;
 use super::checked::{block_from, data_block_from, index_block_from};
@@ -225,9 +226,8 @@ fn check_block<H: BlockHash, S: FrameSource>(
     handle: KeyedBlockHandle,
 ) -> Result<Passed>
     requires { handle.offset + handle.size < 2 ^ 64 }
-    ensures source { KeepsSource S.bytes S.failures S.is_reliable source.old source.new }
-    ensures reads { OnOk result (S.reads source.new ≡ S.reads source.old + 1) }
-    ensures io { IsIoCounted S.failures source.old source.new result }
+    ensures source { UsesSource S.bytes S.failures S.reads S.is_reliable
+        (AsksExactly (place_frames passed handle)) source.old source.new result }
     ensures exact { ReadsAs S.bytes S.failures S.is_reliable source.old source.new (λ s. s) result
         (λ all. block_checked (hashes H.hash64 H.hash128) all filter.now passed handle) }
 {
@@ -245,9 +245,10 @@ fn check_blocks<H: BlockHash, S: FrameSource>(
     filter: &Option<StandardBloomFilterReader<'_>>,
     index: &IndexBlock,
 ) -> Result<Passed>
-    ensures source { KeepsSource S.bytes S.failures S.is_reliable source.old source.new }
-    ensures reads { OnOk result (S.reads source.new ≡ S.reads source.old + length index.now.items) }
-    ensures io { IsIoCounted S.failures source.old source.new result }
+    ensures source { UsesSource S.bytes S.failures S.reads S.is_reliable
+        (AsksIfOk (λ _. length index.now.items)) source.old source.new result }
+    ensures asked { AsksAs S.bytes S.failures S.reads source.old source.new result
+        (λ all. blocks_frames (hashes H.hash64 H.hash128) all filter.now none_passed index.now.items) }
     ensures exact { ReadsAs S.bytes S.failures S.is_reliable source.old source.new (λ s. s) result
         (λ all. check_from (hashes H.hash64 H.hash128) all filter.now none_passed index.now.items) }
 {
@@ -267,9 +268,10 @@ fn check_by_index<H: BlockHash, S: FrameSource>(
     filter: &Option<StandardBloomFilterReader<'_>>,
     index: &BlockHandle,
 ) -> Result<RunSummary>
-    ensures source { KeepsSource S.bytes S.failures S.is_reliable source.old source.new }
-    ensures reads { IfOk result (λ s. S.reads source.new ≡ S.reads source.old + (1 + s.blocks)) }
-    ensures io { IsIoCounted S.failures source.old source.new result }
+    ensures source { UsesSource S.bytes S.failures S.reads S.is_reliable
+        (AsksIfOk (λ s. 1 + s.blocks)) source.old source.new result }
+    ensures asked { AsksAs S.bytes S.failures S.reads source.old source.new result
+        (λ all. frames_by_index (hashes H.hash64 H.hash128) all filter.now index.now) }
     ensures cells { OnOk result (IfSome (S.bytes source.old) IsBytes) }
     ensures exact { ReadsAs S.bytes S.failures S.is_reliable source.old source.new (λ s. s) result
         (λ all. index_checked (hashes H.hash64 H.hash128) all filter.now index.now) }
@@ -280,16 +282,17 @@ fn check_by_index<H: BlockHash, S: FrameSource>(
 }
 
 // Checks filter, index and blocks.
-#[tactic(auto, unfolding(crate::specs::RunChecks::check_run))]
+#[tactic(auto, unfolding(crate::specs::RunChecks::check_run, crate::specs::FrameCounts::check_frames))]
 fn check_in_stages<H: BlockHash, S: FrameSource>(
     alloc: Global,
     source: &mut S,
     handles: &RunHandles,
 ) -> Result<RunSummary>
-    ensures source { KeepsSource S.bytes S.failures S.is_reliable source.old source.new }
-    ensures reads { IfOk result (λ s. S.reads source.new
-        ≡ S.reads source.old + (filter_frames handles.now.filter + (1 + s.blocks))) }
-    ensures io { IsIoCounted S.failures source.old source.new result }
+    ensures source { UsesSource S.bytes S.failures S.reads S.is_reliable
+        (AsksIfOk (λ s. filter_frames handles.now.filter + (1 + s.blocks)))
+        source.old source.new result }
+    ensures asked { AsksAs S.bytes S.failures S.reads source.old source.new result
+        (λ all. check_frames (hashes H.hash64 H.hash128) all handles.now) }
     ensures cells { OnOk result (IfSome (S.bytes source.old) IsBytes) }
     ensures exact { ReadsAs S.bytes S.failures S.is_reliable source.old source.new (λ s. s) result
         (λ all. run_checked (hashes H.hash64 H.hash128) all handles.now) }
@@ -338,10 +341,11 @@ pub fn check<H: BlockHash, S: FrameSource>(
     source: &mut S,
     handles: &RunHandles,
 ) -> Result<RunSummary>
-    ensures source { KeepsSource S.bytes S.failures S.is_reliable source.old source.new }
-    ensures reads { IfOk result (λ s. S.reads source.new
-        ≡ S.reads source.old + (filter_frames handles.now.filter + (1 + s.blocks))) }
-    ensures io { IsIoCounted S.failures source.old source.new result }
+    ensures source { UsesSource S.bytes S.failures S.reads S.is_reliable
+        (AsksIfOk (λ s. filter_frames handles.now.filter + (1 + s.blocks)))
+        source.old source.new result }
+    ensures asked { AsksAs S.bytes S.failures S.reads source.old source.new result
+        (λ all. check_frames (hashes H.hash64 H.hash128) all handles.now) }
     ensures exact { ReadsAs S.bytes S.failures S.is_reliable source.old source.new (λ s. s) result
         (λ all. run_checked (hashes H.hash64 H.hash128) all handles.now) }
 

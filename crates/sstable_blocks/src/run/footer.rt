@@ -4,7 +4,7 @@ ghost use Rattle.std.specs.Io.KnownBytes.{Appends};
 ghost use Rattle.sst_base.specs.declared.error.Error.TheVariants.{Io, Truncated, BadHandle, Memory};
 ghost use Rattle.sstable_blocks.specs.Footer.{footer, footer_handles, parts_of, parts_at};
 ghost use Rattle.sstable_blocks.specs.Footer.{footer_place, table_handles};
-ghost use Rattle.sstable_blocks.specs.Sources.{GivesOr, KeepsSource, IsIoCounted};
+ghost use Rattle.sstable_blocks.specs.Sources.{AsksExactly, GivesOr, UsesSource};
 
 use super::RunHandles;
 use super::source::FrameSource;
@@ -100,9 +100,8 @@ fn handle_in(bytes: &[u8]) -> BlockHandle
 ///
 /// Those of `FrameSource::read_frame`, then `Error::Truncated` below 24 bytes.
 pub fn read_footer<S: FrameSource>(alloc: Global, source: &mut S, len: u64) -> Result<RunHandles>
-    ensures source { KeepsSource S.bytes S.failures S.is_reliable source.old source.new }
-    ensures reads { S.reads source.new ≡ S.reads source.old + 1 }
-    ensures io { IsIoCounted S.failures source.old source.new result }
+    ensures source { UsesSource S.bytes S.failures S.reads S.is_reliable
+        (AsksExactly 1) source.old source.new result }
     ensures exact { IfSome (S.bytes source.old) (λ all. len ≡ length all
         → GivesOr ((S.failures source.old < S.failures source.new)
         × (S.is_reliable source.old → ⊥)) ⊥ (λ h. h) result (table_handles all)) }

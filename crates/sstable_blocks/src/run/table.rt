@@ -14,8 +14,9 @@ ghost use Rattle.sstable_blocks.specs.Opened.{range_of};
 ghost use Rattle.sstable_blocks.specs.RunChecks.{check_run as run_checked, summary_of};
 ghost use Rattle.sstable_blocks.specs.RunReading.{hashes, block_items_at, handles_at, read_checked};
 ghost use Rattle.sstable_blocks.specs.Sound.{ForSound, IsSoundRun, IsSummary};
-ghost use Rattle.sstable_blocks.specs.Sources.{FailsAs, GivesOr, KeepsSource, filter_frames};
-ghost use Rattle.sstable_blocks.specs.Sources.{ReadsAs, IsIoCounted};
+ghost use Rattle.sstable_blocks.specs.Sources.{AsksAs, AsksExactly, AsksIfOk, FailsAs, GivesOr};
+ghost use Rattle.sstable_blocks.specs.Sources.{ReadsAs, UsesSource, filter_frames};
+ghost use Rattle.sstable_blocks.specs.FrameCounts.{check_frames, file_frames, open_frames};
 ghost use Rattle.sstable_blocks.specs.Tables.{filter_kept, kept_of, kept_by_footer, IsKeptOf};
 ghost use Rattle.sstable_blocks.specs.Tables.{IsIndexIn, kept_says, read_kept, frames_by, LooksBy};
 
@@ -94,10 +95,8 @@ fn filter_block_from<H: BlockHash, S: FrameSource>(
     source: &mut S,
     filter: &Option<BlockHandle>,
 ) -> Result<Option<KeptFilter>>
-    ensures source { KeepsSource S.bytes S.failures S.is_reliable source.old source.new }
-    ensures reads { OnOk result
-        (S.reads source.new ≡ S.reads source.old + filter_frames filter.now) }
-    ensures io { IsIoCounted S.failures source.old source.new result }
+    ensures source { UsesSource S.bytes S.failures S.reads S.is_reliable
+        (AsksExactly (filter_frames filter.now)) source.old source.new result }
     ensures exact { ReadsAs S.bytes S.failures S.is_reliable source.old source.new (λ f. f) result
         (λ all. filter_kept (hashes H.hash64 H.hash128) all filter.now) }
 {
@@ -123,9 +122,9 @@ fn kept_allows<H: BlockHash>(filter: &Option<KeptFilter>, needle: &[u8]) -> bool
 
 // The handles in the footer of a table file.
 fn handles_from<S: SizedSource>(alloc: Global, source: &mut S) -> Result<RunHandles>
-    ensures source { KeepsSource S.bytes S.failures S.is_reliable source.old source.new }
-    ensures reads { OnOk result (S.reads source.new ≡ S.reads source.old + 1) }
-    ensures io { IsIoCounted S.failures source.old source.new result }
+    ensures source { UsesSource S.bytes S.failures S.reads S.is_reliable
+        (AsksIfOk (λ _. 1)) source.old source.new result }
+    ensures asked { AsksAs S.bytes S.failures S.reads source.old source.new result (λ _. 1) }
     ensures exact { ReadsAs S.bytes S.failures S.is_reliable source.old source.new (λ h. h) result
         (λ all. table_handles all) }
 {
@@ -139,9 +138,8 @@ fn kept_index_from<H: BlockHash, S: FrameSource>(
     source: &mut S,
     handle: &BlockHandle,
 ) -> Result<IndexBlock>
-    ensures source { KeepsSource S.bytes S.failures S.is_reliable source.old source.new }
-    ensures reads { S.reads source.new ≡ S.reads source.old + 1 }
-    ensures io { IsIoCounted S.failures source.old source.new result }
+    ensures source { UsesSource S.bytes S.failures S.reads S.is_reliable
+        (AsksExactly 1) source.old source.new result }
     ensures exact { ReadsAs S.bytes S.failures S.is_reliable source.old source.new
         (λ b. b.items) result (λ all. handles_at (hashes H.hash64 H.hash128) all handle.now) }
     ensures place { IfOk result (λ b. IfSome (S.bytes source.old)
@@ -159,10 +157,10 @@ fn kept_from<H: BlockHash, S: FrameSource>(
     source: &mut S,
     handles: &RunHandles,
 ) -> Result<(Option<KeptFilter>, IndexBlock)>
-    ensures source { KeepsSource S.bytes S.failures S.is_reliable source.old source.new }
-    ensures reads { OnOk result
-        (S.reads source.new ≡ S.reads source.old + (filter_frames handles.now.filter + 1)) }
-    ensures io { IsIoCounted S.failures source.old source.new result }
+    ensures source { UsesSource S.bytes S.failures S.reads S.is_reliable
+        (AsksIfOk (λ _. filter_frames handles.now.filter + 1)) source.old source.new result }
+    ensures asked { AsksAs S.bytes S.failures S.reads source.old source.new result
+        (λ all. open_frames (hashes H.hash64 H.hash128) all handles.now) }
     ensures kept { IfSome (S.bytes source.old) (λ all. IfOk result
         (λ k. IsKeptOf (hashes H.hash64 H.hash128) handles.now k.0 k.1.items k.1.interval all)) }
     ensures exact { ReadsAs S.bytes S.failures S.is_reliable source.old source.new
@@ -185,10 +183,10 @@ fn read_by_kept<H: BlockHash, S: FrameSource>(
     seqno: SeqNo,
     steps: &mut Steps,
 ) -> Result<Option<InternalValue>>
-    ensures source { KeepsSource S.bytes S.failures S.is_reliable source.old source.new }
-    ensures reads { S.reads source.new ≤ S.reads source.old
-        + frames_by (kept_says H.hash64 filter.now needle.now) }
-    ensures io { IsIoCounted S.failures source.old source.new result }
+    ensures source { UsesSource S.bytes S.failures S.reads S.is_reliable
+        (AsksExactly (frames_by (kept_says H.hash64 filter.now needle.now)
+        (handle_for handles needle.now seqno index.now.items)))
+        source.old source.new result }
     ensures exact { ReadsAs S.bytes S.failures S.is_reliable source.old source.new (λ x. x) result
         (λ all. read_kept (hashes H.hash64 H.hash128) all filter.now index.now.items needle.now
         seqno) }
@@ -227,11 +225,10 @@ impl<H: BlockHash, S: FrameSource> Table<H, S> {
         steps: &mut Steps,
     ) -> Result<Option<InternalValue>>
         ensures kept { self.new ≡ record self.old { source = self.new.source } }
-        ensures source { KeepsSource S.bytes S.failures S.is_reliable self.old.source
-            self.new.source }
-        ensures reads { S.reads self.new.source ≤ S.reads self.old.source
-            + frames_by (kept_says H.hash64 self.old.filter needle.now) }
-        ensures io { IsIoCounted S.failures self.old.source self.new.source result }
+        ensures source { UsesSource S.bytes S.failures S.reads S.is_reliable
+            (AsksExactly (frames_by (kept_says H.hash64 self.old.filter needle.now)
+            (handle_for handles needle.now seqno self.old.index)))
+            self.old.source self.new.source result }
         ensures exact { ReadsAs S.bytes S.failures S.is_reliable self.old.source self.new.source
             (λ x. x) result (λ all. read_checked (hashes H.hash64 H.hash128) all self.old.handles
             needle.now seqno) }
@@ -296,10 +293,8 @@ impl<H: BlockHash, S: FrameSource> Table<H, S> {
     pub fn block_at(&mut self, alloc: Global, index: usize) -> Result<DataBlock<H>>
         requires { index < length self.old.index }
         ensures kept { self.new ≡ record self.old { source = self.new.source } }
-        ensures source { KeepsSource S.bytes S.failures S.is_reliable self.old.source
-            self.new.source }
-        ensures reads { S.reads self.new.source ≡ S.reads self.old.source + 1 }
-        ensures io { IsIoCounted S.failures self.old.source self.new.source result }
+        ensures source { UsesSource S.bytes S.failures S.reads S.is_reliable
+            (AsksExactly 1) self.old.source self.new.source result }
         ensures exact { IfSome (S.bytes self.old.source)
             (λ all. (h : Handle) → slice_get self.old.index index ≡ Some h
             → GivesOr (S.failures self.old.source < S.failures self.new.source)
@@ -317,11 +312,11 @@ impl<H: BlockHash, S: FrameSource> Table<H, S> {
     /// Those of [`check`].
     pub fn verify(&mut self, alloc: Global) -> Result<RunSummary>
         ensures kept { self.new ≡ record self.old { source = self.new.source } }
-        ensures source { KeepsSource S.bytes S.failures S.is_reliable self.old.source
-            self.new.source }
-        ensures reads { IfOk result (λ s. S.reads self.new.source
-            ≡ S.reads self.old.source + (filter_frames self.old.handles.filter + (1 + s.blocks))) }
-        ensures io { IsIoCounted S.failures self.old.source self.new.source result }
+        ensures source { UsesSource S.bytes S.failures S.reads S.is_reliable
+            (AsksIfOk (λ s. filter_frames self.old.handles.filter + (1 + s.blocks)))
+            self.old.source self.new.source result }
+        ensures asked { AsksAs S.bytes S.failures S.reads self.old.source self.new.source result
+            (λ all. check_frames (hashes H.hash64 H.hash128) all self.old.handles) }
         ensures exact { ReadsAs S.bytes S.failures S.is_reliable self.old.source self.new.source
             (λ s. s) result (λ all. run_checked (hashes H.hash64 H.hash128) all self.old.handles) }
         ensures sound { IfSome (S.bytes self.old.source)
@@ -352,12 +347,11 @@ impl<H: BlockHash, S: FrameSource> Table<H, S> {
         handles: RunHandles,
     ) -> std::result::Result<Table<H, S>, OpenError<S>>
         ensures handles { IfOk result (λ t. t.handles ≡ handles) }
-        ensures source { MatchResult result
-            (λ t. KeepsSource S.bytes S.failures S.is_reliable source t.source)
-            (λ e. KeepsSource S.bytes S.failures S.is_reliable source e.source) }
-        ensures reads { IfOk result
-            (λ t. S.reads t.source ≡ S.reads source + (filter_frames handles.filter + 1)) }
-        ensures io { IfErr result (λ e. e.error ≡ Io → S.failures source < S.failures e.source) }
+        ensures source { UsesSource S.bytes S.failures S.reads S.is_reliable
+            (AsksIfOk (λ _. filter_frames handles.filter + 1)) source (source_after result)
+            (error_after result) }
+        ensures asked { AsksAs S.bytes S.failures S.reads source (source_after result) (error_after result)
+            (λ all. open_frames (hashes H.hash64 H.hash128) all handles) }
         ensures exact { IfSome (S.bytes source) (λ all. MatchResult result
             (λ t. kept_of (hashes H.hash64 H.hash128) all handles ≡ Ok (t.filter, t.index))
             (λ e. FailsAs (S.failures source < S.failures e.source) (S.is_reliable source)
@@ -386,12 +380,11 @@ impl<H: BlockHash, S: SizedSource> Table<H, S> {
     /// `Error::Io` if the source fails, `Error::Truncated` if it is shorter than a footer, then
     /// those of [`Table::open`]. The source is returned with the error.
     pub fn open_file(alloc: Global, source: S) -> std::result::Result<Table<H, S>, OpenError<S>>
-        ensures source { MatchResult result
-            (λ t. KeepsSource S.bytes S.failures S.is_reliable source t.source)
-            (λ e. KeepsSource S.bytes S.failures S.is_reliable source e.source) }
-        ensures reads { IfOk result
-            (λ t. S.reads t.source ≡ S.reads source + (filter_frames t.handles.filter + 2)) }
-        ensures io { IfErr result (λ e. e.error ≡ Io → S.failures source < S.failures e.source) }
+        ensures source { UsesSource S.bytes S.failures S.reads S.is_reliable
+            (AsksIfOk (λ t. filter_frames t.handles.filter + 2)) source (source_after result)
+            (error_after result) }
+        ensures asked { AsksAs S.bytes S.failures S.reads source (source_after result) (error_after result)
+            (λ all. file_frames (hashes H.hash64 H.hash128) all) }
         ensures exact { IfSome (S.bytes source) (λ all. MatchResult result
             (λ t. kept_by_footer (hashes H.hash64 H.hash128) all
             ≡ Ok (t.handles, t.filter, t.index))

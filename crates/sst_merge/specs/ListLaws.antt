@@ -1,0 +1,32 @@
+-- Laws of lists: what follows in an ordered one, the first item that passes a test, and an item that is left out or kept.
+use Rattle.std.proofs.Common.{◌≡◌, Bool, true, false, not, cond, List, [], ◌∷◌, ◌++◌, Option, Some, ap, ◌∙◌, filter, slice_get}
+use Rattle.std.specs.declared.cmp.Ordering.{Ordering}
+use Rattle.sst_base.specs.Order.{IsInOrder}
+use Rattle.sst_block_core.specs.ListLaws.{first_filter}
+
+module _ {X : Type 0} (cmp : X → X → Ordering) where
+  -- what follows the first item of an ordered list is in order
+  pub order_tail : (x : X) (xs : List X) → IsInOrder cmp (x ∷ xs) → IsInOrder cmp xs
+  order_tail x [] h = tt
+  order_tail x (y ∷ ys) h = h.1
+
+  -- and what follows several
+  pub order_rest : (xs ys : List X) → IsInOrder cmp (xs ++ ys) → IsInOrder cmp ys
+  order_rest [] ys h = h
+  order_rest (x ∷ xs) ys h = order_rest xs ys (order_tail x (xs ++ ys) h)
+
+module _ {X : Type 0} (test : X → Bool) where
+  -- the first item that passes
+  abbrev pub first : List X → Option X
+  first xs = slice_get (filter test xs) 0
+
+  pub first_hit : (x : X) (xs : List X) → test x ≡ true → first (x ∷ xs) ≡ Some x
+  first_hit x xs h = first_filter test x xs ∙ ap (λ b. cond b (Some x) (first xs)) h
+
+  pub first_miss : (x : X) (xs : List X) → test x ≡ false → first (x ∷ xs) ≡ first xs
+  first_miss x xs h = first_filter test x xs ∙ ap (λ b. cond b (Some x) (first xs)) h
+
+-- an item that is left out where a test holds is kept where it does not
+pub left_out : {X : Type 0} (t : Bool) (x : X) (xs ys : List X) → xs ≡ ys → cond t xs (x ∷ xs) ≡ cond (not t) (x ∷ ys) ys
+left_out true x xs ys e = e
+left_out false x xs ys e = ap (λ zs. x ∷ zs) e
