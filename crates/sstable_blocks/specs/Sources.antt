@@ -81,11 +81,11 @@ pub record UsesSource {S Y : Type 0} (bytes : S → Option (List ℕ)) (failures
   pub io : IsIoCounted failures old new result
   pub asks : Asks result (reads old) (reads new)
 
--- So many frames are asked for, also where a call fails; fewer only where an allocation or the source fails. Failures and
--- frames are those before and after.
-abbrev pub AsksFor : {Y : Type 0} → ℕ → ℕ → ℕ → ℕ → Result Y Error → ℕ → Type 0
-AsksFor failed failed' asked asked' result n = (asked' ≤ asked + n) × (failed' ≡ failed → (result ≡ Err Memory → ⊥) → asked' ≡ asked + n)
+-- So many frames are asked for, also where a call fails; fewer only where the source fails, or where this does not hold.
+-- Failures and frames are those before and after.
+abbrev pub AsksFor : ℕ → ℕ → ℕ → ℕ → Type 0 → ℕ → Type 0
+AsksFor failed failed' asked asked' Whole n = (asked' ≤ asked + n) × (failed' ≡ failed → Whole → asked' ≡ asked + n)
 
--- the same of a call over a source whose bytes are known, by these
+-- the same of a call over a source whose bytes are known, by these, where no allocation fails
 abbrev pub AsksAs : {S Y : Type 0} → (S → Option (List ℕ)) → (S → ℕ) → (S → ℕ) → S → S → Result Y Error → (List ℕ → ℕ) → Type 0
-AsksAs bytes failures reads old new result frames = IfSome (bytes old) (λ all. AsksFor (failures old) (failures new) (reads old) (reads new) result (frames all))
+AsksAs bytes failures reads old new result frames = IfSome (bytes old) (λ all. AsksFor (failures old) (failures new) (reads old) (reads new) (IfErr result (λ e. e ≢ Memory)) (frames all))

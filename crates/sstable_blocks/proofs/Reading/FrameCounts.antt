@@ -1,24 +1,40 @@
 -- How many frames are asked for in stages.
-use Rattle.std.proofs.Common.{◌≡◌, ℕ, ◌+◌, ◌<◌, ◌≤◌, inl, inr, List, Option, Some, None, IfSome, Result, Ok, Err, ap, subst, ◌∙◌, arith}
+use Rattle.std.proofs.Common.{◌≡◌, ◌≢◌, ℕ, ◌+◌, ◌<◌, ◌≤◌, inl, inr, List, [], ◌∷◌, Option, Some, None, IfSome, Result, Ok, Err, IfErr, refl, sym, ap, subst, ◌∙◌, arith, Bool, true, false, cond}
 use Rattle.sst_base.specs.declared.error.Error.{Error}
-use Rattle.sstable_blocks.specs.FrameCounts.{frames_after}
-use Rattle.sstable_blocks.specs.Sources.{AsksFor, FailsAs, GivesOr}
+use Rattle.sst_base.specs.declared.error.Error.TheVariants.{BadHandle, Memory}
+use Rattle.sst_base.specs.BlockHandle.{HandleParts}
+use Rattle.sst_base.specs.Header.{◌>>=◌}
+use Rattle.sst_base.specs.declared.table.block.block_type.BlockType.TheVariants as types
+use Rattle.std.specs.Option.{option_map}
+use Rattle.sst_base.specs.Counted.{found_item}
+use Rattle.sst_block_core.specs.Checks.{index_check}
+use Rattle.sst_block_core.specs.Handles.{Handle, handles}
+use Rattle.sstable_blocks.specs.Lookup.{handle_for}
+use Rattle.sstable_blocks.specs.Opened.{range_of}
+use Rattle.sstable_blocks.specs.Filter.{Filter, filter_at}
+use Rattle.sstable_blocks.specs.FrameCounts.{blocks_frames, check_frames, frames_after, frames_by_index, frames_to, place_frames}
+use Rattle.sstable_blocks.specs.RunChecks.{check_block, filter_in_run, none_passed}
+use Rattle.sstable_blocks.specs.RunReading.{Hashes, handles_at, payload_at}
+use Rattle.sstable_blocks.specs.SourceLaws.{source_fails}
+use Rattle.sstable_blocks.specs.Sources.{AsksFor, FailsAs, filter_frames}
+use Rattle.sstable_blocks.specs.declared.run.RunHandles.{RunHandles}
+use Rattle.sstable_blocks.specs.declared.run.checking.Passed.{Passed}
 
 -- a stage that fails is the last
-asks_stop : {Y Z : Type 0} (f f' a a' n : ℕ) (R : Type 0) (e : Error) (read : Result Z Error) (rest : Z → ℕ) → a' ≡ a + n → FailsAs (f < f') R read e
-    → AsksFor {Y} f f' a a' (Err e) (n + frames_after read rest)
+asks_stop : {Z : Type 0} (f f' a a' n : ℕ) (R : Type 0) (e : Error) (read : Result Z Error) (rest : Z → ℕ) → a' ≡ a + n → FailsAs (f < f') R read e
+    → AsksFor f f' a a' (e ≢ Memory) (n + frames_after read rest)
 asks_stop f f' a a' n R e read rest asked fails = (
     omega (arith, asked),
-    λ same other. elim (fails (λ memory. other (ap Err memory))) [
+    λ same other. elim (fails other) [
       | inl failure ↦ absurd (let less = failure.0 in omega (arith, less, same))
       | inr refused ↦ asked ∙ ap (λ m. a + m) (let none : frames_after read rest ≡ 0 = ap (λ r. frames_after r rest) refused in omega (arith, none))
     ]
   )
 
 -- behind a stage that succeeds the next ones ask
-asks_on : {Y Z : Type 0} (f f' f'' a a' a'' n : ℕ) (result : Result Y Error) (read : Result Z Error) (z : Z) (rest : Z → ℕ) → read ≡ Ok z → a' ≡ a + n → f ≤ f' → f' ≤ f''
-    → AsksFor f' f'' a' a'' result (rest z) → AsksFor f f'' a a'' result (n + frames_after read rest)
-asks_on f f' f'' a a' a'' n result read z rest found asked grow grow' next =
+asks_on : {Z : Type 0} (f f' f'' a a' a'' n : ℕ) (P : Type 0) (read : Result Z Error) (z : Z) (rest : Z → ℕ) → read ≡ Ok z → a' ≡ a + n → f ≤ f' → f' ≤ f''
+    → AsksFor f' f'' a' a'' P (rest z) → AsksFor f f'' a a'' P (n + frames_after read rest)
+asks_on f f' f'' a a' a'' n P read z rest found asked grow grow' next =
     let all : frames_after read rest ≡ rest z = ap (λ r. frames_after r rest) found in
     let most = next.0 in
     (
@@ -28,20 +44,193 @@ asks_on f f' f'' a a' a'' n result read z rest found asked grow grow' next =
         omega (arith, asked, all, whole)
     )
 
--- the same of a source whose bytes are known
-pub stops : {X Y Z : Type 0} (b : Option (List ℕ)) (f f' a a' : ℕ) (n : ℕ) (R : Type 0) (view : X → Z) (e : Error) (read : List ℕ → Result Z Error) (rest : List ℕ → Z → ℕ) → a' ≡ a + n
-    → IfSome b (λ all. GivesOr (f < f') R view (Err e) (read all)) → IfSome b (λ all. AsksFor {Y} f f' a a' (Err e) (n + frames_after (read all) (rest all)))
-stops None f f' a a' n R view e read rest asked exact = tt
-stops (Some all) f f' a a' n R view e read rest asked exact = asks_stop f f' a a' n R e (read all) (rest all) asked exact
+-- so is one that asked for fewer where an allocation or the source failed
+pub stops_as : {Z : Type 0} (b : Option (List ℕ)) (f f' a a' n : ℕ) (R : Type 0) (e : Error) (read : List ℕ → Result Z Error) (rest : List ℕ → Z → ℕ) → IfSome b (λ _. AsksFor f f' a a' (e ≢ Memory) n)
+    → IfSome b (λ all. FailsAs (f < f') R (read all) e) → IfSome b (λ all. AsksFor f f' a a' (e ≢ Memory) (n + frames_after (read all) (rest all)))
+stops_as None f f' a a' n R e read rest asked exact = tt
+stops_as (Some all) f f' a a' n R e read rest asked exact = (
+    let most = asked.0 in omega (arith, most),
+    λ same other. elim (exact other) [
+      | inl failure ↦ absurd (let less = failure.0 in omega (arith, less, same))
+      | inr refused ↦
+          let some = asked.1 same other in
+          let none : frames_after (read all) (rest all) ≡ 0 = ap (λ r. frames_after r (rest all)) refused in
+          omega (arith, some, none)
+    ]
+  )
 
-pub goes_on : {X Y Z : Type 0} (b b' : Option (List ℕ)) (f f' f'' a a' a'' n : ℕ) (R : Type 0) (view : X → Z) (x : X) (result : Result Y Error) (read : List ℕ → Result Z Error) (rest : List ℕ → Z → ℕ)
-    → b' ≡ b → a' ≡ a + n → f ≤ f' → f' ≤ f'' → IfSome b (λ all. GivesOr (f < f') R view (Ok x) (read all))
-    → IfSome b' (λ all. AsksFor f' f'' a' a'' result (rest all (view x))) → IfSome b (λ all. AsksFor f f'' a a'' result (n + frames_after (read all) (rest all)))
-goes_on None b' f f' f'' a a' a'' n R view x result read rest same asked grow grow' exact next = tt
-goes_on (Some all) b' f f' f'' a a' a'' n R view x result read rest same asked grow grow' exact next =
-    asks_on f f' f'' a a' a'' n result (read all) (view x) (rest all) exact asked grow grow' (subst (λ o. IfSome o (λ all. AsksFor f' f'' a' a'' result (rest all (view x)))) same next)
+-- the same of a source whose bytes are known
+pub stops : {Z : Type 0} (b : Option (List ℕ)) (f f' a a' n : ℕ) (R : Type 0) (e : Error) (read : List ℕ → Result Z Error) (rest : List ℕ → Z → ℕ) → a' ≡ a + n → IfSome b (λ all. FailsAs (f < f') R (read all) e)
+    → IfSome b (λ all. AsksFor f f' a a' (e ≢ Memory) (n + frames_after (read all) (rest all)))
+stops None f f' a a' n R e read rest asked exact = tt
+stops (Some all) f f' a a' n R e read rest asked exact = asks_stop f f' a a' n R e (read all) (rest all) asked exact
+
+pub goes_on : {Z : Type 0} (b b' : Option (List ℕ)) (f f' f'' a a' a'' n : ℕ) (z : Z) (P : Type 0) (read : List ℕ → Result Z Error) (rest : List ℕ → Z → ℕ)
+    → b' ≡ b → a' ≡ a + n → f ≤ f' → f' ≤ f'' → IfSome b (λ all. read all ≡ Ok z)
+    → IfSome b' (λ all. AsksFor f' f'' a' a'' P (rest all z)) → IfSome b (λ all. AsksFor f f'' a a'' P (n + frames_after (read all) (rest all)))
+goes_on None b' f f' f'' a a' a'' n z P read rest same asked grow grow' exact next = tt
+goes_on (Some all) b' f f' f'' a a' a'' n z P read rest same asked grow grow' exact next =
+    asks_on f f' f'' a a' a'' n P (read all) z (rest all) exact asked grow grow' (subst (λ o. IfSome o (λ all. AsksFor f' f'' a' a'' P (rest all z))) same next)
+
+-- a reading that a reading fails by fails so
+pub fails_on : {A Z : Type 0} (b : Option (List ℕ)) (F R : Type 0) (go : List ℕ → Result A Error → Result Z Error) (e : Error) (read : List ℕ → Result A Error) → ((all : List ℕ) (d : Error) → go all (Err d) ≡ Err d)
+    → IfSome b (λ all. FailsAs F R (read all) e) → IfSome b (λ all. FailsAs F R (go all (read all)) e)
+fails_on None F R go e read keeps fails = tt
+fails_on (Some all) F R go e read keeps fails = λ other. elim (fails other) [
+  | inl failed ↦ inl (source_fails (λ f. f) (λ r. r) (λ is. ap (go all) is ∙ keeps all BadHandle) failed)
+  | inr is ↦ inr (ap (go all) is ∙ keeps all e)
+]
+
+-- what was asked for where all succeeded is what was asked for
+pub whole : (b : Option (List ℕ)) (f f' a a' : ℕ) (n : List ℕ → ℕ) (P : Type 0) → IfSome b (λ all. AsksFor f f' a a' (Unit {0}) (n all)) → IfSome b (λ all. AsksFor f f' a a' P (n all))
+whole None f f' a a' n P asked = tt
+whole (Some all) f f' a a' n P asked = (asked.0, λ same _. asked.1 same tt)
 
 -- exactly so many, whatever happens
-pub exactly : {Y : Type 0} (b : Option (List ℕ)) (f f' a a' n : ℕ) (result : Result Y Error) → a' ≡ a + n → IfSome b (λ all. AsksFor f f' a a' result n)
-exactly None f f' a a' n result asked = tt
-exactly (Some all) f f' a a' n result asked = (omega (arith, asked), λ _ _. asked)
+pub exactly : (b : Option (List ℕ)) (f f' a a' n : ℕ) (P : Type 0) → a' ≡ a + n → IfSome b (λ all. AsksFor f f' a a' P n)
+exactly None f f' a a' n P asked = tt
+exactly (Some all) f f' a a' n P asked = (omega (arith, asked), λ _ _. asked)
+
+-- Blocks that are checked one after the other.
+module _ (c : Hashes) (f : Option Filter) (items : List Handle) where
+  -- after some blocks, so many frames were asked for in all, from this many on
+  abbrev pub IsOnWay : Option (List ℕ) → Passed → List Handle → ℕ → ℕ → Type 0
+  IsOnWay b s left first now = IfSome b (λ all. blocks_frames c all f s left + now ≡ blocks_frames c all f none_passed items + first)
+
+  -- a block that passes
+  pub way_on : (b b' : Option (List ℕ)) (s t : Passed) (h : Handle) (left rest : List Handle) (first now next : ℕ) → b' ≡ b → left ≡ h ∷ rest → next ≡ now + place_frames s h
+      → IfSome b' (λ all. check_block c all f s h ≡ Ok t) → IsOnWay b s left first now → IsOnWay b t rest first next
+  way_on None b' s t h left rest first now next same is asked exact way = tt
+  way_on (Some all) b' s t h left rest first now next same is asked exact way =
+      let ok : check_block c all f s h ≡ Ok t = subst (λ o. IfSome o (λ all. check_block c all f s h ≡ Ok t)) same exact in
+      let one : blocks_frames c all f s left ≡ place_frames s h + blocks_frames c all f t rest =
+      ap (blocks_frames c all f s) is ∙ ap (λ r. place_frames s h + frames_after r (λ u. blocks_frames c all f u rest)) ok in
+      omega (arith, one, asked, way)
+
+  -- a block that is refused is the last
+  pub way_ends : (b b' : Option (List ℕ)) (s : Passed) (h : Handle) (left rest : List Handle) (first now next g g' g'' : ℕ) (R : Type 0) (e : Error) → b' ≡ b → left ≡ h ∷ rest
+      → next ≡ now + place_frames s h → g ≤ g' → g' ≤ g'' → IfSome b' (λ all. FailsAs (g' < g'') R (check_block c all f s h) e) → IsOnWay b s left first now
+      → IfSome b (λ all. AsksFor g g'' first next (e ≢ Memory) (blocks_frames c all f none_passed items))
+  way_ends None b' s h left rest first now next g g' g'' R e same is asked grow grow' exact way = tt
+  way_ends (Some all) b' s h left rest first now next g g' g'' R e same is asked grow grow' exact way =
+      let fails : FailsAs (g' < g'') R (check_block c all f s h) e = subst (λ o. IfSome o (λ all. FailsAs (g' < g'') R (check_block c all f s h) e)) same exact in
+      let one : blocks_frames c all f s left ≡ place_frames s h + frames_after (check_block c all f s h) (λ u. blocks_frames c all f u rest) = ap (blocks_frames c all f s) is in
+      (
+        omega (arith, one, asked, way),
+        λ whole other. elim (fails other) [
+          | inl failure ↦ absurd (let less = failure.0 in omega (arith, less, whole, grow))
+          | inr refused ↦
+              let none : frames_after (check_block c all f s h) (λ u. blocks_frames c all f u rest) ≡ 0 = ap (λ r. frames_after r (λ u. blocks_frames c all f u rest)) refused in
+              omega (arith, one, asked, way, none)
+        ]
+      )
+
+  -- where none is left, all were asked for
+  pub way_done : (b : Option (List ℕ)) (s : Passed) (left : List Handle) (first now g g' : ℕ) (P : Type 0) → left ≡ [] → IsOnWay b s left first now
+      → IfSome b (λ all. AsksFor g g' first now P (blocks_frames c all f none_passed items))
+  way_done None s left first now g g' P none way = tt
+  way_done (Some all) s left first now g g' P none way =
+      let zero : blocks_frames c all f s left ≡ 0 = ap (blocks_frames c all f s) none in
+      (omega (arith, zero, way), λ _ _. omega (arith, zero, way))
+
+  -- a failed allocation
+  pub way_stops : (b : Option (List ℕ)) (s : Passed) (left : List Handle) (first now g g' : ℕ) (P : Type 0) → (P → ⊥) → IsOnWay b s left first now
+      → IfSome b (λ all. AsksFor g g' first now P (blocks_frames c all f none_passed items))
+  way_stops None s left first now g g' P none way = tt
+  way_stops (Some all) s left first now g g' P none way = (omega (arith, way), λ _ other. absurd (none other))
+
+-- The frames of a check, by its filter.
+module _ (c : Hashes) (h : RunHandles) (f f' a a' : ℕ) where
+  -- of a run without a filter those of the index
+  pub no_filter : (b : Option (List ℕ)) (P : Type 0) → h.filter ≡ None → IfSome b (λ all. AsksFor f f' a a' P (frames_by_index c all None h.index))
+      → IfSome b (λ all. AsksFor f f' a a' P (check_frames c all h))
+  unfolding check_frames
+  no_filter None P none asked = tt
+  no_filter (Some all) P none asked =
+      let is : frames_by_index c all None h.index ≡ filter_frames h.filter + frames_after (filter_in_run c all h.filter) (λ x. frames_by_index c all x h.index) =
+      omega arith ∙ sym (ap (λ o. filter_frames o + frames_after (filter_in_run c all o) (λ x. frames_by_index c all x h.index)) none) in
+      subst (AsksFor f f' a a' P) is asked
+
+  module _ (g : HandleParts) (there : h.filter ≡ Some g) where
+    count : filter_frames h.filter ≡ 1
+    count = ap filter_frames there
+
+    -- a filter whose frame is refused is the last
+    pub filter_stops : (b : Option (List ℕ)) (R : Type 0) (e : Error) → a' ≡ a + 1 → IfSome b (λ all. FailsAs (f < f') R (payload_at c types.Filter all g) e)
+        → IfSome b (λ all. AsksFor f f' a a' (e ≢ Memory) (check_frames c all h))
+    unfolding check_frames
+    filter_stops None R e asked fails = tt
+    filter_stops (Some all) R e asked fails =
+        let read : FailsAs (f < f') R (filter_in_run c all (Some g)) e =
+        fails_on (Some all) (f < f') R (λ all (r : Result (List ℕ) Error). r >>= (λ p. filter_at p >>= (λ x. Ok (Some x)))) e (λ all. payload_at c types.Filter all g) (λ all d. refl) fails in
+        asks_stop f f' a a' (filter_frames h.filter) R e (filter_in_run c all h.filter) (λ x. frames_by_index c all x h.index) (omega (arith, asked, count))
+        (subst (λ o. FailsAs (f < f') R (filter_in_run c all o) e) (sym there) read)
+
+    module _ (p : List ℕ) where
+      read_on : (all : List ℕ) → payload_at c types.Filter all g ≡ Ok p → filter_in_run c all h.filter ≡ (filter_at p >>= (λ x. Ok (Some x)))
+      read_on all payload = ap (filter_in_run c all) there ∙ ap (λ r. r >>= (λ q. filter_at q >>= (λ x. Ok (Some x)))) payload
+
+      -- and one that is refused
+      pub filter_refused : (b : Option (List ℕ)) (e : Error) → a' ≡ a + 1 → IfSome b (λ all. payload_at c types.Filter all g ≡ Ok p) → filter_at p ≡ Err e
+          → IfSome b (λ all. AsksFor f f' a a' (e ≢ Memory) (check_frames c all h))
+      unfolding check_frames
+      filter_refused None e asked payload refused = tt
+      filter_refused (Some all) e asked payload refused =
+          let none : frames_after (filter_in_run c all h.filter) (λ x. frames_by_index c all x h.index) ≡ 0 =
+          ap (λ r. frames_after r (λ x. frames_by_index c all x h.index)) (read_on all payload ∙ ap (λ r. r >>= (λ x. Ok (Some x))) refused) in
+          (omega (arith, asked, count), λ _ _. omega (arith, asked, count, none))
+
+      -- behind one that passes index and blocks are read
+      pub filter_passes : (b b' : Option (List ℕ)) (f'' a'' : ℕ) (x : Filter) (P : Type 0) → b' ≡ b → a' ≡ a + 1 → f ≤ f' → f' ≤ f'' → IfSome b (λ all. payload_at c types.Filter all g ≡ Ok p)
+          → filter_at p ≡ Ok x → IfSome b' (λ all. AsksFor f' f'' a' a'' P (frames_by_index c all (Some x) h.index)) → IfSome b (λ all. AsksFor f f'' a a'' P (check_frames c all h))
+      unfolding check_frames
+      filter_passes None b' f'' a'' x P same asked grow grow' payload passes next = tt
+      filter_passes (Some all) b' f'' a'' x P same asked grow grow' payload passes next =
+          asks_on f f' f'' a a' a'' (filter_frames h.filter) P (filter_in_run c all h.filter) (Some x) (λ x. frames_by_index c all x h.index)
+          (read_on all payload ∙ ap (λ r. r >>= (λ x. Ok (Some x))) passes) (omega (arith, asked, count)) grow grow'
+          (subst (λ o. IfSome o (λ all. AsksFor f' f'' a' a'' P (frames_by_index c all (Some x) h.index))) same next)
+
+-- a handle is there where its range is
+found_by : (o : Option Handle) → found_item (option_map range_of o) ≡ found_item o
+found_by None = refl
+found_by (Some h) = refl
+
+-- The frames to a block, by the index.
+module _ (c : Hashes) (g : HandleParts) (needle : List ℕ) (seqno f f' a a' : ℕ) where
+  abbrev after_index : List Handle → ℕ
+  after_index hs = found_item (handle_for handles needle seqno hs)
+
+  -- an index whose frame is refused is the last
+  pub index_stops : (b : Option (List ℕ)) (R : Type 0) (e : Error) → a' ≡ a + 1 → IfSome b (λ all. FailsAs (f < f') R (payload_at c types.Index all g) e)
+      → IfSome b (λ all. AsksFor f f' a a' (e ≢ Memory) (frames_to c all g needle seqno))
+  index_stops None R e asked fails = tt
+  index_stops (Some all) R e asked fails =
+      asks_stop f f' a a' 1 R e (handles_at c all g) after_index asked
+      (fails_on (Some all) (f < f') R (λ all (r : Result (List ℕ) Error). r >>= (λ p. index_check p)) e (λ all. payload_at c types.Index all g) (λ all d. refl) fails)
+
+  -- and one that is refused
+  pub index_refused : (b : Option (List ℕ)) (p : List ℕ) (e : Error) → a' ≡ a + 1 → IfSome b (λ all. payload_at c types.Index all g ≡ Ok p) → index_check p ≡ Err e
+      → IfSome b (λ all. AsksFor f f' a a' (e ≢ Memory) (frames_to c all g needle seqno))
+  index_refused None p e asked payload refused = tt
+  index_refused (Some all) p e asked payload refused =
+      let none : frames_after (handles_at c all g) after_index ≡ 0 = ap (λ r. frames_after r after_index) (ap (λ r. r >>= (λ q. index_check q)) payload ∙ refused) in
+      (omega (arith, asked), λ _ _. omega (arith, asked, none))
+
+  -- behind one that passes the block is read, if there is one
+  pub index_passes : (b : Option (List ℕ)) (p : List ℕ) (hs : List Handle) (f'' a'' : ℕ) (block : Option HandleParts) (P : Type 0) → a' ≡ a + 1 → f ≤ f' → f' ≤ f'' → IfSome b (λ all. payload_at c types.Index all g ≡ Ok p)
+      → index_check p ≡ Ok hs → block ≡ option_map range_of (handle_for handles needle seqno hs) → a'' ≡ a' + found_item block → IfSome b (λ all. AsksFor f f'' a a'' P (frames_to c all g needle seqno))
+  index_passes None p hs f'' a'' block P asked grow grow' payload passes is more = tt
+  index_passes (Some all) p hs f'' a'' block P asked grow grow' payload passes is more =
+      let found : handles_at c all g ≡ Ok hs = ap (λ r. r >>= (λ q. index_check q)) payload ∙ passes in
+      let one : found_item block ≡ after_index hs = ap found_item is ∙ found_by (handle_for handles needle seqno hs) in
+      asks_on f f' f'' a a' a'' 1 P (handles_at c all g) hs after_index found asked grow grow' (omega (arith, more, one), λ _ _. omega (arith, more, one))
+
+  -- where the filter allows the key, so many are asked for, and else none
+  pub if_allowed : (b : Option (List ℕ)) (may : Bool) (P : Type 0) → may ≡ true → IfSome b (λ all. AsksFor f f' a a' P (frames_to c all g needle seqno))
+      → IfSome b (λ all. AsksFor f f' a a' P (cond may (frames_to c all g needle seqno) 0))
+  if_allowed None may P allowed asked = tt
+  if_allowed (Some all) may P allowed asked = subst (λ t. AsksFor f f' a a' P (cond t (frames_to c all g needle seqno) 0)) (sym allowed) asked
+
+  pub if_denied : (b : Option (List ℕ)) (may : Bool) (P : Type 0) → may ≡ false → a' ≡ a → IfSome b (λ all. AsksFor f f' a a' P (cond may (frames_to c all g needle seqno) 0))
+  if_denied None may P denied asked = tt
+  if_denied (Some all) may P denied asked = subst (λ t. AsksFor f f' a a' P (cond t (frames_to c all g needle seqno) 0)) (sym denied) (omega (arith, asked), λ _ _. omega (arith, asked))

@@ -228,6 +228,7 @@ fn check_block<H: BlockHash, S: FrameSource>(
     requires { handle.offset + handle.size < 2 ^ 64 }
     ensures source { UsesSource S.bytes S.failures S.reads S.is_reliable
         (AsksExactly (place_frames passed handle)) source.old source.new result }
+    ensures placed { OnOk result (place_frames passed handle ≡ 1) }
     ensures exact { ReadsAs S.bytes S.failures S.is_reliable source.old source.new (λ s. s) result
         (λ all. block_checked (hashes H.hash64 H.hash128) all filter.now passed handle) }
 {

@@ -6,7 +6,8 @@ ghost use Rattle.sst_base.specs.BlockHandle.{HandleParts};
 ghost use Rattle.sst_base.specs.Bytes.{IsBytes};
 ghost use Rattle.sst_base.specs.declared.error.Error.TheVariants.{Io, Truncated, BadHandle, Memory};
 ghost use Rattle.sstable_blocks.specs.RunReading.{range_at};
-ghost use Rattle.sstable_blocks.specs.Sources.{GivesOr, KeepsSource, IsRangeRead, IsRangeRefused};
+ghost use Rattle.sstable_blocks.specs.Sources.{AsksExactly, GivesOr, IsRangeRead, IsRangeRefused};
+ghost use Rattle.sstable_blocks.specs.Sources.{UsesSource};
 
 use sst_base::{BlockHandle, Count, Error, Result, SeekInput, Slice};
 use std::alloc::Global;
@@ -43,9 +44,8 @@ pub trait FrameSource {
     /// fails, or ends before the last byte, `Error::Truncated` if a file ends before the range of
     /// a handle of no bytes, `Error::Memory` if an allocation fails.
     fn read_frame(&mut self, alloc: Global, handle: &BlockHandle) -> Result<Slice>
-        ensures source { KeepsSource bytes failures is_reliable self.old self.new }
-        ensures reads { reads self.new ≡ reads self.old + 1 }
-        ensures io { IfErr result (λ e. e ≡ Io → failures self.old < failures self.new) }
+        ensures source { UsesSource bytes failures reads is_reliable
+            (AsksExactly 1) self.old self.new result }
         ensures requested { IfSome (bytes self.old) (λ all. IfErr result (λ e. e ≡ Io
             → is_reliable self.old → 0 < handle.now.size)) }
         ensures errors { IfErr result (λ e. (e ≡ Io) ⊎ (e ≡ Memory)
@@ -66,8 +66,8 @@ pub trait SizedSource: FrameSource {
     ///
     /// `Error::Io` if the source fails, which a reliable one never does.
     fn byte_len(&mut self) -> Result<u64>
-        ensures source { KeepsSource Self.bytes Self.failures Self.is_reliable self.old self.new }
-        ensures reads { Self.reads self.new ≡ Self.reads self.old }
+        ensures source { UsesSource Self.bytes Self.failures Self.reads Self.is_reliable
+            (AsksExactly 0) self.old self.new result }
         ensures len { IfOk result (λ len. IfSome (Self.bytes self.old) (λ all. len ≡ length all)) }
         ensures io { IsOkUnless result Error.Io }
         ensures failed { OnErr result (Self.failures self.old < Self.failures self.new) }

@@ -6,7 +6,7 @@ ghost use Rattle.sst_base.specs.Counted.{CountsBetween};
 ghost use Rattle.sst_base.specs.declared.error.Error.TheVariants.{Io};
 ghost use Rattle.sst_block_core.specs.Entries.{entries};
 ghost use Rattle.sst_block_core.specs.Window.{first_match};
-ghost use Rattle.sst_block_core.specs.Handles.{Handle};
+ghost use Rattle.sst_block_core.specs.Handles.{Handle, handles};
 ghost use Rattle.sstable_blocks.specs.Blocks.{joined};
 ghost use Rattle.sstable_blocks.specs.Footer.{table_handles};
 ghost use Rattle.sstable_blocks.specs.ReadCosts.{most_by, CountsRead};
@@ -19,6 +19,8 @@ ghost use Rattle.sstable_blocks.specs.Sources.{ReadsAs, UsesSource, filter_frame
 ghost use Rattle.sstable_blocks.specs.FrameCounts.{check_frames, file_frames, open_frames};
 ghost use Rattle.sstable_blocks.specs.Tables.{filter_kept, kept_of, kept_by_footer, IsKeptOf};
 ghost use Rattle.sstable_blocks.specs.Tables.{IsIndexIn, kept_says, read_kept, frames_by, LooksBy};
+ghost use Rattle.sstable_blocks.specs.Tables.{error_after, source_after};
+ghost use Rattle.sstable_blocks.specs.Lookup.{handle_for};
 
 use super::RunHandles;
 use super::checked::{block_from, data_block_from, read_in_block};

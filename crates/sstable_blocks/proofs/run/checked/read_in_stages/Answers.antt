@@ -1,8 +1,38 @@
 use Rattle.sstable_blocks.specs.RunReading.{hashes}
 use Rattle.sstable_blocks.proofs.Reading.CheckedReads.{by_filter}
+use Rattle.std.proofs.Common.{Bool, arith, cond, refl}
+use Rattle.std.proofs.lemmas.Result.{err_from_is_err_and}
+use Rattle.sstable_blocks.specs.RunReading.{filter_says}
+use Rattle.sstable_blocks.specs.FrameCounts.{frames_to, read_frames}
+use Rattle.sstable_blocks.proofs.Reading.FrameCounts.{goes_on, if_allowed, if_denied, stops}
 use Rattle.sstable_blocks.proofs.run.checked.read_in_stages.Goals as goal
 
 pub returns-then-branch-clause-exact : goal.returns-then-branch-clause-exact
 returns-then-branch-clause-exact g c =
     let m = c.in_ok-filter_allows.ensures in
     by_filter (hashes g.H.BlockHash.hash64 g.H.BlockHash.hash128) _ _ _ _ _ _ _ c.args.handles.now c.args.needle.now c.args.seqno _ _ m.source.same m.source.failures_grow m.source.kept c.if-branch.true m.exact c.read_by_index.ensures.exact
+
+pub returns-in_err-filter_allows-clause-asked : goal.returns-in_err-filter_allows-clause-asked
+unfolding read_frames
+returns-in_err-filter_allows-clause-asked g c =
+    let h = (hashes g.H.BlockHash.hash64 g.H.BlockHash.hash128) in
+    let e = c.in_err-filter_allows.ensures in
+    let r = err_from_is_err_and c.from_residual.result c.from_residual.ensures.1 in
+    rw (r.1, r.2) (stops _ _ _ _ _ _ _ _ (λ all. filter_says h all c.args.handles.now.filter c.args.needle.now) (λ all (may : Bool). cond may (frames_to h all c.args.handles.now.index c.args.needle.now c.args.seqno) 0) e.source.asks e.exact)
+
+pub returns-then-branch-clause-asked : goal.returns-then-branch-clause-asked
+unfolding read_frames
+returns-then-branch-clause-asked g c =
+    let h = (hashes g.H.BlockHash.hash64 g.H.BlockHash.hash128) in
+    let m = c.in_ok-filter_allows.ensures in
+    let e = c.read_by_index.ensures in
+    goes_on _ _ _ _ _ _ _ _ _ _ _ (λ all. filter_says h all c.args.handles.now.filter c.args.needle.now) (λ all (may : Bool). cond may (frames_to h all c.args.handles.now.index c.args.needle.now c.args.seqno) 0) m.source.same m.source.asks m.source.failures_grow e.source.failures_grow m.exact
+    (if_allowed h c.args.handles.now.index c.args.needle.now c.args.seqno _ _ _ _ _ _ _ c.if-branch.true e.asked)
+
+pub returns-else-branch-clause-asked : goal.returns-else-branch-clause-asked
+unfolding read_frames
+returns-else-branch-clause-asked g c =
+    let h = (hashes g.H.BlockHash.hash64 g.H.BlockHash.hash128) in
+    let m = c.in_ok-filter_allows.ensures in
+    goes_on _ _ _ _ _ _ _ _ _ _ _ (λ all. filter_says h all c.args.handles.now.filter c.args.needle.now) (λ all (may : Bool). cond may (frames_to h all c.args.handles.now.index c.args.needle.now c.args.seqno) 0) m.source.same m.source.asks m.source.failures_grow (omega arith) m.exact
+    (if_denied h c.args.handles.now.index c.args.needle.now c.args.seqno _ _ _ _ _ _ _ c.if-branch.false refl)

@@ -4,6 +4,7 @@ use Rattle.std.specs.List.{AllByRecursion}
 use Rattle.sst_block_core.specs.Handles.{Handle, EndFits}
 use Rattle.sstable_blocks.specs.RunReading.{hashes}
 use Rattle.sstable_blocks.proofs.Checks.RunCheckSteps.{handle_left, none_left, blocks_on, blocks_fail, blocks_end}
+use Rattle.sstable_blocks.proofs.Reading.FrameCounts.{way_done, way_ends, way_on}
 use Rattle.sstable_blocks.proofs.run.checking.check_blocks.Goals as goal
 
 pub check_block-requires : goal.check_block-requires
@@ -21,6 +22,7 @@ returns-in_err-passed-clause-exact g c =
 
 pub loop-item-preserved : goal.loop-item-preserved
 loop-item-preserved g c =
+    let h = hashes g.H.BlockHash.hash64 g.H.BlockHash.hash128 in
     let i = c.loop-item.invariant in
     let e = c.in_ok-passed.ensures in
     let left = handle_left _ _ _ _ c.in_ok-handle.handle c.in-Some.ensures.steps (i.payload ∙ sym c.as_slice-payload.ensures.value) c.in_ok-handle.ensures.ok in
@@ -33,15 +35,35 @@ loop-item-preserved g c =
         failures_grow = omega (arith, i.source.failures_grow, e.source.failures_grow);
         kept = λ r. e.source.kept (i.source.kept r);
       };
-      reads = omega (arith, count, i.reads, e.reads);
+      reads = omega (arith, count, i.reads, e.source.asks, e.placed);
+      grow = omega (arith, i.grow, e.source.asks);
+      asked = way_on h c.args.filter.now c.args.index.now.items _ _ c.loop-item.passed _ c.in_ok-handle.handle _ _ _ _ _ i.source.same left e.source.asks e.exact i.asked;
       known = blocks_on (hashes g.H.BlockHash.hash64 g.H.BlockHash.hash128) c.args.filter.now c.args.index.now.items _ _ c.loop-item.passed _ _ _ c.in_ok-handle.handle i.source.same i.known left e.exact;
     }
 
-pub returns-clause-reads : goal.returns-clause-reads
-returns-clause-reads g c =
+pub returns-clause-source : goal.returns-clause-source
+returns-clause-source g c =
     let i = c.loop-item.invariant in
     let none = ap length (none_left _ _ c.in-None.ensures.steps) in
-    omega (arith, none, i.reads)
+    record {
+      same = i.source.same;
+      failures_grow = i.source.failures_grow;
+      kept = i.source.kept;
+      io = tt;
+      asks = (i.grow, omega (arith, none, i.reads));
+    }
+
+pub returns-in_err-passed-clause-asked : goal.returns-in_err-passed-clause-asked
+returns-in_err-passed-clause-asked g c =
+    let i = c.loop-item.invariant in
+    let e = c.in_err-passed.ensures in
+    let left = handle_left _ _ _ _ c.in_ok-handle.handle c.in-Some.ensures.steps (i.payload ∙ sym c.as_slice-payload.ensures.value) c.in_ok-handle.ensures.ok in
+    let r = err_from_is_err_and c.from_residual-in_err-passed.result c.from_residual-in_err-passed.ensures.1 in
+    rw (r.1, r.2) (way_ends (hashes g.H.BlockHash.hash64 g.H.BlockHash.hash128) c.args.filter.now c.args.index.now.items _ _ c.loop-item.passed c.in_ok-handle.handle _ _ _ _ _ _ _ _ _ _ i.source.same left e.source.asks i.source.failures_grow e.source.failures_grow e.exact i.asked)
+
+pub returns-clause-asked : goal.returns-clause-asked
+returns-clause-asked g c =
+    way_done (hashes g.H.BlockHash.hash64 g.H.BlockHash.hash128) c.args.filter.now c.args.index.now.items _ c.loop-item.passed _ _ _ _ _ _ (none_left _ _ c.in-None.ensures.steps) c.loop-item.invariant.asked
 
 pub returns-clause-exact : goal.returns-clause-exact
 returns-clause-exact g c =

@@ -1,10 +1,11 @@
-use Rattle.std.proofs.Common.{◌≡◌, ◌+◌, length}
+use Rattle.std.proofs.Common.{◌≡◌, ◌+◌, ◌≤◌, length}
 use Rattle.std.specs.List.{AllByRecursion}
 use Rattle.sst_block_core.specs.Window.{items_left}
 use Rattle.sst_block_core.specs.Handles.{EndFits}
 use Rattle.sstable_blocks.specs.RunReading.{hashes}
 use Rattle.sstable_blocks.specs.Sources.{KeepsSource}
 use Rattle.sstable_blocks.proofs.Checks.RunCheckSteps.{BlocksLeft}
+use Rattle.sstable_blocks.proofs.Reading.FrameCounts.{IsOnWay}
 use Rattle.sstable_blocks.proofs.run.checking.check_blocks.Given as goal
 
 abbrev pub invariant-loop-item : goal.invariant-loop-item
@@ -13,5 +14,7 @@ invariant-loop-item g l = record {
   fits : AllByRecursion EndFits (items_left l.item-iterator.window);
   source : KeepsSource g.S.FrameSource.bytes g.S.FrameSource.failures g.S.FrameSource.is_reliable l.initial.source l.source;
   reads : g.S.FrameSource.reads l.source + length (items_left l.item-iterator.window) ≡ g.S.FrameSource.reads l.initial.source + length l.index.items;
+  grow : g.S.FrameSource.reads l.initial.source ≤ g.S.FrameSource.reads l.source;
+  asked : IsOnWay (hashes g.H.BlockHash.hash64 g.H.BlockHash.hash128) l.filter l.index.items (g.S.FrameSource.bytes l.initial.source) l.passed (items_left l.item-iterator.window) (g.S.FrameSource.reads l.initial.source) (g.S.FrameSource.reads l.source);
   known : BlocksLeft (hashes g.H.BlockHash.hash64 g.H.BlockHash.hash128) l.filter l.index.items (g.S.FrameSource.bytes l.initial.source) l.passed (items_left l.item-iterator.window);
 }

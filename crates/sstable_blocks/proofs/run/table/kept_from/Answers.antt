@@ -2,6 +2,9 @@ use Rattle.std.proofs.Common.{arith}
 use Rattle.std.proofs.lemmas.Result.{err_from_is_err_and}
 use Rattle.sstable_blocks.specs.RunReading.{hashes}
 use Rattle.sstable_blocks.proofs.Reading.KeptReads.{opened_on, kept_ok, filter_fails, index_fails}
+use Rattle.sstable_blocks.specs.Tables.{filter_kept}
+use Rattle.sstable_blocks.specs.FrameCounts.{open_frames}
+use Rattle.sstable_blocks.proofs.Reading.FrameCounts.{exactly, goes_on, stops}
 use Rattle.sstable_blocks.proofs.run.table.kept_from.Goals as goal
 
 pub returns-in_err-filter-clause-exact : goal.returns-in_err-filter-clause-exact
@@ -24,3 +27,27 @@ returns-clause-kept g c =
 pub returns-clause-exact : goal.returns-clause-exact
 returns-clause-exact g c =
     kept_ok (hashes g.H.BlockHash.hash64 g.H.BlockHash.hash128) _ _ _ _ _ (returns-clause-kept g c)
+
+pub returns-in_err-filter-clause-asked : goal.returns-in_err-filter-clause-asked
+unfolding open_frames
+returns-in_err-filter-clause-asked g c =
+    let e = c.in_err-filter.ensures in
+    let r = err_from_is_err_and c.from_residual.result c.from_residual.ensures.1 in
+    rw (r.1, r.2) (stops _ _ _ _ _ _ _ _ (λ all. filter_kept (hashes g.H.BlockHash.hash64 g.H.BlockHash.hash128) all c.args.handles.now.filter) (λ _ _. 1) e.source.asks e.exact)
+
+pub returns-in_err-index-clause-asked : goal.returns-in_err-index-clause-asked
+unfolding open_frames
+returns-in_err-index-clause-asked g c =
+    let f = c.in_ok-filter.ensures in
+    let e = c.in_err-index.ensures in
+    let r = err_from_is_err_and c.from_residual-in_err-index.result c.from_residual-in_err-index.ensures.1 in
+    rw (r.1, r.2) (goes_on _ _ _ _ _ _ _ _ _ _ _ (λ all. filter_kept (hashes g.H.BlockHash.hash64 g.H.BlockHash.hash128) all c.args.handles.now.filter) (λ _ _. 1) f.source.same f.source.asks f.source.failures_grow e.source.failures_grow f.exact
+    (exactly _ _ _ _ _ _ _ e.source.asks))
+
+pub returns-clause-asked : goal.returns-clause-asked
+unfolding open_frames
+returns-clause-asked g c =
+    let f = c.in_ok-filter.ensures in
+    let i = c.in_ok-index.ensures in
+    goes_on _ _ _ _ _ _ _ _ _ _ _ (λ all. filter_kept (hashes g.H.BlockHash.hash64 g.H.BlockHash.hash128) all c.args.handles.now.filter) (λ _ _. 1) f.source.same f.source.asks f.source.failures_grow i.source.failures_grow f.exact
+    (exactly _ _ _ _ _ _ _ i.source.asks)

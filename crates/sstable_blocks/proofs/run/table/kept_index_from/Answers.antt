@@ -2,8 +2,16 @@ use Rattle.sstable_blocks.specs.RunReading.{hashes}
 use Rattle.sstable_blocks.proofs.Reading.TableCounts.{index_placed_ok, check_not_io}
 use Rattle.sstable_blocks.proofs.run.table.kept_index_from.Goals as goal
 
-pub returns-clause-io : goal.returns-clause-io
-returns-clause-io g c = check_not_io c.in_ok-block.block.payload _ _ (c.index_check_is_by_stages.ensures c.in_ok-block.block.payload) c.check.ensures.refused
+pub returns-clause-source : goal.returns-clause-source
+returns-clause-source g c =
+    let s = c.in_ok-block.ensures.source in
+    record {
+      same = s.same;
+      failures_grow = s.failures_grow;
+      kept = s.kept;
+      io = check_not_io c.in_ok-block.block.payload _ _ (c.index_check_is_by_stages.ensures c.in_ok-block.block.payload) c.check.ensures.refused;
+      asks = s.asks;
+    }
 
 pub returns-clause-place : goal.returns-clause-place
 returns-clause-place g c =
