@@ -57,7 +57,7 @@ module _ {X : Type 0} (cmp : X → X → Ordering) (order : IsTotalOrder cmp) wh
       | inl second ↦ (
           let rest = merge_after cmp x xs after ys in
           let here : merge_after cmp x xs after (y ∷ ys) ≡ y ∷ rest = ap (λ b. cond b (y ∷ rest) (x ∷ after (y ∷ ys))) second in
-          ap first here ∙ elim (cases_Bool (test y)) [
+          ap (first test) here ∙ elim (cases_Bool (test y)) [
             | inl hit ↦ first_hit test y rest hit ∙ sym (ap (lesser cmp (first test (x ∷ xs))) (first_hit test y ys hit)
                 ∙ pick_second (first test (x ∷ xs)) y (λ z e. elim (cases_Bool (is_lt (cmp y z))) [
                   | inl less ↦ less
@@ -68,7 +68,7 @@ module _ {X : Type 0} (cmp : X → X → Ordering) (order : IsTotalOrder cmp) wh
       | inr front ↦ (
           let rest = merge_after cmp x xs after ys in
           let here : merge_after cmp x xs after (y ∷ ys) ≡ x ∷ after (y ∷ ys) = ap (λ b. cond b (y ∷ rest) (x ∷ after (y ∷ ys))) front in
-          ap first here ∙ elim (cases_Bool (test x)) [
+          ap (first test) here ∙ elim (cases_Bool (test x)) [
             | inl hit ↦ first_hit test x (after (y ∷ ys)) hit ∙ sym (ap (λ a. lesser cmp a (first test (y ∷ ys))) (first_hit test x xs hit)
                 ∙ pick_first (first test (y ∷ ys)) x (λ z e. is_not_lt (cmp z x) (ge_trans z y x (above_or_at y ys z h e) (not_lt (cmp y x) front))))
             | inr miss ↦ first_miss test x (after (y ∷ ys)) miss ∙ go (y ∷ ys) h ∙ ap (λ a. lesser cmp a (first test (y ∷ ys))) (sym (first_miss test x xs miss))

@@ -1,5 +1,5 @@
 -- Laws of the sizes of blocks and tables.
-use Rattle.std.proofs.Common.{◌≡◌, ℕ, ◌+◌, ◌-◌, ◌^◌, ◌<◌, ◌≤◌, ◌⊎◌, min, List, [], ◌∷◌, ◌++◌, length, take, drop, slice_get, is_some, true, Option, Some, None, refl, sym, ap, subst, ◌∙◌, inl, inr, arith, length-append, append-nil}
+use Rattle.std.proofs.Common.{◌≡◌, ℕ, suc, ◌+◌, ◌-◌, ◌/◌, ◌^◌, ◌<◌, ◌≤◌, ◌⊎◌, min, List, [], ◌∷◌, ◌++◌, length, take, drop, slice_get, is_some, true, Option, Some, None, refl, sym, ap, subst, ◌∙◌, inl, inr, arith, length-append, append-nil}
 use Rattle.std.proofs.lemmas.Bool.{cases_lt}
 use Rattle.std.proofs.lemmas.List.{length_push, take-append-le, drop-append-le, take_all, drop_all}
 use Rattle.std.proofs.lemmas.List.Sums.{sum_by-append}
@@ -7,6 +7,8 @@ use Rattle.std.proofs.lemmas.Option.{slice_get-get_or}
 use Rattle.std.specs.List.{AllByRecursion}
 use Rattle.std.specs.Option.{option_map, IfSome}
 use Rattle.sst_base.specs.Entry.{Entry}
+use Rattle.sst_base.specs.Varint.{varint}
+use Rattle.sst_base.specs.VarintLaws.{varint_within_more, varint_within_small}
 use Rattle.sst_block_core.specs.Body.{body, item_form}
 use Rattle.sst_block_core.specs.Entries.{entries}
 use Rattle.sst_block_core.specs.OffsetLaws.{body-append}
@@ -18,6 +20,26 @@ use Rattle.sstable_blocks.specs.RunLaws.{joined_push}
 
 pub reaches_size : (a n size : ℕ) → n ≡ capped a → size ≤ n → size ≤ a
 reaches_size a n size e h = omega arith
+
+-- numbers that take one byte as a varint, two, or three
+pub one_byte : (n : ℕ) → n < 128 → length (varint n) ≡ 1
+unfolding varint
+one_byte n h = ap length (varint_within_small 9 n h)
+
+pub two_bytes : (n : ℕ) → 128 ≤ n → n < 16384 → length (varint n) ≡ 2
+unfolding varint
+two_bytes n h k =
+    let below : n / 128 < 128 = omega arith in
+    ap length (varint_within_more 8 n h) ∙ ap (λ m. suc m) (ap length (varint_within_small 8 (n / 128) below))
+
+pub three_bytes : (n : ℕ) → 16384 ≤ n → n < 2097152 → length (varint n) ≡ 3
+unfolding varint
+three_bytes n h k =
+    let some : 128 ≤ n = omega arith in
+    let more : 128 ≤ n / 128 = omega arith in
+    let below : n / 128 / 128 < 128 = omega arith in
+    ap length (varint_within_more 8 n some) ∙ ap (λ m. suc m) (ap length (varint_within_more 7 (n / 128) more))
+    ∙ ap (λ m. suc (suc m)) (ap length (varint_within_small 7 (n / 128 / 128) below))
 
 -- of no entry
 pub len_none : (r : ℕ) → block_len r [] ≡ 0

@@ -11,11 +11,20 @@ use sst_block_core::{AsEntry, EntryView};
 
 // How many bytes a number takes as a varint.
 #[inline(always)]
+#[tactic(auto, using(crate::specs::SizeLaws::one_byte, crate::specs::SizeLaws::two_bytes, crate::specs::SizeLaws::three_bytes))]
 fn varint_len(n: u64) -> usize
     ensures value { result ≡ length (varint n) }
     ensures most { result ≤ 10 }
 {
-    put_varint(&mut [0u8; MAX_VARINT_LEN], 0, n)
+    if n < 1 << 7 {
+        1
+    } else if n < 1 << 14 {
+        2
+    } else if n < 1 << 21 {
+        3
+    } else {
+        put_varint(&mut [0u8; MAX_VARINT_LEN], 0, n)
+    }
 }
 
 // How many bytes an entry's value takes, with its length: none for a tombstone.

@@ -24,24 +24,23 @@ use Rattle.sstable_blocks.specs.declared.run.checking.Passed.{Passed}
 asks_stop : {Z : Type 0} (f f' a a' n : ℕ) (R : Type 0) (e : Error) (read : Result Z Error) (rest : Z → ℕ) → a' ≡ a + n → FailsAs (f < f') R read e
     → AsksFor f f' a a' (e ≢ Memory) (n + frames_after read rest)
 asks_stop f f' a a' n R e read rest asked fails = (
-    omega (arith, asked),
-    λ same other. elim (fails other) [
-      | inl failure ↦ absurd (let less = failure.0 in omega (arith, less, same))
-      | inr refused ↦ asked ∙ ap (λ m. a + m) (let none : frames_after read rest ≡ 0 = ap (λ r. frames_after r rest) refused in omega (arith, none))
-    ]
-  )
+  omega (arith, asked),
+  λ same other. elim (fails other) [
+    | inl failure ↦ absurd (let less = failure.0 in omega (arith, less, same))
+    | inr refused ↦ asked ∙ ap (λ m. a + m) (let none : frames_after read rest ≡ 0 = ap (λ r. frames_after r rest) refused in omega (arith, none))
+  ],
+)
 
 -- behind a stage that succeeds the next ones ask
 asks_on : {Z : Type 0} (f f' f'' a a' a'' n : ℕ) (P : Type 0) (read : Result Z Error) (z : Z) (rest : Z → ℕ) → read ≡ Ok z → a' ≡ a + n → f ≤ f' → f' ≤ f''
     → AsksFor f' f'' a' a'' P (rest z) → AsksFor f f'' a a'' P (n + frames_after read rest)
 asks_on f f' f'' a a' a'' n P read z rest found asked grow grow' next =
     let all : frames_after read rest ≡ rest z = ap (λ r. frames_after r rest) found in
-    let most = next.0 in
-    (
+    let most = next.0 in (
       omega (arith, asked, all, most),
       λ same other.
-        let whole = next.1 (omega (arith, same, grow, grow')) other in
-        omega (arith, asked, all, whole)
+          let whole = next.1 (omega (arith, same, grow, grow')) other in
+          omega (arith, asked, all, whole),
     )
 
 -- so is one that asked for fewer where an allocation or the source failed
@@ -49,15 +48,15 @@ pub stops_as : {Z : Type 0} (b : Option (List ℕ)) (f f' a a' n : ℕ) (R : Typ
     → IfSome b (λ all. FailsAs (f < f') R (read all) e) → IfSome b (λ all. AsksFor f f' a a' (e ≢ Memory) (n + frames_after (read all) (rest all)))
 stops_as None f f' a a' n R e read rest asked exact = tt
 stops_as (Some all) f f' a a' n R e read rest asked exact = (
-    let most = asked.0 in omega (arith, most),
-    λ same other. elim (exact other) [
-      | inl failure ↦ absurd (let less = failure.0 in omega (arith, less, same))
-      | inr refused ↦
-          let some = asked.1 same other in
-          let none : frames_after (read all) (rest all) ≡ 0 = ap (λ r. frames_after r (rest all)) refused in
-          omega (arith, some, none)
-    ]
-  )
+  let most = asked.0 in omega (arith, most),
+  λ same other. elim (exact other) [
+    | inl failure ↦ absurd (let less = failure.0 in omega (arith, less, same))
+    | inr refused ↦
+        let some = asked.1 same other in
+        let none : frames_after (read all) (rest all) ≡ 0 = ap (λ r. frames_after r (rest all)) refused in
+        omega (arith, some, none)
+  ],
+)
 
 -- the same of a source whose bytes are known
 pub stops : {Z : Type 0} (b : Option (List ℕ)) (f f' a a' n : ℕ) (R : Type 0) (e : Error) (read : List ℕ → Result Z Error) (rest : List ℕ → Z → ℕ) → a' ≡ a + n → IfSome b (λ all. FailsAs (f < f') R (read all) e)
@@ -114,15 +113,14 @@ module _ (c : Hashes) (f : Option Filter) (items : List Handle) where
   way_ends None b' s h left rest first now next g g' g'' R e same is asked grow grow' exact way = tt
   way_ends (Some all) b' s h left rest first now next g g' g'' R e same is asked grow grow' exact way =
       let fails : FailsAs (g' < g'') R (check_block c all f s h) e = subst (λ o. IfSome o (λ all. FailsAs (g' < g'') R (check_block c all f s h) e)) same exact in
-      let one : blocks_frames c all f s left ≡ place_frames s h + frames_after (check_block c all f s h) (λ u. blocks_frames c all f u rest) = ap (blocks_frames c all f s) is in
-      (
+      let one : blocks_frames c all f s left ≡ place_frames s h + frames_after (check_block c all f s h) (λ u. blocks_frames c all f u rest) = ap (blocks_frames c all f s) is in (
         omega (arith, one, asked, way),
         λ whole other. elim (fails other) [
           | inl failure ↦ absurd (let less = failure.0 in omega (arith, less, whole, grow))
           | inr refused ↦
               let none : frames_after (check_block c all f s h) (λ u. blocks_frames c all f u rest) ≡ 0 = ap (λ r. frames_after r (λ u. blocks_frames c all f u rest)) refused in
               omega (arith, one, asked, way, none)
-        ]
+        ],
       )
 
   -- where none is left, all were asked for

@@ -67,16 +67,16 @@ impl<'a> Model for EntryView<'a> {
     } };
 
     ghost invariant = { λ e. (e.prefix_len ≤ length e.prefix.now)
-      × (e.rest_len ≤ length e.rest.now)
-      × (e.value_len ≤ length e.value.now)
-      × IsEntry (record {
-      key = record {
-        user_key = take e.prefix_len e.prefix.now ++ take e.rest_len e.rest.now;
-        seqno = e.seqno;
-        value_type = e.value_type;
-      };
-      value = take e.value_len e.value.now;
-    }) };
+        × (e.rest_len ≤ length e.rest.now)
+        × (e.value_len ≤ length e.value.now)
+        × IsEntry (record {
+          key = record {
+            user_key = take e.prefix_len e.prefix.now ++ take e.rest_len e.rest.now;
+            seqno = e.seqno;
+            value_type = e.value_type;
+          };
+          value = take e.value_len e.value.now;
+        }) };
 }
 
 // The bytes from the start of a range on, and the length of the range.

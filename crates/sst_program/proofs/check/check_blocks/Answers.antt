@@ -8,6 +8,7 @@ loop-item-init g c = record {
   same = refl;
   failures_grow = omega arith;
   kept = λ r. r;
+  grow = omega arith;
   known = known_all _ _ (λ all. counts_start _ _ (read_whole all _ _ (ap (λ s. s.window) c.into_iter-item-iterator.ensures.into_iter_gives ∙ c.iter-item-items.ensures.window)));
 }
 
@@ -19,6 +20,7 @@ loop-item-preserved g c =
       same = e.source.same ∙ i.same;
       failures_grow = omega (arith, i.failures_grow, e.source.failures_grow);
       kept = λ r. e.source.kept (i.kept r);
+      grow = omega (arith, i.grow, e.source.asks);
       known = counts_step_on _ _ _ _ _ _ _ _ _ _ i.same i.known c.new-handle.ensures c.in-Some.ensures.steps e.exact c.saturating_add-entries.ensures;
     }
 

@@ -9,5 +9,6 @@ invariant-loop-item g l = record {
   same : g.S.FrameSource.bytes l.source ≡ g.S.FrameSource.bytes l.initial.source;
   failures_grow : g.S.FrameSource.failures l.initial.source ≤ g.S.FrameSource.failures l.source;
   kept : g.S.FrameSource.is_reliable l.initial.source → g.S.FrameSource.is_reliable l.source;
+  grow : g.S.FrameSource.reads l.initial.source ≤ g.S.FrameSource.reads l.source;
   known : IfSome (g.S.FrameSource.bytes l.initial.source) (λ all. CountsTo (blocks_listed all l.index.items) (blocks_listed all (items_left l.item-iterator.window)) l.entries);
 }

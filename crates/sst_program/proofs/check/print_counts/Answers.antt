@@ -6,4 +6,4 @@ use Rattle.sst_program.proofs.check.print_counts.Goals as goal
 pub returns-in_err-blocks-clause-io : goal.returns-in_err-blocks-clause-io
 returns-in_err-blocks-clause-io g c =
     let r = err_from_is_err_and c.from_residual.result c.from_residual.ensures.1 in
-    rw (r.1, r.2) (around _ _ _ _ (λ all. run_counts all c.args.handles.now) c.in_err-blocks.ensures.io c.in_err-blocks.ensures.exact)
+    rw (r.1, r.2) (around _ _ _ _ (λ all. run_counts all c.args.handles.now) c.in_err-blocks.ensures.source.io c.in_err-blocks.ensures.exact)

@@ -6,4 +6,4 @@ use Rattle.sst_program.proofs.walk.print_block.Goals as goal
 pub returns-in_err-block-clause-io : goal.returns-in_err-block-clause-io
 returns-in_err-block-clause-io g c =
     let r = err_from_is_err_and c.from_residual.result c.from_residual.ensures.1 in
-    rw (r.1, r.2) (around _ _ _ _ (λ all. block_read all c.args.handle.now) c.in_err-block.ensures.io c.in_err-block.ensures.exact)
+    rw (r.1, r.2) (around _ _ _ _ (λ all. block_read all c.args.handle.now) c.in_err-block.ensures.source.io c.in_err-block.ensures.exact)

@@ -6,7 +6,7 @@ use Rattle.sst_program.proofs.walk.print_entries.Goals as goal
 pub returns-in_err-index-clause-io : goal.returns-in_err-index-clause-io
 returns-in_err-index-clause-io g c =
     let r = err_from_is_err_and c.from_residual.result c.from_residual.ensures.1 in
-    rw (r.1, r.2) (among _ _ _ c.args.index.now _ c.in_err-index.ensures.io c.in_err-index.ensures.exact)
+    rw (r.1, r.2) (among _ _ _ c.args.index.now _ c.in_err-index.ensures.source.io c.in_err-index.ensures.exact)
 
 pub returns-clause-refused : goal.returns-clause-refused
 returns-clause-refused g c =
