@@ -18,6 +18,7 @@ pub mod Sound
 pub mod RunChecks
 pub mod Footer
 pub mod Tables
+pub mod Tallies
 pub mod BlockReading
 pub mod Scans
 pub mod Ends

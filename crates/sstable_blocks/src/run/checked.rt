@@ -18,6 +18,7 @@ ghost use Rattle.sstable_blocks.specs.RunReading.{read_checked, AnswerMeans};
 ghost use Rattle.sstable_blocks.specs.Sound.{ForSound};
 ghost use Rattle.sstable_blocks.specs.Sources.{GivesOr, KeepsSource, filter_frames, ReadsAs};
 ghost use Rattle.sstable_blocks.specs.Sources.{IsIoCounted};
+ghost use Rattle.sstable_blocks.specs.Tables.{IsBlockIn};
 
 use super::RunHandles;
 use super::laws::{checked_answer_means, sound_is_read};
@@ -76,6 +77,8 @@ pub fn data_block_from<H: BlockHash, S: FrameSource>(
     ensures io { IsIoCounted S.failures source.old source.new result }
     ensures exact { ReadsAs S.bytes S.failures S.is_reliable source.old source.new
         (λ b. b.items) result (λ all. block_items_at (hashes H.hash64 H.hash128) all handle.now) }
+    ensures place { IfOk result (λ b. IfSome (S.bytes source.old)
+        (λ all. IsBlockIn all handle.now b.items b.interval)) }
 {
     let block = block_from::<H, S>(alloc, source, handle, BlockType::Data)?;
     DataBlock::<H>::check_once(alloc, block)

@@ -17,7 +17,8 @@ ghost use Rattle.sstable_blocks.specs.Sound.{ForSound, IsSoundRun, IsSummary};
 ghost use Rattle.sstable_blocks.specs.Sources.{FailsAs, GivesOr, KeepsSource, filter_frames};
 ghost use Rattle.sstable_blocks.specs.Sources.{ReadsAs, IsIoCounted};
 ghost use Rattle.sstable_blocks.specs.Tables.{filter_kept, kept_of, kept_by_footer, IsKeptOf};
-ghost use Rattle.sstable_blocks.specs.Tables.{IsIndexIn, kept_says, read_kept, frames_by, LooksBy};
+ghost use Rattle.sstable_blocks.specs.Tables.{IsBlockIn, IsIndexIn, kept_says, read_kept};
+ghost use Rattle.sstable_blocks.specs.Tables.{frames_by, LooksBy};
 
 use super::RunHandles;
 use super::checked::{block_from, data_block_from, read_in_block};
@@ -305,6 +306,9 @@ impl<H: BlockHash, S: FrameSource> Table<H, S> {
             → GivesOr (S.failures self.old.source < S.failures self.new.source)
             (S.is_reliable self.old.source) (λ b. b.items) result
             (block_items_at (hashes H.hash64 H.hash128) all (range_of h))) }
+        ensures place { IfOk result (λ b. IfSome (S.bytes self.old.source)
+            (λ all. (h : Handle) → slice_get self.old.index index ≡ Some h
+            → IsBlockIn all (range_of h) b.items b.interval)) }
     {
         let handle = self.index.handle_at(index, &mut Steps::new());
         data_block_from::<H, S>(alloc, &mut self.source, &handle)
