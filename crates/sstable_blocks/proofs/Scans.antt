@@ -9,3 +9,4 @@ pub mod EndSteps
 pub mod EndReads
 pub mod BlockTallies
 pub mod EndCounts
+pub mod OpenCounts
