@@ -1,5 +1,5 @@
 -- What is counted in a block that was opened.
-use Rattle.std.proofs.Common.{◌≡◌, ℕ, zero, suc, ◌+◌, ◌-◌, ◌*◌, ◌/◌, ◌%◌, ◌<◌, ◌≤◌, Bool, true, false, cond, eqb, ltb, List, length, Option, Some, None, Result, Ok, Err, IfOk, refl, sym, ap, ◌∙◌, arith}
+use Rattle.std.proofs.Common.{◌≡◌, inl, inr, slice_get, ℕ, zero, suc, ◌+◌, ◌-◌, ◌*◌, ◌/◌, ◌%◌, ◌<◌, ◌≤◌, Bool, true, false, cond, eqb, ltb, List, length, Option, Some, None, Result, Ok, Err, IfOk, refl, sym, ap, ◌∙◌, arith}
 use Rattle.std.specs.Prelude.{◌||◌}
 use Rattle.std.specs.Option.{option_map}
 use Rattle.std.specs.List.{count_by}
@@ -78,7 +78,7 @@ back_moved w b e = ap (λ c. cond c (record w { hi = w.hi - 1 }) w) e
 front_again : (s t : Scan Entry) → t.interval ≡ s.interval → t.window ≡ (next s.window).0 → again_in t ≡ again_in s
 front_again s t e f = elim (cases_Bool (some_left s.window)) [
   | inl is ↦ again_is s t (record s.window { lo = s.window.lo + 1 }) e (f ∙ front_moved s.window true is)
-  | inr no ↦ again_is s t s.window e (f ∙ front_moved s.window false no)
+  | inr done ↦ again_is s t s.window e (f ∙ front_moved s.window false done)
 ]
 
 -- a step from the front of a block
@@ -107,9 +107,9 @@ adds_back s t F one inside e f none counts =
             let a = again_is s t (record s.window { hi = s.window.hi - 1 }) e (f ∙ back_moved s.window true is) in
             let p = paid_back F c (again_in s) _ one (again_step s.interval (length s.window.list) s.window.hi (omega (arith, less)) inside) in
             omega (arith, a, p, all))
-        | inr no ↦ (
-            let a = again_is s t s.window e (f ∙ back_moved s.window false no) in
-            let z = none no in
+        | inr done ↦ (
+            let a = again_is s t s.window e (f ∙ back_moved s.window false done) in
+            let z = none done in
             let p : F * (1 + c) ≡ 0 = ap (λ k. k * (1 + c)) z ∙ omega arith in
             omega (arith, a, p, z, all))
       ];
@@ -155,7 +155,7 @@ made_back s t result inside e f ok counts =
     (adds_back s t (found_item o) (found_one o) inside e f (none_last s.window) counts)
 
 -- the answer of a step
-answered : Answer Entry → Option Entry
+abbrev answered : Answer Entry → Option Entry
 answered (item o) = o
 answered (found b) = None
 
@@ -169,22 +169,22 @@ module _ {P : Type 0} (item_of : List ℕ → P → Entry) (is_found : List ℕ 
 
   pub view_back : (r : Option P) → GivesNextBack item_of is_found s r t → AddsTaken (scan_tally s) (scan_tally t) (found_item r) (found_item r)
   view_back r g = adds_back s t (found_item r) (found_one r) g.within g.interval (ap (λ (q : Window Entry × Answer Entry). q.0) g.step)
-      (λ no. mapped r (item_of s.payload) ∙ ap (λ (q : Window Entry × Answer Entry). found_item (answered q.1)) g.step ∙ none_last s.window no) g.counts
+      (λ done. mapped r (item_of s.payload) ∙ ap (λ (q : Window Entry × Answer Entry). found_item (answered q.1)) g.step ∙ none_last s.window done) g.counts
 
 -- cutting a block by both bounds
 pub cut_costs : (r : KeyRange) (s t u : Scan Entry) (lo : ℕ) → IsZero s.steps → t.interval ≡ s.interval → u.interval ≡ t.interval → t.window ≡ record s.window { lo = lo } → u.window ≡ record t.window { hi = end_entry r t.window.list }
     → CountsBetween s.steps t.steps (0, 0) (digits (head_count s.interval (length s.window.list)), s.interval + 1)
     → CountsBetween t.steps u.steps (0, 0) (digits (head_count t.interval (length t.window.list)), 2 * t.interval + 2)
     → IsUpTo (scan_tally u) (cut_cost s.interval (length s.window.list))
-cut_costs r s t u lo zero e f front back first second =
+cut_costs r s t u lo fresh e f front back first second =
     let list : t.window.list ≡ s.window.list = ap (λ (w : Window Entry). w.list) front in
     let n : length t.window.list ≡ length s.window.list = ap (λ (xs : List Entry). length xs) list in
     let heads : digits (head_count t.interval (length t.window.list)) ≡ digits (head_count s.interval (length s.window.list)) = ap (λ k. digits (head_count k (length t.window.list))) e ∙ ap (λ k. digits (head_count s.interval k)) n in
     let again = again_is t u (record t.window { hi = end_entry r t.window.list }) f back in
     let upto = again_upto t.interval (length t.window.list) (end_entry r t.window.list) in
     let most : end_entry r t.window.list ≤ length t.window.list = count_by-le-length (λ (x : Entry). is_up_to r.to x.key.user_key) t.window.list in
-    let a = zero.heads in
-    let b = zero.entries in
+    let a = fresh.heads in
+    let b = fresh.entries in
     let c = first.heads_most in
     let d = first.entries_most in
     let h = second.heads_most in

@@ -15,7 +15,7 @@ returns-clause-opens g c =
     let run = c.self.inside.run in
     let left = left_in c.open_at.new.opened in
     let inside = subst (λ v. c.args.index < run_reading.len v) (sym c.self.view_is) c.requires.inside in
-    subst (λ v. Opens run_reading v c.args.index (Ok tt) v left) c.self.view_is (record {
+    subst (λ v. Opens run_reading v c.args.index (Ok tt) (record { run = run; range = c.self.inside.bounds; steps = c.add_steps.new.steps }) left) c.self.view_is (record {
       goes = record { run = refl; range = refl };
       errs = tt;
       all = all_true left;
