@@ -7,10 +7,10 @@ use Rattle.std.proofs.lemmas.List.{map-set, get_or-map, length-map}
 use Rattle.std.specs.declared.cmp.Ordering.{Ordering}
 use Rattle.sst_base.specs.declared.error.Error.{Error}
 use Rattle.sstable_blocks.specs.Blocks.{joined}
-use Rattle.sstable_blocks.specs.Scans.{error_of}
 use Rattle.sst_merge.specs.Merge.{merged}
 use Rattle.sst_merge.specs.Picks.{IsPick}
 use Rattle.sst_merge.specs.Sources.{Left, IsAmong, MayMeet, MayGive, MeetsNoMore, before, step_errors, left_as, left_held, all_known, errors_of, all_left}
+use Rattle.std.specs.Result.{result_err}
 
 -- among known errors
 abbrev In : Option (List Error) → Error → Type 0
@@ -130,7 +130,7 @@ pub held_no_more : {X : Type 0} (h k : Option X) (a b : Option Error) (s t all :
 held_no_more {X = X} h k a b s t all whole none less = λ e m. subst (λ (l : Left X). MayMeet l e) whole (met_under a (step_errors s) e (less e (met_over b (step_errors t) e none m)))
 
 -- nor does what is made of a source by a change of its list
-pub as_no_more : {X Y Z : Type 0} (r : Result Z Error) (f k : List X → List Y) (a b : Option Error) (s t : Left X) (all : Left Y) → left_as f a s ≡ all → b ≡ error_of r → OnOk r (MeetsNoMore s t) → OnOk r (MeetsNoMore all (left_as k b t))
+pub as_no_more : {X Y Z : Type 0} (r : Result Z Error) (f k : List X → List Y) (a b : Option Error) (s t : Left X) (all : Left Y) → left_as f a s ≡ all → b ≡ result_err r → OnOk r (MeetsNoMore s t) → OnOk r (MeetsNoMore all (left_as k b t))
 as_no_more (Err e) f k a b s t all whole none less = tt
 as_no_more {Y = Y} (Ok x) f k a b s t all whole none less = λ e m. subst (λ (l : Left Y). MayMeet l e) whole (met_under a (step_errors s) e (less e (met_over b (step_errors t) e none m)))
 

@@ -2,7 +2,8 @@
 ghost use Rattle.std.specs.Prelude.{◌≡◌, IfErr, IfOk, OnOk, None, Some};
 ghost use Rattle.sst_base.specs.declared.error.Error.{Error};
 ghost use Rattle.sst_merge.specs.Sources.{Left, MayGive, MeetsNoMore, TakesFirst};
-ghost use Rattle.sstable_blocks.specs.Scans.{EndsBy, error_of};
+ghost use Rattle.std.specs.Result.{result_err};
+ghost use Rattle.sstable_blocks.specs.Scans.{EndsBy};
 
 use sst_base::{Error, Result};
 use std::alloc::Global;
@@ -37,7 +38,7 @@ pub trait Source<T> {
 #[inline(always)]
 pub(crate) fn keep_error<T>(ended: &mut Option<Error>, step: &Result<T>)
     requires { ended.old ≡ None }
-    ensures { ended.new ≡ error_of step.now }
+    ensures { ended.new ≡ result_err step.now }
 {
     if let Err(error) = step {
         *ended = Some(*error);

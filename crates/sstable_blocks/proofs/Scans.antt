@@ -7,3 +7,6 @@ pub mod ScanCuts
 pub mod RunScans
 pub mod EndSteps
 pub mod EndReads
+pub mod BlockTallies
+pub mod EndCounts
+pub mod OpenCounts

@@ -3,10 +3,12 @@ use Rattle.std.specs.Prelude.{◌≡◌, ◌≤◌, ◌+◌, ℕ, Bool, true, fa
 use Rattle.std.specs.Iterator.{YieldsFirst}
 use Rattle.std.specs.List.{AllByRecursion}
 use Rattle.sst_base.specs.declared.error.Error.{Error}
+use Rattle.sstable_blocks.specs.Tallies.{Tally, Adds}
 
 -- What an opening does: how many blocks there are, what each is read as where that is known, at most how many items one
 -- has, which items it may have; that a number of blocks was opened from one state to another; which errors there are,
--- and with which a block is refused that is read as this.
+-- and with which a block is refused that is read as this; what was counted before, and what each block costs at most
+-- where that is known.
 pub record Reading (S X : Type 0) : Type 1 where
   pub len : S → ℕ
   pub read : S → Option (ℕ → Result (List X) Error)
@@ -15,6 +17,8 @@ pub record Reading (S X : Type 0) : Type 1 where
   pub Goes : S → ℕ → S → Type 0
   pub Errs : S → S → Error → Type 0
   pub Fails : S → S → Result (List X) Error → Error → Type 0
+  pub tally : S → Tally
+  pub cost : S → Option (ℕ → Tally)
 
 -- its laws
 pub record AreBlocks {S X : Type 0} (r : Reading S X) : Type 0 where
@@ -23,6 +27,7 @@ pub record AreBlocks {S X : Type 0} (r : Reading S X) : Type 0 where
   pub same_len : (s t : S) (n : ℕ) → r.Goes s n t → r.len t ≡ r.len s
   pub same_read : (s t : S) (n : ℕ) → r.Goes s n t → r.read t ≡ r.read s
   pub same_admits : (s t : S) (n : ℕ) → r.Goes s n t → r.admits t ≡ r.admits s
+  pub same_cost : (s t : S) (n : ℕ) → r.Goes s n t → r.cost t ≡ r.cost s
   pub errs_later : (s t u : S) (n : ℕ) (e : Error) → r.Goes s n t → r.Errs t u e → r.Errs s u e
   pub fails_later : (s t u : S) (n : ℕ) (x : Result (List X) Error) (e : Error) → r.Goes s n t → r.Fails t u x e → r.Fails s u x e
 
@@ -42,6 +47,17 @@ pub record Opens {S X T : Type 0} (r : Reading S X) (s : S) (index : ℕ) (resul
   pub all : AllAdmitted r s items
   pub few : length items ≤ r.most
   pub exact : IfSome (r.read s) (λ read. MatchResult result (λ _. read index ≡ Ok items) (r.Fails s t (read index)))
+
+-- what is added to a tally is at most this
+pub record AddsUpTo (old new most : Tally) : Type 0 where
+  pub heads : new.heads ≤ old.heads + most.heads
+  pub entries : new.entries ≤ old.entries + most.entries
+  pub due : new.due ≤ old.due + most.due
+
+-- a block was opened: nothing that was counted is forgotten, and what is added is at most what the block costs
+pub record OpensPaid {S X : Type 0} (r : Reading S X) (s : S) (index : ℕ) (old new : Tally) : Type 0 where
+  pub adds : Adds old new 0
+  pub paid : IfSome (r.cost s) (λ cost. AddsUpTo old new (cost index))
 
 -- a list, seen_from from its back or its front
 abbrev pub seen_from : {X : Type 0} → Bool → List X → List X

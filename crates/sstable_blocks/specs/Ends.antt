@@ -3,6 +3,7 @@ use Rattle.std.specs.Prelude.{◌≡◌, ◌⊎◌, ◌≤◌, ◌<◌, ◌+◌,
 use Rattle.sstable_blocks.specs.BlockReading.{Reading, AllAdmitted, items_of, seen_from}
 use Rattle.sst_base.specs.declared.error.Error.{Error}
 use Rattle.sstable_blocks.specs.Scans.{reads_of}
+use Rattle.sstable_blocks.specs.Tallies.{Tally, Adds, tally_all}
 use Rattle.sstable_blocks.specs.declared.run.ends.Between.{Between}
 
 -- the index at an end, and what is left between then
@@ -83,3 +84,40 @@ pub record TakesNear {S X : Type 0} (r : Reading S X) (Lacks : Error → Type 0)
   pub admitted : IfOk result (λ x. IfSome x (λ x. r.admits s x ≡ true))
   pub fewer : IfOk result (IsFewer (most_left r.most old) (most_left r.most new))
   pub exact : IfSome (r.read s) (λ read. MatchResult result (GivesNext (reads_left back read old) (reads_left back read new)) (λ e. FailsNext r back s t (reads_left back read old) e ⊎ Lacks e))
+
+-- an amount of a number of blocks from an index on, and of those between two indexes
+abbrev pub cost_from : (ℕ → ℕ) → ℕ → ℕ → ℕ
+cost_from cost lo zero = 0
+cost_from cost lo (suc n) = cost lo + cost_from cost (suc lo) n
+
+abbrev pub cost_between : (ℕ → ℕ) → ℕ → ℕ → ℕ
+cost_between cost lo hi = cost_from cost lo (hi - lo)
+
+-- what was counted, and the blocks that were not opened
+pub record Counts : Type 0 where
+  pub tally : Tally
+  pub lo : ℕ
+  pub hi : ℕ
+
+abbrev pub counts_of : {S P X : Type 0} → Reading S X → (P → Tally) → S → Option P → Between → Option P → Counts
+counts_of r tally s near m far = record { tally = tally_all tally (r.tally s) near far; lo = m.lo; hi = m.hi }
+
+-- an amount of what was counted, with that of the blocks that were not opened
+abbrev pub with_unopened : (Tally → ℕ) → (ℕ → Tally) → Counts → ℕ
+with_unopened amount cost c = amount c.tally + cost_between (λ i. amount (cost i)) c.lo c.hi
+
+-- no head is added, and at most so many entries
+pub record IsPaid (cost : ℕ → Tally) (old new : Counts) (most : ℕ) : Type 0 where
+  pub heads : with_unopened (λ t. t.heads) cost new ≤ with_unopened (λ t. t.heads) cost old
+  pub due : with_unopened (λ t. t.due) cost new ≤ with_unopened (λ t. t.due) cost old + most
+
+-- nothing that was counted is forgotten, and what is added is at most what the blocks cost that were opened, and so many
+-- entries
+pub record Pays {S X : Type 0} (r : Reading S X) (s : S) (old new : Counts) (least most : ℕ) : Type 0 where
+  pub adds : Adds old.tally new.tally least
+  pub paid : IfSome (r.cost s) (λ cost. IsPaid cost old new most)
+
+-- also where the entries are left out that steps from the back decode again
+pub record PaysOnce {S X : Type 0} (r : Reading S X) (s : S) (old new : Counts) (least most : ℕ) : Type 0 where
+  pub pays : Pays r s old new least most
+  pub once : IfSome (r.cost s) (λ cost. with_unopened (λ t. t.entries) cost new ≤ with_unopened (λ t. t.entries) cost old + most)

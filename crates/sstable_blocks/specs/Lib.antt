@@ -19,6 +19,7 @@ pub mod RunChecks
 pub mod FrameCounts
 pub mod Footer
 pub mod Tables
+pub mod Tallies
 pub mod BlockReading
 pub mod Scans
 pub mod Ends

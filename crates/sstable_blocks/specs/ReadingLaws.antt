@@ -1,15 +1,18 @@
 -- Laws of the openings of blocks.
-use Rattle.std.proofs.Common.{inl, inr, ℕ, ◌+◌, ◌<◌, List, length, slice_get, Option, refl, ap, ◌∙◌, arith}
+use Rattle.std.proofs.Common.{inl, inr, ℕ, ◌+◌, ◌<◌, List, length, slice_get, Option, Some, Ok, refl, ap, ◌∙◌, arith}
 use Rattle.std.specs.Option.{option_map}
 use Rattle.std.specs.Prelude.{Result}
 use Rattle.sst_base.specs.Entry.{Entry}
 use Rattle.sst_base.specs.declared.error.Error.{Error}
 use Rattle.sstable_blocks.specs.BlockReading.{AreBlocks}
-use Rattle.sstable_blocks.specs.Readings.{TableGoes, table_reading, run_reading, block_of_index}
+use Rattle.sstable_blocks.specs.Opened.{index_in}
+use Rattle.sstable_blocks.specs.Readings.{TableGoes, table_reading, run_reading, block_of_index, entries_of_index}
 use Rattle.sstable_blocks.specs.RunReading.{Hashes}
 use Rattle.sstable_blocks.specs.Scans.{CutParts, in_range}
 use Rattle.sstable_blocks.specs.Sources.{FailsAs}
+use Rattle.sstable_blocks.specs.Sound.{RunParts}
 use Rattle.sstable_blocks.specs.Tables.{KeptParts, TableParts}
+use Rattle.sstable_blocks.specs.Tallies.{cost_in}
 
 module _ {S : Type 0} (c : Hashes) (bytes : S → Option (List ℕ)) (failures reads : S → ℕ) (is_reliable : S → Type 0) where
   abbrev Cut : Type 0
@@ -54,17 +57,19 @@ module _ {S : Type 0} (c : Hashes) (bytes : S → Option (List ℕ)) (failures r
     same_len = λ s t n g. ap (λ (k : KeptParts). length k.index) g.kept;
     same_read = λ s t n g i. option_map (λ all j. block_of_index c all (g.range i) (slice_get (ap (λ (k : KeptParts). k.index) g.kept i) j)) (g.source.same i);
     same_admits = λ s t n g i x. in_range (g.range i) x.key.user_key;
+    same_cost = λ s t n g i. option_map (λ all j. cost_in all (slice_get (ap (λ (k : KeptParts). k.index) g.kept i) j)) (g.source.same i);
     errs_later = λ s t u n e g h io. (let f = g.source.failures_grow in let less = h io in omega (arith, f, less));
     fails_later = fails_by;
   }
 
 pub run_laws : AreBlocks run_reading
 run_laws = record {
-  stays = λ s. refl;
-  goes_on = λ s t u m n g h. h ∙ g;
-  same_len = λ s t n g. ap run_reading.len g;
-  same_read = λ s t n g. ap run_reading.read g;
+  stays = λ s. record { run = refl; range = refl };
+  goes_on = λ s t u m n g h. record { run = h.run ∙ g.run; range = h.range ∙ g.range };
+  same_len = λ s t n g. ap (λ (run : RunParts). length (index_in run.bytes run.handles.index)) g.run;
+  same_read = λ s t n g i. Some (λ j. Ok (entries_of_index (g.run i).bytes (g.range i) (slice_get (index_in (g.run i).bytes (g.run i).handles.index) j)));
   same_admits = λ s t n g. refl;
+  same_cost = λ s t n g. ap (λ (run : RunParts). Some (λ j. cost_in run.bytes (slice_get (index_in run.bytes run.handles.index) j))) g.run;
   errs_later = λ s t u n e g h. h;
   fails_later = λ s t u n x e g h. h;
 }

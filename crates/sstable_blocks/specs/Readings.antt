@@ -14,6 +14,7 @@ use Rattle.sstable_blocks.specs.Scans.{KeyRange, CutParts, block_within, in_rang
 use Rattle.sstable_blocks.specs.Sound.{RunParts}
 use Rattle.sstable_blocks.specs.Sources.{FailsAs, KeepsSource}
 use Rattle.sstable_blocks.specs.Tables.{TableParts, kept_parts}
+use Rattle.sstable_blocks.specs.Tallies.{cost_in, tally_by}
 
 -- the block of a handle, if there is one
 abbrev pub block_of_index : Hashes → List ℕ → KeyRange → Option Handle → Result (List Entry) Error
@@ -38,12 +39,19 @@ module _ {S : Type 0} (c : Hashes) (bytes : S → Option (List ℕ)) (failures r
     Goes = TableGoes;
     Errs = λ s t e. e ≡ Io → failures s.run.source < failures t.run.source;
     Fails = λ s t x e. FailsAs (failures s.run.source < failures t.run.source) (is_reliable s.run.source) x e;
+    tally = λ t. tally_by t.steps;
+    cost = λ t. option_map (λ all i. cost_in all (slice_get t.run.index i)) (bytes t.run.source);
   }
 
 -- the entries in a range of the block of a handle, if there is one
 abbrev pub entries_of_index : List ℕ → KeyRange → Option Handle → List Entry
 entries_of_index bytes r None = []
 entries_of_index bytes r (Some h) = within r (items_in entries (payload_in bytes (range_of h)))
+
+-- the run and the range are the same
+pub record RunGoes (s : CutParts RunParts) (n : ℕ) (t : CutParts RunParts) : Type 0 where
+  pub run : t.run ≡ s.run
+  pub range : t.range ≡ s.range
 
 -- the blocks of a sound run, which are never refused
 abbrev pub run_reading : Reading (CutParts RunParts) Entry
@@ -52,7 +60,9 @@ run_reading = record {
   read = λ t. Some (λ i. Ok (entries_of_index t.run.bytes t.range (slice_get (index_in t.run.bytes t.run.handles.index) i)));
   most = 2 ^ 64;
   admits = λ t x. true;
-  Goes = λ s n t. t ≡ s;
+  Goes = RunGoes;
   Errs = λ s t e. ⊥;
   Fails = λ s t x e. ⊥;
+  tally = λ t. tally_by t.steps;
+  cost = λ t. Some (λ i. cost_in t.run.bytes (slice_get (index_in t.run.bytes t.run.handles.index) i));
 }

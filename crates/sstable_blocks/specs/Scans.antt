@@ -5,6 +5,7 @@ use Rattle.std.specs.Ordering.{nat_cmp, is_le, is_lt}
 use Rattle.std.specs.Range.Bound.{bound_map}
 use Rattle.std.specs.declared.ops.Bound.{Bound}
 use Rattle.std.specs.declared.ops.Bound.TheVariants.{Included, Excluded, Unbounded}
+use Rattle.sst_base.specs.Counted.{Counted, found_item}
 use Rattle.sst_base.specs.Entry.{Entry}
 use Rattle.sst_base.specs.declared.error.Error.{Error}
 use Rattle.sst_base.specs.declared.error.Error.TheVariants.{Memory, BadHandle}
@@ -24,8 +25,10 @@ use Rattle.sstable_blocks.specs.RunReading.{Hashes, block_items_at, handles_at}
 use Rattle.sstable_blocks.specs.Sound.{RunParts}
 use Rattle.sstable_blocks.specs.Sources.{IsSourceFailure}
 use Rattle.sstable_blocks.specs.Tables.{TableParts}
+use Rattle.sstable_blocks.specs.Tallies.{Tally, Adds, CountsFirst, CountsLast}
 use Rattle.sstable_blocks.specs.declared.run.RunHandles.{RunHandles}
 use Rattle.sst_base.specs.Header.{◌>>=◌}
+use Rattle.std.specs.Result.{result_err}
 
 -- a range of user keys, by its two bounds
 pub record KeyRange : Type 0 where
@@ -97,8 +100,8 @@ blocks_read c bytes r [] = []
 blocks_read c bytes r (h ∷ hs) = reads_of (block_within c bytes r h) ++ blocks_read c bytes r hs
 
 -- what contracts see of a scan: its table and its range; the entries left of the block that was opened from the front,
--- the handles of the blocks that were not opened, the entries left of the block opened from the back; and the error that
--- ended it, if one did
+-- the handles of the blocks that were not opened, the entries left of the block opened from the back; the error that
+-- ended it, if one did; and what was counted since it was made
 pub record ScanParts (S : Type 0) : Type 0 where
   pub table : TableParts S
   pub range : KeyRange
@@ -106,6 +109,7 @@ pub record ScanParts (S : Type 0) : Type 0 where
   pub handles : List Handle
   pub back : List Entry
   pub ended : Option Error
+  pub counted : Tally
 
 -- entries, those of the blocks of handles, and entries
 abbrev pub reads_among : Hashes → List ℕ → KeyRange → List Entry → List Handle → List Entry → List Read
@@ -150,15 +154,10 @@ GivesLast failed reliable old new (Ok (Some x)) = old ≡ new ++ Ok x ∷ []
 GivesLast failed reliable old new (Ok None) = (old ≡ []) × (new ≡ [])
 GivesLast failed reliable old new (Err e) = FailsLast failed reliable old e
 
--- the error of a result, if it is one
-abbrev pub error_of : {X : Type 0} → Result X Error → Option Error
-error_of (Ok x) = None
-error_of (Err e) = Some e
-
 -- a step of a scan that has ended returns its error again, and a step that fails ends the scan
 pub record EndsBy {X : Type 0} (old new : Option Error) (result : Result X Error) : Type 0 where
   pub repeated : IfSome old (λ e. result ≡ Err e)
-  pub ended : new ≡ error_of result
+  pub ended : new ≡ result_err result
 
 -- how many entries of a block have keys before the start of a range, and how many have none after its end
 abbrev pub first_entry : KeyRange → List Entry → ℕ
@@ -202,10 +201,12 @@ pub record IsReadRun (c : Hashes) (bytes : List ℕ) (h : RunHandles) : Type 0 w
   pub index : handles_at c bytes h.index ≡ Ok (index_in bytes h.index)
   pub blocks : AllByRecursion (IsBlockRead c bytes) (index_in bytes h.index)
 
--- what contracts see of what opens the blocks of a run, each cut by a range
+-- what contracts see of what opens the blocks of a run, each cut by a range; and what was counted of those that are no
+-- longer open
 pub record CutParts (R : Type 0) : Type 0 where
   pub run : R
   pub range : KeyRange
+  pub steps : Counted
 
 -- the entries in a range of the blocks of handles, as they are in bytes
 abbrev pub entries_within : List ℕ → KeyRange → List Handle → List Entry
@@ -216,27 +217,30 @@ entries_within bytes r (h ∷ hs) = within r (items_in entries (payload_in bytes
 abbrev pub entries_among : List ℕ → KeyRange → List Entry → List Handle → List Entry → List Entry
 entries_among bytes r front hs back = front ++ (entries_within bytes r hs ++ back)
 
--- the entries left of a block that was opened over borrowed bytes, if one was
-abbrev pub views_left : Option (List Entry) → List Entry
-views_left = items_of (λ (xs : List Entry). xs)
+abbrev pub left_by : RunParts → KeyRange → Option (Scan Entry) → ℕ → ℕ → Option (Scan Entry) → List Entry
+left_by run r front lo hi back = entries_among run.bytes r (left_in front) (between (index_in run.bytes run.handles.index) lo hi) (left_in back)
 
-abbrev pub left_by : RunParts → KeyRange → Option (List Entry) → ℕ → ℕ → Option (List Entry) → List Entry
-left_by run r front lo hi back = entries_among run.bytes r (views_left front) (between (index_in run.bytes run.handles.index) lo hi) (views_left back)
-
--- what contracts see of a scan over borrowed bytes: the bytes and the handles, the range, and the entries left
+-- what contracts see of a scan over borrowed bytes: the bytes and the handles, the range, and the entries left; the
+-- handles of the blocks that were not opened, and what was counted since it was made
 pub record RunScanParts : Type 0 where
   pub run : RunParts
   pub range : KeyRange
   pub left : List Entry
+  pub handles : List Handle
+  pub counted : Tally
 
 -- a step from the front of a scan gives the first entry left, which is then gone
 pub record ScansFirst (old : RunScanParts) (result : Option Entry) (new : RunScanParts) : Type 0 where
   pub run : new.run ≡ old.run
   pub range : new.range ≡ old.range
   pub first : YieldsFirst (λ xs. xs) old.left result new.left
+  pub looked : Adds old.counted new.counted (found_item result)
+  pub counts : CountsFirst old.run.bytes old.counted old.handles new.counted new.handles (found_item result)
 
 -- a step from the back gives the last
 pub record ScansLast (old : RunScanParts) (result : Option Entry) (new : RunScanParts) : Type 0 where
   pub run : new.run ≡ old.run
   pub range : new.range ≡ old.range
   pub last : YieldsLast (λ xs. xs) old.left result new.left
+  pub looked : Adds old.counted new.counted (found_item result)
+  pub counts : CountsLast old.run.bytes old.counted old.handles new.counted new.handles (found_item result)

@@ -6,11 +6,13 @@ use Rattle.sst_base.specs.Entry.{Entry}
 use Rattle.sst_base.specs.Header.{◌>>=◌}
 use Rattle.sst_base.specs.declared.error.Error.{Error}
 use Rattle.sst_base.specs.declared.table.block.block_type.BlockType.TheVariants as types
+use Rattle.sst_block_core.specs.Entries.{entries}
 use Rattle.sst_block_core.specs.Handles.{Handle, handles}
+use Rattle.sst_block_core.specs.Stages.{items_in}
 use Rattle.sstable_blocks.specs.Filter.{filter_at}
 use Rattle.sstable_blocks.specs.Footer.{table_handles}
 use Rattle.sstable_blocks.specs.Lookup.{handle_for}
-use Rattle.sstable_blocks.specs.Opened.{index_in}
+use Rattle.sstable_blocks.specs.Opened.{index_in, payload_in}
 use Rattle.sstable_blocks.specs.ReadCosts.{interval_in}
 use Rattle.sstable_blocks.specs.RunReading.{Hashes, payload_at, handles_at, filter_answer, read_block}
 use Rattle.sstable_blocks.specs.declared.run.RunHandles.{RunHandles}
@@ -60,6 +62,11 @@ kept_by_footer c bytes = do
 -- handles and a restart interval are those of the index block in the range of a handle
 pub record IsIndexIn (bytes : List ℕ) (h : HandleParts) (index : List Handle) (interval : ℕ) : Type 0 where
   pub index_is : index ≡ index_in bytes h
+  pub interval_is : interval ≡ interval_in bytes h
+
+-- entries and a restart interval are those of the data block in the range of a handle
+pub record IsBlockIn (bytes : List ℕ) (h : HandleParts) (items : List Entry) (interval : ℕ) : Type 0 where
+  pub items_is : items ≡ items_in entries (payload_in bytes h)
   pub interval_is : interval ≡ interval_in bytes h
 
 -- a filter's payload, handles and a restart interval are those of a run's bytes

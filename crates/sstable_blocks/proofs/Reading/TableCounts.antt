@@ -22,7 +22,7 @@ use Rattle.sst_block_core.specs.PointReads.{read_most}
 use Rattle.sstable_blocks.specs.Opened.{range_of, payload_in, index_in}
 use Rattle.sstable_blocks.specs.ReadCosts.{heads_at, entries_at, heads_most_by, entries_most_by, heads_most_in, entries_most_in}
 use Rattle.sstable_blocks.specs.RunReading.{Hashes, payload_at}
-use Rattle.sstable_blocks.specs.Tables.{IsIndexIn, IsKeptOf}
+use Rattle.sstable_blocks.specs.Tables.{IsBlockIn, IsIndexIn, IsKeptOf}
 use Rattle.sstable_blocks.specs.declared.run.RunHandles.{RunHandles}
 use Rattle.sstable_blocks.proofs.Reading.Meanings.{payload_at_takes}
 use Rattle.sstable_blocks.proofs.Layouts.Openings.{frame_range}
@@ -48,6 +48,18 @@ pub index_placed_ok : (c : Hashes) (o : Option (List ℕ)) (k : HandleParts) (b 
     → IfOk r (λ d. IfSome o (λ all. IsIndexIn all k d.items d.interval))
 index_placed_ok c o k b heads (Ok d) is cells read = index_placed c o k b heads d is cells read
 index_placed_ok c o k b heads (Err e) is cells read = tt
+
+-- so are the entries of a data block and its interval
+pub block_placed_ok : (c : Hashes) (o : Option (List ℕ)) (k : HandleParts) (b : BlockParts) (heads : Bool) (r : Result DataBlockParts Error) → IfOk r (λ d. d ≡ data_block_of b heads) → IfSome o IsBytes → IfSome o (λ all. payload_at c types.Data all k ≡ Ok b.payload)
+    → IfOk r (λ d. IfSome o (λ all. IsBlockIn all k d.items d.interval))
+block_placed_ok c o k b heads (Err e) is cells read = tt
+block_placed_ok c None k b heads (Ok d) is cells read = tt
+block_placed_ok c (Some all) k b heads (Ok d) is cells read =
+    let at : payload_in all k ≡ b.payload = placed c types.Data (Some all) k b.payload cells read in
+    record {
+      items_is = ap (λ (x : DataBlockParts). x.items) is ∙ ap (λ q. items_in entries q) (sym at);
+      interval_is = ap (λ (x : DataBlockParts). x.interval) is ∙ ap (λ q. (trailer_in q).interval) (sym at);
+    }
 
 -- the check of an index never reports a source that failed
 pub check_not_io : {X : Type 0} (p : List ℕ) (r : Result X Error) (P : Type 0) → IndexVerdict (trailer_in p) p (index_check p) → IfErr r (λ e. e ≢ Memory → index_check p ≡ Err e) → IfErr r (λ e. e ≡ Io → P)

@@ -1,17 +1,22 @@
 -- Scans of sound runs.
-use Rattle.std.proofs.Common.{zero, suc, take, drop, ◌≡◌, ℕ, ◌-◌, List, [], ◌∷◌, ◌++◌, map, refl, sym, ◌∙◌, ap, append-nil, Result, Ok}
+use Rattle.std.proofs.Common.{zero, suc, take, drop, ◌≡◌, ℕ, ◌-◌, List, [], ◌∷◌, ◌++◌, map, refl, sym, subst, ◌∙◌, ap, append-nil, Option, Result, Ok}
 use Rattle.std.proofs.lemmas.List.{map-append}
+use Rattle.std.specs.Iterator.{YieldsFirst, YieldsLast}
 use Rattle.std.specs.List.{AllByRecursion}
+use Rattle.sst_base.specs.Counted.{found_item}
 use Rattle.sst_base.specs.Entry.{Entry, plain}
 use Rattle.sst_base.specs.Header.{◌>>=◌}
 use Rattle.sst_base.specs.declared.error.Error.{Error}
 use Rattle.sst_block_core.specs.Entries.{entries}
+use Rattle.sst_block_core.specs.Scan.{Scan}
 use Rattle.sst_block_core.specs.Stages.{items_in}
 use Rattle.sst_block_core.specs.Handles.{Handle}
 use Rattle.sstable_blocks.specs.Blocks.{joined}
-use Rattle.sstable_blocks.specs.Opened.{range_of, payload_in}
+use Rattle.sstable_blocks.specs.Opened.{range_of, payload_in, index_in}
 use Rattle.sstable_blocks.specs.RunReading.{Hashes}
-use Rattle.sstable_blocks.specs.Scans.{KeyRange, within, reads_of, blocks_read, between, entries_read, entries_within, entries_among, first_block, end_block, handles_within, IsBlockRead}
+use Rattle.sstable_blocks.specs.Sound.{RunParts}
+use Rattle.sstable_blocks.specs.Tallies.{Adds, CountsFirst, CountsLast, Tally}
+use Rattle.sstable_blocks.specs.Scans.{KeyRange, RunScanParts, ScansFirst, ScansLast, left_by, within, reads_of, blocks_read, between, entries_read, entries_within, entries_among, first_block, end_block, handles_within, IsBlockRead}
 
 module _ {X : Type 0} (P : X → Type 0) where
   pub some_dropped : (n : ℕ) (xs : List X) → AllByRecursion P xs → AllByRecursion P (drop n xs)
@@ -59,3 +64,31 @@ module _ (bytes : List ℕ) (r : KeyRange) where
       ap (λ xs. xs ++ (entries_within bytes r (between hs lo hi) ++ back)) none ∙ ap (λ xs. entries_within bytes r (between hs lo hi) ++ xs) none'
       ∙ append-nil (entries_within bytes r (between hs lo hi)) ∙ ap (λ n. entries_within bytes r (between hs n hi)) first ∙ ap (λ n. entries_within bytes r (between hs lo' n)) last
       ∙ sym (entries_again (entries_within bytes r ks)) ∙ ap entries_read (sym (reads_are c ks some)) ∙ ap entries_read law ∙ entries_again (within r (map plain (joined blocks)))
+
+-- the handles of a scan that begins
+pub fresh_handles : (r : KeyRange) (hs : List Handle) (lo hi : ℕ) → lo ≡ first_block r hs → hi ≡ end_block r hs → between hs lo hi ≡ handles_within r hs
+unfolding handles_within
+fresh_handles r hs lo hi first last = ap (λ n. between hs n hi) first ∙ ap (λ n. between hs (first_block r hs) n) last
+
+-- a step of a scan leaves its run and its range
+module _ (old : RunScanParts) (result : Option Entry) (front : Option (Scan Entry)) (lo hi : ℕ) (back : Option (Scan Entry)) (counted : Tally) where
+  abbrev pub moved : RunParts → KeyRange → RunScanParts
+  moved run range = record {
+    run = run;
+    range = range;
+    left = left_by run range front lo hi back;
+    handles = between (index_in run.bytes run.handles.index) lo hi;
+    counted = counted;
+  }
+
+  module _ (run : RunParts) (range : KeyRange) (same : run ≡ old.run) (same_range : range ≡ old.range) where
+    as_moved : (P : RunScanParts → Type 0) → P (moved old.run old.range) → P (moved run range)
+    as_moved P p = subst (λ k. P (moved k range)) (sym same) (subst (λ k. P (moved old.run k)) (sym same_range) p)
+
+    pub moved_first : YieldsFirst (λ xs. xs) old.left result (left_by old.run old.range front lo hi back) → Adds old.counted counted (found_item result)
+        → CountsFirst old.run.bytes old.counted old.handles counted (between (index_in old.run.bytes old.run.handles.index) lo hi) (found_item result) → ScansFirst old result (moved run range)
+    moved_first first looked counts = as_moved (ScansFirst old result) (record { run = refl; range = refl; first = first; looked = looked; counts = counts })
+
+    pub moved_last : YieldsLast (λ xs. xs) old.left result (left_by old.run old.range front lo hi back) → Adds old.counted counted (found_item result)
+        → CountsLast old.run.bytes old.counted old.handles counted (between (index_in old.run.bytes old.run.handles.index) lo hi) (found_item result) → ScansLast old result (moved run range)
+    moved_last last looked counts = as_moved (ScansLast old result) (record { run = refl; range = refl; last = last; looked = looked; counts = counts })

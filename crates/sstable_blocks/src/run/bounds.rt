@@ -1,9 +1,12 @@
 //! The bounds of a scan.
-ghost use Rattle.std.specs.Prelude.{◌≡◌, ◌≤◌, length};
-ghost use Rattle.sst_base.specs.Counted.{CountsBetween};
+ghost use Rattle.std.specs.Prelude.{◌≡◌, ◌+◌, ◌*◌, ◌≤◌, length};
+ghost use Rattle.sst_base.specs.Counted.{CountsBetween, IsZero};
+ghost use Rattle.sst_block_core.specs.Intervals.{digits};
+ghost use Rattle.sst_block_core.specs.Pointers.{head_count};
 ghost use Rattle.sst_block_core.specs.Window.{items_left, whole};
 ghost use Rattle.sstable_blocks.specs.Scans.{AllWithin, blocks_up_to, end_block, end_entry};
 ghost use Rattle.sstable_blocks.specs.Scans.{first_block, first_entry, index_cost, within};
+ghost use Rattle.sstable_blocks.specs.Tallies.{IsUpTo, cut_cost, scan_tally};
 
 use super::search::IndexSearch;
 use sst_base::{BlockHash, Steps};
@@ -75,9 +78,14 @@ impl<'k> Bounds<'k> {
     // Moves the front of a block's entries to the start of the range.
     fn cut_front<H: BlockHash>(&self, entries: &mut IntoEntries<H>)
         requires { entries.old.window.lo ≡ 0 }
-        ensures { entries.new.window ≡ record entries.old.window {
+        ensures window { entries.new.window ≡ record entries.old.window {
           lo = first_entry self.now entries.old.window.list;
         } }
+        ensures interval { entries.new.interval ≡ entries.old.interval }
+        ensures counts { CountsBetween entries.old.steps entries.new.steps (0, 0) (
+          digits (head_count entries.old.interval (length entries.old.window.list)),
+          entries.old.interval + 1,
+        ) }
     {
         match self.from {
             Bound::Included(start) => {
@@ -93,9 +101,14 @@ impl<'k> Bounds<'k> {
     // Moves the back of a block's entries to the end of the range.
     fn cut_back<H: BlockHash>(&self, entries: &mut IntoEntries<H>)
         requires { entries.old.window.hi ≡ length entries.old.window.list }
-        ensures { entries.new.window ≡ record entries.old.window {
+        ensures window { entries.new.window ≡ record entries.old.window {
           hi = end_entry self.now entries.old.window.list;
         } }
+        ensures interval { entries.new.interval ≡ entries.old.interval }
+        ensures counts { CountsBetween entries.old.steps entries.new.steps (0, 0) (
+          digits (head_count entries.old.interval (length entries.old.window.list)),
+          2 * entries.old.interval + 2,
+        ) }
     {
         match self.to {
             Bound::Included(end) => {
@@ -110,9 +123,12 @@ impl<'k> Bounds<'k> {
 
     /// Leaves the entries of a block that are in the range.
     pub(crate) fn cut<H: BlockHash>(&self, entries: &mut IntoEntries<H>)
-        requires { entries.old.window ≡ whole entries.old.window.list }
+        requires whole { entries.old.window ≡ whole entries.old.window.list }
+        requires fresh { IsZero entries.old.steps }
         ensures left { items_left entries.new.window ≡ within self.now entries.old.window.list }
         ensures all { AllWithin self.now (items_left entries.new.window) }
+        ensures cost { IsUpTo (scan_tally entries.new)
+            (cut_cost entries.old.interval (length entries.old.window.list)) }
     {
         // The entries are ordered.
         let _count = entries.count_left();
@@ -127,6 +143,11 @@ impl<'k> Bounds<'k> {
         ensures window { iter.new.window ≡ record iter.old.window {
           lo = first_entry self.now iter.old.window.list;
         } }
+        ensures interval { iter.new.interval ≡ iter.old.interval }
+        ensures counts { CountsBetween iter.old.steps iter.new.steps (0, 0) (
+          digits (head_count iter.old.interval (length iter.old.window.list)),
+          iter.old.interval + 1,
+        ) }
     {
         match self.from {
             Bound::Included(start) => {
@@ -146,6 +167,11 @@ impl<'k> Bounds<'k> {
         ensures window { iter.new.window ≡ record iter.old.window {
           hi = end_entry self.now iter.old.window.list;
         } }
+        ensures interval { iter.new.interval ≡ iter.old.interval }
+        ensures counts { CountsBetween iter.old.steps iter.new.steps (0, 0) (
+          digits (head_count iter.old.interval (length iter.old.window.list)),
+          2 * iter.old.interval + 2,
+        ) }
     {
         match self.to {
             Bound::Included(end) => {
@@ -160,9 +186,12 @@ impl<'k> Bounds<'k> {
 
     /// The same for entries that borrow their block.
     pub(crate) fn cut_iter(&self, iter: &mut Iter<'_>)
-        requires { iter.old.window ≡ whole iter.old.window.list }
+        requires whole { iter.old.window ≡ whole iter.old.window.list }
+        requires fresh { IsZero iter.old.steps }
         ensures payload { iter.new.payload ≡ iter.old.payload }
         ensures left { items_left iter.new.window ≡ within self.now iter.old.window.list }
+        ensures cost { IsUpTo (scan_tally iter.new)
+            (cut_cost iter.old.interval (length iter.old.window.list)) }
     {
         // The entries are ordered.
         let _count = iter.count_left();

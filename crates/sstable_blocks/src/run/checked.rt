@@ -20,6 +20,7 @@ ghost use Rattle.sstable_blocks.specs.FrameCounts.{frames_to, read_frames};
 ghost use Rattle.sst_base.specs.Counted.{found_item};
 ghost use Rattle.sstable_blocks.specs.Sources.{AsksAs, AsksExactly, AsksUpTo, GivesOr, ReadsAs};
 ghost use Rattle.sstable_blocks.specs.Sources.{UsesSource, filter_frames};
+ghost use Rattle.sstable_blocks.specs.Tables.{IsBlockIn};
 
 use super::RunHandles;
 use super::laws::{checked_answer_means, sound_is_read};
@@ -76,6 +77,8 @@ pub fn data_block_from<H: BlockHash, S: FrameSource>(
         (AsksExactly 1) source.old source.new result }
     ensures exact { ReadsAs S.bytes S.failures S.is_reliable source.old source.new
         (λ b. b.items) result (λ all. block_items_at (hashes H.hash64 H.hash128) all handle.now) }
+    ensures place { IfOk result (λ b. IfSome (S.bytes source.old)
+        (λ all. IsBlockIn all handle.now b.items b.interval)) }
 {
     let block = block_from::<H, S>(alloc, source, handle, BlockType::Data)?;
     DataBlock::<H>::check_once(alloc, block)

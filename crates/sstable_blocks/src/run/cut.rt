@@ -7,25 +7,28 @@ ghost use Rattle.sstable_blocks.specs.ReadingLaws.{run_laws, table_laws};
 ghost use Rattle.sstable_blocks.specs.Readings.{run_reading, table_reading};
 ghost use Rattle.sstable_blocks.specs.RunReading.{hashes};
 ghost use Rattle.sstable_blocks.specs.Scans.{AllWithin, block_within};
-ghost use Rattle.sstable_blocks.specs.Sources.{GivesOr, KeepsSource, IsIoCounted};
+ghost use Rattle.sstable_blocks.specs.Sources.{AsksExactly, GivesOr, UsesSource};
 ghost use Rattle.sstable_blocks.specs.Tables.{kept_parts};
+ghost use Rattle.sstable_blocks.specs.Tallies.{IsUpTo, cost_in, scan_tally};
 
-use super::blocks::{Blocks, Ended};
+use super::blocks::{Blocks, Ended, add_steps};
 use super::bounds::Bounds;
 use super::open_block::{OpenBlock, count_of, open_at};
 use super::run_ref::RunRef;
 use super::source::FrameSource;
 use super::table::Table;
-use sst_base::{BlockHash, InternalValue, Result};
+use sst_base::{BlockHash, InternalValue, Result, Steps};
 use sst_block_core::table::data_block::{EntryView, IntoEntries};
 use std::alloc::Global;
 use std::marker::Model;
 
-/// A run whose blocks are opened and cut by bounds. Clauses see the run, and the range of keys.
+/// A run whose blocks are opened and cut by bounds. Clauses see the run, the range of keys, and what
+/// was counted of the blocks that are no longer open.
 #[derive(Drop)]
 pub(crate) struct Cut<'k, R> {
     pub(crate) run: R,
     pub(crate) bounds: Bounds<'k>,
+    pub(crate) steps: Steps,
 }
 
 impl<'k, R> Model for Cut<'k, R> {
@@ -33,7 +36,7 @@ impl<'k, R> Model for Cut<'k, R> {
 
     ghost Value = { CutParts R };
 
-    ghost view = { λ c. record { run = c.run; range = c.bounds } };
+    ghost view = { λ c. record { run = c.run; range = c.bounds; steps = c.steps } };
 }
 
 /// The entries of a block are made when they are taken.
@@ -44,11 +47,18 @@ impl<H: BlockHash> Ended for IntoEntries<H> {
 
     ghost items = { λ e. items_left e.window };
 
+    ghost tally = { λ e. scan_tally e };
+
     ghost Lacks = { λ e. e ≡ Memory };
 
     #[inline(always)]
     fn count_left(&self) -> usize {
         IntoEntries::count_left(self)
+    }
+
+    #[inline(always)]
+    fn steps(&self) -> &Steps {
+        IntoEntries::steps(self)
     }
 
     #[inline(always)]
@@ -70,13 +80,20 @@ impl<'a> Ended for OpenBlock<'a> {
 
     type Room = ();
 
-    ghost items = { λ b. b };
+    ghost items = { λ b. items_left b.window };
+
+    ghost tally = { λ b. scan_tally b };
 
     ghost Lacks = { λ e. ⊥ };
 
     #[inline(always)]
     fn count_left(&self) -> usize {
         OpenBlock::count_left(self)
+    }
+
+    #[inline(always)]
+    fn steps(&self) -> &Steps {
+        OpenBlock::steps(self)
     }
 
     #[inline(always)]
@@ -100,10 +117,8 @@ fn cut_block<H: BlockHash, S: FrameSource>(
 ) -> Result<IntoEntries<H>>
     requires { index < length table.old.index }
     ensures kept { kept_parts table.new ≡ kept_parts table.old }
-    ensures source { KeepsSource S.bytes S.failures S.is_reliable table.old.source
-        table.new.source }
-    ensures reads { S.reads table.new.source ≡ S.reads table.old.source + 1 }
-    ensures io { IsIoCounted S.failures table.old.source table.new.source result }
+    ensures source { UsesSource S.bytes S.failures S.reads S.is_reliable
+        (AsksExactly 1) table.old.source table.new.source result }
     ensures all { IfOk result (λ e. AllWithin bounds.now (items_left e.window)) }
     ensures few { IfOk result (λ e. length (items_left e.window) < 2 ^ 32) }
     ensures exact { IfSome (S.bytes table.old.source)
@@ -111,6 +126,9 @@ fn cut_block<H: BlockHash, S: FrameSource>(
         → GivesOr (S.failures table.old.source < S.failures table.new.source)
         (S.is_reliable table.old.source) (λ e. items_left e.window) result
         (block_within (hashes H.hash64 H.hash128) all bounds.now h)) }
+    ensures cost { IfSome (S.bytes table.old.source)
+        (λ all. (h : Handle) → slice_get table.old.index index ≡ Some h
+        → IfOk result (λ e. IsUpTo (scan_tally e) (cost_in all (Some h)))) }
 {
     let block = table.block_at(alloc, index)?;
     // The payload is an encoding, of fewer than 2^32 bytes.
@@ -133,6 +151,7 @@ impl<'k, H: BlockHash, S: FrameSource> Blocks<IntoEntries<H>> for Cut<'k, Table<
         block: &mut Option<IntoEntries<H>>,
     ) -> Result<()> {
         let entries = cut_block::<H, S>(alloc, &mut self.run, &self.bounds, index)?;
+        add_steps::<IntoEntries<H>>(&mut self.steps, block);
         *block = Some(entries);
         Ok(())
     }
@@ -146,6 +165,7 @@ impl<'a, 'k, H: BlockHash> Blocks<OpenBlock<'a>> for Cut<'k, RunRef<'a, H>> {
     ghost reading = { run_reading };
 
     fn open(&mut self, _room: (), index: usize, block: &mut Option<OpenBlock<'a>>) -> Result<()> {
+        add_steps::<OpenBlock<'a>>(&mut self.steps, block);
         open_at::<H>(&self.run, &self.bounds, index, block);
         // A slice has fewer than 2^63 items.
         let _count = count_of(block);

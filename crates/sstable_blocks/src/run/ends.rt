@@ -2,10 +2,12 @@
 //!
 //! What opens blocks is one function for both ends, to which they are passed as near and far. What takes
 //! an item is a function for each end: inlined into its callers, one of both would be too long.
-ghost use Rattle.std.specs.Prelude.{◌≡◌, ◌<◌, None, false, length, nat_lt, true};
+ghost use Rattle.std.specs.Prelude.{◌≡◌, ◌+◌, ◌<◌, ◌≤◌, None, false, length, nat_lt, true};
 ghost use Rattle.sstable_blocks.specs.BlockReading.{TakesEnd, items_of};
-ghost use Rattle.sstable_blocks.specs.Ends.{AreEnds, IsReady, TakesNear, ends, hi_at, index_at, lo_at};
-ghost use Rattle.sstable_blocks.specs.Scans.{error_of};
+ghost use Rattle.sstable_blocks.specs.Ends.{AreEnds, IsReady, Pays, PaysOnce, TakesNear, counts_of};
+ghost use Rattle.sstable_blocks.specs.Ends.{ends, hi_at, index_at, lo_at};
+ghost use Rattle.std.specs.Result.{result_err};
+ghost use Rattle.sstable_blocks.specs.Tallies.{AddsTaken, least_taken, most_taken, tally_of};
 
 use super::blocks::{Blocks, Ended};
 use sst_base::{Error, Result};
@@ -52,7 +54,7 @@ fn has_item<B: Ended>(block: &Option<B>) -> bool
 #[inline(always)]
 fn keep_error<T>(ended: &mut Option<Error>, found: &Result<T>)
     requires { ended.old ≡ None }
-    ensures { ended.new ≡ error_of found.now }
+    ensures { ended.new ≡ result_err found.now }
 {
     if let Err(error) = found {
         *ended = Some(*error);
@@ -69,7 +71,11 @@ fn take_first<B: Ended>(
     requires { ended.old ≡ None }
     ensures taken { TakesEnd false B.Lacks (items_of B.items block.old) result
         (items_of B.items block.new) }
-    ensures ended { ended.new ≡ error_of result }
+    ensures ended { ended.new ≡ result_err result }
+    ensures counts { AddsTaken (tally_of B.tally block.old) (tally_of B.tally block.new)
+        (least_taken result) (most_taken result) }
+    ensures once { (tally_of B.tally block.new).entries
+        ≤ (tally_of B.tally block.old).entries + most_taken result }
 {
     let Some(block) = block else {
         return Ok(None);
@@ -89,7 +95,9 @@ fn take_last<B: Ended>(
     requires { ended.old ≡ None }
     ensures taken { TakesEnd true B.Lacks (items_of B.items block.old) result
         (items_of B.items block.new) }
-    ensures ended { ended.new ≡ error_of result }
+    ensures ended { ended.new ≡ result_err result }
+    ensures counts { AddsTaken (tally_of B.tally block.old) (tally_of B.tally block.new)
+        (least_taken result) (most_taken result) }
 {
     let Some(block) = block else {
         return Ok(None);
@@ -110,8 +118,11 @@ fn turn<B: Ended, S: Blocks<B>, const BACK: bool>(
     far: &mut Option<B>,
 ) -> Result<()>
     requires { AreEnds S.reading blocks.old (ends B.items near.old between.old far.old) }
-    ensures { IsReady S.reading BACK blocks.old (ends B.items near.old between.old far.old) result
-        blocks.new (ends B.items near.new between.new far.new) }
+    ensures ready { IsReady S.reading BACK blocks.old (ends B.items near.old between.old far.old)
+        result blocks.new (ends B.items near.new between.new far.new) }
+    ensures counts { PaysOnce S.reading blocks.old
+        (counts_of S.reading B.tally blocks.old near.old between.old far.old)
+        (counts_of S.reading B.tally blocks.new near.new between.new far.new) 0 0 }
 {
     'open: while between.lo < between.hi && !has_item::<B>(near) {
         let index = take_index::<BACK>(between);
@@ -134,8 +145,11 @@ fn ready<B: Ended, S: Blocks<B>, const BACK: bool>(
     far: &mut Option<B>,
 ) -> Result<()>
     requires { AreEnds S.reading blocks.old (ends B.items near.old between.old far.old) }
-    ensures { IsReady S.reading BACK blocks.old (ends B.items near.old between.old far.old) result
-        blocks.new (ends B.items near.new between.new far.new) }
+    ensures ready { IsReady S.reading BACK blocks.old (ends B.items near.old between.old far.old)
+        result blocks.new (ends B.items near.new between.new far.new) }
+    ensures counts { PaysOnce S.reading blocks.old
+        (counts_of S.reading B.tally blocks.old near.old between.old far.old)
+        (counts_of S.reading B.tally blocks.new near.new between.new far.new) 0 0 }
 {
     if has_item::<B>(near) {
         return Ok(());
@@ -163,7 +177,11 @@ pub fn step_front<B: Ended, S: Blocks<B>>(
     ensures taken { TakesNear S.reading B.Lacks false blocks.old
         (ends B.items near.old between.old far.old) result blocks.new
         (ends B.items near.new between.new far.new) }
-    ensures ended { ended.new ≡ error_of result }
+    ensures ended { ended.new ≡ result_err result }
+    ensures counts { PaysOnce S.reading blocks.old
+        (counts_of S.reading B.tally blocks.old near.old between.old far.old)
+        (counts_of S.reading B.tally blocks.new near.new between.new far.new)
+        (least_taken result) (most_taken result) }
 {
     let ready = ready::<B, S, false>(room, blocks, near, between, far);
     keep_error(ended, &ready);
@@ -191,7 +209,11 @@ pub fn step_back<B: Ended, S: Blocks<B>>(
     ensures taken { TakesNear S.reading B.Lacks true blocks.old
         (ends B.items near.old between.old far.old) result blocks.new
         (ends B.items near.new between.new far.new) }
-    ensures ended { ended.new ≡ error_of result }
+    ensures ended { ended.new ≡ result_err result }
+    ensures counts { Pays S.reading blocks.old
+        (counts_of S.reading B.tally blocks.old near.old between.old far.old)
+        (counts_of S.reading B.tally blocks.new near.new between.new far.new)
+        (least_taken result) (most_taken result) }
 {
     let ready = ready::<B, S, true>(room, blocks, near, between, far);
     keep_error(ended, &ready);

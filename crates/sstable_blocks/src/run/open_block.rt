@@ -1,19 +1,23 @@
 //! The blocks that a scan over borrowed bytes has opened.
-ghost use Rattle.std.specs.Prelude.{◌≡◌, ◌<◌, length, slice_get, Some};
+ghost use Rattle.std.specs.Prelude.{◌≡◌, ◌+◌, ◌<◌, length, slice_get, Some};
 ghost use Rattle.std.specs.Iterator.{YieldsFirst, YieldsLast};
+ghost use Rattle.sst_base.specs.Counted.{found_item};
 ghost use Rattle.sst_block_core.specs.Entries.{entries};
 ghost use Rattle.sst_block_core.specs.Stages.{items_in};
 ghost use Rattle.sst_block_core.specs.Handles.{Handle};
+ghost use Rattle.sst_block_core.specs.Window.{items_left};
 ghost use Rattle.sstable_blocks.specs.Opened.{index_in, payload_in, range_of};
-ghost use Rattle.sstable_blocks.specs.Scans.{views_left, within};
+ghost use Rattle.sstable_blocks.specs.Scans.{left_in, within};
+ghost use Rattle.sstable_blocks.specs.Tallies.{AddsTaken, IsUpTo, cost_in, cut_cost, scan_tally};
+ghost use Rattle.sstable_blocks.specs.Tallies.{tally_of};
 
 use super::bounds::Bounds;
 use super::run_ref::RunRef;
-use sst_base::BlockHash;
+use sst_base::{BlockHash, Steps};
 use sst_block_core::table::data_block::{DataBlockRef, EntryView, Iter};
 use std::marker::Model;
 
-/// A block that a scan has opened. Clauses see the entries left of it.
+/// A block that a scan has opened. Clauses see what they see of its iterator.
 ///
 /// An iterator has a KiB of room for offsets. So the scan opens its next block in the same place.
 #[derive(Drop)]
@@ -23,13 +27,13 @@ pub(super) struct OpenBlock<'a> {
 }
 
 impl<'a> Model for OpenBlock<'a> {
-    ghost use Rattle.std.specs.Prelude.{◌≡◌, List};
+    ghost use Rattle.std.specs.Prelude.{◌≡◌};
     ghost use Rattle.sst_base.specs.Entry.{Entry};
-    ghost use Rattle.sst_block_core.specs.Window.{items_left};
+    ghost use Rattle.sst_block_core.specs.Scan.{Scan};
 
-    ghost Value = { List Entry };
+    ghost Value = { Scan Entry };
 
-    ghost view = { λ b. items_left b.iter.window };
+    ghost view = { λ b. b.iter };
 
     ghost invariant = { λ b. b.payload.now ≡ b.iter.payload };
 }
@@ -37,7 +41,9 @@ impl<'a> Model for OpenBlock<'a> {
 impl<'a> OpenBlock<'a> {
     // Opens a block: its entries in a range.
     fn new<H: BlockHash>(block: &DataBlockRef<'a, H>, bounds: &Bounds<'_>) -> OpenBlock<'a>
-        ensures { result ≡ within bounds.now block.now.items }
+        ensures left { items_left result.window ≡ within bounds.now block.now.items }
+        ensures cost { IsUpTo (scan_tally result)
+            (cut_cost block.now.interval (length block.now.items)) }
     {
         let mut iter = block.iter();
         bounds.cut_iter(&mut iter);
@@ -49,7 +55,9 @@ impl<'a> OpenBlock<'a> {
 
     // Opens another block in its place.
     fn reopen<H: BlockHash>(&mut self, block: &DataBlockRef<'a, H>, bounds: &Bounds<'_>)
-        ensures { self.new ≡ within bounds.now block.now.items }
+        ensures left { items_left self.new.window ≡ within bounds.now block.now.items }
+        ensures cost { IsUpTo (scan_tally self.new)
+            (cut_cost block.now.interval (length block.now.items)) }
     {
         self.iter.restart(block);
         bounds.cut_iter(&mut self.iter);
@@ -59,15 +67,26 @@ impl<'a> OpenBlock<'a> {
     // Returns the number of entries left.
     #[inline(always)]
     pub(super) fn count_left(&self) -> usize
-        ensures { result ≡ length self.now }
+        ensures { result ≡ length (items_left self.now.window) }
     {
         self.iter.count_left()
+    }
+
+    // Returns what was counted since the block was opened.
+    #[inline(always)]
+    pub(super) fn steps(&self) -> &Steps
+        ensures { result.now ≡ self.now.steps }
+    {
+        self.iter.steps()
     }
 
     // Takes the first entry left.
     #[inline(always)]
     pub(super) fn next(&mut self) -> Option<EntryView<'a>>
-        ensures { YieldsFirst (λ xs. xs) self.old result self.new }
+        ensures first { YieldsFirst (λ s. items_left s.window) self.old result self.new }
+        ensures counts { AddsTaken (scan_tally self.old) (scan_tally self.new)
+            (found_item result) (found_item result) }
+        ensures once { self.new.steps.entries ≡ self.old.steps.entries + found_item result }
     {
         let Some(item) = self.iter.next() else {
             return None;
@@ -78,7 +97,9 @@ impl<'a> OpenBlock<'a> {
     // Takes the last entry left.
     #[inline(always)]
     pub(super) fn next_back(&mut self) -> Option<EntryView<'a>>
-        ensures { YieldsLast (λ xs. xs) self.old result self.new }
+        ensures last { YieldsLast (λ s. items_left s.window) self.old result self.new }
+        ensures counts { AddsTaken (scan_tally self.old) (scan_tally self.new)
+            (found_item result) (found_item result) }
     {
         let Some(item) = self.iter.next_back() else {
             return None;
@@ -96,9 +117,13 @@ pub(super) fn open_at<'a, H: BlockHash>(
     opened: &mut Option<OpenBlock<'a>>,
 )
     requires { index < length (index_in run.now.bytes run.now.handles.index) }
-    ensures { (h : Handle) → slice_get (index_in run.now.bytes run.now.handles.index) index ≡ Some h
-        → views_left opened.new ≡ within bounds.now
+    ensures left { (h : Handle)
+        → slice_get (index_in run.now.bytes run.now.handles.index) index ≡ Some h
+        → left_in opened.new ≡ within bounds.now
         (items_in entries (payload_in run.now.bytes (range_of h))) }
+    ensures cost { (h : Handle)
+        → slice_get (index_in run.now.bytes run.now.handles.index) index ≡ Some h
+        → IsUpTo (tally_of scan_tally opened.new) (cost_in run.now.bytes (Some h)) }
 {
     let block = run.block_at(index);
     if let Some(opened) = opened {
@@ -111,7 +136,7 @@ pub(super) fn open_at<'a, H: BlockHash>(
 /// Returns how many entries are left of an opened block.
 #[inline(always)]
 pub(super) fn count_of(opened: &Option<OpenBlock<'_>>) -> usize
-    ensures { result ≡ length (views_left opened.now) }
+    ensures { result ≡ length (left_in opened.now) }
 {
     match opened {
         Some(opened) => opened.count_left(),

@@ -10,7 +10,7 @@ ghost use Rattle.sst_block_core.specs.Handles.{Handle};
 ghost use Rattle.sstable_blocks.specs.Blocks.{joined};
 ghost use Rattle.sstable_blocks.specs.Opened.{IsDenied, IsFoundIn, found_entry, index_in};
 ghost use Rattle.sstable_blocks.specs.Opened.{payload_in, range_of};
-ghost use Rattle.sstable_blocks.specs.ReadCosts.{CountsRead};
+ghost use Rattle.sstable_blocks.specs.ReadCosts.{CountsRead, interval_in};
 ghost use Rattle.sstable_blocks.specs.RunChecks.{check_run, summary_of};
 ghost use Rattle.sstable_blocks.specs.RunReading.{hashes};
 ghost use Rattle.sstable_blocks.specs.Scans.{IsReadRun};
@@ -181,7 +181,9 @@ impl<'a, H: BlockHash> RunRef<'a, H> {
 
     // The index.
     pub(crate) fn index(&self) -> &IndexSearch<'a>
-        ensures { result.now.items ≡ index_in self.now.bytes self.now.handles.index }
+        ensures items { result.now.items ≡ index_in self.now.bytes self.now.handles.index }
+        ensures interval { result.now.interval
+            ≡ interval_in self.now.bytes self.now.handles.index }
     {
         &self.index
     }

@@ -1,5 +1,5 @@
 //! Scans of sound runs over borrowed bytes: without checks, and without memory.
-ghost use Rattle.std.specs.Prelude.{◌≡◌, List, Ok, IsOk, map, refl};
+ghost use Rattle.std.specs.Prelude.{◌≡◌, Ok, IsOk, length, map, refl};
 ghost use Rattle.std.specs.Iterator.{YieldsFirst, YieldsLast, item_count};
 ghost use Rattle.sstable_blocks.specs.Ends.{AreEnds, ends};
 ghost use Rattle.sstable_blocks.specs.Readings.{run_reading};
@@ -7,9 +7,17 @@ ghost use Rattle.std.specs.declared.ops.Bound.TheVariants.{Unbounded};
 ghost use Rattle.sst_base.specs.Entry.{Entry, plain};
 ghost use Rattle.sstable_blocks.specs.Blocks.{joined};
 ghost use Rattle.sstable_blocks.specs.RunReading.{hashes};
-ghost use Rattle.sstable_blocks.specs.Scans.{ScansFirst, ScansLast, left_by, within, range_by};
+ghost use Rattle.sst_base.specs.Counted.{found_item};
+ghost use Rattle.sst_block_core.specs.Window.{items_left};
+ghost use Rattle.sstable_blocks.specs.Opened.{index_in};
+ghost use Rattle.sstable_blocks.specs.ReadCosts.{interval_in};
+ghost use Rattle.sstable_blocks.specs.Scans.{ScansFirst, ScansLast, between, handles_within};
+ghost use Rattle.sstable_blocks.specs.Scans.{left_by, within, range_by};
+ghost use Rattle.sstable_blocks.specs.Tallies.{Adds, CountsFirst, CountsLast, IsUpTo, scan_tally};
+ghost use Rattle.sstable_blocks.specs.Tallies.{search_cost, tally_all, tally_by};
 ghost use Rattle.sstable_blocks.specs.Sound.{ForSound};
 
+use super::blocks::add_steps;
 use super::bounds::Bounds;
 use super::cut::Cut;
 use super::ends::{self, Between};
@@ -29,7 +37,8 @@ use std::ops::Bound;
 /// A block is opened when it is reached, without a checksum and a check, and those that the index
 /// shows to be outside the range are not opened. At most two blocks are open, one for each end.
 ///
-/// Clauses see the bytes and the handles, the range, and the entries left.
+/// Clauses see the bytes and the handles, the range, the entries left, the handles of the blocks
+/// that were not opened, and what was counted since the scan was made.
 #[derive(Drop)]
 pub struct RunScan<'a, 'k, H: BlockHash> {
     cut: Cut<'k, RunRef<'a, H>>,
@@ -42,8 +51,11 @@ impl<'a, 'k, H: BlockHash> Model for RunScan<'a, 'k, H> {
     ghost use Rattle.sst_base.specs.Entry.{Entry};
     ghost use Rattle.sstable_blocks.specs.Ends.{AreEnds, ends};
     ghost use Rattle.sstable_blocks.specs.Readings.{run_reading};
-    ghost use Rattle.sstable_blocks.specs.Scans.{RunScanParts, left_by};
-    ghost use Rattle.std.specs.Prelude.{List};
+    ghost use Rattle.sst_block_core.specs.Scan.{Scan};
+    ghost use Rattle.sst_block_core.specs.Window.{items_left};
+    ghost use Rattle.sstable_blocks.specs.Opened.{index_in};
+    ghost use Rattle.sstable_blocks.specs.Scans.{RunScanParts, between, left_by};
+    ghost use Rattle.sstable_blocks.specs.Tallies.{scan_tally, tally_all, tally_by};
 
     ghost Value = { RunScanParts };
 
@@ -51,10 +63,27 @@ impl<'a, 'k, H: BlockHash> Model for RunScan<'a, 'k, H> {
       run = s.cut.run;
       range = s.cut.range;
       left = left_by s.cut.run s.cut.range s.front s.middle.lo s.middle.hi s.back;
+      handles = between (index_in s.cut.run.bytes s.cut.run.handles.index) s.middle.lo s.middle.hi;
+      counted = tally_all scan_tally (tally_by s.cut.steps) s.front s.back;
     } };
 
     ghost invariant = { λ s. AreEnds run_reading s.cut
-        (ends (λ (xs : List Entry). xs) s.front s.middle s.back) };
+        (ends (λ (b : Scan Entry). items_left b.window) s.front s.middle s.back) };
+}
+
+impl<'a, 'k, H: BlockHash> RunScan<'a, 'k, H> {
+    /// Returns what was counted since the scan was made: the heads that were compared, and the
+    /// entries that were decoded, of the index and of the blocks.
+    pub fn steps(&self) -> Steps
+        ensures heads { result.heads ≡ self.now.counted.heads }
+        ensures entries { result.entries ≡ self.now.counted.entries }
+    {
+        let mut steps = Steps::new();
+        steps.add(&self.cut.steps);
+        add_steps::<OpenBlock<'a>>(&mut steps, &self.front);
+        add_steps::<OpenBlock<'a>>(&mut steps, &self.back);
+        steps
+    }
 }
 
 // What a step that can't fail gave.
@@ -77,12 +106,22 @@ fn step_front<'a, 'k, H: BlockHash>(
     middle: &mut Between,
     back: &mut Option<OpenBlock<'a>>,
 ) -> Option<EntryView<'a>>
-    requires { AreEnds run_reading cut.old (ends (λ xs. xs) front.old middle.old back.old) }
-    ensures same { cut.new ≡ cut.old }
-    ensures ends { AreEnds run_reading cut.new (ends (λ xs. xs) front.new middle.new back.new) }
+    requires { AreEnds run_reading cut.old
+        (ends (λ b. items_left b.window) front.old middle.old back.old) }
+    ensures same { (cut.new.run ≡ cut.old.run) × (cut.new.range ≡ cut.old.range) }
+    ensures ends { AreEnds run_reading cut.new
+        (ends (λ b. items_left b.window) front.new middle.new back.new) }
     ensures first { YieldsFirst (λ xs. xs)
         (left_by cut.old.run cut.old.range front.old middle.old.lo middle.old.hi back.old) result
         (left_by cut.old.run cut.old.range front.new middle.new.lo middle.new.hi back.new) }
+    ensures looked { Adds (tally_all scan_tally (tally_by cut.old.steps) front.old back.old)
+        (tally_all scan_tally (tally_by cut.new.steps) front.new back.new) (found_item result) }
+    ensures counts { let hs = index_in cut.old.run.bytes cut.old.run.handles.index in
+        CountsFirst cut.old.run.bytes
+        (tally_all scan_tally (tally_by cut.old.steps) front.old back.old)
+        (between hs middle.old.lo middle.old.hi)
+        (tally_all scan_tally (tally_by cut.new.steps) front.new back.new)
+        (between hs middle.new.lo middle.new.hi) (found_item result) }
 {
     let mut ended = None;
     without_error(ends::step_front::<OpenBlock<'a>, Cut<'k, RunRef<'a, H>>>(
@@ -103,12 +142,22 @@ fn step_back<'a, 'k, H: BlockHash>(
     middle: &mut Between,
     back: &mut Option<OpenBlock<'a>>,
 ) -> Option<EntryView<'a>>
-    requires { AreEnds run_reading cut.old (ends (λ xs. xs) front.old middle.old back.old) }
-    ensures same { cut.new ≡ cut.old }
-    ensures ends { AreEnds run_reading cut.new (ends (λ xs. xs) front.new middle.new back.new) }
+    requires { AreEnds run_reading cut.old
+        (ends (λ b. items_left b.window) front.old middle.old back.old) }
+    ensures same { (cut.new.run ≡ cut.old.run) × (cut.new.range ≡ cut.old.range) }
+    ensures ends { AreEnds run_reading cut.new
+        (ends (λ b. items_left b.window) front.new middle.new back.new) }
     ensures last { YieldsLast (λ xs. xs)
         (left_by cut.old.run cut.old.range front.old middle.old.lo middle.old.hi back.old) result
         (left_by cut.old.run cut.old.range front.new middle.new.lo middle.new.hi back.new) }
+    ensures looked { Adds (tally_all scan_tally (tally_by cut.old.steps) front.old back.old)
+        (tally_all scan_tally (tally_by cut.new.steps) front.new back.new) (found_item result) }
+    ensures counts { let hs = index_in cut.old.run.bytes cut.old.run.handles.index in
+        CountsLast cut.old.run.bytes
+        (tally_all scan_tally (tally_by cut.old.steps) front.old back.old)
+        (between hs middle.old.lo middle.old.hi)
+        (tally_all scan_tally (tally_by cut.new.steps) front.new back.new)
+        (between hs middle.new.lo middle.new.hi) (found_item result) }
 {
     let mut ended = None;
     without_error(ends::step_back::<OpenBlock<'a>, Cut<'k, RunRef<'a, H>>>(
@@ -183,6 +232,11 @@ impl<'a, H: BlockHash> RunRef<'a, H> {
         ensures range { result.range ≡ record { from = Unbounded; to = Unbounded } }
         ensures left { ForSound (hashes H.hash64 H.hash128) self.now.bytes self.now.handles
             (λ blocks. result.left ≡ within result.range (map plain (joined blocks))) }
+        ensures handles { result.handles ≡ handles_within result.range
+            (index_in self.now.bytes self.now.handles.index) }
+        ensures counts { IsUpTo result.counted
+            (search_cost (interval_in self.now.bytes self.now.handles.index)
+            (length (index_in self.now.bytes self.now.handles.index))) }
     {
         self.scan_range(Bound::Unbounded, Bound::Unbounded)
     }
@@ -194,6 +248,11 @@ impl<'a, H: BlockHash> RunRef<'a, H> {
         ensures range { result.range ≡ range_by (λ k. k.now) from.entry to.entry }
         ensures left { ForSound (hashes H.hash64 H.hash128) self.now.bytes self.now.handles
             (λ blocks. result.left ≡ within result.range (map plain (joined blocks))) }
+        ensures handles { result.handles ≡ handles_within result.range
+            (index_in self.now.bytes self.now.handles.index) }
+        ensures counts { IsUpTo result.counted
+            (search_cost (interval_in self.now.bytes self.now.handles.index)
+            (length (index_in self.now.bytes self.now.handles.index))) }
     {
         sound_is_scanned();
         self.note_read();
@@ -208,6 +267,7 @@ impl<'a, H: BlockHash> RunRef<'a, H> {
             cut: Cut {
                 run: self.again(),
                 bounds,
+                steps,
             },
             front: None,
             middle,

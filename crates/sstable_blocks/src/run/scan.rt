@@ -12,7 +12,10 @@ ghost use Rattle.sstable_blocks.specs.Scans.{between, handles_within, in_range, 
 ghost use Rattle.sstable_blocks.specs.Scans.{reads_left, within, range_by};
 ghost use Rattle.sstable_blocks.specs.Sound.{ForSound};
 ghost use Rattle.sstable_blocks.specs.Sources.{KeepsSource};
+ghost use Rattle.sstable_blocks.specs.Tallies.{Adds, CountsFirst, CountsLast, IsUpTo, least_taken};
+ghost use Rattle.sstable_blocks.specs.Tallies.{most_taken, search_cost};
 
+use super::blocks::add_steps;
 use super::bounds::Bounds;
 use super::cut::Cut;
 use super::ends::{Between, step_back, step_front};
@@ -35,7 +38,7 @@ use std::ops::Bound;
 ///
 /// Clauses see the table, the range, the entries left of the block opened from the front, the
 /// handles of the blocks that were not read, the entries left of the block opened from the back,
-/// and the error that ended the scan, if one did.
+/// the error that ended the scan, if one did, and what was counted since the scan was made.
 #[derive(Drop)]
 pub struct Scan<'k, H: BlockHash, S: FrameSource> {
     cut: Cut<'k, Table<H, S>>,
@@ -51,6 +54,7 @@ impl<'k, H: BlockHash, S: FrameSource> Model for Scan<'k, H, S> {
     ghost use Rattle.sstable_blocks.specs.Readings.{table_reading};
     ghost use Rattle.sstable_blocks.specs.RunReading.{hashes};
     ghost use Rattle.sstable_blocks.specs.Scans.{ScanParts, between, left_in};
+    ghost use Rattle.sstable_blocks.specs.Tallies.{scan_tally, tally_all, tally_by};
 
     ghost Value = { ScanParts S };
 
@@ -61,6 +65,7 @@ impl<'k, H: BlockHash, S: FrameSource> Model for Scan<'k, H, S> {
       handles = between s.cut.run.index s.middle.lo s.middle.hi;
       back = left_in s.back;
       ended = s.ended;
+      counted = tally_all scan_tally (tally_by s.cut.steps) s.front s.back;
     } };
 
     ghost invariant = { λ s. AreEnds
@@ -77,6 +82,7 @@ impl<'k, H: BlockHash, S: FrameSource> Scan<'k, H, S> {
         ensures range { result.range ≡ range_by (λ k. k.now) from.entry to.entry }
         ensures handles { result.handles ≡ handles_within result.range table.index }
         ensures fresh { (result.front ≡ []) × (result.back ≡ []) × (result.ended ≡ None) }
+        ensures counts { IsUpTo result.counted (search_cost table.interval (length table.index)) }
         ensures sound { IfSome (S.bytes table.source)
             (λ all. ForSound (hashes H.hash64 H.hash128) all table.handles
             (λ blocks. reads_left (hashes H.hash64 H.hash128) all result
@@ -92,7 +98,11 @@ impl<'k, H: BlockHash, S: FrameSource> Scan<'k, H, S> {
             hi: bounds.end_block(&index, &mut steps),
         };
         Scan {
-            cut: Cut { run: table, bounds },
+            cut: Cut {
+                run: table,
+                bounds,
+                steps,
+            },
             front: None,
             middle,
             back: None,
@@ -113,6 +123,19 @@ impl<'k, H: BlockHash, S: FrameSource> Scan<'k, H, S> {
         ensures { between self.now.table.index result.0 result.1 ≡ self.now.handles }
     {
         (self.middle.lo, self.middle.hi)
+    }
+
+    /// Returns what was counted since the scan was made: the heads that were compared, and the
+    /// entries that were decoded, of the index and of the blocks.
+    pub fn steps(&self) -> Steps
+        ensures heads { result.heads ≡ self.now.counted.heads }
+        ensures entries { result.entries ≡ self.now.counted.entries }
+    {
+        let mut steps = Steps::new();
+        steps.add(&self.cut.steps);
+        add_steps::<IntoEntries<H>>(&mut steps, &self.front);
+        add_steps::<IntoEntries<H>>(&mut steps, &self.back);
+        steps
     }
 
     /// Returns the table.
@@ -146,6 +169,10 @@ impl<'k, H: BlockHash, S: FrameSource> Scan<'k, H, S> {
             (reads_left (hashes H.hash64 H.hash128) all self.new) result) }
         ensures ended { EndsBy self.old.ended self.new.ended result }
         ensures fewer { IfOk result (IsFewer (most_left self.old) (most_left self.new)) }
+        ensures looked { Adds self.old.counted self.new.counted (least_taken result) }
+        ensures counts { IfSome (S.bytes self.old.table.source) (λ all. CountsFirst all
+            self.old.counted self.old.handles self.new.counted self.new.handles
+            (most_taken result)) }
     {
         if let Some(error) = self.ended {
             return Err(error);
@@ -184,6 +211,10 @@ impl<'k, H: BlockHash, S: FrameSource> Scan<'k, H, S> {
             (reads_left (hashes H.hash64 H.hash128) all self.new) result) }
         ensures ended { EndsBy self.old.ended self.new.ended result }
         ensures fewer { IfOk result (IsFewer (most_left self.old) (most_left self.new)) }
+        ensures looked { Adds self.old.counted self.new.counted (least_taken result) }
+        ensures counts { IfSome (S.bytes self.old.table.source) (λ all. CountsLast all
+            self.old.counted self.old.handles self.new.counted self.new.handles
+            (most_taken result)) }
     {
         if let Some(error) = self.ended {
             return Err(error);
@@ -206,6 +237,7 @@ impl<H: BlockHash, S: FrameSource> Table<H, S> {
         ensures range { result.range ≡ record { from = Unbounded; to = Unbounded } }
         ensures handles { result.handles ≡ handles_within result.range self.index }
         ensures fresh { (result.front ≡ []) × (result.back ≡ []) × (result.ended ≡ None) }
+        ensures counts { IsUpTo result.counted (search_cost self.interval (length self.index)) }
         ensures sound { IfSome (S.bytes self.source)
             (λ all. ForSound (hashes H.hash64 H.hash128) all self.handles
             (λ blocks. reads_left (hashes H.hash64 H.hash128) all result
@@ -220,6 +252,7 @@ impl<H: BlockHash, S: FrameSource> Table<H, S> {
         ensures range { result.range ≡ range_by (λ k. k.now) from.entry to.entry }
         ensures handles { result.handles ≡ handles_within result.range self.index }
         ensures fresh { (result.front ≡ []) × (result.back ≡ []) × (result.ended ≡ None) }
+        ensures counts { IsUpTo result.counted (search_cost self.interval (length self.index)) }
         ensures sound { IfSome (S.bytes self.source)
             (λ all. ForSound (hashes H.hash64 H.hash128) all self.handles
             (λ blocks. reads_left (hashes H.hash64 H.hash128) all result

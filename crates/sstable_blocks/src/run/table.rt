@@ -18,8 +18,8 @@ ghost use Rattle.sstable_blocks.specs.Sources.{AsksAs, AsksExactly, AsksIfOk, Fa
 ghost use Rattle.sstable_blocks.specs.Sources.{ReadsAs, UsesSource, filter_frames};
 ghost use Rattle.sstable_blocks.specs.FrameCounts.{check_frames, file_frames, open_frames};
 ghost use Rattle.sstable_blocks.specs.Tables.{filter_kept, kept_of, kept_by_footer, IsKeptOf};
-ghost use Rattle.sstable_blocks.specs.Tables.{IsIndexIn, kept_says, read_kept, frames_by, LooksBy};
-ghost use Rattle.sstable_blocks.specs.Tables.{error_after, source_after};
+ghost use Rattle.sstable_blocks.specs.Tables.{IsBlockIn, IsIndexIn, kept_says, read_kept};
+ghost use Rattle.sstable_blocks.specs.Tables.{LooksBy, error_after, frames_by, source_after};
 ghost use Rattle.sstable_blocks.specs.Lookup.{handle_for};
 
 use super::RunHandles;
@@ -302,6 +302,9 @@ impl<H: BlockHash, S: FrameSource> Table<H, S> {
             → GivesOr (S.failures self.old.source < S.failures self.new.source)
             (S.is_reliable self.old.source) (λ b. b.items) result
             (block_items_at (hashes H.hash64 H.hash128) all (range_of h))) }
+        ensures place { IfOk result (λ b. IfSome (S.bytes self.old.source)
+            (λ all. (h : Handle) → slice_get self.old.index index ≡ Some h
+            → IsBlockIn all (range_of h) b.items b.interval)) }
     {
         let handle = self.index.handle_at(index, &mut Steps::new());
         data_block_from::<H, S>(alloc, &mut self.source, &handle)

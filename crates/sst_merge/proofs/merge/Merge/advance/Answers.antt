@@ -1,5 +1,4 @@
 use Rattle.std.proofs.Common.{◌+◌, ◌/◌, ◌∙◌, ap, subst, sym}
-use Rattle.sstable_blocks.specs.Scans.{error_of}
 use Rattle.sst_merge.specs.ErrorLaws.{merge_gives, merge_no_more}
 use Rattle.sst_merge.specs.Picks.{IsPick}
 use Rattle.sst_merge.specs.Sources.{MayGive}
@@ -7,6 +6,7 @@ use Rattle.sst_merge.specs.SourceLaws.{passed_merge}
 use Rattle.sst_merge.specs.Tournament.{IsTournament}
 use Rattle.sst_merge.proofs.Tournaments.{still_tournament}
 use Rattle.sst_merge.proofs.merge.Merge.advance.Goals as goal
+use Rattle.std.specs.Result.{result_err}
 
 pub returns-in-Ok-clause-first : goal.returns-in-Ok-clause-first
 returns-in-Ok-clause-first g c =
@@ -31,7 +31,7 @@ returns-in-Ok-clause-no_more g c =
     let heads = c.self.inside.heads.items in
     let first = c.first_of-first.result in
     let p : IsPick cmp heads first = subst (λ ls. IsPick cmp ls first) c.deref-2.ensures.value c.first_of-first.ensures.first in
-    merge_no_more cmp _ _ heads first c.index_mut.result.now c.advance.new.self c.args.self.now c.self.view_is (c.keep_error.ensures ∙ ap error_of c.in_ok-ready.was) p c.index_mut.ensures.value c.in-Ok.ensures.no_more
+    merge_no_more cmp _ _ heads first c.index_mut.result.now c.advance.new.self c.args.self.now c.self.view_is (c.keep_error.ensures ∙ ap result_err c.in_ok-ready.was) p c.index_mut.ensures.value c.in-Ok.ensures.no_more
 
 pub returns-in-Err-clause-cause : goal.returns-in-Err-clause-cause
 returns-in-Err-clause-cause g c =

@@ -1,7 +1,15 @@
-use Rattle.std.proofs.Common.{◌∙◌, sym}
+use Rattle.std.proofs.Common.{◌∙◌, ap, subst, sym}
+use Rattle.sst_base.specs.Entry.{Entry}
 use Rattle.sst_block_core.specs.ParsedEntry.{entry_of, IsParsedEntry}
 use Rattle.sst_block_core.specs.ListSteps.{took_some}
+use Rattle.sst_block_core.specs.Scan.{Scan}
+use Rattle.sst_block_core.specs.Window.{items_left}
+use Rattle.sstable_blocks.specs.Tallies.{AddsTaken, scan_tally}
+use Rattle.sstable_blocks.proofs.Scans.BlockTallies.{view_front}
 use Rattle.sstable_blocks.proofs.run.open_block.OpenBlock.next.Goals as goal
 
-pub returns : goal.returns
-returns c = rw c.new.ensures (sym c.self.view_is ∙ took_some entry_of IsParsedEntry _ _ _ _ c.self.invariant c.in-Some.ensures.steps)
+pub returns-clause-first : goal.returns-clause-first
+returns-clause-first c = rw c.new.ensures (ap (λ (s : Scan Entry). items_left s.window) (sym c.self.view_is) ∙ took_some entry_of IsParsedEntry _ _ _ _ c.self.invariant c.in-Some.ensures.steps)
+
+pub returns-clause-counts : goal.returns-clause-counts
+returns-clause-counts c = subst (λ (s : Scan Entry). AddsTaken (scan_tally s) (scan_tally c.next.new.self) 1 1) c.self.view_is (view_front entry_of IsParsedEntry _ _ _ c.in-Some.ensures.steps)
