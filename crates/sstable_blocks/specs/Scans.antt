@@ -1,12 +1,12 @@
 -- Scans of a table: its entries within a range of keys, from both ends, a block at a time.
-use Rattle.std.specs.Prelude.{◌≡◌, ◌≢◌, ◌⊎◌, ℕ, ◌+◌, ◌*◌, ◌^◌, ◌&&◌, min, not, Bool, true, false, List, [], ◌∷◌, ◌++◌, length, map, filter, count_by, Option, Some, None, IfSome, Result, Ok, Err}
+use Rattle.std.specs.Prelude.{◌<◌, IfErr, slice_get, ◌≡◌, ◌≢◌, ◌⊎◌, ℕ, ◌+◌, ◌*◌, ◌^◌, ◌&&◌, min, not, Bool, true, false, List, [], ◌∷◌, ◌++◌, length, map, filter, count_by, Option, Some, None, IfSome, Result, Ok, Err}
 use Rattle.std.specs.Cmp.Lexicographic.{slice_cmp}
 use Rattle.std.specs.Ordering.{nat_cmp, is_le, is_lt}
 use Rattle.std.specs.Range.Bound.{bound_map}
 use Rattle.std.specs.declared.ops.Bound.{Bound}
 use Rattle.std.specs.declared.ops.Bound.TheVariants.{Included, Excluded, Unbounded}
 use Rattle.sst_base.specs.Counted.{Counted, found_item}
-use Rattle.sst_base.specs.Entry.{Entry}
+use Rattle.sst_base.specs.Entry.{Entry, plain}
 use Rattle.sst_base.specs.declared.error.Error.{Error}
 use Rattle.sst_base.specs.declared.error.Error.TheVariants.{Memory, BadHandle}
 use Rattle.std.specs.Iterator.{YieldsFirst, YieldsLast}
@@ -21,11 +21,13 @@ use Rattle.sst_block_core.specs.Window.{items_left}
 use Rattle.sst_block_core.specs.Handles.{Handle}
 use Rattle.sstable_blocks.specs.BlockReading.{items_of}
 use Rattle.sstable_blocks.specs.Opened.{range_of, index_in, payload_in}
+use Rattle.sstable_blocks.specs.ReadCosts.{interval_in}
 use Rattle.sstable_blocks.specs.RunReading.{Hashes, block_items_at, handles_at}
-use Rattle.sstable_blocks.specs.Sound.{RunParts}
-use Rattle.sstable_blocks.specs.Sources.{IsSourceFailure}
+use Rattle.sstable_blocks.specs.Blocks.{joined}
+use Rattle.sstable_blocks.specs.Sound.{ForSound, RunParts}
+use Rattle.sstable_blocks.specs.Sources.{IsSourceFailure, KeepsSource}
 use Rattle.sstable_blocks.specs.Tables.{TableParts}
-use Rattle.sstable_blocks.specs.Tallies.{Tally, Adds, CountsFirst, CountsLast}
+use Rattle.sstable_blocks.specs.Tallies.{Tally, Adds, CountsFirst, CountsLast, search_cost}
 use Rattle.sstable_blocks.specs.declared.run.RunHandles.{RunHandles}
 use Rattle.sst_base.specs.Header.{◌>>=◌}
 use Rattle.std.specs.Result.{result_err}
@@ -244,3 +246,36 @@ pub record ScansLast (old : RunScanParts) (result : Option Entry) (new : RunScan
   pub last : YieldsLast (λ xs. xs) old.left result new.left
   pub looked : Adds old.counted new.counted (found_item result)
   pub counts : CountsLast old.run.bytes old.counted old.handles new.counted new.handles (found_item result)
+
+-- What a step does to the source of a scan: its bytes stay the same, its failures are only added to, a reliable one stays
+-- reliable; a frame is asked for each block that is opened, and an error is `Io` only where the source failed in that step.
+pub record UsesScan {S X : Type 0} (bytes : S → Option (List ℕ)) (failures reads : S → ℕ) (is_reliable : S → Type 0) (old new : ScanParts S) (result : Result X Error) : Type 0 where
+  pub source : KeepsSource bytes failures is_reliable old.table.source new.table.source
+  pub asks : reads new.table.source + length new.handles ≡ reads old.table.source + length old.handles
+  pub io : IfErr result (λ e. e ≡ Io → old.ended ≡ None → failures old.table.source < failures new.table.source)
+
+-- where the bytes of the source are known, a step of a scan that no error ended gives the first of what was left
+abbrev pub ReadsFirst : {S : Type 0} → Hashes → (S → Option (List ℕ)) → (S → ℕ) → (S → Type 0) → ScanParts S → ScanParts S → Result (Option Entry) Error → Type 0
+ReadsFirst c bytes failures is_reliable old new result = IfSome (bytes old.table.source) (λ all. old.ended ≡ None
+    → GivesFirst (failures old.table.source < failures new.table.source) (is_reliable old.table.source) (reads_left c all old) (reads_left c all new) result)
+
+-- or the last
+abbrev pub ReadsLast : {S : Type 0} → Hashes → (S → Option (List ℕ)) → (S → ℕ) → (S → Type 0) → ScanParts S → ScanParts S → Result (Option Entry) Error → Type 0
+ReadsLast c bytes failures is_reliable old new result = IfSome (bytes old.table.source) (λ all. old.ended ≡ None
+    → GivesLast (failures old.table.source < failures new.table.source) (is_reliable old.table.source) (reads_left c all old) (reads_left c all new) result)
+
+-- a scan of bytes that are a sound run has its entries in the range left
+abbrev pub ScansSound : {S : Type 0} → Hashes → RunHandles → ScanParts S → List ℕ → Type 0
+ScansSound c h scan bytes = ForSound c bytes h (λ blocks. reads_left c bytes scan ≡ map Ok (within scan.range (map plain (joined blocks))))
+
+-- what holds of the handle at an index, where bytes are known
+abbrev pub AtHandle : Option (List ℕ) → List Handle → ℕ → (List ℕ → Handle → Type 0) → Type 0
+AtHandle bytes index i holds = IfSome bytes (λ all. (h : Handle) → slice_get index i ≡ Some h → holds all h)
+
+-- the handles of a run's index between two indexes
+abbrev pub run_between : RunParts → ℕ → ℕ → List Handle
+run_between run lo hi = between (index_in run.bytes run.handles.index) lo hi
+
+-- the most that a scan's start examines: what two searches in the index of its run do
+abbrev pub run_search_cost : RunParts → Tally
+run_search_cost run = search_cost (interval_in run.bytes run.handles.index) (length (index_in run.bytes run.handles.index))

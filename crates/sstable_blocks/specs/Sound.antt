@@ -1,12 +1,14 @@
 -- Sound runs: bytes and handles that read right, whatever configuration wrote them.
-use Rattle.std.specs.Prelude.{◌≡◌, ℕ, ◌+◌, List, [], ◌∷◌, IfSome, Ok}
+use Rattle.std.specs.Prelude.{◌≡◌, ℕ, ◌+◌, List, [], ◌∷◌, IfOk, IfSome, Ok, Option, Result}
 use Rattle.std.specs.List.{AllZip, AllByRecursion}
 use Rattle.sst_base.specs.BlockHandle.{HandleParts}
 use Rattle.sst_base.specs.Entry.{Entry, IsEntry}
+use Rattle.sst_base.specs.declared.error.Error.{Error}
 use Rattle.sst_base.specs.declared.table.block.block_type.BlockType.TheVariants as types
 use Rattle.sst_block_core.specs.Entries.{entries}
 use Rattle.sst_block_core.specs.Kind.{IsOrdered}
 use Rattle.sst_block_core.specs.Payload.{IsBlock}
+use Rattle.sst_block_core.specs.Window.{first_match}
 use Rattle.sst_block_core.specs.Handles.{Handle, handles, IsIndexBlock}
 use Rattle.sstable_blocks.specs.Blocks.{joined}
 use Rattle.sstable_blocks.specs.Filter.{Filter, filter_at, MayContain}
@@ -67,6 +69,10 @@ IsSoundRun c bytes h = (blocks : List (List Entry)) × IsSound c blocks bytes h
 -- what holds of the blocks, if bytes with these handles are a sound run
 abbrev pub ForSound : Hashes → List ℕ → RunHandles → (List (List Entry) → Type 0) → Type 0
 ForSound c bytes h holds = (blocks : List (List Entry)) → IsSound c blocks bytes h → holds blocks
+
+-- of bytes that are a sound run, a result is the first match of its entries
+abbrev pub FindsFirst : Hashes → RunHandles → List ℕ → ℕ → Result (Option Entry) Error → List ℕ → Type 0
+FindsFirst c h needle seqno result bytes = ForSound c bytes h (λ blocks. IfOk result (λ found. found ≡ first_match entries needle seqno (joined blocks)))
 
 -- bytes with these handles are a sound run, and this is the summary of its blocks
 abbrev pub IsSummary : Hashes → List ℕ → RunHandles → RunSummary → Type 0

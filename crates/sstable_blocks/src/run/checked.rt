@@ -5,17 +5,14 @@ ghost use Rattle.std.specs.Option.{option_map};
 ghost use Rattle.sst_base.specs.Bytes.{IsBytes};
 ghost use Rattle.sst_base.specs.Counted.{CountsBetween};
 ghost use Rattle.sst_base.specs.declared.error.Error.TheVariants.{Io};
-ghost use Rattle.sst_block_core.specs.Entries.{entries};
 ghost use Rattle.sst_block_core.specs.Intervals.{digits};
 ghost use Rattle.sst_block_core.specs.Handles.{Handle};
-ghost use Rattle.sst_block_core.specs.Window.{first_match};
-ghost use Rattle.sstable_blocks.specs.Blocks.{joined};
 ghost use Rattle.sstable_blocks.specs.Opened.{range_of};
 ghost use Rattle.sstable_blocks.specs.ReadCosts.{CountsGrow, heads_at, entries_at};
 ghost use Rattle.sstable_blocks.specs.RunReading.{hashes, payload_at, filter_says, filter_answer};
 ghost use Rattle.sstable_blocks.specs.RunReading.{read_block, block_items_at, handles_at, read_blocks};
 ghost use Rattle.sstable_blocks.specs.RunReading.{read_checked, AnswerMeans};
-ghost use Rattle.sstable_blocks.specs.Sound.{ForSound};
+ghost use Rattle.sstable_blocks.specs.Sound.{FindsFirst};
 ghost use Rattle.sstable_blocks.specs.FrameCounts.{frames_to, read_frames};
 ghost use Rattle.sst_base.specs.Counted.{found_item};
 ghost use Rattle.sstable_blocks.specs.Sources.{AsksAs, AsksExactly, AsksUpTo, GivesOr, ReadsAs};
@@ -249,9 +246,7 @@ pub fn read_entry_checked<H: BlockHash, S: FrameSource>(
         (λ all. IfOk result
         (AnswerMeans (hashes H.hash64 H.hash128) all handles.now needle.now seqno)) }
     ensures sound { IfSome (S.bytes source.old)
-        (λ all. ForSound (hashes H.hash64 H.hash128) all handles.now
-        (λ blocks. IfOk result
-        (λ found. found ≡ first_match entries needle.now seqno (joined blocks)))) }
+        (FindsFirst (hashes H.hash64 H.hash128) handles.now needle.now seqno result) }
 {
     checked_answer_means();
     sound_is_read();

@@ -1,12 +1,11 @@
 //! What opens the blocks of a scan, each cut by the bounds.
-ghost use Rattle.std.specs.Prelude.{◌≡◌, ◌<◌, ◌+◌, ◌^◌, Some, length, slice_get, IfOk, IfSome};
+ghost use Rattle.std.specs.Prelude.{◌≡◌, ◌<◌, ◌^◌, Some, length, IfOk};
 ghost use Rattle.sst_base.specs.declared.error.Error.TheVariants.{Memory};
 ghost use Rattle.sst_block_core.specs.Window.{items_left};
-ghost use Rattle.sst_block_core.specs.Handles.{Handle};
 ghost use Rattle.sstable_blocks.specs.ReadingLaws.{run_laws, table_laws};
 ghost use Rattle.sstable_blocks.specs.Readings.{run_reading, table_reading};
 ghost use Rattle.sstable_blocks.specs.RunReading.{hashes};
-ghost use Rattle.sstable_blocks.specs.Scans.{AllWithin, block_within};
+ghost use Rattle.sstable_blocks.specs.Scans.{AllWithin, AtHandle, block_within};
 ghost use Rattle.sstable_blocks.specs.Sources.{AsksExactly, GivesOr, UsesSource};
 ghost use Rattle.sstable_blocks.specs.Tables.{kept_parts};
 ghost use Rattle.sstable_blocks.specs.Tallies.{IsUpTo, cost_in, scan_tally};
@@ -121,14 +120,12 @@ fn cut_block<H: BlockHash, S: FrameSource>(
         (AsksExactly 1) table.old.source table.new.source result }
     ensures all { IfOk result (λ e. AllWithin bounds.now (items_left e.window)) }
     ensures few { IfOk result (λ e. length (items_left e.window) < 2 ^ 32) }
-    ensures exact { IfSome (S.bytes table.old.source)
-        (λ all. (h : Handle) → slice_get table.old.index index ≡ Some h
-        → GivesOr (S.failures table.old.source < S.failures table.new.source)
+    ensures exact { AtHandle (S.bytes table.old.source) table.old.index index (λ all h.
+        GivesOr (S.failures table.old.source < S.failures table.new.source)
         (S.is_reliable table.old.source) (λ e. items_left e.window) result
         (block_within (hashes H.hash64 H.hash128) all bounds.now h)) }
-    ensures cost { IfSome (S.bytes table.old.source)
-        (λ all. (h : Handle) → slice_get table.old.index index ≡ Some h
-        → IfOk result (λ e. IsUpTo (scan_tally e) (cost_in all (Some h)))) }
+    ensures cost { AtHandle (S.bytes table.old.source) table.old.index index
+        (λ all h. IfOk result (λ e. IsUpTo (scan_tally e) (cost_in all (Some h)))) }
 {
     let block = table.block_at(alloc, index)?;
     // The payload is an encoding, of fewer than 2^32 bytes.

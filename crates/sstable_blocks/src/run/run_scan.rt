@@ -1,5 +1,5 @@
 //! Scans of sound runs over borrowed bytes: without checks, and without memory.
-ghost use Rattle.std.specs.Prelude.{◌≡◌, Ok, IsOk, length, map, refl};
+ghost use Rattle.std.specs.Prelude.{◌≡◌, Ok, IsOk, map, refl};
 ghost use Rattle.std.specs.Iterator.{YieldsFirst, YieldsLast, item_count};
 ghost use Rattle.sstable_blocks.specs.Ends.{AreEnds, ends};
 ghost use Rattle.sstable_blocks.specs.Readings.{run_reading};
@@ -10,11 +10,11 @@ ghost use Rattle.sstable_blocks.specs.RunReading.{hashes};
 ghost use Rattle.sst_base.specs.Counted.{found_item};
 ghost use Rattle.sst_block_core.specs.Window.{items_left};
 ghost use Rattle.sstable_blocks.specs.Opened.{index_in};
-ghost use Rattle.sstable_blocks.specs.ReadCosts.{interval_in};
-ghost use Rattle.sstable_blocks.specs.Scans.{ScansFirst, ScansLast, between, handles_within};
+ghost use Rattle.sstable_blocks.specs.Scans.{ScansFirst, ScansLast, handles_within, run_between};
+ghost use Rattle.sstable_blocks.specs.Scans.{run_search_cost};
 ghost use Rattle.sstable_blocks.specs.Scans.{left_by, within, range_by};
 ghost use Rattle.sstable_blocks.specs.Tallies.{Adds, CountsFirst, CountsLast, IsUpTo, scan_tally};
-ghost use Rattle.sstable_blocks.specs.Tallies.{search_cost, tally_all, tally_by};
+ghost use Rattle.sstable_blocks.specs.Tallies.{tally_all, tally_by};
 ghost use Rattle.sstable_blocks.specs.Sound.{ForSound};
 
 use super::blocks::add_steps;
@@ -53,8 +53,7 @@ impl<'a, 'k, H: BlockHash> Model for RunScan<'a, 'k, H> {
     ghost use Rattle.sstable_blocks.specs.Readings.{run_reading};
     ghost use Rattle.sst_block_core.specs.Scan.{Scan};
     ghost use Rattle.sst_block_core.specs.Window.{items_left};
-    ghost use Rattle.sstable_blocks.specs.Opened.{index_in};
-    ghost use Rattle.sstable_blocks.specs.Scans.{RunScanParts, between, left_by};
+    ghost use Rattle.sstable_blocks.specs.Scans.{RunScanParts, left_by, run_between};
     ghost use Rattle.sstable_blocks.specs.Tallies.{scan_tally, tally_all, tally_by};
 
     ghost Value = { RunScanParts };
@@ -63,7 +62,7 @@ impl<'a, 'k, H: BlockHash> Model for RunScan<'a, 'k, H> {
       run = s.cut.run;
       range = s.cut.range;
       left = left_by s.cut.run s.cut.range s.front s.middle.lo s.middle.hi s.back;
-      handles = between (index_in s.cut.run.bytes s.cut.run.handles.index) s.middle.lo s.middle.hi;
+      handles = run_between s.cut.run s.middle.lo s.middle.hi;
       counted = tally_all scan_tally (tally_by s.cut.steps) s.front s.back;
     } };
 
@@ -116,12 +115,11 @@ fn step_front<'a, 'k, H: BlockHash>(
         (left_by cut.old.run cut.old.range front.new middle.new.lo middle.new.hi back.new) }
     ensures looked { Adds (tally_all scan_tally (tally_by cut.old.steps) front.old back.old)
         (tally_all scan_tally (tally_by cut.new.steps) front.new back.new) (found_item result) }
-    ensures counts { let hs = index_in cut.old.run.bytes cut.old.run.handles.index in
-        CountsFirst cut.old.run.bytes
+    ensures counts { CountsFirst cut.old.run.bytes
         (tally_all scan_tally (tally_by cut.old.steps) front.old back.old)
-        (between hs middle.old.lo middle.old.hi)
+        (run_between cut.old.run middle.old.lo middle.old.hi)
         (tally_all scan_tally (tally_by cut.new.steps) front.new back.new)
-        (between hs middle.new.lo middle.new.hi) (found_item result) }
+        (run_between cut.old.run middle.new.lo middle.new.hi) (found_item result) }
 {
     let mut ended = None;
     without_error(ends::step_front::<OpenBlock<'a>, Cut<'k, RunRef<'a, H>>>(
@@ -152,12 +150,11 @@ fn step_back<'a, 'k, H: BlockHash>(
         (left_by cut.old.run cut.old.range front.new middle.new.lo middle.new.hi back.new) }
     ensures looked { Adds (tally_all scan_tally (tally_by cut.old.steps) front.old back.old)
         (tally_all scan_tally (tally_by cut.new.steps) front.new back.new) (found_item result) }
-    ensures counts { let hs = index_in cut.old.run.bytes cut.old.run.handles.index in
-        CountsLast cut.old.run.bytes
+    ensures counts { CountsLast cut.old.run.bytes
         (tally_all scan_tally (tally_by cut.old.steps) front.old back.old)
-        (between hs middle.old.lo middle.old.hi)
+        (run_between cut.old.run middle.old.lo middle.old.hi)
         (tally_all scan_tally (tally_by cut.new.steps) front.new back.new)
-        (between hs middle.new.lo middle.new.hi) (found_item result) }
+        (run_between cut.old.run middle.new.lo middle.new.hi) (found_item result) }
 {
     let mut ended = None;
     without_error(ends::step_back::<OpenBlock<'a>, Cut<'k, RunRef<'a, H>>>(
@@ -234,9 +231,7 @@ impl<'a, H: BlockHash> RunRef<'a, H> {
             (λ blocks. result.left ≡ within result.range (map plain (joined blocks))) }
         ensures handles { result.handles ≡ handles_within result.range
             (index_in self.now.bytes self.now.handles.index) }
-        ensures counts { IsUpTo result.counted
-            (search_cost (interval_in self.now.bytes self.now.handles.index)
-            (length (index_in self.now.bytes self.now.handles.index))) }
+        ensures counts { IsUpTo result.counted (run_search_cost self.now) }
     {
         self.scan_range(Bound::Unbounded, Bound::Unbounded)
     }
@@ -250,9 +245,7 @@ impl<'a, H: BlockHash> RunRef<'a, H> {
             (λ blocks. result.left ≡ within result.range (map plain (joined blocks))) }
         ensures handles { result.handles ≡ handles_within result.range
             (index_in self.now.bytes self.now.handles.index) }
-        ensures counts { IsUpTo result.counted
-            (search_cost (interval_in self.now.bytes self.now.handles.index)
-            (length (index_in self.now.bytes self.now.handles.index))) }
+        ensures counts { IsUpTo result.counted (run_search_cost self.now) }
     {
         sound_is_scanned();
         self.note_read();

@@ -1,17 +1,12 @@
 //! Scans of tables: the entries within a range of keys, from both ends.
-ghost use Rattle.std.specs.Prelude.{◌≡◌, ◌+◌, ◌<◌, [], Ok, true, length, map, IfOk, IfErr, IfSome};
+ghost use Rattle.std.specs.Prelude.{◌≡◌, ◌<◌, [], true, length, IfOk, IfSome};
 ghost use Rattle.std.specs.Prelude.{None};
 ghost use Rattle.std.specs.declared.ops.Bound.TheVariants.{Unbounded};
-ghost use Rattle.sst_base.specs.Entry.{plain};
-ghost use Rattle.sst_base.specs.declared.error.Error.TheVariants.{Io};
-ghost use Rattle.sstable_blocks.specs.Blocks.{joined};
 ghost use Rattle.sstable_blocks.specs.RunReading.{hashes};
-ghost use Rattle.sstable_blocks.specs.Scans.{EndsBy, GivesFirst, GivesLast, IsSameScan};
+ghost use Rattle.sstable_blocks.specs.Scans.{EndsBy, IsSameScan, ReadsFirst, ReadsLast};
 ghost use Rattle.sstable_blocks.specs.Ends.{IsFewer};
 ghost use Rattle.sstable_blocks.specs.Scans.{between, handles_within, in_range, most_left};
-ghost use Rattle.sstable_blocks.specs.Scans.{reads_left, within, range_by};
-ghost use Rattle.sstable_blocks.specs.Sound.{ForSound};
-ghost use Rattle.sstable_blocks.specs.Sources.{KeepsSource};
+ghost use Rattle.sstable_blocks.specs.Scans.{ScansSound, UsesScan, range_by};
 ghost use Rattle.sstable_blocks.specs.Tallies.{Adds, CountsFirst, CountsLast, IsUpTo, least_taken};
 ghost use Rattle.sstable_blocks.specs.Tallies.{most_taken, search_cost};
 
@@ -84,9 +79,7 @@ impl<'k, H: BlockHash, S: FrameSource> Scan<'k, H, S> {
         ensures fresh { (result.front ≡ []) × (result.back ≡ []) × (result.ended ≡ None) }
         ensures counts { IsUpTo result.counted (search_cost table.interval (length table.index)) }
         ensures sound { IfSome (S.bytes table.source)
-            (λ all. ForSound (hashes H.hash64 H.hash128) all table.handles
-            (λ blocks. reads_left (hashes H.hash64 H.hash128) all result
-            ≡ map Ok (within result.range (map plain (joined blocks))))) }
+            (ScansSound (hashes H.hash64 H.hash128) table.handles result) }
     {
         sound_is_scanned();
         let bounds = Bounds { from, to };
@@ -154,19 +147,12 @@ impl<'k, H: BlockHash, S: FrameSource> Scan<'k, H, S> {
     #[inline(always)]
     pub fn next_entry(&mut self, alloc: Global) -> Result<Option<InternalValue>>
         ensures same { IsSameScan self.old self.new }
-        ensures source { KeepsSource S.bytes S.failures S.is_reliable self.old.table.source
-            self.new.table.source }
-        ensures reads { S.reads self.new.table.source + length self.new.handles
-            ≡ S.reads self.old.table.source + length self.old.handles }
-        ensures io { IfErr result (λ e. e ≡ Io → self.old.ended ≡ None
-            → S.failures self.old.table.source < S.failures self.new.table.source) }
+        ensures source { UsesScan S.bytes S.failures S.reads S.is_reliable
+            self.old self.new result }
         ensures in_range { IfOk result (λ x. IfSome x
             (λ entry. in_range self.old.range entry.key.user_key ≡ true)) }
-        ensures first { IfSome (S.bytes self.old.table.source) (λ all. self.old.ended ≡ None
-            → GivesFirst (S.failures self.old.table.source < S.failures self.new.table.source)
-            (S.is_reliable self.old.table.source)
-            (reads_left (hashes H.hash64 H.hash128) all self.old)
-            (reads_left (hashes H.hash64 H.hash128) all self.new) result) }
+        ensures first { ReadsFirst (hashes H.hash64 H.hash128) S.bytes S.failures S.is_reliable
+            self.old self.new result }
         ensures ended { EndsBy self.old.ended self.new.ended result }
         ensures fewer { IfOk result (IsFewer (most_left self.old) (most_left self.new)) }
         ensures looked { Adds self.old.counted self.new.counted (least_taken result) }
@@ -196,19 +182,12 @@ impl<'k, H: BlockHash, S: FrameSource> Scan<'k, H, S> {
     #[inline(always)]
     pub fn next_entry_back(&mut self, alloc: Global) -> Result<Option<InternalValue>>
         ensures same { IsSameScan self.old self.new }
-        ensures source { KeepsSource S.bytes S.failures S.is_reliable self.old.table.source
-            self.new.table.source }
-        ensures reads { S.reads self.new.table.source + length self.new.handles
-            ≡ S.reads self.old.table.source + length self.old.handles }
-        ensures io { IfErr result (λ e. e ≡ Io → self.old.ended ≡ None
-            → S.failures self.old.table.source < S.failures self.new.table.source) }
+        ensures source { UsesScan S.bytes S.failures S.reads S.is_reliable
+            self.old self.new result }
         ensures in_range { IfOk result (λ x. IfSome x
             (λ entry. in_range self.old.range entry.key.user_key ≡ true)) }
-        ensures last { IfSome (S.bytes self.old.table.source) (λ all. self.old.ended ≡ None
-            → GivesLast (S.failures self.old.table.source < S.failures self.new.table.source)
-            (S.is_reliable self.old.table.source)
-            (reads_left (hashes H.hash64 H.hash128) all self.old)
-            (reads_left (hashes H.hash64 H.hash128) all self.new) result) }
+        ensures last { ReadsLast (hashes H.hash64 H.hash128) S.bytes S.failures S.is_reliable
+            self.old self.new result }
         ensures ended { EndsBy self.old.ended self.new.ended result }
         ensures fewer { IfOk result (IsFewer (most_left self.old) (most_left self.new)) }
         ensures looked { Adds self.old.counted self.new.counted (least_taken result) }
@@ -239,9 +218,7 @@ impl<H: BlockHash, S: FrameSource> Table<H, S> {
         ensures fresh { (result.front ≡ []) × (result.back ≡ []) × (result.ended ≡ None) }
         ensures counts { IsUpTo result.counted (search_cost self.interval (length self.index)) }
         ensures sound { IfSome (S.bytes self.source)
-            (λ all. ForSound (hashes H.hash64 H.hash128) all self.handles
-            (λ blocks. reads_left (hashes H.hash64 H.hash128) all result
-            ≡ map Ok (within result.range (map plain (joined blocks))))) }
+            (ScansSound (hashes H.hash64 H.hash128) self.handles result) }
     {
         Scan::new(self, Bound::Unbounded, Bound::Unbounded)
     }
@@ -254,9 +231,7 @@ impl<H: BlockHash, S: FrameSource> Table<H, S> {
         ensures fresh { (result.front ≡ []) × (result.back ≡ []) × (result.ended ≡ None) }
         ensures counts { IsUpTo result.counted (search_cost self.interval (length self.index)) }
         ensures sound { IfSome (S.bytes self.source)
-            (λ all. ForSound (hashes H.hash64 H.hash128) all self.handles
-            (λ blocks. reads_left (hashes H.hash64 H.hash128) all result
-            ≡ map Ok (within result.range (map plain (joined blocks))))) }
+            (ScansSound (hashes H.hash64 H.hash128) self.handles result) }
     {
         Scan::new(self, from, to)
     }

@@ -1,19 +1,17 @@
 //! Tables: runs in a source, whose filter and index are read once.
-ghost use Rattle.std.specs.Prelude.{◌≡◌, ◌+◌, ◌≤◌, ◌<◌, Ok, OnOk, IfOk, IfErr, IfSome, MatchResult};
-ghost use Rattle.std.specs.Prelude.{Some, length, slice_get, true};
+ghost use Rattle.std.specs.Prelude.{◌≡◌, ◌+◌, ◌<◌, Ok, IfOk, IfSome, MatchResult};
+ghost use Rattle.std.specs.Prelude.{Some, length, true};
 ghost use Rattle.std.specs.Option.{option_map};
 ghost use Rattle.sst_base.specs.Counted.{CountsBetween};
 ghost use Rattle.sst_base.specs.declared.error.Error.TheVariants.{Io};
 ghost use Rattle.sst_block_core.specs.Entries.{entries};
-ghost use Rattle.sst_block_core.specs.Window.{first_match};
-ghost use Rattle.sst_block_core.specs.Handles.{Handle, handles};
-ghost use Rattle.sstable_blocks.specs.Blocks.{joined};
+ghost use Rattle.sst_block_core.specs.Handles.{handles};
 ghost use Rattle.sstable_blocks.specs.Footer.{table_handles};
 ghost use Rattle.sstable_blocks.specs.ReadCosts.{most_by, CountsRead};
 ghost use Rattle.sstable_blocks.specs.Opened.{range_of};
 ghost use Rattle.sstable_blocks.specs.RunChecks.{check_run as run_checked, summary_of};
 ghost use Rattle.sstable_blocks.specs.RunReading.{hashes, block_items_at, handles_at, read_checked};
-ghost use Rattle.sstable_blocks.specs.Sound.{ForSound, IsSoundRun, IsSummary};
+ghost use Rattle.sstable_blocks.specs.Sound.{FindsFirst, ForSound, IsSoundRun, IsSummary};
 ghost use Rattle.sstable_blocks.specs.Sources.{AsksAs, AsksExactly, AsksIfOk, FailsAs, GivesOr};
 ghost use Rattle.sstable_blocks.specs.Sources.{ReadsAs, UsesSource, filter_frames};
 ghost use Rattle.sstable_blocks.specs.FrameCounts.{check_frames, file_frames, open_frames};
@@ -21,6 +19,7 @@ ghost use Rattle.sstable_blocks.specs.Tables.{filter_kept, kept_of, kept_by_foot
 ghost use Rattle.sstable_blocks.specs.Tables.{IsBlockIn, IsIndexIn, kept_says, read_kept};
 ghost use Rattle.sstable_blocks.specs.Tables.{LooksBy, error_after, frames_by, source_after};
 ghost use Rattle.sstable_blocks.specs.Lookup.{handle_for};
+ghost use Rattle.sstable_blocks.specs.Scans.{AtHandle};
 
 use super::RunHandles;
 use super::checked::{block_from, data_block_from, read_in_block};
@@ -235,9 +234,7 @@ impl<H: BlockHash, S: FrameSource> Table<H, S> {
             (λ x. x) result (λ all. read_checked (hashes H.hash64 H.hash128) all self.old.handles
             needle.now seqno) }
         ensures sound { IfSome (S.bytes self.old.source)
-            (λ all. ForSound (hashes H.hash64 H.hash128) all self.old.handles
-            (λ blocks. IfOk result
-            (λ found. found ≡ first_match entries needle.now seqno (joined blocks)))) }
+            (FindsFirst (hashes H.hash64 H.hash128) self.old.handles needle.now seqno result) }
         ensures counts { IfSome (S.bytes self.old.source)
             (λ all. CountsRead all self.old.handles needle.now seqno steps.old steps.new) }
         ensures looked { LooksBy (kept_says H.hash64 self.old.filter needle.now)
@@ -297,14 +294,12 @@ impl<H: BlockHash, S: FrameSource> Table<H, S> {
         ensures kept { self.new ≡ record self.old { source = self.new.source } }
         ensures source { UsesSource S.bytes S.failures S.reads S.is_reliable
             (AsksExactly 1) self.old.source self.new.source result }
-        ensures exact { IfSome (S.bytes self.old.source)
-            (λ all. (h : Handle) → slice_get self.old.index index ≡ Some h
-            → GivesOr (S.failures self.old.source < S.failures self.new.source)
+        ensures exact { AtHandle (S.bytes self.old.source) self.old.index index (λ all h.
+            GivesOr (S.failures self.old.source < S.failures self.new.source)
             (S.is_reliable self.old.source) (λ b. b.items) result
             (block_items_at (hashes H.hash64 H.hash128) all (range_of h))) }
-        ensures place { IfOk result (λ b. IfSome (S.bytes self.old.source)
-            (λ all. (h : Handle) → slice_get self.old.index index ≡ Some h
-            → IsBlockIn all (range_of h) b.items b.interval)) }
+        ensures place { IfOk result (λ b. AtHandle (S.bytes self.old.source) self.old.index index
+            (λ all h. IsBlockIn all (range_of h) b.items b.interval)) }
     {
         let handle = self.index.handle_at(index, &mut Steps::new());
         data_block_from::<H, S>(alloc, &mut self.source, &handle)
