@@ -1,5 +1,5 @@
 -- How many frames are asked for in stages.
-use Rattle.std.proofs.Common.{◌≡◌, ◌≢◌, ℕ, ◌+◌, ◌<◌, ◌≤◌, inl, inr, List, [], ◌∷◌, Option, Some, None, IfSome, Result, Ok, Err, IfErr, refl, sym, ap, subst, ◌∙◌, arith, Bool, true, false, cond}
+use Rattle.std.proofs.Common.{◌≡◌, ◌≢◌, ℕ, ◌+◌, ◌<◌, ◌≤◌, inl, inr, List, [], ◌∷◌, Option, Some, None, IfSome, Result, Ok, Err, refl, sym, ap, subst, ◌∙◌, arith, Bool, true, false, cond}
 use Rattle.sst_base.specs.declared.error.Error.{Error}
 use Rattle.sst_base.specs.declared.error.Error.TheVariants.{BadHandle, Memory}
 use Rattle.sst_base.specs.BlockHandle.{HandleParts}
@@ -130,12 +130,6 @@ module _ (c : Hashes) (f : Option Filter) (items : List Handle) where
   way_done (Some all) s left first now g g' P none way =
       let zero : blocks_frames c all f s left ≡ 0 = ap (blocks_frames c all f s) none in
       (omega (arith, zero, way), λ _ _. omega (arith, zero, way))
-
-  -- a failed allocation
-  pub way_stops : (b : Option (List ℕ)) (s : Passed) (left : List Handle) (first now g g' : ℕ) (P : Type 0) → (P → ⊥) → IsOnWay b s left first now
-      → IfSome b (λ all. AsksFor g g' first now P (blocks_frames c all f none_passed items))
-  way_stops None s left first now g g' P none way = tt
-  way_stops (Some all) s left first now g g' P none way = (omega (arith, way), λ _ other. absurd (none other))
 
 -- The frames of a check, by its filter.
 module _ (c : Hashes) (h : RunHandles) (f f' a a' : ℕ) where

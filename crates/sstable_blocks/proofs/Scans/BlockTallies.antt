@@ -1,13 +1,11 @@
 -- What is counted in a block that was opened.
-use Rattle.std.proofs.Common.{◌≡◌, inl, inr, slice_get, ℕ, zero, suc, ◌+◌, ◌-◌, ◌*◌, ◌/◌, ◌%◌, ◌<◌, ◌≤◌, Bool, true, false, cond, eqb, ltb, List, length, Option, Some, None, Result, Ok, Err, IfOk, refl, sym, ap, ◌∙◌, arith}
+use Rattle.std.proofs.Common.{◌≡◌, inl, inr, slice_get, ℕ, zero, suc, ◌+◌, ◌-◌, ◌*◌, ◌/◌, ◌%◌, ◌<◌, ◌≤◌, Bool, true, false, cond, eqb, List, length, Option, Some, None, Result, Ok, Err, IfOk, refl, ap, ◌∙◌, arith}
 use Rattle.std.specs.Prelude.{◌||◌}
 use Rattle.std.specs.Option.{option_map}
-use Rattle.std.specs.List.{count_by}
 use Rattle.std.proofs.Math.Nat.{mod-add-div', le-div_iff_mul-le, div-mul-le_self, mul-le-mul_right}
-use Rattle.std.proofs.lemmas.Bool.{cases_Bool, ltb-true, ne_eqb}
-use Rattle.std.proofs.lemmas.Bool.Decides.{nat_tests}
+use Rattle.std.proofs.lemmas.Bool.{cases_Bool, eqb-true, ltb-true, ne_eqb}
 use Rattle.std.proofs.lemmas.List.Sums.{count_by-le-length}
-use Rattle.sst_base.specs.Counted.{Counted, CountsBetween, CountsExactly, IsZero, found_item}
+use Rattle.sst_base.specs.Counted.{CountsBetween, CountsExactly, IsZero, found_item}
 use Rattle.sst_base.specs.Entry.{Entry}
 use Rattle.sst_base.specs.declared.error.Error.{Error}
 use Rattle.sst_block_core.specs.Backs.{GivesNextBack, first_of, back_cost}
@@ -18,20 +16,17 @@ use Rattle.sst_block_core.specs.Window.{Window, Answer, item, found, some_left, 
 use Rattle.sstable_blocks.specs.Scans.{KeyRange, end_entry, is_up_to}
 use Rattle.sstable_blocks.specs.Tallies.{AddsTaken, IsUpTo, Tally, again_before, again_in, cut_cost, least_taken, most_taken, scan_tally}
 
-rest_upto : (b c : Bool) (m k f : ℕ) → (b ≡ true → m ≤ f) → c ≡ false → k ≤ f → cond (b || c) m k ≤ f
-rest_upto true c m k f h e l = h refl
-rest_upto false true m k f h e l = cc
-rest_upto false false m k f h e l = l
+upto_either : (b : Bool) (m k f : ℕ) → (b ≡ true → m ≤ f) → k ≤ f → cond b m k ≤ f
+upto_either true m k f h l = h refl
+upto_either false m k f h l = l
 
-first_head : (r m : ℕ) → m % r ≡ 0 → m / r * r ≡ m
-first_head r m h = let d = mod-add-div' m r in omega (arith, d, h)
+left_holds : (b c : Bool) → c ≡ false → (b || c) ≡ true → b ≡ true
+left_holds true c none e = refl
+left_holds false c none e = cc
 
 again_by : (b : Bool) (hi f t : ℕ) → f ≤ hi → t ≤ f → cond b (hi - f) 0 + t ≤ cond b hi f
 again_by true hi f t g l = omega arith
 again_by false hi f t g l = omega arith
-
-eqb_zero : (m : ℕ) → eqb m 0 ≡ true → m ≡ 0
-eqb_zero m e = grind (arith, nat_tests)
 
 heads_rise : (r m : ℕ) → (m - 1) / r * r ≤ m / r * r
 heads_rise zero m = omega arith
@@ -43,9 +38,12 @@ unfolding back_cost first_of
 again_step r n hi some inside =
     let d = div-mul-le_self (hi - 1) r in
     again_by (eqb (hi % r) 0 || eqb hi n) hi ((hi - 1) / r * r) _ (omega (arith, d))
-    (rest_upto (eqb ((hi - 1) % r) 0) (eqb (hi - 1) n) (hi - 1) ((hi - 1 - 1) / r * r) ((hi - 1) / r * r)
-    (λ e. let f = first_head r (hi - 1) (eqb_zero ((hi - 1) % r) e) in omega (arith, f))
-    (ne_eqb (hi - 1) n (λ e. omega (arith, e, some, inside)))
+    (upto_either (eqb ((hi - 1) % r) 0 || eqb (hi - 1) n) (hi - 1) ((hi - 1 - 1) / r * r) ((hi - 1) / r * r)
+    (λ either.
+    let head = left_holds (eqb ((hi - 1) % r) 0) (eqb (hi - 1) n) (ne_eqb (hi - 1) n (λ e. omega (arith, e, some, inside))) either in
+    let whole = eqb-true ((hi - 1) % r) 0 head in
+    let parts = mod-add-div' (hi - 1) r in
+    omega (arith, whole, parts))
     (heads_rise r (hi - 1)))
 
 again_most : (b : Bool) (hi f : ℕ) → f ≤ hi → cond b hi f ≤ hi

@@ -1,16 +1,14 @@
 -- What the steps of a scan count, seen from an end.
-use Rattle.std.proofs.Common.{◌≡◌, ℕ, zero, suc, ◌+◌, ◌-◌, ◌<◌, ◌≤◌, Bool, true, false, List, [], ◌∷◌, length, slice_get, Option, Some, None, refl, sym, ap, subst, ◌∙◌, arith}
-use Rattle.std.specs.List.{sum_by}
+use Rattle.std.proofs.Common.{◌≡◌, ℕ, zero, suc, ◌+◌, ◌-◌, ◌<◌, ◌≤◌, Bool, true, false, List, length, slice_get, Option, Some, None, refl, sym, ap, subst, ◌∙◌, arith}
 use Rattle.std.specs.Option.{option_map}
-use Rattle.std.specs.Prelude.{IfSome, Result, Ok, Err}
+use Rattle.std.specs.Prelude.{IfSome}
 use Rattle.std.proofs.lemmas.List.Sums.{sum_by-cons}
-use Rattle.sst_base.specs.declared.error.Error.{Error}
 use Rattle.sst_block_core.specs.Handles.{Handle}
 use Rattle.sstable_blocks.specs.BlockReading.{AddsUpTo, AreBlocks, OpensPaid, Reading}
 use Rattle.sstable_blocks.specs.Ends.{Counts, IsPaid, Pays, PaysOnce, cost_between, cost_from, hi_at, index_at, lo_at, with_unopened}
 use Rattle.sstable_blocks.specs.Scans.{between}
 use Rattle.sstable_blocks.specs.Tallies.{Adds, AddsTaken, CountsFirst, CountsLast, Tally, cost_in, costs_in, tally_sum}
-use Rattle.sstable_blocks.proofs.Scans.EndSteps.{always, both_some, some_as}
+use Rattle.sstable_blocks.proofs.Scans.EndSteps.{both_some, some_as}
 use Rattle.sstable_blocks.proofs.Scans.ScanSteps.{none_between, taken}
 
 -- ---- the blocks at an end
@@ -55,29 +53,6 @@ abbrev counted : Tally → ℕ → ℕ → Counts
 counted t lo hi = record { tally = t; lo = lo; hi = hi }
 
 module _ {S X : Type 0} (r : Reading S X) where
-  -- nothing was done
-  pub pays_none : (s : S) (a : Counts) → PaysOnce r s a a 0 0
-  pays_none s a = record {
-    pays = record {
-      adds = record { heads = omega arith; entries = omega arith };
-      paid = always (r.cost s) (λ cost. record { heads = omega arith; due = omega arith });
-    };
-    once = always (r.cost s) (λ cost. omega arith);
-  }
-
-  -- the ends changed their blocks
-  pub pays_swapped : (s : S) (a : Counts) (before near far : Tally) (lo hi : ℕ) → PaysOnce r s a (counted (tally_sum before near far) lo hi) 0 0 → PaysOnce r s a (counted (tally_sum before far near) lo hi) 0 0
-  pays_swapped s a before near far lo hi w =
-      let h = w.pays.adds.heads in
-      let n = w.pays.adds.entries in
-      record {
-        pays = record {
-          adds = record { heads = omega (arith, h); entries = omega (arith, n) };
-          paid = some_as (r.cost s) (λ cost p. record { heads = (let k = p.heads in omega (arith, k)); due = (let k = p.due in omega (arith, k)) }) w.pays.paid;
-        };
-        once = some_as (r.cost s) (λ cost p. omega (arith, p)) w.once;
-      }
-
   -- an item was taken from the block at the end
   pub pays_taken_back : (s : S) (a : Counts) (before near near' far : Tally) (lo hi least most : ℕ) → PaysOnce r s a (counted (tally_sum before near far) lo hi) 0 0 → AddsTaken near near' least most
       → Pays r s a (counted (tally_sum before near' far) lo hi) least most
@@ -97,16 +72,6 @@ module _ {S X : Type 0} (r : Reading S X) where
   pays_taken s a before near near' far lo hi least most w step once = record {
     pays = pays_taken_back s a before near near' far lo hi least most w step;
     once = some_as (r.cost s) (λ cost p. omega (arith, p, once)) w.once;
-  }
-
-  -- a block was refused
-  pub pays_refused : (s : S) (a b : Counts) → PaysOnce r s a b 0 0 → PaysOnce r s a b 0 1
-  pays_refused s a b w = record {
-    pays = record {
-      adds = w.pays.adds;
-      paid = some_as (r.cost s) (λ cost p. record { heads = p.heads; due = (let k = p.due in omega (arith, k)) }) w.pays.paid;
-    };
-    once = some_as (r.cost s) (λ cost p. omega (arith, p)) w.once;
   }
 
   -- one more block was opened
@@ -195,10 +160,3 @@ module _ (hs hs' : List Handle) (index : hs' ≡ hs) (lo hi lo' hi' most : ℕ) 
   table_counts_back None before front back before' front' back' p = tt
   table_counts_back (Some all) before front back before' front' back' p =
       subst (λ ks. CountsLast all (tally_sum before front back) (between hs lo hi) (tally_sum before' front' back') (between ks lo' hi') most) (sym index) (counts_back all hs before front back before' front' back' lo hi lo' hi' most inside inside' p)
-
--- a step of a scan that has ended
-pub none_first : (o : Option (List ℕ)) (t : Tally) (hs : List Handle) → IfSome o (λ all. CountsFirst all t hs t hs 1)
-none_first o t hs = always o (λ all. record { heads = omega arith; entries = omega arith; due = omega arith })
-
-pub none_last : (o : Option (List ℕ)) (t : Tally) (hs : List Handle) → IfSome o (λ all. CountsLast all t hs t hs 1)
-none_last o t hs = always o (λ all. record { heads = omega arith; due = omega arith })

@@ -1,21 +1,16 @@
 -- What is counted where a block is opened.
-use Rattle.std.proofs.Common.{◌≡◌, inl, inr, ℕ, ◌+◌, ◌<◌, ◌≤◌, List, length, slice_get, Option, Some, None, Result, Ok, Err, IfOk, IfSome, refl, sym, ap, subst, ◌∙◌, arith}
+use Rattle.std.proofs.Common.{◌≡◌, inl, inr, ℕ, ◌<◌, ◌≤◌, List, length, slice_get, Option, Some, None, IfSome, sym, ap, subst, ◌∙◌, arith}
 use Rattle.std.specs.Option.{option_map}
 use Rattle.std.proofs.lemmas.Option.{slice_get_cases}
 use Rattle.sst_base.specs.BlockHandle.{HandleParts}
 use Rattle.sst_base.specs.Counted.{Counted, CountsExactly}
 use Rattle.sst_base.specs.Entry.{Entry}
-use Rattle.sst_base.specs.declared.error.Error.{Error}
-use Rattle.sst_block_core.specs.DataBlock.{DataBlockParts}
 use Rattle.sst_block_core.specs.Entries.{entries}
 use Rattle.sst_block_core.specs.Handles.{Handle}
 use Rattle.sst_block_core.specs.Scan.{Scan}
-use Rattle.sst_block_core.specs.Stages.{items_in}
-use Rattle.sst_block_core.specs.Window.{Window, whole}
 use Rattle.sstable_blocks.specs.BlockReading.{AddsUpTo}
-use Rattle.sstable_blocks.specs.Opened.{payload_in, range_of}
-use Rattle.sstable_blocks.specs.Tables.{IsBlockIn}
-use Rattle.sstable_blocks.specs.Tallies.{Adds, IsUpTo, Tally, cost_in, cut_cost, scan_tally, tally_by, tally_of, tally_sum}
+use Rattle.sstable_blocks.specs.Opened.{range_of}
+use Rattle.sstable_blocks.specs.Tallies.{Adds, IsUpTo, Tally, cost_in, scan_tally, tally_by, tally_of, tally_sum}
 use Rattle.sstable_blocks.proofs.Scans.EndSteps.{always}
 
 abbrev none : Tally
@@ -72,19 +67,3 @@ same_range : (o : Option Handle) (k : HandleParts) (h : Handle) → Some k ≡ o
 same_range o k h e is =
     let f : ◌≡◌ {A = Option HandleParts} (Some k) (Some (range_of h)) = e ∙ ap (option_map range_of) is in
     cc
-
-pub placed_at : (o : Option (List ℕ)) (hs : List Handle) (i : ℕ) (k : HandleParts) (r : Result DataBlockParts Error) → Some k ≡ option_map range_of (slice_get hs i) → IfOk r (λ b. IfSome o (λ all. IsBlockIn all k b.items b.interval))
-    → IfOk r (λ b. IfSome o (λ all. (h : Handle) → slice_get hs i ≡ Some h → IsBlockIn all (range_of h) b.items b.interval))
-placed_at o hs i k (Err e) at place = tt
-placed_at None hs i k (Ok b) at place = tt
-placed_at (Some all) hs i k (Ok b) at place = λ h is. subst (λ g. IsBlockIn all g b.items b.interval) (same_range (slice_get hs i) k h at is) place
-
--- a block that was cut cost what the bytes say
-pub cut_placed : (o : Option (List ℕ)) (hs : List Handle) (i : ℕ) (items : List Entry) (interval : ℕ) (s u : Scan Entry) → s.interval ≡ interval → s.window ≡ whole items
-    → IfSome o (λ all. (h : Handle) → slice_get hs i ≡ Some h → IsBlockIn all (range_of h) items interval) → IsUpTo (scan_tally u) (cut_cost s.interval (length s.window.list))
-    → IfSome o (λ all. (h : Handle) → slice_get hs i ≡ Some h → IsUpTo (scan_tally u) (cost_in all (Some h)))
-cut_placed None hs i items interval s u e f place upto = tt
-cut_placed (Some all) hs i items interval s u e f place upto = λ h is.
-    let b = place h is in
-    let n : length s.window.list ≡ length (items_in entries (payload_in all (range_of h))) = ap (λ (w : Window Entry). length w.list) f ∙ ap (λ (xs : List Entry). length xs) b.items_is in
-    subst (IsUpTo (scan_tally u)) (ap (λ k. cut_cost k (length s.window.list)) (e ∙ b.interval_is) ∙ ap (cut_cost _) n) upto

@@ -1,7 +1,7 @@
 use Rattle.std.proofs.Common.{true}
 use Rattle.sstable_blocks.specs.Ends.{ends}
 use Rattle.sstable_blocks.specs.Tallies.{tally_of}
-use Rattle.sstable_blocks.proofs.Scans.EndCounts.{pays_refused, pays_taken_back}
+use Rattle.sstable_blocks.proofs.Scans.EndCounts.{pays_taken_back}
 use Rattle.sstable_blocks.proofs.Scans.EndSteps.{taken}
 use Rattle.sstable_blocks.proofs.run.ends.step_back.Goals as goal
 

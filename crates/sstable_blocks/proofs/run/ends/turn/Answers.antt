@@ -3,7 +3,7 @@ use Rattle.std.proofs.lemmas.Result.{err_from_is_err_and}
 use Rattle.sstable_blocks.specs.BlockReading.{items_of}
 use Rattle.sstable_blocks.specs.Ends.{ends}
 use Rattle.sstable_blocks.specs.Tallies.{tally_of}
-use Rattle.sstable_blocks.proofs.Scans.EndCounts.{pays_next, pays_none, pays_swapped}
+use Rattle.sstable_blocks.proofs.Scans.EndCounts.{pays_next}
 use Rattle.sstable_blocks.proofs.Scans.EndSteps.{no_items, reached_next, reached_refused}
 use Rattle.sstable_blocks.proofs.run.ends.turn.Goals as goal
 

@@ -1,10 +1,7 @@
 use Rattle.std.proofs.Common.{length, subst, sym, ◌≤◌}
 use Rattle.sstable_blocks.specs.Opened.{index_in}
 use Rattle.sstable_blocks.specs.Scans.{left_in}
-use Rattle.sst_block_core.specs.Scan.{Scan}
-use Rattle.sst_base.specs.Entry.{Entry}
 use Rattle.sstable_blocks.specs.Sound.{RunParts}
-use Rattle.sstable_blocks.specs.Tallies.{scan_tally, tally_by, tally_of}
 use Rattle.sstable_blocks.proofs.Scans.EndCounts.{counts_front}
 use Rattle.sstable_blocks.proofs.Scans.EndReads.{gave_first, run_front}
 use Rattle.sstable_blocks.proofs.run.run_scan.step_front.Goals as goal

@@ -3,7 +3,7 @@ use Rattle.sstable_blocks.specs.RunReading.{hashes}
 use Rattle.sstable_blocks.specs.Scans.{GivesFirst, between, left_in, reads_among, reads_left}
 use Rattle.sstable_blocks.specs.Tables.{KeptParts}
 use Rattle.sstable_blocks.specs.Tallies.{Adds, CountsFirst, least_taken, most_taken, scan_tally, tally_all, tally_by}
-use Rattle.sstable_blocks.proofs.Scans.EndCounts.{none_first, table_counts_front}
+use Rattle.sstable_blocks.proofs.Scans.EndCounts.{table_counts_front}
 use Rattle.sstable_blocks.proofs.Scans.EndReads.{gives_front, if_fresh}
 use Rattle.sstable_blocks.proofs.run.scan.Scan.next_entry.Goals as goal
 

@@ -3,7 +3,7 @@ use Rattle.sstable_blocks.specs.RunReading.{hashes}
 use Rattle.sstable_blocks.specs.Scans.{GivesLast, between, left_in, reads_among, reads_left}
 use Rattle.sstable_blocks.specs.Tables.{KeptParts}
 use Rattle.sstable_blocks.specs.Tallies.{Adds, CountsLast, least_taken, most_taken, scan_tally, tally_all, tally_by, tally_of}
-use Rattle.sstable_blocks.proofs.Scans.EndCounts.{adds_turned, none_last, table_counts_back}
+use Rattle.sstable_blocks.proofs.Scans.EndCounts.{adds_turned, table_counts_back}
 use Rattle.sstable_blocks.proofs.Scans.EndReads.{gives_back, if_fresh}
 use Rattle.sstable_blocks.proofs.run.scan.Scan.next_entry_back.Goals as goal
 
