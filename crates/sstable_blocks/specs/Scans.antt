@@ -8,7 +8,7 @@ use Rattle.std.specs.declared.ops.Bound.TheVariants.{Included, Excluded, Unbound
 use Rattle.sst_base.specs.Counted.{Counted, found_item}
 use Rattle.sst_base.specs.Entry.{Entry, plain}
 use Rattle.sst_base.specs.declared.error.Error.{Error}
-use Rattle.sst_base.specs.declared.error.Error.TheVariants.{Memory, BadHandle}
+use Rattle.sst_base.specs.declared.error.Error.TheVariants.{BadHandle, Io, Memory}
 use Rattle.std.specs.Iterator.{YieldsFirst, YieldsLast}
 use Rattle.std.specs.List.{AllByRecursion}
 use Rattle.sst_block_core.specs.Entries.{entries}
