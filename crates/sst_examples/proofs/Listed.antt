@@ -32,7 +32,7 @@ use Rattle.sstable_blocks.specs.Scans.{KeyRange, blocks_read, handles_within, wi
 use Rattle.sstable_blocks.specs.Sound.{IsSound, IsStoredFilter}
 use Rattle.sstable_blocks.specs.declared.run.RunHandles.{RunHandles}
 use Rattle.sstable_blocks.specs.declared.run.checking.RunSummary.{RunSummary}
-use Rattle.sst_base.specs.TestLaws.{and_parts, lt_test, is_not_lt}
+use Rattle.sst_base.specs.TestLaws.{and_parts, lt_test, is_not_lt, some_is}
 use Rattle.sst_merge.specs.TableReads.{bytes_by, fits_by, within_all}
 
 bytes_pass : (bytes : List ℕ) → IsBytes bytes → are_bytes bytes ≡ true
@@ -104,9 +104,6 @@ module _ (c : Hashes) (bytes : List ℕ) where
       checked_by (Ok s) None xs h = absurd (cc)
       checked_by (Ok s) (Some ys) xs h = record { summary = s; accepted = refl; read = ap Some (cond_some (is_in_order entry_cmp ys) ys xs h) }
 
-      some_same : (xs ys : List Entry) → ◌≡◌ {A = Option (List Entry)} (Some xs) (Some ys) → xs ≡ ys
-      some_same xs ys e = cc
-
       pub listed_sound : (xs : List Entry)
           → ((s : RunSummary) → IsBytes bytes → h.index.size < 2 ^ 32 → IfSome h.filter (λ g. g.size < 2 ^ 32) → check_run c bytes h ≡ Ok s → (blocks : List (List Entry)) × IsSound c blocks bytes h)
           → ((blocks : List (List Entry)) → IsSound c blocks bytes h → blocks_read c bytes all_keys (handles_within all_keys index) ≡ map Ok (within all_keys (map plain (joined blocks))))
@@ -121,7 +118,7 @@ module _ (c : Hashes) (bytes : List ℕ) where
           record {
             blocks = run.0;
             sound = run.1;
-            is = some_same xs ys (sym k.read ∙ ap known_reads (scanned run.0 run.1) ∙ known_all (within all_keys ys) ∙ ap Some (within_all ys));
+            is = some_is xs ys (sym k.read ∙ ap known_reads (scanned run.0 run.1) ∙ known_all (within all_keys ys) ∙ ap Some (within_all ys));
           }
 
 -- entries of a list that is known

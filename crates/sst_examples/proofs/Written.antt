@@ -14,6 +14,7 @@ use Rattle.sst_examples.specs.Tables.{MemoryTable, merged_tables, table_entries,
 use Rattle.sstable_blocks.specs.Blocks.{joined}
 use Rattle.sstable_blocks.specs.Run.{Form, IsLayout}
 use Rattle.sstable_blocks.specs.declared.run.RunHandles.{RunHandles}
+use Rattle.sst_base.specs.TestLaws.{some_is}
 
 -- the lists of sources that have a table's entries each
 abbrev pub lists : List (Left Entry) → List (Option (List Entry))
@@ -41,12 +42,9 @@ pub record AreKnown (os : List (Option (List Entry))) (older : List Entry) : Typ
   pub known : all_known os ≡ Some all
   pub is : merged entry_cmp all ≡ older
 
-some_items : (xs ys : List Entry) → ◌≡◌ {A = Option (List Entry)} (Some xs) (Some ys) → xs ≡ ys
-some_items xs ys e = cc
-
 known_by : (os : List (Option (List Entry))) (o : Option (List (List Entry))) (older : List Entry) → all_known os ≡ o → option_map (merged entry_cmp) o ≡ Some older → AreKnown os older
 known_by os None older e h = absurd (cc)
-known_by os (Some all) older e h = record { all = all; known = e; is = some_items (merged entry_cmp all) older h }
+known_by os (Some all) older e h = record { all = all; known = e; is = some_is (merged entry_cmp all) older h }
 
 pub lists_known : (tables : List MemoryTable) (older : List Entry) → merged_tables tables ≡ Some older → AreKnown (map table_entries tables) older
 lists_known tables older h = known_by (map table_entries tables) (all_known (map table_entries tables)) older refl h
@@ -59,7 +57,7 @@ pub record IsRunOf (f : Form) (bytes : List ℕ) (h : RunHandles) (items : List 
 
 all_taken : (items all : List Entry) (after : Option (List Entry)) → Some items ≡ option_map (λ rest. all ++ rest) after → IfSome after (λ xs. xs ≡ []) → all ≡ items
 all_taken items all None taken none = absurd (cc)
-all_taken items all (Some rest) taken none = sym (some_items items (all ++ rest) taken ∙ ap (λ xs. all ++ xs) none ∙ append-nil all)
+all_taken items all (Some rest) taken none = sym (some_is items (all ++ rest) taken ∙ ap (λ xs. all ++ xs) none ∙ append-nil all)
 
 -- a table after which nothing is left has all entries
 pub all_written : (f : Form) (sizes : Sizes) (start bytes : List ℕ) (h : RunHandles) (items : List Entry) (before after : Option (List Entry)) → IsWrittenTable f sizes (Some start) (Some bytes) h before after → start ≡ [] → before ≡ Some items → IfSome after (λ xs. xs ≡ []) → IsRunOf f bytes h items

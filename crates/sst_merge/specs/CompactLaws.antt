@@ -8,7 +8,7 @@ use Rattle.std.specs.Cmp.Lexicographic.{slice_cmp}
 use Rattle.std.specs.List.{list_any, list_all}
 use Rattle.std.specs.Ordering.{nat_cmp, is_eq, ordering_then}
 use Rattle.std.specs.declared.cmp.Ordering.{Ordering}
-use Rattle.std.specs.declared.cmp.Ordering.TheVariants.{Less, Equal, Greater}
+use Rattle.std.specs.declared.cmp.Ordering.TheVariants.{Less, Equal}
 use Rattle.sst_base.specs.Entry.{Entry}
 use Rattle.sst_base.specs.KeyOrderLaws.{slice_cmp-equal}
 use Rattle.sst_base.specs.Order.{IsInOrder}
@@ -16,7 +16,8 @@ use Rattle.sst_merge.specs.Compact.{is_seen, is_parted, is_below_all, IsKeptRead
 use Rattle.sst_block_core.specs.Tombstones.{is_tombstone}
 use Rattle.sst_merge.specs.Snapshot.{has_last_key}
 use Rattle.sst_merge.specs.SnapshotReads.{both_false, key, number, has, is_match, has_key, NoneHas, order, after_by, none_behind, skip}
-use Rattle.sst_merge.specs.ListLaws.{first, first_hit, first_miss, order_tail}
+use Rattle.sst_merge.specs.ListLaws.{first, first_hit, first_miss, order_tail, and_not_parts}
+use Rattle.sst_base.specs.TestLaws.{and_parts, eq_is}
 
 -- where no snapshot parts two numbers, a kept read that sees the one sees the other
 at_one : (ss : List ℕ) (q p r : ℕ) → list_any (λ s. nat_eq s r) ss ≡ true → is_parted ss q p ≡ false → nat_lt q r ≡ true → r ≤ p → true ≡ false
@@ -78,17 +79,8 @@ module _ {X : Type 0} (entry : X → Entry) (ss : List ℕ) (bottom : List ℕ �
   three true false c h = absurd (cc)
   three false b c h = absurd (cc)
 
-  two : (a b : Bool) → (a && not b) ≡ true → (a ≡ true) × (b ≡ false)
-  two true true h = absurd (cc)
-  two true false h = (refl, refl)
-  two false b h = absurd (cc)
-
   and_two : (a b : Bool) → a ≡ true → b ≡ false → (a && not b) ≡ true
   and_two a b h k = rw (h, k) refl
-
-  and_split : (a b : Bool) → (a && b) ≡ true → (a ≡ true) × (b ≡ true)
-  and_split true b h = (refl, h)
-  and_split false b h = absurd (cc)
 
   module _ (k : List ℕ) (r : ℕ) where
     abbrev m : X → Bool
@@ -147,17 +139,12 @@ module _ {X : Type 0} (entry : X → Entry) (ss : List ℕ) (bottom : List ℕ �
     passed_at : (x : X) → m x ≡ false → IsUnseen (at x)
     passed_at x miss = λ e. passed_by (number entry k r x) (has entry k r x) miss e
 
-    eq_is : (o : Ordering) → is_eq o ≡ true → o ≡ Equal
-    eq_is Less h = absurd (cc)
-    eq_is Equal h = refl
-    eq_is Greater h = absurd (cc)
-
     -- no match is hidden
     not_hidden : IsKeptRead ss r → (last : Option (List ℕ × ℕ)) (x : X) → IsUnseen last → is_seen ss (entry x).key.seqno ≡ true → m x ≡ true → is_hidden entry ss last x ≡ true → true ≡ false
     not_hidden read None x o seen hit h = sym h
     not_hidden read (Some l) x o seen hit h =
-        let t = two (has_last_key entry (Some l.0) x) (is_parted ss (entry x).key.seqno l.1) h in
-        let p = and_split (nat_lt (number entry k r x) r) (has entry k r x) hit in
+        let t = and_not_parts (has_last_key entry (Some l.0) x) (is_parted ss (entry x).key.seqno l.1) h in
+        let p = and_parts (nat_lt (number entry k r x) r) (has entry k r x) hit in
         let same : key entry k r x ≡ l.0 = (slice_cmp-equal (key entry k r x) l.0).0 (eq_is (slice_cmp nat_cmp (key entry k r x) l.0) t.0) in
         let mine : is_eq (slice_cmp nat_cmp l.0 k) ≡ true = ap (λ b. is_eq (slice_cmp nat_cmp b k)) (sym same) ∙ p.1 in
         read_by ss (entry x).key.seqno l.1 r read seen t.1 p.0 (o mine)
@@ -185,7 +172,7 @@ module _ {X : Type 0} (entry : X → Entry) (ss : List ℕ) (bottom : List ℕ �
               | inr fresh ↦ elim (cases_Bool (is_dropped entry ss bottom x)) [
                 | inl gone ↦ (
                     let t = three (is_tombstone (entry x).key.value_type) (is_below_all ss (entry x).key.seqno) (bottom (entry x).key.user_key) gone in
-                    let mine = (and_split (nat_lt (number entry k r x) r) (has entry k r x) hit).1 in
+                    let mine = (and_parts (nat_lt (number entry k r x) r) (has entry k r x) hit).1 in
                     inr (
                       ap (first m) (newest last x xs below fresh ∙ dropped x (go (at x) xs) gone) ∙ c2 x xs mine below t.1 up,
                       (x, first_hit m x xs hit, t.0, ap bottom (sym (has_key entry k r x mine)) ∙ t.2),

@@ -1,8 +1,9 @@
--- Laws of lists: what follows in an ordered one, the first item that passes a test, and an item that is left out or kept.
-use Rattle.std.proofs.Common.{◌≡◌, Bool, true, false, not, cond, List, [], ◌∷◌, ◌++◌, Option, Some, ap, ◌∙◌, filter, slice_get}
+-- Laws of lists and tests: what follows in an ordered one, the first item that passes a test, and an item that is left out or kept.
+use Rattle.std.proofs.Common.{◌≡◌, Bool, true, false, not, cond, ◌&&◌, List, [], ◌∷◌, ◌++◌, Option, Some, ap, ◌∙◌, filter, slice_get}
 use Rattle.std.specs.declared.cmp.Ordering.{Ordering}
 use Rattle.sst_base.specs.Order.{IsInOrder}
 use Rattle.sst_block_core.specs.ListLaws.{first_filter}
+use Rattle.sst_base.specs.TestLaws.{and_parts, not_true}
 
 module _ {X : Type 0} (cmp : X → X → Ordering) where
   -- what follows the first item of an ordered list is in order
@@ -30,3 +31,7 @@ module _ {X : Type 0} (test : X → Bool) where
 pub left_out : {X : Type 0} (t : Bool) (x : X) (xs ys : List X) → xs ≡ ys → cond t xs (x ∷ xs) ≡ cond (not t) (x ∷ ys) ys
 left_out true x xs ys e = e
 left_out false x xs ys e = ap (λ zs. x ∷ zs) e
+
+-- two tests of which one holds and the other does not
+pub and_not_parts : (a b : Bool) → (a && not b) ≡ true → (a ≡ true) × (b ≡ false)
+and_not_parts a b h = let both = and_parts a (not b) h in (both.0, not_true b both.1)

@@ -17,7 +17,7 @@ use Rattle.sst_merge.specs.Compact.{is_seen, is_parted, is_hidden, is_dropped, c
 use Rattle.sst_merge.specs.PlainLaws.{Behind, behind_first, behind_rest, key_after, last_is, other, or_false}
 use Rattle.sst_merge.specs.Snapshot.{has_last_key, kept_after}
 use Rattle.sst_merge.specs.SnapshotReads.{order, skip}
-use Rattle.sst_merge.specs.ListLaws.{left_out, order_tail}
+use Rattle.sst_merge.specs.ListLaws.{left_out, order_tail, and_not_parts}
 
 -- a snapshot that sees the one number and none that sees the other
 unseen_parts : (ss : List ℕ) (q p : ℕ) → is_seen ss q ≡ true → is_seen ss p ≡ false → is_parted ss q p ≡ true
@@ -42,11 +42,6 @@ parts_lower (s ∷ ss) q p l h k = elim (cases_Bool (nat_lt p s && nat_le s l)) 
   | inl here ↦ grind (arith, nat_tests)
   | inr not_here ↦ let t = parts_lower ss q p l h (grind (arith, nat_tests)) in grind (arith, nat_tests)
 ]
-
-two : (a b : Bool) → (a && not b) ≡ true → (a ≡ true) × (b ≡ false)
-two true true h = absurd (cc)
-two true false h = (refl, refl)
-two false b h = absurd (cc)
 
 and_not : (a b : Bool) → b ≡ true → (a && not b) ≡ false
 and_not true b h = ap not h
@@ -104,8 +99,8 @@ module _ {X : Type 0} (entry : X → Entry) (ss : List ℕ) (bottom : List ℕ �
   hides_too : (last : Option (List ℕ × ℕ)) (x e : X) → is_hidden entry ss last x ≡ true → is_hidden entry ss (at x) e ≡ true → is_hidden entry ss last e ≡ true
   hides_too None x e h k = h
   hides_too (Some l) x e h k =
-      let a = two (has_last_key entry (Some l.0) x) (is_parted ss (num x) l.1) h in
-      let b = two (has_last_key entry (Some (key_of x)) e) (is_parted ss (num e) (num x)) k in
+      let a = and_not_parts (has_last_key entry (Some l.0) x) (is_parted ss (num x) l.1) h in
+      let b = and_not_parts (has_last_key entry (Some (key_of x)) e) (is_parted ss (num e) (num x)) k in
       let same : has_last_key entry (Some l.0) e ≡ true = ap (λ j. is_eq (slice_cmp nat_cmp (key_of e) j)) (sym (last_is entry 0 l.0 x a.0)) ∙ b.0 in
       ap (λ t. t && not (is_parted ss (num e) l.1)) same ∙ ap not (parts_through ss (num e) (num x) l.1 b.1 a.1)
 
