@@ -51,18 +51,25 @@ struct Side {
 
 }  // namespace
 
-Times TimesOf(const Measure& measure, const Sampling& sampling) {
-  std::vector<Side> sides(1, Side(&measure.ours));
-  if (measure.other) sides.emplace_back(&measure.other);
+std::vector<double> TimesInTurn(const std::vector<Repeated>& calls, size_t operations, const Sampling& sampling) {
+  std::vector<Side> sides;
+  for (const Repeated& call : calls) sides.emplace_back(&call);
   for (Side& side : sides) side.Calibrate(sampling.sample_seconds);
   for (int i = 0; i < sampling.samples; i++) {
     for (Side& side : sides) {
-      double operations = double(side.turns) * double(measure.operations);
-      side.samples.push_back(side.SecondsOfTurns() * 1e9 / operations);
+      side.samples.push_back(side.SecondsOfTurns() * 1e9 / (double(side.turns) * double(operations)));
     }
   }
-  double other = sides.size() > 1 ? MedianOf(sides[1].samples) : -1;
-  return {MedianOf(sides[0].samples), other};
+  std::vector<double> times;
+  for (const Side& side : sides) times.push_back(MedianOf(side.samples));
+  return times;
+}
+
+Times TimesOf(const Measure& measure, const Sampling& sampling) {
+  std::vector<Repeated> calls(1, measure.ours);
+  if (measure.other) calls.push_back(measure.other);
+  const std::vector<double> times = TimesInTurn(calls, measure.operations, sampling);
+  return {times[0], times.size() > 1 ? times[1] : -1};
 }
 
 int PinToCore(int core) {

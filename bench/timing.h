@@ -4,6 +4,7 @@
 #include <cstdint>
 #include <functional>
 #include <string>
+#include <vector>
 
 namespace bench {
 
@@ -36,6 +37,9 @@ struct Times {
 };
 
 Times TimesOf(const Measure& measure, const Sampling& sampling);
+
+// The same of so many calls, each with so many operations a turn.
+std::vector<double> TimesInTurn(const std::vector<Repeated>& calls, size_t operations, const Sampling& sampling);
 
 // Runs on this core alone from now on, or on the last one allowed for a negative number. Answers the core.
 int PinToCore(int core);
