@@ -61,6 +61,18 @@ enum Timed {
   kEncode, kFilter, kHashWritten, kFrames, kWrite, kCompactViews, kCompactEntries,
 };
 
+// The medians of times, each sample scaled by what the compaction took beside it, since the machine's speed changes.
+std::vector<double> TimesAtOneSpeed(const std::vector<Repeated>& calls) {
+  const auto samples = SamplesInTurn(calls, kCount, {0.05, 15});
+  const std::vector<double>& whole = samples[kCompactViews];
+  std::vector<double> times;
+  for (std::vector<double> of_call : samples) {
+    for (size_t i = 0; i < of_call.size(); i++) of_call[i] *= MedianOf(whole) / whole[i];
+    times.push_back(MedianOf(of_call));
+  }
+  return times;
+}
+
 void Print(const char* name, double views, double entries) {
   const auto cell = [](double time) { time == time ? printf(" %.1f |", time) : printf(" - |"); };
   printf("| %s |", name);
@@ -107,7 +119,7 @@ int main() {
   for (const Repeated& call : calls) {
     if (call(1) == kRefused) return 1;
   }
-  const std::vector<double> ns = TimesInTurn(calls, kCount, {0.05, 9});
+  const std::vector<double> ns = TimesAtOneSpeed(calls);
 
   const double none = 0.0 / 0.0;
   double views = 0, made = 0;

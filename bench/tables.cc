@@ -27,7 +27,7 @@ void Print(const char* name, size_t operations, const Repeated& ours, const Repe
   Must(ours(1), name);
   Must(other(1), name);
   const Times times = TimesOf({name, operations, ours, other}, {0.05, 9});
-  printf("| %s | %.1f | %.1f | %.2f |\n", name, times.ours, times.other, times.ours / times.other);
+  printf("| %s | %.1f | %.1f | %.2f |\n", name, times.ours, times.other, times.ratio);
 }
 
 void PrintReads(const Entries& entries, const LibraryRun& run) {

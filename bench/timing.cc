@@ -23,11 +23,6 @@ double SecondsOf(const Repeated& call, uint64_t times) {
   return Now() - start;
 }
 
-double MedianOf(std::vector<double> all) {
-  std::sort(all.begin(), all.end());
-  return (all[(all.size() - 1) / 2] + all[all.size() / 2]) / 2;
-}
-
 // One side, and how many turns fill a sample.
 struct Side {
   const Repeated* call;
@@ -51,7 +46,13 @@ struct Side {
 
 }  // namespace
 
-std::vector<double> TimesInTurn(const std::vector<Repeated>& calls, size_t operations, const Sampling& sampling) {
+double MedianOf(std::vector<double> all) {
+  std::sort(all.begin(), all.end());
+  return (all[(all.size() - 1) / 2] + all[all.size() / 2]) / 2;
+}
+
+std::vector<std::vector<double>> SamplesInTurn(const std::vector<Repeated>& calls, size_t operations,
+                                               const Sampling& sampling) {
   std::vector<Side> sides;
   for (const Repeated& call : calls) sides.emplace_back(&call);
   for (Side& side : sides) side.Calibrate(sampling.sample_seconds);
@@ -60,16 +61,19 @@ std::vector<double> TimesInTurn(const std::vector<Repeated>& calls, size_t opera
       side.samples.push_back(side.SecondsOfTurns() * 1e9 / (double(side.turns) * double(operations)));
     }
   }
-  std::vector<double> times;
-  for (const Side& side : sides) times.push_back(MedianOf(side.samples));
-  return times;
+  std::vector<std::vector<double>> samples;
+  for (const Side& side : sides) samples.push_back(side.samples);
+  return samples;
 }
 
 Times TimesOf(const Measure& measure, const Sampling& sampling) {
   std::vector<Repeated> calls(1, measure.ours);
   if (measure.other) calls.push_back(measure.other);
-  const std::vector<double> times = TimesInTurn(calls, measure.operations, sampling);
-  return {times[0], times.size() > 1 ? times[1] : -1};
+  const auto samples = SamplesInTurn(calls, measure.operations, sampling);
+  if (!measure.other) return {MedianOf(samples[0]), -1, -1};
+  std::vector<double> ratios;
+  for (size_t i = 0; i < samples[0].size(); i++) ratios.push_back(samples[0][i] / samples[1][i]);
+  return {MedianOf(samples[0]), MedianOf(samples[1]), MedianOf(ratios)};
 }
 
 int PinToCore(int core) {
