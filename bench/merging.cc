@@ -1,6 +1,6 @@
-// Prints a table for `growth`: nanoseconds an entry of compactions and merges of tables in memory, as entries and tables
-// grow. `merging MOST ROUNDS` goes up to so many entries, by tens from 10,000; where tables grow they hold a million or
-// MOST. Each time is the least of the rounds, since the machine is slower at times.
+// Prints a table for `growth`: nanoseconds an entry of compactions and merges of tables in memory as they grow.
+// `merging MOST ROUNDS` goes up to so many entries, by tens from 10,000; where tables grow they hold a million or MOST.
+// Each time is the least of the rounds, since the machine is slower at times.
 //
 // Compactions verify and check all that they read; merges are of trusted runs, LevelDB's verifies nothing.
 #include <algorithm>
