@@ -71,7 +71,9 @@ Entries::Entries(size_t count, size_t key_len, size_t value_len, Start start) : 
   }
 }
 
-std::string Entries::Bytes() const {
+std::string Entries::Bytes() const { return ListBytes(list); }
+
+std::string ListBytes(const std::vector<Entry>& list) {
   std::string bytes;
   for (const Entry& entry : list) {
     PutNumber(&bytes, 0, 1);  // a value
@@ -82,6 +84,12 @@ std::string Entries::Bytes() const {
     bytes += entry.value;
   }
   return bytes;
+}
+
+std::vector<std::vector<Entry>> PartsOf(const std::vector<Entry>& list, size_t tables) {
+  std::vector<std::vector<Entry>> parts(tables);
+  for (const Entry& entry : list) parts[entry.seqno % tables].push_back(entry);
+  return parts;
 }
 
 std::string Entries::Keys() const {

@@ -57,6 +57,11 @@ struct Entries {
   std::string Keys() const;   // the keys alone, concatenated
 };
 
+std::string ListBytes(const std::vector<Entry>& list);
+
+// What each of so many tables holds of a list: the library's calls part it in the same way, by sequence numbers.
+std::vector<std::vector<Entry>> PartsOf(const std::vector<Entry>& list, size_t tables);
+
 constexpr size_t kNeedles = 1024;
 
 // How long the varints are.

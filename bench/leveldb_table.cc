@@ -26,13 +26,13 @@ Status MappedFile::Read(uint64_t offset, size_t n, Slice* result, char*) const {
   return Status::OK();
 }
 
-namespace {
-
 void Demand(const Status& status) {
   if (status.ok()) return;
   fprintf(stderr, "leveldb: %s\n", status.ToString().c_str());
   exit(1);
 }
+
+namespace {
 
 // No compression, no filter, and a block that takes all entries.
 leveldb::Options OneBlock(int interval) {

@@ -14,6 +14,9 @@
 
 namespace bench {
 
+// Ends the process with LevelDB's message where it failed.
+void Demand(const leveldb::Status& status);
+
 // A file in memory that is written from its start.
 class MemoryFile : public leveldb::WritableFile {
  public:

@@ -9,6 +9,7 @@ extern "C" {
 uint64_t sst_compare(const uint8_t* keys, size_t keys_len, size_t key_len, uint64_t times);
 uint64_t sst_shared(const uint8_t* keys, size_t keys_len, size_t key_len, uint64_t times);
 uint64_t sst_hash(const uint8_t* keys, size_t keys_len, size_t key_len, uint64_t times);
+uint64_t sst_hash128(const uint8_t* bytes, size_t len, uint64_t times);
 uint64_t sst_varint(const uint8_t* bytes, size_t len, uint64_t times);
 
 uint64_t sst_encode(const uint8_t* entries, size_t entries_len, size_t count, uint8_t interval,
@@ -53,6 +54,9 @@ uint64_t sst_filter_contains(const uint8_t* filter, size_t filter_len, uint64_t 
 uint64_t sst_frame_write(const uint8_t* payload, size_t payload_len, uint8_t block_type,
                          uint64_t times, uint8_t* out, size_t out_len);
 uint64_t sst_frame_read(const uint8_t* frame, size_t frame_len, uint64_t times);
+uint64_t sst_run_write(const uint8_t* entries, size_t entries_len, size_t count, size_t per_block,
+                       uint8_t interval, uint32_t num, uint32_t den, uint32_t bits, uint64_t times,
+                       uint8_t* out, size_t out_len);
 uint64_t sst_run_get(const uint8_t* entries, size_t entries_len, size_t count, size_t per_block,
                      uint8_t interval, uint32_t num, uint32_t den, uint32_t bits, uint64_t times,
                      const uint8_t* needles, size_t needles_len, size_t key_len);

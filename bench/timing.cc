@@ -23,11 +23,6 @@ double SecondsOf(const Repeated& call, uint64_t times) {
   return Now() - start;
 }
 
-double MedianOf(std::vector<double> all) {
-  std::sort(all.begin(), all.end());
-  return (all[(all.size() - 1) / 2] + all[all.size() / 2]) / 2;
-}
-
 // One side, and how many turns fill a sample.
 struct Side {
   const Repeated* call;
@@ -51,18 +46,34 @@ struct Side {
 
 }  // namespace
 
-Times TimesOf(const Measure& measure, const Sampling& sampling) {
-  std::vector<Side> sides(1, Side(&measure.ours));
-  if (measure.other) sides.emplace_back(&measure.other);
+double MedianOf(std::vector<double> all) {
+  std::sort(all.begin(), all.end());
+  return (all[(all.size() - 1) / 2] + all[all.size() / 2]) / 2;
+}
+
+std::vector<std::vector<double>> SamplesInTurn(const std::vector<Repeated>& calls, size_t operations,
+                                               const Sampling& sampling) {
+  std::vector<Side> sides;
+  for (const Repeated& call : calls) sides.emplace_back(&call);
   for (Side& side : sides) side.Calibrate(sampling.sample_seconds);
   for (int i = 0; i < sampling.samples; i++) {
     for (Side& side : sides) {
-      double operations = double(side.turns) * double(measure.operations);
-      side.samples.push_back(side.SecondsOfTurns() * 1e9 / operations);
+      side.samples.push_back(side.SecondsOfTurns() * 1e9 / (double(side.turns) * double(operations)));
     }
   }
-  double other = sides.size() > 1 ? MedianOf(sides[1].samples) : -1;
-  return {MedianOf(sides[0].samples), other};
+  std::vector<std::vector<double>> samples;
+  for (const Side& side : sides) samples.push_back(side.samples);
+  return samples;
+}
+
+Times TimesOf(const Measure& measure, const Sampling& sampling) {
+  std::vector<Repeated> calls(1, measure.ours);
+  if (measure.other) calls.push_back(measure.other);
+  const auto samples = SamplesInTurn(calls, measure.operations, sampling);
+  if (!measure.other) return {MedianOf(samples[0]), -1, -1};
+  std::vector<double> ratios;
+  for (size_t i = 0; i < samples[0].size(); i++) ratios.push_back(samples[0][i] / samples[1][i]);
+  return {MedianOf(samples[0]), MedianOf(samples[1]), MedianOf(ratios)};
 }
 
 int PinToCore(int core) {

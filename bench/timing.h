@@ -4,6 +4,7 @@
 #include <cstdint>
 #include <functional>
 #include <string>
+#include <vector>
 
 namespace bench {
 
@@ -29,13 +30,22 @@ struct Sampling {
   int samples = 9;
 };
 
-// Nanoseconds an operation of each side, the median of the samples; below 0 for an absent side.
+// Nanoseconds an operation of each side, the median of the samples, below 0 for an absent side; and the median of
+// their ratios, each of two samples that were taken one after the other.
 struct Times {
   double ours;
   double other;
+  double ratio;
 };
 
+double MedianOf(std::vector<double> all);
+
 Times TimesOf(const Measure& measure, const Sampling& sampling);
+
+// The samples of each of so many calls, with so many operations a turn: the first of each call are taken one after the
+// other, then the second, and so on.
+std::vector<std::vector<double>> SamplesInTurn(const std::vector<Repeated>& calls, size_t operations,
+                                               const Sampling& sampling);
 
 // Runs on this core alone from now on, or on the last one allowed for a negative number. Answers the core.
 int PinToCore(int core);
