@@ -16,7 +16,7 @@ returns-in-Ok-clause-no_more g c =
     scan_no_more_back {X = Entry} (g.S.FrameSource.failures old.table.source < g.S.FrameSource.failures new.table.source) (g.S.FrameSource.is_reliable old.table.source)
     (scan_list old.ended (g.S.FrameSource.bytes old.table.source) (λ all. reverse (reads_left h all old))) (scan_list new.ended (g.S.FrameSource.bytes new.table.source) (λ all. reverse (reads_left h all new)))
     (most_left old) (most_left new) (g.S.FrameSource.bytes old.table.source) (g.S.FrameSource.bytes new.table.source)
-    (λ all. reads_left h all old) (λ all. reads_left h all new) old.ended new.ended (Ok c.in-Ok.entry) step.ended step.source.same step.last
+    (λ all. reads_left h all old) (λ all. reads_left h all new) old.ended new.ended (Ok c.in-Ok.entry) step.ended step.source.source.same step.last
 
 pub returns-in-Err-clause-cause : goal.returns-in-Err-clause-cause
 returns-in-Err-clause-cause g c =

@@ -17,7 +17,7 @@ returns-clause-first g c =
     scan_step (g.S.FrameSource.failures old.table.source < g.S.FrameSource.failures new.table.source) (g.S.FrameSource.is_reliable old.table.source) (g.S.FrameSource.bytes old.table.source) (g.S.FrameSource.bytes new.table.source)
     (λ all. reads_left h all old) (λ all. reads_left h all new) old.ended new.ended (most_left old) (most_left new)
     (option_map (λ all. read_errors (reads_left h all old)) (g.S.FrameSource.bytes old.table.source)) (option_map (λ all. read_errors (reads_left h all new)) (g.S.FrameSource.bytes new.table.source))
-    c.next_entry.result step.ended step.source.same step.first step.fewer
+    c.next_entry.result step.ended step.source.source.same step.first step.fewer
 
 pub returns-clause-cause : goal.returns-clause-cause
 returns-clause-cause g c =
@@ -37,4 +37,4 @@ returns-clause-no_more g c =
     let step = c.next_entry.ensures in
     scan_no_more {X = Entry} (g.S.FrameSource.failures old.table.source < g.S.FrameSource.failures new.table.source) (g.S.FrameSource.is_reliable old.table.source)
     (scan_list old.ended (g.S.FrameSource.bytes old.table.source) (λ all. reads_left h all old)) (scan_list new.ended (g.S.FrameSource.bytes new.table.source) (λ all. reads_left h all new)) (most_left old) (most_left new) (g.S.FrameSource.bytes old.table.source) (g.S.FrameSource.bytes new.table.source)
-    (λ all. reads_left h all old) (λ all. reads_left h all new) old.ended new.ended c.next_entry.result step.ended step.source.same step.first
+    (λ all. reads_left h all old) (λ all. reads_left h all new) old.ended new.ended c.next_entry.result step.ended step.source.source.same step.first
