@@ -1,6 +1,6 @@
 //! What a read sees, from the last key to the first.
 ghost use Rattle.std.specs.Prelude.{◌≡◌, ◌+◌, ◌≤◌, if◌then◌else◌, None, Some, IfOk};
-ghost use Rattle.sst_merge.specs.Sources.{held_count};
+ghost use Rattle.sst_base.specs.Counted.{found_item};
 ghost use Rattle.sst_tool.specs.Back.{is_same_key, newest_below};
 
 use sst_merge::Source;
@@ -59,7 +59,7 @@ fn pass_back(
 
 // A version that a read sees, if it is not a tombstone.
 fn value_of(newest: Option<InternalValue>) -> Option<InternalValue>
-    ensures { held_count result ≤ held_count newest }
+    ensures { found_item result ≤ found_item newest }
 {
     match newest {
         Some(entry) if entry.is_tombstone() => None,
@@ -74,8 +74,8 @@ fn next_seen<I: Source<InternalValue>>(
     at: SeqNo,
     newest: &mut Option<InternalValue>,
 ) -> Result<Option<InternalValue>>
-    ensures less { IfOk result (λ r. held_count newest.new + (I.left source.new).most
-        + held_count r ≤ held_count newest.old + (I.left source.old).most) }
+    ensures less { IfOk result (λ r. found_item newest.new + (I.left source.new).most
+        + found_item r ≤ found_item newest.old + (I.left source.old).most) }
 {
     while let Some(entry) = source.next_entry(alloc)? {
         let passed = value_of(pass_back(at, newest, entry));
@@ -102,7 +102,7 @@ impl<I> SeenBack<I> {
 impl<I: Source<InternalValue>> Source<InternalValue> for SeenBack<I> {
     ghost left = { λ s. record {
       list = None;
-      most = held_count s.newest + (I.left s.source).most;
+      most = found_item s.newest + (I.left s.source).most;
       errors = None;
       ended = s.ended;
     } };
