@@ -15,6 +15,10 @@ pub record IsEntry (e : Entry) : Type 0 where
   pub seqno : e.key.seqno < 2 ^ 64
   pub value : length e.value < 2 ^ 32
 
+-- its key and its value are held in place, so a copy takes no memory
+abbrev pub IsShort : Entry → Type 0
+IsShort e = (length e.key.user_key ≤ 40) × (length e.value ≤ 40)
+
 -- the value of an entry that was written and read: a tombstone has none
 abbrev pub plain_value : ValueType → List ℕ → List ℕ
 plain_value Value value = value

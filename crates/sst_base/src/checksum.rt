@@ -8,6 +8,7 @@ use crate::error::{Error, Result};
 use crate::ghost_state::history::History;
 use crate::hash::BlockHash;
 use crate::input::Input;
+use crate::output::Output;
 use std::io::{ErrorKind, Read, Seek, SeekFrom, Write};
 use std::marker::Model;
 use std::{fmt, io};
@@ -206,6 +207,12 @@ impl<W: Write, H: BlockHash> Write for ChecksummedWriter<W, H> {
             }
         }
         Err(io::Error::from(ErrorKind::Other))
+    }
+}
+
+impl<W: Write, H: BlockHash> Output for ChecksummedWriter<W, H> {
+    fn put(&mut self, bytes: &[u8]) -> Result<()> {
+        Ok(self.write_all(bytes)?)
     }
 }
 

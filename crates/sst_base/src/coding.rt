@@ -13,8 +13,8 @@ ghost use Rattle.sst_base.specs.Varint.{varint_at};
 use crate::error::{Error, Result};
 use crate::in_place::put_varint;
 use crate::input::Input;
+use crate::output::Output;
 use std::alloc::Global;
-use std::io::Write;
 
 /// A value with an encoding.
 pub trait Encode {
@@ -26,10 +26,11 @@ pub trait Encode {
     /// # Errors
     ///
     /// `Error::Io` if the writer fails. It may then hold a partial write.
-    fn encode_into<W: Write>(&self, writer: &mut W) -> Result<()>
+    fn encode_into<W: Output>(&self, writer: &mut W) -> Result<()>
         ensures ok { OnOk result
             (Appends (W.contents writer.old) (W.contents writer.new) (encoding self.now)) }
-        ensures io { IsOkUnless result Error.Io };
+        ensures io { IsOkUnless result Error.Io }
+        ensures failed { OnErr result (W.never_fails writer.old → ⊥) };
 
     /// Returns the encoding.
     ///

@@ -14,6 +14,7 @@ pub mod in_place;
 pub mod input;
 pub mod key;
 pub mod laws;
+pub mod output;
 pub mod slice;
 pub mod table;
 pub mod value;
@@ -28,6 +29,7 @@ pub use ghost_state::{Contents, Count, History, Steps};
 pub use hash::{BlockHash, ByteSum, Poly31};
 pub use input::{Input, SeekInput, append_exact};
 pub use key::{InternalKey, SeqNo, UserKey};
+pub use output::Output;
 pub use slice::Slice;
 pub use table::block::{Block, BlockHandle, BlockOffset, BlockType, Header};
 pub use table::util::{

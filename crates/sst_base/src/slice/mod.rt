@@ -1,7 +1,7 @@
 //! Immutable byte strings.
 ghost use Rattle.std.specs.Prelude.{◌≡◌, ◌+◌, ◌^◌, ◌<◌, ◌≤◌, ◌==◌};
 ghost use Rattle.std.specs.Prelude.{◌++◌, [], length, slice_range, take, drop, ◌-◌};
-ghost use Rattle.std.specs.Prelude.{string_bytes, nat_eq, refl, Some, IfOk, IfSome, IsOkUnless, IsTrue};
+ghost use Rattle.std.specs.Prelude.{string_bytes, nat_eq, refl, Some, IfOk, IfSome, IsOk, IsOkUnless, IsTrue};
 ghost use Rattle.std.specs.Prelude.{◌↔◌, ◌⊎◌, ℕ, List, IfErr};
 ghost use Rattle.std.specs.Iterator.{IsFinite, Drains};
 ghost use Rattle.std.specs.Ordering.{nat_cmp};
@@ -92,11 +92,12 @@ impl Slice {
     ///
     /// # Errors
     ///
-    /// `Error::Memory` if an allocation fails.
+    /// `Error::Memory` if an allocation fails. Here and below, up to 40 bytes need none.
     #[inline(always)]
     pub fn new(alloc: Global, bytes: &[u8]) -> Result<Slice>
         ensures ok { IfOk result (λ s. s ≡ bytes.now) }
         ensures memory { IsOkUnless result Error.Memory }
+        ensures few { length bytes.now ≤ 40 → IsOk result }
     {
         if bytes.len() <= SHORT_LEN {
             return Ok(Slice::short(ShortBytes::new(bytes)));
@@ -122,6 +123,7 @@ impl Slice {
     pub fn from_vec(bytes: Vec<u8>) -> Result<Slice>
         ensures ok { IfOk result (λ s. s ≡ bytes.items) }
         ensures memory { IsOkUnless result Error.Memory }
+        ensures few { length bytes.items ≤ 40 → IsOk result }
     {
         if bytes.len() <= SHORT_LEN {
             return Ok(Slice::short(ShortBytes::new(bytes.as_slice())));
@@ -137,6 +139,7 @@ impl Slice {
     pub fn from_bytes(alloc: Global, bytes: Bytes) -> Result<Slice>
         ensures ok { IfOk result (λ s. s ≡ bytes) }
         ensures memory { IsOkUnless result Error.Memory }
+        ensures few { length bytes ≤ 40 → IsOk result }
     {
         if bytes.len() <= SHORT_LEN {
             return Ok(Slice::short(ShortBytes::new(bytes.as_slice())));
@@ -167,8 +170,9 @@ impl Slice {
     pub fn from_string(text: String) -> Result<Slice>
         ensures ok { IfOk result (λ s. s ≡ string_bytes text) }
         ensures memory { IsOkUnless result Error.Memory }
+        ensures few { length (string_bytes text) ≤ 40 → IsOk result }
     {
-        Ok(Slice::shared(SharedBytes::from_vec(text.into_bytes())?))
+        Slice::from_vec(text.into_bytes())
     }
 
     /// Copies the bytes of a `str`.
@@ -179,6 +183,7 @@ impl Slice {
     pub fn from_text(alloc: Global, text: &str) -> Result<Slice>
         ensures ok { IfOk result (λ s. s ≡ text.now) }
         ensures memory { IsOkUnless result Error.Memory }
+        ensures few { length text.now ≤ 40 → IsOk result }
     {
         Slice::new(alloc, text.as_bytes())
     }
@@ -191,6 +196,7 @@ impl Slice {
     pub fn from_array<const N: usize>(alloc: Global, bytes: [u8; N]) -> Result<Slice>
         ensures ok { IfOk result (λ s. s ≡ bytes.entry) }
         ensures memory { IsOkUnless result Error.Memory }
+        ensures few { length bytes.entry ≤ 40 → IsOk result }
     {
         Slice::new(alloc, &bytes)
     }
@@ -251,6 +257,8 @@ impl Slice {
             (λ s. s ≡ slice_range self.now (start_index (R.start_bound range))
             (end_index (R.end_bound range) (length self.now))) }
         ensures memory { IsOkUnless result Error.Memory }
+        ensures few { end_index (R.end_bound range) (length self.now)
+            ≤ start_index (R.start_bound range) + 40 → IsOk result }
     {
         Ok(self.part(slice::range(range, ..self.len()))?)
     }
@@ -266,7 +274,8 @@ impl Slice {
     pub fn part(&self, range: Range<usize>) -> AllocResult<Slice>
         requires start_le_end { range.start ≤ range.end }
         requires in_bounds { range.end ≤ length self.now }
-        ensures { IfOk result (λ s. s ≡ slice_range self.now range.start range.end) }
+        ensures ok { IfOk result (λ s. s ≡ slice_range self.now range.start range.end) }
+        ensures few { range.end ≤ range.start + 40 → IsOk result }
     {
         match &self.held {
             Held::Shared(bytes) if range.end - range.start > SHORT_LEN => {
@@ -296,6 +305,7 @@ impl Slice {
     pub fn fused(alloc: Global, left: &[u8], right: &[u8]) -> Result<Slice>
         ensures ok { IfOk result (λ s. s ≡ left.now ++ right.now) }
         ensures memory { IsOkUnless result Error.Memory }
+        ensures few { length left.now + length right.now ≤ 40 → IsOk result }
     {
         if left.len() + right.len() <= SHORT_LEN {
             return Ok(Slice::short(ShortBytes::joined(left, right)));
@@ -315,7 +325,8 @@ impl Slice {
     #[inline(always)]
     pub fn front(alloc: Global, bytes: &[u8], len: usize) -> AllocResult<Slice>
         requires { len ≤ length bytes.now }
-        ensures { IfOk result (λ s. s ≡ take len bytes.now) }
+        ensures ok { IfOk result (λ s. s ≡ take len bytes.now) }
+        ensures few { len ≤ 40 → IsOk result }
     {
         if len <= SHORT_LEN {
             return Ok(Slice::short(ShortBytes::front(bytes, len)));
@@ -343,7 +354,8 @@ impl Slice {
     ) -> AllocResult<Slice>
         requires left { left_len ≤ length left.now }
         requires right { right_len ≤ length right.now }
-        ensures { IfOk result (λ s. s ≡ take left_len left.now ++ take right_len right.now) }
+        ensures ok { IfOk result (λ s. s ≡ take left_len left.now ++ take right_len right.now) }
+        ensures few { left_len + right_len ≤ 40 → IsOk result }
     {
         if left_len + right_len <= SHORT_LEN {
             let both = ShortBytes::joined_fronts(left, left_len, right, right_len);

@@ -6,9 +6,9 @@ ghost use Rattle.sst_base.specs.Inputs.{Reads};
 use crate::coding::{Decode, Encode, MAX_VARINT_LEN, encode_varint, varint_digits};
 use crate::error::{Error, Result};
 use crate::input::{Input, array_from};
+use crate::output::Output;
 use crate::table::block::offset::BlockOffset;
 use std::alloc::Global;
-use std::io::Write;
 use std::marker::Model;
 
 /// Where the frame of a block is in its file: its offset, and its length in bytes, header included.
@@ -55,12 +55,11 @@ impl BlockHandle {
 impl Encode for BlockHandle {
     ghost encoding = { handle_bytes };
 
-    fn encode_into<W: Write>(&self, writer: &mut W) -> Result<()> {
+    fn encode_into<W: Output>(&self, writer: &mut W) -> Result<()> {
         let (offset, len) = varint_digits(self.offset.0);
-        writer.write_all(&offset[..len])?;
+        writer.put(&offset[..len])?;
         let (size, len) = varint_digits(u64::from(self.size));
-        writer.write_all(&size[..len])?;
-        Ok(())
+        writer.put(&size[..len])
     }
 
     fn encode_into_vec(&self, alloc: Global) -> Result<Vec<u8>> {

@@ -1,7 +1,7 @@
 //! Block headers.
 ghost use Rattle.std.specs.Prelude.{◌≡◌, ◌+◌, ◌%◌, ◌^◌, ℕ, List};
 ghost use Rattle.std.specs.Prelude.{◌∷◌, ◌++◌, length, drop, Some, OnOk};
-ghost use Rattle.std.specs.Prelude.{IsOkUnless, take};
+ghost use Rattle.std.specs.Prelude.{IsOkUnless, OnErr, take};
 ghost use Rattle.byteorder.specs.Endian.{little_number};
 ghost use Rattle.std.specs.Io.KnownBytes.{Appends};
 ghost use Rattle.sst_base.specs.BlockType.{block_type_byte};
@@ -16,9 +16,9 @@ use crate::checksum::Checksum;
 use crate::error::{Error, HeaderName, Result};
 use crate::hash::BlockHash;
 use crate::input::{Input, array_from, note_bytes};
+use crate::output::Output;
 use crate::table::block::block_type::BlockType;
 use byteorder::{ByteOrder, LittleEndian};
-use std::io::Write;
 
 /// The length of a header in bytes.
 pub const HEADER_LEN: usize = 33;
@@ -75,14 +75,15 @@ impl Header {
     /// # Errors
     ///
     /// `Error::Io` if the writer fails. It may then hold a partial write.
-    pub fn encode_into<H: BlockHash, W: Write>(&self, writer: &mut W) -> Result<()>
+    pub fn encode_into<H: BlockHash, W: Output>(&self, writer: &mut W) -> Result<()>
         ensures ok { OnOk result
             (Appends (W.contents writer.old) (W.contents writer.new) (header H.hash128 self.now)) }
         ensures io { IsOkUnless result Error.Io }
+        ensures failed { OnErr result (W.never_fails writer.old → ⊥) }
+        ensures kept { W.never_fails writer.old → W.never_fails writer.new }
     {
         let bytes = self.encoded::<H>();
-        writer.write_all(&bytes)?;
-        Ok(())
+        writer.put(&bytes)
     }
 
     // Whether both lengths are this one.

@@ -19,6 +19,7 @@ use crate::checksum::Checksum;
 use crate::error::{AllocResult, Error, Result};
 use crate::hash::BlockHash;
 use crate::input::{Input, SeekInput};
+use crate::output::Output;
 use crate::slice::Slice;
 pub use block_handle::BlockHandle;
 pub use block_type::BlockType;
@@ -27,7 +28,6 @@ pub use header::Header;
 pub use offset::BlockOffset;
 use std::alloc::Global;
 use std::fmt;
-use std::io::Write;
 use std::marker::Model;
 
 /// A block in memory: a header, and a payload of at most 2^32 - 1 bytes.
@@ -109,7 +109,7 @@ impl Block {
     /// `Error::TooLong` if the payload has 2^32 bytes or more; nothing is written then. `Error::Io`
     /// if the writer fails. It may then hold a partial write.
     #[tactic(auto, unfolding(crate::specs::Frame::frame))]
-    pub fn write_into<H: BlockHash, W: Write>(
+    pub fn write_into<H: BlockHash, W: Output>(
         writer: &mut W,
         payload: &[u8],
         block_type: BlockType,
@@ -120,6 +120,8 @@ impl Block {
         ensures too_long { IsErrOf result Error.TooLong ↔ (2 ^ 32 ≤ length payload.now) }
         ensures untouched { IsErrOf result Error.TooLong → writer.new ≡ writer.old }
         ensures io { IfErr result (λ e. e ≢ Error.TooLong → e ≡ Error.Io) }
+        ensures failed { IsErrOf result Error.Io → W.never_fails writer.old → ⊥ }
+        ensures kept { W.never_fails writer.old → W.never_fails writer.new }
     {
         let Ok(len) = u32::try_from(payload.len()) else {
             return Err(Error::TooLong);
@@ -131,7 +133,7 @@ impl Block {
             uncompressed_length: len,
         };
         header.encode_into::<H, W>(writer)?;
-        writer.write_all(payload)?;
+        writer.put(payload)?;
         Ok(header)
     }
 

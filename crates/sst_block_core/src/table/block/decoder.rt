@@ -2,7 +2,7 @@
 ghost use Rattle.std.specs.Prelude.{◌≡◌, ℕ, ◌-◌, ◌*◌, ◌^◌, ◌<◌};
 ghost use Rattle.std.specs.Prelude.{◌≤◌, List, [], ◌∷◌};
 ghost use Rattle.std.specs.Prelude.{length, take, drop, Some, None, IfSome, IfOk};
-ghost use Rattle.std.specs.Prelude.{IsSome, IsSomeAnd};
+ghost use Rattle.std.specs.Prelude.{IsOk, IsSome, IsSomeAnd};
 ghost use Rattle.std.specs.Option.{option_map};
 ghost use Rattle.std.specs.Ordering.{nat_cmp};
 ghost use Rattle.std.specs.Cmp.Lexicographic.{slice_cmp};
@@ -47,6 +47,9 @@ pub trait ParsedItem<Item: BlockItem> {
     /// The length of the shared prefix; 0 in a full form.
     ghost shared_len: { Self → ℕ };
 
+    /// Its byte strings are held in place once it is made.
+    ghost is_short: { List ℕ → Self → Type 0 };
+
     /// Compares its key with a needle, without joining prefix and rest.
     fn compare_key(&self, needle: &[u8], payload: &[u8]) -> Ordering
         requires { is_found payload.now self.now }
@@ -77,10 +80,11 @@ pub trait ParsedItem<Item: BlockItem> {
     ///
     /// # Errors
     ///
-    /// If an allocation fails.
+    /// If an allocation fails. Byte strings of up to 40 bytes need none.
     fn materialize(&self, alloc: Global, payload: &Slice) -> AllocResult<Item>
         requires { is_found payload.now self.now }
-        ensures ok { IfOk result (λ x. x ≡ item_of payload.now self.now) };
+        ensures ok { IfOk result (λ x. x ≡ item_of payload.now self.now) }
+        ensures few { is_short payload.now self.now → IsOk result };
 }
 
 /// Items that can be read from a block.

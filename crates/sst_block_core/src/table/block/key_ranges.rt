@@ -1,5 +1,5 @@
 //! Keys by their ranges of a payload: a prefix, if there is one, and the bytes after it.
-ghost use Rattle.std.specs.Prelude.{◌≡◌, ◌≤◌, ◌++◌, length, IfOk};
+ghost use Rattle.std.specs.Prelude.{◌≡◌, ◌+◌, ◌≤◌, ◌++◌, length, IfOk, IsOk};
 ghost use Rattle.std.specs.Ordering.{nat_cmp};
 ghost use Rattle.std.specs.Cmp.Lexicographic.{slice_cmp};
 ghost use Rattle.sst_block_core.specs.Found.{IsRange, IsOptionalRange, range_bytes, optional_range};
@@ -66,8 +66,10 @@ pub fn join_ranges(
 ) -> AllocResult<Slice>
     requires prefix { IsOptionalRange payload.now prefix.now }
     requires rest { IsRange payload.now rest.now }
-    ensures { IfOk result
+    ensures ok { IfOk result
         (λ key. key ≡ optional_range payload.now prefix.now ++ range_bytes payload.now rest.now) }
+    ensures few { length (optional_range payload.now prefix.now)
+        + length (range_bytes payload.now rest.now) ≤ 40 → IsOk result }
 {
     match prefix {
         Some(prefix) => {

@@ -1,9 +1,9 @@
 //! Entries that borrow the bytes of their block, and the iterator over them.
-ghost use Rattle.std.specs.Prelude.{◌≡◌, ◌↔◌, ◌++◌, IfOk, IfSome, IsOkUnless, IsSome, IsTrue, length, refl, take, ◌≤◌};
+ghost use Rattle.std.specs.Prelude.{◌≡◌, ◌↔◌, ◌++◌, IfOk, IfSome, IsOk, IsOkUnless, IsSome, IsTrue, length, refl, take, ◌≤◌};
 ghost use Rattle.std.specs.Ordering.{nat_cmp};
 ghost use Rattle.std.specs.Cmp.Lexicographic.{slice_cmp};
 ghost use Rattle.std.specs.Iterator.{YieldsFirst, YieldsLast, item_count};
-ghost use Rattle.sst_base.specs.Entry.{IsEntry};
+ghost use Rattle.sst_base.specs.Entry.{IsEntry, IsShort};
 ghost use Rattle.sst_base.specs.SharedPrefix.{shared_prefix_length};
 ghost use Rattle.sst_base.specs.ValueType.{IsTombstone};
 ghost use Rattle.sst_block_core.specs.Entries.{entries, entry_with};
@@ -261,25 +261,22 @@ impl<'a> EntryView<'a> {
         shared_len(self.key_parts(), other.key_parts())
     }
 
-    /// Makes its user key: copies it.
+    /// Makes its user key: copies it. The error has no parts, so that a hot caller needs no space
+    /// for one.
     ///
     /// # Errors
     ///
-    /// `Error::Memory` if an allocation fails.
+    /// If an allocation fails. A key of up to 40 bytes needs none.
     #[inline(always)]
-    pub fn to_user_key(&self, alloc: Global) -> Result<UserKey>
+    pub fn to_user_key(&self, alloc: Global) -> AllocResult<UserKey>
         ensures ok { IfOk result (λ user_key. user_key ≡ self.now.key.user_key) }
-        ensures memory { IsOkUnless result Error.Memory }
+        ensures few { length self.now.key.user_key ≤ 40 → IsOk result }
     {
         let (prefix_len, rest_len) = (self.prefix_len as usize, self.rest_len as usize);
-        let made = if prefix_len == 0 {
+        if prefix_len == 0 {
             Slice::front(alloc, self.rest, rest_len)
         } else {
             Slice::fused_fronts(alloc, self.prefix, prefix_len, self.rest, rest_len)
-        };
-        match made {
-            Ok(user_key) => Ok(user_key),
-            Err(_) => Err(Error::Memory),
         }
     }
 
@@ -329,15 +326,16 @@ impl<'a> EntryView<'a> {
         Ok(hash_parts::<H>(alloc, self.key_parts())?)
     }
 
-    /// Makes the entry: copies its user key and its value.
+    /// Makes the entry: copies its user key and its value. The error has no parts, so that a hot
+    /// caller needs no space for one.
     ///
     /// # Errors
     ///
-    /// `Error::Memory` if an allocation fails.
+    /// If an allocation fails. A key and a value of up to 40 bytes each need none.
     #[inline(always)]
-    pub fn to_entry(&self, alloc: Global) -> Result<InternalValue>
+    pub fn to_entry(&self, alloc: Global) -> AllocResult<InternalValue>
         ensures ok { IfOk result (λ entry. entry ≡ self.now) }
-        ensures memory { IsOkUnless result Error.Memory }
+        ensures few { IsShort self.now → IsOk result }
     {
         // (a `?` would copy what it passes on)
         let user_key = match self.to_user_key(alloc) {
@@ -346,7 +344,7 @@ impl<'a> EntryView<'a> {
         };
         let value = match Slice::front(alloc, self.value, self.value_len as usize) {
             Ok(value) => value,
-            Err(_) => return Err(Error::Memory),
+            Err(error) => return Err(error),
         };
         let value_type = self.value_type.get();
         Ok(InternalValue::from_components(user_key, value, self.seqno, value_type))

@@ -1,9 +1,10 @@
 //! The iterator over the entries of a data block that owns the block.
 ghost use Rattle.std.specs.Prelude.{◌≡◌, ◌+◌, ◌-◌, ◌*◌, ◌≤◌};
-ghost use Rattle.std.specs.Prelude.{length, IfOk, IsOkUnless};
+ghost use Rattle.std.specs.Prelude.{length, IfOk, IfSome, IsOk, IsOkUnless};
 ghost use Rattle.std.specs.Iterator.{at_most, YieldsFirst, YieldsLast};
 ghost use Rattle.std.proofs.Common.{ap};
 ghost use Rattle.sst_base.specs.Counted.{IsZero, CountsBetween, CountsExactly, found_item};
+ghost use Rattle.sst_base.specs.Entry.{IsShort};
 ghost use Rattle.sst_block_core.specs.Backs.{GivesStep, GivesNextBack, back_cost};
 ghost use Rattle.sst_block_core.specs.Entries.{entries};
 ghost use Rattle.sst_block_core.specs.Intervals.{digits};
@@ -223,7 +224,7 @@ impl<H: BlockHash> IntoEntries<H> {
     ///
     /// # Errors
     ///
-    /// `Error::Memory` if an allocation fails.
+    /// `Error::Memory` if an allocation fails. A key and a value of up to 40 bytes each need none.
     #[inline(always)]
     pub fn next_entry(&mut self, alloc: Global) -> Result<Option<InternalValue>>
         ensures payload { self.new.payload ≡ self.old.payload }
@@ -234,6 +235,7 @@ impl<H: BlockHash> IntoEntries<H> {
             (λ entry. YieldsFirst (λ left. left) (items_left self.old.window) entry
             (items_left self.new.window)) }
         ensures memory { IsOkUnless result Error.Memory }
+        ensures few { IfSome (first_left self.old.window) IsShort → IsOk result }
         ensures counts { CountsExactly self.old.steps self.new.steps 0
             (found_item (first_left self.old.window)) }
     {
@@ -251,7 +253,7 @@ impl<H: BlockHash> IntoEntries<H> {
     ///
     /// # Errors
     ///
-    /// `Error::Memory` if an allocation fails.
+    /// `Error::Memory` if an allocation fails. A key and a value of up to 40 bytes each need none.
     #[inline(always)]
     pub fn next_entry_back(&mut self, alloc: Global) -> Result<Option<InternalValue>>
         ensures payload { self.new.payload ≡ self.old.payload }
@@ -262,6 +264,7 @@ impl<H: BlockHash> IntoEntries<H> {
             (λ entry. YieldsLast (λ left. left) (items_left self.old.window) entry
             (items_left self.new.window)) }
         ensures memory { IsOkUnless result Error.Memory }
+        ensures few { IfSome (last_left self.old.window) IsShort → IsOk result }
         ensures counts { CountsBetween self.old.steps self.new.steps
             (0, found_item (last_left self.old.window)) (
               0,

@@ -1,10 +1,10 @@
 //! Data blocks: blocks of entries.
 ghost use Rattle.std.specs.Prelude.{◌≡◌, ◌↔◌, ℕ, ◌+◌, ◌*◌, ◌^◌, ◌<◌, MatchResult};
 ghost use Rattle.std.specs.Prelude.{◌≤◌, List, length, map, [], IsTrue, true, false, is_some};
-ghost use Rattle.std.specs.Prelude.{IsSome, OnOk, OnErr, IfOk, IfErr, IsOkUnless, None, Some};
+ghost use Rattle.std.specs.Prelude.{IsOk, IsSome, OnOk, OnErr, IfOk, IfErr, IsOkUnless, None, Some};
 ghost use Rattle.std.specs.Prelude.{IfSome, IsNone, take, ◌==◌, if◌then◌else◌, ◌≢◌, Ok, Err};
 ghost use Rattle.sst_base.specs.Counted.{IsZero, CountsBetween};
-ghost use Rattle.sst_base.specs.Entry.{Entry, IsEntry, plain};
+ghost use Rattle.sst_base.specs.Entry.{Entry, IsEntry, IsShort, plain};
 ghost use Rattle.sst_block_core.specs.Checks.{data_check};
 ghost use Rattle.sst_block_core.specs.Body.{place_offset};
 ghost use Rattle.sst_block_core.specs.Kind.{IsOrdered};
@@ -441,6 +441,7 @@ impl<H: BlockHash> DataBlock<H> {
         requires { IsParsedEntry self.now.payload item.now }
         ensures made { IfOk result (λ entry. entry ≡ Some (entry_of self.now.payload item.now)) }
         ensures memory { IsOkUnless result Error.Memory }
+        ensures few { IsShort (entry_of self.now.payload item.now) → IsOk result }
     {
         Ok(Some(item.materialize(alloc, self.as_slice())?))
     }

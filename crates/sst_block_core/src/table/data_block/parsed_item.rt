@@ -41,6 +41,7 @@ impl DataBlockParsedItem {
 }
 
 impl ParsedItem<InternalValue> for DataBlockParsedItem {
+    ghost use Rattle.sst_base.specs.Entry.{IsShort};
     ghost use Rattle.sst_block_core.specs.ParsedEntry.{entry_of, IsParsedEntry, prefix_len};
 
     ghost item_of = { entry_of };
@@ -50,6 +51,8 @@ impl ParsedItem<InternalValue> for DataBlockParsedItem {
     ghost key_start = { λ p. p.key.0 };
 
     ghost shared_len = { prefix_len };
+
+    ghost is_short = { λ payload p. IsShort (entry_of payload p) };
 
     fn compare_key(&self, needle: &[u8], payload: &[u8]) -> Ordering {
         compare_ranges(payload, &self.prefix, &self.key, needle)

@@ -1,8 +1,8 @@
 //! The look-up of a point read.
-ghost use Rattle.std.specs.Prelude.{◌≡◌, ◌+◌, ◌<◌, ◌≤◌, IfSome, IfOk, IsSome, OnErr, IsOkUnless, length, map};
+ghost use Rattle.std.specs.Prelude.{◌≡◌, ◌+◌, ◌<◌, ◌≤◌, IfSome, IfOk, IsOk, IsSome, OnErr, IsOkUnless, length, map};
 ghost use Rattle.std.specs.Option.{option_map};
 ghost use Rattle.sst_base.specs.Counted.{found_item, IsZero, CountsBetween};
-ghost use Rattle.sst_base.specs.Entry.{plain};
+ghost use Rattle.sst_base.specs.Entry.{IsShort, plain};
 ghost use Rattle.sst_block_core.specs.Kind.{IsOrdered};
 ghost use Rattle.sst_block_core.specs.Entries.{entries};
 ghost use Rattle.sst_block_core.specs.PointReads.{read_least, read_most, ref_lookup};
@@ -114,7 +114,8 @@ impl<H: BlockHash> DataBlock<H> {
     ///
     /// # Errors
     ///
-    /// `Error::Memory` if an allocation fails, which is possible only where there is such an entry.
+    /// `Error::Memory` if an allocation fails, which is possible only where there is such an entry,
+    /// and its key or its value has more than 40 bytes.
     pub fn point_read(
         &self,
         alloc: Global,
@@ -127,6 +128,8 @@ impl<H: BlockHash> DataBlock<H> {
         ensures memory { IsOkUnless result Error.Memory }
         ensures only_found { OnErr result
             (IsSome (first_match entries needle.now seqno self.now.items)) }
+        ensures few { IfSome (first_match entries needle.now seqno self.now.items) IsShort
+            → IsOk result }
         ensures counts { CountsBetween steps.old steps.new
             (read_least H.hash64 self.now needle.now) (read_most H.hash64 self.now needle.now) }
         ensures counted { IsSome (first_match entries needle.now seqno self.now.items)

@@ -25,6 +25,7 @@ pub struct IndexBlockParsedItem {
 }
 
 impl ParsedItem<KeyedBlockHandle> for IndexBlockParsedItem {
+    ghost use Rattle.std.specs.Prelude.{◌≤◌, length};
     ghost use Rattle.sst_block_core.specs.ParsedHandle.{parsed_handle, IsParsedHandle, prefix_len};
 
     ghost item_of = { parsed_handle };
@@ -34,6 +35,8 @@ impl ParsedItem<KeyedBlockHandle> for IndexBlockParsedItem {
     ghost key_start = { λ p. p.end_key.0 };
 
     ghost shared_len = { prefix_len };
+
+    ghost is_short = { λ payload p. length (parsed_handle payload p).end_key ≤ 40 };
 
     fn compare_key(&self, needle: &[u8], payload: &[u8]) -> Ordering {
         compare_ranges(payload, &self.prefix, &self.end_key, needle)
