@@ -211,8 +211,8 @@ impl<W: Write, H: BlockHash> Write for ChecksummedWriter<W, H> {
 }
 
 impl<W: Write, H: BlockHash> Output for ChecksummedWriter<W, H> {
-    fn put(&mut self, bytes: &[u8]) -> Result<()> {
-        Ok(self.write_all(bytes)?)
+    fn put(&mut self, bytes: &[u8]) -> io::Result<()> {
+        self.write_all(bytes)
     }
 }
 

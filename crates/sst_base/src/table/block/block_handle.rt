@@ -59,7 +59,8 @@ impl Encode for BlockHandle {
         let (offset, len) = varint_digits(self.offset.0);
         writer.put(&offset[..len])?;
         let (size, len) = varint_digits(u64::from(self.size));
-        writer.put(&size[..len])
+        writer.put(&size[..len])?;
+        Ok(())
     }
 
     fn encode_into_vec(&self, alloc: Global) -> Result<Vec<u8>> {

@@ -83,7 +83,8 @@ impl Header {
         ensures kept { W.never_fails writer.old → W.never_fails writer.new }
     {
         let bytes = self.encoded::<H>();
-        writer.put(&bytes)
+        writer.put(&bytes)?;
+        Ok(())
     }
 
     // Whether both lengths are this one.
