@@ -1,5 +1,5 @@
 -- A run that is being written.
-use Rattle.std.specs.Prelude.{◌≡◌, ◌≢◌, ℕ, ◌+◌, ◌*◌, ◌≤◌, ◌<◌, ◌^◌, ◌⊎◌, List, [], ◌∷◌, ◌++◌, length, Option, Some, None, Result, Err}
+use Rattle.std.specs.Prelude.{◌≡◌, ◌≢◌, ℕ, ◌+◌, ◌*◌, ◌≤◌, ◌<◌, ◌^◌, ◌⊎◌, List, [], ◌∷◌, ◌++◌, length, Option, Some, None, Result, Err, IsErrOf}
 use Rattle.std.specs.Io.KnownBytes.{Appends}
 use Rattle.std.specs.List.{AllByRecursion}
 use Rattle.std.specs.declared.cmp.Ordering.TheVariants.{Less}
@@ -71,6 +71,10 @@ pub record IsFramedBlock (f : Form) (at : ℕ) (block : List Entry) (text : List
 -- why a write fails: the writer failed, something does not fit, or an allocation failed
 abbrev pub IsWriteRefusal : Type 0 → Error → Type 0
 IsWriteRefusal long e = (e ≡ Io) ⊎ ((e ≡ TooLong) × long) ⊎ (e ≡ Memory)
+
+-- a call over a writer: `Io` only where the writer failed in that call, and one that never fails stays so
+abbrev pub UsesWriter : {W T : Type 0} → (W → Type 0) → W → W → Result T Error → Type 0
+UsesWriter never_fails old new result = (IsErrOf result Io → never_fails old → ⊥) × (never_fails old → never_fails new)
 
 -- a writer's known bytes grew by the layout of a run, whose handles these are
 abbrev pub AppendsLayout : Form → List (List Entry) → Option (List ℕ) → Option (List ℕ) → RunHandles → Type 0

@@ -1,5 +1,5 @@
 //! The footer of a table file.
-ghost use Rattle.std.specs.Prelude.{◌≡◌, ◌⊎◌, ◌≤◌, ◌<◌, length, OnOk, IfErr, IfSome};
+ghost use Rattle.std.specs.Prelude.{◌≡◌, ◌⊎◌, ◌≤◌, ◌<◌, length, OnErr, OnOk, IfErr, IfSome};
 ghost use Rattle.std.specs.Io.KnownBytes.{Appends};
 ghost use Rattle.sst_base.specs.declared.error.Error.TheVariants.{Io, Truncated, BadHandle, Memory};
 ghost use Rattle.sstable_blocks.specs.Footer.{footer, footer_handles, parts_of, parts_at};
@@ -10,7 +10,7 @@ use super::RunHandles;
 use super::source::FrameSource;
 use super::sync::SyncWrite;
 use byteorder::{ByteOrder, LittleEndian};
-use sst_base::{BlockHandle, BlockOffset, Error, Result};
+use sst_base::{BlockHandle, BlockOffset, Error, Output, Result};
 use std::alloc::Global;
 use std::io;
 
@@ -124,7 +124,8 @@ pub fn end_table<W: SyncWrite>(writer: &mut W, handles: &RunHandles) -> io::Resu
     ensures bytes { OnOk result
         (Appends (W.contents writer.old) (W.contents writer.new) (footer handles.now)) }
     ensures synced { OnOk result (W.is_synced writer.new) }
+    ensures failed { OnErr result (W.never_fails writer.old → ⊥) }
 {
-    writer.write_all(&encode_footer(handles))?;
+    writer.put(&encode_footer(handles))?;
     writer.sync()
 }

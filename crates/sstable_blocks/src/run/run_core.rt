@@ -16,7 +16,7 @@ ghost use Rattle.sstable_blocks.specs.Run.{IsFilterText, IsFramed};
 ghost use Rattle.std.specs.List.{AllByRecursion};
 ghost use Rattle.sstable_blocks.specs.Writing.{Follows, FollowsLast, FrameFits, PartFits};
 ghost use Rattle.sstable_blocks.specs.Writing.{IsFramedBlock, IsWriteRefusal, IsFrameAppended};
-ghost use Rattle.sstable_blocks.specs.Writing.{AppendsFilter, AppendsEnd};
+ghost use Rattle.sstable_blocks.specs.Writing.{AppendsFilter, AppendsEnd, UsesWriter};
 
 use super::laws::handles_are_ready;
 use super::{RunConfig, RunHandles};
@@ -24,12 +24,12 @@ use crate::table::filter::BloomConstructionPolicy;
 use crate::table::filter::policy::MAX_BITS;
 use sst_base::table::block::header::HEADER_LEN;
 use sst_base::{
-    Block, BlockHandle, BlockHash, BlockOffset, BlockType, Error, History, InternalValue, Result,
+    Block, BlockHandle, BlockHash, BlockOffset, BlockType, Error, History, InternalValue, Output,
+    Result,
 };
 use sst_block_core::{AsEntry, EntryView, IndexBlock, KeyedBlockHandle};
 use std::alloc::Global;
 use std::collections::LinkedList;
-use std::io::Write;
 use std::marker::{Model, PhantomData};
 
 // The greatest length of a payload after a handle: its frame has at most 2^32 - 1 bytes.
@@ -120,7 +120,7 @@ impl<H: BlockHash> RunCore<H> {
     ///
     /// `Error::TooLong` only where the block does not fit, `Error::Memory` if an allocation fails;
     /// nothing is written then. `Error::Io` if the writer fails. The block is not accepted.
-    pub(crate) fn add_block<T: AsEntry, W: Write>(
+    pub(crate) fn add_block<T: AsEntry, W: Output>(
         &mut self,
         writer: &mut W,
         items: &[T],
@@ -134,6 +134,7 @@ impl<H: BlockHash> RunCore<H> {
             (block_frame (form H.hash64 H.hash128 self.old.config) (map T.entry items.now))) }
         ensures kept { OnErr result (self.new.blocks ≡ self.old.blocks) }
         ensures untouched { IfErr result (λ e. e ≢ Io → writer.new ≡ writer.old) }
+        ensures writer { UsesWriter W.never_fails writer.old writer.new result }
         ensures cause { let f = form H.hash64 H.hash128 self.old.config in
             IfErr result (IsWriteRefusal (FrameFits f (length (block_frames f self.old.blocks))
             (map T.entry items.now) → ⊥)) }
@@ -165,10 +166,11 @@ impl<H: BlockHash> RunCore<H> {
     ///
     /// `Error::TooLong` only where the run does not fit, `Error::Memory` if an allocation fails,
     /// `Error::Io` if the writer fails.
-    pub(crate) fn finish<W: Write>(&self, writer: &mut W) -> Result<RunHandles>
+    pub(crate) fn finish<W: Output>(&self, writer: &mut W) -> Result<RunHandles>
         requires { 1 ≤ length self.now.blocks }
         ensures layout { IfOk result (AppendsEnd (form H.hash64 H.hash128 self.now.config)
             self.now.blocks (W.contents writer.old) (W.contents writer.new)) }
+        ensures writer { UsesWriter W.never_fails writer.old writer.new result }
         ensures cause { IfErr result (IsWriteRefusal
             (RunFits (form H.hash64 H.hash128 self.now.config) self.now.blocks → ⊥)) }
     {
@@ -178,7 +180,7 @@ impl<H: BlockHash> RunCore<H> {
     }
 
     // Writes the index after the blocks. Returns its handle, and the offset after it.
-    fn write_index<W: Write>(&self, writer: &mut W) -> Result<(BlockHandle, u64)>
+    fn write_index<W: Output>(&self, writer: &mut W) -> Result<(BlockHandle, u64)>
         requires { 1 ≤ length self.now.blocks }
         ensures written { let f = form H.hash64 H.hash128 self.now.config in
             IfOk result (λ r. IsFrameAppended H.hash128 Index
@@ -192,6 +194,7 @@ impl<H: BlockHash> RunCore<H> {
         ensures framed { let f = form H.hash64 H.hash128 self.now.config in
             OnOk result
             (AllByRecursion (λ block. IsFramed (block_payload f block)) self.now.blocks) }
+        ensures writer { UsesWriter W.never_fails writer.old writer.new result }
         ensures cause { IfErr result (IsWriteRefusal
             (RunFits (form H.hash64 H.hash128 self.now.config) self.now.blocks → ⊥)) }
     {
@@ -203,7 +206,7 @@ impl<H: BlockHash> RunCore<H> {
     }
 
     // Writes the filter, if there are bits, after the index. Returns its handle.
-    fn write_filter<W: Write>(&self, writer: &mut W, offset: u64) -> Result<Option<BlockHandle>>
+    fn write_filter<W: Output>(&self, writer: &mut W, offset: u64) -> Result<Option<BlockHandle>>
         requires some { 1 ≤ length self.now.blocks }
         requires offset { let f = form H.hash64 H.hash128 self.now.config in
             offset
@@ -211,6 +214,7 @@ impl<H: BlockHash> RunCore<H> {
         ensures written { let f = form H.hash64 H.hash128 self.now.config in
             IfOk result (AppendsFilter f self.now.blocks offset (W.contents writer.old)
             (W.contents writer.new)) }
+        ensures writer { UsesWriter W.never_fails writer.old writer.new result }
         ensures cause { IfErr result (IsWriteRefusal
             (RunFits (form H.hash64 H.hash128 self.now.config) self.now.blocks → ⊥)) }
     {
@@ -296,7 +300,7 @@ fn frame_end(payload_len: usize, offset: u64) -> Option<(u32, u64)>
 }
 
 // Writes a frame whose payload is after a handle.
-fn write_frame<H: BlockHash, W: Write>(
+fn write_frame<H: BlockHash, W: Output>(
     writer: &mut W,
     payload: &[u8],
     block_type: BlockType,
@@ -305,6 +309,7 @@ fn write_frame<H: BlockHash, W: Write>(
     ensures bytes { OnOk result (Appends (W.contents writer.old) (W.contents writer.new)
         (frame H.hash128 block_type payload.now)) }
     ensures io { IsOkUnless result Error.Io }
+    ensures writer { UsesWriter W.never_fails writer.old writer.new result }
 {
     Block::write_into::<H, W>(writer, payload, block_type)?;
     Ok(())
@@ -312,7 +317,7 @@ fn write_frame<H: BlockHash, W: Write>(
 
 // Writes a frame, where the next one begins at `offset`. Returns its handle, and the offset after
 // it.
-fn write_part<H: BlockHash, W: Write>(
+fn write_part<H: BlockHash, W: Output>(
     writer: &mut W,
     payload: &[u8],
     block_type: BlockType,
@@ -321,6 +326,7 @@ fn write_part<H: BlockHash, W: Write>(
     ensures written { IfOk result (λ r. IsFrameAppended H.hash128 block_type offset payload.now
         (W.contents writer.old) (W.contents writer.new) r.0) }
     ensures end { IfOk result (λ r. r.1 ≡ offset + (33 + length payload.now)) }
+    ensures writer { UsesWriter W.never_fails writer.old writer.new result }
     ensures cause { IfErr result
         (λ e. (e ≡ Io) ⊎ ((e ≡ TooLong) × (PartFits offset payload.now → ⊥))) }
 {

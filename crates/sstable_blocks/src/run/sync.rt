@@ -1,17 +1,17 @@
 //! Writers that can make durable what was written to them.
-ghost use Rattle.std.specs.Prelude.{◌≡◌, [], OnOk, IfOk, IsTrue, IsOkUnless};
+ghost use Rattle.std.specs.Prelude.{◌≡◌, [], OnErr, OnOk, IfOk, IsTrue, IsOkUnless};
 ghost use Rattle.std.specs.Io.KnownBytes.{Keeps};
 ghost use Rattle.std.specs.Io.Buffered.{writer_contents, writer_buffer, writer_inner};
 ghost use Rattle.sst_base.specs.declared.error.Error.TheVariants.{Memory};
 
-use sst_base::{Error, Result};
+use sst_base::{Error, Output, Result};
 use std::alloc::{Allocator, Global};
 use std::fs::OpenFile;
 use std::io;
 use std::io::{BufWriter, ErrorKind, Sink, Write};
 
 /// A writer that can make durable what was written to it.
-pub trait SyncWrite: Write {
+pub trait SyncWrite: Output {
     // all that was written is where it stays
     ghost is_synced: { Self → Type 0 };
 
@@ -22,7 +22,8 @@ pub trait SyncWrite: Write {
     /// That of the system.
     fn sync(&mut self) -> io::Result<()>
         ensures synced { OnOk result (is_synced self.new) }
-        ensures kept { Keeps (Self.contents self.old) (Self.contents self.new) };
+        ensures kept { Keeps (Self.contents self.old) (Self.contents self.new) }
+        ensures failed { OnErr result (Self.never_fails self.old → ⊥) };
 }
 
 // What is written to memory is there.
@@ -85,6 +86,12 @@ impl<F: Write + Drop> Write for BufferedFile<F> {
     fn write_all(&mut self, buf: &[u8]) -> io::Result<()> {
         self.is_synced = false;
         self.buffered.write_all(buf)
+    }
+}
+
+impl<F: Write + Drop> Output for BufferedFile<F> {
+    fn put(&mut self, bytes: &[u8]) -> io::Result<()> {
+        self.write_all(bytes)
     }
 }
 

@@ -5,15 +5,14 @@ ghost use Rattle.sst_block_core.specs.Kind.{IsOrdered};
 ghost use Rattle.sstable_blocks.specs.Blocks.{CutsFit, blocks_of};
 ghost use Rattle.sstable_blocks.specs.Run.{form, IsWritable, RunFits};
 ghost use Rattle.sstable_blocks.specs.RunReading.{hashes};
-ghost use Rattle.sstable_blocks.specs.Writing.{AppendsLayout, AppendsSound, IsWriteRefusal};
+ghost use Rattle.sstable_blocks.specs.Writing.{AppendsLayout, AppendsSound, IsWriteRefusal, UsesWriter};
 
 use super::laws::blocks_are_the_list;
 use super::run_core::RunCore;
 use super::{RunConfig, RunHandles};
-use sst_base::{BlockHash, InternalValue, Result};
+use sst_base::{BlockHash, InternalValue, Output, Result};
 use sst_block_core::AsEntry;
 use std::alloc::Global;
-use std::io::Write;
 
 /// Returns whether a list of this length can be cut at these indexes into blocks that are not
 /// empty: they rise strictly, and are at least 1 and below the length. No cuts fit every list; one
@@ -44,7 +43,7 @@ pub fn cuts_fit(len: usize, cuts: &[usize]) -> bool
 /// 34359737920 bits, or all frames 2^64 bytes or more; `Error::Memory` if an allocation fails;
 /// `Error::Io` if the writer fails, as a vector does whose allocation fails. The writer may then
 /// hold a partial write of the run.
-pub fn write_run<H: BlockHash, T: AsEntry, W: Write>(
+pub fn write_run<H: BlockHash, T: AsEntry, W: Output>(
     alloc: Global,
     writer: &mut W,
     items: &[T],
@@ -61,6 +60,7 @@ pub fn write_run<H: BlockHash, T: AsEntry, W: Write>(
     ensures sound { IfOk result
         (AppendsSound (hashes H.hash64 H.hash128) (blocks_of cuts.now (map T.entry items.now))
         (W.contents writer.old) (W.contents writer.new)) }
+    ensures writer { UsesWriter W.never_fails writer.old writer.new result }
     ensures cause { IfErr result (IsWriteRefusal
         (RunFits (form H.hash64 H.hash128 config) (blocks_of cuts.now (map T.entry items.now))
         → ⊥)) }

@@ -1,7 +1,7 @@
 //! Writing a run block by block.
 ghost use Rattle.std.specs.Prelude.{◌≡◌, ◌≢◌, ◌↔◌, ◌+◌, ◌^◌, ◌≤◌, [], ◌∷◌, ◌++◌, length, map};
 ghost use Rattle.std.specs.Prelude.{IsTrue, None, Some, OnOk, IfOk, IfErr, IfSome, MatchResult};
-ghost use Rattle.std.specs.Prelude.{Err};
+ghost use Rattle.std.specs.Prelude.{Err, IsErrOf};
 ghost use Rattle.std.specs.Io.KnownBytes.{Appends};
 ghost use Rattle.sst_base.specs.declared.error.Error.TheVariants.{Io, TooLong};
 ghost use Rattle.sstable_blocks.specs.Footer.{run_end};
@@ -9,16 +9,15 @@ ghost use Rattle.sstable_blocks.specs.Run.{form, block_frame, block_frames, IsWr
 ghost use Rattle.sstable_blocks.specs.RunReading.{hashes};
 ghost use Rattle.sstable_blocks.specs.Writing.{Follows, FrameFits, IsWriteRefusal, AppendsLayout};
 ghost use Rattle.sstable_blocks.specs.Writing.{AppendsSound, AppendsTable, TableFits, IsSameRun};
-ghost use Rattle.sstable_blocks.specs.Writing.{RepeatsError};
+ghost use Rattle.sstable_blocks.specs.Writing.{RepeatsError, UsesWriter};
 
 use super::footer::{FOOTER_LEN, end_table};
 use super::run_core::RunCore;
 use super::sync::SyncWrite;
 use super::{RunConfig, RunHandles};
-use sst_base::{BlockHash, Contents, Error, Result};
+use sst_base::{BlockHash, Contents, Error, Output, Result};
 use sst_block_core::AsEntry;
 use std::alloc::Global;
-use std::io::Write;
 use std::marker::Model;
 
 /// Writes a run block by block into a writer of bytes.
@@ -26,14 +25,14 @@ use std::marker::Model;
 /// Clauses see the configuration, the blocks accepted, the error that is returned from now on, if
 /// there is one, what the writer held when this was made, and the writer.
 #[derive(Drop)]
-pub struct RunWriter<H: BlockHash, W: Write> {
+pub struct RunWriter<H: BlockHash, W: Output> {
     core: RunCore<H>,
     writer: W,
     refusal: Option<Error>,
     start: Contents,
 }
 
-impl<H: BlockHash, W: Write> Model for RunWriter<H, W> {
+impl<H: BlockHash, W: Output> Model for RunWriter<H, W> {
     ghost use Rattle.sstable_blocks.specs.Run.{form};
     ghost use Rattle.sstable_blocks.specs.Writing.{Writing, IsUnderWay};
 
@@ -52,7 +51,7 @@ impl<H: BlockHash, W: Write> Model for RunWriter<H, W> {
         w.start (W.contents w.writer) };
 }
 
-impl<H: BlockHash, W: Write> RunWriter<H, W> {
+impl<H: BlockHash, W: Output> RunWriter<H, W> {
     /// Makes a writer of a run. Both intervals and the denominator of the ratio are at least 1.
     pub fn new(alloc: Global, writer: W, config: RunConfig) -> RunWriter<H, W>
         requires writable { IsWritable config }
@@ -109,6 +108,8 @@ impl<H: BlockHash, W: Write> RunWriter<H, W> {
             (Appends (W.contents self.old.writer) (W.contents self.new.writer)
             (block_frame (form H.hash64 H.hash128 self.old.config) (map T.entry items.now))) }
         ensures untouched { IfErr result (λ e. e ≢ Io → self.new.writer ≡ self.old.writer) }
+        ensures writer { self.old.refusal ≡ None
+            → UsesWriter W.never_fails self.old.writer self.new.writer result }
         ensures cause { let f = form H.hash64 H.hash128 self.old.config in self.old.refusal ≡ None
             → IfErr result (IsWriteRefusal (FrameFits f (length (block_frames f self.old.blocks))
             (map T.entry items.now) → ⊥)) }
@@ -124,7 +125,7 @@ impl<H: BlockHash, W: Write> RunWriter<H, W> {
     }
 }
 
-impl<H: BlockHash, W: Write + Drop> RunWriter<H, W> {
+impl<H: BlockHash, W: Output + Drop> RunWriter<H, W> {
     /// Writes the index and the filter. Returns their handles, and the writer. A block was
     /// accepted, or one was refused.
     ///
@@ -139,6 +140,7 @@ impl<H: BlockHash, W: Write + Drop> RunWriter<H, W> {
         ensures sound { IfOk result (λ r. AppendsSound (hashes H.hash64 H.hash128) self.blocks
             self.start (W.contents r.1) r.0) }
         ensures repeated { IfSome self.refusal (λ e. result ≡ Err e) }
+        ensures failed { self.refusal ≡ None → IsErrOf result Io → W.never_fails self.writer → ⊥ }
         ensures cause { self.refusal ≡ None
             → IfErr result
             (IsWriteRefusal (RunFits (form H.hash64 H.hash128 self.config) self.blocks → ⊥)) }
@@ -187,6 +189,7 @@ impl<H: BlockHash, W: SyncWrite + Drop> RunWriter<H, W> {
             self.blocks self.start (W.contents r.2) r.0 r.1) }
         ensures synced { IfOk result (λ r. W.is_synced r.2) }
         ensures repeated { IfSome self.refusal (λ e. result ≡ Err e) }
+        ensures failed { self.refusal ≡ None → IsErrOf result Io → W.never_fails self.writer → ⊥ }
         ensures cause { self.refusal ≡ None → IfErr result
             (IsWriteRefusal (TableFits (form H.hash64 H.hash128 self.config) self.blocks → ⊥)) }
     {

@@ -11,5 +11,6 @@ invariant-loop-cut g l = record {
   so_far : l.core.blocks ++ blocks_from l.start (drop l.cut-index l.cuts) (map g.T.AsEntry.entry l.items) ≡ blocks_of l.cuts (map g.T.AsEntry.entry l.items);
   rest : l.rest ≡ drop l.start l.items;
   cuts_left : CutsLeft l.start (length l.items) (drop l.cut-index l.cuts);
+  reliable : g.W.Output.never_fails l.initial.writer → g.W.Output.never_fails l.writer;
   bytes : Appends (g.W.Write.contents l.initial.writer) (g.W.Write.contents l.writer) (block_frames (form g.H.BlockHash.hash64 g.H.BlockHash.hash128 l.core.config) l.core.blocks);
 }
