@@ -56,7 +56,11 @@ pub record IsTooLongLater (f : Form) (size : ℕ) (given : Option (List Entry)) 
   pub taken : IsTaken given passed left
   pub long : IsTooLong f size left
 
+-- some writer may fail
+abbrev pub MayFail : {W : Type 0} → (W → Type 0) → Type 0
+MayFail {W} never_fails = (w : W) × (never_fails w → ⊥)
+
 -- why the entries of a list are not all written: what tables are written into fails, a run does not fit, or the entries
 -- are not in order
-abbrev pub MayNotWriteAll : (Error → Type 0) → Form → ℕ → Option (List Entry) → Error → Type 0
-MayNotWriteAll outputs_fail f size given e = (outputs_fail e ⊎ (e ≡ Io)) ⊎ (((e ≡ TooLong) × IsTooLongLater f size given) ⊎ ((e ≡ OutOfOrder) × IsOutOfOrder given))
+abbrev pub MayNotWriteAll : (Error → Type 0) → Type 0 → Form → ℕ → Option (List Entry) → Error → Type 0
+MayNotWriteAll outputs_fail writer_fails f size given e = (outputs_fail e ⊎ ((e ≡ Io) × writer_fails)) ⊎ (((e ≡ TooLong) × IsTooLongLater f size given) ⊎ ((e ≡ OutOfOrder) × IsOutOfOrder given))

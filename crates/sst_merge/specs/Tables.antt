@@ -68,9 +68,9 @@ abbrev pub IsNoBlock : Form → List (List Entry) → List Entry → Error → T
 IsNoBlock f blocks block e = ((e ≡ TooLong) × (FrameFits f (length (block_frames f blocks)) block → ⊥)) ⊎ ((e ≡ OutOfOrder) × (Follows blocks block → ⊥))
 
 -- why the next block of a run is not written: its source fails, or the writer, or the items taken are no block of it
-abbrev pub MayNotAdd : {X : Type 0} → (Error → Type 0) → (X → Entry) → Form → List (List Entry) → ℕ → ℕ → Left X → List X → Left X → Error → Type 0
-MayNotAdd may_fail entry f blocks r size before block after e =
-    MayGive may_fail before e ⊎ ((e ≡ Io) ⊎ (TakesBlock entry r size before block after × IsNoBlock f blocks (map entry block) e))
+abbrev pub MayNotAdd : {X : Type 0} → (Error → Type 0) → Type 0 → (X → Entry) → Form → List (List Entry) → ℕ → ℕ → Left X → List X → Left X → Error → Type 0
+MayNotAdd may_fail writer_fails entry f blocks r size before block after e =
+    MayGive may_fail before e ⊎ (((e ≡ Io) × writer_fails) ⊎ (TakesBlock entry r size before block after × IsNoBlock f blocks (map entry block) e))
 
 -- the first entries of a list, cut into blocks by their size, do not fit a run
 pub record IsTooLong (f : Form) (size : ℕ) (given : Option (List Entry)) : Type 0 where
@@ -86,9 +86,9 @@ IsOutOfOrder given = IfSome given (λ xs. IsOrdered entries xs → ⊥)
 
 -- why the next table of a source is not written: its source fails, or the writer, or the run does not fit, or the
 -- entries are not in order
-abbrev pub MayNotWrite : {X : Type 0} → (Error → Type 0) → (X → Entry) → Form → ℕ → Left X → Error → Type 0
-MayNotWrite may_fail entry f size s e =
-    MayGive may_fail s e ⊎ ((e ≡ Io) ⊎ (((e ≡ TooLong) × IsTooLong f size (entries_in entry s.list)) ⊎ ((e ≡ OutOfOrder) × IsOutOfOrder (entries_in entry s.list))))
+abbrev pub MayNotWrite : {X : Type 0} → (Error → Type 0) → Type 0 → (X → Entry) → Form → ℕ → Left X → Error → Type 0
+MayNotWrite may_fail writer_fails entry f size s e =
+    MayGive may_fail s e ⊎ (((e ≡ Io) × writer_fails) ⊎ (((e ≡ TooLong) × IsTooLong f size (entries_in entry s.list)) ⊎ ((e ≡ OutOfOrder) × IsOutOfOrder (entries_in entry s.list))))
 
 -- a writer's known bytes grew by the layout of a run, whose entries were taken from a list. Each block ends with the entry
 -- with which it reaches its size, and the table with the first block with which it reaches its own and after which

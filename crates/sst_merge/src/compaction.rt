@@ -2,7 +2,7 @@
 ghost use Rattle.std.specs.Prelude.{◌≡◌, ◌⊎◌, [], Some, IfErr, OnOk};
 ghost use Rattle.std.specs.Option.{option_map};
 ghost use Rattle.sst_merge.specs.Compact.{compacted};
-ghost use Rattle.sst_merge.specs.Outputs.{AreWritten, MayNotWriteAll};
+ghost use Rattle.sst_merge.specs.Outputs.{AreWritten, MayFail, MayNotWriteAll};
 ghost use Rattle.sst_merge.specs.Sources.{MayGive};
 ghost use Rattle.sst_merge.specs.Tables.{entries_in};
 ghost use Rattle.sstable_blocks.specs.Run.{form, IsWritable};
@@ -35,7 +35,7 @@ fn all_tables<H: BlockHash, T: Ranked + AsEntry + Drop, I: Source<T>, O: Outputs
         (O.tables outputs.old) (O.tables outputs.new)) }
     ensures ended { OnOk result (source.new.ended ≡ source.old.ended) }
     ensures cause { IfErr result (λ e. MayGive I.may_fail source.old e
-        ⊎ MayNotWriteAll O.may_fail (form H.hash64 H.hash128 config) sizes.block
+        ⊎ MayNotWriteAll O.may_fail (MayFail O.Writer.never_fails) (form H.hash64 H.hash128 config) sizes.block
         (entries_in T.entry source.old.list) e) }
 {
     while source.peek().is_some() {
@@ -72,7 +72,7 @@ pub fn write_tables<H: BlockHash, T: Ranked + AsEntry + Drop, I: Source<T>, O: O
         (O.tables outputs.old) (O.tables outputs.new)) }
     ensures ended { EndsBy source.old.ended source.new.ended result }
     ensures cause { IfErr result (λ e. MayGive I.may_fail source.old e
-        ⊎ MayNotWriteAll O.may_fail (form H.hash64 H.hash128 config) sizes.block
+        ⊎ MayNotWriteAll O.may_fail (MayFail O.Writer.never_fails) (form H.hash64 H.hash128 config) sizes.block
         (entries_in T.entry source.old.list) e) }
 {
     if let Some(error) = source.end() {
@@ -116,7 +116,7 @@ pub fn compact_tables<
         (option_map (compacted T.entry snapshots.items (B.at_bottom bottom)) (I.left source).list))
         (option_map (λ _. []) (I.left source).list) (O.tables outputs.old) (O.tables outputs.new)) }
     ensures cause { IfErr result (λ e. MayGive I.may_fail (I.left source) e
-        ⊎ MayNotWriteAll O.may_fail (form H.hash64 H.hash128 config) sizes.block
+        ⊎ MayNotWriteAll O.may_fail (MayFail O.Writer.never_fails) (form H.hash64 H.hash128 config) sizes.block
         (entries_in T.entry (option_map (compacted T.entry snapshots.items (B.at_bottom bottom))
         (I.left source).list)) e) }
 {

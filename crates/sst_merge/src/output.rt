@@ -5,12 +5,11 @@ ghost use Rattle.sst_merge.specs.Outputs.{Output};
 
 use sst_base::Result;
 use sstable_blocks::RunHandles;
-use std::io::Write;
 
 /// Where an engine has its tables written: it opens a writer for each, and closes it.
 pub trait Outputs {
     /// What a table is written into.
-    type Writer: Write + Drop;
+    type Writer: sstable_blocks::Output + Drop;
 
     // The tables closed.
     ghost tables: { Self → List Output };

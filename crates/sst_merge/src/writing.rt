@@ -12,11 +12,10 @@ use crate::block_len::form_len;
 use crate::merge::Head;
 use crate::ranked::Ranked;
 use crate::source::Source;
-use sst_base::{BlockHash, Error, Result};
+use sst_base::{BlockHash, Error, Output, Result};
 use sst_block_core::AsEntry;
 use sstable_blocks::{RunConfig, RunHandles, RunWriter};
 use std::alloc::Global;
-use std::io::Write;
 
 /// How large blocks and tables become, in bytes of entries as they are encoded: of a key that is not
 /// the head of its restart interval only those count that the head's key has not, and pointers,
@@ -61,7 +60,7 @@ fn fill_block<T: Ranked + AsEntry + Drop, I: Source<T>>(
 }
 
 // Writes the next block of a table. Returns its size.
-fn add_block<H: BlockHash, T: Ranked + AsEntry + Drop, I: Source<T>, W: Write>(
+fn add_block<H: BlockHash, T: Ranked + AsEntry + Drop, I: Source<T>, W: Output>(
     alloc: Global,
     source: &mut Head<T, I>,
     run: &mut RunWriter<H, W>,
@@ -76,9 +75,10 @@ fn add_block<H: BlockHash, T: Ranked + AsEntry + Drop, I: Source<T>, W: Write>(
     ensures taken { OnOk result
         (TakesBlock T.entry interval size source.old block.new.items source.new) }
     ensures some { OnOk result (1 ≤ length block.new.items) }
-    ensures cause { IfErr result (MayNotAdd I.may_fail T.entry
+    ensures cause { IfErr result (MayNotAdd I.may_fail (W.never_fails run.old.writer → ⊥) T.entry
         (form H.hash64 H.hash128 run.old.config) run.old.blocks interval size source.old
         block.new.items source.new) }
+    ensures reliable { W.never_fails run.old.writer → W.never_fails run.new.writer }
     ensures len { IfOk result
         (λ len. len ≡ capped (block_len interval (map T.entry block.new.items))) }
 {
@@ -119,7 +119,7 @@ fn goes_on<T: Ranked + AsEntry + Drop, I: Source<T>>(
 }
 
 // Writes the next table of a source that no error ended.
-fn next_table<H: BlockHash, T: Ranked + AsEntry + Drop, I: Source<T>, W: Write + Drop>(
+fn next_table<H: BlockHash, T: Ranked + AsEntry + Drop, I: Source<T>, W: Output + Drop>(
     alloc: Global,
     source: &mut Head<T, I>,
     writer: W,
@@ -134,7 +134,7 @@ fn next_table<H: BlockHash, T: Ranked + AsEntry + Drop, I: Source<T>, W: Write +
     ensures done { IfOk result (λ r. IfNone r.0 (IfSome source.old.list (λ xs. xs ≡ []))) }
     ensures unwritten { IfOk result (λ r. IfNone r.0 (r.1 ≡ writer)) }
     ensures ended { OnOk result (source.new.ended ≡ source.old.ended) }
-    ensures cause { IfErr result (MayNotWrite I.may_fail T.entry
+    ensures cause { IfErr result (MayNotWrite I.may_fail (W.never_fails writer → ⊥) T.entry
         (form H.hash64 H.hash128 config) sizes.block source.old) }
     ensures no_more { OnOk result (MeetsNoMore source.old source.new) }
 {
@@ -162,7 +162,7 @@ fn next_table<H: BlockHash, T: Ranked + AsEntry + Drop, I: Source<T>, W: Write +
 /// Those of the source and of `RunWriter`; `Error::OutOfOrder` if the source is not in order. Each
 /// of them ends the source, since entries were taken of it that are in no table: each later step
 /// returns the error again.
-pub fn write_table<H: BlockHash, T: Ranked + AsEntry + Drop, I: Source<T>, W: Write + Drop>(
+pub fn write_table<H: BlockHash, T: Ranked + AsEntry + Drop, I: Source<T>, W: Output + Drop>(
     alloc: Global,
     source: &mut Head<T, I>,
     writer: W,
@@ -177,7 +177,7 @@ pub fn write_table<H: BlockHash, T: Ranked + AsEntry + Drop, I: Source<T>, W: Wr
     ensures done { IfOk result (λ r. IfNone r.0 (IfSome source.old.list (λ xs. xs ≡ []))) }
     ensures unwritten { IfOk result (λ r. IfNone r.0 (r.1 ≡ writer)) }
     ensures ended { EndsBy source.old.ended source.new.ended result }
-    ensures cause { IfErr result (MayNotWrite I.may_fail T.entry
+    ensures cause { IfErr result (MayNotWrite I.may_fail (W.never_fails writer → ⊥) T.entry
         (form H.hash64 H.hash128 config) sizes.block source.old) }
     ensures no_more { OnOk result (MeetsNoMore source.old source.new) }
 {

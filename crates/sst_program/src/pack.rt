@@ -1,13 +1,14 @@
 //! `pack`: a table file of all entries.
 ghost use Rattle.std.specs.Prelude.{◌≡◌, ◌≤◌, OnOk, IfOk, IfErr};
-ghost use Rattle.std.specs.Prelude.{IsOkUnless, length};
+ghost use Rattle.std.specs.Prelude.{IsErrOf, IsOkUnless, length};
 ghost use Rattle.std.specs.Prelude.{[], None, string_bytes};
+ghost use Rattle.sst_base.specs.declared.error.Error.TheVariants.{Io};
 ghost use Rattle.sst_block_core.specs.Entries.{entries};
 ghost use Rattle.sst_block_core.specs.Kind.{IsOrdered};
 ghost use Rattle.sst_program.specs.Outcome.{packed_text_of, PrintsPacked, PrintsNothing, IsPackFault};
 ghost use Rattle.sst_program.specs.Table.{IsCutBy, AppendsPacked, IsWriteFault};
 ghost use Rattle.sstable_blocks.specs.Run.{IsWritable};
-ghost use Rattle.sstable_blocks.specs.Writing.{IsSameRun};
+ghost use Rattle.sstable_blocks.specs.Writing.{IsSameRun, UsesWriter};
 
 use crate::fault::{self, Fault};
 use crate::input::ordered_entries;
@@ -15,7 +16,7 @@ use crate::output::print_text;
 use crate::replace::write_file;
 use crate::words::PackWords;
 use sstable_blocks::{
-    Error, InternalValue, LockFiles, Poly31, Result, RunConfig, RunWriter, SyncWrite,
+    Error, InternalValue, LockFiles, Output, Poly31, Result, RunConfig, RunWriter, SyncWrite,
 };
 use std::alloc::Global;
 use std::io::{Read, Write};
@@ -30,7 +31,7 @@ pub struct Packed {
 }
 
 // Writes the blocks of a run, each of `per_block` entries, the last perhaps of fewer.
-fn add_blocks<W: Write>(
+fn add_blocks<W: Output>(
     run: &mut RunWriter<Poly31, W>,
     items: &[InternalValue],
     per_block: usize,
@@ -42,6 +43,7 @@ fn add_blocks<W: Write>(
     ensures cut { OnOk result (IsCutBy per_block items.now run.new.blocks) }
     ensures accepting { OnOk result (run.new.refusal ≡ None) }
     ensures run { IsSameRun run.old run.new }
+    ensures writer { UsesWriter W.never_fails run.old.writer run.new.writer result }
     ensures cause { IfErr result (IsWriteFault run.old.config per_block items.now) }
 {
     let mut rest = items;
@@ -74,6 +76,7 @@ pub fn write_table<W: SyncWrite + Drop>(
     ensures table { IfOk result
         (λ r. AppendsPacked config per_block items.now (W.contents writer) (W.contents r.1) r.0) }
     ensures synced { IfOk result (λ r. W.is_synced r.1) }
+    ensures failed { IsErrOf result Io → W.never_fails writer → ⊥ }
     ensures cause { IfErr result (IsWriteFault config per_block items.now) }
 {
     let mut run = RunWriter::<Poly31, W>::new(alloc, writer, config);

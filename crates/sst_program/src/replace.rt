@@ -1,6 +1,7 @@
 //! Table files that `sst` writes: a new one, which then takes the place of the old one, or, where the
 //! name is no regular file's, in place.
-ghost use Rattle.std.specs.Prelude.{◌≡◌, ◌≤◌, length, IfOk, IfErr};
+ghost use Rattle.std.specs.Prelude.{◌≡◌, ◌≤◌, length, IfOk, IfErr, IsErrOf};
+ghost use Rattle.sst_base.specs.declared.error.Error.TheVariants.{Io};
 ghost use Rattle.sst_block_core.specs.Entries.{entries};
 ghost use Rattle.sst_block_core.specs.Kind.{IsOrdered};
 ghost use Rattle.sst_program.specs.Table.{IsPacked, IsWriteFault};
@@ -24,6 +25,7 @@ fn write_to<W: SyncWrite + Drop>(
     requires some { 1 ≤ length items.now }
     requires ordered { IsOrdered entries items.now }
     ensures table { IfOk result (IsPacked words.now.config words.now.per_block items.now) }
+    ensures failed { IsErrOf result Io → W.never_fails writer → ⊥ }
     ensures cause { IfErr result
         (IsWriteFault words.now.config words.now.per_block items.now) }
 {

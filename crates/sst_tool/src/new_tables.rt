@@ -5,7 +5,9 @@ use crate::fault::{Cause, Fault, Result};
 use crate::words::{FORCE, OUT, TABLE_SIZE};
 use clap::ArgMatches;
 use sst_merge::Outputs;
-use sstable_blocks::{BufferedFile, Error, LockFiles, NewFile, RunHandles, SyncWrite, end_table};
+use sstable_blocks::{
+    BufferedFile, Error, LockFiles, NewFile, Output, RunHandles, SyncWrite, end_table,
+};
 use std::alloc::{AllocError, Global};
 use std::cell::Cell;
 use std::io::Write;
@@ -36,6 +38,12 @@ impl<'c, W: SyncWrite + Drop> Write for NotedFile<'c, W> {
 
     fn flush(&mut self) -> io::Result<()> {
         noted(self.cause, self.file.flush())
+    }
+}
+
+impl<'c, W: SyncWrite + Drop> Output for NotedFile<'c, W> {
+    fn put(&mut self, bytes: &[u8]) -> io::Result<()> {
+        noted(self.cause, self.file.put(bytes))
     }
 }
 

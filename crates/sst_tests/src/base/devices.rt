@@ -4,6 +4,7 @@ ghost use Rattle.std.specs.Prelude.{◌≤◌, length};
 
 use sst_base::error::Result;
 use sst_base::input::{Input, SeekInput, append_exact};
+use sst_base::output::Output;
 use std::io;
 use std::io::{ErrorKind, Read, Seek, SeekFrom, Write};
 
@@ -112,6 +113,12 @@ impl SlowWriter {
             failure,
             flushes: 0,
         }
+    }
+}
+
+impl Output for SlowWriter {
+    fn put(&mut self, bytes: &[u8]) -> io::Result<()> {
+        self.write_all(bytes)
     }
 }
 

@@ -3,7 +3,7 @@ ghost use Rattle.std.specs.Prelude.{None};
 
 use crate::Tested;
 use crate::merges::lists::{Memory, Row, V, list_of, push_made};
-use sst_base::{ByteSum, Error, HashRatio, InternalValue, Result, SeqNo, UserKey};
+use sst_base::{ByteSum, Error, HashRatio, InternalValue, Output, Result, SeqNo, UserKey};
 use sst_merge::{
     Compact, Head, Merge, Ranked, Rev, Reversed, Sizes, Snapshot, Source, write_table,
 };
@@ -275,6 +275,12 @@ fn a_version_is_not_passed_by_a_failed_step(rt: HostRuntime) -> Tested {
 #[derive(Drop)]
 struct Full;
 
+impl Output for Full {
+    fn put(&mut self, bytes: &[u8]) -> io::Result<()> {
+        self.write_all(bytes)
+    }
+}
+
 impl Write for Full {
     fn write(&mut self, _buf: &[u8]) -> io::Result<usize> {
         Ok(0)
@@ -286,7 +292,7 @@ impl Write for Full {
 }
 
 /// Writes the next table of a source.
-fn written<I: Source<InternalValue>, W: Write + Drop>(
+fn written<I: Source<InternalValue>, W: Output + Drop>(
     alloc: Global,
     source: &mut Head<InternalValue, I>,
     writer: W,
@@ -310,7 +316,7 @@ fn has_ended<I: Source<InternalValue>>(
 }
 
 /// The error of writing a table of a source, and whether the source has then ended with this one.
-fn ends_by<I: Source<InternalValue> + Drop, W: Write + Drop>(
+fn ends_by<I: Source<InternalValue> + Drop, W: Output + Drop>(
     alloc: Global,
     source: I,
     writer: W,

@@ -7,7 +7,7 @@ use crate::runs::lists::{NO_BUCKETS, can_be_written};
 use crate::runs::written::{
     THREE, THREE_BLOCKS, list_of, value_of, worked_handles, write_in_blocks,
 };
-use sst_base::{BlockHandle, ByteSum, Count, Error, InternalValue, Result, Slice};
+use sst_base::{BlockHandle, ByteSum, Count, Error, InternalValue, Output, Result, Slice};
 use sstable_blocks::Table;
 use sstable_blocks::run::{
     FileSource, FrameSource, MemorySource, RunConfig, RunHandles, RunWriter, Scan,
@@ -203,6 +203,12 @@ struct Room {
     left: usize,
 }
 
+impl Output for Room {
+    fn put(&mut self, bytes: &[u8]) -> io::Result<()> {
+        self.write_all(bytes)
+    }
+}
+
 impl Write for Room {
     fn write(&mut self, buf: &[u8]) -> io::Result<usize> {
         if self.left == 0 {
@@ -227,7 +233,7 @@ impl Write for Room {
 type Added = ([Result<()>; 3], usize, Option<Error>);
 
 /// Adds entries as blocks to a writer, one in each.
-fn add_each<W: Write>(
+fn add_each<W: Output>(
     writer: &mut RunWriter<ByteSum, W>,
     list: &[InternalValue],
 ) -> Result<[Result<()>; 3]> {
@@ -242,7 +248,7 @@ fn add_each<W: Write>(
 }
 
 /// Adds entries as blocks to a writer.
-fn add_list<W: Write + Drop>(alloc: Global, to: W, list: &[InternalValue]) -> Result<Added> {
+fn add_list<W: Output + Drop>(alloc: Global, to: W, list: &[InternalValue]) -> Result<Added> {
     let mut writer = RunWriter::new(alloc, to, RunConfig::new(1, NO_BUCKETS, 10));
     let answers = add_each(&mut writer, list);
     let count = writer.block_count();

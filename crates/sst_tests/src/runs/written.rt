@@ -3,10 +3,11 @@ ghost use Rattle.std.specs.Prelude.{◌≤◌};
 ghost use Rattle.sstable_blocks.specs.Run.{IsWritable};
 
 use crate::runs::lists::push;
-use sst_base::{BlockHandle, BlockOffset, ByteSum, Error, InternalValue, Result, ValueType};
+use sst_base::{
+    BlockHandle, BlockOffset, ByteSum, Error, InternalValue, Output, Result, ValueType,
+};
 use sstable_blocks::run::{RunConfig, RunHandles, RunWriter};
 use std::alloc::Global;
-use std::io::Write;
 
 // (a, x, 3), (a, y, 1) and (b, z, 4) in a block each, with index and filter.
 pub(crate) const THREE_BLOCKS: [u8; 368] = [
@@ -67,7 +68,7 @@ pub(crate) fn value_of(found: &Option<InternalValue>) -> Option<u8> {
 }
 
 /// Adds entries to a writer, so many in each block. After a block is refused, each further one is.
-fn add_blocks<W: Write>(
+fn add_blocks<W: Output>(
     writer: &mut RunWriter<ByteSum, W>,
     list: &[InternalValue],
     len: usize,
@@ -89,7 +90,7 @@ fn add_blocks<W: Write>(
 }
 
 /// Writes a run of entries, so many in each block.
-pub(crate) fn write_in_blocks<W: Write + Drop>(
+pub(crate) fn write_in_blocks<W: Output + Drop>(
     alloc: Global,
     to: W,
     list: &[InternalValue],

@@ -3,7 +3,7 @@ use Rattle.std.specs.Option.{IfSome}
 use Rattle.sstable_blocks.specs.Run.{form}
 use Rattle.sst_merge.specs.OutputLaws.{none_written, one_written, all_written}
 use Rattle.sst_merge.specs.MappedLaws.{after_entries, none_entries}
-use Rattle.sst_merge.specs.Outputs.{AreWritten, Output, entries_of}
+use Rattle.sst_merge.specs.Outputs.{AreWritten, MayFail, Output, entries_of}
 use Rattle.std.proofs.lemmas.Result.{err_from_is_err_and}
 use Rattle.sst_merge.specs.WriteLaws.{not_all}
 use Rattle.sst_merge.specs.SourceLaws.{same_end}
@@ -50,5 +50,5 @@ pub returns-in_err-table-clause-cause : goal.returns-in_err-table-clause-cause
 returns-in_err-table-clause-cause g c =
     let inv = c.loop-alloc.invariant in
     let p = err_from_is_err_and c.from_residual-in_err-table.result c.from_residual-in_err-table.ensures.1 in
-    rw (p.1, p.2) (not_all g.I.Source.may_fail g.O.Outputs.may_fail g.T.AsEntry.entry (form g.H.BlockHash.hash64 g.H.BlockHash.hash128 c.args.config) c.args.sizes.block c.args.source.now c.loop-alloc.source
+    rw (p.1, p.2) (not_all g.I.Source.may_fail g.O.Outputs.may_fail _ (MayFail g.O.Writer.Output.never_fails) (λ fails. (c.in_ok-writer.writer, fails)) g.T.AsEntry.entry (form g.H.BlockHash.hash64 g.H.BlockHash.hash128 c.args.config) c.args.sizes.block c.args.source.now c.loop-alloc.source
     (entries_of inv.written.runs) c.in_err-table.field-0.0 inv.written.taken inv.no_more c.in_err-table.ensures.cause)

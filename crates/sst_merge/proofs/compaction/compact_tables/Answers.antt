@@ -5,7 +5,7 @@ use Rattle.sst_base.specs.Entry.{Entry}
 use Rattle.sstable_blocks.specs.Run.{form}
 use Rattle.sst_merge.specs.Compact.{compacted}
 use Rattle.sst_merge.specs.OutputLaws.{none_after}
-use Rattle.sst_merge.specs.Outputs.{AreWritten}
+use Rattle.sst_merge.specs.Outputs.{AreWritten, MayFail}
 use Rattle.sst_merge.specs.WriteLaws.{changed_fails}
 use Rattle.sst_merge.specs.Tables.{entries_in}
 use Rattle.sst_merge.proofs.compaction.compact_tables.Goals as goal
@@ -20,5 +20,5 @@ returns g c =
     let P = λ (before after : Option (List Entry)). OnOk c.write_tables.result (AreWritten f c.args.sizes g.O.Outputs.start before after (g.O.Outputs.tables c.args.outputs.now) (g.O.Outputs.tables c.write_tables.new.outputs)) in
     record {
       written = subst (P (entries_in entry (option_map kept given))) (none_after kept given) (subst (λ o. P (entries_in entry o) (option_map (λ _. []) o)) same c.write_tables.ensures.written);
-      cause = changed_fails g.I.Source.may_fail g.O.Outputs.may_fail entry f c.args.sizes.block kept (g.I.Source.left c.args.source) c.new-compacted.result c.in_ok-head.head c.write_tables.result c.new-compacted.ensures c.in_ok-head.ensures.no_more same c.write_tables.ensures.cause;
+      cause = changed_fails g.I.Source.may_fail g.O.Outputs.may_fail (MayFail g.O.Writer.Output.never_fails) entry f c.args.sizes.block kept (g.I.Source.left c.args.source) c.new-compacted.result c.in_ok-head.head c.write_tables.result c.new-compacted.ensures c.in_ok-head.ensures.no_more same c.write_tables.ensures.cause;
     }

@@ -35,6 +35,7 @@ loop-alloc-preserved g c =
       interval = before.interval;
       start = added.run.start ∙ before.start;
       accepting = added.added.accepting;
+      reliable = λ n. added.reliable (before.reliable n);
       some = subst (λ (bs : List (List Entry)). 1 ≤ length bs) (sym added.added.blocks) (some_push c.loop-alloc.run.blocks block);
       last = (c.loop-alloc.run.blocks, added.added.blocks);
       entries = added.some;
@@ -90,6 +91,7 @@ loop-alloc-init g c =
       interval = refl;
       start = added.run.start ∙ ap (λ (w : Writing g.row.W.Denot). w.start) c.new-run.ensures;
       accepting = added.added.accepting;
+      reliable = λ n. added.reliable (subst g.W.Output.never_fails (sym (ap (λ (w : Writing g.row.W.Denot). w.writer) c.new-run.ensures)) n);
       some = subst (λ (bs : List (List Entry)). 1 ≤ length bs) (sym blocks) (omega arith);
       last = ([], blocks);
       entries = added.some;
@@ -111,9 +113,9 @@ returns-in_err-len-clause-cause g c =
     let block = c.add_block.new.block.items in
     let after = c.add_block.new.source in
     let p = err_from_is_err_and c.from_residual.result c.from_residual.ensures.1 in
-    let fails : MayNotAdd g.I.Source.may_fail entry (f c.args.config) [] c.args.config.restart_interval c.args.sizes.block given block after c.in_err-len.field-0.0 =
-    subst (λ (w : Writing g.row.W.Denot). MayNotAdd g.I.Source.may_fail entry (f w.config) w.blocks c.args.config.restart_interval c.args.sizes.block given block after c.in_err-len.field-0.0) c.new-run.ensures c.in_err-len.ensures.cause in
-    rw (p.1, p.2) (not_added g.I.Source.may_fail entry (f c.args.config) c.args.sizes.block given [] given after block c.in_err-len.field-0.0 (taken_none (entries_in entry given.list)) tt (λ e met. met)
+    let fails : MayNotAdd g.I.Source.may_fail (g.W.Output.never_fails c.args.writer → ⊥) entry (f c.args.config) [] c.args.config.restart_interval c.args.sizes.block given block after c.in_err-len.field-0.0 =
+    subst (λ (w : Writing g.row.W.Denot). MayNotAdd g.I.Source.may_fail (g.W.Output.never_fails w.writer → ⊥) entry (f w.config) w.blocks c.args.config.restart_interval c.args.sizes.block given block after c.in_err-len.field-0.0) c.new-run.ensures c.in_err-len.ensures.cause in
+    rw (p.1, p.2) (not_added g.I.Source.may_fail (g.W.Output.never_fails c.args.writer → ⊥) entry (f c.args.config) c.args.sizes.block given [] (g.W.Output.never_fails c.args.writer → ⊥) (λ fails. fails) given after block c.in_err-len.field-0.0 (taken_none (entries_in entry given.list)) tt (λ e met. met)
     (some_first (λ r. r.now) given.list c.peek.result c.peek.ensures.first c.if-is_none.ensures) fails)
 
 pub returns-in_err-added-clause-cause : goal.returns-in_err-added-clause-cause
@@ -126,5 +128,5 @@ returns-in_err-added-clause-cause g c =
     let block = c.add_block-in-loop-alloc.new.block.items in
     let after = c.add_block-in-loop-alloc.new.source in
     let p = err_from_is_err_and c.from_residual-in_err-added.result c.from_residual-in_err-added.ensures.1 in
-    let fails = subst (λ config. MayNotAdd g.I.Source.may_fail entry (f config) blocks c.args.config.restart_interval c.args.sizes.block now block after c.in_err-added.field-0.0) inv.config c.in_err-added.ensures.cause in
-    rw (p.1, p.2) (not_added g.I.Source.may_fail entry (f c.args.config) c.args.sizes.block c.args.source.now blocks now after block c.in_err-added.field-0.0 inv.taken inv.filled inv.no_more (c.goes_on.ensures.some c.loop-alloc-test.true) fails)
+    let fails = subst (λ config. MayNotAdd g.I.Source.may_fail (g.W.Output.never_fails c.loop-alloc.run.writer → ⊥) entry (f config) blocks c.args.config.restart_interval c.args.sizes.block now block after c.in_err-added.field-0.0) inv.config c.in_err-added.ensures.cause in
+    rw (p.1, p.2) (not_added g.I.Source.may_fail (g.W.Output.never_fails c.args.writer → ⊥) entry (f c.args.config) c.args.sizes.block c.args.source.now blocks (g.W.Output.never_fails c.loop-alloc.run.writer → ⊥) (λ fails n. fails (inv.reliable n)) now after block c.in_err-added.field-0.0 inv.taken inv.filled inv.no_more (c.goes_on.ensures.some c.loop-alloc-test.true) fails)

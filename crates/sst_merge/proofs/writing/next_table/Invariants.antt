@@ -13,6 +13,7 @@ invariant-loop-alloc g l = record {
   interval : l.interval ≡ l.fn.config.restart_interval;
   start : l.run.start ≡ g.W.Write.contents l.fn.writer;
   accepting : l.run.refusal ≡ None;
+  reliable : g.W.Output.never_fails l.fn.writer → g.W.Output.never_fails l.run.writer;
   some : 1 ≤ length l.run.blocks;
   last : (front : List (List Entry)) × (l.run.blocks ≡ front ++ map g.T.AsEntry.entry l.block.items ∷ []);
   entries : 1 ≤ length l.block.items;

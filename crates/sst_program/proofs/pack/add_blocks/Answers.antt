@@ -28,6 +28,7 @@ loop-rest-preserved g c =
       config = e.run.config ∙ i.config;
       start = e.run.start ∙ i.start;
       accepting = e.refusal;
+      reliable = λ n. (e.writer i.accepting).1 (i.reliable n);
       all = rw blocks (all-next c.loop-rest.run.blocks c.split_at.result.0.now c.split_at.result.1.now c.loop-rest.rest.now c.args.items.now i.all c.split_at.ensures.by_index.0);
       sizes = rw blocks (size-next c.args.per_block c.loop-rest.run.blocks c.split_at.result.0.now (i.full some) front most);
       full = λ more. rw blocks (full-next c.args.per_block c.loop-rest.run.blocks c.split_at.result.0.now (i.full some) (omega (arith, c.split_at.ensures.front_len, c.split_at.ensures.back_len, c.min.ensures, more)));

@@ -10,6 +10,7 @@ invariant-loop-rest g l = record {
   config : l.run.config ≡ l.initial.run.config;
   start : l.run.start ≡ l.initial.run.start;
   accepting : l.run.refusal ≡ None;
+  reliable : g.W.Output.never_fails l.initial.run.writer → g.W.Output.never_fails l.run.writer;
   all : joined l.run.blocks ++ l.rest ≡ l.items;
   sizes : HaveSize l.per_block l.run.blocks;
   full : 1 ≤ length l.rest → AreFull l.per_block l.run.blocks;
