@@ -81,9 +81,9 @@ module _ {X : Type 0} (may_fail : Error → Type 0) (fails : Type 0) (entry : X 
   -- why a block is not written, of a table
   pub not_added : (now_fails : Type 0) → (now_fails → fails) → (before after : Left X) (block : List X) (e : Error) → IsTaken (entries_in entry given.list) (joined blocks) (entries_in entry before.list) → AllByRecursion (IsFilled f.config.restart_interval size (entries_in entry before.list)) blocks
       → MeetsNoMore given before → IfSome before.list (λ xs. 1 ≤ length xs) → MayNotAdd may_fail now_fails entry f blocks f.config.restart_interval size before block after e → MayNotWrite may_fail fails entry f size given e
-  not_added now_fails as before after block e taken filled less here (inl gives) = inl (gives_more may_fail given before e less gives)
-  not_added now_fails as before after block e taken filled less here (inr (inl io)) = inr (inl (io.0, as io.1))
-  not_added now_fails as before after block e taken filled less here (inr (inr (took, inl long))) =
+  not_added now_fails more before after block e taken filled less here (inl gives) = inl (gives_more may_fail given before e less gives)
+  not_added now_fails more before after block e taken filled less here (inr (inl io)) = inr (inl (io.0, more io.1))
+  not_added now_fails more before after block e taken filled less here (inr (inr (took, inl long))) =
       let now = entries_taken entry before.list after.list block took.taken in
       inr (inr (inl (
         long.0,
@@ -95,23 +95,23 @@ module _ {X : Type 0} (may_fail : Error → Type 0) (fails : Type 0) (entry : X 
           long = λ fits. long.1 (fits_one f blocks (map entry block) [] fits);
         },
       )))
-  not_added now_fails as before after block e taken filled less here (inr (inr (took, inr order))) =
+  not_added now_fails more before after block e taken filled less here (inr (inr (took, inr order))) =
       inr (inr (inr (order.0, order_fails entry (entries_in entry given.list) before.list after.list blocks block taken took.taken (some_taken entry before.list after.list block took.taken took.some here) order.1)))
 
   -- why a run is not ended, of a table
   pub not_finished : (now : Left X) (e : Error) → IsTaken (entries_in entry given.list) (joined blocks) (entries_in entry now.list) → AllByRecursion (IsFilled f.config.restart_interval size (entries_in entry now.list)) blocks
       → (e ≡ Io → fails) → IsWriteRefusal (RunFits f blocks → ⊥) e → MayNotWrite may_fail fails entry f size given e
-  not_finished now e taken filled as (inl io) = inr (inl (io, as io))
-  not_finished now e taken filled as (inr (inl long)) = inr (inr (inl (long.0, record { blocks = blocks; rest = entries_in entry now.list; taken = taken; filled = filled; long = long.1 })))
-  not_finished now e taken filled as (inr (inr memory)) = inl (inl memory)
+  not_finished now e taken filled may (inl io) = inr (inl (io, may io))
+  not_finished now e taken filled may (inr (inl long)) = inr (inr (inl (long.0, record { blocks = blocks; rest = entries_in entry now.list; taken = taken; filled = filled; long = long.1 })))
+  not_finished now e taken filled may (inr (inr memory)) = inl (inl memory)
 
 -- why a later table is not written, of all
 pub not_all : {X : Type 0} (may_fail outputs_fail : Error → Type 0) (now_fails fails : Type 0) → (now_fails → fails) → (entry : X → Entry) (f : Form) (size : ℕ) (given now : Left X) (passed : List Entry) (e : Error) → IsTaken (entries_in entry given.list) passed (entries_in entry now.list) → MeetsNoMore given now → MayNotWrite may_fail now_fails entry f size now e
     → MayGive may_fail given e ⊎ MayNotWriteAll outputs_fail fails f size (entries_in entry given.list) e
-not_all may_fail outputs_fail now_fails fails as entry f size given now passed e taken less (inl gives) = inl (gives_more may_fail given now e less gives)
-not_all may_fail outputs_fail now_fails fails as entry f size given now passed e taken less (inr (inl io)) = inr (inl (inr (io.0, as io.1)))
-not_all may_fail outputs_fail now_fails fails as entry f size given now passed e taken less (inr (inr (inl long))) = inr (inr (inl (long.0, record { passed = passed; left = entries_in entry now.list; taken = taken; long = long.1 })))
-not_all may_fail outputs_fail now_fails fails as entry f size given now passed e taken less (inr (inr (inr order))) = inr (inr (inr (order.0, out_of_order_later (entries_in entry given.list) (entries_in entry now.list) passed taken order.1)))
+not_all may_fail outputs_fail now_fails fails more entry f size given now passed e taken less (inl gives) = inl (gives_more may_fail given now e less gives)
+not_all may_fail outputs_fail now_fails fails more entry f size given now passed e taken less (inr (inl io)) = inr (inl (inr (io.0, more io.1)))
+not_all may_fail outputs_fail now_fails fails more entry f size given now passed e taken less (inr (inr (inl long))) = inr (inr (inl (long.0, record { passed = passed; left = entries_in entry now.list; taken = taken; long = long.1 })))
+not_all may_fail outputs_fail now_fails fails more entry f size given now passed e taken less (inr (inr (inr order))) = inr (inr (inr (order.0, out_of_order_later (entries_in entry given.list) (entries_in entry now.list) passed taken order.1)))
 
 -- why what is left of a changed list is not written, of the list
 pub changed_fails : {X : Type 0} (may_fail outputs_fail : Error → Type 0) (fails : Type 0) (entry : X → Entry) (f : Form) (size : ℕ) (kept : List X → List X) (s made head : Left X) (r : Result (Unit {0}) Error) → made ≡ left_as kept None s → MeetsNoMore made head → head.list ≡ option_map kept s.list
