@@ -139,6 +139,7 @@ impl<H: BlockHash, W: Output + Drop> RunWriter<H, W> {
             self.blocks self.start (W.contents r.1) r.0) }
         ensures sound { IfOk result (λ r. AppendsSound (hashes H.hash64 H.hash128) self.blocks
             self.start (W.contents r.1) r.0) }
+        ensures reliable { IfOk result (λ r. W.never_fails self.writer → W.never_fails r.1) }
         ensures repeated { IfSome self.refusal (λ e. result ≡ Err e) }
         ensures failed { self.refusal ≡ None → IsErrOf result Io → W.never_fails self.writer → ⊥ }
         ensures cause { self.refusal ≡ None
