@@ -13,7 +13,7 @@ use Rattle.sst_block_core.specs.Kind.{IsOrdered, item_cmp}
 use Rattle.sstable_blocks.specs.Blocks.{joined}
 use Rattle.sstable_blocks.specs.Run.{Form, RunFits}
 use Rattle.sstable_blocks.specs.RunLaws.{fits_one}
-use Rattle.sstable_blocks.specs.Writing.{Follows, IsWriteRefusal}
+use Rattle.sstable_blocks.specs.Writing.{Follows}
 use Rattle.sst_merge.specs.ErrorLaws.{as_gives}
 use Rattle.sst_merge.specs.Outputs.{MayNotWriteAll}
 use Rattle.sst_merge.specs.SizeLaws.{filled_more}
@@ -97,13 +97,6 @@ module _ {X : Type 0} (may_fail : Error → Type 0) (fails : Type 0) (entry : X 
       )))
   not_added now_fails more before after block e taken filled less here (inr (inr (took, inr order))) =
       inr (inr (inr (order.0, order_fails entry (entries_in entry given.list) before.list after.list blocks block taken took.taken (some_taken entry before.list after.list block took.taken took.some here) order.1)))
-
-  -- why a run is not ended, of a table
-  pub not_finished : (now : Left X) (e : Error) → IsTaken (entries_in entry given.list) (joined blocks) (entries_in entry now.list) → AllByRecursion (IsFilled f.config.restart_interval size (entries_in entry now.list)) blocks
-      → (e ≡ Io → fails) → IsWriteRefusal (RunFits f blocks → ⊥) e → MayNotWrite may_fail fails entry f size given e
-  not_finished now e taken filled may (inl io) = inr (inl (io, may io))
-  not_finished now e taken filled may (inr (inl long)) = inr (inr (inl (long.0, record { blocks = blocks; rest = entries_in entry now.list; taken = taken; filled = filled; long = long.1 })))
-  not_finished now e taken filled may (inr (inr memory)) = inl (inl memory)
 
 -- why a later table is not written, of all
 pub not_all : {X : Type 0} (may_fail outputs_fail : Error → Type 0) (now_fails fails : Type 0) → (now_fails → fails) → (entry : X → Entry) (f : Form) (size : ℕ) (given now : Left X) (passed : List Entry) (e : Error) → IsTaken (entries_in entry given.list) passed (entries_in entry now.list) → MeetsNoMore given now → MayNotWrite may_fail now_fails entry f size now e
