@@ -11,7 +11,7 @@ use Rattle.sst_base.specs.declared.error.Error.{Error}
 use Rattle.sst_block_core.specs.Entries.{entries}
 use Rattle.sst_block_core.specs.Kind.{IsOrdered, item_cmp}
 use Rattle.sstable_blocks.specs.Blocks.{joined}
-use Rattle.sstable_blocks.specs.Run.{Form, RunFits}
+use Rattle.sstable_blocks.specs.Run.{Form}
 use Rattle.sstable_blocks.specs.RunLaws.{fits_one}
 use Rattle.sstable_blocks.specs.Writing.{Follows}
 use Rattle.sst_merge.specs.ErrorLaws.{as_gives}
