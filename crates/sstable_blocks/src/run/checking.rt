@@ -176,7 +176,7 @@ fn first_key_with<H: BlockHash>(
     }
     match block.entries().next() {
         None => Ok(first),
-        Some(entry) => entry.to_user_key(alloc),
+        Some(entry) => Ok(entry.to_user_key(alloc)?),
     }
 }
 
