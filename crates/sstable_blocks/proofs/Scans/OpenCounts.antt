@@ -39,11 +39,11 @@ handle_last before between after q i heads entries counts handle =
     record { heads = omega (arith, h, x); entries = omega (arith, n, y) }
 
 module _ (before after : Counted) (n : ℕ) (old new : Tally) (counts : CountsExactly before after old.heads (old.entries + n)) where
-  pub opened_adds : Adds (tally_sum (tally_by before) old none) (tally_sum (tally_by after) new none) 0
-  opened_adds =
+  pub opened_adds : 1 ≤ n → Adds (tally_sum (tally_by before) old none) (tally_sum (tally_by after) new none) 1
+  opened_adds some =
       let h = counts.heads in
       let m = counts.entries in
-      record { heads = omega (arith, h); entries = omega (arith, m) }
+      record { heads = omega (arith, h); entries = omega (arith, m, some) }
 
   pub opened_upto : (q : ℕ) (most : Tally) → n ≤ q → old.entries ≤ old.due → IsUpTo new most → AddsUpTo (tally_sum (tally_by before) old none) (tally_sum (tally_by after) new none) (with_handles q most)
   opened_upto q most few less upto =
@@ -75,7 +75,7 @@ module _ (q : ℕ) (hs : List Handle) (i : ℕ) (inside : i < length hs) (before
 
   -- where a block is refused, only its handle is counted
   module _ (handle : CountsHandle before after q i) where
-    pub refused_adds : Adds (tally_sum (tally_by before) old none) (tally_sum (tally_by after) old none) 0
+    pub refused_adds : Adds (tally_sum (tally_by before) old none) (tally_sum (tally_by after) old none) 1
     refused_adds =
         let h = handle.exact.heads in
         let n = handle.exact.entries in

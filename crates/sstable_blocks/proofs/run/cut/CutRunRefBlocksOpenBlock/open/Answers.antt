@@ -33,6 +33,6 @@ returns-clause-counts g c =
     let counts = handle_last s.steps c.add_steps.new.steps after q c.args.index old.heads old.entries c.add_steps.ensures c.open_at.ensures.counts in
     let inside = subst (λ v. c.args.index < run_reading.len v) (sym c.self.view_is) c.requires.inside in
     subst (λ v. OpensPaid run_reading v c.args.index (tally_all scan_tally (tally_by v.steps) c.args.block.now None) (tally_all scan_tally (tally_by after) c.open_at.new.opened None)) c.self.view_is (record {
-      adds = opened_adds s.steps after _ old new counts;
+      adds = opened_adds s.steps after _ old new counts (omega arith);
       paid = run_paid q (index_in s.run.bytes s.run.handles.index) c.args.index inside s.steps after old new counts c.open_at.ensures.counts.most (due_more c.args.block.now) s.run.bytes c.open_at.ensures.cost;
     })

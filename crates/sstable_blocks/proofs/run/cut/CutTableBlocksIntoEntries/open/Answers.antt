@@ -66,7 +66,7 @@ returns-clause-counts g c =
     let counts = handle_first s.steps c.cut_block.new.steps after s.run.interval c.args.index old.heads old.entries e.counts c.add_steps.ensures in
     let inside = subst (λ v. c.args.index < length v.run.index) (sym c.self.view_is) c.requires.inside in
     subst (λ v. OpensPaid (table_reading h f.bytes f.failures f.reads f.is_reliable) v c.args.index (tally_all scan_tally (tally_by v.steps) c.args.block.now None) (tally_all scan_tally (tally_by after) (Some c.in_ok-entries.entries) None)) c.self.view_is (record {
-      adds = opened_adds s.steps after _ old new counts;
+      adds = opened_adds s.steps after _ old new counts (omega arith);
       paid = table_paid s.run.interval s.run.index c.args.index inside s.steps after old new counts e.counts.most (due_more c.args.block.now) (f.bytes s.run.source) e.cost;
     })
 
