@@ -68,7 +68,7 @@ fn held_at<H: BlockHash, S: FrameSource>(
     requires { number < length table.old.index }
     ensures { table.new.index ≡ table.old.index }
 {
-    match table.block_at(alloc, number) {
+    match table.block_at(alloc, number, &mut Steps::new()) {
         Ok(block) => held_in(alloc, &block),
         Err(error) => Err(error),
     }

@@ -54,9 +54,10 @@ pub record AddsUpTo (old new most : Tally) : Type 0 where
   pub entries : new.entries ≤ old.entries + most.entries
   pub due : new.due ≤ old.due + most.due
 
--- a block was opened: nothing that was counted is forgotten, and what is added is at most what the block costs
+-- a block was opened: nothing that was counted is forgotten, its handle is counted, and what is added is at most what the
+-- block costs
 pub record OpensPaid {S X : Type 0} (r : Reading S X) (s : S) (index : ℕ) (old new : Tally) : Type 0 where
-  pub adds : Adds old new 0
+  pub adds : Adds old new 1
   pub paid : IfSome (r.cost s) (λ cost. AddsUpTo old new (cost index))
 
 -- a list, seen_from from its back or its front

@@ -1,7 +1,7 @@
 -- How little a read of a run examines.
-use Rattle.std.specs.Prelude.{ℕ, ◌+◌, ◌==◌, ◌≤◌, if◌then◌else◌, List, length, slice_get, Option, Some, None}
+use Rattle.std.specs.Prelude.{ℕ, ◌+◌, ◌%◌, ◌==◌, ◌≤◌, if◌then◌else◌, List, length, slice_get, Option, Some, None}
 use Rattle.sst_base.specs.BlockHandle.{HandleParts}
-use Rattle.sst_base.specs.Counted.{Counted, CountsBetween}
+use Rattle.sst_base.specs.Counted.{Counted, CountsBetween, CountsExactly}
 use Rattle.sst_base.specs.Entry.{Entry}
 use Rattle.sst_block_core.specs.Entries.{entries}
 use Rattle.sst_block_core.specs.Intervals.{digits}
@@ -18,6 +18,12 @@ use Rattle.sstable_blocks.specs.declared.run.RunHandles.{RunHandles}
 pub record CountsGrow (old new : Counted) : Type 0 where
   pub heads : old.heads ≤ new.heads
   pub entries : old.entries ≤ new.entries
+
+-- The handle at an index was decoded, with those before it in its interval, in an index with an interval of q handles. At
+-- most q handles are decoded.
+pub record CountsHandle (old new : Counted) (q index : ℕ) : Type 0 where
+  pub exact : CountsExactly old new 0 (index % q + 1)
+  pub most : index % q + 1 ≤ q
 
 -- the interval of the block in the range of a frame
 abbrev pub interval_in : List ℕ → HandleParts → ℕ

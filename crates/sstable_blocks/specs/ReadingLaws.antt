@@ -8,7 +8,7 @@ use Rattle.sstable_blocks.specs.BlockReading.{AreBlocks}
 use Rattle.sstable_blocks.specs.Opened.{index_in}
 use Rattle.sstable_blocks.specs.Readings.{TableGoes, table_reading, run_reading, block_of_index, entries_of_index}
 use Rattle.sstable_blocks.specs.RunReading.{Hashes}
-use Rattle.sstable_blocks.specs.Scans.{CutParts, in_range}
+use Rattle.sstable_blocks.specs.Scans.{CutParts, in_range, run_interval}
 use Rattle.sstable_blocks.specs.Sources.{FailsAs}
 use Rattle.sstable_blocks.specs.Sound.{RunParts}
 use Rattle.sstable_blocks.specs.Tables.{KeptParts, TableParts}
@@ -57,7 +57,7 @@ module _ {S : Type 0} (c : Hashes) (bytes : S → Option (List ℕ)) (failures r
     same_len = λ s t n g. ap (λ (k : KeptParts). length k.index) g.kept;
     same_read = λ s t n g i. option_map (λ all j. block_of_index c all (g.range i) (slice_get (ap (λ (k : KeptParts). k.index) g.kept i) j)) (g.source.same i);
     same_admits = λ s t n g i x. in_range (g.range i) x.key.user_key;
-    same_cost = λ s t n g i. option_map (λ all j. cost_in all (slice_get (ap (λ (k : KeptParts). k.index) g.kept i) j)) (g.source.same i);
+    same_cost = λ s t n g i. option_map (λ all j. cost_in all (ap (λ (k : KeptParts). k.interval) g.kept i) (slice_get (ap (λ (k : KeptParts). k.index) g.kept i) j)) (g.source.same i);
     errs_later = λ s t u n e g h io. (let f = g.source.failures_grow in let less = h io in omega (arith, f, less));
     fails_later = fails_by;
   }
@@ -69,7 +69,7 @@ run_laws = record {
   same_len = λ s t n g. ap (λ (run : RunParts). length (index_in run.bytes run.handles.index)) g.run;
   same_read = λ s t n g i. Some (λ j. Ok (entries_of_index (g.run i).bytes (g.range i) (slice_get (index_in (g.run i).bytes (g.run i).handles.index) j)));
   same_admits = λ s t n g. refl;
-  same_cost = λ s t n g. ap (λ (run : RunParts). Some (λ j. cost_in run.bytes (slice_get (index_in run.bytes run.handles.index) j))) g.run;
+  same_cost = λ s t n g. ap (λ (run : RunParts). Some (λ j. cost_in run.bytes (run_interval run) (slice_get (index_in run.bytes run.handles.index) j))) g.run;
   errs_later = λ s t u n e g h. h;
   fails_later = λ s t u n x e g h. h;
 }

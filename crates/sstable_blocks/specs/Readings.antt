@@ -10,7 +10,7 @@ use Rattle.sst_block_core.specs.Handles.{Handle}
 use Rattle.sstable_blocks.specs.BlockReading.{Reading}
 use Rattle.sstable_blocks.specs.Opened.{range_of, index_in, payload_in}
 use Rattle.sstable_blocks.specs.RunReading.{Hashes}
-use Rattle.sstable_blocks.specs.Scans.{KeyRange, CutParts, block_within, in_range, within}
+use Rattle.sstable_blocks.specs.Scans.{KeyRange, CutParts, block_within, in_range, run_interval, within}
 use Rattle.sstable_blocks.specs.Sound.{RunParts}
 use Rattle.sstable_blocks.specs.Sources.{FailsAs, KeepsSource}
 use Rattle.sstable_blocks.specs.Tables.{TableParts, kept_parts}
@@ -40,7 +40,7 @@ module _ {S : Type 0} (c : Hashes) (bytes : S → Option (List ℕ)) (failures r
     Errs = λ s t e. e ≡ Io → failures s.run.source < failures t.run.source;
     Fails = λ s t x e. FailsAs (failures s.run.source < failures t.run.source) (is_reliable s.run.source) x e;
     tally = λ t. tally_by t.steps;
-    cost = λ t. option_map (λ all i. cost_in all (slice_get t.run.index i)) (bytes t.run.source);
+    cost = λ t. option_map (λ all i. cost_in all t.run.interval (slice_get t.run.index i)) (bytes t.run.source);
   }
 
 -- the entries in a range of the block of a handle, if there is one
@@ -64,5 +64,5 @@ run_reading = record {
   Errs = λ s t e. ⊥;
   Fails = λ s t x e. ⊥;
   tally = λ t. tally_by t.steps;
-  cost = λ t. Some (λ i. cost_in t.run.bytes (slice_get (index_in t.run.bytes t.run.handles.index) i));
+  cost = λ t. Some (λ i. cost_in t.run.bytes (run_interval t.run) (slice_get (index_in t.run.bytes t.run.handles.index) i));
 }

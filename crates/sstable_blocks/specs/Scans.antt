@@ -231,13 +231,17 @@ pub record RunScanParts : Type 0 where
   pub handles : List Handle
   pub counted : Tally
 
+-- the restart interval of a run's index
+abbrev pub run_interval : RunParts → ℕ
+run_interval run = interval_in run.bytes run.handles.index
+
 -- a step from the front of a scan gives the first entry left, which is then gone
 pub record ScansFirst (old : RunScanParts) (result : Option Entry) (new : RunScanParts) : Type 0 where
   pub run : new.run ≡ old.run
   pub range : new.range ≡ old.range
   pub first : YieldsFirst (λ xs. xs) old.left result new.left
   pub looked : Adds old.counted new.counted (found_item result)
-  pub counts : CountsFirst old.run.bytes old.counted old.handles new.counted new.handles (found_item result)
+  pub counts : CountsFirst old.run.bytes (run_interval old.run) old.counted old.handles new.counted new.handles (found_item result)
 
 -- a step from the back gives the last
 pub record ScansLast (old : RunScanParts) (result : Option Entry) (new : RunScanParts) : Type 0 where
@@ -245,7 +249,7 @@ pub record ScansLast (old : RunScanParts) (result : Option Entry) (new : RunScan
   pub range : new.range ≡ old.range
   pub last : YieldsLast (λ xs. xs) old.left result new.left
   pub looked : Adds old.counted new.counted (found_item result)
-  pub counts : CountsLast old.run.bytes old.counted old.handles new.counted new.handles (found_item result)
+  pub counts : CountsLast old.run.bytes (run_interval old.run) old.counted old.handles new.counted new.handles (found_item result)
 
 -- What a step does to the source of a scan: its bytes stay the same, its failures are only added to, a reliable one stays
 -- reliable; a frame is asked for each block that is opened, and an error is `Io` only where the source failed in that step.
@@ -272,10 +276,14 @@ ScansSound c h scan bytes = ForSound c bytes h (λ blocks. reads_left c bytes sc
 abbrev pub AtHandle : Option (List ℕ) → List Handle → ℕ → (List ℕ → Handle → Type 0) → Type 0
 AtHandle bytes index i holds = IfSome bytes (λ all. (h : Handle) → slice_get index i ≡ Some h → holds all h)
 
+-- what holds of the handle at an index of a run's index
+abbrev pub AtRunHandle : RunParts → ℕ → (Handle → Type 0) → Type 0
+AtRunHandle run i holds = (h : Handle) → slice_get (index_in run.bytes run.handles.index) i ≡ Some h → holds h
+
 -- the handles of a run's index between two indexes
 abbrev pub run_between : RunParts → ℕ → ℕ → List Handle
 run_between run lo hi = between (index_in run.bytes run.handles.index) lo hi
 
 -- the most that a scan's start examines: what two searches in the index of its run do
 abbrev pub run_search_cost : RunParts → Tally
-run_search_cost run = search_cost (interval_in run.bytes run.handles.index) (length (index_in run.bytes run.handles.index))
+run_search_cost run = search_cost (run_interval run) (length (index_in run.bytes run.handles.index))

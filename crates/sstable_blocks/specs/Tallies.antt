@@ -1,4 +1,5 @@
--- What a scan counts, and at most what its blocks cost: heads that are compared, and entries that are decoded.
+-- What a scan counts, and at most what its blocks cost: heads that are compared, and entries that are decoded, with the
+-- handles of the index.
 use Rattle.std.specs.Prelude.{◌≡◌, ℕ, ◌+◌, ◌-◌, ◌*◌, ◌/◌, ◌%◌, ◌≤◌, ◌==◌, ◌||◌, if◌then◌else◌, List, length, sum_by, Option, Some, None, Result, Ok, Err}
 use Rattle.sst_base.specs.Counted.{Counted, found_item}
 use Rattle.sst_base.specs.declared.error.Error.{Error}
@@ -64,14 +65,22 @@ cut_cost interval count = record {
   due = 3 * (interval + 1) + count;
 }
 
--- the same for the block of a handle, if there is one
-abbrev pub cost_in : List ℕ → Option Handle → Tally
-cost_in bytes None = record { heads = 0; entries = 0; due = 0 }
-cost_in bytes (Some h) = cut_cost (interval_in bytes (range_of h)) (length (items_in entries (payload_in bytes (range_of h))))
+-- the same for the block of a handle
+abbrev pub cut_cost_in : List ℕ → Handle → Tally
+cut_cost_in bytes h = cut_cost (interval_in bytes (range_of h)) (length (items_in entries (payload_in bytes (range_of h))))
+
+-- a cost, and that of decoding a handle: at most the q handles of an interval of the index
+abbrev pub with_handles : ℕ → Tally → Tally
+with_handles q t = record { heads = t.heads; entries = q + t.entries; due = q + t.due }
+
+-- the most that opening the block of a handle costs, if there is one: decoding the handle, and cutting the block
+abbrev pub cost_in : List ℕ → ℕ → Option Handle → Tally
+cost_in bytes q None = record { heads = 0; entries = 0; due = 0 }
+cost_in bytes q (Some h) = with_handles q (cut_cost_in bytes h)
 
 -- for the blocks of handles, a number of each
-abbrev pub costs_in : List ℕ → (Tally → ℕ) → List Handle → ℕ
-costs_in bytes amount hs = sum_by (λ h. amount (cost_in bytes (Some h))) hs
+abbrev pub costs_in : List ℕ → ℕ → (Tally → ℕ) → List Handle → ℕ
+costs_in bytes q amount hs = sum_by (λ h. amount (cost_in bytes q (Some h))) hs
 
 -- the most that a search for both ends of a range costs in an index with this interval and so many handles
 abbrev pub search_cost : ℕ → ℕ → Tally
@@ -104,13 +113,14 @@ pub record AddsTaken (old new : Tally) (least most : ℕ) : Type 0 where
   pub due : new.due ≤ old.due + most
 
 -- A step of a scan from the back, which leaves blocks unopened: of what was counted, and what the blocks cost at most that
--- are not opened yet, no head is added, and to the entries and those due at most so many.
-pub record CountsLast (bytes : List ℕ) (old : Tally) (unopened : List Handle) (new : Tally) (left : List Handle) (most : ℕ) : Type 0 where
-  pub heads : new.heads + costs_in bytes (λ t. t.heads) left ≤ old.heads + costs_in bytes (λ t. t.heads) unopened
-  pub due : new.due + costs_in bytes (λ t. t.due) left ≤ old.due + costs_in bytes (λ t. t.due) unopened + most
+-- are not opened yet, no head is added, and to the entries and those due at most so many. The index has an interval of q
+-- handles.
+pub record CountsLast (bytes : List ℕ) (q : ℕ) (old : Tally) (unopened : List Handle) (new : Tally) (left : List Handle) (most : ℕ) : Type 0 where
+  pub heads : new.heads + costs_in bytes q (λ t. t.heads) left ≤ old.heads + costs_in bytes q (λ t. t.heads) unopened
+  pub due : new.due + costs_in bytes q (λ t. t.due) left ≤ old.due + costs_in bytes q (λ t. t.due) unopened + most
 
 -- a step from the front: also to the entries alone
-pub record CountsFirst (bytes : List ℕ) (old : Tally) (unopened : List Handle) (new : Tally) (left : List Handle) (most : ℕ) : Type 0 where
-  pub heads : new.heads + costs_in bytes (λ t. t.heads) left ≤ old.heads + costs_in bytes (λ t. t.heads) unopened
-  pub entries : new.entries + costs_in bytes (λ t. t.entries) left ≤ old.entries + costs_in bytes (λ t. t.entries) unopened + most
-  pub due : new.due + costs_in bytes (λ t. t.due) left ≤ old.due + costs_in bytes (λ t. t.due) unopened + most
+pub record CountsFirst (bytes : List ℕ) (q : ℕ) (old : Tally) (unopened : List Handle) (new : Tally) (left : List Handle) (most : ℕ) : Type 0 where
+  pub heads : new.heads + costs_in bytes q (λ t. t.heads) left ≤ old.heads + costs_in bytes q (λ t. t.heads) unopened
+  pub entries : new.entries + costs_in bytes q (λ t. t.entries) left ≤ old.entries + costs_in bytes q (λ t. t.entries) unopened + most
+  pub due : new.due + costs_in bytes q (λ t. t.due) left ≤ old.due + costs_in bytes q (λ t. t.due) unopened + most

@@ -1,10 +1,12 @@
 -- A seek in an index, and the step after it.
-use Rattle.std.proofs.Common.{◌≡◌, ℕ, ◌+◌, cond, eqb, ltb, List, length, refl, sym, ◌∙◌, ap, inl, inr, Option, Some, None, Bool}
+use Rattle.std.proofs.Common.{◌≡◌, ℕ, ◌+◌, ◌%◌, ◌≤◌, arith, cond, eqb, ltb, List, length, refl, sym, ◌∙◌, ap, inl, inr, Option, Some, None, Bool}
 use Rattle.std.specs.List.{slice_get}
 use Rattle.std.specs.Option.{option_map}
 use Rattle.std.proofs.lemmas.Bool.{cases_Bool, ltb-false}
 use Rattle.std.proofs.lemmas.Option.{slice_get_past}
+use Rattle.std.proofs.lemmas.Nat.{mod_below}
 use Rattle.sst_base.specs.BlockHandle.{HandleParts}
+use Rattle.sst_base.specs.Counted.{Counted, CountsExactly}
 use Rattle.sst_block_core.specs.Backs.{GivesStep}
 use Rattle.sst_block_core.specs.Handles.{Handle, handles}
 use Rattle.sst_block_core.specs.Candidates.{GivesNextHeld, scan_cost}
@@ -15,7 +17,7 @@ use Rattle.sst_block_core.specs.Window.{Window, Answer, found, whole, next, firs
 use Rattle.sst_block_core.specs.declared.table.index_block.parsed_item.IndexBlockParsedItem.{IndexBlockParsedItem}
 use Rattle.sstable_blocks.specs.Lookup.{handle_for, place_for}
 use Rattle.sstable_blocks.specs.Opened.{range_of}
-use Rattle.sstable_blocks.specs.ReadCosts.{handles_most}
+use Rattle.sstable_blocks.specs.ReadCosts.{CountsHandle, handles_most}
 
 -- the range that a parsed handle has
 abbrev pub parsed_range : IndexBlockParsedItem → HandleParts
@@ -43,6 +45,10 @@ found_range s t u hs needle seqno b r fresh sought given =
     let answer = ap (λ (q : Window Handle × Answer Handle). q.1) (given.step ∙ ap next at) in
     let same = item_same (option_map (parsed_handle t.payload) r) (first_left moved) answer in
     parsed_range-handle t.payload r ∙ ap (option_map range_of) (same ∙ left_at hs (place_for handles needle seqno hs))
+
+-- a handle by its index: no more are decoded than an interval has
+pub counts_handle : (old new : Counted) (q i : ℕ) → 1 ≤ q → CountsExactly old new 0 (i % q + 1) → CountsHandle old new q i
+counts_handle old new q i some counts = record { exact = counts; most = (let less = mod_below i q (omega (arith, some)) in omega (arith, less)) }
 
 -- the most handles: those of a scan, and one
 pub handles_by_scan : (q : ℕ) → handles_most q ≡ scan_cost q + 1

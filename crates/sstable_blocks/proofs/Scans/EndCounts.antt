@@ -96,26 +96,26 @@ module _ {S X : Type 0} (r : Reading S X) where
       }
 
 -- ---- the blocks of handles
-module _ (bytes : List ℕ) (hs : List Handle) where
+module _ (bytes : List ℕ) (q : ℕ) (hs : List Handle) where
   abbrev cost_at : ℕ → Tally
-  cost_at i = cost_in bytes (slice_get hs i)
+  cost_at i = cost_in bytes q (slice_get hs i)
 
-  costs_from : (f : Tally → ℕ) (n lo hi : ℕ) → hi - lo ≡ n → hi ≤ length hs → cost_from (λ i. f (cost_at i)) lo n ≡ costs_in bytes f (between hs lo hi)
-  costs_from f zero lo hi e inside = ap (costs_in bytes f) (sym (none_between hs lo hi (omega (arith, e))))
+  costs_from : (f : Tally → ℕ) (n lo hi : ℕ) → hi - lo ≡ n → hi ≤ length hs → cost_from (λ i. f (cost_at i)) lo n ≡ costs_in bytes q f (between hs lo hi)
+  costs_from f zero lo hi e inside = ap (costs_in bytes q f) (sym (none_between hs lo hi (omega (arith, e))))
   costs_from f (suc n) lo hi e inside =
       let k = taken hs lo hi (omega (arith, e)) inside in
       let s : suc lo ≡ lo + 1 = omega arith in
-      ap (λ o. f (cost_in bytes o) + cost_from (λ i. f (cost_at i)) (suc lo) n) k.1
-      ∙ ap (λ m. f (cost_in bytes (Some k.0)) + m) (ap (λ i. cost_from (λ j. f (cost_at j)) i n) s ∙ costs_from f n (lo + 1) hi (omega (arith, e)) inside)
-      ∙ sym (sum_by-cons (λ (h : Handle). f (cost_in bytes (Some h))) k.0 (between hs (lo + 1) hi))
-      ∙ sym (ap (costs_in bytes f) k.2)
+      ap (λ o. f (cost_in bytes q o) + cost_from (λ i. f (cost_at i)) (suc lo) n) k.1
+      ∙ ap (λ m. f (cost_in bytes q (Some k.0)) + m) (ap (λ i. cost_from (λ j. f (cost_at j)) i n) s ∙ costs_from f n (lo + 1) hi (omega (arith, e)) inside)
+      ∙ sym (sum_by-cons (λ (h : Handle). f (cost_in bytes q (Some h))) k.0 (between hs (lo + 1) hi))
+      ∙ sym (ap (costs_in bytes q f) k.2)
 
-  costs_between : (f : Tally → ℕ) (lo hi : ℕ) → hi ≤ length hs → cost_between (λ i. f (cost_at i)) lo hi ≡ costs_in bytes f (between hs lo hi)
+  costs_between : (f : Tally → ℕ) (lo hi : ℕ) → hi ≤ length hs → cost_between (λ i. f (cost_at i)) lo hi ≡ costs_in bytes q f (between hs lo hi)
   costs_between f lo hi inside = costs_from f (hi - lo) lo hi refl inside
 
   module _ (old new : Tally) (lo hi lo' hi' most : ℕ) (inside : hi ≤ length hs) (inside' : hi' ≤ length hs) where
     pub counts_front : IsPaid cost_at (counted old lo hi) (counted new lo' hi') most → with_unopened (λ t. t.entries) cost_at (counted new lo' hi') ≤ with_unopened (λ t. t.entries) cost_at (counted old lo hi) + most
-        → CountsFirst bytes old (between hs lo hi) new (between hs lo' hi') most
+        → CountsFirst bytes q old (between hs lo hi) new (between hs lo' hi') most
     counts_front p once =
         let a = costs_between (λ t. t.heads) lo hi inside in
         let a' = costs_between (λ t. t.heads) lo' hi' inside' in
@@ -130,7 +130,7 @@ module _ (bytes : List ℕ) (hs : List Handle) where
   -- from the back the ends change their places
   module _ (before front back before' front' back' : Tally) (lo hi lo' hi' most : ℕ) (inside : hi ≤ length hs) (inside' : hi' ≤ length hs) where
     pub counts_back : IsPaid cost_at (counted (tally_sum before back front) lo hi) (counted (tally_sum before' back' front') lo' hi') most
-        → CountsLast bytes (tally_sum before front back) (between hs lo hi) (tally_sum before' front' back') (between hs lo' hi') most
+        → CountsLast bytes q (tally_sum before front back) (between hs lo hi) (tally_sum before' front' back') (between hs lo' hi') most
     counts_back p =
         let a = costs_between (λ t. t.heads) lo hi inside in
         let a' = costs_between (λ t. t.heads) lo' hi' inside' in
@@ -147,16 +147,16 @@ adds_turned before front back before' front' back' least a =
     record { heads = omega (arith, h); entries = omega (arith, n) }
 
 -- ---- the steps of a table's scan
-module _ (hs hs' : List Handle) (index : hs' ≡ hs) (lo hi lo' hi' most : ℕ) (inside : hi ≤ length hs) (inside' : hi' ≤ length hs) where
-  pub table_counts_front : (o : Option (List ℕ)) (old new : Tally) → IfSome {T = ℕ → Tally} (option_map (λ all i. cost_in all (slice_get hs i)) o) (λ cost. IsPaid cost (counted old lo hi) (counted new lo' hi') most)
-      → IfSome {T = ℕ → Tally} (option_map (λ all i. cost_in all (slice_get hs i)) o) (λ cost. with_unopened (λ t. t.entries) cost (counted new lo' hi') ≤ with_unopened (λ t. t.entries) cost (counted old lo hi) + most)
-      → IfSome o (λ all. CountsFirst all old (between hs lo hi) new (between hs' lo' hi') most)
+module _ (q : ℕ) (hs hs' : List Handle) (index : hs' ≡ hs) (lo hi lo' hi' most : ℕ) (inside : hi ≤ length hs) (inside' : hi' ≤ length hs) where
+  pub table_counts_front : (o : Option (List ℕ)) (old new : Tally) → IfSome {T = ℕ → Tally} (option_map (λ all i. cost_in all q (slice_get hs i)) o) (λ cost. IsPaid cost (counted old lo hi) (counted new lo' hi') most)
+      → IfSome {T = ℕ → Tally} (option_map (λ all i. cost_in all q (slice_get hs i)) o) (λ cost. with_unopened (λ t. t.entries) cost (counted new lo' hi') ≤ with_unopened (λ t. t.entries) cost (counted old lo hi) + most)
+      → IfSome o (λ all. CountsFirst all q old (between hs lo hi) new (between hs' lo' hi') most)
   table_counts_front None old new p once = tt
-  table_counts_front (Some all) old new p once = subst (λ ks. CountsFirst all old (between hs lo hi) new (between ks lo' hi') most) (sym index) (counts_front all hs old new lo hi lo' hi' most inside inside' p once)
+  table_counts_front (Some all) old new p once = subst (λ ks. CountsFirst all q old (between hs lo hi) new (between ks lo' hi') most) (sym index) (counts_front all q hs old new lo hi lo' hi' most inside inside' p once)
 
   pub table_counts_back : (o : Option (List ℕ)) (before front back before' front' back' : Tally)
-      → IfSome {T = ℕ → Tally} (option_map (λ all i. cost_in all (slice_get hs i)) o) (λ cost. IsPaid cost (counted (tally_sum before back front) lo hi) (counted (tally_sum before' back' front') lo' hi') most)
-      → IfSome o (λ all. CountsLast all (tally_sum before front back) (between hs lo hi) (tally_sum before' front' back') (between hs' lo' hi') most)
+      → IfSome {T = ℕ → Tally} (option_map (λ all i. cost_in all q (slice_get hs i)) o) (λ cost. IsPaid cost (counted (tally_sum before back front) lo hi) (counted (tally_sum before' back' front') lo' hi') most)
+      → IfSome o (λ all. CountsLast all q (tally_sum before front back) (between hs lo hi) (tally_sum before' front' back') (between hs' lo' hi') most)
   table_counts_back None before front back before' front' back' p = tt
   table_counts_back (Some all) before front back before' front' back' p =
-      subst (λ ks. CountsLast all (tally_sum before front back) (between hs lo hi) (tally_sum before' front' back') (between ks lo' hi') most) (sym index) (counts_back all hs before front back before' front' back' lo hi lo' hi' most inside inside' p)
+      subst (λ ks. CountsLast all q (tally_sum before front back) (between hs lo hi) (tally_sum before' front' back') (between ks lo' hi') most) (sym index) (counts_back all q hs before front back before' front' back' lo hi lo' hi' most inside inside' p)

@@ -97,10 +97,6 @@ pub both_some : {A : Type 0} {P Q R : A → Type 0} (o : Option A) → ((a : A) 
 both_some None h p q = tt
 both_some (Some a) h p q = h a p q
 
-pub always : {A : Type 0} {P : A → Type 0} (o : Option A) → ((a : A) → P a) → IfSome o P
-always None h = tt
-always (Some a) h = h a
-
 pub some_as : {A : Type 0} {P Q : A → Type 0} (o : Option A) → ((a : A) → P a → Q a) → IfSome o P → IfSome o Q
 some_as None h p = tt
 some_as (Some a) h p = h a p

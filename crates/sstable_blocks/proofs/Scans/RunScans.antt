@@ -16,7 +16,7 @@ use Rattle.sstable_blocks.specs.Opened.{range_of, payload_in, index_in}
 use Rattle.sstable_blocks.specs.RunReading.{Hashes}
 use Rattle.sstable_blocks.specs.Sound.{RunParts}
 use Rattle.sstable_blocks.specs.Tallies.{Adds, CountsFirst, CountsLast, Tally}
-use Rattle.sstable_blocks.specs.Scans.{KeyRange, RunScanParts, ScansFirst, ScansLast, left_by, within, reads_of, blocks_read, between, entries_read, entries_within, entries_among, first_block, end_block, handles_within, IsBlockRead}
+use Rattle.sstable_blocks.specs.Scans.{KeyRange, RunScanParts, ScansFirst, ScansLast, left_by, within, reads_of, blocks_read, between, entries_read, entries_within, entries_among, first_block, end_block, handles_within, run_interval, IsBlockRead}
 
 module _ {X : Type 0} (P : X → Type 0) where
   pub some_dropped : (n : ℕ) (xs : List X) → AllByRecursion P xs → AllByRecursion P (drop n xs)
@@ -86,9 +86,9 @@ module _ (old : RunScanParts) (result : Option Entry) (front : Option (Scan Entr
     as_moved P p = subst (λ k. P (moved k range)) (sym same) (subst (λ k. P (moved old.run k)) (sym same_range) p)
 
     pub moved_first : YieldsFirst (λ xs. xs) old.left result (left_by old.run old.range front lo hi back) → Adds old.counted counted (found_item result)
-        → CountsFirst old.run.bytes old.counted old.handles counted (between (index_in old.run.bytes old.run.handles.index) lo hi) (found_item result) → ScansFirst old result (moved run range)
+        → CountsFirst old.run.bytes (run_interval old.run) old.counted old.handles counted (between (index_in old.run.bytes old.run.handles.index) lo hi) (found_item result) → ScansFirst old result (moved run range)
     moved_first first looked counts = as_moved (ScansFirst old result) (record { run = refl; range = refl; first = first; looked = looked; counts = counts })
 
     pub moved_last : YieldsLast (λ xs. xs) old.left result (left_by old.run old.range front lo hi back) → Adds old.counted counted (found_item result)
-        → CountsLast old.run.bytes old.counted old.handles counted (between (index_in old.run.bytes old.run.handles.index) lo hi) (found_item result) → ScansLast old result (moved run range)
+        → CountsLast old.run.bytes (run_interval old.run) old.counted old.handles counted (between (index_in old.run.bytes old.run.handles.index) lo hi) (found_item result) → ScansLast old result (moved run range)
     moved_last last looked counts = as_moved (ScansLast old result) (record { run = refl; range = refl; last = last; looked = looked; counts = counts })

@@ -75,7 +75,8 @@ pub trait Blocks<B: Ended> {
     // what a block is read as, and what an opening does
     ghost reading: { Reading Self B.Item };
 
-    /// Opens a block, in the place of one that was opened before, whose counts are kept.
+    /// Opens a block, in the place of one that was opened before, whose counts are kept. What
+    /// finding the block examines is counted, also where it is refused.
     ///
     /// # Errors
     ///

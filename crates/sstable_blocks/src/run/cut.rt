@@ -1,14 +1,15 @@
 //! What opens the blocks of a scan, each cut by the bounds.
-ghost use Rattle.std.specs.Prelude.{◌≡◌, ◌<◌, ◌^◌, Some, length, IfOk};
+ghost use Rattle.std.specs.Prelude.{◌≡◌, ◌<◌, ◌^◌, length, IfOk};
 ghost use Rattle.sst_base.specs.declared.error.Error.TheVariants.{Memory};
 ghost use Rattle.sst_block_core.specs.Window.{items_left};
+ghost use Rattle.sstable_blocks.specs.ReadCosts.{CountsHandle};
 ghost use Rattle.sstable_blocks.specs.ReadingLaws.{run_laws, table_laws};
 ghost use Rattle.sstable_blocks.specs.Readings.{run_reading, table_reading};
 ghost use Rattle.sstable_blocks.specs.RunReading.{hashes};
 ghost use Rattle.sstable_blocks.specs.Scans.{AllWithin, AtHandle, block_within};
 ghost use Rattle.sstable_blocks.specs.Sources.{AsksExactly, GivesOr, UsesSource};
 ghost use Rattle.sstable_blocks.specs.Tables.{kept_parts};
-ghost use Rattle.sstable_blocks.specs.Tallies.{IsUpTo, cost_in, scan_tally};
+ghost use Rattle.sstable_blocks.specs.Tallies.{IsUpTo, cut_cost_in, scan_tally};
 
 use super::blocks::{Blocks, Ended, add_steps};
 use super::bounds::Bounds;
@@ -22,7 +23,7 @@ use std::alloc::Global;
 use std::marker::Model;
 
 /// A run whose blocks are opened and cut by bounds. Clauses see the run, the range of keys, and what
-/// was counted of the blocks that are no longer open.
+/// was counted: of the index, and of the blocks that are no longer open.
 #[derive(Drop)]
 pub(crate) struct Cut<'k, R> {
     pub(crate) run: R,
@@ -106,13 +107,15 @@ impl<'a> Ended for OpenBlock<'a> {
     }
 }
 
-// Opens the block of a handle, and cuts it by the bounds.
+// Opens the block of the handle at an index, and cuts it by the bounds. The handles that are decoded
+// are added to `steps`, also where the block is refused.
 #[tactic(auto, using(crate::proofs::Scans::ScanCounts::few_within))]
 fn cut_block<H: BlockHash, S: FrameSource>(
     alloc: Global,
     table: &mut Table<H, S>,
     bounds: &Bounds<'_>,
     index: usize,
+    steps: &mut Steps,
 ) -> Result<IntoEntries<H>>
     requires { index < length table.old.index }
     ensures kept { kept_parts table.new ≡ kept_parts table.old }
@@ -125,9 +128,10 @@ fn cut_block<H: BlockHash, S: FrameSource>(
         (S.is_reliable table.old.source) (λ e. items_left e.window) result
         (block_within (hashes H.hash64 H.hash128) all bounds.now h)) }
     ensures cost { AtHandle (S.bytes table.old.source) table.old.index index
-        (λ all h. IfOk result (λ e. IsUpTo (scan_tally e) (cost_in all (Some h)))) }
+        (λ all h. IfOk result (λ e. IsUpTo (scan_tally e) (cut_cost_in all h))) }
+    ensures counts { CountsHandle steps.old steps.new table.old.interval index }
 {
-    let block = table.block_at(alloc, index)?;
+    let block = table.block_at(alloc, index, steps)?;
     // The payload is an encoding, of fewer than 2^32 bytes.
     let payload = block.as_slice();
     let _len = payload.len();
@@ -147,7 +151,13 @@ impl<'k, H: BlockHash, S: FrameSource> Blocks<IntoEntries<H>> for Cut<'k, Table<
         index: usize,
         block: &mut Option<IntoEntries<H>>,
     ) -> Result<()> {
-        let entries = cut_block::<H, S>(alloc, &mut self.run, &self.bounds, index)?;
+        let entries = cut_block::<H, S>(
+            alloc,
+            &mut self.run,
+            &self.bounds,
+            index,
+            &mut self.steps,
+        )?;
         add_steps::<IntoEntries<H>>(&mut self.steps, block);
         *block = Some(entries);
         Ok(())
@@ -163,7 +173,7 @@ impl<'a, 'k, H: BlockHash> Blocks<OpenBlock<'a>> for Cut<'k, RunRef<'a, H>> {
 
     fn open(&mut self, _room: (), index: usize, block: &mut Option<OpenBlock<'a>>) -> Result<()> {
         add_steps::<OpenBlock<'a>>(&mut self.steps, block);
-        open_at::<H>(&self.run, &self.bounds, index, block);
+        open_at::<H>(&self.run, &self.bounds, index, block, &mut self.steps);
         // A slice has fewer than 2^63 items.
         let _count = count_of(block);
         Ok(())

@@ -1,15 +1,15 @@
 //! The blocks that a scan over borrowed bytes has opened.
-ghost use Rattle.std.specs.Prelude.{◌≡◌, ◌+◌, ◌<◌, length, slice_get, Some};
+ghost use Rattle.std.specs.Prelude.{◌≡◌, ◌+◌, ◌<◌, length};
 ghost use Rattle.std.specs.Iterator.{YieldsFirst, YieldsLast};
 ghost use Rattle.sst_base.specs.Counted.{found_item};
 ghost use Rattle.sst_block_core.specs.Entries.{entries};
 ghost use Rattle.sst_block_core.specs.Stages.{items_in};
-ghost use Rattle.sst_block_core.specs.Handles.{Handle};
 ghost use Rattle.sst_block_core.specs.Window.{items_left};
 ghost use Rattle.sstable_blocks.specs.Opened.{index_in, payload_in, range_of};
-ghost use Rattle.sstable_blocks.specs.Scans.{left_in, within};
-ghost use Rattle.sstable_blocks.specs.Tallies.{AddsTaken, IsUpTo, cost_in, cut_cost, scan_tally};
-ghost use Rattle.sstable_blocks.specs.Tallies.{tally_of};
+ghost use Rattle.sstable_blocks.specs.ReadCosts.{CountsHandle};
+ghost use Rattle.sstable_blocks.specs.Scans.{AtRunHandle, left_in, run_interval, within};
+ghost use Rattle.sstable_blocks.specs.Tallies.{AddsTaken, IsUpTo, cut_cost, cut_cost_in};
+ghost use Rattle.sstable_blocks.specs.Tallies.{scan_tally, tally_of};
 
 use super::bounds::Bounds;
 use super::run_ref::RunRef;
@@ -108,24 +108,23 @@ impl<'a> OpenBlock<'a> {
     }
 }
 
-/// Opens the block of a handle in the place of one that was opened before: its entries in the
-/// range.
+/// Opens the block of the handle at an index in the place of one that was opened before: its entries
+/// in the range. The handles that are decoded are added to `steps`.
 pub(super) fn open_at<'a, H: BlockHash>(
     run: &RunRef<'a, H>,
     bounds: &Bounds<'_>,
     index: usize,
     opened: &mut Option<OpenBlock<'a>>,
+    steps: &mut Steps,
 )
     requires { index < length (index_in run.now.bytes run.now.handles.index) }
-    ensures left { (h : Handle)
-        → slice_get (index_in run.now.bytes run.now.handles.index) index ≡ Some h
-        → left_in opened.new ≡ within bounds.now
-        (items_in entries (payload_in run.now.bytes (range_of h))) }
-    ensures cost { (h : Handle)
-        → slice_get (index_in run.now.bytes run.now.handles.index) index ≡ Some h
-        → IsUpTo (tally_of scan_tally opened.new) (cost_in run.now.bytes (Some h)) }
+    ensures left { AtRunHandle run.now index (λ h. left_in opened.new
+        ≡ within bounds.now (items_in entries (payload_in run.now.bytes (range_of h)))) }
+    ensures cost { AtRunHandle run.now index
+        (λ h. IsUpTo (tally_of scan_tally opened.new) (cut_cost_in run.now.bytes h)) }
+    ensures counts { CountsHandle steps.old steps.new (run_interval run.now) index }
 {
-    let block = run.block_at(index);
+    let block = run.block_at(index, steps);
     if let Some(opened) = opened {
         opened.reopen(&block, bounds);
         return;

@@ -1,19 +1,18 @@
 //! Sound runs over borrowed bytes, read without checks and without memory.
-ghost use Rattle.std.specs.Prelude.{◌≡◌, ◌≢◌, ◌<◌, List, length, slice_get, Ok, Err, IfOk, IfErr};
+ghost use Rattle.std.specs.Prelude.{◌≡◌, ◌≢◌, ◌<◌, List, length, Ok, Err, IfOk, IfErr};
 ghost use Rattle.std.specs.Prelude.{MatchResult, false};
 ghost use Rattle.sst_base.specs.Counted.{CountsExactly};
 ghost use Rattle.sst_base.specs.Entry.{Entry};
 ghost use Rattle.sst_block_core.specs.Entries.{entries};
 ghost use Rattle.sst_block_core.specs.Window.{first_match};
 ghost use Rattle.sst_block_core.specs.DataBlock.{data_ref_of};
-ghost use Rattle.sst_block_core.specs.Handles.{Handle};
 ghost use Rattle.sstable_blocks.specs.Blocks.{joined};
 ghost use Rattle.sstable_blocks.specs.Opened.{IsDenied, IsFoundIn, found_entry, index_in};
 ghost use Rattle.sstable_blocks.specs.Opened.{payload_in, range_of};
-ghost use Rattle.sstable_blocks.specs.ReadCosts.{CountsRead, interval_in};
+ghost use Rattle.sstable_blocks.specs.ReadCosts.{CountsHandle, CountsRead};
 ghost use Rattle.sstable_blocks.specs.RunChecks.{check_run, summary_of};
 ghost use Rattle.sstable_blocks.specs.RunReading.{hashes};
-ghost use Rattle.sstable_blocks.specs.Scans.{IsReadRun};
+ghost use Rattle.sstable_blocks.specs.Scans.{AtRunHandle, IsReadRun, run_interval};
 ghost use Rattle.sstable_blocks.specs.Sound.{IsSound, ForSound, IsSoundRun, IsSummary};
 ghost use Rattle.sstable_blocks.specs.Tables.{IsIndexIn};
 
@@ -182,8 +181,7 @@ impl<'a, H: BlockHash> RunRef<'a, H> {
     // The index.
     pub(crate) fn index(&self) -> &IndexSearch<'a>
         ensures items { result.now.items ≡ index_in self.now.bytes self.now.handles.index }
-        ensures interval { result.now.interval
-            ≡ interval_in self.now.bytes self.now.handles.index }
+        ensures interval { result.now.interval ≡ run_interval self.now }
     {
         &self.index
     }
@@ -197,14 +195,16 @@ impl<'a, H: BlockHash> RunRef<'a, H> {
         let _sound = self.bytes;
     }
 
-    // The block of the handle at an index of the index.
-    pub(crate) fn block_at(&self, index: usize) -> DataBlockRef<'a, H>
+    // The block of the handle at an index of the index. The handles that are decoded are added to
+    // `steps`.
+    pub(crate) fn block_at(&self, index: usize, steps: &mut Steps) -> DataBlockRef<'a, H>
         requires { index < length (index_in self.now.bytes self.now.handles.index) }
-        ensures { (h : Handle) → slice_get (index_in self.now.bytes self.now.handles.index) index
-            ≡ Some h → result ≡ data_ref_of (payload_in self.now.bytes (range_of h)) false }
+        ensures block { AtRunHandle self.now index
+            (λ h. result ≡ data_ref_of (payload_in self.now.bytes (range_of h)) false) }
+        ensures counts { CountsHandle steps.old steps.new (run_interval self.now) index }
     {
         sound_opens();
-        let handle = self.index.handle_at(index, &mut Steps::new());
+        let handle = self.index.handle_at(index, steps);
         block_over::<H>(self.bytes, &handle)
     }
 }

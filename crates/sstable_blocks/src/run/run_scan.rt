@@ -11,7 +11,7 @@ ghost use Rattle.sst_base.specs.Counted.{found_item};
 ghost use Rattle.sst_block_core.specs.Window.{items_left};
 ghost use Rattle.sstable_blocks.specs.Opened.{index_in};
 ghost use Rattle.sstable_blocks.specs.Scans.{ScansFirst, ScansLast, handles_within, run_between};
-ghost use Rattle.sstable_blocks.specs.Scans.{run_search_cost};
+ghost use Rattle.sstable_blocks.specs.Scans.{run_interval, run_search_cost};
 ghost use Rattle.sstable_blocks.specs.Scans.{left_by, within, range_by};
 ghost use Rattle.sstable_blocks.specs.Tallies.{Adds, CountsFirst, CountsLast, IsUpTo, scan_tally};
 ghost use Rattle.sstable_blocks.specs.Tallies.{tally_all, tally_by};
@@ -72,7 +72,9 @@ impl<'a, 'k, H: BlockHash> Model for RunScan<'a, 'k, H> {
 
 impl<'a, 'k, H: BlockHash> RunScan<'a, 'k, H> {
     /// Returns what was counted since the scan was made: the heads that were compared, and the
-    /// entries that were decoded, of the index and of the blocks.
+    /// entries that were decoded, of the index and of the blocks. Of the index these are the handles
+    /// of a restart interval up to that of each block that was opened, and what the search for the
+    /// ends of the range examined.
     pub fn steps(&self) -> Steps
         ensures heads { result.heads ≡ self.now.counted.heads }
         ensures entries { result.entries ≡ self.now.counted.entries }
@@ -115,7 +117,7 @@ fn step_front<'a, 'k, H: BlockHash>(
         (left_by cut.old.run cut.old.range front.new middle.new.lo middle.new.hi back.new) }
     ensures looked { Adds (tally_all scan_tally (tally_by cut.old.steps) front.old back.old)
         (tally_all scan_tally (tally_by cut.new.steps) front.new back.new) (found_item result) }
-    ensures counts { CountsFirst cut.old.run.bytes
+    ensures counts { CountsFirst cut.old.run.bytes (run_interval cut.old.run)
         (tally_all scan_tally (tally_by cut.old.steps) front.old back.old)
         (run_between cut.old.run middle.old.lo middle.old.hi)
         (tally_all scan_tally (tally_by cut.new.steps) front.new back.new)
@@ -150,7 +152,7 @@ fn step_back<'a, 'k, H: BlockHash>(
         (left_by cut.old.run cut.old.range front.new middle.new.lo middle.new.hi back.new) }
     ensures looked { Adds (tally_all scan_tally (tally_by cut.old.steps) front.old back.old)
         (tally_all scan_tally (tally_by cut.new.steps) front.new back.new) (found_item result) }
-    ensures counts { CountsLast cut.old.run.bytes
+    ensures counts { CountsLast cut.old.run.bytes (run_interval cut.old.run)
         (tally_all scan_tally (tally_by cut.old.steps) front.old back.old)
         (run_between cut.old.run middle.old.lo middle.old.hi)
         (tally_all scan_tally (tally_by cut.new.steps) front.new back.new)

@@ -119,7 +119,9 @@ impl<'k, H: BlockHash, S: FrameSource> Scan<'k, H, S> {
     }
 
     /// Returns what was counted since the scan was made: the heads that were compared, and the
-    /// entries that were decoded, of the index and of the blocks.
+    /// entries that were decoded, of the index and of the blocks. Of the index these are the handles
+    /// of a restart interval up to that of each block that was opened, and what the search for the
+    /// ends of the range examined.
     pub fn steps(&self) -> Steps
         ensures heads { result.heads ≡ self.now.counted.heads }
         ensures entries { result.entries ≡ self.now.counted.entries }
@@ -156,9 +158,9 @@ impl<'k, H: BlockHash, S: FrameSource> Scan<'k, H, S> {
         ensures ended { EndsBy self.old.ended self.new.ended result }
         ensures fewer { IfOk result (IsFewer (most_left self.old) (most_left self.new)) }
         ensures looked { Adds self.old.counted self.new.counted (least_taken result) }
-        ensures counts { IfSome (S.bytes self.old.table.source) (λ all. CountsFirst all
-            self.old.counted self.old.handles self.new.counted self.new.handles
-            (most_taken result)) }
+        ensures counts { IfSome (S.bytes self.old.table.source)
+            (λ all. CountsFirst all self.old.table.interval self.old.counted self.old.handles
+            self.new.counted self.new.handles (most_taken result)) }
     {
         if let Some(error) = self.ended {
             return Err(error);
@@ -191,9 +193,9 @@ impl<'k, H: BlockHash, S: FrameSource> Scan<'k, H, S> {
         ensures ended { EndsBy self.old.ended self.new.ended result }
         ensures fewer { IfOk result (IsFewer (most_left self.old) (most_left self.new)) }
         ensures looked { Adds self.old.counted self.new.counted (least_taken result) }
-        ensures counts { IfSome (S.bytes self.old.table.source) (λ all. CountsLast all
-            self.old.counted self.old.handles self.new.counted self.new.handles
-            (most_taken result)) }
+        ensures counts { IfSome (S.bytes self.old.table.source)
+            (λ all. CountsLast all self.old.table.interval self.old.counted self.old.handles
+            self.new.counted self.new.handles (most_taken result)) }
     {
         if let Some(error) = self.ended {
             return Err(error);

@@ -3,10 +3,10 @@
 //! A read is passed counters, to which it adds what it examines. It is given blocks as these types,
 //! whose every look into a block is passed the counters: there is no iterator, no copy and no bytes
 //! of a block that it could read beside them.
-ghost use Rattle.std.specs.Prelude.{◌≡◌, ◌≢◌, ◌%◌, ◌+◌, ◌<◌, IfErr, IfOk, IfSome, IsOkUnless, Err};
+ghost use Rattle.std.specs.Prelude.{◌≡◌, ◌≢◌, ◌<◌, IfErr, IfOk, IfSome, IsOkUnless, Err};
 ghost use Rattle.std.specs.Prelude.{Ok, Some, false, length, slice_get};
 ghost use Rattle.std.specs.Option.{option_map};
-ghost use Rattle.sst_base.specs.Counted.{CountsBetween, CountsExactly};
+ghost use Rattle.sst_base.specs.Counted.{CountsBetween};
 ghost use Rattle.sst_block_core.specs.Entries.{entries};
 ghost use Rattle.sst_block_core.specs.Window.{count_passed, first_match};
 ghost use Rattle.sst_block_core.specs.Checks.{data_check};
@@ -18,7 +18,7 @@ ghost use Rattle.sst_block_core.specs.PointReads.{read_least, read_most, ref_rea
 ghost use Rattle.sst_block_core.specs.PointReads.{ref_read_most};
 ghost use Rattle.sstable_blocks.specs.Lookup.{handle_for};
 ghost use Rattle.sstable_blocks.specs.Opened.{range_of};
-ghost use Rattle.sstable_blocks.specs.ReadCosts.{find_cost};
+ghost use Rattle.sstable_blocks.specs.ReadCosts.{find_cost, CountsHandle};
 ghost use Rattle.sstable_blocks.specs.Scans.{index_cost};
 
 use sst_base::{Block, BlockHandle, BlockHash, Error, InternalValue, Result, SeqNo, Steps};
@@ -102,11 +102,14 @@ impl<'a> IndexSearch<'a> {
 
     /// Returns the range of the handle at an index, as [`IndexBlockRef::handle_at`] does.
     #[inline(always)]
+    #[tactic(auto, using(crate::proofs::Reading::IndexSteps::counts_handle))]
     pub(crate) fn handle_at(&self, index: usize, steps: &mut Steps) -> BlockHandle
         requires { index < length self.now.items }
         ensures range { Some result ≡ option_map handle_range (slice_get self.now.items index) }
-        ensures counts { CountsExactly steps.old steps.new 0 (index % self.now.interval + 1) }
+        ensures counts { CountsHandle steps.old steps.new self.now.interval index }
     {
+        // The payload is an encoding, whose restart interval is at least one.
+        let _payload = self.block.as_slice();
         self.block.handle_at(index, steps)
     }
 }

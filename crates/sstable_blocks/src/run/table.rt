@@ -7,7 +7,7 @@ ghost use Rattle.sst_base.specs.declared.error.Error.TheVariants.{Io};
 ghost use Rattle.sst_block_core.specs.Entries.{entries};
 ghost use Rattle.sst_block_core.specs.Handles.{handles};
 ghost use Rattle.sstable_blocks.specs.Footer.{table_handles};
-ghost use Rattle.sstable_blocks.specs.ReadCosts.{most_by, CountsRead};
+ghost use Rattle.sstable_blocks.specs.ReadCosts.{most_by, CountsHandle, CountsRead};
 ghost use Rattle.sstable_blocks.specs.Opened.{range_of};
 ghost use Rattle.sstable_blocks.specs.RunChecks.{check_run as run_checked, summary_of};
 ghost use Rattle.sstable_blocks.specs.RunReading.{hashes, block_items_at, handles_at, read_checked};
@@ -282,14 +282,20 @@ impl<H: BlockHash, S: FrameSource> Table<H, S> {
     }
 
     /// Reads the data block of the handle at an index of the index. Its frame is verified and
-    /// checked.
+    /// checked. Decodes the handles of the index's restart interval up to this one, and adds them to
+    /// `steps`, also where an error is returned; what a caller examines in the block is not counted.
     ///
     /// # Errors
     ///
     /// Those of the block's frame, `Error::InvalidTag` if it is of another type, and those of
     /// `DataBlock::check_once`. `Error::Io` only where the source failed. `Error::Memory` if an
     /// allocation fails.
-    pub fn block_at(&mut self, alloc: Global, index: usize) -> Result<DataBlock<H>>
+    pub fn block_at(
+        &mut self,
+        alloc: Global,
+        index: usize,
+        steps: &mut Steps,
+    ) -> Result<DataBlock<H>>
         requires { index < length self.old.index }
         ensures kept { self.new ≡ record self.old { source = self.new.source } }
         ensures source { UsesSource S.bytes S.failures S.reads S.is_reliable
@@ -300,8 +306,9 @@ impl<H: BlockHash, S: FrameSource> Table<H, S> {
             (block_items_at (hashes H.hash64 H.hash128) all (range_of h))) }
         ensures place { IfOk result (λ b. AtHandle (S.bytes self.old.source) self.old.index index
             (λ all h. IsBlockIn all (range_of h) b.items b.interval)) }
+        ensures counts { CountsHandle steps.old steps.new self.old.interval index }
     {
-        let handle = self.index.handle_at(index, &mut Steps::new());
+        let handle = IndexSearch::new(self.index.by_ref()).handle_at(index, steps);
         data_block_from::<H, S>(alloc, &mut self.source, &handle)
     }
 

@@ -1,6 +1,6 @@
 use Rattle.std.proofs.Common.{length, subst, sym, ◌≤◌}
 use Rattle.sstable_blocks.specs.Opened.{index_in}
-use Rattle.sstable_blocks.specs.Scans.{left_in}
+use Rattle.sstable_blocks.specs.Scans.{left_in, run_interval}
 use Rattle.sst_block_core.specs.Scan.{Scan}
 use Rattle.sst_base.specs.Entry.{Entry}
 use Rattle.sstable_blocks.specs.Sound.{RunParts}
@@ -34,4 +34,4 @@ returns-clause-counts g c =
     let inside = subst (λ (run : RunParts). n.between.hi ≤ length (index_in run.bytes run.handles.index)) c.step_back.ensures.taken.goes.run c.step_back.ensures.taken.ends.inside in
     let p = rw c.without_error.ensures at c.step_back.ensures.counts in
     let tally = tally_of (λ (b : Scan Entry). scan_tally b) in
-    counts_back cut.run.bytes hs (tally_by cut.steps) (tally c.args.front.now) (tally c.args.back.now) (tally_by n.blocks.steps) (tally n.far) (tally n.near) c.args.middle.now.lo c.args.middle.now.hi n.between.lo n.between.hi _ c.requires.inside inside p.paid
+    counts_back cut.run.bytes (run_interval cut.run) hs (tally_by cut.steps) (tally c.args.front.now) (tally c.args.back.now) (tally_by n.blocks.steps) (tally n.far) (tally n.near) c.args.middle.now.lo c.args.middle.now.hi n.between.lo n.between.hi _ c.requires.inside inside p.paid

@@ -1,6 +1,6 @@
 use Rattle.std.proofs.Common.{length, subst, sym, ◌≤◌}
 use Rattle.sstable_blocks.specs.Opened.{index_in}
-use Rattle.sstable_blocks.specs.Scans.{left_in}
+use Rattle.sstable_blocks.specs.Scans.{left_in, run_interval}
 use Rattle.sstable_blocks.specs.Sound.{RunParts}
 use Rattle.sstable_blocks.proofs.Scans.EndCounts.{counts_front}
 use Rattle.sstable_blocks.proofs.Scans.EndReads.{gave_first, run_front}
@@ -26,4 +26,4 @@ returns-clause-counts g c =
     let n = c.step_front.new in
     let inside = subst (λ (run : RunParts). n.between.hi ≤ length (index_in run.bytes run.handles.index)) c.step_front.ensures.taken.goes.run c.step_front.ensures.taken.ends.inside in
     let p = rw c.without_error.ensures at c.step_front.ensures.counts in
-    counts_front cut.run.bytes hs _ _ c.args.middle.now.lo c.args.middle.now.hi n.between.lo n.between.hi _ c.requires.inside inside p.pays.paid p.once
+    counts_front cut.run.bytes (run_interval cut.run) hs _ _ c.args.middle.now.lo c.args.middle.now.hi n.between.lo n.between.hi _ c.requires.inside inside p.pays.paid p.once

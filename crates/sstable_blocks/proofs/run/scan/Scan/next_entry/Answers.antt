@@ -43,6 +43,6 @@ returns-clause-counts g c =
     let t = n.blocks in
     let index = ap (λ (k : KeptParts). k.index) c.step_front.ensures.taken.goes.kept in
     let inside = subst (λ hs. n.between.hi ≤ length hs) index c.step_front.ensures.taken.ends.inside in
-    subst (λ v. IfSome (f.bytes v.table.source) (λ all. CountsFirst all v.counted v.handles (tally_all scan_tally (tally_by t.steps) n.near n.far) (between t.run.index n.between.lo n.between.hi) (most_taken c.step_front.result)))
+    subst (λ v. IfSome (f.bytes v.table.source) (λ all. CountsFirst all v.table.interval v.counted v.handles (tally_all scan_tally (tally_by t.steps) n.near n.far) (between t.run.index n.between.lo n.between.hi) (most_taken c.step_front.result)))
     c.self.view_is
-    (table_counts_front cut.run.index t.run.index index s.middle.lo s.middle.hi n.between.lo n.between.hi _ c.self.invariant.inside inside (f.bytes cut.run.source) _ _ c.step_front.ensures.counts.pays.paid c.step_front.ensures.counts.once)
+    (table_counts_front cut.run.interval cut.run.index t.run.index index s.middle.lo s.middle.hi n.between.lo n.between.hi _ c.self.invariant.inside inside (f.bytes cut.run.source) _ _ c.step_front.ensures.counts.pays.paid c.step_front.ensures.counts.once)

@@ -45,7 +45,7 @@ returns-clause-counts g c =
     let index = ap (λ (k : KeptParts). k.index) c.step_back.ensures.taken.goes.kept in
     let inside = subst (λ hs. n.between.hi ≤ length hs) index c.step_back.ensures.taken.ends.inside in
     let tally = tally_of scan_tally in
-    subst (λ v. IfSome (f.bytes v.table.source) (λ all. CountsLast all v.counted v.handles (tally_all scan_tally (tally_by t.steps) n.far n.near) (between t.run.index n.between.lo n.between.hi) (most_taken c.step_back.result)))
+    subst (λ v. IfSome (f.bytes v.table.source) (λ all. CountsLast all v.table.interval v.counted v.handles (tally_all scan_tally (tally_by t.steps) n.far n.near) (between t.run.index n.between.lo n.between.hi) (most_taken c.step_back.result)))
     c.self.view_is
-    (table_counts_back cut.run.index t.run.index index s.middle.lo s.middle.hi n.between.lo n.between.hi _ c.self.invariant.inside inside (f.bytes cut.run.source)
+    (table_counts_back cut.run.interval cut.run.index t.run.index index s.middle.lo s.middle.hi n.between.lo n.between.hi _ c.self.invariant.inside inside (f.bytes cut.run.source)
     (tally_by cut.steps) (tally s.front) (tally s.back) (tally_by t.steps) (tally n.far) (tally n.near) c.step_back.ensures.counts.paid)
