@@ -19,7 +19,6 @@ use crate::table::data_block::iter::Iter;
 use crate::table::data_block::parsed_item::DataBlockParsedItem;
 use sst_base::double_ended_peekable::ListIterator;
 use sst_base::key::MAX_KEY_LEN;
-use sst_base::slice::SHORT_LEN;
 use sst_base::table::util::{SliceIndexes, compare_prefixed_slice};
 use sst_base::{
     AllocResult, BlockHash, Error, InternalValue, Result, SeqNo, Slice, TypeWord, UserKey,
@@ -335,28 +334,6 @@ impl<'a> EntryView<'a> {
     /// If an allocation fails. A key and a value of up to 40 bytes each need none.
     #[inline(always)]
     pub fn to_entry(&self, alloc: Global) -> AllocResult<InternalValue>
-        ensures ok { IfOk result (λ entry. entry ≡ self.now) }
-        ensures few { IsShort self.now → IsOk result }
-    {
-        // (each is compiled for its lengths: the first has no branch for a long key or value)
-        if self.key_len() <= SHORT_LEN && self.value_len as usize <= SHORT_LEN {
-            self.made(alloc)
-        } else {
-            self.made_long(alloc)
-        }
-    }
-
-    // The same, out of line.
-    #[inline(never)]
-    fn made_long(&self, alloc: Global) -> AllocResult<InternalValue>
-        ensures { IfOk result (λ entry. entry ≡ self.now) }
-    {
-        self.made(alloc)
-    }
-
-    // The same.
-    #[inline(always)]
-    fn made(&self, alloc: Global) -> AllocResult<InternalValue>
         ensures ok { IfOk result (λ entry. entry ≡ self.now) }
         ensures few { IsShort self.now → IsOk result }
     {
