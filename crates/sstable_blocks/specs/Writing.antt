@@ -1,5 +1,5 @@
 -- A run that is being written.
-use Rattle.std.specs.Prelude.{◌≡◌, ◌≢◌, ℕ, ◌+◌, ◌*◌, ◌≤◌, ◌<◌, ◌^◌, ◌⊎◌, List, [], ◌∷◌, ◌++◌, length, Option, Some, None, Result, Err, IsErrOf}
+use Rattle.std.specs.Prelude.{◌≡◌, ◌≢◌, ℕ, ◌+◌, ◌*◌, ◌≤◌, ◌<◌, ◌^◌, ◌⊎◌, List, [], ◌∷◌, ◌++◌, length, Option, Some, None, Result, Err, IfErr, IsErrOf}
 use Rattle.std.specs.Io.KnownBytes.{Appends}
 use Rattle.std.specs.List.{AllByRecursion}
 use Rattle.std.specs.declared.cmp.Ordering.TheVariants.{Less}
@@ -75,6 +75,10 @@ IsWriteRefusal long e = (e ≡ Io) ⊎ ((e ≡ TooLong) × long) ⊎ (e ≡ Memo
 -- a call over a writer: `Io` only where the writer failed in that call, and one that never fails stays so
 abbrev pub UsesWriter : {W T : Type 0} → (W → Type 0) → W → W → Result T Error → Type 0
 UsesWriter never_fails old new result = (IsErrOf result Io → never_fails old → ⊥) × (never_fails old → never_fails new)
+
+-- a call that comes to its writer last: at an error but `Io` nothing was written
+abbrev pub WritesLast : {W T : Type 0} → (W → Type 0) → W → W → Result T Error → Type 0
+WritesLast never_fails old new result = IfErr result (λ e. e ≢ Io → new ≡ old) × UsesWriter never_fails old new result
 
 -- a writer's known bytes grew by the layout of a run, whose handles these are
 abbrev pub AppendsLayout : Form → List (List Entry) → Option (List ℕ) → Option (List ℕ) → RunHandles → Type 0

@@ -16,7 +16,7 @@ ghost use Rattle.sstable_blocks.specs.Run.{IsFilterText, IsFramed};
 ghost use Rattle.std.specs.List.{AllByRecursion};
 ghost use Rattle.sstable_blocks.specs.Writing.{Follows, FollowsLast, FrameFits, PartFits};
 ghost use Rattle.sstable_blocks.specs.Writing.{IsFramedBlock, IsWriteRefusal, IsFrameAppended};
-ghost use Rattle.sstable_blocks.specs.Writing.{AppendsFilter, AppendsEnd, UsesWriter};
+ghost use Rattle.sstable_blocks.specs.Writing.{AppendsFilter, AppendsEnd, UsesWriter, WritesLast};
 
 use super::laws::handles_are_ready;
 use super::{RunConfig, RunHandles};
@@ -133,8 +133,7 @@ impl<H: BlockHash> RunCore<H> {
         ensures bytes { OnOk result (Appends (W.contents writer.old) (W.contents writer.new)
             (block_frame (form H.hash64 H.hash128 self.old.config) (map T.entry items.now))) }
         ensures kept { OnErr result (self.new.blocks ≡ self.old.blocks) }
-        ensures untouched { IfErr result (λ e. e ≢ Io → writer.new ≡ writer.old) }
-        ensures writer { UsesWriter W.never_fails writer.old writer.new result }
+        ensures writer { WritesLast W.never_fails writer.old writer.new result }
         ensures cause { let f = form H.hash64 H.hash128 self.old.config in
             IfErr result (IsWriteRefusal (FrameFits f (length (block_frames f self.old.blocks))
             (map T.entry items.now) → ⊥)) }

@@ -9,7 +9,7 @@ ghost use Rattle.sstable_blocks.specs.Run.{form, block_frame, block_frames, IsWr
 ghost use Rattle.sstable_blocks.specs.RunReading.{hashes};
 ghost use Rattle.sstable_blocks.specs.Writing.{Follows, FrameFits, IsWriteRefusal, AppendsLayout};
 ghost use Rattle.sstable_blocks.specs.Writing.{AppendsSound, AppendsTable, TableFits, IsSameRun};
-ghost use Rattle.sstable_blocks.specs.Writing.{RepeatsError, UsesWriter};
+ghost use Rattle.sstable_blocks.specs.Writing.{RepeatsError, WritesLast};
 
 use super::footer::{FOOTER_LEN, end_table};
 use super::run_core::RunCore;
@@ -107,9 +107,8 @@ impl<H: BlockHash, W: Output> RunWriter<H, W> {
         ensures bytes { OnOk result
             (Appends (W.contents self.old.writer) (W.contents self.new.writer)
             (block_frame (form H.hash64 H.hash128 self.old.config) (map T.entry items.now))) }
-        ensures untouched { IfErr result (λ e. e ≢ Io → self.new.writer ≡ self.old.writer) }
         ensures writer { self.old.refusal ≡ None
-            → UsesWriter W.never_fails self.old.writer self.new.writer result }
+            → WritesLast W.never_fails self.old.writer self.new.writer result }
         ensures cause { let f = form H.hash64 H.hash128 self.old.config in self.old.refusal ≡ None
             → IfErr result (IsWriteRefusal (FrameFits f (length (block_frames f self.old.blocks))
             (map T.entry items.now) → ⊥)) }

@@ -62,7 +62,7 @@ loop-cut-preserved g c =
       so_far = so_far_is _ _ _ _ _ e.accepted step;
       rest = rest_is c.loop-cut.start (get_or c.args.cuts.now c.loop-cut.cut-index 0) _ _ _ (omega arith) i.rest c.split_at.ensures.back;
       cuts_left = n.2;
-      reliable = λ r. e.writer.1 (i.reliable r);
+      reliable = λ r. e.writer.1.1 (i.reliable r);
       bytes = rw e.config (bytes_next (form g.H.BlockHash.hash64 g.H.BlockHash.hash128 c.loop-cut.core.config) _ _ _ _ _ _ i.bytes e.bytes e.accepted);
     }
 
