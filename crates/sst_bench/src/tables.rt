@@ -75,7 +75,7 @@ fn add_taken<I: Source<InternalValue>>(
 
 // Takes so many entries of what is left of a source, and adds each.
 #[inline(always)]
-fn add_all<I: Source<InternalValue> + Drop>(
+pub(crate) fn add_all<I: Source<InternalValue> + Drop>(
     so_far: u64,
     source: I,
     count: usize,

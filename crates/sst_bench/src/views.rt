@@ -2,7 +2,7 @@
 //!
 //! The arguments are those of the calls of `run` and `merges`. Where `made` is not 0 each entry is
 //! made as well.
-ghost use Rattle.std.specs.Prelude.{◌≤◌, List};
+ghost use Rattle.std.specs.Prelude.{◌≡◌, ◌≤◌, List};
 ghost use Rattle.sst_base.specs.Entry.{Entry};
 ghost use Rattle.sst_bench.specs.Hash.{hash64, hash128};
 ghost use Rattle.sstable_blocks.specs.RunReading.{hashes};
@@ -15,8 +15,8 @@ use crate::keys::keys_in;
 use crate::merges::{Stored, add_sources, all_checked, push_head, runs_in};
 use crate::run::run_in;
 use crate::sums::{Summed, found_sum, made_sum};
-use crate::tables::{Asked, opened_in};
-use sst_base::{BlockHash, HashRatio, InternalValue, Steps};
+use crate::tables::{Asked, add_all, opened_in};
+use sst_base::{BlockHash, HashRatio, InternalValue, Slice, Steps};
 use sst_block_core::DataBlock;
 use sst_block_core::table::data_block::{DataBlockRef, EntryView};
 use sst_merge::{Head, Merge, Source};
@@ -194,30 +194,35 @@ fn add_scanned(so_far: u64, run: &RunRef<'_, Hash>) -> u64 {
 
 // Scans a run, makes each entry, and adds it.
 #[inline(never)]
-fn add_scanned_made(so_far: u64, run: &RunRef<'_, Hash>, alloc: Global) -> Option<u64> {
-    let mut sum = so_far;
-    for view in run.scan() {
-        sum = sum.wrapping_add(made_sum(view.to_entry(alloc))?);
-    }
-    Some(sum)
+fn add_scanned_made(
+    so_far: u64,
+    run: &RunRef<'_, Hash>,
+    bytes: &Slice,
+    count: usize,
+    alloc: Global,
+) -> Option<u64>
+    requires { bytes.now ≡ run.now.bytes }
+{
+    add_all(so_far, run.scan_shared(bytes), count, alloc)
 }
 
-// Scans a run, so many times.
+// Scans a run of so many entries, so many times.
 fn scanned_in(
     alloc: Global,
-    run: &[u8],
+    bytes: &Slice,
     handles: &RunHandles,
+    count: usize,
     times: u64,
     made: bool,
 ) -> Option<u64>
     requires { (blocks : List (List Entry))
-        × IsSound (hashes hash64 hash128) blocks run.now handles.now }
+        × IsSound (hashes hash64 hash128) blocks bytes.now handles.now }
 {
-    let run = RunRef::<Hash>::new(run, handles);
+    let run = RunRef::<Hash>::new(bytes.as_slice(), handles);
     let mut sum = 0;
     for _ in 0..times {
         sum = if made {
-            add_scanned_made(sum, &run, alloc)?
+            add_scanned_made(sum, &run, bytes, count, alloc)?
         } else {
             add_scanned(sum, &run)
         };
@@ -242,7 +247,7 @@ pub extern "C" fn sst_views_scan(
     let config = RunConfig::new(interval, HashRatio { num, den }, bits);
     match run_in(alloc, bytes, count, per_block, config) {
         Some((run, handles)) => {
-            scanned_in(alloc, run.as_slice(), &handles, times, made != 0).unwrap_or(REFUSED)
+            scanned_in(alloc, &run, &handles, count, times, made != 0).unwrap_or(REFUSED)
         }
         None => REFUSED,
     }

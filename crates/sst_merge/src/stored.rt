@@ -15,7 +15,7 @@ use sst_base::{BlockHash, InternalValue, Result, SeqNo, Steps};
 use sst_block_core::laws::first_match_of_plain;
 use sst_block_core::table::data_block::EntryView;
 use sstable_blocks::run::laws::{accepted_run_is_sound, sound_is_scanned};
-use sstable_blocks::run::{FrameSource, RunScan, Scan, Table};
+use sstable_blocks::run::{FrameSource, RunScan, Scan, SharedScan, Table};
 use std::alloc::Global;
 
 /// A scan of a stored table. Its entries are known where the bytes of the table are, every block
@@ -94,6 +94,43 @@ impl<'a, 'k, H: BlockHash> Source<Reversed<EntryView<'a>>> for Rev<RunScan<'a, '
     #[inline(always)]
     fn next_entry(&mut self, _alloc: Global) -> Result<Option<Reversed<EntryView<'a>>>> {
         Ok(in_reverse(self.source.next_back()))
+    }
+}
+
+/// A scan of a run that makes the entries, which are known. An error is a failed allocation.
+impl<'a, 'k, H: BlockHash> Source<InternalValue> for SharedScan<'a, 'k, H> {
+    ghost left = { λ s. record {
+      list = Some s.left;
+      most = length s.left;
+      errors = Some [];
+      ended = s.ended;
+    } };
+
+    ghost may_fail = { λ _. ⊥ };
+
+    #[inline(always)]
+    fn next_entry(&mut self, alloc: Global) -> Result<Option<InternalValue>> {
+        self.next_entry(alloc)
+    }
+}
+
+/// The same scan, from the back.
+impl<'a, 'k, H: BlockHash> Source<Reversed<InternalValue>> for Rev<SharedScan<'a, 'k, H>> {
+    ghost left = { λ s. record {
+      list = Some (reverse s.source.left);
+      most = length s.source.left;
+      errors = Some [];
+      ended = s.source.ended;
+    } };
+
+    ghost may_fail = { λ _. ⊥ };
+
+    #[inline(always)]
+    fn next_entry(&mut self, alloc: Global) -> Result<Option<Reversed<InternalValue>>> {
+        match self.source.next_entry_back(alloc) {
+            Ok(entry) => Ok(in_reverse(entry)),
+            Err(error) => Err(error),
+        }
     }
 }
 

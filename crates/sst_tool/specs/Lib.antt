@@ -9,3 +9,5 @@ pub mod Orders
 pub mod Probes
 pub mod Statuses
 pub mod Wanted
+pub mod Passed
+pub mod Scanned

@@ -1,7 +1,8 @@
 //! The first entries of a source.
-ghost use Rattle.std.specs.Prelude.{◌≡◌, None, IfOk};
-ghost use Rattle.sst_merge.specs.Sources.{TakesFirst};
+ghost use Rattle.std.specs.Prelude.{◌≡◌, None, IfErr, IfOk, OnOk};
+ghost use Rattle.sst_merge.specs.Sources.{MayGive, MeetsNoMore, TakesFirst};
 ghost use Rattle.sst_tool.specs.Limits.{limited};
+ghost use Rattle.sst_tool.specs.Passed.{passed_on};
 
 use sst_merge::Source;
 use sstable_blocks::{Error, InternalValue, Result};
@@ -35,8 +36,10 @@ fn next_counted<I: Source<InternalValue>>(
     source: &mut I,
     count: &mut u64,
 ) -> Result<Option<InternalValue>>
-    ensures { IfOk result (λ r. TakesFirst (limited count.old (I.left source.old)) r
+    ensures first { IfOk result (λ r. TakesFirst (limited count.old (I.left source.old)) r
         (limited count.new (I.left source.new))) }
+    ensures cause { IfErr result (MayGive I.may_fail (I.left source.old)) }
+    ensures no_more { OnOk result (MeetsNoMore (I.left source.old) (I.left source.new)) }
 {
     if *count == 0 {
         return Ok(None);
@@ -52,14 +55,9 @@ fn next_counted<I: Source<InternalValue>>(
 
 /// Takes the next entry, if the count is not reached.
 impl<I: Source<InternalValue>> Source<InternalValue> for Limited<I> {
-    ghost left = { λ l. record {
-      list = (limited l.count (I.left l.source)).list;
-      most = (I.left l.source).most;
-      errors = None;
-      ended = l.ended;
-    } };
+    ghost left = { λ l. passed_on (limited l.count (I.left l.source)) l.ended };
 
-    ghost may_fail = { λ _. ⊥ };
+    ghost may_fail = { I.may_fail };
 
     fn next_entry(&mut self, alloc: Global) -> Result<Option<InternalValue>> {
         if let Some(error) = self.ended {

@@ -1,6 +1,10 @@
 //! The tables that are merged, as sources of entries.
 ghost use Rattle.std.specs.Prelude.{◌≡◌, ◌+◌, length, None, OnOk, IfOk};
-ghost use Rattle.sstable_blocks.specs.Scans.{most_left};
+ghost use Rattle.sst_merge.specs.Stored.{MayFailAnyTime};
+ghost use Rattle.sst_tool.specs.Orders.{MayMisplace};
+ghost use Rattle.sst_tool.specs.Passed.{passed_on};
+ghost use Rattle.sst_tool.specs.Scanned.{scanned_left};
+ghost use Rattle.sstable_blocks.specs.RunReading.{hashes};
 
 use crate::fault::{Fault, Result};
 use crate::long_keys::LongestKey;
@@ -185,14 +189,12 @@ pub struct FileEntries<'p, H: BlockHash, F: SeekInput> {
 }
 
 impl<'p, H: BlockHash, F: SeekInput> Source<InternalValue> for FileEntries<'p, H, F> {
-    ghost left = { λ s. record {
-      list = None;
-      most = most_left s.entries.source.source.scan;
-      errors = None;
-      ended = s.entries.source.ended;
-    } };
+    ghost left = { λ s. passed_on
+        (scanned_left (hashes H.hash64 H.hash128)
+        (F.whole s.entries.source.source.scan.table.source.inner) s.entries.source.source.scan)
+        s.entries.source.ended };
 
-    ghost may_fail = { λ _. ⊥ };
+    ghost may_fail = { MayMisplace (MayFailAnyTime (λ s. F.is_memory s.inner)) };
 
     fn next_entry(&mut self, alloc: Global) -> sstable_blocks::Result<Option<InternalValue>> {
         self.entries.next_entry(alloc)

@@ -1,7 +1,8 @@
 //! Sources of which the order is tested.
-ghost use Rattle.std.specs.Prelude.{◌≡◌, None, IfOk, OnOk};
-ghost use Rattle.sst_merge.specs.Sources.{TakesFirst};
-ghost use Rattle.sst_tool.specs.Orders.{may_follow, GivesInOrder};
+ghost use Rattle.std.specs.Prelude.{◌≡◌, None, IfErr, IfOk, OnOk};
+ghost use Rattle.sst_merge.specs.Sources.{MayGive, MeetsNoMore, TakesFirst};
+ghost use Rattle.sst_tool.specs.Orders.{may_follow, FailsInOrder, GivesInOrder, MayMisplace};
+ghost use Rattle.sst_tool.specs.Passed.{passed_on};
 ghost use Rattle.sstable_blocks.specs.Scans.{EndsBy};
 
 use sst_merge::Source;
@@ -72,6 +73,7 @@ fn follow<I: InBlocks>(
     next: &Option<InternalValue>,
 ) -> Result<()>
     ensures order { OnOk result (GivesInOrder direction last.old last.new next.now) }
+    ensures cause { IfErr result FailsInOrder }
 {
     if let Some(entry) = next
         && !may_follow(direction, last, entry.key())
@@ -96,6 +98,8 @@ fn next_following<I: InBlocks>(
 ) -> Result<Option<InternalValue>>
     ensures first { IfOk result (λ r. TakesFirst (I.left source.old) r (I.left source.new)) }
     ensures order { IfOk result (GivesInOrder direction last.old last.new) }
+    ensures cause { IfErr result (MayGive (MayMisplace I.may_fail) (I.left source.old)) }
+    ensures no_more { OnOk result (MeetsNoMore (I.left source.old) (I.left source.new)) }
 {
     let next = source.next_entry(alloc)?;
     match follow(source, direction, last, &next) {
@@ -106,20 +110,20 @@ fn next_following<I: InBlocks>(
 
 /// Takes the next entry, if it follows the one before.
 impl<I: InBlocks> Source<InternalValue> for Ordered<I> {
-    ghost left = { λ o. record {
-      list = (I.left o.source).list;
-      most = (I.left o.source).most;
-      errors = None;
-      ended = o.ended;
-    } };
+    ghost left = { λ o. passed_on (I.left o.source) o.ended };
 
-    ghost may_fail = { λ _. ⊥ };
+    ghost may_fail = { MayMisplace I.may_fail };
 
     fn next_entry(&mut self, alloc: Global) -> Result<Option<InternalValue>>
         ensures first { IfOk result (λ r.
             TakesFirst (I.left self.old.source) r (I.left self.new.source)) }
         ensures ended { EndsBy self.old.ended self.new.ended result }
         ensures order { IfOk result (GivesInOrder self.old.direction self.old.last self.new.last) }
+        ensures cause { IfErr result (MayGive (MayMisplace I.may_fail)
+            (passed_on (I.left self.old.source) self.old.ended)) }
+        ensures no_more { OnOk result
+            (MeetsNoMore (passed_on (I.left self.old.source) self.old.ended)
+            (passed_on (I.left self.new.source) self.new.ended)) }
     {
         if let Some(error) = self.ended {
             return Err(error);

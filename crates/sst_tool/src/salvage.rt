@@ -1,5 +1,5 @@
 //! `salvage`: what the whole blocks of a damaged table hold, as a new table.
-ghost use Rattle.std.specs.Prelude.{None, IfOk};
+ghost use Rattle.std.specs.Prelude.{[], None, Some, IfOk, IsOkUnless};
 ghost use Rattle.sst_merge.specs.Sources.{TakesFirst};
 
 use crate::blocks::{Held, held_in};
@@ -115,7 +115,9 @@ impl<'p, 'w, H: BlockHash, S: FrameSource, R: Clock + Eprint> WholeBlocks<'p, 'w
     }
 
     // Opens the next block that is whole and follows the one before. Returns whether there is one.
-    fn next_block(&mut self, alloc: Global) -> sstable_blocks::Result<bool> {
+    fn next_block(&mut self, alloc: Global) -> sstable_blocks::Result<bool>
+        ensures { IsOkUnless result Error.Memory }
+    {
         while let Some(handle) = self.handles.pop() {
             let read = data_block_from::<H, S>(alloc, &mut self.source, &handle);
             match kept_entries(alloc, read, &mut self.last) {
@@ -132,7 +134,9 @@ impl<'p, 'w, H: BlockHash, S: FrameSource, R: Clock + Eprint> WholeBlocks<'p, 'w
     }
 
     // Takes the next entry of the block that is open.
-    fn next_in_block(&mut self, alloc: Global) -> sstable_blocks::Result<Option<InternalValue>> {
+    fn next_in_block(&mut self, alloc: Global) -> sstable_blocks::Result<Option<InternalValue>>
+        ensures { IsOkUnless result Error.Memory }
+    {
         match &mut self.block {
             Some(entries) => entries.next_entry(alloc),
             None => Ok(None),
@@ -140,7 +144,9 @@ impl<'p, 'w, H: BlockHash, S: FrameSource, R: Clock + Eprint> WholeBlocks<'p, 'w
     }
 
     // Takes the next entry.
-    fn next_entry(&mut self, alloc: Global) -> sstable_blocks::Result<Option<InternalValue>> {
+    fn next_entry(&mut self, alloc: Global) -> sstable_blocks::Result<Option<InternalValue>>
+        ensures { IsOkUnless result Error.Memory }
+    {
         if let Some(entry) = self.next_in_block(alloc)? {
             return Ok(Some(entry));
         }
@@ -160,6 +166,7 @@ fn next_counted<H: BlockHash, S: FrameSource, R: Clock + Eprint>(
     ensures first { IfOk result (λ r. TakesFirst
         (record { list = None; most = most.old; errors = None; ended = None }) r
         (record { list = None; most = most.new; errors = None; ended = None })) }
+    ensures cause { IsOkUnless result Error.Memory }
 {
     if *most == 0 {
         return Ok(None);
@@ -182,7 +189,7 @@ struct Salvaged<'p, 'w, H: BlockHash, S, R> {
 
 impl<'p, 'w, H: BlockHash, S: FrameSource, R: Clock + Eprint> Source<InternalValue>
     for Salvaged<'p, 'w, H, S, R> {
-    ghost left = { λ s. record { list = None; most = s.most; errors = None; ended = s.ended } };
+    ghost left = { λ s. record { list = None; most = s.most; errors = Some []; ended = s.ended } };
 
     ghost may_fail = { λ _. ⊥ };
 

@@ -1,5 +1,7 @@
 //! What a read sees, from the last key to the first.
-ghost use Rattle.std.specs.Prelude.{◌≡◌, ◌+◌, ◌≤◌, if◌then◌else◌, None, Some, IfOk};
+ghost use Rattle.std.specs.Prelude.{◌≡◌, ◌+◌, ◌≤◌, if◌then◌else◌, None, Some};
+ghost use Rattle.std.specs.Prelude.{IfErr, IfOk, OnOk};
+ghost use Rattle.sst_merge.specs.Sources.{MayGive, MeetsNoMore, step_errors};
 ghost use Rattle.sst_base.specs.Counted.{found_item};
 ghost use Rattle.sst_tool.specs.Back.{is_same_key, newest_below};
 
@@ -76,6 +78,8 @@ fn next_seen<I: Source<InternalValue>>(
 ) -> Result<Option<InternalValue>>
     ensures less { IfOk result (λ r. found_item newest.new + (I.left source.new).most
         + found_item r ≤ found_item newest.old + (I.left source.old).most) }
+    ensures cause { IfErr result (MayGive I.may_fail (I.left source.old)) }
+    ensures no_more { OnOk result (MeetsNoMore (I.left source.old) (I.left source.new)) }
 {
     while let Some(entry) = source.next_entry(alloc)? {
         let passed = value_of(pass_back(at, newest, entry));
@@ -103,11 +107,11 @@ impl<I: Source<InternalValue>> Source<InternalValue> for SeenBack<I> {
     ghost left = { λ s. record {
       list = None;
       most = found_item s.newest + (I.left s.source).most;
-      errors = None;
+      errors = step_errors (I.left s.source);
       ended = s.ended;
     } };
 
-    ghost may_fail = { λ _. ⊥ };
+    ghost may_fail = { I.may_fail };
 
     fn next_entry(&mut self, alloc: Global) -> Result<Option<InternalValue>> {
         if let Some(error) = self.ended {

@@ -1,6 +1,8 @@
 //! Scans of tables as sources of entries.
 ghost use Rattle.std.specs.Prelude.{◌≡◌, None};
-ghost use Rattle.sstable_blocks.specs.Scans.{most_left};
+ghost use Rattle.sst_merge.specs.Stored.{MayFailAnyTime};
+ghost use Rattle.sst_tool.specs.Scanned.{scanned_left};
+ghost use Rattle.sstable_blocks.specs.RunReading.{hashes};
 ghost use Rattle.sst_tool.specs.Ends.{above, is_end_at};
 
 use crate::ordered::{Direction, InBlocks};
@@ -109,14 +111,10 @@ impl<'p, 'k, H: BlockHash, S: FrameSource> InBlocks for Scanned<'p, 'k, H, S> {
 }
 
 impl<'p, 'k, H: BlockHash, S: FrameSource> Source<InternalValue> for Scanned<'p, 'k, H, S> {
-    ghost left = { λ s. record {
-      list = None;
-      most = most_left s.scan;
-      errors = None;
-      ended = s.scan.ended;
-    } };
+    ghost left = { λ s.
+        scanned_left (hashes H.hash64 H.hash128) (S.bytes s.scan.table.source) s.scan };
 
-    ghost may_fail = { λ _. ⊥ };
+    ghost may_fail = { MayFailAnyTime S.is_reliable };
 
     fn next_entry(&mut self, alloc: Global) -> Result<Option<InternalValue>> {
         self.unread = self.scan.unread();

@@ -6,7 +6,7 @@ use Rattle.sst_base.specs.Entry.{Entry}
 use Rattle.sst_base.specs.declared.error.Error.{Error}
 use Rattle.sstable_blocks.specs.BlockReading.{AreBlocks}
 use Rattle.sstable_blocks.specs.Opened.{index_in}
-use Rattle.sstable_blocks.specs.Readings.{TableGoes, table_reading, run_reading, block_of_index, entries_of_index}
+use Rattle.sstable_blocks.specs.Readings.{TableGoes, table_reading, run_reading, shared_reading, block_of_index, entries_of_index}
 use Rattle.sstable_blocks.specs.RunReading.{Hashes}
 use Rattle.sstable_blocks.specs.Scans.{CutParts, in_range, run_interval}
 use Rattle.sstable_blocks.specs.Sources.{FailsAs}
@@ -70,6 +70,18 @@ run_laws = record {
   same_read = λ s t n g i. Some (λ j. Ok (entries_of_index (g.run i).bytes (g.range i) (slice_get (index_in (g.run i).bytes (g.run i).handles.index) j)));
   same_admits = λ s t n g. refl;
   same_cost = λ s t n g. ap (λ (run : RunParts). Some (λ j. cost_in run.bytes (run_interval run) (slice_get (index_in run.bytes run.handles.index) j))) g.run;
+  errs_later = λ s t u n e g h. h;
+  fails_later = λ s t u n x e g h. h;
+}
+
+pub shared_laws : AreBlocks shared_reading
+shared_laws = record {
+  stays = run_laws.stays;
+  goes_on = run_laws.goes_on;
+  same_len = run_laws.same_len;
+  same_read = run_laws.same_read;
+  same_admits = run_laws.same_admits;
+  same_cost = run_laws.same_cost;
   errs_later = λ s t u n e g h. h;
   fails_later = λ s t u n x e g h. h;
 }

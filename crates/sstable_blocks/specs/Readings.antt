@@ -3,7 +3,7 @@ use Rattle.std.specs.Prelude.{◌≡◌, ◌<◌, ◌+◌, ◌^◌, ℕ, List, [
 use Rattle.std.specs.Option.{option_map}
 use Rattle.sst_base.specs.Entry.{Entry}
 use Rattle.sst_base.specs.declared.error.Error.{Error}
-use Rattle.sst_base.specs.declared.error.Error.TheVariants.{Io, BadHandle}
+use Rattle.sst_base.specs.declared.error.Error.TheVariants.{Io, BadHandle, Memory}
 use Rattle.sst_block_core.specs.Entries.{entries}
 use Rattle.sst_block_core.specs.Stages.{items_in}
 use Rattle.sst_block_core.specs.Handles.{Handle}
@@ -66,3 +66,7 @@ run_reading = record {
   tally = λ t. tally_by t.steps;
   cost = λ t. Some (λ i. cost_in t.run.bytes (run_interval t.run) (slice_get (index_in t.run.bytes t.run.handles.index) i));
 }
+
+-- the same where each block is made, so that an allocation may fail
+abbrev pub shared_reading : Reading (CutParts RunParts) Entry
+shared_reading = record run_reading { Errs = λ s t e. e ≡ Memory; Fails = λ s t x e. e ≡ Memory }

@@ -231,6 +231,15 @@ pub record RunScanParts : Type 0 where
   pub handles : List Handle
   pub counted : Tally
 
+-- what contracts see of a scan that makes the entries of a run: the same, and the error that ended it, if one did
+pub record SharedScanParts : Type 0 where
+  pub run : RunParts
+  pub range : KeyRange
+  pub left : List Entry
+  pub handles : List Handle
+  pub counted : Tally
+  pub ended : Option Error
+
 -- the restart interval of a run's index
 abbrev pub run_interval : RunParts → ℕ
 run_interval run = interval_in run.bytes run.handles.index

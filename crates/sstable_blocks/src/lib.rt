@@ -12,9 +12,9 @@ pub mod xxh3_hash;
 
 pub use run::{
     BufferedFile, FileSource, FrameSource, LockFiles, MemorySource, NewFile, NotMade, OpenError,
-    RunConfig, RunHandles, RunRef, RunScan, RunSummary, RunWriter, Scan, SizedSource, SyncWrite,
-    Table, cuts_fit, decode_footer, encode_footer, end_table, read_entry, read_entry_checked,
-    shared_entry, write_and_read, write_run,
+    RunConfig, RunHandles, RunRef, RunScan, RunSummary, RunWriter, Scan, SharedScan, SizedSource,
+    SyncWrite, Table, cuts_fit, decode_footer, encode_footer, end_table, read_entry,
+    read_entry_checked, shared_entry, write_and_read, write_run,
 };
 pub use sst_base::{
     Block, BlockHandle, BlockHash, BlockOffset, BlockType, ByteSum, Checksum, ChecksumType,

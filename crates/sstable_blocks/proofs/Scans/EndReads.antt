@@ -6,7 +6,7 @@ use Rattle.std.proofs.Math.Seq.{take-append_seam}
 use Rattle.std.specs.Iterator.{YieldsFirst, YieldsLast}
 use Rattle.std.specs.List.{AllByRecursion}
 use Rattle.std.specs.Option.{option_map}
-use Rattle.std.specs.Prelude.{IfSome, MatchResult, Result}
+use Rattle.std.specs.Prelude.{IfOk, IfSome, MatchResult, Result}
 use Rattle.sst_base.specs.Entry.{Entry}
 use Rattle.sst_base.specs.declared.error.Error.{Error}
 use Rattle.sst_base.specs.declared.error.Error.TheVariants.{Memory}
@@ -94,6 +94,11 @@ pub gave_first : (old new : List Entry) (x : Option Entry) → GivesNext {X = En
 gave_first old new None h = (sym (entries_again old) ∙ ap entries_read h.0, sym (entries_again new) ∙ ap entries_read h.1)
 gave_first old new (Some x) h = sym (entries_again old) ∙ ap entries_read h ∙ ap (λ xs. x ∷ xs) (entries_again new)
 
+-- where the entry was made
+pub made_first : (old new : List Entry) (result : Result (Option Entry) Error) (Fails : Error → Type 0) → MatchResult result (GivesNext {X = Entry} (map Ok old) (map Ok new)) Fails → IfOk result (λ x. YieldsFirst (λ xs. xs) old x new)
+made_first old new (Ok x) Fails h = gave_first old new x h
+made_first old new (Err e) Fails h = tt
+
 -- from the back
 pub turned_back : {X : Type 0} (old new : List X) (x : X) → reverse old ≡ x ∷ reverse new → old ≡ new ++ x ∷ []
 turned_back old new x h = sym (reverse-reverse old) ∙ ap reverse h ∙ reverse-append (x ∷ []) (reverse new) ∙ ap (λ xs. xs ++ x ∷ []) (reverse-reverse new)
@@ -108,6 +113,10 @@ entries_push (y ∷ ys) x = ap (λ xs. y ∷ xs) (entries_push ys x)
 pub gave_last : (old new : List Entry) (x : Option Entry) → GivesNext {X = Entry} (reverse (map Ok old)) (reverse (map Ok new)) x → YieldsLast (λ xs. xs) old x new
 gave_last old new None h = (sym (entries_again old) ∙ ap entries_read (turned_none (map Ok old) h.0), sym (entries_again new) ∙ ap entries_read (turned_none (map Ok new) h.1))
 gave_last old new (Some x) h = sym (entries_again old) ∙ ap entries_read (turned_back (map Ok old) (map Ok new) (Ok x) h) ∙ entries_push new x
+
+pub made_last : (old new : List Entry) (result : Result (Option Entry) Error) (Fails : Error → Type 0) → MatchResult result (GivesNext {X = Entry} (reverse (map Ok old)) (reverse (map Ok new))) Fails → IfOk result (λ x. YieldsLast (λ xs. xs) old x new)
+made_last old new (Ok x) Fails h = gave_last old new x h
+made_last old new (Err e) Fails h = tt
 
 -- ---- blocks
 pub all_true : {X : Type 0} (xs : List X) → AllByRecursion (λ (x : X). ◌≡◌ {A = Bool} true true) xs

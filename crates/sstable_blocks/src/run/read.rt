@@ -3,7 +3,7 @@ ghost use Rattle.std.specs.Prelude.{◌≡◌, ◌↔◌, ℕ, ◌+◌, ◌<◌,
 ghost use Rattle.std.specs.Prelude.{IsOkUnless, OnOk, false};
 ghost use Rattle.sst_base.specs.Counted.{CountsExactly, CountsBetween};
 ghost use Rattle.sst_base.specs.Entry.{Entry, IsEntry};
-ghost use Rattle.sst_block_core.specs.DataBlock.{data_ref_of};
+ghost use Rattle.sst_block_core.specs.DataBlock.{data_ref_of, ref_of_block};
 ghost use Rattle.sst_block_core.specs.Entries.{entries};
 ghost use Rattle.sst_block_core.specs.Handles.{Handle, IsIndexBlock};
 ghost use Rattle.sst_block_core.specs.IndexBlock.{index_ref_of};
@@ -27,10 +27,13 @@ use crate::run::open_filter::OpenFilter;
 use crate::run::run_ref::item_by_index;
 use crate::run::search::{DataSearchRef, IndexSearch};
 use sst_base::table::block::header::HEADER_LEN;
-use sst_base::{BlockHandle, BlockHash, Error, InternalValue, Result, SeqNo, Slice, Steps};
-use sst_block_core::ParsedItem;
+use sst_base::{
+    AllocResult, Block, BlockHandle, BlockHash, BlockType, Error, InternalValue, Result, SeqNo,
+    Slice, Steps,
+};
 use sst_block_core::table::data_block::{DataBlockParsedItem, DataBlockRef};
 use sst_block_core::table::index_block::IndexBlockRef;
+use sst_block_core::{DataBlock, ParsedItem};
 use std::alloc::Global;
 
 // The payload of a frame, by the frame's range alone.
@@ -117,6 +120,36 @@ pub(crate) fn item_in<H: BlockHash>(
     }
 }
 
+// The payload in a frame, which shares the bytes.
+#[tactic(auto, using(crate::proofs::Reading::Points::payload_range), unfolding(crate::specs::Opened::payload_in))]
+fn shared_payload(bytes: &Slice, handle: &BlockHandle) -> AllocResult<Slice>
+    requires { IsFrameRange bytes.now handle.now }
+    ensures { IfOk result (λ p. p ≡ payload_in bytes.now handle.now) }
+{
+    // A slice has fewer than 2^63 bytes.
+    let _fits = bytes.len();
+    let start = *handle.offset() as usize;
+    bytes.part(start + HEADER_LEN..start + handle.size() as usize)
+}
+
+// The data block in a frame, which shares the bytes.
+#[tactic(auto, using(crate::specs::RunLaws::payload_fits))]
+pub(crate) fn shared_block<H: BlockHash>(
+    bytes: &Slice,
+    handle: &BlockHandle,
+) -> AllocResult<DataBlock<H>>
+    requires range { IsFrameRange bytes.now handle.now }
+    requires block { (items : List Entry) × (r : ℕ) × (b : ℕ)
+        × IsBlock entries IsEntry H.hash64 (payload_in bytes.now handle.now) items r b }
+    ensures { IfOk result
+        (λ d. ref_of_block d ≡ data_ref_of (payload_in bytes.now handle.now) false) }
+{
+    // A size has 32 bits.
+    let _fits = handle.size();
+    let payload = shared_payload(bytes, handle)?;
+    Ok(DataBlock::new(Block::from_payload(BlockType::Data, payload)))
+}
+
 /// Makes the entry at a place in these bytes that [`RunRef::locate`](super::RunRef::locate) returned. Its value, and its
 /// key where that is encoded in full, share the bytes.
 ///
@@ -124,7 +157,6 @@ pub(crate) fn item_in<H: BlockHash>(
 ///
 /// `Error::Memory` if an allocation fails.
 #[inline(never)]
-#[tactic(auto, using(crate::proofs::Reading::Points::payload_range), unfolding(crate::specs::Opened::payload_in))]
 pub fn shared_entry(
     alloc: Global,
     bytes: &Slice,
@@ -135,10 +167,7 @@ pub fn shared_entry(
         (λ entry. entry ≡ entry_of (payload_in bytes.now place.now.0) place.now.1) }
     ensures memory { IsOkUnless result Error.Memory }
 {
-    // A slice has fewer than 2^63 bytes.
-    let _fits = bytes.len();
-    let start = *place.0.offset() as usize;
-    let payload = bytes.slice(start + HEADER_LEN..start + place.0.size() as usize)?;
+    let payload = shared_payload(bytes, &place.0)?;
     Ok(place.1.materialize(alloc, &payload)?)
 }
 

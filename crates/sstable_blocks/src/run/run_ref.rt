@@ -1,13 +1,15 @@
 //! Sound runs over borrowed bytes, read without checks and without memory.
-ghost use Rattle.std.specs.Prelude.{◌≡◌, ◌≢◌, ◌<◌, List, length, Ok, Err, IfOk, IfErr};
+ghost use Rattle.std.specs.Prelude.{◌≡◌, ◌≢◌, ℕ, ◌<◌, List, length, Ok, Err, IfOk, IfErr};
 ghost use Rattle.std.specs.Prelude.{MatchResult, false};
 ghost use Rattle.sst_base.specs.Counted.{CountsExactly};
-ghost use Rattle.sst_base.specs.Entry.{Entry};
+ghost use Rattle.sst_base.specs.Entry.{Entry, IsEntry};
 ghost use Rattle.sst_block_core.specs.Entries.{entries};
+ghost use Rattle.sst_block_core.specs.Payload.{IsBlock};
 ghost use Rattle.sst_block_core.specs.Window.{first_match};
 ghost use Rattle.sst_block_core.specs.DataBlock.{data_ref_of};
 ghost use Rattle.sstable_blocks.specs.Blocks.{joined};
-ghost use Rattle.sstable_blocks.specs.Opened.{IsDenied, IsFoundIn, found_entry, index_in};
+ghost use Rattle.sstable_blocks.specs.Opened.{IsDenied, IsFoundIn, IsFrameRange, found_entry};
+ghost use Rattle.sstable_blocks.specs.Opened.{index_in};
 ghost use Rattle.sstable_blocks.specs.Opened.{payload_in, range_of};
 ghost use Rattle.sstable_blocks.specs.ReadCosts.{CountsHandle, CountsRead};
 ghost use Rattle.sstable_blocks.specs.RunChecks.{check_run, summary_of};
@@ -195,17 +197,29 @@ impl<'a, H: BlockHash> RunRef<'a, H> {
         let _sound = self.bytes;
     }
 
-    // The block of the handle at an index of the index. The handles that are decoded are added to
-    // `steps`.
+    // The frame of the block of the handle at an index of the index. The handles that are decoded are
+    // added to `steps`.
+    pub(crate) fn frame_at(&self, index: usize, steps: &mut Steps) -> BlockHandle
+        requires { index < length (index_in self.now.bytes self.now.handles.index) }
+        ensures handle { AtRunHandle self.now index (λ h. result ≡ range_of h) }
+        ensures range { IsFrameRange self.now.bytes result }
+        ensures block { (items : List Entry) × (r : ℕ) × (b : ℕ)
+            × IsBlock entries IsEntry H.hash64 (payload_in self.now.bytes result) items r b }
+        ensures counts { CountsHandle steps.old steps.new (run_interval self.now) index }
+    {
+        sound_opens();
+        self.index.handle_at(index, steps)
+    }
+
+    // The block in that frame.
     pub(crate) fn block_at(&self, index: usize, steps: &mut Steps) -> DataBlockRef<'a, H>
         requires { index < length (index_in self.now.bytes self.now.handles.index) }
         ensures block { AtRunHandle self.now index
             (λ h. result ≡ data_ref_of (payload_in self.now.bytes (range_of h)) false) }
         ensures counts { CountsHandle steps.old steps.new (run_interval self.now) index }
     {
-        sound_opens();
-        let handle = self.index.handle_at(index, steps);
-        block_over::<H>(self.bytes, &handle)
+        let frame = self.frame_at(index, steps);
+        block_over::<H>(self.bytes, &frame)
     }
 }
 

@@ -1,6 +1,7 @@
 //! Scans of sound runs over borrowed bytes: without checks, and without memory.
-ghost use Rattle.std.specs.Prelude.{◌≡◌, Ok, IsOk, map, refl};
+ghost use Rattle.std.specs.Prelude.{◌≡◌, ◌≤◌, None, Ok, IsOk, length, map, refl};
 ghost use Rattle.std.specs.Iterator.{YieldsFirst, YieldsLast, item_count};
+ghost use Rattle.sstable_blocks.specs.BlockReading.{AddsUpTo};
 ghost use Rattle.sstable_blocks.specs.Ends.{AreEnds, ends};
 ghost use Rattle.sstable_blocks.specs.Readings.{run_reading};
 ghost use Rattle.std.specs.declared.ops.Bound.TheVariants.{Unbounded};
@@ -249,15 +250,9 @@ impl<'a, H: BlockHash> RunRef<'a, H> {
             (index_in self.now.bytes self.now.handles.index) }
         ensures counts { IsUpTo result.counted (run_search_cost self.now) }
     {
-        sound_is_scanned();
-        self.note_read();
         let bounds = Bounds { from, to };
-        let index = self.index();
         let mut steps = Steps::new();
-        let middle = Between {
-            lo: bounds.first_block(index, &mut steps),
-            hi: bounds.end_block(index, &mut steps),
-        };
+        let middle = self.blocks_within(&bounds, &mut steps);
         RunScan {
             cut: Cut {
                 run: self.again(),
@@ -267,6 +262,26 @@ impl<'a, H: BlockHash> RunRef<'a, H> {
             front: None,
             middle,
             back: None,
+        }
+    }
+
+    // The blocks that can have a key in a range, of which none is opened.
+    pub(super) fn blocks_within(&self, bounds: &Bounds<'_>, steps: &mut Steps) -> Between
+        ensures inside { result.hi ≤ length (index_in self.now.bytes self.now.handles.index) }
+        ensures left { ForSound (hashes H.hash64 H.hash128) self.now.bytes self.now.handles
+            (λ blocks. left_by self.now bounds.now None result.lo result.hi None
+            ≡ within bounds.now (map plain (joined blocks))) }
+        ensures handles { run_between self.now result.lo result.hi ≡ handles_within bounds.now
+            (index_in self.now.bytes self.now.handles.index) }
+        ensures counts { AddsUpTo (tally_by steps.old) (tally_by steps.new)
+            (run_search_cost self.now) }
+    {
+        sound_is_scanned();
+        self.note_read();
+        let index = self.index();
+        Between {
+            lo: bounds.first_block(index, steps),
+            hi: bounds.end_block(index, steps),
         }
     }
 }

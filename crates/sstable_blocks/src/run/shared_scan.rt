@@ -1,0 +1,278 @@
+//! Scans of sound runs whose bytes are owned: each entry is made, and shares these bytes.
+ghost use Rattle.std.specs.Prelude.{◌≡◌, ◌<◌, ◌^◌, false, length, map, IfOk, IsOkUnless, None};
+ghost use Rattle.std.specs.Iterator.{YieldsFirst, YieldsLast};
+ghost use Rattle.std.specs.declared.ops.Bound.TheVariants.{Unbounded};
+ghost use Rattle.sst_base.specs.Entry.{plain};
+ghost use Rattle.sst_base.specs.declared.error.Error.TheVariants.{Memory};
+ghost use Rattle.sst_block_core.specs.DataBlock.{data_ref_of, ref_of_block};
+ghost use Rattle.sst_block_core.specs.Entries.{entries};
+ghost use Rattle.sst_block_core.specs.Stages.{items_in};
+ghost use Rattle.sst_block_core.specs.Window.{items_left};
+ghost use Rattle.sstable_blocks.specs.Blocks.{joined};
+ghost use Rattle.sstable_blocks.specs.Opened.{index_in, payload_in, range_of};
+ghost use Rattle.sstable_blocks.specs.ReadCosts.{CountsHandle};
+ghost use Rattle.sstable_blocks.specs.ReadingLaws.{shared_laws};
+ghost use Rattle.sstable_blocks.specs.Readings.{shared_reading};
+ghost use Rattle.sstable_blocks.specs.RunReading.{hashes};
+ghost use Rattle.sstable_blocks.specs.Scans.{AtRunHandle, EndsBy, handles_within, range_by};
+ghost use Rattle.sstable_blocks.specs.Scans.{run_interval, run_search_cost, within};
+ghost use Rattle.sstable_blocks.specs.Sound.{ForSound};
+ghost use Rattle.sstable_blocks.specs.Tallies.{Adds, CountsFirst, CountsLast, IsUpTo, cut_cost_in};
+ghost use Rattle.sstable_blocks.specs.Tallies.{least_taken, most_taken, scan_tally};
+
+use super::blocks::{Blocks, add_steps};
+use super::bounds::Bounds;
+use super::cut::Cut;
+use super::ends::{Between, step_back, step_front};
+use super::read::shared_block;
+use super::run_ref::RunRef;
+use sst_base::{AllocResult, BlockHash, Error, InternalValue, Result, Slice, Steps};
+use sst_block_core::DataBlock;
+use sst_block_core::table::data_block::IntoEntries;
+use std::alloc::Global;
+use std::marker::Model;
+use std::ops::Bound;
+
+// A sound run, and the byte string that has its bytes. Clauses see the run.
+#[derive(Drop)]
+struct SharedRun<'a, H: BlockHash> {
+    run: RunRef<'a, H>,
+    bytes: &'a Slice,
+}
+
+impl<'a, H: BlockHash> Model for SharedRun<'a, H> {
+    ghost use Rattle.std.specs.Prelude.{◌≡◌};
+    ghost use Rattle.sstable_blocks.specs.Sound.{RunParts};
+
+    ghost Value = { RunParts };
+
+    ghost view = { λ r. r.run };
+
+    ghost invariant = { λ r. r.bytes.now ≡ r.run.bytes };
+}
+
+impl<'a, H: BlockHash> SharedRun<'a, H> {
+    // The block of the handle at an index of the index. It shares the bytes. The handles that are
+    // decoded are added to `steps`, also where it is not made.
+    fn block_at(&self, index: usize, steps: &mut Steps) -> AllocResult<DataBlock<H>>
+        requires { index < length (index_in self.now.bytes self.now.handles.index) }
+        ensures block { IfOk result (λ d. AtRunHandle self.now index
+            (λ h. ref_of_block d ≡ data_ref_of (payload_in self.now.bytes (range_of h)) false)) }
+        ensures counts { CountsHandle steps.old steps.new (run_interval self.now) index }
+    {
+        let frame = self.run.frame_at(index, steps);
+        shared_block::<H>(self.bytes, &frame)
+    }
+}
+
+// Opens the block of the handle at an index, and cuts it by the bounds. The handles that are decoded
+// are added to `steps`, also where the block is not made.
+fn cut_shared<H: BlockHash>(
+    run: &SharedRun<'_, H>,
+    bounds: &Bounds<'_>,
+    index: usize,
+    steps: &mut Steps,
+) -> AllocResult<IntoEntries<H>>
+    requires { index < length (index_in run.now.bytes run.now.handles.index) }
+    ensures left { IfOk result (λ e. AtRunHandle run.now index (λ h. items_left e.window
+        ≡ within bounds.now (items_in entries (payload_in run.now.bytes (range_of h))))) }
+    ensures few { IfOk result (λ e. length (items_left e.window) < 2 ^ 64) }
+    ensures cost { IfOk result (λ e. AtRunHandle run.now index
+        (λ h. IsUpTo (scan_tally e) (cut_cost_in run.now.bytes h))) }
+    ensures counts { CountsHandle steps.old steps.new (run_interval run.now) index }
+{
+    let block = run.block_at(index, steps)?;
+    let mut entries = block.into_entries();
+    bounds.cut(&mut entries);
+    // A slice has fewer than 2^63 items.
+    let _count = entries.count_left();
+    Ok(entries)
+}
+
+/// Nothing is tested; only an allocation may fail.
+impl<'a, 'k, H: BlockHash> Blocks<IntoEntries<H>> for Cut<'k, SharedRun<'a, H>> {
+    ghost reading = { shared_reading };
+
+    fn open(
+        &mut self,
+        _alloc: Global,
+        index: usize,
+        block: &mut Option<IntoEntries<H>>,
+    ) -> Result<()> {
+        let entries = cut_shared::<H>(&self.run, &self.bounds, index, &mut self.steps)?;
+        add_steps::<IntoEntries<H>>(&mut self.steps, block);
+        *block = Some(entries);
+        Ok(())
+    }
+
+    ghost laws = { shared_laws };
+}
+
+/// A scan of a sound run whose bytes a [`Slice`] has: makes its entries within a range of user keys, in
+/// order, from both ends in any mixture. Long values, and long keys that are encoded in full, share
+/// the bytes.
+///
+/// A block is opened when it is reached, without a checksum and a check, and those that the index
+/// shows to be outside the range are not opened. At most two blocks are held, one for each end. An
+/// error ends the scan: each later step returns it again.
+///
+/// Clauses see what they see of a [`RunScan`](super::RunScan), and the error that ended the scan, if one
+/// did.
+#[derive(Drop)]
+pub struct SharedScan<'a, 'k, H: BlockHash> {
+    cut: Cut<'k, SharedRun<'a, H>>,
+    front: Option<IntoEntries<H>>,
+    middle: Between,
+    back: Option<IntoEntries<H>>,
+    ended: Option<Error>,
+}
+
+impl<'a, 'k, H: BlockHash> Model for SharedScan<'a, 'k, H> {
+    ghost use Rattle.std.specs.Prelude.{◌≡◌, IfSome};
+    ghost use Rattle.sst_base.specs.declared.error.Error.TheVariants.{Memory};
+    ghost use Rattle.sst_block_core.specs.Window.{items_left};
+    ghost use Rattle.sstable_blocks.specs.Ends.{AreEnds, ends};
+    ghost use Rattle.sstable_blocks.specs.Readings.{shared_reading};
+    ghost use Rattle.sstable_blocks.specs.Scans.{SharedScanParts, left_by, run_between};
+    ghost use Rattle.sstable_blocks.specs.Tallies.{scan_tally, tally_all, tally_by};
+
+    ghost Value = { SharedScanParts };
+
+    ghost view = { λ s. record {
+      run = s.cut.run;
+      range = s.cut.range;
+      left = left_by s.cut.run s.cut.range s.front s.middle.lo s.middle.hi s.back;
+      handles = run_between s.cut.run s.middle.lo s.middle.hi;
+      counted = tally_all scan_tally (tally_by s.cut.steps) s.front s.back;
+      ended = s.ended;
+    } };
+
+    ghost invariant = { λ s. AreEnds shared_reading s.cut
+        (ends (λ e. items_left e.window) s.front s.middle s.back)
+        × IfSome s.ended (λ e. e ≡ Memory) };
+}
+
+impl<'a, 'k, H: BlockHash> SharedScan<'a, 'k, H> {
+    /// Returns what was counted since the scan was made, as [`RunScan::steps`](super::RunScan::steps) does.
+    pub fn steps(&self) -> Steps
+        ensures heads { result.heads ≡ self.now.counted.heads }
+        ensures entries { result.entries ≡ self.now.counted.entries }
+    {
+        let mut steps = Steps::new();
+        steps.add(&self.cut.steps);
+        add_steps::<IntoEntries<H>>(&mut steps, &self.front);
+        add_steps::<IntoEntries<H>>(&mut steps, &self.back);
+        steps
+    }
+
+    /// Takes the first entry left, or returns `None` if none is left.
+    ///
+    /// # Errors
+    ///
+    /// `Error::Memory` if an allocation fails. After an error each step returns that error.
+    #[inline(always)]
+    pub fn next_entry(&mut self, alloc: Global) -> Result<Option<InternalValue>>
+        ensures same { (self.new.run ≡ self.old.run) × (self.new.range ≡ self.old.range) }
+        ensures first { IfOk result
+            (λ x. YieldsFirst (λ xs. xs) self.old.left x self.new.left) }
+        ensures memory { IsOkUnless result Memory }
+        ensures ended { EndsBy self.old.ended self.new.ended result }
+        ensures looked { Adds self.old.counted self.new.counted (least_taken result) }
+        ensures counts { CountsFirst self.old.run.bytes (run_interval self.old.run)
+            self.old.counted self.old.handles self.new.counted self.new.handles
+            (most_taken result) }
+    {
+        if let Some(error) = self.ended {
+            return Err(error);
+        }
+        step_front::<IntoEntries<H>, Cut<'k, SharedRun<'a, H>>>(
+            alloc,
+            &mut self.cut,
+            &mut self.front,
+            &mut self.middle,
+            &mut self.back,
+            &mut self.ended,
+        )
+    }
+
+    /// Takes the last entry left, or returns `None` if none is left.
+    ///
+    /// # Errors
+    ///
+    /// `Error::Memory` if an allocation fails. After an error each step returns that error.
+    #[inline(always)]
+    pub fn next_entry_back(&mut self, alloc: Global) -> Result<Option<InternalValue>>
+        ensures same { (self.new.run ≡ self.old.run) × (self.new.range ≡ self.old.range) }
+        ensures last { IfOk result
+            (λ x. YieldsLast (λ xs. xs) self.old.left x self.new.left) }
+        ensures memory { IsOkUnless result Memory }
+        ensures ended { EndsBy self.old.ended self.new.ended result }
+        ensures looked { Adds self.old.counted self.new.counted (least_taken result) }
+        ensures counts { CountsLast self.old.run.bytes (run_interval self.old.run)
+            self.old.counted self.old.handles self.new.counted self.new.handles
+            (most_taken result) }
+    {
+        if let Some(error) = self.ended {
+            return Err(error);
+        }
+        step_back::<IntoEntries<H>, Cut<'k, SharedRun<'a, H>>>(
+            alloc,
+            &mut self.cut,
+            &mut self.back,
+            &mut self.middle,
+            &mut self.front,
+            &mut self.ended,
+        )
+    }
+}
+
+impl<'a, H: BlockHash> RunRef<'a, H> {
+    /// Scans all entries, and makes each of them: see [`SharedScan`]. The bytes are those of the run.
+    pub fn scan_shared<'k>(&self, bytes: &'a Slice) -> SharedScan<'a, 'k, H>
+        requires { bytes.now ≡ self.now.bytes }
+        ensures run { result.run ≡ self.now }
+        ensures range { result.range ≡ record { from = Unbounded; to = Unbounded } }
+        ensures left { ForSound (hashes H.hash64 H.hash128) self.now.bytes self.now.handles
+            (λ blocks. result.left ≡ within result.range (map plain (joined blocks))) }
+        ensures handles { result.handles ≡ handles_within result.range
+            (index_in self.now.bytes self.now.handles.index) }
+        ensures fresh { result.ended ≡ None }
+        ensures counts { IsUpTo result.counted (run_search_cost self.now) }
+    {
+        self.scan_range_shared(bytes, Bound::Unbounded, Bound::Unbounded)
+    }
+
+    /// Scans the entries whose user keys are between two bounds, and makes each of them: see
+    /// [`SharedScan`]. The bytes are those of the run. A range that ends before it starts has no keys.
+    pub fn scan_range_shared<'k>(
+        &self,
+        bytes: &'a Slice,
+        from: Bound<&'k [u8]>,
+        to: Bound<&'k [u8]>,
+    ) -> SharedScan<'a, 'k, H>
+        requires { bytes.now ≡ self.now.bytes }
+        ensures run { result.run ≡ self.now }
+        ensures range { result.range ≡ range_by (λ k. k.now) from.entry to.entry }
+        ensures left { ForSound (hashes H.hash64 H.hash128) self.now.bytes self.now.handles
+            (λ blocks. result.left ≡ within result.range (map plain (joined blocks))) }
+        ensures handles { result.handles ≡ handles_within result.range
+            (index_in self.now.bytes self.now.handles.index) }
+        ensures fresh { result.ended ≡ None }
+        ensures counts { IsUpTo result.counted (run_search_cost self.now) }
+    {
+        let bounds = Bounds { from, to };
+        let mut steps = Steps::new();
+        let middle = self.blocks_within(&bounds, &mut steps);
+        let run = SharedRun {
+            run: self.again(),
+            bytes,
+        };
+        SharedScan {
+            cut: Cut { run, bounds, steps },
+            front: None,
+            middle,
+            back: None,
+            ended: None,
+        }
+    }
+}
