@@ -100,8 +100,8 @@ impl<'a, 'k, H: BlockHash> Source<Reversed<EntryView<'a>>> for Rev<RunScan<'a, '
 /// A scan of a run that makes the entries, which are known. An error is a failed allocation.
 impl<'a, 'k, H: BlockHash> Source<InternalValue> for SharedScan<'a, 'k, H> {
     ghost left = { λ s. record {
-      list = Some s.left;
-      most = length s.left;
+      list = Some s.scan.left;
+      most = length s.scan.left;
       errors = Some [];
       ended = s.ended;
     } };
@@ -117,8 +117,8 @@ impl<'a, 'k, H: BlockHash> Source<InternalValue> for SharedScan<'a, 'k, H> {
 /// The same scan, from the back.
 impl<'a, 'k, H: BlockHash> Source<Reversed<InternalValue>> for Rev<SharedScan<'a, 'k, H>> {
     ghost left = { λ s. record {
-      list = Some (reverse s.source.left);
-      most = length s.source.left;
+      list = Some (reverse s.source.scan.left);
+      most = length s.source.scan.left;
       errors = Some [];
       ended = s.source.ended;
     } };

@@ -1,5 +1,5 @@
 -- Scans of a table: its entries within a range of keys, from both ends, a block at a time.
-use Rattle.std.specs.Prelude.{◌<◌, IfErr, slice_get, ◌≡◌, ◌≢◌, ◌⊎◌, ℕ, ◌+◌, ◌*◌, ◌^◌, ◌&&◌, min, not, Bool, true, false, List, [], ◌∷◌, ◌++◌, length, map, filter, count_by, Option, Some, None, IfSome, Result, Ok, Err}
+use Rattle.std.specs.Prelude.{◌<◌, IfErr, IfOk, IsOkUnless, slice_get, ◌≡◌, ◌≢◌, ◌⊎◌, ℕ, ◌+◌, ◌*◌, ◌^◌, ◌&&◌, min, not, Bool, true, false, List, [], ◌∷◌, ◌++◌, length, map, filter, count_by, Option, Some, None, IfSome, Result, Ok, Err}
 use Rattle.std.specs.Cmp.Lexicographic.{slice_cmp}
 use Rattle.std.specs.Ordering.{nat_cmp, is_le, is_lt}
 use Rattle.std.specs.Range.Bound.{bound_map}
@@ -27,7 +27,7 @@ use Rattle.sstable_blocks.specs.Blocks.{joined}
 use Rattle.sstable_blocks.specs.Sound.{ForSound, RunParts}
 use Rattle.sstable_blocks.specs.Sources.{IsSourceFailure, KeepsSource}
 use Rattle.sstable_blocks.specs.Tables.{TableParts}
-use Rattle.sstable_blocks.specs.Tallies.{Tally, Adds, CountsFirst, CountsLast, search_cost}
+use Rattle.sstable_blocks.specs.Tallies.{Tally, Adds, CountsFirst, CountsLast, IsUpTo, least_taken, most_taken, search_cost}
 use Rattle.sstable_blocks.specs.declared.run.RunHandles.{RunHandles}
 use Rattle.sst_base.specs.Header.{◌>>=◌}
 use Rattle.std.specs.Result.{result_err}
@@ -233,11 +233,7 @@ pub record RunScanParts : Type 0 where
 
 -- what contracts see of a scan that makes the entries of a run: the same, and the error that ended it, if one did
 pub record SharedScanParts : Type 0 where
-  pub run : RunParts
-  pub range : KeyRange
-  pub left : List Entry
-  pub handles : List Handle
-  pub counted : Tally
+  pub scan : RunScanParts
   pub ended : Option Error
 
 -- the restart interval of a run's index
@@ -296,3 +292,41 @@ run_between run lo hi = between (index_in run.bytes run.handles.index) lo hi
 -- the most that a scan's start examines: what two searches in the index of its run do
 abbrev pub run_search_cost : RunParts → Tally
 run_search_cost run = search_cost (run_interval run) (length (index_in run.bytes run.handles.index))
+
+-- a scan of a range of a sound run begins: the run's entries in the range are left, no block is opened, and what was
+-- counted is at most what the search for the ends of the range examines
+pub record BeginsScan (c : Hashes) (of : RunParts) (keys : KeyRange) (scan : RunScanParts) : Type 0 where
+  pub run : scan.run ≡ of
+  pub range : scan.range ≡ keys
+  pub left : ForSound c of.bytes of.handles (λ blocks. scan.left ≡ within keys (map plain (joined blocks)))
+  pub handles : scan.handles ≡ handles_within keys (index_in of.bytes of.handles.index)
+  pub counts : IsUpTo scan.counted (run_search_cost of)
+
+-- a scan of a range of a table begins: no block is read, and of known bytes that are a sound run the entries in the range
+-- are left
+pub record BeginsTableScan {S : Type 0} (c : Hashes) (bytes : S → Option (List ℕ)) (of : TableParts S) (keys : KeyRange) (scan : ScanParts S) : Type 0 where
+  pub table : scan.table ≡ of
+  pub range : scan.range ≡ keys
+  pub handles : scan.handles ≡ handles_within keys of.index
+  pub fresh : (scan.front ≡ []) × (scan.back ≡ []) × (scan.ended ≡ None)
+  pub counts : IsUpTo scan.counted (search_cost of.interval (length of.index))
+  pub sound : IfSome (bytes of.source) (ScansSound c of.handles scan)
+
+-- a step from the front of a scan that makes entries gives the first entry left, which is then gone; where it is not made,
+-- an allocation failed
+pub record MakesFirst (old : RunScanParts) (result : Result (Option Entry) Error) (new : RunScanParts) : Type 0 where
+  pub run : new.run ≡ old.run
+  pub range : new.range ≡ old.range
+  pub first : IfOk result (λ x. YieldsFirst (λ xs. xs) old.left x new.left)
+  pub memory : IsOkUnless result Memory
+  pub looked : Adds old.counted new.counted (least_taken result)
+  pub counts : CountsFirst old.run.bytes (run_interval old.run) old.counted old.handles new.counted new.handles (most_taken result)
+
+-- a step from the back gives the last
+pub record MakesLast (old : RunScanParts) (result : Result (Option Entry) Error) (new : RunScanParts) : Type 0 where
+  pub run : new.run ≡ old.run
+  pub range : new.range ≡ old.range
+  pub last : IfOk result (λ x. YieldsLast (λ xs. xs) old.left x new.left)
+  pub memory : IsOkUnless result Memory
+  pub looked : Adds old.counted new.counted (least_taken result)
+  pub counts : CountsLast old.run.bytes (run_interval old.run) old.counted old.handles new.counted new.handles (most_taken result)

@@ -1,5 +1,6 @@
 -- Scans of sound runs.
-use Rattle.std.proofs.Common.{zero, suc, take, drop, ◌≡◌, ℕ, ◌-◌, List, [], ◌∷◌, ◌++◌, map, refl, sym, subst, ◌∙◌, ap, append-nil, Option, Result, Ok}
+use Rattle.std.proofs.Common.{zero, suc, take, drop, ◌≡◌, ℕ, ◌-◌, List, [], ◌∷◌, ◌++◌, map, refl, sym, subst, ◌∙◌, ap, append-nil, Option, Ok, Err, inl, inr}
+use Rattle.std.specs.Prelude.{◌⊎◌, IfErr, IfOk, IsOkUnless, Result}
 use Rattle.std.proofs.lemmas.List.{map-append}
 use Rattle.std.specs.Iterator.{YieldsFirst, YieldsLast}
 use Rattle.std.specs.List.{AllByRecursion}
@@ -7,6 +8,7 @@ use Rattle.sst_base.specs.Counted.{found_item}
 use Rattle.sst_base.specs.Entry.{Entry, plain}
 use Rattle.sst_base.specs.Header.{◌>>=◌}
 use Rattle.sst_base.specs.declared.error.Error.{Error}
+use Rattle.sst_base.specs.declared.error.Error.TheVariants.{Memory}
 use Rattle.sst_block_core.specs.Entries.{entries}
 use Rattle.sst_block_core.specs.Scan.{Scan}
 use Rattle.sst_block_core.specs.Stages.{items_in}
@@ -15,8 +17,8 @@ use Rattle.sstable_blocks.specs.Blocks.{joined}
 use Rattle.sstable_blocks.specs.Opened.{range_of, payload_in, index_in}
 use Rattle.sstable_blocks.specs.RunReading.{Hashes}
 use Rattle.sstable_blocks.specs.Sound.{RunParts}
-use Rattle.sstable_blocks.specs.Tallies.{Adds, CountsFirst, CountsLast, Tally}
-use Rattle.sstable_blocks.specs.Scans.{KeyRange, RunScanParts, ScansFirst, ScansLast, left_by, within, reads_of, blocks_read, between, entries_read, entries_within, entries_among, first_block, end_block, handles_within, run_interval, IsBlockRead}
+use Rattle.sstable_blocks.specs.Tallies.{Adds, CountsFirst, CountsLast, Tally, least_taken, most_taken}
+use Rattle.sstable_blocks.specs.Scans.{KeyRange, MakesFirst, MakesLast, RunScanParts, ScansFirst, ScansLast, left_by, within, reads_of, blocks_read, between, entries_read, entries_within, entries_among, first_block, end_block, handles_within, run_interval, IsBlockRead}
 
 module _ {X : Type 0} (P : X → Type 0) where
   pub some_dropped : (n : ℕ) (xs : List X) → AllByRecursion P xs → AllByRecursion P (drop n xs)
@@ -71,7 +73,7 @@ unfolding handles_within
 fresh_handles r hs lo hi first last = ap (λ n. between hs n hi) first ∙ ap (λ n. between hs (first_block r hs) n) last
 
 -- a step of a scan leaves its run and its range
-module _ (old : RunScanParts) (result : Option Entry) (front : Option (Scan Entry)) (lo hi : ℕ) (back : Option (Scan Entry)) (counted : Tally) where
+module _ (old : RunScanParts) (front : Option (Scan Entry)) (lo hi : ℕ) (back : Option (Scan Entry)) (counted : Tally) where
   abbrev pub moved : RunParts → KeyRange → RunScanParts
   moved run range = record {
     run = run;
@@ -85,10 +87,24 @@ module _ (old : RunScanParts) (result : Option Entry) (front : Option (Scan Entr
     as_moved : (P : RunScanParts → Type 0) → P (moved old.run old.range) → P (moved run range)
     as_moved P p = subst (λ k. P (moved k range)) (sym same) (subst (λ k. P (moved old.run k)) (sym same_range) p)
 
-    pub moved_first : YieldsFirst (λ xs. xs) old.left result (left_by old.run old.range front lo hi back) → Adds old.counted counted (found_item result)
-        → CountsFirst old.run.bytes (run_interval old.run) old.counted old.handles counted (between (index_in old.run.bytes old.run.handles.index) lo hi) (found_item result) → ScansFirst old result (moved run range)
-    moved_first first looked counts = as_moved (ScansFirst old result) (record { run = refl; range = refl; first = first; looked = looked; counts = counts })
+    pub moved_first : (x : Option Entry) → YieldsFirst (λ xs. xs) old.left x (left_by old.run old.range front lo hi back) → Adds old.counted counted (found_item x)
+        → CountsFirst old.run.bytes (run_interval old.run) old.counted old.handles counted (between (index_in old.run.bytes old.run.handles.index) lo hi) (found_item x) → ScansFirst old x (moved run range)
+    moved_first x first looked counts = as_moved (ScansFirst old x) (record { run = refl; range = refl; first = first; looked = looked; counts = counts })
 
-    pub moved_last : YieldsLast (λ xs. xs) old.left result (left_by old.run old.range front lo hi back) → Adds old.counted counted (found_item result)
-        → CountsLast old.run.bytes (run_interval old.run) old.counted old.handles counted (between (index_in old.run.bytes old.run.handles.index) lo hi) (found_item result) → ScansLast old result (moved run range)
-    moved_last last looked counts = as_moved (ScansLast old result) (record { run = refl; range = refl; last = last; looked = looked; counts = counts })
+    pub moved_last : (x : Option Entry) → YieldsLast (λ xs. xs) old.left x (left_by old.run old.range front lo hi back) → Adds old.counted counted (found_item x)
+        → CountsLast old.run.bytes (run_interval old.run) old.counted old.handles counted (between (index_in old.run.bytes old.run.handles.index) lo hi) (found_item x) → ScansLast old x (moved run range)
+    moved_last x last looked counts = as_moved (ScansLast old x) (record { run = refl; range = refl; last = last; looked = looked; counts = counts })
+
+    -- the same of a scan that makes the entries
+    pub moved_made : (r : Result (Option Entry) Error) → IfOk r (λ x. YieldsFirst (λ xs. xs) old.left x (left_by old.run old.range front lo hi back)) → IsOkUnless r Memory → Adds old.counted counted (least_taken r)
+        → CountsFirst old.run.bytes (run_interval old.run) old.counted old.handles counted (between (index_in old.run.bytes old.run.handles.index) lo hi) (most_taken r) → MakesFirst old r (moved run range)
+    moved_made r first memory looked counts = as_moved (MakesFirst old r) (record { run = refl; range = refl; first = first; memory = memory; looked = looked; counts = counts })
+
+    pub moved_made_last : (r : Result (Option Entry) Error) → IfOk r (λ x. YieldsLast (λ xs. xs) old.left x (left_by old.run old.range front lo hi back)) → IsOkUnless r Memory → Adds old.counted counted (least_taken r)
+        → CountsLast old.run.bytes (run_interval old.run) old.counted old.handles counted (between (index_in old.run.bytes old.run.handles.index) lo hi) (most_taken r) → MakesLast old r (moved run range)
+    moved_made_last r last memory looked counts = as_moved (MakesLast old r) (record { run = refl; range = refl; last = last; memory = memory; looked = looked; counts = counts })
+
+-- an error that opens no block, or that makes no entry
+pub only_memory : {X : Type 0} (r : Result X Error) → IfErr r (λ e. (e ≡ Memory) ⊎ (e ≡ Memory)) → IsOkUnless r Memory
+only_memory (Ok x) h = tt
+only_memory (Err e) h = elim h [ inl m ↦ m | inr m ↦ m ]

@@ -11,10 +11,11 @@ ghost use Rattle.sstable_blocks.specs.RunReading.{hashes};
 ghost use Rattle.sst_base.specs.Counted.{found_item};
 ghost use Rattle.sst_block_core.specs.Window.{items_left};
 ghost use Rattle.sstable_blocks.specs.Opened.{index_in};
-ghost use Rattle.sstable_blocks.specs.Scans.{ScansFirst, ScansLast, handles_within, run_between};
+ghost use Rattle.sstable_blocks.specs.Scans.{BeginsScan, ScansFirst, ScansLast, handles_within};
+ghost use Rattle.sstable_blocks.specs.Scans.{run_between};
 ghost use Rattle.sstable_blocks.specs.Scans.{run_interval, run_search_cost};
 ghost use Rattle.sstable_blocks.specs.Scans.{left_by, within, range_by};
-ghost use Rattle.sstable_blocks.specs.Tallies.{Adds, CountsFirst, CountsLast, IsUpTo, scan_tally};
+ghost use Rattle.sstable_blocks.specs.Tallies.{Adds, CountsFirst, CountsLast, scan_tally};
 ghost use Rattle.sstable_blocks.specs.Tallies.{tally_all, tally_by};
 ghost use Rattle.sstable_blocks.specs.Sound.{ForSound};
 
@@ -228,13 +229,8 @@ impl<'a, 'k, H: BlockHash> ListIterator for RunScan<'a, 'k, H> {
 impl<'a, H: BlockHash> RunRef<'a, H> {
     /// Scans all entries: see [`RunScan`].
     pub fn scan<'k>(&self) -> RunScan<'a, 'k, H>
-        ensures run { result.run ≡ self.now }
-        ensures range { result.range ≡ record { from = Unbounded; to = Unbounded } }
-        ensures left { ForSound (hashes H.hash64 H.hash128) self.now.bytes self.now.handles
-            (λ blocks. result.left ≡ within result.range (map plain (joined blocks))) }
-        ensures handles { result.handles ≡ handles_within result.range
-            (index_in self.now.bytes self.now.handles.index) }
-        ensures counts { IsUpTo result.counted (run_search_cost self.now) }
+        ensures { BeginsScan (hashes H.hash64 H.hash128) self.now
+            (record { from = Unbounded; to = Unbounded }) result }
     {
         self.scan_range(Bound::Unbounded, Bound::Unbounded)
     }
@@ -242,13 +238,8 @@ impl<'a, H: BlockHash> RunRef<'a, H> {
     /// Scans the entries whose user keys are between two bounds: see [`RunScan`]. A range that ends
     /// before it starts has no keys.
     pub fn scan_range<'k>(&self, from: Bound<&'k [u8]>, to: Bound<&'k [u8]>) -> RunScan<'a, 'k, H>
-        ensures run { result.run ≡ self.now }
-        ensures range { result.range ≡ range_by (λ k. k.now) from.entry to.entry }
-        ensures left { ForSound (hashes H.hash64 H.hash128) self.now.bytes self.now.handles
-            (λ blocks. result.left ≡ within result.range (map plain (joined blocks))) }
-        ensures handles { result.handles ≡ handles_within result.range
-            (index_in self.now.bytes self.now.handles.index) }
-        ensures counts { IsUpTo result.counted (run_search_cost self.now) }
+        ensures { BeginsScan (hashes H.hash64 H.hash128) self.now
+            (range_by (λ k. k.now) from.entry to.entry) result }
     {
         let bounds = Bounds { from, to };
         let mut steps = Steps::new();

@@ -1,14 +1,13 @@
 //! Scans of tables: the entries within a range of keys, from both ends.
-ghost use Rattle.std.specs.Prelude.{◌≡◌, ◌<◌, [], true, length, IfOk, IfSome};
-ghost use Rattle.std.specs.Prelude.{None};
+ghost use Rattle.std.specs.Prelude.{◌≡◌, true, IfOk, IfSome};
 ghost use Rattle.std.specs.declared.ops.Bound.TheVariants.{Unbounded};
 ghost use Rattle.sstable_blocks.specs.RunReading.{hashes};
-ghost use Rattle.sstable_blocks.specs.Scans.{EndsBy, IsSameScan, ReadsFirst, ReadsLast};
+ghost use Rattle.sstable_blocks.specs.Scans.{BeginsTableScan, EndsBy, IsSameScan, ReadsFirst};
+ghost use Rattle.sstable_blocks.specs.Scans.{ReadsLast, UsesScan, between, in_range, most_left};
+ghost use Rattle.sstable_blocks.specs.Scans.{range_by};
 ghost use Rattle.sstable_blocks.specs.Ends.{IsFewer};
-ghost use Rattle.sstable_blocks.specs.Scans.{between, handles_within, in_range, most_left};
-ghost use Rattle.sstable_blocks.specs.Scans.{ScansSound, UsesScan, range_by};
-ghost use Rattle.sstable_blocks.specs.Tallies.{Adds, CountsFirst, CountsLast, IsUpTo, least_taken};
-ghost use Rattle.sstable_blocks.specs.Tallies.{most_taken, search_cost};
+ghost use Rattle.sstable_blocks.specs.Tallies.{Adds, CountsFirst, CountsLast, least_taken};
+ghost use Rattle.sstable_blocks.specs.Tallies.{most_taken};
 
 use super::blocks::add_steps;
 use super::bounds::Bounds;
@@ -71,15 +70,9 @@ impl<'k, H: BlockHash, S: FrameSource> Model for Scan<'k, H, S> {
 impl<'k, H: BlockHash, S: FrameSource> Scan<'k, H, S> {
     /// Starts a scan of the user keys between two bounds. No block is read yet. A range that ends
     /// before it starts has no keys.
-    #[tactic(auto, unfolding(crate::specs::Scans::handles_within))]
     pub fn new(table: Table<H, S>, from: Bound<&'k [u8]>, to: Bound<&'k [u8]>) -> Scan<'k, H, S>
-        ensures table { result.table ≡ table }
-        ensures range { result.range ≡ range_by (λ k. k.now) from.entry to.entry }
-        ensures handles { result.handles ≡ handles_within result.range table.index }
-        ensures fresh { (result.front ≡ []) × (result.back ≡ []) × (result.ended ≡ None) }
-        ensures counts { IsUpTo result.counted (search_cost table.interval (length table.index)) }
-        ensures sound { IfSome (S.bytes table.source)
-            (ScansSound (hashes H.hash64 H.hash128) table.handles result) }
+        ensures { BeginsTableScan (hashes H.hash64 H.hash128) S.bytes table
+            (range_by (λ k. k.now) from.entry to.entry) result }
     {
         sound_is_scanned();
         let bounds = Bounds { from, to };
@@ -214,26 +207,16 @@ impl<'k, H: BlockHash, S: FrameSource> Scan<'k, H, S> {
 impl<H: BlockHash, S: FrameSource> Table<H, S> {
     /// Scans all entries: see [`Scan`]. [`Scan::into_table`] returns the table.
     pub fn scan<'k>(self) -> Scan<'k, H, S>
-        ensures table { result.table ≡ self }
-        ensures range { result.range ≡ record { from = Unbounded; to = Unbounded } }
-        ensures handles { result.handles ≡ handles_within result.range self.index }
-        ensures fresh { (result.front ≡ []) × (result.back ≡ []) × (result.ended ≡ None) }
-        ensures counts { IsUpTo result.counted (search_cost self.interval (length self.index)) }
-        ensures sound { IfSome (S.bytes self.source)
-            (ScansSound (hashes H.hash64 H.hash128) self.handles result) }
+        ensures { BeginsTableScan (hashes H.hash64 H.hash128) S.bytes self
+            (record { from = Unbounded; to = Unbounded }) result }
     {
         Scan::new(self, Bound::Unbounded, Bound::Unbounded)
     }
 
     /// Scans the entries whose user keys are between two bounds: see [`Scan`].
     pub fn scan_range<'k>(self, from: Bound<&'k [u8]>, to: Bound<&'k [u8]>) -> Scan<'k, H, S>
-        ensures table { result.table ≡ self }
-        ensures range { result.range ≡ range_by (λ k. k.now) from.entry to.entry }
-        ensures handles { result.handles ≡ handles_within result.range self.index }
-        ensures fresh { (result.front ≡ []) × (result.back ≡ []) × (result.ended ≡ None) }
-        ensures counts { IsUpTo result.counted (search_cost self.interval (length self.index)) }
-        ensures sound { IfSome (S.bytes self.source)
-            (ScansSound (hashes H.hash64 H.hash128) self.handles result) }
+        ensures { BeginsTableScan (hashes H.hash64 H.hash128) S.bytes self
+            (range_by (λ k. k.now) from.entry to.entry) result }
     {
         Scan::new(self, from, to)
     }

@@ -1,24 +1,18 @@
 //! Scans of sound runs whose bytes are owned: each entry is made, and shares these bytes.
-ghost use Rattle.std.specs.Prelude.{◌≡◌, ◌<◌, ◌^◌, false, length, map, IfOk, IsOkUnless, None};
-ghost use Rattle.std.specs.Iterator.{YieldsFirst, YieldsLast};
+ghost use Rattle.std.specs.Prelude.{◌≡◌, ◌<◌, ◌^◌, false, length, IfOk, None};
 ghost use Rattle.std.specs.declared.ops.Bound.TheVariants.{Unbounded};
-ghost use Rattle.sst_base.specs.Entry.{plain};
-ghost use Rattle.sst_base.specs.declared.error.Error.TheVariants.{Memory};
 ghost use Rattle.sst_block_core.specs.DataBlock.{data_ref_of, ref_of_block};
 ghost use Rattle.sst_block_core.specs.Entries.{entries};
 ghost use Rattle.sst_block_core.specs.Stages.{items_in};
 ghost use Rattle.sst_block_core.specs.Window.{items_left};
-ghost use Rattle.sstable_blocks.specs.Blocks.{joined};
 ghost use Rattle.sstable_blocks.specs.Opened.{index_in, payload_in, range_of};
 ghost use Rattle.sstable_blocks.specs.ReadCosts.{CountsHandle};
 ghost use Rattle.sstable_blocks.specs.ReadingLaws.{shared_laws};
 ghost use Rattle.sstable_blocks.specs.Readings.{shared_reading};
 ghost use Rattle.sstable_blocks.specs.RunReading.{hashes};
-ghost use Rattle.sstable_blocks.specs.Scans.{AtRunHandle, EndsBy, handles_within, range_by};
-ghost use Rattle.sstable_blocks.specs.Scans.{run_interval, run_search_cost, within};
-ghost use Rattle.sstable_blocks.specs.Sound.{ForSound};
-ghost use Rattle.sstable_blocks.specs.Tallies.{Adds, CountsFirst, CountsLast, IsUpTo, cut_cost_in};
-ghost use Rattle.sstable_blocks.specs.Tallies.{least_taken, most_taken, scan_tally};
+ghost use Rattle.sstable_blocks.specs.Scans.{AtRunHandle, BeginsScan, EndsBy, MakesFirst};
+ghost use Rattle.sstable_blocks.specs.Scans.{MakesLast, range_by, run_interval, within};
+ghost use Rattle.sstable_blocks.specs.Tallies.{IsUpTo, cut_cost_in, scan_tally};
 
 use super::blocks::{Blocks, add_steps};
 use super::bounds::Bounds;
@@ -139,11 +133,13 @@ impl<'a, 'k, H: BlockHash> Model for SharedScan<'a, 'k, H> {
     ghost Value = { SharedScanParts };
 
     ghost view = { λ s. record {
-      run = s.cut.run;
-      range = s.cut.range;
-      left = left_by s.cut.run s.cut.range s.front s.middle.lo s.middle.hi s.back;
-      handles = run_between s.cut.run s.middle.lo s.middle.hi;
-      counted = tally_all scan_tally (tally_by s.cut.steps) s.front s.back;
+      scan = record {
+        run = s.cut.run;
+        range = s.cut.range;
+        left = left_by s.cut.run s.cut.range s.front s.middle.lo s.middle.hi s.back;
+        handles = run_between s.cut.run s.middle.lo s.middle.hi;
+        counted = tally_all scan_tally (tally_by s.cut.steps) s.front s.back;
+      };
       ended = s.ended;
     } };
 
@@ -155,8 +151,8 @@ impl<'a, 'k, H: BlockHash> Model for SharedScan<'a, 'k, H> {
 impl<'a, 'k, H: BlockHash> SharedScan<'a, 'k, H> {
     /// Returns what was counted since the scan was made, as [`RunScan::steps`](super::RunScan::steps) does.
     pub fn steps(&self) -> Steps
-        ensures heads { result.heads ≡ self.now.counted.heads }
-        ensures entries { result.entries ≡ self.now.counted.entries }
+        ensures heads { result.heads ≡ self.now.scan.counted.heads }
+        ensures entries { result.entries ≡ self.now.scan.counted.entries }
     {
         let mut steps = Steps::new();
         steps.add(&self.cut.steps);
@@ -172,15 +168,8 @@ impl<'a, 'k, H: BlockHash> SharedScan<'a, 'k, H> {
     /// `Error::Memory` if an allocation fails. After an error each step returns that error.
     #[inline(always)]
     pub fn next_entry(&mut self, alloc: Global) -> Result<Option<InternalValue>>
-        ensures same { (self.new.run ≡ self.old.run) × (self.new.range ≡ self.old.range) }
-        ensures first { IfOk result
-            (λ x. YieldsFirst (λ xs. xs) self.old.left x self.new.left) }
-        ensures memory { IsOkUnless result Memory }
+        ensures first { MakesFirst self.old.scan result self.new.scan }
         ensures ended { EndsBy self.old.ended self.new.ended result }
-        ensures looked { Adds self.old.counted self.new.counted (least_taken result) }
-        ensures counts { CountsFirst self.old.run.bytes (run_interval self.old.run)
-            self.old.counted self.old.handles self.new.counted self.new.handles
-            (most_taken result) }
     {
         if let Some(error) = self.ended {
             return Err(error);
@@ -202,15 +191,8 @@ impl<'a, 'k, H: BlockHash> SharedScan<'a, 'k, H> {
     /// `Error::Memory` if an allocation fails. After an error each step returns that error.
     #[inline(always)]
     pub fn next_entry_back(&mut self, alloc: Global) -> Result<Option<InternalValue>>
-        ensures same { (self.new.run ≡ self.old.run) × (self.new.range ≡ self.old.range) }
-        ensures last { IfOk result
-            (λ x. YieldsLast (λ xs. xs) self.old.left x self.new.left) }
-        ensures memory { IsOkUnless result Memory }
+        ensures last { MakesLast self.old.scan result self.new.scan }
         ensures ended { EndsBy self.old.ended self.new.ended result }
-        ensures looked { Adds self.old.counted self.new.counted (least_taken result) }
-        ensures counts { CountsLast self.old.run.bytes (run_interval self.old.run)
-            self.old.counted self.old.handles self.new.counted self.new.handles
-            (most_taken result) }
     {
         if let Some(error) = self.ended {
             return Err(error);
@@ -230,14 +212,9 @@ impl<'a, H: BlockHash> RunRef<'a, H> {
     /// Scans all entries, and makes each of them: see [`SharedScan`]. The bytes are those of the run.
     pub fn scan_shared<'k>(&self, bytes: &'a Slice) -> SharedScan<'a, 'k, H>
         requires { bytes.now ≡ self.now.bytes }
-        ensures run { result.run ≡ self.now }
-        ensures range { result.range ≡ record { from = Unbounded; to = Unbounded } }
-        ensures left { ForSound (hashes H.hash64 H.hash128) self.now.bytes self.now.handles
-            (λ blocks. result.left ≡ within result.range (map plain (joined blocks))) }
-        ensures handles { result.handles ≡ handles_within result.range
-            (index_in self.now.bytes self.now.handles.index) }
+        ensures begins { BeginsScan (hashes H.hash64 H.hash128) self.now
+            (record { from = Unbounded; to = Unbounded }) result.scan }
         ensures fresh { result.ended ≡ None }
-        ensures counts { IsUpTo result.counted (run_search_cost self.now) }
     {
         self.scan_range_shared(bytes, Bound::Unbounded, Bound::Unbounded)
     }
@@ -251,14 +228,9 @@ impl<'a, H: BlockHash> RunRef<'a, H> {
         to: Bound<&'k [u8]>,
     ) -> SharedScan<'a, 'k, H>
         requires { bytes.now ≡ self.now.bytes }
-        ensures run { result.run ≡ self.now }
-        ensures range { result.range ≡ range_by (λ k. k.now) from.entry to.entry }
-        ensures left { ForSound (hashes H.hash64 H.hash128) self.now.bytes self.now.handles
-            (λ blocks. result.left ≡ within result.range (map plain (joined blocks))) }
-        ensures handles { result.handles ≡ handles_within result.range
-            (index_in self.now.bytes self.now.handles.index) }
+        ensures begins { BeginsScan (hashes H.hash64 H.hash128) self.now
+            (range_by (λ k. k.now) from.entry to.entry) result.scan }
         ensures fresh { result.ended ≡ None }
-        ensures counts { IsUpTo result.counted (run_search_cost self.now) }
     {
         let bounds = Bounds { from, to };
         let mut steps = Steps::new();

@@ -18,4 +18,4 @@ returns c =
     let run = table_run c.args.table.now c.index-index.ensures.kept c.requires c.accepted_run_is_sound.ensures c.sound_is_scanned.ensures in
     let items = map plain (joined run.blocks) in
     let left = c.scan.ensures.left run.blocks (subst (λ r. IsSound table_hashes run.blocks r.bytes r.handles) (sym c.trusted.ensures) run.sound) in
-    run.is ∙ ap Some (sym (left ∙ ap (λ r. within r items) c.scan.ensures.range ∙ within_all items))
+    run.is ∙ ap Some (sym (left ∙ within_all items))

@@ -9,5 +9,5 @@ returns-clause-steps g c =
     let n = c.step_back.new in
     let e = c.step_back.ensures in
     let counted = tally_all scan_tally (tally_by n.cut.steps) n.front n.back in
-    subst (λ v. ScansLast v c.step_back.result (moved v c.step_back.result n.front n.middle.lo n.middle.hi n.back counted n.cut.run n.cut.range)) c.self.view_is
-    (moved_last _ c.step_back.result n.front n.middle.lo n.middle.hi n.back counted n.cut.run n.cut.range e.same.0 e.same.1 e.last e.looked e.counts)
+    subst (λ v. ScansLast v c.step_back.result (moved v n.front n.middle.lo n.middle.hi n.back counted n.cut.run n.cut.range)) c.self.view_is
+    (moved_last _ n.front n.middle.lo n.middle.hi n.back counted n.cut.run n.cut.range e.same.0 e.same.1 c.step_back.result e.last e.looked e.counts)
