@@ -30,5 +30,5 @@ pub use ranked::Ranked;
 pub use reader::{Reader, read_levels, read_tables};
 pub use rev::{Rev, Reversed};
 pub use snapshot::Snapshot;
-pub use source::Source;
+pub use source::{Source, keep_error};
 pub use writing::{Sizes, write_table};

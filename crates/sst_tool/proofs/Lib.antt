@@ -3,3 +3,4 @@ pub mod Follows
 pub mod Limits
 pub mod Prefixes
 mod Printed
+mod Passed

@@ -4,7 +4,7 @@ ghost use Rattle.sst_merge.specs.Sources.{MayGive, MeetsNoMore, TakesFirst};
 ghost use Rattle.sst_tool.specs.Limits.{limited};
 ghost use Rattle.sst_tool.specs.Passed.{passed_on};
 
-use sst_merge::Source;
+use sst_merge::{Source, keep_error};
 use sstable_blocks::{Error, InternalValue, Result};
 use std::alloc::Global;
 
@@ -64,9 +64,7 @@ impl<I: Source<InternalValue>> Source<InternalValue> for Limited<I> {
             return Err(error);
         }
         let next = next_counted(alloc, &mut self.source, &mut self.count);
-        if let Err(error) = &next {
-            self.ended = Some(*error);
-        }
+        keep_error(&mut self.ended, &next);
         next
     }
 }

@@ -5,7 +5,7 @@ ghost use Rattle.sst_tool.specs.Orders.{may_follow, FailsInOrder, GivesInOrder, 
 ghost use Rattle.sst_tool.specs.Passed.{passed_on};
 ghost use Rattle.sstable_blocks.specs.Scans.{EndsBy};
 
-use sst_merge::Source;
+use sst_merge::{Source, keep_error};
 use sstable_blocks::{Error, InternalKey, InternalValue, Result};
 use std::alloc::Global;
 
@@ -129,9 +129,7 @@ impl<I: InBlocks> Source<InternalValue> for Ordered<I> {
             return Err(error);
         }
         let next = next_following(alloc, &mut self.source, self.direction, &mut self.last);
-        if let Err(error) = &next {
-            self.ended = Some(*error);
-        }
+        keep_error(&mut self.ended, &next);
         next
     }
 }

@@ -15,7 +15,7 @@ use crate::whole::footer_of;
 use crate::words::{FILE, OUT};
 use clap::ArgMatches;
 use sst_block_core::table::data_block::IntoEntries;
-use sst_merge::Source;
+use sst_merge::{Source, keep_error};
 use sstable_blocks::run::checked::{data_block_from, index_block_from};
 use sstable_blocks::{
     BlockHandle, BlockHash, DataBlock, Error, FileSource, FrameSource, IndexBlock, InternalValue,
@@ -198,9 +198,7 @@ impl<'p, 'w, H: BlockHash, S: FrameSource, R: Clock + Eprint> Source<InternalVal
             return Err(error);
         }
         let next = next_counted(alloc, &mut self.blocks, &mut self.most);
-        if let Err(error) = &next {
-            self.ended = Some(*error);
-        }
+        keep_error(&mut self.ended, &next);
         next
     }
 }

@@ -5,7 +5,7 @@ ghost use Rattle.sst_merge.specs.Sources.{MayGive, MeetsNoMore, step_errors};
 ghost use Rattle.sst_base.specs.Counted.{found_item};
 ghost use Rattle.sst_tool.specs.Back.{is_same_key, newest_below};
 
-use sst_merge::Source;
+use sst_merge::{Source, keep_error};
 use sstable_blocks::{Error, InternalValue, Result, SeqNo};
 use std::alloc::Global;
 
@@ -118,9 +118,7 @@ impl<I: Source<InternalValue>> Source<InternalValue> for SeenBack<I> {
             return Err(error);
         }
         let next = next_seen(alloc, &mut self.source, self.at, &mut self.newest);
-        if let Err(error) = &next {
-            self.ended = Some(*error);
-        }
+        keep_error(&mut self.ended, &next);
         next
     }
 }
