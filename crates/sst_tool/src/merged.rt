@@ -5,6 +5,7 @@ ghost use Rattle.sst_tool.specs.Orders.{MayMisplace};
 ghost use Rattle.sst_tool.specs.Passed.{passed_on};
 ghost use Rattle.sst_tool.specs.Scanned.{scanned_left};
 ghost use Rattle.sstable_blocks.specs.RunReading.{hashes};
+ghost use Rattle.sstable_blocks.specs.Sources.{SourceParts};
 
 use crate::fault::{Fault, Result};
 use crate::long_keys::LongestKey;
@@ -194,7 +195,7 @@ impl<'p, H: BlockHash, F: SeekInput> Source<InternalValue> for FileEntries<'p, H
         (F.whole s.entries.source.source.scan.table.source.inner) s.entries.source.source.scan)
         s.entries.source.ended };
 
-    ghost may_fail = { MayMisplace (MayFailAnyTime (λ s. F.is_memory s.inner)) };
+    ghost may_fail = { MayMisplace (MayFailAnyTime (λ (s : SourceParts F). F.is_memory s.inner)) };
 
     fn next_entry(&mut self, alloc: Global) -> sstable_blocks::Result<Option<InternalValue>> {
         self.entries.next_entry(alloc)

@@ -1,6 +1,6 @@
 -- What is counted in a block that was opened.
-use Rattle.std.proofs.Common.{◌≡◌, inl, inr, slice_get, ℕ, zero, suc, ◌+◌, ◌-◌, ◌*◌, ◌/◌, ◌%◌, ◌<◌, ◌≤◌, Bool, true, false, cond, eqb, List, length, Option, Some, None, Result, Ok, Err, IfOk, refl, ap, ◌∙◌, arith}
-use Rattle.std.specs.Prelude.{◌||◌}
+use Rattle.std.proofs.Common.{◌≡◌, inl, inr, slice_get, ℕ, zero, suc, ◌+◌, ◌-◌, ◌*◌, ◌/◌, ◌%◌, ◌<◌, ◌≤◌, Bool, true, false, cond, eqb, List, length, Option, Some, None, Result, Ok, Err, IfOk, refl, sym, subst, ap, ◌∙◌, arith}
+use Rattle.std.specs.Prelude.{◌||◌, MatchResult}
 use Rattle.std.specs.Option.{option_map}
 use Rattle.std.proofs.Math.Nat.{mod-add-div', le-div_iff_mul-le, div-mul-le_self, mul-le-mul_right}
 use Rattle.std.proofs.lemmas.Bool.{cases_Bool, eqb-true, ltb-true, ne_eqb}
@@ -8,6 +8,7 @@ use Rattle.std.proofs.lemmas.List.Sums.{count_by-le-length}
 use Rattle.sst_base.specs.Counted.{CountsBetween, CountsExactly, IsZero, found_item}
 use Rattle.sst_base.specs.Entry.{Entry}
 use Rattle.sst_base.specs.declared.error.Error.{Error}
+use Rattle.sst_base.specs.declared.error.Error.TheVariants.{Memory}
 use Rattle.sst_block_core.specs.Backs.{GivesNextBack, first_of, back_cost}
 use Rattle.sst_block_core.specs.Intervals.{digits}
 use Rattle.sst_block_core.specs.Pointers.{head_count}
@@ -168,6 +169,11 @@ module _ {P : Type 0} (item_of : List ℕ → P → Entry) (is_found : List ℕ 
   pub view_back : (r : Option P) → GivesNextBack item_of is_found s r t → AddsTaken (scan_tally s) (scan_tally t) (found_item r) (found_item r)
   view_back r g = adds_back s t (found_item r) (found_one r) g.within g.interval (ap (λ (q : Window Entry × Answer Entry). q.0) g.step)
       (λ done. mapped r (item_of s.payload) ∙ ap (λ (q : Window Entry × Answer Entry). found_item (answered q.1)) g.step ∙ none_last s.window done) g.counts
+
+-- an entry that was taken is counted, whether or not it was made
+pub made_view : (s t : Tally) (x : Entry) (result : Result (Option Entry) Error) → MatchResult result (λ o. o ≡ Some x) (λ e. e ≡ Memory) → AddsTaken s t 1 1 → AddsTaken s t (least_taken result) (most_taken result)
+made_view s t x (Ok o) is a = subst (λ (p : Option Entry). AddsTaken s t (least_taken (Ok p)) (most_taken (Ok p))) (sym is) a
+made_view s t x (Err e) is a = record { heads = a.heads; entries = (let n = a.entries in omega (arith, n)); due = a.due }
 
 -- cutting a block by both bounds
 pub cut_costs : (r : KeyRange) (s t u : Scan Entry) (lo : ℕ) → IsZero s.steps → t.interval ≡ s.interval → u.interval ≡ t.interval → t.window ≡ record s.window { lo = lo } → u.window ≡ record t.window { hi = end_entry r t.window.list }

@@ -13,7 +13,7 @@ use Rattle.sst_base.specs.declared.error.Error.TheVariants.{Memory}
 use Rattle.sst_block_core.specs.Handles.{Handle}
 use Rattle.sst_block_core.specs.Entries.{entries}
 use Rattle.sst_block_core.specs.Stages.{items_in}
-use Rattle.sstable_blocks.specs.BlockReading.{seen_from}
+use Rattle.sstable_blocks.specs.BlockReading.{TakesEnd, seen_from}
 use Rattle.sstable_blocks.specs.Opened.{payload_in, range_of}
 use Rattle.sstable_blocks.specs.Ends.{GivesNext, reads_between, reads_from, reads_left}
 use Rattle.sstable_blocks.specs.Readings.{block_of_index, entries_of_index}
@@ -134,6 +134,19 @@ opened_entries bytes r hs i items inside at = elim ((slice_get_cases hs i).1) [
 pub seen_last : (old new : List Entry) (x : Option Entry) → YieldsLast (λ xs. xs) old x new → YieldsFirst (seen_from true) old x new
 seen_last old new None h = (ap reverse h.0, ap reverse h.1)
 seen_last old new (Some x) h = ap reverse h ∙ reverse-append new (x ∷ [])
+
+-- an item of a block was taken, and made or not
+pub made_taken : (old new : List Entry) (x : Entry) (result : Result (Option Entry) Error) → old ≡ x ∷ new → MatchResult result (λ o. o ≡ Some x) (λ e. e ≡ Memory) → TakesEnd false (λ e. e ≡ Memory) old result new
+made_taken old new x (Ok o) e is = record { first = subst (λ p. YieldsFirst (λ xs. xs) old p new) (sym is) e; rest = sym (ap (λ xs. drop 1 xs) e); lacks = tt }
+made_taken old new x (Err m) e is = record { first = tt; rest = sym (ap (λ xs. drop 1 xs) e); lacks = is }
+
+pub made_taken_last : (old new : List Entry) (x : Entry) (result : Result (Option Entry) Error) → old ≡ new ++ x ∷ [] → MatchResult result (λ o. o ≡ Some x) (λ e. e ≡ Memory) → TakesEnd true (λ e. e ≡ Memory) old result new
+made_taken_last old new x (Ok o) e is =
+    let seen : reverse old ≡ x ∷ reverse new = seen_last old new (Some x) e in
+    record { first = subst (λ p. YieldsFirst (seen_from true) old p new) (sym is) seen; rest = sym (ap (λ xs. drop 1 xs) seen); lacks = tt }
+made_taken_last old new x (Err m) e is =
+    let seen : reverse old ≡ x ∷ reverse new = seen_last old new (Some x) e in
+    record { first = tt; rest = sym (ap (λ xs. drop 1 xs) seen); lacks = is }
 
 seen_init : (ys : List Entry) → reverse (take (length (reverse ys) - 1) (reverse ys)) ≡ drop 1 ys
 seen_init [] = refl

@@ -3,7 +3,7 @@ ghost use Rattle.std.specs.Prelude.{◌≡◌, ◌↔◌, ℕ, ◌+◌, ◌<◌,
 ghost use Rattle.std.specs.Prelude.{IsOkUnless, OnOk, false};
 ghost use Rattle.sst_base.specs.Counted.{CountsExactly, CountsBetween};
 ghost use Rattle.sst_base.specs.Entry.{Entry, IsEntry};
-ghost use Rattle.sst_block_core.specs.DataBlock.{data_ref_of, ref_of_block};
+ghost use Rattle.sst_block_core.specs.DataBlock.{data_ref_of};
 ghost use Rattle.sst_block_core.specs.Entries.{entries};
 ghost use Rattle.sst_block_core.specs.Handles.{Handle, IsIndexBlock};
 ghost use Rattle.sst_block_core.specs.IndexBlock.{index_ref_of};
@@ -28,12 +28,11 @@ use crate::run::run_ref::item_by_index;
 use crate::run::search::{DataSearchRef, IndexSearch};
 use sst_base::table::block::header::HEADER_LEN;
 use sst_base::{
-    AllocResult, Block, BlockHandle, BlockHash, BlockType, Error, InternalValue, Result, SeqNo,
-    Slice, Steps,
+    AllocResult, BlockHandle, BlockHash, Error, InternalValue, Result, SeqNo, Slice, Steps,
 };
+use sst_block_core::ParsedItem;
 use sst_block_core::table::data_block::{DataBlockParsedItem, DataBlockRef};
 use sst_block_core::table::index_block::IndexBlockRef;
-use sst_block_core::{DataBlock, ParsedItem};
 use std::alloc::Global;
 
 // The payload of a frame, by the frame's range alone.
@@ -120,9 +119,9 @@ pub(crate) fn item_in<H: BlockHash>(
     }
 }
 
-// The payload in a frame, which shares the bytes.
+/// The payload in a frame, which shares the bytes.
 #[tactic(auto, using(crate::proofs::Reading::Points::payload_range), unfolding(crate::specs::Opened::payload_in))]
-fn shared_payload(bytes: &Slice, handle: &BlockHandle) -> AllocResult<Slice>
+pub(crate) fn shared_payload(bytes: &Slice, handle: &BlockHandle) -> AllocResult<Slice>
     requires { IsFrameRange bytes.now handle.now }
     ensures { IfOk result (λ p. p ≡ payload_in bytes.now handle.now) }
 {
@@ -130,24 +129,6 @@ fn shared_payload(bytes: &Slice, handle: &BlockHandle) -> AllocResult<Slice>
     let _fits = bytes.len();
     let start = *handle.offset() as usize;
     bytes.part(start + HEADER_LEN..start + handle.size() as usize)
-}
-
-// The data block in a frame, which shares the bytes.
-#[tactic(auto, using(crate::specs::RunLaws::payload_fits))]
-pub(crate) fn shared_block<H: BlockHash>(
-    bytes: &Slice,
-    handle: &BlockHandle,
-) -> AllocResult<DataBlock<H>>
-    requires range { IsFrameRange bytes.now handle.now }
-    requires block { (items : List Entry) × (r : ℕ) × (b : ℕ)
-        × IsBlock entries IsEntry H.hash64 (payload_in bytes.now handle.now) items r b }
-    ensures { IfOk result
-        (λ d. ref_of_block d ≡ data_ref_of (payload_in bytes.now handle.now) false) }
-{
-    // A size has 32 bits.
-    let _fits = handle.size();
-    let payload = shared_payload(bytes, handle)?;
-    Ok(DataBlock::new(Block::from_payload(BlockType::Data, payload)))
 }
 
 /// Makes the entry at a place in these bytes that [`RunRef::locate`](super::RunRef::locate) returned. Its value, and its

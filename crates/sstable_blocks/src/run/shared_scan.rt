@@ -1,9 +1,8 @@
 //! Scans of sound runs whose bytes are owned: each entry is made, and shares these bytes.
 ghost use Rattle.std.specs.Prelude.{◌≡◌, ◌<◌, ◌^◌, false, length, IfOk, None};
 ghost use Rattle.std.specs.declared.ops.Bound.TheVariants.{Unbounded};
-ghost use Rattle.sst_block_core.specs.DataBlock.{data_ref_of, ref_of_block};
-ghost use Rattle.sst_block_core.specs.Entries.{entries};
-ghost use Rattle.sst_block_core.specs.Stages.{items_in};
+ghost use Rattle.sst_base.specs.declared.error.Error.TheVariants.{Memory};
+ghost use Rattle.sst_block_core.specs.DataBlock.{data_ref_of};
 ghost use Rattle.sst_block_core.specs.Window.{items_left};
 ghost use Rattle.sstable_blocks.specs.Opened.{index_in, payload_in, range_of};
 ghost use Rattle.sstable_blocks.specs.ReadCosts.{CountsHandle};
@@ -11,18 +10,18 @@ ghost use Rattle.sstable_blocks.specs.ReadingLaws.{shared_laws};
 ghost use Rattle.sstable_blocks.specs.Readings.{shared_reading};
 ghost use Rattle.sstable_blocks.specs.RunReading.{hashes};
 ghost use Rattle.sstable_blocks.specs.Scans.{AtRunHandle, BeginsScan, EndsBy, MakesFirst};
-ghost use Rattle.sstable_blocks.specs.Scans.{MakesLast, range_by, run_interval, within};
-ghost use Rattle.sstable_blocks.specs.Tallies.{IsUpTo, cut_cost_in, scan_tally};
+ghost use Rattle.sstable_blocks.specs.Scans.{MakesLast, left_in, range_by, run_interval, within};
+ghost use Rattle.sstable_blocks.specs.Tallies.{IsUpTo, cut_cost, scan_tally, tally_of};
 
-use super::blocks::{Blocks, add_steps};
+use super::blocks::{Blocks, Ended, add_steps};
 use super::bounds::Bounds;
 use super::cut::Cut;
 use super::ends::{Between, step_back, step_front};
-use super::read::shared_block;
+use super::read::{block_over, shared_payload};
 use super::run_ref::RunRef;
 use sst_base::{AllocResult, BlockHash, Error, InternalValue, Result, Slice, Steps};
-use sst_block_core::DataBlock;
-use sst_block_core::table::data_block::IntoEntries;
+use sst_block_core::ParsedItem;
+use sst_block_core::table::data_block::{DataBlockRef, Iter};
 use std::alloc::Global;
 use std::marker::Model;
 use std::ops::Bound;
@@ -46,56 +45,165 @@ impl<'a, H: BlockHash> Model for SharedRun<'a, H> {
 }
 
 impl<'a, H: BlockHash> SharedRun<'a, H> {
-    // The block of the handle at an index of the index. It shares the bytes. The handles that are
-    // decoded are added to `steps`, also where it is not made.
-    fn block_at(&self, index: usize, steps: &mut Steps) -> AllocResult<DataBlock<H>>
+    // The block of the handle at an index of the index, and its payload, which shares the bytes. The
+    // handles that are decoded are added to `steps`, also where the payload is not made.
+    fn block_at(&self, index: usize, steps: &mut Steps) -> AllocResult<(DataBlockRef<'a, H>, Slice)>
         requires { index < length (index_in self.now.bytes self.now.handles.index) }
         ensures block { IfOk result (λ d. AtRunHandle self.now index
-            (λ h. ref_of_block d ≡ data_ref_of (payload_in self.now.bytes (range_of h)) false)) }
+            (λ h. d.0 ≡ data_ref_of (payload_in self.now.bytes (range_of h)) false)) }
+        ensures payload { IfOk result (λ d. d.1 ≡ d.0.payload) }
         ensures counts { CountsHandle steps.old steps.new (run_interval self.now) index }
     {
         let frame = self.run.frame_at(index, steps);
-        shared_block::<H>(self.bytes, &frame)
+        let payload = shared_payload(self.bytes, &frame)?;
+        Ok((block_over::<H>(self.bytes.as_slice(), &frame), payload))
     }
 }
 
-// Opens the block of the handle at an index, and cuts it by the bounds. The handles that are decoded
-// are added to `steps`, also where the block is not made.
-fn cut_shared<H: BlockHash>(
-    run: &SharedRun<'_, H>,
+// A block that such a scan has opened, and its payload, which the entries share. Clauses see what they
+// see of its iterator.
+#[derive(Drop)]
+struct SharedBlock<'a> {
+    iter: Iter<'a>,
+    payload: Slice,
+}
+
+impl<'a> Model for SharedBlock<'a> {
+    ghost use Rattle.std.specs.Prelude.{◌≡◌};
+    ghost use Rattle.sst_base.specs.Entry.{Entry};
+    ghost use Rattle.sst_block_core.specs.Scan.{Scan};
+
+    ghost Value = { Scan Entry };
+
+    ghost view = { λ b. b.iter };
+
+    ghost invariant = { λ b. b.payload ≡ b.iter.payload };
+}
+
+impl<'a> SharedBlock<'a> {
+    // Opens a block: its entries in a range.
+    fn new<H: BlockHash>(
+        block: &DataBlockRef<'a, H>,
+        payload: Slice,
+        bounds: &Bounds<'_>,
+    ) -> SharedBlock<'a>
+        requires { payload ≡ block.now.payload }
+        ensures left { items_left result.window ≡ within bounds.now block.now.items }
+        ensures cost { IsUpTo (scan_tally result)
+            (cut_cost block.now.interval (length block.now.items)) }
+    {
+        let mut iter = block.iter();
+        bounds.cut_iter(&mut iter);
+        SharedBlock { iter, payload }
+    }
+
+    // Opens another block in its place.
+    fn reopen<H: BlockHash>(
+        &mut self,
+        block: &DataBlockRef<'a, H>,
+        payload: Slice,
+        bounds: &Bounds<'_>,
+    )
+        requires { payload ≡ block.now.payload }
+        ensures left { items_left self.new.window ≡ within bounds.now block.now.items }
+        ensures cost { IsUpTo (scan_tally self.new)
+            (cut_cost block.now.interval (length block.now.items)) }
+    {
+        self.iter.restart(block);
+        bounds.cut_iter(&mut self.iter);
+        self.payload = payload;
+    }
+}
+
+// Opens a block, in the place of one that was opened before.
+fn open_in<'a, H: BlockHash>(
+    block: &DataBlockRef<'a, H>,
+    payload: Slice,
     bounds: &Bounds<'_>,
-    index: usize,
-    steps: &mut Steps,
-) -> AllocResult<IntoEntries<H>>
-    requires { index < length (index_in run.now.bytes run.now.handles.index) }
-    ensures left { IfOk result (λ e. AtRunHandle run.now index (λ h. items_left e.window
-        ≡ within bounds.now (items_in entries (payload_in run.now.bytes (range_of h))))) }
-    ensures few { IfOk result (λ e. length (items_left e.window) < 2 ^ 64) }
-    ensures cost { IfOk result (λ e. AtRunHandle run.now index
-        (λ h. IsUpTo (scan_tally e) (cut_cost_in run.now.bytes h))) }
-    ensures counts { CountsHandle steps.old steps.new (run_interval run.now) index }
+    opened: &mut Option<SharedBlock<'a>>,
+)
+    requires { payload ≡ block.now.payload }
+    ensures left { left_in opened.new ≡ within bounds.now block.now.items }
+    ensures few { length (left_in opened.new) < 2 ^ 64 }
+    ensures cost { IsUpTo (tally_of scan_tally opened.new)
+        (cut_cost block.now.interval (length block.now.items)) }
 {
-    let block = run.block_at(index, steps)?;
-    let mut entries = block.into_entries();
-    bounds.cut(&mut entries);
+    match opened {
+        Some(opened) => opened.reopen(block, payload, bounds),
+        None => *opened = Some(SharedBlock::new(block, payload, bounds)),
+    }
     // A slice has fewer than 2^63 items.
-    let _count = entries.count_left();
-    Ok(entries)
+    let _count = count_left(opened);
+}
+
+// How many entries are left of an opened block.
+fn count_left(opened: &Option<SharedBlock<'_>>) -> usize
+    ensures { result ≡ length (left_in opened.now) }
+{
+    match opened {
+        Some(opened) => opened.iter.count_left(),
+        None => 0,
+    }
+}
+
+/// An entry is made when it is taken.
+impl<'a> Ended for SharedBlock<'a> {
+    type Item = InternalValue;
+
+    type Room = Global;
+
+    ghost items = { λ b. items_left b.window };
+
+    ghost tally = { λ b. scan_tally b };
+
+    ghost Lacks = { λ e. e ≡ Memory };
+
+    #[inline(always)]
+    fn count_left(&self) -> usize {
+        self.iter.count_left()
+    }
+
+    #[inline(always)]
+    fn steps(&self) -> &Steps {
+        self.iter.steps()
+    }
+
+    #[inline(always)]
+    fn next(&mut self, alloc: Global) -> Result<Option<InternalValue>> {
+        let Some(item) = self.iter.next() else {
+            return Ok(None);
+        };
+        match item.materialize(alloc, &self.payload) {
+            Ok(entry) => Ok(Some(entry)),
+            Err(_) => Err(Error::Memory),
+        }
+    }
+
+    #[inline(always)]
+    fn next_back(&mut self, alloc: Global) -> Result<Option<InternalValue>> {
+        let Some(item) = self.iter.next_back() else {
+            return Ok(None);
+        };
+        match item.materialize(alloc, &self.payload) {
+            Ok(entry) => Ok(Some(entry)),
+            Err(_) => Err(Error::Memory),
+        }
+    }
 }
 
 /// Nothing is tested; only an allocation may fail.
-impl<'a, 'k, H: BlockHash> Blocks<IntoEntries<H>> for Cut<'k, SharedRun<'a, H>> {
+impl<'a, 'k, H: BlockHash> Blocks<SharedBlock<'a>> for Cut<'k, SharedRun<'a, H>> {
     ghost reading = { shared_reading };
 
     fn open(
         &mut self,
         _alloc: Global,
         index: usize,
-        block: &mut Option<IntoEntries<H>>,
+        block: &mut Option<SharedBlock<'a>>,
     ) -> Result<()> {
-        let entries = cut_shared::<H>(&self.run, &self.bounds, index, &mut self.steps)?;
-        add_steps::<IntoEntries<H>>(&mut self.steps, block);
-        *block = Some(entries);
+        let (data, payload) = self.run.block_at(index, &mut self.steps)?;
+        add_steps::<SharedBlock<'a>>(&mut self.steps, block);
+        open_in::<H>(&data, payload, &self.bounds, block);
         Ok(())
     }
 
@@ -115,9 +223,9 @@ impl<'a, 'k, H: BlockHash> Blocks<IntoEntries<H>> for Cut<'k, SharedRun<'a, H>> 
 #[derive(Drop)]
 pub struct SharedScan<'a, 'k, H: BlockHash> {
     cut: Cut<'k, SharedRun<'a, H>>,
-    front: Option<IntoEntries<H>>,
+    front: Option<SharedBlock<'a>>,
     middle: Between,
-    back: Option<IntoEntries<H>>,
+    back: Option<SharedBlock<'a>>,
     ended: Option<Error>,
 }
 
@@ -156,8 +264,8 @@ impl<'a, 'k, H: BlockHash> SharedScan<'a, 'k, H> {
     {
         let mut steps = Steps::new();
         steps.add(&self.cut.steps);
-        add_steps::<IntoEntries<H>>(&mut steps, &self.front);
-        add_steps::<IntoEntries<H>>(&mut steps, &self.back);
+        add_steps::<SharedBlock<'a>>(&mut steps, &self.front);
+        add_steps::<SharedBlock<'a>>(&mut steps, &self.back);
         steps
     }
 
@@ -174,7 +282,7 @@ impl<'a, 'k, H: BlockHash> SharedScan<'a, 'k, H> {
         if let Some(error) = self.ended {
             return Err(error);
         }
-        step_front::<IntoEntries<H>, Cut<'k, SharedRun<'a, H>>>(
+        step_front::<SharedBlock<'a>, Cut<'k, SharedRun<'a, H>>>(
             alloc,
             &mut self.cut,
             &mut self.front,
@@ -197,7 +305,7 @@ impl<'a, 'k, H: BlockHash> SharedScan<'a, 'k, H> {
         if let Some(error) = self.ended {
             return Err(error);
         }
-        step_back::<IntoEntries<H>, Cut<'k, SharedRun<'a, H>>>(
+        step_back::<SharedBlock<'a>, Cut<'k, SharedRun<'a, H>>>(
             alloc,
             &mut self.cut,
             &mut self.back,

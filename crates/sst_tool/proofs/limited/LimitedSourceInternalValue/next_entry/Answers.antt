@@ -1,0 +1,9 @@
+use Rattle.sst_tool.specs.Limits.{limited}
+use Rattle.sst_tool.proofs.Passed.{passed_no_more}
+use Rattle.sst_tool.proofs.limited.LimitedSourceInternalValue.next_entry.Goals as goal
+
+pub returns-clause-no_more : goal.returns-clause-no_more
+returns-clause-no_more g c =
+    let old = c.args.self.now in
+    let step = c.next_counted-next in
+    passed_no_more step.result old.ended c.keep_error.new.ended (limited old.count (g.I.Source.left old.source)) (limited step.new.count (g.I.Source.left step.new.source)) c.keep_error.ensures step.ensures.no_more
