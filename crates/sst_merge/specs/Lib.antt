@@ -39,3 +39,6 @@ pub mod OutputLaws
 pub mod PartLaws
 pub mod Tournament
 pub mod WriteLaws
+pub mod Cuts
+pub mod Movable
+pub mod KeyedLaws
