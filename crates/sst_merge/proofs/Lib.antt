@@ -5,3 +5,6 @@ pub mod CutLaws
 pub mod CutSteps
 pub mod MovableLaws
 pub mod SortedCounts
+pub mod BlockPlaces
+pub mod BlockCounts
+pub mod BlockEnds

@@ -42,3 +42,4 @@ pub mod WriteLaws
 pub mod Cuts
 pub mod Movable
 pub mod KeyedLaws
+pub mod MovableBlocks

@@ -14,7 +14,7 @@ use std::mem;
 
 // Whether a search for a key passes an entry: its user key sorts before the key, or also where it is
 // the key.
-fn passes(entry: &EntryView<'_>, key: &[u8], at_most: bool) -> bool
+pub(crate) fn passes(entry: &EntryView<'_>, key: &[u8], at_most: bool) -> bool
     ensures { result ≡ is_sought (λ e. e.key.user_key) key.now at_most entry.now }
 {
     let order = entry.compare_key(key);
