@@ -1,3 +1,10 @@
 pub mod Tournaments
 pub mod FrontNumbers
 pub mod Peeks
+pub mod CutLaws
+pub mod CutSteps
+pub mod MovableLaws
+pub mod SortedCounts
+pub mod BlockPlaces
+pub mod BlockCounts
+pub mod BlockEnds

@@ -39,3 +39,7 @@ pub mod OutputLaws
 pub mod PartLaws
 pub mod Tournament
 pub mod WriteLaws
+pub mod Cuts
+pub mod Movable
+pub mod KeyedLaws
+pub mod MovableBlocks

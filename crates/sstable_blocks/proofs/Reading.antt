@@ -10,3 +10,4 @@ pub mod KeptReads
 pub mod TableCounts
 pub mod FileRanges
 pub mod Footers
+pub mod OpenedBlocks

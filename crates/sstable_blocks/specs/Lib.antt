@@ -27,3 +27,4 @@ pub mod Readings
 pub mod ReadingLaws
 pub mod Callers
 pub mod Prelude
+pub mod RunBlocks

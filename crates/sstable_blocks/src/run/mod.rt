@@ -13,6 +13,7 @@ pub mod laws;
 pub mod new_file;
 mod open_block;
 mod open_filter;
+mod opened_blocks;
 pub mod read;
 pub mod round_trip;
 mod run_core;

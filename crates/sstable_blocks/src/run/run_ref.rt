@@ -197,6 +197,13 @@ impl<'a, H: BlockHash> RunRef<'a, H> {
         let _sound = self.bytes;
     }
 
+    // States in a proof that the run is sound.
+    pub(crate) fn note_sound(&self)
+        ensures { IsSoundRun (hashes H.hash64 H.hash128) self.now.bytes self.now.handles }
+    {
+        let _sound = self.bytes;
+    }
+
     // The frame of the block of the handle at an index of the index. The handles that are decoded are
     // added to `steps`.
     pub(crate) fn frame_at(&self, index: usize, steps: &mut Steps) -> BlockHandle

@@ -1,0 +1,26 @@
+use Rattle.std.proofs.Common.{◌<◌, ◌≡◌, ◌∙◌, arith, length, map, rules, subst, sym, true}
+use Rattle.std.proofs.lemmas.List.{length-map}
+use Rattle.sst_block_core.specs.Window.{some_left}
+use Rattle.sst_merge.specs.Movable.{IsBackPick}
+use Rattle.sst_merge.proofs.MovableLaws.{back_empty, back_ends, back_is, back_kept, same_source}
+use Rattle.sst_merge.proofs.movable.MovableMerge.next_back.Goals as goal
+
+pub returns-then-is_empty : goal.returns-then-is_empty
+returns-then-is_empty g c = back_empty g.T.Ranked.cmp g.T.Ranked.ordered g.I.Movable.window c.self.inside.sources.items c.args.self.now c.self.view_is (search rules)
+
+pub returns-then-not-has_left : goal.returns-then-not-has_left
+returns-then-not-has_left g c =
+    let p = subst (λ ss. IsBackPick g.T.Ranked.cmp (map g.I.Movable.window ss) c.last_source-last.result) c.deref.ensures.value c.last_source-last.ensures in
+    back_ends g.T.Ranked.cmp g.T.Ranked.ordered g.I.Movable.window c.self.inside.sources.items c.self.invariant c.last_source-last.result c.index.result.now c.index.ensures c.args.self.now c.self.view_is p (sym c.has_left.ensures ∙ c.if-not-has_left.true)
+
+pub invariant_of-self : goal.invariant_of-self
+invariant_of-self g c =
+    let p = subst (λ ss. IsBackPick g.T.Ranked.cmp (map g.I.Movable.window ss) c.last_source-last.result) c.deref.ensures.value c.last_source-last.ensures in
+    back_kept g.T.Ranked.cmp g.T.Ranked.ordered g.I.Movable.window c.self.inside.sources.items c.self.invariant c.last_source-last.result c.index_mut.result.now c.index_mut.ensures.value c.next_back.result c.next_back.new.self p c.next_back.ensures
+
+pub returns : goal.returns
+returns g c =
+    let p = subst (λ ss. IsBackPick g.T.Ranked.cmp (map g.I.Movable.window ss) c.last_source-last.result) c.deref.ensures.value c.last_source-last.ensures in
+    let inside : c.last_source-last.result < length c.self.inside.sources.items = (let n = length-map c.self.inside.sources.items g.I.Movable.window in let h = p.inside in omega (arith, n, h)) in
+    let some : some_left (g.I.Movable.window c.index_mut.result.now) ≡ true = subst (λ s. some_left (g.I.Movable.window s) ≡ true) (same_source c.self.inside.sources.items c.last_source-last.result c.index.result.now c.index_mut.result.now inside c.index.ensures c.index_mut.ensures.value) (sym c.has_left.ensures ∙ c.if-not-has_left.false) in
+    back_is g.T.Ranked.cmp g.T.Ranked.ordered g.I.Movable.window c.self.inside.sources.items c.self.invariant c.last_source-last.result c.index_mut.result.now c.index_mut.ensures.value c.args.self.now c.next_back.result c.next_back.new.self c.self.view_is p some c.next_back.ensures

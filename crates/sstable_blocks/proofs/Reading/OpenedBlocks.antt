@@ -1,0 +1,76 @@
+-- The blocks of a sound run, all opened.
+use Rattle.std.proofs.Common.{◌≡◌, ℕ, zero, suc, ◌+◌, ◌<◌, ◌≤◌, List, [], ◌∷◌, ◌++◌, length, map, take, get_or, Option, Some, slice_get, refl, sym, ap, subst, ◌∙◌, arith, length-append, add-one}
+use Rattle.std.proofs.lemmas.List.{length-map, map-append}
+use Rattle.std.specs.List.{AllByRecursion, AllZip}
+use Rattle.sst_base.specs.Entry.{Entry, plain}
+use Rattle.sst_base.specs.TestLaws.{some_is}
+use Rattle.sst_block_core.specs.Entries.{entries}
+use Rattle.sst_block_core.specs.Handles.{Handle}
+use Rattle.sst_block_core.specs.Kind.{IsOrdered}
+use Rattle.sst_block_core.specs.Stages.{items_in}
+use Rattle.sstable_blocks.specs.Blocks.{IsNotEmpty, joined}
+use Rattle.sstable_blocks.specs.Opened.{Opened, index_in, payload_in, range_of}
+use Rattle.sstable_blocks.specs.RunBlocks.{blocks_in}
+use Rattle.sstable_blocks.specs.RunReading.{Hashes}
+use Rattle.sstable_blocks.specs.Sound.{IsSound, IsStoredBlock, RunParts}
+use Rattle.sstable_blocks.specs.declared.run.RunHandles.{RunHandles}
+
+-- two lists that have the same at each index
+same_lists : (f : Handle → List Entry) (hs : List Handle) (blocks : List (List Entry)) → length hs ≡ length blocks
+    → ((n : ℕ) (g : Handle) → slice_get hs n ≡ Some g → (block : List Entry) × (slice_get blocks n ≡ Some block) × (f g ≡ map plain block)) → map f hs ≡ map (map plain) blocks
+same_lists f [] [] size all = refl
+same_lists f [] (b ∷ blocks) size all = absurd (omega (arith, size))
+same_lists f (h ∷ hs) [] size all = absurd (omega (arith, size))
+same_lists f (h ∷ hs) (b ∷ blocks) size all =
+    let here = all zero h refl in
+    let is : b ≡ here.0 = some_is b here.0 here.1 in
+    ap (λ xs. xs ∷ map f hs) (here.2 ∙ ap (map plain) (sym is)) ∙ ap (λ xss. map plain b ∷ xss) (same_lists f hs blocks (omega (arith, size)) (λ n g at. all (suc n) g at))
+
+pub sound_blocks : (hash64 : List ℕ → ℕ) (blocks : List (List Entry)) (run : RunParts) → Opened hash64 blocks run.bytes run.handles → blocks_in run ≡ map (map plain) blocks
+sound_blocks hash64 blocks run o =
+    same_lists (λ (h : Handle). items_in entries (payload_in run.bytes (range_of h))) (index_in run.bytes run.handles.index) blocks o.count
+    (λ n g at. (let b = o.block_open n g at in (b.0, b.1, b.2.items)))
+
+joined_plain : (blocks : List (List Entry)) → joined (map (map plain) blocks) ≡ map plain (joined blocks)
+joined_plain [] = refl
+joined_plain (b ∷ blocks) = ap (λ xs. map plain b ++ xs) (joined_plain blocks) ∙ sym (map-append plain b (joined blocks))
+
+plain_order : (xs : List Entry) → IsOrdered entries xs → IsOrdered entries (map plain xs)
+plain_order [] up = tt
+plain_order (x ∷ []) up = tt
+plain_order (x ∷ y ∷ ys) up = (up.0, plain_order (y ∷ ys) up.1)
+
+pub sound_ordered : (c : Hashes) (blocks : List (List Entry)) (bytes : List ℕ) (h : RunHandles) → IsSound c blocks bytes h → IsOrdered entries (joined (map (map plain) blocks))
+sound_ordered c blocks bytes h sound = subst (IsOrdered entries) (sym (joined_plain blocks)) (plain_order (joined blocks) sound.ordered)
+
+not_empty : (c : Hashes) (bytes : List ℕ) (blocks : List (List Entry)) (hs : List Handle) → AllZip (IsStoredBlock c bytes) blocks hs → AllByRecursion IsNotEmpty (map (map plain) blocks)
+not_empty c bytes [] [] all = tt
+not_empty c bytes [] (h ∷ hs) all = absurd all
+not_empty c bytes (b ∷ blocks) [] all = absurd all
+not_empty c bytes (b ∷ blocks) (h ∷ hs) all = (
+  (let e = ap length all.0.end.whole in let n = length-append all.0.end.front (all.0.end.last ∷ []) in let m = length-map b plain in omega (arith, e, n, m)),
+  not_empty c bytes blocks hs all.1,
+)
+
+pub sound_some : (c : Hashes) (blocks : List (List Entry)) (bytes : List ℕ) (h : RunHandles) → IsSound c blocks bytes h → AllByRecursion IsNotEmpty (map (map plain) blocks)
+sound_some c blocks bytes h sound = not_empty c bytes blocks sound.handles sound.stored
+
+-- an index within a list has an item
+pub there : {A : Type 0} (xs : List A) (i : ℕ) → i < length xs → (x : A) × (slice_get xs i ≡ Some x)
+there [] i h = absurd (omega (arith, h))
+there (x ∷ xs) zero h = (x, refl)
+there (x ∷ xs) (suc i) h = there xs i (omega (arith, h))
+
+none_of : {B : Type 0} (hs : List B) → take 0 hs ≡ []
+none_of [] = refl
+none_of (y ∷ hs) = refl
+
+take_next : {B : Type 0} (hs : List B) (i : ℕ) (h : B) → slice_get hs i ≡ Some h → take (suc i) hs ≡ take i hs ++ h ∷ []
+take_next [] i h at = absurd (cc)
+take_next (y ∷ hs) zero h at = ap (λ z. z ∷ take 0 hs) (some_is y h at) ∙ ap (λ zs. h ∷ zs) (none_of hs)
+take_next (y ∷ hs) (suc i) h at = ap (λ zs. y ∷ zs) (take_next hs i h at)
+
+-- one block more
+pub one_more : {A B C : Type 0} (f : A → C) (g : B → C) (xs : List A) (hs : List B) (i : ℕ) (x : A) (h : B) → map f xs ≡ map g (take i hs) → slice_get hs i ≡ Some h → f x ≡ g h → map f (xs ++ x ∷ []) ≡ map g (take (i + 1) hs)
+one_more f g xs hs i x h so_far at is =
+    map-append f xs (x ∷ []) ∙ ap (λ zs. zs ++ f x ∷ []) so_far ∙ ap (λ z. map g (take i hs) ++ z ∷ []) is ∙ sym (ap (map g) (ap (λ n. take n hs) (add-one i) ∙ take_next hs i h at) ∙ map-append g (take i hs) (h ∷ []))
