@@ -16,7 +16,7 @@ use crate::ranked::Ranked;
 use sst_base::InternalValue;
 use sst_block_core::table::data_block::EntryView;
 use std::cmp::Ordering;
-use std::marker::{Model, PhantomData};
+use std::marker::Model;
 
 /// An item that has a user key, by which items are ordered first.
 pub trait Keyed: Ranked {
@@ -204,7 +204,8 @@ fn seek_upper_all<T: Keyed, I: Movable<T>>(sources: &mut Vec<I>, key: &[u8])
 #[derive(Drop)]
 pub struct MovableMerge<T: Keyed, I: Movable<T>> {
     sources: Vec<I>,
-    item: PhantomData<T>,
+    // None is ever held: it names the type of the items, and the lifetimes in it.
+    item: Option<T>,
 }
 
 impl<T: Keyed, I: Movable<T>> Model for MovableMerge<T, I> {
@@ -228,7 +229,7 @@ impl<T: Keyed, I: Movable<T>> MovableMerge<T, I> {
     {
         MovableMerge {
             sources,
-            item: PhantomData,
+            item: None,
         }
     }
 
