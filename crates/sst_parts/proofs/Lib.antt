@@ -1,0 +1,17 @@
+pub mod Blocks
+pub mod CheckedReads
+pub mod Closings
+pub mod Counts
+pub mod FileOpenings
+pub mod Files
+pub mod Footers
+pub mod IndexSteps
+pub mod Joins
+pub mod Longer
+pub mod Openings
+pub mod Orders
+pub mod PartReads
+pub mod PartSteps
+pub mod Places
+pub mod Ranges
+pub mod Sounds
