@@ -1,5 +1,5 @@
 -- Opening a parted table by the footer of its file.
-use Rattle.std.proofs.Common.{◌≡◌, ℕ, List, refl, sym, ◌∙◌, ap, subst, inl, inr, Option, Some, None, IfSome, IfOk, Result, Ok, Err}
+use Rattle.std.proofs.Common.{◌≡◌, ℕ, List, sym, ◌∙◌, ap, subst, inl, inr, Option, Some, None, IfSome, IfOk, Result, Ok, Err}
 use Rattle.std.specs.Prelude.{MatchResult}
 use Rattle.sst_base.specs.BlockHandle.{HandleParts}
 use Rattle.sst_base.specs.Header.{◌>>=◌}

@@ -1,6 +1,6 @@
 -- Table files one after the other, the frame of an index of them and a footer, are the file of a parted table.
 use Rattle.std.proofs.Common.{◌≡◌, ℕ, ◌+◌, ◌<◌, ◌≤◌, ◌^◌, List, [], ◌∷◌, ◌++◌, length, take, drop, refl, arith, sym, ◌∙◌, ap, subst, append_assoc, length-append, Option, Some, None, IfSome, Ok}
-use Rattle.std.proofs.lemmas.List.{append-nil, drop_at, take_at}
+use Rattle.std.proofs.lemmas.List.{drop_at, take_at}
 use Rattle.std.specs.List.{AllZip}
 use Rattle.sst_base.specs.BlockHandle.{HandleParts}
 use Rattle.sst_base.specs.Entry.{Entry}
@@ -14,7 +14,7 @@ use Rattle.sstable_blocks.specs.Run.{Form, IsLayout}
 use Rattle.sstable_blocks.specs.RunReading.{Hashes, hashes}
 use Rattle.sstable_blocks.specs.Sound.{AreContiguous, IsSound, IsStoredFilter}
 use Rattle.sstable_blocks.specs.declared.run.RunHandles.{RunHandles}
-use Rattle.sst_parts.specs.Parts.{IsParted, IsStoredPart}
+use Rattle.sst_parts.specs.Parts.{IsStoredPart}
 use Rattle.sst_parts.specs.PartWriting.{ArePartFiles, IsPartFile, IsPartedFile, IsPartedLayout, top_handles}
 use Rattle.sst_parts.proofs.Longer.{FilterFits, PartsFit, footer_reads, sound_longer}
 use Rattle.sst_parts.proofs.Openings.{framed_size}

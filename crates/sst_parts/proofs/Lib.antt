@@ -7,7 +7,9 @@ pub mod Files
 pub mod Footers
 pub mod IndexSteps
 pub mod Joins
+pub mod Located
 pub mod Longer
+pub mod Needles
 pub mod Openings
 pub mod Orders
 pub mod PartReads

@@ -1,2 +1,3 @@
+pub mod ManyReads
 pub mod Parts
 pub mod PartWriting

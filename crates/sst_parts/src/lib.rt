@@ -5,6 +5,7 @@
 
 mod closed;
 pub mod laws;
+pub mod many;
 mod part;
 pub mod table;
 #[cfg(test)]

@@ -1,4 +1,4 @@
-use Rattle.std.proofs.Common.{◌≡◌, IsTrue, map, subst}
+use Rattle.std.proofs.Common.{IsTrue, map, subst}
 use Rattle.sst_parts.proofs.Blocks.{follows_all, follows_part}
 use Rattle.sst_parts.specs.PartWriting.{PartWriting, blocks_so_far}
 use Rattle.sstable_blocks.specs.Writing.{Follows}
