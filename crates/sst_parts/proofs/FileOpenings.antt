@@ -13,10 +13,10 @@ use Rattle.sstable_blocks.specs.Sources.{FailsAs}
 use Rattle.sstable_blocks.specs.declared.run.RunHandles.{RunHandles}
 
 module _ (c : Hashes) where
-  abbrev rest_of : List ℕ → RunHandles → Result (HandleParts × List Handle) Error
+  abbrev pub rest_of : List ℕ → RunHandles → Result (HandleParts × List Handle) Error
   rest_of all h = tops_at c all h.index >>= (λ (hs : List Handle). Ok (h.index, hs))
 
-  by_handles : (all : List ℕ) (h : RunHandles) → table_handles all ≡ Ok h → tops_by_footer c all ≡ rest_of all h
+  pub by_handles : (all : List ℕ) (h : RunHandles) → table_handles all ≡ Ok h → tops_by_footer c all ≡ rest_of all h
   unfolding tops_by_footer
   by_handles all h e = ap (λ r. r >>= (λ (x : RunHandles). rest_of all x)) e
 

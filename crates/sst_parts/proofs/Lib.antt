@@ -16,4 +16,5 @@ pub mod PartReads
 pub mod PartSteps
 pub mod Places
 pub mod Ranges
+pub mod Rising
 pub mod Sounds

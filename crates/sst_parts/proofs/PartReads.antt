@@ -22,7 +22,9 @@ use Rattle.sst_block_core.specs.Trailer.{Trailer, trailer_in}
 use Rattle.sst_block_core.specs.Window.{first_match}
 use Rattle.sst_block_core.specs.Checks.{index_check, IndexVerdict}
 use Rattle.sst_block_core.specs.Handles.{Handle, handles, IsIndexBlock, IndexPasses, IndexPassesBy}
-use Rattle.sst_parts.specs.Parts.{IsParted, IsStoredPart, IsStoredTop, part_in, places_in, read_by_top, read_part, tops_at}
+use Rattle.sst_parts.specs.Parts.{IsParted, IsStoredPart, IsStoredTop, part_in, places_in, read_by_top, read_part, tops_at, tops_by_footer}
+use Rattle.sst_parts.specs.PartWriting.{IsPartedFile, top_handles}
+use Rattle.sst_parts.proofs.FileOpenings.{by_handles}
 use Rattle.sst_parts.proofs.Footers.{footer_some}
 use Rattle.sst_parts.proofs.Openings.{part_ends}
 use Rattle.sst_parts.proofs.Places.{places_by}
@@ -100,13 +102,10 @@ same_ok {X} r x y e f = let k : ◌≡◌ {A = Result X Error} (Ok x) (Ok y) = s
 module _ (c : Hashes) (sums : (xs : List ℕ) → c.hash128 xs < 2 ^ 128)
     (index_verdict : (p : List ℕ) → IndexVerdict (trailer_in p) p (index_check p))
     (index_read : (r : ℕ) (p : List ℕ) (items : List Handle) → length p < 2 ^ 32 → IsIndexBlock p items r → IndexPasses r p × (items_in handles p ≡ items) × ((trailer_in p).interval ≡ r))
-    (run_read : (blocks : List (List Entry)) (bytes : List ℕ) (h : RunHandles) (needle : List ℕ) (seqno : ℕ) → IsSound c blocks bytes h → read_checked c bytes h needle seqno ≡ Ok (first_match entries needle seqno (joined blocks)))
-    (match : (needle : List ℕ) (seqno : ℕ) (parts : List (List (List Entry))) (hs : List Handle) → AllZip (λ part h. IsEnd entries handles (joined part) h) parts hs → IsOrdered entries (joined (joined parts))
-    → first_match entries needle seqno (joined (joined parts)) ≡ first_in entries needle seqno (option_map joined (slice_get parts (place_for handles needle seqno hs))))
-    (bytes needle : List ℕ) (seqno : ℕ)
+    (bytes : List ℕ)
   where
     -- the index of the parts is read
-    tops_read : (hs : List Handle) (h : HandleParts) → IsStoredTop c bytes hs h → tops_at c bytes h ≡ Ok hs
+    pub tops_read : (hs : List Handle) (h : HandleParts) → IsStoredTop c bytes hs h → tops_at c bytes h ≡ Ok hs
     tops_read hs h s =
         let p = s.payload in
         let framed = s.framed in
@@ -115,6 +114,20 @@ module _ (c : Hashes) (sums : (xs : List ℕ) → c.hash128 xs < 2 ^ 128)
         let passes : IndexPassesBy (trailer_in p).interval (trailer_in p) p = subst (λ q. IndexPassesBy q (trailer_in p) p) (sym read.2) read.0 in
         bind_to _ _ p _ (framed_is_read c types.Meta bytes p h sums short s.frame) (index_ok (trailer_in p) p (index_check p) (index_verdict p) passes ∙ ap (λ xs. Ok xs) read.1)
 
+    -- the file of a parted table is opened
+    pub file_opens : (parts : List (List (List Entry))) (top : HandleParts) → IsPartedFile c parts bytes top → (tops : List Handle) × (tops_by_footer c bytes ≡ Ok (top, tops)) × (tops_at c bytes top ≡ Ok tops)
+    file_opens parts top f =
+        let read = tops_read f.parted.tops top f.parted.index in
+        (f.parted.tops, by_handles c bytes (top_handles top) f.footer_is ∙ ap (λ r. r >>= (λ (hs : List Handle). Ok (top, hs))) read, read)
+
+module _ (c : Hashes) (sums : (xs : List ℕ) → c.hash128 xs < 2 ^ 128)
+    (index_verdict : (p : List ℕ) → IndexVerdict (trailer_in p) p (index_check p))
+    (index_read : (r : ℕ) (p : List ℕ) (items : List Handle) → length p < 2 ^ 32 → IsIndexBlock p items r → IndexPasses r p × (items_in handles p ≡ items) × ((trailer_in p).interval ≡ r))
+    (run_read : (blocks : List (List Entry)) (bytes : List ℕ) (h : RunHandles) (needle : List ℕ) (seqno : ℕ) → IsSound c blocks bytes h → read_checked c bytes h needle seqno ≡ Ok (first_match entries needle seqno (joined blocks)))
+    (match : (needle : List ℕ) (seqno : ℕ) (parts : List (List (List Entry))) (hs : List Handle) → AllZip (λ part h. IsEnd entries handles (joined part) h) parts hs → IsOrdered entries (joined (joined parts))
+    → first_match entries needle seqno (joined (joined parts)) ≡ first_in entries needle seqno (option_map joined (slice_get parts (place_for handles needle seqno hs))))
+    (bytes needle : List ℕ) (seqno : ℕ)
+  where
     -- one part
     read_one : (h : Handle) (part : List (List Entry)) → IsStoredPart c bytes part h → read_part c bytes (range_of h) needle seqno ≡ Ok (first_match entries needle seqno (joined part))
     read_one h part s = bind_to _ _ s.places _ (places_of_table bytes (range_of h) s.places s.inside s.footer) (run_read part (part_in bytes (range_of h)) s.places needle seqno s.sound)
@@ -129,7 +142,7 @@ module _ (c : Hashes) (sums : (xs : List ℕ) → c.hash128 xs < 2 ^ 128)
     pub parted_read : (parts : List (List (List Entry))) (h : HandleParts) (tops : List Handle) → IsParted c parts bytes h → tops_at c bytes h ≡ Ok tops
         → read_by_top c bytes (handle_for handles needle seqno tops) needle seqno ≡ Ok (first_match entries needle seqno (joined (joined parts)))
     parted_read parts h tops s read =
-        let same : tops ≡ s.tops = same_ok (tops_at c bytes h) tops s.tops read (tops_read s.tops h s.index) in
+        let same : tops ≡ s.tops = same_ok (tops_at c bytes h) tops s.tops read (tops_read c sums index_verdict index_read bytes s.tops h s.index) in
         ap (λ hs. read_by_top c bytes (handle_for handles needle seqno hs) needle seqno) same
         ∙ read_at parts s.tops (place_for handles needle seqno s.tops) s.stored
         ∙ ap (λ o. Ok o) (sym (match needle seqno parts s.tops (part_ends c bytes parts s.tops s.stored) s.ordered))

@@ -1,5 +1,5 @@
 -- Reads of many keys of a table, each block read once.
-use Rattle.std.specs.Prelude.{◌≡◌, ℕ, ◌+◌, ◌==◌, nat_lt, if◌then◌else◌, List, [], ◌∷◌, length, slice_get, Option, Some, None, IfSome, Result, Ok, Err}
+use Rattle.std.specs.Prelude.{◌≡◌, ℕ, ◌+◌, ◌≤◌, ◌==◌, nat_lt, if◌then◌else◌, List, [], ◌∷◌, length, slice_get, Option, Some, None, IfSome, Result, Ok, Err, Bool, true, false}
 use Rattle.std.specs.Option.{option_map}
 use Rattle.sst_base.specs.Entry.{Entry}
 use Rattle.sst_base.specs.Header.{◌>>=◌}
@@ -76,3 +76,25 @@ read_each read (n ∷ ns) = do
   x ← read n
   xs ← read_each read ns
   Ok (x ∷ xs)
+
+-- the indexes of the needles for which there is a block
+abbrev pub indexes : List (Option ℕ) → List ℕ
+indexes [] = []
+indexes (None ∷ ps) = indexes ps
+indexes (Some i ∷ ps) = i ∷ indexes ps
+
+-- no index is below the one before
+abbrev pub IsRising : List ℕ → Type 0
+IsRising [] = Unit {0}
+IsRising (x ∷ []) = Unit {0}
+IsRising (x ∷ y ∷ ys) = (x ≤ y) × IsRising (y ∷ ys)
+
+-- is a number in a list?
+abbrev pub has : ℕ → List ℕ → Bool
+has x [] = false
+has x (y ∷ ys) = if y == x then true else has x ys
+
+-- how many different numbers a list has: each is counted where it is for the last time
+abbrev pub different : List ℕ → ℕ
+different [] = 0
+different (x ∷ xs) = (if has x xs then 0 else 1) + different xs

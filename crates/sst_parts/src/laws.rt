@@ -1,6 +1,6 @@
 //! Laws of parted tables. Each function does nothing, and its contract is one law: a caller has it in
 //! its proof by calling the function.
-ghost use Rattle.std.specs.Prelude.{◌≡◌, ◌++◌, ◌<◌, ◌^◌, ℕ, List, Ok, slice_get};
+ghost use Rattle.std.specs.Prelude.{◌≡◌, ◌++◌, ◌<◌, ◌^◌, ℕ, List, None, Ok, Option, slice_get};
 ghost use Rattle.std.specs.List.{AllZip};
 ghost use Rattle.std.specs.Option.{option_map};
 ghost use Rattle.sst_base.specs.BlockHandle.{HandleParts};
@@ -9,8 +9,9 @@ ghost use Rattle.sst_block_core.specs.Entries.{entries};
 ghost use Rattle.sst_block_core.specs.Handles.{Handle, handles};
 ghost use Rattle.sst_block_core.specs.Kind.{IsOrdered};
 ghost use Rattle.sst_block_core.specs.Window.{first_match};
+ghost use Rattle.sst_parts.specs.ManyReads.{IsRising, different, indexes, many_frames};
 ghost use Rattle.sst_parts.specs.PartWriting.{IsPartedFile, IsPartedLayout};
-ghost use Rattle.sst_parts.specs.Parts.{IsParted, read_by_top, tops_at};
+ghost use Rattle.sst_parts.specs.Parts.{IsParted, read_by_top, tops_at, tops_by_footer};
 ghost use Rattle.sstable_blocks.specs.Blocks.{joined};
 ghost use Rattle.sstable_blocks.specs.Lookup.{IsEnd, first_in, handle_for, place_for};
 ghost use Rattle.sstable_blocks.specs.Run.{Form};
@@ -60,3 +61,22 @@ pub fn parted_layout_is_parted()
 {
     layout_is_sound();
 }
+
+/// The file of a parted table is opened by its footer: the index of its parts is read, and a read by it
+/// is that of [`parted_is_read`].
+pub fn parted_file_opens()
+    ensures { (c : Hashes) (parts : List (List (List Entry))) (bytes : List ℕ) (top : HandleParts)
+        → ((xs : List ℕ) → c.hash128 xs < 2 ^ 128) → IsPartedFile c parts bytes top
+        → (tops : List Handle) × (tops_by_footer c bytes ≡ Ok (top, tops))
+        × (tops_at c bytes top ≡ Ok tops) }
+{
+    index_check_is_by_stages();
+    index_block_is_read();
+}
+
+/// Where the indexes of the blocks of needles do not fall, [`get_many`](crate::many::get_many) asks for
+/// at most as many frames as there are different blocks among them.
+pub fn rising_blocks_are_read_once()
+    ensures { (places : List (Option ℕ)) → IsRising (indexes places)
+        → many_frames None places ≡ different (indexes places) }
+{}

@@ -160,8 +160,9 @@ fn read_last<H: BlockHash>(
 }
 
 /// Returns for each needle what [`Table::get`] returns for it, in the order of the needles. A block is
-/// read only where it is not the one that was read last: if the needles are ordered by key rising, and
-/// by sequence number falling, as entries are, each block is read at most once.
+/// read only where it is not the one that was read last: where the indexes of the needles' blocks do
+/// not fall, each block is read once
+/// ([`rising_blocks_are_read_once`](crate::laws::rising_blocks_are_read_once)).
 ///
 /// The filter and the index are those that the table keeps, as they were read when it was opened.
 /// What is examined is added to `steps`.
