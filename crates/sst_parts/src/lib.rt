@@ -1,6 +1,6 @@
-//! Parted tables, over `sstable_blocks`: table files one after the other, and an index over them. A
-//! read keeps the index of the parts, and reads of one part its footer, its filter, its index and
-//! one block.
+//! Over `sstable_blocks`: parted tables, which are table files one after the other and an index over
+//! them, of which a read reads of one part the footer, the filter, the index and one block; and reads
+//! of many keys of a table, each block once.
 #![tactic(auto)]
 
 mod closed;
@@ -8,8 +8,6 @@ pub mod laws;
 pub mod many;
 mod part;
 pub mod table;
-#[cfg(test)]
-mod tests;
 pub mod writer;
 
 pub use table::PartedTable;

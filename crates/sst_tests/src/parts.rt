@@ -1,6 +1,7 @@
 // Parted tables, written and read.
-use crate::{PartSizes, PartWriter, PartedTable};
+use crate::Tested;
 use sst_base::{ByteSum, HashRatio, InternalValue, Slice, Steps, ValueType};
+use sst_parts::{PartSizes, PartWriter, PartedTable};
 use sstable_blocks::{MemorySource, RunConfig};
 use std::alloc::Global;
 
@@ -52,7 +53,7 @@ fn written(alloc: Global, len: usize, sizes: PartSizes, bits: u32) -> sst_base::
 fn wrong_reads(alloc: Global, bytes: Vec<u8>) -> sst_base::Result<u64> {
     let source = MemorySource::new(Slice::from_vec(bytes)?);
     let mut table = PartedTable::<ByteSum, MemorySource>::open_file(alloc, source)?;
-    let mut wrong = 0;
+    let mut wrong = 0u64;
     for key in 0u8..14 {
         for seqno in 0u64..12 {
             let needle = [b'k', key];
@@ -67,7 +68,7 @@ fn wrong_reads(alloc: Global, bytes: Vec<u8>) -> sst_base::Result<u64> {
                 Some(entry) => InternalValue::key(&entry).seqno(),
             };
             if got != want {
-                wrong += 1;
+                wrong = wrong.saturating_add(1);
             }
         }
     }
@@ -75,7 +76,7 @@ fn wrong_reads(alloc: Global, bytes: Vec<u8>) -> sst_base::Result<u64> {
 }
 
 #[test]
-fn versions_across_parts_are_read(rt: HostRuntime) -> Result<(), std::test::Fail> {
+fn versions_across_parts_are_read(rt: HostRuntime) -> Tested {
     for len in [1usize, 4, 9] {
         for bits in [0u32, 10] {
             for blocks in [0usize, 2] {
