@@ -13,6 +13,8 @@ mod blocks;
 #[cfg(test)]
 mod merges;
 #[cfg(test)]
+mod parts;
+#[cfg(test)]
 mod program;
 #[cfg(test)]
 mod runs;

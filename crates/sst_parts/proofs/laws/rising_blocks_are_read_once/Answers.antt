@@ -1,0 +1,5 @@
+use Rattle.sst_parts.proofs.Rising.{once}
+use Rattle.sst_parts.proofs.laws.rising_blocks_are_read_once.Goals as goal
+
+pub returns : goal.returns
+returns c = once

@@ -1,0 +1,3 @@
+pub mod ManyReads
+pub mod Parts
+pub mod PartWriting

@@ -1,0 +1,209 @@
+-- A parted table that is being written.
+use Rattle.std.specs.Prelude.{◌≡◌, ℕ, ◌+◌, ◌-◌, ◌≤◌, ◌<◌, ◌^◌, ◌&&◌, ◌||◌, Bool, true, nat_le, if◌then◌else◌, List, [], ◌∷◌, ◌++◌, length, sum_by, Option, None, Some, Ok}
+use Rattle.std.specs.Io.KnownBytes.{Appends}
+use Rattle.std.specs.List.{AllByRecursion}
+use Rattle.sst_base.specs.BlockHandle.{HandleParts}
+use Rattle.sst_base.specs.Entry.{Entry}
+use Rattle.sst_base.specs.Frame.{frame}
+use Rattle.sst_base.specs.declared.table.block.block_type.BlockType.TheVariants.{Meta}
+use Rattle.sst_block_core.specs.Entries.{entries}
+use Rattle.sst_block_core.specs.Handles.{Handle, handles, IsIndexBlock, index_payload}
+use Rattle.sst_block_core.specs.Kind.{IsOrdered}
+use Rattle.sst_parts.specs.Parts.{IsParted}
+use Rattle.sst_parts.specs.declared.closed.PartEnd.{PartEnd}
+use Rattle.sst_parts.specs.declared.writer.PartSizes.{PartSizes}
+use Rattle.sstable_blocks.specs.Blocks.{joined}
+use Rattle.sstable_blocks.specs.Footer.{footer, table_handles}
+use Rattle.sstable_blocks.specs.Lookup.{IsEnd}
+use Rattle.sstable_blocks.specs.Run.{Form, IsLayout, IsWritable, RunFits, block_frames}
+use Rattle.sstable_blocks.specs.RunReading.{Hashes}
+use Rattle.sstable_blocks.specs.Writing.{FrameFits, IsTable, PartFits, Writing}
+use Rattle.sstable_blocks.specs.declared.run.RunConfig.{RunConfig}
+use Rattle.sstable_blocks.specs.declared.run.RunHandles.{RunHandles}
+
+-- how many bytes the keys and the values of entries have
+abbrev pub data_len : List Entry → ℕ
+data_len items = sum_by (λ e. length e.key.user_key + length e.value) items
+
+-- is a limit reached? never where it is 0
+abbrev pub reaches : ℕ → ℕ → Bool
+reaches limit n = nat_le 1 limit && nat_le limit n
+
+-- does a part with these blocks end? it does as soon as it has so many blocks, or so many bytes of keys and values
+unfoldable pub is_full : PartSizes → List (List Entry) → Bool
+is_full sizes blocks = reaches sizes.blocks (length blocks) || reaches sizes.bytes (data_len (joined blocks))
+
+-- the parts that are closed before one more block is written, and the blocks of the part that the block is added to
+abbrev pub parts_before : PartSizes → List (List (List Entry)) → List (List Entry) → List (List (List Entry))
+parts_before sizes parts current = if is_full sizes current then parts ++ current ∷ [] else parts
+
+abbrev pub current_before : PartSizes → List (List Entry) → List (List Entry)
+current_before sizes current = if is_full sizes current then [] else current
+
+-- what contracts see of a writer of a parted table: how it writes, and where it ends parts; the parts that are closed, the
+-- blocks of the current part, and the offset where that begins; the bytes that its writer held when it was made, if
+-- those are known, and the writer
+pub record PartWriting (W : Type 0) : Type 0 where
+  pub config : RunConfig
+  pub sizes : PartSizes
+  pub parts : List (List (List Entry))
+  pub current : List (List Entry)
+  pub offset : ℕ
+  pub start : Option (List ℕ)
+  pub writer : W
+
+-- the blocks written so far
+abbrev pub blocks_so_far : {W : Type 0} → PartWriting W → List (List Entry)
+blocks_so_far w = joined w.parts ++ w.current
+
+-- one block more was written, to the part that was the current one, or to a next one where that was full
+pub record AddsTo {W : Type 0} (old new : PartWriting W) (block : List Entry) : Type 0 where
+  pub config : new.config ≡ old.config
+  pub sizes : new.sizes ≡ old.sizes
+  pub start : new.start ≡ old.start
+  pub parts : new.parts ≡ parts_before old.sizes old.parts old.current
+  pub current : new.current ≡ current_before old.sizes old.current ++ block ∷ []
+
+-- a text is the table file of blocks, and a handle names it by its length, with the key and the sequence number of the last
+-- entry
+pub record IsPartFile (f : Form) (blocks : List (List Entry)) (text : List ℕ) (h : Handle) : Type 0 where
+  pub places : RunHandles
+  pub table : IsTable f blocks places text
+  pub size : h.size ≡ length text
+  pub small : h.size < 2 ^ 32
+  pub end : IsEnd entries handles (joined blocks) h
+
+-- texts are the table files of parts, one after the other from an offset on, which handles name
+abbrev pub ArePartFiles : Form → ℕ → List (List (List Entry)) → List (List ℕ) → List Handle → Type 0
+ArePartFiles f offset [] [] [] = Unit {0}
+ArePartFiles f offset (part ∷ parts) (text ∷ texts) (h ∷ hs) = (h.offset ≡ offset) × IsPartFile f part text h × ArePartFiles f (offset + length text) parts texts hs
+ArePartFiles f offset parts texts hs = ⊥
+
+-- the handles in the footer of a parted table: that of the frame of its index, and none of a filter
+abbrev pub top_handles : HandleParts → RunHandles
+top_handles top = record { index = top; filter = None }
+
+-- the bytes of a parted table: the table files of its parts, the frame of type `Meta` of the index of these, and a footer
+pub record IsPartedLayout (f : Form) (parts : List (List (List Entry))) (bytes : List ℕ) (top : HandleParts) : Type 0 where
+  pub texts : List (List ℕ)
+  pub tops : List Handle
+  pub files : ArePartFiles f 0 parts texts tops
+  pub ordered : IsOrdered entries (joined (joined parts))
+  pub index : IsIndexBlock (index_payload tops f.config.index_interval) tops f.config.index_interval
+  pub fits : PartFits (length (joined texts)) (index_payload tops f.config.index_interval)
+  pub offset : top.offset ≡ length (joined texts)
+  pub size : top.size ≡ 33 + length (index_payload tops f.config.index_interval)
+  pub text : bytes ≡ joined texts ++ (frame f.hash128 Meta (index_payload tops f.config.index_interval) ++ footer (top_handles top))
+
+-- bytes are the file of a parted table of these parts
+pub record IsPartedFile (c : Hashes) (parts : List (List (List Entry))) (bytes : List ℕ) (top : HandleParts) : Type 0 where
+  pub parted : IsParted c parts bytes top
+  pub footer_is : table_handles bytes ≡ Ok (top_handles top)
+
+-- a writer's known bytes grew by the layout of a parted table of these parts, and by the file of one
+abbrev pub AppendsParted : Form → List (List (List Entry)) → Option (List ℕ) → Option (List ℕ) → HandleParts → Type 0
+AppendsParted f parts old new top = (bytes : List ℕ) × IsPartedLayout f parts bytes top × Appends old new bytes
+
+abbrev pub AppendsPartedFile : Hashes → List (List (List Entry)) → Option (List ℕ) → Option (List ℕ) → HandleParts → Type 0
+AppendsPartedFile c parts old new top = (bytes : List ℕ) × IsPartedFile c parts bytes top × Appends old new bytes
+
+-- they grew by the table file of a part at an offset, which this handle names
+pub record AppendsPart (f : Form) (blocks : List (List Entry)) (offset : ℕ) (old new : Option (List ℕ)) (h : Handle) : Type 0 where
+  pub text : List ℕ
+  pub file : IsPartFile f blocks text h
+  pub offset_is : h.offset ≡ offset
+  pub end : offset + h.size < 2 ^ 64
+  pub bytes : Appends old new text
+
+-- the table file of blocks fits at an offset: its run, its length a handle, and its end 64 bits
+pub record PartFileFits (f : Form) (offset : ℕ) (blocks : List (List Entry)) : Type 0 where
+  pub run : RunFits f blocks
+  pub size : (bytes : List ℕ) (h : RunHandles) → IsLayout f blocks bytes h → length bytes + 24 < 2 ^ 32
+  pub end : (bytes : List ℕ) (h : RunHandles) → IsLayout f blocks bytes h → offset + (length bytes + 24) < 2 ^ 64
+
+-- one more block fits: the part that it does not fit into any more, and its frame behind those of the part that it is
+-- added to
+pub record NextFits {W : Type 0} (f : Form) (w : PartWriting W) (block : List Entry) : Type 0 where
+  pub closes : is_full w.sizes w.current ≡ true → PartFileFits f w.offset w.current
+  pub frame_fits : FrameFits f (length (block_frames f (current_before w.sizes w.current))) block
+
+-- the index of parts fits after their table files
+abbrev pub TopFits : Form → List (List (List Entry)) → Type 0
+TopFits f parts = (texts : List (List ℕ)) (tops : List Handle) → ArePartFiles f 0 parts texts tops → PartFits (length (joined texts)) (index_payload tops f.config.index_interval)
+
+-- the end of a parted table fits: the last part, and the index of all parts
+pub record EndFits {W : Type 0} (f : Form) (w : PartWriting W) : Type 0 where
+  pub last : PartFileFits f w.offset w.current
+  pub top : TopFits f (w.parts ++ w.current ∷ [])
+
+-- an entry with this key and this sequence number is the last of a list
+pub record IsLastOf (items : List Entry) (key : List ℕ) (seqno : ℕ) : Type 0 where
+  pub front : List Entry
+  pub last : Entry
+  pub whole : items ≡ front ++ last ∷ []
+  pub key_is : key ≡ last.key.user_key
+  pub seqno_is : seqno ≡ last.key.seqno
+  pub short : length key ≤ 65535
+
+-- a writer's known bytes grew by the table files of closed parts, which handles name; the next part begins at an offset
+pub record AreClosed (f : Form) (parts : List (List (List Entry))) (start now : Option (List ℕ)) (tops : List Handle) (offset : ℕ) : Type 0 where
+  pub texts : List (List ℕ)
+  pub files : ArePartFiles f 0 parts texts tops
+  pub ends : AllByRecursion (λ h. h.offset + h.size < 2 ^ 64) tops
+  pub bytes : Appends start now (joined texts)
+  pub offset_is : offset ≡ length (joined texts)
+
+-- what contracts see of the parts closed: how they are written, their blocks, their handles, the offset after them, and
+-- what the writer held before and after them, if that is known
+pub record ClosedView : Type 0 where
+  pub config : RunConfig
+  pub parts : List (List (List Entry))
+  pub tops : List Handle
+  pub offset : ℕ
+  pub start : Option (List ℕ)
+  pub after : Option (List ℕ)
+
+-- a part was closed, after which the writer holds this
+pub record Closes (old : ClosedView) (blocks : List (List Entry)) (new : ClosedView) (now : Option (List ℕ)) : Type 0 where
+  pub config : new.config ≡ old.config
+  pub start : new.start ≡ old.start
+  pub parts : new.parts ≡ old.parts ++ blocks ∷ []
+  pub after : new.after ≡ now
+
+-- a writer's known bytes grew by the frame of an index at an offset, which this handle names, and a footer
+pub record AppendsTop (hash128 : List ℕ → ℕ) (offset : ℕ) (payload : List ℕ) (old new : Option (List ℕ)) (top : HandleParts) : Type 0 where
+  pub fits : PartFits offset payload
+  pub offset_is : top.offset ≡ offset
+  pub size : top.size ≡ 33 + length payload
+  pub bytes : Appends old new (frame hash128 Meta payload ++ footer (top_handles top))
+
+-- the run of the current part begins where the parts closed end
+pub record Joins {W : Type 0} (closed : ClosedView) (run : Writing W) : Type 0 where
+  pub config : run.config ≡ closed.config
+  pub start : run.start ≡ closed.after
+
+-- what is kept of the last entry of the current part: nothing where the part has no block
+abbrev pub IsEndOf : List (List Entry) → Option PartEnd → Type 0
+IsEndOf blocks None = blocks ≡ []
+IsEndOf blocks (Some e) = (1 ≤ length blocks) × IsLastOf (joined blocks) e.key e.seqno
+
+-- the parts closed, and the run that the next block is added to: the same, or where the current part is full, one part more
+-- and a run without blocks
+pub record IsNextPart {W : Type 0} (closed : ClosedView) (run : Writing W) (full : Bool) (closed' : ClosedView) (run' : Writing W) : Type 0 where
+  pub config : closed'.config ≡ closed.config
+  pub start : closed'.start ≡ closed.start
+  pub parts : closed'.parts ≡ (if full then closed.parts ++ run.blocks ∷ [] else closed.parts)
+  pub blocks : run'.blocks ≡ (if full then [] else run.blocks)
+  pub refusal : run'.refusal ≡ None
+  pub joins : Joins closed' run'
+
+-- what a writer of a parted table keeps of the current part
+pub record IsOpenPart {W : Type 0} (closed : ClosedView) (run : Writing W) (sizes : PartSizes) (blocks : List (List Entry)) (end : Option PartEnd) (left : ℕ) : Type 0 where
+  pub writable : IsWritable closed.config
+  pub accepting : run.refusal ≡ None
+  pub blocks_are : blocks ≡ run.blocks
+  pub joins : Joins closed run
+  pub end_is : IsEndOf run.blocks end
+  pub first : run.blocks ≡ [] → closed.parts ≡ []
+  pub left_is : left ≡ sizes.bytes - data_len (joined run.blocks)
+  pub ordered : IsOrdered entries (joined (joined closed.parts ++ run.blocks))

@@ -1,0 +1,82 @@
+//! Laws of parted tables. Each function does nothing, and its contract is one law: a caller has it in
+//! its proof by calling the function.
+ghost use Rattle.std.specs.Prelude.{◌≡◌, ◌++◌, ◌<◌, ◌^◌, ℕ, List, None, Ok, Option, slice_get};
+ghost use Rattle.std.specs.List.{AllZip};
+ghost use Rattle.std.specs.Option.{option_map};
+ghost use Rattle.sst_base.specs.BlockHandle.{HandleParts};
+ghost use Rattle.sst_base.specs.Entry.{Entry};
+ghost use Rattle.sst_block_core.specs.Entries.{entries};
+ghost use Rattle.sst_block_core.specs.Handles.{Handle, handles};
+ghost use Rattle.sst_block_core.specs.Kind.{IsOrdered};
+ghost use Rattle.sst_block_core.specs.Window.{first_match};
+ghost use Rattle.sst_parts.specs.ManyReads.{IsRising, different, indexes, many_frames};
+ghost use Rattle.sst_parts.specs.PartWriting.{IsPartedFile, IsPartedLayout};
+ghost use Rattle.sst_parts.specs.Parts.{IsParted, read_by_top, tops_at, tops_by_footer};
+ghost use Rattle.sstable_blocks.specs.Blocks.{joined};
+ghost use Rattle.sstable_blocks.specs.Lookup.{IsEnd, first_in, handle_for, place_for};
+ghost use Rattle.sstable_blocks.specs.Run.{Form};
+ghost use Rattle.sstable_blocks.specs.RunReading.{Hashes, hashes};
+
+use sst_base::InternalValue;
+use sst_block_core::laws::{index_block_is_read, index_check_is_by_stages};
+use sst_block_core::{BlockItem, KeyedBlockHandle};
+use sstable_blocks::run::laws::{first_match_is_in_one_block, layout_is_sound, sound_is_read};
+
+/// The first match of an ordered list in parts of blocks is that of the one part at which a search
+/// by key and sequence number over the ends of the parts stops, and there is none where it passes
+/// over all: so versions of one key may go on over any number of parts.
+pub fn first_match_is_in_one_part<T: BlockItem, E: BlockItem>()
+    ensures { (needle : List ℕ) (seqno : ℕ) (parts : List (List (List T))) (ends : List E)
+        → AllZip (λ part h. IsEnd T.kind E.kind (joined part) h) parts ends
+        → IsOrdered T.kind (joined (joined parts))
+        → first_match T.kind needle seqno (joined (joined parts))
+        ≡ first_in T.kind needle seqno
+        (option_map joined (slice_get parts (place_for E.kind needle seqno ends))) }
+{
+    first_match_is_in_one_block::<T, E>();
+}
+
+/// A checked read of a parted table by the handles of its parts gives the first match of the entries
+/// of all parts.
+pub fn parted_is_read()
+    ensures { (c : Hashes) (parts : List (List (List Entry))) (bytes : List ℕ) (top : HandleParts)
+        (tops : List Handle) (needle : List ℕ) (seqno : ℕ)
+        → ((xs : List ℕ) → c.hash128 xs < 2 ^ 128) → IsParted c parts bytes top
+        → tops_at c bytes top ≡ Ok tops
+        → read_by_top c bytes (handle_for handles needle seqno tops) needle seqno
+        ≡ Ok (first_match entries needle seqno (joined (joined parts))) }
+{
+    index_check_is_by_stages();
+    index_block_is_read();
+    sound_is_read();
+    first_match_is_in_one_part::<InternalValue, KeyedBlockHandle>();
+}
+
+/// The layout of a parted table, as [`PartWriter`](crate::PartWriter) writes it, is the file of a parted
+/// table of these parts.
+pub fn parted_layout_is_parted()
+    ensures { (f : Form) (parts : List (List (List Entry))) (bytes : List ℕ) (top : HandleParts)
+        → IsPartedLayout f parts bytes top
+        → IsPartedFile (hashes f.hash64 f.hash128) parts bytes top }
+{
+    layout_is_sound();
+}
+
+/// The file of a parted table is opened by its footer: the index of its parts is read, and a read by it
+/// is that of [`parted_is_read`].
+pub fn parted_file_opens()
+    ensures { (c : Hashes) (parts : List (List (List Entry))) (bytes : List ℕ) (top : HandleParts)
+        → ((xs : List ℕ) → c.hash128 xs < 2 ^ 128) → IsPartedFile c parts bytes top
+        → (tops : List Handle) × (tops_by_footer c bytes ≡ Ok (top, tops))
+        × (tops_at c bytes top ≡ Ok tops) }
+{
+    index_check_is_by_stages();
+    index_block_is_read();
+}
+
+/// Where the indexes of the blocks of needles do not fall, [`get_many`](crate::many::get_many) asks for
+/// at most as many frames as there are different blocks among them.
+pub fn rising_blocks_are_read_once()
+    ensures { (places : List (Option ℕ)) → IsRising (indexes places)
+        → many_frames None places ≡ different (indexes places) }
+{}

@@ -1,0 +1,248 @@
+//! Parted tables in a source, of which the index of the parts is kept.
+ghost use Rattle.std.specs.Prelude.{◌≡◌, ◌+◌, ◌<◌, ◌^◌, Ok, IfOk, IfSome, MatchResult, Option, true};
+ghost use Rattle.std.specs.Prelude.{length};
+ghost use Rattle.std.specs.Option.{option_map};
+ghost use Rattle.sst_base.specs.Counted.{CountsBetween};
+ghost use Rattle.sst_block_core.specs.Handles.{handles};
+ghost use Rattle.sst_parts.specs.Parts.{FindsInParts, error_after, parted_frames, parted_most};
+ghost use Rattle.sst_parts.specs.Parts.{read_by_top, source_after, tops_at, tops_by_footer};
+ghost use Rattle.sstable_blocks.specs.Footer.{table_handles};
+ghost use Rattle.sstable_blocks.specs.Lookup.{handle_for};
+ghost use Rattle.sstable_blocks.specs.Opened.{range_of};
+ghost use Rattle.sstable_blocks.specs.ReadCosts.{find_cost};
+ghost use Rattle.sstable_blocks.specs.RunReading.{hashes};
+ghost use Rattle.sstable_blocks.specs.Sources.{AsksExactly, AsksIfOk, AsksUpTo, FailsAs, ReadsAs};
+ghost use Rattle.sstable_blocks.specs.Sources.{UsesSource};
+
+use crate::laws::parted_is_read;
+use crate::part::{find_range, read_in_part};
+use sst_base::{BlockHandle, BlockHash, BlockType, Error, InternalValue, Result, SeqNo, Steps};
+use sst_block_core::IndexBlock;
+use sst_block_core::laws::index_check_is_by_stages;
+use sstable_blocks::run::checked::block_from;
+use sstable_blocks::run::footer::read_footer;
+use sstable_blocks::run::{FrameSource, OpenError, RunHandles, SizedSource};
+use std::alloc::Global;
+use std::marker::{Model, PhantomData};
+
+// The index of the parts, with the table of its heads.
+fn tops_from<H: BlockHash, S: FrameSource>(
+    alloc: Global,
+    source: &mut S,
+    top: &BlockHandle,
+) -> Result<IndexBlock>
+    ensures source { UsesSource S.bytes S.failures S.reads S.is_reliable
+        (AsksExactly 1) source.old source.new result }
+    ensures exact { ReadsAs S.bytes S.failures S.is_reliable source.old source.new
+        (λ b. b.items) result (λ all. tops_at (hashes H.hash64 H.hash128) all top.now) }
+    ensures heads { IfOk result (λ b. b.heads ≡ true) }
+{
+    index_check_is_by_stages();
+    let block = block_from::<H, S>(alloc, source, top, BlockType::Meta)?;
+    IndexBlock::check(alloc, block)
+}
+
+// The handles in the footer of a file.
+fn handles_from<S: SizedSource>(alloc: Global, source: &mut S) -> Result<RunHandles>
+    ensures source { UsesSource S.bytes S.failures S.reads S.is_reliable
+        (AsksIfOk (λ _. 1)) source.old source.new result }
+    ensures exact { ReadsAs S.bytes S.failures S.is_reliable source.old source.new (λ h. h) result
+        (λ all. table_handles all) }
+{
+    let len = source.byte_len()?;
+    read_footer(alloc, source, len)
+}
+
+// The range of the part that can hold a key below a sequence number.
+fn find_part(
+    index: &IndexBlock,
+    needle: &[u8],
+    seqno: SeqNo,
+    steps: &mut Steps,
+) -> Option<BlockHandle>
+    ensures found { result
+        ≡ option_map range_of (handle_for handles needle.now seqno index.now.items) }
+    ensures end { IfSome result (λ p. p.offset + p.size < 2 ^ 64) }
+    ensures counts { CountsBetween steps.old steps.new (1, 0)
+        (find_cost index.now.interval (length index.now.items)) }
+{
+    // Each part ends below 2^64.
+    let _payload = index.as_slice();
+    find_range(index, needle, seqno, steps)
+}
+
+// The first match by the index of the parts.
+fn read_by_tops<H: BlockHash, S: FrameSource>(
+    alloc: Global,
+    source: &mut S,
+    index: &IndexBlock,
+    needle: &[u8],
+    seqno: SeqNo,
+    steps: &mut Steps,
+) -> Result<Option<InternalValue>>
+    ensures source { UsesSource S.bytes S.failures S.reads S.is_reliable
+        (AsksUpTo (parted_frames index.now.items needle.now seqno))
+        source.old source.new result }
+    ensures exact { ReadsAs S.bytes S.failures S.is_reliable source.old source.new (λ x. x) result
+        (λ all. read_by_top (hashes H.hash64 H.hash128) all
+        (handle_for handles needle.now seqno index.now.items) needle.now seqno) }
+    ensures counts { IfSome (S.bytes source.old)
+        (λ all. CountsBetween steps.old steps.new (1, 0)
+        (parted_most all index.now.items index.now.interval needle.now seqno)) }
+{
+    match find_part(index, needle, seqno, steps) {
+        None => Ok(None),
+        Some(part) => read_in_part::<H, S>(alloc, source, &part, needle, seqno, steps),
+    }
+}
+
+/// A parted table in a source. The index of its parts was verified and checked when it was opened,
+/// and is kept, with the table of its heads; of the parts nothing is kept.
+///
+/// Clauses see the source, the handle of the index of the parts, the handles of the parts, and the
+/// restart interval of that index. The handles kept are always those of the source's bytes, if these
+/// are known.
+#[derive(Drop)]
+pub struct PartedTable<H: BlockHash, S: FrameSource> {
+    source: S,
+    top: BlockHandle,
+    index: IndexBlock,
+    hash: PhantomData<H>,
+}
+
+impl<H: BlockHash, S: FrameSource> Model for PartedTable<H, S> {
+    ghost use Rattle.std.specs.Prelude.{◌≡◌, IfSome, Ok, true};
+    ghost use Rattle.sst_parts.specs.Parts.{PartedParts, tops_at};
+    ghost use Rattle.sstable_blocks.specs.RunReading.{hashes};
+
+    ghost Value = { PartedParts S };
+
+    ghost view = { λ t. record {
+      source = t.source;
+      top = t.top;
+      tops = t.index.items;
+      interval = t.index.interval;
+    } };
+
+    ghost invariant = { λ t. IfSome (S.bytes t.source)
+        (λ all. tops_at (hashes H.hash64 H.hash128) all t.top ≡ Ok t.index.items)
+        × (t.index.heads ≡ true) };
+}
+
+impl<H: BlockHash, S: FrameSource> PartedTable<H, S> {
+    /// Opens a parted table in a source: reads, verifies and checks the index of its parts, and
+    /// nothing else.
+    ///
+    /// # Errors
+    ///
+    /// Those of the frame of the index, `Error::InvalidTag` if it is not of type `Meta`, and those
+    /// of `IndexBlock::check`. `Error::Io` only where the source failed. `Error::Memory` if an
+    /// allocation fails. The source is returned with the error.
+    pub fn open(
+        alloc: Global,
+        source: S,
+        top: BlockHandle,
+    ) -> std::result::Result<PartedTable<H, S>, OpenError<S>>
+        ensures top { IfOk result (λ t. t.top ≡ top) }
+        ensures source { UsesSource S.bytes S.failures S.reads S.is_reliable
+            (AsksExactly 1) source (source_after result) (error_after result) }
+        ensures exact { IfSome (S.bytes source) (λ all. MatchResult result
+            (λ t. tops_at (hashes H.hash64 H.hash128) all top ≡ Ok t.tops)
+            (λ e. FailsAs (S.failures source < S.failures e.source) (S.is_reliable source)
+            (tops_at (hashes H.hash64 H.hash128) all top) e.error)) }
+    {
+        let mut source = source;
+        match tops_from::<H, S>(alloc, &mut source, &top) {
+            Ok(index) => Ok(PartedTable {
+                source,
+                top,
+                index,
+                hash: PhantomData,
+            }),
+            Err(error) => Err(OpenError { error, source }),
+        }
+    }
+
+    /// Returns the first entry with this key whose sequence number is strictly below `seqno`. The
+    /// part that can hold it is found by key and sequence number in the index of the parts that was
+    /// kept; only then is anything of a part read, and of that part alone: its footer, its filter,
+    /// and, where that allows the key, its index and one block. Each frame is verified and checked.
+    ///
+    /// What is examined is added to `steps`: at least a head of the index of the parts, and at most
+    /// the heads and handles of a search in it, and what [`sstable_blocks::run::read_entry`] examines
+    /// in the part.
+    ///
+    /// # Errors
+    ///
+    /// The first one met: those of the source for the part's footer, and `Error::Truncated` if the
+    /// part has fewer than 24 bytes; then those of
+    /// [`read_entry_checked`](sstable_blocks::run::read_entry_checked) for the bytes of the part, where a range
+    /// that is not inside the part is `Error::BadHandle`. `Error::Io` only where the source failed.
+    /// `Error::Memory` if an allocation fails.
+    pub fn get(
+        &mut self,
+        alloc: Global,
+        needle: &[u8],
+        seqno: SeqNo,
+        steps: &mut Steps,
+    ) -> Result<Option<InternalValue>>
+        ensures kept { self.new ≡ record self.old { source = self.new.source } }
+        ensures source { UsesSource S.bytes S.failures S.reads S.is_reliable
+            (AsksUpTo (parted_frames self.old.tops needle.now seqno))
+            self.old.source self.new.source result }
+        ensures exact { ReadsAs S.bytes S.failures S.is_reliable self.old.source self.new.source
+            (λ x. x) result (λ all. read_by_top (hashes H.hash64 H.hash128) all
+            (handle_for handles needle.now seqno self.old.tops) needle.now seqno) }
+        ensures sound { IfSome (S.bytes self.old.source)
+            (FindsInParts (hashes H.hash64 H.hash128) self.old.top needle.now seqno result) }
+        ensures counts { IfSome (S.bytes self.old.source)
+            (λ all. CountsBetween steps.old steps.new (1, 0)
+            (parted_most all self.old.tops self.old.interval needle.now seqno)) }
+    {
+        parted_is_read();
+        read_by_tops::<H, S>(alloc, &mut self.source, &self.index, needle, seqno, steps)
+    }
+
+    /// Returns where the index of the parts is.
+    pub fn top(&self) -> &BlockHandle
+        ensures { result.now ≡ self.now.top }
+    {
+        &self.top
+    }
+
+    /// Returns the index of the parts, with the table of its heads. Its handles name the parts.
+    pub fn index(&self) -> &IndexBlock
+        ensures items { result.now.items ≡ self.now.tops }
+        ensures interval { result.now.interval ≡ self.now.interval }
+        ensures heads { result.now.heads ≡ true }
+    {
+        &self.index
+    }
+}
+
+impl<H: BlockHash, S: SizedSource> PartedTable<H, S> {
+    /// Opens the file of a parted table: reads the footer, and opens the table as
+    /// [`PartedTable::open`] does.
+    ///
+    /// # Errors
+    ///
+    /// `Error::Io` if the source fails, `Error::Truncated` if it is shorter than a footer, then
+    /// those of [`PartedTable::open`]. The source is returned with the error.
+    pub fn open_file(
+        alloc: Global,
+        source: S,
+    ) -> std::result::Result<PartedTable<H, S>, OpenError<S>>
+        ensures source { UsesSource S.bytes S.failures S.reads S.is_reliable
+            (AsksIfOk (λ _. 2)) source (source_after result) (error_after result) }
+        ensures exact { IfSome (S.bytes source) (λ all. MatchResult result
+            (λ t. tops_by_footer (hashes H.hash64 H.hash128) all ≡ Ok (t.top, t.tops))
+            (λ e. FailsAs (S.failures source < S.failures e.source) (S.is_reliable source)
+            (tops_by_footer (hashes H.hash64 H.hash128) all) e.error)) }
+    {
+        let mut source = source;
+        match handles_from::<S>(alloc, &mut source) {
+            Ok(handles) => PartedTable::open(alloc, source, handles.index),
+            Err(error) => Err(OpenError { error, source }),
+        }
+    }
+}

@@ -1,0 +1,273 @@
+//! Writing a parted table, a block at a time.
+ghost use Rattle.std.specs.Prelude.{◌≡◌, ◌↔◌, ◌-◌, ◌++◌, ◌∷◌, [], ◌≤◌, IfErr, IfOk, IsErrOf, IsTrue, ℕ};
+ghost use Rattle.std.specs.Prelude.{OnErr, if◌then◌else◌};
+ghost use Rattle.std.specs.Prelude.{None, length, map, true};
+ghost use Rattle.sst_base.specs.declared.error.Error.TheVariants.{Io};
+ghost use Rattle.sst_parts.specs.PartWriting.{AddsTo, AppendsParted, AppendsPartedFile, EndFits};
+ghost use Rattle.sst_parts.specs.PartWriting.{IsEndOf, IsNextPart, Joins, NextFits, PartFileFits};
+ghost use Rattle.sst_parts.specs.PartWriting.{blocks_so_far, data_len, is_full, reaches};
+ghost use Rattle.sstable_blocks.specs.Run.{IsWritable, form};
+ghost use Rattle.sstable_blocks.specs.RunReading.{hashes};
+ghost use Rattle.sstable_blocks.specs.Writing.{Follows, IsWriteRefusal};
+
+use crate::closed::{ClosedParts, PartEnd};
+use crate::laws::parted_layout_is_parted;
+use sst_base::{BlockHandle, BlockHash, History, InternalValue, Output, Result};
+use sst_block_core::AsEntry;
+use sstable_blocks::run::{RunConfig, RunWriter};
+use std::alloc::Global;
+use std::collections::LinkedList;
+use std::marker::Model;
+
+/// Where the parts of a parted table end: a part ends as soon as it reaches one of these sizes, with
+/// the block with which it does. A size of 0 is no limit.
+#[derive(Clone, Copy, Debug, PartialEq, Eq)]
+pub struct PartSizes {
+    /// The number of blocks of a part.
+    pub blocks: usize,
+    /// The number of bytes of a part, of which those of keys and values are counted.
+    pub bytes: u64,
+}
+
+// How much of a number of bytes is left after the keys and values of entries.
+fn spend<T: AsEntry>(left: u64, items: &[T]) -> u64
+    ensures { result ≡ left - data_len (map T.entry items.now) }
+{
+    let mut rest = left;
+    for item in items {
+        let entry = item.view();
+        let key_rest = rest.saturating_sub(entry.key_len() as u64);
+        rest = key_rest.saturating_sub(entry.value().len() as u64);
+    }
+    rest
+}
+
+// Whether a number reaches a limit, which 0 is none.
+fn reached(limit: usize, n: usize) -> bool
+    ensures { result ≡ reaches limit n }
+{
+    limit >= 1 && limit <= n
+}
+
+// The same of a number by how much of the limit it leaves.
+fn spent(limit: u64, left: u64) -> bool
+    ensures { (n : ℕ) → left ≡ limit - n → result ≡ reaches limit n }
+{
+    limit >= 1 && left == 0
+}
+
+// How many bytes are left to the part that the next block is added to, where the current one is full
+// or not.
+fn left_before(full: bool, bytes: u64, left: u64) -> u64
+    ensures { result ≡ (if full then bytes else left) }
+{
+    if full { bytes } else { left }
+}
+
+// The blocks of that part.
+fn blocks_before(
+    full: bool,
+    blocks: History<LinkedList<InternalValue>>,
+) -> History<LinkedList<InternalValue>>
+    ensures { result ≡ (if full then [] else blocks) }
+{
+    if full { History::new() } else { blocks }
+}
+
+// The parts closed, and the run that the next block is added to: the current part's, or, where that
+// is full, the next one's.
+fn next_part<H: BlockHash, W: Output + Drop>(
+    closed: ClosedParts<H>,
+    run: RunWriter<H, W>,
+    blocks: &History<LinkedList<InternalValue>>,
+    end: Option<PartEnd>,
+    full: bool,
+) -> Result<(ClosedParts<H>, RunWriter<H, W>)>
+    requires accepting { run.refusal ≡ None }
+    requires writable { IsWritable closed.config }
+    requires joins { Joins closed run }
+    requires blocks { blocks.now ≡ run.blocks }
+    requires end { IsEndOf run.blocks end }
+    requires some { full ≡ true → 1 ≤ length run.blocks }
+    ensures next { IfOk result (λ r. IsNextPart closed run full r.0 r.1) }
+    ensures full { OnErr result (full ≡ true) }
+    ensures reliable { IfOk result (λ r. W.never_fails run.writer → W.never_fails r.1.writer) }
+    ensures failed { IsErrOf result Io → W.never_fails run.writer → ⊥ }
+    ensures cause { IfErr result (IsWriteRefusal (PartFileFits
+        (form H.hash64 H.hash128 closed.config) closed.offset run.blocks → ⊥)) }
+{
+    if !full {
+        return Ok((closed, run));
+    }
+    let Some(end) = end else { unreachable!() };
+    let (closed, writer) = closed.close(run, blocks, end)?;
+    let run = closed.next_run(writer);
+    Ok((closed, run))
+}
+
+/// Writes a parted table into a writer of bytes, a block at a time. What is kept are the handles of
+/// the blocks and the hashes of the keys of the part that is written, and a handle of each part
+/// before.
+///
+/// Clauses see the configuration and the sizes, the blocks of the parts closed, those of the part
+/// that is current, the offset where that begins, what the writer held when this was made, and the
+/// writer.
+#[derive(Drop)]
+pub struct PartWriter<H: BlockHash, W: Output> {
+    closed: ClosedParts<H>,
+    run: RunWriter<H, W>,
+    sizes: PartSizes,
+    // The blocks of the current part.
+    blocks: History<LinkedList<InternalValue>>,
+    // The last entry of the current part, if it has one.
+    end: Option<PartEnd>,
+    // The bytes that are left to the current part.
+    left: u64,
+}
+
+impl<H: BlockHash, W: Output> Model for PartWriter<H, W> {
+    ghost use Rattle.sst_parts.specs.PartWriting.{IsOpenPart, PartWriting};
+
+    ghost Value = { PartWriting W };
+
+    ghost view = { λ w. record {
+      config = w.closed.config;
+      sizes = w.sizes;
+      parts = w.closed.parts;
+      current = w.run.blocks;
+      offset = w.closed.offset;
+      start = w.closed.start;
+      writer = w.run.writer;
+    } };
+
+    ghost invariant = { λ w. IsOpenPart w.closed w.run w.sizes w.blocks w.end w.left };
+}
+
+impl<H: BlockHash, W: Output> PartWriter<H, W> {
+    /// Makes a writer of a parted table. Both intervals of the configuration and the denominator of
+    /// its ratio are at least 1.
+    pub fn new(alloc: Global, writer: W, config: RunConfig, sizes: PartSizes) -> PartWriter<H, W>
+        requires writable { IsWritable config }
+        ensures { result ≡ record {
+          config = config;
+          sizes = sizes;
+          parts = [];
+          current = [];
+          offset = 0;
+          start = W.contents writer;
+          writer = writer;
+        } }
+    {
+        PartWriter {
+            closed: ClosedParts::new(alloc, &writer, config),
+            run: RunWriter::new(alloc, writer, config),
+            sizes,
+            blocks: History::new(),
+            end: None,
+            left: sizes.bytes,
+        }
+    }
+
+    /// Returns whether entries can be the next block: there is one, none sorts before its
+    /// predecessor, and the first not before the last entry of the blocks written.
+    pub fn fits_after<T: AsEntry>(&self, items: &[T]) -> bool
+        ensures { IsTrue result ↔ Follows (blocks_so_far self.now) (map T.entry items.now) }
+    {
+        self.run.fits_after(items)
+    }
+
+    /// Returns whether a block was written.
+    pub fn has_blocks(&self) -> bool
+        ensures { IsTrue result ↔ (1 ≤ length self.now.current) }
+    {
+        self.run.block_count() > 0
+    }
+
+    // Whether the current part ends before the next block.
+    fn is_full(&self) -> bool
+        ensures { result ≡ is_full self.now.sizes self.now.current }
+    {
+        let by_blocks = reached(self.sizes.blocks, self.run.block_count());
+        let by_bytes = spent(self.sizes.bytes, self.left);
+        if by_blocks { true } else { by_bytes }
+    }
+}
+
+impl<H: BlockHash, W: Output + Drop> PartWriter<H, W> {
+    /// Writes one more block, which [`PartWriter::fits_after`] those before: to the current part,
+    /// or, where that has reached one of its sizes, to the next one, after the index, the filter and
+    /// the footer of the part that ends. A part may end between versions of one key.
+    ///
+    /// # Errors
+    ///
+    /// `Error::TooLong` only where a part that ends does not fit: its run as `write_run` says, its
+    /// table file below 2^32 bytes, and the end of that below 2^64; or where the block does not fit,
+    /// as [`RunWriter::add_block`] says. `Error::Memory` if an allocation fails, `Error::Io` if the
+    /// writer fails. The writer is gone then, and may hold a partial write.
+    pub fn add_block<T: AsEntry>(self, items: &[T]) -> Result<PartWriter<H, W>>
+        requires { Follows (blocks_so_far self) (map T.entry items.now) }
+        ensures added { IfOk result (λ w. AddsTo self w (map T.entry items.now)) }
+        ensures reliable { IfOk result (λ w. W.never_fails self.writer → W.never_fails w.writer) }
+        ensures failed { IsErrOf result Io → W.never_fails self.writer → ⊥ }
+        ensures cause { IfErr result (IsWriteRefusal (NextFits
+            (form H.hash64 H.hash128 self.config) self (map T.entry items.now) → ⊥)) }
+    {
+        let last = self.closed.end_of(items)?;
+        let full = self.is_full();
+        let PartWriter {
+            closed,
+            run,
+            sizes,
+            blocks,
+            end,
+            left,
+        } = self;
+        let left = left_before(full, sizes.bytes, left);
+        let (closed, mut run) = next_part(closed, run, &blocks, end, full)?;
+        run.add_block(items)?;
+        let mut blocks = blocks_before(full, blocks);
+        blocks.push_chosen(&items);
+        Ok(PartWriter {
+            closed,
+            run,
+            sizes,
+            blocks,
+            end: Some(last),
+            left: spend(left, items),
+        })
+    }
+
+    /// Ends the table: ends the last part, and writes the index of the parts and the footer. Returns
+    /// the handle of the index, and the writer, which is not flushed or synced. A block was written.
+    ///
+    /// # Errors
+    ///
+    /// `Error::TooLong` only where the last part does not fit, as [`PartWriter::add_block`] says, or
+    /// the payload of the index has more than 4294967262 bytes, or its frame ends at 2^64 or above.
+    /// `Error::Memory` if an allocation fails, `Error::Io` if the writer fails.
+    pub fn finish(self) -> Result<(BlockHandle, W)>
+        requires { 1 ≤ length self.current }
+        ensures layout { IfOk result (λ r. AppendsParted (form H.hash64 H.hash128 self.config)
+            (self.parts ++ self.current ∷ []) self.start (W.contents r.1) r.0) }
+        ensures sound { IfOk result (λ r. AppendsPartedFile (hashes H.hash64 H.hash128)
+            (self.parts ++ self.current ∷ []) self.start (W.contents r.1) r.0) }
+        ensures reliable { IfOk result (λ r. W.never_fails self.writer → W.never_fails r.1) }
+        ensures failed { IsErrOf result Io → W.never_fails self.writer → ⊥ }
+        ensures cause { IfErr result (IsWriteRefusal
+            (EndFits (form H.hash64 H.hash128 self.config) self → ⊥)) }
+    {
+        parted_layout_is_parted();
+        let PartWriter {
+            closed,
+            run,
+            sizes: _,
+            blocks,
+            end,
+            left: _,
+        } = self;
+        let Some(end) = end else { unreachable!() };
+        let (closed, mut writer) = closed.close(run, &blocks, end)?;
+        let top = closed.write_top(&mut writer)?;
+        Ok((top, writer))
+    }
+}
