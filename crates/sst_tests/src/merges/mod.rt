@@ -4,5 +4,6 @@ mod failing;
 mod levels;
 mod lists;
 mod many;
+mod moved;
 mod tables;
 mod uses;

@@ -1,7 +1,7 @@
 //! Runs over devices, writers and sources that fail, and worked values of the definitions.
 mod at_size;
 mod faults;
-mod lists;
+pub(crate) mod lists;
 mod many;
 mod vectors;
-mod written;
+pub(crate) mod written;

@@ -1,0 +1,219 @@
+// A merge that is moved, step by step, against a window over the sorted list.
+ghost use Rattle.std.specs.Prelude.{IfOk};
+ghost use Rattle.sst_merge.specs.MovableBlocks.{AreEntryBlocks, block_lists};
+
+use crate::Tested;
+use crate::merges::lists::{Row, V, list_of};
+use crate::runs::lists::NO_BUCKETS;
+use crate::runs::written::write_in_blocks;
+use sst_base::{ByteSum, InternalValue, Result};
+use sst_block_core::AsEntry;
+use sst_block_core::table::data_block::{DataBlockRef, EntryView};
+use sst_merge::{Movable, MovableBlocks, MovableList, MovableMerge};
+use sstable_blocks::run::{RunConfig, RunHandles, RunRef};
+use std::alloc::Global;
+use std::process::Abort;
+
+/// A step: 0 from the front, 1 from the back, 2 a search from the front, 3 one from the back; the
+/// key that is sought; and the key, the sequence number and the list of what the step gives, the key 0
+/// where it gives nothing.
+struct Step(u8, u8, u8, u64, u8);
+
+/// Three lists, in which versions are equal.
+const FIRST: [Row; 6] = [
+    Row(2, 4, V),
+    Row(2, 1, V),
+    Row(4, 6, V),
+    Row(4, 5, V),
+    Row(4, 2, V),
+    Row(6, 2, V),
+];
+
+const SECOND: [Row; 6] = [
+    Row(3, 5, V),
+    Row(3, 2, V),
+    Row(4, 5, V),
+    Row(6, 5, V),
+    Row(9, 5, V),
+    Row(9, 1, V),
+];
+
+const THIRD: [Row; 6] = [
+    Row(1, 5, V),
+    Row(1, 2, V),
+    Row(4, 5, V),
+    Row(7, 6, V),
+    Row(7, 1, V),
+    Row(9, 4, V),
+];
+
+/// Steps, of which some cross the ends, and what they give.
+const STEPS: [Step; 72] = [
+    Step(1, 0, 9, 1, 2),
+    Step(1, 0, 9, 4, 3),
+    Step(0, 0, 1, 5, 3),
+    Step(2, 1, 0, 0, 0),
+    Step(1, 0, 9, 5, 2),
+    Step(0, 0, 1, 5, 3),
+    Step(0, 0, 1, 2, 3),
+    Step(0, 0, 2, 4, 1),
+    Step(1, 0, 7, 1, 3),
+    Step(0, 0, 2, 1, 1),
+    Step(2, 6, 0, 0, 0),
+    Step(0, 0, 6, 5, 2),
+    Step(0, 0, 6, 2, 1),
+    Step(3, 0, 0, 0, 0),
+    Step(3, 9, 0, 0, 0),
+    Step(1, 0, 9, 1, 2),
+    Step(0, 0, 7, 6, 3),
+    Step(2, 2, 0, 0, 0),
+    Step(1, 0, 9, 4, 3),
+    Step(0, 0, 2, 4, 1),
+    Step(0, 0, 2, 1, 1),
+    Step(1, 0, 9, 5, 2),
+    Step(0, 0, 3, 5, 2),
+    Step(3, 9, 0, 0, 0),
+    Step(0, 0, 3, 2, 2),
+    Step(0, 0, 4, 6, 1),
+    Step(0, 0, 4, 5, 1),
+    Step(0, 0, 4, 5, 2),
+    Step(0, 0, 4, 5, 3),
+    Step(2, 6, 0, 0, 0),
+    Step(1, 0, 9, 1, 2),
+    Step(3, 7, 0, 0, 0),
+    Step(1, 0, 7, 1, 3),
+    Step(0, 0, 6, 5, 2),
+    Step(0, 0, 6, 2, 1),
+    Step(3, 4, 0, 0, 0),
+    Step(2, 7, 0, 0, 0),
+    Step(1, 0, 0, 0, 0),
+    Step(1, 0, 0, 0, 0),
+    Step(3, 5, 0, 0, 0),
+    Step(0, 0, 0, 0, 0),
+    Step(0, 0, 0, 0, 0),
+    Step(2, 3, 0, 0, 0),
+    Step(2, 9, 0, 0, 0),
+    Step(1, 0, 0, 0, 0),
+    Step(1, 0, 0, 0, 0),
+    Step(3, 9, 0, 0, 0),
+    Step(0, 0, 9, 5, 2),
+    Step(1, 0, 9, 1, 2),
+    Step(0, 0, 9, 4, 3),
+    Step(1, 0, 0, 0, 0),
+    Step(3, 10, 0, 0, 0),
+    Step(1, 0, 9, 1, 2),
+    Step(1, 0, 0, 0, 0),
+    Step(3, 5, 0, 0, 0),
+    Step(1, 0, 0, 0, 0),
+    Step(3, 1, 0, 0, 0),
+    Step(1, 0, 0, 0, 0),
+    Step(2, 1, 0, 0, 0),
+    Step(0, 0, 1, 5, 3),
+    Step(1, 0, 1, 2, 3),
+    Step(0, 0, 0, 0, 0),
+    Step(1, 0, 0, 0, 0),
+    Step(2, 4, 0, 0, 0),
+    Step(1, 0, 0, 0, 0),
+    Step(1, 0, 0, 0, 0),
+    Step(3, 10, 0, 0, 0),
+    Step(0, 0, 4, 6, 1),
+    Step(0, 0, 4, 5, 1),
+    Step(0, 0, 4, 5, 2),
+    Step(0, 0, 4, 5, 3),
+    Step(1, 0, 9, 1, 2),
+];
+
+/// What a step gives.
+fn give<'a, I: Movable<EntryView<'a>>>(
+    merge: &mut MovableMerge<EntryView<'a>, I>,
+    step: &Step,
+) -> Option<EntryView<'a>> {
+    match step.0 {
+        0 => merge.next(),
+        1 => merge.next_back(),
+        2 => {
+            merge.seek(&[step.1]);
+            None
+        }
+        _ => {
+            merge.seek_upper(&[step.1]);
+            None
+        }
+    }
+}
+
+/// Whether this is what a step is to give.
+fn is_given(found: &Option<EntryView<'_>>, step: &Step) -> bool {
+    match found {
+        Some(entry) => {
+            entry.compare_key(&[step.2]).is_eq()
+                && entry.seqno() == step.3
+                && entry.value() == [step.4].as_slice()
+        }
+        None => step.2 == 0,
+    }
+}
+
+/// Takes all steps of a merge.
+fn check_steps<'a, I: Movable<EntryView<'a>>>(
+    rt: &impl Abort,
+    merge: &mut MovableMerge<EntryView<'a>, I>,
+) {
+    for step in &STEPS {
+        let found = give(merge, step);
+        assert!(rt; is_given(&found, step));
+    }
+}
+
+#[test]
+fn a_merge_is_moved_as_a_window(rt: HostRuntime) -> Tested {
+    let alloc = rt.alloc();
+    let first = list_of(alloc, &FIRST, 1)?;
+    let second = list_of(alloc, &SECOND, 2)?;
+    let third = list_of(alloc, &THIRD, 3)?;
+    assert!(rt; InternalValue::are_ordered(&first));
+    assert!(rt; InternalValue::are_ordered(&second));
+    assert!(rt; InternalValue::are_ordered(&third));
+    let mut sources = Vec::new(alloc);
+    sources.push(MovableList::new(&first))?;
+    sources.push(MovableList::new(&second))?;
+    sources.push(MovableList::new(&third))?;
+    let mut merge = MovableMerge::new(sources);
+    check_steps(&rt, &mut merge);
+    Ok(())
+}
+
+/// A run of a list, in blocks of two entries.
+fn run_of(alloc: Global, rows: &[Row], list: u8) -> Result<(RunHandles, Vec<u8>)> {
+    let entries = list_of(alloc, rows, list)?;
+    let config = RunConfig::new(16, NO_BUCKETS, 0);
+    write_in_blocks(alloc, Vec::new(alloc), entries.as_slice(), 2, config)
+}
+
+/// The blocks of a run.
+fn blocks_of<'a>(alloc: Global, run: &RunRef<'a, ByteSum>) -> Result<Vec<DataBlockRef<'a, ByteSum>>>
+    ensures { IfOk result (λ blocks. AreEntryBlocks (block_lists blocks.items)) }
+{
+    run.open_blocks(alloc)
+}
+
+#[test]
+fn a_merge_of_runs_is_moved_as_a_window(rt: HostRuntime) -> Tested {
+    let alloc = rt.alloc();
+    let first = run_of(alloc, &FIRST, 1)?;
+    let second = run_of(alloc, &SECOND, 2)?;
+    let third = run_of(alloc, &THIRD, 3)?;
+    let (first, _) = RunRef::<ByteSum>::check(alloc, &first.1, &first.0)?;
+    let first = blocks_of(alloc, &first)?;
+    let (second, _) = RunRef::<ByteSum>::check(alloc, &second.1, &second.0)?;
+    let second = blocks_of(alloc, &second)?;
+    let (third, _) = RunRef::<ByteSum>::check(alloc, &third.1, &third.0)?;
+    let third = blocks_of(alloc, &third)?;
+    let mut sources = Vec::new(alloc);
+    sources.push(MovableBlocks::new(&first))?;
+    sources.push(MovableBlocks::new(&second))?;
+    sources.push(MovableBlocks::new(&third))?;
+    let mut merge = MovableMerge::new(sources);
+    check_steps(&rt, &mut merge);
+    Ok(())
+}
