@@ -1,7 +1,7 @@
 -- Laws of the ends of lists in blocks.
-use Rattle.std.proofs.Common.{◌≡◌, ℕ, zero, suc, ◌+◌, ◌-◌, ◌<◌, ◌≤◌, ◌^◌, Bool, true, false, nat_lt, List, [], ◌∷◌, ◌++◌, length, map, take, drop, get_or, Option, Some, None, slice_get, refl, sym, ap, subst, ◌∙◌, inl, inr, arith, length-append, length-drop}
-use Rattle.std.proofs.lemmas.Bool.{cases_lt, lt-ltb, le-ltb}
-use Rattle.std.proofs.lemmas.List.{drop_all, get_or-map, length-map, length-take-le, take_all, take_rest}
+use Rattle.std.proofs.Common.{◌≡◌, ℕ, zero, suc, ◌+◌, ◌-◌, ◌<◌, ◌≤◌, ◌^◌, Bool, true, false, nat_lt, List, [], ◌∷◌, ◌++◌, length, map, take, drop, get_or, Option, Some, None, slice_get, refl, sym, ap, subst, ◌∙◌, arith, length-append, length-drop}
+use Rattle.std.proofs.lemmas.Bool.{lt-ltb, le-ltb}
+use Rattle.std.proofs.lemmas.List.{get_or-map, length-map, length-take-le, take_all, take_rest}
 use Rattle.std.proofs.lemmas.Option.{slice_get-get_or, slice_get_past, slice_get_within}
 use Rattle.std.specs.List.{AllByRecursion, count_by}
 use Rattle.sst_base.specs.Counted.{found_item}
@@ -11,10 +11,10 @@ use Rattle.sst_block_core.specs.Entries.{entries}
 use Rattle.sst_block_core.specs.Window.{Window, Answer, count_passed, items_left, seek, seek_upper, whole}
 use Rattle.sstable_blocks.specs.Blocks.{IsNotEmpty, joined}
 use Rattle.sst_merge.specs.Movable.{TakesBack, TakesFront, is_sought, item_before}
-use Rattle.sst_merge.specs.MovableBlocks.{AreEntryBlocks, HoldsBack, HoldsFront, IsBackIn, IsFrontIn, TakesFirstOf, TakesLastOf, back_place, entries_before, entry_key, front_place, is_block_sought, is_last_sought, window_of}
+use Rattle.sst_merge.specs.MovableBlocks.{HoldsBack, HoldsFront, IsBackIn, IsFrontIn, TakesFirstOf, TakesLastOf, back_place, entries_before, entry_key, front_place, is_block_sought, is_last_sought, window_of}
 use Rattle.sst_merge.specs.declared.movable_blocks.Open.{Open}
 use Rattle.sst_merge.proofs.BlockCounts.{passed_at_most, passed_below}
-use Rattle.sst_merge.proofs.BlockPlaces.{before_all, before_le, before_next, before_none, drop_first, inside_joined, joined_item, take_last}
+use Rattle.sst_merge.proofs.BlockPlaces.{before_le, before_next, drop_first, inside_joined, joined_item, take_last}
 
 -- an item of a mapped list
 pub map_item : {A B : Type 0} (f : A → B) (xs : List A) (i : ℕ) (x : A) → i < length xs → x ≡ get_or xs i x → slice_get (map f xs) i ≡ Some (f x)

@@ -1,4 +1,4 @@
-use Rattle.std.proofs.Common.{drop, subst, ◌∙◌}
+use Rattle.std.proofs.Common.{subst, ◌∙◌}
 use Rattle.sst_merge.specs.MovableBlocks.{TakesFirstOf}
 use Rattle.sst_merge.proofs.BlockEnds.{left_from}
 use Rattle.sst_merge.proofs.movable_blocks.hold_from.Goals as goal

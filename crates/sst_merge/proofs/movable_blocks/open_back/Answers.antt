@@ -1,8 +1,6 @@
-use Rattle.std.proofs.Common.{◌≡◌, ◌≤◌, ◌+◌, ◌-◌, ◌<◌, Option, Some, None, List, length, suc, ap, sym, ◌∙◌, arith}
-use Rattle.sst_base.specs.Entry.{Entry}
+use Rattle.std.proofs.Common.{◌≡◌, ◌-◌, ◌<◌, length, suc, ap, ◌∙◌, arith}
 use Rattle.sst_block_core.specs.DataBlock.{DataRefParts}
-use Rattle.sst_merge.specs.MovableBlocks.{TakesLastOf, back_place, block_lists, entries_before}
-use Rattle.sst_merge.specs.declared.movable_blocks.Open.{Open}
+use Rattle.sst_merge.specs.MovableBlocks.{block_lists, entries_before}
 use Rattle.sst_merge.proofs.BlockEnds.{back_before, back_held, map_item, some_in, whole_back}
 use Rattle.sst_merge.proofs.movable_blocks.open_back.Goals as goal
 
