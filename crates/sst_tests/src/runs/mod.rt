@@ -3,5 +3,6 @@ mod at_size;
 mod faults;
 pub(crate) mod lists;
 mod many;
+mod shared;
 mod vectors;
 pub(crate) mod written;
