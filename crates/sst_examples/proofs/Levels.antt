@@ -15,7 +15,8 @@ use Rattle.sst_block_core.specs.Window.{first_match, is_version}
 use Rattle.sst_merge.specs.Compact.{IsKeptRead, compacted}
 use Rattle.sst_merge.specs.Merge.{entry_cmp, merge, merged}
 use Rattle.sst_merge.specs.MergeLaws.{merge-nil}
-use Rattle.sst_merge.specs.ReadLaws.{merge_order, plain_ordered}
+use Rattle.sst_merge.specs.ReadLaws.{merge_order}
+use Rattle.sstable_blocks.specs.BoundLaws.{plain_ordered}
 use Rattle.sst_merge.specs.Snapshot.{seen}
 use Rattle.sst_merge.specs.Sources.{all_known, before}
 use Rattle.sst_examples.specs.Levels.{AreBelow, AreLevels, ArePlain, IsVersionWritten, Levels, levels, or_none, version, versions}

@@ -19,7 +19,7 @@ use Rattle.sst_block_core.specs.Entries.{entries}
 use Rattle.sst_block_core.specs.Kind.{IsOrdered}
 use Rattle.sst_block_core.specs.Handles.{Handle}
 use Rattle.sst_merge.specs.Merge.{entry_cmp, merged}
-use Rattle.sst_merge.specs.ReadLaws.{plain_ordered}
+use Rattle.sstable_blocks.specs.BoundLaws.{plain_ordered}
 use Rattle.sst_merge.specs.Sources.{all_known}
 use Rattle.sst_merge.specs.Stored.{all_keys, are_bytes, check_of, checked_list, filter_fits, known_reads, table_list}
 use Rattle.sst_merge.specs.StoredLaws.{known_all}

@@ -20,6 +20,7 @@ use Rattle.sst_merge.specs.MovableBlocks.{AreEntryBlocks, entry_key, entries_bef
 use Rattle.sst_merge.proofs.BlockPlaces.{after_append, before_append, before_none}
 use Rattle.sst_merge.proofs.CutSteps.{count_yes, count_no, fails_after, passes_before}
 use Rattle.sst_merge.proofs.SortedCounts.{sought_apart}
+use Rattle.sstable_blocks.specs.BoundLaws.{below_is, count_same, up_to_is}
 
 module _ {X : Type 0} (test : X → Bool) where
   pub count_append : (xs ys : List X) → count_by test (xs ++ ys) ≡ count_by test xs + count_by test ys
@@ -189,23 +190,6 @@ module _ (needle : List ℕ) (at_most : Bool) where
               behind = λ more. absurd (omega (arith, more, c));
             })
       ]
-
--- The counts of a block's own search.
-count_same : {X : Type 0} (p q : X → Bool) → ((x : X) → p x ≡ q x) → (xs : List X) → count_by p xs ≡ count_by q xs
-count_same p q same [] = refl
-count_same p q same (x ∷ xs) =
-    sum_by-cons (λ y. cond (p y) 1 0) x xs ∙ ap (λ b. cond b 1 0 + count_by p xs) (same x) ∙ ap (λ n. cond (q x) 1 0 + n) (count_same p q same xs)
-    ∙ sym (sum_by-cons (λ y. cond (q y) 1 0) x xs)
-
-below_is : (o : Ordering) (s : ℕ) → passes_cmp o None s ≡ is_lt o
-below_is Less s = refl
-below_is Equal s = refl
-below_is Greater s = refl
-
-up_to_is : (o : Ordering) (s : ℕ) → passes_cmp o (Some 0) s ≡ is_le o
-up_to_is Less s = refl
-up_to_is Equal s = le-leb 0 s (omega arith)
-up_to_is Greater s = refl
 
 pub passed_below : (k : List ℕ) (xs : List Entry) → count_passed entries k None xs ≡ count_by (is_sought entry_key k false) xs
 unfolding count_passed

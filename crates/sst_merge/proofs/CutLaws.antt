@@ -10,6 +10,7 @@ use Rattle.sst_merge.specs.Merge.{merge, merged}
 use Rattle.sst_merge.specs.MergeLaws.{merge-nil, merge-first, merge-second}
 use Rattle.sst_merge.specs.Picks.{list_at}
 use Rattle.sst_merge.specs.Cuts.{IsItem, comes_first, IsCut, IsNext, total, fronts, rests}
+use Rattle.sst_merge.specs.ListLaws.{lt_suc}
 
 -- an item of a list that is cut
 all_taken : {X : Type 0} (P : X → Type 0) (xs : List X) (n : ℕ) → ((a : ℕ) (x : X) → slice_get xs a ≡ Some x → a < n → P x) → AllByRecursion P (take n xs)
@@ -74,16 +75,9 @@ module _ {X : Type 0} (cmp : X → X → Ordering) where
         ∙ ap (λ zs. zs ++ merge cmp bs ds) (sym (merge-first cmp a c es cs first))
   ]
 
-  -- a cut of all lists but the first
-  later_suc : (a b : ℕ) → nat_lt (suc a) (suc b) ≡ nat_lt a b
-  later_suc a b = elim (cases_lt a b) [
-    | inl less ↦ lt-ltb (suc a) (suc b) (omega (arith, less)) ∙ sym (lt-ltb a b less)
-    | inr more ↦ le-ltb (suc a) (suc b) (omega (arith, more)) ∙ sym (le-ltb a b more)
-  ]
-
   cut_tail : (xs : List X) (xss : List (List X)) (cut : ℕ → ℕ) → IsCut cmp (xs ∷ xss) cut → IsCut cmp xss (λ i. cut (suc i))
   cut_tail xs xss cut h i j a b x y differ p q less more =
-      ap (λ later. comes_first cmp later x y) (sym (later_suc j i)) ∙ h (suc i) (suc j) a b x y (λ e. differ (omega (arith, e))) p q less more
+      ap (λ later. comes_first cmp later x y) (sym (lt_suc j i)) ∙ h (suc i) (suc j) a b x y (λ e. differ (omega (arith, e))) p q less more
 
   -- the merge of all is that of what a cut takes, and then that of what it leaves
   pub split_merge : (xss : List (List X)) (cut : ℕ → ℕ) → IsCut cmp xss cut → merged cmp xss ≡ merged cmp (fronts xss cut) ++ merged cmp (rests xss cut)

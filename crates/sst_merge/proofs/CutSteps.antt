@@ -16,6 +16,7 @@ use Rattle.sst_merge.specs.MergeLaws.{merge-first, merge-second}
 use Rattle.sst_merge.proofs.CutLaws.{length-merge}
 use Rattle.sst_merge.specs.Picks.{list_at}
 use Rattle.sst_merge.specs.Cuts.{IsItem, comes_first, IsCut, IsNext, IsFirstList, IsLastList, total}
+use Rattle.sst_merge.specs.ListLaws.{order_tail}
 
 -- an index within a list has an item
 pub item_found : {X : Type 0} (xs : List X) (a : ℕ) → a < length xs → (y : X) × (slice_get xs a ≡ Some y)
@@ -88,11 +89,6 @@ module _ {X : Type 0} (cmp : X → X → Ordering) where
     strictly false x y p = ap not (turned x y p)
     strictly true x y p = p
 
-    -- the items of an ordered list
-    pub order_tail : (x : X) (xs : List X) → IsInOrder cmp (x ∷ xs) → IsInOrder cmp xs
-    order_tail x [] h = tt
-    order_tail x (y ∷ ys) h = h.1
-
     above_first : (x : X) (xs : List X) (b : ℕ) (y : X) → IsInOrder cmp (x ∷ xs) → slice_get xs b ≡ Some y → is_lt (cmp y x) ≡ false
     above_first x [] b y up at = absurd (cc)
     above_first x (z ∷ xs) zero y up at = (let e : z ≡ y = some_is z y at in ap (λ w. is_lt (cmp w x)) (sym e) ∙ is_not_lt (cmp z x) up.0)
@@ -112,7 +108,7 @@ module _ {X : Type 0} (cmp : X → X → Ordering) where
         (let e : z ≡ x = some_is z x p in let d : z ≡ y = some_is z y q in ap (λ w. is_lt (cmp w x)) (sym d ∙ e) ∙ itself x (cmp x x) refl)
     rising (z ∷ xs) zero (suc b) x y up p q less = (let e : z ≡ x = some_is z x p in ap (λ w. is_lt (cmp y w)) (sym e) ∙ above_first z xs b y up q)
     rising (z ∷ xs) (suc a) zero x y up p q less = absurd (omega (arith, less))
-    rising (z ∷ xs) (suc a) (suc b) x y up p q less = rising xs a b x y (order_tail z xs up) p q (omega (arith, less))
+    rising (z ∷ xs) (suc a) (suc b) x y up p q less = rising xs a b x y (order_tail cmp z xs up) p q (omega (arith, less))
 
     module _ (xss : List (List X)) (up : (i : ℕ) → IsInOrder cmp (list_at xss i)) where
       there : (i a b : ℕ) (x : X) → IsItem xss i b x → a ≤ b → (y : X) × (IsItem xss i a y)
@@ -246,7 +242,7 @@ module _ {X : Type 0} (cmp : X → X → Ordering) (order : IsTotalOrder cmp) (t
     | inr failed ↦ absurd (let e = none_counted z xs up failed in omega (arith, e, less))
   ]
   passes_before (z ∷ xs) (suc a) x up at less = elim (cases_Bool (test z)) [
-    | inl passed ↦ passes_before xs a x (order_tail cmp order z xs up) at (let e = count_yes test z xs passed in omega (arith, e, less))
+    | inl passed ↦ passes_before xs a x (order_tail cmp z xs up) at (let e = count_yes test z xs passed in omega (arith, e, less))
     | inr failed ↦ absurd (let e = none_counted z xs up failed in omega (arith, e, less))
   ]
 
@@ -257,8 +253,8 @@ module _ {X : Type 0} (cmp : X → X → Ordering) (order : IsTotalOrder cmp) (t
     | inr failed ↦ (let e : z ≡ x = some_is z x at in ap test (sym e) ∙ failed)
   ]
   fails_after (z ∷ xs) (suc a) x up at more = elim (cases_Bool (test z)) [
-    | inl passed ↦ fails_after xs a x (order_tail cmp order z xs up) at (let e = count_yes test z xs passed in omega (arith, e, more))
-    | inr failed ↦ fails_after xs a x (order_tail cmp order z xs up) at (let d = none_after z xs up failed in omega (arith, d))
+    | inl passed ↦ fails_after xs a x (order_tail cmp z xs up) at (let e = count_yes test z xs passed in omega (arith, e, more))
+    | inr failed ↦ fails_after xs a x (order_tail cmp z xs up) at (let d = none_after z xs up failed in omega (arith, d))
   ]
 
   -- the counts of what passes it are a cut

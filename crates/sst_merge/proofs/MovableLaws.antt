@@ -21,6 +21,7 @@ use Rattle.sst_merge.specs.Cuts.{IsItem, comes_first, IsCut, IsNext, total}
 use Rattle.sst_merge.proofs.CutLaws.{item_between}
 use Rattle.sst_merge.proofs.CutSteps.{item_found, same_or, cut_forth, cut_back, all_before, none_first, none_last, total_same, total_le, total_lt, total_next, cut_none, cut_all, total_none, total_all, cut_by, count_merged, Separates, lt_ge, ge_lt, ge_ge, weakly, not_itself}
 use Rattle.sst_merge.specs.Movable.{item_before, is_below, is_at_most, IsFrontAmong, IsBackAmong, IsFresh, lists_in, count_at, merged_window, AreMoved, goes_before, goes_after, FirstAmong, LastAmong, IsFrontPick, IsBackPick, TakesFront, TakesBack, seek_to, seek_up_to, sought_until}
+use Rattle.sst_block_core.specs.WindowLaws.{item_same}
 
 module _ {X : Type 0} where
   -- a window at an index
@@ -547,10 +548,6 @@ pub lists_of : {S X : Type 0} (window : S → Window X) (ss : List S) → lists_
 lists_of window [] = refl
 lists_of window (s ∷ ss) = ap (λ xss. (window s).list ∷ xss) (lists_of window ss)
 
--- the item of an answer
-pub answer_is : {X : Type 0} (a b : Option X) → ◌≡◌ {A = Answer X} (item a) (item b) → a ≡ b
-answer_is a b e = cc
-
 -- one source at an index
 pub same_source : {S : Type 0} (ss : List S) (i : ℕ) (s t : S) → i < length ss → s ≡ get_or ss i s → t ≡ get_or ss i t → s ≡ t
 same_source [] i s t inside p q = absurd (omega (arith, inside))
@@ -689,7 +686,7 @@ module _ {S X : Type 0} (cmp : X → X → Ordering) (order : IsTotalOrder cmp) 
     first_is (Some x) pick some at =
         let v : Window X = record (window s) { lo = (window s).lo + 1 } in
         let step = steps_front cmp order (map window ss) p (window s) v x moved pick (at_pick ss moved p s here pick.inside) (ltb-true (window s).lo (window s).hi some) (sym at) refl (omega arith) refl in
-        answer_is (Some x) (first_left m) (ap (λ (r : Window X × Answer X). r.1) (step ∙ ap next whole))
+        item_same (Some x) (first_left m) (ap (λ (r : Window X × Answer X). r.1) (step ∙ ap next whole))
 
     pub last_is : (o : Option X) → IsBackPick cmp (map window ss) p → some_left (window s) ≡ true → o ≡ item_before (window s).list (window s).hi → o ≡ last_left m
     last_is None pick some at =
@@ -704,7 +701,7 @@ module _ {S X : Type 0} (cmp : X → X → Ordering) (order : IsTotalOrder cmp) 
         let parts = back_parts ss moved p s here (window s).hi x refl (sym at) in
         let v : Window X = record (window s) { hi = (window s).hi - 1 } in
         let step = steps_back cmp order (map window ss) p (window s) v x moved pick (at_pick ss moved p s here pick.inside) (ltb-true (window s).lo (window s).hi some) parts.0 refl refl (omega (arith, parts.1)) in
-        answer_is (Some x) (last_left m) (ap (λ (r : Window X × Answer X). r.1) (step ∙ ap next_back whole))
+        item_same (Some x) (last_left m) (ap (λ (r : Window X × Answer X). r.1) (step ∙ ap next_back whole))
 
   -- where there is no source
   empty_by : (ss : List S) (m : Window X) → merged_window cmp (map window ss) ≡ m → length ss ≡ 0 → m.hi ≤ m.lo

@@ -13,6 +13,7 @@ use Rattle.sst_merge.specs.Sources.{Left, lists_left}
 use Rattle.sst_merge.specs.SourceLaws.{known_at, lists_length}
 use Rattle.sst_merge.specs.Tournament.{AreWinners, IsOnWay, IsFirstOf, IsTournament, Leads, halved, known_list}
 use Rattle.sst_base.specs.TestLaws.{not_true, not_false, not_lt, is_not_lt}
+use Rattle.sst_merge.specs.ListLaws.{lt_suc}
 
 same_or : (m n : ℕ) → (m ≡ n) ⊎ (m ≢ n)
 same_or m n = elim (cases_lt m n) [
@@ -113,12 +114,6 @@ module _ {X : Type 0} (cmp : X → X → Ordering) (order : IsTotalOrder cmp) wh
     ];
     before_j = itself lefts j;
   }
-
-  lt_suc : (a b : ℕ) → nat_lt (suc a) (suc b) ≡ nat_lt a b
-  lt_suc a b = elim (cases_lt a b) [
-    | inl less ↦ lt-ltb (suc a) (suc b) (omega (arith, less)) ∙ sym (lt-ltb a b less)
-    | inr more ↦ le-ltb (suc a) (suc b) (omega (arith, more)) ∙ sym (le-ltb a b more)
-  ]
 
   -- a list that goes before all others is the least one
   least_by : (xss : List (List X)) (p : ℕ) → p < length xss → ((j : ℕ) → j < length xss → goes cmp (nat_lt j p) (list_at xss p) (list_at xss j) ≡ true) → p ≡ least cmp xss

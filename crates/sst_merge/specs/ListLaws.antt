@@ -1,9 +1,17 @@
 -- Laws of lists and tests: what follows in an ordered one, the first item that passes a test, and an item that is left out or kept.
-use Rattle.std.proofs.Common.{◌≡◌, Bool, true, false, not, cond, ◌&&◌, List, [], ◌∷◌, ◌++◌, Option, Some, ap, ◌∙◌, filter, slice_get}
+use Rattle.std.proofs.Common.{◌≡◌, ℕ, suc, nat_lt, inl, inr, sym, arith, Bool, true, false, not, cond, ◌&&◌, List, [], ◌∷◌, ◌++◌, Option, Some, ap, ◌∙◌, filter, slice_get}
+use Rattle.std.proofs.lemmas.Bool.{cases_lt, lt-ltb, le-ltb}
 use Rattle.std.specs.declared.cmp.Ordering.{Ordering}
 use Rattle.sst_base.specs.Order.{IsInOrder}
 use Rattle.sst_block_core.specs.ListLaws.{first_filter}
 use Rattle.sst_base.specs.TestLaws.{and_parts, not_true}
+
+-- a comparison of the next numbers
+pub lt_suc : (a b : ℕ) → nat_lt (suc a) (suc b) ≡ nat_lt a b
+lt_suc a b = elim (cases_lt a b) [
+  | inl less ↦ lt-ltb (suc a) (suc b) (omega (arith, less)) ∙ sym (lt-ltb a b less)
+  | inr more ↦ le-ltb (suc a) (suc b) (omega (arith, more)) ∙ sym (le-ltb a b more)
+]
 
 module _ {X : Type 0} (cmp : X → X → Ordering) where
   -- what follows the first item of an ordered list is in order

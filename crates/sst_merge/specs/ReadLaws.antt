@@ -17,12 +17,6 @@ use Rattle.sst_block_core.specs.Tombstones.{is_tombstone}
 use Rattle.sst_merge.specs.Snapshot.{seen, shown, snapshot}
 use Rattle.sst_merge.specs.SnapshotReads.{unless_hidden, snapshot-first_match}
 
--- decoding changes no order
-pub plain_ordered : (xs : List Entry) → IsOrdered entries xs → IsOrdered entries (map plain xs)
-plain_ordered [] up = tt
-plain_ordered (x ∷ []) up = tt
-plain_ordered (x ∷ y ∷ ys) up = (up.0, plain_ordered (y ∷ ys) up.1)
-
 lesser_by : (a b : Entry) (t : Bool) → option_map plain (cond t (Some b) (Some a)) ≡ cond t (Some (plain b)) (Some (plain a))
 lesser_by a b true = refl
 lesser_by a b false = refl

@@ -14,7 +14,7 @@ use Rattle.sst_parts.specs.PartWriting.{ClosedView, IsEndOf, IsLastOf, IsNextPar
 use Rattle.sst_parts.specs.declared.closed.PartEnd.{PartEnd}
 use Rattle.sst_parts.specs.declared.writer.PartSizes.{PartSizes}
 use Rattle.sst_parts.proofs.Joins.{joined-append}
-use Rattle.sst_parts.proofs.Orders.{back_in_order}
+use Rattle.sstable_blocks.specs.EndLaws.{back_in_order}
 use Rattle.sstable_blocks.specs.Blocks.{joined}
 use Rattle.sstable_blocks.specs.Run.{IsWritable}
 use Rattle.sstable_blocks.specs.RunLaws.{joined_push}

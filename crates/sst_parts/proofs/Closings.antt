@@ -17,31 +17,18 @@ use Rattle.sst_block_core.specs.Handles.{Handle, handles, IsIndexBlock, index_pa
 use Rattle.sst_block_core.specs.Kind.{IsOrdered}
 use Rattle.sst_parts.specs.PartWriting.{AppendsPart, AppendsParted, AppendsTop, AreClosed, ArePartFiles, IsLastOf, IsPartFile, PartFileFits, TopFits, top_handles}
 use Rattle.sst_parts.proofs.Joins.{joined-append, joined-map, zip-map}
-use Rattle.sst_parts.proofs.Orders.{ends_in_order}
+use Rattle.sstable_blocks.specs.EndLaws.{ends_in_order}
 use Rattle.sstable_blocks.specs.Blocks.{joined}
 use Rattle.sstable_blocks.specs.Footer.{footer, run_end, run_end_by}
 use Rattle.sstable_blocks.specs.Lookup.{IsEnd}
 use Rattle.sstable_blocks.specs.Run.{Form, IsLayout, run_handles, run_text}
 use Rattle.sstable_blocks.specs.Writing.{AppendsLayout, IsWriteRefusal, PartFits}
 use Rattle.sstable_blocks.specs.declared.run.RunHandles.{RunHandles}
+use Rattle.sstable_blocks.specs.TableEndLaws.{footer-length, layout-end}
 
 pub if_ok_map : {X : Type 0} (r : Result X Error) (P Q : X → Type 0) → ((x : X) → P x → Q x) → IfOk r P → IfOk r Q
 if_ok_map (Ok x) P Q f p = f x p
 if_ok_map (Err e) P Q f p = tt
-
-footer-length : (h : RunHandles) → length (footer h) ≡ 24
-unfolding footer
-footer-length h = refl
-
--- the end of a layout, where there is no filter or where there is one
-end-cases : (none : Bool) (a i p : List ℕ) → length (a ++ (i ++ cond none [] p))
-    ≡ run_end_by (record { offset = length a; size = length i }) (cond none None (Some (record { offset = length a + length i; size = length (cond none [] p) })))
-end-cases true a i p = omega (arith, length-append a (i ++ []), length-append i [])
-end-cases false a i p = omega (arith, length-append a (i ++ p), length-append i p)
-
-layout-end : (f : Form) (blocks : List (List Entry)) (bytes : List ℕ) (h : RunHandles) → IsLayout f blocks bytes h → length bytes ≡ run_end h
-unfolding run_text run_handles
-layout-end f blocks bytes h l = rw (l.text, l.handles) (end-cases _ _ _ _)
 
 -- the last of the entries that stand for the items of a list
 pub last_of : {T : Type 0} (entry : T → Entry) (items : List T) (x : T) (key : List ℕ) (seqno : ℕ) → 1 ≤ length items → x ≡ get_or items (length items - 1) x → key ≡ (entry x).key.user_key → seqno ≡ (entry x).key.seqno → length key ≤ 65535

@@ -17,7 +17,7 @@ use Rattle.sstable_blocks.specs.declared.run.RunHandles.{RunHandles}
 use Rattle.sst_parts.specs.Parts.{IsStoredPart}
 use Rattle.sst_parts.specs.PartWriting.{ArePartFiles, IsPartFile, IsPartedFile, IsPartedLayout, top_handles}
 use Rattle.sst_parts.proofs.Longer.{FilterFits, PartsFit, footer_reads, sound_longer}
-use Rattle.sst_parts.proofs.Openings.{framed_size}
+use Rattle.sstable_blocks.specs.OpeningLaws.{framed_size}
 
 fits_filter : (c : Hashes) (bytes : List ℕ) (items : List Entry) (h : Option HandleParts) → IfSome h (IsStoredFilter c bytes items) → length bytes < 2 ^ 32 → FilterFits h
 fits_filter c bytes items None s small = tt

@@ -5,13 +5,11 @@ pub mod Counts
 pub mod FileOpenings
 pub mod Files
 pub mod Footers
-pub mod IndexSteps
 pub mod Joins
 pub mod Located
 pub mod Longer
 pub mod Needles
 pub mod Openings
-pub mod Orders
 pub mod PartReads
 pub mod PartSteps
 pub mod Places

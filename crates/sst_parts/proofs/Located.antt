@@ -17,7 +17,7 @@ use Rattle.sst_block_core.specs.Entries.{entries}
 use Rattle.sst_block_core.specs.Handles.{Handle, handles}
 use Rattle.sst_block_core.specs.Window.{first_match}
 use Rattle.sst_parts.specs.ManyReads.{IsOpenAt, block_place, located, read_at}
-use Rattle.sst_parts.proofs.CheckedReads.{blocks_same}
+use Rattle.sstable_blocks.specs.KeptLaws.{blocks_same}
 use Rattle.sstable_blocks.specs.Filter.{filter_at}
 use Rattle.sstable_blocks.specs.Lookup.{handle_for, place_for}
 use Rattle.sstable_blocks.specs.Opened.{range_of}
@@ -27,17 +27,7 @@ use Rattle.sstable_blocks.specs.SourceLaws.{source_fails}
 use Rattle.sstable_blocks.specs.Sources.{FailsAs, GivesOr}
 use Rattle.sstable_blocks.specs.Tables.{filter_kept, kept_of, kept_says}
 use Rattle.sstable_blocks.specs.declared.run.RunHandles.{RunHandles}
-
--- the filter that was kept says what that of the bytes says
-says_same : (c : Hashes) (bytes : List ℕ) (h : Option HandleParts) (p : Option (List ℕ)) (needle : List ℕ) → filter_kept c bytes h ≡ Ok p → filter_says c bytes h needle ≡ kept_says c.hash64 p needle
-says_same c bytes None p needle e =
-    let same : None ≡ p = (let k : ◌≡◌ {A = Result (Option (List ℕ)) Error} (Ok None) (Ok p) = e in cc) in
-    ap (λ (q : Option (List ℕ)). kept_says c.hash64 q needle) same
-says_same c bytes (Some h) p needle e =
-    let q = bind_ok (payload_at c types.Filter bytes h) _ p e in
-    let f = bind_ok (filter_at q.0) _ p q.2 in
-    let same : Some q.0 ≡ p = (let k : ◌≡◌ {A = Result (Option (List ℕ)) Error} (Ok (Some q.0)) (Ok p) = f.2 in cc) in
-    ap (λ r. r >>= (λ (x : List ℕ). filter_answer x (c.hash64 needle))) q.1 ∙ ap (λ (o : Option (List ℕ)). kept_says c.hash64 o needle) same
+use Rattle.sstable_blocks.specs.KeptLaws.{says_same}
 
 -- the block at the index of a key is that of its handle
 place_same : (c : Hashes) (bytes : List ℕ) (hs : List Handle) (needle : List ℕ) (seqno : ℕ) → read_block c bytes (handle_for handles needle seqno hs) needle seqno ≡ read_at c bytes hs (block_place hs needle seqno) needle seqno

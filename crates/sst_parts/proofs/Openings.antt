@@ -16,25 +16,6 @@ use Rattle.sstable_blocks.specs.Lookup.{IsEnd}
 use Rattle.sstable_blocks.specs.Opened.{IsFrameRange, payload_in}
 use Rattle.sstable_blocks.specs.RunReading.{Hashes, IsFramedAt}
 
--- the size of a handle in whose range a frame is
-pub framed_size : (c : Hashes) (t : BlockType) (bytes p : List ℕ) (h : HandleParts) → IsFramedAt c t bytes h p → h.size ≡ 33 + length p
-framed_size c t bytes p h s =
-    let inside = s.inside in
-    let l = length-drop h.offset bytes in
-    sym (length-take-le h.size (drop h.offset bytes) (omega arith)) ∙ ap length s.whole ∙ length-frame c.hash128 t p
-
--- the range of a handle, where a frame is in it
-pub frame_range : (c : Hashes) (t : BlockType) (bytes p : List ℕ) (h : HandleParts) → IsFramedAt c t bytes h p → IsFrameRange bytes h × (payload_in bytes h ≡ p)
-unfolding payload_in frame
-frame_range c t bytes p h s =
-    let head = header c.hash128 (header_for c.hash128 t p) in
-    let size = framed_size c t bytes p h s in
-    let whole : 33 + (h.size - 33) ≡ h.size = omega arith in (
-      record { inside = s.inside; header = omega arith },
-      ap (λ xs. take (h.size - 33) xs) (sym (drop-drop 33 h.offset bytes)) ∙ sym (drop-take 33 (h.size - 33) (drop h.offset bytes)) ∙ ap (λ n. drop 33 (take n (drop h.offset bytes))) whole ∙ ap (drop 33) s.whole
-          ∙ ap (λ n. drop n (head ++ p)) (sym (length-header c.hash128 (header_for c.hash128 t p))) ∙ drop_at head p (length head) refl,
-    )
-
 module _ (c : Hashes) (bytes : List ℕ) where
   -- the handles of the parts have their last entries
   pub part_ends : (parts : List (List (List Entry))) (hs : List Handle) → AllZip (IsStoredPart c bytes) parts hs → AllZip (λ part h. IsEnd entries handles (joined part) h) parts hs

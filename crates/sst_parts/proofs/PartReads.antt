@@ -35,43 +35,7 @@ use Rattle.sstable_blocks.specs.Opened.{range_of}
 use Rattle.sstable_blocks.specs.RunReading.{Hashes, IsFramedAt, range_at, payload_at, read_checked}
 use Rattle.sstable_blocks.specs.Sound.{IsSound}
 use Rattle.sstable_blocks.specs.declared.run.RunHandles.{RunHandles}
-
--- one reading after another that gives something
-pub bind_to : {A B : Type 0} (r : Result A Error) (f : A → Result B Error) (x : A) (y : Result B Error) → r ≡ Ok x → f x ≡ y → (r >>= f) ≡ y
-bind_to r f x y e h = ap (λ q. q >>= f) e ∙ h
-
-pub index_ok : (t : Trailer) (p : List ℕ) (r : Result (List Handle) Error) → IndexVerdict t p r → IndexPassesBy t.interval t p → r ≡ Ok (items_by handles t p)
-index_ok t p (Ok items) v h = ap (λ xs. Ok xs) v.1
-index_ok t p (Err Truncated) v h = absurd (v h.trailer)
-index_ok t p (Err BadTrailer) v h = absurd (v.1 h.parts)
-index_ok t p (Err BadEntry) v h = absurd (v.2 h.forms)
-index_ok t p (Err BadHandle) v h = absurd (v.3 h.ends)
-index_ok t p (Err OutOfOrder) v h = absurd (v.4 h.order)
-index_ok t p (Err BadIndex) v h = absurd (v.5 h.pointers)
-index_ok t p (Err BadHashIndex) v h = absurd v
-index_ok t p (Err Io) v h = absurd v
-index_ok t p (Err Memory) v h = absurd v
-index_ok t p (Err (InvalidHeader n)) v h = absurd v
-index_ok t p (Err (InvalidTag n b)) v h = absurd v
-index_ok t p (Err (ChecksumMismatch a b)) v h = absurd v
-index_ok t p (Err LengthMismatch) v h = absurd v
-index_ok t p (Err TooLong) v h = absurd v
-index_ok t p (Err BadFilter) v h = absurd v
-
--- the payload of a frame
-pub payload_is : (hash128 : List ℕ → ℕ) (t : BlockType) (p : List ℕ) → length p < 2 ^ 32 → hash128 p < 2 ^ 128 → payload_of_type hash128 t (frame hash128 t p) ≡ Ok p
-unfolding payload_of_type
-payload_is hash128 t p short sum =
-    ap (λ r. r >>= of_type t) (frame_in-frame hash128 t p short sum)
-    ∙ ap (λ b. if b then Ok p else Err (InvalidTag tags.BlockType (block_type_byte t))) (eq-eqb (block_type_byte t) (block_type_byte t) refl)
-
--- a frame in the range of a handle is read
-pub framed_is_read : (c : Hashes) (t : BlockType) (bytes p : List ℕ) (h : HandleParts) → ((xs : List ℕ) → c.hash128 xs < 2 ^ 128) → length p < 2 ^ 32 → IsFramedAt c t bytes h p → payload_at c t bytes h ≡ Ok p
-unfolding range_at
-framed_is_read c t bytes p h sums short s =
-    bind_to (range_at bytes h) (payload_of_type c.hash128 t) (frame c.hash128 t p) (Ok p)
-    (ap (λ b. if b then Ok (take h.size (drop h.offset bytes)) else Err BadHandle) (le-leb (h.offset + h.size) (length bytes) s.inside) ∙ ap (λ x. Ok x) s.whole)
-    (payload_is c.hash128 t p short (sums p))
+use Rattle.sstable_blocks.specs.SoundReadLaws.{bind_to, index_ok, framed_is_read}
 
 -- the footer of a table file in a range is that of its bytes
 last_of_part : (bytes : List ℕ) (o n : ℕ) → 24 ≤ n → drop (n - 24) (take n (drop o bytes)) ≡ take 24 (drop (o + (n - 24)) bytes)

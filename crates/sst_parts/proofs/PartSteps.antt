@@ -15,17 +15,13 @@ use Rattle.sstable_blocks.specs.RunReading.{Hashes, read_checked}
 use Rattle.sstable_blocks.specs.SourceLaws.{source_fails}
 use Rattle.sstable_blocks.specs.Sources.{FailsAs, GivesOr, filter_frames}
 use Rattle.sstable_blocks.specs.declared.run.RunHandles.{RunHandles}
-use Rattle.sst_parts.proofs.CheckedReads.{gives_or_later}
+use Rattle.sstable_blocks.specs.CheckedLaws.{gives_or_later}
+use Rattle.sstable_blocks.specs.BoundLaws.{found_by}
 
 -- a filter is one frame, if there is one
 pub one_filter : (o : Option HandleParts) → filter_frames o ≤ 1
 one_filter None = omega arith
 one_filter (Some h) = omega arith
-
--- a range that a seek in an index found is that of its handle
-pub found_by : (o : Option Handle) → found_item (option_map range_of o) ≡ found_item o
-found_by None = ap (λ (n : ℕ). n) (λ i. 0)
-found_by (Some h) = ap (λ (n : ℕ). n) (λ i. 1)
 
 module _ (c : Hashes) (g : HandleParts) (needle : List ℕ) (seqno : ℕ) where
   -- by a footer that was read

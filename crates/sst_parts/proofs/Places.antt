@@ -19,26 +19,11 @@ use Rattle.sstable_blocks.specs.RunReading.{range_at}
 use Rattle.sstable_blocks.specs.SourceLaws.{source_fails}
 use Rattle.sstable_blocks.specs.Sources.{FailsAs, GivesOr}
 use Rattle.sstable_blocks.specs.declared.run.RunHandles.{RunHandles}
-
--- a footer is never refused as failed input
-pub handles_not_io : (bytes : List ℕ) → NotIo (footer_handles bytes)
-unfolding footer_handles
-handles_not_io bytes = elim (nat_lt (length bytes) 24) as (λ b. NotIo {A = RunHandles} (if b then Err Truncated else Ok (record { index = parts_at bytes; filter = filter_of (parts_at (drop 12 bytes)) }))) [
-  | true ↦ (λ e. cc)
-  | false ↦ tt
-]
-
-pub failed_not_io : {X : Type 0} (r : Result X Error) (P : Type 0) → NotIo r → IfErr r (λ e. e ≡ Io → P)
-failed_not_io (Ok x) P h = tt
-failed_not_io (Err e) P h = λ io. absurd (h io)
+use Rattle.sstable_blocks.specs.FooterLaws.{gives_same}
 
 pub on_ok : {X : Type 0} (r : Result X Error) (P : Type 0) → P → OnOk r P
 on_ok (Ok x) P p = p
 on_ok (Err e) P p = tt
-
-gives_same : {X : Type 0} (P R : Type 0) (r read : Result X Error) → read ≡ r → GivesOr P R (λ x. x) r read
-gives_same P R (Ok x) read e = e
-gives_same P R (Err d) read e = λ other. inr e
 
 -- a part without room for a footer
 pub short : (o : Option (List ℕ)) (g : HandleParts) (P R : Type 0) → g.size < 24 → IfSome o (λ all. GivesOr {X = RunHandles} {Y = RunHandles} P R (λ h. h) (Err Truncated) (places_in all g))

@@ -108,7 +108,7 @@ fn filter_allows<H: BlockHash, S: FrameSource>(
 }
 
 // The range of the first handle of an index that can lead to a key below a sequence number.
-#[tactic(auto, using(crate::proofs::IndexSteps::found_range, crate::proofs::IndexSteps::handles_by_scan))]
+#[tactic(auto, using(sstable_blocks::specs::IndexStepLaws::found_range, sstable_blocks::specs::IndexStepLaws::handles_by_scan))]
 pub(crate) fn find_range(
     index: &IndexBlock,
     needle: &[u8],

@@ -6,6 +6,3 @@ pub mod BlockHandles
 pub mod BlockFrames
 pub mod LayoutCosts
 pub mod SoundLayouts
-pub mod FilterReads
-pub mod Openings
-pub mod TableEnds

@@ -1,5 +1,3 @@
 -- Lists of entries in blocks: their joined list, their ends, and a search over these.
 pub mod Cuts
 pub mod Mapped
-pub mod Ends
-pub mod Search

@@ -38,11 +38,11 @@ use Rattle.sstable_blocks.specs.Sound.{IsStoredBlock, IsStoredFilter, AreContigu
 use Rattle.sstable_blocks.specs.declared.run.RunHandles.{RunHandles}
 use Rattle.sstable_blocks.specs.declared.run.checking.Passed.{Passed}
 use Rattle.sstable_blocks.specs.declared.run.checking.RunSummary.{RunSummary}
-use Rattle.sstable_blocks.proofs.Reading.CheckedReads.{may_contain_to, may_contain_from}
-use Rattle.sstable_blocks.proofs.Reading.Meanings.{payload_at_takes}
-use Rattle.sstable_blocks.proofs.Layouts.Openings.{framed_size, frame_range, stored_ends, stored_count}
+use Rattle.sstable_blocks.specs.CheckedLaws.{may_contain_to, may_contain_from}
+use Rattle.sstable_blocks.specs.MeaningLaws.{payload_at_takes}
+use Rattle.sstable_blocks.specs.OpeningLaws.{framed_size, frame_range, stored_ends, stored_count}
 use Rattle.sstable_blocks.proofs.Checks.RunSummaries.{passed_block, passed_all, summary_all}
-use Rattle.sstable_blocks.proofs.Reading.SoundReads.{bind_to, data_ok, index_ok, framed_is_read}
+use Rattle.sstable_blocks.specs.SoundReadLaws.{bind_to, data_ok, index_ok, framed_is_read}
 
 -- what a test that went on says
 demand_ok : {A : Type 0} (b : Bool) (e : Error) (k : Unit {0} → Result A Error) (y : A) → (demand b e >>= k) ≡ Ok y → (b ≡ true) × (k tt ≡ Ok y)

@@ -25,7 +25,7 @@ use Rattle.sstable_blocks.specs.Sound.{IsSound}
 use Rattle.sstable_blocks.specs.declared.run.RunHandles.{RunHandles}
 use Rattle.sstable_blocks.specs.declared.run.checking.Passed.{Passed}
 use Rattle.sstable_blocks.specs.declared.run.checking.RunSummary.{RunSummary}
-use Rattle.sstable_blocks.proofs.Reading.CheckedReads.{gives_or_later}
+use Rattle.sstable_blocks.specs.CheckedLaws.{gives_or_later}
 
 -- what fails neither by its source nor at a range gives the same over any source
 pub gives_or_over : {X Y : Type 0} (P Q R : Type 0) (view : X → Y) (r : Result X Error) (read : Result Y Error) → GivesOr ⊥ R view r read → GivesOr P Q view r read

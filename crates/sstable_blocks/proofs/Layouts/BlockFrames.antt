@@ -13,7 +13,7 @@ use Rattle.sst_block_core.specs.Handles as index
 use Rattle.sst_block_core.specs.Payload.{IsBlock}
 use Rattle.sstable_blocks.specs.Blocks.{joined, IsNotEmpty}
 use Rattle.sstable_blocks.specs.Run.{Form, block_payload, block_frame, block_frames, handles_from, index_text, index_frame, filter_frame, filter_frame_length, run_text, IsRun, RunFits}
-use Rattle.sstable_blocks.proofs.Lists.Ends.{ends_in_order, front_in_order, back_in_order, all_front, all_back}
+use Rattle.sstable_blocks.specs.EndLaws.{ends_in_order, front_in_order, back_in_order, all_front, all_back}
 use Rattle.sstable_blocks.proofs.Layouts.BlockHandles.{handles_end, length-handles_from, handles_valid}
 
 -- a part of bytes is at an offset

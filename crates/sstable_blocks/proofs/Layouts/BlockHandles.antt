@@ -11,7 +11,7 @@ use Rattle.sst_block_core.specs.Handles.{IsHandle, handles, EndFits}
 use Rattle.sstable_blocks.specs.Blocks.{joined, IsNotEmpty}
 use Rattle.sstable_blocks.specs.Lookup.{IsEnd}
 use Rattle.sstable_blocks.specs.Run.{Form, block_payload, block_frame, block_frames, end_key_of, handles_from, IsFramed, IsRun}
-use Rattle.sstable_blocks.proofs.Lists.Ends.{ends_in_order, all_front, all_back}
+use Rattle.sstable_blocks.specs.EndLaws.{ends_in_order, all_front, all_back}
 
 -- the last entry of a block
 pub end_parts : (block : List Entry) → IsNotEmpty block → (front : List Entry) × (last : Entry) × (block ≡ front ++ last ∷ []) × (end_key_of block ≡ last.key)

@@ -9,7 +9,7 @@ use Rattle.sst_block_core.specs.Kind.{IsOrdered, item_cmp}
 use Rattle.sstable_blocks.specs.Blocks.{joined, CutsFit, blocks_from}
 use Rattle.sstable_blocks.specs.Run.{Form, block_frame, block_frames}
 use Rattle.sstable_blocks.proofs.Lists.Cuts.{CutsLeft, cuts_below}
-use Rattle.sstable_blocks.proofs.Lists.Ends.{front_in_order}
+use Rattle.sstable_blocks.specs.EndLaws.{front_in_order}
 use Rattle.sstable_blocks.proofs.Layouts.Kept.{block_frames-push}
 use Rattle.sstable_blocks.specs.Writing.{AppendsLayout, AppendsEnd}
 use Rattle.sstable_blocks.specs.declared.run.RunHandles.{RunHandles}

@@ -22,7 +22,7 @@ use Rattle.sst_base.specs.declared.table.block.block_type.BlockType.TheVariants.
 use Rattle.std.proofs.SliceLists.{all_by_recursion_push}
 use Rattle.sst_block_core.specs.Encoders.{IsRefusal}
 use Rattle.sstable_blocks.proofs.Layouts.BlockHandles.{end_parts}
-use Rattle.sstable_blocks.proofs.Lists.Ends.{back_in_order}
+use Rattle.sstable_blocks.specs.EndLaws.{back_in_order}
 use Rattle.sstable_blocks.specs.Writing.{Follows, IsKept, FollowsLast, FrameFits, IsFramedBlock, IsWriteRefusal}
 use Rattle.sst_block_core.specs.ListLaws.{all_append}
 use Rattle.sstable_blocks.specs.RunLaws.{joined_push}

@@ -19,7 +19,7 @@ use Rattle.sstable_blocks.specs.Run.{Form, block_payload, block_frame, handle_of
 use Rattle.sstable_blocks.specs.declared.run.RunHandles.{RunHandles}
 use Rattle.sstable_blocks.proofs.Layouts.BlockHandles.{length-handles_from}
 use Rattle.sstable_blocks.proofs.Layouts.BlockFrames.{IsHandleOf, run_frames, index_stands, EncodesBlock, blocks_are_blocks, index_is_index}
-use Rattle.sstable_blocks.proofs.Layouts.Openings.{frame_range}
+use Rattle.sstable_blocks.specs.OpeningLaws.{frame_range}
 use Rattle.sstable_blocks.proofs.Layouts.SoundLayouts.{both, part_is_framed}
 
 module _ (f : Form)

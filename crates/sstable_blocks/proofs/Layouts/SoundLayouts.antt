@@ -23,7 +23,7 @@ use Rattle.sstable_blocks.specs.Writing.{AppendsLayout, AppendsSound}
 use Rattle.sstable_blocks.specs.declared.run.RunHandles.{RunHandles}
 use Rattle.sstable_blocks.proofs.Layouts.BlockHandles.{handles_end}
 use Rattle.sstable_blocks.proofs.Layouts.Endings.{filter_framed as filter_small}
-use Rattle.sstable_blocks.proofs.Layouts.FilterReads.{filter_handle, no_filter, some_filter, filter_framed, filter_reads}
+use Rattle.sstable_blocks.specs.FilterReadLaws.{filter_handle, no_filter, some_filter, filter_framed, filter_reads}
 use Rattle.sstable_blocks.proofs.Layouts.BlockFrames.{IsPart, IsHandleOf, run_frames, index_stands, filter_stands, EncodesBlock, blocks_are_blocks, index_is_index}
 
 -- what holds of all hashes of keys holds of each key's

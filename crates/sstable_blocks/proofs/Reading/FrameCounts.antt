@@ -19,6 +19,7 @@ use Rattle.sstable_blocks.specs.SourceLaws.{source_fails}
 use Rattle.sstable_blocks.specs.Sources.{AsksFor, FailsAs, filter_frames}
 use Rattle.sstable_blocks.specs.declared.run.RunHandles.{RunHandles}
 use Rattle.sstable_blocks.specs.declared.run.checking.Passed.{Passed}
+use Rattle.sstable_blocks.specs.BoundLaws.{found_by}
 
 -- a stage that fails is the last
 asks_stop : {Z : Type 0} (f f' a a' n : ℕ) (R : Type 0) (e : Error) (read : Result Z Error) (rest : Z → ℕ) → a' ≡ a + n → FailsAs (f < f') R read e
@@ -181,11 +182,6 @@ module _ (c : Hashes) (h : RunHandles) (f f' a a' : ℕ) where
           asks_on f f' f'' a a' a'' (filter_frames h.filter) P (filter_in_run c all h.filter) (Some x) (λ x. frames_by_index c all x h.index)
           (read_on all payload ∙ ap (λ r. r >>= (λ x. Ok (Some x))) passes) (omega (arith, asked, count)) grow grow'
           (subst (λ o. IfSome o (λ all. AsksFor f' f'' a' a'' P (frames_by_index c all (Some x) h.index))) same next)
-
--- a handle is there where its range is
-found_by : (o : Option Handle) → found_item (option_map range_of o) ≡ found_item o
-found_by None = refl
-found_by (Some h) = refl
 
 -- The frames to a block, by the index.
 module _ (c : Hashes) (g : HandleParts) (needle : List ℕ) (seqno f f' a a' : ℕ) where

@@ -14,6 +14,7 @@ use Rattle.sstable_blocks.specs.RunBlocks.{blocks_in}
 use Rattle.sstable_blocks.specs.RunReading.{Hashes}
 use Rattle.sstable_blocks.specs.Sound.{IsSound, IsStoredBlock, RunParts}
 use Rattle.sstable_blocks.specs.declared.run.RunHandles.{RunHandles}
+use Rattle.sstable_blocks.specs.BoundLaws.{plain_ordered}
 
 -- two lists that have the same at each index
 same_lists : (f : Handle → List Entry) (hs : List Handle) (blocks : List (List Entry)) → length hs ≡ length blocks
@@ -35,13 +36,8 @@ joined_plain : (blocks : List (List Entry)) → joined (map (map plain) blocks) 
 joined_plain [] = refl
 joined_plain (b ∷ blocks) = ap (λ xs. map plain b ++ xs) (joined_plain blocks) ∙ sym (map-append plain b (joined blocks))
 
-plain_order : (xs : List Entry) → IsOrdered entries xs → IsOrdered entries (map plain xs)
-plain_order [] up = tt
-plain_order (x ∷ []) up = tt
-plain_order (x ∷ y ∷ ys) up = (up.0, plain_order (y ∷ ys) up.1)
-
 pub sound_ordered : (c : Hashes) (blocks : List (List Entry)) (bytes : List ℕ) (h : RunHandles) → IsSound c blocks bytes h → IsOrdered entries (joined (map (map plain) blocks))
-sound_ordered c blocks bytes h sound = subst (IsOrdered entries) (sym (joined_plain blocks)) (plain_order (joined blocks) sound.ordered)
+sound_ordered c blocks bytes h sound = subst (IsOrdered entries) (sym (joined_plain blocks)) (plain_ordered (joined blocks) sound.ordered)
 
 not_empty : (c : Hashes) (bytes : List ℕ) (blocks : List (List Entry)) (hs : List Handle) → AllZip (IsStoredBlock c bytes) blocks hs → AllByRecursion IsNotEmpty (map (map plain) blocks)
 not_empty c bytes [] [] all = tt

@@ -19,23 +19,7 @@ use Rattle.sst_block_core.specs.Window.{Window, Answer, items_left, whole, passe
 use Rattle.sst_block_core.specs.Handles.{Handle, handles}
 use Rattle.sstable_blocks.specs.Scans.{KeyRange, is_before, is_up_to, first_entry, end_entry, within}
 use Rattle.sstable_blocks.proofs.Scans.ScanWindows.{within_between}
-
--- tests that agree count the same
-pub count_same : {X : Type 0} (p q : X → Bool) → ((x : X) → p x ≡ q x) → (xs : List X) → count_by p xs ≡ count_by q xs
-count_same p q same [] = refl
-count_same p q same (x ∷ xs) =
-    sum_by-cons (λ y. cond (p y) 1 0) x xs ∙ ap (λ b. cond b 1 0 + count_by p xs) (same x) ∙ ap (λ n. cond (q x) 1 0 + n) (count_same p q same xs)
-    ∙ sym (sum_by-cons (λ y. cond (q y) 1 0) x xs)
-
-below_is : (o : Ordering) (s : ℕ) → passes_cmp o None s ≡ is_lt o
-below_is Less s = refl
-below_is Equal s = refl
-below_is Greater s = refl
-
-up_to_is : (o : Ordering) (s : ℕ) → passes_cmp o (Some 0) s ≡ is_le o
-up_to_is Less s = refl
-up_to_is Equal s = le-leb 0 s (omega arith)
-up_to_is Greater s = refl
+use Rattle.sstable_blocks.specs.BoundLaws.{below_is, count_same, up_to_is}
 
 -- the keys that a bound passes, by their order
 pub passed_below : {X : Type 0} (kind : Kind X) (k : List ℕ) (xs : List X) → count_passed kind k None xs ≡ count_by (λ x. is_lt (slice_cmp nat_cmp (kind.key x) k)) xs

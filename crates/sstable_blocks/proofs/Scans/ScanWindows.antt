@@ -15,8 +15,8 @@ use Rattle.sst_block_core.specs.Entries.{entries}
 use Rattle.sst_block_core.specs.Kind.{Kind, IsOrdered}
 use Rattle.sst_block_core.specs.Window.{items_left}
 use Rattle.sstable_blocks.specs.Scans.{KeyRange, is_before, is_up_to, within}
-use Rattle.sstable_blocks.proofs.Lists.Ends.{turned}
-use Rattle.sstable_blocks.proofs.Lists.Search.{then_first}
+use Rattle.sstable_blocks.specs.EndLaws.{turned}
+use Rattle.sstable_blocks.specs.SearchLaws.{then_first}
 
 -- a test that holds of a key holds of each key that is not greater
 abbrev pub IsLower : (List ℕ → Bool) → Type 0

@@ -22,10 +22,10 @@ use Rattle.sstable_blocks.specs.RunReading.{Hashes, payload_at, block_items_at, 
 use Rattle.sstable_blocks.specs.Scans.{KeyRange, Read, is_before, is_up_to, in_range, within, first_block, end_block, handles_within, block_within, reads_of, blocks_read, IsBlockRead, IsReadRun}
 use Rattle.sstable_blocks.specs.Sound.{IsStoredBlock, IsSound}
 use Rattle.sstable_blocks.specs.declared.run.RunHandles.{RunHandles}
-use Rattle.sstable_blocks.proofs.Lists.Ends.{ends_in_order, block_behind, back_in_order, tail_in_order}
-use Rattle.sstable_blocks.proofs.Layouts.Openings.{framed_size, frame_range, stored_ends}
+use Rattle.sstable_blocks.specs.EndLaws.{ends_in_order, block_behind, back_in_order, tail_in_order}
+use Rattle.sstable_blocks.specs.OpeningLaws.{framed_size, frame_range, stored_ends}
 use Rattle.sstable_blocks.proofs.Scans.ScanWindows.{KeysRise, rise_tail, falls, counted, counted-cons, none_counted, between, between-more, between-none, between-first, lower_before, lower_up_to, ordered_rise}
-use Rattle.sstable_blocks.proofs.Reading.SoundReads.{bind_to, data_ok, framed_is_read, index_of_sound}
+use Rattle.sstable_blocks.specs.SoundReadLaws.{bind_to, data_ok, framed_is_read, index_of_sound}
 
 -- what is read of entries
 abbrev pub read_all : KeyRange → List Entry → List Read

@@ -59,7 +59,7 @@ impl<'a> OpenFilter<'a> {
     }
 
     /// Returns whether the run can have a key of this hash. It can where there is no filter.
-    #[tactic(auto, using(crate::proofs::Reading::Points::rules_out))]
+    #[tactic(auto, using(crate::specs::PointLaws::rules_out))]
     pub(crate) fn allows(&self, hash: u64) -> bool
         ensures { (result ≡ false) ↔ IsDenied self.now.bytes self.now.handle hash }
     {

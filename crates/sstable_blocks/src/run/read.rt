@@ -36,7 +36,7 @@ use sst_block_core::table::index_block::IndexBlockRef;
 use std::alloc::Global;
 
 // The payload of a frame, by the frame's range alone.
-#[tactic(auto, using(crate::proofs::Reading::Points::payload_range), unfolding(crate::specs::Opened::payload_in))]
+#[tactic(auto, using(crate::specs::PointLaws::payload_range), unfolding(crate::specs::Opened::payload_in))]
 pub(crate) fn payload_at<'a>(bytes: &'a [u8], handle: &BlockHandle) -> &'a [u8]
     requires { IsFrameRange bytes.now handle.now }
     ensures { result.now ≡ payload_in bytes.now handle.now }
@@ -94,7 +94,7 @@ fn search_over<'a, H: BlockHash>(bytes: &'a [u8], handle: &BlockHandle) -> DataS
 }
 
 // Where the first match in the block in a frame is.
-#[tactic(auto, using(crate::proofs::Reading::Points::ref_heads, crate::proofs::Reading::Points::ref_entries))]
+#[tactic(auto, using(crate::specs::PointLaws::ref_heads, crate::specs::PointLaws::ref_entries))]
 pub(crate) fn item_in<H: BlockHash>(
     bytes: &[u8],
     handle: BlockHandle,
@@ -120,7 +120,7 @@ pub(crate) fn item_in<H: BlockHash>(
 }
 
 /// The payload in a frame, which shares the bytes.
-#[tactic(auto, using(crate::proofs::Reading::Points::payload_range), unfolding(crate::specs::Opened::payload_in))]
+#[tactic(auto, using(crate::specs::PointLaws::payload_range), unfolding(crate::specs::Opened::payload_in))]
 pub(crate) fn shared_payload(bytes: &Slice, handle: &BlockHandle) -> AllocResult<Slice>
     requires { IsFrameRange bytes.now handle.now }
     ensures { IfOk result (λ p. p ≡ payload_in bytes.now handle.now) }

@@ -72,7 +72,7 @@ impl<'a> IndexSearch<'a> {
     }
 
     /// Returns the first handle that can lead to a key below a sequence number.
-    #[tactic(auto, using(crate::proofs::Reading::IndexSteps::found_range, crate::proofs::Reading::IndexSteps::handles_by_scan))]
+    #[tactic(auto, using(crate::specs::IndexStepLaws::found_range, crate::specs::IndexStepLaws::handles_by_scan))]
     pub(crate) fn find(&self, needle: &[u8], seqno: SeqNo, steps: &mut Steps) -> Option<BlockHandle>
         ensures found { result
             ≡ option_map range_of (handle_for handles needle.now seqno self.now.items) }
@@ -102,7 +102,7 @@ impl<'a> IndexSearch<'a> {
 
     /// Returns the range of the handle at an index, as [`IndexBlockRef::handle_at`] does.
     #[inline(always)]
-    #[tactic(auto, using(crate::proofs::Reading::IndexSteps::counts_handle))]
+    #[tactic(auto, using(crate::specs::IndexStepLaws::counts_handle))]
     pub(crate) fn handle_at(&self, index: usize, steps: &mut Steps) -> BlockHandle
         requires { index < length self.now.items }
         ensures range { Some result ≡ option_map handle_range (slice_get self.now.items index) }

@@ -1,5 +1,5 @@
 use Rattle.std.proofs.Common.{◌≡◌, ◌∙◌, ℕ, List, Option, ap, subst}
-use Rattle.sst_parts.proofs.CheckedReads.{asked, asked_not_io}
+use Rattle.sstable_blocks.specs.CheckedLaws.{asked, asked_not_io}
 use Rattle.sstable_blocks.specs.RunReading.{filter_answer}
 use Rattle.sstable_blocks.specs.Tables.{kept_says}
 use Rattle.sst_parts.proofs.many.kept_allows.Goals as goal

@@ -1,4 +1,4 @@
-use Rattle.sst_parts.proofs.Counts.{index_placed_ok}
+use Rattle.sstable_blocks.specs.TableCountLaws.{index_placed_ok}
 use Rattle.sstable_blocks.specs.RunReading.{hashes}
 use Rattle.sst_parts.proofs.part.index_in_part.Goals as goal
 

@@ -3,7 +3,8 @@ use Rattle.std.proofs.lemmas.Result.{err_from_is_err_and}
 use Rattle.sst_base.specs.BlockHandle.{HandleParts}
 use Rattle.sst_base.specs.FrameErrorLaws.{NotIo}
 use Rattle.sst_parts.specs.Parts.{IsInside}
-use Rattle.sst_parts.proofs.Places.{failed_not_io, footer_fails, footer_read, handles_not_io, on_ok, part_inside, short}
+use Rattle.sst_parts.proofs.Places.{footer_fails, footer_read, on_ok, part_inside, short}
+use Rattle.sstable_blocks.specs.FooterLaws.{failed_not_io, handles_not_io}
 use Rattle.sst_parts.proofs.part.places_from.Goals as goal
 
 pub returns-then-size-lt-FOOTER-clause-exact : goal.returns-then-size-lt-FOOTER-clause-exact

@@ -1,5 +1,5 @@
 use Rattle.sstable_blocks.specs.RunReading.{hashes}
-use Rattle.sst_parts.proofs.Counts.{block_counted}
+use Rattle.sstable_blocks.specs.TableCountLaws.{block_counted}
 use Rattle.sst_parts.proofs.part.read_in_block.Goals as goal
 
 pub returns-in_ok-block-in-Some-2-clause-counts : goal.returns-in_ok-block-in-Some-2-clause-counts

@@ -1,6 +1,6 @@
 use Rattle.std.proofs.Common.{ap, subst, IfSome}
 use Rattle.std.specs.Option.{option_map}
-use Rattle.sst_parts.proofs.CheckedReads.{by_filter}
+use Rattle.sstable_blocks.specs.CheckedLaws.{by_filter}
 use Rattle.sst_parts.proofs.Counts.{nothing_counted}
 use Rattle.sst_parts.specs.Parts.{part_in}
 use Rattle.sstable_blocks.specs.ReadCosts.{CountsRead}

@@ -1,4 +1,4 @@
-use Rattle.sst_parts.proofs.Counts.{check_not_io}
+use Rattle.sstable_blocks.specs.TableCountLaws.{check_not_io}
 use Rattle.sst_parts.proofs.table.tops_from.Goals as goal
 
 pub returns-clause-source : goal.returns-clause-source

@@ -1,5 +1,5 @@
 use Rattle.sstable_blocks.specs.RunReading.{hashes}
-use Rattle.sstable_blocks.proofs.Reading.TableCounts.{block_placed_ok}
+use Rattle.sstable_blocks.specs.TableCountLaws.{block_placed_ok}
 use Rattle.sstable_blocks.proofs.run.checked.data_block_from.Goals as goal
 
 pub returns-clause-place : goal.returns-clause-place

@@ -1,7 +1,7 @@
 use Rattle.std.proofs.Common.{subst, ◌≡◌}
 use Rattle.sst_base.specs.Block.{BlockParts}
 use Rattle.sstable_blocks.specs.RunReading.{filter_answer}
-use Rattle.sstable_blocks.proofs.Reading.CheckedReads.{asked, asked_not_io}
+use Rattle.sstable_blocks.specs.CheckedLaws.{asked, asked_not_io}
 use Rattle.sstable_blocks.proofs.run.checked.query_filter.Goals as goal
 
 pub returns-clause-exact : goal.returns-clause-exact

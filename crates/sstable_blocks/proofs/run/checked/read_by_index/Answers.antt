@@ -5,7 +5,7 @@ use Rattle.sst_block_core.specs.IndexBlock.{IndexRefParts}
 use Rattle.sstable_blocks.specs.Lookup.{handle_for}
 use Rattle.sstable_blocks.specs.Opened.{range_of}
 use Rattle.sstable_blocks.specs.RunReading.{hashes}
-use Rattle.sstable_blocks.proofs.Reading.CheckedReads.{by_index}
+use Rattle.sstable_blocks.specs.CheckedLaws.{by_index}
 use Rattle.std.proofs.lemmas.Result.{err_from_is_err_and}
 use Rattle.sstable_blocks.proofs.Reading.FrameCounts.{index_passes, index_refused, index_stops}
 use Rattle.sstable_blocks.proofs.run.checked.read_by_index.Goals as goal

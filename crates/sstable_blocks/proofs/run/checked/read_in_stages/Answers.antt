@@ -1,5 +1,5 @@
 use Rattle.sstable_blocks.specs.RunReading.{hashes}
-use Rattle.sstable_blocks.proofs.Reading.CheckedReads.{by_filter}
+use Rattle.sstable_blocks.specs.CheckedLaws.{by_filter}
 use Rattle.std.proofs.Common.{Bool, arith, cond, refl}
 use Rattle.std.proofs.lemmas.Result.{err_from_is_err_and}
 use Rattle.sstable_blocks.specs.RunReading.{filter_says}

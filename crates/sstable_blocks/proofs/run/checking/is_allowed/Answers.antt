@@ -1,6 +1,6 @@
 use Rattle.std.proofs.Common.{◌∙◌, ap, sym}
 use Rattle.sstable_blocks.specs.Filter.{may_contain}
-use Rattle.sstable_blocks.proofs.Reading.CheckedReads.{says_is}
+use Rattle.sstable_blocks.specs.CheckedLaws.{says_is}
 use Rattle.sstable_blocks.proofs.run.checking.is_allowed.Goals as goal
 
 pub returns-in_ok-hash-in-Some-clause-ok : goal.returns-in_ok-hash-in-Some-clause-ok

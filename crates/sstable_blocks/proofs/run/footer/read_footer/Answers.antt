@@ -1,7 +1,7 @@
 use Rattle.std.proofs.Common.{sym, subst, refl, inl, inr}
 use Rattle.std.proofs.lemmas.Result.{err_from_is_err_and}
 use Rattle.sst_base.specs.FrameErrorLaws.{NotIo}
-use Rattle.sstable_blocks.proofs.Reading.Footers.{handles_not_io, handles_truncated, failed_not_io, footer_read_on, footer_fails_on}
+use Rattle.sstable_blocks.specs.FooterLaws.{handles_not_io, handles_truncated, failed_not_io, footer_read_on, footer_fails_on}
 use Rattle.sstable_blocks.proofs.run.footer.read_footer.Goals as goal
 
 pub returns-in_err-footer-clause-exact : goal.returns-in_err-footer-clause-exact

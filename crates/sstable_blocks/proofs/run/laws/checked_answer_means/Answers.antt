@@ -1,4 +1,4 @@
-use Rattle.sstable_blocks.proofs.Reading.Meanings.{answer_means}
+use Rattle.sstable_blocks.specs.MeaningLaws.{answer_means}
 use Rattle.sstable_blocks.proofs.run.laws.checked_answer_means.Goals as goal
 
 pub returns : goal.returns

@@ -1,4 +1,4 @@
-use Rattle.sstable_blocks.proofs.Lists.Search.{first_match-joined}
+use Rattle.sstable_blocks.specs.SearchLaws.{first_match-joined}
 use Rattle.sstable_blocks.proofs.run.laws.first_match_is_in_one_block.Goals as goal
 
 pub returns : goal.returns

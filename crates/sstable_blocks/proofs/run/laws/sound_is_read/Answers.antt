@@ -1,4 +1,4 @@
-use Rattle.sstable_blocks.proofs.Reading.SoundReads.{read_sound}
+use Rattle.sstable_blocks.specs.SoundReadLaws.{read_sound}
 use Rattle.sstable_blocks.proofs.run.laws.sound_is_read.Goals as goal
 
 pub returns : goal.returns

@@ -1,4 +1,4 @@
-use Rattle.sstable_blocks.proofs.Layouts.Openings.{sound_opens}
+use Rattle.sstable_blocks.specs.OpeningLaws.{sound_opens}
 use Rattle.sstable_blocks.proofs.run.laws.sound_opens.Goals as goal
 
 pub returns : goal.returns

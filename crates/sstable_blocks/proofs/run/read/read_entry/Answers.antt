@@ -2,7 +2,7 @@ use Rattle.std.proofs.Common.{ℕ, List, sym, subst, IfSome}
 use Rattle.sst_block_core.specs.Handles.{IsIndexBlock}
 use Rattle.sstable_blocks.specs.Opened.{IsFrameRange, IsDenied, index_in, payload_in}
 use Rattle.sstable_blocks.specs.RunReading.{hashes}
-use Rattle.sstable_blocks.proofs.Reading.Points.{found_denied}
+use Rattle.sstable_blocks.specs.PointLaws.{found_denied}
 use Rattle.sstable_blocks.proofs.run.read.read_entry.Goals as goal
 
 pub is_allowed-requires : goal.is_allowed-requires

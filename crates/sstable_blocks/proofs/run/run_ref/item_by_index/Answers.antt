@@ -5,7 +5,7 @@ use Rattle.sstable_blocks.specs.Lookup.{handle_for}
 use Rattle.sstable_blocks.specs.Opened.{range_of}
 use Rattle.sstable_blocks.specs.ReadCosts.{handle_in}
 use Rattle.sstable_blocks.specs.RunReading.{hashes}
-use Rattle.sstable_blocks.proofs.Reading.Points.{chosen, found_none, found_some}
+use Rattle.sstable_blocks.specs.PointLaws.{chosen, found_none, found_some}
 use Rattle.sstable_blocks.proofs.run.run_ref.item_by_index.Goals as goal
 
 pub item_in-requires-clause-range : goal.item_in-requires-clause-range

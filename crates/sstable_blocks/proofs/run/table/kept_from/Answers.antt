@@ -1,7 +1,7 @@
 use Rattle.std.proofs.Common.{arith}
 use Rattle.std.proofs.lemmas.Result.{err_from_is_err_and}
 use Rattle.sstable_blocks.specs.RunReading.{hashes}
-use Rattle.sstable_blocks.proofs.Reading.KeptReads.{opened_on, kept_ok, filter_fails, index_fails}
+use Rattle.sstable_blocks.specs.KeptLaws.{opened_on, kept_ok, filter_fails, index_fails}
 use Rattle.sstable_blocks.specs.Tables.{filter_kept}
 use Rattle.sstable_blocks.specs.FrameCounts.{open_frames}
 use Rattle.sstable_blocks.proofs.Reading.FrameCounts.{exactly, goes_on, stops}

@@ -1,5 +1,5 @@
 use Rattle.sstable_blocks.specs.RunReading.{hashes}
-use Rattle.sstable_blocks.proofs.Reading.TableCounts.{index_placed_ok, check_not_io}
+use Rattle.sstable_blocks.specs.TableCountLaws.{index_placed_ok, check_not_io}
 use Rattle.sstable_blocks.proofs.run.table.kept_index_from.Goals as goal
 
 pub returns-clause-source : goal.returns-clause-source

@@ -6,7 +6,7 @@ use Rattle.sstable_blocks.specs.Writing.{Written}
 use Rattle.sstable_blocks.specs.Blocks.{joined}
 use Rattle.sst_block_core.specs.Entries.{entries}
 use Rattle.sst_block_core.specs.Kind.{IsOrdered, item_cmp}
-use Rattle.sstable_blocks.proofs.Lists.Ends.{back_in_order}
+use Rattle.sstable_blocks.specs.EndLaws.{back_in_order}
 use Rattle.sstable_blocks.proofs.Lists.Mapped.{last_mapped}
 use Rattle.sstable_blocks.proofs.Layouts.Kept.{kept_push, end_of-last, handle_is}
 use Rattle.sstable_blocks.proofs.run.run_core.RunCore.add_block.Goals as goal

@@ -5,7 +5,7 @@ use Rattle.sst_block_core.specs.Payload.{IsBlock}
 use Rattle.sstable_blocks.specs.Opened.{IsFrameRange, payload_in}
 use Rattle.sstable_blocks.specs.RunReading.{hashes}
 use Rattle.sstable_blocks.specs.Sound.{RunParts}
-use Rattle.sstable_blocks.proofs.Reading.Points.{cut_at}
+use Rattle.sstable_blocks.specs.PointLaws.{cut_at}
 use Rattle.sstable_blocks.proofs.run.run_ref.RunRef.frame_at.Goals as goal
 
 pub returns-clause-range : goal.returns-clause-range

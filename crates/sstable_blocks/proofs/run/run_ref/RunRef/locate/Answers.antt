@@ -2,7 +2,7 @@ use Rattle.std.proofs.Common.{subst}
 use Rattle.sstable_blocks.specs.Opened.{FilterPlace, IsDenied}
 use Rattle.sstable_blocks.specs.RunReading.{hashes}
 use Rattle.sstable_blocks.specs.Sound.{RunParts}
-use Rattle.sstable_blocks.proofs.Reading.Points.{found_denied}
+use Rattle.sstable_blocks.specs.PointLaws.{found_denied}
 use Rattle.sstable_blocks.proofs.run.run_ref.RunRef.locate.Goals as goal
 
 pub returns-then-not-allows-clause-found : goal.returns-then-not-allows-clause-found

@@ -4,8 +4,8 @@ use Rattle.sstable_blocks.specs.ReadCosts.{heads_most_in, entries_most_in}
 use Rattle.sstable_blocks.specs.RunReading.{hashes, read_checked}
 use Rattle.sstable_blocks.specs.Sources.{GivesOr}
 use Rattle.sstable_blocks.proofs.Reading.Answered.{sound_on}
-use Rattle.sstable_blocks.proofs.Reading.KeptReads.{checked_on}
-use Rattle.sstable_blocks.proofs.Reading.TableCounts.{kept_counts}
+use Rattle.sstable_blocks.specs.KeptLaws.{checked_on}
+use Rattle.sstable_blocks.specs.TableCountLaws.{kept_counts}
 use Rattle.sstable_blocks.proofs.run.table.Table.get.Goals as goal
 
 pub returns-clause-exact : goal.returns-clause-exact

@@ -1,6 +1,6 @@
 use Rattle.std.proofs.Common.{◌≡◌, Ok, subst, IfSome}
 use Rattle.sstable_blocks.specs.RunReading.{hashes, handles_at}
-use Rattle.sstable_blocks.proofs.Reading.KeptReads.{index_kept}
+use Rattle.sstable_blocks.specs.KeptLaws.{index_kept}
 use Rattle.sstable_blocks.proofs.run.table.Table.index.Goals as goal
 
 pub returns-clause-kept : goal.returns-clause-kept

@@ -1,6 +1,6 @@
 use Rattle.std.proofs.Common.{arith}
 use Rattle.sstable_blocks.specs.RunReading.{hashes}
-use Rattle.sstable_blocks.proofs.Reading.KeptReads.{file_on, footer_fails_first}
+use Rattle.sstable_blocks.specs.KeptLaws.{file_on, footer_fails_first}
 use Rattle.sstable_blocks.specs.Footer.{table_handles}
 use Rattle.sstable_blocks.specs.FrameCounts.{file_frames, open_frames}
 use Rattle.sstable_blocks.proofs.Reading.FrameCounts.{goes_on, stops_as}

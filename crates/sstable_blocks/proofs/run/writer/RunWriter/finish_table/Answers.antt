@@ -1,6 +1,6 @@
 use Rattle.std.proofs.Common.{inl, inr}
 use Rattle.std.proofs.lemmas.Result.{err_from_is_err_and}
-use Rattle.sstable_blocks.proofs.Layouts.TableEnds.{table-of, not-fits}
+use Rattle.sstable_blocks.specs.TableEndLaws.{table-of, not-fits}
 use Rattle.sstable_blocks.proofs.run.writer.RunWriter.finish_table.Goals as goal
 
 pub returns-in_err-len-clause-cause : goal.returns-in_err-len-clause-cause

@@ -1,7 +1,7 @@
 use Rattle.std.proofs.Common.{◌∙◌, ◌↔◌, List, ℕ, Ok, IsTrue, sym, subst}
 use Rattle.sstable_blocks.specs.Filter.{HasProbes, MayContain}
 use Rattle.sstable_blocks.specs.FilterLaws.{filter_at_reads}
-use Rattle.sstable_blocks.proofs.Reading.CheckedReads.{asked}
+use Rattle.sstable_blocks.specs.CheckedLaws.{asked}
 use Rattle.sstable_blocks.proofs.table.filter.standard_bloom.FilterShape.allows.Goals as goal
 
 pub split_at-requires : goal.split_at-requires

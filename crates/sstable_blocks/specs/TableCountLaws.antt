@@ -24,9 +24,9 @@ use Rattle.sstable_blocks.specs.ReadCosts.{heads_at, entries_at, heads_most_by, 
 use Rattle.sstable_blocks.specs.RunReading.{Hashes, payload_at}
 use Rattle.sstable_blocks.specs.Tables.{IsBlockIn, IsIndexIn, IsKeptOf}
 use Rattle.sstable_blocks.specs.declared.run.RunHandles.{RunHandles}
-use Rattle.sstable_blocks.proofs.Reading.Meanings.{payload_at_takes}
-use Rattle.sstable_blocks.proofs.Layouts.Openings.{frame_range}
-use Rattle.sstable_blocks.proofs.Reading.Points.{some_range, block_heads, block_entries}
+use Rattle.sstable_blocks.specs.MeaningLaws.{payload_at_takes}
+use Rattle.sstable_blocks.specs.OpeningLaws.{frame_range}
+use Rattle.sstable_blocks.specs.PointLaws.{some_range, block_heads, block_entries}
 
 -- a payload that was read is in the range of its frame
 pub placed : (c : Hashes) (t : BlockType) (o : Option (List ℕ)) (k : HandleParts) (p : List ℕ) → IfSome o IsBytes → IfSome o (λ all. payload_at c t all k ≡ Ok p) → IfSome o (λ all. payload_in all k ≡ p)

@@ -18,7 +18,7 @@ turned Less h = absurd (h refl)
 turned Equal h = refl
 turned Greater h = refl
 
-turned_back : (o : Ordering) → is_gt (ordering_reverse o) ≡ false → o ≢ Less
+pub turned_back : (o : Ordering) → is_gt (ordering_reverse o) ≡ false → o ≢ Less
 turned_back Less h = λ e. cc
 turned_back Equal h = λ e. cc
 turned_back Greater h = λ e. cc
@@ -48,7 +48,7 @@ all_back P (x ∷ xs) ys h = all_back P xs ys h.1
 
 module _ {X : Type 0} (kind : Kind X) where
   -- sorting before is passed on
-  chain : (x y z : X) → item_cmp kind y x ≢ Less → item_cmp kind z y ≢ Less → item_cmp kind z x ≢ Less
+  pub chain : (x y z : X) → item_cmp kind y x ≢ Less → item_cmp kind z y ≢ Less → item_cmp kind z x ≢ Less
   chain x y z h k =
       let o = versions_cmp_total kind.key kind.seqno in
       let a : is_gt (item_cmp kind x y) ≡ false = ap is_gt (o.antisymm x y) ∙ turned (item_cmp kind y x) h in
@@ -56,7 +56,7 @@ module _ {X : Type 0} (kind : Kind X) where
       turned_back (item_cmp kind z x) (sym (ap is_gt (o.antisymm x z)) ∙ upto o x y z a b)
 
   -- no item of an ordered list sorts before its first one
-  behind : (x : X) (front : List X) (last : X) (rest : List X) → IsOrdered kind (x ∷ (front ++ last ∷ rest)) → item_cmp kind last x ≢ Less
+  pub behind : (x : X) (front : List X) (last : X) (rest : List X) → IsOrdered kind (x ∷ (front ++ last ∷ rest)) → item_cmp kind last x ≢ Less
   behind x [] last rest h = h.0
   behind x (y ∷ front) last rest h = chain x y last h.0 (behind y front last rest h.1)
 
@@ -66,7 +66,7 @@ module _ {X : Type 0} (kind : Kind X) where
     block_behind block h e rest = ap (λ xs. xs ++ rest) e.whole ∙ append_assoc e.front (e.last ∷ []) rest
 
     -- handles compare as the last items of their blocks
-    ends_cmp : (b : List X) (y : Y) (e : IsEnd kind ends b y) (c : List X) (z : Y) (g : IsEnd kind ends c z) → item_cmp ends z y ≡ item_cmp kind g.last e.last
+    pub ends_cmp : (b : List X) (y : Y) (e : IsEnd kind ends b y) (c : List X) (z : Y) (g : IsEnd kind ends c z) → item_cmp ends z y ≡ item_cmp kind g.last e.last
     ends_cmp b y e c z g =
         ap (λ k. ordering_then (slice_cmp nat_cmp k (ends.key y)) (nat_cmp (ends.seqno y) (ends.seqno z))) g.key
         ∙ ap (λ k. ordering_then (slice_cmp nat_cmp (kind.key g.last) k) (nat_cmp (ends.seqno y) (ends.seqno z))) e.key

@@ -22,15 +22,15 @@ use Rattle.sstable_blocks.specs.Lookup.{handle_for}
 use Rattle.sstable_blocks.specs.Opened.{range_of}
 use Rattle.sstable_blocks.specs.RunReading.{Hashes, range_at, payload_at, filter_answer, filter_says, read_block, read_blocks, read_checked, IsFramedAt, FilterDenies, FilterAllows, BlockMeans, IndexMeans, AnswerMeans}
 use Rattle.sstable_blocks.specs.declared.run.RunHandles.{RunHandles}
-use Rattle.sstable_blocks.proofs.Reading.CheckedReads.{may_contain_to, may_contain_from}
+use Rattle.sstable_blocks.specs.CheckedLaws.{may_contain_to, may_contain_from}
 
-same_type : (t u : BlockType) → block_type_byte t ≡ block_type_byte u → t ≡ u
+pub same_type : (t u : BlockType) → block_type_byte t ≡ block_type_byte u → t ≡ u
 same_type t u e =
     let k : ◌≡◌ {A = Result BlockType Error} (Ok t) (Ok u) = sym (block_type_of-byte t) ∙ ap block_type_of e ∙ block_type_of-byte u in
     cc
 
 -- what is read of a type is a frame of it
-payload_of_type_takes : (hash128 : List ℕ → ℕ) (t : BlockType) (bytes p : List ℕ) → IsBytes bytes → payload_of_type hash128 t bytes ≡ Ok p → bytes ≡ frame hash128 t p
+pub payload_of_type_takes : (hash128 : List ℕ → ℕ) (t : BlockType) (bytes p : List ℕ) → IsBytes bytes → payload_of_type hash128 t bytes ≡ Ok p → bytes ≡ frame hash128 t p
 unfolding payload_of_type
 payload_of_type_takes hash128 t bytes p small e =
     let found = bind_ok (frame_in hash128 bytes) (of_type t) p e in

@@ -17,10 +17,10 @@ use Rattle.sstable_blocks.specs.SourceLaws.{source_fails}
 use Rattle.sstable_blocks.specs.Sources.{GivesOr, FailsAs}
 use Rattle.sstable_blocks.specs.Tables.{filter_kept, kept_of, kept_by_footer, IsIndexIn, IsKeptOf, kept_says, read_kept}
 use Rattle.sstable_blocks.specs.declared.run.RunHandles.{RunHandles}
-use Rattle.sstable_blocks.proofs.Reading.SoundReads.{bind_to}
+use Rattle.sstable_blocks.specs.SoundReadLaws.{bind_to}
 
 -- the filter that was kept says what that of the bytes says
-says_same : (c : Hashes) (bytes : List ℕ) (h : Option HandleParts) (p : Option (List ℕ)) (needle : List ℕ) → filter_kept c bytes h ≡ Ok p → filter_says c bytes h needle ≡ kept_says c.hash64 p needle
+pub says_same : (c : Hashes) (bytes : List ℕ) (h : Option HandleParts) (p : Option (List ℕ)) (needle : List ℕ) → filter_kept c bytes h ≡ Ok p → filter_says c bytes h needle ≡ kept_says c.hash64 p needle
 says_same c bytes None p needle e =
     let same : None ≡ p = (let k : ◌≡◌ {A = Result (Option (List ℕ)) Error} (Ok None) (Ok p) = e in cc) in
     ap (λ (q : Option (List ℕ)). kept_says c.hash64 q needle) same
@@ -31,7 +31,7 @@ says_same c bytes (Some h) p needle e =
     ap (λ r. r >>= (λ (x : List ℕ). filter_answer x (c.hash64 needle))) q.1 ∙ ap (λ (o : Option (List ℕ)). kept_says c.hash64 o needle) same
 
 -- and the handles lead to the same block
-blocks_same : (c : Hashes) (bytes : List ℕ) (h : HandleParts) (hs : List Handle) (needle : List ℕ) (seqno : ℕ) → handles_at c bytes h ≡ Ok hs → read_blocks c bytes h needle seqno ≡ read_block c bytes (handle_for handles needle seqno hs) needle seqno
+pub blocks_same : (c : Hashes) (bytes : List ℕ) (h : HandleParts) (hs : List Handle) (needle : List ℕ) (seqno : ℕ) → handles_at c bytes h ≡ Ok hs → read_blocks c bytes h needle seqno ≡ read_block c bytes (handle_for handles needle seqno hs) needle seqno
 blocks_same c bytes h hs needle seqno e =
     let p = bind_ok (payload_at c types.Index bytes h) index_check hs e in
     let go : List Handle → Result (Option Entry) Error = λ (xs : List Handle). read_block c bytes (handle_for handles needle seqno xs) needle seqno in

@@ -27,10 +27,10 @@ use Rattle.sstable_blocks.specs.Opened.{range_of}
 use Rattle.sstable_blocks.specs.RunReading.{Hashes, IsFramedAt, range_at, payload_at, filter_says, read_block, read_blocks, read_checked}
 use Rattle.sstable_blocks.specs.Sound.{IsStoredBlock, IsStoredFilter, IsSound}
 use Rattle.sstable_blocks.specs.declared.run.RunHandles.{RunHandles}
-use Rattle.sstable_blocks.proofs.Reading.CheckedReads.{may_contain_to}
-use Rattle.sstable_blocks.proofs.Layouts.FilterReads.{denied}
-use Rattle.sstable_blocks.proofs.Layouts.Openings.{framed_size, stored_ends}
-use Rattle.sstable_blocks.proofs.Lists.Search.{first_match-joined}
+use Rattle.sstable_blocks.specs.CheckedLaws.{may_contain_to}
+use Rattle.sstable_blocks.specs.FilterReadLaws.{denied}
+use Rattle.sstable_blocks.specs.OpeningLaws.{framed_size, stored_ends}
+use Rattle.sstable_blocks.specs.SearchLaws.{first_match-joined}
 
 -- one reading after another that gives something
 pub bind_to : {A B : Type 0} (r : Result A Error) (f : A → Result B Error) (x : A) (y : Result B Error) → r ≡ Ok x → f x ≡ y → (r >>= f) ≡ y

@@ -24,12 +24,12 @@ abbrev pub parsed_range : IndexBlockParsedItem → HandleParts
 parsed_range p = record { offset = p.offset.0; size = p.size }
 
 -- it does not depend on the payload
-parsed_range-handle : (payload : List ℕ) (r : Option IndexBlockParsedItem) → option_map parsed_range r ≡ option_map range_of (option_map (parsed_handle payload) r)
+pub parsed_range-handle : (payload : List ℕ) (r : Option IndexBlockParsedItem) → option_map parsed_range r ≡ option_map range_of (option_map (parsed_handle payload) r)
 parsed_range-handle payload None = refl
 parsed_range-handle payload (Some p) = refl
 
 -- of a list up to its end, the item at an index is left, if there is one
-left_at : (hs : List Handle) (n : ℕ) → first_left (record { list = hs; lo = n; hi = length hs }) ≡ slice_get hs n
+pub left_at : (hs : List Handle) (n : ℕ) → first_left (record { list = hs; lo = n; hi = length hs }) ≡ slice_get hs n
 left_at hs n = elim (cases_Bool (ltb n (length hs))) [
   | inl some ↦ ap (λ b. cond b (slice_get hs n) None) some
   | inr none ↦ ap (λ b. cond b (slice_get hs n) None) none ∙ sym (slice_get_past hs n (ltb-false n (length hs) none))

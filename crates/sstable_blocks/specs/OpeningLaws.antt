@@ -21,8 +21,8 @@ use Rattle.sstable_blocks.specs.Opened.{range_of, IsFrameRange, payload_in, inde
 use Rattle.sstable_blocks.specs.RunReading.{Hashes, IsFramedAt}
 use Rattle.sstable_blocks.specs.Sound.{IsStoredBlock, IsStoredFilter, IsSound}
 use Rattle.sstable_blocks.specs.declared.run.RunHandles.{RunHandles}
-use Rattle.sstable_blocks.proofs.Layouts.FilterReads.{denied}
-use Rattle.sstable_blocks.proofs.Lists.Search.{first_match-joined}
+use Rattle.sstable_blocks.specs.FilterReadLaws.{denied}
+use Rattle.sstable_blocks.specs.SearchLaws.{first_match-joined}
 
 -- the size of a handle in whose range a frame is
 pub framed_size : (c : Hashes) (t : BlockType) (bytes p : List ℕ) (h : HandleParts) → IsFramedAt c t bytes h p → h.size ≡ 33 + length p

@@ -16,7 +16,7 @@ use Rattle.sst_block_core.specs.Kind.{Kind, IsOrdered, item_cmp}
 use Rattle.sst_block_core.specs.Window.{passes, passes_cmp, is_version, first_match, count_passed}
 use Rattle.sstable_blocks.specs.Blocks.{joined}
 use Rattle.sstable_blocks.specs.Lookup.{IsEnd, first_in, place_for}
-use Rattle.sstable_blocks.proofs.Lists.Ends.{turned, tail_in_order, back_in_order, block_behind}
+use Rattle.sstable_blocks.specs.EndLaws.{turned, tail_in_order, back_in_order, block_behind}
 use Rattle.sst_block_core.specs.VersionLaws.{version_passed}
 use Rattle.sst_block_core.specs.ListLaws.{first_filter}
 

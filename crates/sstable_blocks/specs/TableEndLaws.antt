@@ -8,17 +8,17 @@ use Rattle.sstable_blocks.specs.Run.{Form, IsLayout, run_text, run_handles}
 use Rattle.sstable_blocks.specs.Writing.{AppendsLayout, AppendsTable, TableFits}
 use Rattle.sstable_blocks.specs.declared.run.RunHandles.{RunHandles}
 
-footer-length : (h : RunHandles) → length (footer h) ≡ 24
+pub footer-length : (h : RunHandles) → length (footer h) ≡ 24
 unfolding footer
 footer-length h = refl
 
 -- the end of a layout, where there is no filter or where there is one
-end-cases : (none : Bool) (a i p : List ℕ) → length (a ++ (i ++ cond none [] p))
+pub end-cases : (none : Bool) (a i p : List ℕ) → length (a ++ (i ++ cond none [] p))
     ≡ run_end_by (record { offset = length a; size = length i }) (cond none None (Some (record { offset = length a + length i; size = length (cond none [] p) })))
 end-cases true a i p = omega (arith, length-append a (i ++ []), length-append i [])
 end-cases false a i p = omega (arith, length-append a (i ++ p), length-append i p)
 
-layout-end : (f : Form) (blocks : List (List Entry)) (bytes : List ℕ) (h : RunHandles) → IsLayout f blocks bytes h → length bytes ≡ run_end h
+pub layout-end : (f : Form) (blocks : List (List Entry)) (bytes : List ℕ) (h : RunHandles) → IsLayout f blocks bytes h → length bytes ≡ run_end h
 unfolding run_text run_handles
 layout-end f blocks bytes h l = rw (l.text, l.handles) (end-cases _ _ _ _)
 

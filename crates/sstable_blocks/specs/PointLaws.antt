@@ -27,7 +27,7 @@ pub payload_range : (xs : List ℕ) (offset size : ℕ) → 33 ≤ size → take
 payload_range xs offset size h = let e : offset + size - (offset + 33) ≡ size - 33 = omega arith in ap (λ n. take n (drop (offset + 33) xs)) e
 
 -- a point read examines no more heads than a search over all
-heads_by : (l : Lookup) (n : ℕ) → heads_most l n ≤ digits n
+pub heads_by : (l : Lookup) (n : ℕ) → heads_most l n ≤ digits n
 heads_by Nowhere n = omega arith
 heads_by (Interval i) n = omega arith
 heads_by Anywhere n = omega arith
@@ -36,7 +36,7 @@ pub block_heads : (hash : List ℕ → ℕ) (d : DataBlockParts) (key : List ℕ
 block_heads hash d key = heads_by (lookup hash d key) (head_count d.interval (length d.items))
 
 -- and decodes no more entries than after one
-entries_by : (l : Lookup) (n : ℕ) → entries_most l n ≤ n + 1
+pub entries_by : (l : Lookup) (n : ℕ) → entries_most l n ≤ n + 1
 entries_by Nowhere n = omega arith
 entries_by (Interval i) n = omega arith
 entries_by Anywhere n = omega arith
