@@ -127,7 +127,8 @@ impl<'a, 'k, H: BlockHash> Source<Reversed<InternalValue>> for Rev<SharedScan<'a
 
     #[inline(always)]
     fn next_entry(&mut self, alloc: Global) -> Result<Option<Reversed<InternalValue>>> {
-        match self.source.next_entry_back(alloc) {
+        let taken = self.source.next_entry_back(alloc);
+        match taken {
             Ok(entry) => Ok(in_reverse(entry)),
             Err(error) => Err(error),
         }
