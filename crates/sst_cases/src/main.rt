@@ -6,7 +6,19 @@
 //!
 //! Behind the word `refused` it runs cases while allocations are refused: one that tells of that is
 //! performed again, and then has to give its result; how many were is printed too.
+//!
+//! The commands on frames, filters, runs and merges, on a store, and on the program `sst` stand here,
+//! in modules by what they are about; those on values and blocks are of `sst_block_cases`. Each module
+//! has a function `perform`, which returns the result of a command, or `None` where the command is
+//! none of the module's.
 #![tactic(auto)]
+
+mod each;
+mod filters;
+mod frames;
+mod merges;
+mod program;
+mod runs;
 
 use sst_base::BlockHash;
 use sst_block_cases::fault::Result;
@@ -30,7 +42,13 @@ impl<R: LockFiles + AllocGlobal> Commands<R> for AllCommands {
         if let Some(answer) = sst_block_cases::perform::<H>(rt.alloc(), room, name, words)? {
             return Ok(Some(answer));
         }
-        sst_run_cases::perform::<H, R>(rt, room, name, words)
+        if let Some(answer) = each::perform::<H>(rt.alloc(), room, name, words)? {
+            return Ok(Some(answer));
+        }
+        if let Some(answer) = program::perform(rt, room, name, words)? {
+            return Ok(Some(answer));
+        }
+        merges::perform::<H>(rt.alloc(), room, name, words)
     }
 }
 
