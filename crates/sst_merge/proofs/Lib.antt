@@ -4,7 +4,10 @@ pub mod Peeks
 pub mod CutLaws
 pub mod CutSteps
 pub mod MovableLaws
+pub mod MovedLaws
 pub mod SortedCounts
 pub mod BlockPlaces
 pub mod BlockCounts
 pub mod BlockEnds
+pub mod TableEnds
+pub mod SoundTables

@@ -20,7 +20,7 @@ use Rattle.sst_merge.specs.Picks.{list_at}
 use Rattle.sst_merge.specs.Cuts.{IsItem, comes_first, IsCut, IsNext, total}
 use Rattle.sst_merge.proofs.CutLaws.{item_between}
 use Rattle.sst_merge.proofs.CutSteps.{item_found, same_or, cut_forth, cut_back, all_before, none_first, none_last, total_same, total_le, total_lt, total_next, cut_none, cut_all, total_none, total_all, cut_by, count_merged, Separates, lt_ge, ge_lt, ge_ge, weakly, not_itself}
-use Rattle.sst_merge.specs.Movable.{item_before, is_below, is_at_most, IsFrontAmong, IsBackAmong, IsFresh, lists_in, count_at, merged_window, AreMoved, goes_before, goes_after, FirstAmong, LastAmong, IsFrontPick, IsBackPick, TakesFront, TakesBack, seek_to, seek_up_to, sought_until}
+use Rattle.sst_merge.specs.Movable.{item_before, is_below, is_at_most, IsFrontAmong, IsBackAmong, IsFresh, lists_in, count_at, merged_window, AreMoved, goes_before, goes_after, FirstAmong, LastAmong, IsFrontPick, IsBackPick, TakesFront, TakesBack, seek_to, seek_up_to, changed_until}
 use Rattle.sst_block_core.specs.WindowLaws.{item_same}
 
 module _ {X : Type 0} where
@@ -504,18 +504,25 @@ module _ {X : Type 0} (cmp : X → X → Ordering) (order : IsTotalOrder cmp) wh
       let d = total_all cmp (lists_in ws) in
       window_by m (whole (merged cmp (lists_in ws))) (list_is ws moved) (omega (arith, s.0, a, c)) (omega (arith, s.1, b, d))
 
--- Windows that are moved one after the other.
-module _ {X : Type 0} (f : Window X → Window X) where
-  pub sought_next : (ws : List (Window X)) (k : ℕ) (w v : Window X) → k < length ws → w ≡ get_or (sought_until f k ws) k w → v ≡ f w → set (sought_until f k ws) k v ≡ sought_until f (suc k) ws
-  sought_next [] k w v inside is now = absurd (omega (arith, inside))
-  sought_next (u ∷ ws) zero w v inside is now = ap (λ t. t ∷ ws) (now ∙ ap f is)
-  sought_next (u ∷ ws) (suc k) w v inside is now = ap (λ us. f u ∷ us) (sought_next ws k w v (omega (arith, inside)) is now)
+-- Values that are changed one after the other.
+module _ {A : Type 0} (f : A → A) where
+  pub changed_next : (xs : List A) (k : ℕ) (x y : A) → k < length xs → x ≡ get_or (changed_until f k xs) k x → y ≡ f x → set (changed_until f k xs) k y ≡ changed_until f (suc k) xs
+  changed_next [] k x y inside is now = absurd (omega (arith, inside))
+  changed_next (z ∷ xs) zero x y inside is now = ap (λ t. t ∷ xs) (now ∙ ap f is)
+  changed_next (z ∷ xs) (suc k) x y inside is now = ap (λ ys. f z ∷ ys) (changed_next xs k x y (omega (arith, inside)) is now)
 
-  pub sought_all : (ws : List (Window X)) (k : ℕ) → length ws ≤ k → sought_until f k ws ≡ map f ws
-  sought_all [] zero more = refl
-  sought_all [] (suc k) more = refl
-  sought_all (w ∷ ws) zero more = absurd (omega (arith, more))
-  sought_all (w ∷ ws) (suc k) more = ap (λ us. f w ∷ us) (sought_all ws k (omega (arith, more)))
+  pub changed_all : (xs : List A) (k : ℕ) → length xs ≤ k → changed_until f k xs ≡ map f xs
+  changed_all [] zero more = refl
+  changed_all [] (suc k) more = refl
+  changed_all (x ∷ xs) zero more = absurd (omega (arith, more))
+  changed_all (x ∷ xs) (suc k) more = ap (λ ys. f x ∷ ys) (changed_all xs k (omega (arith, more)))
+
+  -- the next one is not changed yet
+  pub not_changed : (xs : List A) (k : ℕ) (x : A) → get_or (changed_until f k xs) k x ≡ get_or xs k x
+  not_changed [] zero x = refl
+  not_changed [] (suc k) x = refl
+  not_changed (z ∷ xs) zero x = refl
+  not_changed (z ∷ xs) (suc k) x = not_changed xs k x
 
 -- the item at the index of a source
 pub item_at : {X : Type 0} (ws : List (Window X)) (i : ℕ) (w : Window X) (o : Option X) → i < length ws → w ≡ get_or ws i w → o ≡ slice_get w.list w.lo → slice_get (list_at (lists_in ws) i) (count_at (λ (v : Window X). v.lo) ws i) ≡ o
@@ -714,12 +721,3 @@ module _ {S X : Type 0} (cmp : X → X → Ordering) (order : IsTotalOrder cmp) 
 
   pub back_empty : (ss : List S) (m : Window X) → merged_window cmp (map window ss) ≡ m → length ss ≡ 0 → (m, item None) ≡ next_back m
   back_empty ss m whole none = ends_back cmp order [] m (empty_by ss m whole none)
-
--- one source more was moved
-pub sought_step : {S X : Type 0} (window : S → Window X) (f : Window X → Window X) (old ss : List S) (k : ℕ) (s t : S) → k < length ss → length ss ≡ length old → s ≡ get_or ss k s → window t ≡ f (window s) → map window ss ≡ sought_until f k (map window old)
-    → map window (set ss k t) ≡ sought_until f (k + 1) (map window old)
-sought_step window f old ss k s t inside size is now so_far =
-    let n = length-map old window in
-    let at : window s ≡ get_or (sought_until f k (map window old)) k (window s) = ap window is ∙ sym (get_or-map window ss k s (window s) inside) ∙ ap (λ ws. get_or ws k (window s)) so_far in
-    map-set window ss k t ∙ ap (λ ws. set ws k (window t)) so_far
-    ∙ sought_next f (map window old) k (window s) (window t) (omega (arith, n, inside, size)) at now ∙ ap (λ m. sought_until f m (map window old)) (sym (add-one k))

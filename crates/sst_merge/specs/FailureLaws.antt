@@ -103,7 +103,7 @@ fewer_before e (Err x ∷ reads) y h = elim (among_either e (reported x) (read_e
 
 module _ {S : Type 0} (is_reliable : S → Type 0) (s : S) (failed : Type 0) where
   -- a failure of the source of frames, where one that is reliable only fails at what is read as outside
-  source_met : (outside : Type 0) (errors : List Error) (e : Error) → IsSourceFailure failed (is_reliable s) outside e → (outside → IsAmong Io errors) → (outside → IsAmong Truncated errors)
+  pub source_met : (outside : Type 0) (errors : List Error) (e : Error) → IsSourceFailure failed (is_reliable s) outside e → (outside → IsAmong Io errors) → (outside → IsAmong Truncated errors)
       → MayFailAnyTime is_reliable e ⊎ IsAmong e errors
   source_met outside errors e f io cut = elim f.1 [
     | inl g ↦ elim (io_among errors) [

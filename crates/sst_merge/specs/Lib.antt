@@ -41,5 +41,7 @@ pub mod Tournament
 pub mod WriteLaws
 pub mod Cuts
 pub mod Movable
+pub mod Moved
 pub mod KeyedLaws
 pub mod MovableBlocks
+pub mod MovableTables

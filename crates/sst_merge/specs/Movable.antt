@@ -108,11 +108,11 @@ seek_to test w = record w { lo = count_by test w.list }
 abbrev pub seek_up_to : {X : Type 0} → (X → Bool) → Window X → Window X
 seek_up_to test w = record w { hi = count_by test w.list }
 
--- windows of which the first n were moved
-abbrev pub sought_until : {X : Type 0} → (Window X → Window X) → ℕ → List (Window X) → List (Window X)
-sought_until f zero ws = ws
-sought_until f (suc n) [] = []
-sought_until f (suc n) (w ∷ ws) = f w ∷ sought_until f n ws
+-- values of which the first n were changed
+abbrev pub changed_until : {A : Type 0} → (A → A) → ℕ → List A → List A
+changed_until f zero xs = xs
+changed_until f (suc n) [] = []
+changed_until f (suc n) (x ∷ xs) = f x ∷ changed_until f n xs
 
 -- does a search for a user key pass an item: one below it, or also one of the key itself?
 abbrev pub is_sought : {X : Type 0} → (X → List ℕ) → List ℕ → Bool → X → Bool

@@ -28,7 +28,7 @@ use Rattle.sst_merge.specs.Stored.{all_keys, are_bytes, check_of, checked_list, 
 use Rattle.sst_merge.specs.StoredLaws.{known_all}
 use Rattle.sst_base.specs.TestLaws.{and_parts, not_true, not_lt}
 
-passes_ordered : (xs : List Entry) → is_in_order entry_cmp xs ≡ true → IsOrdered entries xs
+pub passes_ordered : (xs : List Entry) → is_in_order entry_cmp xs ≡ true → IsOrdered entries xs
 passes_ordered [] h = tt
 passes_ordered (x ∷ []) h = tt
 passes_ordered (x ∷ y ∷ xs) h =

@@ -1,6 +1,6 @@
 //! Laws of merges, snapshots and compaction, for callers' proofs. Each function states one law, and
 //! does nothing.
-ghost use Rattle.std.specs.Prelude.{◌≡◌, ℕ, Bool, true, false, List, [], ◌∷◌, ◌++◌};
+ghost use Rattle.std.specs.Prelude.{◌≡◌, ◌<◌, ◌^◌, ℕ, Bool, true, false, List, [], ◌∷◌, ◌++◌};
 ghost use Rattle.std.specs.Prelude.{Some, Ok, filter, map, reverse, slice_get};
 ghost use Rattle.std.specs.List.{AllByRecursion};
 ghost use Rattle.std.specs.Option.{option_map};
@@ -8,14 +8,24 @@ ghost use Rattle.std.specs.Ordering.{flip_args, nat_cmp, is_eq};
 ghost use Rattle.std.specs.Cmp.Lexicographic.{slice_cmp};
 ghost use Rattle.sst_base.specs.Entry.{Entry, plain};
 ghost use Rattle.sst_block_core.specs.Entries.{entries};
+ghost use Rattle.sst_block_core.specs.Handles.{Handle};
 ghost use Rattle.sst_block_core.specs.Kind.{IsOrdered};
 ghost use Rattle.sst_block_core.specs.Window.{first_match};
 ghost use Rattle.sstable_blocks.specs.Blocks.{joined};
+ghost use Rattle.sstable_blocks.specs.RunReading.{Hashes, handles_at};
+ghost use Rattle.sstable_blocks.specs.Sound.{IsSound};
+ghost use Rattle.sstable_blocks.specs.declared.run.RunHandles.{RunHandles};
 ghost use Rattle.sst_merge.specs.Compact.{IsKeptRead, compacted, staying};
 ghost use Rattle.sst_merge.specs.Levels.{AreWithin, HasNone, IsAbove, is_outside};
 ghost use Rattle.sst_merge.specs.Merge.{merged, least_match, entry_cmp};
+ghost use Rattle.sst_merge.specs.MovableTables.{table_blocks, table_errors};
 ghost use Rattle.sst_merge.specs.Snapshot.{seen, shown, snapshot};
 ghost use Rattle.sst_merge.specs.Stored.{known_reads};
+
+use sst_block_core::laws::{
+    data_block_is_read, data_check_is_by_stages, first_match_of_plain, index_block_is_read,
+    index_check_is_by_stages,
+};
 
 /// A merge of ordered lists is ordered.
 pub fn merge_is_ordered()
@@ -126,3 +136,19 @@ pub fn merge_is_reversed()
 pub fn scan_is_known()
     ensures { (items : List Entry) → known_reads (map Ok items) ≡ Some items }
 {}
+
+/// The list of a table over the bytes of a sound run is known, so that its ends may be moved: it is the
+/// run's entries, as decoded, and reading it gives no error.
+pub fn sound_table_is_known()
+    ensures { (c : Hashes) (blocks : List (List Entry)) (bytes : List ℕ) (h : RunHandles)
+        (index : List Handle) → ((xs : List ℕ) → c.hash128 xs < 2 ^ 128)
+        → IsSound c blocks bytes h → handles_at c bytes h.index ≡ Ok index
+        → (table_blocks c (Some bytes) index ≡ Some (map (map plain) blocks))
+        × (table_errors c (Some bytes) index ≡ Some []) }
+{
+    data_check_is_by_stages();
+    index_check_is_by_stages();
+    data_block_is_read();
+    index_block_is_read();
+    first_match_of_plain();
+}

@@ -1,20 +1,26 @@
 //! Ordered merges that are moved: taken from both ends, and sought in.
-ghost use Rattle.std.specs.Prelude.{◌≡◌, ◌+◌, ◌<◌, ◌≤◌, ℕ, List, length, map, slice_get, true, count_by};
+ghost use Rattle.std.specs.Prelude.{◌≡◌, ◌+◌, ◌<◌, ℕ, List, length, map, slice_get, true};
+ghost use Rattle.std.specs.Prelude.{IfErr, IfOk, IfSome, Ok, OnErr, OnOk, Some, None};
 ghost use Rattle.std.specs.Cmp.Lexicographic.{slice_cmp};
 ghost use Rattle.std.specs.List.{AllByRecursion};
 ghost use Rattle.std.specs.Option.{option_map};
 ghost use Rattle.std.specs.Ordering.{is_lt, nat_cmp};
-ghost use Rattle.sst_block_core.specs.Window.{Window, first_left, item, last_left, next};
-ghost use Rattle.sst_block_core.specs.Window.{next_back, some_left, whole};
+ghost use Rattle.sst_base.specs.declared.error.Error.{Error};
+ghost use Rattle.sst_block_core.specs.Window.{first_left, last_left, next, next_back, some_left};
+ghost use Rattle.sst_block_core.specs.Window.{whole};
 ghost use Rattle.sst_merge.specs.KeyedLaws.{entry_by_key};
 ghost use Rattle.sst_merge.specs.Merge.{merged};
-ghost use Rattle.sst_merge.specs.Movable.{IsBackAmong, IsBackPick, IsFresh, IsFrontAmong};
-ghost use Rattle.sst_merge.specs.Movable.{IsFrontPick, TakesBack, TakesFront, goes_after, goes_before};
-ghost use Rattle.sst_merge.specs.Movable.{is_at_most, is_below, item_before, seek_to, seek_up_to};
+ghost use Rattle.sst_merge.specs.Movable.{IsBackAmong, IsBackPick, IsFrontAmong, IsFrontPick};
+ghost use Rattle.sst_merge.specs.Movable.{goes_after, goes_before, is_at_most, is_below};
+ghost use Rattle.sst_merge.specs.Movable.{item_before, lists_in, seek_to, seek_up_to};
+ghost use Rattle.sst_merge.specs.Moved.{IsFreshSource, IsStep, MayStop, Moved, StopsBy, are_known};
+ghost use Rattle.sst_merge.specs.Moved.{merged_moved, sought, step_back, step_front, windows};
 
 use crate::ranked::Ranked;
-use sst_base::InternalValue;
+use crate::source::{keep_error, note_error};
+use sst_base::{Error, InternalValue, Result};
 use sst_block_core::table::data_block::EntryView;
+use std::alloc::Global;
 use std::cmp::Ordering;
 use std::marker::Model;
 
@@ -42,39 +48,74 @@ impl<'a> Keyed for EntryView<'a> {
 
 /// An ordered list with a front and a back, each of which is moved over the whole list, whatever the
 /// other one is.
+///
+/// An error ends the source: each later step and search returns it again.
 pub trait Movable<T: Keyed> {
-    // its list, the index from which the front goes on, and that up to which the back does
-    ghost window: { Self → Window T };
+    // its list with the indexes from which the front goes on and up to which the back does, where
+    // they are known; the errors that reading it may give, and the error that ended it, if one did
+    ghost moved: { Self → Moved T };
+
+    // The errors that any step may give, whatever the list: those of an allocation, where a step takes
+    // memory, and of a device.
+    ghost may_fail: { Error → Type 0 };
 
     /// Returns the item after the front, whatever the back is.
     fn first(&self) -> Option<&T>
-        ensures { option_map (λ r. r.now) result
-            ≡ slice_get (window self.now).list (window self.now).lo };
+        ensures { IfSome (moved self.now).window
+            (λ w. option_map (λ r. r.now) result ≡ slice_get w.list w.lo) };
 
     /// Returns the item before the back, whatever the front is.
     fn last(&self) -> Option<&T>
-        ensures { option_map (λ r. r.now) result
-            ≡ item_before (window self.now).list (window self.now).hi };
+        ensures { IfSome (moved self.now).window
+            (λ w. option_map (λ r. r.now) result ≡ item_before w.list w.hi) };
 
     /// Returns whether an item is left between front and back.
     fn has_left(&self) -> bool
-        ensures { result ≡ some_left (window self.now) };
+        ensures { IfSome (moved self.now).window (λ w. result ≡ some_left w) };
 
     /// Takes the item after the front, if there is one, whatever the back is.
-    fn next(&mut self) -> Option<T>
-        ensures { TakesFront (window self.old) result (window self.new) };
+    ///
+    /// # Errors
+    ///
+    /// Those of what the list is read from, and of an allocation where a step takes memory.
+    fn next(&mut self, alloc: Global) -> Result<Option<T>>
+        ensures step { IfOk result
+            (λ r. IsStep step_front (moved self.old) r (moved self.new)) }
+        ensures ended { StopsBy (moved self.old) (moved self.new) result }
+        ensures cause { IfErr result (MayStop may_fail (moved self.old)) };
 
     /// Takes the item before the back, if there is one, whatever the front is.
-    fn next_back(&mut self) -> Option<T>
-        ensures { TakesBack (window self.old) result (window self.new) };
+    ///
+    /// # Errors
+    ///
+    /// Those of [`Movable::next`].
+    fn next_back(&mut self, alloc: Global) -> Result<Option<T>>
+        ensures step { IfOk result
+            (λ r. IsStep step_back (moved self.old) r (moved self.new)) }
+        ensures ended { StopsBy (moved self.old) (moved self.new) result }
+        ensures cause { IfErr result (MayStop may_fail (moved self.old)) };
 
     /// Moves the front before the first item of the whole list whose user key is at least `key`.
-    fn seek(&mut self, key: &[u8])
-        ensures { window self.new ≡ seek_to (is_below T.key key.now) (window self.old) };
+    ///
+    /// # Errors
+    ///
+    /// Those of [`Movable::next`].
+    fn seek(&mut self, alloc: Global, key: &[u8]) -> Result<()>
+        ensures sought { OnOk result
+            (moved self.new ≡ sought (seek_to (is_below T.key key.now)) (moved self.old)) }
+        ensures ended { StopsBy (moved self.old) (moved self.new) result }
+        ensures cause { IfErr result (MayStop may_fail (moved self.old)) };
 
     /// Moves the back after the last item of the whole list whose user key is at most `key`.
-    fn seek_upper(&mut self, key: &[u8])
-        ensures { window self.new ≡ seek_up_to (is_at_most T.key key.now) (window self.old) };
+    ///
+    /// # Errors
+    ///
+    /// Those of [`Movable::next`].
+    fn seek_upper(&mut self, alloc: Global, key: &[u8]) -> Result<()>
+        ensures sought { OnOk result
+            (moved self.new ≡ sought (seek_up_to (is_at_most T.key key.now)) (moved self.old)) }
+        ensures ended { StopsBy (moved self.old) (moved self.new) result }
+        ensures cause { IfErr result (MayStop may_fail (moved self.old)) };
 }
 
 // Whether an item sorts before another.
@@ -119,8 +160,12 @@ fn follows<T: Ranked>(x: Option<&T>, last: Option<&T>) -> bool
 #[inline(always)]
 fn first_up_to<T: Keyed, I: Movable<T>>(sources: &[I], first: usize, i: usize) -> usize
     requires inside { i < length sources.now }
-    requires before { IsFrontAmong T.cmp (map I.window sources.now) i first }
-    ensures { IsFrontAmong T.cmp (map I.window sources.now) (i + 1) result }
+    requires first { first < length sources.now }
+    requires before { are_known (map I.moved sources.now) ≡ true
+        → IsFrontAmong T.cmp (windows (map I.moved sources.now)) i first }
+    ensures inside { result < length sources.now }
+    ensures among { are_known (map I.moved sources.now) ≡ true
+        → IsFrontAmong T.cmp (windows (map I.moved sources.now)) (i + 1) result }
 {
     if precedes(sources[i].first(), sources[first].first()) {
         i
@@ -133,8 +178,12 @@ fn first_up_to<T: Keyed, I: Movable<T>>(sources: &[I], first: usize, i: usize) -
 #[inline(always)]
 fn last_up_to<T: Keyed, I: Movable<T>>(sources: &[I], last: usize, i: usize) -> usize
     requires inside { i < length sources.now }
-    requires before { IsBackAmong T.cmp (map I.window sources.now) i last }
-    ensures { IsBackAmong T.cmp (map I.window sources.now) (i + 1) result }
+    requires last { last < length sources.now }
+    requires before { are_known (map I.moved sources.now) ≡ true
+        → IsBackAmong T.cmp (windows (map I.moved sources.now)) i last }
+    ensures inside { result < length sources.now }
+    ensures among { are_known (map I.moved sources.now) ≡ true
+        → IsBackAmong T.cmp (windows (map I.moved sources.now)) (i + 1) result }
 {
     if follows(sources[i].last(), sources[last].last()) {
         i
@@ -146,7 +195,9 @@ fn last_up_to<T: Keyed, I: Movable<T>>(sources: &[I], last: usize, i: usize) -> 
 // The source whose first item comes first.
 fn first_source<T: Keyed, I: Movable<T>>(sources: &[I]) -> usize
     requires { 0 < length sources.now }
-    ensures { IsFrontPick T.cmp (map I.window sources.now) result }
+    ensures inside { result < length sources.now }
+    ensures pick { are_known (map I.moved sources.now) ≡ true
+        → IsFrontPick T.cmp (windows (map I.moved sources.now)) result }
 {
     let mut first = 0;
     let mut i = 1;
@@ -160,7 +211,9 @@ fn first_source<T: Keyed, I: Movable<T>>(sources: &[I]) -> usize
 // The source whose last item comes last.
 fn last_source<T: Keyed, I: Movable<T>>(sources: &[I]) -> usize
     requires { 0 < length sources.now }
-    ensures { IsBackPick T.cmp (map I.window sources.now) result }
+    ensures inside { result < length sources.now }
+    ensures pick { are_known (map I.moved sources.now) ≡ true
+        → IsBackPick T.cmp (windows (map I.moved sources.now)) result }
 {
     let mut last = 0;
     let mut i = 1;
@@ -172,70 +225,90 @@ fn last_source<T: Keyed, I: Movable<T>>(sources: &[I]) -> usize
 }
 
 // Moves the front of each source.
-fn seek_all<T: Keyed, I: Movable<T>>(sources: &mut Vec<I>, key: &[u8])
-    ensures { map I.window sources.new.items
-        ≡ map (seek_to (is_below T.key key.now)) (map I.window sources.old.items) }
+fn seek_all<T: Keyed, I: Movable<T>>(alloc: Global, sources: &mut Vec<I>, key: &[u8]) -> Result<()>
+    ensures sought { OnOk result (map I.moved sources.new.items
+        ≡ map (sought (seek_to (is_below T.key key.now))) (map I.moved sources.old.items)) }
+    ensures lost { OnErr result (are_known (map I.moved sources.new.items) ≡ false) }
+    ensures cause { IfErr result
+        (MayStop I.may_fail (merged_moved T.cmp None (map I.moved sources.old.items))) }
 {
     let mut i = 0;
     while i < sources.len() {
-        sources[i].seek(key);
+        sources[i].seek(alloc, key)?;
         i += 1;
     }
+    Ok(())
 }
 
 // Moves the back of each source.
-fn seek_upper_all<T: Keyed, I: Movable<T>>(sources: &mut Vec<I>, key: &[u8])
-    ensures { map I.window sources.new.items
-        ≡ map (seek_up_to (is_at_most T.key key.now)) (map I.window sources.old.items) }
+fn seek_upper_all<T: Keyed, I: Movable<T>>(
+    alloc: Global,
+    sources: &mut Vec<I>,
+    key: &[u8],
+) -> Result<()>
+    ensures sought { OnOk result (map I.moved sources.new.items
+        ≡ map (sought (seek_up_to (is_at_most T.key key.now))) (map I.moved sources.old.items)) }
+    ensures lost { OnErr result (are_known (map I.moved sources.new.items) ≡ false) }
+    ensures cause { IfErr result
+        (MayStop I.may_fail (merged_moved T.cmp None (map I.moved sources.old.items))) }
 {
     let mut i = 0;
     while i < sources.len() {
-        sources[i].seek_upper(key);
+        sources[i].seek_upper(alloc, key)?;
         i += 1;
     }
+    Ok(())
 }
 
 /// The ordered merge of sources that are moved: of equal versions, those of the earlier source come
 /// first. It is taken from both ends, and each end may be moved to a key, also over what was taken.
-/// Where the ends cross nothing is left, until one is moved again.
+/// Where the ends cross nothing is left, until one is moved again. An error ends the merge: each later
+/// step and search returns it again.
 ///
-/// Clauses see the merged list, and how many of its items are before the front and before the back.
-/// A step compares one item of each source, and takes no memory.
+/// Clauses see the merged list and how many of its items are before the front and before the back,
+/// where those of all sources are known, the errors that reading these may give, and the error that
+/// ended the merge, if one did. A step compares one item of each source, and takes no memory beside
+/// what its source takes.
 #[derive(Drop)]
 pub struct MovableMerge<T: Keyed, I: Movable<T>> {
     sources: Vec<I>,
+    ended: Option<Error>,
     // None is ever held: it names the type of the items, and the lifetimes in it.
     item: Option<T>,
 }
 
 impl<T: Keyed, I: Movable<T>> Model for MovableMerge<T, I> {
-    ghost use Rattle.std.specs.Prelude.{map};
-    ghost use Rattle.sst_block_core.specs.Window.{Window};
-    ghost use Rattle.sst_merge.specs.Movable.{AreMoved, merged_window};
+    ghost use Rattle.std.specs.Prelude.{◌≡◌, map, true};
+    ghost use Rattle.sst_merge.specs.Movable.{AreMoved};
+    ghost use Rattle.sst_merge.specs.Moved.{Moved, are_known, merged_moved, windows};
 
-    ghost Value = { Window T };
+    ghost Value = { Moved T };
 
-    ghost view = { λ m. merged_window T.cmp (map I.window m.sources.items) };
+    ghost view = { λ m. merged_moved T.cmp m.ended (map I.moved m.sources.items) };
 
-    ghost invariant = { λ m. AreMoved T.cmp (map I.window m.sources.items) };
+    ghost invariant = { λ m. are_known (map I.moved m.sources.items) ≡ true
+        → AreMoved T.cmp (windows (map I.moved m.sources.items)) };
 }
 
 impl<T: Keyed, I: Movable<T>> MovableMerge<T, I> {
     /// Merges sources that were not moved.
     pub fn new(sources: Vec<I>) -> MovableMerge<T, I>
-        requires { AllByRecursion (IsFresh T.cmp) (map I.window sources.items) }
-        ensures { result
-            ≡ whole (merged T.cmp (map (λ s. (I.window s).list) sources.items)) }
+        requires { AllByRecursion (IsFreshSource T.cmp) (map I.moved sources.items) }
+        ensures all { result ≡ merged_moved T.cmp None (map I.moved sources.items) }
+        ensures whole { are_known (map I.moved sources.items) ≡ true → result.window
+            ≡ Some (whole (merged T.cmp (lists_in (windows (map I.moved sources.items))))) }
     {
         MovableMerge {
             sources,
+            ended: None,
             item: None,
         }
     }
 
-    /// Returns the first item left, if there is one.
+    /// Returns the first item left, if there is one. After an error it is any item that a source
+    /// holds, or none.
     pub fn first(&self) -> Option<&T>
-        ensures { option_map (λ r. r.now) result ≡ first_left self.now }
+        ensures { IfSome self.now.window (λ w. option_map (λ r. r.now) result ≡ first_left w) }
     {
         if self.sources.is_empty() {
             return None;
@@ -247,9 +320,10 @@ impl<T: Keyed, I: Movable<T>> MovableMerge<T, I> {
         self.sources[first].first()
     }
 
-    /// Returns the last item left, if there is one.
+    /// Returns the last item left, if there is one. After an error it is any item that a source
+    /// holds, or none.
     pub fn last(&self) -> Option<&T>
-        ensures { option_map (λ r. r.now) result ≡ last_left self.now }
+        ensures { IfSome self.now.window (λ w. option_map (λ r. r.now) result ≡ last_left w) }
     {
         if self.sources.is_empty() {
             return None;
@@ -262,46 +336,94 @@ impl<T: Keyed, I: Movable<T>> MovableMerge<T, I> {
     }
 
     /// Takes the first item left, if there is one.
-    pub fn next(&mut self) -> Option<T>
-        ensures { (self.new, item result) ≡ next self.old }
+    ///
+    /// # Errors
+    ///
+    /// Those of the source's step. An error ends the merge: each later step returns it again.
+    pub fn next(&mut self, alloc: Global) -> Result<Option<T>>
+        ensures step { IfOk result (λ r. IsStep next self.old r self.new) }
+        ensures ended { StopsBy self.old self.new result }
+        ensures cause { IfErr result (MayStop I.may_fail self.old) }
     {
+        if let Some(error) = self.ended {
+            return Err(error);
+        }
         if self.sources.is_empty() {
-            return None;
+            return Ok(None);
         }
         let first = first_source::<T, I>(&self.sources);
         if !self.sources[first].has_left() {
-            return None;
+            return Ok(None);
         }
-        self.sources[first].next()
+        match self.sources[first].next(alloc) {
+            Ok(taken) => Ok(taken),
+            Err(error) => Err(note_error(&mut self.ended, &error)),
+        }
     }
 
     /// Takes the last item left, if there is one.
-    pub fn next_back(&mut self) -> Option<T>
-        ensures { (self.new, item result) ≡ next_back self.old }
+    ///
+    /// # Errors
+    ///
+    /// Those of [`MovableMerge::next`].
+    pub fn next_back(&mut self, alloc: Global) -> Result<Option<T>>
+        ensures step { IfOk result (λ r. IsStep next_back self.old r self.new) }
+        ensures ended { StopsBy self.old self.new result }
+        ensures cause { IfErr result (MayStop I.may_fail self.old) }
     {
+        if let Some(error) = self.ended {
+            return Err(error);
+        }
         if self.sources.is_empty() {
-            return None;
+            return Ok(None);
         }
         let last = last_source::<T, I>(&self.sources);
         if !self.sources[last].has_left() {
-            return None;
+            return Ok(None);
         }
-        self.sources[last].next_back()
+        match self.sources[last].next_back(alloc) {
+            Ok(taken) => Ok(taken),
+            Err(error) => Err(note_error(&mut self.ended, &error)),
+        }
     }
 
     /// Moves the front before the first item of the whole list whose user key is at least `key`, also
     /// over what was taken. The back stays.
-    pub fn seek(&mut self, key: &[u8])
-        ensures { self.new ≡ seek_to (is_below T.key key.now) self.old }
+    ///
+    /// # Errors
+    ///
+    /// Those of the sources' searches. An error ends the merge, also for steps from the back.
+    pub fn seek(&mut self, alloc: Global, key: &[u8]) -> Result<()>
+        ensures sought { OnOk result
+            (self.new ≡ sought (seek_to (is_below T.key key.now)) self.old) }
+        ensures ended { StopsBy self.old self.new result }
+        ensures cause { IfErr result (MayStop I.may_fail self.old) }
     {
-        seek_all::<T, I>(&mut self.sources, key);
+        if let Some(error) = self.ended {
+            return Err(error);
+        }
+        let moved = seek_all::<T, I>(alloc, &mut self.sources, key);
+        keep_error(&mut self.ended, &moved);
+        moved
     }
 
     /// Moves the back after the last item of the whole list whose user key is at most `key`, also over
     /// what was taken. The front stays.
-    pub fn seek_upper(&mut self, key: &[u8])
-        ensures { self.new ≡ seek_up_to (is_at_most T.key key.now) self.old }
+    ///
+    /// # Errors
+    ///
+    /// Those of [`MovableMerge::seek`].
+    pub fn seek_upper(&mut self, alloc: Global, key: &[u8]) -> Result<()>
+        ensures sought { OnOk result
+            (self.new ≡ sought (seek_up_to (is_at_most T.key key.now)) self.old) }
+        ensures ended { StopsBy self.old self.new result }
+        ensures cause { IfErr result (MayStop I.may_fail self.old) }
     {
-        seek_upper_all::<T, I>(&mut self.sources, key);
+        if let Some(error) = self.ended {
+            return Err(error);
+        }
+        let moved = seek_upper_all::<T, I>(alloc, &mut self.sources, key);
+        keep_error(&mut self.ended, &moved);
+        moved
     }
 }

@@ -1,6 +1,6 @@
 //! Ordered lists of entries in blocks, as sources that are moved.
 ghost use Rattle.std.specs.Prelude.{◌≡◌, ◌+◌, ◌<◌, ◌≤◌, count_by, drop, length, slice_get};
-ghost use Rattle.std.specs.Prelude.{false, take, true, ℕ};
+ghost use Rattle.std.specs.Prelude.{[], None, Some, false, take, true, ℕ};
 ghost use Rattle.sst_base.specs.Counted.{found_item};
 ghost use Rattle.sst_block_core.specs.Window.{whole};
 ghost use Rattle.sstable_blocks.specs.Blocks.{joined};
@@ -11,8 +11,9 @@ ghost use Rattle.sst_merge.specs.MovableBlocks.{block_lists, front_place, is_blo
 
 use crate::movable::Movable;
 use crate::movable_list::passes;
-use sst_base::BlockHash;
+use sst_base::{BlockHash, Result};
 use sst_block_core::table::data_block::{DataBlockRef, EntryView, EntryViews};
+use std::alloc::Global;
 use std::marker::Model;
 
 // A block that was opened at an end, and the entry that is held there.
@@ -242,8 +243,8 @@ fn go_back<'a, H: BlockHash>(
 }
 
 /// An ordered list of entries in data blocks over borrowed bytes, whose ends are moved over it. It
-/// gives views of the entries; at most two blocks are open, one for each end. Clauses see the list and
-/// the places of the ends.
+/// gives views of the entries; at most two blocks are open, one for each end. Never fails. Clauses see
+/// the list and the places of the ends.
 #[derive(Drop)]
 pub struct MovableBlocks<'a, H: BlockHash> {
     blocks: &'a [DataBlockRef<'a, H>],
@@ -278,7 +279,9 @@ impl<'a, H: BlockHash> MovableBlocks<'a, H> {
 }
 
 impl<'a, H: BlockHash> Movable<EntryView<'a>> for MovableBlocks<'a, H> {
-    ghost window = { λ s. s };
+    ghost moved = { λ s. record { window = Some s; errors = Some []; ended = None } };
+
+    ghost may_fail = { λ _. ⊥ };
 
     fn first(&self) -> Option<&EntryView<'a>> {
         match &self.front {
@@ -303,19 +306,21 @@ impl<'a, H: BlockHash> Movable<EntryView<'a>> for MovableBlocks<'a, H> {
         }
     }
 
-    fn next(&mut self) -> Option<EntryView<'a>> {
-        go_forth::<H>(self.blocks, &mut self.front)
+    fn next(&mut self, _alloc: Global) -> Result<Option<EntryView<'a>>> {
+        Ok(go_forth::<H>(self.blocks, &mut self.front))
     }
 
-    fn next_back(&mut self) -> Option<EntryView<'a>> {
-        go_back::<H>(self.blocks, &mut self.back)
+    fn next_back(&mut self, _alloc: Global) -> Result<Option<EntryView<'a>>> {
+        Ok(go_back::<H>(self.blocks, &mut self.back))
     }
 
-    fn seek(&mut self, key: &[u8]) {
+    fn seek(&mut self, _alloc: Global, key: &[u8]) -> Result<()> {
         self.front = seek_front::<H>(self.blocks, key);
+        Ok(())
     }
 
-    fn seek_upper(&mut self, key: &[u8]) {
+    fn seek_upper(&mut self, _alloc: Global, key: &[u8]) -> Result<()> {
         self.back = seek_back::<H>(self.blocks, key);
+        Ok(())
     }
 }

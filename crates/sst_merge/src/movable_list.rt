@@ -1,14 +1,16 @@
 //! Ordered lists in memory, as sources that are moved.
 ghost use Rattle.std.specs.Prelude.{◌≡◌, ◌+◌, ◌<◌, ◌≤◌, length, map, slice_get, slice_index};
-ghost use Rattle.std.specs.Prelude.{count_by, suc};
+ghost use Rattle.std.specs.Prelude.{[], None, Some, count_by, suc};
 ghost use Rattle.sst_block_core.specs.Entries.{entries};
 ghost use Rattle.sst_block_core.specs.Kind.{IsOrdered};
 ghost use Rattle.sst_block_core.specs.Window.{whole};
 ghost use Rattle.sst_merge.specs.Movable.{is_sought, item_before};
 
 use crate::movable::Movable;
+use sst_base::Result;
 use sst_block_core::AsEntry;
 use sst_block_core::table::data_block::EntryView;
+use std::alloc::Global;
 use std::marker::Model;
 use std::mem;
 
@@ -66,7 +68,7 @@ fn entry_before<T: AsEntry>(items: &[T], index: usize) -> Option<EntryView<'_>>
 }
 
 /// An ordered list of entries in memory, whose ends are moved over it: what an engine has not written
-/// yet. It gives views of the entries. Clauses see the list and the places of the ends.
+/// yet. It gives views of the entries. Never fails. Clauses see the list and the places of the ends.
 #[derive(Drop)]
 pub struct MovableList<'a, T: AsEntry> {
     items: &'a [T],
@@ -107,7 +109,9 @@ impl<'a, T: AsEntry> MovableList<'a, T> {
 }
 
 impl<'a, T: AsEntry> Movable<EntryView<'a>> for MovableList<'a, T> {
-    ghost window = { λ l. l };
+    ghost moved = { λ l. record { window = Some l; errors = Some []; ended = None } };
+
+    ghost may_fail = { λ _. ⊥ };
 
     #[inline(always)]
     fn first(&self) -> Option<&EntryView<'a>> {
@@ -124,29 +128,31 @@ impl<'a, T: AsEntry> Movable<EntryView<'a>> for MovableList<'a, T> {
         self.lo < self.hi
     }
 
-    fn next(&mut self) -> Option<EntryView<'a>> {
+    fn next(&mut self, _alloc: Global) -> Result<Option<EntryView<'a>>> {
         if self.lo >= self.items.len() {
-            return None;
+            return Ok(None);
         }
         self.lo += 1;
-        mem::replace(&mut self.first, entry_at(self.items, self.lo))
+        Ok(mem::replace(&mut self.first, entry_at(self.items, self.lo)))
     }
 
-    fn next_back(&mut self) -> Option<EntryView<'a>> {
+    fn next_back(&mut self, _alloc: Global) -> Result<Option<EntryView<'a>>> {
         if self.hi == 0 {
-            return None;
+            return Ok(None);
         }
         self.hi -= 1;
-        mem::replace(&mut self.last, entry_before(self.items, self.hi))
+        Ok(mem::replace(&mut self.last, entry_before(self.items, self.hi)))
     }
 
-    fn seek(&mut self, key: &[u8]) {
+    fn seek(&mut self, _alloc: Global, key: &[u8]) -> Result<()> {
         self.lo = count_passed(self.items, key, false);
         self.first = entry_at(self.items, self.lo);
+        Ok(())
     }
 
-    fn seek_upper(&mut self, key: &[u8]) {
+    fn seek_upper(&mut self, _alloc: Global, key: &[u8]) -> Result<()> {
         self.hi = count_passed(self.items, key, true);
         self.last = entry_before(self.items, self.hi);
+        Ok(())
     }
 }

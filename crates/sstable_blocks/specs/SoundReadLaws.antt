@@ -24,7 +24,7 @@ use Rattle.sstable_blocks.specs.Blocks.{joined}
 use Rattle.sstable_blocks.specs.Filter.{Filter, filter_at, may_contain, MayContain}
 use Rattle.sstable_blocks.specs.Lookup.{first_in, place_for, handle_for}
 use Rattle.sstable_blocks.specs.Opened.{range_of}
-use Rattle.sstable_blocks.specs.RunReading.{Hashes, IsFramedAt, range_at, payload_at, filter_says, read_block, read_blocks, read_checked}
+use Rattle.sstable_blocks.specs.RunReading.{Hashes, IsFramedAt, block_items_at, range_at, payload_at, filter_says, read_block, read_blocks, read_checked}
 use Rattle.sstable_blocks.specs.Sound.{IsStoredBlock, IsStoredFilter, IsSound}
 use Rattle.sstable_blocks.specs.declared.run.RunHandles.{RunHandles}
 use Rattle.sstable_blocks.specs.CheckedLaws.{may_contain_to}
@@ -96,6 +96,17 @@ module _ (c : Hashes) (sums : (bytes : List ℕ) → c.hash128 bytes < 2 ^ 128)
     (plain_match : (needle : List ℕ) (seqno : ℕ) (items : List Entry) → first_match entries needle seqno (map plain items) ≡ first_match entries needle seqno items)
     (bytes needle : List ℕ) (s : ℕ)
   where
+    -- a block is read as its entries
+    pub stored_is_read : (h : Handle) (block : List Entry) → IsHandle h → IsStoredBlock c bytes block h → block_items_at c bytes (range_of h) ≡ Ok (map plain block)
+    stored_is_read h block valid b =
+        let p = b.payload in
+        let size = framed_size c types.Data bytes p (range_of h) b.frame in
+        let less : h.size < 2 ^ 32 = valid.size in
+        let short : length p < 2 ^ 32 = omega arith in
+        let read = data_read p block b.interval b.buckets short b.is_block in
+        bind_to _ _ p _ (framed_is_read c types.Data bytes p (range_of h) sums short b.frame)
+        (data_ok c.hash64 (trailer_in p) p (data_check c.hash64 p) (data_verdict p) read.0 ∙ ap (λ xs. Ok xs) read.1)
+
     read_one : (h : Handle) (block : List Entry) → IsHandle h → IsStoredBlock c bytes block h → read_block c bytes (Some h) needle s ≡ Ok (first_match entries needle s block)
     read_one h block valid b =
         let p = b.payload in

@@ -1,15 +1,19 @@
 // A merge that is moved, step by step, against a window over the sorted list.
 ghost use Rattle.std.specs.Prelude.{IfOk};
+ghost use Rattle.sst_merge.specs.Merge.{entry_cmp};
 ghost use Rattle.sst_merge.specs.MovableBlocks.{AreEntryBlocks, block_lists};
+ghost use Rattle.sst_merge.specs.Moved.{IsFreshSource};
 
 use crate::Tested;
 use crate::merges::lists::{Row, V, list_of};
+use crate::runs::faults::FailingSource;
 use crate::runs::lists::NO_BUCKETS;
 use crate::runs::written::write_in_blocks;
-use sst_base::{ByteSum, InternalValue, Result};
+use sst_base::{ByteSum, Error, InternalValue, Result, Slice};
 use sst_block_core::AsEntry;
-use sst_block_core::table::data_block::{DataBlockRef, EntryView};
-use sst_merge::{Movable, MovableBlocks, MovableList, MovableMerge};
+use sst_block_core::table::data_block::DataBlockRef;
+use sst_merge::{Keyed, Movable, MovableBlocks, MovableList, MovableMerge, MovableTable};
+use sstable_blocks::Table;
 use sstable_blocks::run::{RunConfig, RunHandles, RunRef};
 use std::alloc::Global;
 use std::process::Abort;
@@ -124,28 +128,30 @@ const STEPS: [Step; 72] = [
 ];
 
 /// What a step gives.
-fn give<'a, I: Movable<EntryView<'a>>>(
-    merge: &mut MovableMerge<EntryView<'a>, I>,
+fn give<T: Keyed, I: Movable<T>>(
+    alloc: Global,
+    merge: &mut MovableMerge<T, I>,
     step: &Step,
-) -> Option<EntryView<'a>> {
+) -> Result<Option<T>> {
     match step.0 {
-        0 => merge.next(),
-        1 => merge.next_back(),
+        0 => merge.next(alloc),
+        1 => merge.next_back(alloc),
         2 => {
-            merge.seek(&[step.1]);
-            None
+            merge.seek(alloc, &[step.1])?;
+            Ok(None)
         }
         _ => {
-            merge.seek_upper(&[step.1]);
-            None
+            merge.seek_upper(alloc, &[step.1])?;
+            Ok(None)
         }
     }
 }
 
 /// Whether this is what a step is to give.
-fn is_given(found: &Option<EntryView<'_>>, step: &Step) -> bool {
+fn is_given<T: AsEntry>(found: &Option<T>, step: &Step) -> bool {
     match found {
         Some(entry) => {
+            let entry = entry.view();
             entry.compare_key(&[step.2]).is_eq()
                 && entry.seqno() == step.3
                 && entry.value() == [step.4].as_slice()
@@ -154,15 +160,17 @@ fn is_given(found: &Option<EntryView<'_>>, step: &Step) -> bool {
     }
 }
 
-/// Takes all steps of a merge.
-fn check_steps<'a, I: Movable<EntryView<'a>>>(
+/// Takes all steps of a merge, up to the first error.
+fn check_steps<T: Keyed + AsEntry + Drop, I: Movable<T>>(
     rt: &impl Abort,
-    merge: &mut MovableMerge<EntryView<'a>, I>,
-) {
+    alloc: Global,
+    merge: &mut MovableMerge<T, I>,
+) -> Result<()> {
     for step in &STEPS {
-        let found = give(merge, step);
+        let found = give(alloc, merge, step)?;
         assert!(rt; is_given(&found, step));
     }
+    Ok(())
 }
 
 #[test]
@@ -179,7 +187,7 @@ fn a_merge_is_moved_as_a_window(rt: HostRuntime) -> Tested {
     sources.push(MovableList::new(&second))?;
     sources.push(MovableList::new(&third))?;
     let mut merge = MovableMerge::new(sources);
-    check_steps(&rt, &mut merge);
+    check_steps(&rt, alloc, &mut merge)?;
     Ok(())
 }
 
@@ -214,6 +222,55 @@ fn a_merge_of_runs_is_moved_as_a_window(rt: HostRuntime) -> Tested {
     sources.push(MovableBlocks::new(&second))?;
     sources.push(MovableBlocks::new(&third))?;
     let mut merge = MovableMerge::new(sources);
-    check_steps(&rt, &mut merge);
+    check_steps(&rt, alloc, &mut merge)?;
     Ok(())
+}
+
+/// A table of a list, in blocks of two entries, whose source fails at a frame.
+fn table_of(
+    alloc: Global,
+    rows: &[Row],
+    list: u8,
+    fails_at: usize,
+) -> Result<MovableTable<ByteSum, FailingSource>>
+    ensures { IfOk result (IsFreshSource entry_cmp) }
+{
+    let (handles, bytes) = run_of(alloc, rows, list)?;
+    let source = FailingSource::new(Slice::from_vec(bytes)?, fails_at);
+    let table = Table::open(alloc, source, handles)?;
+    MovableTable::new(alloc, table)
+}
+
+/// Takes all steps of a merge of three tables, the second of which fails at a frame, up to the first
+/// error, after which each step and search is to give it.
+fn take_steps(rt: &impl Abort, alloc: Global, fails_at: usize) -> Result<()> {
+    let mut sources = Vec::new(alloc);
+    sources.push(table_of(alloc, &FIRST, 1, usize::MAX)?)?;
+    sources.push(table_of(alloc, &SECOND, 2, fails_at)?)?;
+    sources.push(table_of(alloc, &THIRD, 3, usize::MAX)?)?;
+    let mut merge = MovableMerge::new(sources);
+    let taken = check_steps(rt, alloc, &mut merge);
+    if let Err(error) = &taken {
+        assert!(rt; merge.next(alloc).err() == Some(*error));
+        assert!(rt; merge.seek_upper(alloc, &[0]) == Err(*error));
+        assert!(rt; merge.next_back(alloc).err() == Some(*error));
+        assert!(rt; merge.seek(alloc, &[0]) == Err(*error));
+    }
+    taken
+}
+
+#[test]
+fn a_merge_of_tables_is_moved_as_a_window(rt: HostRuntime) {
+    assert!(rt; take_steps(&rt, rt.alloc(), usize::MAX) == Ok(()));
+}
+
+/// How many frames of the second table all steps ask for, those of its index and of both ends with it.
+const FRAMES: usize = 24;
+
+#[test]
+fn an_error_ends_a_merge_that_is_moved(rt: HostRuntime) {
+    for fails_at in 0..FRAMES {
+        assert!(rt; take_steps(&rt, rt.alloc(), fails_at) == Err(Error::Io), "{fails_at}");
+    }
+    assert!(rt; take_steps(&rt, rt.alloc(), FRAMES) == Ok(()));
 }

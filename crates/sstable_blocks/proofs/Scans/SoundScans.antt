@@ -25,7 +25,7 @@ use Rattle.sstable_blocks.specs.declared.run.RunHandles.{RunHandles}
 use Rattle.sstable_blocks.specs.EndLaws.{ends_in_order, block_behind, back_in_order, tail_in_order}
 use Rattle.sstable_blocks.specs.OpeningLaws.{framed_size, frame_range, stored_ends}
 use Rattle.sstable_blocks.proofs.Scans.ScanWindows.{KeysRise, rise_tail, falls, counted, counted-cons, none_counted, between, between-more, between-none, between-first, lower_before, lower_up_to, ordered_rise}
-use Rattle.sstable_blocks.specs.SoundReadLaws.{bind_to, data_ok, framed_is_read, index_of_sound}
+use Rattle.sstable_blocks.specs.SoundReadLaws.{bind_to, index_of_sound, stored_is_read}
 
 -- what is read of entries
 abbrev pub read_all : KeyRange → List Entry → List Read
@@ -156,14 +156,7 @@ module _ (c : Hashes) (sums : (bytes : List ℕ) → c.hash128 bytes < 2 ^ 128)
     (bytes : List ℕ)
   where
     stored_items : (h : Handle) (b : List Entry) → IsHandle h → IsStoredBlock c bytes b h → block_items_at c bytes (range_of h) ≡ Ok (map plain b)
-    stored_items h b valid k =
-        let p = k.payload in
-        let size = framed_size c types.Data bytes p (range_of h) k.frame in
-        let less : h.size < 2 ^ 32 = valid.size in
-        let short : length p < 2 ^ 32 = omega arith in
-        let read = data_read p b k.interval k.buckets short k.is_block in
-        bind_to _ _ p _ (framed_is_read c types.Data bytes p (range_of h) sums short k.frame)
-        (data_ok c.hash64 (trailer_in p) p (data_check c.hash64 p) (data_verdict p) read.0 ∙ ap (λ xs. Ok xs) read.1)
+    stored_items h b valid k = stored_is_read c sums data_verdict index_verdict data_read index_read plain_match bytes [] 0 h b valid k
 
     -- the block of a handle
     read_of : (h : Handle) (b : List Entry) → IsHandle h → IsStoredBlock c bytes b h → IsBlockRead c bytes h
